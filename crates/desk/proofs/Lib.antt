@@ -1,0 +1,3 @@
+mod Due
+pub mod Reading
+pub mod Writing

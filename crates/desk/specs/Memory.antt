@@ -1,0 +1,40 @@
+-- What the desks in memory tell.
+use Rattle.std.specs.Prelude.{ℕ, List, Some, drop, map, string_bytes, Contains}
+use Rattle.desk.specs.declared.desk.Port.{Port}
+use Rattle.desk.specs.declared.calls.Calls.{Calls}
+use Rattle.desk.specs.declared.calls.Fault.{Fault}
+use Rattle.desk.specs.Calls.{calls_on}
+use Rattle.desk.specs.declared.memory.Start.{Start}
+use Rattle.desk.specs.declared.memory.SteadyDesk.{SteadyDesk}
+use Rattle.desk.specs.declared.memory.MemoryDesk.{MemoryDesk}
+use Rattle.desk.specs.Sight.{Sight}
+
+-- a port and the bytes of its name
+abbrev pub start_of : Start → Port × List ℕ
+start_of s = (s.port, string_bytes s.name)
+
+abbrev pub steady_sight : SteadyDesk → Sight
+steady_sight d = record {
+  script = Some (drop d.script.at d.script.bytes.items);
+  cert_in = Some (drop d.cert_in.at d.cert_in.bytes.items);
+  answer = Some d.answer.items;
+  cert_out = Some d.cert_out.items;
+  starts = Some (map start_of d.starts.items);
+  in_faults = 0;
+  out_faults = 0;
+}
+
+abbrev pub memory_sight : MemoryDesk → Sight
+memory_sight d = record (steady_sight d.steady) { in_faults = d.in_faults; out_faults = d.out_faults }
+
+-- the calls that are to fail, in the order in which they were listed
+abbrev pub faults_of : MemoryDesk → List Fault
+faults_of d = d.faults.items
+
+-- how many calls each port has seen
+abbrev pub calls_of : MemoryDesk → Calls
+calls_of d = d.calls
+
+-- the next call on the port is one that is to fail
+abbrev pub IsDue : MemoryDesk → Port → Type 0
+IsDue d p = Contains (faults_of d) (record { port = p; call = calls_on p (calls_of d) })
