@@ -1,0 +1,6 @@
+use Rattle.dyadic.proofs.MarginTests.{high_from}
+use Rattle.dyadic.proofs.margin.is_high.Goals as goal
+
+pub returns : goal.returns
+returns c =
+    high_from c.args.f c.args.v c.args.bits c.requires.few c.has_minus.result c.above.result c.below.result c.is_under.result c.above.ensures c.below.ensures.same c.has_minus.ensures.sign c.is_under.ensures

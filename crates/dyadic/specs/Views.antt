@@ -1,0 +1,26 @@
+-- What the types of the code stand for.
+use Rattle.std.specs.Prelude.{ℤ}
+use Rattle.std.specs.Int.RustNames.{unsigned_abs}
+use Rattle.dyadic.specs.declared.dy.Dy.{Dy}
+use Rattle.dyadic.specs.declared.dy.Ext.{Ext}
+use Rattle.dyadic.specs.declared.dy.Ext.TheVariants.{NegInf, Fin, PosInf}
+use Rattle.dyadic.specs.declared.frac.Frac.{Frac}
+use Rattle.dyadic.specs.Fraction.{Fraction}
+use Rattle.dyadic.specs.Rounding.{Dyadic, Ext as KeptEnd, below_all, finite, above_all}
+use Rattle.dyadic.specs.Size.{units}
+use Rattle.dyadic.specs.Signed.{signed_of}
+
+-- how many units of 2^-120 a number is
+abbrev pub units_of : Dy → ℤ
+units_of a = signed_of a.negative (units a.size)
+
+abbrev pub dyadic_of : Dy → Dyadic
+dyadic_of a = record { units = units_of a }
+
+abbrev pub ext_of : Ext → KeptEnd
+ext_of NegInf = below_all
+ext_of (Fin a) = finite (dyadic_of a)
+ext_of PosInf = above_all
+
+abbrev pub fraction_of_frac : Frac → Fraction
+fraction_of_frac f = record { num = f.n; den = unsigned_abs f.d }
