@@ -1,0 +1,10 @@
+pub mod Proper
+pub mod Corners
+pub mod Rounded
+pub mod Sides
+pub mod Products
+pub mod Quotients
+pub mod RootsOf
+pub mod Lists
+pub mod Wides
+pub mod Facts

@@ -1,0 +1,13 @@
+use Rattle.std.proofs.Common.{ap₂}
+use Rattle.dyadic.specs.Interval.{between, interval_sum}
+use Rattle.dyadic.specs.Views.{ext_of}
+use Rattle.dyadic.proofs.Isotone.{sum_proper}
+use Rattle.ival.proofs.Proper.{proper_of, ends_from}
+use Rattle.ival.proofs.interval.sum_of_ends.Goals as goal
+
+pub invariant_of-result : goal.invariant_of-result
+invariant_of-result c = record {
+  proper = let l = ext_of c.args.a.low in let h = ext_of c.args.a.high in let m = ext_of c.args.b.low in let k = ext_of c.args.b.high in
+      ends_from (ext_of c.add_down.result) (ext_of c.add_up.result) (interval_sum (between l h) (between m k)) (ap₂ between c.add_down.ensures c.add_up.ensures)
+      (sum_proper (between l h) (between m k) (proper_of l h c.args.a.proper) (proper_of m k c.args.b.proper));
+}

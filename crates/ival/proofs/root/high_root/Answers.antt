@@ -1,0 +1,12 @@
+use Rattle.std.proofs.Common.{◌≡◌, ◌∙◌, subst, sym}
+use Rattle.dyadic.specs.declared.dy.Ext.{Ext}
+use Rattle.dyadic.specs.Rounding.{above_all, root_up}
+use Rattle.dyadic.specs.Interval.{root_end}
+use Rattle.dyadic.specs.Views.{ext_of, units_of}
+use Rattle.ival.proofs.RootsOf.{up_same}
+use Rattle.ival.proofs.root.high_root.Goals as goal
+
+pub returns-in-Fin-clause-root : goal.returns-in-Fin-clause-root
+returns-in-Fin-clause-root c =
+    subst (λ (e : Ext). ext_of c.sqrt_up.result ≡ root_end above_all root_up (ext_of e)) (sym c.in-Fin.is)
+    (c.sqrt_up.ensures ∙ up_same (units_of c.clamped.result) (units_of c.in-Fin.number) c.clamped.ensures.size)

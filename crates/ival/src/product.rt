@@ -1,0 +1,162 @@
+// Products and squares, by the sides of 0 on which the factors lie.
+ghost use Rattle.std.specs.Prelude.{◌≡◌, IsTrue};
+ghost use Rattle.dyadic.specs.Rounding.{end_of};
+ghost use Rattle.dyadic.specs.Interval.{between, interval_product, interval_square, rounded_down, rounded_up};
+ghost use Rattle.dyadic.specs.Views.{ext_of};
+ghost use Rattle.ival.specs.Views.{interval_of};
+ghost use Rattle.ival.specs.Sides.{LiesOn, first_of_least, second_of_least, first_of_greatest, second_of_greatest};
+ghost use Rattle.ival.specs.Corners.{least_product, greatest_product, square_from, square_to};
+
+use crate::ends::{Ends, Ival};
+use crate::interval::{greater, lesser};
+use crate::side::{Side, side_of};
+use dyadic::{Dy, Ext, mul_down, mul_up};
+
+// The ends whose product is the least, for intervals on these sides that are not both across 0.
+pub fn least_factors(
+    first: Side,
+    second: Side,
+    low: Ext,
+    high: Ext,
+    other_low: Ext,
+    other_high: Ext,
+) -> (Ext, Ext)
+    ensures first { ext_of result.0 ≡ first_of_least first second (ext_of low) (ext_of high) }
+    ensures second { ext_of result.1 ≡ second_of_least first second (ext_of other_low) (ext_of other_high) }
+{
+    match (first, second) {
+        (Side::Above, Side::Above) => (low, other_low),
+        (Side::Above, Side::Below) => (high, other_low),
+        (Side::Above, Side::Across) => (high, other_low),
+        (Side::Below, Side::Above) => (low, other_high),
+        (Side::Below, Side::Below) => (high, other_high),
+        (Side::Below, Side::Across) => (low, other_high),
+        (Side::Across, Side::Above) => (low, other_high),
+        (Side::Across, Side::Below) => (high, other_low),
+        (Side::Across, Side::Across) => (low, other_high),
+    }
+}
+
+// The ends whose product is the greatest, for intervals on these sides that are not both across 0.
+pub fn greatest_factors(
+    first: Side,
+    second: Side,
+    low: Ext,
+    high: Ext,
+    other_low: Ext,
+    other_high: Ext,
+) -> (Ext, Ext)
+    ensures first { ext_of result.0 ≡ first_of_greatest first second (ext_of low) (ext_of high) }
+    ensures second { ext_of result.1 ≡ second_of_greatest first second (ext_of other_low) (ext_of other_high) }
+{
+    match (first, second) {
+        (Side::Above, Side::Above) => (high, other_high),
+        (Side::Above, Side::Below) => (low, other_high),
+        (Side::Above, Side::Across) => (high, other_high),
+        (Side::Below, Side::Above) => (high, other_low),
+        (Side::Below, Side::Below) => (low, other_low),
+        (Side::Below, Side::Across) => (low, other_low),
+        (Side::Across, Side::Above) => (high, other_high),
+        (Side::Across, Side::Below) => (low, other_low),
+        (Side::Across, Side::Across) => (low, other_low),
+    }
+}
+
+// The least product, rounded down.
+fn least(a: Ends, first: Side, b: Ends, second: Side) -> Ext
+    requires first { LiesOn first (end_of (ext_of a.low)) (end_of (ext_of a.high)) }
+    requires second { LiesOn second (end_of (ext_of b.low)) (end_of (ext_of b.high)) }
+    ensures { ext_of result ≡ least_product (ext_of a.low) (ext_of a.high) (ext_of b.low) (ext_of b.high) }
+{
+    match (first, second) {
+        (Side::Across, Side::Across) => lesser(mul_down(a.low, b.high), mul_down(a.high, b.low)),
+        _ => {
+            let factors = least_factors(first, second, a.low, a.high, b.low, b.high);
+            mul_down(factors.0, factors.1)
+        }
+    }
+}
+
+// The greatest product, rounded up.
+fn greatest(a: Ends, first: Side, b: Ends, second: Side) -> Ext
+    requires first { LiesOn first (end_of (ext_of a.low)) (end_of (ext_of a.high)) }
+    requires second { LiesOn second (end_of (ext_of b.low)) (end_of (ext_of b.high)) }
+    ensures { ext_of result ≡ greatest_product (ext_of a.low) (ext_of a.high) (ext_of b.low) (ext_of b.high) }
+{
+    match (first, second) {
+        (Side::Across, Side::Across) => greater(mul_up(a.low, b.low), mul_up(a.high, b.high)),
+        _ => {
+            let factors = greatest_factors(first, second, a.low, a.high, b.low, b.high);
+            mul_up(factors.0, factors.1)
+        }
+    }
+}
+
+// The products of two intervals that are not empty.
+fn product_of_ends(a: Ends, b: Ends) -> Ends
+    ensures { between (ext_of result.low) (ext_of result.high) ≡ interval_product (between (ext_of a.low) (ext_of a.high)) (between (ext_of b.low) (ext_of b.high)) }
+{
+    let first = side_of(a);
+    let second = side_of(b);
+    Ends {
+        low: least(a, first, b, second),
+        high: greatest(a, first, b, second),
+    }
+}
+
+// The least square, rounded down.
+fn least_square(a: Ends, side: Side) -> Ext
+    requires { LiesOn side (end_of (ext_of a.low)) (end_of (ext_of a.high)) }
+    ensures { ext_of result ≡ square_from (ext_of a.low) (ext_of a.high) }
+{
+    match side {
+        Side::Above => mul_down(a.low, a.low),
+        Side::Below => mul_down(a.high, a.high),
+        Side::Across => Ext::Fin(Dy::ZERO),
+    }
+}
+
+// The greatest square, rounded up.
+fn greatest_square(a: Ends, side: Side) -> Ext
+    requires { LiesOn side (end_of (ext_of a.low)) (end_of (ext_of a.high)) }
+    ensures { ext_of result ≡ square_to (ext_of a.low) (ext_of a.high) }
+{
+    match side {
+        Side::Above => mul_up(a.high, a.high),
+        Side::Below => mul_up(a.low, a.low),
+        Side::Across => greater(mul_up(a.low, a.low), mul_up(a.high, a.high)),
+    }
+}
+
+// The squares of an interval that is not empty.
+fn square_of_ends(a: Ends) -> Ends
+    ensures { between (ext_of result.low) (ext_of result.high) ≡ interval_square (between (ext_of a.low) (ext_of a.high)) }
+{
+    let side = side_of(a);
+    Ends {
+        low: least_square(a, side),
+        high: greatest_square(a, side),
+    }
+}
+
+impl Ival {
+    /// The products of a number of each.
+    pub fn mul(self, other: Ival) -> Ival
+        ensures { interval_of result ≡ interval_product (interval_of self) (interval_of other) }
+    {
+        match (self, other) {
+            (Ival::Between(a), Ival::Between(b)) => Ival::Between(product_of_ends(a, b)),
+            _ => Ival::Empty,
+        }
+    }
+
+    /// The squares of its numbers.
+    pub fn sq(self) -> Ival
+        ensures { interval_of result ≡ interval_square (interval_of self) }
+    {
+        match self {
+            Ival::Between(a) => Ival::Between(square_of_ends(a)),
+            Ival::Empty => Ival::Empty,
+        }
+    }
+}
