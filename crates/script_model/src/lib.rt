@@ -1,0 +1,2 @@
+//! What a script means: expressions, their values and truth at a point, the declared box.
+#![tactic(auto)]
