@@ -1,0 +1,7 @@
+pub mod Beads
+pub mod Fronts
+pub mod Lex
+pub mod Numbers
+pub mod Runs
+pub mod Steps
+pub mod Strings

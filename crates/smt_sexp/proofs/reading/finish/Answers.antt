@@ -1,0 +1,9 @@
+use Rattle.std.proofs.Common.{length, ap, arith}
+use Rattle.smt_sexp.proofs.Steps.{finished, none_at, open_length}
+use Rattle.smt_sexp.proofs.reading.finish.Goals as goal
+
+pub returns-in-None : goal.returns-in-None
+returns-in-None c = λ all r.
+    let b = c.args.building in
+    let last = none_at c.deref.result.now _ c.in-None.ensures.value in
+    finished b r.0 r.1 all r.2 (omega (arith, open_length b r.0 r.1 r.2, ap length c.deref.ensures.value, last)) r.3

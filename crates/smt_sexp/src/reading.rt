@@ -1,0 +1,125 @@
+// The expressions of a text, or its first fault (SMT-LIB 2.6, sections 3.1 and 3.2).
+ghost use Rattle.std.specs.Prelude.{◌≡◌, ℕ, ◌+◌, ◌^◌, ◌<◌, ◌≤◌, List, OnOk, IfErr, IfOk, drop, length, take, vec_len};
+ghost use Rattle.script_model.specs.Sexp as sexp;
+ghost use Rattle.smt_sexp.specs.Building.{Stands};
+ghost use Rattle.smt_sexp.specs.Found.{Finds, front_of};
+ghost use Rattle.smt_sexp.specs.Lexicon.{TextRead, Unclosed, place_after, read};
+ghost use Rattle.smt_sexp.specs.Reads.{Reads, Refuses};
+ghost use Rattle.smt_sexp.specs.Step.{GoesOn, IsRead, IsReading};
+ghost use Rattle.smt_sexp.specs.Views.{place_of};
+
+use crate::building::Building;
+use crate::tokens::{Found, Piece, front};
+use crate::{Limit, Place, Sexps, TextFault};
+use std::alloc::Global;
+
+// How deep parentheses may stand in one another.
+const DEEPEST: usize = 256;
+
+/// All expressions of a text up to a top-level `(exit)`, or its first fault.
+pub fn read(alloc: Global, bytes: &[u8]) -> Result<Sexps, TextFault>
+    requires { length bytes.now ≤ 67108864 }
+    ensures { Reads result (read bytes.now) }
+{
+    let mut building = Building::new(alloc);
+    let mut place = Place { line: 1, column: 1 };
+    let mut at = 0;
+    while at < bytes.len() {
+        let (_, rest) = bytes.split_at(at);
+        let found = front(alloc, rest)?;
+        let size = found.size;
+        if step(&mut building, place, rest, found)? {
+            return finish(building);
+        }
+        let (text, _) = rest.split_at(size);
+        place = after(place, text);
+        at += size;
+    }
+    finish(building)
+}
+
+// Takes what stands at the front of the text, and says whether the text ends with it.
+fn step(building: &mut Building, place: Place, rest: &[u8], found: Found) -> Result<bool, TextFault>
+    requires some { 0 < length rest.now }
+    requires found { Finds rest.now (front_of rest.now) found }
+    requires line { place.line + length rest.now < 2 ^ 32 }
+    requires column { place.column + length rest.now < 2 ^ 32 }
+    requires few { vec_len building.old.nodes < 2 ^ 32 }
+    requires stands { (us : List Unclosed) × (tops : List sexp.Sexp) × Stands building.old us tops }
+    ensures ok { (all : TextRead) → IsReading building.old (place_of place) rest.now all →
+        IfOk result (GoesOn building.new (place_after (place_of place) (take found.size rest.now)) (drop found.size rest.now) all) }
+    ensures err { (all : TextRead) → IsReading building.old (place_of place) rest.now all → IfErr result (λ fault. Refuses fault all) }
+    ensures count { OnOk result (vec_len building.new.nodes ≤ vec_len building.old.nodes + 1) }
+{
+    let Place { line, column } = place;
+    match found.piece {
+        Piece::Blank => Ok(false),
+        Piece::Opening => {
+            if building.open.len() >= DEEPEST {
+                return Err(TextFault::TooMany {
+                    line,
+                    column,
+                    what: Limit::Depth,
+                });
+            }
+            building.open(place)?;
+            Ok(false)
+        }
+        Piece::Closing => {
+            if building.open.is_empty() {
+                return Err(TextFault::Unbalanced { line, column });
+            }
+            let ends = building.close()?;
+            Ok(ends)
+        }
+        Piece::Word(leaf) => {
+            building.leaf(place, leaf)?;
+            Ok(false)
+        }
+        Piece::BadByte(distance) => {
+            let (text, _) = rest.split_at(distance);
+            let Place { line, column } = after(place, text);
+            Err(TextFault::BadByte { line, column })
+        }
+        Piece::TooWide => Err(TextFault::NumberTooWide { line, column }),
+        Piece::Unended => Err(TextFault::OpenToken { line, column }),
+    }
+}
+
+// The place behind these bytes.
+fn after(place: Place, bytes: &[u8]) -> Place
+    requires line { place.line + length bytes.now < 2 ^ 32 }
+    requires column { place.column + length bytes.now < 2 ^ 32 }
+    ensures value { place_of result ≡ place_after (place_of place) bytes.now }
+    ensures line { result.line ≤ place.line + length bytes.now }
+    ensures column { result.column ≤ place.column + length bytes.now }
+{
+    let Place {
+        mut line,
+        mut column,
+    } = place;
+    for b in bytes {
+        if *b == b'\n' {
+            line += 1;
+            column = 1;
+        } else {
+            column += 1;
+        }
+    }
+    Place { line, column }
+}
+
+// What was read, where each parenthesis is closed.
+fn finish(building: Building) -> Result<Sexps, TextFault>
+    ensures { (all : TextRead) → IsRead building all → Reads result all }
+{
+    match building.open.last() {
+        Some(opened) => Err(TextFault::Unbalanced {
+            line: opened.place.line,
+            column: opened.place.column,
+        }),
+        None => Ok(Sexps {
+            nodes: building.nodes,
+        }),
+    }
+}
