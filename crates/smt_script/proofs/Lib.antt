@@ -1,0 +1,3 @@
+pub mod Heads
+pub mod Sequences
+pub mod Shapes

@@ -1,0 +1,7 @@
+pub mod Commands
+pub mod Forms
+pub mod Views
+pub mod Words
+pub mod Shapes
+pub mod Told
+pub mod Run

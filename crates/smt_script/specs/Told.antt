@@ -1,0 +1,72 @@
+-- What a reader of commands answers.
+use Rattle.std.specs.Prelude.{◌≡◌, ℕ, true, Option, Some, None, Result, Ok, Err, map}
+use Rattle.script_model.specs.Sexp.{Place}
+use Rattle.smt_sexp.specs.Arena.{rest_of, expression_at}
+use Rattle.smt_sexp.specs.Views.{place_of}
+use Rattle.smt_sexp.specs.declared.sexps.Sexps as arena
+use Rattle.smt_sexp.specs.declared.leaf.Place as code
+use Rattle.smt_script.specs.Commands as defined
+use Rattle.smt_script.specs.Commands.{Said, says, fails, bad_command, wrong_logic, left_out, no_check, sort_form, CommandsRead, commands, command_fault}
+use Rattle.smt_script.specs.Forms.{as_any, as_group, Behind}
+use Rattle.smt_script.specs.Shapes.{shape_group}
+use Rattle.smt_sexp.specs.declared.name.Name as names
+use Rattle.std.specs.Borrow.{Bor}
+use Rattle.smt_script.specs.Views.{form_of, command_of, commands_in, parameter_of}
+use Rattle.smt_script.specs.declared.words.SortForm.{SortForm}
+use Rattle.smt_script.specs.declared.command.Command.{Command}
+use Rattle.smt_script.specs.declared.command.Script.{Script}
+use Rattle.smt_script.specs.declared.fault.ScriptFault.{ScriptFault}
+use Rattle.smt_script.specs.declared.fault.ScriptFault.TheVariants as faults
+use Rattle.smt_script.specs.declared.lists.Arguments.{Arguments}
+use Rattle.smt_script.specs.declared.lists.Arguments.TheVariants as args
+use Rattle.smt_script.specs.declared.lists.Parameters.{Parameters}
+use Rattle.smt_script.specs.declared.lists.Parameters.TheVariants as params
+
+-- what stands in the place of a sort, and the place behind it
+abbrev pub FindsForm : arena.Sexps → ℕ → Option (SortForm × ℕ) → Type 0
+FindsForm s at None = as_any (rest_of s at) ≡ None
+FindsForm s at (Some (form, after)) = (as_any (rest_of s at) ≡ Some (expression_at s at, rest_of s after)) × (form_of form ≡ sort_form (expression_at s at)) × Behind s at after
+
+-- a parameter: its name with its place, and what stands in the place of its sort
+abbrev pub FindsShape : arena.Sexps → ℕ → Option (code.Place × Bor names.Name × SortForm) → Type 0
+FindsShape s at None = shape_group (as_group (rest_of s at)) ≡ None
+FindsShape s at (Some (place, name, form)) = shape_group (as_group (rest_of s at)) ≡ Some (place_of place, name.now, form_of form)
+
+abbrev pub arguments_of : Arguments → defined.Arguments
+arguments_of args.Nothing = defined.no_arguments
+arguments_of args.Some = defined.some_arguments
+arguments_of args.Wrong = defined.wrong_arguments
+
+abbrev pub parameters_of : Parameters → defined.Parameters
+parameters_of (params.Known ps) = defined.known_parameters (map parameter_of ps.items)
+parameters_of params.Other = defined.other_parameters
+parameters_of params.Wrong = defined.wrong_parameters
+
+-- the fault is this one, at this place, or memory
+abbrev pub FailsAs : Place → ScriptFault → Said → Type 0
+FailsAs at (faults.BadCommand line column) said = (said ≡ fails bad_command) × (at ≡ record { line = line; column = column })
+FailsAs at (faults.WrongLogic line column) said = (said ≡ fails wrong_logic) × (at ≡ record { line = line; column = column })
+FailsAs at (faults.LeftOut line column) said = (said ≡ fails left_out) × (at ≡ record { line = line; column = column })
+FailsAs at (faults.NoCheck line column) said = ⊥
+FailsAs at faults.Memory said = Unit {0}
+
+-- the command that is said, with what comes before the next one, or its fault
+abbrev pub Gives : arena.Sexps → defined.Before → Place → Result Command ScriptFault → Said → Type 0
+Gives s b at (Ok c) said = said ≡ says b (command_of s c)
+Gives s b at (Err f) said = FailsAs at f said
+
+-- all commands, or their first fault, or memory
+abbrev pub Refuses : ScriptFault → CommandsRead → Type 0
+Refuses (faults.BadCommand line column) read = read ≡ command_fault (record { line = line; column = column }) bad_command
+Refuses (faults.WrongLogic line column) read = read ≡ command_fault (record { line = line; column = column }) wrong_logic
+Refuses (faults.LeftOut line column) read = read ≡ command_fault (record { line = line; column = column }) left_out
+Refuses (faults.NoCheck line column) read = read ≡ command_fault (record { line = line; column = column }) no_check
+Refuses faults.Memory read = Unit {0}
+
+abbrev pub Reads : arena.Sexps → Result Script ScriptFault → CommandsRead → Type 0
+Reads s (Ok script) read = (script.sexps.now ≡ s) × (read ≡ commands (commands_in script))
+Reads s (Err f) read = Refuses f read
+
+-- a logic is set
+abbrev pub with_set : defined.Before → defined.Before
+with_set b = record { logic = true; checked = b.checked; ended = b.ended }

@@ -1,0 +1,37 @@
+// Commands of a script, over its expressions.
+ghost use Rattle.std.specs.Prelude.{◌≡◌};
+
+use smt_sexp::{Name, Place, Sexps};
+
+/// The sort of a constant or of a definition.
+#[derive(Clone, Copy, Debug, PartialEq, Eq)]
+pub enum Sort {
+    Real,
+    Bool,
+}
+
+/// A parameter of a definition.
+#[derive(Clone, Copy, Debug)]
+pub struct Parameter<'a> {
+    pub place: Place,
+    pub name: &'a Name,
+    pub sort: Sort,
+}
+
+/// A command, with its place. A term is named by its place among the script's expressions.
+#[derive(Debug, Drop)]
+pub enum Command<'a> {
+    Declare(Place, &'a Name, Sort),
+    Define(Place, &'a Name, Vec<Parameter<'a>>, Sort, usize),
+    Assert(Place, usize),
+    Check(Place),
+    /// A command without effect: of the logic, an information, an option, a model or the end.
+    Ineffective(Place),
+}
+
+/// The commands of a text, up to `(exit)`.
+#[derive(Debug, Drop)]
+pub struct Script<'a> {
+    pub sexps: &'a Sexps,
+    pub commands: Vec<Command<'a>>,
+}

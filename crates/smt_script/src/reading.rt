@@ -1,0 +1,299 @@
+// The commands of a script's expressions, or their first fault (SMT-LIB 2.6, section 3.9).
+ghost use Rattle.std.specs.Prelude.{◌≡◌, ◌&&◌, not};
+ghost use Rattle.script_model.specs.Sexp as sexp;
+ghost use Rattle.smt_sexp.specs.Arena.{listed, rest_of};
+ghost use Rattle.smt_sexp.specs.Views.{place_of};
+ghost use Rattle.smt_script.specs.Commands as defined;
+ghost use Rattle.smt_script.specs.Commands.{by_word, commands_of, may_follow, one_command, says};
+ghost use Rattle.smt_script.specs.Forms.{as_any, as_symbol};
+ghost use Rattle.smt_script.specs.Shapes.{asserts_term, at_last, declares_function_name, declares_name, defines_name, sets_name};
+ghost use Rattle.smt_script.specs.Told.{Gives, Reads, with_set};
+ghost use Rattle.smt_script.specs.Run.{GivesNext, Steps, after_word, before_of};
+ghost use Rattle.smt_script.specs.Views.{command_of, word_of};
+
+use crate::forms::{any, ends, group, symbol};
+use crate::lists::{Arguments, Parameters, arguments_from, parameters_from, sort_form};
+use crate::words::{SortForm, Word, is_logic, word_named};
+use crate::{Command, Script, ScriptFault};
+use smt_sexp::{Leaf, Place, Seen, Sexps};
+use std::alloc::Global;
+
+/// What came before a command.
+#[derive(Clone, Copy, Debug)]
+pub(crate) struct Before {
+    pub(crate) logic: bool,
+    pub(crate) checked: bool,
+    pub(crate) ended: bool,
+}
+
+/// The commands of the expressions of a text, or their first fault.
+pub fn commands(alloc: Global, sexps: &Sexps) -> Result<Script<'_>, ScriptFault>
+    ensures { Reads sexps.now result (commands_of (listed (rest_of sexps.now 0))) }
+{
+    let mut commands = Vec::new(alloc);
+    let mut before = Before {
+        logic: false,
+        checked: false,
+        ended: false,
+    };
+    let mut at = 0;
+    while let Some((next, command, after)) = step(alloc, sexps, before, at)? {
+        commands.push(command)?;
+        before = next;
+        at = after;
+    }
+    if before.checked {
+        Ok(Script { sexps, commands })
+    } else {
+        Err(ScriptFault::NoCheck { line: 0, column: 0 })
+    }
+}
+
+// The command at a place, with what comes before the next one and the place behind it.
+fn step(
+    alloc: Global,
+    sexps: &Sexps,
+    before: Before,
+    at: usize,
+) -> Result<Option<(Before, Command<'_>, usize)>, ScriptFault>
+    ensures { Steps sexps.now (before_of before) at result }
+{
+    if before.ended {
+        return Ok(None);
+    }
+    match sexps.look(at) {
+        Seen::End => Ok(None),
+        Seen::Leaf(place, _, _) => Err(bad_command(place)),
+        Seen::Group(place, inside, after) => {
+            let (next, command) = command(alloc, sexps, before, place, inside)?;
+            Ok(Some((next, command, after)))
+        }
+    }
+}
+
+// The command of a group.
+fn command(
+    alloc: Global,
+    sexps: &Sexps,
+    before: Before,
+    place: Place,
+    inside: usize,
+) -> Result<(Before, Command<'_>), ScriptFault>
+    ensures { GivesNext sexps.now (place_of place) result (one_command (before_of before) (sexp.group (place_of place) (rest_of sexps.now inside))) }
+{
+    let Some((_, name, at)) = symbol(sexps, inside) else {
+        return Err(bad_command(place));
+    };
+    let Some(word) = word_named(name.as_slice()) else {
+        return Err(bad_command(place));
+    };
+    if is_late(word, before) {
+        return Err(left_out(place));
+    }
+    let command = by_word(alloc, sexps, before.logic, word, place, at)?;
+    Ok((after_word(word, before), command))
+}
+
+// Whether such a command stands behind `check-sat`, where it may not.
+fn is_late(word: Word, before: Before) -> bool
+    ensures { result ≡ (before.checked && not (may_follow (word_of word))) }
+{
+    before.checked && !word.may_follow()
+}
+
+// What a command of this word leaves for the next one.
+fn after_word(word: Word, before: Before) -> Before
+    ensures { before_of result ≡ after_word (word_of word) (before_of before) }
+{
+    match word {
+        Word::SetsLogic => Before {
+            logic: true,
+            ..before
+        },
+        Word::Checks => Before {
+            checked: true,
+            ..before
+        },
+        Word::Exits => Before {
+            ended: true,
+            ..before
+        },
+        _ => before,
+    }
+}
+
+// The command of a word at its arguments.
+fn by_word(
+    alloc: Global,
+    sexps: &Sexps,
+    is_set: bool,
+    word: Word,
+    place: Place,
+    at: usize,
+) -> Result<Command<'_>, ScriptFault>
+    ensures { (b : defined.Before) → b.logic ≡ is_set →
+        Gives sexps.now (after_word (word_of word) b) (place_of place) result (by_word b (place_of place) (word_of word) (rest_of sexps.now at)) }
+{
+    match word {
+        Word::SetsLogic => set_logic(sexps, is_set, place, at),
+        Word::Informs => Ok(Command::Ineffective(place)),
+        Word::GetsModel => alone(sexps, place, at, Command::Ineffective(place)),
+        Word::Declares => declare_const(sexps, place, at),
+        Word::DeclaresFunction => declare_fun(sexps, place, at),
+        Word::Defines => define_fun(alloc, sexps, place, at),
+        Word::Asserts => assert_term(sexps, place, at),
+        Word::Checks => alone(sexps, place, at, Command::Check(place)),
+        Word::Exits => alone(sexps, place, at, Command::Ineffective(place)),
+        Word::StaysOut => Err(left_out(place)),
+    }
+}
+
+// A command without arguments.
+fn alone<'a>(
+    sexps: &'a Sexps,
+    place: Place,
+    at: usize,
+    command: Command<'a>,
+) -> Result<Command<'a>, ScriptFault>
+    ensures { (b : defined.Before) → Gives sexps.now b (place_of place) result (at_last (rest_of sexps.now at) (says b (command_of sexps.now command.entry))) }
+{
+    if ends(sexps, at) {
+        Ok(command)
+    } else {
+        Err(bad_command(place))
+    }
+}
+
+fn bad_command(place: Place) -> ScriptFault
+    ensures { result ≡ ScriptFault.BadCommand place.line place.column }
+{
+    let Place { line, column } = place;
+    ScriptFault::BadCommand { line, column }
+}
+
+fn left_out(place: Place) -> ScriptFault
+    ensures { result ≡ ScriptFault.LeftOut place.line place.column }
+{
+    let Place { line, column } = place;
+    ScriptFault::LeftOut { line, column }
+}
+
+// A logic of those that are read, where none was set before.
+fn set_logic<'a>(
+    sexps: &'a Sexps,
+    is_set: bool,
+    place: Place,
+    at: usize,
+) -> Result<Command<'a>, ScriptFault>
+    ensures { (b : defined.Before) → b.logic ≡ is_set →
+        Gives sexps.now (with_set b) (place_of place) result (sets_name b (place_of place) (as_symbol (rest_of sexps.now at))) }
+{
+    let Some((_, name, at)) = symbol(sexps, at) else {
+        return Err(bad_command(place));
+    };
+    if !ends(sexps, at) {
+        return Err(bad_command(place));
+    }
+    if is_set {
+        return Err(bad_command(place));
+    }
+    if !is_logic(name.as_slice()) {
+        let Place { line, column } = place;
+        return Err(ScriptFault::WrongLogic { line, column });
+    }
+    Ok(Command::Ineffective(place))
+}
+
+// A name and a sort.
+fn declare_const(sexps: &Sexps, place: Place, at: usize) -> Result<Command<'_>, ScriptFault>
+    ensures { (b : defined.Before) → Gives sexps.now b (place_of place) result (declares_name b (place_of place) (as_symbol (rest_of sexps.now at))) }
+{
+    let Some((_, name, at)) = symbol(sexps, at) else {
+        return Err(bad_command(place));
+    };
+    let Some((form, at)) = sort_form(sexps, at) else {
+        return Err(bad_command(place));
+    };
+    if !ends(sexps, at) {
+        return Err(bad_command(place));
+    }
+    match form {
+        SortForm::NoSort => Err(bad_command(place)),
+        SortForm::Other => Err(left_out(place)),
+        SortForm::One(sort) => Ok(Command::Declare(place, name, sort)),
+    }
+}
+
+// A name, arguments and a sort: an argument is left out.
+fn declare_fun(sexps: &Sexps, place: Place, at: usize) -> Result<Command<'_>, ScriptFault>
+    ensures { (b : defined.Before) → Gives sexps.now b (place_of place) result (declares_function_name b (place_of place) (as_symbol (rest_of sexps.now at))) }
+{
+    let Some((_, name, at)) = symbol(sexps, at) else {
+        return Err(bad_command(place));
+    };
+    let Some((inside, at)) = group(sexps, at) else {
+        return Err(bad_command(place));
+    };
+    let Some((form, at)) = sort_form(sexps, at) else {
+        return Err(bad_command(place));
+    };
+    if !ends(sexps, at) {
+        return Err(bad_command(place));
+    }
+    match (arguments_from(sexps, inside), form) {
+        (Arguments::Wrong, _) => Err(bad_command(place)),
+        (_, SortForm::NoSort) => Err(bad_command(place)),
+        (Arguments::Some, _) => Err(left_out(place)),
+        (_, SortForm::Other) => Err(left_out(place)),
+        (Arguments::Nothing, SortForm::One(sort)) => Ok(Command::Declare(place, name, sort)),
+    }
+}
+
+// A name, parameters, a sort and a term.
+fn define_fun(
+    alloc: Global,
+    sexps: &Sexps,
+    place: Place,
+    at: usize,
+) -> Result<Command<'_>, ScriptFault>
+    ensures { (b : defined.Before) → Gives sexps.now b (place_of place) result (defines_name b (place_of place) (as_symbol (rest_of sexps.now at))) }
+{
+    let Some((_, name, at)) = symbol(sexps, at) else {
+        return Err(bad_command(place));
+    };
+    let Some((inside, at)) = group(sexps, at) else {
+        return Err(bad_command(place));
+    };
+    let Some((form, body)) = sort_form(sexps, at) else {
+        return Err(bad_command(place));
+    };
+    let Some(at) = any(sexps, body) else {
+        return Err(bad_command(place));
+    };
+    if !ends(sexps, at) {
+        return Err(bad_command(place));
+    }
+    let params = parameters_from(alloc, sexps, inside)?;
+    match (params, form) {
+        (Parameters::Wrong, _) => Err(bad_command(place)),
+        (_, SortForm::NoSort) => Err(bad_command(place)),
+        (Parameters::Other, _) => Err(left_out(place)),
+        (_, SortForm::Other) => Err(left_out(place)),
+        (Parameters::Known(params), SortForm::One(sort)) => {
+            Ok(Command::Define(place, name, params, sort, body))
+        }
+    }
+}
+
+// A term.
+fn assert_term(sexps: &Sexps, place: Place, body: usize) -> Result<Command<'_>, ScriptFault>
+    ensures { (b : defined.Before) → Gives sexps.now b (place_of place) result (asserts_term b (place_of place) (as_any (rest_of sexps.now body))) }
+{
+    let Some(at) = any(sexps, body) else {
+        return Err(bad_command(place));
+    };
+    if !ends(sexps, at) {
+        return Err(bad_command(place));
+    }
+    Ok(Command::Assert(place, body))
+}
