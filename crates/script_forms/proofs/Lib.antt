@@ -1,0 +1,10 @@
+pub mod Lowest
+pub mod Forms
+pub mod Means
+pub mod Quotient
+pub mod Meaning
+pub mod Good
+pub mod Whole
+pub mod Numbered
+pub mod Box
+pub mod Kept

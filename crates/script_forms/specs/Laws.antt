@@ -1,0 +1,49 @@
+-- The laws that tie a script's terms, atoms, form and problem to what the script means.
+use Rattle.std.specs.Prelude.{◌≡◌, ℕ, List, Option, None, IsTrue, ◌↔◌}
+use Rattle.std.specs.List.{AllByRecursion, All}
+use Rattle.dyadic.specs.Fraction.{Fraction, IsFraction, at_most}
+use Rattle.dyadic.specs.Point.{Coordinate, IsPoint}
+use Rattle.script_model.specs.Script.{Command, Satisfies, sorts_of}
+use Rattle.script_model.specs.Declared.{InDeclaredBox}
+use Rattle.poly_graph.specs.Term.{Atom, atom_holds}
+use Rattle.poly_graph.specs.Form.{form_truth}
+use Rattle.poly_graph.specs.Problem.{Problem, Axis, IsDeclared, full_atom, bool_holds, IsTerm, sorts_of_problem, in_declared_box}
+use Rattle.dyadic.specs.Lowest.{reduced}
+use Rattle.script_forms.specs.Atoms.{unfolding_fault, script_atoms, script_form, form_holds}
+use Rattle.script_forms.specs.ProblemOf.{IsProblemOf}
+
+-- Where a script unfolds without a fault, its form is true at a point, each atom being true where its term's
+-- value lies in its range loosened by m, exactly where the point satisfies the script loosened by m.
+abbrev pub FormMeansScript : Type 0
+FormMeansScript = (script : List Command) → unfolding_fault script ≡ None → (m : Fraction) (point : List Coordinate) →
+    IsPoint (sorts_of script) point →
+    IsTrue (form_holds m point (script_atoms script) (script_form script)) ↔ Satisfies m point script
+
+-- the form of a problem at a point, each atom loosened by m
+abbrev pub ProblemHolds : Fraction → List Coordinate → Problem → Type 0
+ProblemHolds m point p = IsTrue (form_truth (λ j. atom_holds m point (full_atom p j)) (bool_holds point) p.form)
+
+-- The same of each problem that is that of the script.
+abbrev pub ProblemMeansScript : Type 0
+ProblemMeansScript = (bound : Option ℕ) (script : List Command) (p : Problem) → IsProblemOf bound script p →
+    (m : Fraction) (point : List Coordinate) → IsPoint (sorts_of_problem p) point →
+    ProblemHolds m point p ↔ Satisfies m point script
+
+-- The terms of a script's atoms have fractions for constants and Real constants for variables.
+abbrev pub AtomsAreGood : Type 0
+AtomsAreGood = (script : List Command) → AllByRecursion (λ (a : Atom). IsTerm (sorts_of script) a.0) (script_atoms script)
+
+-- The declared box of a script is that of its problem.
+abbrev pub BoxIsDeclared : Type 0
+BoxIsDeclared = (bound : Option ℕ) (script : List Command) (p : Problem) → IsProblemOf bound script p → (point : List Coordinate) →
+    InDeclaredBox bound script point ↔ (IsPoint (sorts_of_problem p) point × IsTrue (in_declared_box p point))
+
+-- Where the bounds of a script have no fault, its problem's declared ends are bounds: rounding leaves them finite
+-- and moves them by little.
+abbrev pub AxesAreBounds : Type 0
+AxesAreBounds = (bound : Option ℕ) (script : List Command) (p : Problem) → IsProblemOf bound script p →
+    All (λ (a : Axis). IsDeclared a.declared) p.axes
+
+-- A fraction in lowest terms is a fraction of the same value.
+abbrev pub LowestIsSame : Type 0
+LowestIsSame = (q : Fraction) → IsFraction q → IsFraction (reduced q) × IsTrue (at_most q (reduced q)) × IsTrue (at_most (reduced q) q)

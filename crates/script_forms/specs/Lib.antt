@@ -1,0 +1,5 @@
+pub mod Atoms
+pub mod Laws
+pub mod ProblemOf
+pub mod Terms
+pub mod Unfolded

@@ -1,0 +1,111 @@
+-- What an expression unfolds to, and the terms of Real expressions, built from the leaves up.
+use Rattle.std.specs.Prelude.{List, [], ◌∷◌, Bool, true, false, ◌&&◌, cond, nat_eq, ℤ, pos, negsuc, nat_abs}
+use Rattle.dyadic.specs.Fraction.{Fraction, zero_fraction, whole, negated, sum_of, product_of, quotient_of}
+use Rattle.script_model.specs.Sexp.{Place}
+use Rattle.poly_graph.specs.Term.{Term, constant, variable, negate, add, multiply, square, Kind}
+use Rattle.poly_graph.specs.Form.{Form}
+use Rattle.dyadic.specs.Lowest.{reduced, sum_fits, product_fits}
+
+-- each with its place; an expression that has no sort is ill formed, and no script that is accepted holds one
+pub data Fault : Type 0 where
+  number_too_wide divisor_not_constant zero_divisor ill_formed : Place → Fault
+
+-- a comparison that stands in a form: that left minus right is at most, at least or equal to 0
+pub record Comparison : Type 0 where
+  pub at : Place
+  pub left : Term
+  pub right : Term
+  pub kind : Kind
+
+pub data Unfolded : Type 0 where
+  -- of a Real expression
+  term : Term → Unfolded
+  -- of a Bool expression: the form of its truth, and that of its negation
+  formula : Form Comparison → Form Comparison → Unfolded
+  -- the first fault
+  refused : Fault → Unfolded
+
+-- ---- one and the same tree
+
+abbrev pub same_sign : ℤ → ℤ → Bool
+same_sign (pos m) (pos n) = true
+same_sign (negsuc m) (negsuc n) = true
+same_sign _ _ = false
+
+abbrev pub same_fraction : Fraction → Fraction → Bool
+same_fraction p q = nat_eq (nat_abs p.num) (nat_abs q.num) && nat_eq p.den q.den && same_sign p.num q.num
+
+abbrev pub same_term : Term → Term → Bool
+same_term (constant p) (constant q) = same_fraction p q
+same_term (variable i) (variable j) = nat_eq i j
+same_term (negate t) (negate u) = same_term t u
+same_term (add t t') (add u u') = same_term t u && same_term t' u'
+same_term (multiply t t') (multiply u u') = same_term t u && same_term t' u'
+same_term (square t) (square u) = same_term t u
+same_term _ _ = false
+
+-- ---- one step
+
+-- a constant in lowest terms, where its step was narrow enough
+abbrev pub constant_or : Place → Bool → Fraction → Unfolded
+constant_or at true q = term (constant (reduced q))
+constant_or at false q = refused (number_too_wide at)
+
+abbrev pub negate_tree : Term → Term
+negate_tree (constant q) = constant (negated q)
+negate_tree t = negate t
+
+abbrev pub add_tree : Place → Term → Term → Unfolded
+add_tree at (constant p) (constant q) = constant_or at (sum_fits p q) (sum_of p q)
+add_tree at t u = term (add t u)
+
+-- the product of one and the same tree is its square
+abbrev pub multiply_tree : Place → Term → Term → Unfolded
+multiply_tree at (constant p) (constant q) = constant_or at (product_fits p q) (product_of p q)
+multiply_tree at t u = term (cond (same_term t u) (square t) (multiply t u))
+
+abbrev pub subtract_tree : Place → Term → Term → Unfolded
+subtract_tree at t u = add_tree at t (negate_tree u)
+
+abbrev pub is_nought : Fraction → Bool
+is_nought q = nat_eq (nat_abs q.num) 0
+
+abbrev pub inverse_of : Fraction → Fraction
+inverse_of q = reduced (quotient_of (whole (pos 1)) q)
+
+-- by a constant: the product with its inverse
+abbrev pub divide_tree : Place → Term → Term → Unfolded
+divide_tree at t (constant q) = cond (is_nought q) (refused (zero_divisor at)) (multiply_tree at t (constant (inverse_of q)))
+divide_tree at t u = refused (divisor_not_constant at)
+
+-- ---- the steps of several arguments from left to right, until a fault
+
+abbrev pub step : (Term → Term → Unfolded) → Unfolded → Unfolded → Unfolded
+step f (refused x) u = refused x
+step f (term t) (term u) = f t u
+step f (term t) (refused x) = refused x
+step f t u = t
+
+abbrev pub steps : (Term → Term → Unfolded) → Unfolded → List Unfolded → Unfolded
+steps f t [] = t
+steps f t (u ∷ rest) = steps f (step f t u) rest
+
+abbrev pub all_steps : (Term → Term → Unfolded) → List Unfolded → Unfolded
+all_steps f [] = term (constant zero_fraction)
+all_steps f (t ∷ rest) = steps f t rest
+
+-- of one argument the opposite
+abbrev pub subtraction_tree : Place → List Unfolded → Unfolded
+subtraction_tree at [] = term (constant zero_fraction)
+subtraction_tree at (term t ∷ []) = term (negate_tree t)
+subtraction_tree at (t ∷ rest) = steps (subtract_tree at) t rest
+
+-- ---- the term of a comparison, made when its form is asked for
+
+abbrev pub is_zero : Term → Bool
+is_zero (constant q) = is_nought q
+is_zero t = false
+
+-- left, where right is the constant 0, else left minus right
+abbrev pub comparison_tree : Comparison → Unfolded
+comparison_tree c = cond (is_zero c.right) (term c.left) (subtract_tree c.at c.left c.right)
