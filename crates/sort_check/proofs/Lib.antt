@@ -1,0 +1,7 @@
+pub mod Bindings
+pub mod Calls
+pub mod Failures
+pub mod Known
+pub mod Lists
+pub mod Shapes
+pub mod WellSorted

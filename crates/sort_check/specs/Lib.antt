@@ -1,0 +1,6 @@
+pub mod Forms
+pub mod Sorts
+pub mod Steps
+pub mod Told
+pub mod Views
+pub mod WellSorted

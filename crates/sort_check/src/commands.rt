@@ -1,0 +1,145 @@
+// The sorts and names of commands, one after the other.
+ghost use Rattle.std.specs.Prelude.{◌≡◌, ◌≤◌, [], map};
+ghost use Rattle.script_model.specs.Sexp as sexp;
+ghost use Rattle.script_model.specs.Reading.{Names, meaning};
+ghost use Rattle.smt_script.specs.Views.{command_of, commands_in, parameter_of, sort_of};
+ghost use Rattle.smt_sexp.specs.Arena.{expression_at};
+ghost use Rattle.smt_sexp.specs.Views.{place_of};
+ghost use Rattle.sort_check.specs.Sorts.{Sorted, known, new_name, sort_fault, sorting, taken_parameter, wants};
+ghost use Rattle.sort_check.specs.Views.{Knows, around};
+ghost use Rattle.sort_check.specs.Steps.{FindsFault, Steps};
+
+use crate::expressions::expression;
+use crate::names::{Known, is_operator, is_same, is_taken};
+use crate::stop::{Fault, Stop};
+use smt_script::{Command, Parameter, Script, Sort};
+use smt_sexp::{Name, Place, Seen, Sexps};
+use std::alloc::Global;
+use std::collections::HashMap;
+
+/// As many constants as a script may declare.
+const MOST_AXES: usize = 1_024;
+
+/// The first fault of a script's names and sorts.
+pub(crate) fn sorts<'p, 'a>(alloc: Global, script: &'p Script<'a>) -> Result<(), Stop<'a>>
+    ensures { FindsFault result (sort_fault (commands_in script.now)) }
+{
+    let mut top: HashMap<&'a [u8], Known<'p, 'a>> = HashMap::new(alloc);
+    let mut count = 0;
+    let mut rest = script.commands.as_slice();
+    while let [command, later @ ..] = rest {
+        count = step(alloc, script.sexps, &mut top, count, command)?;
+        rest = later;
+    }
+    Ok(())
+}
+
+// A command, after so many constants.
+fn step<'p, 'a>(
+    alloc: Global,
+    sexps: &'a Sexps,
+    top: &mut HashMap<&'a [u8], Known<'p, 'a>>,
+    count: usize,
+    command: &'p Command<'a>,
+) -> Result<usize, Stop<'a>>
+    requires { count ≤ 1024 }
+    ensures { (names : Names Sorted) → Knows top.old names → Steps top.new count names (command_of sexps.now command.now) result }
+{
+    match command {
+        Command::Declare(place, name, sort) => {
+            is_new(top, *place, name)?;
+            if count >= MOST_AXES {
+                return Err(Stop::Fault(*place, Fault::TooManyAxes));
+            }
+            top.insert(name.as_slice(), Known::Value(*sort))?;
+            Ok(count + 1)
+        }
+        Command::Define(place, name, parameters, sort, body) => {
+            is_new(top, *place, name)?;
+            are_new(alloc, parameters.as_slice())?;
+            wanted(alloc, sexps, top, parameters.as_slice(), *body, *sort)?;
+            top.insert(
+                name.as_slice(),
+                Known::Function(parameters.as_slice(), *sort),
+            )?;
+            Ok(count)
+        }
+        Command::Assert(_, body) => {
+            wanted(alloc, sexps, top, &[], *body, Sort::Bool)?;
+            Ok(count)
+        }
+        Command::Check(_) => Ok(count),
+        Command::Ineffective(_) => Ok(count),
+    }
+}
+
+// The fault of a name of the top that is known.
+fn is_new<'p, 'a>(
+    top: &HashMap<&'a [u8], Known<'p, 'a>>,
+    place: Place,
+    name: &'a Name,
+) -> Result<(), Stop<'a>>
+    ensures { (names : Names Sorted) → Knows top.now names → FindsFault result (new_name (place_of place) name.now names) }
+{
+    if is_known(top, name) {
+        Err(Stop::Fault(place, Fault::Redeclared(name)))
+    } else {
+        Ok(())
+    }
+}
+
+// Whether a name is a symbol of the theories, or stands at the top.
+fn is_known<'p, 'a>(top: &HashMap<&'a [u8], Known<'p, 'a>>, name: &Name) -> bool
+    ensures { (names : Names Sorted) → Knows top.now names → result ≡ known name.now names }
+{
+    let operator = is_operator(name);
+    let stands = top.contains_key(name.as_slice());
+    operator || stands
+}
+
+// The fault of the first parameter whose name is taken.
+fn are_new<'a>(alloc: Global, parameters: &[Parameter<'a>]) -> Result<(), Stop<'a>>
+    ensures { FindsFault result (taken_parameter [] (map parameter_of parameters.now)) }
+{
+    let mut before = Vec::new(alloc);
+    let mut rest = parameters;
+    while let [first, later @ ..] = rest {
+        if is_taken(before.as_slice(), first.name) {
+            return Err(Stop::Fault(first.place, Fault::Redeclared(first.name)));
+        }
+        before.push(*first)?;
+        rest = later;
+    }
+    Ok(())
+}
+
+// The fault of an expression that is to have a sort.
+fn wanted<'p, 'a>(
+    alloc: Global,
+    sexps: &'a Sexps,
+    top: &HashMap<&'a [u8], Known<'p, 'a>>,
+    locals: &[Parameter<'a>],
+    at: usize,
+    sort: Sort,
+) -> Result<(), Stop<'a>>
+    ensures { (names : Names Sorted) → Knows top.now names →
+        FindsFault result (wants (sexp.place_of (expression_at sexps.now at)) (sort_of sort) (meaning sorting (around locals.now names) (expression_at sexps.now at))) }
+{
+    let found = expression(alloc, sexps, top, locals, at)?;
+    if is_same(sort, found) {
+        Ok(())
+    } else {
+        Err(Stop::Fault(place_at(sexps, at), Fault::SortMismatch))
+    }
+}
+
+// Where the expression at a place begins.
+fn place_at(sexps: &Sexps, at: usize) -> Place
+    ensures { place_of result ≡ sexp.place_of (expression_at sexps.now at) }
+{
+    match sexps.look(at) {
+        Seen::End => Place { line: 0, column: 0 },
+        Seen::Leaf(place, _, _) => place,
+        Seen::Group(place, _, _) => place,
+    }
+}

@@ -1,0 +1,118 @@
+// What names stand for: those of the top by their bytes, and the nearest of `let` and of parameters before them.
+ghost use Rattle.std.specs.Prelude.{◌≡◌, ◌++◌, [], map, option_map};
+ghost use Rattle.script_model.specs.Reading.{found, operators, Names};
+ghost use Rattle.smt_script.specs.Views.{parameter_of, sort_of};
+ghost use Rattle.sort_check.specs.Sorts.{Sorted, fit, is_operator, is_taken, name_in, same_sort};
+ghost use Rattle.sort_check.specs.Views.{Heads, Knows, around, named_of, names_back, names_of, sorts_seen};
+
+use crate::operators::{Operator, operator_named};
+use smt_script::{Parameter, Sort};
+use smt_sexp::Name;
+use std::collections::HashMap;
+
+/// What a name of the top stands for.
+#[derive(Clone, Copy, Debug)]
+pub(crate) enum Known<'p, 'a> {
+    Value(Sort),
+    Function(&'p [Parameter<'a>], Sort),
+}
+
+/// What a name stands for.
+#[derive(Clone, Copy, Debug)]
+pub(crate) enum Head<'p, 'a> {
+    Operator(Operator),
+    Known(Known<'p, 'a>),
+}
+
+/// What a name stands for that is no operator.
+fn lookup<'p, 'a>(
+    top: &HashMap<&'a [u8], Known<'p, 'a>>,
+    locals: &[Parameter<'a>],
+    name: &Name,
+) -> Option<Known<'p, 'a>>
+    ensures { (names : Names Sorted) → Knows top.now names → option_map named_of result ≡ found name.now (around locals.now names) }
+{
+    let mut rest = locals;
+    while let [local, later @ ..] = rest {
+        if name.as_slice() == local.name.as_slice() {
+            return Some(Known::Value(local.sort));
+        }
+        rest = later;
+    }
+    top.get(name.as_slice()).copied()
+}
+
+/// What a name stands for.
+pub(crate) fn head_of<'p, 'a>(
+    top: &HashMap<&'a [u8], Known<'p, 'a>>,
+    locals: &[Parameter<'a>],
+    name: &Name,
+) -> Option<Head<'p, 'a>>
+    ensures { (names : Names Sorted) → Knows top.now names → Heads result name.now (around locals.now names) }
+{
+    if let Some(operator) = operator_named(name.as_slice()) {
+        return Some(Head::Operator(operator));
+    }
+    let known = lookup(top, locals, name)?;
+    Some(Head::Known(known))
+}
+
+/// Whether a name is a symbol of the theories.
+pub(crate) fn is_operator(name: &Name) -> bool
+    ensures { result ≡ is_operator (found name.now operators) }
+{
+    operator_named(name.as_slice()).is_some()
+}
+
+// Whether a name stands among these.
+fn is_among(before: &[Parameter<'_>], name: &Name) -> bool
+    ensures { result ≡ name_in name.now (names_of (map parameter_of before.now)) }
+{
+    let mut rest = before;
+    while let [first, later @ ..] = rest {
+        if name.as_slice() == first.name.as_slice() {
+            return true;
+        }
+        rest = later;
+    }
+    false
+}
+
+/// Whether a name is a symbol of the theories, or stands among these.
+pub(crate) fn is_taken(before: &[Parameter<'_>], name: &Name) -> bool
+    ensures { result ≡ is_taken (names_back (map parameter_of before.now) []) name.now }
+{
+    let operator = is_operator(name);
+    let among = is_among(before, name);
+    operator || among
+}
+
+/// Whether arguments of these sorts fit the parameters.
+pub(crate) fn fits(parameters: &[Parameter<'_>], sorts: &[Sort]) -> bool
+    ensures { result ≡ fit (map parameter_of parameters.now) (sorts_seen sorts.now) }
+{
+    let mut left = parameters;
+    let mut given = sorts;
+    while let [parameter, more @ ..] = left {
+        let [sort, later @ ..] = given else {
+            return false;
+        };
+        if !is_same(parameter.sort, *sort) {
+            return false;
+        }
+        left = more;
+        given = later;
+    }
+    given.is_empty()
+}
+
+/// Whether two sorts are one.
+pub(crate) fn is_same(a: Sort, b: Sort) -> bool
+    ensures { result ≡ same_sort (sort_of a) (sort_of b) }
+{
+    match (a, b) {
+        (Sort::Real, Sort::Real) => true,
+        (Sort::Bool, Sort::Bool) => true,
+        _ => false,
+    }
+}
