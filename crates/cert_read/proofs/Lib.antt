@@ -1,0 +1,11 @@
+pub mod Ahead
+mod Answered
+mod ByFirst
+mod Counts
+mod Forms
+mod KeywordWords
+mod LineRows
+pub mod Parts
+pub mod Pieces
+pub mod Spelled
+mod WordSteps

@@ -1,0 +1,258 @@
+-- A line's spelling says that line.
+use Rattle.std.proofs.Common.{◌≡◌, inl, inr, ℕ, zero, suc, ◌^◌, ◌<◌, ◌≤◌, List, [], ◌∷◌, map, Bool, true, false, not, ◌&&◌, cond, IsTrue, Option, Some, None, refl, ap, ap₂, sym, ◌∙◌, true≢false, nat_eq, nat_lt, length, get_or, codes, arith}
+use Rattle.std.specs.Prelude.{decimal}
+use Rattle.std.specs.List.{AllByRecursion}
+use Rattle.std.specs.Str.{bytes_eq, all_ascii_digits}
+use Rattle.std.specs.Str.Parse.{digits_value}
+use Rattle.std.proofs.lemmas.Bool.Decides.{eqb_tells, leb_tells}
+use Rattle.std.proofs.lemmas.Bool.{leb-true, le-leb}
+use Rattle.std.proofs.lemmas.Fmt.{digits_decimal, digits_value-decimal, first_decimal}
+use Rattle.std.proofs.lemmas.Str.Parse.{IsNumeralModel, tells_all_ascii_digits, numerals_by_value}
+use Rattle.dyadic.specs.Rounding.{Dyadic}
+use Rattle.dyadic.specs.NumberText.{number_spelling}
+use Rattle.dyadic.proofs.Equal.{both_true, both_pass}
+use Rattle.cert_read.specs.Lines.{all_bytes, is_word, are_words, words_of, is_too_long, longest_line}
+use Rattle.cert_read.specs.CertLine.{BoolWord, says_false, says_true, says_both, RuleLine, pull_at, unit_at, void_at, case_at, stuck_at, by_lemma, ban_by, cut_at, flip_at, false_here, open_here, CertLine, version, margin, delta, bound, cover, point_word, tree_word, end_word, lemma, real_interval, real_value, bool_value, yes_list, no_list, rule_line, crossing, is_plain, if_below, if_plain, count_of, if_number, dyadic_of, counts_of, and_count, line, parsed, with_count, with_counts, with_dyadic, with_dyadics, with_both, with_list, of_bound, by_first, if_words, unless_long}
+use Rattle.cert_read.specs.LineText.{spaced, line_words, line_text, rule_words, bound_text, bool_text, is_word_byte, IsCount, IsSpelledNumber, IsSpelledRule, IsSpelledBound, HasSpelling, IsSpelled}
+use Rattle.cert_read.proofs.Pieces.{lacks, AllLack, words_of_spaced, spaced_lacks}
+
+-- ---- plain numbers
+
+abbrev AreDigits : List ℕ → Type 0
+AreDigits w = all_ascii_digits w ≡ true
+
+model : IsNumeralModel AreDigits (digits_value 10)
+model = numerals_by_value AreDigits tells_all_ascii_digits
+
+small : (n : ℕ) → IsCount n → n < 2 ^ 64
+small n h = omega (arith, h)
+
+digits-of : (n : ℕ) → IsCount n → AreDigits (decimal n)
+digits-of n h = digits_decimal model n (small n h)
+
+not-nought : (b : ℕ) → 48 < b → not (nat_eq b 48) ≡ true
+not-nought b h = elim (eqb_tells b 48) [ inl e ↦ absurd (omega (arith, e.1, h)) | inr e ↦ ap not e.0 ]
+
+plain-by : (w : List ℕ) → AreDigits w → 48 < get_or w 0 0 → is_plain w ≡ true
+plain-by [] d h = absurd (omega (arith, h))
+plain-by (b ∷ []) d h = d
+plain-by (b ∷ c ∷ bs) d h = both_pass (not (nat_eq b 48)) (all_ascii_digits (b ∷ c ∷ bs)) (not-nought b h) d
+
+plain-decimal : (n : ℕ) → IsCount n → is_plain (decimal n) ≡ true
+unfolding Rattle.std.specs.Fmt.digits
+plain-decimal zero h = refl
+plain-decimal (suc n) h = plain-by (decimal (suc n)) (digits-of (suc n) h) (first_decimal (suc n) (omega arith) (small (suc n) h))
+
+below : (n k : ℕ) → n < k → if_below (nat_lt n k) n ≡ Some n
+below n k h = ap (λ (t : Bool). if_below t n) (le-leb (suc n) k h)
+
+-- a plain number's digits give it back
+pub spelled_count : (n : ℕ) → IsCount n → count_of (decimal n) ≡ Some n
+spelled_count n h = ap (λ (t : Bool). if_plain t (decimal n)) (plain-decimal n h)
+    ∙ ap (λ (m : ℕ). if_below (nat_lt m (2 ^ 32)) m) (digits_value-decimal model n (small n h)) ∙ below n (2 ^ 32) h
+
+pub spelled_counts : (js : List ℕ) → AllByRecursion IsCount js → counts_of (map decimal js) ≡ Some js
+spelled_counts [] h = refl
+spelled_counts (j ∷ js) h = ap₂ (λ (o : Option ℕ) (os : Option (List ℕ)). and_count o os) (spelled_count j h.0) (spelled_counts js h.1)
+
+spelled-number : (d : Dyadic) → IsSpelledNumber d → dyadic_of (number_spelling d) ≡ Some d
+spelled-number d h = ap if_number h.0
+
+-- ---- what the words say
+
+-- the first of some digits is one, and the rest are digits
+first-digit : (b : ℕ) (bs : List ℕ) → AreDigits (b ∷ bs) → (48 ≤ b) × (b ≤ 57) × AreDigits bs
+first-digit b bs h = let e = tells_all_ascii_digits.parts b bs h in (e.0.0, e.0.1, e.1)
+
+differs : (b c : ℕ) → b < c → nat_eq b c ≡ false
+differs b c h = elim (eqb_tells b c) [ inl e ↦ absurd (omega (arith, e.1, h)) | inr e ↦ e.0 ]
+
+differs-above : (b c : ℕ) → c < b → nat_eq b c ≡ false
+differs-above b c h = elim (eqb_tells b c) [ inl e ↦ absurd (omega (arith, e.1, h)) | inr e ↦ e.0 ]
+
+no-word : (w : List ℕ) → AreDigits w → bytes_eq w (codes "none") ≡ false
+no-word [] h = refl
+no-word (b ∷ bs) h = let e = first-digit b bs h in ap (λ (t : Bool). t && bytes_eq bs (codes "one")) (differs b 110 (omega (arith, e.1)))
+
+-- digits stand in a word
+digit-byte : (b : ℕ) → 48 ≤ b → b ≤ 57 → IsTrue (is_word_byte b)
+digit-byte b h k = both_pass (nat_lt b 128 && not (nat_eq b 32)) (not (nat_eq b 10))
+    (both_pass (nat_lt b 128) (not (nat_eq b 32)) (le-leb (suc b) 128 (omega (arith, k))) (ap not (differs-above b 32 (omega (arith, h)))))
+    (ap not (differs-above b 10 (omega (arith, h))))
+
+digits-stand : (w : List ℕ) → AreDigits w → IsTrue (all_bytes is_word_byte w)
+digits-stand [] h = refl
+digits-stand (b ∷ bs) h = let e = first-digit b bs h in both_pass (is_word_byte b) (all_bytes is_word_byte bs) (digit-byte b e.0 e.1) (digits-stand bs e.2)
+
+-- a word: some bytes, all of which may stand in one
+pub record IsCleanWord (w : List ℕ) : Type 0 where
+  pub some : 0 < length w
+  pub clean : IsTrue (all_bytes is_word_byte w)
+
+abbrev pub AreCleanWords : List (List ℕ) → Type 0
+AreCleanWords [] = Unit {0}
+AreCleanWords (w ∷ ws) = IsCleanWord w × AreCleanWords ws
+
+plain-some : (w : List ℕ) → is_plain w ≡ true → 0 < length w
+plain-some [] h = absurd (true≢false (sym h))
+plain-some (b ∷ bs) h = omega arith
+
+decimal-clean : (n : ℕ) → IsCount n → IsCleanWord (decimal n)
+decimal-clean n h = record { some = plain-some (decimal n) (plain-decimal n h); clean = digits-stand (decimal n) (digits-of n h) }
+
+decimals-clean : (js : List ℕ) → AllByRecursion IsCount js → AreCleanWords (map decimal js)
+decimals-clean [] h = tt
+decimals-clean (j ∷ js) h = (decimal-clean j h.0, decimals-clean js h.1)
+
+number-clean : (d : Dyadic) → IsSpelledNumber d → IsCleanWord (number_spelling d)
+number-clean d h = record { some = h.1; clean = h.2 }
+
+-- of a word that stands in the text
+literal : (w : List ℕ) → IsTrue (nat_lt 0 (length w)) → IsTrue (all_bytes is_word_byte w) → IsCleanWord w
+literal w h k = record { some = leb-true 1 (length w) h; clean = k }
+
+bound-clean : (b : Option ℕ) → IsSpelledBound b → IsCleanWord (bound_text b)
+bound-clean None h = literal (codes "none") refl refl
+bound-clean (Some n) h = decimal-clean n h
+
+bool-clean : (w : BoolWord) → IsCleanWord (bool_text w)
+bool-clean says_false = literal (codes "false") refl refl
+bool-clean says_true = literal (codes "true") refl refl
+bool-clean says_both = literal (codes "both") refl refl
+
+rule-clean : (l : RuleLine) → IsSpelledRule l → AreCleanWords (rule_words l)
+rule-clean (pull_at j) h = (literal (codes "pull") refl refl, (decimal-clean j h, tt))
+rule-clean (unit_at j) h = (literal (codes "unit") refl refl, (decimal-clean j h, tt))
+rule-clean (void_at j) h = (literal (codes "void") refl refl, (decimal-clean j h, tt))
+rule-clean (case_at j) h = (literal (codes "case") refl refl, (decimal-clean j h, tt))
+rule-clean (stuck_at j) h = (literal (codes "stuck") refl refl, (decimal-clean j h, tt))
+rule-clean (by_lemma i) h = (literal (codes "by") refl refl, (decimal-clean i h, tt))
+rule-clean (ban_by j i) h = (literal (codes "ban") refl refl, (decimal-clean j h.0, (decimal-clean i h.1, tt)))
+rule-clean (cut_at axis c) h = (literal (codes "cut") refl refl, (decimal-clean axis h.0, (number-clean c h.1, tt)))
+rule-clean (flip_at axis) h = (literal (codes "flip") refl refl, (decimal-clean axis h, tt))
+rule-clean false_here h = (literal (codes "false") refl refl, tt)
+rule-clean open_here h = (literal (codes "open") refl refl, tt)
+
+line-clean : (l : CertLine) → HasSpelling l → AreCleanWords (line_words l)
+line-clean (version n) h = (literal (codes "dpoly") refl refl, (decimal-clean n h, tt))
+line-clean (margin m) h = (literal (codes "margin") refl refl, (decimal-clean m h, tt))
+line-clean (delta d) h = (literal (codes "delta") refl refl, (decimal-clean d h, tt))
+line-clean (bound b) h = (literal (codes "bound") refl refl, (bound-clean b h, tt))
+line-clean (cover k) h = (literal (codes "cover") refl refl, (decimal-clean k h, tt))
+line-clean point_word h = (literal (codes "point") refl refl, tt)
+line-clean tree_word h = (literal (codes "tree") refl refl, tt)
+line-clean end_word h = (literal (codes "end") refl refl, tt)
+line-clean (lemma i) h = (literal (codes "lemma") refl refl, (decimal-clean i h, tt))
+line-clean (real_interval l u) h = (literal (codes "real") refl refl, (number-clean l h.0, (number-clean u h.1, tt)))
+line-clean (real_value v) h = (literal (codes "real") refl refl, (number-clean v h, tt))
+line-clean (bool_value w) h = (literal (codes "bool") refl refl, (bool-clean w, tt))
+line-clean (yes_list js) h = (literal (codes "yes") refl refl, decimals-clean js h)
+line-clean (no_list js) h = (literal (codes "no") refl refl, decimals-clean js h)
+line-clean (rule_line l) h = rule-clean l h
+line-clean (crossing i) h = (literal (codes "empty") refl refl, (decimal-clean i h, tt))
+
+-- ---- the forms, by their words
+
+bound-says : (b : Option ℕ) → IsSpelledBound b → of_bound (bound_text b) ≡ line (bound b)
+bound-says None h = refl
+bound-says (Some n) h = ap (λ (t : Bool). cond t (line (bound None)) (with_count (λ m. bound (Some m)) (count_of (decimal n)))) (no-word (decimal n) (digits-of n h))
+    ∙ ap (λ (o : Option ℕ). with_count (λ m. bound (Some m)) o) (spelled_count n h)
+
+bool-says : (w : BoolWord) → by_first (codes "bool" ∷ bool_text w ∷ []) ≡ line (bool_value w)
+bool-says says_false = refl
+bool-says says_true = refl
+bool-says says_both = refl
+
+one-says : (f : ℕ → CertLine) (n : ℕ) → IsCount n → with_count f (count_of (decimal n)) ≡ line (f n)
+one-says f n h = ap (λ (o : Option ℕ). with_count f o) (spelled_count n h)
+
+rule-says : (l : RuleLine) → IsSpelledRule l → by_first (rule_words l) ≡ line (rule_line l)
+rule-says (pull_at j) h = one-says (λ n. rule_line (pull_at n)) j h
+rule-says (unit_at j) h = one-says (λ n. rule_line (unit_at n)) j h
+rule-says (void_at j) h = one-says (λ n. rule_line (void_at n)) j h
+rule-says (case_at j) h = one-says (λ n. rule_line (case_at n)) j h
+rule-says (stuck_at j) h = one-says (λ n. rule_line (stuck_at n)) j h
+rule-says (by_lemma i) h = one-says (λ n. rule_line (by_lemma n)) i h
+rule-says (ban_by j i) h = ap₂ (λ (o : Option ℕ) (q : Option ℕ). with_counts (λ m n. rule_line (ban_by m n)) o q) (spelled_count j h.0) (spelled_count i h.1)
+rule-says (cut_at axis c) h = ap₂ (λ (o : Option ℕ) (q : Option Dyadic). with_both (λ m d. rule_line (cut_at m d)) o q) (spelled_count axis h.0) (spelled-number c h.1)
+rule-says (flip_at axis) h = one-says (λ n. rule_line (flip_at n)) axis h
+rule-says false_here h = refl
+rule-says open_here h = refl
+
+line-says : (l : CertLine) → HasSpelling l → by_first (line_words l) ≡ line l
+line-says (version n) h = one-says version n h
+line-says (margin m) h = one-says margin m h
+line-says (delta d) h = one-says delta d h
+line-says (bound b) h = bound-says b h
+line-says (cover k) h = one-says cover k h
+line-says point_word h = refl
+line-says tree_word h = refl
+line-says end_word h = refl
+line-says (lemma i) h = one-says lemma i h
+line-says (real_interval l u) h = ap₂ (λ (o : Option Dyadic) (q : Option Dyadic). with_dyadics real_interval o q) (spelled-number l h.0) (spelled-number u h.1)
+line-says (real_value v) h = ap (λ (o : Option Dyadic). with_dyadic real_value o) (spelled-number v h)
+line-says (bool_value w) h = bool-says w
+line-says (yes_list js) h = ap (λ (o : Option (List ℕ)). with_list yes_list o) (spelled_counts js h)
+line-says (no_list js) h = ap (λ (o : Option (List ℕ)). with_list no_list o) (spelled_counts js h)
+line-says (rule_line l) h = rule-says l h
+line-says (crossing i) h = one-says crossing i h
+
+-- ---- the whole line
+
+weaker : (f g : ℕ → Bool) → ((b : ℕ) → IsTrue (f b) → IsTrue (g b)) → (w : List ℕ) → IsTrue (all_bytes f w) → IsTrue (all_bytes g w)
+weaker f g k [] h = refl
+weaker f g k (b ∷ bs) h = let e = both_true (f b) (all_bytes f bs) h in both_pass (g b) (all_bytes g bs) (k b e.0) (weaker f g k bs e.1)
+
+-- what is asked of a byte of a word, part by part
+byte-parts : (b : ℕ) → IsTrue (is_word_byte b) → IsTrue (nat_lt b 128) × IsTrue (not (nat_eq b 32)) × IsTrue (not (nat_eq b 10))
+byte-parts b h = let e = both_true (nat_lt b 128 && not (nat_eq b 32)) (not (nat_eq b 10)) h in let k = both_true (nat_lt b 128) (not (nat_eq b 32)) e.0 in (k.0, k.1, e.1)
+
+clean-word : (w : List ℕ) → IsCleanWord w → IsTrue (is_word w)
+clean-word [] h = absurd (omega (arith, h.some))
+clean-word (b ∷ bs) h = weaker is_word_byte (λ c. nat_lt c 128) (λ c k. (byte-parts c k).0) (b ∷ bs) h.clean
+
+clean-words : (ws : List (List ℕ)) → AreCleanWords ws → IsTrue (are_words ws)
+clean-words [] h = refl
+clean-words (w ∷ ws) h = both_pass (is_word w) (are_words ws) (clean-word w h.0) (clean-words ws h.1)
+
+no-spaces : (ws : List (List ℕ)) → AreCleanWords ws → AllLack 32 ws
+no-spaces [] h = tt
+no-spaces (w ∷ ws) h = (weaker is_word_byte (λ c. not (nat_eq c 32)) (λ c k. (byte-parts c k).1) w h.0.clean, no-spaces ws h.1)
+
+no-breaks : (ws : List (List ℕ)) → AreCleanWords ws → AllLack 10 ws
+no-breaks [] h = tt
+no-breaks (w ∷ ws) h = (weaker is_word_byte (λ c. not (nat_eq c 10)) (λ c k. (byte-parts c k).2) w h.0.clean, no-breaks ws h.1)
+
+-- a line's spelling has no LF
+pub line_lacks_break : (l : CertLine) → HasSpelling l → IsTrue (lacks 10 (line_text l))
+line_lacks_break l h = spaced_lacks (line_words l) (no-breaks (line_words l) (line-clean l h))
+
+not-long : (w : List ℕ) → length w ≤ longest_line → is_too_long w ≡ false
+not-long w h = elim (leb_tells (suc longest_line) (length w)) [ inl e ↦ absurd (omega (arith, e.1, h)) | inr e ↦ e.0 ]
+
+words-parted : (ws : List (List ℕ)) → 0 < length ws → AreCleanWords ws → words_of (spaced ws) ≡ ws
+words-parted [] s h = absurd (omega (arith, s))
+words-parted (w ∷ ws) s h = words_of_spaced w ws (no-spaces (w ∷ ws) h)
+
+has-word : (l : CertLine) → 0 < length (line_words l)
+has-word (rule_line (pull_at j)) = omega arith
+has-word (rule_line (unit_at j)) = omega arith
+has-word (rule_line (void_at j)) = omega arith
+has-word (rule_line (case_at j)) = omega arith
+has-word (rule_line (stuck_at j)) = omega arith
+has-word (rule_line (by_lemma i)) = omega arith
+has-word (rule_line (ban_by j i)) = omega arith
+has-word (rule_line (cut_at axis c)) = omega arith
+has-word (rule_line (flip_at axis)) = omega arith
+has-word (rule_line false_here) = omega arith
+has-word (rule_line open_here) = omega arith
+has-word _ = omega arith
+
+-- the spelling of a line says that line
+pub spelled_line : (l : CertLine) → IsSpelled l → parsed (line_text l) ≡ line l
+spelled_line l h =
+    let c = line-clean l h.0 in
+    let w : words_of (line_text l) ≡ line_words l = words-parted (line_words l) (has-word l) c in
+    ap (λ (t : Bool). unless_long t (line_text l)) (not-long (line_text l) h.1)
+    ∙ ap (λ (t : Bool). if_words t (line_text l)) (ap are_words w ∙ clean-words (line_words l) c)
+    ∙ ap by_first w ∙ line-says l h.0

@@ -1,0 +1,11 @@
+pub mod CertLine
+pub mod Held
+pub mod Keywords
+pub mod LineText
+pub mod Lines
+pub mod Numbers
+pub mod Reading
+pub mod State
+pub mod Told
+pub mod Views
+pub mod Words

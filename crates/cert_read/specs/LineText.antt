@@ -1,0 +1,110 @@
+-- The one spelling of each line, and the text of some lines.
+use Rattle.std.specs.Prelude.{◌≡◌, ℕ, ◌<◌, ◌≤◌, ◌^◌, List, [], ◌∷◌, ◌++◌, map, length, Bool, not, ◌&&◌, Option, Some, None, nat_eq, nat_lt, codes, decimal, IsTrue}
+use Rattle.std.specs.List.{AllByRecursion}
+use Rattle.dyadic.specs.Rounding.{Dyadic}
+use Rattle.dyadic.specs.NumberText.{number, number_text, number_spelling}
+use Rattle.cert_read.specs.Lines.{all_bytes, longest_line}
+use Rattle.cert_read.specs.CertLine.{BoolWord, says_false, says_true, says_both, RuleLine, pull_at, unit_at, void_at, case_at, stuck_at, by_lemma, ban_by, cut_at, flip_at, false_here, open_here, CertLine, version, margin, delta, bound, cover, point_word, tree_word, end_word, lemma, real_interval, real_value, bool_value, yes_list, no_list, rule_line, crossing}
+
+-- words parted by one space
+abbrev pub spaced : List (List ℕ) → List ℕ
+spaced [] = []
+spaced (w ∷ []) = w
+spaced (w ∷ v ∷ ws) = w ++ (32 ∷ spaced (v ∷ ws))
+
+-- lines that end with LF
+abbrev pub text_of_lines : List (List ℕ) → List ℕ
+text_of_lines [] = []
+text_of_lines (l ∷ ls) = l ++ (10 ∷ text_of_lines ls)
+
+abbrev pub bound_text : Option ℕ → List ℕ
+bound_text None = codes "none"
+bound_text (Some n) = decimal n
+
+abbrev pub bool_text : BoolWord → List ℕ
+bool_text says_false = codes "false"
+bool_text says_true = codes "true"
+bool_text says_both = codes "both"
+
+abbrev pub rule_words : RuleLine → List (List ℕ)
+rule_words (pull_at j) = codes "pull" ∷ decimal j ∷ []
+rule_words (unit_at j) = codes "unit" ∷ decimal j ∷ []
+rule_words (void_at j) = codes "void" ∷ decimal j ∷ []
+rule_words (case_at j) = codes "case" ∷ decimal j ∷ []
+rule_words (stuck_at j) = codes "stuck" ∷ decimal j ∷ []
+rule_words (by_lemma i) = codes "by" ∷ decimal i ∷ []
+rule_words (ban_by j i) = codes "ban" ∷ decimal j ∷ decimal i ∷ []
+rule_words (cut_at axis c) = codes "cut" ∷ decimal axis ∷ number_spelling c ∷ []
+rule_words (flip_at axis) = codes "flip" ∷ decimal axis ∷ []
+rule_words false_here = codes "false" ∷ []
+rule_words open_here = codes "open" ∷ []
+
+abbrev pub line_words : CertLine → List (List ℕ)
+line_words (version n) = codes "dpoly" ∷ decimal n ∷ []
+line_words (margin m) = codes "margin" ∷ decimal m ∷ []
+line_words (delta d) = codes "delta" ∷ decimal d ∷ []
+line_words (bound b) = codes "bound" ∷ bound_text b ∷ []
+line_words (cover k) = codes "cover" ∷ decimal k ∷ []
+line_words point_word = codes "point" ∷ []
+line_words tree_word = codes "tree" ∷ []
+line_words end_word = codes "end" ∷ []
+line_words (lemma i) = codes "lemma" ∷ decimal i ∷ []
+line_words (real_interval l h) = codes "real" ∷ number_spelling l ∷ number_spelling h ∷ []
+line_words (real_value v) = codes "real" ∷ number_spelling v ∷ []
+line_words (bool_value w) = codes "bool" ∷ bool_text w ∷ []
+line_words (yes_list js) = codes "yes" ∷ map decimal js
+line_words (no_list js) = codes "no" ∷ map decimal js
+line_words (rule_line l) = rule_words l
+line_words (crossing i) = codes "empty" ∷ decimal i ∷ []
+
+abbrev pub line_text : CertLine → List ℕ
+line_text l = spaced (line_words l)
+
+-- ---- lines that can be spelled
+
+-- an ASCII byte other than space and LF
+abbrev pub is_word_byte : ℕ → Bool
+is_word_byte b = nat_lt b 128 && not (nat_eq b 32) && not (nat_eq b 10)
+
+-- below 2^32
+abbrev pub IsCount : ℕ → Type 0
+IsCount n = n < 2 ^ 32
+
+-- a number that its spelling gives back
+abbrev pub IsSpelledNumber : Dyadic → Type 0
+IsSpelledNumber d = (number_text (number_spelling d) ≡ number d) × (0 < length (number_spelling d)) × IsTrue (all_bytes is_word_byte (number_spelling d))
+
+abbrev pub IsSpelledRule : RuleLine → Type 0
+IsSpelledRule (pull_at j) = IsCount j
+IsSpelledRule (unit_at j) = IsCount j
+IsSpelledRule (void_at j) = IsCount j
+IsSpelledRule (case_at j) = IsCount j
+IsSpelledRule (stuck_at j) = IsCount j
+IsSpelledRule (by_lemma i) = IsCount i
+IsSpelledRule (ban_by j i) = IsCount j × IsCount i
+IsSpelledRule (cut_at axis c) = IsCount axis × IsSpelledNumber c
+IsSpelledRule (flip_at axis) = IsCount axis
+IsSpelledRule _ = Unit {0}
+
+abbrev pub IsSpelledBound : Option ℕ → Type 0
+IsSpelledBound None = Unit {0}
+IsSpelledBound (Some n) = IsCount n
+
+abbrev pub HasSpelling : CertLine → Type 0
+HasSpelling (version n) = IsCount n
+HasSpelling (margin m) = IsCount m
+HasSpelling (delta d) = IsCount d
+HasSpelling (bound b) = IsSpelledBound b
+HasSpelling (cover k) = IsCount k
+HasSpelling (lemma i) = IsCount i
+HasSpelling (real_interval l h) = IsSpelledNumber l × IsSpelledNumber h
+HasSpelling (real_value v) = IsSpelledNumber v
+HasSpelling (yes_list js) = AllByRecursion IsCount js
+HasSpelling (no_list js) = AllByRecursion IsCount js
+HasSpelling (rule_line l) = IsSpelledRule l
+HasSpelling (crossing i) = IsCount i
+HasSpelling _ = Unit {0}
+
+-- the line can be spelled, and is not too long then
+abbrev pub IsSpelled : CertLine → Type 0
+IsSpelled l = HasSpelling l × (length (line_text l) ≤ longest_line)

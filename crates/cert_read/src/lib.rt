@@ -1,0 +1,17 @@
+//! The lines of a certificate: what they say, and a reader that takes the bytes in any pieces.
+#![tactic(auto)]
+
+mod fault;
+mod keyword;
+mod line;
+mod number;
+mod parse;
+mod place;
+mod reader;
+
+pub use fault::LineFault;
+pub use line::{BoolSet, Line};
+pub use reader::LineReader;
+
+#[cfg(test)]
+mod tests;

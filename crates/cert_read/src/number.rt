@@ -1,0 +1,88 @@
+// The numbers of lines.
+ghost use Rattle.std.specs.Prelude.{◌≡◌, ◌^◌, ◌<◌, ◌≤◌, ◌↔◌, IsTrue, MatchOption, MatchResult, Some};
+ghost use Rattle.std.specs.Str.Parse.{digits_value};
+ghost use Rattle.cert_read.specs.CertLine.{count_of, counts_of, dyadic_of};
+ghost use Rattle.cert_read.specs.Lines.{words_of};
+ghost use Rattle.cert_read.specs.Numbers.{AreDigits, IsMeasured, IsPlain, IsUncounted};
+ghost use Rattle.cert_read.specs.Told.{IsCounted};
+
+use crate::LineFault;
+use crate::place::place_of;
+use dyadic::{Dy, read_dy};
+use std::alloc::Global;
+
+// The greatest plain number.
+const LARGEST: u64 = 4_294_967_295;
+
+fn are_digits(word: &[u8]) -> bool
+    ensures { IsTrue result ↔ AreDigits word.now }
+{
+    word.iter().all(|b| *b >= b'0' && *b <= b'9')
+}
+
+// Whether there are digits, without a leading zero.
+fn is_plain(word: &[u8]) -> bool
+    ensures { IsTrue result ↔ IsPlain word.now }
+{
+    !word.is_empty() && are_digits(word) && (word.len() == 1 || word[0] != b'0')
+}
+
+// The number that digits write, below 2^32.
+fn value(digits: &[u8]) -> Option<u32>
+    requires { AreDigits digits.now }
+    ensures { MatchOption result (2 ^ 32 ≤ digits_value 10 digits.now) (λ n. (n ≡ digits_value 10 digits.now) × (n < 2 ^ 32)) }
+{
+    let mut value = 0;
+    for digit in digits {
+        value = 10 * value + u64::from(*digit - b'0');
+        if value > LARGEST {
+            return None;
+        }
+    }
+    Some(value as u32)
+}
+
+/// The plain number below 2^32 that a word spells.
+pub(crate) fn count(word: &[u8]) -> Result<u32, LineFault>
+    ensures { IsCounted result (count_of word.now) }
+{
+    if !is_plain(word) {
+        return Err(LineFault::BadNumber);
+    }
+    match value(word) {
+        Some(n) => Ok(n),
+        None => Err(LineFault::BadNumber),
+    }
+}
+
+/// The number of the grid that a word spells.
+pub(crate) fn dyadic(word: &[u8]) -> Result<Dy, LineFault>
+    ensures { IsMeasured result (dyadic_of word.now) }
+{
+    match read_dy(word) {
+        Ok(v) => Ok(v),
+        Err(_) => Err(LineFault::BadNumber),
+    }
+}
+
+/// The plain numbers that words spell.
+pub(crate) fn counts(alloc: Global, text: &[u8]) -> Result<Vec<u32>, LineFault>
+    ensures { MatchResult result (λ v. counts_of (words_of text.now) ≡ Some v.items) (λ f. IsUncounted f (counts_of (words_of text.now))) }
+{
+    let mut numbers = Vec::new(alloc);
+    let mut at = 0;
+    loop {
+        let (_, rest) = text.split_at(at);
+        let size = place_of(b' ', 0, rest);
+        let (word, _) = rest.split_at(size);
+        let number = match count(word) {
+            Ok(number) => number,
+            Err(_) => return Err(LineFault::BadNumber),
+        };
+        numbers.push(number)?;
+        if size == rest.len() {
+            return Ok(numbers);
+        }
+        at += size + 1;
+    }
+}
