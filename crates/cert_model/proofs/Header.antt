@@ -1,0 +1,179 @@
+-- The margin and delta of an accepted certificate's header.
+use Rattle.std.proofs.Common.{◌≡◌, ℕ, ◌<◌, ◌≤◌, List, [], ◌∷◌, ◌++◌, Bool, true, false, ◌&&◌, cond, IsTrue, Option, Some, None, refl, sym, subst, nat_eq, nat_lt, nat_le, length, ltb→lt, leb→le}
+use Rattle.std.specs.Bool.{passes}
+use Rattle.dyadic.proofs.Equal.{both_true}
+use Rattle.poly_graph.specs.Problem.{Declared, real_between, any_bool, Axis, Problem, crosses}
+use Rattle.poly_graph.specs.State.{State, Loosenings, root_state}
+use Rattle.poly_graph.specs.Space.{Space}
+use Rattle.poly_graph.specs.Rules.{Left, closed, one, two, stays, rule}
+use Rattle.cert_read.specs.CertLine.{CertLine, RuleLine, version, margin, delta, bound, cover, point_word, tree_word, end_word, lemma, real_interval, real_value, bool_value, says_false, says_true, yes_list, no_list, rule_line, crossing, word_of}
+use Rattle.cert_model.specs.Due.{CertFault, RuleFails, Standing, Value, Due, version_due, margin_due, delta_due, bound_due, kind_due, next_due, axis_due, yes_due, no_due, lemma_due, root_due, tree_due, coordinate_due, end_due, nothing_due, Next, on, faulty, given, rule_of, names_well, after_rule, after_lemma_rule, tree_goes_on, lemma_goes_on, axis_next, coordinate_next, is_crossed_box, is_shown, same_bound}
+use Rattle.cert_model.specs.Accepted.{next, loosenings_fit, ruled_line, tree_line, root_line, axis_line, coordinate_line, IsAccepted, most_lemmas}
+use Rattle.cert_model.proofs.Invariant.{IfOn, holds_at_end}
+
+-- the margin and delta of what is due, where they are known
+abbrev pub known : Due → Option Loosenings
+known (bound_due s) = Some s
+known (kind_due s) = Some s
+known (next_due s k lemmas) = Some s
+known (axis_due s k lemmas a axes space) = Some s
+known (yes_due s k lemmas space) = Some s
+known (no_due s k lemmas space js) = Some s
+known (lemma_due s k lemmas L S pending) = Some s
+known (root_due s lemmas) = Some s
+known (tree_due s lemmas S pending done) = Some s
+known (coordinate_due s a axes space) = Some s
+known (end_due s v) = Some s
+known (nothing_due s v) = Some s
+known d = None
+
+-- they stay as they are
+abbrev Same : Loosenings → Next → Type 0
+Same s x = IfOn (λ d. known d ≡ Some s) x
+
+given-same : (s : Loosenings) (t : Bool) (d : Due) (f : CertFault) → known d ≡ Some s → Same s (given t d f)
+given-same s true d f h = h
+given-same s false d f h = tt
+
+cond-same : (s : Loosenings) (t : Bool) (x y : Next) → Same s x → Same s y → Same s (cond t x y)
+cond-same s true x y h k = h
+cond-same s false x y h k = k
+
+ruled-same : (s : Loosenings) (t : Bool) (x : Next) → Same s x → Same s (ruled_line t x)
+ruled-same s true x h = h
+ruled-same s false x h = tt
+
+module _ (p : Problem) (b : Option ℕ) (s : Loosenings) where
+  axis-same : (k : ℕ) (lemmas : List State) (axes : List Axis) (space : Space) → known (axis_next s k lemmas axes space) ≡ Some s
+  axis-same k lemmas [] space = refl
+  axis-same k lemmas (a ∷ axes) space = refl
+
+  coordinate-same : (axes : List Axis) (space : Space) → known (coordinate_next s axes space) ≡ Some s
+  coordinate-same [] space = refl
+  coordinate-same (a ∷ axes) space = refl
+
+  lemma-same : (k : ℕ) (lemmas : List State) (L : State) (pending : List State) → known (lemma_goes_on s k lemmas L pending) ≡ Some s
+  lemma-same k lemmas L [] = refl
+  lemma-same k lemmas L (S ∷ pending) = refl
+
+  tree-same : (lemmas pending : List State) (done : List Standing) → known (tree_goes_on s lemmas pending done) ≡ Some s
+  tree-same lemmas [] done = refl
+  tree-same lemmas (S ∷ pending) done = refl
+
+  after-lemma : (o : Option Left) (f : CertFault) (k : ℕ) (lemmas : List State) (L : State) (pending : List State) → Same s (after_lemma_rule o f pending (lemma_goes_on s k lemmas L))
+  after-lemma None f k lemmas L pending = tt
+  after-lemma (Some closed) f k lemmas L pending = lemma-same k lemmas L pending
+  after-lemma (Some stays) f k lemmas L pending = tt
+  after-lemma (Some (one S')) f k lemmas L pending = refl
+  after-lemma (Some (two S' S'')) f k lemmas L pending = refl
+
+  after-tree : (o : Option Left) (f : CertFault) (x : Standing) (lemmas pending : List State) (done : List Standing) → Same s (after_rule o f x pending done (tree_goes_on s lemmas))
+  after-tree None f x lemmas pending done = tt
+  after-tree (Some closed) f x lemmas pending done = tree-same lemmas pending done
+  after-tree (Some stays) f x lemmas pending done = tree-same lemmas pending (done ++ (x ∷ []))
+  after-tree (Some (one S')) f x lemmas pending done = refl
+  after-tree (Some (two S' S'')) f x lemmas pending done = refl
+
+  tree-line : (lemmas : List State) (S : State) (pending : List State) (done : List Standing) (l : RuleLine) → Same s (tree_line p s lemmas S pending done l)
+  tree-line lemmas S pending done l = ruled-same s (names_well p (rule_of l)) _ (after-tree (rule p s lemmas S (rule_of l)) (RuleFails (word_of l)) (record { state = S; does = rule_of l }) lemmas pending done)
+
+  root-line : (t : Bool) (lemmas : List State) (l : RuleLine) → Same s (root_line t p s lemmas l)
+  root-line true lemmas l = ruled-same s (names_well p (rule_of l)) (faulty (RuleFails (word_of l))) (tt {0})
+  root-line false lemmas l = tree-line lemmas (root_state p) [] [] l
+
+  axis-line : (k : ℕ) (lemmas : List State) (a : Declared) (axes : List Axis) (space : Space) (l : CertLine) → Same s (axis_line p s k lemmas a axes space l)
+  axis-line k lemmas (real_between lo hi) axes space (real_interval l u) = given-same s _ (axis_next s k lemmas axes _) _ (axis-same k lemmas axes _)
+  axis-line k lemmas any_bool axes space (bool_value w) = axis-same k lemmas axes _
+  axis-line k lemmas _ axes space _ = tt
+
+  coordinate-line : (a : Declared) (axes : List Axis) (space : Space) (l : CertLine) → Same s (coordinate_line s a axes space l)
+  coordinate-line (real_between lo hi) axes space (real_value v) = coordinate-same axes _
+  coordinate-line any_bool axes space (bool_value says_false) = coordinate-same axes _
+  coordinate-line any_bool axes space (bool_value says_true) = coordinate-same axes _
+  coordinate-line _ axes space _ = tt
+
+abbrev Fits : Option Loosenings → Type 0
+Fits None = Unit {0}
+Fits (Some s) = IsTrue (loosenings_fit s.margin_bits s.delta_bits)
+
+abbrev FitsDue : Due → Type 0
+FitsDue d = Fits (known d)
+
+given-fits : (m d : ℕ) (f : CertFault) → IfOn FitsDue (given (loosenings_fit m d) (bound_due (record { margin_bits = m; delta_bits = d })) f)
+given-fits m d f = by (loosenings_fit m d) (λ h. h)
+  where
+    by : (t : Bool) → (IsTrue t → IsTrue (loosenings_fit m d)) → IfOn FitsDue (given t (bound_due (record { margin_bits = m; delta_bits = d })) f)
+    by true h = h refl
+    by false h = tt
+
+-- of what comes next, where the margin and delta are known
+abbrev AllSame : Option Loosenings → Next → Type 0
+AllSame None x = Unit {0}
+AllSame (Some s) x = Same s x
+
+module _ (p : Problem) (b : Option ℕ) where
+  next-same : (d : Due) (l : CertLine) → AllSame (known d) (next p b d l)
+  next-same version_due l = tt
+  next-same margin_due l = tt
+  next-same (delta_due m) l = tt
+  next-same (bound_due s) (bound n) = given-same s (same_bound n b) (kind_due s) _ refl
+  next-same (bound_due s) _ = tt
+  next-same (kind_due s) (cover k) = given-same s (nat_le k most_lemmas) (next_due s k []) _ refl
+  next-same (kind_due s) point_word = coordinate-same p b s p.axes []
+  next-same (kind_due s) _ = tt
+  next-same (next_due s k lemmas) (lemma i) = cond-same s (nat_lt (length lemmas) k) _ _ (given-same s (nat_eq i (length lemmas)) (axis_next s k lemmas p.axes []) _ (axis-same p b s k lemmas p.axes [])) (tt {0})
+  next-same (next_due s k lemmas) tree_word = given-same s (nat_eq (length lemmas) k) (root_due s lemmas) _ refl
+  next-same (next_due s k lemmas) _ = tt
+  next-same (axis_due s k lemmas a axes space) l = axis-line p b s k lemmas a.declared axes space l
+  next-same (yes_due s k lemmas space) (yes_list js) = given-same s _ (no_due s k lemmas space js) _ refl
+  next-same (yes_due s k lemmas space) _ = tt
+  next-same (no_due s k lemmas space is) (no_list js) = given-same s _ (lemma_due s k lemmas _ _ []) _ refl
+  next-same (no_due s k lemmas space is) _ = tt
+  next-same (lemma_due s k lemmas L S pending) (rule_line l) = ruled-same s (names_well p (rule_of l)) _ (after-lemma p b s (rule p s lemmas S (rule_of l)) (RuleFails (word_of l)) k lemmas L pending)
+  next-same (lemma_due s k lemmas L S pending) _ = tt
+  next-same (root_due s lemmas) (crossing i) = cond-same s (crosses p i) (on (end_due s _)) _ refl (tt {0})
+  next-same (root_due s lemmas) (rule_line l) = root-line p b s (is_crossed_box p) lemmas l
+  next-same (root_due s lemmas) _ = tt
+  next-same (tree_due s lemmas S pending done) (rule_line l) = tree-line p b s lemmas S pending done l
+  next-same (tree_due s lemmas S pending done) _ = tt
+  next-same (coordinate_due s a axes space) l = coordinate-line p b s a.declared axes space l
+  next-same (end_due s v) end_word = given-same s (is_shown p s v) (nothing_due s v) _ refl
+  next-same (end_due s v) _ = tt
+  next-same (nothing_due s v) _ = tt
+
+  keep-fit : (s : Loosenings) (x : Next) → Same s x → Fits (Some s) → IfOn FitsDue x
+  keep-fit s (on d) e h = subst (λ (o : Option Loosenings). Fits o) (sym e) h
+  keep-fit s (faulty f) e h = tt
+
+  margin-next : (t : Bool) (f : CertFault) → IfOn FitsDue (given t margin_due f)
+  margin-next true f = tt
+  margin-next false f = tt
+
+  next-fits : (d : Due) (l : CertLine) → FitsDue d → IfOn FitsDue (next p b d l)
+  next-fits version_due (version n) h = margin-next (nat_eq n 1) _
+  next-fits version_due _ h = tt
+  next-fits margin_due (margin m) h = tt
+  next-fits margin_due _ h = tt
+  next-fits (delta_due m) (delta n) h = given-fits m n _
+  next-fits (delta_due m) _ h = tt
+  next-fits (bound_due s) l h = keep-fit s (next p b (bound_due s) l) (next-same (bound_due s) l) h
+  next-fits (kind_due s) l h = keep-fit s (next p b (kind_due s) l) (next-same (kind_due s) l) h
+  next-fits (next_due s k lemmas) l h = keep-fit s (next p b (next_due s k lemmas) l) (next-same (next_due s k lemmas) l) h
+  next-fits (axis_due s k lemmas a axes space) l h = keep-fit s (next p b (axis_due s k lemmas a axes space) l) (next-same (axis_due s k lemmas a axes space) l) h
+  next-fits (yes_due s k lemmas space) l h = keep-fit s (next p b (yes_due s k lemmas space) l) (next-same (yes_due s k lemmas space) l) h
+  next-fits (no_due s k lemmas space js) l h = keep-fit s (next p b (no_due s k lemmas space js) l) (next-same (no_due s k lemmas space js) l) h
+  next-fits (lemma_due s k lemmas L S pending) l h = keep-fit s (next p b (lemma_due s k lemmas L S pending) l) (next-same (lemma_due s k lemmas L S pending) l) h
+  next-fits (root_due s lemmas) l h = keep-fit s (next p b (root_due s lemmas) l) (next-same (root_due s lemmas) l) h
+  next-fits (tree_due s lemmas S pending done) l h = keep-fit s (next p b (tree_due s lemmas S pending done) l) (next-same (tree_due s lemmas S pending done) l) h
+  next-fits (coordinate_due s a axes space) l h = keep-fit s (next p b (coordinate_due s a axes space) l) (next-same (coordinate_due s a axes space) l) h
+  next-fits (end_due s v) l h = keep-fit s (next p b (end_due s v) l) (next-same (end_due s v) l) h
+  next-fits (nothing_due s v) l h = keep-fit s (next p b (nothing_due s v) l) (next-same (nothing_due s v) l) h
+
+  -- the margin and delta of accepted bytes are in their limits
+  pub header_fits : (bytes : List ℕ) (s : Loosenings) (v : Value) → IsAccepted p b bytes s v → (1 ≤ s.delta_bits) × (s.delta_bits ≤ 30) × (s.delta_bits < s.margin_bits) × (s.margin_bits ≤ 60)
+  header_fits bytes s v e =
+      let h : IsTrue (loosenings_fit s.margin_bits s.delta_bits) = holds_at_end p b FitsDue tt next-fits bytes s v e in
+      let x = both_true (nat_le 1 s.delta_bits && nat_le s.delta_bits 30 && nat_lt s.delta_bits s.margin_bits) (nat_le s.margin_bits 60) h in
+      let y = both_true (nat_le 1 s.delta_bits && nat_le s.delta_bits 30) (nat_lt s.delta_bits s.margin_bits) x.0 in
+      let z = both_true (nat_le 1 s.delta_bits) (nat_le s.delta_bits 30) y.0 in
+      (leb→le 1 s.delta_bits (passes _ z.0), leb→le s.delta_bits 30 (passes _ z.1), ltb→lt s.delta_bits s.margin_bits (passes _ y.1), leb→le s.margin_bits 60 (passes _ x.1))

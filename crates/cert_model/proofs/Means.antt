@@ -1,0 +1,108 @@
+-- What an accepted certificate says of points.
+use Rattle.std.proofs.Common.{◌≡◌, ◌⊎◌, inl, inr, ℕ, suc, zero, List, [], ◌∷◌, ◌++◌, Bool, true, false, ◌&&◌, cond, IsTrue, Option, Some, None, refl, ap, sym, ◌∙◌, subst, true≢false, lit<}
+use Rattle.std.specs.Option.{unwrap_or}
+use Rattle.dyadic.specs.Fraction.{Fraction, at_most, sum_of, difference_of}
+use Rattle.dyadic.specs.Point.{Sort, Coordinate, at_fraction, at_bool, IsPoint}
+use Rattle.dyadic.specs.Rounding.{Dyadic, exact}
+use Rattle.dyadic.proofs.Equal.{both_true, both_pass, total}
+use Rattle.poly_graph.specs.Space.{Domain, real_domain, bool_domain, Space, in_domain, in_space}
+use Rattle.poly_graph.specs.Problem.{Declared, real_between, any_bool, Axis, Problem, IsProblem, sort_of, sorts_of_axes, sorts_of_problem, in_declared_box}
+use Rattle.poly_graph.specs.State.{State, Loosenings, delta_of, sure, MeetsAt, MeetsForm, IsLemma}
+use Rattle.poly_graph.specs.Derivation.{Among, AreLemmas}
+use Rattle.poly_graph.proofs.May.{sure_means}
+use Rattle.poly_graph.proofs.Sound.{tree_keeps, none_left}
+use Rattle.poly_graph.proofs.Root.{root_has, crossed_is_empty}
+use Rattle.cert_model.specs.Due.{Standing, at_point, left_open, coordinate_of, coordinates, is_near, are_near}
+use Rattle.cert_model.specs.Accepted.{IsAccepted}
+use Rattle.cert_model.specs.Derived.{AreDerived, states_of, IsTree, IsCover, IsNear, AreNear, IsSingle, AreSingle}
+use Rattle.cert_model.proofs.Derives.{accepted_is}
+
+-- ---- covers
+
+pub cover_derived : (p : Problem) (bound : Option ℕ) (bytes : List ℕ) (s : Loosenings) (left : List Standing) → IsAccepted p bound bytes s (left_open left) → IsCover p s left
+cover_derived p bound bytes s left e = (accepted_is p bound bytes s (left_open left) e).0
+
+module _ (p : Problem) (g : IsProblem p) (s : Loosenings) where
+  none-yet : AreLemmas p s []
+  none-yet i L e = cc
+
+  one-more : (lemmas : List State) (L : State) → AreLemmas p s lemmas → IsLemma p s L → AreLemmas p s (lemmas ++ (L ∷ []))
+  one-more [] L h k zero K e = subst (λ (M : State). IsLemma p s M) (ap (λ (o : Option State). unwrap_or o L) e) k
+  one-more [] L h k (suc i) K e = cc
+  one-more (M ∷ lemmas) L h k zero K e = h zero K e
+  one-more (M ∷ lemmas) L h k (suc i) K e = one-more lemmas L (λ j N d. h (suc j) N d) k i K e
+
+  lemmas-after : (before lemmas : List State) → AreLemmas p s before → AreDerived p s before lemmas → AreLemmas p s (before ++ lemmas)
+  lemmas-after before [] h d = subst (λ (ls : List State). AreLemmas p s ls) (sym (Rattle.std.proofs.Common.append-nil before)) h
+  lemmas-after before (L ∷ lemmas) h d = subst (λ (ls : List State). AreLemmas p s ls) (Rattle.std.proofs.Common.append_assoc before (L ∷ []) lemmas)
+      (lemmas-after (before ++ (L ∷ [])) lemmas (one-more before L h (none_left p s g before h d.0.1)) d.1)
+
+  pub derived_lemmas : (lemmas : List State) → AreDerived p s [] lemmas → AreLemmas p s lemmas
+  derived_lemmas lemmas d = lemmas-after [] lemmas none-yet d
+
+  tree-catches : (lemmas : List State) → AreLemmas p s lemmas → (left : List Standing) → IsTree p s lemmas left →
+      (point : List Coordinate) → IsPoint (sorts_of_problem p) point → IsTrue (in_declared_box p point) → MeetsForm p s point → Among p s point (states_of left)
+  tree-catches lemmas h left (inl x) point q i m = absurd (crossed_is_empty p x.0 point q x.1 i)
+  tree-catches lemmas h left (inr t) point q i m = tree_keeps p s g lemmas h t.1 point (root_has p g s point q i) m
+
+pub cover_catches : (p : Problem) → IsProblem p → (bound : Option ℕ) (bytes : List ℕ) (s : Loosenings) (left : List Standing) → IsAccepted p bound bytes s (left_open left) →
+    (point : List Coordinate) → IsPoint (sorts_of_problem p) point → IsTrue (in_declared_box p point) → MeetsForm p s point → Among p s point (states_of left)
+cover_catches p g bound bytes s left e point q i m = let c = cover_derived p bound bytes s left e in
+    tree-catches p g s c.lemmas (derived_lemmas p g s c.lemmas c.derived) left c.tree point q i m
+
+pub empty_cover_means : (p : Problem) → IsProblem p → (bound : Option ℕ) (bytes : List ℕ) (s : Loosenings) → IsAccepted p bound bytes s (left_open []) →
+    (point : List Coordinate) → IsPoint (sorts_of_problem p) point → IsTrue (in_declared_box p point) → MeetsForm p s point → ⊥
+empty_cover_means p g bound bytes s e point q i m = elim (cover_catches p g bound bytes s [] e point q i m) [ ]
+
+-- ---- points
+
+own-end : (d : Dyadic) → IsTrue (at_most (exact d) (exact d))
+own-end d = elim (total (exact d) (exact d)) [ inl h ↦ h | inr h ↦ h ]
+
+single-in : (a : Declared) (d : Domain) → IsSingle a d → IsTrue (in_domain d (coordinate_of d))
+single-in (real_between lo hi) (real_domain l h) e = both_pass (at_most (exact l) (exact l)) (at_most (exact l) (exact h)) (own-end l) (subst (λ (u : Dyadic). IsTrue (at_most (exact l) (exact u))) e (own-end l))
+single-in any_bool (bool_domain true false) e = refl
+single-in any_bool (bool_domain false true) e = refl
+single-in any_bool (bool_domain true true) e = elim e [ ]
+single-in any_bool (bool_domain false false) e = elim e [ ]
+single-in (real_between lo hi) (bool_domain f t) e = elim e [ ]
+single-in any_bool (real_domain l h) e = elim e [ ]
+
+-- a point with one value on each axis lies in its own space
+single_inside : (axes : List Axis) (space : Space) → AreSingle axes space → IsTrue (in_space space (coordinates space))
+single_inside [] [] h = refl
+single_inside (a ∷ axes) (d ∷ space) h = both_pass (in_domain d (coordinate_of d)) (in_space space (coordinates space)) (single-in a.declared d h.0) (single_inside axes space h.1)
+single_inside [] (d ∷ space) h = elim h [ ]
+single_inside (a ∷ axes) [] h = elim h [ ]
+
+first-sorted : (a : Declared) (d : Domain) (sorts : List Sort) (point : List Coordinate) → IsSingle a d → IsPoint sorts point → IsPoint (sort_of a ∷ sorts) (coordinate_of d ∷ point)
+first-sorted (real_between lo hi) (real_domain l h) sorts point e q = (lit< tt, q)
+first-sorted any_bool (bool_domain f t) sorts point e q = q
+first-sorted (real_between lo hi) (bool_domain f t) sorts point e q = elim e [ ]
+first-sorted any_bool (real_domain l h) sorts point e q = elim e [ ]
+
+single_sorted : (axes : List Axis) (space : Space) → AreSingle axes space → IsPoint (sorts_of_axes axes) (coordinates space)
+single_sorted [] [] h = tt
+single_sorted (a ∷ axes) (d ∷ space) h = first-sorted a.declared d (sorts_of_axes axes) (coordinates space) h.0 (single_sorted axes space h.1)
+single_sorted [] (d ∷ space) h = elim h [ ]
+single_sorted (a ∷ axes) [] h = elim h [ ]
+
+near-one : (d : Fraction) (a : Declared) (c : Coordinate) → IsTrue (is_near d a c) → IsNear d a c
+near-one d (real_between l h) (at_fraction q) e = both_true (at_most (difference_of l d) q) (at_most q (sum_of h d)) e
+near-one d any_bool (at_bool b) e = tt
+near-one d (real_between l h) (at_bool b) e = absurd (true≢false (sym e))
+near-one d any_bool (at_fraction q) e = absurd (true≢false (sym e))
+
+near_all : (d : Fraction) (axes : List Axis) (point : List Coordinate) → IsTrue (are_near d axes point) → AreNear d axes point
+near_all d [] [] e = tt
+near_all d (a ∷ axes) (c ∷ point) e = let h = both_true (is_near d a.declared c) (are_near d axes point) e in (near-one d a.declared c h.0, near_all d axes point h.1)
+near_all d [] (c ∷ point) e = absurd (true≢false (sym e))
+near_all d (a ∷ axes) [] e = absurd (true≢false (sym e))
+
+pub point_means : (p : Problem) → IsProblem p → (bound : Option ℕ) (bytes : List ℕ) (s : Loosenings) (space : Space) → IsAccepted p bound bytes s (at_point space) →
+    IsPoint (sorts_of_problem p) (coordinates space) × MeetsAt p (delta_of s) (coordinates space) × AreNear (exact (delta_of s)) p.axes (coordinates space)
+point_means p g bound bytes s space e =
+    let a = accepted_is p bound bytes s (at_point space) e in
+    let h = both_true (sure p s space) (are_near (exact (delta_of s)) p.axes (coordinates space)) a.1 in
+    let q : IsPoint (sorts_of_problem p) (coordinates space) = single_sorted p.axes space a.0 in
+    (q, sure_means p g (delta_of s) space (coordinates space) q (single_inside p.axes space a.0) h.0, near_all (exact (delta_of s)) p.axes (coordinates space) h.1)

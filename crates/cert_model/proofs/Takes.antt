@@ -1,0 +1,117 @@
+-- A lawful tree's lines are taken one after the other.
+use Rattle.std.proofs.Common.{◌≡◌, ℕ, suc, ◌+◌, List, [], ◌∷◌, ◌++◌, Bool, Option, Some, IsTrue, refl, ap, ap₂, sym, ◌∙◌, length, append_assoc, append-nil, length-append, arith}
+use Rattle.std.specs.List.{AllByRecursion}
+use Rattle.poly_graph.specs.Problem.{Problem}
+use Rattle.poly_graph.specs.State.{State, Loosenings}
+use Rattle.poly_graph.specs.Rules.{Line, pull, unit, void, ban, make_false, by, cut, flip, case, open_line, stuck, Left, closed, one, two, stays, rule}
+use Rattle.poly_graph.specs.Derivation.{Tree, tree_lines, Lawful, at_closed, at_left, at_step, at_fork}
+use Rattle.cert_read.specs.CertLine.{CertLine, rule_line, word_of}
+use Rattle.cert_model.specs.Due.{RuleFails, Standing, lemma_due, tree_due, names_well, rule_of, after_rule, after_lemma_rule, tree_goes_on, lemma_goes_on}
+use Rattle.cert_model.specs.Accepted.{ruled_line, Course, course_next, course_of_lines}
+use Rattle.cert_model.specs.Derived.{states_of}
+use Rattle.cert_model.specs.Written.{line_of, rule_lines, NamesWell, leaf_standing, step_standing, fork_standing, left_standing}
+use Rattle.cert_model.proofs.Grown.{states_append}
+
+same-line : (l : Line) → rule_of (line_of l) ≡ l
+same-line (pull j) = refl
+same-line (unit j) = refl
+same-line (void j) = refl
+same-line (ban j i) = refl
+same-line make_false = refl
+same-line (by i) = refl
+same-line (cut axis c) = refl
+same-line (flip axis) = refl
+same-line (case j) = refl
+same-line open_line = refl
+same-line (stuck j) = refl
+
+-- all of two lists hold, so all of each
+first-all : (P : Line → Type 0) (xs ys : List Line) → AllByRecursion P (xs ++ ys) → AllByRecursion P xs × AllByRecursion P ys
+first-all P [] ys h = (tt, h)
+first-all P (x ∷ xs) ys h = let e = first-all P xs ys h.1 in ((h.0, e.0), e.1)
+
+rule-lines-append : (xs ys : List Line) (ls : List CertLine) → rule_lines (xs ++ ys) ++ ls ≡ rule_lines xs ++ (rule_lines ys ++ ls)
+rule-lines-append [] ys ls = refl
+rule-lines-append (x ∷ xs) ys ls = ap (λ (zs : List CertLine). rule_line (line_of x) ∷ zs) (rule-lines-append xs ys ls)
+
+module _ (p : Problem) (b : Option ℕ) (s : Loosenings) (lemmas : List State) where
+  -- the states of what stands are those that the tree leaves
+  pub standing_states : {S : State} {t : Tree} {rest : List State} → Lawful p s lemmas S t rest → states_of (left_standing p s lemmas S t) ≡ rest
+  standing_states (at_closed {S = S} {l = l} e) = ap (λ (o : Option Left). states_of (leaf_standing S l o)) e
+  standing_states (at_left {S = S} {l = l} e) = ap (λ (o : Option Left). states_of (leaf_standing S l o)) e
+  standing_states (at_step {t = t} e r) = ap (λ (o : Option Left). states_of (step_standing o (λ S'. left_standing p s lemmas S' t))) e ∙ standing_states r
+  standing_states (at_fork {S' = S'} {S'' = S''} {t = t} {u = u} e r r') =
+      ap (λ (o : Option Left). states_of (fork_standing o (λ X. left_standing p s lemmas X t) (λ X. left_standing p s lemmas X u))) e
+      ∙ states_append (left_standing p s lemmas S' t) (left_standing p s lemmas S'' u) ∙ ap₂ (λ (xs : List State) (ys : List State). xs ++ ys) (standing_states r) (standing_states r')
+
+  -- ---- the main tree
+
+  abbrev after_main : State → Line → ℕ → List State → List Standing → List CertLine → Option Left → Course
+  after_main S l n pending done ls o = course_next (after_rule o (RuleFails (word_of (line_of l))) (record { state = S; does = l }) pending done (tree_goes_on s lemmas)) (suc n) (λ d. course_of_lines p b (suc n) d ls)
+
+  main-line : (S : State) (l : Line) (ls : List CertLine) (n : ℕ) (pending : List State) (done : List Standing) → IsTrue (names_well p l) → (o : Option Left) → rule p s lemmas S l ≡ o →
+      course_of_lines p b n (tree_due s lemmas S pending done) (rule_line (line_of l) ∷ ls) ≡ after_main S l n pending done ls o
+  main-line S l ls n pending done h o e =
+      ap (λ (m : Line). course_next (ruled_line (names_well p m) (after_rule (rule p s lemmas S m) (RuleFails (word_of (line_of l))) (record { state = S; does = m }) pending done (tree_goes_on s lemmas))) (suc n) (λ d. course_of_lines p b (suc n) d ls)) (same-line l)
+      ∙ ap (λ (t : Bool). course_next (ruled_line t (after_rule (rule p s lemmas S l) (RuleFails (word_of (line_of l))) (record { state = S; does = l }) pending done (tree_goes_on s lemmas))) (suc n) (λ d. course_of_lines p b (suc n) d ls)) h
+      ∙ ap (after_main S l n pending done ls) e
+
+  -- where the course goes on
+  abbrev goes_from : ℕ → List State → List Standing → List CertLine → Course
+  goes_from n pending done ls = course_of_lines p b n (tree_goes_on s lemmas pending done) ls
+
+  -- the lines of a lawful tree take its state off, and what they leave open or stuck is added
+  pub tree_takes : {S : State} {t : Tree} {rest : List State} → Lawful p s lemmas S t rest → NamesWell p t → (ls : List CertLine) (n : ℕ) (pending : List State) (done : List Standing) →
+      course_of_lines p b n (tree_due s lemmas S pending done) (rule_lines (tree_lines t) ++ ls) ≡
+      course_of_lines p b (n + length (tree_lines t)) (tree_goes_on s lemmas pending (done ++ left_standing p s lemmas S t)) ls
+  tree_takes (at_closed {S = S} {l = l} e) h ls n pending done = main-line S l ls n pending done h.0 (Some closed) e
+      ∙ ap₂ (λ (k : ℕ) (xs : List Standing). goes_from k pending xs ls) (omega arith) (sym (append-nil done) ∙ ap (λ (o : Option Left). done ++ leaf_standing S l o) (sym e))
+  tree_takes (at_left {S = S} {l = l} e) h ls n pending done = main-line S l ls n pending done h.0 (Some stays) e
+      ∙ ap₂ (λ (k : ℕ) (xs : List Standing). goes_from k pending xs ls) (omega arith) (ap (λ (o : Option Left). done ++ leaf_standing S l o) (sym e))
+  tree_takes (at_step {S = S} {S' = S'} {l = l} {t = t} e r) h ls n pending done = main-line S l (rule_lines (tree_lines t) ++ ls) n pending done h.0 (Some (one S')) e
+      ∙ tree_takes r h.1 ls (suc n) pending done
+      ∙ ap₂ (λ (k : ℕ) (xs : List Standing). goes_from k pending xs ls) (omega arith) (ap (λ (o : Option Left). done ++ step_standing o (λ X. left_standing p s lemmas X t)) (sym e))
+  tree_takes (at_fork {S = S} {S' = S'} {S'' = S''} {l = l} {t = t} {u = u} e r r') h ls n pending done =
+      let k = first-all (λ (m : Line). IsTrue (names_well p m)) (tree_lines t) (tree_lines u) h.1 in
+      let xs : List Standing = left_standing p s lemmas S' t in let ys : List Standing = left_standing p s lemmas S'' u in
+      main-line S l (rule_lines (tree_lines t ++ tree_lines u) ++ ls) n pending done h.0 (Some (two S' S'')) e
+      ∙ ap (λ (zs : List CertLine). course_of_lines p b (suc n) (tree_due s lemmas S' (S'' ∷ pending) done) zs) (rule-lines-append (tree_lines t) (tree_lines u) ls)
+      ∙ tree_takes r k.0 (rule_lines (tree_lines u) ++ ls) (suc n) (S'' ∷ pending) done
+      ∙ tree_takes r' k.1 ls (suc n + length (tree_lines t)) pending (done ++ xs)
+      ∙ ap₂ (λ (j : ℕ) (zs : List Standing). goes_from j pending zs ls) (omega (arith, length-append (tree_lines t) (tree_lines u)))
+      (append_assoc done xs ys ∙ ap (λ (o : Option Left). done ++ fork_standing o (λ X. left_standing p s lemmas X t) (λ X. left_standing p s lemmas X u)) (sym e))
+
+  -- ---- a lemma's tree
+
+  module _ (k : ℕ) (L : State) where
+    abbrev after_lemma : Line → ℕ → List State → List CertLine → Option Left → Course
+    after_lemma l n pending ls o = course_next (after_lemma_rule o (RuleFails (word_of (line_of l))) pending (lemma_goes_on s k lemmas L)) (suc n) (λ d. course_of_lines p b (suc n) d ls)
+
+    lemma-line : (S : State) (l : Line) (ls : List CertLine) (n : ℕ) (pending : List State) → IsTrue (names_well p l) → (o : Option Left) → rule p s lemmas S l ≡ o →
+        course_of_lines p b n (lemma_due s k lemmas L S pending) (rule_line (line_of l) ∷ ls) ≡ after_lemma l n pending ls o
+    lemma-line S l ls n pending h o e =
+        ap (λ (m : Line). course_next (ruled_line (names_well p m) (after_lemma_rule (rule p s lemmas S m) (RuleFails (word_of (line_of l))) pending (lemma_goes_on s k lemmas L))) (suc n) (λ d. course_of_lines p b (suc n) d ls)) (same-line l)
+        ∙ ap (λ (t : Bool). course_next (ruled_line t (after_lemma_rule (rule p s lemmas S l) (RuleFails (word_of (line_of l))) pending (lemma_goes_on s k lemmas L))) (suc n) (λ d. course_of_lines p b (suc n) d ls)) h
+        ∙ ap (after_lemma l n pending ls) e
+
+    none-first : (xs ys : List State) → xs ++ ys ≡ [] → (xs ≡ []) × (ys ≡ [])
+    none-first [] ys h = (refl, h)
+    none-first (x ∷ xs) ys h = cc
+
+    abbrev lemma_from : ℕ → List State → List CertLine → Course
+    lemma_from n pending ls = course_of_lines p b n (lemma_goes_on s k lemmas L pending) ls
+
+    -- the lines of a lawful tree that leaves nothing take its state off
+    pub lemma_takes : {S : State} {t : Tree} {rest : List State} → Lawful p s lemmas S t rest → rest ≡ [] → NamesWell p t → (ls : List CertLine) (n : ℕ) (pending : List State) →
+        course_of_lines p b n (lemma_due s k lemmas L S pending) (rule_lines (tree_lines t) ++ ls) ≡ course_of_lines p b (n + length (tree_lines t)) (lemma_goes_on s k lemmas L pending) ls
+    lemma_takes (at_closed {S = S} {l = l} e) z h ls n pending = lemma-line S l ls n pending h.0 (Some closed) e ∙ ap (λ (j : ℕ). lemma_from j pending ls) (omega arith)
+    lemma_takes (at_left {S = S} {l = l} e) z h ls n pending = cc
+    lemma_takes (at_step {S = S} {S' = S'} {l = l} {t = t} e r) z h ls n pending = lemma-line S l (rule_lines (tree_lines t) ++ ls) n pending h.0 (Some (one S')) e
+        ∙ lemma_takes r z h.1 ls (suc n) pending ∙ ap (λ (j : ℕ). lemma_from j pending ls) (omega arith)
+    lemma_takes (at_fork {S = S} {S' = S'} {S'' = S''} {l = l} {t = t} {u = u} {rest = xs} {rest' = ys} e r r') z h ls n pending =
+        let w = first-all (λ (m : Line). IsTrue (names_well p m)) (tree_lines t) (tree_lines u) h.1 in let none = none-first xs ys z in
+        lemma-line S l (rule_lines (tree_lines t ++ tree_lines u) ++ ls) n pending h.0 (Some (two S' S'')) e
+        ∙ ap (λ (zs : List CertLine). course_of_lines p b (suc n) (lemma_due s k lemmas L S' (S'' ∷ pending)) zs) (rule-lines-append (tree_lines t) (tree_lines u) ls)
+        ∙ lemma_takes r none.0 w.0 (rule_lines (tree_lines u) ++ ls) (suc n) (S'' ∷ pending)
+        ∙ lemma_takes r' none.1 w.1 ls (suc n + length (tree_lines t)) pending
+        ∙ ap (λ (j : ℕ). lemma_from j pending ls) (omega (arith, length-append (tree_lines t) (tree_lines u)))

@@ -1,0 +1,202 @@
+-- Faults and values of a certificate, what is due in it, and the tests of one line.
+use Rattle.std.specs.Prelude.{ℕ, List, [], ◌∷◌, ◌++◌, Bool, true, false, not, ◌&&◌, Option, Some, None, nat_eq, nat_lt, length}
+use Rattle.dyadic.specs.Fraction.{Fraction, at_most, sum_of, difference_of}
+use Rattle.dyadic.specs.Point.{Coordinate, at_fraction, at_bool}
+use Rattle.dyadic.specs.Rounding.{exact}
+use Rattle.cert_read.specs.CertLine.{BoolWord, says_false, says_true, says_both, RuleLine, pull_at, unit_at, void_at, case_at, stuck_at, by_lemma, ban_by, cut_at, flip_at, false_here, open_here, RuleWord}
+use Rattle.poly_graph.specs.Space.{Domain, real_domain, bool_domain, Space}
+use Rattle.poly_graph.specs.Problem.{Declared, real_between, any_bool, Axis, Problem, first_crossed}
+use Rattle.poly_graph.specs.State.{State, Loosenings, delta_of, member, sure, marks_of}
+use Rattle.poly_graph.specs.Rules.{Line, pull, unit, void, ban, make_false, by, cut, flip, case, open_line, stuck, Left, closed, one, two, stays}
+
+pub data CertFault : Type 0 where
+  BadHeader BadNumber : CertFault
+  -- with the first word of the line
+  RuleFails : RuleWord → CertFault
+  Missing Extra WrongBound NotShown BadLine LineTooLong TooLong : CertFault
+
+-- a line of a tree with the state where it stands
+pub record Standing : Type 0 where
+  pub state : State
+  pub does : Line
+
+-- the value of an accepted certificate
+pub data Value : Type 0 where
+  -- the point, axis by axis
+  at_point : Space → Value
+  -- the states that stay open or stuck, in the tree's order, each with its line
+  left_open : List Standing → Value
+
+-- ---- what is due, once the header's margin and delta are known
+
+pub data Due : Type 0 where
+  version_due margin_due : Due
+  -- the margin is known
+  delta_due : ℕ → Due
+  bound_due kind_due : Loosenings → Due
+  -- the number of lemmas and the states of those that stand: the next lemma, or `tree`
+  next_due : Loosenings → ℕ → List State → Due
+  -- a lemma's state: the axes to come, and the domains that stand
+  axis_due : Loosenings → ℕ → List State → Axis → List Axis → Space → Due
+  yes_due : Loosenings → ℕ → List State → Space → Due
+  no_due : Loosenings → ℕ → List State → Space → List ℕ → Due
+  -- a line of a lemma's tree: the lemma's state, the state where the line stands, and those that wait behind it
+  lemma_due : Loosenings → ℕ → List State → State → State → List State → Due
+  -- the first line of the main tree, and a later one: its state, those that wait, and what stayed
+  root_due : Loosenings → List State → Due
+  tree_due : Loosenings → List State → State → List State → List Standing → Due
+  -- the axes of the point to come, and the domains that stand
+  coordinate_due : Loosenings → Axis → List Axis → Space → Due
+  end_due : Loosenings → Value → Due
+  -- after the last line
+  nothing_due : Loosenings → Value → Due
+
+-- what comes of a line
+pub data Next : Type 0 where
+  on : Due → Next
+  faulty : CertFault → Next
+
+abbrev pub given : Bool → Due → CertFault → Next
+given true d f = on d
+given false d f = faulty f
+
+-- ---- the header
+
+abbrev pub same_bound : Option ℕ → Option ℕ → Bool
+same_bound None None = true
+same_bound (Some m) (Some n) = nat_eq m n
+same_bound _ _ = false
+
+-- ---- states of lemmas
+
+abbrev pub bool_domain_of : BoolWord → Domain
+bool_domain_of says_both = bool_domain true true
+bool_domain_of says_false = bool_domain true false
+bool_domain_of says_true = bool_domain false true
+
+abbrev pub ascends : List ℕ → Bool
+ascends [] = true
+ascends (i ∷ []) = true
+ascends (i ∷ j ∷ rest) = nat_lt i j && ascends (j ∷ rest)
+
+-- no number stands in both
+abbrev pub apart : List ℕ → List ℕ → Bool
+apart [] ns = true
+apart (y ∷ ys) ns = not (member y ns) && apart ys ns
+
+abbrev pub all_below : ℕ → List ℕ → Bool
+all_below n [] = true
+all_below n (j ∷ js) = nat_lt j n && all_below n js
+
+-- the state with these atoms marked yes, and no
+abbrev pub state_of : Problem → Space → List ℕ → List ℕ → State
+state_of p space ys ns = record { space = space; marks = marks_of (length p.atoms) ys ns }
+
+-- ---- lines of trees
+
+abbrev pub rule_of : RuleLine → Line
+rule_of (pull_at j) = pull j
+rule_of (unit_at j) = unit j
+rule_of (void_at j) = void j
+rule_of (case_at j) = case j
+rule_of (stuck_at j) = stuck j
+rule_of (by_lemma i) = by i
+rule_of (ban_by j i) = ban j i
+rule_of (cut_at axis c) = cut axis c
+rule_of (flip_at axis) = flip axis
+rule_of false_here = make_false
+rule_of open_here = open_line
+
+abbrev pub is_atom : Problem → ℕ → Bool
+is_atom p j = nat_lt j (length p.atoms)
+
+abbrev pub is_axis : Problem → ℕ → Bool
+is_axis p axis = nat_lt axis (length p.axes)
+
+-- the atom or the axis that the line names is there
+abbrev pub names_well : Problem → Line → Bool
+names_well p (pull j) = is_atom p j
+names_well p (unit j) = is_atom p j
+names_well p (void j) = is_atom p j
+names_well p (ban j i) = is_atom p j
+names_well p (cut axis c) = is_axis p axis
+names_well p (flip axis) = is_axis p axis
+names_well p (case j) = is_atom p j
+names_well p (stuck j) = is_atom p j
+names_well p _ = true
+
+-- what comes of a line of the main tree by what its rule leaves; k says what is due by the states that wait and what stayed
+abbrev pub after_rule : Option Left → CertFault → Standing → List State → List Standing → (List State → List Standing → Due) → Next
+after_rule None f x pending done k = faulty f
+after_rule (Some closed) f x pending done k = on (k pending done)
+after_rule (Some stays) f x pending done k = on (k pending (done ++ (x ∷ [])))
+after_rule (Some (one S')) f x pending done k = on (k (S' ∷ pending) done)
+after_rule (Some (two S' S'')) f x pending done k = on (k (S' ∷ S'' ∷ pending) done)
+
+-- the same in a lemma's tree, where no state may stay
+abbrev pub after_lemma_rule : Option Left → CertFault → List State → (List State → Due) → Next
+after_lemma_rule None f pending k = faulty f
+after_lemma_rule (Some closed) f pending k = on (k pending)
+after_lemma_rule (Some stays) f pending k = faulty f
+after_lemma_rule (Some (one S')) f pending k = on (k (S' ∷ pending))
+after_lemma_rule (Some (two S' S'')) f pending k = on (k (S' ∷ S'' ∷ pending))
+
+abbrev pub tree_goes_on : Loosenings → List State → List State → List Standing → Due
+tree_goes_on s lemmas [] done = end_due s (left_open done)
+tree_goes_on s lemmas (S ∷ pending) done = tree_due s lemmas S pending done
+
+abbrev pub lemma_goes_on : Loosenings → ℕ → List State → State → List State → Due
+lemma_goes_on s k lemmas L [] = next_due s k (lemmas ++ (L ∷ []))
+lemma_goes_on s k lemmas L (S ∷ pending) = lemma_due s k lemmas L S pending
+
+abbrev pub axis_next : Loosenings → ℕ → List State → List Axis → Space → Due
+axis_next s k lemmas [] space = yes_due s k lemmas space
+axis_next s k lemmas (a ∷ axes) space = axis_due s k lemmas a axes space
+
+abbrev pub is_some_axis : Option ℕ → Bool
+is_some_axis None = false
+is_some_axis (Some i) = true
+
+-- the declared box is empty
+abbrev pub is_crossed_box : Problem → Bool
+is_crossed_box p = is_some_axis (first_crossed p)
+
+-- a tree's line is one too many where a lemma's tree is complete
+abbrev pub extra_after : List State → CertFault
+extra_after [] = Missing
+extra_after lemmas = Extra
+
+abbrev pub extra_at_end : Value → CertFault
+extra_at_end (at_point space) = Missing
+extra_at_end (left_open left) = Extra
+
+-- ---- points
+
+abbrev pub coordinate_next : Loosenings → List Axis → Space → Due
+coordinate_next s [] space = end_due s (at_point space)
+coordinate_next s (a ∷ axes) space = coordinate_due s a axes space
+
+-- the coordinate of an axis with one value left
+abbrev pub coordinate_of : Domain → Coordinate
+coordinate_of (real_domain l h) = at_fraction (exact l)
+coordinate_of (bool_domain f t) = at_bool t
+
+abbrev pub coordinates : Space → List Coordinate
+coordinates [] = []
+coordinates (d ∷ space) = coordinate_of d ∷ coordinates space
+
+-- the coordinate lies within d of the declared bounds
+abbrev pub is_near : Fraction → Declared → Coordinate → Bool
+is_near d (real_between l h) (at_fraction q) = at_most (difference_of l d) q && at_most q (sum_of h d)
+is_near d any_bool (at_bool b) = true
+is_near d _ _ = false
+
+abbrev pub are_near : Fraction → List Axis → List Coordinate → Bool
+are_near d [] [] = true
+are_near d (a ∷ axes) (c ∷ point) = is_near d a.declared c && are_near d axes point
+are_near d _ _ = false
+
+-- the form is sure over a point, and each of its Real coordinates lies within delta of the declared bounds
+abbrev pub is_shown : Problem → Loosenings → Value → Bool
+is_shown p s (at_point space) = sure p s space && are_near (exact (delta_of s)) p.axes (coordinates space)
+is_shown p s (left_open left) = true

@@ -1,0 +1,85 @@
+-- The laws of accepted certificates.
+use Rattle.std.specs.Prelude.{◌≡◌, ℕ, ◌<◌, ◌≤◌, List, [], ◌∷◌, Option, None, false, IsTrue, length}
+use Rattle.std.specs.List.{AllByRecursion}
+use Rattle.dyadic.specs.Point.{Coordinate, IsPoint}
+use Rattle.dyadic.specs.Rounding.{exact}
+use Rattle.poly_graph.specs.Problem.{Problem, IsProblem, sorts_of_problem, in_declared_box, first_crossed, crosses}
+use Rattle.poly_graph.specs.Space.{Space}
+use Rattle.poly_graph.specs.State.{State, Loosenings, delta_of, root_state, may, MeetsAt, MeetsForm}
+use Rattle.poly_graph.specs.Derivation.{Tree, tree_lines, Lawful, Among, AreLemmas}
+use Rattle.cert_read.specs.LineText.{IsSpelledBound, IsSpelled}
+use Rattle.cert_read.specs.CertLine.{CertLine, version, margin, delta, bound, cover, tree_word, end_word, rule_line, false_here, crossing}
+use Rattle.cert_read.specs.Lines.{lines_of}
+use Rattle.cert_model.specs.Due.{Standing, Value, version_due, at_point, left_open, is_shown, coordinates}
+use Rattle.cert_model.specs.Accepted.{IsAccepted, loosenings_fit, course_of_lines, ended, verdict, certificate_text, most_bytes, most_lemmas, accepted}
+use Rattle.cert_model.specs.Derived.{AreDerived, states_of, IsCover, AreNear, EndsOnce, AreSingle}
+use Rattle.cert_model.specs.Written.{rule_lines, NamesWell, left_standing, LemmaTree, lemma_states, AreLemmaTrees, cover_lines, point_lines}
+
+-- The margin and delta of an accepted certificate's header are in their limits.
+abbrev pub HeaderFits : Type 0
+HeaderFits = (p : Problem) (bound : Option ℕ) (bytes : List ℕ) (s : Loosenings) (v : Value) → IsAccepted p bound bytes s v →
+    (1 ≤ s.delta_bits) × (s.delta_bits ≤ 30) × (s.delta_bits < s.margin_bits) × (s.margin_bits ≤ 60)
+
+-- The last line of accepted bytes is `end`, and no other line is.
+abbrev pub EndIsLast : Type 0
+EndIsLast = (p : Problem) (bound : Option ℕ) (bytes : List ℕ) (s : Loosenings) (v : Value) → IsAccepted p bound bytes s v → EndsOnce (lines_of bytes)
+
+-- An accepted cover's lemmas are derived by the rules, each from those before it, and so is its tree from the root,
+-- whose left states are the value; or the bounds of an axis cross.
+abbrev pub CoverIsDerived : Type 0
+CoverIsDerived = (p : Problem) (bound : Option ℕ) (bytes : List ℕ) (s : Loosenings) (left : List Standing) →
+    IsAccepted p bound bytes s (left_open left) → IsCover p s left
+
+-- No point of a derived lemma's state meets the form at the margin.
+abbrev pub LemmasHaveNoPoint : Type 0
+LemmasHaveNoPoint = (p : Problem) → IsProblem p → (s : Loosenings) (lemmas : List State) → AreDerived p s [] lemmas → AreLemmas p s lemmas
+
+-- Each point of the declared box that meets the form at the header's margin is one of a left state.
+abbrev pub CoverCatches : Type 0
+CoverCatches = (p : Problem) → IsProblem p → (bound : Option ℕ) (bytes : List ℕ) (s : Loosenings) (left : List Standing) →
+    IsAccepted p bound bytes s (left_open left) →
+    (point : List Coordinate) → IsPoint (sorts_of_problem p) point → IsTrue (in_declared_box p point) → MeetsForm p s point →
+    Among p s point (states_of left)
+
+-- Where nothing is left, no point of the declared box meets the form at the header's margin.
+abbrev pub EmptyCoverMeans : Type 0
+EmptyCoverMeans = (p : Problem) → IsProblem p → (bound : Option ℕ) (bytes : List ℕ) (s : Loosenings) →
+    IsAccepted p bound bytes s (left_open []) →
+    (point : List Coordinate) → IsPoint (sorts_of_problem p) point → IsTrue (in_declared_box p point) → MeetsForm p s point → ⊥
+
+-- A point that is accepted meets the form at the header's delta, and lies within delta of the declared box.
+abbrev pub PointMeans : Type 0
+PointMeans = (p : Problem) → IsProblem p → (bound : Option ℕ) (bytes : List ℕ) (s : Loosenings) (space : Space) →
+    IsAccepted p bound bytes s (at_point space) →
+    IsPoint (sorts_of_problem p) (coordinates space) × MeetsAt p (delta_of s) (coordinates space) × AreNear (exact (delta_of s)) p.axes (coordinates space)
+
+-- Lines that can be spelled have the verdict of their text.
+abbrev pub TextHasLines : Type 0
+TextHasLines = (p : Problem) (bound : Option ℕ) (ls : List CertLine) → AllByRecursion IsSpelled ls → length (certificate_text ls) ≤ most_bytes →
+    verdict p bound (certificate_text ls) ≡ ended (course_of_lines p bound 0 version_due ls)
+
+-- the certificate that has the line `false` for its tree
+abbrev pub shortest_lines : Loosenings → Option ℕ → List CertLine
+shortest_lines s b = version 1 ∷ margin s.margin_bits ∷ delta s.delta_bits ∷ bound b ∷ cover 0 ∷ tree_word ∷ rule_line false_here ∷ end_word ∷ []
+
+-- Where the declared box is not empty, and the form can't hold at the root, it is accepted.
+abbrev pub ShortestIsAccepted : Type 0
+ShortestIsAccepted = (p : Problem) (b : Option ℕ) → IsSpelledBound b → (s : Loosenings) → IsTrue (loosenings_fit s.margin_bits s.delta_bits) →
+    first_crossed p ≡ None → may p s (root_state p) ≡ false → IsAccepted p b (certificate_text (shortest_lines s b)) s (left_open [])
+
+-- Lemmas with their trees and a lawful tree at the root, written as lines, are accepted with what the tree leaves.
+abbrev pub CoverIsAccepted : Type 0
+CoverIsAccepted = (p : Problem) (b : Option ℕ) (s : Loosenings) (lemmas : List LemmaTree) → IsTrue (loosenings_fit s.margin_bits s.delta_bits) → length lemmas ≤ most_lemmas →
+    AreLemmaTrees p s [] lemmas → first_crossed p ≡ None → (t : Tree) (rest : List State) → Lawful p s (lemma_states lemmas) (root_state p) t rest → NamesWell p t →
+    ended (course_of_lines p b 0 version_due (cover_lines s b lemmas (rule_lines (tree_lines t)))) ≡ accepted s (left_open (left_standing p s (lemma_states lemmas) (root_state p) t))
+
+-- And so is the line for bounds that cross.
+abbrev pub CrossingIsAccepted : Type 0
+CrossingIsAccepted = (p : Problem) (b : Option ℕ) (s : Loosenings) (lemmas : List LemmaTree) → IsTrue (loosenings_fit s.margin_bits s.delta_bits) → length lemmas ≤ most_lemmas →
+    AreLemmaTrees p s [] lemmas → (i : ℕ) → IsTrue (crosses p i) →
+    ended (course_of_lines p b 0 version_due (cover_lines s b lemmas (crossing i ∷ []))) ≡ accepted s (left_open [])
+
+-- And so is a point that is shown.
+abbrev pub PointIsAccepted : Type 0
+PointIsAccepted = (p : Problem) (b : Option ℕ) (s : Loosenings) → IsTrue (loosenings_fit s.margin_bits s.delta_bits) → (space : Space) → AreSingle p.axes space → IsTrue (is_shown p s (at_point space)) →
+    ended (course_of_lines p b 0 version_due (point_lines s b space)) ≡ accepted s (at_point space)

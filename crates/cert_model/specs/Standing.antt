@@ -1,0 +1,51 @@
+-- The lines of a certificate's main tree with their states; honest certificates, and the number of branches.
+use Rattle.std.specs.Prelude.{ℕ, ◌+◌, List, [], ◌∷◌, ◌++◌, Bool, true, false, Option, IsTrue, All}
+use Rattle.cert_read.specs.Lines.{lines_of}
+use Rattle.cert_read.specs.CertLine.{RuleLine, rule_line, Parsed, line, parsed}
+use Rattle.poly_graph.specs.Problem.{Problem}
+use Rattle.poly_graph.specs.State.{State, Loosenings, root_state}
+use Rattle.poly_graph.specs.Honest.{is_honest, branch_count}
+use Rattle.cert_model.specs.Due.{Standing, Due, version_due, root_due, tree_due, Next, on, faulty, rule_of, is_crossed_box}
+use Rattle.cert_model.specs.Accepted.{next_parsed}
+
+-- with the margin and delta of the header
+pub record Stands : Type 0 where
+  pub loosenings : Loosenings
+  pub line : Standing
+
+abbrev stands : Loosenings → State → RuleLine → Stands
+stands s S l = record { loosenings = s; line = record { state = S; does = rule_of l } }
+
+abbrev at_root : Bool → Problem → Loosenings → RuleLine → List Stands
+at_root true p s l = []
+at_root false p s l = stands s (root_state p) l ∷ []
+
+-- a line of the main tree, where such a one is due
+abbrev pub stands_at : Problem → Due → Parsed → List Stands
+stands_at p (root_due s lemmas) (line (rule_line l)) = at_root (is_crossed_box p) p s l
+stands_at p (tree_due s lemmas S pending done) (line (rule_line l)) = stands s S l ∷ []
+stands_at p _ _ = []
+
+abbrev pub standing_next : Next → (Due → List Stands) → List Stands
+standing_next (faulty f) k = []
+standing_next (on d) k = k d
+
+abbrev pub standing_from : Problem → Option ℕ → Due → List (List ℕ) → List Stands
+standing_from p b d [] = []
+standing_from p b d (l ∷ ls) = stands_at p d (parsed l) ++ standing_next (next_parsed p b d (parsed l)) (λ d'. standing_from p b d' ls)
+
+-- the lines of the main tree, in order, each where it stands
+abbrev pub standing : Problem → Option ℕ → List ℕ → List Stands
+standing p b bytes = standing_from p b version_due (lines_of bytes)
+
+-- each line of the main tree is honest, where w is the number of bits of the least width
+abbrev pub IsHonest : Problem → Option ℕ → ℕ → List ℕ → Type 0
+IsHonest p b w bytes = All (λ (x : Stands). IsTrue (is_honest p w x.loosenings x.line.state x.line.does)) (standing p b bytes)
+
+abbrev pub branches_of : List Stands → ℕ
+branches_of [] = 0
+branches_of (x ∷ rest) = branch_count x.line.does + branches_of rest
+
+-- the number of branch lines
+abbrev pub branches : Problem → Option ℕ → List ℕ → ℕ
+branches p b bytes = branches_of (standing p b bytes)
