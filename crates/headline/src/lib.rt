@@ -1,0 +1,18 @@
+//! What an accepted certificate says of the script that it was written for, whoever wrote it.
+//!
+//! No code runs here: each function is a law about definitions, and its contract is the law.
+#![tactic(auto)]
+
+ghost use Rattle.headline.specs.Laws.{UnsatMeans, DeltaSatMeans};
+
+/// A cover that leaves nothing: no point of the declared box satisfies the script at the margin.
+#[tactic(auto, using(crate::proofs::Headline::unsat_is))]
+pub fn unsat_means()
+    ensures { UnsatMeans }
+{}
+
+/// A point: it satisfies the script at delta, and lies within delta of the declared box (delta-satisfiability of Gao,
+/// Avigad, Clarke 2012).
+pub fn delta_sat_means()
+    ensures { DeltaSatMeans }
+{}
