@@ -1,0 +1,3 @@
+pub mod DeltaSat
+pub mod Problems
+pub mod Unsat
