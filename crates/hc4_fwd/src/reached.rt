@@ -1,0 +1,37 @@
+// Nodes from which an axis is reached.
+ghost use Rattle.std.specs.Prelude.{◌≡◌, length, slice_set, true, IsTrue, ◌<◌};
+ghost use Rattle.poly_graph.specs.Term.{comes_after};
+ghost use Rattle.poly_graph.specs.NodeEnclosure.{node_enclosure};
+ghost use Rattle.poly_graph.specs.Views.{node_of};
+ghost use Rattle.ival.specs.RowViews.{rows_of, marks_of};
+ghost use Rattle.ival.specs.SpaceViews.{space_of};
+ghost use Rattle.hc4_fwd.specs.Reached.{is_reached};
+
+use crate::node_interval::node_interval;
+use ival::{Rows, Space};
+use poly_graph::Node;
+
+/// Whether the node is the axis or has a marked child.
+pub fn is_reached(node: Node, axis: u32, rows: &Rows) -> bool
+    requires { IsTrue (comes_after (length (rows_of rows.now)) (node_of node)) }
+    ensures { result ≡ is_reached axis (marks_of rows.now) (node_of node) }
+{
+    match node {
+        Node::Const(_) => false,
+        Node::Var(a) => a == axis,
+        Node::Neg(a) | Node::Sq(a) => rows.marked(a as usize),
+        Node::Add(a, b) | Node::Mul(a, b) => rows.marked(a as usize) || rows.marked(b as usize),
+    }
+}
+
+/// Marks the row of a node, and puts the node's enclosure there.
+pub fn renew(node: Node, n: usize, space: &Space, rows: &mut Rows)
+    requires order { IsTrue (comes_after (length (rows_of rows.old)) (node_of node)) }
+    requires place { n < length (rows_of rows.old) }
+    ensures rows { rows_of rows.new ≡ slice_set (rows_of rows.old) n (node_enclosure (space_of space.now) (rows_of rows.old) (node_of node)) }
+    ensures marks { marks_of rows.new ≡ slice_set (marks_of rows.old) n true }
+{
+    let interval = node_interval(node, space, rows);
+    rows.set(n, interval);
+    rows.mark(n);
+}
