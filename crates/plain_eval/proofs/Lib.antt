@@ -1,0 +1,4 @@
+pub mod Axis
+pub mod Filling
+pub mod Optional
+pub mod Parents

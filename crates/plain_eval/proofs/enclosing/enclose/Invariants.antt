@@ -1,0 +1,15 @@
+use Rattle.std.proofs.Common.{◌≡◌, ℕ, ◌<◌, ◌≤◌, length}
+use Rattle.poly_graph.specs.Narrowed.{enclosures}
+use Rattle.poly_graph.specs.NodeEnclosure.{row}
+use Rattle.ival.specs.RowViews.{rows_of, marks_of}
+use Rattle.ival.specs.SpaceViews.{space_of}
+use Rattle.plain_eval.proofs.enclosing.enclose.Given as goal
+
+-- the rows so far are the enclosures, and the node is still to come
+abbrev pub invariant-loop-n : goal.invariant-loop-n
+invariant-loop-n l = record {
+  count : length (rows_of l.rows) ≡ length l.graph;
+  filled : (k : ℕ) → k < l.n → row (rows_of l.rows) k ≡ row (enclosures (space_of l.space) l.graph) k;
+  ahead : l.n ≤ l.node;
+  marks : marks_of l.rows ≡ marks_of l.initial.rows;
+}

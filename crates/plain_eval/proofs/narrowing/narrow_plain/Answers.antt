@@ -1,0 +1,51 @@
+use Rattle.std.proofs.Common.{◌∙◌, List, ap₂, sym, arith, refl}
+use Rattle.dyadic.specs.Rounding.{two_to_minus}
+use Rattle.dyadic.specs.Interval.{Interval}
+use Rattle.poly_graph.specs.Space.{range}
+use Rattle.poly_graph.specs.Narrowed.{enclosures, narrowed}
+use Rattle.poly_graph.specs.Views.{kind_of}
+use Rattle.poly_graph.proofs.NodeEnclosures.{all_rows}
+use Rattle.ival.specs.RowViews.{rows_of}
+use Rattle.ival.specs.SpaceViews.{space_of}
+use Rattle.plain_eval.specs.Options.{options_of}
+use Rattle.plain_eval.proofs.Axis.{told_empty, told_space}
+use Rattle.plain_eval.proofs.narrowing.narrow_plain.Goals as goal
+
+pub returns-then-some_empty-clause-rows : goal.returns-then-some_empty-clause-rows
+returns-then-some_empty-clause-rows c = all_rows (space_of c.args.space.now) c.args.graph.now (rows_of c.enclose.new.rows) c.enclose.ensures.count
+    (λ k h. c.enclose.ensures.rows k (omega (arith, h, c.len-last.ensures.len)))
+
+pub returns-then-narrow_axes-clause-rows : goal.returns-then-narrow_axes-clause-rows
+returns-then-narrow_axes-clause-rows c = all_rows (space_of c.args.space.now) c.args.graph.now (rows_of c.enclose.new.rows) c.enclose.ensures.count
+    (λ k h. c.enclose.ensures.rows k (omega (arith, h, c.len-last.ensures.len)))
+
+pub returns-else-narrow_axes-clause-rows : goal.returns-else-narrow_axes-clause-rows
+returns-else-narrow_axes-clause-rows c = all_rows (space_of c.args.space.now) c.args.graph.now (rows_of c.enclose.new.rows) c.enclose.ensures.count
+    (λ k h. c.enclose.ensures.rows k (omega (arith, h, c.len-last.ensures.len)))
+
+pub returns-then-some_empty-clause-narrowed : goal.returns-then-some_empty-clause-narrowed
+returns-then-some_empty-clause-narrowed c =
+    let nodes = c.args.graph.now in let space = space_of c.args.space.now in let root = c.args.atom.now.term in
+    let wanted = range (two_to_minus c.args.loosen) (kind_of c.args.atom.now.kind) in
+    let rows = all_rows space nodes (rows_of c.enclose.new.rows) c.enclose.ensures.count (λ k h. c.enclose.ensures.rows k (omega (arith, h, c.len-last.ensures.len))) in
+    let same = c.narrow_rows.ensures.options ∙ ap₂ (λ (es : List Interval) (i : Interval). narrowed nodes es root i) rows c.kind_range-range.ensures in
+    (told_empty nodes (narrowed nodes (enclosures space nodes) root wanted) (options_of c.narrow_rows.new.scratch) space same (sym c.if-some_empty.ensures), refl)
+
+pub returns-then-narrow_axes-clause-narrowed : goal.returns-then-narrow_axes-clause-narrowed
+returns-then-narrow_axes-clause-narrowed c =
+    let nodes = c.args.graph.now in let space = space_of c.args.space.now in let root = c.args.atom.now.term in
+    let wanted = range (two_to_minus c.args.loosen) (kind_of c.args.atom.now.kind) in
+    let rows = all_rows space nodes (rows_of c.enclose.new.rows) c.enclose.ensures.count (λ k h. c.enclose.ensures.rows k (omega (arith, h, c.len-last.ensures.len))) in
+    let same = c.narrow_rows.ensures.options ∙ ap₂ (λ (es : List Interval) (i : Interval). narrowed nodes es root i) rows c.kind_range-range.ensures in (
+      told_space nodes (narrowed nodes (enclosures space nodes) root wanted) (options_of c.narrow_rows.new.scratch) space (space_of c.narrow_axes.new.space) same (sym c.if-some_empty.ensures) c.narrow_axes.ensures.axes,
+      c.if-narrow_axes.ensures.less refl,
+    )
+
+pub returns-else-narrow_axes-clause-narrowed : goal.returns-else-narrow_axes-clause-narrowed
+returns-else-narrow_axes-clause-narrowed c =
+    let nodes = c.args.graph.now in let space = space_of c.args.space.now in let root = c.args.atom.now.term in
+    let wanted = range (two_to_minus c.args.loosen) (kind_of c.args.atom.now.kind) in
+    let rows = all_rows space nodes (rows_of c.enclose.new.rows) c.enclose.ensures.count (λ k h. c.enclose.ensures.rows k (omega (arith, h, c.len-last.ensures.len))) in
+    let same = c.narrow_rows.ensures.options ∙ ap₂ (λ (es : List Interval) (i : Interval). narrowed nodes es root i) rows c.kind_range-range.ensures in
+    let kept = c.if-narrow_axes.ensures.same refl in
+    (told_space nodes (narrowed nodes (enclosures space nodes) root wanted) (options_of c.narrow_rows.new.scratch) space space same (sym c.if-some_empty.ensures) (sym kept ∙ c.narrow_axes.ensures.axes), kept)
