@@ -1,0 +1,21 @@
+-- Bool axes by number, and the ends of a range.
+use Rattle.std.proofs.Common.{◌≡◌, ℕ, zero, suc, ◌<◌, ◌≤◌, [], ◌∷◌, length, get_or, Bool, false, refl, ap, arith, IsTrue}
+use Rattle.std.proofs.lemmas.Int.{ints}
+use Rattle.dyadic.specs.Rounding.{Dyadic, finite, two_to_minus, ext_at_most}
+use Rattle.dyadic.specs.Interval.{negated_dyadic}
+use Rattle.dyadic.proofs.Rounds.{exact_from}
+use Rattle.dyadic.specs.Space.{Domain, Space, allows}
+use Rattle.poly_graph.specs.State.{domain_allows}
+
+pub allowed_at : (space : Space) (axis : ℕ) (v : Bool) (d : Domain) → axis < length space → domain_allows space axis v ≡ allows (get_or space axis d) v
+allowed_at [] axis v d h = absurd (omega arith)
+allowed_at (e ∷ space) zero v d h = refl
+allowed_at (e ∷ space) (suc axis) v d h = allowed_at space axis v d (omega arith)
+
+pub none_past : (space : Space) (axis : ℕ) (v : Bool) → length space ≤ axis → domain_allows space axis v ≡ false
+none_past [] axis v h = refl
+none_past (e ∷ space) zero v h = absurd (omega arith)
+none_past (e ∷ space) (suc axis) v h = none_past space axis v (omega arith)
+
+pub margin_ends : (k : ℕ) (a b : Dyadic) → b ≡ two_to_minus k → a ≡ negated_dyadic b → IsTrue (ext_at_most (finite a) (finite b))
+margin_ends k a b e f = let g = ap (λ (d : Dyadic). d.units) e in let h = ap (λ (d : Dyadic). d.units) f in exact_from a b (omega (arith, ints, g, h))

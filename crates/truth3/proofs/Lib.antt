@@ -1,0 +1,4 @@
+pub mod Axes
+pub mod FormTruth
+pub mod Roots
+mod Smallest

@@ -1,0 +1,57 @@
+// The truth of atoms over a space.
+ghost use Rattle.std.specs.Prelude.{◌≡◌, ◌<◌, ◌≤◌, length};
+ghost use Rattle.dyadic.specs.Rounding.{two_to_minus};
+ghost use Rattle.poly_graph.specs.State.{may_atom, sure_at};
+ghost use Rattle.poly_graph.specs.ProblemViews.{problem_of};
+ghost use Rattle.ival.specs.RowViews.{rows_of};
+ghost use Rattle.ival.specs.SpaceViews.{space_of};
+ghost use Rattle.truth3.specs.Truth.{HasRows, of_atoms, pruning, state_of};
+
+use crate::leaves::kind_range;
+use ival::{Rows, Space};
+use poly_graph::{Lits, Mark, Problem};
+
+/// Whether the atom may hold at a point of the space with these marks; not where there is no such atom.
+pub fn may_atom(
+    problem: &Problem,
+    rows: &Rows,
+    space: &Space,
+    lits: &Lits,
+    margin: u32,
+    j: u32,
+) -> bool
+    requires margin { margin ≤ 120 }
+    requires rows { HasRows problem.now (space_of space.now) (rows_of rows.now) }
+    requires lits { length lits.now ≡ length problem.now.atoms }
+    ensures { result ≡ of_atoms problem.now (may_atom (problem_of problem.now) (pruning margin) (state_of (space_of space.now) lits.now)) j }
+{
+    let _ = problem.axes();
+    let atoms = problem.atoms();
+    if j as usize >= atoms.len() {
+        return false;
+    }
+    let atom = atoms[j as usize];
+    let range = kind_range(atom.kind, margin);
+    let misses = rows.get(atom.term as usize).meet(range).is_empty();
+    match lits.mark(j) {
+        Mark::No => false,
+        Mark::Yes => !misses,
+        Mark::Neither => !misses,
+    }
+}
+
+/// Whether the atom surely holds at each point of the space; not where there is no such atom.
+pub fn sure_atom(problem: &Problem, rows: &Rows, space: &Space, delta: u32, j: u32) -> bool
+    requires delta { delta ≤ 120 }
+    requires rows { HasRows problem.now (space_of space.now) (rows_of rows.now) }
+    ensures { result ≡ of_atoms problem.now (sure_at (problem_of problem.now) (two_to_minus delta) (space_of space.now)) j }
+{
+    let _ = problem.axes();
+    let atoms = problem.atoms();
+    if j as usize >= atoms.len() {
+        return false;
+    }
+    let atom = atoms[j as usize];
+    let range = kind_range(atom.kind, delta);
+    rows.get(atom.term as usize).within(range)
+}

@@ -1,0 +1,15 @@
+//! Bounds on the truth of a problem's form over a space.
+#![tactic(auto)]
+
+mod atoms;
+mod leaves;
+mod marks;
+mod nodes;
+mod root;
+mod surely;
+#[cfg(test)]
+mod tests;
+
+pub use marks::{Marks, may};
+pub use root::{Root, root_space};
+pub use surely::sure;
