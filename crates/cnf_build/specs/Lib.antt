@@ -1,0 +1,4 @@
+pub mod Clauses
+pub mod Encoding
+pub mod Kept
+pub mod Tried
