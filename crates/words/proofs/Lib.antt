@@ -1,0 +1,4 @@
+pub mod Numbers
+pub mod ProgramLemmas
+pub mod Ranges
+pub mod Rows

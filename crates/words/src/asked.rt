@@ -1,0 +1,68 @@
+ghost use Rattle.std.specs.Prelude.{◌≡◌};
+ghost use Rattle.words.specs.Words.{usual};
+
+/// How a script is solved.
+#[derive(Clone, Copy, Debug, PartialEq, Eq)]
+pub struct Options {
+    /// A point is answered where the script holds at it, loosened by two to the minus this many; from 1 to 30.
+    pub delta_bits: u32,
+    /// Unsat says that the script holds nowhere, even loosened by two to the minus this many; from 2 to 60.
+    pub margin_bits: u32,
+    /// A box whose sides are at most two to the minus this many is not cut; from 0 to 60.
+    pub least_bits: u32,
+    /// How many boxes may be cut at most; from 0 to 1,048,576.
+    pub budget: u32,
+    /// How many workers solve; from 1 to 64.
+    pub workers: u32,
+    /// The size up to which a constant without a bound of its own is looked at, where one is given; from 1.
+    pub bound: Option<u32>,
+}
+
+/// What `solve` is asked for: the names of the script and of the certificate that is written, and the options.
+#[derive(Clone, Copy, Debug, PartialEq, Eq)]
+pub struct SolveWords<'a> {
+    pub script: &'a str,
+    pub cert: &'a str,
+    pub options: Options,
+}
+
+/// What `check` is asked for: the names of the script and of the certificate that is read.
+#[derive(Clone, Copy, Debug, PartialEq, Eq)]
+pub struct CheckWords<'a> {
+    pub script: &'a str,
+    pub cert: &'a str,
+    /// The size up to which a constant without a bound of its own is looked at, where one is given; from 1.
+    pub bound: Option<u32>,
+}
+
+/// What `demo` is asked for: the seed and the size, from 1 to 10,000, of the script that it makes, the name of the
+/// certificate that is written, and the options.
+#[derive(Clone, Copy, Debug, PartialEq, Eq)]
+pub struct DemoWords<'a> {
+    pub seed: u64,
+    pub size: u32,
+    pub cert: &'a str,
+    pub options: Options,
+}
+
+/// What the words ask for. A name `-` stands for standard input or output.
+#[derive(Clone, Copy, Debug, PartialEq, Eq)]
+pub enum Asked<'a> {
+    Solve(SolveWords<'a>),
+    Check(CheckWords<'a>),
+    Demo(DemoWords<'a>),
+}
+
+// The options where none is given but the number of workers.
+pub fn usual_options(workers: u32) -> Options
+    ensures { result ≡ usual workers }
+{
+    Options {
+        delta_bits: 10,
+        margin_bits: 20,
+        least_bits: 20,
+        budget: 65536,
+        workers,
+        bound: None,
+    }
+}

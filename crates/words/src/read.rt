@@ -1,0 +1,180 @@
+ghost use Rattle.std.specs.Prelude.{◌≡◌, ◌≢◌, [], IfOk, IsErrOf, None, Some, map, option_and_then, option_map, string_bytes};
+ghost use Rattle.clap.specs.Words.{fault_of, first_of, found_of, kind_of, one_of, rows_of, subcommand_of, subcommand_rows_of};
+ghost use Rattle.words.specs.Program.{program};
+ghost use Rattle.words.specs.Words.{check_of, chosen, command_of, demo_of, long_number_in, number_in, number_of, options_of, IsInRange, solve_of};
+ghost use Rattle.words.specs.Seen.{seen, seen_check, seen_demo, seen_solve};
+
+use crate::asked::{Asked, CheckWords, DemoWords, Options, SolveWords, usual_options};
+use crate::program::program_command;
+use clap::error::ErrorKind;
+use clap::{ArgMatches, Error};
+use std::alloc::Global;
+
+/// Why words are refused: they are not the program's, or there was no memory to read them.
+#[derive(Clone, Copy, Debug, PartialEq, Eq)]
+pub enum Refused {
+    Usage,
+    Memory,
+}
+
+// What the parser makes of the words.
+fn parse<'a>(alloc: Global, words: &'a [String]) -> Result<ArgMatches<'a>, Refused>
+    ensures ok { IfOk result (λ m. (fault_of program (map string_bytes words.entry.now) ≡ [])
+        × (subcommand_rows_of m ≡ subcommand_of program (map string_bytes words.entry.now))) }
+    ensures usage { IsErrOf result Refused.Usage → fault_of program (map string_bytes words.entry.now) ≢ [] }
+{
+    let Ok(command) = program_command(alloc) else {
+        return Err(Refused::Memory);
+    };
+    match command.try_get_matches_from(words) {
+        Ok(matches) => Ok(matches),
+        Err(error) => Err(refusal(&error)),
+    }
+}
+
+// Want of memory is a refusal of its own.
+fn refusal(error: &Error) -> Refused
+    ensures usage { result ≡ Refused.Usage → kind_of error.now ≢ ErrorKind.OutOfMemory }
+{
+    match error.kind() {
+        ErrorKind::OutOfMemory => Refused::Memory,
+        _ => Refused::Usage,
+    }
+}
+
+// What was given for an option or a place, as a number.
+fn whole_number(matches: &ArgMatches<'_>, id: &str) -> Option<u32>
+    ensures { result ≡ option_and_then (number_of 32) (one_of id.now (rows_of (found_of matches.now))) }
+{
+    matches.get_one::<u32>(id)
+}
+
+// The number in the range that was given for an option or a place.
+fn number(matches: &ArgMatches<'_>, id: &str, least: u32, most: u32) -> Option<u32>
+    ensures { result ≡ number_in least most id.now (rows_of (found_of matches.now)) }
+{
+    let number = whole_number(matches, id)?;
+    if least <= number && number <= most {
+        Some(number)
+    } else {
+        None
+    }
+}
+
+// The number below 2 ^ 64 that was given for a place.
+fn long_number(matches: &ArgMatches<'_>, id: &str) -> Option<u64>
+    ensures { result ≡ long_number_in id.now (rows_of (found_of matches.now)) }
+{
+    matches.get_one::<u64>(id)
+}
+
+// The word that stands for a place.
+fn text<'a>(matches: &ArgMatches<'a>, id: &str) -> Option<&'a str>
+    ensures { option_map (λ s. s.now) result ≡ first_of id.now (rows_of (found_of matches.now)) }
+{
+    matches.get_str(id)
+}
+
+fn solve_options(matches: &ArgMatches<'_>) -> Option<Options>
+    ensures { result ≡ options_of (rows_of (found_of matches.now)) }
+{
+    let delta_bits = number(matches, "delta-bits", 1, 30)?;
+    let margin_bits = number(matches, "margin-bits", 2, 60)?;
+    let least_bits = number(matches, "least-bits", 0, 60)?;
+    let budget = number(matches, "budget", 0, 1048576)?;
+    let workers = number(matches, "workers", 1, 64)?;
+    let bound = number(matches, "bound", 1, 4294967295);
+    if delta_bits < margin_bits {
+        Some(Options {
+            delta_bits,
+            margin_bits,
+            least_bits,
+            budget,
+            workers,
+            bound,
+        })
+    } else {
+        None
+    }
+}
+
+fn solve_words<'a>(matches: &ArgMatches<'a>) -> Option<SolveWords<'a>>
+    ensures { option_map seen_solve result ≡ solve_of (rows_of (found_of matches.now)) }
+{
+    let script = text(matches, "script")?;
+    let cert = text(matches, "cert")?;
+    let options = solve_options(matches)?;
+    Some(SolveWords {
+        script,
+        cert,
+        options,
+    })
+}
+
+fn check_words<'a>(matches: &ArgMatches<'a>) -> Option<CheckWords<'a>>
+    ensures { option_map seen_check result ≡ check_of (rows_of (found_of matches.now)) }
+{
+    let script = text(matches, "script")?;
+    let cert = text(matches, "cert")?;
+    let bound = number(matches, "bound", 1, 4294967295);
+    if script == "-" && cert == "-" {
+        return None;
+    }
+    Some(CheckWords {
+        script,
+        cert,
+        bound,
+    })
+}
+
+fn demo_words<'a>(matches: &ArgMatches<'a>) -> Option<DemoWords<'a>>
+    ensures { option_map seen_demo result ≡ demo_of (rows_of (found_of matches.now)) }
+{
+    let seed = long_number(matches, "seed")?;
+    let size = number(matches, "size", 1, 10000)?;
+    let cert = text(matches, "cert")?;
+    let workers = number(matches, "workers", 1, 64)?;
+    Some(DemoWords {
+        seed,
+        size,
+        cert,
+        options: usual_options(workers),
+    })
+}
+
+// What the subcommand of this name asks for.
+fn choose<'a>(name: &str, matches: &ArgMatches<'a>) -> Option<Asked<'a>>
+    ensures { option_map seen result ≡ chosen (name.now, rows_of (found_of matches.now)) }
+{
+    if name == "solve" {
+        Some(Asked::Solve(solve_words(matches)?))
+    } else if name == "check" {
+        Some(Asked::Check(check_words(matches)?))
+    } else if name == "demo" {
+        Some(Asked::Demo(demo_words(matches)?))
+    } else {
+        None
+    }
+}
+
+/// Reads the words of a call; the first of them is the program's name.
+///
+/// Refused for usage exactly where `command_of` has nothing, `--help` and the like included; want of memory is told
+/// apart from that.
+pub fn read_words<'a>(alloc: Global, words: &'a [String]) -> Result<Asked<'a>, Refused>
+    ensures ok { IfOk result (λ asked. command_of (map string_bytes words.entry.now) ≡ Some (seen asked)) }
+    ensures range { IfOk result (λ asked. IsInRange (seen asked)) }
+    ensures usage { IsErrOf result Refused.Usage → command_of (map string_bytes words.entry.now) ≡ None }
+{
+    let matches = match parse(alloc, words) {
+        Ok(matches) => matches,
+        Err(refused) => return Err(refused),
+    };
+    let Some((name, inner)) = matches.subcommand() else {
+        return Err(Refused::Usage);
+    };
+    match choose(name, inner) {
+        Some(asked) => Ok(asked),
+        None => Err(Refused::Usage),
+    }
+}
