@@ -5,6 +5,11 @@ pub mod Sides
 pub mod Products
 pub mod Quotients
 pub mod RootsOf
+pub mod Bits
+pub mod MarkWords
+pub mod Meets
+pub mod Optional
+pub mod Equality
 pub mod Lists
 pub mod Wides
 pub mod Facts

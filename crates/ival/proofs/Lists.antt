@@ -1,6 +1,7 @@
 -- Lists of intervals and of domains, place by place.
-use Rattle.std.proofs.Common.{◌≡◌, ℕ, zero, suc, ◌+◌, ◌<◌, [], ◌∷◌, map, length, replicate, get_or, set, add-one, Bool, IsTrue, refl, ap, sym, arith, true≢false}
-use Rattle.dyadic.specs.Space.{Domain, Space, changed, test_axis, middle_domain}
+use Rattle.std.proofs.Common.{◌≡◌, ℕ, zero, suc, ◌+◌, ◌<◌, ◌≤◌, [], ◌∷◌, map, length, replicate, get_or, set, add-one, Bool, IsTrue, refl, ap, sym, arith, true≢false}
+use Rattle.dyadic.specs.Space.{Domain, Space, changed, test_axis, middle_domain, domain_interval, axis_interval}
+use Rattle.dyadic.specs.Interval.{nothing}
 
 pub map_replicate : {X Y : Type 0} (f : X → Y) (x : X) (n : ℕ) → map f (replicate n x) ≡ replicate n (f x)
 map_replicate f x zero = refl
@@ -48,3 +49,15 @@ length_middles zero xs ys = refl
 length_middles (suc i) (x ∷ xs) (y ∷ ys) = let k = length_middles i xs ys in omega (arith, k)
 length_middles (suc i) [] ys = refl
 length_middles (suc i) (x ∷ xs) [] = refl
+
+-- ---- what is left to an axis by number
+
+pub interval_at : (space : Space) (k : ℕ) (d : Domain) → k < length space → axis_interval space k ≡ domain_interval (get_or space k d)
+interval_at [] k d h = absurd (omega arith)
+interval_at (d' ∷ space) zero d h = refl
+interval_at (d' ∷ space) (suc k) d h = interval_at space k d (omega arith)
+
+pub no_interval : (space : Space) (k : ℕ) → length space ≤ k → axis_interval space k ≡ nothing
+no_interval [] k h = refl
+no_interval (d ∷ space) zero h = absurd (omega arith)
+no_interval (d ∷ space) (suc k) h = no_interval space k (omega arith)

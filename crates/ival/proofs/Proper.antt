@@ -1,7 +1,7 @@
 -- The ends of the operations' intervals are ends.
-use Rattle.std.proofs.Common.{◌≡◌, Bool, true, false, cond, ◌&&◌, IsTrue, refl, sym, subst, true≢false, inl}
+use Rattle.std.proofs.Common.{◌≡◌, Bool, true, false, cond, ◌&&◌, ◌∙◌, ap, IsTrue, refl, sym, subst, true≢false, inl}
 use Rattle.dyadic.specs.Rounding.{Ext, below_all, finite, above_all, end_of, ext_at_most}
-use Rattle.dyadic.specs.Interval.{Interval, between, IsProper, IsLow, IsHigh, lesser_ext, greater_ext}
+use Rattle.dyadic.specs.Interval.{Interval, nothing, between, IsProper, IsLow, IsHigh, lesser_ext, greater_ext}
 use Rattle.dyadic.specs.Calls.{AreAddable}
 use Rattle.dyadic.proofs.Equal.{both_true, both_pass}
 use Rattle.dyadic.proofs.Holds.{lesser_ext_below, greater_ext_above}
@@ -80,3 +80,7 @@ hull_proper l h m k p q = (
     high : (t : Bool) → IsHigh (cond t k h)
     high true = q.2
     high false = p.2
+
+-- what lies between ends that are those of a proper interval
+pub new_is : (l h : Ext) (i : Interval) → between l h ≡ i → IsProper i → cond (ext_at_most l h) (between l h) nothing ≡ i
+new_is l h i e p = ap (λ (t : Bool). cond t (between l h) nothing) (ordered l h (ends_from l h i e p)) ∙ e

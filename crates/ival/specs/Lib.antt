@@ -3,6 +3,8 @@ pub mod Sides
 pub mod Proper
 pub mod Corners
 pub mod RowViews
+pub mod Options
 pub mod SpaceViews
 pub mod WideViews
 pub mod BestViews
+pub mod Narrows

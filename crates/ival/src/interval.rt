@@ -1,11 +1,12 @@
 // Intervals, and the operations that need no product.
-ghost use Rattle.std.specs.Prelude.{◌≡◌, IsTrue, if◌then◌else◌};
-ghost use Rattle.dyadic.specs.Rounding.{exact, down, up, ext_at_most};
+ghost use Rattle.std.specs.Prelude.{◌≡◌, ◌≢◌, MatchOption, IsTrue, if◌then◌else◌};
+ghost use Rattle.dyadic.specs.Rounding.{Dyadic, finite, exact, down, up, ext_at_most};
 ghost use Rattle.dyadic.specs.Interval.{between, nothing, everything, lesser_ext, greater_ext, interval_sum, interval_negated, met, hull, within, holds_fraction, inverse_sum, is_nothing};
 ghost use Rattle.dyadic.specs.Views.{ext_of, dyadic_of, fraction_of_frac};
 ghost use Rattle.ival.specs.Views.{interval_of};
 ghost use Rattle.ival.specs.Proper.{is_low, is_high};
 
+use crate::domain::Range;
 use crate::ends::{Ends, Ival};
 use dyadic::{Dy, Ext, Frac, add_down, add_up, at_most, down_frac, up_frac};
 
@@ -65,7 +66,7 @@ impl Ival {
     }
 
     /// What lies between two ends: nothing where they cross.
-    pub fn between(low: Ext, high: Ext) -> Ival
+    pub fn new(low: Ext, high: Ext) -> Ival
         requires low { IsTrue (is_low (ext_of low)) }
         requires high { IsTrue (is_high (ext_of high)) }
         ensures { interval_of result ≡ (if ext_at_most (ext_of low) (ext_of high) then between (ext_of low) (ext_of high) else nothing) }
@@ -114,6 +115,19 @@ impl Ival {
         match self {
             Ival::Between(a) => Ival::Between(negated_ends(a)),
             Ival::Empty => Ival::Empty,
+        }
+    }
+
+    /// From a number to a number; none where the interval is empty or unbounded.
+    pub fn range(self) -> Option<Range>
+        ensures { MatchOption result ((l h : Dyadic) → interval_of self ≢ between (finite l) (finite h)) (λ r. interval_of self ≡ between (finite (dyadic_of r.low)) (finite (dyadic_of r.high))) }
+    {
+        let Ival::Between(ends) = self else {
+            return None;
+        };
+        match (ends.low, ends.high) {
+            (Ext::Fin(low), Ext::Fin(high)) => Some(Range { low, high }),
+            _ => None,
         }
     }
 

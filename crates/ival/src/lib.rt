@@ -19,6 +19,7 @@ mod space;
 mod tests;
 mod wide;
 mod wide_parts;
+mod word;
 
 pub use domain::{Domain, Range, Truths};
 pub use ends::{Ends, Ival};

@@ -1,12 +1,37 @@
 // Parts of a domain, its middle, and whether it lies within another.
-ghost use Rattle.std.specs.Prelude.{◌≡◌, IsTrue};
-ghost use Rattle.dyadic.specs.Space.{lower_part, upper_part, keep, allows, holds_number, middle_domain, domain_within};
+ghost use Rattle.std.specs.Prelude.{◌≡◌, ◌↔◌, IsTrue};
+ghost use Rattle.dyadic.specs.Space.{real_domain, domain_interval, lower_part, upper_part, keep, allows, holds_number, middle_domain, domain_within};
 ghost use Rattle.dyadic.specs.Rounding.{mid};
 ghost use Rattle.dyadic.specs.Views.{dyadic_of};
+ghost use Rattle.ival.specs.Views.{interval_of};
 ghost use Rattle.ival.specs.SpaceViews.{domain_of};
 
 use crate::domain::{Domain, Range, Truths};
+use crate::ends::{Ends, Ival};
 use dyadic::{Dy, Ext, at_most, mid};
+
+/// The numbers that are left to a Real axis, and nothing of a Bool axis.
+pub fn domain_interval(domain: Domain) -> Ival
+    ensures { interval_of result ≡ domain_interval (domain_of domain) }
+{
+    match domain {
+        Domain::Real(range) => Ival::Between(Ends {
+            low: Ext::Fin(range.low),
+            high: Ext::Fin(range.high),
+        }),
+        Domain::Bool(_) => Ival::Empty,
+    }
+}
+
+/// Whether this range is what is left to an axis.
+pub fn is_range(domain: Domain, range: Range) -> bool
+    ensures { IsTrue result ↔ (domain_of domain ≡ real_domain (dyadic_of range.low) (dyadic_of range.high)) }
+{
+    match domain {
+        Domain::Real(own) => own.low == range.low && own.high == range.high,
+        Domain::Bool(_) => false,
+    }
+}
 
 /// The numbers up to `cut`, which has to be one of them.
 pub fn lower_part(domain: Domain, cut: Dy) -> Domain

@@ -1,13 +1,13 @@
-// Rows as two lists of one length.
-ghost use Rattle.std.specs.Prelude.{◌≡◌, vec_len};
+// Rows as a list of intervals, and words of marks.
+ghost use Rattle.std.specs.Prelude.{◌≡◌, ◌+◌, ◌/◌, vec_len};
 
 use crate::ends::Ival;
 use std::alloc::Global;
 
-/// A row of intervals, with a mark beside each.
+/// A row of intervals, with a mark beside each: bit `k % 64` of word `k / 64` marks place `k`.
 #[derive(Drop)]
 pub struct Rows {
     pub intervals: Vec<Ival, Global>,
-    pub marks: Vec<bool, Global>,
-    pub ghost same_length: { vec_len marks ≡ vec_len intervals },
+    pub words: Vec<u64, Global>,
+    pub ghost enough: { vec_len words ≡ vec_len intervals / 64 + 1 },
 }

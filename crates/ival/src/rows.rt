@@ -1,11 +1,12 @@
 // Rows of intervals, with a mark beside each.
-ghost use Rattle.std.specs.Prelude.{◌≡◌, ℕ, ◌<◌, length, IfOk, false, true, replicate, slice_set, slice_index_or};
+ghost use Rattle.std.specs.Prelude.{◌≡◌, ℕ, ◌+◌, ◌*◌, ◌/◌, ◌<◌, ◌≤◌, length, IfOk, MatchOption, false, true, replicate, slice_set, slice_index_or};
 ghost use Rattle.dyadic.specs.Interval.{nothing};
 ghost use Rattle.ival.specs.Views.{interval_of};
-ghost use Rattle.ival.specs.RowViews.{rows_of, marks_of};
+ghost use Rattle.ival.specs.RowViews.{rows_of, marks_of, is_marked, NoneBelow, NoneAbove, IsNextBelow, IsNextAbove};
 
 use crate::ends::Ival;
 use crate::row_parts::Rows;
+use crate::word::{bits_below, bits_from, has_bit, highest_bit, lowest_bit, with_bit, without_bit};
 use std::alloc::{AllocError, Global};
 
 impl Rows {
@@ -15,8 +16,8 @@ impl Rows {
         ensures marks { IfOk result (λ r. marks_of r ≡ replicate count false) }
     {
         let intervals = vec![in alloc; Ival::Empty; count]?;
-        let marks = vec![in alloc; false; count]?;
-        Ok(Rows { intervals, marks })
+        let words = vec![in alloc; 0; count / 64 + 1]?;
+        Ok(Rows { intervals, words })
     }
 
     /// How many intervals there are.
@@ -49,24 +50,85 @@ impl Rows {
         ensures rows { rows_of self.new ≡ rows_of self.old }
         ensures marks { marks_of self.new ≡ slice_set (marks_of self.old) place true }
     {
-        self.marks[place] = true;
+        let at = place / 64;
+        self.words[at] = with_bit(self.words[at], (place % 64) as u32);
+    }
+
+    /// Takes the mark of this place away.
+    pub fn unmark(&mut self, place: usize)
+        requires { place < length (rows_of self.old) }
+        ensures rows { rows_of self.new ≡ rows_of self.old }
+        ensures marks { marks_of self.new ≡ slice_set (marks_of self.old) place false }
+    {
+        let at = place / 64;
+        self.words[at] = without_bit(self.words[at], (place % 64) as u32);
     }
 
     /// Whether this place is marked.
     pub fn marked(&self, place: usize) -> bool
         requires { place < length (rows_of self.now) }
-        ensures { result ≡ slice_index_or (marks_of self.now) place false }
+        ensures { result ≡ is_marked (marks_of self.now) place }
     {
-        self.marks[place]
+        has_bit(self.words[place / 64], (place % 64) as u32)
     }
 
     /// Takes all marks away.
     pub fn clear_marks(&mut self)
         ensures rows { rows_of self.new ≡ rows_of self.old }
-        ensures marks { (k : ℕ) → slice_index_or (marks_of self.new) k false ≡ false }
+        ensures marks { (k : ℕ) → is_marked (marks_of self.new) k ≡ false }
     {
-        for mark in self.marks.iter_mut() {
-            *mark = false;
+        for word in self.words.iter_mut() {
+            *word = 0;
         }
+    }
+
+    /// The greatest marked place below this one, if there is one.
+    pub fn next_marked_below(&self, place: usize) -> Option<usize>
+        requires { place ≤ length (rows_of self.now) }
+        ensures { MatchOption result (NoneBelow (marks_of self.now) place) (IsNextBelow (marks_of self.now) place) }
+    {
+        let last = place / 64;
+        let word = bits_below(self.words[last], (place % 64) as u32);
+        if word != 0 {
+            return Some(last * 64 + highest_bit(word) as usize);
+        }
+        for at in (0..last).rev() {
+            let word = self.words[at];
+            if word != 0 {
+                return Some(at * 64 + highest_bit(word) as usize);
+            }
+        }
+        None
+    }
+
+    /// The least marked place above this one, if there is one.
+    pub fn next_marked_above(&self, place: usize) -> Option<usize>
+        requires { place < length (rows_of self.now) }
+        ensures { MatchOption result (NoneAbove (marks_of self.now) place) (IsNextAbove (marks_of self.now) place) }
+    {
+        let next = place + 1;
+        let first = next / 64;
+        let word = bits_from(self.words[first], (next % 64) as u32);
+        if word != 0 {
+            return self.within(first, lowest_bit(word));
+        }
+        for at in first + 1..self.words.len() {
+            let word = self.words[at];
+            if word != 0 {
+                return self.within(at, lowest_bit(word));
+            }
+        }
+        None
+    }
+
+    // The place of this bit of this word, if there is such a place.
+    fn within(&self, at: usize, bit: u32) -> Option<usize>
+        requires bit { bit < 64 }
+        requires at { at ≤ length (rows_of self.now) / 64 }
+        ensures { MatchOption result (length (rows_of self.now) ≤ at * 64 + bit) (λ k. (k ≡ at * 64 + bit) × (k < length (rows_of self.now))) }
+    {
+        let len = self.intervals.len();
+        let place = at * 64 + bit as usize;
+        if place < len { Some(place) } else { None }
     }
 }

@@ -1,6 +1,9 @@
 // Spaces: what is left to each axis.
-use crate::domain::Domain;
-use crate::part::{domain_within, kept, lower_part, middle_domain, upper_part};
+use crate::domain::{Domain, Range};
+use crate::ends::Ival;
+use crate::part::{
+    domain_interval, domain_within, is_range, kept, lower_part, middle_domain, upper_part,
+};
 use crate::side_length::with_axis;
 use dyadic::Dy;
 use std::alloc::{AllocError, Global};
@@ -12,10 +15,11 @@ pub struct Space {
 }
 
 impl Space {
-    ghost use Rattle.std.specs.Prelude.{◌≡◌, ℕ, ◌<◌, ◌≤◌, [], ◌∷◌, ◌++◌, length, map, IfOk, IsTrue, slice_set, slice_index_or};
-    ghost use Rattle.dyadic.specs.Space.{changed, test_axis, lower_part, upper_part, keep, allows, holds_number, middle, space_within, widest};
+    ghost use Rattle.std.specs.Prelude.{◌≡◌, ◌≢◌, ℕ, true, false, ◌<◌, ◌≤◌, [], ◌∷◌, ◌++◌, length, map, IfOk, IsTrue, slice_set, slice_index_or};
+    ghost use Rattle.dyadic.specs.Space.{axis_interval, changed, test_axis, lower_part, upper_part, keep, allows, holds_number, middle, space_within, widest};
     ghost use Rattle.dyadic.specs.Views.{dyadic_of};
     ghost use Rattle.ival.specs.SpaceViews.{domain_of, space_of, capacity_of};
+    ghost use Rattle.ival.specs.Views.{interval_of};
     ghost use Rattle.ival.specs.BestViews.{axis_of};
 
     /// A space without axes, with room for so many.
@@ -61,6 +65,33 @@ impl Space {
         ensures room { capacity_of self.new ≡ capacity_of self.old }
     {
         self.axes[axis] = domain;
+    }
+
+    /// The numbers that are left to the axis: none to a Bool axis, and none where there is no such axis.
+    pub fn interval(&self, axis: u32) -> Ival
+        ensures { interval_of result ≡ axis_interval (space_of self.now) axis }
+    {
+        let axis = axis as usize;
+        if axis < self.len() {
+            domain_interval(self.get(axis))
+        } else {
+            Ival::Empty
+        }
+    }
+
+    /// Leaves this range to the axis, and tells whether that is a change.
+    pub fn set_real(&mut self, axis: usize, range: Range) -> bool
+        requires { axis < length (space_of self.old) }
+        ensures axes { space_of self.new ≡ slice_set (space_of self.old) axis (domain_of (Domain.Real range)) }
+        ensures same { result ≡ false → space_of self.new ≡ space_of self.old }
+        ensures changed { result ≡ true → space_of self.new ≢ space_of self.old }
+        ensures room { capacity_of self.new ≡ capacity_of self.old }
+    {
+        if is_range(self.get(axis), range) {
+            return false;
+        }
+        self.set(axis, Domain::Real(range));
+        true
     }
 
     /// Leaves to a Real axis its numbers up to `cut`, which has to be one of them.

@@ -12,7 +12,7 @@ fn span(low: Ext, high: Ext) -> Ival
     requires low { IsTrue (is_low (ext_of low)) }
     requires high { IsTrue (is_high (ext_of high)) }
 {
-    Ival::between(low, high)
+    Ival::new(low, high)
 }
 
 #[test]
@@ -74,8 +74,39 @@ fn rows_are_made(rt: HostRuntime) -> Result<(), Fail> {
     assert_eq!(rt; rows.get(1), Ival::everything());
     assert_eq!(rt; rows.get(2), Ival::Empty);
     assert!(rt; rows.marked(2));
+    assert_eq!(rt; rows.next_marked_above(0), Some(2));
+    assert_eq!(rt; rows.next_marked_below(3), Some(2));
+    rows.mark(1);
+    rows.unmark(2);
+    assert_eq!(rt; rows.next_marked_below(3), Some(1));
     rows.clear_marks();
-    assert!(rt; !rows.marked(2));
+    assert!(rt; !rows.marked(1));
+    Ok(())
+}
+
+#[test]
+fn marks_are_found_word_by_word(rt: HostRuntime) -> Result<(), Fail> {
+    let mut rows = Rows::new(rt.alloc(), 200)?;
+    assert_eq!(rt; rows.next_marked_below(200), None);
+    assert_eq!(rt; rows.next_marked_above(0), None);
+    for place in [0, 63, 64, 130, 199] {
+        if place < rows.len() {
+            rows.mark(place);
+        }
+    }
+    if rows.len() == 200 {
+        assert_eq!(rt; rows.next_marked_below(200), Some(199));
+        assert_eq!(rt; rows.next_marked_below(199), Some(130));
+        assert_eq!(rt; rows.next_marked_below(130), Some(64));
+        assert_eq!(rt; rows.next_marked_below(64), Some(63));
+        assert_eq!(rt; rows.next_marked_below(63), Some(0));
+        assert_eq!(rt; rows.next_marked_below(0), None);
+        assert_eq!(rt; rows.next_marked_above(0), Some(63));
+        assert_eq!(rt; rows.next_marked_above(63), Some(64));
+        assert_eq!(rt; rows.next_marked_above(64), Some(130));
+        assert_eq!(rt; rows.next_marked_above(130), Some(199));
+        assert_eq!(rt; rows.next_marked_above(199), None);
+    }
     Ok(())
 }
 
@@ -87,6 +118,11 @@ fn spaces_are_made(rt: HostRuntime) -> Result<(), Fail> {
     space.push(Domain::Real(unit));
     assert_eq!(rt; space.len(), 2);
     assert_eq!(rt; space.widest(), Some(1));
+    assert_eq!(rt; space.interval(0), Ival::Empty);
+    assert_eq!(rt; space.interval(1).range(), Some(unit));
+    assert_eq!(rt; Ival::everything().range(), None);
+    assert!(rt; !space.set_real(1, unit));
+    assert!(rt; space.set_real(1, Range::between(Dy::ZERO, pow2(1)).ok_or("crossed")?));
     let mut copy = space.try_clone(rt.alloc())?;
     assert_eq!(rt; copy.len(), 2);
     assert!(rt; copy.within(&space));

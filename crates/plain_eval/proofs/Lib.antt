@@ -1,4 +1,2 @@
-pub mod Axis
 pub mod Filling
-pub mod Optional
 pub mod Parents

@@ -6,7 +6,7 @@ ghost use Rattle.poly_graph.specs.Narrowed.{has_child, if_child, left_by, from_p
 ghost use Rattle.poly_graph.specs.Views.{node_of};
 ghost use Rattle.ival.specs.Views.{interval_of};
 ghost use Rattle.ival.specs.RowViews.{rows_of};
-ghost use Rattle.plain_eval.specs.Options.{option_of};
+ghost use Rattle.ival.specs.Options.{option_of};
 
 use ival::{Ival, Rows};
 use poly_graph::{Node, is_parent};

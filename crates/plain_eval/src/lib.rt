@@ -6,7 +6,6 @@ mod enclosing;
 mod evaluate;
 mod left;
 mod narrowing;
-mod ranges;
 mod scratch;
 mod subterms;
 #[cfg(test)]

@@ -6,14 +6,13 @@ ghost use Rattle.poly_graph.specs.Narrowed.{enclosures, narrowed_by};
 ghost use Rattle.poly_graph.specs.Views.{kind_of};
 ghost use Rattle.ival.specs.RowViews.{rows_of};
 ghost use Rattle.ival.specs.SpaceViews.{space_of};
-ghost use Rattle.plain_eval.specs.Narrows.{IsNarrowed};
+ghost use Rattle.ival.specs.Narrows.{IsNarrowed};
 
 use crate::axes::narrow_axes;
 use crate::enclosing::enclose;
-use crate::ranges::kind_range;
 use crate::scratch::some_empty;
 use crate::subterms::narrow_rows;
-use ival::{Narrowed, Rows, Space};
+use ival::{Ival, Narrowed, Rows, Space};
 use poly_graph::{Atom, Graph};
 
 /// Leaves of the space what an atom leaves of it that holds but for 2 to the power of minus `loosen`, and tells
@@ -35,7 +34,8 @@ pub fn narrow_plain(
     ensures rows { rows_of rows.new ≡ enclosures (space_of space.old) graph.now }
     ensures scratch { length (rows_of scratch.new) ≡ length graph.now }
 {
-    let range = kind_range(atom.kind, loosen);
+    let (low, high) = atom.kind.ends(loosen);
+    let range = Ival::new(low, high);
     let last = graph.len() - 1;
     let _ = enclose(graph, last as u32, space, rows);
     narrow_rows(graph, atom.term, range, rows, scratch);

@@ -4,7 +4,7 @@ ghost use Rattle.std.proofs.Common.{drop};
 ghost use Rattle.poly_graph.specs.Narrowed.{from_parents, own, narrowed};
 ghost use Rattle.ival.specs.Views.{interval_of};
 ghost use Rattle.ival.specs.RowViews.{rows_of};
-ghost use Rattle.plain_eval.specs.Options.{option_of, options_of};
+ghost use Rattle.ival.specs.Options.{option_of, options_of};
 
 use crate::left::with_parent;
 use crate::scratch::{get, put};

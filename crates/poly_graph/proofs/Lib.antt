@@ -1,4 +1,5 @@
 pub mod Atoms
+pub mod Axes
 pub mod Bools
 pub mod Clones
 pub mod Encloses
@@ -13,16 +14,19 @@ pub mod May
 pub mod Meets
 pub mod Middle
 pub mod Narrows
+pub mod NarrowedAt
 pub mod NodeEnclosures
 pub mod Proved
+pub mod Ranges
 pub mod Root
 pub mod Rows
 pub mod Run
 pub mod Same
 pub mod Shared
 pub mod SharedForm
+pub mod Shown
 pub mod Sound
-mod Smallest
+pub mod Smallest
 pub mod Stuck
 pub mod Tables
 pub mod Upwards

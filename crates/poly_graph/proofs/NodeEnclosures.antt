@@ -1,5 +1,5 @@
 -- The enclosures of a graph's nodes, one after the other.
-use Rattle.std.proofs.Common.{◌≡◌, ℕ, suc, zero, ◌+◌, ◌<◌, ◌≤◌, List, [], ◌∷◌, IsTrue, Some, refl, ap, ap₂, sym, ◌∙◌, subst, length, arith, slice_index_or, nat_lt, ltb→lt}
+use Rattle.std.proofs.Common.{◌≡◌, ℕ, suc, zero, ◌+◌, ◌<◌, ◌≤◌, List, [], ◌∷◌, IsTrue, Some, refl, ap, ap₂, sym, ◌∙◌, subst, length, arith, nat_lt, ltb→lt}
 use Rattle.std.proofs.lemmas.List.{get_or-map, ext_get_or, length-map}
 use Rattle.std.proofs.lemmas.Bool.{lt-ltb}
 use Rattle.std.specs.Prelude.{slice_get}
@@ -8,7 +8,7 @@ use Rattle.dyadic.specs.Fraction.{zero_fraction}
 use Rattle.dyadic.specs.Interval.{Interval, nothing, interval_negated, interval_sum, interval_product, interval_square}
 use Rattle.dyadic.proofs.Equal.{both_true, both_pass}
 use Rattle.poly_graph.specs.Term.{Term, constant, Node, constant_node, variable_node, negate_node, add_node, multiply_node, square_node, node_term, graph_terms, comes_after, in_order}
-use Rattle.poly_graph.specs.Space.{Domain, Space, domain_interval, axis_interval, enclosure}
+use Rattle.poly_graph.specs.Space.{Space, enclosure}
 use Rattle.poly_graph.specs.Narrowed.{enclosures}
 use Rattle.poly_graph.specs.NodeEnclosure.{row, node_enclosure}
 use Rattle.poly_graph.proofs.Graphs.{term_at, unfolds, length_terms, some_is}
@@ -62,15 +62,3 @@ next_row space nodes o es k n e f = let h = order_at 0 nodes o k n e in
 -- rows that agree with the enclosures in each place are the enclosures
 pub all_rows : (space : Space) (nodes : List Node) (es : List Interval) → length es ≡ length nodes → ((i : ℕ) → i < length nodes → row es i ≡ row (enclosures space nodes) i) → es ≡ enclosures space nodes
 all_rows space nodes es l f = ext_get_or nothing es (enclosures space nodes) (l ∙ sym (length_enclosures space nodes)) (λ i h. f i (omega (arith, l)))
-
--- ---- axes by number
-
-pub axis_at : (space : Space) (k : ℕ) (d : Domain) → k < length space → axis_interval space k ≡ domain_interval (slice_index_or space k d)
-axis_at [] k d h = absurd (omega arith)
-axis_at (d' ∷ space) zero d h = refl
-axis_at (d' ∷ space) (suc k) d h = axis_at space k d (omega arith)
-
-pub past_axes : (space : Space) (k : ℕ) → length space ≤ k → axis_interval space k ≡ nothing
-past_axes [] k h = refl
-past_axes (d ∷ space) zero h = absurd (omega arith)
-past_axes (d ∷ space) (suc k) h = past_axes space k (omega arith)

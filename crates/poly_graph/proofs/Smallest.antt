@@ -1,9 +1,8 @@
 -- A problem without axes and atoms, whose form is true.
-use Rattle.std.proofs.Common.{◌≡◌, ◌⊎◌, inl, inr, ℕ, zero, suc, List, [], ◌∷◌, ◌++◌, length, refl, sym, ap, subst, ◌∙◌, arith, lit<, Some, None, slice_get}
+use Rattle.std.proofs.Common.{◌≡◌, inl, inr, ℕ, zero, suc, List, [], ◌∷◌, ◌++◌, length, refl, sym, ap, subst, ◌∙◌, arith, Some, slice_get}
 use Rattle.std.proofs.lemmas.Option.{none-some}
 use Rattle.poly_graph.specs.FormGraph.{FormNode, yes_node, FormInterned}
-use Rattle.poly_graph.specs.Problem.{IsProblem}
-use Rattle.poly_graph.specs.ProblemViews.{Parts, problem_of, IsWhole}
+use Rattle.poly_graph.specs.ProblemViews.{Parts, IsWhole}
 
 abbrev small : List FormNode → ℕ → Parts
 small forms root = record { axes = []; nodes = []; atoms = []; forms = forms; root = root }

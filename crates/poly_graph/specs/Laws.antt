@@ -8,7 +8,8 @@ use Rattle.poly_graph.specs.Term.{Term, constant, term_value, Node, in_order, gr
 use Rattle.poly_graph.specs.FormGraph.{FormNode, forms_in_order, form_at, graph_forms, node_form}
 use Rattle.poly_graph.specs.Space.{Space, in_space, is_upright, IsGridSpace, enclosure, range}
 use Rattle.poly_graph.specs.Problem.{Problem, IsProblem, IsTerm, sorts_of_problem, atom_at, full_atom, in_declared_box, root_space, crosses}
-use Rattle.poly_graph.specs.State.{Mark, State, Loosenings, root_state, marks_of, yes_of, no_of, may, sure_within, IsPointOf, MeetsForm, MeetsAt, IsLemma, space_within, covers}
+use Rattle.poly_graph.specs.State.{Mark, State, Loosenings, root_state, marks_of, yes_of, no_of, delta_of, may, sure_within, IsPointOf, MeetsForm, MeetsAt, IsLemma, space_within, covers}
+use Rattle.poly_graph.specs.Fits.{IsShownAt, coordinates}
 use Rattle.poly_graph.specs.Narrowed.{narrowed_by}
 use Rattle.poly_graph.specs.Rules.{Line, rule, is_stuck_atom}
 use Rattle.poly_graph.specs.Honest.{middle, not_shown, is_small, none_below}
@@ -52,6 +53,11 @@ MayIsTrue = (p : Problem) → IsProblem p → (s : Loosenings) (S : State) (poin
 abbrev pub SureMeans : Type 0
 SureMeans = (p : Problem) → IsProblem p → (space : Space) (point : List Coordinate) → IsPoint (sorts_of_problem p) point → IsTrue (in_space space point) →
     (bits : ℕ) → IsTrue (sure_within p (two_to_minus bits) space) → MeetsAt p (two_to_minus bits) point
+
+-- A point that is shown meets the form at delta.
+abbrev pub ShownPointMeets : Type 0
+ShownPointMeets = (p : Problem) → IsProblem p → (s : Loosenings) (space : Space) → IsShownAt p s space →
+    IsPoint (sorts_of_problem p) (coordinates space) × MeetsAt p (delta_of s) (coordinates space)
 
 -- A point of a state that meets the form is a point of some state that a rule leaves.
 abbrev pub RuleKeeps : Type 0

@@ -1,5 +1,7 @@
 pub mod AtomTable
+pub mod AxisStep
 pub mod Derivation
+pub mod Fits
 pub mod Form
 pub mod FormGraph
 pub mod FormViews

@@ -1,6 +1,6 @@
 //! What is proved of the definitions: each function here does nothing, and its contract is a law.
 
-ghost use Rattle.poly_graph.specs.Laws.{NodeIsItsKind, EqualNodesAgree, EnclosureHolds, EnclosureIsIsotone, NarrowingKeeps, NarrowingLiesWithin, MayIsTrue, SureMeans, RuleKeeps, TreeKeeps, ClosedTreeHasNone, RuleLiesWithin, TreeLiesWithin, CoveredPoints, RootHasDeclaredBox, CrossedBoxIsEmpty, MarksOfLists, MiddleLiesWithin, RootIsUpright, SomeAtomIsStuck, FormNodeIsItsKind};
+ghost use Rattle.poly_graph.specs.Laws.{NodeIsItsKind, EqualNodesAgree, EnclosureHolds, EnclosureIsIsotone, NarrowingKeeps, NarrowingLiesWithin, MayIsTrue, SureMeans, ShownPointMeets, RuleKeeps, TreeKeeps, ClosedTreeHasNone, RuleLiesWithin, TreeLiesWithin, CoveredPoints, RootHasDeclaredBox, CrossedBoxIsEmpty, MarksOfLists, MiddleLiesWithin, RootIsUpright, SomeAtomIsStuck, FormNodeIsItsKind};
 
 /// In a graph whose children come first, a node's term is that of its kind over its children's terms.
 pub fn node_is_its_kind()
@@ -40,6 +40,11 @@ pub fn may_is_true()
 /// Where `sure` holds over a space, each of its points meets the form at that loosening.
 pub fn sure_holds()
     ensures { SureMeans }
+{}
+
+/// A point that is shown meets the form at delta.
+pub fn shown_points_meet()
+    ensures { ShownPointMeets }
 {}
 
 /// A point of a state that meets the form is a point of some state that a rule leaves.

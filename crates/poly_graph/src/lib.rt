@@ -3,6 +3,7 @@
 
 mod atom_table;
 mod axis;
+mod ends;
 mod form_graph;
 mod form_node;
 mod graph;

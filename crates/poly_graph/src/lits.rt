@@ -1,5 +1,5 @@
 // What is said of each atom: it holds, it does not, or neither.
-ghost use Rattle.std.specs.Prelude.{◌≡◌, ℕ, ◌<◌, ◌^◌, length, replicate, IfOk, IsTrue, slice_set, ◌↔◌};
+ghost use Rattle.std.specs.Prelude.{◌≡◌, ℕ, ◌<◌, ◌^◌, length, map, replicate, IfOk, IsTrue, slice_set, ◌↔◌};
 ghost use Rattle.poly_graph.specs.State.{unmarked, mark_at};
 ghost use Rattle.poly_graph.specs.MarkViews.{mark_of};
 
@@ -45,6 +45,13 @@ impl Lits {
         ensures { IsTrue result ↔ (length self.now ≡ 0) }
     {
         self.marks.is_empty()
+    }
+
+    /// The marks, by atom.
+    pub fn marks(&self) -> &[Mark]
+        ensures { map mark_of result.now ≡ self.now }
+    {
+        &self.marks
     }
 
     /// The mark of atom j.

@@ -56,28 +56,32 @@ impl Problem {
 
     /// The shared graph of the terms.
     pub fn graph(&self) -> &Graph
-        ensures { result.now ≡ self.now.nodes }
+        ensures graph { result.now ≡ self.now.nodes }
+        ensures whole { IsWhole self.now }
     {
         &self.graph
     }
 
     /// The atoms, by number.
     pub fn atoms(&self) -> &[Atom]
-        ensures { map atom_of result.now ≡ self.now.atoms }
+        ensures atoms { map atom_of result.now ≡ self.now.atoms }
+        ensures whole { IsWhole self.now }
     {
         &self.atoms
     }
 
     /// The shared form.
     pub fn forms(&self) -> &FormGraph
-        ensures { result.now ≡ self.now.forms }
+        ensures forms { result.now ≡ self.now.forms }
+        ensures whole { IsWhole self.now }
     {
         &self.forms
     }
 
     /// The number of the form's root.
     pub fn root(&self) -> u32
-        ensures { result ≡ self.now.root }
+        ensures root { result ≡ self.now.root }
+        ensures whole { IsWhole self.now }
     {
         self.root
     }

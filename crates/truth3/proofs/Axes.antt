@@ -1,9 +1,5 @@
--- Bool axes by number, and the ends of a range.
-use Rattle.std.proofs.Common.{◌≡◌, ℕ, zero, suc, ◌<◌, ◌≤◌, [], ◌∷◌, length, get_or, Bool, false, refl, ap, arith, IsTrue}
-use Rattle.std.proofs.lemmas.Int.{ints}
-use Rattle.dyadic.specs.Rounding.{Dyadic, finite, two_to_minus, ext_at_most}
-use Rattle.dyadic.specs.Interval.{negated_dyadic}
-use Rattle.dyadic.proofs.Rounds.{exact_from}
+-- Bool axes by number.
+use Rattle.std.proofs.Common.{◌≡◌, ℕ, zero, suc, ◌<◌, ◌≤◌, [], ◌∷◌, length, get_or, Bool, false, refl, arith}
 use Rattle.dyadic.specs.Space.{Domain, Space, allows}
 use Rattle.poly_graph.specs.State.{domain_allows}
 
@@ -16,6 +12,3 @@ pub none_past : (space : Space) (axis : ℕ) (v : Bool) → length space ≤ axi
 none_past [] axis v h = refl
 none_past (e ∷ space) zero v h = absurd (omega arith)
 none_past (e ∷ space) (suc axis) v h = none_past space axis v (omega arith)
-
-pub margin_ends : (k : ℕ) (a b : Dyadic) → b ≡ two_to_minus k → a ≡ negated_dyadic b → IsTrue (ext_at_most (finite a) (finite b))
-margin_ends k a b e f = let g = ap (λ (d : Dyadic). d.units) e in let h = ap (λ (d : Dyadic). d.units) f in exact_from a b (omega (arith, ints, g, h))

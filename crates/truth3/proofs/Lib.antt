@@ -1,4 +1,5 @@
 pub mod Axes
+pub mod InYes
 pub mod FormTruth
 pub mod Roots
 mod Smallest

@@ -1,2 +1,3 @@
+pub mod Conjuncts
 pub mod Roots
 pub mod Truth

@@ -1,15 +1,26 @@
 // The truth of atoms over a space.
 ghost use Rattle.std.specs.Prelude.{◌≡◌, ◌<◌, ◌≤◌, length};
 ghost use Rattle.dyadic.specs.Rounding.{two_to_minus};
+ghost use Rattle.poly_graph.specs.Space.{range};
+ghost use Rattle.poly_graph.specs.Views.{kind_of};
 ghost use Rattle.poly_graph.specs.State.{may_atom, sure_at};
 ghost use Rattle.poly_graph.specs.ProblemViews.{problem_of};
+ghost use Rattle.ival.specs.Views.{interval_of};
 ghost use Rattle.ival.specs.RowViews.{rows_of};
 ghost use Rattle.ival.specs.SpaceViews.{space_of};
 ghost use Rattle.truth3.specs.Truth.{HasRows, of_atoms, pruning, state_of};
 
-use crate::leaves::kind_range;
-use ival::{Rows, Space};
-use poly_graph::{Lits, Mark, Problem};
+use ival::{Ival, Rows, Space};
+use poly_graph::{Kind, Lits, Mark, Problem};
+
+// The range of a kind, loosened by 2 to the power of minus `loosen`.
+fn kind_range(kind: Kind, loosen: u32) -> Ival
+    requires { loosen ≤ 120 }
+    ensures { interval_of result ≡ range (two_to_minus loosen) (kind_of kind) }
+{
+    let (low, high) = kind.ends(loosen);
+    Ival::new(low, high)
+}
 
 /// Whether the atom may hold at a point of the space with these marks; not where there is no such atom.
 pub fn may_atom(

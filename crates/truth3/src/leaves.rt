@@ -1,39 +1,10 @@
-// The truth of atoms and of Bool values over a space.
-ghost use Rattle.std.specs.Prelude.{◌≡◌, ◌<◌, ◌≤◌, length};
-ghost use Rattle.dyadic.specs.Rounding.{two_to_minus};
-ghost use Rattle.poly_graph.specs.Space.{range};
+// The truth of Bool values over a space.
+ghost use Rattle.std.specs.Prelude.{◌≡◌};
 ghost use Rattle.poly_graph.specs.State.{domain_allows, domain_is};
 ghost use Rattle.dyadic.specs.Space.{allows};
-ghost use Rattle.poly_graph.specs.Views.{kind_of};
-ghost use Rattle.ival.specs.Views.{interval_of};
 ghost use Rattle.ival.specs.SpaceViews.{space_of, domain_of};
 
-use dyadic::{Ext, two_to_minus};
-use ival::{Domain, Ends, Ival, Space, Truths};
-use poly_graph::Kind;
-
-/// The range of a kind, loosened by 2 to the power of minus `loosen`.
-pub fn kind_range(kind: Kind, loosen: u32) -> Ival
-    requires { loosen ≤ 120 }
-    ensures { interval_of result ≡ range (two_to_minus loosen) (kind_of kind) }
-{
-    let margin = two_to_minus(loosen);
-    let least = margin.neg();
-    match kind {
-        Kind::Le => Ival::Between(Ends {
-            low: Ext::NegInf,
-            high: Ext::Fin(margin),
-        }),
-        Kind::Ge => Ival::Between(Ends {
-            low: Ext::Fin(least),
-            high: Ext::PosInf,
-        }),
-        Kind::Eq => Ival::Between(Ends {
-            low: Ext::Fin(least),
-            high: Ext::Fin(margin),
-        }),
-    }
-}
+use ival::{Domain, Space, Truths};
 
 // Whether the value is left to a Bool domain.
 fn allows(domain: Domain, value: bool) -> bool

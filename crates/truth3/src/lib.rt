@@ -2,6 +2,7 @@
 #![tactic(auto)]
 
 mod atoms;
+mod conjuncts;
 mod leaves;
 mod marks;
 mod nodes;
@@ -10,6 +11,8 @@ mod surely;
 #[cfg(test)]
 mod tests;
 
+pub use atoms::{may_atom, sure_atom};
+pub use conjuncts::conjuncts_in_yes;
 pub use marks::{Marks, may};
 pub use root::{Root, root_space};
 pub use surely::sure;

@@ -8,7 +8,7 @@ use std::alloc::{AllocError, Global};
 use std::test::Fail;
 
 // A problem without axes and atoms, whose form is true.
-#[tactic(auto, using(crate::proofs::Smallest::smallest))]
+#[tactic(auto, using(poly_graph::proofs::Smallest::smallest))]
 fn smallest(alloc: Global) -> Result<Problem, NoNode>
     ensures nodes { IfOk result (λ p. p.nodes ≡ []) }
     ensures atoms { IfOk result (λ p. p.atoms ≡ []) }

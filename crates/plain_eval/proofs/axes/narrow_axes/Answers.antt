@@ -1,22 +1,18 @@
 use Rattle.std.proofs.Common.{◌≡◌, ℕ, ◌+◌, ◌-◌, ◌<◌, ◌∙◌, length, drop, ap, sym, subst, arith, refl}
-use Rattle.std.proofs.lemmas.List.{length-map}
 use Rattle.poly_graph.specs.Narrowed.{with_axes}
 use Rattle.poly_graph.specs.Views.{node_of}
-use Rattle.ival.specs.Views.{interval_of}
-use Rattle.ival.specs.RowViews.{rows_of, marks_of}
 use Rattle.ival.specs.SpaceViews.{space_of}
-use Rattle.plain_eval.specs.Options.{option_of, options_of}
-use Rattle.plain_eval.specs.Narrows.{axis_step}
-use Rattle.plain_eval.proofs.Optional.{length_options}
-use Rattle.plain_eval.proofs.Axis.{axes_next, axes_back}
+use Rattle.ival.specs.Options.{option_of, options_of}
+use Rattle.poly_graph.specs.AxisStep.{axis_step}
+use Rattle.ival.proofs.Optional.{length_options}
+use Rattle.poly_graph.proofs.Axes.{axes_next, axes_back}
 use Rattle.plain_eval.proofs.axes.narrow_axes.Goals as goal
 
 pub loop-n-preserved-then-narrow_axis : goal.loop-n-preserved-then-narrow_axis
 loop-n-preserved-then-narrow_axis c =
     let n = c.loop-n.n - 1 in let nodes = c.args.graph.now in let r = c.args.scratch.now in let opts = options_of r in let start = space_of c.args.space.now in
     let space = space_of c.loop-n.space in let new = space_of c.narrow_axis.new.space in let node = node_of c.node.result in let o = option_of c.get.result in
-    let same : length (marks_of r) ≡ length (rows_of r) = omega (arith, length-map r.intervals.items interval_of, r.same_length) in
-    let inside : n < length opts = omega (arith, length_options (marks_of r) (rows_of r) same, c.loop-n.invariant.inside, c.loop-n-test.true, c.requires) in
+    let inside : n < length opts = omega (arith, length_options r, c.loop-n.invariant.inside, c.loop-n-test.true, c.requires) in
     let next : c.loop-n.n ≡ n + 1 = omega (arith, c.loop-n-test.true) in
     let axes = subst (λ (k : ℕ). space ≡ with_axes (drop k nodes) (drop k opts) start) next c.loop-n.invariant.axes in
     record {
@@ -31,8 +27,7 @@ pub loop-n-preserved : goal.loop-n-preserved
 loop-n-preserved c =
     let n = c.loop-n.n - 1 in let nodes = c.args.graph.now in let r = c.args.scratch.now in let opts = options_of r in let start = space_of c.args.space.now in
     let space = space_of c.loop-n.space in let node = node_of c.node.result in let o = option_of c.get.result in
-    let same : length (marks_of r) ≡ length (rows_of r) = omega (arith, length-map r.intervals.items interval_of, r.same_length) in
-    let inside : n < length opts = omega (arith, length_options (marks_of r) (rows_of r) same, c.loop-n.invariant.inside, c.loop-n-test.true, c.requires) in
+    let inside : n < length opts = omega (arith, length_options r, c.loop-n.invariant.inside, c.loop-n-test.true, c.requires) in
     let next : c.loop-n.n ≡ n + 1 = omega (arith, c.loop-n-test.true) in
     let axes = subst (λ (k : ℕ). space ≡ with_axes (drop k nodes) (drop k opts) start) next c.loop-n.invariant.axes in
     record {

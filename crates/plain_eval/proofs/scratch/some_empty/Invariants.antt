@@ -1,6 +1,6 @@
 use Rattle.std.proofs.Common.{◌≡◌, drop}
 use Rattle.poly_graph.specs.Narrowed.{some_empty}
-use Rattle.plain_eval.specs.Options.{options_of}
+use Rattle.ival.specs.Options.{options_of}
 use Rattle.plain_eval.proofs.scratch.some_empty.Given as goal
 
 -- what is left to look at decides

@@ -1,13 +1,11 @@
 use Rattle.std.proofs.Common.{◌≡◌, ℕ, ◌+◌, ◌-◌, ◌<◌, ◌≤◌, ◌∙◌, length, drop, subst, arith}
-use Rattle.std.proofs.lemmas.List.{length-map}
 use Rattle.poly_graph.specs.Narrowed.{from_parents}
 use Rattle.poly_graph.specs.Views.{node_of}
 use Rattle.poly_graph.proofs.NodeEnclosures.{comes_at, comes_later}
-use Rattle.ival.specs.Views.{interval_of}
-use Rattle.ival.specs.RowViews.{rows_of, marks_of}
-use Rattle.plain_eval.specs.Options.{option_of, options_of}
-use Rattle.plain_eval.proofs.Optional.{length_options}
-use Rattle.plain_eval.proofs.Parents.{parents_step}
+use Rattle.ival.specs.RowViews.{rows_of}
+use Rattle.ival.specs.Options.{option_of, options_of}
+use Rattle.ival.proofs.Optional.{length_options}
+use Rattle.poly_graph.proofs.NarrowedAt.{parents_step}
 use Rattle.plain_eval.proofs.subterms.left_by_all.Goals as goal
 
 pub with_parent-left-requires-clause-order : goal.with_parent-left-requires-clause-order
@@ -19,8 +17,7 @@ with_parent-left-requires-clause-order c =
 pub loop-p-preserved : goal.loop-p-preserved
 loop-p-preserved c =
     let n = c.loop-p.p - 1 in let nodes = c.args.graph.now in let r = c.args.scratch.now in let opts = options_of r in let es = rows_of c.args.rows.now in let s = c.args.s in
-    let same : length (marks_of r) ≡ length (rows_of r) = omega (arith, length-map r.intervals.items interval_of, r.same_length) in
-    let inside : n < length opts = omega (arith, length_options (marks_of r) (rows_of r) same, c.loop-p.invariant.inside, c.loop-p.invariant.above, c.loop-p-test.true, c.requires.scratch) in
+    let inside : n < length opts = omega (arith, length_options r, c.loop-p.invariant.inside, c.loop-p.invariant.above, c.loop-p-test.true, c.requires.scratch) in
     let next : c.loop-p.p ≡ n + 1 = omega (arith, c.loop-p-test.true) in
     let left = subst (λ (k : ℕ). option_of c.loop-p.left ≡ from_parents es s (drop k nodes) (drop k opts)) next c.loop-p.invariant.left in
     record {

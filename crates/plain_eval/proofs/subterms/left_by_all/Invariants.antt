@@ -1,7 +1,7 @@
 use Rattle.std.proofs.Common.{◌≡◌, ◌+◌, ◌≤◌, length, drop}
 use Rattle.poly_graph.specs.Narrowed.{from_parents}
 use Rattle.ival.specs.RowViews.{rows_of}
-use Rattle.plain_eval.specs.Options.{option_of, options_of}
+use Rattle.ival.specs.Options.{option_of, options_of}
 use Rattle.plain_eval.proofs.subterms.left_by_all.Given as goal
 
 -- what the parents from p on leave

@@ -1,19 +1,18 @@
 use Rattle.std.proofs.Common.{◌≡◌, ℕ, ◌+◌, ◌-◌, ◌<◌, ◌≤◌, ◌∙◌, length, drop, ap, sym, subst, arith}
-use Rattle.std.proofs.lemmas.List.{length-map}
 use Rattle.poly_graph.specs.Narrowed.{narrowed}
 use Rattle.ival.specs.Views.{interval_of}
-use Rattle.ival.specs.RowViews.{rows_of, marks_of}
-use Rattle.plain_eval.specs.Options.{option_of, options_of}
-use Rattle.plain_eval.proofs.Optional.{length_options, drop_all}
-use Rattle.plain_eval.proofs.Parents.{length_narrowed, narrow_step}
+use Rattle.ival.specs.RowViews.{rows_of}
+use Rattle.ival.specs.Options.{option_of, options_of}
+use Rattle.ival.proofs.Optional.{length_options, drop_all}
+use Rattle.poly_graph.proofs.NarrowedAt.{length_narrowed}
+use Rattle.plain_eval.proofs.Parents.{narrow_step}
 use Rattle.plain_eval.proofs.subterms.narrow_rows.Goals as goal
 
 pub loop-s-init : goal.loop-s-init
 loop-s-init c =
     let r = c.clear_marks.new.self in let nodes = c.args.graph.now in let es = rows_of c.args.rows.now in let range = interval_of c.args.range in
-    let same : length (marks_of r) ≡ length (rows_of r) = omega (arith, length-map r.intervals.items interval_of, r.same_length) in
     let count : length (rows_of r) ≡ length nodes = ap length c.clear_marks.ensures.rows ∙ c.requires.scratch in
-    let opts : length (options_of r) ≤ c.len-s.result = omega (arith, length_options (marks_of r) (rows_of r) same, c.len-s.ensures.len, count) in
+    let opts : length (options_of r) ≤ c.len-s.result = omega (arith, length_options r, c.len-s.ensures.len, count) in
     let ns : length (narrowed nodes es c.args.root range) ≤ c.len-s.result = omega (arith, length_narrowed es c.args.root range 0 nodes, c.len-s.ensures.len) in
     record {
       inside = omega (arith, c.len-s.ensures.len);
@@ -25,9 +24,8 @@ loop-s-init c =
 pub loop-s-preserved : goal.loop-s-preserved
 loop-s-preserved c =
     let n = c.loop-s.s - 1 in let nodes = c.args.graph.now in let r = c.loop-s.scratch in let es = rows_of c.args.rows.now in let range = interval_of c.args.range in
-    let same : length (marks_of r) ≡ length (rows_of r) = omega (arith, length-map r.intervals.items interval_of, r.same_length) in
     let inside-nodes : n < length nodes = omega (arith, c.loop-s.invariant.inside, c.loop-s-test.true) in
-    let inside : n < length (options_of r) = omega (arith, length_options (marks_of r) (rows_of r) same, c.loop-s.invariant.count, inside-nodes) in
+    let inside : n < length (options_of r) = omega (arith, length_options r, c.loop-s.invariant.count, inside-nodes) in
     let next : c.loop-s.s ≡ n + 1 = omega (arith, c.loop-s-test.true) in
     let done = subst (λ (k : ℕ). drop k (options_of r) ≡ drop k (narrowed nodes es c.args.root range)) next c.loop-s.invariant.done in
     record {

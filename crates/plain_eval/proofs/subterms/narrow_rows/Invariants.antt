@@ -1,8 +1,8 @@
 use Rattle.std.proofs.Common.{◌≡◌, ℕ, ◌<◌, ◌≤◌, length, drop, false}
 use Rattle.poly_graph.specs.Narrowed.{narrowed}
 use Rattle.ival.specs.Views.{interval_of}
-use Rattle.ival.specs.RowViews.{rows_of, marks_of}
-use Rattle.plain_eval.specs.Options.{options_of, is_marked}
+use Rattle.ival.specs.RowViews.{rows_of, marks_of, is_marked}
+use Rattle.ival.specs.Options.{options_of}
 use Rattle.plain_eval.proofs.subterms.narrow_rows.Given as goal
 
 -- the nodes from s on are narrowed, and those before it have no interval yet

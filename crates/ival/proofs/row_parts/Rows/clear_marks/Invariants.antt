@@ -1,5 +1,5 @@
-use Rattle.std.proofs.Common.{◌≡◌, ℕ, ◌<◌, false, get_or}
+use Rattle.std.proofs.Common.{◌≡◌, ℕ, ◌<◌, get_or}
 use Rattle.ival.proofs.row_parts.Rows.clear_marks.Given as goal
 
-abbrev pub invariant-loop-mark : goal.invariant-loop-mark
-invariant-loop-mark l = (k : ℕ) → k < l.mark-index → get_or l.mark-items k false ≡ false
+abbrev pub invariant-loop-word : goal.invariant-loop-word
+invariant-loop-word l = (k : ℕ) → k < l.word-index → get_or l.word-items k 0 ≡ 0
