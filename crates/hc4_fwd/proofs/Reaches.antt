@@ -11,7 +11,8 @@ use Rattle.poly_graph.specs.Space.{Domain, Space}
 use Rattle.poly_graph.specs.Narrowed.{enclosures}
 use Rattle.poly_graph.specs.NodeEnclosure.{row, node_enclosure}
 use Rattle.poly_graph.proofs.NodeEnclosures.{comes_at, next_row}
-use Rattle.hc4_fwd.specs.Reached.{is_marked, is_reached, SameBut}
+use Rattle.ival.specs.RowViews.{is_marked}
+use Rattle.hc4_fwd.specs.Reached.{is_reached, SameBut}
 
 neither : (a b : Bool) → (a || b) ≡ false → (a ≡ false) × (b ≡ false)
 neither true b h = cc

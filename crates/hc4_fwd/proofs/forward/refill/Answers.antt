@@ -1,9 +1,8 @@
 use Rattle.std.proofs.Common.{◌+◌, ◌<◌, ◌≤◌, ◌∙◌, length, arith, ap, sym, subst, refl}
-use Rattle.std.proofs.lemmas.List.{length-map}
 use Rattle.ival.specs.declared.row_parts.Rows.{Rows}
 use Rattle.poly_graph.specs.Views.{node_of}
 use Rattle.poly_graph.proofs.NodeEnclosures.{comes_at, comes_later, length_enclosures, all_rows}
-use Rattle.ival.specs.Views.{interval_of}
+use Rattle.ival.proofs.MarkWords.{length_marks}
 use Rattle.ival.specs.RowViews.{rows_of, marks_of}
 use Rattle.ival.specs.SpaceViews.{space_of}
 use Rattle.hc4_fwd.proofs.Reaches.{Renewed, passed_by, renewed_at}
@@ -35,7 +34,7 @@ loop-place-preserved c =
     let nodes = c.args.graph.now in let space = space_of c.args.space.now in let n = c.loop-place.place in let es = rows_of c.loop-place.rows in let marks = marks_of c.loop-place.rows in
     let start = rows_of c.clear_marks.new.self in let node = node_of c.node-node.result in
     let inside : n < length es = omega (arith, c.loop-place-test.true, c.loop-place.invariant.count, c.len-place-end.ensures.len) in
-    let inside-marks : n < length marks = omega (arith, length-map c.loop-place.rows.intervals.items interval_of, c.loop-place.rows.same_length) in
+    let inside-marks : n < length marks = omega (arith, inside, length_marks c.loop-place.rows) in
     let P : Rows → Type 0 = λ r. Renewed nodes space start (n + 1) (rows_of r) (marks_of r) in
     elim c.if-is_reached.branch [
       | then-is_reached w ↦ subst P (sym w.rows-is)

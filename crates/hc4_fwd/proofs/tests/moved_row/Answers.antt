@@ -1,4 +1,5 @@
-use Rattle.std.proofs.Common.{sym, subst}
+use Rattle.std.proofs.Common.{length, ap, arith, sym, subst}
+use Rattle.poly_graph.proofs.NodeEnclosures.{length_enclosures}
 use Rattle.poly_graph.specs.Space.{Space}
 use Rattle.ival.specs.SpaceViews.{domain_of, space_of}
 use Rattle.hc4_fwd.specs.Reached.{SameBut}
@@ -11,3 +12,6 @@ refill-requires c = let was = space_of c.args.space.now in record {
   filled = c.fill.ensures.rows;
   others = subst (λ (s : Space). SameBut 1 was s) (sym c.set.ensures.axes) (set_same_but 1 (domain_of c.args.domain) was);
 }
+
+pub get-requires : goal.get-requires
+get-requires c = omega (arith, ap length c.refill.ensures, length_enclosures (space_of c.set.new.self) c.args.graph.now)

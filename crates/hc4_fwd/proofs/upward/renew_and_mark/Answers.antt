@@ -1,0 +1,32 @@
+use Rattle.std.proofs.Common.{◌≡◌, ℕ, ◌<◌, ◌≤◌, ◌∙◌, List, length, get_or, set, true, ap, sym, subst, arith}
+use Rattle.std.proofs.lemmas.List.{length-set}
+use Rattle.poly_graph.specs.Views.{node_of}
+use Rattle.poly_graph.specs.Parents.{parents_of}
+use Rattle.poly_graph.proofs.NodeEnclosures.{comes_at, comes_later}
+use Rattle.ival.specs.Views.{interval_of}
+use Rattle.ival.specs.RowViews.{rows_of, marks_of, is_marked}
+use Rattle.hc4_fwd.proofs.Upwards.{node_inside, parents_inside, parent_listed}
+use Rattle.hc4_fwd.proofs.upward.renew_and_mark.Goals as goal
+
+pub node_interval-interval-requires : goal.node_interval-interval-requires
+node_interval-interval-requires c =
+    let nodes = c.args.graph.now in let n = c.args.n in let node = node_of c.args.node in
+    let low : n ≤ length (rows_of c.args.rows.now) = omega (arith, c.requires.count, node_inside nodes n node c.requires.node) in
+    comes_later n (length (rows_of c.args.rows.now)) node low (comes_at nodes c.len.ensures.graph.ordered n node c.requires.node)
+
+pub mark_all-requires : goal.mark_all-requires
+mark_all-requires c k d h =
+    let nodes = c.args.graph.now in let n = c.args.n in
+    let is : c.of.result.now ≡ parents_of nodes n = c.of.ensures ∙ c.requires.parents.each n in
+    let below = parents_inside n 0 nodes k d (subst (λ (xs : List ℕ). k < length xs) is h) in
+    let count : length (rows_of c.set.new.self) ≡ length nodes =
+    ap length c.set.ensures.rows ∙ length-set (rows_of c.args.rows.now) n (interval_of c.node_interval-interval.result) ∙ c.requires.count in
+    subst (λ (xs : List ℕ). get_or xs k d < length (rows_of c.set.new.self)) (sym is) (omega (arith, below, count))
+
+pub returns-clause-parents : goal.returns-clause-parents
+returns-clause-parents c k p e h =
+    let nodes = c.args.graph.now in let n = c.args.n in let new = c.mark_all.new.rows in
+    let is : parents_of nodes n ≡ c.of.result.now = sym (c.of.ensures ∙ c.requires.parents.each n) in
+    let listed = parent_listed n 0 nodes k p e h in
+    let here : get_or c.of.result.now listed.0 0 ≡ k = ap (λ (xs : List ℕ). get_or xs listed.0 0) (sym is) ∙ listed.2 ∙ omega arith in
+    subst (λ (x : ℕ). is_marked (marks_of new) x ≡ true) here (c.mark_all.ensures.all listed.0 (subst (λ (xs : List ℕ). listed.0 < length xs) is listed.1))

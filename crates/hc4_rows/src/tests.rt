@@ -1,0 +1,265 @@
+// Small graphs on which both ways of the passes agree, and ends that were computed by hand.
+use dyadic::{Dy, Ext, Frac, add_up, at_most, down_frac, mul_up, pow2};
+use hc4_bwd::narrow;
+use hc4_fwd::{Above, fill, refill, refill_by};
+use ival::{Domain, Narrowed, Range, Rows, Space};
+use plain_eval::{enclose, narrow_plain};
+use poly_graph::{Atom, Graph, Kind, Node, is_after};
+use std::alloc::{AllocError, Global};
+use std::test::Fail;
+
+// Adds a node that is new, and gives its number.
+fn add(graph: &mut Graph, node: Node) -> Option<u32> {
+    if !is_after(node, graph.len() as u32) {
+        return None;
+    }
+    graph.intern(node).ok()
+}
+
+// Two axes, each between these numbers.
+fn square(alloc: Global, low: Dy, high: Dy) -> Result<Space, Fail> {
+    let range = Range::between(low, high).ok_or("crossed")?;
+    let mut space = Space::with_capacity(alloc, 2)?;
+    space.push(Domain::Real(range));
+    space.push(Domain::Real(range));
+    Ok(space)
+}
+
+// What is left to an axis.
+fn left(space: &Space, axis: usize) -> Option<Domain> {
+    if axis < space.len() {
+        Some(space.get(axis))
+    } else {
+        None
+    }
+}
+
+// Whether the spaces have the same domains.
+fn same_space(a: &Space, b: &Space) -> bool {
+    if a.len() != b.len() {
+        return false;
+    }
+    for axis in 0..a.len() {
+        if a.get(axis) != b.get(axis) {
+            return false;
+        }
+    }
+    true
+}
+
+// Whether the rows have the same intervals.
+fn same_rows(a: &Rows, b: &Rows) -> bool {
+    if a.len() != b.len() {
+        return false;
+    }
+    for place in 0..a.len() {
+        if a.get(place) != b.get(place) {
+            return false;
+        }
+    }
+    true
+}
+
+// The graph of this number.
+fn graph_of(alloc: Global, number: u32) -> Graph {
+    let mut graph = Graph::new(alloc);
+    let _ = add(&mut graph, Node::Var(0));
+    let _ = add(&mut graph, Node::Var(1));
+    let _ = add(&mut graph, Node::Const(Frac::new(-1, 1)));
+    match number {
+        // x * x * x - 1
+        0 => {
+            let _ = add(&mut graph, Node::Mul(0, 0));
+            let _ = add(&mut graph, Node::Mul(3, 0));
+            let _ = add(&mut graph, Node::Add(4, 2));
+        }
+        // x * y - y * x
+        1 => {
+            let _ = add(&mut graph, Node::Mul(0, 1));
+            let _ = add(&mut graph, Node::Mul(1, 0));
+            let _ = add(&mut graph, Node::Neg(4));
+            let _ = add(&mut graph, Node::Add(3, 5));
+        }
+        // x^2 + y^2 - 1
+        2 => {
+            let _ = add(&mut graph, Node::Sq(0));
+            let _ = add(&mut graph, Node::Sq(1));
+            let _ = add(&mut graph, Node::Add(3, 4));
+            let _ = add(&mut graph, Node::Add(5, 2));
+        }
+        // x * y - 1
+        3 => {
+            let _ = add(&mut graph, Node::Mul(0, 1));
+            let _ = add(&mut graph, Node::Add(3, 2));
+        }
+        // (x + y)^2 - (x + x)
+        _ => {
+            let _ = add(&mut graph, Node::Add(0, 1));
+            let _ = add(&mut graph, Node::Sq(3));
+            let _ = add(&mut graph, Node::Add(0, 0));
+            let _ = add(&mut graph, Node::Neg(5));
+            let _ = add(&mut graph, Node::Add(4, 6));
+        }
+    }
+    graph
+}
+
+// Narrows the space by the last node, by the sweep and the plain way; no answer where they differ.
+fn narrowed(
+    alloc: Global,
+    graph: &Graph,
+    kind: Kind,
+    space: &mut Space,
+) -> Result<Option<Narrowed>, AllocError> {
+    let count = graph.len();
+    if count == 0 {
+        return Ok(None);
+    }
+    let atom = Atom {
+        term: (count - 1) as u32,
+        kind,
+    };
+    let mut rows = Rows::new(alloc, count)?;
+    let mut scratch = Rows::new(alloc, count)?;
+    let mut other = space.try_clone(alloc)?;
+    let plain = narrow_plain(graph, &atom, 20, &mut rows, &mut scratch, &mut other);
+    fill(graph, space, &mut rows);
+    let told = narrow(graph, &atom, 20, &rows, &mut scratch, space);
+    if told == plain && same_space(space, &other) {
+        Ok(Some(told))
+    } else {
+        Ok(None)
+    }
+}
+
+// Whether a fill gives the enclosure of the last node.
+fn fills_alike(alloc: Global, graph: &Graph, space: &Space) -> Result<bool, AllocError> {
+    let count = graph.len();
+    if count == 0 {
+        return Ok(true);
+    }
+    let mut rows = Rows::new(alloc, count)?;
+    let last = enclose(graph, (count - 1) as u32, space, &mut rows);
+    fill(graph, space, &mut rows);
+    Ok(rows.get(count - 1) == last)
+}
+
+#[test]
+fn both_ways_agree(rt: HostRuntime) -> Result<(), Fail> {
+    let alloc = rt.alloc();
+    for number in 0..5 {
+        let graph = graph_of(alloc, number);
+        for kind in [Kind::Le, Kind::Ge, Kind::Eq] {
+            for low in [pow2(-2), pow2(1).neg(), pow2(50).neg()] {
+                let mut space = square(alloc, low, pow2(3))?;
+                assert!(rt; fills_alike(alloc, &graph, &space)?);
+                // twice: what the first time leaves is narrowed again
+                assert!(rt; narrowed(alloc, &graph, kind, &mut space)?.is_some());
+                assert!(rt; narrowed(alloc, &graph, kind, &mut space)?.is_some());
+            }
+        }
+    }
+    Ok(())
+}
+
+#[test]
+fn circle_and_hyperbola_do_not_meet(rt: HostRuntime) -> Result<(), Fail> {
+    let alloc = rt.alloc();
+    let mut space = square(alloc, Dy::ZERO, pow2(0))?;
+    let hyperbola = graph_of(alloc, 3);
+    assert_eq!(rt;
+        narrowed(alloc, &hyperbola, Kind::Eq, &mut space)?,
+        Some(Narrowed::Less)
+    );
+    let before = space.try_clone(alloc)?;
+    let circle = graph_of(alloc, 2);
+    assert_eq!(rt;
+        narrowed(alloc, &circle, Kind::Eq, &mut space)?,
+        Some(Narrowed::Empty)
+    );
+    assert!(rt; same_space(&space, &before));
+    Ok(())
+}
+
+#[test]
+fn products_with_nought_leave_all(rt: HostRuntime) -> Result<(), Fail> {
+    let alloc = rt.alloc();
+    let mut graph = Graph::new(alloc);
+    let _ = add(&mut graph, Node::Var(0));
+    let _ = add(&mut graph, Node::Var(1));
+    let _ = add(&mut graph, Node::Mul(0, 1));
+    let mut space = square(alloc, pow2(0).neg(), pow2(0))?;
+    assert_eq!(rt;
+        narrowed(alloc, &graph, Kind::Eq, &mut space)?,
+        Some(Narrowed::Same)
+    );
+    Ok(())
+}
+
+#[test]
+fn squares_below_four(rt: HostRuntime) -> Result<(), Fail> {
+    let alloc = rt.alloc();
+    let mut graph = Graph::new(alloc);
+    let _ = add(&mut graph, Node::Var(0));
+    let _ = add(&mut graph, Node::Sq(0));
+    let _ = add(&mut graph, Node::Const(Frac::new(-4, 1)));
+    let _ = add(&mut graph, Node::Add(1, 2));
+    let Ext::Fin(three) = down_frac(Frac::new(3, 1)) else {
+        return Err(Fail::from("no number"));
+    };
+    let mut space = square(alloc, three.neg(), three)?;
+    assert_eq!(rt;
+        narrowed(alloc, &graph, Kind::Le, &mut space)?,
+        Some(Narrowed::Less)
+    );
+    let Some(Domain::Real(range)) = left(&space, 0) else {
+        return Err(Fail::from("no range"));
+    };
+    // up to the root of 4 + 2^-20, which is a little less than 2 + 2^-22
+    let most = add_up(Ext::Fin(pow2(2)), Ext::Fin(pow2(-20)));
+    let high = Ext::Fin(range.high);
+    assert_eq!(rt; range.low, range.high.neg());
+    assert!(rt; at_most(most, mul_up(high, high)));
+    assert!(rt; at_most(high, add_up(Ext::Fin(pow2(1)), Ext::Fin(pow2(-22)))));
+    assert_eq!(rt;
+        left(&space, 1),
+        Some(Domain::Real(Range::between(three.neg(), three).ok_or("crossed")?))
+    );
+    Ok(())
+}
+
+// The rows after x of the sum's graph was given another domain, by three ways.
+fn refilled_alike(
+    alloc: Global,
+    graph: &Graph,
+    space: &mut Space,
+    domain: Domain,
+) -> Result<bool, AllocError> {
+    let count = graph.len();
+    if space.len() < 2 {
+        return Ok(false);
+    }
+    let above = Above::new(alloc, graph, space.len())?;
+    let mut rows = Rows::new(alloc, count)?;
+    let mut others = Rows::new(alloc, count)?;
+    fill(graph, space, &mut rows);
+    fill(graph, space, &mut others);
+    space.set(0, domain);
+    refill(graph, space, 0, &mut rows);
+    refill_by(graph, space, 0, &above, &mut others);
+    let mut fresh = Rows::new(alloc, count)?;
+    fill(graph, space, &mut fresh);
+    Ok(same_rows(&rows, &fresh) && same_rows(&others, &fresh))
+}
+
+#[test]
+fn rows_are_renewed_upwards(rt: HostRuntime) -> Result<(), Fail> {
+    let alloc = rt.alloc();
+    let range = Range::between(pow2(-1), pow2(0)).ok_or("crossed")?;
+    for number in 0..5 {
+        let graph = graph_of(alloc, number);
+        let mut space = square(alloc, pow2(0).neg(), pow2(1))?;
+        assert!(rt; refilled_alike(alloc, &graph, &mut space, Domain::Real(range))?);
+    }
+    Ok(())
+}
