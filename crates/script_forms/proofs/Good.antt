@@ -286,6 +286,8 @@ module _ (sorts : List Sort) where
   pub good_respects : Respects Good silent as_tree
   good_respects = record {
     literal = λ at digits more_digits. (reduced_same (literal_value digits more_digits) (one-le-pow (length more_digits) 10 (omega arith))).0;
+    named = λ at v u h. h;
+    annotated = λ at v u h. h;
     apply = λ at op vs us h. checked-good us (cond (takes op us) (unfolded_operation at op us) (refused (ill_formed at)))
         (choose-good (takes op us) (unfolded_operation at op us) (refused (ill_formed at)) (operation-good at op us (each-good vs us h)) tt);
     bind = λ at names vs us v u h k. checked-good us u k;

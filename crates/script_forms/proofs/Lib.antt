@@ -8,3 +8,4 @@ pub mod Whole
 pub mod Numbered
 pub mod Box
 pub mod Kept
+pub mod Walks

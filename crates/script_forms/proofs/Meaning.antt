@@ -172,6 +172,8 @@ module _ (m : Fraction) (point : List Coordinate) where
   pub respects : Respects (Means m point) (loosened m) as_tree
   respects = record {
     literal = λ at digits more_digits. literal-means (literal_value digits more_digits) (one-le-pow (length more_digits) 10 (omega arith));
+    named = λ at v u h. h;
+    annotated = λ at v u h. h;
     apply = operation-means;
     bind = λ at names vs us v u h k. checked_means m point v us u (λ e. k);
     call = λ at vs us v u h k. checked_means m point v us u (λ e. k);

@@ -51,7 +51,7 @@ same_kind_is ge ge h = refl
 same_kind_is eq eq h = refl
 same_kind_is _ _ h = absurd (true≢false (sym h))
 
-same_atom_is : (a b : Atom) → same_atom a b ≡ true → a ≡ b
+pub same_atom_is : (a b : Atom) → same_atom a b ≡ true → a ≡ b
 same_atom_is a b h = let e = both_true (same_term a.0 b.0) (same_kind a.1 b.1) h in
     λ i. (same_term_is a.0 b.0 e.0 i, same_kind_is a.1 b.1 e.1 i)
 
@@ -76,7 +76,7 @@ and_both x y h k = ap₂ (λ a b. a && b) h k
 fraction_self : (q : Fraction) → same_fraction q q ≡ true
 fraction_self q = and_both _ (same_sign q.num q.num) (and_both _ (nat_eq q.den q.den) (eq-eqb _ _ refl) (eq-eqb _ _ refl)) (same_self q.num)
 
-term_self : (t : Term) → same_term t t ≡ true
+pub term_self : (t : Term) → same_term t t ≡ true
 term_self (constant q) = fraction_self q
 term_self (Term.variable i) = eq-eqb i i refl
 term_self (Term.negate t) = term_self t
@@ -89,14 +89,14 @@ kind_self le = refl
 kind_self ge = refl
 kind_self eq = refl
 
-atom_self : (a : Atom) → same_atom a a ≡ true
+pub atom_self : (a : Atom) → same_atom a a ≡ true
 atom_self a = and_both _ _ (term_self a.0) (kind_self a.1)
 
 or-later : (t x y : Bool) → (x ≡ true → y ≡ true) → cond t true x ≡ true → cond t true y ≡ true
 or-later true x y f k = refl
 or-later false x y f k = f k
 
-already_later : (a : Atom) (xs ys : List Atom) → already a xs ≡ true → already a (xs ++ ys) ≡ true
+pub already_later : (a : Atom) (xs ys : List Atom) → already a xs ≡ true → already a (xs ++ ys) ≡ true
 already_later a [] ys h = absurd (true≢false (sym h))
 already_later a (b ∷ xs) ys h = or-later (same_atom a b) (already a xs) (already a (xs ++ ys)) (already_later a xs ys) h
 
@@ -104,7 +104,7 @@ at-end : (t x : Bool) → x ≡ true → cond t true x ≡ true
 at-end true x h = refl
 at-end false x h = h
 
-already_end : (a : Atom) (xs : List Atom) → already a (xs ++ (a ∷ [])) ≡ true
+pub already_end : (a : Atom) (xs : List Atom) → already a (xs ++ (a ∷ [])) ≡ true
 already_end a [] = ap (λ t. cond t true false) (atom_self a)
 already_end a (b ∷ xs) = at-end (same_atom a b) (already a (xs ++ (a ∷ []))) (already_end a xs)
 

@@ -4,13 +4,14 @@ use Rattle.std.specs.List.{AllByRecursion, All}
 use Rattle.dyadic.specs.Fraction.{Fraction, IsFraction, at_most}
 use Rattle.dyadic.specs.Point.{Coordinate, IsPoint}
 use Rattle.script_model.specs.Script.{Command, Satisfies, sorts_of}
-use Rattle.script_model.specs.Declared.{InDeclaredBox}
+use Rattle.script_model.specs.Declared.{InDeclaredBox, bound_fault}
 use Rattle.poly_graph.specs.Term.{Atom, atom_holds}
 use Rattle.poly_graph.specs.Form.{form_truth}
 use Rattle.poly_graph.specs.Problem.{Problem, Axis, IsDeclared, full_atom, bool_holds, IsTerm, sorts_of_problem, in_declared_box}
 use Rattle.dyadic.specs.Lowest.{reduced}
 use Rattle.script_forms.specs.Atoms.{unfolding_fault, script_atoms, script_form, form_holds}
 use Rattle.script_forms.specs.ProblemOf.{IsProblemOf}
+use Rattle.script_forms.specs.Walk.{building_fault}
 
 -- Where a script unfolds without a fault, its form is true at a point, each atom being true where its term's
 -- value lies in its range loosened by m, exactly where the point satisfies the script loosened by m.
@@ -47,3 +48,7 @@ AxesAreBounds = (bound : Option ℕ) (script : List Command) (p : Problem) → I
 -- A fraction in lowest terms is a fraction of the same value.
 abbrev pub LowestIsSame : Type 0
 LowestIsSame = (q : Fraction) → IsFraction q → IsFraction (reduced q) × IsTrue (at_most q (reduced q)) × IsTrue (at_most (reduced q) q)
+
+-- Where the building of a script has no fault, its unfolding and its bounds have none.
+abbrev pub FaultlessUnfolds : Type 0
+FaultlessUnfolds = (bound : Option ℕ) (script : List Command) → building_fault bound script ≡ None → (unfolding_fault script ≡ None) × (bound_fault bound script ≡ None)

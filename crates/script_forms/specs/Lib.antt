@@ -3,3 +3,5 @@ pub mod Laws
 pub mod ProblemOf
 pub mod Terms
 pub mod Unfolded
+pub mod Walk
+pub mod Work

@@ -182,7 +182,9 @@ operation_tree at op us = checked us (cond (takes op us) (unfolded_operation at 
 abbrev pub as_tree : Meanings Unfolded
 as_tree = record {
   literal = λ at q. term (constant (reduced q));
+  named = λ at u. u;
   apply = operation_tree;
+  annotated = λ at u. u;
   bind = λ at names us u. checked us u;
   call = λ at us u. checked us u;
   nothing = λ at why. refused (ill_formed at);

@@ -3,7 +3,7 @@
 //! No code runs here: each function is a law about the definitions in `specs/`, and its contract is the law.
 #![tactic(auto)]
 
-ghost use Rattle.script_forms.specs.Laws.{FormMeansScript, ProblemMeansScript, AtomsAreGood, BoxIsDeclared, AxesAreBounds, LowestIsSame};
+ghost use Rattle.script_forms.specs.Laws.{FormMeansScript, ProblemMeansScript, AtomsAreGood, BoxIsDeclared, AxesAreBounds, LowestIsSame, FaultlessUnfolds};
 
 /// The form of a script is true at a point, its atoms loosened, exactly where the point satisfies the script so
 /// loosened (SMT-LIB 2.6, theories Core and Reals; the loosening is that of Gao, Avigad, Clarke 2012).
@@ -39,4 +39,10 @@ pub fn axes_are_bounds()
 #[tactic(auto, using(crate::proofs::Lowest::lowest_same))]
 pub fn lowest_is_same()
     ensures { LowestIsSame }
+{}
+
+/// A script whose building has no fault has none of its unfolding and of its bounds.
+#[tactic(auto, using(crate::proofs::Walks::faultless_unfolds))]
+pub fn faultless_unfolds()
+    ensures { FaultlessUnfolds }
 {}

@@ -143,6 +143,8 @@ each-good (v ∷ vs) [] h = elim h [ ]
 good_respects : Respects Good silent bounding
 good_respects = record {
   literal = λ at digits more_digits. one-le-pow (length more_digits) 10 (omega arith);
+  named = λ at v b h. h;
+  annotated = λ at v b h. h;
   apply = λ at op vs bs h. operation-good op bs (each-good vs bs h);
   bind = λ at names vs bs v b h k. k;
   call = λ at vs bs v b h k. k;

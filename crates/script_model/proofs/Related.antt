@@ -22,6 +22,8 @@ module _ {V W : Type 0} (R : V → W → Type 0) where
 
   pub record Respects (M : Meanings V) (N : Meanings W) : Type 0 where
     pub literal : (at : Place) (digits more_digits : List ℕ) → R (M.literal at (literal_value digits more_digits)) (N.literal at (literal_value digits more_digits))
+    pub named : (at : Place) (v : V) (w : W) → R v w → R (M.named at v) (N.named at w)
+    pub annotated : (at : Place) (v : V) (w : W) → R v w → R (M.annotated at v) (N.annotated at w)
     pub apply : (at : Place) (op : Operator) (vs : List V) (ws : List W) → Each vs ws → R (M.apply at op vs) (N.apply at op ws)
     pub bind : (at : Place) (names : List Label) (vs : List V) (ws : List W) (v : V) (w : W) → Each vs ws → R v w → R (M.bind at names vs v) (N.bind at names ws w)
     pub call : (at : Place) (vs : List V) (ws : List W) (v : V) (w : W) → Each vs ws → R v w → R (M.call at vs v) (N.call at ws w)
@@ -71,7 +73,7 @@ module _ {V W : Type 0} (R : V → W → Type 0) where
   module _ (M : Meanings V) (N : Meanings W) (S : Respects M N) where
     value_alike : (at : Place) (name : List ℕ) (x : Option (Named V)) (y : Option (Named W)) → AlikeOptions x y → R (value_named M at name x) (value_named N at name y)
     value_alike at name None None h = S.nothing at (unknown name)
-    value_alike at name (Some (value v)) (Some (value w)) h = h
+    value_alike at name (Some (value v)) (Some (value w)) h = S.named at v w h
     value_alike at name (Some (function f)) (Some (function g)) h = S.call at [] [] (f []) (g []) tt (h [] [] tt)
     value_alike at name (Some (value v)) (Some (function g)) h = elim h [ ]
     value_alike at name (Some (function f)) (Some (value w)) h = elim h [ ]
@@ -131,7 +133,7 @@ module _ {V W : Type 0} (R : V → W → Type 0) where
           (bound_each (binding_meanings M ns bindings) (binding_meanings N ms bindings) (bindings_alike ns ms bindings h))
           (meaning_alike (binding_meanings M ns bindings ++ ns) (binding_meanings N ms bindings ++ ms) body
           (append_alike (binding_meanings M ns bindings) ns (binding_meanings N ms bindings) ms (bindings_alike ns ms bindings h) h))
-      group_alike ns ms at (more (leaf _ (reserved bang)) (more e attributes)) h = meaning_alike ns ms e h
+      group_alike ns ms at (more (leaf _ (reserved bang)) (more e attributes)) h = S.annotated at (meaning M ns e) (meaning N ms e) (meaning_alike ns ms e h)
       group_alike ns ms at (more (leaf _ (reserved word)) args) h = S.nothing at (reserved_reason word)
       group_alike ns ms at (more (leaf _ (symbol name)) args) h =
           application_alike ns ms at name (found name operators) (meanings M ns args) (meanings N ms args) h (meanings_alike ns ms args h)
@@ -173,4 +175,4 @@ pub data Nothing : Type 0 where
   said : Nothing
 
 abbrev pub silent : Meanings Nothing
-silent = record { literal = λ at q. said; apply = λ at op vs. said; bind = λ at names vs v. said; call = λ at vs v. said; nothing = λ at why. said }
+silent = record { literal = λ at q. said; named = λ at v. said; annotated = λ at v. said; apply = λ at op vs. said; bind = λ at names vs v. said; call = λ at vs v. said; nothing = λ at why. said }

@@ -88,7 +88,9 @@ bounding_operation op bs = bounds []
 abbrev pub bounding : Meanings Bounding
 bounding = record {
   literal = λ at q. known q;
+  named = λ at b. b;
   apply = λ at op bs. bounding_operation op bs;
+  annotated = λ at b. b;
   bind = λ at names vs b. b;
   call = λ at vs b. b;
   nothing = λ at why. other;

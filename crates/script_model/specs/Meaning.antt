@@ -170,7 +170,9 @@ operation m above_op args = bool (all_pair (neighbours (at_least_pair m) (map fr
 abbrev pub loosened : Fraction → Meanings Value
 loosened m = record {
   literal = λ at q. real q;
+  named = λ at v. v;
   apply = λ at op args. operation m op args;
+  annotated = λ at v. v;
   bind = λ at names vs v. v;
   call = λ at vs v. v;
   nothing = λ at why. real zero_fraction;

@@ -44,12 +44,15 @@ pub record Label : Type 0 where
   pub at : Place
   pub name : List ℕ
 
--- what a kind of meaning says, with the place of the expression: of literals; of operators at their arguments;
--- of a `let` that binds these names to these, with its body's meaning; of a name's call at these arguments,
--- with the meaning of the function's body there; of what has no meaning
+-- what a kind of meaning says, with the place of the expression: of literals; of a name alone that stands for
+-- this; of operators at their arguments; of an annotation round a term; of a `let` that binds these names to these,
+-- with its body's meaning; of a name's call at these arguments, with the meaning of the function's body there; of
+-- what has no meaning
 pub record Meanings (V : Type 0) : Type 0 where
   pub literal : Place → Fraction → V
+  pub named : Place → V → V
   pub apply : Place → Operator → List V → V
+  pub annotated : Place → V → V
   pub bind : Place → List Label → List V → V → V
   pub call : Place → List V → V → V
   pub nothing : Place → Reason → V
@@ -65,7 +68,7 @@ Names V = List (List ℕ × Named V)
 
 -- a name alone that is no operator: what it stands for, and a function without its arguments
 abbrev pub value_named : {V : Type 0} → Meanings V → Place → List ℕ → Option (Named V) → V
-value_named M at name (Some (value v)) = v
+value_named M at name (Some (value v)) = M.named at v
 value_named M at name (Some (function f)) = M.call at [] (f [])
 value_named M at name None = M.nothing at (unknown name)
 
@@ -137,7 +140,7 @@ abbrev mutual
   pub group_meaning : {V : Type 0} → Meanings V → Names V → Place → Sexps → V
   group_meaning M names at (more (leaf _ (reserved let_word)) (more (group _ bindings) (more body none))) =
       let_meaning M at (bound_names bindings) (values_bound (binding_meanings M names bindings)) (meaning M (binding_meanings M names bindings ++ names) body)
-  group_meaning M names at (more (leaf _ (reserved bang)) (more term attributes)) = meaning M names term
+  group_meaning M names at (more (leaf _ (reserved bang)) (more term attributes)) = M.annotated at (meaning M names term)
   group_meaning M names at (more (leaf _ (reserved word)) args) = M.nothing at (reserved_reason word)
   group_meaning M names at (more (leaf _ (symbol name)) args) =
       application M names at name (found name operators) (meanings M names args)

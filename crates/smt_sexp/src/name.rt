@@ -2,6 +2,7 @@
 ghost use Rattle.std.specs.Prelude.{◌≡◌, List, ℕ, IfOk};
 
 use std::alloc::{AllocError, Global};
+use std::fmt;
 use std::marker::Model;
 
 /// The bytes of a name, of a string or of a run of digits. Contracts see their list.
@@ -35,6 +36,16 @@ impl Eq for Name {
     ghost use Rattle.std.proofs.Common.{rules};
 
     ghost laws = { Prim.search (comparing, rules) };
+}
+
+// The name where its bytes are text, and else its bytes.
+impl fmt::Display for Name {
+    fn fmt<W: fmt::Write>(&self, f: &mut fmt::Formatter<W>) -> fmt::Result {
+        match str::from_utf8(self.as_slice()) {
+            Ok(text) => f.write_str(text),
+            Err(_) => write!(f, "{:?}", self.as_slice()),
+        }
+    }
 }
 
 impl Name {

@@ -266,6 +266,8 @@ because-fits at (unknown x) u = go (bytes_eq x (codes "sqrt"))
 pub fits_respects : Respects Fits sorting as_tree
 fits_respects = record {
   literal = λ at digits more_digits. tt;
+  named = λ at s u h. h;
+  annotated = λ at s u h. h;
   apply = λ at op ss us h. arguments-fit ss us (operator_sort at op ss) (Tree at op us) (first_ill ss) refl h (λ e k. operator-fits at op ss us h k);
   bind = λ at names ss us s u h k. bind-fits names ss us s u h k;
   call = λ at ss us s u h k. arguments-fit ss us (placed_call at s) u (first_ill ss) refl h (λ e f. placed-fits at s u k);

@@ -106,7 +106,9 @@ because at (unknown x) = cond (bytes_eq x (codes "sqrt")) (ill at left_out_form)
 abbrev pub sorting : Meanings Sorted
 sorting = record {
   literal = λ at q. of_sort real_sort;
+  named = λ at s. s;
   apply = λ at op ss. or_first (first_ill ss) (operator_sort at op ss);
+  annotated = λ at s. s;
   bind = λ at names ss s. binding_sort [] names ss s;
   call = λ at ss s. or_first (first_ill ss) (placed_call at s);
   nothing = because;

@@ -6,7 +6,7 @@ use Rattle.smt_sexp.specs.declared.fault.Limit.TheVariants.{Axes}
 use Rattle.sort_check.specs.Sorts.{SortFault, unknown_symbol, redeclared, sort_mismatch, real_choice, left_out_form, too_many_axes, Finding, sort_fault}
 use Rattle.sort_check.specs.declared.fault.ScriptFault.{ScriptFault}
 use Rattle.sort_check.specs.declared.fault.ScriptFault.TheVariants as faults
-use Rattle.sort_check.specs.declared.Typed.{Typed}
+use Rattle.sort_check.specs.declared.typed.Typed.{Typed}
 use Rattle.script_model.specs.Sexp.{Place}
 
 abbrev pub is_left_out : SortFault → Bool

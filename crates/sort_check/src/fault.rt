@@ -7,15 +7,22 @@ ghost use Rattle.sort_check.specs.Told.{Refuses};
 use crate::stop::{Fault, Stop};
 use smt_sexp::{Limit, Name, Place};
 use std::alloc::Global;
+use thiserror::Error;
 
 /// The first fault of a script's names and sorts, with its place: that of the expression, of the name, or of the command that declares it.
-#[derive(Debug, Drop)]
+#[derive(Debug, Drop, Error)]
 pub enum ScriptFault {
+    #[error("unknown symbol {name} at {line}:{column}")]
     UnknownSymbol { line: u32, column: u32, name: Name },
+    #[error("sorts do not fit at {line}:{column}")]
     SortMismatch { line: u32, column: u32 },
+    #[error("{name} is declared again at {line}:{column}")]
     Redeclared { line: u32, column: u32, name: Name },
+    #[error("left out of the language at {line}:{column}")]
     LeftOut { line: u32, column: u32 },
+    #[error("too many {what:?} at {line}:{column}")]
     TooMany { line: u32, column: u32, what: Limit },
+    #[error("no memory")]
     Memory,
 }
 

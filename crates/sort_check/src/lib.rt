@@ -11,16 +11,12 @@ mod forms;
 mod names;
 mod operators;
 mod stop;
+mod typed;
 
 pub use fault::ScriptFault;
 use smt_script::Script;
 use std::alloc::Global;
-
-/// A script whose names and sorts are without a fault.
-#[derive(Debug, Drop)]
-pub struct Typed<'a> {
-    pub script: Script<'a>,
-}
+pub use typed::Typed;
 
 /// The same script, or the first fault of its names and sorts.
 pub fn check<'a>(alloc: Global, script: Script<'a>) -> Result<Typed<'a>, ScriptFault>

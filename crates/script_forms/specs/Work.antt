@@ -1,0 +1,130 @@
+-- What the builder does with an expression, in reading order: a meaning beside its unfolding.
+use Rattle.std.specs.Prelude.{List, [], ◌∷◌, ◌++◌, map, Option, Some, None, cond}
+use Rattle.script_model.specs.Sexp.{Place}
+use Rattle.script_model.specs.Reading.{Operator, minus, plus, times, divide, Meanings}
+use Rattle.poly_graph.specs.Term.{Term, constant, Atom}
+use Rattle.poly_graph.specs.Form.{Form, yes_form, no_form, atom_is, bool_is, all_form, any_form, Forms, no_forms, more_forms, forms_map}
+use Rattle.script_forms.specs.Terms.{Fault, ill_formed, Comparison, Unfolded, term, refused, is_nought, inverse_of, is_zero, negate_tree, add_tree, multiply_tree, divide_tree, subtract_tree, step}
+use Rattle.script_forms.specs.Unfolded.{as_tree, truth_of, takes, first_fault}
+use Rattle.script_forms.specs.Atoms.{atom_of}
+
+-- an expression is reached, a tree is made, an atom is asked for, a node of a form is made, a fault is met
+pub data Event : Type 0 where
+  reached : Event
+  made : Term → Event
+  asked : Atom → Event
+  formed : Form Atom → Event
+  met : Fault → Event
+
+-- what is done, and what comes of it
+pub record Work : Type 0 where
+  pub events : List Event
+  pub outcome : Unfolded
+
+abbrev pub outcome_of : Work → Unfolded
+outcome_of w = w.outcome
+
+-- the works of several expressions, one after the other
+abbrev pub events_of : List Work → List Event
+events_of [] = []
+events_of (w ∷ ws) = w.events ++ events_of ws
+
+-- ---- Real expressions: every tree that is made on the way, used or not
+
+-- a tree that comes of a step or stands for a name, or a fault
+abbrev pub ending : Unfolded → List Event
+ending (term t) = made t ∷ []
+ending (refused x) = met x ∷ []
+ending u = []
+
+-- a difference makes the opposite, and a quotient the inverse of its divisor
+abbrev pub subtract_events : Place → Term → Term → List Event
+subtract_events at t u = made (negate_tree u) ∷ ending (subtract_tree at t u)
+
+abbrev pub inverse_events : Term → List Event
+inverse_events (constant q) = cond (is_nought q) [] (made (constant (inverse_of q)) ∷ [])
+inverse_events t = []
+
+abbrev pub divide_events : Place → Term → Term → List Event
+divide_events at t u = inverse_events u ++ ending (divide_tree at t u)
+
+abbrev pub add_events : Place → Term → Term → List Event
+add_events at t u = ending (add_tree at t u)
+
+abbrev pub multiply_events : Place → Term → Term → List Event
+multiply_events at t u = ending (multiply_tree at t u)
+
+-- of a step that is taken
+abbrev pub step_events : (Term → Term → List Event) → Unfolded → Unfolded → List Event
+step_events g (term t) (term u) = g t u
+step_events g t u = []
+
+-- of several arguments, from left to right
+abbrev pub steps_events : (Term → Term → Unfolded) → (Term → Term → List Event) → Unfolded → List Unfolded → List Event
+steps_events f g t [] = []
+steps_events f g t (u ∷ rest) = step_events g t u ++ steps_events f g (step f t u) rest
+
+abbrev pub all_events : (Term → Term → Unfolded) → (Term → Term → List Event) → List Unfolded → List Event
+all_events f g [] = []
+all_events f g (t ∷ rest) = steps_events f g t rest
+
+abbrev pub subtraction_events : Place → List Unfolded → List Event
+subtraction_events at (term t ∷ []) = made (negate_tree t) ∷ []
+subtraction_events at us = all_events (subtract_tree at) (subtract_events at) us
+
+-- an operator at arguments without a fault: one of Bools makes nothing yet
+abbrev pub operation_events : Place → Operator → List Unfolded → List Event
+operation_events at minus us = subtraction_events at us
+operation_events at plus us = all_events (add_tree at) (add_events at) us
+operation_events at times us = all_events (multiply_tree at) (multiply_events at) us
+operation_events at divide us = all_events (divide_tree at) (divide_events at) us
+operation_events at op us = []
+
+-- after a fault of the arguments nothing is done
+abbrev pub unless_met : Option Fault → List Event → List Event
+unless_met (Some x) es = []
+unless_met None es = es
+
+abbrev pub operator_events : Place → Operator → List Unfolded → List Event
+operator_events at op us = unless_met (first_fault us) (cond (takes op us) (operation_events at op us) (met (ill_formed at) ∷ []))
+
+-- ---- expressions
+
+-- Each literal, name, application, `let` and annotation is reached before its parts. A name's tree, an argument and
+-- a binding are not walked again where they are used; the body of a definition is, at each call.
+abbrev pub as_work : Meanings Work
+as_work = record {
+  literal = λ at q. record { events = reached ∷ ending (as_tree.literal at q); outcome = as_tree.literal at q };
+  named = λ at w. record { events = reached ∷ ending w.outcome; outcome = w.outcome };
+  apply = λ at op ws. record {
+    events = reached ∷ events_of ws ++ operator_events at op (map outcome_of ws);
+    outcome = as_tree.apply at op (map outcome_of ws);
+  };
+  annotated = λ at w. record { events = reached ∷ w.events; outcome = w.outcome };
+  bind = λ at names ws w. record { events = reached ∷ events_of ws ++ w.events; outcome = as_tree.bind at names (map outcome_of ws) w.outcome };
+  call = λ at ws w. record { events = reached ∷ events_of ws ++ w.events; outcome = as_tree.call at (map outcome_of ws) w.outcome };
+  nothing = λ at why. record { events = met (ill_formed at) ∷ []; outcome = refused (ill_formed at) };
+}
+
+-- ---- the form of an assertion, its parts first
+
+-- the term of a comparison is made when its form is asked for
+abbrev pub comparison_events : Comparison → List Event
+comparison_events c = cond (is_zero c.right) [] (subtract_events c.at c.left c.right)
+
+abbrev mutual
+  pub form_events : Form Comparison → List Event
+  form_events yes_form = formed yes_form ∷ []
+  form_events no_form = formed no_form ∷ []
+  form_events (atom_is c) = comparison_events c ++ (asked (atom_of c) ∷ formed (atom_is (atom_of c)) ∷ [])
+  form_events (bool_is axis v) = formed (bool_is axis v) ∷ []
+  form_events (all_form fs) = forms_events fs ++ (formed (all_form (forms_map atom_of fs)) ∷ [])
+  form_events (any_form fs) = forms_events fs ++ (formed (any_form (forms_map atom_of fs)) ∷ [])
+
+  pub forms_events : Forms Comparison → List Event
+  forms_events no_forms = []
+  forms_events (more_forms f fs) = form_events f ++ forms_events fs
+
+-- an assertion is unfolded whole, and then its form is made
+abbrev pub assertion_events : Work → List Event
+assertion_events w = w.events ++ form_events (truth_of w.outcome)
