@@ -1,0 +1,2 @@
+pub mod Accepted
+mod Rows
