@@ -1,0 +1,10 @@
+pub mod Lists
+pub mod Trees
+pub mod Makes
+pub mod Emits
+pub mod Settled
+pub mod Shaping
+pub mod Forms
+pub mod Atoms
+pub mod Compares
+pub mod Pairs

@@ -1,0 +1,12 @@
+use Rattle.std.proofs.Common.{map}
+use Rattle.term_build.specs.Shapes.{drawn_of}
+use Rattle.std.proofs.Common.{subst, List, ℕ, [], ◌∷◌}
+use Rattle.term_build.specs.Sketch.{all_drawn, any_drawn}
+use Rattle.term_build.specs.Pairs.{AddsPair}
+use Rattle.term_build.proofs.Pairs.{adds_implies}
+use Rattle.term_build.proofs.connectives.Pair.implies_two.Goals as goal
+
+pub returns : goal.returns
+returns c = adds_implies (map drawn_of c.args.sketch.now.items) (map drawn_of c.add_pair.new.sketch.items) c.args.first c.args.second c.add_pair.result
+    (subst (λ (ks : List ℕ). AddsPair (map drawn_of c.args.sketch.now.items) (map drawn_of c.add_pair.new.sketch.items) (any_drawn ks) (all_drawn (c.args.first.truth ∷ c.args.second.negation ∷ [])) c.add_pair.result) c.in_ok-yes.ensures.items
+    (subst (λ (ks : List ℕ). AddsPair (map drawn_of c.args.sketch.now.items) (map drawn_of c.add_pair.new.sketch.items) (any_drawn c.in_ok-yes.yes.items) (all_drawn ks) c.add_pair.result) c.in_ok-no.ensures.items c.add_pair.ensures))

@@ -1,0 +1,179 @@
+// The builder: its tables, and the steps that fill them.
+ghost use Rattle.std.specs.Prelude.{◌≡◌, ◌^◌, ◌<◌, length, map, IsTrue, option_map};
+ghost use Rattle.dyadic.specs.Views.{fraction_of_frac};
+ghost use Rattle.term_build.specs.Steps.{as_constant, both_of, constants, node_constant, tree_of, two_fractions};
+ghost use Rattle.poly_graph.specs.Term.{comes_after, graph_terms, node_term};
+ghost use Rattle.poly_graph.specs.FormGraph.{form_comes_after, graph_forms, node_form};
+ghost use Rattle.poly_graph.specs.FormViews.{form_node_of};
+ghost use Rattle.poly_graph.specs.Problem.{IsNode};
+ghost use Rattle.poly_graph.specs.Views.{atom_of, kind_of, node_of};
+ghost use Rattle.smt_script.specs.Views.{sort_of};
+ghost use Rattle.script_forms.specs.Terms.{same_term};
+ghost use Rattle.script_forms.specs.Work.{reached};
+ghost use Rattle.script_forms.specs.Walk.{after_event, ask_atom, make_form, make_tree};
+ghost use Rattle.term_build.specs.Built.{IsFormNode, IsMade, begun, full_atom};
+ghost use Rattle.term_build.specs.Does.{Does, IsAtom, IsForm, IsTree};
+
+use crate::stop::{Amount, Stop, limited};
+use dyadic::Frac;
+use poly_graph::{Atom, AtomTable, FormGraph, FormNode, Graph, Kind, Node};
+use smt_script::Sort;
+use std::alloc::Global;
+use std::marker::Model;
+
+/// As many expressions as may be reached.
+pub const MOST_SIZE: u32 = 1_048_576;
+
+/// What is made of a script: the number of expressions that were reached, and each node, atom and node of a form once.
+#[derive(Drop)]
+pub struct Builder {
+    sorts: Vec<Sort>,
+    size: u32,
+    graph: Graph,
+    atoms: AtomTable,
+    forms: FormGraph,
+}
+
+impl Model for Builder {
+    ghost use Rattle.std.specs.Prelude.{map};
+    ghost use Rattle.smt_script.specs.Views.{sort_of};
+    ghost use Rattle.term_build.specs.Built.{Made, IsMade};
+
+    ghost Value = { Made };
+
+    ghost view = { λ b. record { sorts = map sort_of b.sorts.items; size = b.size; nodes = b.graph; atoms = b.atoms; forms = b.forms } };
+
+    ghost invariant = { λ b. IsMade (record { sorts = map sort_of b.sorts.items; size = b.size; nodes = b.graph; atoms = b.atoms; forms = b.forms }) };
+}
+
+// The constant of a node.
+fn constant_of(node: Node) -> Option<Frac>
+    ensures { option_map fraction_of_frac result ≡ node_constant (node_of node) }
+{
+    match node {
+        Node::Const(q) => Some(q),
+        _ => None,
+    }
+}
+
+// Two, where both are there.
+fn both(p: Option<Frac>, q: Option<Frac>) -> Option<(Frac, Frac)>
+    ensures { option_map two_fractions result ≡ both_of (option_map fraction_of_frac p) (option_map fraction_of_frac q) }
+{
+    match (p, q) {
+        (Some(p), Some(q)) => Some((p, q)),
+        _ => None,
+    }
+}
+
+impl Builder {
+    /// Nothing is made yet. The constants of a script, in their order, have these sorts.
+    pub fn new(alloc: Global, sorts: Vec<Sort>) -> Self
+        ensures { result ≡ begun (map sort_of sorts.items) }
+    {
+        let graph = Graph::new(alloc);
+        let _ = graph.len();
+        let atoms = AtomTable::new(alloc);
+        let _ = atoms.atoms();
+        let forms = FormGraph::new(alloc);
+        let _ = forms.len();
+        Builder {
+            sorts,
+            size: 0,
+            graph,
+            atoms,
+            forms,
+        }
+    }
+
+    /// All that is made: the nodes of terms, the atoms and the nodes of the form.
+    pub fn into_parts(self) -> (Graph, Vec<Atom>, FormGraph)
+        ensures nodes { result.0 ≡ self.nodes }
+        ensures atoms { map atom_of result.1.items ≡ self.atoms }
+        ensures forms { result.2 ≡ self.forms }
+        ensures made { IsMade self }
+    {
+        (self.graph, self.atoms.into_atoms(), self.forms)
+    }
+
+    /// One more expression is reached.
+    pub fn reach(&mut self) -> Result<(), Stop>
+        ensures does { Does self.old self.new (λ claim s. after_event claim s reached) result (λ _. Unit {0}) }
+        ensures sorts { self.new.sorts ≡ self.old.sorts }
+    {
+        if self.size >= MOST_SIZE {
+            return Err(Stop::TooMany(Amount::Size));
+        }
+        self.size += 1;
+        Ok(())
+    }
+
+    /// A tree is made: the number of its node.
+    pub fn make(&mut self, node: Node) -> Result<u32, Stop>
+        requires after { IsTrue (comes_after (length self.old.nodes) (node_of node)) }
+        requires fits { IsNode self.old.sorts (node_of node) }
+        ensures does { let t = node_term (graph_terms self.old.nodes) (node_of node) in Does self.old self.new (λ claim s. make_tree claim s t) result (IsTree self.new t) }
+        ensures sorts { self.new.sorts ≡ self.old.sorts }
+    {
+        let made = self.graph.intern(node);
+        let _ = self.graph.len();
+        limited(made)
+    }
+
+    /// The number of the atom of this term's node and this kind.
+    pub fn ask(&mut self, term: u32, kind: Kind) -> Result<u32, Stop>
+        requires { term < length self.old.nodes }
+        ensures does { let a = full_atom (graph_terms self.old.nodes) (term, kind_of kind) in Does self.old self.new (λ claim s. ask_atom claim s a) result (IsAtom self.new a) }
+        ensures sorts { self.new.sorts ≡ self.old.sorts }
+    {
+        let made = self.atoms.intern(Atom { term, kind });
+        let _ = self.atoms.atoms();
+        limited(made)
+    }
+
+    /// The number of the form's node.
+    pub fn form(&mut self, node: FormNode) -> Result<u32, Stop>
+        requires after { IsTrue (form_comes_after (length self.old.forms) (form_node_of node)) }
+        requires fits { IsFormNode self.old.sorts (length self.old.atoms) (form_node_of node) }
+        ensures does { let f = node_form (graph_forms self.old.forms) (form_node_of node) in Does self.old self.new (λ claim s. make_form claim s f) result (IsForm self.new f) }
+        ensures sorts { self.new.sorts ≡ self.old.sorts }
+    {
+        let made = self.forms.intern(node);
+        let _ = self.forms.len();
+        limited(made)
+    }
+
+    /// How many nodes there are.
+    pub fn len(&self) -> usize
+        ensures { result ≡ length self.now.nodes }
+    {
+        self.graph.len()
+    }
+
+    /// The constant that a node is.
+    pub fn constant_at(&self, k: u32) -> Option<Frac>
+        requires { k < length self.now.nodes }
+        ensures { option_map fraction_of_frac result ≡ as_constant (tree_of self.now k) }
+    {
+        constant_of(self.graph.node(k))
+    }
+
+    // The constants that two nodes are, where both are.
+    pub(crate) fn constants(&self, a: u32, b: u32) -> Option<(Frac, Frac)>
+        requires first { a < length self.now.nodes }
+        requires second { b < length self.now.nodes }
+        ensures { option_map two_fractions result ≡ constants (tree_of self.now a) (tree_of self.now b) }
+    {
+        both(self.constant_at(a), self.constant_at(b))
+    }
+
+    // Whether the trees of two nodes are one and the same.
+    pub(crate) fn is_same(&self, a: u32, b: u32) -> bool
+        requires first { a < length self.now.nodes }
+        requires second { b < length self.now.nodes }
+        ensures { result ≡ same_term (tree_of self.now a) (tree_of self.now b) }
+    {
+        let _ = &self.graph;
+        a == b
+    }
+}

@@ -1,0 +1,64 @@
+// Comparisons: their terms and atoms are made when their form is asked for.
+ghost use Rattle.std.specs.Prelude.{◌≡◌, ◌<◌, [], ◌∷◌, ◌++◌, length};
+ghost use Rattle.poly_graph.specs.Form.{atom_is};
+ghost use Rattle.poly_graph.specs.Views.{kind_of};
+ghost use Rattle.smt_sexp.specs.Views.{place_of};
+ghost use Rattle.script_forms.specs.Atoms.{atom_of};
+ghost use Rattle.script_forms.specs.Terms.{comparison_tree, is_zero};
+ghost use Rattle.script_forms.specs.Work.{asked, comparison_events, form_events, formed};
+ghost use Rattle.term_build.specs.Built.{full_atom, stand_of};
+ghost use Rattle.term_build.specs.Sketch.{IsAtomForm, comparison_of};
+ghost use Rattle.term_build.specs.Steps.{Emits, IsTreeOf, tree_of};
+
+use crate::builder::Builder;
+use crate::stop::Stop;
+use poly_graph::{FormNode, Kind};
+use smt_sexp::Place;
+
+impl Builder {
+    // Whether a tree is the constant 0.
+    fn is_zero(&self, k: u32) -> bool
+        requires { k < length self.now.nodes }
+        ensures { result ≡ is_zero (tree_of self.now k) }
+    {
+        match self.constant_at(k) {
+            Some(q) => q.n == 0,
+            None => false,
+        }
+    }
+
+    // The term of a comparison: the left tree where the right one is 0, else their difference.
+    fn comparison_term(&mut self, at: Place, left: u32, right: u32, kind: Kind) -> Result<u32, Stop>
+        requires first { left < length self.old.nodes }
+        requires second { right < length self.old.nodes }
+        ensures does { let c = comparison_of (stand_of self.old).trees (place_of at) left right (kind_of kind) in Emits self.old self.new (comparison_events c) result (IsTreeOf self.new (comparison_tree c)) }
+        ensures sorts { self.new.sorts ≡ self.old.sorts }
+    {
+        let _ = kind;
+        if self.is_zero(right) {
+            return Ok(left);
+        }
+        self.subtract(at, left, right)
+    }
+
+    // The form of an atom whose term's node this is.
+    fn atom_form(&mut self, term: u32, kind: Kind) -> Result<u32, Stop>
+        requires { term < length self.old.nodes }
+        ensures does { let a = full_atom (stand_of self.old).trees (term, kind_of kind) in Emits self.old self.new (asked a ∷ formed (atom_is a) ∷ []) result (IsAtomForm self.new a) }
+        ensures sorts { self.new.sorts ≡ self.old.sorts }
+    {
+        let atom = self.ask(term, kind)?;
+        self.form(FormNode::AtomIs(atom))
+    }
+
+    /// The form of a comparison of two trees, of an expression at this place.
+    pub fn compare(&mut self, at: Place, left: u32, right: u32, kind: Kind) -> Result<u32, Stop>
+        requires first { left < length self.old.nodes }
+        requires second { right < length self.old.nodes }
+        ensures does { let c = comparison_of (stand_of self.old).trees (place_of at) left right (kind_of kind) in Emits self.old self.new (form_events (atom_is c)) result (IsAtomForm self.new (atom_of c)) }
+        ensures sorts { self.new.sorts ≡ self.old.sorts }
+    {
+        let term = self.comparison_term(at, left, right, kind)?;
+        self.atom_form(term, kind)
+    }
+}

@@ -1,0 +1,314 @@
+// The connectives of Bool expressions, as nodes at the end of a sketch.
+ghost use Rattle.std.specs.Prelude.{◌≡◌, IfOk, map};
+ghost use Rattle.poly_graph.specs.Form.{all_form, any_form};
+ghost use Rattle.script_forms.specs.Unfolded.{and_of, chain, different, implies_of, implies_two, or_of, xor_all, xor_from, xor_of};
+ghost use Rattle.poly_graph.specs.Views.{kind_of};
+ghost use Rattle.smt_sexp.specs.Views.{place_of};
+ghost use Rattle.term_build.specs.Shapes.{drawn_of};
+ghost use Rattle.term_build.specs.Pairs.{Adds, AddsPair, ComparesTwo, Connects, ConnectsChoice, ConnectsFrom, ConnectsTwo, ImpliesFrom, JoinsFour, JoinsTwo, Negates, Writes, WritesBool, constant_formula, same_of};
+ghost use Rattle.term_build.specs.declared.connectives.Pair as code_pair;
+
+use crate::sketch::Drawn;
+use poly_graph::Kind;
+use smt_sexp::Place;
+use std::alloc::{AllocError, Global};
+
+/// A Bool expression: the node of its truth in a sketch, and that of its negation.
+#[derive(Clone, Copy, Debug, PartialEq, Eq)]
+pub struct Pair {
+    pub truth: u32,
+    pub negation: u32,
+}
+
+// A node at the end of the sketch: its number.
+fn add(sketch: &mut Vec<Drawn>, node: Drawn) -> Result<u32, AllocError>
+    ensures { Adds (map drawn_of sketch.old.items) (map drawn_of sketch.new.items) (drawn_of node) result }
+{
+    let Ok(k) = u32::try_from(sketch.len()) else {
+        return Err(AllocError);
+    };
+    sketch.push(node)?;
+    Ok(k)
+}
+
+// Two nodes at the end of the sketch: that of a truth, and that of its negation.
+fn add_pair(sketch: &mut Vec<Drawn>, yes: Drawn, no: Drawn) -> Result<Pair, AllocError>
+    ensures { AddsPair (map drawn_of sketch.old.items) (map drawn_of sketch.new.items) (drawn_of yes) (drawn_of no) result }
+{
+    let truth = add(sketch, yes)?;
+    let negation = add(sketch, no)?;
+    Ok(Pair { truth, negation })
+}
+
+// That both nodes hold.
+fn both(alloc: Global, sketch: &mut Vec<Drawn>, a: u32, b: u32) -> Result<u32, AllocError>
+    ensures { JoinsTwo all_form (map drawn_of sketch.old.items) (map drawn_of sketch.new.items) a b result }
+{
+    let children = vec![in alloc; a, b]?;
+    add(sketch, Drawn::And(children))
+}
+
+// That one of two nodes holds.
+fn either(alloc: Global, sketch: &mut Vec<Drawn>, a: u32, b: u32) -> Result<u32, AllocError>
+    ensures { JoinsTwo any_form (map drawn_of sketch.old.items) (map drawn_of sketch.new.items) a b result }
+{
+    let children = vec![in alloc; a, b]?;
+    add(sketch, Drawn::Or(children))
+}
+
+// That both of two nodes hold, or both of two others.
+fn four(
+    alloc: Global,
+    sketch: &mut Vec<Drawn>,
+    a: (u32, u32),
+    b: (u32, u32),
+) -> Result<u32, AllocError>
+    ensures { JoinsFour (map drawn_of sketch.old.items) (map drawn_of sketch.new.items) a.0 a.1 b.0 b.1 result }
+{
+    let first = both(alloc, sketch, a.0, a.1)?;
+    let second = both(alloc, sketch, b.0, b.1)?;
+    either(alloc, sketch, first, second)
+}
+
+// The nodes of the truth of these.
+fn truths(alloc: Global, pairs: &[Pair]) -> Result<Vec<u32>, AllocError>
+    ensures { IfOk result (λ ks. ks.items ≡ map (λ (p : code_pair.Pair). p.truth) pairs.now) }
+{
+    pairs.iter().map(|pair| pair.truth).collect(alloc)
+}
+
+// The nodes of the negations of these.
+fn negations(alloc: Global, pairs: &[Pair]) -> Result<Vec<u32>, AllocError>
+    ensures { IfOk result (λ ks. ks.items ≡ map (λ (p : code_pair.Pair). p.negation) pairs.now) }
+{
+    pairs.iter().map(|pair| pair.negation).collect(alloc)
+}
+
+impl Pair {
+    /// The negation: the other way round.
+    pub fn not(self) -> Pair
+        ensures value { result ≡ record { truth = self.negation; negation = self.truth } }
+        ensures negates { Negates self result }
+    {
+        Pair {
+            truth: self.negation,
+            negation: self.truth,
+        }
+    }
+
+    /// That all of these hold.
+    pub fn all(alloc: Global, sketch: &mut Vec<Drawn>, pairs: &[Pair]) -> Result<Pair, AllocError>
+        ensures { Connects and_of (map drawn_of sketch.old.items) (map drawn_of sketch.new.items) pairs.now result }
+    {
+        let truths = truths(alloc, pairs)?;
+        let negations = negations(alloc, pairs)?;
+        add_pair(sketch, Drawn::And(truths), Drawn::Or(negations))
+    }
+
+    /// That one of these holds.
+    pub fn any(alloc: Global, sketch: &mut Vec<Drawn>, pairs: &[Pair]) -> Result<Pair, AllocError>
+        ensures { Connects or_of (map drawn_of sketch.old.items) (map drawn_of sketch.new.items) pairs.now result }
+    {
+        let truths = truths(alloc, pairs)?;
+        let negations = negations(alloc, pairs)?;
+        add_pair(sketch, Drawn::Or(truths), Drawn::And(negations))
+    }
+
+    /// The constant.
+    pub fn constant(sketch: &mut Vec<Drawn>, value: bool) -> Result<Pair, AllocError>
+        ensures { Writes (constant_formula value) (map drawn_of sketch.old.items) (map drawn_of sketch.new.items) result }
+    {
+        if value {
+            add_pair(sketch, Drawn::True, Drawn::False)
+        } else {
+            add_pair(sketch, Drawn::False, Drawn::True)
+        }
+    }
+
+    /// The value of a Bool constant, whose axis this is.
+    pub fn bool_is(sketch: &mut Vec<Drawn>, axis: u32) -> Result<Pair, AllocError>
+        ensures { WritesBool axis (map drawn_of sketch.old.items) (map drawn_of sketch.new.items) result }
+    {
+        add_pair(
+            sketch,
+            Drawn::BoolIs(axis, true),
+            Drawn::BoolIs(axis, false),
+        )
+    }
+
+    /// The comparison of the trees of two nodes, of an expression at this place. That they differ says nothing.
+    pub fn compare_two(
+        sketch: &mut Vec<Drawn>,
+        at: Place,
+        left: u32,
+        right: u32,
+        kind: Kind,
+    ) -> Result<Pair, AllocError>
+        ensures { ComparesTwo (kind_of kind) (place_of at) (map drawn_of sketch.old.items) (map drawn_of sketch.new.items) left right result }
+    {
+        match kind {
+            Kind::Le => add_pair(
+                sketch,
+                Drawn::Compare(at, left, right, Kind::Le),
+                Drawn::Compare(at, left, right, Kind::Ge),
+            ),
+            Kind::Ge => add_pair(
+                sketch,
+                Drawn::Compare(at, left, right, Kind::Ge),
+                Drawn::Compare(at, left, right, Kind::Le),
+            ),
+            Kind::Eq => add_pair(
+                sketch,
+                Drawn::Compare(at, left, right, Kind::Eq),
+                Drawn::True,
+            ),
+        }
+    }
+
+    /// That the second holds where the first does.
+    pub fn implies_two(
+        alloc: Global,
+        sketch: &mut Vec<Drawn>,
+        first: Pair,
+        second: Pair,
+    ) -> Result<Pair, AllocError>
+        ensures { ConnectsTwo implies_two (map drawn_of sketch.old.items) (map drawn_of sketch.new.items) first second result }
+    {
+        let yes = vec![in alloc; first.negation, second.truth]?;
+        let no = vec![in alloc; first.truth, second.negation]?;
+        add_pair(sketch, Drawn::Or(yes), Drawn::And(no))
+    }
+
+    /// The second where the first holds, else the third.
+    pub fn choose(
+        alloc: Global,
+        sketch: &mut Vec<Drawn>,
+        condition: Pair,
+        first: Pair,
+        second: Pair,
+    ) -> Result<Pair, AllocError>
+        ensures { ConnectsChoice (map drawn_of sketch.old.items) (map drawn_of sketch.new.items) condition first second result }
+    {
+        let truth = four(
+            alloc,
+            sketch,
+            (condition.truth, first.truth),
+            (condition.negation, second.truth),
+        )?;
+        let negation = four(
+            alloc,
+            sketch,
+            (condition.truth, first.negation),
+            (condition.negation, second.negation),
+        )?;
+        Ok(Pair { truth, negation })
+    }
+
+    /// That one of two holds, and not the other.
+    pub fn exclusive_two(
+        alloc: Global,
+        sketch: &mut Vec<Drawn>,
+        first: Pair,
+        second: Pair,
+    ) -> Result<Pair, AllocError>
+        ensures { ConnectsTwo xor_of (map drawn_of sketch.old.items) (map drawn_of sketch.new.items) first second result }
+    {
+        Pair::choose(alloc, sketch, first, second.not(), second)
+    }
+
+    /// That each link of a chain holds; one alone is its own.
+    pub fn chain(alloc: Global, sketch: &mut Vec<Drawn>, pairs: &[Pair]) -> Result<Pair, AllocError>
+        ensures { Connects chain (map drawn_of sketch.old.items) (map drawn_of sketch.new.items) pairs.now result }
+    {
+        if pairs.len() == 1 {
+            return Ok(pairs[0]);
+        }
+        Pair::all(alloc, sketch, pairs)
+    }
+
+    /// That two Bool expressions are equal.
+    pub fn same_two(
+        alloc: Global,
+        sketch: &mut Vec<Drawn>,
+        first: Pair,
+        second: Pair,
+    ) -> Result<Pair, AllocError>
+        ensures { ConnectsTwo same_of (map drawn_of sketch.old.items) (map drawn_of sketch.new.items) first second result }
+    {
+        let apart = Pair::exclusive_two(alloc, sketch, first, second)?;
+        Ok(apart.not())
+    }
+
+    /// That Reals differ, whose pairs' equalities these are: this says nothing, and its negation that one of them holds.
+    pub fn different(
+        alloc: Global,
+        sketch: &mut Vec<Drawn>,
+        pairs: &[Pair],
+    ) -> Result<Pair, AllocError>
+        ensures { Connects different (map drawn_of sketch.old.items) (map drawn_of sketch.new.items) pairs.now result }
+    {
+        let equal = truths(alloc, pairs)?;
+        add_pair(sketch, Drawn::True, Drawn::Or(equal))
+    }
+
+    /// That each implies what comes after it, taken from the right.
+    pub fn implies(
+        alloc: Global,
+        sketch: &mut Vec<Drawn>,
+        pairs: &[Pair],
+    ) -> Result<Pair, AllocError>
+        ensures { Connects implies_of (map drawn_of sketch.old.items) (map drawn_of sketch.new.items) pairs.now result }
+    {
+        let Some((last, before)) = pairs.split_last() else {
+            return Pair::constant(sketch, true);
+        };
+        implies_from(alloc, sketch, before, *last)
+    }
+
+    /// That an odd number of these hold, taken from the left.
+    pub fn exclusive(
+        alloc: Global,
+        sketch: &mut Vec<Drawn>,
+        pairs: &[Pair],
+    ) -> Result<Pair, AllocError>
+        ensures { Connects xor_all (map drawn_of sketch.old.items) (map drawn_of sketch.new.items) pairs.now result }
+    {
+        let Some((first, rest)) = pairs.split_first() else {
+            return Pair::constant(sketch, true);
+        };
+        exclusive_from(alloc, sketch, *first, rest)
+    }
+}
+
+// That an odd number of a first pair and these hold.
+fn exclusive_from(
+    alloc: Global,
+    sketch: &mut Vec<Drawn>,
+    first: Pair,
+    rest: &[Pair],
+) -> Result<Pair, AllocError>
+    ensures { ConnectsFrom xor_from (map drawn_of sketch.old.items) (map drawn_of sketch.new.items) first rest.now result }
+{
+    let mut so_far = first;
+    for pair in rest {
+        so_far = Pair::exclusive_two(alloc, sketch, so_far, *pair)?;
+    }
+    Ok(so_far)
+}
+
+// That each but the last implies what comes after it, taken from the right.
+fn implies_from(
+    alloc: Global,
+    sketch: &mut Vec<Drawn>,
+    before: &[Pair],
+    last: Pair,
+) -> Result<Pair, AllocError>
+    ensures { ImpliesFrom (map drawn_of sketch.old.items) (map drawn_of sketch.new.items) last before.now result }
+{
+    let mut so_far = last;
+    for i in 0..before.len() {
+        let pair = before[before.len() - 1 - i];
+        so_far = Pair::implies_two(alloc, sketch, pair, so_far)?;
+    }
+    Ok(so_far)
+}

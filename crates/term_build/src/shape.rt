@@ -1,0 +1,163 @@
+// Forms are made from their sketch: each node once, its children before it, over a stack of its own.
+ghost use Rattle.std.specs.Prelude.{◌≡◌, ◌<◌, ◌^◌, [], length, map, replicate, slice_get, IfOk, None};
+ghost use Rattle.term_build.specs.Sketch.{IsDrawn, IsSketch};
+ghost use Rattle.term_build.specs.Shapes.{AreFrames, AreNumbers, Completing, Stepping, StaysSafe, IfDone, NumberOf, Draining, Shaping, Finishes, IsFrame, IsMemo, children, drawn_of, frame_of, node_at};
+
+use crate::builder::Builder;
+use crate::sketch::Drawn;
+use crate::stop::Stop;
+use poly_graph::FormNode;
+use std::alloc::{AllocError, Global};
+
+/// A node of a sketch, with the numbers of those of its children that are made.
+#[derive(Debug, Drop)]
+pub(crate) struct Frame {
+    pub(crate) node: u32,
+    pub(crate) numbers: Vec<u32>,
+}
+
+// The child of this place of a node.
+fn child_at(node: &Drawn, i: usize) -> Option<u32>
+    ensures { result ≡ slice_get (children (drawn_of node.now)) i }
+{
+    match node {
+        Drawn::And(children) | Drawn::Or(children) => children.get(i).copied(),
+        _ => None,
+    }
+}
+
+// The number of a node's form, whose children have these numbers.
+fn finish(builder: &mut Builder, node: &Drawn, numbers: Vec<u32>) -> Result<u32, Stop>
+    requires drawn { IsDrawn builder.old (drawn_of node.now) }
+    requires below { AreNumbers (length builder.old.forms) numbers.items }
+    ensures does { Finishes builder.old builder.new (drawn_of node.now) numbers.items result }
+    ensures sorts { builder.new.sorts ≡ builder.old.sorts }
+{
+    match node {
+        Drawn::True => builder.form(FormNode::True),
+        Drawn::False => builder.form(FormNode::False),
+        Drawn::Compare(at, left, right, kind) => builder.compare(*at, *left, *right, *kind),
+        Drawn::BoolIs(axis, value) => builder.form(FormNode::BoolIs(*axis, *value)),
+        Drawn::And(_) => builder.form(FormNode::And(numbers)),
+        Drawn::Or(_) => builder.form(FormNode::Or(numbers)),
+    }
+}
+
+// The node of a frame, all of whose children are made, is made too.
+fn complete(
+    builder: &mut Builder,
+    sketch: &[Drawn],
+    memo: &mut [Option<u32>],
+    frame: Frame,
+) -> Result<(), Stop>
+    requires sketched { IsSketch builder.old (map drawn_of sketch.now) }
+    requires framed { IsFrame (map drawn_of sketch.now) builder.old (frame_of frame) }
+    requires kept { IsMemo (map drawn_of sketch.now) builder.old memo.old }
+    requires done { slice_get (children (node_at (map drawn_of sketch.now) frame.node)) (length frame.numbers.items) ≡ None }
+    ensures does { Completing (map drawn_of sketch.now) builder.old builder.new memo.old memo.new (frame_of frame) result }
+    ensures safe { IfDone result (StaysSafe (map drawn_of sketch.now) builder.old builder.new memo.new) }
+    ensures sorts { builder.new.sorts ≡ builder.old.sorts }
+{
+    let Frame { node, numbers } = frame;
+    let number = finish(builder, &sketch[node as usize], numbers)?;
+    memo[node as usize] = Some(number);
+    Ok(())
+}
+
+// What is done with the frame that was taken from the top of the stack: its next child is taken from the memo or
+// begun, or the node is made.
+fn step(
+    alloc: Global,
+    builder: &mut Builder,
+    sketch: &[Drawn],
+    memo: &mut [Option<u32>],
+    stack: &mut Vec<Frame>,
+    mut frame: Frame,
+) -> Result<(), Stop>
+    requires sketched { IsSketch builder.old (map drawn_of sketch.now) }
+    requires framed { IsFrame (map drawn_of sketch.now) builder.old (frame_of frame) }
+    requires kept { IsMemo (map drawn_of sketch.now) builder.old memo.old }
+    ensures does { Stepping (map drawn_of sketch.now) builder.old builder.new memo.old memo.new stack.old.items stack.new.items (frame_of frame) result }
+    ensures safe { IfDone result (StaysSafe (map drawn_of sketch.now) builder.old builder.new memo.new) }
+    ensures frames { AreFrames (map drawn_of sketch.now) builder.old (map frame_of stack.old.items) → IfDone result (AreFrames (map drawn_of sketch.now) builder.new (map frame_of stack.new.items)) }
+    ensures sorts { builder.new.sorts ≡ builder.old.sorts }
+{
+    let Some(child) = child_at(&sketch[frame.node as usize], frame.numbers.len()) else {
+        return complete(builder, sketch, memo, frame);
+    };
+    if let Some(number) = memo[child as usize] {
+        frame.numbers.push(number)?;
+        stack.push(frame)?;
+        return Ok(());
+    }
+    stack.push(frame)?;
+    stack.push(Frame {
+        node: child,
+        numbers: Vec::new(alloc),
+    })?;
+    Ok(())
+}
+
+// All frames are done, from the top of the stack on.
+fn drain(
+    alloc: Global,
+    builder: &mut Builder,
+    sketch: &[Drawn],
+    memo: &mut [Option<u32>],
+    stack: &mut Vec<Frame>,
+) -> Result<(), Stop>
+    requires sketched { IsSketch builder.old (map drawn_of sketch.now) }
+    requires kept { IsMemo (map drawn_of sketch.now) builder.old memo.old }
+    requires framed { AreFrames (map drawn_of sketch.now) builder.old (map frame_of stack.old.items) }
+    ensures does { Draining (map drawn_of sketch.now) builder.old builder.new memo.old memo.new (map frame_of stack.old.items) [] result }
+    ensures sorts { builder.new.sorts ≡ builder.old.sorts }
+{
+    for _ in 0..u64::MAX {
+        let Some(frame) = stack.pop() else {
+            return Ok(());
+        };
+        step(alloc, builder, sketch, memo, stack, frame)?;
+    }
+    Err(Stop::Memory)
+}
+
+// No node is made yet.
+fn none_made(alloc: Global, n: usize) -> Result<Vec<Option<u32>>, AllocError>
+    ensures { IfOk result (λ memo. memo.items ≡ replicate n None) }
+{
+    vec![in alloc; None; n]
+}
+
+// The number of a node that is made.
+fn number_of(memo: &[Option<u32>], k: u32) -> Result<u32, Stop>
+    requires { k < length memo.now }
+    ensures { NumberOf memo.now k result }
+{
+    match memo[k as usize] {
+        Some(number) => Ok(number),
+        None => Err(Stop::Memory),
+    }
+}
+
+/// The form of a node of a sketch is made: the number of its node. Each node is made once, after its children, over a
+/// stack of its own.
+pub fn make_form(
+    alloc: Global,
+    builder: &mut Builder,
+    sketch: &[Drawn],
+    root: u32,
+) -> Result<u32, Stop>
+    requires sketched { IsSketch builder.old (map drawn_of sketch.now) }
+    requires rooted { root < length sketch.now }
+    ensures does { Shaping builder.old builder.new (map drawn_of sketch.now) root result }
+    ensures sorts { builder.new.sorts ≡ builder.old.sorts }
+{
+    let mut memo = none_made(alloc, sketch.len())?;
+    let mut stack = Vec::new(alloc);
+    stack.push(Frame {
+        node: root,
+        numbers: Vec::new(alloc),
+    })?;
+    drain(alloc, builder, sketch, &mut memo, &mut stack)?;
+    number_of(&memo, root)
+}
