@@ -5,4 +5,4 @@ pub mod Same
 mod Sorts
 mod Named
 mod Encodes
-mod Tried
+pub mod Tried

@@ -1,5 +1,5 @@
 -- The test of a Bool axis finds the axes of that sort.
-use Rattle.std.proofs.Common.{◌≡◌, refl, ℕ, zero, suc, List, [], ◌∷◌, true}
+use Rattle.std.proofs.Common.{◌≡◌, refl, ℕ, zero, suc, List, [], ◌∷◌, true, ◌<◌, length, arith}
 use Rattle.dyadic.specs.Point.{Sort, bool_sort}
 use Rattle.poly_graph.specs.Problem.{Declared, real_between, any_bool, Axis, HasSort, sort_of, sorts_of_axes}
 use Rattle.cnf_build.specs.Encoding.{is_bool, is_bool_axis}
@@ -29,3 +29,9 @@ pub test_sorts : (axes : List Axis) (i : ℕ) → is_bool_axis axes i ≡ true �
 test_sorts [] i e = cc
 test_sorts (a ∷ axes) zero e = is-first a.declared (sorts_of_axes axes) e
 test_sorts (a ∷ axes) (suc i) e = is-later a.declared (sorts_of_axes axes) i (test_sorts axes i e)
+
+-- an axis that has a sort is there
+pub sort_within : (axes : List Axis) (i : ℕ) → HasSort bool_sort (sorts_of_axes axes) i → i < length axes
+sort_within [] i s = absurd s
+sort_within (a ∷ axes) zero s = omega arith
+sort_within (a ∷ axes) (suc i) s = let h : i < length axes = sort_within axes i (later-is a.declared (sorts_of_axes axes) i s) in omega arith

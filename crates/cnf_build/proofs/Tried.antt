@@ -15,7 +15,7 @@ use Rattle.cnf_build.specs.Tried.{nought, tried_nodes, tried_atoms, tried_axis, 
 
 -- a form over what there is
 abbrev Fits : Form ℕ → Type 0
-Fits f = IsForm (sorts_of_axes tried_axes) 3 f
+Fits f = IsForm (sorts_of_axes tried_axes) 5 f
 
 fits-end : (done : List (Form ℕ)) (f : Form ℕ) → ((k : ℕ) → Fits (form_at done k)) → Fits f → (k : ℕ) → Fits (form_at (done ++ (f ∷ [])) k)
 fits-end [] f g h zero = h
@@ -23,7 +23,7 @@ fits-end [] f g h (suc k) = tt
 fits-end (e ∷ done) f g h zero = g zero
 fits-end (e ∷ done) f g h (suc k) = fits-end done f (λ j. g (suc j)) h k
 
-fits-picked : (done : List (Form ℕ)) (ks : List ℕ) → ((k : ℕ) → Fits (form_at done k)) → AreForms (sorts_of_axes tried_axes) 3 (picked done ks)
+fits-picked : (done : List (Form ℕ)) (ks : List ℕ) → ((k : ℕ) → Fits (form_at done k)) → AreForms (sorts_of_axes tried_axes) 5 (picked done ks)
 fits-picked done [] g = tt
 fits-picked done (k ∷ ks) g = (g k, fits-picked done ks g)
 
@@ -35,7 +35,7 @@ bool-axis (suc (suc i)) l = absurd (omega arith)
 fits-node : (done : List (Form ℕ)) (n : FormNode) → IsTrue (is_known n) → ((k : ℕ) → Fits (form_at done k)) → Fits (node_form done n)
 fits-node done yes_node h g = tt
 fits-node done no_node h g = tt
-fits-node done (atom_node j) h g = ltb→lt j 3 (passes _ h)
+fits-node done (atom_node j) h g = ltb→lt j 5 (passes _ h)
 fits-node done (bool_node i v) h g = bool-axis i (ltb→lt i 2 (passes _ h))
 fits-node done (all_node ks) h g = fits-picked done ks g
 fits-node done (any_node ks) h g = fits-picked done ks g
@@ -52,8 +52,23 @@ constant-nought = (omega arith, IsGcd-swap 1 0 1 (IsGcd-from_zero 1 0 refl), ome
 abbrev low : ℕ × Kind → Type 0
 low a = a.0 < 1
 
+abbrev one : List (ℕ × Kind)
+one = (0, le) ∷ []
+
+abbrev two : List (ℕ × Kind)
+two = (0, le) ∷ one
+
+abbrev three : List (ℕ × Kind)
+three = (0, le) ∷ two
+
+abbrev four : List (ℕ × Kind)
+four = (0, le) ∷ three
+
+one-more : (xs : List (ℕ × Kind)) → All low xs → All low ((0, le) ∷ xs)
+one-more xs h = let l : 0 < 1 = omega arith in All-cons low (0, le) xs l h
+
 each-atom : All (λ (a : ℕ × Kind). a.0 < length tried_nodes) tried_atoms
-each-atom = All-cons low (0, le) ((0, le) ∷ ((0, le) ∷ [])) (omega arith) (All-cons low (0, le) ((0, le) ∷ []) (omega arith) (All-cons low (0, le) [] (omega arith) (All-nil low)))
+each-atom = one-more four (one-more three (one-more two (one-more one (one-more [] (All-nil low)))))
 
 -- the problem of these parts is whole
 pub tried_whole : (forms : List FormNode) (root : ℕ) → IsTrue (are_known forms) → root < length forms → IsWhole (record { axes = tried_axes; nodes = tried_nodes; atoms = tried_atoms; forms = forms; root = root })

@@ -1,5 +1,5 @@
 -- Clauses, what they mean, and when they say what a problem's form says.
-use Rattle.std.specs.Prelude.{ℕ, ◌<◌, ◌↔◌, List, length, All, Bool, not, cond, IsTrue}
+use Rattle.std.specs.Prelude.{◌≡◌, ℕ, ◌<◌, ◌↔◌, List, length, All, Bool, not, cond, IsTrue}
 use Rattle.std.specs.List.{list_all, list_any}
 use Rattle.dyadic.specs.Point.{bool_sort}
 use Rattle.poly_graph.specs.Form.{form_truth}
@@ -32,10 +32,22 @@ clause_truth a clause = list_any (literal_truth a) clause
 abbrev pub clauses_truth : Assignment → List (List Literal) → Bool
 clauses_truth a clauses = list_all (clause_truth a) clauses
 
--- clauses, and how many helpers there are
+-- clauses, and how many atoms, axes and helpers there are
 pub record Cnf : Type 0 where
   pub clauses : List (List Literal)
+  pub atoms : ℕ
+  pub axes : ℕ
   pub helpers : ℕ
+
+-- a variable of so many atoms, axes and helpers
+abbrev pub IsVariableIn : ℕ → ℕ → ℕ → Variable → Type 0
+IsVariableIn atoms axes helpers (Atom j) = j < atoms
+IsVariableIn atoms axes helpers (BoolIs axis v) = axis < axes
+IsVariableIn atoms axes helpers (Helper k) = k < helpers
+
+-- each literal of each clause has such a variable
+abbrev pub AreNamed : ℕ → ℕ → ℕ → List (List Literal) → Type 0
+AreNamed atoms axes helpers clauses = All (λ (clause : List Literal). All (λ (l : Literal). IsVariableIn atoms axes helpers l.variable) clause) clauses
 
 -- an atom of the problem, a Bool axis of it, or one of so many helpers
 abbrev pub IsVariableOf : Parts → ℕ → Variable → Type 0
@@ -49,3 +61,5 @@ pub record IsFormOf (p : Parts) (c : Cnf) : Type 0 where
       IsTrue (form_truth atoms bools (problem_of p).form)
       ↔ ((helpers : ℕ → Bool) × IsTrue (clauses_truth (record { atoms = atoms; bools = bools; helpers = helpers }) c.clauses))
   pub named : All (λ (clause : List Literal). All (λ (l : Literal). IsVariableOf p c.helpers l.variable) clause) c.clauses
+  pub atoms : c.atoms ≡ length p.atoms
+  pub axes : c.axes ≡ length p.axes

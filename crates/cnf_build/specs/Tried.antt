@@ -1,4 +1,4 @@
--- The problems that the tests try: three atoms, and two Bool axes.
+-- The problems that the tests try: five atoms, and two Bool axes.
 use Rattle.std.specs.Prelude.{ℕ, List, [], ◌∷◌, Bool, true, pos, nat_lt}
 use Rattle.std.specs.List.{list_all}
 use Rattle.dyadic.specs.Fraction.{Fraction}
@@ -13,7 +13,7 @@ abbrev pub tried_nodes : List Node
 tried_nodes = constant_node nought ∷ []
 
 abbrev pub tried_atoms : List (ℕ × Kind)
-tried_atoms = (0, le) ∷ ((0, le) ∷ ((0, le) ∷ []))
+tried_atoms = (0, le) ∷ ((0, le) ∷ ((0, le) ∷ ((0, le) ∷ ((0, le) ∷ []))))
 
 abbrev pub tried_axis : Axis
 tried_axis = record { name = []; declared = any_bool }
@@ -23,7 +23,7 @@ tried_axes = tried_axis ∷ (tried_axis ∷ [])
 
 -- it names one of the atoms, or one of the axes
 abbrev pub is_known : FormNode → Bool
-is_known (atom_node j) = nat_lt j 3
+is_known (atom_node j) = nat_lt j 5
 is_known (bool_node i v) = nat_lt i 2
 is_known n = true
 

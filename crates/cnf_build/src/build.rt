@@ -123,18 +123,28 @@ fn add_node(alloc: Global, problem: &Problem, made: &mut Made, k: u32) -> Result
     }
 }
 
+// The count as a `u32`; a greater one is taken as want of memory.
+fn narrow(count: usize) -> Result<u32, AllocError>
+    ensures { IfOk result (λ n. n ≡ count) }
+{
+    match u32::try_from(count) {
+        Ok(n) => Ok(n),
+        Err(_) => Err(AllocError),
+    }
+}
+
 /// The form of the problem as clauses: it is true under an assignment of atoms and Bool values exactly
 /// where some values of the helpers make each clause true. There are at most two clauses and three
 /// literals for each node and each place of a child, and one clause more.
 ///
 /// # Errors
 ///
-/// Memory ran out; nothing is kept then.
+/// Memory ran out, as it does where there are more atoms or axes than a `u32` counts; nothing is kept then.
 pub fn clauses(alloc: Global, problem: &Problem) -> Result<Cnf, AllocError>
     ensures { IfOk result (λ cnf. IsFormOf problem.now cnf) }
 {
-    // with the axes comes what is known of a problem
-    let _ = problem.axes();
+    let atoms = narrow(problem.atoms().len())?;
+    let axes = narrow(problem.axes().len())?;
     let count = problem.forms().len() as u32;
     let mut made = Made::new(alloc);
     for k in 0..count {
@@ -146,5 +156,5 @@ pub fn clauses(alloc: Global, problem: &Problem) -> Result<Cnf, AllocError>
         positive: true,
     };
     add_unit(alloc, &mut made, only)?;
-    Ok(Cnf::new(made, count))
+    Ok(Cnf::new(made, atoms, axes, count))
 }

@@ -1,31 +1,43 @@
 // A form as clauses.
-ghost use Rattle.std.specs.Prelude.{◌≡◌, ◌<◌, ◌↔◌, length, Some, IsTrue, slice_get};
+ghost use Rattle.std.specs.Prelude.{◌≡◌, ◌<◌, ◌↔◌, length, Some, IsTrue, slice_get, All};
+ghost use Rattle.cnf_build.specs.Clauses.{AreNamed, IsVariableIn};
 
 use crate::literal::Literal;
 use crate::made::Made;
 use std::marker::Model;
 
-/// Clauses of which every one is to have a true literal, and the number of helpers that they name.
+/// Clauses of which every one is to have a true literal, over so many atoms, axes and helpers.
 #[derive(Drop)]
 pub struct Cnf {
     made: Made,
+    atom_count: u32,
+    axis_count: u32,
     helper_count: u32,
 }
 
 impl Model for Cnf {
     ghost use Rattle.cnf_build.specs.Clauses as words;
+    ghost use Rattle.cnf_build.specs.Clauses.{AreNamed};
 
     ghost Value = { words.Cnf };
 
-    ghost view = { λ c. record { clauses = c.made; helpers = c.helper_count } };
+    ghost view = { λ c. record { clauses = c.made; atoms = c.atom_count; axes = c.axis_count; helpers = c.helper_count } };
+
+    ghost invariant = { λ c. AreNamed c.atom_count c.axis_count c.helper_count c.made };
 }
 
 impl Cnf {
-    // These clauses over so many helpers.
-    pub(crate) fn new(made: Made, helper_count: u32) -> Self
-        ensures { result ≡ record { clauses = made; helpers = helper_count } }
+    // These clauses over so many atoms, axes and helpers.
+    pub(crate) fn new(made: Made, atom_count: u32, axis_count: u32, helper_count: u32) -> Self
+        requires { AreNamed atom_count axis_count helper_count made }
+        ensures { result ≡ record { clauses = made; atoms = atom_count; axes = axis_count; helpers = helper_count } }
     {
-        Cnf { made, helper_count }
+        Cnf {
+            made,
+            atom_count,
+            axis_count,
+            helper_count,
+        }
     }
 
     /// How many clauses there are.
@@ -45,9 +57,24 @@ impl Cnf {
     /// The literals of clause i.
     pub fn clause(&self, i: usize) -> &[Literal]
         requires { i < length self.now.clauses }
-        ensures { slice_get self.now.clauses i ≡ Some result.now }
+        ensures clause { slice_get self.now.clauses i ≡ Some result.now }
+        ensures named { All (λ l. IsVariableIn self.now.atoms self.now.axes self.now.helpers l.variable) result.now }
     {
         self.made.clause(i)
+    }
+
+    /// How many atoms there are: each atom that a clause names has a smaller number.
+    pub fn atoms(&self) -> u32
+        ensures { result ≡ self.now.atoms }
+    {
+        self.atom_count
+    }
+
+    /// How many axes there are: each axis that a clause names has a smaller number.
+    pub fn axes(&self) -> u32
+        ensures { result ≡ self.now.axes }
+    {
+        self.axis_count
     }
 
     /// How many helpers there are: each helper that a clause names has a smaller number.

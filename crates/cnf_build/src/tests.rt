@@ -13,7 +13,7 @@ use poly_graph::{
 use std::alloc::{AllocError, Global};
 use std::test::Fail;
 
-// ---- problems of three atoms and two Bool axes
+// ---- problems of five atoms and two Bool axes
 
 fn axes(alloc: Global) -> Result<Vec<Axis>, AllocError>
     ensures { IfOk result (λ v. map axis_of v.items ≡ tried_axes) }
@@ -41,6 +41,8 @@ fn atoms(alloc: Global) -> Result<Vec<Atom>, AllocError>
     atoms.push(atom)?;
     atoms.push(atom)?;
     atoms.push(atom)?;
+    atoms.push(atom)?;
+    atoms.push(atom)?;
     Ok(atoms)
 }
 
@@ -64,7 +66,7 @@ fn is_known(node: &FormNode) -> bool
     ensures { result ≡ is_known (form_node_of node.now) }
 {
     match node {
-        FormNode::AtomIs(j) => *j < 3,
+        FormNode::AtomIs(j) => *j < 5,
         FormNode::BoolIs(axis, _) => *axis < 2,
         _ => true,
     }

@@ -1,0 +1,9 @@
+pub mod Assumes
+pub mod Listed
+pub mod Meaning
+pub mod Nogoods
+pub mod Queue
+pub mod Says
+pub mod Sets
+pub mod Sound
+pub mod Watching

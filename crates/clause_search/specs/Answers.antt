@@ -1,0 +1,80 @@
+-- What the answers of propagation say.
+use Rattle.std.specs.Prelude.{◌≡◌, ◌⊎◌, ℕ, ◌<◌, List, All, Bool, true, not, IsTrue, Contains, Option, Some, None}
+use Rattle.std.specs.List.{list_all, list_any}
+use Rattle.poly_graph.specs.ProblemViews.{Parts, problem_of}
+use Rattle.poly_graph.specs.State.{State, Loosenings, undecided, with_no, may}
+use Rattle.cnf_build.specs.declared.literal.Variable.TheVariants.{Atom}
+use Rattle.cnf_build.specs.declared.literal.Literal.{Literal}
+use Rattle.cnf_build.specs.Clauses.{Cnf, IsFormOf}
+use Rattle.cnf_build.specs.Encoding.{literal}
+use Rattle.clause_search.specs.declared.prop.Prop.{Prop}
+use Rattle.clause_search.specs.declared.prop.Prop.TheVariants.{Forced, Conflict, Rest}
+use Rattle.clause_search.specs.declared.trail.Trail.{Trail}
+use Rattle.clause_search.specs.Found.{OnlyLeft, IsSettledBy}
+use Rattle.clause_search.specs.Trail.{stands_on, undecided_on, was_assumed, nogoods_of, SameNogoods}
+use Rattle.clause_search.specs.Agrees.{Agrees}
+
+-- ---- clauses
+
+-- some clause leaves this literal alone
+pub record IsUnit (c : Cnf) (t : Trail) (l : Literal) : Type 0 where
+  pub clause : List Literal
+  pub among : Contains c.clauses clause
+  pub inside : Contains clause l
+  pub others : OnlyLeft t.values clause l
+
+-- the clause has a true literal, or two different undecided ones
+abbrev pub IsSettled : Trail → List Literal → Type 0
+IsSettled t clause = IsSettledBy t.values clause
+
+-- all literals of the nogood are on the trail
+abbrev pub is_met : Trail → List Literal → Bool
+is_met t nogood = list_all (stands_on t) nogood
+
+-- some nogood is met
+abbrev pub meets_nogood : Trail → Bool
+meets_nogood t = list_any (is_met t) (nogoods_of t)
+
+-- ---- states
+
+-- at each state that agrees with the trail, the atom may be marked yes if it has no mark
+abbrev pub MayBeMarked : Cnf → Trail → ℕ → Type 0
+MayBeMarked c t j = (p : Parts) (s : Loosenings) (S : State) → IsFormOf p c → Agrees (problem_of p) s S t → IsTrue (undecided S j) → IsTrue (not (may (problem_of p) s (with_no S j)))
+
+-- at no state that agrees with the trail the form may hold
+abbrev pub MayNotHold : Cnf → Trail → Type 0
+MayNotHold c t = (p : Parts) (s : Loosenings) (S : State) → IsFormOf p c → Agrees (problem_of p) s S t → IsTrue (not (may (problem_of p) s S))
+
+-- ---- answers
+
+-- the atom came onto the trail in this step, by a clause
+pub record IsForced (c : Cnf) (t u : Trail) (j : ℕ) : Type 0 where
+  pub was_undecided : IsTrue (undecided_on t (Atom j))
+  pub stands : IsTrue (stands_on u (literal (Atom j) true))
+  pub unit : IsUnit c u (literal (Atom j) true)
+  pub means : MayBeMarked c u j
+
+-- each clause is settled, no nogood is met, and all that was assumed is on the trail
+pub record IsAtRest (c : Cnf) (t : Trail) : Type 0 where
+  pub settled : All (IsSettled t) c.clauses
+  pub unmet : IsTrue (not (meets_nogood t))
+  pub assumed_on : (l : Literal) → IsTrue (was_assumed t l) → IsTrue (stands_on t l)
+
+abbrev pub Says : Cnf → Trail → Trail → Prop → Type 0
+Says c t u (Forced j) = IsForced c t u j
+Says c t u Conflict = MayNotHold c u ⊎ IsTrue (meets_nogood u)
+Says c t u Rest = IsAtRest c u
+
+-- the trail has grown by derived literals alone
+pub record Grows (t u : Trail) : Type 0 where
+  pub same_assumed : (l : Literal) → was_assumed u l ≡ was_assumed t l
+  pub still_on : (l : Literal) → IsTrue (stands_on t l) → IsTrue (stands_on u l)
+  pub same_failed : u.failed ≡ t.failed
+  pub same : SameNogoods t u
+
+-- ---- choice
+
+-- an atom that is undecided, none where there is none
+abbrev pub IsPick : Trail → Option ℕ → Type 0
+IsPick t (Some j) = (j < t.atoms) × IsTrue (undecided_on t (Atom j))
+IsPick t None = (j : ℕ) → j < t.atoms → IsTrue (not (undecided_on t (Atom j)))

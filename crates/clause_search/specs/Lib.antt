@@ -1,0 +1,11 @@
+pub mod Agrees
+pub mod Answers
+pub mod Entailed
+pub mod Found
+pub mod Lists
+pub mod Nogood
+pub mod Pairs
+pub mod Places
+pub mod Table
+pub mod Trail
+pub mod Watches

@@ -1,0 +1,72 @@
+// Propagation: what clauses derive one literal after another.
+ghost use Rattle.std.specs.Prelude.{◌≡◌, ◌+◌, IfOk, IsTrue};
+ghost use Rattle.clause_search.specs.Table.{is_true, open_count};
+ghost use Rattle.clause_search.specs.Found.{UnitAmong};
+
+use crate::clause::Found;
+use crate::nogood::any_true;
+use crate::prop::Prop;
+use crate::trail::Trail;
+use cnf_build::{Cnf, Literal, Variable};
+use std::alloc::AllocError;
+
+impl Trail {
+    ghost use Rattle.clause_search.specs.Trail.{IsTrailOf, undecided_on, nogoods_of};
+    ghost use Rattle.clause_search.specs.Answers.{Says, Grows, IsUnit, meets_nogood};
+
+    // Whether all literals of a nogood are on the trail.
+    fn meets_nogood(&self) -> bool
+        ensures { result ≡ meets_nogood self.now }
+    {
+        any_true(&self.values, &self.nogoods)
+    }
+
+    // Puts a literal on the trail that a clause leaves alone.
+    fn derive(&mut self, cnf: &Cnf, literal: Literal)
+        requires made { IsTrailOf cnf.now self.old }
+        requires unit { UnitAmong cnf.now self.old.values literal }
+        ensures made { IsTrailOf cnf.now self.new }
+        ensures grows { Grows self.old self.new }
+        ensures unit { IsUnit cnf.now self.new literal }
+        ensures stands { IsTrue (is_true self.new.values literal) }
+        ensures fewer { open_count self.new.values + 1 ≡ open_count self.old.values }
+    {
+        self.values.make_true(literal);
+        self.watches.enqueue(literal);
+    }
+
+    /// Derives literals by clauses that leave one literal alone, up to the first atom that comes onto the
+    /// trail, a conflict, or nothing more to derive. Nogoods derive nothing.
+    ///
+    /// # Errors
+    ///
+    /// Memory ran out; what was derived before stays on the trail.
+    pub fn propagate(&mut self, cnf: &Cnf) -> Result<Prop, AllocError>
+        requires { IsTrailOf cnf.now self.old }
+        ensures made { IsTrailOf cnf.now self.new }
+        ensures grows { Grows self.old self.new }
+        ensures says { IfOk result (Says cnf.now self.old self.new) }
+    {
+        if self.failed {
+            return Ok(Prop::Conflict);
+        }
+        loop {
+            let literal = match self.watches.advance(&self.values, cnf) {
+                Found::Settled => break,
+                Found::Conflict => return Ok(Prop::Conflict),
+                Found::Unit(literal) => literal,
+            };
+            self.derive(cnf, literal);
+            if let Variable::Atom(j) = literal.variable {
+                if literal.positive {
+                    return Ok(Prop::Forced(j));
+                }
+            }
+        }
+        if self.meets_nogood() {
+            Ok(Prop::Conflict)
+        } else {
+            Ok(Prop::Rest)
+        }
+    }
+}

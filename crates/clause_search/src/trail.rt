@@ -1,0 +1,137 @@
+// What was assumed, and what follows from it.
+ghost use Rattle.std.specs.Prelude.{◌≡◌, [], ◌∷◌, ◌++◌, ℕ, ◌<◌, ◌↔◌, length, IfOk, OnOk, OnErr, IsTrue};
+ghost use Rattle.cnf_build.specs.Clauses as clauses;
+ghost use Rattle.clause_search.specs.Places.{HasPlaces};
+
+use crate::nogood::literals_of;
+use crate::table::Table;
+use crate::watches::Watches;
+use cnf_build::{Cnf, Literal, Variable};
+use poly_graph::Lits;
+use std::alloc::{AllocError, Global};
+
+/// Literals that were assumed, those that clauses derived from them, and nogoods.
+#[derive(Drop)]
+pub struct Trail {
+    pub(crate) atoms: u32,
+    pub(crate) axes: u32,
+    pub(crate) helpers: u32,
+    // what is on the trail
+    pub(crate) values: Table,
+    pub(crate) assumed: Table,
+    // a literal was assumed whose opposite had been derived
+    pub(crate) failed: bool,
+    pub(crate) nogoods: Vec<Vec<Literal>>,
+    pub(crate) watches: Watches,
+    ghost places: { HasPlaces atoms axes helpers values assumed },
+}
+
+impl Trail {
+    ghost use Rattle.clause_search.specs.Nogood.{literals_of};
+    ghost use Rattle.clause_search.specs.Trail.{IsTrailOf, CanAssume, AssumesAlso, SameNogoods, SameLiterals, IsEmpty, nogoods_of, stands_on, was_assumed};
+    ghost use Rattle.clause_search.specs.Answers.{IsPick};
+
+    /// An empty trail over these clauses, without nogoods.
+    pub fn new(alloc: Global, cnf: &Cnf) -> Result<Self, AllocError>
+        ensures made { IfOk result (IsTrailOf cnf.now) }
+        ensures empty { IfOk result IsEmpty }
+        ensures nogoods { IfOk result (λ t. nogoods_of t ≡ []) }
+    {
+        let atoms = cnf.atoms();
+        let axes = cnf.axes();
+        let helpers = cnf.helpers();
+        Ok(Trail {
+            atoms,
+            axes,
+            helpers,
+            values: Table::new(alloc, atoms, axes, helpers)?,
+            assumed: Table::new(alloc, atoms, axes, 0)?,
+            failed: false,
+            nogoods: Vec::new(alloc),
+            watches: Watches::new(alloc, cnf)?,
+        })
+    }
+
+    /// Forgets all that was assumed and derived, and keeps the nogoods.
+    pub fn clear(&mut self)
+        ensures empty { IsEmpty self.new }
+        ensures same { SameNogoods self.old self.new }
+        ensures kept { (c : clauses.Cnf) → IsTrailOf c self.old → IsTrailOf c self.new }
+    {
+        self.values.clear();
+        self.assumed.clear();
+        self.failed = false;
+        self.watches.restart();
+    }
+
+    /// Whether the literal may be assumed: it is one of an atom or a Bool value, and its opposite was not assumed.
+    pub fn can_assume(&self, literal: Literal) -> bool
+        ensures { IsTrue result ↔ CanAssume self.now literal }
+    {
+        let is_there = match literal.variable {
+            Variable::Atom(j) => j < self.atoms,
+            Variable::BoolIs(axis, _) => axis < self.axes,
+            Variable::Helper(_) => false,
+        };
+        is_there && !self.assumed.is_false(literal)
+    }
+
+    /// Assumes a literal of an atom or a Bool value whose opposite was not assumed.
+    pub fn assume(&mut self, literal: Literal)
+        requires { CanAssume self.old literal }
+        ensures assumed { AssumesAlso self.old self.new literal }
+        ensures kept { (c : clauses.Cnf) → IsTrailOf c self.old → IsTrailOf c self.new }
+    {
+        self.assumed.make_true(literal);
+        if self.values.is_open(literal.variable) {
+            self.values.make_true(literal);
+            self.watches.enqueue(literal);
+        } else if self.values.is_false(literal) {
+            self.failed = true;
+        }
+    }
+
+    /// Adds a nogood: the marks of a state that no point of the form has.
+    ///
+    /// # Errors
+    ///
+    /// Memory ran out; the trail is unchanged.
+    pub fn add_nogood(&mut self, alloc: Global, nogood: &Lits) -> Result<(), AllocError>
+        requires { length nogood.now ≡ self.old.atoms }
+        ensures added { OnOk result (nogoods_of self.new ≡ nogoods_of self.old ++ (literals_of nogood.now ∷ [])) }
+        ensures unchanged { OnErr result (nogoods_of self.new ≡ nogoods_of self.old) }
+        ensures literals { SameLiterals self.old self.new }
+        ensures kept { (c : clauses.Cnf) → IsTrailOf c self.old → IsTrailOf c self.new }
+    {
+        let _atoms = self.atoms;
+        let literals = literals_of(alloc, nogood)?;
+        self.nogoods.push(literals)?;
+        Ok(())
+    }
+
+    /// Whether the literal is on the trail.
+    pub fn stands(&self, literal: Literal) -> bool
+        ensures { result ≡ stands_on self.now literal }
+    {
+        self.values.is_true(literal)
+    }
+
+    /// Whether the literal was assumed.
+    pub fn was_assumed(&self, literal: Literal) -> bool
+        ensures { result ≡ was_assumed self.now literal }
+    {
+        self.assumed.is_true(literal)
+    }
+
+    /// An atom that is undecided, if there is one.
+    pub fn pick(&self) -> Option<u32>
+        ensures { IsPick self.now result }
+    {
+        for j in 0..self.atoms {
+            if self.values.is_open(Variable::Atom(j)) {
+                return Some(j);
+            }
+        }
+        None
+    }
+}
