@@ -11,5 +11,6 @@ pub mod Problems
 mod Rows
 pub mod Spells
 pub mod Takes
+pub mod Texts
 mod TextRows
 pub mod Writes

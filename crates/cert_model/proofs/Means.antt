@@ -40,15 +40,15 @@ module _ (p : Problem) (g : IsProblem p) (s : Loosenings) where
   pub derived_lemmas : (lemmas : List State) → AreDerived p s [] lemmas → AreLemmas p s lemmas
   derived_lemmas lemmas d = lemmas-after [] lemmas none-yet d
 
-  tree-catches : (lemmas : List State) → AreLemmas p s lemmas → (left : List Standing) → IsTree p s lemmas left →
+  pub tree_catches : (lemmas : List State) → AreLemmas p s lemmas → (left : List Standing) → IsTree p s lemmas left →
       (point : List Coordinate) → IsPoint (sorts_of_problem p) point → IsTrue (in_declared_box p point) → MeetsForm p s point → Among p s point (states_of left)
-  tree-catches lemmas h left (inl x) point q i m = absurd (crossed_is_empty p x.0 point q x.1 i)
-  tree-catches lemmas h left (inr t) point q i m = tree_keeps p s g lemmas h t.1 point (root_has p g s point q i) m
+  tree_catches lemmas h left (inl x) point q i m = absurd (crossed_is_empty p x.0 point q x.1 i)
+  tree_catches lemmas h left (inr t) point q i m = tree_keeps p s g lemmas h t.1 point (root_has p g s point q i) m
 
 pub cover_catches : (p : Problem) → IsProblem p → (bound : Option ℕ) (bytes : List ℕ) (s : Loosenings) (left : List Standing) → IsAccepted p bound bytes s (left_open left) →
     (point : List Coordinate) → IsPoint (sorts_of_problem p) point → IsTrue (in_declared_box p point) → MeetsForm p s point → Among p s point (states_of left)
 cover_catches p g bound bytes s left e point q i m = let c = cover_derived p bound bytes s left e in
-    tree-catches p g s c.lemmas (derived_lemmas p g s c.lemmas c.derived) left c.tree point q i m
+    tree_catches p g s c.lemmas (derived_lemmas p g s c.lemmas c.derived) left c.tree point q i m
 
 pub empty_cover_means : (p : Problem) → IsProblem p → (bound : Option ℕ) (bytes : List ℕ) (s : Loosenings) → IsAccepted p bound bytes s (left_open []) →
     (point : List Coordinate) → IsPoint (sorts_of_problem p) point → IsTrue (in_declared_box p point) → MeetsForm p s point → ⊥

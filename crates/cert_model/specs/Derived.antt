@@ -4,6 +4,7 @@ use Rattle.dyadic.specs.Fraction.{Fraction, at_most, sum_of, difference_of}
 use Rattle.dyadic.specs.Point.{Coordinate, at_fraction, at_bool}
 use Rattle.poly_graph.specs.Space.{Domain, real_domain, bool_domain, Space}
 use Rattle.poly_graph.specs.Problem.{Declared, real_between, any_bool, Axis, Problem, crosses}
+pub use Rattle.poly_graph.specs.Fits.{IsSingle, AreSingle}
 use Rattle.poly_graph.specs.State.{State, Loosenings, root_state}
 use Rattle.poly_graph.specs.Derivation.{Tree, Lawful}
 use Rattle.cert_read.specs.CertLine.{end_word, line, parsed}
@@ -44,15 +45,3 @@ abbrev pub EndsOnce : List (List ℕ) → Type 0
 EndsOnce [] = ⊥
 EndsOnce (l ∷ []) = parsed l ≡ line end_word
 EndsOnce (l ∷ m ∷ ls) = (parsed l ≡ line end_word → ⊥) × EndsOnce (m ∷ ls)
-
--- one value is left on the axis
-abbrev pub IsSingle : Declared → Domain → Type 0
-IsSingle (real_between lo hi) (real_domain l h) = l ≡ h
-IsSingle any_bool (bool_domain true false) = Unit {0}
-IsSingle any_bool (bool_domain false true) = Unit {0}
-IsSingle a d = ⊥
-
-abbrev pub AreSingle : List Axis → Space → Type 0
-AreSingle [] [] = Unit {0}
-AreSingle (a ∷ axes) (d ∷ space) = IsSingle a.declared d × AreSingle axes space
-AreSingle _ _ = ⊥

@@ -6,6 +6,7 @@ use Rattle.dyadic.specs.Rounding.{exact}
 use Rattle.cert_read.specs.CertLine.{BoolWord, says_false, says_true, says_both, RuleLine, pull_at, unit_at, void_at, case_at, stuck_at, by_lemma, ban_by, cut_at, flip_at, false_here, open_here, RuleWord}
 use Rattle.poly_graph.specs.Space.{Domain, real_domain, bool_domain, Space}
 use Rattle.poly_graph.specs.Problem.{Declared, real_between, any_bool, Axis, Problem, first_crossed}
+pub use Rattle.poly_graph.specs.Fits.{coordinate_of, coordinates, is_near, are_near}
 use Rattle.poly_graph.specs.State.{State, Loosenings, delta_of, member, sure, marks_of}
 use Rattle.poly_graph.specs.Rules.{Line, pull, unit, void, ban, make_false, by, cut, flip, case, open_line, stuck, Left, closed, one, two, stays}
 
@@ -175,26 +176,6 @@ extra_at_end (left_open left) = Extra
 abbrev pub coordinate_next : Loosenings → List Axis → Space → Due
 coordinate_next s [] space = end_due s (at_point space)
 coordinate_next s (a ∷ axes) space = coordinate_due s a axes space
-
--- the coordinate of an axis with one value left
-abbrev pub coordinate_of : Domain → Coordinate
-coordinate_of (real_domain l h) = at_fraction (exact l)
-coordinate_of (bool_domain f t) = at_bool t
-
-abbrev pub coordinates : Space → List Coordinate
-coordinates [] = []
-coordinates (d ∷ space) = coordinate_of d ∷ coordinates space
-
--- the coordinate lies within d of the declared bounds
-abbrev pub is_near : Fraction → Declared → Coordinate → Bool
-is_near d (real_between l h) (at_fraction q) = at_most (difference_of l d) q && at_most q (sum_of h d)
-is_near d any_bool (at_bool b) = true
-is_near d _ _ = false
-
-abbrev pub are_near : Fraction → List Axis → List Coordinate → Bool
-are_near d [] [] = true
-are_near d (a ∷ axes) (c ∷ point) = is_near d a.declared c && are_near d axes point
-are_near d _ _ = false
 
 -- the form is sure over a point, and each of its Real coordinates lies within delta of the declared bounds
 abbrev pub is_shown : Problem → Loosenings → Value → Bool

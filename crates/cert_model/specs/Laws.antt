@@ -1,5 +1,5 @@
 -- The laws of accepted certificates.
-use Rattle.std.specs.Prelude.{◌≡◌, ℕ, ◌<◌, ◌≤◌, List, [], ◌∷◌, Option, None, false, IsTrue, length}
+use Rattle.std.specs.Prelude.{◌≡◌, ℕ, ◌<◌, ◌≤◌, List, [], ◌∷◌, Option, None, false, IsTrue, length, map}
 use Rattle.std.specs.List.{AllByRecursion}
 use Rattle.dyadic.specs.Point.{Coordinate, IsPoint}
 use Rattle.dyadic.specs.Rounding.{exact}
@@ -13,7 +13,8 @@ use Rattle.cert_read.specs.Lines.{lines_of}
 use Rattle.cert_model.specs.Due.{Standing, Value, version_due, at_point, left_open, is_shown, coordinates}
 use Rattle.cert_model.specs.Accepted.{IsAccepted, loosenings_fit, course_of_lines, ended, verdict, certificate_text, most_bytes, most_lemmas, accepted}
 use Rattle.cert_model.specs.Derived.{AreDerived, states_of, IsCover, AreNear, EndsOnce, AreSingle}
-use Rattle.cert_model.specs.Written.{rule_lines, NamesWell, left_standing, LemmaTree, lemma_states, AreLemmaTrees, cover_lines, point_lines}
+use Rattle.cert_model.specs.Standing.{standing, IsHonest, branches}
+use Rattle.cert_model.specs.Written.{rule_lines, NamesWell, left_standing, tree_standing, IsHonestTree, tree_branches, LemmaTree, lemma_states, AreLemmaTrees, cover_lines, point_lines}
 
 -- The margin and delta of an accepted certificate's header are in their limits.
 abbrev pub HeaderFits : Type 0
@@ -83,3 +84,59 @@ CrossingIsAccepted = (p : Problem) (b : Option ℕ) (s : Loosenings) (lemmas : L
 abbrev pub PointIsAccepted : Type 0
 PointIsAccepted = (p : Problem) (b : Option ℕ) (s : Loosenings) → IsTrue (loosenings_fit s.margin_bits s.delta_bits) → (space : Space) → AreSingle p.axes space → IsTrue (is_shown p s (at_point space)) →
     ended (course_of_lines p b 0 version_due (point_lines s b space)) ≡ accepted s (at_point space)
+
+-- ---- the same of the bytes
+
+-- the lines can be spelled, and are no longer than a certificate may be
+abbrev pub CanBeWritten : List CertLine → Type 0
+CanBeWritten ls = AllByRecursion IsSpelled ls × (length (certificate_text ls) ≤ most_bytes)
+
+-- lemmas with their trees, and a tree at the root of a declared box that is not empty, which follow the rules
+pub record IsLawfulCover (p : Problem) (s : Loosenings) (lemmas : List LemmaTree) (t : Tree) : Type 0 where
+  pub loosenings : IsTrue (loosenings_fit s.margin_bits s.delta_bits)
+  pub count : length lemmas ≤ most_lemmas
+  pub lemma_trees : AreLemmaTrees p s [] lemmas
+  pub not_crossed : first_crossed p ≡ None
+  pub left : List State
+  pub lawful : Lawful p s (lemma_states lemmas) (root_state p) t left
+  pub names : NamesWell p t
+
+abbrev pub tree_text : Loosenings → Option ℕ → List LemmaTree → Tree → List ℕ
+tree_text s b lemmas t = certificate_text (cover_lines s b lemmas (rule_lines (tree_lines t)))
+
+abbrev pub crossing_text : Loosenings → Option ℕ → List LemmaTree → ℕ → List ℕ
+crossing_text s b lemmas i = certificate_text (cover_lines s b lemmas (crossing i ∷ []))
+
+abbrev pub point_text : Loosenings → Option ℕ → Space → List ℕ
+point_text s b space = certificate_text (point_lines s b space)
+
+-- A lawful cover's text is accepted with what its tree leaves.
+abbrev pub TreeTextIsAccepted : Type 0
+TreeTextIsAccepted = (p : Problem) (b : Option ℕ) (s : Loosenings) (lemmas : List LemmaTree) (t : Tree) → IsLawfulCover p s lemmas t → CanBeWritten (cover_lines s b lemmas (rule_lines (tree_lines t))) →
+    IsAccepted p b (tree_text s b lemmas t) s (left_open (left_standing p s (lemma_states lemmas) (root_state p) t))
+
+-- The lines of its main tree stand where the tree has them.
+abbrev pub TreeTextStands : Type 0
+TreeTextStands = (p : Problem) (b : Option ℕ) (s : Loosenings) (lemmas : List LemmaTree) (t : Tree) → IsLawfulCover p s lemmas t → CanBeWritten (cover_lines s b lemmas (rule_lines (tree_lines t))) →
+    standing p b (tree_text s b lemmas t) ≡ map (λ (x : Standing). record { loosenings = s; line = x }) (tree_standing p s (lemma_states lemmas) (root_state p) t)
+
+-- So the text is honest where the tree is.
+abbrev pub TreeTextIsHonest : Type 0
+TreeTextIsHonest = (p : Problem) (b : Option ℕ) (s : Loosenings) (lemmas : List LemmaTree) (t : Tree) → IsLawfulCover p s lemmas t → CanBeWritten (cover_lines s b lemmas (rule_lines (tree_lines t))) →
+    (w : ℕ) → IsHonestTree p w s (lemma_states lemmas) (root_state p) t → IsHonest p b w (tree_text s b lemmas t)
+
+-- And it has as many branches.
+abbrev pub TreeTextBranches : Type 0
+TreeTextBranches = (p : Problem) (b : Option ℕ) (s : Loosenings) (lemmas : List LemmaTree) (t : Tree) → IsLawfulCover p s lemmas t → CanBeWritten (cover_lines s b lemmas (rule_lines (tree_lines t))) →
+    branches p b (tree_text s b lemmas t) ≡ tree_branches t
+
+-- The text for an axis whose bounds cross is accepted with nothing left, and no line of it stands at a state.
+abbrev pub CrossingText : Type 0
+CrossingText = (p : Problem) (b : Option ℕ) (s : Loosenings) (lemmas : List LemmaTree) → IsTrue (loosenings_fit s.margin_bits s.delta_bits) → length lemmas ≤ most_lemmas →
+    AreLemmaTrees p s [] lemmas → (i : ℕ) → IsTrue (crosses p i) → CanBeWritten (cover_lines s b lemmas (crossing i ∷ [])) →
+    IsAccepted p b (crossing_text s b lemmas i) s (left_open []) × (standing p b (crossing_text s b lemmas i) ≡ [])
+
+-- So is the text of a point that is shown, with that point.
+abbrev pub PointText : Type 0
+PointText = (p : Problem) (b : Option ℕ) (s : Loosenings) → IsTrue (loosenings_fit s.margin_bits s.delta_bits) → (space : Space) → AreSingle p.axes space → IsTrue (is_shown p s (at_point space)) →
+    CanBeWritten (point_lines s b space) → IsAccepted p b (point_text s b space) s (at_point space) × (standing p b (point_text s b space) ≡ [])

@@ -1,22 +1,22 @@
 -- The lines of a certificate's main tree with their states; honest certificates, and the number of branches.
 use Rattle.std.specs.Prelude.{ℕ, ◌+◌, List, [], ◌∷◌, ◌++◌, Bool, true, false, Option, IsTrue, All}
 use Rattle.cert_read.specs.Lines.{lines_of}
-use Rattle.cert_read.specs.CertLine.{RuleLine, rule_line, Parsed, line, parsed}
+use Rattle.cert_read.specs.CertLine.{RuleLine, CertLine, rule_line, Parsed, line, parsed}
 use Rattle.poly_graph.specs.Problem.{Problem}
 use Rattle.poly_graph.specs.State.{State, Loosenings, root_state}
 use Rattle.poly_graph.specs.Honest.{is_honest, branch_count}
 use Rattle.cert_model.specs.Due.{Standing, Due, version_due, root_due, tree_due, Next, on, faulty, rule_of, is_crossed_box}
-use Rattle.cert_model.specs.Accepted.{next_parsed}
+use Rattle.cert_model.specs.Accepted.{next, next_parsed}
 
 -- with the margin and delta of the header
 pub record Stands : Type 0 where
   pub loosenings : Loosenings
   pub line : Standing
 
-abbrev stands : Loosenings → State → RuleLine → Stands
+abbrev pub stands : Loosenings → State → RuleLine → Stands
 stands s S l = record { loosenings = s; line = record { state = S; does = rule_of l } }
 
-abbrev at_root : Bool → Problem → Loosenings → RuleLine → List Stands
+abbrev pub at_root : Bool → Problem → Loosenings → RuleLine → List Stands
 at_root true p s l = []
 at_root false p s l = stands s (root_state p) l ∷ []
 
@@ -33,6 +33,11 @@ standing_next (on d) k = k d
 abbrev pub standing_from : Problem → Option ℕ → Due → List (List ℕ) → List Stands
 standing_from p b d [] = []
 standing_from p b d (l ∷ ls) = stands_at p d (parsed l) ++ standing_next (next_parsed p b d (parsed l)) (λ d'. standing_from p b d' ls)
+
+-- the same of lines that are well formed
+abbrev pub standing_of_lines : Problem → Option ℕ → Due → List CertLine → List Stands
+standing_of_lines p b d [] = []
+standing_of_lines p b d (l ∷ ls) = stands_at p d (line l) ++ standing_next (next p b d l) (λ d'. standing_of_lines p b d' ls)
 
 -- the lines of the main tree, in order, each where it stands
 abbrev pub standing : Problem → Option ℕ → List ℕ → List Stands

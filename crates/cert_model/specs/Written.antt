@@ -1,13 +1,15 @@
 -- Trees as lines of a certificate.
-use Rattle.std.specs.Prelude.{◌≡◌, ℕ, suc, List, [], ◌∷◌, ◌++◌, map, length, true, false, ◌||◌, Option, Some, IsTrue}
+use Rattle.std.specs.Prelude.{◌≡◌, ℕ, suc, List, [], ◌∷◌, ◌++◌, map, length, true, false, ◌||◌, Option, Some, IsTrue, All, sum_by}
 use Rattle.std.specs.List.{AllByRecursion}
 use Rattle.dyadic.specs.Fraction.{at_most}
 use Rattle.dyadic.specs.Rounding.{exact}
 use Rattle.cert_read.specs.CertLine.{says_false, says_true, says_both, RuleLine, pull_at, unit_at, void_at, case_at, stuck_at, by_lemma, ban_by, cut_at, flip_at, false_here, open_here, CertLine, rule_line, version, margin, delta, bound, cover, lemma, point_word, tree_word, end_word, real_interval, real_value, bool_value, yes_list, no_list}
 use Rattle.poly_graph.specs.Space.{Domain, real_domain, bool_domain, Space}
 use Rattle.poly_graph.specs.Problem.{Declared, real_between, any_bool, Axis, Problem}
+pub use Rattle.poly_graph.specs.Fits.{FitsAxis, FitsAxes}
 use Rattle.poly_graph.specs.State.{State, Loosenings, yes_of, no_of}
 use Rattle.poly_graph.specs.Rules.{Line, pull, unit, void, ban, make_false, by, cut, flip, case, open_line, stuck, Left, one, two, stays, rule}
+use Rattle.poly_graph.specs.Honest.{is_honest, branch_count}
 use Rattle.poly_graph.specs.Derivation.{Tree, leaf, then, fork, tree_lines, Lawful}
 use Rattle.cert_model.specs.Due.{Standing, names_well}
 
@@ -50,6 +52,21 @@ left_standing p s lemmas S (leaf l) = leaf_standing S l (rule p s lemmas S l)
 left_standing p s lemmas S (then l t) = step_standing (rule p s lemmas S l) (λ S'. left_standing p s lemmas S' t)
 left_standing p s lemmas S (fork l t u) = fork_standing (rule p s lemmas S l) (λ S'. left_standing p s lemmas S' t) (λ S'. left_standing p s lemmas S' u)
 
+-- ---- every line of a lawful tree, with the state where it stands
+
+abbrev pub tree_standing : Problem → Loosenings → List State → State → Tree → List Standing
+tree_standing p s lemmas S (leaf l) = record { state = S; does = l } ∷ []
+tree_standing p s lemmas S (then l t) = record { state = S; does = l } ∷ step_standing (rule p s lemmas S l) (λ S'. tree_standing p s lemmas S' t)
+tree_standing p s lemmas S (fork l t u) = record { state = S; does = l } ∷ fork_standing (rule p s lemmas S l) (λ S'. tree_standing p s lemmas S' t) (λ S'. tree_standing p s lemmas S' u)
+
+-- each line of the tree is honest, where w is the number of bits of the least width
+abbrev pub IsHonestTree : Problem → ℕ → Loosenings → List State → State → Tree → Type 0
+IsHonestTree p w s lemmas S t = All (λ (x : Standing). IsTrue (is_honest p w s x.state x.does)) (tree_standing p s lemmas S t)
+
+-- the number of branch lines
+abbrev pub tree_branches : Tree → ℕ
+tree_branches t = sum_by branch_count (tree_lines t)
+
 -- ---- whole covers
 
 -- a lemma's state with its tree
@@ -78,17 +95,6 @@ lemmas_lines i (x ∷ xs) = lemma_lines i x ++ lemmas_lines (suc i) xs
 abbrev pub cover_lines : Loosenings → Option ℕ → List LemmaTree → List CertLine → List CertLine
 cover_lines s b lemmas body =
     version 1 ∷ margin s.margin_bits ∷ delta s.delta_bits ∷ bound b ∷ cover (length lemmas) ∷ (lemmas_lines 0 lemmas ++ (tree_word ∷ (body ++ (end_word ∷ []))))
-
--- the domain is one of such an axis, and not empty
-abbrev pub FitsAxis : Declared → Domain → Type 0
-FitsAxis (real_between lo hi) (real_domain l h) = IsTrue (at_most (exact l) (exact h))
-FitsAxis any_bool (bool_domain f t) = IsTrue (f || t)
-FitsAxis a d = ⊥
-
-abbrev pub FitsAxes : List Axis → Space → Type 0
-FitsAxes [] [] = Unit {0}
-FitsAxes (a ∷ axes) (d ∷ space) = FitsAxis a.declared d × FitsAxes axes space
-FitsAxes _ _ = ⊥
 
 -- a state that a certificate can spell, with a tree over the lemmas before it in which no state stays
 pub record IsLemmaTree (p : Problem) (s : Loosenings) (before : List State) (x : LemmaTree) : Type 0 where

@@ -4,7 +4,7 @@
 //! No code runs here: each function is a law about the definitions in `specs/`, and its contract is the law.
 #![tactic(auto)]
 
-ghost use Rattle.cert_model.specs.Laws.{HeaderFits, EndIsLast, CoverIsDerived, LemmasHaveNoPoint, CoverCatches, EmptyCoverMeans, PointMeans, TextHasLines, ShortestIsAccepted, CoverIsAccepted, CrossingIsAccepted, PointIsAccepted};
+ghost use Rattle.cert_model.specs.Laws.{HeaderFits, EndIsLast, CoverIsDerived, LemmasHaveNoPoint, CoverCatches, EmptyCoverMeans, PointMeans, TextHasLines, ShortestIsAccepted, CoverIsAccepted, CrossingIsAccepted, PointIsAccepted, TreeTextIsAccepted, TreeTextStands, TreeTextIsHonest, TreeTextBranches, CrossingText, PointText};
 
 /// The margin and delta of an accepted certificate are in their limits.
 pub fn header_fits()
@@ -68,4 +68,23 @@ pub fn crossing_is_accepted()
 /// A point that is shown, written as lines, is accepted.
 pub fn point_is_accepted()
     ensures { PointIsAccepted }
+{}
+
+/// The text of a cover that is derived by the rules is accepted with the states that its tree leaves; the lines of its
+/// main tree stand at the tree's states, so it is honest where they are, and has their branches.
+pub fn tree_text_is_accepted()
+    ensures accepted { TreeTextIsAccepted }
+    ensures standing { TreeTextStands }
+    ensures honest { TreeTextIsHonest }
+    ensures branches { TreeTextBranches }
+{}
+
+/// The text for bounds that cross is accepted, leaves nothing, and has no line at a state.
+pub fn crossing_text_is_accepted()
+    ensures { CrossingText }
+{}
+
+/// The text of a point that is shown is accepted with the point, and has no line at a state.
+pub fn point_text_is_accepted()
+    ensures { PointText }
 {}

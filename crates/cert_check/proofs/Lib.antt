@@ -1,0 +1,17 @@
+pub mod Axes
+pub mod Fed
+pub mod Firsts
+pub mod Led
+pub mod ListTests
+pub mod Marking
+pub mod Marks
+pub mod Near
+pub mod OneLine
+pub mod OneMark
+pub mod Results
+pub mod Rows
+pub mod RuleFits
+pub mod Taking
+pub mod Tiny
+pub mod Told
+pub mod Waits

@@ -1,0 +1,95 @@
+-- What a rule leaves has a domain for each axis and a mark for each atom, as its state has.
+use Rattle.std.proofs.Common.{◌≡◌, ℕ, zero, suc, List, [], ◌∷◌, length, replicate, Bool, true, false, cond, not, ◌&&◌, Option, Some, None, refl, ap, ap₂, ◌∙◌, arith}
+use Rattle.std.proofs.lemmas.List.{length-set, length-map}
+use Rattle.dyadic.specs.Rounding.{below_all, finite, above_all}
+use Rattle.dyadic.specs.Interval.{Interval, nothing, between}
+use Rattle.dyadic.specs.Space.{Domain, Space, changed, strictly_inside, lower_part, upper_part, is_undecided, keep, test_axis}
+use Rattle.poly_graph.specs.Term.{Node, variable_node}
+use Rattle.poly_graph.specs.Space.{range}
+use Rattle.poly_graph.specs.Narrowed.{set_axis, with_axes, some_empty, narrowed, enclosures}
+use Rattle.poly_graph.specs.Problem.{Axis, atom_at, root_domain, root_space}
+use Rattle.poly_graph.specs.ProblemViews.{Parts, problem_of}
+use Rattle.poly_graph.specs.State.{Mark, marked_yes, marked_no, unmarked, State, Loosenings, margin_of, in_yes, undecided, with_mark, with_yes, with_no, with_space, may, root_state}
+use Rattle.poly_graph.specs.Rules.{Line, pull, unit, ban, void, make_false, by, cut, flip, case, open_line, stuck, Left, closed, one, two, stays, narrowing, lemma_covers, with_changed, when, pulled, voided, is_stuck_atom, rule}
+use Rattle.cert_check.specs.States.{Fits}
+use Rattle.cert_check.specs.Waiting.{FitsLeft}
+
+length-axis : (axis : ℕ) (i : Interval) (space : Space) → length (set_axis axis i space) ≡ length space
+length-axis axis i [] = refl
+length-axis zero nothing (d ∷ space) = refl
+length-axis zero (between below_all h) (d ∷ space) = refl
+length-axis zero (between above_all h) (d ∷ space) = refl
+length-axis zero (between (finite l) below_all) (d ∷ space) = refl
+length-axis zero (between (finite l) above_all) (d ∷ space) = refl
+length-axis zero (between (finite l) (finite h)) (d ∷ space) = refl
+length-axis (suc axis) i (d ∷ space) = let e = length-axis axis i space in omega (arith, e)
+
+length-axes : (nodes : List Node) (ns : List (Option Interval)) (space : Space) → length (with_axes nodes ns space) ≡ length space
+length-axes (variable_node axis ∷ nodes) (Some i ∷ ns) space = length-axis axis i (with_axes nodes ns space) ∙ length-axes nodes ns space
+length-axes (_ ∷ nodes) (_ ∷ ns) space = length-axes nodes ns space
+length-axes _ _ space = refl
+
+length-changed : (f : Domain → Domain) (axis : ℕ) (space : Space) → length (changed f axis space) ≡ length space
+length-changed f axis [] = refl
+length-changed f zero (d ∷ space) = refl
+length-changed f (suc axis) (d ∷ space) = let e = length-changed f axis space in omega (arith, e)
+
+abbrev pub state : Space → List Mark → State
+state space marks = record { space = space; marks = marks }
+
+module _ (p : Parts) where
+  space-fits : (S : State) (space : Space) → length space ≡ length S.space → Fits p S → Fits p (with_space S space)
+  space-fits S space e h = record { axes = e ∙ h.axes; atoms = h.atoms }
+
+  pub mark_fits : (S : State) (j : ℕ) (m : Mark) → Fits p S → Fits p (with_mark S j m)
+  mark_fits S j m h = record { axes = h.axes; atoms = length-set S.marks j m ∙ h.atoms }
+
+  changed-fits : (S : State) (f : Domain → Domain) (axis : ℕ) → Fits p S → Fits p (with_changed S f axis)
+  changed-fits S f axis h = space-fits S (changed f axis S.space) (length-changed f axis S.space) h
+
+  when-fits : (b : Bool) (l : Left) → FitsLeft p (Some l) → FitsLeft p (when b l)
+  when-fits true l h = h
+  when-fits false l h = tt
+
+  cond-fits : (b : Bool) (o : Option Left) → FitsLeft p o → FitsLeft p (cond b o None)
+  cond-fits true o h = h
+  cond-fits false o h = tt
+
+  pulled-fits : (S : State) (b : Bool) (space : Space) → length space ≡ length S.space → Fits p S → FitsLeft p (pulled S (cond b None (Some space)))
+  pulled-fits S true space e h = tt
+  pulled-fits S false space e h = space-fits S space e h
+
+  voided-fits : (o : Option Space) → FitsLeft p (voided o)
+  voided-fits None = tt
+  voided-fits (Some space) = tt
+
+  pub rule_fits : (s : Loosenings) (lemmas : List State) (S : State) (l : Line) → Fits p S → FitsLeft p (rule (problem_of p) s lemmas S l)
+  rule_fits s lemmas S (pull j) h =
+      let ns : List (Option Interval) = narrowed p.nodes (enclosures S.space p.nodes) (atom_at (problem_of p) j).0 (range (margin_of s) (atom_at (problem_of p) j).1) in
+      cond-fits (in_yes S j) (pulled S (narrowing (problem_of p) s S j)) (pulled-fits S (some_empty ns) (with_axes p.nodes ns S.space) (length-axes p.nodes ns S.space) h)
+  rule_fits s lemmas S (unit j) h = when-fits (undecided S j && not (may (problem_of p) s (with_no S j))) (one (with_yes S j)) (mark_fits S j marked_yes h)
+  rule_fits s lemmas S (ban j i) h = when-fits (undecided S j && lemma_covers lemmas i (with_yes S j)) (one (with_no S j)) (mark_fits S j marked_no h)
+  rule_fits s lemmas S (void j) h = cond-fits (in_yes S j) (voided (narrowing (problem_of p) s S j)) (voided-fits (narrowing (problem_of p) s S j))
+  rule_fits s lemmas S make_false h = when-fits (not (may (problem_of p) s S)) closed tt
+  rule_fits s lemmas S (by i) h = when-fits (lemma_covers lemmas i S) closed tt
+  rule_fits s lemmas S (cut axis c) h = when-fits (test_axis (strictly_inside c) axis S.space) (two (with_changed S (lower_part c) axis) (with_changed S (upper_part c) axis))
+      (changed-fits S (lower_part c) axis h, changed-fits S (upper_part c) axis h)
+  rule_fits s lemmas S (flip axis) h = when-fits (test_axis is_undecided axis S.space) (two (with_changed S (keep false) axis) (with_changed S (keep true) axis))
+      (changed-fits S (keep false) axis h, changed-fits S (keep true) axis h)
+  rule_fits s lemmas S (case j) h = when-fits (undecided S j) (two (with_yes S j) (with_no S j)) (mark_fits S j marked_yes h, mark_fits S j marked_no h)
+  rule_fits s lemmas S open_line h = tt
+  rule_fits s lemmas S (stuck j) h = when-fits (is_stuck_atom (problem_of p) s S j) stays tt
+
+  length-none : (n : ℕ) → length (replicate n unmarked) ≡ n
+  length-none zero = refl
+  length-none (suc n) = let e = length-none n in omega (arith, e)
+
+  pub root_fits : (S : State) → S ≡ root_state (problem_of p) → Fits p S
+  root_fits S e = record {
+    axes = ap (λ (x : State). length x.space) e ∙ length-map p.axes (λ (a : Axis). root_domain a.declared);
+    atoms = ap (λ (x : State). length x.marks) e ∙ length-none (length p.atoms);
+  }
+
+  -- the state where the main tree begins
+  pub root_is : (space : Space) (marks : List Mark) (n : ℕ) → space ≡ root_space (problem_of p) → marks ≡ replicate n unmarked → n ≡ length p.atoms → state space marks ≡ root_state (problem_of p)
+  root_is space marks n e f g = ap₂ state e (f ∙ ap (λ (k : ℕ). replicate k unmarked) g)

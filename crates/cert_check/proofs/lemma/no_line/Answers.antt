@@ -1,0 +1,14 @@
+use Rattle.std.proofs.Common.{length, ap, ◌∙◌, sym, subst, Option, List}
+use Rattle.std.proofs.lemmas.List.{length-map}
+use Rattle.poly_graph.specs.State.{Mark}
+use Rattle.poly_graph.specs.Views.{atom_of}
+use Rattle.cert_check.specs.Lists.{IsMarked}
+use Rattle.cert_check.proofs.Marking.{length_marks}
+use Rattle.cert_check.proofs.lemma.no_line.Goals as goal
+
+pub returns-in-Some-clause-sound : goal.returns-in-Some-clause-sound
+returns-in-Some-clause-sound c =
+    let count = length c.atoms-atoms.result.now in
+    let marked = subst (λ (o : Option (List Mark)). IsMarked count c.deref-in-No.result.now c.deref-in-No-2.result.now o) c.in-Some.is c.in_ok-marks-in-No.ensures in
+    let lengths = sym (length-map c.atoms-atoms.result.now atom_of) ∙ ap length c.atoms-atoms.ensures.atoms in
+    c.lemma_tree.ensures.sound c.args.problem.now c.requires.0 (record { axes = c.requires.1; atoms = ap length marked.1 ∙ length_marks count c.deref-in-No.result.now c.deref-in-No-2.result.now ∙ lengths })

@@ -1,0 +1,7 @@
+use Rattle.std.proofs.Common.{◌≡◌, ℕ, drop}
+use Rattle.std.specs.List.{list_all}
+use Rattle.poly_graph.specs.State.{is_unmarked, mark_at}
+use Rattle.cert_check.proofs.lists.all_unmarked.Given as goal
+
+abbrev pub invariant-loop-j : goal.invariant-loop-j
+invariant-loop-j l = list_all (λ (j : ℕ). is_unmarked (mark_at l.lits j)) l.js ≡ list_all (λ (j : ℕ). is_unmarked (mark_at l.lits j)) (drop l.j-index l.js)

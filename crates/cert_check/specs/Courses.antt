@@ -1,0 +1,108 @@
+-- Where lines lead a checker, line by line, and what it answers.
+use Rattle.std.specs.Prelude.{◌≡◌, ◌⊎◌, ℕ, suc, List, [], ◌∷◌, ◌++◌, length, Bool, not, Option, Some, None, Result, Ok, Err, IsTrue, nat_eq, option_map}
+use Rattle.poly_graph.specs.Problem.{Problem}
+use Rattle.poly_graph.specs.ProblemViews.{problem_of}
+use Rattle.poly_graph.specs.State.{Loosenings}
+use Rattle.cert_read.specs.CertLine.{Parsed}
+use Rattle.cert_read.specs.LineText.{text_of_lines}
+use Rattle.cert_read.specs.Lines.{all_bytes}
+use Rattle.cert_read.specs.Reading.{lines_ahead}
+use Rattle.cert_model.specs.Due.{Value, at_point, left_open, Due, version_due, lemma_due, root_due, tree_due, Next, on, faulty}
+use Rattle.cert_model.specs.Accepted.{Course, stopped, reached, Verdict, accepted, refused, next_parsed, course, ended, cut_off}
+use Rattle.cert_check.specs.declared.checker.Verdict as told
+use Rattle.cert_check.specs.declared.checker.Verdict.TheVariants.{Unsat, Point, Left}
+use Rattle.cert_check.specs.declared.fault.CertFault.{CertFault}
+use Rattle.cert_check.specs.declared.fault.CertFault.TheVariants.{Memory}
+use Rattle.cert_check.specs.Checked.{Checked}
+use Rattle.cert_check.specs.Dues.{lean_next, lean_course}
+use Rattle.cert_check.specs.Faults.{stop_of}
+
+-- ---- one more line
+
+-- with the line's number
+abbrev pub leads : ℕ → Next → Course
+leads n (on d) = reached d n
+leads n (faulty f) = stopped f n
+
+-- without the states that stay
+abbrev pub after : Problem → Option ℕ → Course → Parsed → Course
+after p b (stopped f n) l = stopped f n
+after p b (reached d n) l = leads (suc n) (lean_next (next_parsed p b d l))
+
+abbrev pub after_all : Problem → Option ℕ → Course → List Parsed → Course
+after_all p b c [] = c
+after_all p b c (l ∷ ls) = after_all p b (after p b c l) ls
+
+-- ---- what a checker answers
+
+abbrev pub IsUnderWay : Option Course → Type 0
+IsUnderWay (Some (reached d n)) = Unit {0}
+IsUnderWay c = ⊥
+
+-- the fault where the course stopped, or want of memory
+abbrev pub Answers : Option Course → Result (Unit {0}) CertFault → Type 0
+Answers c (Ok _) = IsUnderWay c
+Answers c (Err f) = c ≡ stop_of f
+
+-- lines are taken, in order, and answered; want of memory may come at any
+pub record Takes (old : Checked) (ls : List Parsed) (new : Checked) (r : Result (Unit {0}) CertFault) : Type 0 where
+  pub problem : new.problem ≡ old.problem
+  pub bound : new.bound ≡ old.bound
+  pub course : (new.course ≡ None) ⊎ (new.course ≡ option_map (λ c. after_all (problem_of old.problem) old.bound c ls) old.course)
+  pub answers : Answers new.course r
+
+-- ---- verdicts
+
+abbrev pub verdict_of : Loosenings → Value → told.Verdict
+verdict_of s (at_point space) = Point s.delta_bits
+verdict_of s (left_open []) = Unsat s.margin_bits
+verdict_of s (left_open (x ∷ left)) = Left (length (x ∷ left))
+
+abbrev pub IsVerdict : Verdict → Result told.Verdict CertFault → Type 0
+IsVerdict (accepted s v) (Ok w) = w ≡ verdict_of s v
+IsVerdict (refused f n) (Err e) = Some (stopped f n) ≡ stop_of e
+IsVerdict v r = ⊥
+
+-- the input ends
+abbrev pub Finishes : Option Course → Result told.Verdict CertFault → Type 0
+Finishes None r = r ≡ Err Memory
+Finishes (Some c) r = IsVerdict (ended c) r
+
+-- the input goes on where no more of it is read
+abbrev pub IsCutOff : Option Course → CertFault → Type 0
+IsCutOff None f = f ≡ Memory
+IsCutOff (Some c) f = IsVerdict (cut_off c) (Err f)
+
+-- ---- states in work
+
+abbrev pub in_work : Due → ℕ
+in_work (lemma_due s k lemmas L S pending) = suc (length pending)
+in_work (root_due s lemmas) = 1
+in_work (tree_due s lemmas S pending done) = suc (length pending)
+in_work d = 0
+
+abbrev pub states_in_work : Option Course → ℕ
+states_in_work (Some (reached d n)) = in_work d
+states_in_work c = 0
+
+-- ---- bytes
+
+-- no line feed is in the lines
+abbrev pub AreWhole : List (List ℕ) → Type 0
+AreWhole [] = Unit {0}
+AreWhole (l ∷ ls) = IsTrue (all_bytes (λ b. not (nat_eq b 10)) l) × AreWhole ls
+
+-- where the lines led, from the first one on
+abbrev pub led_by : Checked → List (List ℕ) → Option Course
+led_by c ls = Some (lean_course (course (problem_of c.problem) c.bound 0 version_due ls))
+
+-- of the bytes that were fed so far the checker has taken some lines, and the rest is not answered yet
+pub record IsFed (bytes : List ℕ) (c : Checked) (unread : List ℕ) : Type 0 where
+  pub taken : List (List ℕ)
+  pub whole : AreWhole taken
+  pub text : bytes ≡ text_of_lines taken ++ unread
+  pub led : c.course ≡ led_by c taken
+
+-- all lines of these bytes are taken, or those up to a fault
+abbrev pub IsAt : Checked → List ℕ → Bool → Type 0
+IsAt c bytes is_end = (c.course ≡ None) ⊎ (c.course ≡ led_by c (lines_ahead (record { unread = bytes; ended = is_end })))

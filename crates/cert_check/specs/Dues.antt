@@ -1,0 +1,105 @@
+-- What is due in the code as the definitions see it. Of the states that stay open or stuck the code keeps the number.
+use Rattle.std.specs.Prelude.{◌≡◌, ℕ, ◌≤◌, List, [], map, reverse, replicate, length, drop, All, Result, Ok, Err, IsTrue}
+use Rattle.poly_graph.specs.State.{State}
+use Rattle.poly_graph.specs.Rules.{open_line}
+use Rattle.poly_graph.specs.ProblemViews.{Parts}
+use Rattle.ival.specs.SpaceViews.{space_of, capacity_of}
+use Rattle.cert_model.specs.Due.{Standing, Value, at_point, left_open, Due, version_due, margin_due, delta_due, bound_due, kind_due, next_due, no_due, lemma_due, root_due, tree_due, end_due, nothing_due, Next, on, faulty, axis_next, coordinate_next, all_below}
+use Rattle.cert_model.specs.Accepted.{Course, stopped, reached}
+use Rattle.cert_check.specs.declared.state.State as code
+use Rattle.cert_check.specs.declared.due.Tree.{Tree}
+use Rattle.cert_check.specs.declared.due.Value as value
+use Rattle.cert_check.specs.declared.due.Value.TheVariants as kept
+use Rattle.cert_check.specs.declared.due.Due as held
+use Rattle.cert_check.specs.declared.due.Due.TheVariants as due
+use Rattle.cert_check.specs.declared.refusal.Refusal.{Refusal}
+use Rattle.cert_check.specs.States.{state_of, loosenings_of, Fits}
+use Rattle.cert_check.specs.Faults.{Refuses}
+
+-- ---- states that stay
+
+abbrev pub blank : Standing
+blank = record { state = record { space = []; marks = [] }; does = open_line }
+
+abbrev pub blanks : ℕ → List Standing
+blanks n = replicate n blank
+
+abbrev pub lean_left : List Standing → List Standing
+lean_left left = blanks (length left)
+
+abbrev pub lean_value : Value → Value
+lean_value (at_point space) = at_point space
+lean_value (left_open left) = left_open (lean_left left)
+
+-- without the states that stay
+abbrev pub lean : Due → Due
+lean (tree_due s lemmas S pending done) = tree_due s lemmas S pending (lean_left done)
+lean (end_due s v) = end_due s (lean_value v)
+lean (nothing_due s v) = nothing_due s (lean_value v)
+lean d = d
+
+abbrev pub lean_next : Next → Next
+lean_next (on d) = on (lean d)
+lean_next (faulty f) = faulty f
+
+abbrev pub lean_course : Course → Course
+lean_course (stopped f n) = stopped f n
+lean_course (reached d n) = reached (lean d) n
+
+-- ---- views
+
+abbrev pub states_of : List code.State → List State
+states_of xs = map state_of xs
+
+-- the next one first
+abbrev pub pending_of : List code.State → List State
+pending_of xs = reverse (states_of xs)
+
+abbrev pub value_of : value.Value → Value
+value_of (kept.Point space) = at_point (space_of space)
+value_of (kept.Left n) = left_open (blanks n)
+
+abbrev pub due_of : Parts → held.Due → Due
+due_of p due.Version = version_due
+due_of p due.Margin = margin_due
+due_of p (due.Delta m) = delta_due m
+due_of p (due.Bound s) = bound_due (loosenings_of s)
+due_of p (due.Kind s) = kind_due (loosenings_of s)
+due_of p (due.Next c) = next_due (loosenings_of c.loosenings) c.count (states_of c.lemmas.items)
+due_of p (due.Axis c space) = axis_next (loosenings_of c.loosenings) c.count (states_of c.lemmas.items) (drop (length (space_of space)) p.axes) (space_of space)
+due_of p (due.No c space js) = no_due (loosenings_of c.loosenings) c.count (states_of c.lemmas.items) (space_of space) js.items
+due_of p (due.Lemma c L t) = lemma_due (loosenings_of c.loosenings) c.count (states_of c.lemmas.items) (state_of L) (state_of t.state) (pending_of t.pending.items)
+due_of p (due.Root c) = root_due (loosenings_of c.loosenings) (states_of c.lemmas.items)
+due_of p (due.Tree c t n) = tree_due (loosenings_of c.loosenings) (states_of c.lemmas.items) (state_of t.state) (pending_of t.pending.items) (blanks n)
+due_of p (due.Coordinate s space) = coordinate_next (loosenings_of s) (drop (length (space_of space)) p.axes) (space_of space)
+due_of p (due.End s n) = end_due (loosenings_of s) (left_open (blanks n))
+due_of p (due.Nothing s v) = nothing_due (loosenings_of s) (value_of v)
+
+-- ---- what holds of the states in work
+
+abbrev pub AllFit : Parts → List code.State → Type 0
+AllFit p xs = All (λ S. Fits p (state_of S)) xs
+
+pub record IsTree (p : Parts) (t : Tree) : Type 0 where
+  pub state : Fits p (state_of t.state)
+  pub pending : AllFit p t.pending.items
+
+-- the space has room for the axes that are missing
+pub record HasRoom (p : Parts) (axes capacity : ℕ) : Type 0 where
+  pub within : axes ≤ length p.axes
+  pub room : length p.axes ≤ capacity
+
+abbrev pub IsSound : Parts → held.Due → Type 0
+IsSound p (due.Next c) = AllFit p c.lemmas.items
+IsSound p (due.Axis c space) = AllFit p c.lemmas.items × HasRoom p (length (space_of space)) (capacity_of space)
+IsSound p (due.No c space js) = AllFit p c.lemmas.items × (length (space_of space) ≡ length p.axes) × IsTrue (all_below (length p.atoms) js.items)
+IsSound p (due.Lemma c L t) = AllFit p c.lemmas.items × Fits p (state_of L) × IsTree p t
+IsSound p (due.Root c) = AllFit p c.lemmas.items
+IsSound p (due.Tree c t n) = AllFit p c.lemmas.items × IsTree p t
+IsSound p (due.Coordinate s space) = HasRoom p (length (space_of space)) (capacity_of space)
+IsSound p d = Unit {0}
+
+-- what comes of a line: what is due next, or a fault
+abbrev pub Comes : Parts → Result held.Due Refusal → Next → Type 0
+Comes p (Ok d) x = lean_next x ≡ on (due_of p d)
+Comes p (Err r) x = Refuses r x

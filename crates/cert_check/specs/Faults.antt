@@ -1,0 +1,74 @@
+-- The code's faults as the definitions see them.
+use Rattle.std.specs.Prelude.{◌≡◌, ℕ, Option, Some, None}
+use Rattle.cert_read.specs.CertLine.{RuleWord, empty_word, pull_word, unit_word, ban_word, void_word, false_word, by_word, cut_word, flip_word, case_word, open_word, stuck_word}
+use Rattle.cert_read.specs.declared.fault.LineFault.{LineFault}
+use Rattle.cert_read.specs.declared.fault.LineFault.TheVariants as unread
+use Rattle.cert_model.specs.Due as due
+use Rattle.cert_model.specs.Due.{Next, faulty}
+use Rattle.cert_model.specs.Accepted.{Course, stopped}
+use Rattle.cert_check.specs.declared.fault.Rule.{Rule}
+use Rattle.cert_check.specs.declared.fault.Rule.TheVariants as word
+use Rattle.cert_check.specs.declared.fault.CertFault.{CertFault}
+use Rattle.cert_check.specs.declared.fault.CertFault.TheVariants as numbered
+use Rattle.cert_check.specs.declared.refusal.Refusal.{Refusal}
+use Rattle.cert_check.specs.declared.refusal.Refusal.TheVariants.{BadHeader, BadNumber, RuleFails, Missing, Extra, WrongBound, NotShown, BadLine, LineTooLong, Memory}
+
+abbrev pub rule_word : Rule → RuleWord
+rule_word word.Empty = empty_word
+rule_word word.Pull = pull_word
+rule_word word.Unit = unit_word
+rule_word word.Ban = ban_word
+rule_word word.Void = void_word
+rule_word word.False = false_word
+rule_word word.By = by_word
+rule_word word.Cut = cut_word
+rule_word word.Flip = flip_word
+rule_word word.Case = case_word
+rule_word word.Open = open_word
+rule_word word.Stuck = stuck_word
+
+-- where a certificate stops with the fault; nowhere for want of memory
+abbrev pub stop_of : CertFault → Option Course
+stop_of (numbered.BadHeader n) = Some (stopped due.BadHeader n)
+stop_of (numbered.BadNumber n) = Some (stopped due.BadNumber n)
+stop_of (numbered.RuleFails w n) = Some (stopped (due.RuleFails (rule_word w)) n)
+stop_of (numbered.Missing n) = Some (stopped due.Missing n)
+stop_of (numbered.Extra n) = Some (stopped due.Extra n)
+stop_of (numbered.WrongBound n) = Some (stopped due.WrongBound n)
+stop_of (numbered.NotShown n) = Some (stopped due.NotShown n)
+stop_of (numbered.BadLine n) = Some (stopped due.BadLine n)
+stop_of (numbered.LineTooLong n) = Some (stopped due.LineTooLong n)
+stop_of (numbered.TooLong n) = Some (stopped due.TooLong n)
+stop_of numbered.Memory = None
+
+-- the fault with the number of its line
+abbrev pub fault_at : Refusal → ℕ → CertFault
+fault_at BadHeader n = numbered.BadHeader n
+fault_at BadNumber n = numbered.BadNumber n
+fault_at (RuleFails w) n = numbered.RuleFails w n
+fault_at Missing n = numbered.Missing n
+fault_at Extra n = numbered.Extra n
+fault_at WrongBound n = numbered.WrongBound n
+fault_at NotShown n = numbered.NotShown n
+fault_at BadLine n = numbered.BadLine n
+fault_at LineTooLong n = numbered.LineTooLong n
+fault_at Memory n = numbered.Memory
+
+abbrev pub refusal_of : LineFault → Refusal
+refusal_of unread.BadLine = BadLine
+refusal_of unread.BadNumber = BadNumber
+refusal_of unread.LineTooLong = LineTooLong
+refusal_of unread.Memory = Memory
+
+-- the line has this fault; of want of memory nothing is said
+abbrev pub Refuses : Refusal → Next → Type 0
+Refuses BadHeader x = x ≡ faulty due.BadHeader
+Refuses BadNumber x = x ≡ faulty due.BadNumber
+Refuses (RuleFails w) x = x ≡ faulty (due.RuleFails (rule_word w))
+Refuses Missing x = x ≡ faulty due.Missing
+Refuses Extra x = x ≡ faulty due.Extra
+Refuses WrongBound x = x ≡ faulty due.WrongBound
+Refuses NotShown x = x ≡ faulty due.NotShown
+Refuses BadLine x = x ≡ faulty due.BadLine
+Refuses LineTooLong x = x ≡ faulty due.LineTooLong
+Refuses Memory x = Unit {0}

@@ -1,0 +1,13 @@
+pub mod Axis
+pub mod Checked
+pub mod Checking
+pub mod Courses
+pub mod Dues
+pub mod Faults
+pub mod Laws
+pub mod Lists
+pub mod Serving
+pub mod Stages
+pub mod States
+pub mod Steps
+pub mod Waiting

@@ -1,0 +1,12 @@
+-- Rows and truth values for a problem.
+use Rattle.std.specs.Prelude.{◌≡◌, ◌<◌, ◌^◌, length, vec_len}
+use Rattle.poly_graph.specs.ProblemViews.{Parts}
+use Rattle.ival.specs.RowViews.{rows_of}
+use Rattle.cert_check.specs.declared.tools.Tools.{Tools}
+
+-- and the problem has no more atoms than lines can name
+pub record Serves (p : Parts) (t : Tools) : Type 0 where
+  pub rows : length (rows_of t.rows) ≡ length p.nodes
+  pub scratch : length (rows_of t.scratch) ≡ length p.nodes
+  pub truths : vec_len t.marks.truths ≡ length p.forms
+  pub few : length p.atoms < 2 ^ 32

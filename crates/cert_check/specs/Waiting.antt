@@ -1,0 +1,34 @@
+-- The states of a tree that are in work, and what a rule leaves of one.
+use Rattle.std.specs.Prelude.{ℕ, ◌+◌, List, [], ◌∷◌, Bool, true, false, Option, Some, None}
+use Rattle.poly_graph.specs.State.{State}
+use Rattle.poly_graph.specs.Rules.{Left, closed, one, two, stays}
+use Rattle.poly_graph.specs.ProblemViews.{Parts}
+use Rattle.cert_check.specs.declared.due.Tree.{Tree}
+use Rattle.cert_check.specs.States.{state_of, Fits}
+use Rattle.cert_check.specs.Dues.{pending_of}
+
+-- the states of what is left, in the order of the tree
+abbrev pub left_states : Left → List State
+left_states closed = []
+left_states (one S) = S ∷ []
+left_states (two S T) = S ∷ T ∷ []
+left_states stays = []
+
+-- the state where the next line stands, and those behind it; none where the tree is complete
+abbrev pub waiting : Option Tree → List State
+waiting None = []
+waiting (Some t) = state_of t.state ∷ pending_of t.pending.items
+
+abbrev pub counted_stays : ℕ → Left → ℕ
+counted_stays n stays = n + 1
+counted_stays n l = n
+
+-- each state that is left has a domain for each axis and a mark for each atom
+abbrev pub FitsLeft : Parts → Option Left → Type 0
+FitsLeft p (Some (one S)) = Fits p S
+FitsLeft p (Some (two S T)) = Fits p S × Fits p T
+FitsLeft p _ = Unit {0}
+
+abbrev pub is_stays : Left → Bool
+is_stays stays = true
+is_stays l = false

@@ -1,0 +1,69 @@
+// The rules that leave nothing.
+ghost use Rattle.std.specs.Prelude.{◌≡◌, ◌<◌, [], length, map, All};
+ghost use Rattle.poly_graph.specs.Rules.{rule, void, make_false, by};
+ghost use Rattle.poly_graph.specs.State.{Loosenings as StateLoosenings};
+ghost use Rattle.poly_graph.specs.ProblemViews.{problem_of};
+ghost use Rattle.cert_check.specs.States.{state_of, loosenings_of, Fits};
+ghost use Rattle.cert_check.specs.Steps.{lefts};
+ghost use Rattle.cert_check.specs.Serving.{Serves};
+
+use crate::left::Left;
+use crate::loosenings::Loosenings;
+use crate::moves::lemma_covers;
+use crate::state::State;
+use crate::tools::Tools;
+use ival::Narrowed;
+use poly_graph::Problem;
+
+/// Closed, where an atom marked yes leaves nothing of the space.
+pub fn void(
+    problem: &Problem,
+    tools: &mut Tools,
+    s: Loosenings,
+    state: State,
+    j: u32,
+) -> Option<Left>
+    requires serves { Serves problem.now tools.old }
+    requires fits { Fits problem.now (state_of state) }
+    requires atom { j < length problem.now.atoms }
+    ensures rule { lefts result ≡ rule (problem_of problem.now) (loosenings_of s) [] (state_of state) (void j) }
+    ensures serves { Serves problem.now tools.new }
+{
+    if !state.in_yes(j) {
+        return None;
+    }
+    let mut state = state;
+    match tools.narrow(problem, s.margin, j, &mut state.space) {
+        Narrowed::Empty => Some(Left::Closed),
+        Narrowed::Less => None,
+        Narrowed::Same => None,
+    }
+}
+
+/// Closed, where the form can't hold.
+pub fn make_false(problem: &Problem, tools: &mut Tools, s: Loosenings, state: State) -> Option<Left>
+    requires serves { Serves problem.now tools.old }
+    requires fits { Fits problem.now (state_of state) }
+    ensures rule { lefts result ≡ rule (problem_of problem.now) (loosenings_of s) [] (state_of state) make_false }
+    ensures serves { Serves problem.now tools.new }
+{
+    if tools.may(problem, s.margin, &state) {
+        None
+    } else {
+        Some(Left::Closed)
+    }
+}
+
+/// Closed, where the lemma covers the state.
+pub fn by(problem: &Problem, lemmas: &[State], state: State, i: u32) -> Option<Left>
+    requires few { length problem.now.atoms < 4294967296 }
+    requires lemmas { All (λ L. Fits problem.now (state_of L)) lemmas.now }
+    requires fits { Fits problem.now (state_of state) }
+    ensures { (s : StateLoosenings) → lefts result ≡ rule (problem_of problem.now) s (map state_of lemmas.now) (state_of state) (by i) }
+{
+    if lemma_covers(problem, lemmas, i, &state) {
+        Some(Left::Closed)
+    } else {
+        None
+    }
+}

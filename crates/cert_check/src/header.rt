@@ -1,0 +1,143 @@
+// The five lines of a header.
+ghost use Rattle.std.specs.Prelude.{◌≡◌, ℕ, Option, IfOk};
+ghost use Rattle.cert_read.specs.CertLine.{delta as CertDelta, cover as CoverLine, point_word as PointLine};
+ghost use Rattle.cert_read.specs.Views.{line_of};
+ghost use Rattle.cert_model.specs.Due.{version_due, margin_due, delta_due, bound_due, kind_due, same_bound};
+ghost use Rattle.cert_model.specs.Accepted.{next, loosenings_fit};
+ghost use Rattle.poly_graph.specs.ProblemViews.{Parts, problem_of};
+ghost use Rattle.cert_check.specs.States.{loosenings_of};
+ghost use Rattle.cert_check.specs.Dues.{Comes, IsSound};
+
+use crate::due::{Cover, Due};
+use crate::loosenings::Loosenings;
+use crate::refusal::Refusal;
+use cert_read::Line;
+use ival::Space;
+use poly_graph::Problem;
+use std::alloc::Global;
+
+// A certificate has at most so many lemmas.
+const MOST_LEMMAS: u32 = 1_048_576;
+
+/// `dpoly 1`.
+pub fn version_line(line: &Line) -> Result<Due, Refusal>
+    ensures comes { (p : Parts) (b : Option ℕ) → Comes p result (next (problem_of p) b version_due (line_of line.now)) }
+    ensures sound { (p : Parts) → IfOk result (IsSound p) }
+{
+    match line {
+        Line::Version(1) => Ok(Due::Margin),
+        _ => Err(Refusal::BadHeader),
+    }
+}
+
+/// `margin`.
+pub fn margin_line(line: &Line) -> Result<Due, Refusal>
+    ensures comes { (p : Parts) (b : Option ℕ) → Comes p result (next (problem_of p) b margin_due (line_of line.now)) }
+    ensures sound { (p : Parts) → IfOk result (IsSound p) }
+{
+    match line {
+        Line::Margin(margin) => Ok(Due::Delta(*margin)),
+        _ => Err(Refusal::BadHeader),
+    }
+}
+
+// From one bit of delta up to thirty, and above it up to sixty of margin.
+fn fit(margin: u32, delta: u32) -> bool
+    ensures { result ≡ loosenings_fit margin delta }
+{
+    1 <= delta && delta <= 30 && delta < margin && margin <= 60
+}
+
+// The loosenings, where they are in their limits.
+fn loosenings(margin: u32, delta: u32) -> Result<Due, Refusal>
+    ensures comes { (p : Parts) (b : Option ℕ) → Comes p result (next (problem_of p) b (delta_due margin) (CertDelta delta)) }
+    ensures sound { (p : Parts) → IfOk result (IsSound p) }
+{
+    if fit(margin, delta) {
+        Ok(Due::Bound(Loosenings { margin, delta }))
+    } else {
+        Err(Refusal::BadHeader)
+    }
+}
+
+/// `delta`, below the margin.
+pub fn delta_line(margin: u32, line: &Line) -> Result<Due, Refusal>
+    ensures comes { (p : Parts) (b : Option ℕ) → Comes p result (next (problem_of p) b (delta_due margin) (line_of line.now)) }
+    ensures sound { (p : Parts) → IfOk result (IsSound p) }
+{
+    match line {
+        Line::Delta(delta) => loosenings(margin, *delta),
+        _ => Err(Refusal::BadHeader),
+    }
+}
+
+// Whether these are the same bound.
+fn same_bound(a: Option<u32>, b: Option<u32>) -> bool
+    ensures { result ≡ same_bound a b }
+{
+    match a {
+        None => b.is_none(),
+        Some(m) => match b {
+            None => false,
+            Some(n) => m == n,
+        },
+    }
+}
+
+/// `bound`, which has to be that of the words.
+pub fn bound_line(s: Loosenings, bound: Option<u32>, line: &Line) -> Result<Due, Refusal>
+    ensures comes { (p : Parts) → Comes p result (next (problem_of p) bound (bound_due (loosenings_of s)) (line_of line.now)) }
+    ensures sound { (p : Parts) → IfOk result (IsSound p) }
+{
+    match line {
+        Line::Bound(told) => {
+            if same_bound(*told, bound) {
+                Ok(Due::Kind(s))
+            } else {
+                Err(Refusal::WrongBound)
+            }
+        }
+        _ => Err(Refusal::BadHeader),
+    }
+}
+
+// The first axis of a point.
+fn point(alloc: Global, problem: &Problem, s: Loosenings) -> Result<Due, Refusal>
+    ensures comes { (b : Option ℕ) → Comes problem.now result (next (problem_of problem.now) b (kind_due (loosenings_of s)) PointLine) }
+    ensures sound { IfOk result (IsSound problem.now) }
+{
+    let space = Space::with_capacity(alloc, problem.axes().len())?;
+    Ok(Due::Coordinate(s, space))
+}
+
+// The first lemma of a cover.
+fn cover(alloc: Global, s: Loosenings, count: u32) -> Result<Due, Refusal>
+    ensures comes { (p : Parts) (b : Option ℕ) → Comes p result (next (problem_of p) b (kind_due (loosenings_of s)) (CoverLine count)) }
+    ensures sound { (p : Parts) → IfOk result (IsSound p) }
+{
+    if count > MOST_LEMMAS {
+        return Err(Refusal::BadHeader);
+    }
+    Ok(Due::Next(Cover {
+        loosenings: s,
+        count,
+        lemmas: Vec::new(alloc),
+    }))
+}
+
+/// `cover`, with the number of lemmas, or `point`.
+pub fn kind_line(
+    alloc: Global,
+    problem: &Problem,
+    s: Loosenings,
+    line: &Line,
+) -> Result<Due, Refusal>
+    ensures comes { (b : Option ℕ) → Comes problem.now result (next (problem_of problem.now) b (kind_due (loosenings_of s)) (line_of line.now)) }
+    ensures sound { IfOk result (IsSound problem.now) }
+{
+    match line {
+        Line::Cover(count) => cover(alloc, s, *count),
+        Line::Point => point(alloc, problem, s),
+        _ => Err(Refusal::BadHeader),
+    }
+}

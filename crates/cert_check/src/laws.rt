@@ -1,0 +1,22 @@
+//! What a checker that is fed by pieces answers of all bytes.
+//!
+//! No code runs here: each function is a law about the definitions in `specs/`, and its contract is the law.
+ghost use Rattle.cert_check.specs.Laws.{FaultIsTold, TooLongIsTold, VerdictIsTold};
+
+/// Where the input ends, what is answered is the verdict of its bytes, or want of memory.
+#[tactic(auto, using(crate::proofs::Told::verdict_is_told))]
+pub fn verdict_is_told()
+    ensures { VerdictIsTold }
+{}
+
+/// A fault of the bytes so far is that of all bytes, whatever follows.
+#[tactic(auto, using(crate::proofs::Told::fault_is_told))]
+pub fn fault_is_told()
+    ensures { FaultIsTold }
+{}
+
+/// Where more bytes follow than a certificate may have, the fault is told without reading them.
+#[tactic(auto, using(crate::proofs::Told::too_long_is_told))]
+pub fn too_long_is_told()
+    ensures { TooLongIsTold }
+{}

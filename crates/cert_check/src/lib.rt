@@ -1,0 +1,28 @@
+//! The checker of certificates: it goes through the lines of a certificate once, and answers the verdict of the
+//! definitions, with the first fault and its line. Its arithmetic shares no pass with the search.
+#![tactic(auto)]
+
+mod branches;
+mod checker;
+mod closing;
+mod due;
+mod fault;
+mod header;
+pub mod laws;
+mod left;
+mod lemma;
+mod lists;
+mod loosenings;
+mod moves;
+mod names;
+mod next;
+mod point;
+mod refusal;
+mod rules;
+mod said;
+mod state;
+mod tools;
+mod tree;
+
+pub use checker::{Checker, Verdict};
+pub use fault::{CertFault, Rule};

@@ -1,0 +1,12 @@
+// The margin and delta of a header.
+ghost use Rattle.std.specs.Prelude.{◌<◌, ◌≤◌};
+
+/// The loosenings of pruning, 2 to the power of minus `margin`, and of points, 2 to the power of minus `delta`.
+#[derive(Clone, Copy, Debug, PartialEq, Eq)]
+pub struct Loosenings {
+    pub margin: u32,
+    pub delta: u32,
+    pub ghost some: { 1 ≤ delta },
+    pub ghost fine: { delta < margin },
+    pub ghost few: { margin ≤ 60 },
+}

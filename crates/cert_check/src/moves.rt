@@ -1,0 +1,100 @@
+// The rules that leave one state.
+ghost use Rattle.std.specs.Prelude.{◌≡◌, ◌<◌, [], length, map, All};
+ghost use Rattle.poly_graph.specs.Rules.{rule, pull, unit, ban, lemma_covers};
+ghost use Rattle.poly_graph.specs.State.{Loosenings as StateLoosenings};
+ghost use Rattle.poly_graph.specs.ProblemViews.{problem_of};
+ghost use Rattle.cert_check.specs.States.{state_of, loosenings_of, Fits};
+ghost use Rattle.cert_check.specs.Steps.{lefts};
+ghost use Rattle.cert_check.specs.Serving.{Serves};
+
+use crate::left::Left;
+use crate::loosenings::Loosenings;
+use crate::state::State;
+use crate::tools::Tools;
+use ival::Narrowed;
+use poly_graph::{Mark, Problem};
+
+/// The space narrowed by an atom marked yes, where that leaves something.
+pub fn pull(
+    problem: &Problem,
+    tools: &mut Tools,
+    s: Loosenings,
+    state: State,
+    j: u32,
+) -> Option<Left>
+    requires serves { Serves problem.now tools.old }
+    requires fits { Fits problem.now (state_of state) }
+    requires atom { j < length problem.now.atoms }
+    ensures rule { lefts result ≡ rule (problem_of problem.now) (loosenings_of s) [] (state_of state) (pull j) }
+    ensures serves { Serves problem.now tools.new }
+{
+    if !state.in_yes(j) {
+        return None;
+    }
+    let mut state = state;
+    match tools.narrow(problem, s.margin, j, &mut state.space) {
+        Narrowed::Empty => None,
+        Narrowed::Less => Some(Left::One(state)),
+        Narrowed::Same => Some(Left::One(state)),
+    }
+}
+
+/// The atom marked yes, where the form can't hold with the atom marked no.
+#[tactic(auto, using(crate::proofs::OneMark::unit_one))]
+pub fn unit(
+    problem: &Problem,
+    tools: &mut Tools,
+    s: Loosenings,
+    state: State,
+    j: u32,
+) -> Option<Left>
+    requires serves { Serves problem.now tools.old }
+    requires fits { Fits problem.now (state_of state) }
+    requires atom { j < length problem.now.atoms }
+    ensures rule { lefts result ≡ rule (problem_of problem.now) (loosenings_of s) [] (state_of state) (unit j) }
+    ensures serves { Serves problem.now tools.new }
+{
+    if !state.undecided(j) {
+        return None;
+    }
+    let mut state = state;
+    state.lits.set(j, Mark::No);
+    if tools.may(problem, s.margin, &state) {
+        return None;
+    }
+    state.lits.set(j, Mark::Yes);
+    Some(Left::One(state))
+}
+
+/// Whether the lemma of this number covers the state.
+pub fn lemma_covers(problem: &Problem, lemmas: &[State], i: u32, state: &State) -> bool
+    requires few { length problem.now.atoms < 4294967296 }
+    requires lemmas { All (λ L. Fits problem.now (state_of L)) lemmas.now }
+    requires fits { Fits problem.now (state_of state.now) }
+    ensures { result ≡ lemma_covers (map state_of lemmas.now) i (state_of state.now) }
+{
+    let _ = problem;
+    let i = i as usize;
+    i < lemmas.len() && lemmas[i].covers(state)
+}
+
+/// The atom marked no, where the lemma covers the state with the atom marked yes.
+#[tactic(auto, using(crate::proofs::OneMark::ban_one))]
+pub fn ban(problem: &Problem, lemmas: &[State], state: State, j: u32, i: u32) -> Option<Left>
+    requires few { length problem.now.atoms < 4294967296 }
+    requires lemmas { All (λ L. Fits problem.now (state_of L)) lemmas.now }
+    requires fits { Fits problem.now (state_of state) }
+    requires atom { j < length problem.now.atoms }
+    ensures { (s : StateLoosenings) → lefts result ≡ rule (problem_of problem.now) s (map state_of lemmas.now) (state_of state) (ban j i) }
+{
+    if !state.undecided(j) {
+        return None;
+    }
+    let mut state = state;
+    state.lits.set(j, Mark::Yes);
+    if !lemma_covers(problem, lemmas, i, &state) {
+        return None;
+    }
+    state.lits.set(j, Mark::No);
+    Some(Left::One(state))
+}

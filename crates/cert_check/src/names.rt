@@ -1,0 +1,83 @@
+// What a line names.
+ghost use Rattle.std.specs.Prelude.{◌≡◌};
+ghost use Rattle.cert_model.specs.Due.{is_atom, is_axis, names_well, rule_of, Next};
+ghost use Rattle.cert_model.specs.Accepted.{no_crossing};
+ghost use Rattle.poly_graph.specs.ProblemViews.{problem_of};
+ghost use Rattle.poly_graph.specs.Problem.{crosses, is_crossed};
+ghost use Rattle.poly_graph.specs.ProblemViews.{declared_of};
+ghost use Rattle.cert_check.specs.Faults.{Refuses};
+ghost use Rattle.cert_check.specs.Steps.{rule_line_of};
+
+use crate::fault::Rule;
+use crate::refusal::Refusal;
+use crate::said::Step;
+use dyadic::cmp_frac;
+use poly_graph::{Declared, Problem};
+use std::cmp::Ordering;
+
+// Whether there is such an atom.
+fn is_atom(problem: &Problem, j: u32) -> bool
+    ensures { result ≡ is_atom (problem_of problem.now) j }
+{
+    (j as usize) < problem.atoms().len()
+}
+
+// Whether there is such an axis.
+fn is_axis(problem: &Problem, axis: u32) -> bool
+    ensures { result ≡ is_axis (problem_of problem.now) axis }
+{
+    (axis as usize) < problem.axes().len()
+}
+
+/// Whether the atom or the axis that the line names is there.
+pub fn names_well(problem: &Problem, step: Step) -> bool
+    ensures { result ≡ names_well (problem_of problem.now) (rule_of (rule_line_of step)) }
+{
+    match step {
+        Step::Pull(j) => is_atom(problem, j),
+        Step::Unit(j) => is_atom(problem, j),
+        Step::Void(j) => is_atom(problem, j),
+        Step::Case(j) => is_atom(problem, j),
+        Step::Stuck(j) => is_atom(problem, j),
+        Step::Ban(j, _) => is_atom(problem, j),
+        Step::Cut(axis, _) => is_axis(problem, axis),
+        Step::Flip(axis) => is_axis(problem, axis),
+        Step::By(_) => true,
+        Step::False => true,
+        Step::Open => true,
+    }
+}
+
+// Whether the declared lower bound is above the upper one.
+fn is_crossed(declared: Declared) -> bool
+    ensures { result ≡ is_crossed (declared_of declared) }
+{
+    match declared {
+        Declared::Real(low, high) => match cmp_frac(low, high) {
+            Ordering::Greater => true,
+            Ordering::Less => false,
+            Ordering::Equal => false,
+        },
+        Declared::Bool => false,
+    }
+}
+
+/// Whether the declared bounds of this axis cross.
+pub fn crosses(problem: &Problem, axis: u32) -> bool
+    ensures { result ≡ crosses (problem_of problem.now) axis }
+{
+    let axes = problem.axes();
+    let axis = axis as usize;
+    axis < axes.len() && is_crossed(axes[axis].declared)
+}
+
+/// The fault of a line for crossed bounds where it may not stand.
+pub fn no_crossing(problem: &Problem, axis: u32) -> Refusal
+    ensures { Refuses result (no_crossing (problem_of problem.now) axis) }
+{
+    if is_axis(problem, axis) {
+        Refusal::RuleFails(Rule::Empty)
+    } else {
+        Refusal::BadNumber
+    }
+}

@@ -1,0 +1,51 @@
+// The rules of a tree.
+ghost use Rattle.std.specs.Prelude.{◌≡◌, map, All, IfOk, IsTrue};
+ghost use Rattle.poly_graph.specs.Rules.{rule};
+ghost use Rattle.poly_graph.specs.ProblemViews.{problem_of};
+ghost use Rattle.cert_model.specs.Due.{names_well, rule_of};
+ghost use Rattle.cert_check.specs.States.{state_of, loosenings_of, Fits};
+ghost use Rattle.cert_check.specs.Steps.{lefts, rule_line_of};
+ghost use Rattle.cert_check.specs.Serving.{Serves};
+
+use crate::branches::{case, cut, flip, stuck};
+use crate::closing::{by, make_false, void};
+use crate::left::Left;
+use crate::loosenings::Loosenings;
+use crate::moves::{ban, pull, unit};
+use crate::said::Step;
+use crate::state::State;
+use crate::tools::Tools;
+use poly_graph::Problem;
+use std::alloc::{AllocError, Global};
+
+/// What the line leaves of the state; none where its condition fails.
+pub fn rule(
+    alloc: Global,
+    problem: &Problem,
+    tools: &mut Tools,
+    s: Loosenings,
+    lemmas: &[State],
+    state: State,
+    step: Step,
+) -> Result<Option<Left>, AllocError>
+    requires serves { Serves problem.now tools.old }
+    requires lemmas { All (λ L. Fits problem.now (state_of L)) lemmas.now }
+    requires fits { Fits problem.now (state_of state) }
+    requires names { IsTrue (names_well (problem_of problem.now) (rule_of (rule_line_of step))) }
+    ensures rule { IfOk result (λ o. lefts o ≡ rule (problem_of problem.now) (loosenings_of s) (map state_of lemmas.now) (state_of state) (rule_of (rule_line_of step))) }
+    ensures serves { Serves problem.now tools.new }
+{
+    match step {
+        Step::Pull(j) => Ok(pull(problem, tools, s, state, j)),
+        Step::Unit(j) => Ok(unit(problem, tools, s, state, j)),
+        Step::Void(j) => Ok(void(problem, tools, s, state, j)),
+        Step::Case(j) => case(alloc, state, j),
+        Step::Stuck(j) => Ok(stuck(problem, tools, s, state, j)),
+        Step::Ban(j, i) => Ok(ban(problem, lemmas, state, j, i)),
+        Step::By(i) => Ok(by(problem, lemmas, state, i)),
+        Step::Cut(axis, place) => cut(alloc, state, axis, place),
+        Step::Flip(axis) => flip(alloc, state, axis),
+        Step::False => Ok(make_false(problem, tools, s, state)),
+        Step::Open => Ok(Some(Left::Stays)),
+    }
+}

@@ -1,0 +1,167 @@
+// What the rules are tested with.
+ghost use Rattle.std.specs.Prelude.{◌≡◌, ◌<◌, ◌≤◌, length, IfOk};
+ghost use Rattle.dyadic.specs.Rounding.{two_to_minus};
+ghost use Rattle.poly_graph.specs.Space.{range};
+ghost use Rattle.poly_graph.specs.State.{may, sure_within, atom_enclosure, misses, sure_at};
+ghost use Rattle.poly_graph.specs.Problem.{atom_at};
+ghost use Rattle.poly_graph.specs.Narrowed.{narrowed_by};
+ghost use Rattle.poly_graph.specs.ProblemViews.{problem_of};
+ghost use Rattle.poly_graph.specs.Views.{atom_of, kind_of};
+ghost use Rattle.ival.specs.Views.{interval_of};
+ghost use Rattle.ival.specs.RowViews.{rows_of};
+ghost use Rattle.ival.specs.SpaceViews.{space_of};
+ghost use Rattle.ival.specs.Narrows.{IsNarrowed};
+ghost use Rattle.truth3.specs.Truth.{HasRows, pruning};
+ghost use Rattle.cert_check.specs.States.{state_of};
+ghost use Rattle.cert_check.specs.Serving.{Serves};
+
+use crate::state::State;
+use ival::{Ival, Narrowed, Rows, Space};
+use plain_eval::{enclose, narrow_plain};
+use poly_graph::{Atom, Kind, Problem};
+use std::alloc::{AllocError, Global};
+use truth3::{Marks, may, sure};
+
+/// Rows and truth values for the nodes of a problem, made once.
+#[derive(Drop)]
+pub struct Tools {
+    pub rows: Rows,
+    pub scratch: Rows,
+    pub marks: Marks,
+}
+
+// The atom of this number.
+fn atom_at(problem: &Problem, j: u32) -> Atom
+    requires { j < length problem.now.atoms }
+    ensures atom { atom_of result ≡ atom_at (problem_of problem.now) j }
+    ensures place { result.term < length problem.now.nodes }
+{
+    let atoms = problem.atoms();
+    atoms[j as usize]
+}
+
+// The range of a kind, loosened by 2 to the power of minus `loosen`.
+fn kind_range(kind: Kind, loosen: u32) -> Ival
+    requires { loosen ≤ 120 }
+    ensures { interval_of result ≡ range (two_to_minus loosen) (kind_of kind) }
+{
+    let (low, high) = kind.ends(loosen);
+    Ival::new(low, high)
+}
+
+impl Tools {
+    /// Those that serve the problem. Of more atoms than lines can name there are none.
+    pub fn new(alloc: Global, problem: &Problem) -> Result<Tools, AllocError>
+        ensures { IfOk result (Serves problem.now) }
+    {
+        if problem.atoms().len() > u32::MAX as usize {
+            return Err(AllocError);
+        }
+        let nodes = problem.graph().len();
+        let rows = Rows::new(alloc, nodes)?;
+        let scratch = Rows::new(alloc, nodes)?;
+        let marks = Marks::new(alloc, problem)?;
+        Ok(Tools {
+            rows,
+            scratch,
+            marks,
+        })
+    }
+
+    // Puts the enclosures of all nodes into the rows.
+    fn fill(&mut self, problem: &Problem, space: &Space)
+        requires { Serves problem.now self.old }
+        ensures rows { HasRows problem.now (space_of space.now) (rows_of self.new.rows) }
+        ensures serves { Serves problem.now self.new }
+    {
+        let graph = problem.graph();
+        let nodes = graph.len();
+        if nodes > 0 {
+            let _ = enclose(graph, (nodes - 1) as u32, space, &mut self.rows);
+        }
+    }
+
+    /// Whether the form may hold at a point of the state.
+    pub fn may(&mut self, problem: &Problem, margin: u32, state: &State) -> bool
+        requires serves { Serves problem.now self.old }
+        requires margin { margin ≤ 120 }
+        requires atoms { length state.now.lits ≡ length problem.now.atoms }
+        ensures truth { result ≡ may (problem_of problem.now) (pruning margin) (state_of state.now) }
+        ensures serves { Serves problem.now self.new }
+    {
+        self.fill(problem, &state.space);
+        may(
+            problem,
+            &self.rows,
+            &state.space,
+            &state.lits,
+            margin,
+            &mut self.marks,
+        )
+    }
+
+    /// Whether the form surely holds at each point of the space.
+    pub fn sure(&mut self, problem: &Problem, delta: u32, space: &Space) -> bool
+        requires serves { Serves problem.now self.old }
+        requires delta { delta ≤ 120 }
+        ensures truth { result ≡ sure_within (problem_of problem.now) (two_to_minus delta) (space_of space.now) }
+        ensures serves { Serves problem.now self.new }
+    {
+        self.fill(problem, space);
+        sure(problem, &self.rows, space, delta, &mut self.marks)
+    }
+
+    // The enclosure of an atom's term over the space.
+    fn enclosure(&mut self, problem: &Problem, j: u32, space: &Space) -> Ival
+        requires serves { Serves problem.now self.old }
+        requires atom { j < length problem.now.atoms }
+        ensures interval { interval_of result ≡ atom_enclosure (problem_of problem.now) (space_of space.now) j }
+        ensures serves { Serves problem.now self.new }
+    {
+        let atom = atom_at(problem, j);
+        enclose(problem.graph(), atom.term, space, &mut self.rows)
+    }
+
+    /// Whether the atom's enclosure misses its range at the margin.
+    pub fn misses(&mut self, problem: &Problem, margin: u32, j: u32, space: &Space) -> bool
+        requires serves { Serves problem.now self.old }
+        requires margin { margin ≤ 120 }
+        requires atom { j < length problem.now.atoms }
+        ensures misses { result ≡ misses (problem_of problem.now) (two_to_minus margin) (space_of space.now) j }
+        ensures serves { Serves problem.now self.new }
+    {
+        let range = kind_range(atom_at(problem, j).kind, margin);
+        self.enclosure(problem, j, space).meet(range).is_empty()
+    }
+
+    /// Whether the atom's enclosure lies within its range at delta.
+    pub fn sure_at(&mut self, problem: &Problem, delta: u32, j: u32, space: &Space) -> bool
+        requires serves { Serves problem.now self.old }
+        requires delta { delta ≤ 120 }
+        requires atom { j < length problem.now.atoms }
+        ensures sure { result ≡ sure_at (problem_of problem.now) (two_to_minus delta) (space_of space.now) j }
+        ensures serves { Serves problem.now self.new }
+    {
+        let range = kind_range(atom_at(problem, j).kind, delta);
+        self.enclosure(problem, j, space).within(range)
+    }
+
+    /// Leaves of the space what the atom leaves of it.
+    pub fn narrow(&mut self, problem: &Problem, margin: u32, j: u32, space: &mut Space) -> Narrowed
+        requires serves { Serves problem.now self.old }
+        requires margin { margin ≤ 120 }
+        requires atom { j < length problem.now.atoms }
+        ensures narrowed { IsNarrowed (space_of space.old) (space_of space.new) (narrowed_by problem.now.nodes (atom_at (problem_of problem.now) j).0 (range (two_to_minus margin) (atom_at (problem_of problem.now) j).1) (space_of space.old)) result }
+        ensures serves { Serves problem.now self.new }
+    {
+        let atom = atom_at(problem, j);
+        narrow_plain(
+            problem.graph(),
+            &atom,
+            margin,
+            &mut self.rows,
+            &mut self.scratch,
+            space,
+        )
+    }
+}

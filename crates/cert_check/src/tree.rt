@@ -1,0 +1,331 @@
+// The lines of trees.
+ghost use Rattle.std.specs.Prelude.{◌≡◌, ℕ, ◌++◌, Option, IfOk, IfSome, Some};
+ghost use Rattle.cert_read.specs.CertLine.{rule_line};
+ghost use Rattle.cert_read.specs.Views.{line_of};
+ghost use Rattle.cert_model.specs.Due.{CertFault as Fault, Standing, RuleFails, after_rule, after_lemma_rule, end_due, left_open, lemma_goes_on, tree_goes_on};
+ghost use Rattle.cert_model.specs.Accepted.{next};
+ghost use Rattle.poly_graph.specs.ProblemViews.{Parts, problem_of};
+ghost use Rattle.cert_check.specs.declared.due.Due.TheVariants.{Lemma as LemmaDue, Root as RootDue, Tree as TreeDue};
+ghost use Rattle.cert_check.specs.States.{Fits, loosenings_of, state_of};
+ghost use Rattle.cert_check.specs.Steps.{left_of, rule_line_of};
+ghost use Rattle.cert_check.specs.Faults.{rule_word};
+ghost use Rattle.cert_check.specs.Serving.{Serves};
+ghost use Rattle.cert_check.specs.Dues.{AllFit, blanks, Comes, due_of, IsSound, IsTree, pending_of, states_of};
+ghost use Rattle.cert_check.specs.Waiting.{counted_stays, FitsLeft, is_stays, left_states, waiting};
+
+use crate::due::{Cover, Due, Tree, Value};
+use crate::fault::Rule;
+use crate::left::Left;
+use crate::loosenings::Loosenings;
+use crate::names::{crosses, names_well, no_crossing};
+use crate::refusal::Refusal;
+use crate::rules::rule;
+use crate::said::{Step, TreeLine, said};
+use crate::state::State;
+use crate::tools::Tools;
+use cert_read::Line;
+use poly_graph::{Lits, Problem};
+use std::alloc::{AllocError, Global};
+use truth3::{Root, root_space};
+
+// The tree whose next state is the last of these; none where there is no state.
+#[tactic(auto, using(crate::proofs::Waits::pending_more, crate::proofs::Waits::pending_none))]
+fn next_state(pending: Vec<State>) -> Option<Tree>
+    ensures waiting { waiting result ≡ pending_of pending.items }
+    ensures fits { (p : Parts) → AllFit p pending.items → IfSome result (IsTree p) }
+{
+    let mut pending = pending;
+    match pending.pop() {
+        None => None,
+        Some(state) => Some(Tree { state, pending }),
+    }
+}
+
+// What is in work after a rule of which this is left; none where the tree is complete.
+#[tactic(auto, using(crate::proofs::Waits::pending_more, crate::proofs::Waits::pending_none))]
+fn leave(pending: Vec<State>, left: Left) -> Result<Option<Tree>, AllocError>
+    ensures waiting { IfOk result (λ o. waiting o ≡ left_states (left_of left) ++ pending_of pending.items) }
+    ensures fits { (p : Parts) → AllFit p pending.items → FitsLeft p (Some (left_of left)) → IfOk result (λ o. IfSome o (IsTree p)) }
+{
+    match left {
+        Left::Closed => Ok(next_state(pending)),
+        Left::Stays => Ok(next_state(pending)),
+        Left::One(state) => Ok(Some(Tree { state, pending })),
+        Left::Two(state, second) => {
+            let mut pending = pending;
+            pending.push(second)?;
+            Ok(Some(Tree { state, pending }))
+        }
+    }
+}
+
+// The number of states that stayed, with this one where it does. One that is past 2^64 - 1 finds no place.
+fn count_stays(stayed: u64, left: &Left) -> Result<u64, AllocError>
+    ensures { IfOk result (λ n. n ≡ counted_stays stayed (left_of left.now)) }
+{
+    match left {
+        Left::Stays => {
+            if stayed == u64::MAX {
+                return Err(AllocError);
+            }
+            Ok(stayed + 1)
+        }
+        Left::Closed => Ok(stayed),
+        Left::One(_) => Ok(stayed),
+        Left::Two(_, _) => Ok(stayed),
+    }
+}
+
+// Whether the state itself is left.
+fn is_stays(left: &Left) -> bool
+    ensures { result ≡ is_stays (left_of left.now) }
+{
+    match left {
+        Left::Stays => true,
+        Left::Closed => false,
+        Left::One(_) => false,
+        Left::Two(_, _) => false,
+    }
+}
+
+// What is due in the main tree after a rule of which this is left.
+#[tactic(auto, using(crate::proofs::Waits::main_done, crate::proofs::Waits::main_on))]
+fn main_left(cover: Cover, pending: Vec<State>, stayed: u64, left: Left) -> Result<Due, Refusal>
+    ensures comes { (p : Parts) (f : Fault) (x : Standing) → Comes p result (after_rule (Some (left_of left)) f x (pending_of pending.items) (blanks stayed) (tree_goes_on (loosenings_of cover.loosenings) (states_of cover.lemmas.items))) }
+    ensures sound { (p : Parts) → AllFit p cover.lemmas.items → AllFit p pending.items → FitsLeft p (Some (left_of left)) → IfOk result (IsSound p) }
+{
+    let stayed = count_stays(stayed, &left)?;
+    match leave(pending, left)? {
+        None => Ok(Due::End(cover.loosenings, stayed)),
+        Some(tree) => Ok(Due::Tree(cover, tree, stayed)),
+    }
+}
+
+// What is due in a lemma's tree after a rule of this word of which this is left.
+#[tactic(auto, using(crate::proofs::Waits::lemma_done, crate::proofs::Waits::lemma_on, crate::proofs::Waits::lemma_stays, crate::proofs::Waits::states_more))]
+fn lemma_left(
+    cover: Cover,
+    lemma: State,
+    pending: Vec<State>,
+    left: Left,
+    word: Rule,
+) -> Result<Due, Refusal>
+    ensures comes { (p : Parts) → Comes p result (after_lemma_rule (Some (left_of left)) (RuleFails (rule_word word)) (pending_of pending.items) (lemma_goes_on (loosenings_of cover.loosenings) cover.count (states_of cover.lemmas.items) (state_of lemma))) }
+    ensures sound { (p : Parts) → AllFit p cover.lemmas.items → Fits p (state_of lemma) → AllFit p pending.items → FitsLeft p (Some (left_of left)) → IfOk result (IsSound p) }
+{
+    if is_stays(&left) {
+        return Err(Refusal::RuleFails(word));
+    }
+    match leave(pending, left)? {
+        None => {
+            let mut cover = cover;
+            cover.lemmas.push(lemma)?;
+            Ok(Due::Next(cover))
+        }
+        Some(tree) => Ok(Due::Lemma(cover, lemma, tree)),
+    }
+}
+
+// A line of the main tree with a rule.
+fn main_rule(
+    alloc: Global,
+    problem: &Problem,
+    tools: &mut Tools,
+    cover: Cover,
+    tree: Tree,
+    stayed: u64,
+    step: Step,
+) -> Result<Due, Refusal>
+    requires serves { Serves problem.now tools.old }
+    requires sound { IsSound problem.now (TreeDue cover tree stayed) }
+    ensures comes { (b : Option ℕ) → Comes problem.now result (next (problem_of problem.now) b (due_of problem.now (TreeDue cover tree stayed)) (rule_line (rule_line_of step))) }
+    ensures sound { IfOk result (IsSound problem.now) }
+    ensures serves { Serves problem.now tools.new }
+{
+    if !names_well(problem, step) {
+        return Err(Refusal::BadNumber);
+    }
+    let Tree { state, pending } = tree;
+    match rule(
+        alloc,
+        problem,
+        tools,
+        cover.loosenings,
+        &cover.lemmas,
+        state,
+        step,
+    )? {
+        None => Err(Refusal::RuleFails(step.word())),
+        Some(left) => main_left(cover, pending, stayed, left),
+    }
+}
+
+// A line of a lemma's tree with a rule.
+fn lemma_rule(
+    alloc: Global,
+    problem: &Problem,
+    tools: &mut Tools,
+    cover: Cover,
+    lemma: State,
+    tree: Tree,
+    step: Step,
+) -> Result<Due, Refusal>
+    requires serves { Serves problem.now tools.old }
+    requires sound { IsSound problem.now (LemmaDue cover lemma tree) }
+    ensures comes { (b : Option ℕ) → Comes problem.now result (next (problem_of problem.now) b (due_of problem.now (LemmaDue cover lemma tree)) (rule_line (rule_line_of step))) }
+    ensures sound { IfOk result (IsSound problem.now) }
+    ensures serves { Serves problem.now tools.new }
+{
+    if !names_well(problem, step) {
+        return Err(Refusal::BadNumber);
+    }
+    let Tree { state, pending } = tree;
+    match rule(
+        alloc,
+        problem,
+        tools,
+        cover.loosenings,
+        &cover.lemmas,
+        state,
+        step,
+    )? {
+        None => Err(Refusal::RuleFails(step.word())),
+        Some(left) => lemma_left(cover, lemma, pending, left, step.word()),
+    }
+}
+
+/// A line of a lemma's tree.
+pub fn lemma_line(
+    alloc: Global,
+    problem: &Problem,
+    tools: &mut Tools,
+    cover: Cover,
+    lemma: State,
+    tree: Tree,
+    line: &Line,
+) -> Result<Due, Refusal>
+    requires serves { Serves problem.now tools.old }
+    requires sound { IsSound problem.now (LemmaDue cover lemma tree) }
+    ensures comes { (b : Option ℕ) → Comes problem.now result (next (problem_of problem.now) b (due_of problem.now (LemmaDue cover lemma tree)) (line_of line.now)) }
+    ensures sound { IfOk result (IsSound problem.now) }
+    ensures serves { Serves problem.now tools.new }
+{
+    match said(line) {
+        TreeLine::Rule(step) => lemma_rule(alloc, problem, tools, cover, lemma, tree, step),
+        TreeLine::Crossing(axis) => Err(no_crossing(problem, axis)),
+        TreeLine::Lemma(_) => Err(Refusal::Missing),
+        TreeLine::Tree => Err(Refusal::Missing),
+        TreeLine::End => Err(Refusal::Missing),
+        TreeLine::Other => Err(Refusal::Missing),
+    }
+}
+
+/// A line of the main tree after the first one.
+pub fn tree_line(
+    alloc: Global,
+    problem: &Problem,
+    tools: &mut Tools,
+    cover: Cover,
+    tree: Tree,
+    stayed: u64,
+    line: &Line,
+) -> Result<Due, Refusal>
+    requires serves { Serves problem.now tools.old }
+    requires sound { IsSound problem.now (TreeDue cover tree stayed) }
+    ensures comes { (b : Option ℕ) → Comes problem.now result (next (problem_of problem.now) b (due_of problem.now (TreeDue cover tree stayed)) (line_of line.now)) }
+    ensures sound { IfOk result (IsSound problem.now) }
+    ensures serves { Serves problem.now tools.new }
+{
+    match said(line) {
+        TreeLine::Rule(step) => main_rule(alloc, problem, tools, cover, tree, stayed, step),
+        TreeLine::Crossing(axis) => Err(no_crossing(problem, axis)),
+        TreeLine::Lemma(_) => Err(Refusal::Missing),
+        TreeLine::Tree => Err(Refusal::Missing),
+        TreeLine::End => Err(Refusal::Missing),
+        TreeLine::Other => Err(Refusal::Missing),
+    }
+}
+
+// The first line of the main tree, with a rule.
+fn root_rule(
+    alloc: Global,
+    problem: &Problem,
+    tools: &mut Tools,
+    cover: Cover,
+    step: Step,
+) -> Result<Due, Refusal>
+    requires serves { Serves problem.now tools.old }
+    requires sound { IsSound problem.now (RootDue cover) }
+    ensures comes { (b : Option ℕ) → Comes problem.now result (next (problem_of problem.now) b (due_of problem.now (RootDue cover)) (rule_line (rule_line_of step))) }
+    ensures sound { IfOk result (IsSound problem.now) }
+    ensures serves { Serves problem.now tools.new }
+{
+    match root_space(alloc, problem)? {
+        Root::Empty(_) => {
+            if names_well(problem, step) {
+                Err(Refusal::RuleFails(step.word()))
+            } else {
+                Err(Refusal::BadNumber)
+            }
+        }
+        Root::Space(space) => {
+            let lits = Lits::new(alloc, problem.atoms().len())?;
+            let state = State { space, lits };
+            let pending = Vec::new(alloc);
+            main_rule(
+                alloc,
+                problem,
+                tools,
+                cover,
+                Tree { state, pending },
+                0,
+                step,
+            )
+        }
+    }
+}
+
+/// The first line of the main tree.
+pub fn root_line(
+    alloc: Global,
+    problem: &Problem,
+    tools: &mut Tools,
+    cover: Cover,
+    line: &Line,
+) -> Result<Due, Refusal>
+    requires serves { Serves problem.now tools.old }
+    requires sound { IsSound problem.now (RootDue cover) }
+    ensures comes { (b : Option ℕ) → Comes problem.now result (next (problem_of problem.now) b (due_of problem.now (RootDue cover)) (line_of line.now)) }
+    ensures sound { IfOk result (IsSound problem.now) }
+    ensures serves { Serves problem.now tools.new }
+{
+    match said(line) {
+        TreeLine::Rule(step) => root_rule(alloc, problem, tools, cover, step),
+        TreeLine::Crossing(axis) => {
+            if crosses(problem, axis) {
+                Ok(Due::End(cover.loosenings, 0))
+            } else {
+                Err(no_crossing(problem, axis))
+            }
+        }
+        TreeLine::Lemma(_) => Err(Refusal::Missing),
+        TreeLine::Tree => Err(Refusal::Missing),
+        TreeLine::End => Err(Refusal::Missing),
+        TreeLine::Other => Err(Refusal::Missing),
+    }
+}
+
+/// `end` of a cover.
+pub fn end_line(s: Loosenings, stayed: u64, line: &Line) -> Result<Due, Refusal>
+    ensures comes { (p : Parts) (b : Option ℕ) → Comes p result (next (problem_of p) b (end_due (loosenings_of s) (left_open (blanks stayed))) (line_of line.now)) }
+    ensures sound { (p : Parts) → IfOk result (IsSound p) }
+{
+    match said(line) {
+        TreeLine::End => Ok(Due::Nothing(s, Value::Left(stayed))),
+        TreeLine::Rule(_) => Err(Refusal::Extra),
+        TreeLine::Crossing(_) => Err(Refusal::Extra),
+        TreeLine::Lemma(_) => Err(Refusal::Missing),
+        TreeLine::Tree => Err(Refusal::Missing),
+        TreeLine::Other => Err(Refusal::Missing),
+    }
+}
