@@ -1,0 +1,18 @@
+-- Narrowed spaces.
+use Rattle.std.proofs.Common.{◌≡◌, ℕ, List, [], ◌∷◌, length, Bool, true, false, ◌&&◌, IsTrue, Some, refl, sym, arith, true≢false}
+use Rattle.dyadic.proofs.Equal.{both_true}
+use Rattle.dyadic.specs.Space.{Space, domain_within, space_within}
+use Rattle.poly_graph.specs.Space.{range}
+use Rattle.poly_graph.specs.Problem.{Problem, IsProblem, atom_at}
+use Rattle.poly_graph.specs.State.{State, Loosenings, margin_of}
+use Rattle.poly_graph.specs.Rules.{narrowing}
+use Rattle.poly_graph.proofs.Within.{narrowed_lies_within}
+
+pub within_length : (a b : Space) → IsTrue (space_within a b) → length a ≡ length b
+within_length [] [] h = refl
+within_length (d ∷ a) (e ∷ b) h = let k = within_length a b (both_true (domain_within d e) (space_within a b) h).1 in omega (arith, k)
+within_length [] (e ∷ b) h = absurd (true≢false (sym h))
+within_length (d ∷ a) [] h = absurd (true≢false (sym h))
+
+pub narrowing_within : (p : Problem) → IsProblem p → (s : Loosenings) (S : State) (j : ℕ) (narrow : Space) → narrowing p s S j ≡ Some narrow → IsTrue (space_within narrow S.space)
+narrowing_within p g s S j narrow e = narrowed_lies_within p.nodes g.ordered (atom_at p j).0 (range (margin_of s) (atom_at p j).1) S.space narrow e

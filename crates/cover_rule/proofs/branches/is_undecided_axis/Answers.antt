@@ -1,0 +1,11 @@
+use Rattle.std.proofs.Common.{◌≡◌, ◌<◌, ◌∙◌, length, get_or, ap, sym, arith}
+use Rattle.dyadic.specs.Space.{Domain, Space, test_axis}
+use Rattle.dyadic.specs.Space.{is_undecided}
+use Rattle.ival.specs.SpaceViews.{space_of, domain_of}
+use Rattle.cover_rule.proofs.Axes.{test_is}
+use Rattle.cover_rule.proofs.branches.is_undecided_axis.Goals as goal
+
+pub returns : goal.returns
+returns c =
+    let s = c.args.state.now.space in let i = c.args.axis in let d = domain_of c.get.result in
+    c.has_both_values.ensures ∙ ap is_undecided (c.get.ensures ∙ ap (λ (x : Space). get_or x i d) c.space.ensures) ∙ sym (test_is is_undecided i s d c.requires)

@@ -1,0 +1,14 @@
+use Rattle.std.proofs.Common.{◌∙◌, sym, subst, IsTrue}
+use Rattle.dyadic.specs.Space.{Space}
+use Rattle.poly_graph.specs.ProblemViews.{problem_of}
+use Rattle.poly_graph.specs.Fits.{IsShownAt}
+use Rattle.ival.specs.SpaceViews.{space_of}
+use Rattle.cover_rule.specs.Margins.{loosenings_of}
+use Rattle.cover_rule.proofs.Points.{middle_shown}
+use Rattle.cover_rule.proofs.point.Point.of_middle.Goals as goal
+
+pub returns-then-midpoint_sure-clause-shown : goal.returns-then-midpoint_sure-clause-shown
+returns-then-midpoint_sure-clause-shown c =
+    let p = problem_of c.args.problem.now in let s = loosenings_of c.args.margins.now in
+    subst (IsShownAt p s) (sym c.midpoint_sure.ensures.middle)
+    (middle_shown p c.axes.ensures.whole.problem s c.requires.margins.few_delta c.args.space.now c.requires.space (sym c.midpoint_sure.ensures.sure ∙ c.if-midpoint_sure.true))

@@ -1,0 +1,17 @@
+use Rattle.std.proofs.Common.{◌∙◌, ap, sym}
+use Rattle.dyadic.specs.Space.{Space}
+use Rattle.poly_graph.specs.Narrowed.{enclosures}
+use Rattle.ival.specs.RowViews.{rows_of}
+use Rattle.ival.specs.SpaceViews.{space_of}
+use Rattle.cover_rule.proofs.Axes.{has_rows}
+use Rattle.cover_rule.proofs.stuck.is_stuck_atom.Goals as goal
+
+pub may_atom-requires-clause-rows : goal.may_atom-requires-clause-rows
+may_atom-requires-clause-rows c =
+    let p = c.args.problem.now in
+    has_rows p c.axes.ensures.whole (space_of c.space-space.result.now) (rows_of c.args.work.now.rows) (c.requires.work.rows ∙ ap (λ (s : Space). enclosures s p.nodes) (sym c.space-space.ensures))
+
+pub sure_atom-requires-clause-rows : goal.sure_atom-requires-clause-rows
+sure_atom-requires-clause-rows c =
+    let p = c.args.problem.now in
+    has_rows p c.axes.ensures.whole (space_of c.space-space.result.now) (rows_of c.args.work.now.rows) (c.requires.work.rows ∙ ap (λ (s : Space). enclosures s p.nodes) (sym c.space-space.ensures))

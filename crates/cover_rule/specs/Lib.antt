@@ -1,0 +1,9 @@
+pub mod Held
+pub mod Laws
+pub mod Margins
+pub mod Models
+pub mod Patch
+pub mod Refusals
+pub mod Runs
+pub mod Serves
+pub mod Views

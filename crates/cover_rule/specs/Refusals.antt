@@ -1,0 +1,149 @@
+-- What a patch answers: for each step and each end the first refusal, and the patch after it where there is none.
+use Rattle.std.specs.Prelude.{◌≡◌, ◌<◌, ℕ, zero, suc, List, [], ◌∷◌, ◌++◌, Option, Some, None, Bool, true, false, not, ◌&&◌, is_none, length, IsTrue, Result, Ok, Err}
+use Rattle.dyadic.specs.Fraction.{Fraction, at_most, difference_of}
+use Rattle.dyadic.specs.Rounding.{Dyadic, exact, two_to_minus, mid}
+use Rattle.poly_graph.specs.Space.{Domain, real_domain, bool_domain, Space}
+use Rattle.poly_graph.specs.State.{State, in_yes, undecided, with_yes, with_no, with_space, may, covers}
+use Rattle.poly_graph.specs.Rules.{Line, pull, unit, ban, void, make_false, by, cut, flip, case, stuck, is_stuck_atom, test_axis, strictly_inside, is_undecided}
+use Rattle.poly_graph.specs.Honest.{widest, is_honest, is_wide, is_middle_at, is_small, is_some_space}
+use Rattle.cover_rule.specs.declared.refusal.PatchRefusal.{PatchRefusal}
+use Rattle.cover_rule.specs.declared.refusal.PatchRefusal.TheVariants.{NotYes, NotForced, NotCovered, NotFalse, NotInside, NotStuck, NotHonest, Ended, IsVoid, Decided, Memory}
+use Rattle.cover_rule.specs.Models.{LemmaModel, KeptModel, PatchModel}
+use Rattle.cover_rule.specs.Runs.{children}
+use Rattle.cover_rule.specs.Patch.{problem_in, loosenings_in, now_in, stepped, ended_by, with_kept, narrowing_in, space_or}
+
+-- ---- refusals in their order
+
+abbrev pub unless : Bool → PatchRefusal → Option PatchRefusal
+unless true e = None
+unless false e = Some e
+
+-- the first, where there is one, else the second
+abbrev pub then_by : Option PatchRefusal → Option PatchRefusal → Option PatchRefusal
+then_by None o = o
+then_by (Some e) o = Some e
+
+-- a patch that has ended takes nothing more
+abbrev pub if_ended : KeptModel → Option PatchRefusal
+if_ended k = unless (is_none k.end) Ended
+
+abbrev pub honestly : PatchModel → Line → Option PatchRefusal
+honestly P l = unless (is_honest (problem_in P) P.margins.least_bits (loosenings_in P) (now_in P) l) NotHonest
+
+-- ---- steps
+
+abbrev pub pull_refusal : PatchModel → ℕ → Option PatchRefusal
+pull_refusal P j = then_by (if_ended P.kept) (then_by (unless (in_yes (now_in P) j) NotYes) (unless (is_some_space (narrowing_in P j)) IsVoid))
+
+abbrev pub pulled_by : PatchModel → ℕ → PatchModel
+pulled_by P j = with_kept P (stepped P.kept (pull j) P.kept.quoted (with_space (now_in P) (space_or (now_in P).space (narrowing_in P j))))
+
+abbrev pub unit_refusal : PatchModel → ℕ → Option PatchRefusal
+unit_refusal P j = then_by (if_ended P.kept) (then_by (unless (undecided (now_in P) j) Decided) (unless (not (may (problem_in P) (loosenings_in P) (with_no (now_in P) j))) NotForced))
+
+abbrev pub forced_by : PatchModel → ℕ → PatchModel
+forced_by P j = with_kept P (stepped P.kept (unit j) P.kept.quoted (with_yes (now_in P) j))
+
+abbrev pub ban_refusal : KeptModel → ℕ → LemmaModel → Option PatchRefusal
+ban_refusal k j L = then_by (if_ended k) (then_by (unless (undecided k.reached j) Decided) (unless (covers L.state (with_yes k.reached j)) NotCovered))
+
+abbrev pub banned : KeptModel → ℕ → LemmaModel → KeptModel
+banned k j L = stepped k (ban j L.id) (k.quoted ++ (L ∷ [])) (with_no k.reached j)
+
+abbrev pub banned_by : PatchModel → ℕ → LemmaModel → PatchModel
+banned_by P j L = with_kept P (banned P.kept j L)
+
+-- ---- ends that close
+
+abbrev pub void_refusal : PatchModel → ℕ → Option PatchRefusal
+void_refusal P j = then_by (if_ended P.kept) (then_by (unless (in_yes (now_in P) j) NotYes) (unless (not (is_some_space (narrowing_in P j))) NotFalse))
+
+abbrev pub false_refusal : PatchModel → Option PatchRefusal
+false_refusal P = then_by (if_ended P.kept) (unless (not (may (problem_in P) (loosenings_in P) (now_in P))) NotFalse)
+
+abbrev pub by_refusal : KeptModel → LemmaModel → Option PatchRefusal
+by_refusal k L = then_by (if_ended k) (unless (covers L.state k.reached) NotCovered)
+
+-- the patch ended by a line that quotes no lemma
+abbrev pub ended_with : PatchModel → Line → PatchModel
+ended_with P l = with_kept P (ended_by P.kept l P.kept.quoted)
+
+-- ended by a lemma
+abbrev pub covered : KeptModel → LemmaModel → KeptModel
+covered k L = ended_by k (by L.id) (k.quoted ++ (L ∷ []))
+
+abbrev pub covered_by : PatchModel → LemmaModel → PatchModel
+covered_by P L = with_kept P (covered P.kept L)
+
+-- ---- ends that branch, and the end of a stuck state
+
+abbrev pub axis_middle : ℕ → Space → Option Dyadic
+axis_middle axis [] = None
+axis_middle zero (real_domain l h ∷ space) = Some (mid l h)
+axis_middle zero (bool_domain f t ∷ space) = None
+axis_middle (suc axis) (d ∷ space) = axis_middle axis space
+
+abbrev pub cut_of : ℕ → Option Dyadic → Option Line
+cut_of axis None = None
+cut_of axis (Some c) = Some (cut axis c)
+
+abbrev pub cut_from : Option (ℕ × Fraction) → Space → Option Line
+cut_from None space = None
+cut_from (Some (axis, v)) space = cut_of axis (axis_middle axis space)
+
+-- the cut of the widest axis at its middle, none where no axis can be halved
+abbrev pub cut_line : Space → Option Line
+cut_line space = cut_from (widest space) space
+
+abbrev pub cut_test : PatchModel → Option Line → Option PatchRefusal
+cut_test P None = Some NotInside
+cut_test P (Some l) = honestly P l
+
+abbrev pub cut_refusal : PatchModel → Option PatchRefusal
+cut_refusal P = then_by (if_ended P.kept) (cut_test P (cut_line (now_in P).space))
+
+abbrev pub ended_if : PatchModel → Option Line → PatchModel
+ended_if P None = P
+ended_if P (Some l) = ended_with P l
+
+abbrev pub cut_by : PatchModel → PatchModel
+cut_by P = ended_if P (cut_line (now_in P).space)
+
+-- a Bool axis with one value left, or none
+abbrev pub is_decided : Domain → Bool
+is_decided (real_domain l h) = false
+is_decided (bool_domain f t) = not (f && t)
+
+abbrev pub flip_refusal : PatchModel → ℕ → Option PatchRefusal
+flip_refusal P i = then_by (if_ended P.kept) (then_by (unless (not (test_axis is_decided i (now_in P).space)) Decided) (then_by (unless (test_axis is_undecided i (now_in P).space) NotInside) (honestly P (flip i))))
+
+abbrev pub case_refusal : PatchModel → ℕ → Option PatchRefusal
+case_refusal P j = then_by (if_ended P.kept) (then_by (unless (undecided (now_in P) j) Decided) (honestly P (case j)))
+
+abbrev pub stuck_refusal : PatchModel → ℕ → Option PatchRefusal
+stuck_refusal P j = then_by (if_ended P.kept) (then_by (unless (is_stuck_atom (problem_in P) (loosenings_in P) (now_in P) j && is_small P.margins.least_bits (now_in P).space) NotStuck) (honestly P (stuck j)))
+
+-- ---- the two states of a branch
+
+abbrev pub kids_by : Option Line → State → Option (State × State)
+kids_by None S = None
+kids_by (Some l) S = children l S
+
+abbrev pub kids_of : KeptModel → Option (State × State)
+kids_of k = kids_by k.end k.reached
+
+-- ---- answers
+
+-- what a call answers: done, where nothing refuses it; else the first refusal, or that memory is wanting, and the patch is as it was
+abbrev pub Answers : {X : Type 0} → Option PatchRefusal → X → X → X → Result (Unit {0}) PatchRefusal → Type 0
+Answers refusal old done new (Ok u) = (refusal ≡ None) × (new ≡ done)
+Answers refusal old done new (Err Memory) = (refusal ≡ None) × (new ≡ old)
+Answers refusal old done new (Err e) = (refusal ≡ Some e) × (new ≡ old)
+
+-- the widest axis is a Real one with these ends, whose middle lies strictly between them; it is wide where its side is above 2^-w
+pub record CutsAt (w : ℕ) (space : Space) (axis : ℕ) (l h : Dyadic) : Type 0 where
+  pub inside : axis < length space
+  pub line : cut_line space ≡ Some (cut axis (mid l h))
+  pub can : IsTrue (test_axis (strictly_inside (mid l h)) axis space)
+  pub wide : is_wide w axis (widest space) ≡ not (at_most (difference_of (exact h) (exact l)) (exact (two_to_minus w)))
+  pub middle : is_middle_at axis (mid l h) space ≡ true

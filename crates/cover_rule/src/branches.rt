@@ -1,0 +1,267 @@
+// Ends of a patch that part its state or leave it, over its parts.
+ghost use Rattle.std.specs.Prelude.{◌≡◌, ◌<◌, ℕ, length, not, ◌&&◌, IsTrue, IsNone, IfSome, None};
+ghost use Rattle.poly_graph.specs.ProblemViews.{problem_of};
+ghost use Rattle.poly_graph.specs.Fits.{FitsProblem};
+ghost use Rattle.poly_graph.specs.State.{misses, margin_of, undecided};
+ghost use Rattle.poly_graph.specs.Rules.{flip, case, stuck, is_undecided, test_axis};
+ghost use Rattle.poly_graph.specs.Honest.{not_shown, settled, is_honest};
+ghost use Rattle.dyadic.specs.Views.{dyadic_of};
+ghost use Rattle.ival.specs.SpaceViews.{space_of, domain_of};
+ghost use Rattle.cover_rule.specs.Margins.{AreMargins, loosenings_of};
+ghost use Rattle.cover_rule.specs.Serves.{Serves, IsReady, IsNumbered};
+ghost use Rattle.cover_rule.specs.Refusals.{Answers, cut_line, cut_refusal, cut_by, CutsAt, flip_refusal, case_refusal, stuck_refusal, ended_with, is_decided};
+ghost use Rattle.cover_rule.specs.Views.{kept_of};
+ghost use Rattle.cover_rule.specs.Held.{IsHeld, patch_of};
+
+use crate::kept::KeptPatch;
+use crate::margins::Margins;
+use crate::refusal::PatchRefusal;
+use crate::small::{has_small_side, is_small};
+use crate::state::State;
+use crate::step::End;
+use crate::steps::may_without;
+use crate::stuck::{is_settled, is_stuck_atom, none_stuck_below};
+use crate::truth::is_not_shown;
+use crate::workspace::Workspace;
+use dyadic::mid;
+use ival::{Domain, Range, Space, Truths};
+use poly_graph::Problem;
+use truth3::may_atom;
+
+// Whether nothing is left to do at the state but to part it.
+fn is_due(problem: &Problem, margins: &Margins, state: &State, work: &mut Workspace) -> bool
+    requires margins { AreMargins margins.now }
+    requires numbered { IsNumbered problem.now }
+    requires state { FitsProblem (problem_of problem.now) state.now }
+    requires work { IsReady problem.now state.now.space work.old }
+    ensures due { result ≡ (not_shown (problem_of problem.now) (loosenings_of margins.now) state.now && settled (problem_of problem.now) (loosenings_of margins.now) state.now) }
+    ensures work { IsReady problem.now state.now.space work.new }
+{
+    is_not_shown(problem, margins, state, work) && is_settled(problem, margins, state, work)
+}
+
+// Whether a Bool has one value left.
+fn has_one_value(domain: Domain) -> bool
+    ensures { result ≡ is_decided (domain_of domain) }
+{
+    match domain {
+        Domain::Real(_) => false,
+        Domain::Bool(Truths::Either) => false,
+        Domain::Bool(Truths::False) => true,
+        Domain::Bool(Truths::True) => true,
+    }
+}
+
+// Whether a Bool has both values left.
+fn has_both_values(domain: Domain) -> bool
+    ensures { result ≡ is_undecided (domain_of domain) }
+{
+    match domain {
+        Domain::Real(_) => false,
+        Domain::Bool(Truths::Either) => true,
+        Domain::Bool(Truths::False) => false,
+        Domain::Bool(Truths::True) => false,
+    }
+}
+
+// Whether the axis is a Bool that is decided.
+fn is_decided_axis(state: &State, axis: u32) -> bool
+    requires { axis < length state.now.space }
+    ensures { result ≡ test_axis is_decided axis state.now.space }
+{
+    has_one_value(state.space().get(axis as usize))
+}
+
+// Whether the axis is a Bool that is not decided.
+fn is_undecided_axis(state: &State, axis: u32) -> bool
+    requires { axis < length state.now.space }
+    ensures { result ≡ test_axis is_undecided axis state.now.space }
+{
+    has_both_values(state.space().get(axis as usize))
+}
+
+/// Ends the patch by parting the Bool axis, which is not decided: false, then true.
+pub fn flip(
+    problem: &Problem,
+    margins: &Margins,
+    kept: &mut KeptPatch,
+    work: &mut Workspace,
+    axis: u32,
+) -> Result<(), PatchRefusal>
+    requires held { IsHeld problem.now margins.now kept.old work.old }
+    requires axis { axis < length problem.now.axes }
+    ensures answer { Answers (flip_refusal (patch_of problem.now margins.now kept.old) axis) (patch_of problem.now margins.now kept.old) (ended_with (patch_of problem.now margins.now kept.old) (flip axis)) (patch_of problem.now margins.now kept.new) result }
+    ensures reached { kept.new.reached ≡ kept.old.reached }
+    ensures ready { IsReady problem.now kept.old.reached.space work.new }
+{
+    if kept.end.is_some() {
+        return Err(PatchRefusal::Ended);
+    }
+    if is_decided_axis(&kept.reached, axis) {
+        return Err(PatchRefusal::Decided);
+    }
+    if !is_undecided_axis(&kept.reached, axis) {
+        return Err(PatchRefusal::NotInside);
+    }
+    if !is_due(problem, margins, &kept.reached, work) {
+        return Err(PatchRefusal::NotHonest);
+    }
+    kept.end = Some(End::Flip(axis));
+    Ok(())
+}
+
+// Whether the enclosure of atom j, which is not marked, meets its range.
+fn meets_range(
+    problem: &Problem,
+    margins: &Margins,
+    state: &State,
+    work: &Workspace,
+    j: u32,
+) -> bool
+    requires margins { AreMargins margins.now }
+    requires state { FitsProblem (problem_of problem.now) state.now }
+    requires small { j < length problem.now.atoms }
+    requires atom { IsTrue (undecided state.now j) }
+    requires work { Serves problem.now state.now.space work.now }
+    ensures { result ≡ not (misses (problem_of problem.now) (margin_of (loosenings_of margins.now)) state.now.space j) }
+{
+    let _ = problem.axes();
+    let space = state.space();
+    may_atom(
+        problem,
+        &work.rows,
+        space,
+        state.lits(),
+        margins.margin_bits,
+        j,
+    )
+}
+
+// Whether it is honest to part the state at atom j, which is not marked.
+fn is_case_due(
+    problem: &Problem,
+    margins: &Margins,
+    state: &mut State,
+    work: &mut Workspace,
+    j: u32,
+) -> bool
+    requires margins { AreMargins margins.now }
+    requires numbered { IsNumbered problem.now }
+    requires state { FitsProblem (problem_of problem.now) state.old }
+    requires small { j < length problem.now.atoms }
+    requires atom { IsTrue (undecided state.old j) }
+    requires work { IsReady problem.now state.old.space work.old }
+    ensures honest { result ≡ is_honest (problem_of problem.now) margins.now.least_bits (loosenings_of margins.now) state.old (case j) }
+    ensures state { state.new ≡ state.old }
+    ensures work { IsReady problem.now state.old.space work.new }
+{
+    if !is_due(problem, margins, state, work) {
+        return false;
+    }
+    if !may_without(problem, margins, state, work, j) {
+        return false;
+    }
+    meets_range(problem, margins, state, work, j)
+}
+
+/// Ends the patch by parting the state at atom j, which is not marked: yes, then no.
+pub fn case(
+    problem: &Problem,
+    margins: &Margins,
+    kept: &mut KeptPatch,
+    work: &mut Workspace,
+    j: u32,
+) -> Result<(), PatchRefusal>
+    requires held { IsHeld problem.now margins.now kept.old work.old }
+    requires atom { j < length problem.now.atoms }
+    ensures answer { Answers (case_refusal (patch_of problem.now margins.now kept.old) j) (patch_of problem.now margins.now kept.old) (ended_with (patch_of problem.now margins.now kept.old) (case j)) (patch_of problem.now margins.now kept.new) result }
+    ensures reached { kept.new.reached ≡ kept.old.reached }
+    ensures ready { IsReady problem.now kept.old.reached.space work.new }
+{
+    if kept.end.is_some() {
+        return Err(PatchRefusal::Ended);
+    }
+    if !kept.reached.is_undecided(j) {
+        return Err(PatchRefusal::Decided);
+    }
+    if !is_case_due(problem, margins, &mut kept.reached, work, j) {
+        return Err(PatchRefusal::NotHonest);
+    }
+    kept.end = Some(End::Case(j));
+    Ok(())
+}
+
+/// Ends the patch at a stuck state, whose first stuck atom is j.
+pub fn stuck(
+    problem: &Problem,
+    margins: &Margins,
+    kept: &mut KeptPatch,
+    work: &mut Workspace,
+    j: u32,
+) -> Result<(), PatchRefusal>
+    requires held { IsHeld problem.now margins.now kept.old work.old }
+    requires atom { j < length problem.now.atoms }
+    ensures answer { Answers (stuck_refusal (patch_of problem.now margins.now kept.old) j) (patch_of problem.now margins.now kept.old) (ended_with (patch_of problem.now margins.now kept.old) (stuck j)) (patch_of problem.now margins.now kept.new) result }
+    ensures reached { kept.new.reached ≡ kept.old.reached }
+    ensures ready { IsReady problem.now kept.old.reached.space work.new }
+{
+    if kept.end.is_some() {
+        return Err(PatchRefusal::Ended);
+    }
+    if !is_stuck_atom(problem, margins, &kept.reached, work, j) {
+        return Err(PatchRefusal::NotStuck);
+    }
+    if !is_small(kept.reached.space(), margins.least_bits) {
+        return Err(PatchRefusal::NotStuck);
+    }
+    if !is_due(problem, margins, &kept.reached, work) {
+        return Err(PatchRefusal::NotHonest);
+    }
+    if !none_stuck_below(problem, margins, &kept.reached, work, j) {
+        return Err(PatchRefusal::NotHonest);
+    }
+    kept.end = Some(End::Stuck(j));
+    Ok(())
+}
+
+// The widest axis with its numbers, if there is one that can be halved.
+fn widest_range(space: &Space) -> Option<(usize, Range)>
+    ensures none { IsNone result → cut_line (space_of space.now) ≡ None }
+    ensures found { IfSome result (λ f. (w : ℕ) → CutsAt w (space_of space.now) f.0 (dyadic_of f.1.low) (dyadic_of f.1.high)) }
+{
+    match space.widest() {
+        None => None,
+        Some(axis) => match space.get(axis) {
+            Domain::Real(range) => Some((axis, range)),
+            Domain::Bool(_) => unreachable!(),
+        },
+    }
+}
+
+/// Ends the patch by cutting the widest axis at its middle.
+pub fn cut(
+    problem: &Problem,
+    margins: &Margins,
+    kept: &mut KeptPatch,
+    work: &mut Workspace,
+) -> Result<(), PatchRefusal>
+    requires held { IsHeld problem.now margins.now kept.old work.old }
+    ensures answer { Answers (cut_refusal (patch_of problem.now margins.now kept.old)) (patch_of problem.now margins.now kept.old) (cut_by (patch_of problem.now margins.now kept.old)) (patch_of problem.now margins.now kept.new) result }
+    ensures reached { kept.new.reached ≡ kept.old.reached }
+    ensures ready { IsReady problem.now kept.old.reached.space work.new }
+{
+    if kept.end.is_some() {
+        return Err(PatchRefusal::Ended);
+    }
+    let Some((axis, range)) = widest_range(kept.reached.space()) else {
+        return Err(PatchRefusal::NotInside);
+    };
+    if !is_due(problem, margins, &kept.reached, work) {
+        return Err(PatchRefusal::NotHonest);
+    }
+    if has_small_side(range, margins.least_bits) {
+        return Err(PatchRefusal::NotHonest);
+    }
+    kept.end = Some(End::Cut(axis as u32, mid(range.low, range.high)));
+    Ok(())
+}

@@ -1,0 +1,90 @@
+// Ends of a patch that close its state, over its parts.
+ghost use Rattle.std.specs.Prelude.{◌≡◌, ◌<◌, [], ◌∷◌, ◌++◌, length};
+ghost use Rattle.poly_graph.specs.ProblemViews.{problem_of};
+ghost use Rattle.poly_graph.specs.Rules.{void, make_false};
+ghost use Rattle.cover_rule.specs.Serves.{IsReady};
+ghost use Rattle.cover_rule.specs.Patch.{ended_by};
+ghost use Rattle.cover_rule.specs.Refusals.{Answers, void_refusal, false_refusal, by_refusal, ended_with, covered};
+ghost use Rattle.cover_rule.specs.Views.{kept_of, end_line};
+ghost use Rattle.cover_rule.specs.Held.{IsHeld, patch_of};
+
+use crate::kept::KeptPatch;
+use crate::lemma::Lemma;
+use crate::margins::Margins;
+use crate::narrowing::leaves_nothing;
+use crate::refusal::PatchRefusal;
+use crate::step::End;
+use crate::steps::quote;
+use crate::truth::may_hold;
+use crate::workspace::Workspace;
+use poly_graph::Problem;
+use std::alloc::Global;
+
+/// Ends the patch by atom j, by which nothing is left.
+pub fn void(
+    problem: &Problem,
+    margins: &Margins,
+    kept: &mut KeptPatch,
+    work: &mut Workspace,
+    j: u32,
+) -> Result<(), PatchRefusal>
+    requires held { IsHeld problem.now margins.now kept.old work.old }
+    requires atom { j < length problem.now.atoms }
+    ensures answer { Answers (void_refusal (patch_of problem.now margins.now kept.old) j) (patch_of problem.now margins.now kept.old) (ended_with (patch_of problem.now margins.now kept.old) (void j)) (patch_of problem.now margins.now kept.new) result }
+    ensures reached { kept.new.reached ≡ kept.old.reached }
+    ensures ready { IsReady problem.now kept.old.reached.space work.new }
+{
+    if kept.end.is_some() {
+        return Err(PatchRefusal::Ended);
+    }
+    if !kept.reached.is_yes(j) {
+        return Err(PatchRefusal::NotYes);
+    }
+    if !leaves_nothing(problem, margins, &kept.reached, j, work) {
+        return Err(PatchRefusal::NotFalse);
+    }
+    kept.end = Some(End::Void(j));
+    Ok(())
+}
+
+/// Ends the patch where the form can't hold.
+pub fn make_false(
+    problem: &Problem,
+    margins: &Margins,
+    kept: &mut KeptPatch,
+    work: &mut Workspace,
+) -> Result<(), PatchRefusal>
+    requires held { IsHeld problem.now margins.now kept.old work.old }
+    ensures answer { Answers (false_refusal (patch_of problem.now margins.now kept.old)) (patch_of problem.now margins.now kept.old) (ended_with (patch_of problem.now margins.now kept.old) make_false) (patch_of problem.now margins.now kept.new) result }
+    ensures reached { kept.new.reached ≡ kept.old.reached }
+    ensures ready { IsReady problem.now kept.old.reached.space work.new }
+{
+    if kept.end.is_some() {
+        return Err(PatchRefusal::Ended);
+    }
+    if may_hold(problem, margins, &kept.reached, work) {
+        return Err(PatchRefusal::NotFalse);
+    }
+    kept.end = Some(End::False);
+    Ok(())
+}
+
+/// Ends the patch by a lemma that covers the state.
+pub fn by(alloc: Global, kept: &mut KeptPatch, lemma: &Lemma) -> Result<(), PatchRefusal>
+    requires axes { length lemma.now.state.space ≡ length kept.old.reached.space }
+    requires atoms { length lemma.now.state.marks ≡ length kept.old.reached.marks }
+    ensures answer { Answers (by_refusal (kept_of kept.old) lemma.now) (kept_of kept.old) (covered (kept_of kept.old) lemma.now) (kept_of kept.new) result }
+    ensures reached { kept.new.reached ≡ kept.old.reached }
+{
+    if kept.end.is_some() {
+        return Err(PatchRefusal::Ended);
+    }
+    if !lemma.state().covers(&kept.reached) {
+        return Err(PatchRefusal::NotCovered);
+    }
+    if quote(alloc, kept, lemma).is_err() {
+        return Err(PatchRefusal::Memory);
+    }
+    kept.end = Some(End::By(lemma.id()));
+    Ok(())
+}

@@ -1,0 +1,147 @@
+// Narrowing, and rows that follow it.
+ghost use Rattle.std.specs.Prelude.{◌≡◌, ◌<◌, ◌^◌, not, length, slice_set, IsTrue};
+ghost use Rattle.poly_graph.specs.ProblemViews.{problem_of};
+ghost use Rattle.poly_graph.specs.Fits.{FitsProblem};
+ghost use Rattle.poly_graph.specs.State.{with_space};
+ghost use Rattle.poly_graph.specs.Rules.{narrowing};
+ghost use Rattle.poly_graph.specs.Honest.{is_some_space, none_empty};
+ghost use Rattle.ival.specs.SpaceViews.{space_of, domain_of};
+ghost use Rattle.ival.specs.Narrows.{IsNarrowed};
+ghost use Rattle.cover_rule.specs.Margins.{AreMargins, loosenings_of};
+ghost use Rattle.cover_rule.specs.Serves.{Serves, IsReady, IsNumbered};
+
+use crate::margins::Margins;
+use crate::state::State;
+use crate::workspace::Workspace;
+use hc4_bwd::narrow;
+use hc4_fwd::refill;
+use ival::{Domain, Narrowed, Space};
+use poly_graph::Problem;
+
+/// Puts the domains of a space into another one, which has as many axes.
+pub fn copy_space(from: &Space, into: &mut Space)
+    requires { length (space_of from.now) ≡ length (space_of into.old) }
+    ensures { space_of into.new ≡ space_of from.now }
+{
+    for axis in 0..from.len() {
+        into.set(axis, from.get(axis));
+    }
+}
+
+// Whether these are the same; where it says no they may be.
+fn is_same(domain: Domain, other: Domain) -> bool
+    ensures { IsTrue result → domain_of domain ≡ domain_of other }
+{
+    domain == other
+}
+
+// Leaves a domain to the axis, and renews the rows where that is a change.
+fn renew_axis(
+    problem: &Problem,
+    axis: usize,
+    domain: Domain,
+    state: &mut State,
+    work: &mut Workspace,
+)
+    requires axis { axis < length state.old.space }
+    requires small { axis < 2 ^ 32 }
+    requires work { Serves problem.now state.old.space work.old }
+    ensures state { state.new ≡ with_space state.old (slice_set state.old.space axis (domain_of domain)) }
+    ensures work { Serves problem.now state.new.space work.new }
+    ensures spare { work.new.spare ≡ work.old.spare }
+{
+    if is_same(state.space().get(axis), domain) {
+        return;
+    }
+    state.set_axis(axis, domain);
+    refill(problem.graph(), state.space(), axis as u32, &mut work.rows);
+}
+
+/// Takes over the spare space, and renews the rows of the axes that differ.
+pub fn adopt_spare(problem: &Problem, state: &mut State, work: &mut Workspace)
+    requires numbered { IsNumbered problem.now }
+    requires state { FitsProblem (problem_of problem.now) state.old }
+    requires work { Serves problem.now state.old.space work.old }
+    requires spare { length (space_of work.old.spare) ≡ length state.old.space }
+    ensures state { state.new ≡ with_space state.old (space_of work.old.spare) }
+    ensures work { IsReady problem.now state.new.space work.new }
+{
+    for axis in 0..work.spare.len() {
+        let domain = work.spare.get(axis);
+        renew_axis(problem, axis, domain, state, work);
+    }
+}
+
+/// Narrows the spare space, a copy of the state's, by atom j.
+pub fn narrow_spare(
+    problem: &Problem,
+    margins: &Margins,
+    state: &State,
+    j: u32,
+    work: &mut Workspace,
+) -> Narrowed
+    requires margins { AreMargins margins.now }
+    requires atom { j < length problem.now.atoms }
+    requires work { IsReady problem.now state.now.space work.old }
+    ensures narrowed { IsNarrowed state.now.space (space_of work.new.spare) (narrowing (problem_of problem.now) (loosenings_of margins.now) state.now j) result }
+    ensures work { Serves problem.now state.now.space work.new }
+{
+    let _ = problem.axes();
+    let atom = problem.atoms()[j as usize];
+    narrow(
+        problem.graph(),
+        &atom,
+        margins.margin_bits,
+        &work.rows,
+        &mut work.scratch,
+        &mut work.spare,
+    )
+}
+
+/// Whether narrowing by atom j leaves nothing.
+pub fn leaves_nothing(
+    problem: &Problem,
+    margins: &Margins,
+    state: &State,
+    j: u32,
+    work: &mut Workspace,
+) -> bool
+    requires margins { AreMargins margins.now }
+    requires atom { j < length problem.now.atoms }
+    requires work { IsReady problem.now state.now.space work.old }
+    ensures empty { result ≡ not (is_some_space (narrowing (problem_of problem.now) (loosenings_of margins.now) state.now j)) }
+    ensures work { IsReady problem.now state.now.space work.new }
+{
+    let _ = problem.axes();
+    match narrow_spare(problem, margins, state, j, work) {
+        Narrowed::Empty => true,
+        Narrowed::Same => false,
+        Narrowed::Less => {
+            copy_space(state.space(), &mut work.spare);
+            false
+        }
+    }
+}
+
+/// Whether narrowing by no atom that is marked yes leaves nothing.
+pub fn none_leaves_nothing(
+    problem: &Problem,
+    margins: &Margins,
+    state: &State,
+    work: &mut Workspace,
+) -> bool
+    requires margins { AreMargins margins.now }
+    requires numbered { IsNumbered problem.now }
+    requires state { FitsProblem (problem_of problem.now) state.now }
+    requires work { IsReady problem.now state.now.space work.old }
+    ensures none { result ≡ none_empty (problem_of problem.now) (loosenings_of margins.now) state.now }
+    ensures work { IsReady problem.now state.now.space work.new }
+{
+    for j in 0..state.lits().len() {
+        let j = j as u32;
+        if state.is_yes(j) && leaves_nothing(problem, margins, state, j, work) {
+            return false;
+        }
+    }
+    true
+}

@@ -1,0 +1,278 @@
+// Patches.
+ghost use Rattle.std.specs.Prelude.{◌≡◌, ◌<◌, ◌↔◌, length, IfOk, IsTrue, MatchResult};
+ghost use Rattle.poly_graph.specs.ProblemViews.{problem_of};
+ghost use Rattle.poly_graph.specs.Fits.{FitsProblem};
+ghost use Rattle.poly_graph.specs.State.{IsLemma};
+ghost use Rattle.poly_graph.specs.Rules.{void, make_false, flip, case, stuck};
+ghost use Rattle.ival.specs.SpaceViews.{space_of};
+ghost use Rattle.cover_rule.specs.Margins.{AreMargins, loosenings_of};
+ghost use Rattle.cover_rule.specs.Runs.{IsRun, IsClosed};
+ghost use Rattle.cover_rule.specs.Serves.{HasRoom, IsNumbered};
+ghost use Rattle.cover_rule.specs.Patch.{run_at};
+ghost use Rattle.cover_rule.specs.Refusals.{Answers, pull_refusal, pulled_by, unit_refusal, forced_by, ban_refusal, banned_by, void_refusal, false_refusal, by_refusal, covered_by, cut_refusal, cut_by, flip_refusal, case_refusal, stuck_refusal, ended_with};
+ghost use Rattle.cover_rule.specs.Views.{kept_of};
+
+use crate::closed::ClosedPatch;
+use crate::kept::KeptPatch;
+use crate::lemma::Lemma;
+use crate::margins::Margins;
+use crate::narrowing::copy_space;
+use crate::refusal::PatchRefusal;
+use crate::state::State;
+use crate::workspace::Workspace;
+use crate::{branches, ends, steps};
+use hc4_fwd::fill;
+use poly_graph::Problem;
+use std::alloc::{AllocError, Global};
+use std::marker::Model;
+
+/// A run of rules for a problem that goes from a state to another by one rule after another, and may end. It is
+/// lawful and honest at each moment, whatever is asked of it: what would not be is refused.
+#[derive(Drop)]
+pub struct Patch<'a> {
+    alloc: Global,
+    problem: &'a Problem,
+    margins: Margins,
+    kept: KeptPatch,
+    work: Workspace,
+}
+
+impl<'a> Model for Patch<'a> {
+    ghost use Rattle.cover_rule.specs.Models.{PatchModel};
+    ghost use Rattle.cover_rule.specs.Held.{IsHeld, patch_of};
+
+    ghost Value = { PatchModel };
+
+    ghost view = { λ p. patch_of p.problem.now p.margins p.kept };
+
+    ghost invariant = { λ p. IsHeld p.problem.now p.margins p.kept p.work };
+}
+
+// Nothing done yet at the state, which is given twice.
+fn nothing_done(alloc: Global, first: State, reached: State) -> KeptPatch
+    requires { first ≡ reached }
+    ensures kept { kept_of result ≡ run_at reached }
+    ensures reached { result.reached ≡ reached }
+{
+    KeptPatch {
+        first,
+        steps: Vec::new(alloc),
+        quoted: Vec::new(alloc),
+        end: None,
+        reached,
+    }
+}
+
+impl<'a> Patch<'a> {
+    /// A patch at the state, with nothing done yet, in room for the problem.
+    pub fn begin_in(
+        alloc: Global,
+        work: Workspace,
+        problem: &'a Problem,
+        margins: &Margins,
+        state: State,
+    ) -> Result<Patch<'a>, AllocError>
+        requires room { HasRoom problem.now work }
+        requires numbered { IsNumbered problem.now }
+        requires margins { AreMargins margins.now }
+        requires state { FitsProblem (problem_of problem.now) state }
+        ensures problem { IfOk result (λ p. p.problem ≡ problem.now) }
+        ensures margins { IfOk result (λ p. p.margins ≡ margins.now) }
+        ensures kept { IfOk result (λ p. p.kept ≡ run_at state) }
+    {
+        let mut work = work;
+        let first = state.try_clone(alloc)?;
+        let _ = problem.axes();
+        let space = state.space();
+        fill(problem.graph(), space, &mut work.rows);
+        copy_space(space, &mut work.spare);
+        let kept = nothing_done(alloc, first, state);
+        Ok(Patch {
+            alloc,
+            problem,
+            margins: *margins,
+            kept,
+            work,
+        })
+    }
+
+    /// A patch at the state, with nothing done yet.
+    pub fn begin(
+        alloc: Global,
+        problem: &'a Problem,
+        margins: &Margins,
+        state: State,
+    ) -> Result<Patch<'a>, AllocError>
+        requires numbered { IsNumbered problem.now }
+        requires margins { AreMargins margins.now }
+        requires state { FitsProblem (problem_of problem.now) state }
+        ensures problem { IfOk result (λ p. p.problem ≡ problem.now) }
+        ensures margins { IfOk result (λ p. p.margins ≡ margins.now) }
+        ensures kept { IfOk result (λ p. p.kept ≡ run_at state) }
+    {
+        let work = Workspace::new(alloc, problem)?;
+        Patch::begin_in(alloc, work, problem, margins, state)
+    }
+
+    /// The state that it has reached.
+    pub fn reached(&self) -> &State
+        ensures state { result.now ≡ self.now.kept.reached }
+        ensures run { IsRun (problem_of self.now.problem) self.now.margins self.now.kept }
+    {
+        &self.kept.reached
+    }
+
+    /// What it has done, to be kept, and the room that it worked in.
+    pub fn into_kept(self) -> (KeptPatch, Workspace)
+        ensures kept { kept_of result.0 ≡ self.entry.kept }
+        ensures run { IsRun (problem_of self.entry.problem) self.entry.margins self.entry.kept }
+        ensures room { HasRoom self.entry.problem result.1 }
+    {
+        let Patch {
+            alloc: _,
+            problem: _,
+            margins: _,
+            kept,
+            work,
+        } = self;
+        (kept, work)
+    }
+
+    /// The closed patch; the patch itself where it did not end by closing its state.
+    pub fn closed(self) -> Result<ClosedPatch, Patch<'a>>
+        ensures { MatchResult result (λ c. (c ≡ self.entry.kept) × IsClosed self.entry.kept) (λ p. (p ≡ self.entry) × ¬ IsClosed self.entry.kept) }
+    {
+        if !self.has_closed() {
+            return Err(self);
+        }
+        let (kept, _) = self.into_kept();
+        match kept.closed() {
+            Ok(closed) => Ok(closed),
+            Err(_) => unreachable!(),
+        }
+    }
+
+    /// Whether it ended by closing its state.
+    pub fn has_closed(&self) -> bool
+        ensures { IsTrue result ↔ IsClosed self.now.kept }
+    {
+        self.kept.has_closed()
+    }
+
+    /// Pulls atom j, which has to be marked yes: leaves of the space what the atom leaves of it.
+    pub fn pull(&mut self, j: u32) -> Result<(), PatchRefusal>
+        requires { j < length self.old.problem.atoms }
+        ensures { Answers (pull_refusal self.old j) self.old (pulled_by self.old j) self.new result }
+    {
+        steps::pull(
+            self.problem,
+            &self.margins,
+            &mut self.kept,
+            &mut self.work,
+            j,
+        )
+    }
+
+    /// Marks atom j yes, without which the form can't hold.
+    pub fn unit(&mut self, j: u32) -> Result<(), PatchRefusal>
+        requires { j < length self.old.problem.atoms }
+        ensures { Answers (unit_refusal self.old j) self.old (forced_by self.old j) self.new result }
+    {
+        steps::unit(
+            self.problem,
+            &self.margins,
+            &mut self.kept,
+            &mut self.work,
+            j,
+        )
+    }
+
+    /// Marks atom j no, since the lemma covers the state with the atom marked yes.
+    pub fn ban(&mut self, j: u32, lemma: &Lemma) -> Result<(), PatchRefusal>
+        requires atom { j < length self.old.problem.atoms }
+        requires state { FitsProblem (problem_of self.old.problem) lemma.now.state }
+        requires lemma { IsLemma (problem_of self.old.problem) (loosenings_of self.old.margins) lemma.now.state }
+        ensures { Answers (ban_refusal self.old.kept j lemma.now) self.old (banned_by self.old j lemma.now) self.new result }
+    {
+        steps::ban(self.alloc, &mut self.kept, j, lemma)
+    }
+
+    /// Ends the patch by atom j, which is marked yes and leaves nothing.
+    pub fn void(&mut self, j: u32) -> Result<(), PatchRefusal>
+        requires { j < length self.old.problem.atoms }
+        ensures { Answers (void_refusal self.old j) self.old (ended_with self.old (void j)) self.new result }
+    {
+        ends::void(
+            self.problem,
+            &self.margins,
+            &mut self.kept,
+            &mut self.work,
+            j,
+        )
+    }
+
+    /// Ends the patch where the form can't hold.
+    pub fn make_false(&mut self) -> Result<(), PatchRefusal>
+        ensures { Answers (false_refusal self.old) self.old (ended_with self.old make_false) self.new result }
+    {
+        ends::make_false(self.problem, &self.margins, &mut self.kept, &mut self.work)
+    }
+
+    /// Ends the patch by a lemma that covers the state.
+    pub fn by(&mut self, lemma: &Lemma) -> Result<(), PatchRefusal>
+        requires state { FitsProblem (problem_of self.old.problem) lemma.now.state }
+        requires lemma { IsLemma (problem_of self.old.problem) (loosenings_of self.old.margins) lemma.now.state }
+        ensures { Answers (by_refusal self.old.kept lemma.now) self.old (covered_by self.old lemma.now) self.new result }
+    {
+        ends::by(self.alloc, &mut self.kept, lemma)
+    }
+
+    /// Ends the patch by cutting the widest axis at its middle: the lower part, then the upper one.
+    pub fn cut(&mut self) -> Result<(), PatchRefusal>
+        ensures { Answers (cut_refusal self.old) self.old (cut_by self.old) self.new result }
+    {
+        branches::cut(self.problem, &self.margins, &mut self.kept, &mut self.work)
+    }
+
+    /// Ends the patch by parting the Bool axis, which is not decided: false, then true.
+    pub fn flip(&mut self, axis: u32) -> Result<(), PatchRefusal>
+        requires { axis < length self.old.problem.axes }
+        ensures { Answers (flip_refusal self.old axis) self.old (ended_with self.old (flip axis)) self.new result }
+    {
+        branches::flip(
+            self.problem,
+            &self.margins,
+            &mut self.kept,
+            &mut self.work,
+            axis,
+        )
+    }
+
+    /// Ends the patch by parting the state at atom j, which is not marked: yes, then no.
+    pub fn case(&mut self, j: u32) -> Result<(), PatchRefusal>
+        requires { j < length self.old.problem.atoms }
+        ensures { Answers (case_refusal self.old j) self.old (ended_with self.old (case j)) self.new result }
+    {
+        branches::case(
+            self.problem,
+            &self.margins,
+            &mut self.kept,
+            &mut self.work,
+            j,
+        )
+    }
+
+    /// Ends the patch at a stuck state, whose first stuck atom is j.
+    pub fn stuck(&mut self, j: u32) -> Result<(), PatchRefusal>
+        requires { j < length self.old.problem.atoms }
+        ensures { Answers (stuck_refusal self.old j) self.old (ended_with self.old (stuck j)) self.new result }
+    {
+        branches::stuck(
+            self.problem,
+            &self.margins,
+            &mut self.kept,
+            &mut self.work,
+            j,
+        )
+    }
+}

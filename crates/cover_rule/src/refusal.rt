@@ -1,0 +1,29 @@
+// Why a step or an end of a patch is refused.
+use std::alloc::AllocError;
+
+/// Why a step or an end of a patch is refused.
+#[derive(Clone, Copy, PartialEq, Eq, Debug)]
+pub enum PatchRefusal {
+    /// The atom is not marked yes.
+    NotYes,
+    /// The form may hold without the atom.
+    NotForced,
+    /// The lemma does not cover the state.
+    NotCovered,
+    /// Something is left.
+    NotFalse,
+    /// There is no such axis to part: none that can be halved, or not a Bool one.
+    NotInside,
+    /// The atom is not a stuck one, or an axis is not small or a Bool not decided.
+    NotStuck,
+    /// The rule holds, and a search should not yet use it here.
+    NotHonest,
+    /// The patch has ended.
+    Ended,
+    /// Narrowing leaves nothing.
+    IsVoid,
+    /// The atom is marked, or the Bool axis decided.
+    Decided,
+    /// There is no memory.
+    Memory,
+}

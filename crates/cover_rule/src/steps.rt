@@ -1,0 +1,256 @@
+// Steps of a patch, over its parts.
+ghost use Rattle.std.specs.Prelude.{◌≡◌, ◌<◌, [], ◌∷◌, ◌++◌, length, not, IsTrue, OnOk, OnErr, IfNone, OnSome};
+ghost use Rattle.poly_graph.specs.ProblemViews.{problem_of};
+ghost use Rattle.poly_graph.specs.Fits.{FitsProblem, FitsAxes};
+ghost use Rattle.poly_graph.specs.State.{IsLemma, may, undecided, with_yes, with_no, covers};
+ghost use Rattle.ival.specs.SpaceViews.{space_of};
+ghost use Rattle.cover_rule.specs.Margins.{AreMargins, loosenings_of};
+ghost use Rattle.cover_rule.specs.Serves.{Serves, IsReady};
+ghost use Rattle.cover_rule.specs.Patch.{stepped, narrowing_in, space_or};
+ghost use Rattle.cover_rule.specs.Refusals.{Answers, pull_refusal, pulled_by, unit_refusal, forced_by, ban_refusal, banned};
+ghost use Rattle.cover_rule.specs.Views.{kept_of, step_line};
+ghost use Rattle.cover_rule.specs.Held.{IsHeld, patch_of};
+
+use crate::kept::KeptPatch;
+use crate::lemma::Lemma;
+use crate::margins::Margins;
+use crate::narrowing::{adopt_spare, copy_space, narrow_spare};
+use crate::refusal::PatchRefusal;
+use crate::state::State;
+use crate::step::Step;
+use crate::truth::may_hold;
+use crate::workspace::Workspace;
+use ival::Narrowed;
+use poly_graph::{Mark, Problem};
+use std::alloc::{AllocError, Global};
+
+// Why atom j can't be pulled. Where it can, the spare space is the narrowed one afterwards.
+fn pull_refusal(
+    problem: &Problem,
+    margins: &Margins,
+    kept: &KeptPatch,
+    work: &mut Workspace,
+    j: u32,
+) -> Option<PatchRefusal>
+    requires held { IsHeld problem.now margins.now kept.now work.old }
+    requires atom { j < length problem.now.atoms }
+    ensures refusal { result ≡ pull_refusal (patch_of problem.now margins.now kept.now) j }
+    ensures refused { OnSome result (IsReady problem.now kept.now.reached.space work.new) }
+    ensures serves { Serves problem.now kept.now.reached.space work.new }
+    ensures length { length (space_of work.new.spare) ≡ length kept.now.reached.space }
+    ensures fits { IfNone result (FitsAxes (problem_of problem.now).axes (space_or kept.now.reached.space (narrowing_in (patch_of problem.now margins.now kept.now) j))) }
+    ensures narrowed { IfNone result (space_of work.new.spare ≡ space_or kept.now.reached.space (narrowing_in (patch_of problem.now margins.now kept.now) j)) }
+{
+    let _ = problem.axes();
+    if kept.end.is_some() {
+        return Some(PatchRefusal::Ended);
+    }
+    if !kept.reached.is_yes(j) {
+        return Some(PatchRefusal::NotYes);
+    }
+    match narrow_spare(problem, margins, &kept.reached, j, work) {
+        Narrowed::Empty => Some(PatchRefusal::IsVoid),
+        Narrowed::Same => None,
+        Narrowed::Less => None,
+    }
+}
+
+// Adds a step that quotes no lemma; where there is no memory all stays.
+fn add_step(kept: &mut KeptPatch, step: Step) -> Result<(), PatchRefusal>
+    ensures ok { OnOk result (kept_of kept.new ≡ stepped (kept_of kept.old) (step_line step) (kept_of kept.old).quoted kept.old.reached) }
+    ensures err { OnErr result (kept_of kept.new ≡ kept_of kept.old) }
+    ensures memory { OnErr result (result ≡ Err PatchRefusal.Memory) }
+{
+    match kept.steps.push(step) {
+        Ok(()) => Ok(()),
+        Err(_) => Err(PatchRefusal::Memory),
+    }
+}
+
+/// Pulls atom j, which has to be marked yes: leaves of the space what the atom leaves of it.
+pub fn pull(
+    problem: &Problem,
+    margins: &Margins,
+    kept: &mut KeptPatch,
+    work: &mut Workspace,
+    j: u32,
+) -> Result<(), PatchRefusal>
+    requires held { IsHeld problem.now margins.now kept.old work.old }
+    requires atom { j < length problem.now.atoms }
+    ensures answer { Answers (pull_refusal (patch_of problem.now margins.now kept.old) j) (patch_of problem.now margins.now kept.old) (pulled_by (patch_of problem.now margins.now kept.old) j) (patch_of problem.now margins.now kept.new) result }
+    ensures ready { IsReady problem.now kept.new.reached.space work.new }
+    ensures fits { OnOk result (FitsAxes (problem_of problem.now).axes (space_or kept.old.reached.space (narrowing_in (patch_of problem.now margins.now kept.old) j))) }
+{
+    let _ = problem.axes();
+    if let Some(refusal) = pull_refusal(problem, margins, kept, work, j) {
+        return Err(refusal);
+    }
+    if add_step(kept, Step::Pull(j)).is_err() {
+        copy_space(kept.reached.space(), &mut work.spare);
+        return Err(PatchRefusal::Memory);
+    }
+    adopt_spare(problem, &mut kept.reached, work);
+    Ok(())
+}
+
+/// Whether the form may hold with the atom, which is not marked, marked no.
+pub fn may_without(
+    problem: &Problem,
+    margins: &Margins,
+    state: &mut State,
+    work: &mut Workspace,
+    j: u32,
+) -> bool
+    requires margins { AreMargins margins.now }
+    requires state { FitsProblem (problem_of problem.now) state.old }
+    requires atom { IsTrue (undecided state.old j) }
+    requires small { j < length problem.now.atoms }
+    requires work { IsReady problem.now state.old.space work.old }
+    ensures truth { result ≡ may (problem_of problem.now) (loosenings_of margins.now) (with_no state.old j) }
+    ensures state { state.new ≡ state.old }
+    ensures work { IsReady problem.now state.old.space work.new }
+{
+    state.set_mark(j, Mark::No);
+    let holds = may_hold(problem, margins, state, work);
+    state.set_mark(j, Mark::Neither);
+    holds
+}
+
+// Whether the state of a lemma covers the state with the atom, which is not marked, marked yes.
+fn covers_with(lemma: &State, state: &mut State, j: u32) -> bool
+    requires atom { IsTrue (undecided state.old j) }
+    requires small { j < length state.old.marks }
+    requires axes { length lemma.now.space ≡ length state.old.space }
+    requires atoms { length lemma.now.marks ≡ length state.old.marks }
+    ensures covers { result ≡ covers lemma.now (with_yes state.old j) }
+    ensures state { state.new ≡ state.old }
+{
+    state.set_mark(j, Mark::Yes);
+    let holds = lemma.covers(state);
+    state.set_mark(j, Mark::Neither);
+    holds
+}
+
+// Why atom j can't be marked yes.
+fn unit_refusal(
+    problem: &Problem,
+    margins: &Margins,
+    kept: &mut KeptPatch,
+    work: &mut Workspace,
+    j: u32,
+) -> Option<PatchRefusal>
+    requires held { IsHeld problem.now margins.now kept.old work.old }
+    requires atom { j < length problem.now.atoms }
+    ensures refusal { result ≡ unit_refusal (patch_of problem.now margins.now kept.old) j }
+    ensures kept { kept_of kept.new ≡ kept_of kept.old }
+    ensures reached { kept.new.reached ≡ kept.old.reached }
+    ensures ready { IsReady problem.now kept.old.reached.space work.new }
+{
+    if kept.end.is_some() {
+        return Some(PatchRefusal::Ended);
+    }
+    if !kept.reached.is_undecided(j) {
+        return Some(PatchRefusal::Decided);
+    }
+    if may_without(problem, margins, &mut kept.reached, work, j) {
+        return Some(PatchRefusal::NotForced);
+    }
+    None
+}
+
+/// Marks atom j yes, without which the form can't hold.
+pub fn unit(
+    problem: &Problem,
+    margins: &Margins,
+    kept: &mut KeptPatch,
+    work: &mut Workspace,
+    j: u32,
+) -> Result<(), PatchRefusal>
+    requires held { IsHeld problem.now margins.now kept.old work.old }
+    requires atom { j < length problem.now.atoms }
+    ensures answer { Answers (unit_refusal (patch_of problem.now margins.now kept.old) j) (patch_of problem.now margins.now kept.old) (forced_by (patch_of problem.now margins.now kept.old) j) (patch_of problem.now margins.now kept.new) result }
+    ensures ready { IsReady problem.now kept.new.reached.space work.new }
+{
+    if let Some(refusal) = unit_refusal(problem, margins, kept, work, j) {
+        return Err(refusal);
+    }
+    if add_step(kept, Step::Unit(j)).is_err() {
+        return Err(PatchRefusal::Memory);
+    }
+    kept.reached.set_mark(j, Mark::Yes);
+    Ok(())
+}
+
+// Why atom j can't be marked no by the lemma.
+fn ban_refusal(kept: &mut KeptPatch, j: u32, lemma: &Lemma) -> Option<PatchRefusal>
+    requires atom { j < length kept.old.reached.marks }
+    requires axes { length lemma.now.state.space ≡ length kept.old.reached.space }
+    requires atoms { length lemma.now.state.marks ≡ length kept.old.reached.marks }
+    ensures refusal { result ≡ ban_refusal (kept_of kept.old) j lemma.now }
+    ensures kept { kept_of kept.new ≡ kept_of kept.old }
+    ensures reached { kept.new.reached ≡ kept.old.reached }
+{
+    if kept.end.is_some() {
+        return Some(PatchRefusal::Ended);
+    }
+    if !kept.reached.is_undecided(j) {
+        return Some(PatchRefusal::Decided);
+    }
+    if !covers_with(lemma.state(), &mut kept.reached, j) {
+        return Some(PatchRefusal::NotCovered);
+    }
+    None
+}
+
+// Adds a copy of the lemma to those that are quoted; where there is no memory all stays.
+pub fn quote(alloc: Global, kept: &mut KeptPatch, lemma: &Lemma) -> Result<(), AllocError>
+    ensures ok { OnOk result (kept.new.quoted.items ≡ kept.old.quoted.items ++ (lemma.now ∷ [])) }
+    ensures err { OnErr result (kept.new.quoted.items ≡ kept.old.quoted.items) }
+    ensures first { kept.new.first ≡ kept.old.first }
+    ensures steps { kept.new.steps ≡ kept.old.steps }
+    ensures end { kept.new.end ≡ kept.old.end }
+    ensures reached { kept.new.reached ≡ kept.old.reached }
+{
+    let copy = lemma.try_clone(alloc)?;
+    kept.quoted.push(copy)?;
+    Ok(())
+}
+
+// Adds a step that quotes the lemma; where there is no memory all stays.
+fn add_quoting_step(
+    alloc: Global,
+    kept: &mut KeptPatch,
+    step: Step,
+    lemma: &Lemma,
+) -> Result<(), PatchRefusal>
+    ensures ok { OnOk result (kept_of kept.new ≡ stepped (kept_of kept.old) (step_line step) ((kept_of kept.old).quoted ++ (lemma.now ∷ [])) kept.old.reached) }
+    ensures err { OnErr result (kept_of kept.new ≡ kept_of kept.old) }
+    ensures memory { OnErr result (result ≡ Err PatchRefusal.Memory) }
+{
+    if quote(alloc, kept, lemma).is_err() {
+        return Err(PatchRefusal::Memory);
+    }
+    if kept.steps.push(step).is_err() {
+        let _ = kept.quoted.pop();
+        return Err(PatchRefusal::Memory);
+    }
+    Ok(())
+}
+
+/// Marks atom j no, since the lemma covers the state with the atom marked yes.
+pub fn ban(alloc: Global, kept: &mut KeptPatch, j: u32, lemma: &Lemma) -> Result<(), PatchRefusal>
+    requires atom { j < length kept.old.reached.marks }
+    requires axes { length lemma.now.state.space ≡ length kept.old.reached.space }
+    requires atoms { length lemma.now.state.marks ≡ length kept.old.reached.marks }
+    ensures answer { Answers (ban_refusal (kept_of kept.old) j lemma.now) (kept_of kept.old) (banned (kept_of kept.old) j lemma.now) (kept_of kept.new) result }
+    ensures space { kept.new.reached.space ≡ kept.old.reached.space }
+{
+    if let Some(refusal) = ban_refusal(kept, j, lemma) {
+        return Err(refusal);
+    }
+    if add_quoting_step(alloc, kept, Step::Ban(j, lemma.id()), lemma).is_err() {
+        return Err(PatchRefusal::Memory);
+    }
+    kept.reached.set_mark(j, Mark::No);
+    Ok(())
+}

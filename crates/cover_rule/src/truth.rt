@@ -1,0 +1,91 @@
+// Whether the form may hold at a state, and whether it surely does at the middle.
+ghost use Rattle.std.specs.Prelude.{◌≡◌, ◌≤◌, ◌&&◌, not, length, vec_len};
+ghost use Rattle.dyadic.specs.Rounding.{two_to_minus};
+ghost use Rattle.poly_graph.specs.State.{may, sure_within};
+ghost use Rattle.poly_graph.specs.Honest.{middle as middle_space, not_shown};
+ghost use Rattle.poly_graph.specs.ProblemViews.{problem_of};
+ghost use Rattle.poly_graph.specs.Fits.{FitsProblem};
+ghost use Rattle.poly_graph.specs.Narrowed.{enclosures};
+ghost use Rattle.ival.specs.RowViews.{rows_of};
+ghost use Rattle.ival.specs.SpaceViews.{space_of};
+ghost use Rattle.cover_rule.specs.Margins.{AreMargins, loosenings_of};
+ghost use Rattle.cover_rule.specs.Serves.{Serves};
+
+use crate::margins::Margins;
+use crate::state::State;
+use crate::workspace::Workspace;
+use hc4_fwd::fill;
+use ival::{Rows, Space};
+use poly_graph::Problem;
+use truth3::{Marks, may, sure};
+
+/// Whether the form may hold at the state.
+pub fn may_hold(problem: &Problem, margins: &Margins, state: &State, work: &mut Workspace) -> bool
+    requires margins { AreMargins margins.now }
+    requires state { FitsProblem (problem_of problem.now) state.now }
+    requires work { Serves problem.now state.now.space work.old }
+    ensures truth { result ≡ may (problem_of problem.now) (loosenings_of margins.now) state.now }
+    ensures work { Serves problem.now state.now.space work.new }
+    ensures spare { work.new.spare ≡ work.old.spare }
+{
+    let _ = problem.axes();
+    may(
+        problem,
+        &work.rows,
+        state.space(),
+        state.lits(),
+        margins.margin_bits,
+        &mut work.marks,
+    )
+}
+
+/// Whether the form surely holds at the middle of the space, each atom loosened by 2 to the power of minus
+/// `delta`. There are as many axes of `middle` as of the space, as many rows as nodes, and a mark for each node
+/// of the form; afterwards `middle` is the middle and the rows are its enclosures.
+pub fn midpoint_sure(
+    problem: &Problem,
+    space: &Space,
+    delta: u32,
+    middle: &mut Space,
+    rows: &mut Rows,
+    marks: &mut Marks,
+) -> bool
+    requires delta { delta ≤ 120 }
+    requires middle { length (space_of middle.old) ≡ length (space_of space.now) }
+    requires rows { length (rows_of rows.old) ≡ length problem.now.nodes }
+    requires marks { vec_len marks.old.truths ≡ length problem.now.forms }
+    ensures sure { result ≡ sure_within (problem_of problem.now) (two_to_minus delta) (middle_space (space_of space.now)) }
+    ensures middle { space_of middle.new ≡ middle_space (space_of space.now) }
+    ensures rows { rows_of rows.new ≡ enclosures (middle_space (space_of space.now)) problem.now.nodes }
+    ensures marks { vec_len marks.new.truths ≡ length problem.now.forms }
+{
+    space.middle(middle);
+    let _ = problem.axes();
+    fill(problem.graph(), middle, rows);
+    sure(problem, rows, middle, delta, marks)
+}
+
+/// Whether the form may hold at the state, and does not surely hold at the middle.
+pub fn is_not_shown(
+    problem: &Problem,
+    margins: &Margins,
+    state: &State,
+    work: &mut Workspace,
+) -> bool
+    requires margins { AreMargins margins.now }
+    requires state { FitsProblem (problem_of problem.now) state.now }
+    requires work { Serves problem.now state.now.space work.old }
+    ensures truth { result ≡ not_shown (problem_of problem.now) (loosenings_of margins.now) state.now }
+    ensures work { Serves problem.now state.now.space work.new }
+    ensures spare { work.new.spare ≡ work.old.spare }
+{
+    may_hold(problem, margins, state, work)
+        && !midpoint_sure(
+            problem,
+            state.space(),
+            margins.delta_bits,
+            &mut work.middle,
+            &mut work.scratch,
+            &mut work.marks,
+        )
+}

@@ -1,0 +1,58 @@
+// Room for work on states.
+ghost use Rattle.std.specs.Prelude.{◌≡◌, ◌<◌, length, IfOk};
+ghost use Rattle.ival.specs.SpaceViews.{space_of};
+
+use ival::{Domain, Rows, Space, Truths};
+use poly_graph::Problem;
+use std::alloc::{AllocError, Global};
+use truth3::Marks;
+
+/// Rows, marks and spaces for work on the states of one problem. Made once, it serves one patch after another.
+#[derive(Drop)]
+pub struct Workspace {
+    /// The enclosures over the space of the present state.
+    pub rows: Rows,
+    /// Rows for whatever else is enclosed.
+    pub scratch: Rows,
+    /// A truth value for each node of the form.
+    pub marks: Marks,
+    /// A copy of the present space, to be narrowed.
+    pub spare: Space,
+    /// The middle of the present space.
+    pub middle: Space,
+}
+
+// A space of so many axes, for others to be put in.
+fn room_for(alloc: Global, axes: usize) -> Result<Space, AllocError>
+    ensures { IfOk result (λ s. length (space_of s) ≡ axes) }
+{
+    let mut space = Space::with_capacity(alloc, axes)?;
+    for _ in 0..axes {
+        space.push(Domain::Bool(Truths::Either));
+    }
+    Ok(space)
+}
+
+impl Workspace {
+    ghost use Rattle.cover_rule.specs.Serves.{HasRoom};
+
+    /// Room for the problem.
+    pub fn new(alloc: Global, problem: &Problem) -> Result<Workspace, AllocError>
+        ensures { IfOk result (HasRoom problem.now) }
+    {
+        let nodes = problem.graph().len();
+        let axes = problem.axes().len();
+        let rows = Rows::new(alloc, nodes)?;
+        let scratch = Rows::new(alloc, nodes)?;
+        let marks = Marks::new(alloc, problem)?;
+        let spare = room_for(alloc, axes)?;
+        let middle = room_for(alloc, axes)?;
+        Ok(Workspace {
+            rows,
+            scratch,
+            marks,
+            spare,
+            middle,
+        })
+    }
+}
