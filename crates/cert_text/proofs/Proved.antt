@@ -1,0 +1,47 @@
+-- The certificate of a book is accepted and honest.
+use Rattle.std.proofs.Common.{◌≡◌, ℕ, List, [], map, length, All, IsTrue, refl, ap, sym, ◌∙◌, subst, arith}
+use Rattle.std.proofs.lemmas.List.{length-map}
+use Rattle.std.proofs.lemmas.List.Elements.{All-map}
+use Rattle.dyadic.proofs.Equal.{both_pass}
+use Rattle.poly_graph.specs.Problem.{Problem}
+use Rattle.poly_graph.specs.State.{Loosenings, delta_of, sure}
+use Rattle.poly_graph.specs.Rules.{open_line}
+use Rattle.poly_graph.specs.Honest.{is_honest}
+use Rattle.poly_graph.specs.Fits.{coordinates, are_near}
+use Rattle.dyadic.specs.Rounding.{exact}
+use Rattle.cert_model.specs.Due.{Standing, left_open}
+use Rattle.cert_model.specs.Accepted.{accepted}
+use Rattle.cert_model.specs.Standing.{Stands}
+use Rattle.cert_model.specs.Written.{lemma_states, tree_standing}
+use Rattle.cert_model.proofs.Texts.{tree_accepted, tree_stand, tree_honest, tree_branch, crossing_texts, point_texts}
+use Rattle.poly_graph.specs.State.{root_state}
+use Rattle.cover_book.specs.Model.{BookModel, problem_in, loosenings_in}
+use Rattle.cover_book.specs.Tree.{lemma_tree, lemma_trees}
+use Rattle.cover_book.proofs.Meaning.{tree_is_honest, fits_limits}
+use Rattle.cover_book.proofs.Opens.{first_crosses}
+use Rattle.cert_text.specs.Texts.{book_text}
+use Rattle.cert_text.specs.Laws.{BookTextIsAccepted, BookTextBranches, BookTextEndsHonestly, BookTextIsHonest, CrossedTextIsAccepted, PointTextIsAccepted}
+
+pub book_text_is_accepted : BookTextIsAccepted
+book_text_is_accepted b t left i k =
+    tree_accepted (problem_in b) b.options.bound (loosenings_in b) (lemma_trees b) t i.lawful k ∙ ap (λ (xs : List Standing). accepted (loosenings_in b) (left_open xs)) i.stands
+
+pub book_text_branches : BookTextBranches
+book_text_branches b t left i k = tree_branch (problem_in b) b.options.bound (loosenings_in b) (lemma_trees b) t i.lawful k ∙ i.branches
+
+pub book_text_ends_honestly : BookTextEndsHonestly
+book_text_ends_honestly b t left i k =
+    let P : Stands → Type 0 = λ (x : Stands). (x.line.does ≡ open_line → ⊥) → IsTrue (is_honest (problem_in b) b.options.least_bits x.loosenings x.line.state x.line.does) in
+    let stood : Standing → Stands = λ (x : Standing). record { loosenings = loosenings_in b; line = x } in
+    subst (All P) (sym (tree_stand (problem_in b) b.options.bound (loosenings_in b) (lemma_trees b) t i.lawful k))
+    (All-map P stood (tree_standing (problem_in b) (loosenings_in b) (lemma_states (lemma_trees b)) (root_state (problem_in b)) t) i.honest)
+
+pub book_text_is_honest : BookTextIsHonest
+book_text_is_honest b w t left i k f = tree_honest (problem_in b) b.options.bound (loosenings_in b) (lemma_trees b) t i.lawful k b.options.least_bits (tree_is_honest b w t left i f)
+
+pub crossed_text_is_accepted : CrossedTextIsAccepted
+crossed_text_is_accepted b w i e k =
+    crossing_texts (problem_in b) b.options.bound (loosenings_in b) (lemma_trees b) (fits_limits b w) (omega (arith, length-map b.lemmas lemma_tree, w.few_lemmas)) w.lemmas i (first_crosses (problem_in b) i e) k
+
+pub point_text_is_accepted : PointTextIsAccepted
+point_text_is_accepted p bound s f space h k = (point_texts p bound s f space h.single (both_pass (sure p s space) (are_near (exact (delta_of s)) p.axes (coordinates space)) h.surely h.near) k).0

@@ -1,0 +1,5 @@
+use Rattle.cert_text.proofs.Proved
+use Rattle.cert_text.proofs.laws.book_text_ends_honestly.Goals as goal
+
+pub returns : goal.returns
+returns c = Proved.book_text_ends_honestly

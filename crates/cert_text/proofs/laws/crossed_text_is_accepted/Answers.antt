@@ -1,0 +1,5 @@
+use Rattle.cert_text.proofs.Proved
+use Rattle.cert_text.proofs.laws.crossed_text_is_accepted.Goals as goal
+
+pub returns : goal.returns
+returns c = Proved.crossed_text_is_accepted

@@ -1,0 +1,14 @@
+pub mod Changed
+pub mod Commit
+pub mod Copies
+pub mod Facts
+pub mod Grids
+pub mod Grown
+pub mod Kept
+pub mod Lists
+pub mod Lookups
+pub mod Meaning
+pub mod Naming
+pub mod Nodes
+pub mod Opens
+pub mod Stores

@@ -1,0 +1,167 @@
+-- The lines of a run name atoms and axes that are there.
+use Rattle.std.proofs.Common.{◌≡◌, ◌⊎◌, inl, inr, ℕ, zero, suc, ◌<◌, ◌≤◌, List, [], ◌∷◌, length, Bool, true, false, not, ◌&&◌, cond, Option, Some, None, IsTrue, refl, ap, sym, ◌∙◌, subst, true≢false, arith}
+use Rattle.std.specs.Prelude.{IfSome}
+use Rattle.std.specs.List.{AllByRecursion}
+use Rattle.std.proofs.lemmas.Bool.{le-leb}
+use Rattle.std.proofs.lemmas.Bool.Decides.{eqb_tells}
+use Rattle.std.proofs.lemmas.List.{length-set}
+use Rattle.dyadic.proofs.Equal.{both_true, both_pass}
+use Rattle.poly_graph.specs.Space.{Domain, real_domain, bool_domain, Space, is_upright_domain, is_upright, IsGridSpace}
+use Rattle.poly_graph.specs.Problem.{Declared, real_between, any_bool, Axis, Problem, IsProblem}
+use Rattle.poly_graph.specs.State.{Mark, is_yes, mark_at, undecided_in, marked_yes, marked_no, State, Loosenings, in_yes, undecided, with_yes, with_no, with_space}
+use Rattle.poly_graph.specs.Rules.{Line, pull, unit, ban, void, make_false, by, cut, flip, case, open_line, stuck, Left, closed, one, stays, rule, when, pulled, voided, narrowing, test_axis, is_stuck_atom, strictly_inside, is_undecided}
+use Rattle.poly_graph.specs.Honest.{is_honest, not_shown, settled, is_small, none_below}
+use Rattle.poly_graph.specs.Fits.{FitsAxis, FitsAxes, FitsProblem}
+use Rattle.poly_graph.proofs.Stuck.{some_atom_is_stuck}
+use Rattle.cert_model.specs.Due.{names_well, is_atom}
+use Rattle.cover_rule.specs.declared.margins.Margins.{Margins}
+use Rattle.cover_rule.specs.Margins.{loosenings_of}
+use Rattle.cover_rule.specs.Models.{KeptModel}
+use Rattle.cover_rule.specs.Runs.{Leads, AreKept, IsEnding, IsRun}
+use Rattle.cover_book.specs.Names.{RunNamesWell}
+
+-- ---- what marks and tests say of numbers
+
+yes-below : (marks : List Mark) (j : ℕ) → IsTrue (is_yes (mark_at marks j)) → j < length marks
+yes-below [] j h = absurd (true≢false (sym h))
+yes-below (m ∷ marks) zero h = omega arith
+yes-below (m ∷ marks) (suc j) h = omega (arith, yes-below marks j h)
+
+pub undecided_below : (marks : List Mark) (j : ℕ) → IsTrue (undecided_in marks j) → j < length marks
+undecided_below [] j h = absurd (true≢false (sym h))
+undecided_below (m ∷ marks) zero h = omega arith
+undecided_below (m ∷ marks) (suc j) h = omega (arith, undecided_below marks j h)
+
+tested-below : (f : Domain → Bool) (axis : ℕ) (space : Space) → IsTrue (test_axis f axis space) → axis < length space
+tested-below f axis [] h = absurd (true≢false (sym h))
+tested-below f zero (d ∷ space) h = omega arith
+tested-below f (suc axis) (d ∷ space) h = omega (arith, tested-below f axis space h)
+
+pub axes_length : (axes : List Axis) (space : Space) → FitsAxes axes space → length space ≡ length axes
+axes_length [] [] h = refl
+axes_length (a ∷ axes) (d ∷ space) h = ap suc (axes_length axes space h.1)
+axes_length [] (d ∷ space) h = elim h [ ]
+axes_length (a ∷ axes) [] h = elim h [ ]
+
+domain-upright : (a : Declared) (d : Domain) → FitsAxis a d → IsTrue (is_upright_domain d)
+domain-upright (real_between lo hi) (real_domain l h) k = k
+domain-upright any_bool (bool_domain f t) k = refl
+domain-upright (real_between lo hi) (bool_domain f t) k = elim k [ ]
+domain-upright any_bool (real_domain l h) k = elim k [ ]
+
+pub axes_upright : (axes : List Axis) (space : Space) → FitsAxes axes space → IsTrue (is_upright space)
+axes_upright [] [] h = refl
+axes_upright (a ∷ axes) (d ∷ space) h = both_pass _ (is_upright space) (domain-upright a.declared d h.0) (axes_upright axes space h.1)
+axes_upright [] (d ∷ space) h = elim h [ ]
+axes_upright (a ∷ axes) [] h = elim h [ ]
+
+when-true : (t : Bool) (l l' : Left) → when t l ≡ Some l' → IsTrue t
+when-true true l l' h = refl
+when-true false l l' h = cc
+
+ending-true : (t : Bool) (l : Left) → IsEnding (when t l) → IsTrue t
+ending-true true l h = refl
+ending-true false l h = elim h [ ]
+
+cond-true : (t : Bool) (o : Option Left) (l : Left) → cond t o None ≡ Some l → IsTrue t × (o ≡ Some l)
+cond-true true o l h = (refl, h)
+cond-true false o l h = cc
+
+ending-cond : (t : Bool) (o : Option Left) → IsEnding (cond t o None) → IsTrue t
+ending-cond true o h = refl
+ending-cond false o h = elim h [ ]
+
+at-or-below : (i j : ℕ) → i < suc j → (i ≡ j) ⊎ (i < j)
+at-or-below i j h = elim (eqb_tells i j) [ inl q ↦ inl q.1 | inr q ↦ inr (omega (arith, h, q.1)) ]
+
+not-true : (t : Bool) → IsTrue (not t) → t ≡ false
+not-true true h = cc
+not-true false h = refl
+
+not-above : (j i n : ℕ) → i < n → (i < j → ⊥) → suc j ≤ n
+not-above j i n h k = omega (arith, h, k)
+
+none-stuck : (p : Problem) (s : Loosenings) (S : State) (j i : ℕ) → IsTrue (none_below p s S j) → i < j → IsTrue (is_stuck_atom p s S i) → ⊥
+none-stuck p s S zero i h k e = omega (arith, k)
+none-stuck p s S (suc j) i h k e =
+    let t = both_true (not (is_stuck_atom p s S j)) (none_below p s S j) h in
+    elim (at-or-below i j k) [
+      | inl q ↦ true≢false (sym (subst (λ (m : ℕ). IsTrue (is_stuck_atom p s S m)) q e) ∙ not-true (is_stuck_atom p s S j) t.0)
+      | inr q ↦ none-stuck p s S j i t.1 q e
+    ]
+
+pub no_void : {A : Type 0} {S' : State} (o : Option Space) → voided o ≡ Some (one S') → A
+no_void None h = cc
+no_void (Some space) h = cc
+
+pub no_when : {A : Type 0} (t : Bool) (l : Left) (S' : State) → when t l ≡ Some (one S') → (l ≡ one S' → A) → A
+no_when true l S' h f = f cc
+no_when false l S' h f = cc
+
+marked : (t : Bool) (T S' : State) → when t (one T) ≡ Some (one S') → S' ≡ T
+marked true T S' h = cc
+marked false T S' h = cc
+
+module _ (p : Problem) (g : IsProblem p) (m : Margins) (lemmas : List State) where
+  abbrev s : Loosenings
+  s = loosenings_of m
+
+  abbrev HasMarks : State → Type 0
+  HasMarks S = length S.marks ≡ length p.atoms
+
+  atom-there : (S : State) (j : ℕ) → HasMarks S → j < length S.marks → IsTrue (is_atom p j)
+  atom-there S j h k = le-leb (suc j) (length p.atoms) (omega (arith, h, k))
+
+  -- a step names an atom that is there, and the next state has as many marks
+  pulled-keeps : (S S' : State) (o : Option Space) → pulled S o ≡ Some (one S') → S'.marks ≡ S.marks
+  pulled-keeps S S' None h = cc
+  pulled-keeps S S' (Some space) h = let e : S' ≡ with_space S space = cc in ap (λ (T : State). T.marks) e
+
+  step-names : (S S' : State) (l : Line) → HasMarks S → rule p s lemmas S l ≡ Some (one S') → IsTrue (names_well p l) × HasMarks S'
+  step-names S S' (pull j) h e = let k = cond-true (in_yes S j) (pulled S (narrowing p s S j)) (one S') e in
+      (atom-there S j h (yes-below S.marks j k.0), ap length (pulled-keeps S S' (narrowing p s S j) k.1) ∙ h)
+  step-names S S' (unit j) h e = let k = both_true (undecided S j) _ (when-true _ _ _ e) in let q : S' ≡ with_yes S j = marked _ (with_yes S j) S' e in
+      (atom-there S j h (undecided_below S.marks j k.0), ap (λ (T : State). length T.marks) q ∙ length-set S.marks j marked_yes ∙ h)
+  step-names S S' (ban j i) h e = let k = both_true (undecided S j) _ (when-true _ _ _ e) in let q : S' ≡ with_no S j = marked _ (with_no S j) S' e in
+      (atom-there S j h (undecided_below S.marks j k.0), ap (λ (T : State). length T.marks) q ∙ length-set S.marks j marked_no ∙ h)
+  step-names S S' (void j) h e = let k = cond-true (in_yes S j) (voided (narrowing p s S j)) (one S') e in no_void (narrowing p s S j) k.1
+  step-names S S' make_false h e = no_when _ closed S' e (λ q. cc)
+  step-names S S' (by i) h e = no_when _ closed S' e (λ q. cc)
+  step-names S S' (cut axis c) h e = no_when _ _ S' e (λ q. cc)
+  step-names S S' (flip axis) h e = no_when _ _ S' e (λ q. cc)
+  step-names S S' (case j) h e = no_when _ _ S' e (λ q. cc)
+  step-names S S' open_line h e = cc
+  step-names S S' (stuck j) h e = no_when _ stays S' e (λ q. cc)
+
+  steps-name : (S T : State) (ls : List Line) → HasMarks S → Leads p s lemmas S ls T → AllByRecursion (λ (l : Line). IsTrue (names_well p l)) ls
+  steps-name S T [] h e = tt
+  steps-name S T (l ∷ ls) h e = let k = step-names S e.0 l h e.1 in (k.0, steps-name e.0 T ls k.1 e.2)
+
+  end-names : (S : State) → FitsProblem p S → IsGridSpace S.space → (l : Line) → IsEnding (rule p s lemmas S l) → IsTrue (is_honest p m.least_bits s S l) → IsTrue (names_well p l)
+  end-names S f grid (pull j) e h = atom-there S j f.marks (yes-below S.marks j (ending-cond (in_yes S j) _ e))
+  end-names S f grid (unit j) e h = atom-there S j f.marks (undecided_below S.marks j (both_true (undecided S j) _ (ending-true _ _ e)).0)
+  end-names S f grid (ban j i) e h = atom-there S j f.marks (undecided_below S.marks j (both_true (undecided S j) _ (ending-true _ _ e)).0)
+  end-names S f grid (void j) e h = atom-there S j f.marks (yes-below S.marks j (ending-cond (in_yes S j) _ e))
+  end-names S f grid make_false e h = refl
+  end-names S f grid (by i) e h = refl
+  end-names S f grid (cut axis c) e h = le-leb (suc axis) (length p.axes) (omega (arith, axes_length p.axes S.space f.axes, tested-below (strictly_inside c) axis S.space (ending-true _ _ e)))
+  end-names S f grid (flip axis) e h = le-leb (suc axis) (length p.axes) (omega (arith, axes_length p.axes S.space f.axes, tested-below is_undecided axis S.space (ending-true _ _ e)))
+  end-names S f grid (case j) e h = atom-there S j f.marks (undecided_below S.marks j (ending-true (undecided S j) _ e))
+  end-names S f grid open_line e h = refl
+  end-names S f grid (stuck j) e h =
+      let a = both_true (not_shown p s S && settled p s S && is_small m.least_bits S.space) (none_below p s S j) h in
+      let b = both_true (not_shown p s S && settled p s S) (is_small m.least_bits S.space) a.0 in
+      let c = both_true (not_shown p s S) (settled p s S) b.0 in
+      let k = some_atom_is_stuck p g s S m.least_bits grid (axes_upright p.axes S.space f.axes) c.0 b.1 in
+      le-leb (suc j) (length p.atoms) (not-above j k.0 (length p.atoms) k.1 (λ q. none-stuck p s S j k.0 a.1 q k.2))
+
+  end-if : (o : Option Line) (S : State) → FitsProblem p S → IsGridSpace S.space → IfSome o (λ (l : Line). IsEnding (rule p s lemmas S l)) → IfSome o (λ (l : Line). IsTrue (is_honest p m.least_bits s S l)) →
+      IfSome o (λ (l : Line). IsTrue (names_well p l))
+  end-if None S f grid e h = tt
+  end-if (Some l) S f grid e h = end-names S f grid l e h
+
+  pub run_names : (k : KeptModel) → IsRun p m k → IsGridSpace k.reached.space → AreKept lemmas k.quoted → RunNamesWell p k
+  run_names k r grid h = record {
+    steps = steps-name k.first k.reached k.steps r.sound.first.marks (r.lawful.steps lemmas h);
+    end = end-if k.end k.reached r.sound.reached grid (r.lawful.end lemmas h) r.lawful.honest;
+  }

@@ -1,0 +1,7 @@
+use Rattle.std.proofs.Common.{subst}
+use Rattle.poly_graph.specs.Space.{IsGridSpace}
+use Rattle.cover_book.proofs.Grids.{domains_kept}
+use Rattle.cover_book.proofs.grid.point_on_grid.Goals as goal
+
+pub returns : goal.returns
+returns c = subst IsGridSpace c.space-space.ensures (domains_kept c.space-space.result.now.axes.items)

@@ -1,0 +1,84 @@
+-- What every call keeps, and what it means.
+use Rattle.std.specs.Prelude.{◌≡◌, ◌<◌, ◌⊎◌, ℕ, ◌≤◌, List, All, length, false, Some, None, IsTrue, slice_get}
+use Rattle.dyadic.specs.Point.{Coordinate, IsPoint}
+use Rattle.poly_graph.specs.Problem.{sorts_of_problem, in_declared_box, root_space, first_crossed}
+use Rattle.poly_graph.specs.ProblemViews.{Parts, IsWhole}
+use Rattle.poly_graph.specs.State.{State, IsPointOf, MeetsForm, root_state, space_within}
+use Rattle.poly_graph.specs.Rules.{Line, open_line}
+use Rattle.poly_graph.specs.Honest.{is_honest, not_shown}
+use Rattle.poly_graph.specs.Derivation.{Tree}
+use Rattle.poly_graph.specs.Fits.{FitsProblem}
+use Rattle.cover_rule.specs.declared.margins.Options.{Options}
+use Rattle.cert_model.specs.Due.{Standing}
+use Rattle.cert_model.specs.Written.{lemma_states, left_standing, tree_standing, tree_branches, IsHonestTree}
+use Rattle.cert_model.specs.Laws.{IsLawfulCover}
+use Rattle.cover_book.specs.declared.calls.Call.{Call}
+use Rattle.cover_book.specs.declared.calls.Reply.{Reply}
+use Rattle.cover_book.specs.Model.{NodeModel, stuck_node, BookModel, problem_in, loosenings_in, opening}
+use Rattle.cover_book.specs.Verdict.{is_live}
+use Rattle.cover_book.specs.Steps.{Meets, Steps, IsLive}
+use Rattle.cover_book.specs.Tree.{TreeOf, occurrences, lemma_trees}
+use Rattle.cover_book.specs.Limits.{IsWithinLimits}
+use Rattle.cover_book.specs.Keeps.{IsBook}
+
+-- A book opens as one.
+abbrev pub OpeningIsBook : Type 0
+OpeningIsBook = (p : Parts) (o : Options) → IsWhole p → IsWithinLimits p o → IsBook (opening p o)
+
+-- Every call keeps it one.
+abbrev pub StepKeepsBook : Type 0
+StepKeepsBook = (b : BookModel) → IsBook b → (c : Call) → Meets b c → (r : Reply) (b' : BookModel) → Steps b c r b' → IsBook b'
+
+-- No call changes the problem or the options.
+abbrev pub StepKeepsProblem : Type 0
+StepKeepsProblem = (b : BookModel) (c : Call) (r : Reply) (b' : BookModel) → Steps b c r b' → (b'.problem ≡ b.problem) × (b'.options ≡ b.options)
+
+-- So the condition of a call outlasts every call.
+abbrev pub ConditionLasts : Type 0
+ConditionLasts = (b : BookModel) (c : Call) (r : Reply) (b' : BookModel) (d : Call) → Steps b c r b' → Meets b d → Meets b' d
+
+-- No number is used again, and a node that is not live stays as it is, so it leaves being live at most once.
+pub record Grows (b b' : BookModel) : Type 0 where
+  pub count : length b.nodes ≤ length b'.nodes
+  pub lasting : (n : ℕ) (x : NodeModel) → slice_get b.nodes n ≡ Some x → is_live x ≡ false → slice_get b'.nodes n ≡ Some x
+
+abbrev pub StepGrows : Type 0
+StepGrows = (b : BookModel) (c : Call) (r : Reply) (b' : BookModel) → Steps b c r b' → Grows b b'
+
+-- a node is live in this state, or stuck in it
+abbrev pub IsLeft : BookModel → ℕ → State → Type 0
+IsLeft b n S = IsLive b n S ⊎ ((steps : List Line) × (l : Line) × (slice_get b.nodes n ≡ Some (stuck_node steps l S)))
+
+-- Each point of the declared box that meets the form at the margin is one of a live or stuck node's state.
+abbrev pub BookCatches : Type 0
+BookCatches = (b : BookModel) → IsBook b → (point : List Coordinate) → IsPoint (sorts_of_problem (problem_in b)) point → IsTrue (in_declared_box (problem_in b) point) →
+    MeetsForm (problem_in b) (loosenings_in b) point → (n : ℕ) × (S : State) × IsLeft b n S × IsPointOf (problem_in b) (loosenings_in b) S point
+
+-- The state of a live or stuck node is one of the problem, and its space lies within the root's.
+abbrev pub NodesLieWithin : Type 0
+NodesLieWithin = (b : BookModel) → IsBook b → (n : ℕ) (S : State) → IsLeft b n S → FitsProblem (problem_in b) S × IsTrue (space_within S.space (root_space (problem_in b)))
+
+-- ---- the tree
+
+-- a tree of the book, as a certificate of its lemmas and this tree has it
+pub record IsTreeOfBook (b : BookModel) (t : Tree) (left : List Standing) : Type 0 where
+  pub numbers : List ℕ
+  pub is_tree : TreeOf b.nodes 0 t numbers left
+  pub lawful : IsLawfulCover (problem_in b) (loosenings_in b) (lemma_trees b) t
+  pub stands : left_standing (problem_in b) (loosenings_in b) (lemma_states (lemma_trees b)) (root_state (problem_in b)) t ≡ left
+  pub branches : tree_branches t ≡ b.branches
+  -- each node is one of the tree, once
+  pub once : (n : ℕ) → n < length b.nodes → occurrences n numbers ≡ 1
+  -- each line but an open one is honest
+  pub honest : All (λ (x : Standing). (x.does ≡ open_line → ⊥) → IsTrue (is_honest (problem_in b) b.options.least_bits (loosenings_in b) x.state x.does))
+      (tree_standing (problem_in b) (loosenings_in b) (lemma_states (lemma_trees b)) (root_state (problem_in b)) t)
+
+-- Where the declared box is not empty, the book has a lawful tree, of as many branch lines as it counts, all of whose lines but the open ones are honest.
+abbrev pub BookHasTree : Type 0
+BookHasTree = (b : BookModel) → IsBook b → first_crossed (problem_in b) ≡ None → (t : Tree) × (left : List Standing) × IsTreeOfBook b t left
+
+-- It is honest where at each live node the form may hold and is not sure at the middle.
+abbrev pub TreeIsHonest : Type 0
+TreeIsHonest = (b : BookModel) → IsBook b → (t : Tree) (left : List Standing) → IsTreeOfBook b t left →
+    ((n : ℕ) (S : State) → IsLive b n S → IsTrue (not_shown (problem_in b) (loosenings_in b) S)) →
+    IsHonestTree (problem_in b) b.options.least_bits (loosenings_in b) (lemma_states (lemma_trees b)) (root_state (problem_in b)) t

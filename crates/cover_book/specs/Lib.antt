@@ -1,0 +1,10 @@
+pub mod Ending
+pub mod Keeps
+pub mod Laws
+pub mod Limits
+pub mod Model
+pub mod Names
+pub mod Steps
+pub mod Tree
+pub mod Verdict
+pub mod Views

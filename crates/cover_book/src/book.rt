@@ -1,0 +1,434 @@
+// The book of a cover.
+ghost use Rattle.std.specs.Prelude.{◌≡◌, ◌↔◌, ◌<◌, ◌^◌, IfOk, IfSome, MatchOption, MatchResult, IsTrue, length, map, slice_get};
+ghost use Rattle.std.specs.List.{list_any};
+ghost use Rattle.cover_rule.specs.Views.{kept_of, end_of};
+ghost use Rattle.cover_book.specs.Limits.{IsWithinLimits};
+ghost use Rattle.poly_graph.specs.Problem.{first_crossed};
+ghost use Rattle.poly_graph.specs.ProblemViews.{problem_of};
+ghost use Rattle.poly_graph.specs.State.{root_state};
+ghost use Rattle.cover_book.specs.Model.{opening, first_node, lemma_states_in};
+ghost use Rattle.cover_book.specs.Verdict.{verdict_of, is_live, is_stuck, live_after};
+ghost use Rattle.cover_book.specs.Views.{node_of};
+ghost use Rattle.cover_book.specs.Keeps.{IsBook};
+ghost use Rattle.cover_book.specs.Steps.{Steps, Knows, RefusesQuoted, RefusesPoint, RefusesCommit, MayCommit, Meets, Commits, Learns, most_lemmas, ends_in_branch};
+ghost use Rattle.cover_book.specs.declared.calls.Call.TheVariants as call;
+ghost use Rattle.cover_book.specs.declared.calls.Reply.TheVariants as reply;
+ghost use Rattle.cover_book.specs.declared.refusal.BookRefusal.TheVariants as refusal;
+
+use crate::calls::{Call, Reply};
+use crate::ending::{Ending, ending_of};
+use crate::grid::{on_grid, point_on_grid};
+use crate::node::{Learned, Lines, Node};
+use crate::refusal::{BookRefusal, Kids};
+use crate::verdict::BookVerdict;
+use cover_rule::{ClosedPatch, End, KeptPatch, Lemma, Options, Point, State};
+use poly_graph::{Lits, Problem};
+use std::alloc::{AllocError, Global};
+use std::marker::Model;
+use truth3::{Root, root_space};
+
+/// A book has at most so many lemmas.
+pub const MOST_LEMMAS: usize = 1_048_576;
+
+/// The boxes of a cover by number, those that are open with their states and the others with what was committed to
+/// them; the lemmas that were learned, by number; how many branches there are; and the point that was found.
+#[derive(Drop)]
+pub struct Book {
+    problem: Problem,
+    options: Options,
+    nodes: Vec<Node>,
+    lemmas: Vec<Learned>,
+    branches: u32,
+    point: Option<Point>,
+}
+
+impl Model for Book {
+    ghost use Rattle.std.specs.Prelude.{map};
+    ghost use Rattle.cover_book.specs.Model.{BookModel};
+
+    ghost Value = { BookModel };
+
+    ghost use Rattle.cover_book.specs.Views.{node_of, learned_of};
+    ghost use Rattle.cover_book.specs.Keeps.{IsBook};
+
+    ghost view = { λ b. record { problem = b.problem; options = b.options; nodes = map node_of b.nodes.items; lemmas = map learned_of b.lemmas.items; branches = b.branches; point = b.point } };
+
+    ghost invariant = { λ b. IsBook (record { problem = b.problem; options = b.options; nodes = map node_of b.nodes.items; lemmas = map learned_of b.lemmas.items; branches = b.branches; point = b.point }) };
+}
+
+// The node that a book opens with.
+fn opening_node(alloc: Global, problem: &Problem) -> Result<Node, AllocError>
+    ensures { IfOk result (λ n. node_of n ≡ first_node (first_crossed (problem_of problem.now)) (root_state (problem_of problem.now))) }
+{
+    match root_space(alloc, problem)? {
+        Root::Empty(axis) => Ok(Node::Crossed(axis)),
+        Root::Space(space) => {
+            let lits = Lits::new(alloc, problem.atoms().len())?;
+            Ok(Node::Live(State::new(space, lits)))
+        }
+    }
+}
+
+// Whether a node is live.
+fn any_live(nodes: &[Node]) -> bool
+    ensures { result ≡ list_any is_live (map node_of nodes.now) }
+{
+    for node in nodes {
+        if let Node::Live(_) = node {
+            return true;
+        }
+    }
+    false
+}
+
+// Whether a node is stuck.
+fn any_stuck(nodes: &[Node]) -> bool
+    ensures { result ≡ list_any is_stuck (map node_of nodes.now) }
+{
+    for node in nodes {
+        if let Node::Stuck(_, _) = node {
+            return true;
+        }
+    }
+    false
+}
+
+// Whether the end is a branch.
+fn parts(end: Option<End>) -> bool
+    ensures { result ≡ ends_in_branch (end_of end) }
+{
+    matches!(
+        end,
+        Some(End::Cut(_, _)) | Some(End::Flip(_)) | Some(End::Case(_))
+    )
+}
+
+impl Book {
+    /// The book with node 0 alone: live in the root state or, where the declared bounds of an axis cross, closed.
+    pub fn new(alloc: Global, problem: Problem, options: Options) -> Result<Book, AllocError>
+        requires { IsWithinLimits problem options }
+        ensures { IfOk result (λ b. b ≡ opening problem options) }
+    {
+        let node = opening_node(alloc, &problem)?;
+        let mut nodes = Vec::new(alloc);
+        nodes.push(node)?;
+        Ok(Book {
+            problem,
+            options,
+            nodes,
+            lemmas: Vec::new(alloc),
+            branches: 0,
+            point: None,
+        })
+    }
+
+    /// How many branches were committed.
+    pub fn branches(&self) -> u32
+        ensures branches { result ≡ self.now.branches }
+        ensures book { IsBook self.now }
+    {
+        self.branches
+    }
+
+    /// The problem.
+    pub fn problem(&self) -> &Problem
+        ensures problem { result.now ≡ self.now.problem }
+        ensures book { IsBook self.now }
+    {
+        &self.problem
+    }
+
+    /// What the search was asked for.
+    pub fn options(&self) -> &Options
+        ensures options { result.now ≡ self.now.options }
+        ensures book { IsBook self.now }
+    {
+        &self.options
+    }
+
+    /// The point that is kept.
+    pub fn point(&self) -> Option<&Point>
+        ensures { MatchOption result (self.now.point ≡ None) (λ x. self.now.point ≡ Some x.now) }
+    {
+        self.point.as_ref()
+    }
+
+    /// A copy of the state of a live node.
+    pub fn state_of(&self, node: u32) -> Result<State, BookRefusal>
+        ensures { MatchResult result (λ s. Steps self.now (call.StateOf node) (reply.Stands s) self.now) (λ e. Steps self.now (call.StateOf node) (reply.Refused e) self.now) }
+    {
+        match self.nodes.get(node as usize) {
+            Some(Node::Live(state)) => match state.try_clone(*self.nodes.allocator()) {
+                Ok(copy) => Ok(copy),
+                Err(_) => Err(BookRefusal::Memory),
+            },
+            _ => Err(BookRefusal::NotOpen(node)),
+        }
+    }
+
+    /// The lemmas of this number and later ones.
+    pub fn lemmas_from(&self, from: u32) -> Result<Vec<Lemma>, AllocError>
+        ensures { IfOk result (λ v. Steps self.now (call.LemmasFrom from) (reply.Lemmas v) self.now) }
+    {
+        let count = self.lemmas.len();
+        let first = (from as usize).min(count);
+        let mut copies = Vec::new(*self.nodes.allocator());
+        for id in first..count {
+            let state = self.lemmas[id].state.try_clone(*self.nodes.allocator())?;
+            copies.push(Lemma::new(id as u32, state))?;
+        }
+        Ok(copies)
+    }
+
+    // Whether the book keeps this lemma under its number.
+    fn knows(&self, lemma: &Lemma) -> bool
+        ensures { IsTrue result ↔ (slice_get (lemma_states_in self.now) lemma.now.id ≡ Some lemma.now.state) }
+    {
+        match self.lemmas.get(lemma.id() as usize) {
+            Some(kept) => kept.state.is_same(lemma.state()),
+            None => false,
+        }
+    }
+
+    // Refuses lemmas of which one is not kept under its number.
+    fn test_quoted(&self, quoted: &[Lemma]) -> Result<(), BookRefusal>
+        ensures { MatchResult result (λ _. Knows self.now quoted.now) (λ e. RefusesQuoted self.now quoted.now e) }
+    {
+        for lemma in quoted {
+            if !self.knows(lemma) {
+                return Err(BookRefusal::UnknownLemma(lemma.id(), self.lemmas.len() as u32));
+            }
+        }
+        Ok(())
+    }
+
+    // Refuses more where a point is kept.
+    fn test_point(&self) -> Result<(), BookRefusal>
+        ensures { MatchResult result (λ _. self.now.point ≡ None) (λ e. RefusesPoint self.now e) }
+    {
+        match &self.point {
+            None => Ok(()),
+            Some(point) => match point.try_clone(*self.nodes.allocator()) {
+                Ok(copy) => Err(BookRefusal::PointKept(copy)),
+                Err(_) => Err(BookRefusal::Memory),
+            },
+        }
+    }
+
+    // Refuses a patch for this node.
+    fn test_commit(&self, node: u32, patch: &KeptPatch) -> Result<(), BookRefusal>
+        ensures { MatchResult result (λ _. MayCommit self.now node (kept_of patch.now)) (λ e. RefusesCommit self.now node (kept_of patch.now) e) }
+    {
+        let state = match self.nodes.get(node as usize) {
+            Some(Node::Live(state)) => state,
+            _ => return Err(BookRefusal::NotOpen(node)),
+        };
+        if !state.is_same(&patch.first) {
+            return match state.try_clone(*self.nodes.allocator()) {
+                Ok(copy) => Err(BookRefusal::OtherState(copy)),
+                Err(_) => Err(BookRefusal::Memory),
+            };
+        }
+        match self.test_quoted(&patch.quoted) {
+            Ok(()) => {}
+            Err(refusal) => return Err(refusal),
+        }
+        if parts(patch.end) && self.branches >= self.options.budget {
+            return Err(BookRefusal::BudgetSpent(self.branches));
+        }
+        self.test_point()
+    }
+
+    // Writes a patch that may be committed; without memory for what it leaves, nothing changes.
+    fn store(&mut self, node: u32, patch: KeptPatch) -> Result<Kids, BookRefusal>
+        requires meets { Meets self.old (call.Commit node patch) }
+        requires passes { MayCommit self.old node (kept_of patch) }
+        ensures { MatchResult result (λ c. Commits self.old node (kept_of patch) c self.new) (λ e. (e ≡ refusal.Memory) × (self.new ≡ self.old)) }
+    {
+        on_grid(&patch.reached);
+        let place = node as usize;
+        let KeptPatch {
+            first,
+            steps,
+            quoted,
+            end,
+            reached,
+        } = patch;
+        drop(first);
+        drop(quoted);
+        let end = match end {
+            Some(end) => end,
+            None => unreachable!(),
+        };
+        let ending = match ending_of(*self.nodes.allocator(), end, reached) {
+            Ok(ending) => ending,
+            Err(_) => return Err(BookRefusal::Memory),
+        };
+        let lines = Lines { steps, end };
+        match ending {
+            Ending::Closed => {
+                self.nodes[place] = Node::Closed(lines);
+                Ok(Kids::None)
+            }
+            Ending::Stuck(state) => {
+                self.nodes[place] = Node::Stuck(lines, state);
+                Ok(Kids::None)
+            }
+            Ending::Parted(lower, upper) => {
+                if self.nodes.reserve(2).is_err() {
+                    return Err(BookRefusal::Memory);
+                }
+                let kid = self.nodes.len() as u32;
+                self.nodes[place] = Node::Parted(lines, kid);
+                self.nodes.push_reserved(Node::Live(lower));
+                self.nodes.push_reserved(Node::Live(upper));
+                self.branches += 1;
+                Ok(Kids::Two(kid, kid + 1))
+            }
+        }
+    }
+
+    /// Commits an ended patch to the node in whose state it begins. Refused, in this order: a node that is not live, a
+    /// patch that begins elsewhere, a quoted lemma that is not the one kept under its number, a branch where the budget
+    /// is used up, anything where a point is kept. A refused patch changes nothing.
+    pub fn commit(&mut self, node: u32, patch: KeptPatch) -> Result<Kids, BookRefusal>
+        requires { Meets self.old (call.Commit node patch) }
+        ensures { MatchResult result (λ c. Steps self.old (call.Commit node patch) (reply.Committed c) self.new) (λ e. Steps self.old (call.Commit node patch) (reply.Refused e) self.new) }
+    {
+        match self.test_commit(node, &patch) {
+            Ok(()) => self.store(node, patch),
+            Err(refusal) => Err(refusal),
+        }
+    }
+
+    // Appends a lemma for which there is room; without memory nothing changes.
+    fn keep_lemma(&mut self, patch: KeptPatch) -> Result<u32, BookRefusal>
+        requires meets { Meets self.old (call.Learn (kept_of patch)) }
+        requires known { Knows self.old (kept_of patch).quoted }
+        requires room { length self.old.lemmas < most_lemmas }
+        ensures { MatchResult result (λ i. Learns self.old (kept_of patch) i self.new) (λ e. (e ≡ refusal.Memory) × (self.new ≡ self.old)) }
+    {
+        on_grid(&patch.first);
+        on_grid(&patch.reached);
+        if self.lemmas.reserve(1).is_err() {
+            return Err(BookRefusal::Memory);
+        }
+        let KeptPatch {
+            first,
+            steps,
+            quoted,
+            end,
+            reached,
+        } = patch;
+        drop(quoted);
+        drop(reached);
+        let end = match end {
+            Some(end) => end,
+            None => unreachable!(),
+        };
+        let id = self.lemmas.len() as u32;
+        let lines = Lines { steps, end };
+        self.lemmas.push_reserved(Learned {
+            state: first,
+            lines,
+        });
+        Ok(id)
+    }
+
+    /// Keeps the first state of a patch that closed it as a lemma, and answers its number. Refused, in this order: a
+    /// quoted lemma that is not the one kept under its number, more than 1,048,576 lemmas. A refusal changes nothing.
+    pub fn learn(&mut self, patch: ClosedPatch) -> Result<u32, BookRefusal>
+        requires { Meets self.old (call.Learn patch) }
+        ensures { MatchResult result (λ i. Steps self.old (call.Learn patch) (reply.Learned i) self.new) (λ e. Steps self.old (call.Learn patch) (reply.Refused e) self.new) }
+    {
+        let kept = patch.into_kept();
+        match self.test_quoted(&kept.quoted) {
+            Ok(()) => {}
+            Err(refusal) => return Err(refusal),
+        }
+        if self.lemmas.len() >= MOST_LEMMAS {
+            return Err(BookRefusal::LemmasFull);
+        }
+        self.keep_lemma(kept)
+    }
+
+    /// Keeps the point that was found at a live node. Refused, in this order: a node that is not live, anything where a
+    /// point is kept. A refusal changes nothing.
+    pub fn found(&mut self, node: u32, point: Point) -> Result<(), BookRefusal>
+        requires { Meets self.old (call.Find node point) }
+        ensures { MatchResult result (λ _. Steps self.old (call.Find node point) reply.Found self.new) (λ e. Steps self.old (call.Find node point) (reply.Refused e) self.new) }
+    {
+        match self.nodes.get(node as usize) {
+            Some(Node::Live(_)) => {}
+            _ => return Err(BookRefusal::NotOpen(node)),
+        }
+        match self.test_point() {
+            Ok(()) => {}
+            Err(refusal) => return Err(refusal),
+        }
+        point_on_grid(&point);
+        self.point = Some(point);
+        Ok(())
+    }
+
+    /// What the book says of its problem.
+    pub fn verdict(&self) -> BookVerdict
+        ensures { result ≡ verdict_of self.now }
+    {
+        if self.point.is_some() {
+            BookVerdict::DeltaSat
+        } else if any_live(&self.nodes) {
+            if self.branches < self.options.budget {
+                BookVerdict::NotYet
+            } else {
+                BookVerdict::UnknownBudget
+            }
+        } else if any_stuck(&self.nodes) {
+            BookVerdict::UnknownWidth
+        } else {
+            BookVerdict::Unsat
+        }
+    }
+
+    /// The live node of the least number that is not below this one.
+    pub fn live_after(&self, from: u32) -> Option<u32>
+        ensures first { result ≡ live_after self.now from }
+        ensures bounded { IfSome result (λ n. n < 2 ^ 31) }
+    {
+        for node in from as usize..self.nodes.len() {
+            if let Node::Live(_) = &self.nodes[node] {
+                return Some(node as u32);
+            }
+        }
+        None
+    }
+
+    /// Makes one call.
+    pub fn run(&mut self, call: Call) -> Reply
+        requires { Meets self.old call }
+        ensures { Steps self.old call result self.new }
+    {
+        match call {
+            Call::Commit(node, patch) => match self.commit(node, patch) {
+                Ok(kids) => Reply::Committed(kids),
+                Err(refusal) => Reply::Refused(refusal),
+            },
+            Call::Learn(patch) => match self.learn(patch) {
+                Ok(id) => Reply::Learned(id),
+                Err(refusal) => Reply::Refused(refusal),
+            },
+            Call::Find(node, point) => match self.found(node, point) {
+                Ok(()) => Reply::Found,
+                Err(refusal) => Reply::Refused(refusal),
+            },
+            Call::StateOf(node) => match self.state_of(node) {
+                Ok(state) => Reply::Stands(state),
+                Err(refusal) => Reply::Refused(refusal),
+            },
+            Call::LemmasFrom(from) => match self.lemmas_from(from) {
+                Ok(lemmas) => Reply::Lemmas(lemmas),
+                Err(_) => Reply::Refused(BookRefusal::Memory),
+            },
+        }
+    }
+}

@@ -1,0 +1,24 @@
+// Calls and replies as data.
+use crate::refusal::{BookRefusal, Kids};
+use cover_rule::{ClosedPatch, KeptPatch, Lemma, Point, State};
+
+/// A call on a book.
+#[derive(Drop)]
+pub enum Call {
+    Commit(u32, KeptPatch),
+    Learn(ClosedPatch),
+    Find(u32, Point),
+    StateOf(u32),
+    LemmasFrom(u32),
+}
+
+/// What a book replies.
+#[derive(Drop)]
+pub enum Reply {
+    Committed(Kids),
+    Learned(u32),
+    Found,
+    Stands(State),
+    Lemmas(Vec<Lemma>),
+    Refused(BookRefusal),
+}
