@@ -1,0 +1,5 @@
+pub mod Lines
+pub mod Symbols
+pub mod Texts
+pub mod Told
+pub mod Tried

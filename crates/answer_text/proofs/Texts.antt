@@ -1,0 +1,15 @@
+-- Texts in pieces.
+use Rattle.std.proofs.Common.{◌≡◌, ℕ, List, [], ◌∷◌, ◌++◌, ◌∙◌, ap, sym, append_assoc}
+
+pub grouped : (a b c d e f : List ℕ) → a ++ (b ++ (c ++ (d ++ (e ++ f)))) ≡ a ++ b ++ c ++ d ++ e ++ f
+grouped a b c d e f = sym (simp append_assoc)
+
+place_last : (a kind line column : List ℕ) → (a ++ kind) ++ (32 ∷ (line ++ (58 ∷ (column ++ (10 ∷ []))))) ≡ a ++ kind ++ (32 ∷ (line ++ (58 ∷ column))) ++ (10 ∷ [])
+place_last a kind line column = simp append_assoc
+
+-- A line of a kind of fault with its place was written.
+pub placed : (a kind line column place text text' text'' : List ℕ) → text ≡ a → text' ≡ text ++ kind → place ≡ 32 ∷ (line ++ (58 ∷ (column ++ (10 ∷ []))))
+    → text'' ≡ text' ++ place → text'' ≡ a ++ kind ++ (32 ∷ (line ++ (58 ∷ column))) ++ (10 ∷ [])
+placed a kind line column place text text' text'' begun told at all =
+    all ∙ ap (λ (t : List ℕ). text' ++ t) at ∙ ap (λ (t : List ℕ). t ++ (32 ∷ (line ++ (58 ∷ (column ++ (10 ∷ [])))))) (told ∙ ap (λ (t : List ℕ). t ++ kind) begun)
+    ∙ place_last a kind line column
