@@ -1,0 +1,216 @@
+-- What the answers of a run say of its script.
+use Rattle.std.proofs.Common.{◌≡◌, inl, inr, ℕ, List, [], ◌∷◌, ◌++◌, Bool, true, false, get_or, nat_eq, true≢false, Option, Some, None, refl, ap, sym, subst, ◌∙◌}
+use Rattle.std.specs.Prelude.{IsSomeAnd}
+use Rattle.std.proofs.lemmas.List.{append_cancel_left}
+use Rattle.std.proofs.lemmas.Bool.Decides.{eqb_tells}
+use Rattle.desk.specs.declared.desk.Port.TheVariants.{CertIn}
+use Rattle.desk.specs.Sight.{Sight}
+use Rattle.words.specs.declared.asked.Options.{Options}
+use Rattle.words.specs.Words.{Solve, Check, Demo, Command, solve, check, demo}
+use Rattle.gen_script.specs.Demo.{demo_script}
+use Rattle.poly_graph.specs.Problem.{Problem}
+use Rattle.poly_graph.specs.Space.{Space}
+use Rattle.poly_graph.specs.State.{Loosenings}
+use Rattle.cert_model.specs.Due.{Standing, Value, at_point, left_open}
+use Rattle.cert_model.specs.Accepted.{Verdict, accepted, refused, verdict, IsAccepted}
+use Rattle.cert_model.specs.AnswerText.{solve_text, check_text, unsat_text, delta_sat_text, budget_text, width_text, has_open}
+use Rattle.headline.proofs.Headline.{unsat_is, delta_sat_is}
+use Rattle.script_faults.specs.Faults.{ScriptFault}
+use Rattle.dpoly.specs.Reader.{told_fault}
+use Rattle.dpoly.specs.declared.status.Status.{Status}
+use Rattle.dpoly.specs.declared.status.Status.TheVariants.{Answered, CertRefused, ScriptRefused}
+use Rattle.dpoly.specs.Reader.{commands_of, IsBuilt}
+use Rattle.dpoly.specs.Answer.{loosenings_of, IsAnswer}
+use Rattle.dpoly.specs.Course.{Course, behind, appended}
+use Rattle.dpoly.specs.Can.{CanSolve, CanCheck, CanDemo, CanBy, OfProblem, Can, verdict_course}
+use Rattle.dpoly.specs.Run.{Shows}
+use Rattle.dpoly.specs.Headline.{Wrote, IsUnsat, UnsatIsTrue, IsDeltaSat, DeltaSatIsTrue, delta_sat_word, confirmed_unsat_word, confirmed_delta_sat_word}
+
+-- ---- texts that differ
+
+-- an answer that was written is the one that is read there
+written-is : (told : Option (List ℕ)) (new : Option (List ℕ)) (text answer : List ℕ) → IsSomeAnd told (λ before. new ≡ Some (before ++ text)) → new ≡ appended told answer → text ≡ answer
+written-is None new text answer h e = absurd h
+written-is (Some before) new text answer h e = append_cancel_left before text answer (let same : ◌≡◌ {A = Option (List ℕ)} (Some (before ++ text)) (Some (before ++ answer)) = sym h ∙ e in cc)
+
+-- a byte at a place tells two texts apart
+apart : (t u : List ℕ) (k : ℕ) → t ≡ u → nat_eq (get_or t k 0) (get_or u k 0) ≡ false → ⊥
+apart t u k e f = elim (eqb_tells (get_or t k 0) (get_or u k 0)) [ inl h ↦ true≢false (sym h.0 ∙ f) | inr h ↦ h.1 (ap (λ (x : List ℕ). get_or x k 0) e) ]
+
+-- so does it of what is answered where something is left
+apart-left : (p : Problem) (s : Loosenings) (budget : ℕ) (x : Standing) (rest : List Standing) (t : List ℕ) (k : ℕ) → t ≡ solve_text p budget s (left_open (x ∷ rest)) →
+    nat_eq (get_or t k 0) (get_or (budget_text budget) k 0) ≡ false → ((j : ℕ) → nat_eq (get_or t k 0) (get_or (width_text p x.state j) k 0) ≡ false) →
+    (b : Bool) → has_open (x ∷ rest) ≡ b → ⊥
+apart-left p s budget x rest t k e f g true h = let e' = rw h at e in apart _ _ k e' f
+apart-left p s budget x rest t k e f g false h = let e' = rw h at e in apart _ _ k e' (g _)
+
+-- unsat is said of a cover that leaves nothing alone
+says-unsat : (p : Problem) (s : Loosenings) (budget : ℕ) (v : Value) → unsat_text s ≡ solve_text p budget s v → v ≡ left_open []
+says-unsat p s budget (at_point space) e = absurd (apart (unsat_text s) (delta_sat_text p s space) 0 e refl)
+says-unsat p s budget (left_open []) e = refl
+says-unsat p s budget (left_open (x ∷ rest)) e = absurd (apart-left p s budget x rest (unsat_text s) 2 e refl (λ j. refl) (has_open (x ∷ rest)) refl)
+
+-- delta-sat is said of a point alone
+says-delta-sat : (p : Problem) (s : Loosenings) (budget : ℕ) (rest : List ℕ) (v : Value) → delta_sat_word ++ rest ≡ solve_text p budget s v → (space : Space) × (v ≡ at_point space)
+says-delta-sat p s budget rest (at_point space) e = (space, refl)
+says-delta-sat p s budget rest (left_open []) e = absurd (apart _ _ 0 e refl)
+says-delta-sat p s budget rest (left_open (x ∷ left)) e = absurd (apart-left p s budget x left (delta_sat_word ++ rest) 0 e refl (λ j. refl) (has_open (x ∷ left)) refl)
+
+confirms-unsat : (s : Loosenings) (rest : List ℕ) (v : Value) → confirmed_unsat_word ++ rest ≡ check_text s v → v ≡ left_open []
+confirms-unsat s rest (at_point space) e = absurd (apart _ _ 10 e refl)
+confirms-unsat s rest (left_open []) e = refl
+confirms-unsat s rest (left_open (x ∷ left)) e = absurd (apart _ _ 0 e refl)
+
+confirms-delta-sat : (s : Loosenings) (rest : List ℕ) (v : Value) → confirmed_delta_sat_word ++ rest ≡ check_text s v → (space : Space) × (v ≡ at_point space)
+confirms-delta-sat s rest (at_point space) e = (space, refl)
+confirms-delta-sat s rest (left_open []) e = absurd (apart _ _ 10 e refl)
+confirms-delta-sat s rest (left_open (x ∷ left)) e = absurd (apart _ _ 0 e refl)
+
+-- ---- the courses of a run that answers
+
+refused-not : (x : Status) → x ≡ ScriptRefused → x ≡ Answered → ⊥
+refused-not x e f = let same : ◌≡◌ {A = Status} ScriptRefused Answered = sym e ∙ f in cc
+
+-- of a script without fault, whose problem goes on so
+record Problem-goes (bound : Option ℕ) (script : List ℕ) (goes : Problem → Course → Type 0) (tail : Course) : Type 0 where
+  p : Problem
+  built : IsBuilt bound script p
+  can : goes p tail
+
+goes-on : (bound : Option ℕ) (script : List ℕ) (goes : Problem → Course → Type 0) (f : Option ScriptFault) (tail : Course) → CanBy f (OfProblem bound script goes) tail → tail.status ≡ Answered → Problem-goes bound script goes tail
+goes-on bound script goes (Some f) tail can e = absurd (refused-not tail.status (ap (λ (c : Course). c.status) can) e)
+goes-on bound script goes None tail can e = record { p = can.0; built = can.1; can = can.2 }
+
+-- a certificate that was written, with its value and the text that was answered
+record Solved-so (p : Problem) (o : Options) (course : Course) : Type 0 where
+  cert : List ℕ
+  value : Value
+  is : IsAnswer p o cert value
+  cert_is : course.cert ≡ cert
+  answer_is : course.answer ≡ solve_text p o.budget (loosenings_of o) value
+
+solved-so : (p : Problem) (o : Options) (name : List ℕ) (course : Course) → CanSolve p o name course → course.status ≡ Answered → Solved-so p o course
+solved-so p o name course (inl can) e = record { cert = can.0; value = can.1; is = can.2; cert_is = ap (λ (c : Course). c.cert) can.3; answer_is = ap (λ (c : Course). c.answer) can.3 }
+solved-so p o name course (inr can) e = absurd (refused-not course.status (ap (λ (c : Course). c.status) can.1) e)
+
+-- ---- unsat
+
+unsat-so : (o : Options) (script : List ℕ) (p : Problem) (old new : Sight) (cert : List ℕ) → IsBuilt o.bound script p → new.cert_out ≡ appended old.cert_out cert → IsAccepted p o.bound cert (loosenings_of o) (left_open []) →
+    IsUnsat o script old new
+unsat-so o script p old new cert built written accepts = record {
+  no_point = unsat_is o.bound (commands_of script) p built.whole built.problem cert (loosenings_of o) accepts;
+  problem = p;
+  built = built;
+  cert = cert;
+  written = written;
+  accepted = accepts;
+}
+
+solve-unsat : (words : Solve) (script cert_in : List ℕ) (old new : Sight) → Shows (Some (solve words)) script cert_in old new Answered → UnsatIsTrue (Some (solve words)) script cert_in old new
+solve-unsat words script cert_in old new (course, can, status, went) wrote =
+    let o : Options = words.options in
+    let tail : Course = can.0 in
+    let status_is : tail.status ≡ Answered = sym (ap (λ (c : Course). c.status) can.2) ∙ status in
+    let on = goes-on o.bound script (λ p. CanSolve p o words.cert) (told_fault o.bound script) tail can.1 status_is in
+    let so = solved-so on.p o words.cert tail on.can status_is in
+    let answer : course.answer ≡ solve_text on.p o.budget (loosenings_of o) so.value = ap (λ (c : Course). c.answer) can.2 ∙ so.answer_is in
+    let cert : course.cert ≡ so.cert = ap (λ (c : Course). c.cert) can.2 ∙ so.cert_is in
+    let text : unsat_text (loosenings_of o) ≡ solve_text on.p o.budget (loosenings_of o) so.value =
+    written-is old.answer new.answer (unsat_text (loosenings_of o)) course.answer wrote went.answer ∙ answer in
+    let P : Value → Type 0 = λ v. IsAccepted on.p o.bound so.cert (loosenings_of o) v in
+    unsat-so o script on.p old new so.cert on.built (went.cert ∙ ap (λ (c : List ℕ). appended old.cert_out c) cert)
+    (subst P (says-unsat on.p (loosenings_of o) o.budget so.value text) so.is.accepted)
+
+demo-unsat : (words : Demo) (script cert_in : List ℕ) (old new : Sight) → Shows (Some (demo words)) script cert_in old new Answered → UnsatIsTrue (Some (demo words)) script cert_in old new
+demo-unsat words script cert_in old new (course, can, status, went) =
+    let o : Options = words.options in
+    let made : List ℕ = demo_script words.seed words.size in
+    let on = goes-on o.bound made (λ p. CanDemo p o words.cert made) (told_fault o.bound made) course can status in
+    by on.p on.built on.can where
+      by : (p : Problem) → IsBuilt words.options.bound (demo_script words.seed words.size) p → CanDemo p words.options words.cert (demo_script words.seed words.size) course → IsUnsat words.options (demo_script words.seed words.size) old new
+      by p built (inl so) = unsat-so words.options (demo_script words.seed words.size) p old new so.0 built (went.cert ∙ ap (λ (c : Course). appended old.cert_out c.cert) so.2) so.1.accepted
+      by p built (inr so) = absurd (refused-not course.status (ap (λ (c : Course). c.status) so.1) status)
+
+-- ---- what is checked
+
+record Checked-so (p : Problem) (bound : Option ℕ) (cert_in : List ℕ) (course : Course) : Type 0 where
+  s : Loosenings
+  value : Value
+  accepts : IsAccepted p bound cert_in s value
+  answer_is : course.answer ≡ check_text s value
+
+certificate-refused-not : (x : Status) → x ≡ CertRefused → x ≡ Answered → ⊥
+certificate-refused-not x e f = let same : ◌≡◌ {A = Status} CertRefused Answered = sym e ∙ f in cc
+
+checked-by : (p : Problem) (bound : Option ℕ) (name cert_in : List ℕ) (course : Course) (v : Verdict) → verdict p bound cert_in ≡ v → course ≡ behind ((CertIn, name) ∷ []) (verdict_course v) → course.status ≡ Answered →
+    Checked-so p bound cert_in course
+checked-by p bound name cert_in course (accepted s value) e can status = record { s = s; value = value; accepts = e; answer_is = ap (λ (c : Course). c.answer) can }
+checked-by p bound name cert_in course (refused f n) e can status = absurd (certificate-refused-not course.status (ap (λ (c : Course). c.status) can) status)
+
+record Check-goes (words : Check) (script cert_in : List ℕ) (answer : List ℕ) : Type 0 where
+  p : Problem
+  built : IsBuilt words.bound script p
+  s : Loosenings
+  value : Value
+  accepts : IsAccepted p words.bound cert_in s value
+  answer_is : answer ≡ check_text s value
+
+check-goes : (words : Check) (script cert_in : List ℕ) (course : Course) → Can (Some (check words)) script cert_in course → course.status ≡ Answered → Check-goes words script cert_in course.answer
+check-goes words script cert_in course can status =
+    let tail : Course = can.0 in
+    let status_is : tail.status ≡ Answered = sym (ap (λ (c : Course). c.status) can.2) ∙ status in
+    let on = goes-on words.bound script (λ p. CanCheck p words.bound words.cert cert_in) (told_fault words.bound script) tail can.1 status_is in
+    let so = checked-by on.p words.bound words.cert cert_in tail (verdict on.p words.bound cert_in) refl on.can status_is in
+    record { p = on.p; built = on.built; s = so.s; value = so.value; accepts = so.accepts; answer_is = ap (λ (c : Course). c.answer) can.2 ∙ so.answer_is }
+
+check-unsat : (words : Check) (script cert_in : List ℕ) (old new : Sight) → Shows (Some (check words)) script cert_in old new Answered → UnsatIsTrue (Some (check words)) script cert_in old new
+check-unsat words script cert_in old new (course, can, status, went) rest wrote =
+    let so = check-goes words script cert_in course can status in
+    let text : confirmed_unsat_word ++ rest ≡ check_text so.s so.value = written-is old.answer new.answer (confirmed_unsat_word ++ rest) course.answer wrote went.answer ∙ so.answer_is in
+    let none : so.value ≡ left_open [] = confirms-unsat so.s rest so.value text in
+    let P : Value → Type 0 = λ v. IsAccepted so.p words.bound cert_in so.s v in
+    let W : List ℕ → Type 0 = λ t. Wrote t old new in
+    let accepts : P (left_open []) = subst P none so.accepts in
+    (so.s, subst W (text ∙ ap (λ (v : Value). check_text so.s v) none) wrote, unsat_is words.bound (commands_of script) so.p so.built.whole so.built.problem cert_in so.s accepts)
+
+pub unsat-true : (command : Option Command) (script cert_in : List ℕ) (old new : Sight) → Shows command script cert_in old new Answered → UnsatIsTrue command script cert_in old new
+unsat-true None script cert_in old new shows = tt
+unsat-true (Some (solve words)) script cert_in old new shows = solve-unsat words script cert_in old new shows
+unsat-true (Some (check words)) script cert_in old new shows = check-unsat words script cert_in old new shows
+unsat-true (Some (demo words)) script cert_in old new shows = demo-unsat words script cert_in old new shows
+
+-- ---- delta-sat
+
+delta-so : (bound : Option ℕ) (script : List ℕ) (p : Problem) (cert : List ℕ) (s : Loosenings) (space : Space) → IsBuilt bound script p → IsAccepted p bound cert s (at_point space) → IsDeltaSat bound script s space
+delta-so bound script p cert s space built accepts =
+    let means = delta_sat_is bound (commands_of script) p built.whole built.problem cert s space accepts in record { satisfies = means.0; near = means.1 }
+
+solve-delta : (words : Solve) (script cert_in : List ℕ) (old new : Sight) → Shows (Some (solve words)) script cert_in old new Answered → DeltaSatIsTrue (Some (solve words)) script cert_in old new
+solve-delta words script cert_in old new (course, can, status, went) rest wrote =
+    let o : Options = words.options in
+    let s : Loosenings = loosenings_of o in
+    let tail : Course = can.0 in
+    let status_is : tail.status ≡ Answered = sym (ap (λ (c : Course). c.status) can.2) ∙ status in
+    let on = goes-on o.bound script (λ p. CanSolve p o words.cert) (told_fault o.bound script) tail can.1 status_is in
+    let so = solved-so on.p o words.cert tail on.can status_is in
+    let answer : course.answer ≡ solve_text on.p o.budget s so.value = ap (λ (c : Course). c.answer) can.2 ∙ so.answer_is in
+    let text : delta_sat_word ++ rest ≡ solve_text on.p o.budget s so.value = written-is old.answer new.answer (delta_sat_word ++ rest) course.answer wrote went.answer ∙ answer in
+    let point = says-delta-sat on.p s o.budget rest so.value text in
+    let P : Value → Type 0 = λ v. IsAccepted on.p o.bound so.cert s v in
+    let W : List ℕ → Type 0 = λ t. Wrote t old new in
+    (on.p, point.0, on.built, subst W (text ∙ ap (λ (v : Value). solve_text on.p o.budget s v) point.1) wrote, delta-so o.bound script on.p so.cert s point.0 on.built (subst P point.1 so.is.accepted))
+
+check-delta : (words : Check) (script cert_in : List ℕ) (old new : Sight) → Shows (Some (check words)) script cert_in old new Answered → DeltaSatIsTrue (Some (check words)) script cert_in old new
+check-delta words script cert_in old new (course, can, status, went) rest wrote =
+    let so = check-goes words script cert_in course can status in
+    let text : confirmed_delta_sat_word ++ rest ≡ check_text so.s so.value = written-is old.answer new.answer (confirmed_delta_sat_word ++ rest) course.answer wrote went.answer ∙ so.answer_is in
+    let point = confirms-delta-sat so.s rest so.value text in
+    let P : Value → Type 0 = λ v. IsAccepted so.p words.bound cert_in so.s v in
+    let W : List ℕ → Type 0 = λ t. Wrote t old new in
+    (so.s, point.0, subst W (text ∙ ap (λ (v : Value). check_text so.s v) point.1) wrote, delta-so words.bound script so.p cert_in so.s point.0 so.built (subst P point.1 so.accepts))
+
+pub delta-sat-true : (command : Option Command) (script cert_in : List ℕ) (old new : Sight) → Shows command script cert_in old new Answered → DeltaSatIsTrue command script cert_in old new
+delta-sat-true None script cert_in old new shows = tt
+delta-sat-true (Some (solve words)) script cert_in old new shows = solve-delta words script cert_in old new shows
+delta-sat-true (Some (check words)) script cert_in old new shows = check-delta words script cert_in old new shows
+delta-sat-true (Some (demo words)) script cert_in old new shows = tt

@@ -1,0 +1,10 @@
+pub mod Ending
+pub mod Faulty
+pub mod FirstPath
+pub mod Headline
+pub mod Reading
+pub mod Rows
+pub mod Running
+pub mod Shown
+pub mod Solving
+pub mod Texts

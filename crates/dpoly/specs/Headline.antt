@@ -1,0 +1,68 @@
+-- What the answers of a run say of its script.
+use Rattle.std.specs.Prelude.{◌≡◌, ◌++◌, ℕ, List, [], Option, Some, None, IsSomeAnd, codes}
+use Rattle.desk.specs.Sight.{Sight}
+use Rattle.words.specs.declared.asked.Options.{Options}
+use Rattle.words.specs.Words.{Command, solve, check, demo}
+use Rattle.gen_script.specs.Demo.{demo_script}
+use Rattle.dyadic.specs.Rounding.{exact}
+use Rattle.script_model.specs.Script.{Satisfies}
+use Rattle.poly_graph.specs.Problem.{Problem}
+use Rattle.poly_graph.specs.Space.{Space}
+use Rattle.poly_graph.specs.State.{Loosenings, margin_of, delta_of}
+use Rattle.cert_model.specs.Due.{at_point, left_open, coordinates}
+use Rattle.cert_model.specs.Accepted.{IsAccepted}
+use Rattle.cert_model.specs.AnswerText.{text_line, unsat_text, delta_sat_text, check_text}
+use Rattle.headline.specs.Laws.{HasNoPoint}
+use Rattle.headline.specs.Near.{IsNearDeclaredBox}
+use Rattle.dpoly.specs.Reader.{commands_of, IsBuilt}
+use Rattle.dpoly.specs.Answer.{loosenings_of}
+use Rattle.dpoly.specs.Course.{appended}
+
+-- this text was written as answer, where the answer's bytes are told
+abbrev pub Wrote : List ℕ → Sight → Sight → Type 0
+Wrote text old new = IsSomeAnd old.answer (λ before. new.answer ≡ Some (before ++ text))
+
+-- The script holds nowhere in its declared box, each atom loosened by the margin; and what was written as certificate is
+-- accepted as a cover that leaves nothing.
+pub record IsUnsat (options : Options) (script : List ℕ) (old new : Sight) : Type 0 where
+  pub no_point : HasNoPoint options.bound (commands_of script) (exact (margin_of (loosenings_of options)))
+  pub problem : Problem
+  pub built : IsBuilt options.bound script problem
+  pub cert : List ℕ
+  pub written : new.cert_out ≡ appended old.cert_out cert
+  pub accepted : IsAccepted problem options.bound cert (loosenings_of options) (left_open [])
+
+abbrev pub confirmed_unsat_word : List ℕ
+confirmed_unsat_word = text_line (codes "confirmed unsat")
+
+-- The answer is `unsat` at the margin of the words, or `demo`'s, or confirms it at some margin: so it is.
+abbrev pub UnsatIsTrue : Option Command → List ℕ → List ℕ → Sight → Sight → Type 0
+UnsatIsTrue (Some (solve words)) script cert_in old new =
+    Wrote (unsat_text (loosenings_of words.options)) old new → IsUnsat words.options script old new
+UnsatIsTrue (Some (check words)) script cert_in old new =
+    (rest : List ℕ) → Wrote (confirmed_unsat_word ++ rest) old new →
+    (s : Loosenings) × Wrote (check_text s (left_open [])) old new × HasNoPoint words.bound (commands_of script) (exact (margin_of s))
+UnsatIsTrue (Some (demo words)) script cert_in old new = IsUnsat words.options (demo_script words.seed words.size) old new
+UnsatIsTrue None script cert_in old new = Unit {0}
+
+-- The point satisfies the script, each atom loosened by delta, and lies within delta of the declared box.
+pub record IsDeltaSat (bound : Option ℕ) (script : List ℕ) (s : Loosenings) (space : Space) : Type 0 where
+  pub satisfies : Satisfies (exact (delta_of s)) (coordinates space) (commands_of script)
+  pub near : IsNearDeclaredBox (exact (delta_of s)) bound (commands_of script) (coordinates space)
+
+abbrev pub delta_sat_word : List ℕ
+delta_sat_word = text_line (codes "delta-sat")
+
+abbrev pub confirmed_delta_sat_word : List ℕ
+confirmed_delta_sat_word = text_line (codes "confirmed delta-sat")
+
+-- The answer is `delta-sat` with a point, or confirms such a one: the point is one.
+abbrev pub DeltaSatIsTrue : Option Command → List ℕ → List ℕ → Sight → Sight → Type 0
+DeltaSatIsTrue (Some (solve words)) script cert_in old new =
+    (rest : List ℕ) → Wrote (delta_sat_word ++ rest) old new →
+    (p : Problem) × (space : Space) × IsBuilt words.options.bound script p × Wrote (delta_sat_text p (loosenings_of words.options) space) old new
+    × IsDeltaSat words.options.bound script (loosenings_of words.options) space
+DeltaSatIsTrue (Some (check words)) script cert_in old new =
+    (rest : List ℕ) → Wrote (confirmed_delta_sat_word ++ rest) old new →
+    (s : Loosenings) × (space : Space) × Wrote (check_text s (at_point space)) old new × IsDeltaSat words.bound script s space
+DeltaSatIsTrue _ script cert_in old new = Unit {0}

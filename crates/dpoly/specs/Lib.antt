@@ -1,0 +1,9 @@
+pub mod Answer
+pub mod Can
+pub mod Course
+pub mod FirstPath
+pub mod Headline
+pub mod Parts
+pub mod Reader
+pub mod Run
+pub mod Script
