@@ -8,7 +8,7 @@ ghost use Rattle.sort_check.specs.Forms.{FindsBinding, FindsLet};
 use smt_sexp::{Leaf, Name, Place, Seen, Sexps};
 
 /// The place behind the expression at a place.
-pub(crate) fn behind(sexps: &Sexps, at: usize) -> Option<usize>
+pub fn behind(sexps: &Sexps, at: usize) -> Option<usize>
     ensures { FindsAny sexps.now at result }
 {
     match sexps.look(at) {
@@ -19,14 +19,14 @@ pub(crate) fn behind(sexps: &Sexps, at: usize) -> Option<usize>
 }
 
 /// Whether nothing more stands at a place.
-pub(crate) fn ends(sexps: &Sexps, at: usize) -> bool
+pub fn ends(sexps: &Sexps, at: usize) -> bool
     ensures { result ≡ is_end (rest_of sexps.now at) }
 {
     matches!(sexps.look(at), Seen::End)
 }
 
 /// The binding at a place: where its name stands, the name, the place of its expression, the place behind it.
-pub(crate) fn binding(sexps: &Sexps, at: usize) -> Option<(Place, &Name, usize, usize)>
+pub fn binding(sexps: &Sexps, at: usize) -> Option<(Place, &Name, usize, usize)>
     ensures { FindsBinding sexps.now at result }
 {
     let Seen::Group(_, inside, after) = sexps.look(at) else {
@@ -55,7 +55,7 @@ fn are_bindings(sexps: &Sexps, start: usize) -> bool
 }
 
 /// The first place of the bindings of a `let` and the place of its body, from what stands behind its word.
-pub(crate) fn let_form(sexps: &Sexps, at: usize) -> Option<(usize, usize)>
+pub fn let_form(sexps: &Sexps, at: usize) -> Option<(usize, usize)>
     ensures { FindsLet sexps.now at result }
 {
     let Seen::Group(_, inside, body) = sexps.look(at) else {

@@ -14,6 +14,8 @@ mod stop;
 mod typed;
 
 pub use fault::ScriptFault;
+pub use forms::{behind, binding, ends, let_form};
+pub use operators::{Operator, operator_named};
 use smt_script::Script;
 use std::alloc::Global;
 pub use typed::Typed;

@@ -11,7 +11,7 @@ use smt_sexp::Place;
 
 /// A symbol of the theories.
 #[derive(Clone, Copy, Debug)]
-pub(crate) enum Operator {
+pub enum Operator {
     True,
     False,
     Not,
@@ -33,7 +33,7 @@ pub(crate) enum Operator {
 }
 
 /// The operator of this name.
-pub(crate) fn operator_named(name: &[u8]) -> Option<Operator>
+pub fn operator_named(name: &[u8]) -> Option<Operator>
     ensures { option_map operator_of result ≡ found name.now operators }
 {
     if name == b"true".as_slice() {

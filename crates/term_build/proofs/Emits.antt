@@ -1,5 +1,5 @@
 -- Events one after the other.
-use Rattle.std.proofs.Common.{◌≡◌, ℕ, ◌<◌, ◌≤◌, List, [], ◌∷◌, ◌++◌, length, Bool, true, false, cond, IsTrue, Some, None, refl, ap, sym, ◌∙◌, subst, arith, slice_index_or, nat_eq, eqb→eq, append_assoc, append-nil, length-append}
+use Rattle.std.proofs.Common.{◌≡◌, ℕ, zero, suc, ◌<◌, ◌≤◌, List, [], ◌∷◌, ◌++◌, map, length, Bool, true, false, cond, IsTrue, Some, None, refl, ap, sym, ◌∙◌, subst, arith, slice_index_or, nat_eq, eqb→eq, append_assoc, append-nil, length-append}
 use Rattle.std.specs.Prelude.{slice_get, IsFalse, Result, Ok, Err, MatchResult, IsErr, IsErrAnd}
 use Rattle.std.specs.Bool.{passes}
 use Rattle.std.proofs.lemmas.Bool.{eq-eqb}
@@ -11,9 +11,12 @@ use Rattle.dyadic.specs.declared.frac.Frac.{Frac}
 use Rattle.script_model.specs.Sexp.{Place}
 use Rattle.smt_sexp.specs.Views.{place_of}
 use Rattle.smt_sexp.specs.declared.leaf.Place as code
+use Rattle.smt_script.specs.Views.{sort_of}
+use Rattle.smt_script.specs.declared.command.Sort as code_sort
 use Rattle.poly_graph.specs.Term.{Term, constant, variable, negate, add, multiply, square, Node, constant_node, variable_node, negate_node, add_node, multiply_node, square_node, node_term, graph_terms}
 use Rattle.poly_graph.specs.Form.{form_map}
-use Rattle.poly_graph.specs.Problem.{IsConstant}
+use Rattle.dyadic.specs.Point.{Sort, real_sort, bool_sort}
+use Rattle.poly_graph.specs.Problem.{IsConstant, HasSort}
 use Rattle.poly_graph.proofs.Graphs.{length_terms}
 use Rattle.script_forms.specs.Terms.{Unfolded, term, refused, constant_or, add_tree, multiply_tree, subtract_tree, negate_tree, same_term, number_too_wide, zero_divisor, is_nought, inverse_of, divide_tree}
 use Rattle.script_forms.specs.Unfolded.{term_in}
@@ -25,7 +28,7 @@ use Rattle.script_forms.specs.Work.{Event, reached, made, asked, formed, met, en
 use Rattle.script_forms.specs.Walk.{Stand, Walked, stands, stops, if_room, BuildingFault, unfolds_not, place_of_fault, make_tree, with_tree, with_atom, with_form, larger, has_tree, has_form, after_event, after_events, goes_on}
 use Rattle.term_build.specs.Built.{Made, stand_of, IsMade}
 use Rattle.term_build.specs.Does.{Does, StopsAs, IsTree, fault_of}
-use Rattle.term_build.specs.Steps.{tree_of, Emits, IsTreeOf, as_constant, node_constant, both_of, constants, Folds, added, multiplied}
+use Rattle.term_build.specs.Steps.{tree_of, Emits, IsTreeOf, as_constant, node_constant, as_variable, node_variable, both_of, constants, Folds, added, multiplied}
 use Rattle.term_build.specs.declared.stop.Stop.{Stop}
 use Rattle.term_build.specs.declared.stop.Stop.TheVariants as stop
 use Rattle.term_build.specs.declared.stop.Fault.{Fault}
@@ -196,6 +199,18 @@ pub constant_seen : (m m' : Made) (k : ℕ) (n : Node) → m ≡ m' → IsMade m
 constant_seen m m' k n e h i = node-constant (graph_terms m.nodes) n ∙ ap as_constant (sym (get_index (graph_terms m.nodes) k (node_term (graph_terms m.nodes) n) (constant zero_fraction) (tree_at m.nodes h.graph k n i)))
     ∙ ap (λ (x : Made). as_constant (tree_of x k)) e
 
+node-variable : (ts : List Term) (n : Node) → node_variable n ≡ as_variable (node_term ts n)
+node-variable ts (constant_node q) = refl
+node-variable ts (variable_node axis) = refl
+node-variable ts (negate_node a) = refl
+node-variable ts (add_node a b) = refl
+node-variable ts (multiply_node a b) = refl
+node-variable ts (square_node a) = refl
+
+pub variable_seen : (m m' : Made) (k : ℕ) (n : Node) → m ≡ m' → IsMade m → slice_get m.nodes k ≡ Some n → node_variable n ≡ as_variable (tree_of m' k)
+variable_seen m m' k n e h i = node-variable (graph_terms m.nodes) n ∙ ap as_variable (sym (get_index (graph_terms m.nodes) k (node_term (graph_terms m.nodes) n) (constant zero_fraction) (tree_at m.nodes h.graph k n i)))
+    ∙ ap (λ (x : Made). as_variable (tree_of x k)) e
+
 pub constants_by : (t u : Term) → both_of (as_constant t) (as_constant u) ≡ constants t u
 constants_by (constant p) (constant q) = refl
 constants_by _ _ = refl
@@ -270,6 +285,25 @@ product_done m m1 at a b n r same apart e f h = multiply_apart m m1 at (tree_of 
     node-cond : (ts : List Term) (a b : ℕ) (c : Bool) → node_term ts (cond c (square_node a) (multiply_node a b)) ≡ cond c (square (slice_index_or ts a (constant zero_fraction))) (multiply (slice_index_or ts a (constant zero_fraction)) (slice_index_or ts b (constant zero_fraction)))
     node-cond ts a b true = refl
     node-cond ts a b false = refl
+
+-- ---- the sorts of the constants
+
+head-sort : (s x : Sort) (sorts : List Sort) → x ≡ s → HasSort x (s ∷ sorts) zero
+head-sort real_sort x sorts e = rw e tt
+head-sort bool_sort x sorts e = rw e tt
+
+sort-there : (raw : List code_sort.Sort) (axis : ℕ) (x d : code_sort.Sort) → axis < length (map sort_of raw) → x ≡ slice_index_or raw axis d → HasSort (sort_of x) (map sort_of raw) axis
+sort-there [] axis x d h e = absurd (omega (arith, h))
+sort-there (s ∷ raw) zero x d h e = head-sort (sort_of s) (sort_of x) (map sort_of raw) (ap sort_of e)
+sort-there (s ∷ raw) (suc axis) x d h e = later (sort_of s) (sort_of x) (map sort_of raw) axis (sort-there raw axis x d (omega (arith, h)) e)
+  where
+    later : (s x : Sort) (sorts : List Sort) (axis : ℕ) → HasSort x sorts axis → HasSort x (s ∷ sorts) (suc axis)
+    later s real_sort sorts axis h = h
+    later s bool_sort sorts axis h = h
+
+pub sort_seen : (m m' : Made) (raw : List code_sort.Sort) (axis : ℕ) (x d : code_sort.Sort) → m ≡ m' → m.sorts ≡ map sort_of raw → axis < length m'.sorts → x ≡ slice_index_or raw axis d → HasSort (sort_of x) m'.sorts axis
+sort_seen m m' raw axis x d e f h i = let g : m'.sorts ≡ map sort_of raw = ap (λ (y : Made). y.sorts) (sym e) ∙ f in
+    subst (λ (sorts : List Sort). HasSort (sort_of x) sorts axis) (sym g) (sort-there raw axis x d (subst (λ (sorts : List Sort). axis < length sorts) g h) i)
 
 -- ---- quotients
 

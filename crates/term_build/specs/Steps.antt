@@ -5,7 +5,7 @@ use Rattle.dyadic.specs.Lowest.{reduced, sum_fits, product_fits}
 use Rattle.dyadic.specs.Views.{fraction_of_frac}
 use Rattle.dyadic.specs.declared.frac.Frac.{Frac}
 use Rattle.script_model.specs.Sexp.{Place}
-use Rattle.poly_graph.specs.Term.{Term, constant, add, multiply, square, Node, constant_node}
+use Rattle.poly_graph.specs.Term.{Term, constant, variable, add, multiply, square, Node, constant_node, variable_node}
 use Rattle.script_forms.specs.Terms.{Unfolded, term, constant_or, same_term}
 use Rattle.script_forms.specs.Work.{Event}
 use Rattle.script_forms.specs.Walk.{after_events}
@@ -32,6 +32,14 @@ as_constant t = None
 abbrev pub node_constant : Node → Option Fraction
 node_constant (constant_node q) = Some q
 node_constant n = None
+
+abbrev pub as_variable : Term → Option ℕ
+as_variable (variable axis) = Some axis
+as_variable t = None
+
+abbrev pub node_variable : Node → Option ℕ
+node_variable (variable_node axis) = Some axis
+node_variable n = None
 
 -- two, where both are there
 abbrev pub both_of : Option Fraction → Option Fraction → Option (Fraction × Fraction)

@@ -1,11 +1,11 @@
 // The builder: its tables, and the steps that fill them.
 ghost use Rattle.std.specs.Prelude.{◌≡◌, ◌^◌, ◌<◌, length, map, IsTrue, option_map};
 ghost use Rattle.dyadic.specs.Views.{fraction_of_frac};
-ghost use Rattle.term_build.specs.Steps.{as_constant, both_of, constants, node_constant, tree_of, two_fractions};
+ghost use Rattle.term_build.specs.Steps.{as_constant, as_variable, both_of, constants, node_constant, node_variable, tree_of, two_fractions};
 ghost use Rattle.poly_graph.specs.Term.{comes_after, graph_terms, node_term};
 ghost use Rattle.poly_graph.specs.FormGraph.{form_comes_after, graph_forms, node_form};
 ghost use Rattle.poly_graph.specs.FormViews.{form_node_of};
-ghost use Rattle.poly_graph.specs.Problem.{IsNode};
+ghost use Rattle.poly_graph.specs.Problem.{HasSort, IsNode};
 ghost use Rattle.poly_graph.specs.Views.{atom_of, kind_of, node_of};
 ghost use Rattle.smt_script.specs.Views.{sort_of};
 ghost use Rattle.script_forms.specs.Terms.{same_term};
@@ -52,6 +52,16 @@ fn constant_of(node: Node) -> Option<Frac>
 {
     match node {
         Node::Const(q) => Some(q),
+        _ => None,
+    }
+}
+
+// The axis of a node.
+fn axis_of(node: Node) -> Option<u32>
+    ensures { result ≡ node_variable (node_of node) }
+{
+    match node {
+        Node::Var(axis) => Some(axis),
         _ => None,
     }
 }
@@ -156,6 +166,22 @@ impl Builder {
         ensures { option_map fraction_of_frac result ≡ as_constant (tree_of self.now k) }
     {
         constant_of(self.graph.node(k))
+    }
+
+    /// The axis of the constant of the script that a node is.
+    pub fn axis_at(&self, k: u32) -> Option<u32>
+        requires { k < length self.now.nodes }
+        ensures { result ≡ as_variable (tree_of self.now k) }
+    {
+        axis_of(self.graph.node(k))
+    }
+
+    /// The sort of the constant of this axis.
+    pub fn sort_at(&self, axis: u32) -> Sort
+        requires { axis < length self.now.sorts }
+        ensures { HasSort (sort_of result) self.now.sorts axis }
+    {
+        self.sorts[axis as usize]
     }
 
     // The constants that two nodes are, where both are.
