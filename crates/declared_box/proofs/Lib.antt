@@ -1,0 +1,10 @@
+pub mod Among
+pub mod Boxes
+pub mod Changes
+pub mod Ends
+pub mod Reals
+pub mod Same
+pub mod Sweeps
+pub mod Tables
+pub mod Tight
+pub mod Widths

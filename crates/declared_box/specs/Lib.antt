@@ -1,0 +1,7 @@
+pub mod Axes
+pub mod Interval
+pub mod Laws
+pub mod Same
+pub mod Sweep
+pub mod Table
+pub mod Views

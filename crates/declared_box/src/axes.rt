@@ -1,0 +1,118 @@
+// The axes of a script's declared constants.
+ghost use Rattle.std.specs.Prelude.{◌≡◌, ◌<◌, List, length, map, All, IfOk};
+ghost use Rattle.dyadic.specs.Point.{real_sort};
+ghost use Rattle.script_model.specs.Script.{sort_of_constant};
+ghost use Rattle.script_model.specs.Declared.{Bound};
+ghost use Rattle.poly_graph.specs.Problem as problem;
+ghost use Rattle.poly_graph.specs.Problem.{IsDeclared, sorts_of_axes};
+ghost use Rattle.poly_graph.specs.ProblemViews.{axis_of};
+ghost use Rattle.smt_script.specs.Views.{sort_of};
+ghost use Rattle.declared_box.specs.Table.{all_of, AreBefore};
+ghost use Rattle.declared_box.specs.Same.{SameBounds};
+ghost use Rattle.declared_box.specs.Views.{interval_of};
+ghost use Rattle.declared_box.specs.Axes.{constant_of, Declares, IsAxisOf, IsToldOf, Answers};
+
+use crate::fault::BoundsFault;
+use crate::interval::Interval;
+use crate::kept::is_too_wide;
+use crate::sweep::tightest;
+use crate::table::BoundTable;
+use poly_graph::{Axis, Declared};
+use smt_script::Sort;
+use smt_sexp::{Name, Place};
+use std::alloc::Global;
+
+/// A declared constant, with the place of the command that declares it.
+#[derive(Clone, Copy, Debug)]
+pub struct Constant<'a> {
+    pub place: Place,
+    pub name: &'a Name,
+    pub sort: Sort,
+}
+
+/// Why an axis has no ends.
+#[derive(Clone, Copy, Debug)]
+pub enum EndFault {
+    Missing,
+    TooWide,
+}
+
+// What is declared of a Real constant with these ends.
+fn real(ends: Interval) -> Result<Declared, EndFault>
+    ensures { Declares real_sort (interval_of ends) result }
+{
+    let Some(low) = ends.low else {
+        return Err(EndFault::Missing);
+    };
+    let Some(high) = ends.high else {
+        return Err(EndFault::Missing);
+    };
+    if is_too_wide(low) || is_too_wide(high) {
+        return Err(EndFault::TooWide);
+    }
+    Ok(Declared::Real(low, high))
+}
+
+// What is declared of a constant of this sort with these ends.
+fn declared(sort: Sort, ends: Interval) -> Result<Declared, EndFault>
+    ensures { Declares (sort_of sort) (interval_of ends) result }
+{
+    match sort {
+        Sort::Real => real(ends),
+        Sort::Bool => Ok(Declared::Bool),
+    }
+}
+
+// The fault of this constant.
+fn told(alloc: Global, constant: &Constant, fault: EndFault) -> BoundsFault
+    ensures { IsToldOf (constant_of constant.now) fault result }
+{
+    let Ok(name) = Name::from_slice(alloc, constant.name.as_slice()) else {
+        return BoundsFault::Memory;
+    };
+    let Place { line, column } = constant.place;
+    match fault {
+        EndFault::Missing => BoundsFault::NoBound { line, column, name },
+        EndFault::TooWide => BoundsFault::BoundTooWide { line, column, name },
+    }
+}
+
+// The axis of this constant with these ends.
+fn axis(alloc: Global, constant: &Constant, ends: Interval) -> Result<Axis, BoundsFault>
+    ensures { IsAxisOf (constant_of constant.now) (interval_of ends) result }
+{
+    match declared(constant.sort, ends) {
+        Ok(declared) => {
+            let name = Vec::from_slice(alloc, constant.name.as_slice())?;
+            Ok(Axis { name, declared })
+        }
+        Err(fault) => Err(told(alloc, constant, fault)),
+    }
+}
+
+/// The axes of these constants, in order: a Real one lies between the greatest lower and the least upper bound that
+/// these lists of the table give it, or between minus `bound` and `bound` where they give none.
+///
+/// # Errors
+///
+/// The first constant without an end on one side, or with an end that is no number that is kept and whose size is
+/// above 2^32; a missing end comes first.
+pub fn declare(
+    alloc: Global,
+    table: &BoundTable,
+    roots: &[u32],
+    bound: Option<u32>,
+    constants: &[Constant],
+) -> Result<Vec<Axis>, BoundsFault>
+    requires { AreBefore (length table.now) roots.now }
+    ensures answers { (bs : List Bound) → SameBounds (all_of table.now roots.now) bs → Answers bound bs (map constant_of constants.now) result }
+    ensures bounds { IfOk result (λ axes. All (λ (a : problem.Axis). IsDeclared a.declared) (map axis_of axes.items)) }
+    ensures sorts { IfOk result (λ axes. sorts_of_axes (map axis_of axes.items) ≡ map sort_of_constant (map constant_of constants.now)) }
+{
+    let intervals = tightest(alloc, table, roots, constants.len())?;
+    let mut axes = Vec::new(alloc);
+    for (k, constant) in constants.iter().enumerate() {
+        axes.push(axis(alloc, constant, intervals[k].ended(bound))?)?;
+    }
+    Ok(axes)
+}
