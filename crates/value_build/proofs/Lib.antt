@@ -1,0 +1,9 @@
+pub mod Growth
+pub mod Folds
+pub mod Weights
+pub mod Spreads
+pub mod Listing
+pub mod Operating
+pub mod Leaf
+pub mod Claimed
+pub mod Powers

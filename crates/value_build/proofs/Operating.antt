@@ -1,0 +1,375 @@
+-- What operators make of values.
+use Rattle.std.proofs.Common.{◌≡◌, ℕ, suc, zero, ◌<◌, ◌≤◌, List, [], ◌∷◌, map, length, Bool, true, false, ◌&&◌, ◌||◌, cond, true≢false, None, refl, ap, ap₂, sym, ◌∙◌, subst, arith, nat_le, nat_eq, eqb→eq}
+use Rattle.std.specs.Bool.{passes}
+use Rattle.std.specs.Prelude.{Result, Ok, Err, IsErr}
+use Rattle.std.specs.List.{All}
+use Rattle.std.specs.declared.alloc.AllocError.{AllocError}
+use Rattle.script_model.specs.Sexp.{Place}
+use Rattle.script_model.specs.Reading.{Operator, truth, falsehood, negation, conjunction, disjunction, implication, exclusive, equality, distinctness, choice, minus, plus, times, divide, at_most_op, below_op, at_least_op, above_op}
+use Rattle.script_model.specs.Declared.{Bound, Bounding, bounds, bounds_in, concat, bounding_operation}
+use Rattle.script_model.specs.Meaning.{neighbours, pairs}
+use Rattle.smt_sexp.specs.Views.{place_of}
+use Rattle.smt_sexp.specs.declared.leaf.Place as code_place
+use Rattle.poly_graph.specs.Term.{Term, eq}
+use Rattle.poly_graph.proofs.Graphs.{length_terms}
+use Rattle.script_forms.specs.Terms.{Unfolded, term, refused, ill_formed}
+use Rattle.script_forms.specs.Unfolded.{are_terms, are_formulas, at_least_long, takes, first_fault, unfolded_operation, operation_tree, chain, different, unless_refused, choice_form}
+use Rattle.script_forms.specs.Work.{operation_events, operator_events, unless_met, met}
+use Rattle.term_build.specs.Built.{Made, stand_of}
+use Rattle.term_build.specs.Sketch.{Drawn, IsSketch}
+use Rattle.term_build.specs.Steps.{Emits, IsTreeOf}
+use Rattle.term_build.specs.Pairs.{Grown, Draws, DrawsEach, Sketches, Connects, ConnectsChoice, compared, trees_at, same_of}
+use Rattle.term_build.specs.declared.connectives.Pair.{Pair}
+use Rattle.term_build.specs.declared.stop.Stop.{Stop}
+use Rattle.term_build.specs.declared.stop.Stop.TheVariants as stop
+use Rattle.term_build.specs.declared.stop.Fault.TheVariants.{IllFormed}
+use Rattle.term_build.proofs.Emits.{more_nodes, emits_fault, tree_is, tree_below}
+use Rattle.term_build.proofs.Pairs.{grown_self, grown_both, ended}
+use Rattle.term_build.proofs.Settled.{extends_self}
+use Rattle.declared_box.specs.Same.{SameBounds}
+use Rattle.declared_box.specs.Table.{list_at, all_of}
+use Rattle.declared_box.proofs.Same.{same_bounds_append}
+use Rattle.value_build.specs.Making.{Making, making, Grows, Steps}
+use Rattle.value_build.specs.Values.{Weighs, IsValue, AreValues, AreKnown, Operates}
+use Rattle.value_build.specs.Weights.{WeighsEach}
+use Rattle.value_build.specs.Arithmetic.{AreNodes, operator_of_step}
+use Rattle.value_build.specs.Bounds.{AddsList, chained_bounds}
+use Rattle.value_build.specs.Chains.{spread_over, AreTrees, ComparesEach, ConnectsEach, two_of}
+use Rattle.value_build.specs.Operators.{are_real, are_bool, node_number, pair_number, list_number, takes_of, RealsDo, RealsMake, bool_operation, bool_equality, given_bounds, ListsEach, BoolsDo}
+use Rattle.value_build.specs.declared.arithmetic.Step.{Step}
+use Rattle.value_build.specs.declared.chains.Spread.{Spread}
+use Rattle.value_build.specs.declared.chains.Spread.TheVariants.{Next}
+use Rattle.value_build.specs.declared.value.Value.{Value}
+use Rattle.value_build.specs.declared.value.Value.TheVariants as values
+use Rattle.value_build.proofs.Folds.{emits_grows}
+use Rattle.value_build.proofs.Growth.{lists_self, sketch_stays}
+use Rattle.value_build.proofs.Listing.{AreBools, bools_chain}
+use Rattle.value_build.proofs.Spreads.{spread_next}
+use Rattle.value_build.proofs.Weights.{arithmetic_weighs}
+
+-- ---- trees
+
+pub are_trees : (m : Made) (ks : List ℕ) → AreNodes m ks → AreTrees (stand_of m).trees ks
+are_trees m [] h = tt
+are_trees m (k ∷ ks) h = (omega (arith, h.0, length_terms m.nodes), are_trees m ks h.1)
+
+trees-fit : (m : Made) → length (stand_of m).trees ≤ length m.nodes
+trees-fit m = omega (arith, length_terms m.nodes)
+
+-- ---- comparisons of each two that belong together, joined
+
+pub compares_sketch : {V : Type 0} (items : V → List Pair) (s : Spread) (f : Unfolded → Unfolded → Unfolded) (m : Made) (ds ds1 : List Drawn) (ks : List ℕ) (r : Result V AllocError) → IsSketch m ds → AreNodes m ks → ComparesEach items s f ds ds1 ks r → IsSketch m ds1
+compares_sketch items s f m ds ds1 ks r k h w = (w m (stand_of m).trees k (are_trees m ks h) (trees-fit m)).sketch
+
+pub compares_joined : {V : Type 0} (items : V → List Pair) (s : Spread) (f : Unfolded → Unfolded → Unfolded) (op : List Unfolded → Unfolded) (m : Made) (ds ds1 ds2 : List Drawn) (ks : List ℕ) (links : V) (ps : List Pair) (r : Result Pair AllocError) → ps ≡ items links →
+    IsSketch m ds → AreNodes m ks → ComparesEach items s f ds ds1 ks (Ok links) → Connects op ds1 ds2 ps r → Sketches ds ds2 m (Draws (stand_of m).trees ds2 (op (spread_over s f (trees_at (stand_of m).trees ks)))) r
+compares_joined items s f op m ds ds1 ds2 ks links ps r e k h w c =
+    let ts = (stand_of m).trees in
+    let a = w m ts k (are_trees m ks h) (trees-fit m) in
+    let b = c m ts (spread_over s f (trees_at ts ks)) a.sketch (subst (λ (qs : List Pair). DrawsEach ts ds1 (spread_over s f (trees_at ts ks)) qs) (sym e) a.drawn) in
+    record { grown = grown_both ds ds1 ds2 a.grown b.grown; sketch = b.sketch; drawn = b.drawn }
+
+pub connects_ended : {V : Type 0} (items : V → List Pair) (s : Spread) (f : Unfolded → Unfolded → Unfolded) (op : List Unfolded → Unfolded) (ds ds1 : List Drawn) (qs : List Pair) (x : Result V AllocError) (r : Result Pair AllocError) → IsErr r →
+    ConnectsEach items s f ds ds1 qs x → Connects op ds ds1 qs r
+connects_ended items s f op ds ds1 qs x r is w = λ m ts us k d. let a = w m ts us k d in ended ds ds1 m (Draws ts ds1 (op us)) r is a.grown a.sketch
+
+pub connects_joined : {V : Type 0} (items : V → List Pair) (s : Spread) (f : Unfolded → Unfolded → Unfolded) (op op' : List Unfolded → Unfolded) (ds ds1 ds2 : List Drawn) (qs : List Pair) (links : V) (ps : List Pair) (r : Result Pair AllocError) → ps ≡ items links →
+    ((us : List Unfolded) → op (spread_over s f us) ≡ op' us) → ConnectsEach items s f ds ds1 qs (Ok links) → Connects op ds1 ds2 ps r → Connects op' ds ds2 qs r
+connects_joined items s f op op' ds ds1 ds2 qs links ps r e same w c = λ m ts us k d.
+    let a = w m ts us k d in
+    let b = c m ts (spread_over s f us) a.sketch (subst (λ (xs : List Pair). DrawsEach ts ds1 (spread_over s f us) xs) (sym e) a.drawn) in
+    subst (λ (u : Unfolded). Sketches ds ds2 m (Draws ts ds2 u) r) (same us) (record { grown = grown_both ds ds1 ds2 a.grown b.grown; sketch = b.sketch; drawn = b.drawn })
+
+pub equal_spread : (us : List Unfolded) → chain (spread_over Next (two_of Next) us) ≡ bool_equality us
+equal_spread us = ap chain (spread_next same_of us)
+
+-- ---- a Bool value
+
+pub bool_value : (m : Made) (ds ds2 : List Drawn) (lists lists' : List (List Bound)) (u : Unfolded) (b : Bounding) (xs ys : List Bound) (p : Pair) (k : ℕ) → Sketches ds ds2 m (Draws (stand_of m).trees ds2 u) (Ok p) → AddsList lists lists' xs (Ok k) → SameBounds xs ys → b ≡ bounds ys →
+    Steps (making m ds lists) (making m ds2 lists') [] (Ok (values.Bool p k)) (IsValue (making m ds2 lists') u b)
+bool_value m ds ds2 lists lists' u b xs ys p k s a same e = (
+  (λ claim. refl),
+  (
+    record { stand = extends_self (stand_of m); drawn = s.grown; bounds = a.0 },
+    (s.drawn, (ys, e, (a.1, subst (λ (zs : List Bound). SameBounds zs ys) (sym a.2) same))),
+  ),
+)
+
+-- ---- a Real value
+
+pub grown_same : (ds ds' : List Drawn) → ds' ≡ ds → Grown ds ds'
+grown_same ds ds' e = subst (λ (x : List Drawn). Grown ds x) (sym e) (grown_self ds)
+
+pub arithmetic_done : (s : Step) (at : Place) (m m' : Made) (ds : List Drawn) (ks : List ℕ) (k : ℕ) →
+    Emits m m' (operation_events at (operator_of_step s) (trees_at (stand_of m).trees ks)) (Ok k) (IsTreeOf m' (unfolded_operation at (operator_of_step s) (trees_at (stand_of m).trees ks))) →
+    RealsMake m ds m' ds at (operator_of_step s) ks (Ok (values.Real k))
+arithmetic_done s at m m' ds ks k e = λ lists bs h t. (
+  (λ claim. e.0 claim),
+  (
+    record {
+      stand = emits_grows (IsTreeOf m' (unfolded_operation at (operator_of_step s) (trees_at (stand_of m).trees ks))) m m' (operation_events at (operator_of_step s) (trees_at (stand_of m).trees ks)) k e;
+      drawn = grown_self ds;
+      bounds = lists_self lists;
+    },
+    (e.1.0, e.1.1, e.1.2, arithmetic_weighs s at (stand_of m).trees ks bs e.1.0 h t e.1.1),
+  ),
+)
+
+pub arithmetic_stopped : (s : Step) (at : Place) (m m' : Made) (ds ds' : List Drawn) (ks : List ℕ) (x : Stop) (P : ℕ → Type 0) →
+    Emits m m' (operation_events at (operator_of_step s) (trees_at (stand_of m).trees ks)) (Err x) P →
+    RealsMake m ds m' ds' at (operator_of_step s) ks (Err x)
+arithmetic_stopped s at m m' ds ds' ks x P e = λ lists bs h t claim. e claim
+
+pub emits_sketch : {X : Type 0} (P : X → Type 0) (m m' : Made) (ds : List Drawn) (es : _) (x : X) → Emits m m' es (Ok x) P → m'.sorts ≡ m.sorts → IsSketch m ds → IsSketch m' ds
+emits_sketch P m m' ds es x e s h = sketch_stays m m' ds (more_nodes m m' (emits_grows P m m' es x e).trees) s h
+
+pub equality_reals : (at : Place) (ts : List Term) (ks : List ℕ) → unfolded_operation at equality (trees_at ts ks) ≡ chain (neighbours (compared eq at) (trees_at ts ks))
+equality_reals at ts [] = refl
+equality_reals at ts (k ∷ ks) = refl
+
+pub distinctness_reals : (at : Place) (ts : List Term) (ks : List ℕ) → unfolded_operation at distinctness (trees_at ts ks) ≡ different (pairs (compared eq at) (trees_at ts ks))
+distinctness_reals at ts [] = refl
+distinctness_reals at ts (k ∷ ks) = refl
+
+pub equal_done : (m m' : Making) (at : Place) (ts : List Term) (ks : List ℕ) (bs : List Bounding) (r : Result Value Stop) → Steps m m' [] r (IsValue m' (chain (neighbours (compared eq at) (trees_at ts ks))) (bounds (chained_bounds eq bs))) →
+    Steps m m' [] r (IsValue m' (unfolded_operation at equality (trees_at ts ks)) (bounding_operation equality bs))
+equal_done m m' at ts ks bs r h = subst (λ (u : Unfolded). Steps m m' [] r (IsValue m' u (bounds (chained_bounds eq bs)))) (sym (equality_reals at ts ks)) h
+
+pub differ_done : (m m' : Making) (at : Place) (ts : List Term) (ks : List ℕ) (r : Result Value Stop) → Steps m m' [] r (IsValue m' (different (pairs (compared eq at) (trees_at ts ks))) (bounds [])) →
+    Steps m m' [] r (IsValue m' (unfolded_operation at distinctness (trees_at ts ks)) (bounds []))
+differ_done m m' at ts ks r h = subst (λ (u : Unfolded). Steps m m' [] r (IsValue m' u (bounds []))) (sym (distinctness_reals at ts ks)) h
+
+-- ---- Bool operators
+
+no-terms : (ts : List Term) (ds : List Drawn) (u : Unfolded) (us : List Unfolded) (ps : List Pair) → DrawsEach ts ds (u ∷ us) ps → are_terms (u ∷ us) ≡ false
+no-terms ts ds u us (p ∷ ps) h = ap (λ x. are_terms (x ∷ us)) h.0.is
+no-terms ts ds u us [] h = elim h [ ]
+
+-- no operator of Reals takes them
+no-reals : (b : Bool) (ts : List Term) (ds : List Drawn) (us : List Unfolded) (ps : List Pair) → (length us ≡ 0 → b ≡ false) → DrawsEach ts ds us ps → are_terms us && b ≡ true → ⊥
+no-reals b ts ds [] ps f h t = true≢false (sym t ∙ f refl)
+no-reals b ts ds (u ∷ us) ps f h t = true≢false (sym t ∙ ap (λ x. x && b) (no-terms ts ds u us ps h))
+
+equality-bools : (at : Place) (ts : List Term) (ds : List Drawn) (us : List Unfolded) (ps : List Pair) → DrawsEach ts ds us ps → unfolded_operation at equality us ≡ bool_operation equality us
+equality-bools at ts ds [] ps h = refl
+equality-bools at ts ds (u ∷ us) (p ∷ ps) h = ap (λ x. unfolded_operation at equality (x ∷ us)) h.0.is ∙ ap (λ x. bool_operation equality (x ∷ us)) (sym h.0.is)
+equality-bools at ts ds (u ∷ us) [] h = elim h [ ]
+
+distinctness-bools : (at : Place) (ts : List Term) (ds : List Drawn) (us : List Unfolded) (ps : List Pair) → DrawsEach ts ds us ps → nat_le 2 (length us) ≡ true → unfolded_operation at distinctness us ≡ bool_operation distinctness us
+distinctness-bools at ts ds [] ps h t = cc
+distinctness-bools at ts ds (u ∷ us) (p ∷ ps) h t = ap (λ x. unfolded_operation at distinctness (x ∷ us)) h.0.is ∙ ap (λ x. bool_operation distinctness (x ∷ us)) (sym h.0.is)
+distinctness-bools at ts ds (u ∷ us) [] h t = elim h [ ]
+
+right-true : (x y : Bool) → x && y ≡ true → y ≡ true
+right-true true y h = h
+right-true false y h = cc
+
+pub lists_same : (lists : List (List Bound)) (ns : List ℕ) (bs : List Bounding) → ListsEach lists ns bs → SameBounds (all_of lists ns) (concat (map bounds_in bs))
+lists_same lists [] [] h = tt
+lists_same lists (n ∷ ns) (b ∷ bs) h = same_bounds_append (list_at lists n) (bounds_in b) (all_of lists ns) (concat (map bounds_in bs)) (subst (λ (xs : List Bound). SameBounds (list_at lists n) xs) (sym (ap bounds_in h.0.1)) h.0.2.1) (lists_same lists ns bs h.1)
+lists_same lists [] (b ∷ bs) h = elim h [ ]
+lists_same lists (n ∷ ns) [] h = elim h [ ]
+
+pub are_bools : (lists : List (List Bound)) (ns : List ℕ) (bs : List Bounding) → ListsEach lists ns bs → AreBools bs
+are_bools lists [] [] h = tt
+are_bools lists (n ∷ ns) (b ∷ bs) h = ((h.0.0, h.0.1), are_bools lists ns bs h.1)
+are_bools lists [] (b ∷ bs) h = elim h [ ]
+are_bools lists (n ∷ ns) [] h = elim h [ ]
+
+pub record BoolFacts (op : Operator) (at : Place) (us : List Unfolded) (bs : List Bounding) (lists : List (List Bound)) (ns : List ℕ) : Type 0 where
+  pub events : operation_events at op us ≡ []
+  pub form : unfolded_operation at op us ≡ bool_operation op us
+  pub given : List Bound
+  pub bounding : bounding_operation op bs ≡ bounds given
+  pub same : SameBounds (given_bounds op lists ns) given
+
+pub bool_facts : (op : Operator) (at : Place) (ts : List Term) (ds : List Drawn) (us : List Unfolded) (ps : List Pair) (bs : List Bounding) (lists : List (List Bound)) (ns : List ℕ) → DrawsEach ts ds us ps → ListsEach lists ns bs → takes op us ≡ true →
+    BoolFacts op at us bs lists ns
+bool_facts truth at ts ds us ps bs lists ns h l t = record { events = refl; form = refl; given = []; bounding = refl; same = tt }
+bool_facts falsehood at ts ds us ps bs lists ns h l t = record { events = refl; form = refl; given = []; bounding = refl; same = tt }
+bool_facts negation at ts ds us ps bs lists ns h l t = record { events = refl; form = refl; given = []; bounding = refl; same = tt }
+bool_facts conjunction at ts ds us ps bs lists ns h l t = record { events = refl; form = refl; given = concat (map bounds_in bs); bounding = refl; same = lists_same lists ns bs l }
+bool_facts disjunction at ts ds us ps bs lists ns h l t = record { events = refl; form = refl; given = []; bounding = refl; same = tt }
+bool_facts implication at ts ds us ps bs lists ns h l t = record { events = refl; form = refl; given = []; bounding = refl; same = tt }
+bool_facts exclusive at ts ds us ps bs lists ns h l t = record { events = refl; form = refl; given = []; bounding = refl; same = tt }
+bool_facts equality at ts ds us ps bs lists ns h l t = record { events = refl; form = equality-bools at ts ds us ps h; given = []; bounding = ap (λ xs. bounds xs) (bools_chain bs (are_bools lists ns bs l)); same = tt }
+bool_facts distinctness at ts ds us ps bs lists ns h l t = record { events = refl; form = distinctness-bools at ts ds us ps h (right-true (are_formulas us || are_terms us) (at_least_long 2 us) t); given = []; bounding = refl; same = tt }
+bool_facts choice at ts ds us ps bs lists ns h l t = record { events = refl; form = refl; given = []; bounding = refl; same = tt }
+bool_facts minus at ts ds us ps bs lists ns h l t = absurd (no-reals (at_least_long 1 us) ts ds us ps (λ e. ap (λ n. nat_le 1 n) e) h t)
+bool_facts plus at ts ds us ps bs lists ns h l t = absurd (no-reals (at_least_long 1 us) ts ds us ps (λ e. ap (λ n. nat_le 1 n) e) h t)
+bool_facts times at ts ds us ps bs lists ns h l t = absurd (no-reals (at_least_long 1 us) ts ds us ps (λ e. ap (λ n. nat_le 1 n) e) h t)
+bool_facts divide at ts ds us ps bs lists ns h l t = absurd (no-reals (at_least_long 2 us) ts ds us ps (λ e. ap (λ n. nat_le 2 n) e) h t)
+bool_facts at_most_op at ts ds us ps bs lists ns h l t = absurd (no-reals (at_least_long 2 us) ts ds us ps (λ e. ap (λ n. nat_le 2 n) e) h t)
+bool_facts below_op at ts ds us ps bs lists ns h l t = absurd (no-reals (at_least_long 2 us) ts ds us ps (λ e. ap (λ n. nat_le 2 n) e) h t)
+bool_facts at_least_op at ts ds us ps bs lists ns h l t = absurd (no-reals (at_least_long 2 us) ts ds us ps (λ e. ap (λ n. nat_le 2 n) e) h t)
+bool_facts above_op at ts ds us ps bs lists ns h l t = absurd (no-reals (at_least_long 2 us) ts ds us ps (λ e. ap (λ n. nat_le 2 n) e) h t)
+
+pub bools_done : (op : Operator) (m : Made) (ds ds2 : List Drawn) (lists lists' : List (List Bound)) (ps : List Pair) (ns : List ℕ) (p : Pair) (k : ℕ) → IsSketch m ds → Connects (bool_operation op) ds ds2 ps (Ok p) → AddsList lists lists' (given_bounds op lists ns) (Ok k) →
+    (at : Place) (us : List Unfolded) (bs : List Bounding) → DrawsEach (stand_of m).trees ds us ps → ListsEach lists ns bs → takes op us ≡ true →
+    Steps (making m ds lists) (making m ds2 lists') (operation_events at op us) (Ok (values.Bool p k)) (IsValue (making m ds2 lists') (unfolded_operation at op us) (bounding_operation op bs))
+bools_done op m ds ds2 lists lists' ps ns p k s c a at us bs h l t =
+    let f = bool_facts op at (stand_of m).trees ds us ps bs lists ns h l t in
+    subst (λ es. Steps (making m ds lists) (making m ds2 lists') es (Ok (values.Bool p k)) (IsValue (making m ds2 lists') (unfolded_operation at op us) (bounding_operation op bs))) (sym f.events)
+    (bool_value m ds ds2 lists lists' (unfolded_operation at op us) (bounding_operation op bs) (given_bounds op lists ns) f.given p k
+    (subst (λ (u : Unfolded). Sketches ds ds2 m (Draws (stand_of m).trees ds2 u) (Ok p)) (sym f.form) (c m (stand_of m).trees us s h)) a f.same f.bounding)
+
+-- ---- values of one sort
+
+pub record Facts (us : List Unfolded) (vs : List Value) : Type 0 where
+  pub reals : are_terms us ≡ are_real vs
+  pub bools : are_formulas us ≡ are_bool vs
+  pub count : length us ≡ length vs
+  pub faultless : first_fault us ≡ None
+
+pub facts : (m : Making) (us : List Unfolded) (bs : List Bounding) (vs : List Value) → AreValues m us bs vs → Facts us vs
+facts m [] [] [] h = record { reals = refl; bools = refl; count = refl; faultless = refl }
+facts m (u ∷ us) (b ∷ bs) (values.Real k ∷ vs) h = let r = facts m us bs vs h.1 in
+    subst (λ (x : Unfolded). Facts (x ∷ us) (values.Real k ∷ vs)) (sym h.0.1) (record { reals = r.reals; bools = refl; count = ap suc r.count; faultless = r.faultless })
+facts m (u ∷ us) (b ∷ bs) (values.Bool p n ∷ vs) h = let r = facts m us bs vs h.1 in
+    subst (λ (x : Unfolded). Facts (x ∷ us) (values.Bool p n ∷ vs)) (sym h.0.0.is) (record { reals = refl; bools = r.bools; count = ap suc r.count; faultless = r.faultless })
+facts m [] [] (v ∷ vs) h = elim h [ ]
+facts m [] (b ∷ bs) vs h = elim h [ ]
+facts m (u ∷ us) [] vs h = elim h [ ]
+facts m (u ∷ us) (b ∷ bs) [] h = elim h [ ]
+
+takes-is : (op : Operator) (us : List Unfolded) → takes op us ≡ takes_of op (are_terms us) (are_formulas us) (length us)
+takes-is truth us = refl
+takes-is falsehood us = refl
+takes-is negation us = refl
+takes-is conjunction us = refl
+takes-is disjunction us = refl
+takes-is implication us = refl
+takes-is exclusive us = refl
+takes-is equality us = refl
+takes-is distinctness us = refl
+takes-is choice us = refl
+takes-is minus us = refl
+takes-is plus us = refl
+takes-is times us = refl
+takes-is divide us = refl
+takes-is at_most_op us = refl
+takes-is below_op us = refl
+takes-is at_least_op us = refl
+takes-is above_op us = refl
+
+pub takes_seen : (m : Making) (op : Operator) (us : List Unfolded) (bs : List Bounding) (vs : List Value) (t : Bool) → t ≡ takes_of op (are_real vs) (are_bool vs) (length vs) → AreValues m us bs vs → takes op us ≡ t
+takes_seen m op us bs vs t e h = let f = facts m us bs vs h in takes-is op us ∙ ap₂ (λ r b. takes_of op r b (length us)) f.reals f.bools ∙ ap (λ n. takes_of op (are_real vs) (are_bool vs) n) f.count ∙ sym e
+
+pub operate_refused : (m : Making) (op : Operator) (at : code_place.Place) (vs : List Value) (us : List Unfolded) (bs : List Bounding) (P : Value → Type 0) → false ≡ takes_of op (are_real vs) (are_bool vs) (length vs) → AreValues m us bs vs →
+    Steps m m (operator_events (place_of at) op us) (Err (stop.Fault at IllFormed)) P
+operate_refused m op at vs us bs P e h =
+    let f = (facts m us bs vs h).faultless in let t = takes_seen m op us bs vs false e h in
+    subst (λ es. Steps m m es (Err (stop.Fault at IllFormed)) P)
+    (sym (ap (λ o. unless_met o (cond (takes op us) (operation_events (place_of at) op us) (met (ill_formed (place_of at)) ∷ []))) f ∙ ap (λ b. cond b (operation_events (place_of at) op us) (met (ill_formed (place_of at)) ∷ [])) t))
+    (emits_fault (λ x. Grows m m × P x) m.made m.made (refused (ill_formed (place_of at))) at IllFormed refl)
+
+-- an operator that takes its arguments
+pub operate_taken : (m m' : Making) (op : Operator) (at : Place) (us : List Unfolded) (bs : List Bounding) (vs : List Value) (r : Result Value Stop) → takes op us ≡ true → AreValues m us bs vs →
+    Steps m m' (operation_events at op us) r (IsValue m' (unfolded_operation at op us) (bounding_operation op bs)) → Steps m m' (operator_events at op us) r (IsValue m' (operation_tree at op us) (bounding_operation op bs))
+operate_taken m m' op at us bs vs r t h s =
+    let f = (facts m us bs vs h).faultless in
+    subst (λ es. Steps m m' es r (IsValue m' (operation_tree at op us) (bounding_operation op bs)))
+    (sym (ap (λ o. unless_met o (cond (takes op us) (operation_events at op us) (met (ill_formed at) ∷ []))) f ∙ ap (λ b. cond b (operation_events at op us) (met (ill_formed at) ∷ [])) t))
+    (subst (λ (u : Unfolded). Steps m m' (operation_events at op us) r (IsValue m' u (bounding_operation op bs)))
+    (sym (ap (λ o. unless_refused o (cond (takes op us) (unfolded_operation at op us) (refused (ill_formed at)))) f ∙ ap (λ b. cond b (unfolded_operation at op us) (refused (ill_formed at))) t)) s)
+
+-- all Bool
+pub bools_seen : (m : Made) (ds : List Drawn) (lists : List (List Bound)) (us : List Unfolded) (bs : List Bounding) (vs : List Value) → AreValues (making m ds lists) us bs vs → are_bool vs ≡ true →
+    DrawsEach (stand_of m).trees ds us (map pair_number vs) × ListsEach lists (map list_number vs) bs
+bools_seen m ds lists [] [] [] h e = (tt, tt)
+bools_seen m ds lists (u ∷ us) (b ∷ bs) (values.Bool p n ∷ vs) h e = let r = bools_seen m ds lists us bs vs h.1 e in ((h.0.0, r.0), (h.0.1, r.1))
+bools_seen m ds lists (u ∷ us) (b ∷ bs) (values.Real k ∷ vs) h e = cc
+bools_seen m ds lists [] [] (v ∷ vs) h e = elim h [ ]
+bools_seen m ds lists [] (b ∷ bs) vs h e = elim h [ ]
+bools_seen m ds lists (u ∷ us) [] vs h e = elim h [ ]
+bools_seen m ds lists (u ∷ us) (b ∷ bs) [] h e = elim h [ ]
+
+-- all Real
+pub reals_seen : (m : Made) (ds : List Drawn) (lists : List (List Bound)) (us : List Unfolded) (bs : List Bounding) (vs : List Value) → AreValues (making m ds lists) us bs vs → are_real vs ≡ true →
+    (us ≡ trees_at (stand_of m).trees (map node_number vs)) × WeighsEach (stand_of m).trees (map node_number vs) bs × AreNodes m (map node_number vs)
+reals_seen m ds lists [] [] [] h e = (refl, tt, tt)
+reals_seen m ds lists (u ∷ us) (b ∷ bs) (values.Real k ∷ vs) h e =
+    let r = reals_seen m ds lists us bs vs h.1 e in let t = tree_is m h.0.0 k h.0.2 in (
+      ap₂ (λ x xs. x ∷ xs) (h.0.1 ∙ ap (λ (y : Term). term y) (sym t)) r.0,
+      (subst (λ (y : Term). Weighs y b) (sym t) h.0.3, r.1),
+      (tree_below m h.0.0 k h.0.2, r.2),
+    )
+reals_seen m ds lists (u ∷ us) (b ∷ bs) (values.Bool p n ∷ vs) h e = cc
+reals_seen m ds lists [] [] (v ∷ vs) h e = elim h [ ]
+reals_seen m ds lists [] (b ∷ bs) vs h e = elim h [ ]
+reals_seen m ds lists (u ∷ us) [] vs h e = elim h [ ]
+reals_seen m ds lists (u ∷ us) (b ∷ bs) [] h e = elim h [ ]
+
+left-true : (x y : Bool) → x && y ≡ true → x ≡ true
+left-true true y h = refl
+left-true false y h = cc
+
+none-true : (n : ℕ) → (n ≡ 0 → ⊥) → nat_eq n 0 ≡ true → ⊥
+none-true n f h = f (eqb→eq n 0 (passes _ h))
+
+taken-reals : (op : Operator) (r : Bool) (n : ℕ) → (n ≡ 0 → ⊥) → takes_of op r false n ≡ true → r ≡ true
+taken-reals truth r n f t = absurd (none-true n f t)
+taken-reals falsehood r n f t = absurd (none-true n f t)
+taken-reals negation r n f t = cc
+taken-reals conjunction r n f t = cc
+taken-reals disjunction r n f t = cc
+taken-reals implication r n f t = cc
+taken-reals exclusive r n f t = cc
+taken-reals equality r n f t = left-true r (nat_le 2 n) t
+taken-reals distinctness r n f t = left-true r (nat_le 2 n) t
+taken-reals choice r n f t = cc
+taken-reals minus r n f t = left-true r (nat_le 1 n) t
+taken-reals plus r n f t = left-true r (nat_le 1 n) t
+taken-reals times r n f t = left-true r (nat_le 1 n) t
+taken-reals divide r n f t = left-true r (nat_le 2 n) t
+taken-reals at_most_op r n f t = left-true r (nat_le 2 n) t
+taken-reals below_op r n f t = left-true r (nat_le 2 n) t
+taken-reals at_least_op r n f t = left-true r (nat_le 2 n) t
+taken-reals above_op r n f t = left-true r (nat_le 2 n) t
+
+some-values : (vs : List Value) → are_bool vs ≡ false → length vs ≡ 0 → ⊥
+some-values [] e n = cc
+some-values (v ∷ vs) e n = absurd (omega (arith, n))
+
+pub reals_taken : (op : Operator) (vs : List Value) → are_bool vs ≡ false → takes_of op (are_real vs) (are_bool vs) (length vs) ≡ true → are_real vs ≡ true
+reals_taken op vs e t = taken-reals op (are_real vs) (length vs) (some-values vs e) (ap (λ b. takes_of op (are_real vs) b (length vs)) (sym e) ∙ t)
+
+pub choice_three : (ds ds2 : List Drawn) (o p q : Pair) (rest : List Pair) (r : Result Pair AllocError) → ConnectsChoice ds ds2 o p q r → Connects choice_form ds ds2 (o ∷ p ∷ q ∷ rest) r
+choice_three ds ds2 o p q rest r w = λ m ts us s d. go m ts us s d
+  where
+    go : (m : Made) (ts : List Term) (us : List Unfolded) → IsSketch m ds → DrawsEach ts ds us (o ∷ p ∷ q ∷ rest) → Sketches ds ds2 m (Draws ts ds2 (choice_form us)) r
+    go m ts (c ∷ u ∷ v ∷ us) s d = w m ts c u v s d.0 d.1.0 d.1.1.0
+    go m ts [] s d = elim d [ ]
+    go m ts (c ∷ []) s d = elim d.1 [ ]
+    go m ts (c ∷ u ∷ []) s d = elim d.1.1 [ ]
+
+-- ---- an operator at values
+
+all-first : {X : Type 0} (P : X → Type 0) (x : X) (xs : List X) → P x → All P xs → All P (x ∷ xs)
+all-first P x xs p h zero d l = p
+all-first P x xs p h (suc k) d l = h k d (omega (arith, l))
+
+pub lists_below : (lists : List (List Bound)) (ns : List ℕ) (bs : List Bounding) → ListsEach lists ns bs → All (λ (k : ℕ). k < length lists) ns
+lists_below lists [] [] h = λ k d l. absurd (omega (arith, l))
+lists_below lists (n ∷ ns) (b ∷ bs) h = all-first (λ (k : ℕ). k < length lists) n ns h.0.2.0 (lists_below lists ns bs h.1)
+lists_below lists [] (b ∷ bs) h = elim h [ ]
+lists_below lists (n ∷ ns) [] h = elim h [ ]
+
+pub operate_bools : (m : Made) (ds ds' : List Drawn) (lists lists' : List (List Bound)) (op : Operator) (at : Place) (vs : List Value) (ps : List Pair) (ns : List ℕ) (r : Result Value Stop) → ps ≡ map pair_number vs → ns ≡ map list_number vs → are_bool vs ≡ true →
+    true ≡ takes_of op (are_real vs) (are_bool vs) (length vs) → BoolsDo m ds ds' lists lists' op ps ns r → Operates (making m ds lists) (making m ds' lists') at op vs r
+operate_bools m ds ds' lists lists' op at vs ps ns r e f b t w = λ us bs h.
+    let s = bools_seen m ds lists us bs vs h b in let k = takes_seen (making m ds lists) op us bs vs true t h in
+    operate_taken (making m ds lists) (making m ds' lists') op at us bs vs r k h
+    (w at us bs (subst (λ (qs : List Pair). DrawsEach (stand_of m).trees ds us qs) (sym e) s.0) (subst (λ (js : List ℕ). ListsEach lists js bs) (sym f) s.1) k)
+
+pub operate_reals : (m m' : Made) (ds ds' : List Drawn) (lists lists' : List (List Bound)) (op : Operator) (at : Place) (vs : List Value) (ks : List ℕ) (r : Result Value Stop) → ks ≡ map node_number vs → are_bool vs ≡ false →
+    true ≡ takes_of op (are_real vs) (are_bool vs) (length vs) → RealsDo (making m ds lists) (making m' ds' lists') at op ks r → Operates (making m ds lists) (making m' ds' lists') at op vs r
+operate_reals m m' ds ds' lists lists' op at vs ks r e b t w = λ us bs h.
+    let s = reals_seen m ds lists us bs vs h (reals_taken op vs b (sym t)) in let k = takes_seen (making m ds lists) op us bs vs true t h in
+    let us-is : us ≡ trees_at (stand_of m).trees ks = s.0 ∙ ap (λ js. trees_at (stand_of m).trees js) (sym e) in
+    operate_taken (making m ds lists) (making m' ds' lists') op at us bs vs r k h
+    (subst (λ (xs : List Unfolded). Steps (making m ds lists) (making m' ds' lists') (operation_events at op xs) r (IsValue (making m' ds' lists') (unfolded_operation at op xs) (bounding_operation op bs))) (sym us-is)
+    (w bs (subst (λ (js : List ℕ). WeighsEach (stand_of m).trees js bs) (sym e) s.1) (sym (ap (takes op) us-is) ∙ k)))
+
+pub nodes_there : (m : Made) (ds : List Drawn) (lists : List (List Bound)) (op : Operator) (vs : List Value) (ks : List ℕ) → AreKnown (making m ds lists) vs → ks ≡ map node_number vs → are_bool vs ≡ false → true ≡ takes_of op (are_real vs) (are_bool vs) (length vs) → AreNodes m ks
+nodes_there m ds lists op vs ks h e b t = subst (λ (js : List ℕ). AreNodes m js) (sym e) (reals_seen m ds lists h.0 h.1 vs h.2 (reals_taken op vs b (sym t))).2

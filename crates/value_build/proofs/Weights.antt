@@ -1,0 +1,376 @@
+-- Arithmetic makes of what trees say of bounds what their operator makes of the bounds: constants are folded where all
+-- arguments are constants.
+use Rattle.std.proofs.Common.{◌≡◌, ℕ, List, [], ◌∷◌, Bool, true, false, cond, Option, Some, None, refl, ap, sym, ◌∙◌, subst, arith, ◌⊎◌, inl, inr, IsTrue, ℤ, ◌≤ℤ◌}
+use borrow.Author.Differences.{ints}
+use Rattle.dyadic.specs.Fraction.{Fraction, IsFraction, zero_fraction, negated, sum_of, product_of, at_most}
+use Rattle.dyadic.specs.Lowest.{reduced, sum_fits, product_fits}
+use Rattle.dyadic.proofs.Equal.{◌≈◌, at_most_same, at_least_same, total, holds_le}
+use Rattle.script_model.specs.Sexp.{Place}
+use Rattle.script_model.specs.Reading.{Operator, minus, plus, times, divide}
+use Rattle.script_model.specs.Meaning.{Value, real, fraction_of, operation}
+use Rattle.script_model.specs.Declared.{Bounding, known, other, with_first, all_known, computed, alone, bounding_operation}
+use Rattle.script_model.proofs.Related.{Each}
+use Rattle.poly_graph.specs.Term.{Term, constant, variable, negate, add, multiply, square}
+use Rattle.script_forms.specs.Terms.{Fault, Unfolded, term, refused, constant_or, number_too_wide, ill_formed, add_tree, multiply_tree, subtract_tree, divide_tree, negate_tree, is_nought, inverse_of, zero_divisor, divisor_not_constant, same_term, steps}
+use Rattle.script_forms.specs.Unfolded.{first_fault, takes, unless_refused, operation_tree, unfolded_operation}
+use Rattle.script_forms.proofs.Means.{Means}
+use Rattle.script_forms.proofs.Meaning.{respects}
+use Rattle.term_build.specs.Steps.{as_constant, constants, added, multiplied}
+use Rattle.term_build.specs.Pairs.{tree_at, trees_at}
+use Rattle.term_build.proofs.Emits.{add_is, multiply_is}
+use Rattle.declared_box.specs.Same.{SameNumber}
+use Rattle.value_build.specs.Values.{Weighs}
+use Rattle.value_build.specs.Weights.{term_at, WeighsEach}
+use Rattle.value_build.specs.Arithmetic.{operator_of_step, tree_of_step}
+use Rattle.value_build.specs.declared.arithmetic.Step.{Step}
+use Rattle.value_build.specs.declared.arithmetic.Step.TheVariants.{Add, Subtract, Multiply, Divide}
+
+-- ---- the same number
+
+le-antisymmetric : (a b : ℤ) → a ≤ℤ b → b ≤ℤ a → a ≡ b
+le-antisymmetric a b h k = grind (arith, ints, h, k)
+
+pub same_is : (p q : Fraction) → IsTrue (at_most p q) → IsTrue (at_most q p) → p ≈ q
+unfolding at_most
+same_is p q h k = record { same = le-antisymmetric _ _ (holds_le _ _ h) (holds_le _ _ k) }
+
+reflexive : (q : Fraction) → IsTrue (at_most q q)
+reflexive q = elim (total q q) [ inl h ↦ h | inr h ↦ h ]
+
+pub is_same : (p q : Fraction) → IsFraction p → IsFraction q → p ≈ q → SameNumber p q
+is_same p q f g h = record {
+  first = f;
+  second = g;
+  below = subst (λ (b : Bool). IsTrue b) (sym (at_most_same q f g h)) (reflexive q);
+  above = subst (λ (b : Bool). IsTrue b) (sym (at_least_same q f g h)) (reflexive q);
+}
+
+-- ---- trees that are constants
+
+-- the tree is a constant whose number is known
+pub record IsKnownTree (t : Term) (b : Bounding) : Type 0 where
+  pub number : Fraction
+  pub written : Fraction
+  pub bounding : b ≡ known number
+  pub tree : t ≡ constant written
+  pub same : SameNumber number written
+
+-- or it is another, whose bounding is no number
+abbrev pub IsUnknown : Term → Bounding → Type 0
+IsUnknown t b = (as_constant t ≡ None) × ((bs : List Bounding) → all_known (b ∷ bs) ≡ None)
+
+pub known_or : (t : Term) (b : Bounding) → Weighs t b → IsKnownTree t b ⊎ IsUnknown t b
+known_or (constant q) b h = inl (record { number = h.0; written = q; bounding = h.1; tree = refl; same = h.2 })
+known_or (variable axis) b h = inr (refl, λ bs. ap (λ x. all_known (x ∷ bs)) h)
+known_or (negate t) b h = inr (refl, λ bs. ap (λ x. all_known (x ∷ bs)) h)
+known_or (add t u) b h = inr (refl, λ bs. ap (λ x. all_known (x ∷ bs)) h)
+known_or (multiply t u) b h = inr (refl, λ bs. ap (λ x. all_known (x ∷ bs)) h)
+known_or (square t) b h = inr (refl, λ bs. ap (λ x. all_known (x ∷ bs)) h)
+
+-- ---- steps
+
+-- a step is a tree, or refused; of constants it is a constant, of others no constant
+pub record IsStep (f : Term → Term → Unfolded) : Type 0 where
+  pub answers : (t u : Term) → ((r : Term) × (f t u ≡ term r)) ⊎ ((x : Fault) × (f t u ≡ refused x))
+  pub folds : (p q : Fraction) (r : Term) → f (constant p) (constant q) ≡ term r → (c : Fraction) × (r ≡ constant c)
+  pub joins : (t u r : Term) → constants t u ≡ None → f t u ≡ term r → Weighs r other
+
+term-is : (t u : Term) → term t ≡ term u → t ≡ u
+term-is t u e = cc
+
+constant-or-answers : (at : Place) (b : Bool) (q : Fraction) → ((r : Term) × (constant_or at b q ≡ term r)) ⊎ ((x : Fault) × (constant_or at b q ≡ refused x))
+constant-or-answers at true q = inl (constant (reduced q), refl)
+constant-or-answers at false q = inr (number_too_wide at, refl)
+
+constant-or-folds : (at : Place) (b : Bool) (q : Fraction) (r : Term) → constant_or at b q ≡ term r → (c : Fraction) × (r ≡ constant c)
+constant-or-folds at true q r e = (reduced q, sym (term-is (constant (reduced q)) r e))
+constant-or-folds at false q r e = cc
+
+added-answers : (at : Place) (t u : Term) (o : Option (Fraction × Fraction)) → ((r : Term) × (added at t u o ≡ term r)) ⊎ ((x : Fault) × (added at t u o ≡ refused x))
+added-answers at t u None = inl (add t u, refl)
+added-answers at t u (Some (p, q)) = constant-or-answers at (sum_fits p q) (sum_of p q)
+
+is-answer : (u v : Unfolded) → u ≡ v → ((r : Term) × (v ≡ term r)) ⊎ ((x : Fault) × (v ≡ refused x)) → ((r : Term) × (u ≡ term r)) ⊎ ((x : Fault) × (u ≡ refused x))
+is-answer u v e h = subst (λ (w : Unfolded). ((r : Term) × (w ≡ term r)) ⊎ ((x : Fault) × (w ≡ refused x))) (sym e) h
+
+pub add_step : (at : Place) → IsStep (add_tree at)
+add_step at = record {
+  answers = λ t u. is-answer (add_tree at t u) (added at t u (constants t u)) (add_is at t u) (added-answers at t u (constants t u));
+  folds = λ p q r e. constant-or-folds at (sum_fits p q) (sum_of p q) r e;
+  joins = λ t u r n e. subst (λ (x : Term). Weighs x other) (term-is (add t u) r (sym (ap (added at t u) n) ∙ sym (add_is at t u) ∙ e)) refl;
+}
+
+multiplied-answers : (at : Place) (t u : Term) (o : Option (Fraction × Fraction)) → ((r : Term) × (multiplied at t u o ≡ term r)) ⊎ ((x : Fault) × (multiplied at t u o ≡ refused x))
+multiplied-answers at t u None = inl (cond (same_term t u) (square t) (multiply t u), refl)
+multiplied-answers at t u (Some (p, q)) = constant-or-answers at (product_fits p q) (product_of p q)
+
+product-weighs : (b : Bool) (t u : Term) → Weighs (cond b (square t) (multiply t u)) other
+product-weighs true t u = refl
+product-weighs false t u = refl
+
+pub multiply_step : (at : Place) → IsStep (multiply_tree at)
+multiply_step at = record {
+  answers = λ t u. is-answer (multiply_tree at t u) (multiplied at t u (constants t u)) (multiply_is at t u) (multiplied-answers at t u (constants t u));
+  folds = λ p q r e. constant-or-folds at (product_fits p q) (product_of p q) r e;
+  joins = λ t u r n e. subst (λ (x : Term). Weighs x other) (term-is (cond (same_term t u) (square t) (multiply t u)) r (sym (ap (multiplied at t u) n) ∙ sym (multiply_is at t u) ∙ e)) (product-weighs (same_term t u) t u);
+}
+
+opposite-apart : (t u : Term) → constants t u ≡ None → constants t (negate_tree u) ≡ None
+opposite-apart (constant p) (constant q) e = cc
+opposite-apart (constant p) (variable i) e = refl
+opposite-apart (constant p) (negate u) e = refl
+opposite-apart (constant p) (add u v) e = refl
+opposite-apart (constant p) (multiply u v) e = refl
+opposite-apart (constant p) (square u) e = refl
+opposite-apart (variable i) u e = refl
+opposite-apart (negate t) u e = refl
+opposite-apart (add t t') u e = refl
+opposite-apart (multiply t t') u e = refl
+opposite-apart (square t) u e = refl
+
+pub subtract_step : (at : Place) → IsStep (subtract_tree at)
+subtract_step at = record {
+  answers = λ t u. (add_step at).answers t (negate_tree u);
+  folds = λ p q r e. (add_step at).folds p (negated q) r e;
+  joins = λ t u r n e. (add_step at).joins t (negate_tree u) r (opposite-apart t u n) e;
+}
+
+quotient-answers : (at : Place) (t : Term) (q : Fraction) (b : Bool) → let u = cond b (refused (zero_divisor at)) (multiply_tree at t (constant (inverse_of q))) in ((r : Term) × (u ≡ term r)) ⊎ ((x : Fault) × (u ≡ refused x))
+quotient-answers at t q true = inr (zero_divisor at, refl)
+quotient-answers at t q false = (multiply_step at).answers t (constant (inverse_of q))
+
+divide-answers : (at : Place) (t u : Term) → ((r : Term) × (divide_tree at t u ≡ term r)) ⊎ ((x : Fault) × (divide_tree at t u ≡ refused x))
+divide-answers at t (constant q) = quotient-answers at t q (is_nought q)
+divide-answers at t (variable i) = inr (divisor_not_constant at, refl)
+divide-answers at t (negate u) = inr (divisor_not_constant at, refl)
+divide-answers at t (add u v) = inr (divisor_not_constant at, refl)
+divide-answers at t (multiply u v) = inr (divisor_not_constant at, refl)
+divide-answers at t (square u) = inr (divisor_not_constant at, refl)
+
+quotient-folds : (at : Place) (p q : Fraction) (r : Term) (b : Bool) → cond b (refused (zero_divisor at)) (multiply_tree at (constant p) (constant (inverse_of q))) ≡ term r → (c : Fraction) × (r ≡ constant c)
+quotient-folds at p q r true e = cc
+quotient-folds at p q r false e = (multiply_step at).folds p (inverse_of q) r e
+
+quotient-joins : (at : Place) (t : Term) (q : Fraction) (r : Term) (b : Bool) → constants t (constant (inverse_of q)) ≡ None → cond b (refused (zero_divisor at)) (multiply_tree at t (constant (inverse_of q))) ≡ term r → Weighs r other
+quotient-joins at t q r true n e = cc
+quotient-joins at t q r false n e = (multiply_step at).joins t (constant (inverse_of q)) r n e
+
+other-constant : (t : Term) (p q : Fraction) → constants t (constant p) ≡ None → constants t (constant q) ≡ None
+other-constant (constant c) p q e = cc
+other-constant (variable i) p q e = refl
+other-constant (negate t) p q e = refl
+other-constant (add t u) p q e = refl
+other-constant (multiply t u) p q e = refl
+other-constant (square t) p q e = refl
+
+divide-joins : (at : Place) (t u r : Term) → constants t u ≡ None → divide_tree at t u ≡ term r → Weighs r other
+divide-joins at t (constant q) r n e = quotient-joins at t q r (is_nought q) (other-constant t q (inverse_of q) n) e
+divide-joins at t (variable i) r n e = cc
+divide-joins at t (negate u) r n e = cc
+divide-joins at t (add u v) r n e = cc
+divide-joins at t (multiply u v) r n e = cc
+divide-joins at t (square u) r n e = cc
+
+pub divide_step : (at : Place) → IsStep (divide_tree at)
+divide_step at = record { answers = divide-answers at; folds = λ p q r e. quotient-folds at p q r (is_nought q) e; joins = divide-joins at }
+
+pub is_step : (s : Step) (at : Place) → IsStep (tree_of_step s at)
+is_step Add at = add_step at
+is_step Subtract at = subtract_step at
+is_step Multiply at = multiply_step at
+is_step Divide at = divide_step at
+
+-- ---- several steps
+
+refused-steps : (f : Term → Term → Unfolded) (x : Fault) (us : List Unfolded) → steps f (refused x) us ≡ refused x
+refused-steps f x [] = refl
+refused-steps f x (u ∷ us) = refused-steps f x us
+
+-- the next step is a tree too, where all are
+next-tree : (f : Term → Term → Unfolded) → IsStep f → (t u : Term) (us : List Unfolded) (r : Term) → steps f (f t u) us ≡ term r → (s : Term) × (f t u ≡ term s) × (steps f (term s) us ≡ term r)
+next-tree f i t u us r e = elim (i.answers t u) [
+  | inl h ↦ (h.0, h.1, ap (λ x. steps f x us) (sym h.1) ∙ e)
+  | inr h ↦ let k : refused h.0 ≡ term r = sym (refused-steps f h.0 us) ∙ ap (λ x. steps f x us) (sym h.1) ∙ e in cc
+]
+
+apart-left : (t u : Term) → as_constant t ≡ None → constants t u ≡ None
+apart-left (constant c) u e = cc
+apart-left (variable i) u e = refl
+apart-left (negate t) u e = refl
+apart-left (add t t') u e = refl
+apart-left (multiply t t') u e = refl
+apart-left (square t) u e = refl
+
+apart-right : (p : Fraction) (u : Term) → as_constant u ≡ None → constants (constant p) u ≡ None
+apart-right p (constant c) e = cc
+apart-right p (variable i) e = refl
+apart-right p (negate t) e = refl
+apart-right p (add t t') e = refl
+apart-right p (multiply t t') e = refl
+apart-right p (square t) e = refl
+
+other-apart : (t : Term) → Weighs t other → as_constant t ≡ None
+other-apart (constant c) h = let e = h.1 in cc
+other-apart (variable i) h = refl
+other-apart (negate t) h = refl
+other-apart (add t u) h = refl
+other-apart (multiply t u) h = refl
+other-apart (square t) h = refl
+
+other-steps : (f : Term → Term → Unfolded) → IsStep f → (ts : List Term) (t : Term) (ks : List ℕ) (r : Term) → Weighs t other → steps f (term t) (trees_at ts ks) ≡ term r → Weighs r other
+other-steps f i ts t [] r h e = subst (λ (x : Term). Weighs x other) (term-is t r e) h
+other-steps f i ts t (k ∷ ks) r h e = let n = next-tree f i t (term_at ts k) (trees_at ts ks) r e in
+    other-steps f i ts n.0 ks r (i.joins t (term_at ts k) n.0 (apart-left t (term_at ts k) (other-apart t h)) n.1) n.2
+
+-- a first step of trees that are not both constants
+apart-steps : (f : Term → Term → Unfolded) → IsStep f → (ts : List Term) (t : Term) (k : ℕ) (ks : List ℕ) (r : Term) → constants t (term_at ts k) ≡ None → steps f (term t) (trees_at ts (k ∷ ks)) ≡ term r → Weighs r other
+apart-steps f i ts t k ks r n e = let m = next-tree f i t (term_at ts k) (trees_at ts ks) r e in other-steps f i ts m.0 ks r (i.joins t (term_at ts k) m.0 n m.1) m.2
+
+-- from a constant on, where all that follows is known
+first-none : (q : Fraction) (x : Option (List Value)) → with_first q x ≡ None → x ≡ None
+first-none q None e = refl
+first-none q (Some qs) e = cc
+
+first-some : (q : Fraction) (x : Option (List Value)) (qs : List Value) → with_first q x ≡ Some qs → (rest : List Value) × (x ≡ Some rest) × (qs ≡ real q ∷ rest)
+first-some q None qs e = cc
+first-some q (Some rest) qs e = (rest, refl, cc)
+
+known-steps : (f : Term → Term → Unfolded) → IsStep f → (ts : List Term) (p : Fraction) (ks : List ℕ) (bs : List Bounding) (qs : List Value) (r : Term) → WeighsEach ts ks bs → all_known bs ≡ Some qs →
+    steps f (term (constant p)) (trees_at ts ks) ≡ term r → (c : Fraction) × (r ≡ constant c)
+known-steps f i ts p [] [] qs r h a e = (p, sym (term-is (constant p) r e))
+known-steps f i ts p (k ∷ ks) (b ∷ bs) qs r h a e = let n = next-tree f i (constant p) (term_at ts k) (trees_at ts ks) r e in
+    elim (known_or (term_at ts k) b h.0) [
+      | inl w ↦ let d = i.folds p w.written n.0 (ap (λ x. f (constant p) x) (sym w.tree) ∙ n.1) in
+          let s = first-some w.number (all_known bs) qs (ap (λ x. all_known (x ∷ bs)) (sym w.bounding) ∙ a) in
+          known-steps f i ts d.0 ks bs s.0 r h.1 s.1 (ap (λ x. steps f (term x) (trees_at ts ks)) (sym d.1) ∙ n.2)
+      | inr w ↦ let o = w.1 bs in cc
+    ]
+known-steps f i ts p [] (b ∷ bs) qs r h a e = elim h [ ]
+known-steps f i ts p (k ∷ ks) [] qs r h a e = elim h [ ]
+
+unknown-steps : (f : Term → Term → Unfolded) → IsStep f → (ts : List Term) (p : Fraction) (ks : List ℕ) (bs : List Bounding) (r : Term) → WeighsEach ts ks bs → all_known bs ≡ None →
+    steps f (term (constant p)) (trees_at ts ks) ≡ term r → Weighs r other
+unknown-steps f i ts p [] [] r h a e = cc
+unknown-steps f i ts p (k ∷ ks) (b ∷ bs) r h a e = elim (known_or (term_at ts k) b h.0) [
+  | inl w ↦ let n = next-tree f i (constant p) (term_at ts k) (trees_at ts ks) r e in
+      let d = i.folds p w.written n.0 (ap (λ x. f (constant p) x) (sym w.tree) ∙ n.1) in
+      unknown-steps f i ts d.0 ks bs r h.1 (first-none w.number (all_known bs) (ap (λ x. all_known (x ∷ bs)) (sym w.bounding) ∙ a)) (ap (λ x. steps f (term x) (trees_at ts ks)) (sym d.1) ∙ n.2)
+  | inr w ↦ apart-steps f i ts (constant p) k ks r (apart-right p (term_at ts k) w.0) e
+]
+unknown-steps f i ts p [] (b ∷ bs) r h a e = elim h [ ]
+unknown-steps f i ts p (k ∷ ks) [] r h a e = elim h [ ]
+
+-- of two trees and more, all known
+pub all_constant : (f : Term → Term → Unfolded) → IsStep f → (ts : List Term) (k : ℕ) (ks : List ℕ) (bs : List Bounding) (qs : List Value) (r : Term) → WeighsEach ts (k ∷ ks) bs → all_known bs ≡ Some qs →
+    steps f (tree_at ts k) (trees_at ts ks) ≡ term r → (c : Fraction) × (r ≡ constant c)
+all_constant f i ts k ks (b ∷ bs) qs r h a e = elim (known_or (term_at ts k) b h.0) [
+  | inl w ↦ let s = first-some w.number (all_known bs) qs (ap (λ x. all_known (x ∷ bs)) (sym w.bounding) ∙ a) in
+      known-steps f i ts w.written ks bs s.0 r h.1 s.1 (ap (λ x. steps f (term x) (trees_at ts ks)) (sym w.tree) ∙ e)
+  | inr w ↦ let o = w.1 bs in cc
+]
+all_constant f i ts k ks [] qs r h a e = elim h [ ]
+
+-- not all known
+pub not_constant : (f : Term → Term → Unfolded) → IsStep f → (ts : List Term) (k j : ℕ) (ks : List ℕ) (bs : List Bounding) (r : Term) → WeighsEach ts (k ∷ j ∷ ks) bs → all_known bs ≡ None →
+    steps f (tree_at ts k) (trees_at ts (j ∷ ks)) ≡ term r → Weighs r other
+not_constant f i ts k j ks (b ∷ bs) r h a e = elim (known_or (term_at ts k) b h.0) [
+  | inl w ↦ unknown-steps f i ts w.written (j ∷ ks) bs r h.1 (first-none w.number (all_known bs) (ap (λ x. all_known (x ∷ bs)) (sym w.bounding) ∙ a)) (ap (λ x. steps f (term x) (trees_at ts (j ∷ ks))) (sym w.tree) ∙ e)
+  | inr w ↦ apart-steps f i ts (term_at ts k) j ks r (apart-left (term_at ts k) (term_at ts j) w.0) e
+]
+not_constant f i ts k j ks [] r h a e = elim h [ ]
+
+-- ---- values
+
+means-each : (ts : List Term) (ks : List ℕ) (bs : List Bounding) (qs : List Value) → WeighsEach ts ks bs → all_known bs ≡ Some qs → Each (Means zero_fraction []) qs (trees_at ts ks)
+means-each ts [] [] qs h a = subst (λ (vs : List Value). Each (Means zero_fraction []) vs []) (some-is a) tt
+  where
+    some-is : {xs ys : List Value} → Some xs ≡ Some ys → xs ≡ ys
+    some-is e = cc
+means-each ts (k ∷ ks) (b ∷ bs) qs h a = elim (known_or (term_at ts k) b h.0) [
+  | inl w ↦ let s = first-some w.number (all_known bs) qs (ap (λ x. all_known (x ∷ bs)) (sym w.bounding) ∙ a) in
+      subst (λ (vs : List Value). Each (Means zero_fraction []) vs (trees_at ts (k ∷ ks))) (sym s.2) (
+        subst (λ (t : Term). Means zero_fraction [] (real w.number) (term t)) (sym w.tree)
+            (record { one = w.same.first; other = w.same.second; equal = same_is w.number w.written w.same.below w.same.above }),
+        means-each ts ks bs s.0 h.1 s.1,
+      )
+  | inr w ↦ let o = w.1 bs in cc
+]
+means-each ts [] (b ∷ bs) qs h a = elim h [ ]
+means-each ts (k ∷ ks) [] qs h a = elim h [ ]
+
+pub no_fault : (ts : List Term) (ks : List ℕ) → first_fault (trees_at ts ks) ≡ None
+no_fault ts [] = refl
+no_fault ts (k ∷ ks) = no_fault ts ks
+
+pub operation_is : (at : Place) (op : Operator) (us : List Unfolded) → first_fault us ≡ None → takes op us ≡ true → operation_tree at op us ≡ unfolded_operation at op us
+operation_is at op us f t = ap (λ o. unless_refused o (cond (takes op us) (unfolded_operation at op us) (refused (ill_formed at)))) f ∙ ap (λ b. cond b (unfolded_operation at op us) (refused (ill_formed at))) t
+
+-- the value of a constant that was made
+value-of : (v : Value) (c : Fraction) → Means zero_fraction [] (real (fraction_of v)) (term (constant c)) → Weighs (constant c) (known (fraction_of v))
+value-of v c h = (fraction_of v, refl, is_same (fraction_of v) c h.one h.other h.equal)
+
+real-of : (v : Value) (u : Unfolded) (q : Fraction) → v ≡ real q → Means zero_fraction [] v u → Means zero_fraction [] (real (fraction_of v)) u
+real-of v u q e h = subst (λ (w : Value). Means zero_fraction [] (real (fraction_of w)) u) (sym e) (subst (λ (w : Value). Means zero_fraction [] w u) e h)
+
+is-real : (s : Step) (qs : List Value) → (q : Fraction) × (operation zero_fraction (operator_of_step s) qs ≡ real q)
+is-real Add qs = (fraction_of (operation zero_fraction plus qs), refl)
+is-real Subtract qs = (fraction_of (operation zero_fraction minus qs), refl)
+is-real Multiply qs = (fraction_of (operation zero_fraction times qs), refl)
+is-real Divide qs = (fraction_of (operation zero_fraction divide qs), refl)
+
+-- the number of constants that were folded
+folded : (s : Step) (at : Place) (ts : List Term) (ks : List ℕ) (bs : List Bounding) (qs : List Value) (r : Term) (c : Fraction) → WeighsEach ts ks bs → all_known bs ≡ Some qs → takes (operator_of_step s) (trees_at ts ks) ≡ true →
+    unfolded_operation at (operator_of_step s) (trees_at ts ks) ≡ term r → r ≡ constant c → Weighs r (known (fraction_of (operation zero_fraction (operator_of_step s) qs)))
+folded s at ts ks bs qs r c h a t e d =
+    let op = operator_of_step s in let v = operation zero_fraction op qs in
+    let m = (respects zero_fraction []).apply at op qs (trees_at ts ks) (means-each ts ks bs qs h a) in
+    let u : operation_tree at op (trees_at ts ks) ≡ term (constant c) = operation_is at op (trees_at ts ks) (no_fault ts ks) t ∙ e ∙ ap (λ (x : Term). term x) d in
+    subst (λ (x : Term). Weighs x (known (fraction_of v))) (sym d)
+    (value-of v c (real-of v (term (constant c)) (is-real s qs).0 (is-real s qs).1 (subst (λ (w : Unfolded). Means zero_fraction [] v w) u m)))
+
+-- of two trees and more
+several : (s : Step) (at : Place) (ts : List Term) (k j : ℕ) (ks : List ℕ) (bs : List Bounding) (r : Term) → WeighsEach ts (k ∷ j ∷ ks) bs → takes (operator_of_step s) (trees_at ts (k ∷ j ∷ ks)) ≡ true →
+    unfolded_operation at (operator_of_step s) (trees_at ts (k ∷ j ∷ ks)) ≡ steps (tree_of_step s at) (tree_at ts k) (trees_at ts (j ∷ ks)) →
+    unfolded_operation at (operator_of_step s) (trees_at ts (k ∷ j ∷ ks)) ≡ term r → (x : Option (List Value)) → all_known bs ≡ x → Weighs r (computed (operator_of_step s) x)
+several s at ts k j ks bs r h t g e None a = not_constant (tree_of_step s at) (is_step s at) ts k j ks bs r h a (sym g ∙ e)
+several s at ts k j ks bs r h t g e (Some qs) a = let d = all_constant (tree_of_step s at) (is_step s at) ts k (j ∷ ks) bs qs r h a (sym g ∙ e) in
+    folded s at ts (k ∷ j ∷ ks) bs qs r d.0 h a t e d.1
+
+-- the opposite of one tree
+opposite-weighs : (t : Term) → as_constant t ≡ None → Weighs (negate_tree t) other
+opposite-weighs (constant c) e = cc
+opposite-weighs (variable i) e = refl
+opposite-weighs (negate t) e = refl
+opposite-weighs (add t u) e = refl
+opposite-weighs (multiply t u) e = refl
+opposite-weighs (square t) e = refl
+
+opposite : (at : Place) (ts : List Term) (k : ℕ) (b : Bounding) (r : Term) → Weighs (term_at ts k) b → negate_tree (term_at ts k) ≡ r → Weighs r (computed minus (all_known (b ∷ [])))
+opposite at ts k b r h e = elim (known_or (term_at ts k) b h) [
+  | inl w ↦ let a : all_known (b ∷ []) ≡ Some (real w.number ∷ []) = ap (λ x. all_known (x ∷ [])) w.bounding in
+      subst (λ (x : Option (List Value)). Weighs r (computed minus x)) (sym a)
+      (folded Subtract at ts (k ∷ []) (b ∷ []) (real w.number ∷ []) r (negated w.written) (h, tt) a refl (ap (λ (x : Term). term x) e) (sym e ∙ ap negate_tree w.tree))
+  | inr w ↦ subst (λ (x : Option (List Value)). Weighs r (computed minus x)) (sym (w.1 [])) (subst (λ (x : Term). Weighs x other) e (opposite-weighs (term_at ts k) w.0))
+]
+
+alone-weighs : (op : Operator) (ts : List Term) (k : ℕ) (b : Bounding) (r : Term) → Weighs (term_at ts k) b → tree_at ts k ≡ term r → Weighs r (alone op (b ∷ []))
+alone-weighs op ts k b r h e = subst (λ (x : Term). Weighs x b) (term-is (term_at ts k) r e) h
+
+pub arithmetic_weighs : (s : Step) (at : Place) (ts : List Term) (ks : List ℕ) (bs : List Bounding) (r : Term) → WeighsEach ts ks bs → takes (operator_of_step s) (trees_at ts ks) ≡ true →
+    unfolded_operation at (operator_of_step s) (trees_at ts ks) ≡ term r → Weighs r (bounding_operation (operator_of_step s) bs)
+arithmetic_weighs Add at ts (k ∷ []) (b ∷ []) r h t e = alone-weighs plus ts k b r h.0 e
+arithmetic_weighs Multiply at ts (k ∷ []) (b ∷ []) r h t e = alone-weighs times ts k b r h.0 e
+arithmetic_weighs Subtract at ts (k ∷ []) (b ∷ []) r h t e = opposite at ts k b r h.0 (term-is (negate_tree (term_at ts k)) r e)
+arithmetic_weighs Divide at ts (k ∷ []) bs r h t e = cc
+arithmetic_weighs Add at ts (k ∷ j ∷ ks) (b ∷ b' ∷ bs) r h t e = several Add at ts k j ks (b ∷ b' ∷ bs) r h t refl e (all_known (b ∷ b' ∷ bs)) refl
+arithmetic_weighs Subtract at ts (k ∷ j ∷ ks) (b ∷ b' ∷ bs) r h t e = several Subtract at ts k j ks (b ∷ b' ∷ bs) r h t refl e (all_known (b ∷ b' ∷ bs)) refl
+arithmetic_weighs Multiply at ts (k ∷ j ∷ ks) (b ∷ b' ∷ bs) r h t e = several Multiply at ts k j ks (b ∷ b' ∷ bs) r h t refl e (all_known (b ∷ b' ∷ bs)) refl
+arithmetic_weighs Divide at ts (k ∷ j ∷ ks) (b ∷ b' ∷ bs) r h t e = several Divide at ts k j ks (b ∷ b' ∷ bs) r h t refl e (all_known (b ∷ b' ∷ bs)) refl
+arithmetic_weighs s at ts (k ∷ []) [] r h t e = elim h [ ]
+arithmetic_weighs s at ts (k ∷ []) (b ∷ b' ∷ bs) r h t e = elim h.1 [ ]
+arithmetic_weighs s at ts (k ∷ j ∷ ks) [] r h t e = elim h [ ]
+arithmetic_weighs s at ts (k ∷ j ∷ ks) (b ∷ []) r h t e = elim h.1 [ ]
+arithmetic_weighs Add at ts [] bs r h t e = cc
+arithmetic_weighs Subtract at ts [] bs r h t e = cc
+arithmetic_weighs Multiply at ts [] bs r h t e = cc
+arithmetic_weighs Divide at ts [] bs r h t e = cc

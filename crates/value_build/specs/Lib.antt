@@ -1,0 +1,9 @@
+pub mod Making
+pub mod Values
+pub mod Arithmetic
+pub mod Weights
+pub mod Chains
+pub mod Bounds
+pub mod Operators
+pub mod Leaves
+pub mod Claiming

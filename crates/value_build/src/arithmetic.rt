@@ -1,0 +1,84 @@
+// Sums, differences, products and quotients of several trees.
+ghost use Rattle.std.specs.Prelude.{◌≡◌, ◌<◌, ◌∷◌, length};
+ghost use Rattle.smt_sexp.specs.Views.{place_of};
+ghost use Rattle.script_forms.specs.Terms.{steps};
+ghost use Rattle.script_forms.specs.Unfolded.{unfolded_operation};
+ghost use Rattle.script_forms.specs.Work.{operation_events, steps_events};
+ghost use Rattle.term_build.specs.Built.{stand_of};
+ghost use Rattle.term_build.specs.Pairs.{tree_at, trees_at};
+ghost use Rattle.term_build.specs.Steps.{Emits, IsTreeOf, tree_of};
+ghost use Rattle.value_build.specs.Arithmetic.{AreNodes, events_of_step, is_difference, operator_of_step, tree_of_step};
+
+use smt_sexp::Place;
+use term_build::{Builder, Stop};
+
+/// A step of two trees.
+#[derive(Clone, Copy, Debug, PartialEq, Eq)]
+pub(crate) enum Step {
+    Add,
+    Subtract,
+    Multiply,
+    Divide,
+}
+
+// One step of two trees.
+fn apply(builder: &mut Builder, at: Place, step: Step, a: u32, b: u32) -> Result<u32, Stop>
+    requires first { a < length builder.old.nodes }
+    requires second { b < length builder.old.nodes }
+    ensures does { let t = tree_of builder.old a in let u = tree_of builder.old b in Emits builder.old builder.new (events_of_step step (place_of at) t u) result (IsTreeOf builder.new (tree_of_step step (place_of at) t u)) }
+    ensures sorts { builder.new.sorts ≡ builder.old.sorts }
+{
+    match step {
+        Step::Add => builder.add(at, a, b),
+        Step::Subtract => builder.subtract(at, a, b),
+        Step::Multiply => builder.multiply(at, a, b),
+        Step::Divide => builder.divide(at, a, b),
+    }
+}
+
+// What the steps make of a first tree and these, from the left.
+fn fold(builder: &mut Builder, at: Place, step: Step, first: u32, rest: &[u32]) -> Result<u32, Stop>
+    requires first { first < length builder.old.nodes }
+    requires rest { AreNodes builder.old rest.now }
+    ensures does { let ts = (stand_of builder.old).trees in let f = tree_of_step step (place_of at) in let g = events_of_step step (place_of at) in
+        Emits builder.old builder.new (steps_events f g (tree_at ts first) (trees_at ts rest.now)) result (IsTreeOf builder.new (steps f (tree_at ts first) (trees_at ts rest.now))) }
+    ensures sorts { builder.new.sorts ≡ builder.old.sorts }
+{
+    let mut so_far = first;
+    let mut left = rest;
+    while let Some((next, later)) = left.split_first() {
+        so_far = apply(builder, at, step, so_far, *next)?;
+        left = later;
+    }
+    Ok(so_far)
+}
+
+// Whether the step is that of differences.
+fn is_difference(step: Step) -> bool
+    ensures { result ≡ is_difference step }
+{
+    matches!(step, Step::Subtract)
+}
+
+/// What an arithmetic operator makes of trees, of which there are some: the opposite of one tree for a difference, else
+/// the steps from the left.
+pub(crate) fn calculate(
+    builder: &mut Builder,
+    at: Place,
+    step: Step,
+    nodes: &[u32],
+) -> Result<u32, Stop>
+    requires some { 0 < length nodes.now }
+    requires nodes { AreNodes builder.old nodes.now }
+    ensures does { let us = trees_at (stand_of builder.old).trees nodes.now in let op = operator_of_step step in
+        Emits builder.old builder.new (operation_events (place_of at) op us) result (IsTreeOf builder.new (unfolded_operation (place_of at) op us)) }
+    ensures sorts { builder.new.sorts ≡ builder.old.sorts }
+{
+    let Some((first, rest)) = nodes.split_first() else {
+        return Err(Stop::Memory);
+    };
+    if is_difference(step) && rest.is_empty() {
+        return builder.negate(*first);
+    }
+    fold(builder, at, step, *first, rest)
+}

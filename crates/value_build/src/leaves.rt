@@ -1,0 +1,73 @@
+// The values of literals and declared constants.
+ghost use Rattle.std.specs.Prelude.{◌≡◌, map};
+ghost use Rattle.dyadic.specs.Point.{bool_sort, real_sort};
+ghost use Rattle.dyadic.specs.Views.{fraction_of_frac};
+ghost use Rattle.poly_graph.specs.Problem.{HasSort};
+ghost use Rattle.poly_graph.specs.Term.{constant, variable};
+ghost use Rattle.term_build.specs.Shapes.{drawn_of};
+ghost use Rattle.term_build.specs.Sketch.{IsSketch};
+ghost use Rattle.value_build.specs.Leaves.{MakesSwitch, MakesTree};
+
+use crate::operate::{give_up, no_bounds};
+use crate::value::Value;
+use declared_box::BoundTable;
+use dyadic::Frac;
+use poly_graph::Node;
+use std::alloc::Global;
+use term_build::{Builder, Drawn, Pair, Stop};
+
+/// A constant number.
+pub(crate) fn number(
+    builder: &mut Builder,
+    sketch: &mut Vec<Drawn>,
+    number: Frac,
+) -> Result<Value, Stop>
+    requires sketched { IsSketch builder.old (map drawn_of sketch.old.items) }
+    ensures does { MakesTree builder.old (map drawn_of sketch.old.items) builder.new (map drawn_of sketch.new.items) (constant (fraction_of_frac number)) result }
+    ensures sketched { IsSketch builder.new (map drawn_of sketch.new.items) }
+    ensures sorts { builder.new.sorts ≡ builder.old.sorts }
+{
+    match builder.make(Node::Const(number)) {
+        Ok(node) => Ok(Value::Real(node)),
+        Err(stop) => {
+            give_up(sketch);
+            Err(stop)
+        }
+    }
+}
+
+/// A Real constant of the script.
+pub(crate) fn real(builder: &mut Builder, sketch: &mut Vec<Drawn>, axis: u32) -> Result<Value, Stop>
+    requires sort { HasSort real_sort builder.old.sorts axis }
+    requires sketched { IsSketch builder.old (map drawn_of sketch.old.items) }
+    ensures does { MakesTree builder.old (map drawn_of sketch.old.items) builder.new (map drawn_of sketch.new.items) (variable axis) result }
+    ensures sketched { IsSketch builder.new (map drawn_of sketch.new.items) }
+    ensures sorts { builder.new.sorts ≡ builder.old.sorts }
+{
+    match builder.make(Node::Var(axis)) {
+        Ok(node) => Ok(Value::Real(node)),
+        Err(stop) => {
+            give_up(sketch);
+            Err(stop)
+        }
+    }
+}
+
+/// A Bool constant of the script.
+pub(crate) fn switch(
+    alloc: Global,
+    builder: &Builder,
+    sketch: &mut Vec<Drawn>,
+    bounds: &mut BoundTable,
+    axis: u32,
+) -> Result<Value, Stop>
+    requires sort { HasSort bool_sort builder.now.sorts axis }
+    requires sketched { IsSketch builder.now (map drawn_of sketch.old.items) }
+    ensures does { MakesSwitch builder.now (map drawn_of sketch.old.items) (map drawn_of sketch.new.items) bounds.old bounds.new axis result }
+    ensures sketched { IsSketch builder.now (map drawn_of sketch.new.items) }
+{
+    let _ = builder.len();
+    let pair = Pair::bool_is(sketch, axis)?;
+    let list = no_bounds(alloc, bounds)?;
+    Ok(Value::Bool(pair, list))
+}

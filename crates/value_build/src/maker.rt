@@ -1,0 +1,160 @@
+// The maker: a builder, the sketch of the forms of the assertion in work, and the table of bounds.
+ghost use Rattle.std.specs.Prelude.{◌≡◌, ◌<◌, [], ◌∷◌, length, map};
+ghost use Rattle.dyadic.specs.Lowest.{reduced};
+ghost use Rattle.poly_graph.specs.Term.{constant};
+ghost use Rattle.script_model.specs.Declared.{known};
+ghost use Rattle.script_model.specs.Reading.{literal_value};
+ghost use Rattle.script_forms.specs.Terms.{term};
+ghost use Rattle.script_forms.specs.Work.{ending, reached};
+ghost use Rattle.smt_script.specs.Views.{sort_of};
+ghost use Rattle.smt_sexp.specs.Views.{place_of};
+ghost use Rattle.sort_check.specs.Views.{operator_of};
+ghost use Rattle.value_build.specs.Making.{Steps, beginning};
+ghost use Rattle.value_build.specs.Values.{AreKnown, Claims, IsKnown, IsValue, Names, Operates};
+
+use crate::claim::{claim_bool, claim_real};
+use crate::leaves::{number, real, switch};
+use crate::literal::literal_number;
+use crate::operate::{give_up, operate};
+use crate::value::Value;
+use declared_box::BoundTable;
+use smt_script::Sort;
+use smt_sexp::Place;
+use sort_check::Operator;
+use std::alloc::Global;
+use std::marker::Model;
+use term_build::{Builder, Drawn, Stop};
+
+/// What is made of a script so far: its terms, atoms and forms, the lists of its bounds, and the sketch of the forms of
+/// the assertion in work. Where a method answers a stop, the sketch is given up.
+#[derive(Drop)]
+pub struct Maker {
+    pub(crate) builder: Builder,
+    pub(crate) sketch: Vec<Drawn>,
+    pub(crate) bounds: BoundTable,
+}
+
+impl Model for Maker {
+    ghost use Rattle.std.specs.Prelude.{map};
+    ghost use Rattle.term_build.specs.Shapes.{drawn_of};
+    ghost use Rattle.term_build.specs.Sketch.{IsSketch};
+    ghost use Rattle.value_build.specs.Making.{Making};
+
+    ghost Value = { Making };
+
+    ghost view = { λ m. record { made = m.builder; drawn = map drawn_of m.sketch.items; bounds = m.bounds } };
+
+    ghost invariant = { λ m. IsSketch m.builder (map drawn_of m.sketch.items) };
+}
+
+impl Maker {
+    /// Nothing is made yet. The constants of the script, in their order, have these sorts.
+    pub fn new(alloc: Global, sorts: Vec<Sort>) -> Self
+        ensures { result ≡ beginning (map sort_of sorts.items) }
+    {
+        Maker {
+            builder: Builder::new(alloc, sorts),
+            sketch: Vec::new(alloc),
+            bounds: BoundTable::new(alloc),
+        }
+    }
+
+    /// The builder and the table of bounds.
+    pub fn into_parts(self) -> (Builder, BoundTable)
+        ensures builder { result.0 ≡ self.made }
+        ensures bounds { result.1 ≡ self.bounds }
+    {
+        (self.builder, self.bounds)
+    }
+
+    /// One more expression is reached.
+    pub fn reach(&mut self) -> Result<(), Stop>
+        ensures does { Steps self.old self.new (reached ∷ []) result (λ _. Unit {0}) }
+        ensures sorts { self.new.made.sorts ≡ self.old.made.sorts }
+    {
+        match self.builder.reach() {
+            Ok(()) => Ok(()),
+            Err(stop) => {
+                give_up(&mut self.sketch);
+                Err(stop)
+            }
+        }
+    }
+
+    /// A literal of these digits, and those after its point. A number beyond 10^36 is not kept: `Stop::Memory`.
+    pub fn literal(&mut self, digits: &[u8], decimals: &[u8]) -> Result<Value, Stop>
+        ensures does { let q = literal_value digits.now decimals.now in let u = term (constant (reduced q)) in Steps self.old self.new (ending u) result (IsValue self.new u (known q)) }
+        ensures sorts { self.new.made.sorts ≡ self.old.made.sorts }
+    {
+        let Some(q) = literal_number(digits, decimals) else {
+            return Err(Stop::Memory);
+        };
+        number(&mut self.builder, &mut self.sketch, q)
+    }
+
+    /// A declared constant, by its axis.
+    pub fn constant(&mut self, alloc: Global, axis: u32) -> Result<Value, Stop>
+        requires { axis < length self.old.made.sorts }
+        ensures does { Names self.old self.new axis result }
+        ensures sorts { self.new.made.sorts ≡ self.old.made.sorts }
+    {
+        match self.builder.sort_at(axis) {
+            Sort::Real => real(&mut self.builder, &mut self.sketch, axis),
+            Sort::Bool => switch(
+                alloc,
+                &self.builder,
+                &mut self.sketch,
+                &mut self.bounds,
+                axis,
+            ),
+        }
+    }
+
+    /// An operator at arguments that these values stand for. Arguments that the operator does not take are a fault of
+    /// this place.
+    pub fn operate(
+        &mut self,
+        alloc: Global,
+        at: Place,
+        operator: Operator,
+        values: &[Value],
+    ) -> Result<Value, Stop>
+        requires { AreKnown self.old values.now }
+        ensures does { Operates self.old self.new (place_of at) (operator_of operator) values.now result }
+        ensures sorts { self.new.made.sorts ≡ self.old.made.sorts }
+    {
+        operate(
+            alloc,
+            &mut self.builder,
+            &mut self.sketch,
+            &mut self.bounds,
+            at,
+            operator,
+            values,
+        )
+    }
+
+    /// The form of an assertion that this value stands for: its node, and the number of the list of its bounds. The
+    /// sketch is empty again.
+    pub fn claim(&mut self, alloc: Global, value: Value) -> Result<(u32, u32), Stop>
+        requires { IsKnown self.old value }
+        ensures does { Claims self.old self.new value result }
+        ensures sorts { self.new.made.sorts ≡ self.old.made.sorts }
+        ensures empty { self.new.drawn ≡ [] }
+    {
+        match value {
+            Value::Bool(pair, list) => claim_bool(
+                alloc,
+                &mut self.builder,
+                &mut self.sketch,
+                pair.truth,
+                list,
+            ),
+            Value::Real(node) => {
+                let _ = node;
+                give_up(&mut self.sketch);
+                claim_real(alloc, &mut self.builder, &mut self.bounds)
+            }
+        }
+    }
+}

@@ -1,0 +1,400 @@
+// Operators at values.
+ghost use Rattle.std.specs.Prelude.{◌≡◌, ℕ, ◌<◌, [], length, map, IfOk};
+ghost use Rattle.std.specs.List.{All};
+ghost use Rattle.poly_graph.specs.Views.{kind_of};
+ghost use Rattle.script_forms.specs.Unfolded.{choice_form, not_first};
+ghost use Rattle.smt_sexp.specs.Views.{place_of};
+ghost use Rattle.sort_check.specs.Views.{operator_of};
+ghost use Rattle.term_build.specs.Pairs.{Connects};
+ghost use Rattle.term_build.specs.Shapes.{drawn_of};
+ghost use Rattle.term_build.specs.Sketch.{IsSketch};
+ghost use Rattle.value_build.specs.Arithmetic.{AreNodes, operator_of_step};
+ghost use Rattle.value_build.specs.Bounds.{AddsList};
+ghost use Rattle.value_build.specs.Making.{making};
+ghost use Rattle.value_build.specs.Operators.{ArePairs, BoolsDo, ComparesAll, DiffersAll, RealsDo, RealsMake, are_bool, are_real, bool_distinctness, bool_equality, bool_operation, given_bounds, list_number, node_number, pair_number, takes_of};
+ghost use Rattle.value_build.specs.Values.{AreKnown, Operates};
+
+use crate::arithmetic::{Step, calculate};
+use crate::bounds::chain_bounds;
+use crate::chains::{Spread, compare_each, connect_each};
+use crate::value::Value;
+use declared_box::BoundTable;
+use poly_graph::Kind;
+use smt_sexp::Place;
+use sort_check::Operator;
+use std::alloc::{AllocError, Global};
+use term_build::{Builder, Drawn, Fault, Pair, Stop};
+
+/// The sketch is given up, as where the builder stopped.
+pub(crate) fn give_up(sketch: &mut Vec<Drawn>)
+    ensures { map drawn_of sketch.new.items ≡ [] }
+{
+    sketch.clear();
+}
+
+/// A list without bounds.
+pub(crate) fn no_bounds(alloc: Global, bounds: &mut BoundTable) -> Result<u32, AllocError>
+    ensures { AddsList bounds.old bounds.new [] result }
+{
+    bounds.all(Vec::new(alloc))
+}
+
+// ---- values of one sort
+
+// Whether all are Real.
+fn are_real(values: &[Value]) -> bool
+    ensures { result ≡ are_real values.now }
+{
+    let mut left = values;
+    while let Some((value, later)) = left.split_first() {
+        if let Value::Bool(_, _) = value {
+            return false;
+        }
+        left = later;
+    }
+    true
+}
+
+// Whether all are Bool.
+fn are_bool(values: &[Value]) -> bool
+    ensures { result ≡ are_bool values.now }
+{
+    let mut left = values;
+    while let Some((value, later)) = left.split_first() {
+        if let Value::Real(_) = value {
+            return false;
+        }
+        left = later;
+    }
+    true
+}
+
+// The node of a Real value.
+fn node_number(value: Value) -> u32
+    ensures { result ≡ node_number value }
+{
+    match value {
+        Value::Real(k) => k,
+        Value::Bool(_, _) => 0,
+    }
+}
+
+// The nodes of a Bool value.
+fn pair_number(value: Value) -> Pair
+    ensures { result ≡ pair_number value }
+{
+    match value {
+        Value::Real(_) => Pair {
+            truth: 0,
+            negation: 0,
+        },
+        Value::Bool(pair, _) => pair,
+    }
+}
+
+// The list of a Bool value.
+fn list_number(value: Value) -> u32
+    ensures { result ≡ list_number value }
+{
+    match value {
+        Value::Real(_) => 0,
+        Value::Bool(_, list) => list,
+    }
+}
+
+// The nodes of Real values.
+fn node_numbers(alloc: Global, values: &[Value]) -> Result<Vec<u32>, AllocError>
+    ensures { IfOk result (λ ks. ks.items ≡ map node_number values.now) }
+{
+    let mut made = Vec::new(alloc);
+    let mut left = values;
+    while let Some((value, later)) = left.split_first() {
+        made.push(node_number(*value))?;
+        left = later;
+    }
+    Ok(made)
+}
+
+// The pairs of Bool values.
+fn pair_numbers(alloc: Global, values: &[Value]) -> Result<Vec<Pair>, AllocError>
+    ensures { IfOk result (λ ps. ps.items ≡ map pair_number values.now) }
+{
+    let mut made = Vec::new(alloc);
+    let mut left = values;
+    while let Some((value, later)) = left.split_first() {
+        made.push(pair_number(*value))?;
+        left = later;
+    }
+    Ok(made)
+}
+
+// The lists of Bool values.
+fn list_numbers(alloc: Global, values: &[Value]) -> Result<Vec<u32>, AllocError>
+    ensures { IfOk result (λ ks. ks.items ≡ map list_number values.now) }
+{
+    let mut made = Vec::new(alloc);
+    let mut left = values;
+    while let Some((value, later)) = left.split_first() {
+        made.push(list_number(*value))?;
+        left = later;
+    }
+    Ok(made)
+}
+
+// Whether the operator takes so many arguments, all of which are Real or Bool.
+fn takes(operator: Operator, reals: bool, bools: bool, count: usize) -> bool
+    ensures { result ≡ takes_of (operator_of operator) reals bools count }
+{
+    match operator {
+        Operator::True | Operator::False => count == 0,
+        Operator::Not => bools && count == 1,
+        Operator::And | Operator::Or => bools && 1 <= count,
+        Operator::Implies | Operator::Xor => bools && 2 <= count,
+        Operator::Equal | Operator::Distinct => (bools || reals) && 2 <= count,
+        Operator::Choice => bools && count == 3,
+        Operator::Minus | Operator::Plus | Operator::Times => reals && 1 <= count,
+        Operator::Divide
+        | Operator::AtMost
+        | Operator::Below
+        | Operator::AtLeast
+        | Operator::Above => reals && 2 <= count,
+    }
+}
+
+// ---- Real arguments
+
+// A sum, a difference, a product or a quotient.
+fn arithmetic(
+    builder: &mut Builder,
+    sketch: &mut Vec<Drawn>,
+    at: Place,
+    step: Step,
+    nodes: &[u32],
+) -> Result<Value, Stop>
+    requires some { 0 < length nodes.now }
+    requires nodes { AreNodes builder.old nodes.now }
+    requires sketched { IsSketch builder.old (map drawn_of sketch.old.items) }
+    ensures does { RealsMake builder.old (map drawn_of sketch.old.items) builder.new (map drawn_of sketch.new.items) (place_of at) (operator_of_step step) nodes.now result }
+    ensures sketched { IsSketch builder.new (map drawn_of sketch.new.items) }
+    ensures sorts { builder.new.sorts ≡ builder.old.sorts }
+{
+    match calculate(builder, at, step, nodes) {
+        Ok(node) => Ok(Value::Real(node)),
+        Err(stop) => {
+            give_up(sketch);
+            Err(stop)
+        }
+    }
+}
+
+// A chain of comparisons.
+fn compare(
+    alloc: Global,
+    builder: &Builder,
+    sketch: &mut Vec<Drawn>,
+    bounds: &mut BoundTable,
+    at: Place,
+    nodes: &[u32],
+    kind: Kind,
+) -> Result<Value, Stop>
+    requires nodes { AreNodes builder.now nodes.now }
+    requires sketched { IsSketch builder.now (map drawn_of sketch.old.items) }
+    ensures does { ComparesAll builder.now (map drawn_of sketch.old.items) (map drawn_of sketch.new.items) bounds.old bounds.new (kind_of kind) (place_of at) nodes.now result }
+    ensures sketched { IsSketch builder.now (map drawn_of sketch.new.items) }
+{
+    let links = compare_each(alloc, sketch, at, nodes, kind, Spread::Next)?;
+    let pair = Pair::chain(alloc, sketch, &links)?;
+    let list = chain_bounds(alloc, builder, bounds, nodes, kind)?;
+    Ok(Value::Bool(pair, list))
+}
+
+// That trees differ, each from every other.
+fn differ(
+    alloc: Global,
+    builder: &Builder,
+    sketch: &mut Vec<Drawn>,
+    bounds: &mut BoundTable,
+    at: Place,
+    nodes: &[u32],
+) -> Result<Value, Stop>
+    requires nodes { AreNodes builder.now nodes.now }
+    requires sketched { IsSketch builder.now (map drawn_of sketch.old.items) }
+    ensures does { DiffersAll builder.now (map drawn_of sketch.old.items) (map drawn_of sketch.new.items) bounds.old bounds.new (place_of at) nodes.now result }
+    ensures sketched { IsSketch builder.now (map drawn_of sketch.new.items) }
+{
+    let _ = builder.len();
+    let links = compare_each(alloc, sketch, at, nodes, Kind::Eq, Spread::Later)?;
+    let pair = Pair::different(alloc, sketch, &links)?;
+    let list = no_bounds(alloc, bounds)?;
+    Ok(Value::Bool(pair, list))
+}
+
+// An operator at Real arguments.
+fn on_reals(
+    alloc: Global,
+    builder: &mut Builder,
+    sketch: &mut Vec<Drawn>,
+    bounds: &mut BoundTable,
+    at: Place,
+    operator: Operator,
+    nodes: &[u32],
+) -> Result<Value, Stop>
+    requires some { 0 < length nodes.now }
+    requires nodes { AreNodes builder.old nodes.now }
+    requires sketched { IsSketch builder.old (map drawn_of sketch.old.items) }
+    ensures does { RealsDo (making builder.old (map drawn_of sketch.old.items) bounds.old) (making builder.new (map drawn_of sketch.new.items) bounds.new) (place_of at) (operator_of operator) nodes.now result }
+    ensures sketched { IsSketch builder.new (map drawn_of sketch.new.items) }
+    ensures sorts { builder.new.sorts ≡ builder.old.sorts }
+{
+    match operator {
+        Operator::Minus => arithmetic(builder, sketch, at, Step::Subtract, nodes),
+        Operator::Plus => arithmetic(builder, sketch, at, Step::Add, nodes),
+        Operator::Times => arithmetic(builder, sketch, at, Step::Multiply, nodes),
+        Operator::Divide => arithmetic(builder, sketch, at, Step::Divide, nodes),
+        Operator::AtMost | Operator::Below => {
+            compare(alloc, builder, sketch, bounds, at, nodes, Kind::Le)
+        }
+        Operator::AtLeast | Operator::Above => {
+            compare(alloc, builder, sketch, bounds, at, nodes, Kind::Ge)
+        }
+        Operator::Equal => compare(alloc, builder, sketch, bounds, at, nodes, Kind::Eq),
+        Operator::Distinct => differ(alloc, builder, sketch, bounds, at, nodes),
+        _ => Err(Stop::Memory),
+    }
+}
+
+// ---- Bool arguments
+
+// That Bool expressions are equal, each to the next.
+fn equal(alloc: Global, sketch: &mut Vec<Drawn>, pairs: &[Pair]) -> Result<Pair, AllocError>
+    ensures { Connects bool_equality (map drawn_of sketch.old.items) (map drawn_of sketch.new.items) pairs.now result }
+{
+    let links = connect_each(alloc, sketch, Spread::Next, pairs)?;
+    Pair::chain(alloc, sketch, &links)
+}
+
+// That Bool expressions differ, each from every other.
+fn distinct(alloc: Global, sketch: &mut Vec<Drawn>, pairs: &[Pair]) -> Result<Pair, AllocError>
+    ensures { Connects bool_distinctness (map drawn_of sketch.old.items) (map drawn_of sketch.new.items) pairs.now result }
+{
+    let links = connect_each(alloc, sketch, Spread::Later, pairs)?;
+    Pair::all(alloc, sketch, &links)
+}
+
+// The negation of the first.
+fn negation(sketch: &mut Vec<Drawn>, pairs: &[Pair]) -> Result<Pair, AllocError>
+    ensures { Connects not_first (map drawn_of sketch.old.items) (map drawn_of sketch.new.items) pairs.now result }
+{
+    let _ = sketch.len();
+    let Some((first, _)) = pairs.split_first() else {
+        return Err(AllocError);
+    };
+    Ok(first.not())
+}
+
+// The second where the first holds, else the third.
+fn choice(alloc: Global, sketch: &mut Vec<Drawn>, pairs: &[Pair]) -> Result<Pair, AllocError>
+    ensures { Connects choice_form (map drawn_of sketch.old.items) (map drawn_of sketch.new.items) pairs.now result }
+{
+    let Some((condition, arms)) = pairs.split_first() else {
+        return Err(AllocError);
+    };
+    let Some((first, rest)) = arms.split_first() else {
+        return Err(AllocError);
+    };
+    let Some((second, _)) = rest.split_first() else {
+        return Err(AllocError);
+    };
+    Pair::choose(alloc, sketch, *condition, *first, *second)
+}
+
+// The form of an operator at Bool arguments.
+fn connect(
+    alloc: Global,
+    sketch: &mut Vec<Drawn>,
+    operator: Operator,
+    pairs: &[Pair],
+) -> Result<Pair, AllocError>
+    ensures { Connects (bool_operation (operator_of operator)) (map drawn_of sketch.old.items) (map drawn_of sketch.new.items) pairs.now result }
+{
+    match operator {
+        Operator::True => Pair::constant(sketch, true),
+        Operator::False => Pair::constant(sketch, false),
+        Operator::Not => negation(sketch, pairs),
+        Operator::And => Pair::all(alloc, sketch, pairs),
+        Operator::Or => Pair::any(alloc, sketch, pairs),
+        Operator::Implies => Pair::implies(alloc, sketch, pairs),
+        Operator::Xor => Pair::exclusive(alloc, sketch, pairs),
+        Operator::Equal => equal(alloc, sketch, pairs),
+        Operator::Distinct => distinct(alloc, sketch, pairs),
+        Operator::Choice => choice(alloc, sketch, pairs),
+        _ => Err(AllocError),
+    }
+}
+
+// The bounds of an operator at Bool arguments, whose lists have these numbers.
+fn connect_bounds(
+    alloc: Global,
+    bounds: &mut BoundTable,
+    operator: Operator,
+    lists: Vec<u32>,
+) -> Result<u32, AllocError>
+    requires { All (λ (k : ℕ). k < length bounds.old) lists.items }
+    ensures { AddsList bounds.old bounds.new (given_bounds (operator_of operator) bounds.old lists.items) result }
+{
+    match operator {
+        Operator::And => bounds.all(lists),
+        _ => no_bounds(alloc, bounds),
+    }
+}
+
+// An operator at Bool arguments.
+fn on_bools(
+    alloc: Global,
+    builder: &Builder,
+    sketch: &mut Vec<Drawn>,
+    bounds: &mut BoundTable,
+    operator: Operator,
+    pairs: &[Pair],
+    lists: Vec<u32>,
+) -> Result<Value, Stop>
+    requires lists { All (λ (k : ℕ). k < length bounds.old) lists.items }
+    requires drawn { ArePairs builder.now (map drawn_of sketch.old.items) pairs.now }
+    requires sketched { IsSketch builder.now (map drawn_of sketch.old.items) }
+    ensures does { BoolsDo builder.now (map drawn_of sketch.old.items) (map drawn_of sketch.new.items) bounds.old bounds.new (operator_of operator) pairs.now lists.items result }
+    ensures sketched { IsSketch builder.now (map drawn_of sketch.new.items) }
+{
+    let _ = builder.len();
+    let pair = connect(alloc, sketch, operator, pairs)?;
+    let list = connect_bounds(alloc, bounds, operator, lists)?;
+    Ok(Value::Bool(pair, list))
+}
+
+/// An operator at values.
+pub(crate) fn operate(
+    alloc: Global,
+    builder: &mut Builder,
+    sketch: &mut Vec<Drawn>,
+    bounds: &mut BoundTable,
+    at: Place,
+    operator: Operator,
+    values: &[Value],
+) -> Result<Value, Stop>
+    requires known { AreKnown (making builder.old (map drawn_of sketch.old.items) bounds.old) values.now }
+    requires sketched { IsSketch builder.old (map drawn_of sketch.old.items) }
+    ensures does { Operates (making builder.old (map drawn_of sketch.old.items) bounds.old) (making builder.new (map drawn_of sketch.new.items) bounds.new) (place_of at) (operator_of operator) values.now result }
+    ensures sketched { IsSketch builder.new (map drawn_of sketch.new.items) }
+    ensures sorts { builder.new.sorts ≡ builder.old.sorts }
+{
+    let bools = are_bool(values);
+    if !takes(operator, are_real(values), bools, values.len()) {
+        return Err(Stop::Fault(at, Fault::IllFormed));
+    }
+    if bools {
+        let pairs = pair_numbers(alloc, values)?;
+        let lists = list_numbers(alloc, values)?;
+        return on_bools(alloc, builder, sketch, bounds, operator, &pairs, lists);
+    }
+    let nodes = node_numbers(alloc, values)?;
+    on_reals(alloc, builder, sketch, bounds, at, operator, &nodes)
+}
