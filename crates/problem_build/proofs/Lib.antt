@@ -2,3 +2,10 @@ pub mod Sound
 pub mod Parts
 pub mod Whole
 pub mod Rooted
+pub mod ByForm
+pub mod Lookups
+pub mod Steps
+pub mod SoFar
+pub mod Gives
+pub mod Standing
+pub mod Finishing

@@ -10,14 +10,24 @@ use Rattle.script_forms.specs.Walk.{Stand, Walked, stands, stops, BuildingFault,
 use Rattle.script_forms.proofs.Walks.{Walks, assertions_walk}
 use Rattle.sort_check.specs.Sorts.{sort_fault}
 use Rattle.sort_check.specs.WellSorted.{IfSound}
+use Rattle.problem_build.specs.Standing.{MeetsSorts}
 use Rattle.sort_check.proofs.WellSorted.{sorted_unfolds}
 
--- a walk that did not stop so
-abbrev NotIll : Walked → Type 0
-NotIll (stops at (unfolds_not x)) = IfSound (Some x)
-NotIll w = Unit {0}
+-- the walk over the assertions
+claims-sorted : (script : List Command) (w : Walked) → Walks script w → IfSound (unfolding_fault script) → MeetsSorts w
+claims-sorted script (stands s) h k = tt
+claims-sorted script (stops at (unfolds_not x)) h k = subst (λ (o : Option Fault). IfSound o) h k
+claims-sorted script (stops at too_large) h k = tt
+claims-sorted script (stops at too_many_nodes) h k = tt
+claims-sorted script (stops at too_many_atoms) h k = tt
+claims-sorted script (stops at too_many_forms) h k = tt
+claims-sorted script (stops at (lacks_bound x)) h k = tt
+claims-sorted script (stops at (bound_beyond x)) h k = tt
 
-root-not-ill : (script : List Command) (w : Walked) → Walks script w → IfSound (unfolding_fault script) → ((s : Stand) → NotIll (after_root script s)) → NotIll (goes_on (after_root script) w)
+pub claims_sorted : (script : List Command) → sort_fault script ≡ None → MeetsSorts (after_assertions nothing_made (claim_places script) (works script))
+claims_sorted script e = claims-sorted script (after_assertions nothing_made (claim_places script) (works script)) (assertions_walk script) (sorted_unfolds script e).1
+
+root-not-ill : (script : List Command) (w : Walked) → Walks script w → IfSound (unfolding_fault script) → ((s : Stand) → MeetsSorts (after_root script s)) → MeetsSorts (goes_on (after_root script) w)
 root-not-ill script (stands s) h k f = f s
 root-not-ill script (stops at (unfolds_not x)) h k f = subst (λ (o : Option Fault). IfSound o) h k
 root-not-ill script (stops at too_large) h k f = tt
@@ -28,12 +38,12 @@ root-not-ill script (stops at (lacks_bound x)) h k f = tt
 root-not-ill script (stops at (bound_beyond x)) h k f = tt
 
 -- the root's form meets no fault of unfolding
-form-not-ill : (b r : Bool) (at : Place) (s s' : Stand) → NotIll (cond b (stands s) (if_room r at too_many_forms s'))
+form-not-ill : (b r : Bool) (at : Place) (s s' : Stand) → MeetsSorts (cond b (stands s) (if_room r at too_many_forms s'))
 form-not-ill true r at s s' = tt
 form-not-ill false true at s s' = tt
 form-not-ill false false at s s' = tt
 
-pub walked_not_ill : (script : List Command) → sort_fault script ≡ None → NotIll (walked script)
+pub walked_not_ill : (script : List Command) → sort_fault script ≡ None → MeetsSorts (walked script)
 walked_not_ill script e = root-not-ill script (after_assertions nothing_made (claim_places script) (works script)) (assertions_walk script) (sorted_unfolds script e).1
     (λ s. let f = form_map (number_in s.atoms) (atoms_in_place script) in form-not-ill (has_form f s.forms) (nat_lt (all_sizes s.forms + form_size f) (suc most_forms)) (last_place nowhere (claim_places script)) s (with_form s f))
 
@@ -41,7 +51,7 @@ abbrev Sound : Option (Place × BuildingFault) → Type 0
 Sound (Some (at, unfolds_not x)) = IfSound (Some x)
 Sound found = Unit {0}
 
-sound-by : (w : Walked) (x : Option (Constant × BoundFault)) → NotIll w → Sound (fault_or w (fault_of_bounds x))
+sound-by : (w : Walked) (x : Option (Constant × BoundFault)) → MeetsSorts w → Sound (fault_or w (fault_of_bounds x))
 sound-by (stands s) None h = tt
 sound-by (stands s) (Some (c, no_bound)) h = tt
 sound-by (stands s) (Some (c, bound_too_wide)) h = tt

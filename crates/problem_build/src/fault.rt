@@ -2,8 +2,10 @@
 ghost use Rattle.std.specs.Prelude.{◌≡◌};
 ghost use Rattle.smt_sexp.specs.Views.{place_of};
 ghost use Rattle.problem_build.specs.Told.{Tells, limit_of};
+ghost use Rattle.problem_build.specs.declared.fault.ScriptFault.TheVariants.{Memory};
 
 use smt_sexp::{Limit, Name, Place};
+use std::alloc::{AllocError, AllocFailed};
 use term_build::{Amount, Fault, Stop};
 use thiserror::Error;
 
@@ -25,6 +27,22 @@ pub enum ScriptFault {
     TooMany { line: u32, column: u32, what: Limit },
     #[error("no memory")]
     Memory,
+}
+
+impl From<AllocError> for ScriptFault {
+    ghost from_gives = { λ _ e. e ≡ Memory };
+
+    fn from(_: AllocError) -> Self {
+        ScriptFault::Memory
+    }
+}
+
+impl<T: Drop> From<AllocFailed<T>> for ScriptFault {
+    ghost from_gives = { λ _ e. e ≡ Memory };
+
+    fn from(_: AllocFailed<T>) -> Self {
+        ScriptFault::Memory
+    }
 }
 
 /// What stops a builder within the assertion at this place. None where an expression has no sort.

@@ -4,10 +4,16 @@
 ghost use Rattle.problem_build.specs.Laws.{SortedIsSound, PartsAreProblem};
 
 mod assembly;
+mod commands;
+mod expressions;
 mod fault;
+mod lets;
+mod names;
+mod script;
 
 pub use assembly::{assemble, root_form};
 pub use fault::{ScriptFault, told};
+pub use script::build;
 
 /// A well-sorted script meets no expression without a sort when it is built.
 #[tactic(auto, using(crate::proofs::Sound::sorted_sound))]
@@ -19,3 +25,6 @@ pub fn sorted_is_sound()
 pub fn parts_are_problem()
     ensures { PartsAreProblem }
 {}
+
+#[cfg(test)]
+mod tests;

@@ -1,0 +1,203 @@
+-- The end of a script's building.
+use Rattle.std.proofs.Common.{◌≡◌, ℕ, ◌<◌, List, [], ◌∷◌, ◌++◌, map, length, true, Option, None, refl, ap, ap₂, sym, ◌∙◌, subst, arith, nat_lt}
+use Rattle.std.specs.Prelude.{Result, Ok, Err}
+use Rattle.std.specs.List.{list_all}
+use Rattle.dyadic.proofs.Equal.{both_pass}
+use Rattle.std.proofs.lemmas.List.Elements.{All-cons, All-nil}
+use Rattle.script_model.specs.Sexp.{Place}
+use Rattle.script_model.specs.Script.{Command, constants_of}
+use Rattle.script_model.specs.Declared.{Bounding, bounds_in, concat, bound_fault, declared_interval}
+use Rattle.std.specs.Borrow.{Bor}
+use Rattle.smt_sexp.specs.declared.sexps.Sexps as arena
+use Rattle.smt_sexp.specs.declared.leaf.Place as code_place
+use Rattle.smt_sexp.specs.declared.name.Name as names
+use Rattle.smt_script.specs.Views.{command_of}
+use Rattle.smt_script.specs.declared.command.Sort as code_sort
+use Rattle.smt_script.specs.declared.command.Command as code_command
+use Rattle.smt_script.specs.declared.command.Command.TheVariants as commands
+use Rattle.script_model.proofs.Related.{Each}
+use Rattle.poly_graph.specs.Term.{Atom}
+use Rattle.poly_graph.specs.Form.{Form, Forms, form_map, forms_map, all_form}
+use Rattle.poly_graph.specs.FormGraph.{graph_forms}
+use Rattle.poly_graph.specs.Problem.{Axis}
+use Rattle.poly_graph.specs.ProblemViews.{problem_of}
+use Rattle.script_forms.specs.Terms.{Unfolded}
+use Rattle.script_forms.specs.Unfolded.{truth_of, forms_of}
+use Rattle.script_forms.specs.Atoms.{atom_of, trees, atoms_in_place, number_in}
+use Rattle.script_forms.specs.ProblemOf.{AreAxes, IsProblemOf}
+use Rattle.script_forms.specs.Work.{Work, outcome_of}
+use Rattle.script_forms.specs.Walk.{Stand, Walked, stands, stops, BuildingFault, works, walked, after_root, goes_on, claim_places, last_place, nowhere, fault_or, fault_of_bounds, building_fault, make_form}
+use Rattle.script_forms.proofs.Walks.{Tells, works_tell}
+use Rattle.term_build.specs.Built.{Made, stand_of, IsMade}
+use Rattle.term_build.specs.Does.{Does, StopsAs}
+use Rattle.term_build.specs.Sketch.{IsFormOf}
+use Rattle.term_build.specs.Shapes.{AreNumbers}
+use Rattle.term_build.specs.declared.stop.Stop.{Stop}
+use Rattle.term_build.proofs.Emits.{stops_so}
+use Rattle.term_build.proofs.Forms.{length_forms}
+use Rattle.term_build.proofs.Lists.{get_below}
+use Rattle.declared_box.specs.Same.{SameBounds}
+use Rattle.declared_box.specs.Table.{all_of, AreBefore}
+use Rattle.declared_box.proofs.Same.{same_bounds_append}
+use Rattle.value_build.specs.Making.{Making}
+use Rattle.problem_build.specs.Laws.{parts_made}
+use Rattle.problem_build.specs.Roots.{AreFormsOf, Roots}
+use Rattle.problem_build.specs.Standing.{AreClaims, boundings, IsDone}
+use Rattle.problem_build.specs.Told.{Refuses, found_by}
+use Rattle.problem_build.specs.declared.fault.ScriptFault.{ScriptFault}
+use Rattle.problem_build.specs.declared.fault.ScriptFault.TheVariants as faults
+use Rattle.smt_sexp.specs.declared.fault.Limit.TheVariants as limit
+use Rattle.problem_build.proofs.Parts.{parts_problem}
+
+-- ---- forms and lists
+
+abbrev pub forms_in : List Unfolded → Forms Atom
+forms_in us = forms_map atom_of (forms_of truth_of us)
+
+pub forms_are : (m : Making) (us : List Unfolded) (bs : List Bounding) (cs : List (ℕ × ℕ)) → AreClaims m us bs cs → AreFormsOf m.made (forms_in us) (map (λ c. c.0) cs)
+forms_are m [] [] [] h = tt
+forms_are m (u ∷ us) (b ∷ bs) (c ∷ cs) h = (h.0.form, forms_are m us bs cs h.1)
+forms_are m [] [] (c ∷ cs) h = elim h [ ]
+forms_are m [] (b ∷ bs) cs h = elim h [ ]
+forms_are m (u ∷ us) [] cs h = elim h [ ]
+forms_are m (u ∷ us) (b ∷ bs) [] h = elim h [ ]
+
+form-below : (m : Made) (f : Form Atom) (k : ℕ) → IsFormOf m f k → k < length m.forms
+form-below m f k h = omega (arith, get_below (graph_forms m.forms) k (form_map (number_in (stand_of m).atoms) f) h, length_forms m.forms)
+
+below-so : (a b : ℕ) → a < b → nat_lt a b ≡ true
+below-so a b h = grind (arith, h)
+
+pub numbers_are : (m : Making) (us : List Unfolded) (bs : List Bounding) (cs : List (ℕ × ℕ)) → AreClaims m us bs cs → AreNumbers (length m.made.forms) (map (λ c. c.0) cs)
+numbers_are m [] [] [] h = refl
+numbers_are m (u ∷ us) (b ∷ bs) (c ∷ cs) h = both_pass (nat_lt c.0 (length m.made.forms)) (list_all (λ j. nat_lt j (length m.made.forms)) (map (λ d. d.0) cs)) (below-so c.0 (length m.made.forms) (form-below m.made (form_map atom_of (truth_of u)) c.0 h.0.form)) (numbers_are m us bs cs h.1)
+numbers_are m [] [] (c ∷ cs) h = elim h [ ]
+numbers_are m [] (b ∷ bs) cs h = elim h [ ]
+numbers_are m (u ∷ us) [] cs h = elim h [ ]
+numbers_are m (u ∷ us) (b ∷ bs) [] h = elim h [ ]
+
+pub before_are : (m : Making) (us : List Unfolded) (bs : List Bounding) (cs : List (ℕ × ℕ)) → AreClaims m us bs cs → AreBefore (length m.bounds) (map (λ c. c.1) cs)
+before_are m [] [] [] h = All-nil (λ (k : ℕ). k < length m.bounds)
+before_are m (u ∷ us) (b ∷ bs) (c ∷ cs) h = All-cons (λ (k : ℕ). k < length m.bounds) c.1 (map (λ d. d.1) cs) h.0.bounds.0 (before_are m us bs cs h.1)
+before_are m [] [] (c ∷ cs) h = elim h [ ]
+before_are m [] (b ∷ bs) cs h = elim h [ ]
+before_are m (u ∷ us) [] cs h = elim h [ ]
+before_are m (u ∷ us) (b ∷ bs) [] h = elim h [ ]
+
+pub bounds_are : (m : Making) (us : List Unfolded) (bs : List Bounding) (cs : List (ℕ × ℕ)) → AreClaims m us bs cs → SameBounds (all_of m.bounds (map (λ c. c.1) cs)) (concat (map bounds_in bs))
+bounds_are m [] [] [] h = tt
+bounds_are m (u ∷ us) (b ∷ bs) (c ∷ cs) h = same_bounds_append _ _ _ _ h.0.bounds.1 (bounds_are m us bs cs h.1)
+bounds_are m [] [] (c ∷ cs) h = elim h [ ]
+bounds_are m [] (b ∷ bs) cs h = elim h [ ]
+bounds_are m (u ∷ us) [] cs h = elim h [ ]
+bounds_are m (u ∷ us) (b ∷ bs) [] h = elim h [ ]
+
+-- ---- the trees of the works are those of the script
+
+outcomes : (us : List Unfolded) (ws : List Work) → Each Tells us ws → map outcome_of ws ≡ us
+outcomes [] [] h = refl
+outcomes (u ∷ us) (w ∷ ws) h = ap₂ (λ x xs. x ∷ xs) h.0.outcome (outcomes us ws h.1)
+outcomes [] (w ∷ ws) h = elim h [ ]
+outcomes (u ∷ us) [] h = elim h [ ]
+
+pub whole_forms : (script : List Command) → all_form (forms_in (map outcome_of (works script))) ≡ atoms_in_place script
+whole_forms script = ap (λ us. all_form (forms_in us)) (outcomes (trees script) (works script) (works_tell script))
+
+-- ---- faults
+
+none-refused : (f : ScriptFault) (later : Option (Place × BuildingFault)) → Refuses f None → Refuses f later
+none-refused (faults.NumberTooWide l c) later h = cc
+none-refused (faults.DivisorNotConstant l c) later h = cc
+none-refused (faults.ZeroDivisor l c) later h = cc
+none-refused (faults.NoBound l c n) later h = cc
+none-refused (faults.BoundTooWide l c n) later h = cc
+none-refused (faults.TooMany l c limit.Size) later h = cc
+none-refused (faults.TooMany l c limit.Nodes) later h = cc
+none-refused (faults.TooMany l c limit.Atoms) later h = cc
+none-refused (faults.TooMany l c limit.Forms) later h = cc
+none-refused (faults.TooMany l c _) later h = elim h [ ]
+none-refused faults.Memory later h = tt
+
+pub found_first : (f : ScriptFault) (w : Walked) (later : Option (Place × BuildingFault)) → Refuses f (found_by w) → Refuses f (fault_or w later)
+found_first f (stops at x) later h = h
+found_first f (stands s) later h = none-refused f later h
+
+pub found_before : (f : ScriptFault) (g : Stand → Walked) (w : Walked) (later : Option (Place × BuildingFault)) → Refuses f (found_by w) → Refuses f (fault_or (goes_on g w) later)
+found_before f g (stops at x) later h = h
+found_before f g (stands s) later h = none-refused f (fault_or (g s) later) h
+
+-- ---- the root
+
+module _ (script : List Command) (m : Making) (made : List (ℕ × ℕ)) (h : IsDone script m made) where
+  pub done_forms : AreFormsOf m.made (forms_in (map outcome_of (works script))) (map (λ c. c.0) made)
+  done_forms = forms_are m (map outcome_of (works script)) (boundings script) made h.claims
+
+  pub done_numbers : AreNumbers (length m.made.forms) (map (λ c. c.0) made)
+  done_numbers = numbers_are m (map outcome_of (works script)) (boundings script) made h.claims
+
+  pub done_before : AreBefore (length m.bounds) (map (λ c. c.1) made)
+  done_before = before_are m (map outcome_of (works script)) (boundings script) made h.claims
+
+  pub done_bounds : SameBounds (all_of m.bounds (map (λ c. c.1) made)) (concat (map bounds_in (boundings script)))
+  done_bounds = bounds_are m (map outcome_of (works script)) (boundings script) made h.claims
+
+  pub walked_root : walked script ≡ after_root script (stand_of m.made)
+  walked_root = ap (goes_on (after_root script)) h.walk
+
+  pub root_stops : (m1 : Made) (e : Stop) (claim : Place) → claim ≡ last_place nowhere (claim_places script) → Roots m.made m1 (map (λ c. c.0) made) (Err e) → StopsAs claim (walked script) e
+  root_stops m1 e claim at roots =
+      let s = stand_of m.made in
+      let there = roots (forms_in (map outcome_of (works script))) done_forms claim in
+      stops_so claim (walked script) (make_form claim s (form_map (number_in s.atoms) (all_form (forms_in (map outcome_of (works script)))))) e
+      (walked_root ∙ ap₂ (λ p f. make_form p s (form_map (number_in s.atoms) f)) (sym at) (sym (whole_forms script))) there
+
+  module _ (m1 : Made) (root : ℕ) (roots : Roots m.made m1 (map (λ c. c.0) made) (Ok root)) where
+    rooted : Does m.made m1 (λ claim s. make_form claim s (form_map (number_in s.atoms) (all_form (forms_in (map outcome_of (works script)))))) (Ok root) (IsFormOf m1 (all_form (forms_in (map outcome_of (works script)))))
+    rooted = roots (forms_in (map outcome_of (works script))) done_forms
+
+    pub root_below : root < length m1.forms
+    root_below = form-below m1 (all_form (forms_in (map outcome_of (works script)))) root rooted.1
+
+    pub builds_so : (bound : Option ℕ) (axes : List Axis) → IsMade m1 → bound_fault bound script ≡ None → AreAxes (declared_interval bound script) 0 (constants_of script) axes →
+        (building_fault bound script ≡ None) × IsProblemOf bound script (problem_of (parts_made m1 axes root))
+    builds_so bound axes is bounded declared =
+        let s = stand_of m.made in
+        let p = parts_problem bound script m.made m1 axes root is h.walk
+        (ap (λ f. make_form (last_place nowhere (claim_places script)) s (form_map (number_in s.atoms) f)) (sym (whole_forms script)) ∙ rooted.0 (last_place nowhere (claim_places script)))
+        (subst (λ (f : Form Atom). IsFormOf m1 f root) (whole_forms script) rooted.1) bounded declared in
+        (p.1, p.0)
+
+    pub bounds_refuse : (bound : Option ℕ) (f : ScriptFault) → Refuses f (fault_of_bounds (bound_fault bound script)) → Refuses f (building_fault bound script)
+    bounds_refuse bound f r = subst (λ (x : Option (Place × BuildingFault)). Refuses f x)
+        (sym (ap (λ w. fault_or w (fault_of_bounds (bound_fault bound script)))
+        (walked_root ∙ ap (λ g. make_form (last_place nowhere (claim_places script)) (stand_of m.made) (form_map (number_in (stand_of m.made).atoms) g)) (sym (whole_forms script)) ∙ rooted.0 (last_place nowhere (claim_places script))))) r
+
+pub roots_as : (m m' m1 : Made) (ks ks' : List ℕ) (r : Result ℕ Stop) → m' ≡ m → ks' ≡ ks → Roots m' m1 ks' r → Roots m m1 ks r
+roots_as m m' m1 ks ks' r e f h = subst (λ (x : Made). Roots x m1 ks r) e (subst (λ (x : List ℕ). Roots m' m1 x r) f h)
+
+-- ---- lists that are gathered
+
+pub moved : {A B : Type 0} (f : A → B) (xs : List A) (x : A) (rest : List B) → map f xs ++ (f x ∷ rest) ≡ map f (xs ++ (x ∷ [])) ++ rest
+moved f [] x rest = refl
+moved f (y ∷ xs) x rest = ap (λ z. f y ∷ z) (moved f xs x rest)
+
+module _ (s : arena.Sexps) (x : code_command.Command) (rest : List Command) where
+  pub not_declared : ((at : code_place.Place) (name : Bor names.Name) (sort : code_sort.Sort) → x ≡ commands.Declare at name sort → ⊥) → constants_of (command_of s x ∷ rest) ≡ constants_of rest
+  not_declared h = go x h
+    where
+      go : (y : code_command.Command) → ((at : code_place.Place) (name : Bor names.Name) (sort : code_sort.Sort) → y ≡ commands.Declare at name sort → ⊥) → constants_of (command_of s y ∷ rest) ≡ constants_of rest
+      go (commands.Declare at name sort) h = absurd (h at name sort refl)
+      go (commands.Define at name params sort body) h = refl
+      go (commands.Assert at body) h = refl
+      go (commands.Check at) h = refl
+      go (commands.Ineffective at) h = refl
+
+  pub not_claimed : (last : Place) → ((at : code_place.Place) (body : ℕ) → x ≡ commands.Assert at body → ⊥) → last_place last (claim_places (command_of s x ∷ rest)) ≡ last_place last (claim_places rest)
+  not_claimed last h = go x h
+    where
+      go : (y : code_command.Command) → ((at : code_place.Place) (body : ℕ) → y ≡ commands.Assert at body → ⊥) → last_place last (claim_places (command_of s y ∷ rest)) ≡ last_place last (claim_places rest)
+      go (commands.Declare at name sort) h = refl
+      go (commands.Define at name params sort body) h = refl
+      go (commands.Assert at body) h = absurd (h at body refl)
+      go (commands.Check at) h = refl
+      go (commands.Ineffective at) h = refl

@@ -1,0 +1,79 @@
+use Rattle.std.proofs.Common.{◌≡◌, ℕ, List, length, map, ap, sym, ◌∙◌, subst}
+use Rattle.std.specs.Prelude.{None, Ok, Err}
+use Rattle.script_model.specs.Script.{Constant, constants_of, sort_of_constant}
+use Rattle.script_model.specs.Declared.{Bound, bound_fault, bound_fault_from, declared_interval, script_bounds}
+use Rattle.poly_graph.specs.ProblemViews.{Parts, axis_of, problem_of}
+use Rattle.script_forms.specs.ProblemOf.{AreAxes, IsProblemOf}
+use Rattle.script_forms.specs.Walk.{walked, building_fault, claim_places, last_place, nowhere}
+use Rattle.smt_script.specs.Views.{command_of, commands_in}
+use Rattle.smt_sexp.specs.Views.{place_of}
+use Rattle.term_build.specs.Built.{Made, IsMade}
+use Rattle.term_build.specs.Shapes.{AreNumbers}
+use Rattle.declared_box.specs.Same.{SameBounds}
+use Rattle.declared_box.specs.Table.{all_of, AreBefore}
+use Rattle.declared_box.specs.Axes as box
+use Rattle.declared_box.specs.Axes.{constant_of}
+use Rattle.problem_build.proofs.Sound.{walked_not_ill}
+use Rattle.problem_build.proofs.Finishing as finishing
+use Rattle.problem_build.proofs.script.finish.Goals as goal
+
+pub root_form-requires : goal.root_form-requires
+root_form-requires c = subst (λ (ks : List ℕ). AreNumbers (length c.into_parts-builder.result.0.forms) ks) (sym c.in_ok-forms.ensures)
+    (subst (λ (mk : Made). AreNumbers (length mk.forms) (map (λ p. p.0) c.args.made.now)) (sym c.into_parts-builder.ensures.builder) (finishing.done_numbers (commands_in c.args.script.now) c.args.maker c.args.made.now c.requires.done))
+
+pub declare-requires : goal.declare-requires
+declare-requires c = subst (λ (ks : List ℕ). AreBefore (length c.into_parts-builder.result.1) ks) (sym (c.as_slice.ensures.value ∙ c.in_ok-lists.ensures))
+    (subst (λ (t : List (List Bound)). AreBefore (length t) (map (λ p. p.1) c.args.made.now)) (sym c.into_parts-builder.ensures.bounds) (finishing.done_before (commands_in c.args.script.now) c.args.maker c.args.made.now c.requires.done))
+
+pub assemble-requires : goal.assemble-requires
+assemble-requires c =
+    let roots = finishing.roots_as c.args.maker.made c.into_parts-builder.result.0 c.root_form.new.builder (map (λ p. p.0) c.args.made.now) c.in_ok-forms.forms.items (Ok c.in-Ok.root) c.into_parts-builder.ensures.builder c.in_ok-forms.ensures c.in-Ok.ensures.does in
+    record {
+      bounds = c.in-Ok-declare.ensures.bounds;
+      sorts = c.in-Ok-declare.ensures.sorts ∙ ap (λ xs. map sort_of_constant (map constant_of xs)) c.as_slice-2.ensures.value ∙ ap (map sort_of_constant) (c.in_ok-constants.ensures c.args.script.now.sexps.now ∙ ap (λ xs. constants_of (map (command_of c.args.script.now.sexps.now) xs)) c.as_slice-commands.ensures.value) ∙
+          sym (c.root_form.ensures.sorts ∙ ap (λ (mk : Made). mk.sorts) c.into_parts-builder.ensures.builder ∙ c.requires.done.sorts);
+      rooted = finishing.root_below (commands_in c.args.script.now) c.args.maker c.args.made.now c.requires.done c.root_form.new.builder c.in-Ok.root roots;
+    }
+
+pub returns-in-Err : goal.returns-in-Err
+returns-in-Err c =
+    let roots = finishing.roots_as c.args.maker.made c.into_parts-builder.result.0 c.root_form.new.builder (map (λ p. p.0) c.args.made.now) c.in_ok-forms.forms.items (Err c.in-Err.stop) c.into_parts-builder.ensures.builder c.in_ok-forms.ensures c.in-Err.ensures.does in
+    let last = c.last_claim.ensures c.args.script.now.sexps.now ∙ ap (λ xs. last_place nowhere (claim_places (map (command_of c.args.script.now.sexps.now) xs))) c.as_slice-commands.ensures.value in
+    finishing.found_first c.stopped.result (walked (commands_in c.args.script.now)) _ (c.stopped.ensures (walked (commands_in c.args.script.now)) (finishing.root_stops (commands_in c.args.script.now) c.args.maker c.args.made.now c.requires.done c.root_form.new.builder c.in-Err.stop (place_of c.last_claim.result) last roots))
+
+pub stopped-requires : goal.stopped-requires
+stopped-requires c =
+    let script = commands_in c.args.script.now in
+    let roots = finishing.roots_as c.args.maker.made c.into_parts-builder.result.0 c.root_form.new.builder (map (λ p. p.0) c.args.made.now) c.in_ok-forms.forms.items (Err c.in-Err.stop) c.into_parts-builder.ensures.builder c.in_ok-forms.ensures c.in-Err.ensures.does in
+    let last = c.last_claim.ensures c.args.script.now.sexps.now ∙ ap (λ xs. last_place nowhere (claim_places (map (command_of c.args.script.now.sexps.now) xs))) c.as_slice-commands.ensures.value in
+    record {
+      walked = walked script;
+      sorted = walked_not_ill script c.requires.sorted;
+      so = finishing.root_stops script c.args.maker c.args.made.now c.requires.done c.root_form.new.builder c.in-Err.stop (place_of c.last_claim.result) last roots;
+    }
+
+pub returns-in-Ok-declare : goal.returns-in-Ok-declare
+returns-in-Ok-declare c =
+    let script = commands_in c.args.script.now in
+    let roots = finishing.roots_as c.args.maker.made c.into_parts-builder.result.0 c.root_form.new.builder (map (λ p. p.0) c.args.made.now) c.in_ok-forms.forms.items (Ok c.in-Ok.root) c.into_parts-builder.ensures.builder c.in_ok-forms.ensures c.in-Ok.ensures.does in
+    let same : SameBounds (all_of c.into_parts-builder.result.1 c.as_slice.result.now) (script_bounds script) =
+    subst (λ (ks : List ℕ). SameBounds (all_of c.into_parts-builder.result.1 ks) (script_bounds script)) (sym (c.as_slice.ensures.value ∙ c.in_ok-lists.ensures))
+    (subst (λ (t : List (List Bound)). SameBounds (all_of t (map (λ p. p.1) c.args.made.now)) (script_bounds script)) (sym c.into_parts-builder.ensures.bounds) (finishing.done_bounds script c.args.maker c.args.made.now c.requires.done)) in
+    let constants_are : map constant_of c.as_slice-2.result.now ≡ constants_of script =
+    ap (map constant_of) c.as_slice-2.ensures.value ∙ c.in_ok-constants.ensures c.args.script.now.sexps.now ∙ ap (λ xs. constants_of (map (command_of c.args.script.now.sexps.now) xs)) c.as_slice-commands.ensures.value in
+    let axes = map axis_of c.in-Ok-declare.axes.items in
+    let answers = subst (λ (cs : List Constant). (bound_fault_from (declared_interval c.args.bound script) 0 cs ≡ None) × AreAxes (declared_interval c.args.bound script) 0 cs axes) constants_are (c.in-Ok-declare.ensures.answers (script_bounds script) same) in
+    subst (λ (p : Parts). (building_fault c.args.bound script ≡ None) × IsProblemOf c.args.bound script (problem_of p)) (sym c.assemble.ensures)
+    (finishing.builds_so script c.args.maker c.args.made.now c.requires.done c.root_form.new.builder c.in-Ok.root roots c.args.bound axes (subst (λ (mk : Made). IsMade mk) c.builder.view_is c.builder.invariant) answers.0 answers.1)
+
+pub returns : goal.returns
+returns c =
+    let script = commands_in c.args.script.now in
+    let roots = finishing.roots_as c.args.maker.made c.into_parts-builder.result.0 c.root_form.new.builder (map (λ p. p.0) c.args.made.now) c.in_ok-forms.forms.items (Ok c.in-Ok.root) c.into_parts-builder.ensures.builder c.in_ok-forms.ensures c.in-Ok.ensures.does in
+    let same : SameBounds (all_of c.into_parts-builder.result.1 c.as_slice.result.now) (script_bounds script) =
+    subst (λ (ks : List ℕ). SameBounds (all_of c.into_parts-builder.result.1 ks) (script_bounds script)) (sym (c.as_slice.ensures.value ∙ c.in_ok-lists.ensures))
+    (subst (λ (t : List (List Bound)). SameBounds (all_of t (map (λ p. p.1) c.args.made.now)) (script_bounds script)) (sym c.into_parts-builder.ensures.bounds) (finishing.done_bounds script c.args.maker c.args.made.now c.requires.done)) in
+    let constants_are : map constant_of c.as_slice-2.result.now ≡ constants_of script =
+    ap (map constant_of) c.as_slice-2.ensures.value ∙ c.in_ok-constants.ensures c.args.script.now.sexps.now ∙ ap (λ xs. constants_of (map (command_of c.args.script.now.sexps.now) xs)) c.as_slice-commands.ensures.value in
+    let answers = subst (λ (cs : List Constant). box.Refuses c.in-Err-declare.fault (bound_fault_from (declared_interval c.args.bound script) 0 cs)) constants_are (c.in-Err-declare.ensures.answers (script_bounds script) same) in
+    finishing.bounds_refuse script c.args.maker c.args.made.now c.requires.done c.root_form.new.builder c.in-Ok.root roots c.args.bound c.unbounded.result (c.unbounded.ensures (bound_fault c.args.bound script) answers)

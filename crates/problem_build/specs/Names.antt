@@ -1,0 +1,105 @@
+-- What names stand for while a script is built: in both meanings, by what is kept of them.
+use Rattle.std.specs.Prelude.{◌≡◌, ℕ, zero, suc, ◌<◌, List, [], ◌∷◌, ◌++◌, map, length, Option, Some, None, cond, slice_get}
+use Rattle.std.specs.Str.{bytes_eq}
+use Rattle.dyadic.specs.Point.{Sort}
+use Rattle.poly_graph.specs.Problem.{HasSort}
+use Rattle.script_model.specs.Reading.{Meanings, Names, Named, value, found, operators}
+use Rattle.script_model.specs.Script.{defined}
+use Rattle.script_model.specs.Declared.{Bounding, bounding, constant_bounding}
+use Rattle.script_forms.specs.Work.{Work, as_work}
+use Rattle.script_forms.specs.Walk.{constant_work}
+use Rattle.smt_sexp.specs.Arena.{expression_at}
+use Rattle.smt_sexp.specs.declared.sexps.Sexps as arena
+use Rattle.smt_script.specs.Views.{parameter_of, sort_of}
+use Rattle.value_build.specs.Making.{Making}
+use Rattle.value_build.specs.Values.{IsValue}
+use Rattle.value_build.specs.declared.value.Value.{Value}
+use Rattle.problem_build.specs.declared.names.Known.{Known}
+use Rattle.problem_build.specs.declared.names.Known.TheVariants as known
+use Rattle.problem_build.specs.declared.names.Top.{Top}
+use Rattle.problem_build.specs.declared.names.Local.{Local}
+use Rattle.problem_build.specs.declared.names.Head.{Head}
+use Rattle.problem_build.specs.declared.names.Head.TheVariants as head
+use Rattle.smt_script.specs.declared.command.Parameter.{Parameter}
+use Rattle.sort_check.specs.Views.{operator_of}
+
+-- ---- look-up
+
+-- the value of the first local of this name
+abbrev pub local_value : List ℕ → List Local → Option Value
+local_value x [] = None
+local_value x (l ∷ rest) = cond (bytes_eq x l.name.now) (Some l.value) (local_value x rest)
+
+abbrev pub if_named : List ℕ → ℕ → Option Top → Option (ℕ × Known) → Option (ℕ × Known)
+if_named x n None before = before
+if_named x n (Some t) before = cond (bytes_eq x t.name.now) (Some (n, t.known)) before
+
+-- the last of this name among so many names of the top, with the number of those before it
+abbrev pub top_known : List ℕ → List Top → ℕ → Option (ℕ × Known)
+top_known x top zero = None
+top_known x top (suc n) = if_named x n (slice_get top n) (top_known x top n)
+
+-- what a name stands for
+abbrev pub IsHead : List ℕ → List Top → ℕ → List Local → Option Head → Type 0
+IsHead x top n locals None = (found x operators ≡ None) × (local_value x locals ≡ None) × (top_known x top n ≡ None)
+IsHead x top n locals (Some (head.Operator o)) = found x operators ≡ Some (operator_of o)
+IsHead x top n locals (Some (head.Local v)) = (found x operators ≡ None) × (local_value x locals ≡ Some v)
+IsHead x top n locals (Some (head.Constant i axis sort)) = (found x operators ≡ None) × (local_value x locals ≡ None) × (top_known x top n ≡ Some (i, known.Constant axis sort))
+IsHead x top n locals (Some (head.Function i params body)) = (found x operators ≡ None) × (local_value x locals ≡ None) × (top_known x top n ≡ Some (i, known.Function params body))
+
+-- parameters that stand for values
+abbrev pub bound_locals : List Parameter → List Value → List Local
+bound_locals [] vs = []
+bound_locals (p ∷ ps) [] = []
+bound_locals (p ∷ ps) (v ∷ vs) = record { name = p.name; value = v } ∷ bound_locals ps vs
+
+-- ---- what they stand for
+
+-- a declared constant stands for what is made of its number and sort, a definition for a function
+abbrev pub known_of : {V : Type 0} → Meanings V → (ℕ → Sort → V) → arena.Sexps → Names V → Known → Named V
+known_of M constant s names (known.Constant axis sort) = value (constant axis (sort_of sort))
+known_of M constant s names (known.Function params body) = defined M names (map parameter_of params.now) (expression_at s body)
+
+abbrev pub entry_of : {V : Type 0} → Meanings V → (ℕ → Sort → V) → arena.Sexps → Names V → Option Top → Names V
+entry_of M constant s names None = names
+entry_of M constant s names (Some t) = (t.name.now, known_of M constant s names t.known) ∷ names
+
+-- so many names of the top, the last first, each of which sees those before it
+abbrev pub top_names : {V : Type 0} → Meanings V → (ℕ → Sort → V) → arena.Sexps → List Top → ℕ → Names V
+top_names M constant s top zero = []
+top_names M constant s top (suc n) = entry_of M constant s (top_names M constant s top n) (slice_get top n)
+
+abbrev pub work_names : arena.Sexps → List Top → ℕ → Names Work
+work_names s top n = top_names as_work constant_work s top n
+
+abbrev pub bound_names_of : arena.Sexps → List Top → ℕ → Names Bounding
+bound_names_of s top n = top_names bounding constant_bounding s top n
+
+-- these locals stand for these names: values, with what is made of them
+abbrev pub AreLocals : Making → List Local → Names Work → Names Bounding → Type 0
+AreLocals m [] [] [] = Unit {0}
+AreLocals m (l ∷ ls) ((x, value w) ∷ ns) ((y, value b) ∷ bs) = (x ≡ l.name.now) × (y ≡ l.name.now) × IsValue m w.outcome b l.value × AreLocals m ls ns bs
+AreLocals m _ _ _ = ⊥
+
+-- the constants of the top have their sorts
+abbrev pub KnownFits : List Sort → Known → Type 0
+KnownFits sorts (known.Constant axis sort) = HasSort (sort_of sort) sorts axis × (axis < length sorts)
+KnownFits sorts (known.Function params body) = Unit {0}
+
+abbrev pub TopFits : List Sort → List Top → Type 0
+TopFits sorts top = (i : ℕ) (t : Top) → slice_get top i ≡ Some t → KnownFits sorts t.known
+
+-- the constants of the top have their sorts, and there is something that the locals stand for
+pub record Sees (m : Making) (top : List Top) (locals : List Local) : Type 0 where
+  pub near : Names Work
+  pub bounded : Names Bounding
+  pub fits : TopFits m.made.sorts top
+  pub stand : AreLocals m locals near bounded
+
+-- what names stand for, in both meanings
+pub record Knows (m : Making) (s : arena.Sexps) (top : List Top) (visible : ℕ) (locals : List Local) (names : Names Work) (bnames : Names Bounding) : Type 0 where
+  pub near : Names Work
+  pub bounded : Names Bounding
+  pub stand : AreLocals m locals near bounded
+  pub works : names ≡ near ++ work_names s top visible
+  pub bounds : bnames ≡ bounded ++ bound_names_of s top visible

@@ -1,0 +1,130 @@
+// The walk over the commands of a script.
+ghost use Rattle.std.specs.Prelude.{◌≡◌, ◌∷◌, List, None, length};
+ghost use Rattle.script_model.specs.Reading.{meaning};
+ghost use Rattle.script_model.specs.Script as model;
+ghost use Rattle.script_model.specs.Script.{sorts_of};
+ghost use Rattle.script_model.specs.Declared.{bounding};
+ghost use Rattle.script_forms.specs.Walk.{Walked};
+ghost use Rattle.script_forms.specs.Work.{as_work};
+ghost use Rattle.smt_script.specs.Views.{command_of, commands_in};
+ghost use Rattle.smt_sexp.specs.Arena.{expression_at};
+ghost use Rattle.smt_sexp.specs.Views.{place_of};
+ghost use Rattle.sort_check.specs.Sorts.{sort_fault};
+ghost use Rattle.term_build.specs.Does.{StopsAs};
+ghost use Rattle.value_build.specs.Making.{beginning};
+ghost use Rattle.problem_build.specs.Names.{TopFits, bound_names_of, work_names};
+ghost use Rattle.problem_build.specs.Standing.{Asserts, Does, Goes, IsNext, Stands, StopsSorted};
+ghost use Rattle.problem_build.specs.Told.{Refuses, found_by};
+
+use crate::expressions::{MOST_LEVELS, expression};
+use crate::fault::{ScriptFault, told};
+use crate::names::{Known, Top};
+use smt_script::{Command, Script};
+use smt_sexp::{Place, Sexps};
+use std::alloc::Global;
+use term_build::Stop;
+use value_build::Maker;
+
+/// What stops the walk within the assertion at this place, where no expression is without a sort.
+pub(crate) fn stopped(claim: Place, stop: Stop) -> ScriptFault
+    requires { StopsSorted (place_of claim) stop }
+    ensures { (w : Walked) → StopsAs (place_of claim) w stop → Refuses result (found_by w) }
+{
+    match told(claim, stop) {
+        Some(fault) => fault,
+        None => unreachable!(),
+    }
+}
+
+// An assertion: the node of its form, and the list of its bounds.
+fn assertion<'p, 'a>(
+    alloc: Global,
+    sexps: &'a Sexps,
+    top: &[Top<'p, 'a>],
+    maker: &mut Maker,
+    body: usize,
+) -> Result<(u32, u32), Stop>
+    requires { TopFits maker.old.made.sorts top.now }
+    ensures asserts { Asserts maker.old maker.new
+        (meaning as_work (work_names sexps.now top.now (length top.now)) (expression_at sexps.now body))
+        (meaning bounding (bound_names_of sexps.now top.now (length top.now)) (expression_at sexps.now body)) result }
+    ensures sorts { maker.new.made.sorts ≡ maker.old.made.sorts }
+{
+    let value = expression(alloc, sexps, top, top.len(), &[], maker, MOST_LEVELS, body)?;
+    maker.claim(alloc, value)
+}
+
+// A command, after so many constants.
+fn step<'p, 'a>(
+    alloc: Global,
+    sexps: &'a Sexps,
+    top: &mut Vec<Top<'p, 'a>>,
+    maker: &mut Maker,
+    claims: &mut Vec<(u32, u32)>,
+    axis: u32,
+    command: &'p Command<'a>,
+) -> Result<u32, ScriptFault>
+    requires { IsNext sexps.now (command_of sexps.now command.now) maker.old top.old.items axis claims.old.items }
+    ensures { (script rest : List model.Command) → Stands sexps.now script (command_of sexps.now command.now ∷ rest) maker.old top.old.items axis claims.old.items →
+        Goes sexps.now script rest maker.new top.new.items claims.new.items result }
+{
+    match command {
+        Command::Declare(_, name, sort) => {
+            let Some(next) = axis.checked_add(1) else {
+                return Err(ScriptFault::Memory);
+            };
+            top.push(Top {
+                name: *name,
+                known: Known::Constant(axis, *sort),
+            })?;
+            Ok(next)
+        }
+        Command::Define(_, name, parameters, _, body) => {
+            top.push(Top {
+                name: *name,
+                known: Known::Function(parameters.as_slice(), *body),
+            })?;
+            Ok(axis)
+        }
+        Command::Assert(place, body) => {
+            match assertion(alloc, sexps, top.as_slice(), maker, *body) {
+                Ok(made) => {
+                    claims.push(made)?;
+                    Ok(axis)
+                }
+                Err(stop) => Err(stopped(*place, stop)),
+            }
+        }
+        Command::Check(_) => Ok(axis),
+        Command::Ineffective(_) => Ok(axis),
+    }
+}
+
+/// The forms and the lists of bounds of a script's assertions, in order, where nothing is made before.
+pub(crate) fn claims<'p, 'a>(
+    alloc: Global,
+    script: &'p Script<'a>,
+    maker: &mut Maker,
+) -> Result<Vec<(u32, u32)>, ScriptFault>
+    requires begun { maker.old ≡ beginning (sorts_of (commands_in script.now)) }
+    requires sorted { sort_fault (commands_in script.now) ≡ None }
+    ensures { Does (commands_in script.now) maker.new result }
+{
+    let mut top: Vec<Top<'p, 'a>> = Vec::new(alloc);
+    let mut claims = Vec::new(alloc);
+    let mut axis = 0;
+    let mut rest = script.commands.as_slice();
+    while let [command, later @ ..] = rest {
+        axis = step(
+            alloc,
+            script.sexps,
+            &mut top,
+            maker,
+            &mut claims,
+            axis,
+            command,
+        )?;
+        rest = later;
+    }
+    Ok(claims)
+}

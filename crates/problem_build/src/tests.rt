@@ -1,0 +1,114 @@
+use super::*;
+use smt_script::commands;
+use smt_sexp::read;
+use sort_check::check;
+use std::alloc::Global;
+
+// What is counted of a script's problem: its axes, the nodes of its terms, its atoms, the nodes of its form.
+type Counts = (usize, usize, usize, usize);
+
+// A fault of a script's building, without the name; or another one.
+#[derive(Clone, Copy, Debug, PartialEq, Eq)]
+enum Refused {
+    TooWide(u32, u32),
+    NotConstant(u32, u32),
+    Zero(u32, u32),
+    NoBound(u32, u32),
+    Far(u32, u32),
+    Other,
+}
+
+fn told_at(fault: &ScriptFault) -> Refused {
+    match fault {
+        ScriptFault::NumberTooWide { line, column } => Refused::TooWide(*line, *column),
+        ScriptFault::DivisorNotConstant { line, column } => Refused::NotConstant(*line, *column),
+        ScriptFault::ZeroDivisor { line, column } => Refused::Zero(*line, *column),
+        ScriptFault::NoBound { line, column, .. } => Refused::NoBound(*line, *column),
+        ScriptFault::BoundTooWide { line, column, .. } => Refused::Far(*line, *column),
+        _ => Refused::Other,
+    }
+}
+
+// The counts of a script's problem, or its first fault.
+fn counts(alloc: Global, text: &[u8], bound: Option<u32>) -> Result<Counts, Refused> {
+    if text.len() > 67_108_864 {
+        return Err(Refused::Other);
+    }
+    let Ok(sexps) = read(alloc, text) else {
+        return Err(Refused::Other);
+    };
+    let Ok(script) = commands(alloc, &sexps) else {
+        return Err(Refused::Other);
+    };
+    let Ok(typed) = check(alloc, script) else {
+        return Err(Refused::Other);
+    };
+    match build(alloc, typed, bound) {
+        Ok(p) => Ok((
+            p.axes().len(),
+            p.graph().len(),
+            p.atoms().len(),
+            p.forms().len(),
+        )),
+        Err(fault) => Err(told_at(&fault)),
+    }
+}
+
+// The terms 0, x, 4, -x, 0 + -x, -4, x + -4; and then x * x, 2, -2, x * x + -2.
+const BOX: &str = "(declare-const x Real)
+(assert (and (<= 0 x) (<= x 4)))
+(assert (= (* x x) 2))
+(check-sat)";
+
+// The terms 0, x, 2, x + x, 2 * (x + x), 1, -x, 0 + -x, -1, 2 * (x + x) + -1; and then 7, -7, x + -7. The outer `x` is
+// at most 7, and the second call makes nothing new.
+const CALLS: &str = "(declare-const x Real)
+(define-fun twice ((a Real)) Real (+ a a))
+(define-fun small ((b Real)) Bool (<= (* 2 (twice b)) 1))
+(assert (and (<= 0 x) (small x) (small x)))
+(assert (let ((x 7) (y x)) (<= y x)))
+(check-sat)";
+
+// The terms x, 1, -1, x + -1; and then 3, -3, x + 3. What stands in an `or` is no bound.
+const OPEN: &str = "(declare-const p Bool)
+(declare-const x Real)
+(assert (or p (<= x 1)))
+(assert (! (>= x (- 3)) :named low))
+(check-sat)";
+
+#[test]
+fn builds_problems_and_tells_faults(rt: HostRuntime) {
+    let rows = [
+        (BOX, None, Ok((1, 11, 3, 5))),
+        (CALLS, None, Ok((1, 13, 3, 5))),
+        (OPEN, Some(10), Ok((2, 7, 2, 5))),
+        (OPEN, None, Err(Refused::NoBound(2, 1))),
+        (
+            "(declare-const x Real)\n(assert (<= (/ x 0) 1))\n(check-sat)",
+            None,
+            Err(Refused::Zero(2, 13)),
+        ),
+        (
+            "(declare-const x Real)\n(assert (<= (/ 1 x) 1))\n(check-sat)",
+            None,
+            Err(Refused::NotConstant(2, 13)),
+        ),
+        (
+            "(declare-const x Real)\n(assert (<= x (* 1000000000000000000000000000000000000 10)))\n(check-sat)",
+            None,
+            Err(Refused::TooWide(2, 15)),
+        ),
+        (
+            "(declare-const x Real)\n(assert (<= 0 x))\n(assert (<= x (/ 40000000000 7)))\n(check-sat)",
+            None,
+            Err(Refused::Far(1, 1)),
+        ),
+    ];
+    for (text, bound, expected) in rows {
+        assert_eq!(rt;
+            counts(rt.alloc(), text.as_bytes(), bound),
+            expected,
+            "{text}"
+        );
+    }
+}
