@@ -1,2 +1,3 @@
 pub mod Reaches
 pub mod Upwards
+pub mod Counts

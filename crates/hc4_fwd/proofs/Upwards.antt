@@ -1,8 +1,8 @@
 -- The pass upwards from an axis: what it does not reach keeps its enclosure.
-use Rattle.std.proofs.Common.{◌≡◌, ◌≢◌, ℕ, suc, zero, ◌+◌, ◌-◌, ◌<◌, ◌≤◌, List, [], ◌∷◌, length, set, get_or, below_more, get_or-set_other, get_or-set_same, Bool, true, false, cond, ◌||◌, IsTrue, Option, Some, None, inl, inr, refl, ap, ap₂, sym, subst, ◌∙◌, arith, nat_eq, nat_lt, eqb-true, eq-eqb, ltb→lt}
+use Rattle.std.proofs.Common.{◌≡◌, ◌≢◌, ℕ, suc, zero, ◌+◌, ◌-◌, ◌<◌, ◌≤◌, List, [], ◌∷◌, length, set, get_or, get_or-set_other, get_or-set_same, Bool, true, false, cond, ◌||◌, IsTrue, Option, Some, None, inl, inr, refl, ap, ap₂, sym, subst, ◌∙◌, arith, nat_eq, nat_lt, eqb-true, eq-eqb, ltb→lt}
 use Rattle.std.proofs.lemmas.Bool.{cases_eq, cases_lt}
 use Rattle.std.proofs.lemmas.List.{length-set, get_or_past}
-use Rattle.std.specs.Prelude.{slice_get, All}
+use Rattle.std.specs.Prelude.{slice_get}
 use Rattle.std.specs.Bool.{passes}
 use Rattle.dyadic.specs.Interval.{Interval, nothing, interval_negated, interval_sum, interval_product, interval_square}
 use Rattle.dyadic.proofs.Equal.{both_true}
@@ -49,11 +49,11 @@ parent_listed s k (n ∷ nodes) (suc j) p h c = let r = parent_listed s (suc k) 
 
 -- ---- children
 
-or-right : (t u : Bool) → u ≡ true → (t || u) ≡ true
+pub or-right : (t u : Bool) → u ≡ true → (t || u) ≡ true
 or-right true u h = refl
 or-right false u h = h
 
-or-cases : (t u : Bool) → (t || u) ≡ true → (t ≡ false → u ≡ true)
+pub or-cases : (t u : Bool) → (t || u) ≡ true → (t ≡ false → u ≡ true)
 or-cases true u h e = cc
 or-cases false u h e = h
 
@@ -78,7 +78,7 @@ child-of-two a b c k h o p = go (nat_eq a c) refl
     go true e = below a c k e o
     go false e = below b c k (or-cases (nat_eq a c) (nat_eq b c) h e) p
 
-child-below : (c k : ℕ) (n : Node) → IsTrue (comes_after k n) → has_child c n ≡ true → c < k
+pub child-below : (c k : ℕ) (n : Node) → IsTrue (comes_after k n) → has_child c n ≡ true → c < k
 child-below c k (constant_node q) o h = cc
 child-below c k (variable_node a) o h = cc
 child-below c k (negate_node a) o h = below a c k h o

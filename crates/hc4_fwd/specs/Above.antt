@@ -1,5 +1,5 @@
 -- The parents of a graph's nodes and the nodes of its axes.
-use Rattle.std.specs.Prelude.{◌≡◌, ◌≢◌, ℕ, ◌<◌, List, Option, Some, None, length, slice_get, slice_index_or, slice_set}
+use Rattle.std.specs.Prelude.{◌≡◌, ℕ, ◌<◌, List, Option, Some, None, length, slice_get, slice_index_or, slice_set}
 use Rattle.poly_graph.specs.Term.{Node, variable_node}
 use Rattle.poly_graph.specs.Parents.{AreParents}
 use Rattle.hc4_fwd.specs.declared.above.Above.{Above}

@@ -1,9 +1,15 @@
 // Rows of small graphs, against ends that were computed by hand.
+ghost use Rattle.std.specs.Prelude.{◌≡◌, ◌+◌, ◌<◌, ◌≤◌, [], ◌∷◌};
+ghost use Rattle.dyadic.specs.Fraction.{Fraction};
+ghost use Rattle.poly_graph.specs.Term.{constant_node, variable_node, add_node, square_node};
+
 use crate::*;
 use dyadic::{Dy, Ext, Frac, at_most, pow2};
 use ival::{Domain, Ends, Ival, Range, Rows, Space};
 use poly_graph::{Graph, Node, is_after};
 use std::alloc::{AllocError, Global};
+use std::marker::Brand;
+use std::sync::ledger::{Blank, Ledger};
 use std::test::Fail;
 
 // Adds a node that is new, and gives its number.
@@ -129,5 +135,67 @@ fn differences_of_equal_products(rt: HostRuntime) -> Result<(), Fail> {
     let nought = span(Dy::ZERO, Dy::ZERO).ok_or("crossed")?;
     let row = moved_row(&graph, &mut space, nought, &mut rows);
     assert!(rt; is_between(row, Ext::Fin(Dy::ZERO), Ext::Fin(Dy::ZERO)));
+    Ok(())
+}
+
+// x * x + y * y - 1
+fn circle(alloc: Global) -> Graph {
+    let mut graph = Graph::new(alloc);
+    let _ = add(&mut graph, Node::Var(0));
+    let _ = add(&mut graph, Node::Sq(0));
+    let _ = add(&mut graph, Node::Var(1));
+    let _ = add(&mut graph, Node::Sq(2));
+    let _ = add(&mut graph, Node::Add(1, 3));
+    let _ = add(&mut graph, Node::Const(Frac::new(-1, 1)));
+    let _ = add(&mut graph, Node::Add(4, 5));
+    graph
+}
+
+// Whether the rows have the same intervals.
+fn same_rows(a: &Rows, b: &Rows) -> bool {
+    a.len() == b.len() && (0..a.len()).all(|place| a.get(place) == b.get(place))
+}
+
+// Whether the rows are as after a whole fill, once the first axis was given another domain. Of a circle's rows at
+// most 4 are computed.
+fn renewed_alike<L: Ledger>(
+    alloc: Global,
+    graph: &Graph,
+    space: &mut Space,
+    domain: Domain,
+    steps: &mut Steps<L>,
+) -> Result<bool, AllocError>
+    ensures { (q : Fraction) → graph.now ≡ variable_node 0 ∷ square_node 0 ∷ variable_node 1 ∷ square_node 2 ∷ add_node 1 3 ∷ constant_node q ∷ add_node 4 5 ∷ [] → steps.new ≤ steps.old + 4 }
+{
+    if space.len() < 2 {
+        return Ok(false);
+    }
+    let above = Above::new(alloc, graph, space.len())?;
+    let mut rows = Rows::new(alloc, graph.len())?;
+    let mut whole = Rows::new(alloc, graph.len())?;
+    fill(graph, space, &mut rows);
+    space.set(0, domain);
+    fill(graph, space, &mut whole);
+    refill_counted(graph, space, 0, &above, &mut rows, steps);
+    Ok(same_rows(&rows, &whole))
+}
+
+// The same, of a circle whose x was between -2 and 2, and then from 1/2 to 1.
+fn circle_renewed_alike<L: Ledger>(alloc: Global, blank: Blank) -> Result<bool, Fail>
+    requires name { blank.name ≡ L.name }
+    requires parts { blank.parts ≡ L.parts }
+    requires some { 0 < blank.parts }
+{
+    let graph = circle(alloc);
+    let mut space = two_axes(alloc, span(pow2(1).neg(), pow2(1)).ok_or("crossed")?)?;
+    let right = span(pow2(-1), pow2(0)).ok_or("crossed")?;
+    let mut steps = Steps::<L>::new(blank);
+    let alike = renewed_alike(alloc, &graph, &mut space, right, &mut steps)?;
+    Ok(graph.len() == 7 && alike)
+}
+
+#[test]
+fn circles_are_renewed_in_few_steps(rt: HostRuntime) -> Result<(), Fail> {
+    assert!(rt; circle_renewed_alike::<Brand>(rt.alloc(), Blank::new(1))?);
     Ok(())
 }

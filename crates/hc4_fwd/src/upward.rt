@@ -1,52 +1,38 @@
 // The forward pass upwards from one axis.
-ghost use Rattle.std.specs.Prelude.{◌≡◌, ℕ, ◌<◌, length, slice_set, slice_index, All, true, false, Some, slice_get};
-ghost use Rattle.poly_graph.specs.Term;
-ghost use Rattle.poly_graph.specs.Narrowed.{enclosures, has_child};
-ghost use Rattle.poly_graph.specs.NodeEnclosure.{node_enclosure};
-ghost use Rattle.poly_graph.specs.Parents.{AreParents};
-ghost use Rattle.poly_graph.specs.Views.{node_of};
-ghost use Rattle.ival.specs.RowViews.{rows_of, marks_of, is_marked};
+ghost use Rattle.std.specs.Prelude.{◌≡◌, ◌<◌, length};
+ghost use Rattle.poly_graph.specs.Narrowed.{enclosures};
+ghost use Rattle.ival.specs.RowViews.{rows_of};
 ghost use Rattle.ival.specs.SpaceViews.{space_of};
 ghost use Rattle.hc4_fwd.specs.Reached.{FilledBut};
 ghost use Rattle.hc4_fwd.specs.Above.{IsAbove};
 
 use crate::above::Above;
-use crate::node_interval::node_interval;
+use crate::counted::refill_counted;
+use crate::steps::Steps;
 use ival::{Rows, Space};
-use poly_graph::{Graph, Node, Parents};
+use poly_graph::Graph;
+use std::marker::Brand;
+use std::sync::ledger::{Blank, Ledger};
 
-// Marks these places.
-fn mark_all(places: &[u32], rows: &mut Rows)
-    requires { All (λ k. k < length (rows_of rows.old)) places.now }
-    ensures rows { rows_of rows.new ≡ rows_of rows.old }
-    ensures others { (k : ℕ) → is_marked (marks_of rows.new) k ≡ false → is_marked (marks_of rows.old) k ≡ false }
-    ensures all { (j : ℕ) → j < length places.now → is_marked (marks_of rows.new) (slice_index places.now j) ≡ true }
-{
-    for place in places {
-        rows.mark(*place as usize);
-    }
-}
-
-// Puts its enclosure into the row of node n, and marks its parents.
-fn renew_and_mark(
-    node: Node,
-    n: usize,
-    space: &Space,
+// As `refill_counted`, with a count of its own on a new ledger.
+fn refill_on_blank<L: Ledger>(
     graph: &Graph,
-    parents: &Parents,
+    space: &Space,
+    axis: u32,
+    above: &Above,
     rows: &mut Rows,
+    blank: Blank,
 )
-    requires node { slice_get graph.now n ≡ Some (node_of node) }
-    requires parents { AreParents graph.now parents.now }
-    requires count { length (rows_of rows.old) ≡ length graph.now }
-    ensures rows { rows_of rows.new ≡ slice_set (rows_of rows.old) n (node_enclosure (space_of space.now) (rows_of rows.old) (node_of node)) }
-    ensures others { (k : ℕ) → is_marked (marks_of rows.new) k ≡ false → is_marked (marks_of rows.old) k ≡ false }
-    ensures parents { (k : ℕ) (p : Term.Node) → slice_get graph.now k ≡ Some p → has_child n p ≡ true → is_marked (marks_of rows.new) k ≡ true }
+    requires name { blank.name ≡ L.name }
+    requires parts { blank.parts ≡ L.parts }
+    requires some { 0 < blank.parts }
+    requires axis { axis < length above.now.variables.items }
+    requires above { IsAbove graph.now above.now }
+    requires rows { FilledBut axis graph.now (space_of space.now) (rows_of rows.old) }
+    ensures { rows_of rows.new ≡ enclosures (space_of space.now) graph.now }
 {
-    prove!(n < graph.len());
-    let interval = node_interval(node, space, rows);
-    rows.set(n, interval);
-    mark_all(parents.of(n as u32), rows);
+    let mut steps = Steps::<L>::new(blank);
+    refill_counted(graph, space, axis, above, rows, &mut steps);
 }
 
 /// As `refill`, by way of what stands above what: no node is looked at from which the axis is not reached.
@@ -56,18 +42,5 @@ pub fn refill_by(graph: &Graph, space: &Space, axis: u32, above: &Above, rows: &
     requires rows { FilledBut axis graph.now (space_of space.now) (rows_of rows.old) }
     ensures { rows_of rows.new ≡ enclosures (space_of space.now) graph.now }
 {
-    prove_eq!(rows.len(), graph.len());
-    let Some(variable) = above.variables[axis as usize] else {
-        return;
-    };
-    prove!((variable as usize) < graph.len());
-    rows.clear_marks();
-    let mut n = variable as usize;
-    loop {
-        renew_and_mark(graph.node(n as u32), n, space, graph, &above.parents, rows);
-        match rows.next_marked_above(n) {
-            Some(next) => n = next,
-            None => return,
-        }
-    }
+    refill_on_blank::<Brand>(graph, space, axis, above, rows, Blank::new(1));
 }

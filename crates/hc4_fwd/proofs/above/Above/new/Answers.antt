@@ -1,8 +1,8 @@
-use Rattle.std.proofs.Common.{◌≡◌, ℕ, List, ◌+◌, ◌∙◌, length, Option, None, get_or, replicate, ap, sym, subst, arith, rules}
+use Rattle.std.proofs.Common.{◌≡◌, ℕ, List, ◌+◌, ◌∙◌, length, Option, ap, sym, subst, arith}
 use Rattle.std.proofs.lemmas.List.{with_items_is}
 use Rattle.poly_graph.specs.Views.{node_of}
 use Rattle.hc4_fwd.specs.Above.{AreVariables}
-use Rattle.hc4_fwd.proofs.Upwards.{no_variables, noted}
+use Rattle.hc4_fwd.proofs.Upwards.{noted}
 use Rattle.hc4_fwd.proofs.above.Above.new.Goals as goal
 
 pub loop-n-preserved : goal.loop-n-preserved
