@@ -1,1 +1,10 @@
+pub mod Appended
+pub mod Counted
+pub mod Forest
+pub mod Items
+pub mod Numbers
 pub mod Proved
+pub mod Spelling
+pub mod Searched
+pub mod Told
+pub mod Wholes

@@ -1,10 +1,9 @@
 -- The certificate of a book is accepted and honest.
-use Rattle.std.proofs.Common.{◌≡◌, ℕ, List, [], map, length, All, IsTrue, refl, ap, sym, ◌∙◌, subst, arith}
+use Rattle.std.proofs.Common.{◌≡◌, List, All, IsTrue, ap, sym, ◌∙◌, subst, arith}
 use Rattle.std.proofs.lemmas.List.{length-map}
 use Rattle.std.proofs.lemmas.List.Elements.{All-map}
 use Rattle.dyadic.proofs.Equal.{both_pass}
-use Rattle.poly_graph.specs.Problem.{Problem}
-use Rattle.poly_graph.specs.State.{Loosenings, delta_of, sure}
+use Rattle.poly_graph.specs.State.{delta_of, sure}
 use Rattle.poly_graph.specs.Rules.{open_line}
 use Rattle.poly_graph.specs.Honest.{is_honest}
 use Rattle.poly_graph.specs.Fits.{coordinates, are_near}
@@ -15,11 +14,10 @@ use Rattle.cert_model.specs.Standing.{Stands}
 use Rattle.cert_model.specs.Written.{lemma_states, tree_standing}
 use Rattle.cert_model.proofs.Texts.{tree_accepted, tree_stand, tree_honest, tree_branch, crossing_texts, point_texts}
 use Rattle.poly_graph.specs.State.{root_state}
-use Rattle.cover_book.specs.Model.{BookModel, problem_in, loosenings_in}
+use Rattle.cover_book.specs.Model.{problem_in, loosenings_in}
 use Rattle.cover_book.specs.Tree.{lemma_tree, lemma_trees}
 use Rattle.cover_book.proofs.Meaning.{tree_is_honest, fits_limits}
 use Rattle.cover_book.proofs.Opens.{first_crosses}
-use Rattle.cert_text.specs.Texts.{book_text}
 use Rattle.cert_text.specs.Laws.{BookTextIsAccepted, BookTextBranches, BookTextEndsHonestly, BookTextIsHonest, CrossedTextIsAccepted, PointTextIsAccepted}
 
 pub book_text_is_accepted : BookTextIsAccepted

@@ -1,5 +1,5 @@
 -- What the certificate of a book is.
-use Rattle.std.specs.Prelude.{◌≡◌, ℕ, List, [], All, Option, Some, IsTrue}
+use Rattle.std.specs.Prelude.{◌≡◌, ◌↔◌, ℕ, List, [], All, false, Option, Some, IsTrue}
 use Rattle.poly_graph.specs.Space.{Space}
 use Rattle.poly_graph.specs.Problem.{Problem, first_crossed}
 use Rattle.poly_graph.specs.State.{State, Loosenings}
@@ -10,9 +10,11 @@ use Rattle.poly_graph.specs.Fits.{IsShownAt}
 use Rattle.cert_model.specs.Due.{Standing, at_point, left_open}
 use Rattle.cert_model.specs.Accepted.{IsAccepted, loosenings_fit}
 use Rattle.cert_model.specs.Standing.{Stands, standing, IsHonest, branches}
+use Rattle.cert_model.specs.AnswerText.{has_open}
 use Rattle.cert_model.specs.Written.{point_lines}
 use Rattle.cert_model.specs.Laws.{CanBeWritten, point_text}
 use Rattle.cover_book.specs.Model.{BookModel, problem_in, loosenings_in}
+use Rattle.cover_book.specs.Verdict.{has_live, has_stuck}
 use Rattle.cover_book.specs.Steps.{IsLive}
 use Rattle.cover_book.specs.Keeps.{IsBook}
 use Rattle.cover_book.specs.Laws.{IsTreeOfBook}
@@ -46,3 +48,12 @@ CrossedTextIsAccepted = (b : BookModel) → IsBook b → (i : ℕ) → first_cro
 abbrev pub PointTextIsAccepted : Type 0
 PointTextIsAccepted = (p : Problem) (bound : Option ℕ) (s : Loosenings) → IsTrue (loosenings_fit s.margin_bits s.delta_bits) → (space : Space) → IsShownAt p s space → CanBeWritten (point_lines s bound space) →
     IsAccepted p bound (point_text s bound space) s (at_point space)
+
+-- an open state is left exactly where a node is live, and nothing exactly where no node is live or stuck
+pub record TellsOfNodes (b : BookModel) (left : List Standing) : Type 0 where
+  pub live : has_open left ≡ has_live b
+  pub nothing : (left ≡ []) ↔ ((has_live b ≡ false) × (has_stuck b ≡ false))
+
+-- What is left of a book's tree tells of its nodes.
+abbrev pub LeftTellsOfNodes : Type 0
+LeftTellsOfNodes = (b : BookModel) → IsBook b → (t : Tree) (left : List Standing) → IsTreeOfBook b t left → TellsOfNodes b left

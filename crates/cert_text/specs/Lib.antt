@@ -1,2 +1,6 @@
 pub mod Laws
+pub mod Lines
+pub mod Means
+pub mod Parts
+pub mod Stuck
 pub mod Texts

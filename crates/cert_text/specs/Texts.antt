@@ -1,10 +1,8 @@
 -- The certificate of a book, and of a point: their texts.
 use Rattle.std.specs.Prelude.{ℕ, List, [], ◌∷◌}
-use Rattle.poly_graph.specs.Space.{Space}
-use Rattle.poly_graph.specs.State.{Loosenings}
 use Rattle.poly_graph.specs.Derivation.{Tree, tree_lines}
 use Rattle.cert_read.specs.CertLine.{CertLine, crossing}
-use Rattle.cert_model.specs.Written.{rule_lines, cover_lines, point_lines}
+use Rattle.cert_model.specs.Written.{rule_lines, cover_lines}
 use Rattle.cert_model.specs.Accepted.{certificate_text}
 use Rattle.cover_book.specs.Model.{BookModel, loosenings_in}
 use Rattle.cover_book.specs.Tree.{lemma_trees}

@@ -8,7 +8,7 @@ ghost use Rattle.poly_graph.specs.ProblemViews.{problem_of};
 ghost use Rattle.poly_graph.specs.State.{root_state};
 ghost use Rattle.cover_book.specs.Model.{opening, first_node, lemma_states_in};
 ghost use Rattle.cover_book.specs.Verdict.{verdict_of, is_live, is_stuck, live_after};
-ghost use Rattle.cover_book.specs.Views.{node_of};
+ghost use Rattle.cover_book.specs.Views.{learned_of, node_of};
 ghost use Rattle.cover_book.specs.Keeps.{IsBook};
 ghost use Rattle.cover_book.specs.Steps.{Steps, Knows, RefusesQuoted, RefusesPoint, RefusesCommit, MayCommit, Meets, Commits, Learns, most_lemmas, ends_in_branch};
 ghost use Rattle.cover_book.specs.declared.calls.Call.TheVariants as call;
@@ -144,6 +144,22 @@ impl Book {
         ensures book { IsBook self.now }
     {
         &self.options
+    }
+
+    /// The nodes, by number.
+    pub fn nodes(&self) -> &[Node]
+        ensures nodes { map node_of result.now ≡ self.now.nodes }
+        ensures book { IsBook self.now }
+    {
+        &self.nodes
+    }
+
+    /// The lemmas that were learned, by number.
+    pub fn lemmas(&self) -> &[Learned]
+        ensures lemmas { map learned_of result.now ≡ self.now.lemmas }
+        ensures book { IsBook self.now }
+    {
+        &self.lemmas
     }
 
     /// The point that is kept.

@@ -1,0 +1,145 @@
+// Lines that are appended to a text.
+ghost use Rattle.std.specs.Prelude.{◌≡◌, ◌<◌, ◌≤◌, ◌^◌, ◌++◌, ◌∷◌, [], OnOk, decimal, length, map};
+ghost use Rattle.dyadic.specs.NumberText.{number_spelling};
+ghost use Rattle.dyadic.specs.Views.{dyadic_of};
+ghost use Rattle.poly_graph.specs.MarkViews.{mark_of};
+ghost use Rattle.poly_graph.specs.State.{numbers_from};
+ghost use Rattle.cert_read.specs.CertLine.{ban_by, cut_at, real_interval, real_value, rule_line};
+ghost use Rattle.cert_read.specs.LineText.{IsCount, IsSpelledNumber, spaced};
+ghost use Rattle.cert_text.specs.Lines.{Appends, counted_line, is_marked, listed, marks_line, marks_word, most_atoms, plain_line};
+
+use crate::keyword::{Counted, Plain, counted_bytes, plain_bytes};
+use dyadic::{Dy, write_dy};
+use itoa::Buffer;
+use poly_graph::Mark;
+use std::alloc::AllocError;
+
+fn append_count(text: &mut Vec<u8>, n: u32) -> Result<(), AllocError>
+    ensures text { OnOk result (text.new.items ≡ text.old.items ++ decimal n) }
+    ensures count { IsCount n }
+{
+    let mut buffer = Buffer::new();
+    text.extend_from_slice(buffer.format(n).as_bytes())
+}
+
+fn append_number(text: &mut Vec<u8>, number: Dy) -> Result<(), AllocError>
+    ensures text { OnOk result (text.new.items ≡ text.old.items ++ number_spelling (dyadic_of number)) }
+    ensures spelled { IsSpelledNumber (dyadic_of number) }
+    ensures short { length (number_spelling (dyadic_of number)) ≤ 64 }
+{
+    let mut buffer = [0; 64];
+    let end = write_dy(&number, &mut buffer);
+    text.extend_from_slice(&buffer[..end])
+}
+
+// The end of a line.
+fn append_break(text: &mut Vec<u8>) -> Result<(), AllocError>
+    ensures { OnOk result (text.new.items ≡ text.old.items ++ 10 ∷ []) }
+{
+    text.extend_from_slice(b"\n")
+}
+
+/// Appends a line without a number.
+pub(crate) fn append_plain(text: &mut Vec<u8>, line: Plain) -> Result<(), AllocError>
+    ensures { OnOk result (Appends text.old.items (plain_line line ∷ []) text.new.items) }
+{
+    text.extend_from_slice(plain_bytes(line).as_bytes())?;
+    append_break(text)
+}
+
+// A word and a number.
+fn append_word_and_count(text: &mut Vec<u8>, word: &str, n: u32) -> Result<(), AllocError>
+    ensures text { OnOk result (text.new.items ≡ text.old.items ++ (word.now ++ 32 ∷ decimal n)) }
+    ensures count { IsCount n }
+{
+    text.extend_from_slice(word.as_bytes())?;
+    text.extend_from_slice(b" ")?;
+    append_count(text, n)
+}
+
+/// Appends a line with one plain number.
+pub(crate) fn append_counted(text: &mut Vec<u8>, word: Counted, n: u32) -> Result<(), AllocError>
+    ensures { OnOk result (Appends text.old.items (counted_line word n ∷ []) text.new.items) }
+{
+    append_word_and_count(text, counted_bytes(word), n)?;
+    append_break(text)
+}
+
+/// Appends the line that a lemma bans an atom.
+pub(crate) fn append_ban(text: &mut Vec<u8>, atom: u32, lemma: u32) -> Result<(), AllocError>
+    ensures { OnOk result (Appends text.old.items (rule_line (ban_by atom lemma) ∷ []) text.new.items) }
+{
+    append_word_and_count(text, "ban", atom)?;
+    append_word_and_count(text, "", lemma)?;
+    append_break(text)
+}
+
+/// Appends the line that an axis is cut at a number.
+pub(crate) fn append_cut(text: &mut Vec<u8>, axis: u32, at: Dy) -> Result<(), AllocError>
+    ensures { OnOk result (Appends text.old.items (rule_line (cut_at axis (dyadic_of at)) ∷ []) text.new.items) }
+{
+    append_word_and_count(text, "cut", axis)?;
+    text.extend_from_slice(b" ")?;
+    append_number(text, at)?;
+    append_break(text)
+}
+
+/// Appends the line of a Real value.
+pub(crate) fn append_value(text: &mut Vec<u8>, value: Dy) -> Result<(), AllocError>
+    ensures { OnOk result (Appends text.old.items (real_value (dyadic_of value) ∷ []) text.new.items) }
+{
+    text.extend_from_slice(b"real ")?;
+    append_number(text, value)?;
+    append_break(text)
+}
+
+/// Appends the line of an interval.
+pub(crate) fn append_interval(text: &mut Vec<u8>, low: Dy, high: Dy) -> Result<(), AllocError>
+    ensures { OnOk result (Appends text.old.items (real_interval (dyadic_of low) (dyadic_of high) ∷ []) text.new.items) }
+{
+    text.extend_from_slice(b"real ")?;
+    append_number(text, low)?;
+    text.extend_from_slice(b" ")?;
+    append_number(text, high)?;
+    append_break(text)
+}
+
+// Whether the atom is marked yes, or no.
+fn is_marked(mark: Mark, yes: bool) -> bool
+    ensures { result ≡ is_marked yes (mark_of mark) }
+{
+    match mark {
+        Mark::Yes => yes,
+        Mark::No => !yes,
+        Mark::Neither => false,
+    }
+}
+
+fn marks_bytes(yes: bool) -> &'static str
+    ensures { result.now ≡ marks_word yes }
+{
+    if yes { "yes" } else { "no" }
+}
+
+// The numbers of the atoms that are marked so.
+fn append_numbers(text: &mut Vec<u8>, marks: &[Mark], yes: bool) -> Result<(), AllocError>
+    requires { length marks.now ≤ most_atoms }
+    ensures { OnOk result (text.new.items ≡ text.old.items ++ listed (numbers_from (is_marked yes) 0 (map mark_of marks.now))) }
+{
+    for j in 0..marks.len() {
+        if is_marked(marks[j], yes) {
+            append_word_and_count(text, "", j as u32)?;
+        }
+    }
+    Ok(())
+}
+
+/// Appends the line of the atoms that are marked yes, or of those marked no.
+pub(crate) fn append_marks(text: &mut Vec<u8>, marks: &[Mark], yes: bool) -> Result<(), AllocError>
+    requires { length marks.now ≤ most_atoms }
+    ensures { OnOk result (Appends text.old.items (marks_line yes (map mark_of marks.now) ∷ []) text.new.items) }
+{
+    text.extend_from_slice(marks_bytes(yes).as_bytes())?;
+    append_numbers(text, marks, yes)?;
+    append_break(text)
+}
