@@ -1,0 +1,7 @@
+pub mod Conjuncts
+pub mod Due
+pub mod Going
+pub mod Open
+pub mod Parts
+pub mod Small
+pub mod Works

@@ -1,0 +1,36 @@
+-- Steps leave a patch open.
+use Rattle.std.proofs.Common.{◌≡◌, ◌⊎◌, inl, inr, List, [], ◌∷◌, ◌++◌, Option, sym, subst}
+use Rattle.std.specs.Prelude.{Contains, Result, Ok, Err}
+use Rattle.std.proofs.lemmas.List.Elements.{All-push}
+use Rattle.poly_graph.specs.ProblemViews.{Parts}
+use Rattle.poly_graph.specs.State.{State}
+use Rattle.cover_rule.specs.declared.margins.Margins.{Margins}
+use Rattle.cover_rule.specs.declared.refusal.PatchRefusal.{PatchRefusal}
+use Rattle.cover_rule.specs.declared.refusal.PatchRefusal.TheVariants.{NotYes, NotForced, NotCovered, NotFalse, NotInside, NotStuck, NotHonest, Ended, IsVoid, Decided, Memory}
+use Rattle.cover_rule.specs.Models.{LemmaModel, PatchModel}
+use Rattle.cover_rule.specs.Refusals.{Answers}
+use Rattle.box_worker.specs.Attempts.{AreAmong, IsOpen}
+
+done-or-same : (refusal : Option PatchRefusal) (P done Q : PatchModel) (r : Result (Unit {0}) PatchRefusal) → Answers refusal P done Q r → (Q ≡ done) ⊎ (Q ≡ P)
+done-or-same refusal P done Q (Ok u) a = inl a.1
+done-or-same refusal P done Q (Err NotYes) a = inr a.1
+done-or-same refusal P done Q (Err NotForced) a = inr a.1
+done-or-same refusal P done Q (Err NotCovered) a = inr a.1
+done-or-same refusal P done Q (Err NotFalse) a = inr a.1
+done-or-same refusal P done Q (Err NotInside) a = inr a.1
+done-or-same refusal P done Q (Err NotStuck) a = inr a.1
+done-or-same refusal P done Q (Err NotHonest) a = inr a.1
+done-or-same refusal P done Q (Err Ended) a = inr a.1
+done-or-same refusal P done Q (Err IsVoid) a = inr a.1
+done-or-same refusal P done Q (Err Decided) a = inr a.1
+done-or-same refusal P done Q (Err Memory) a = inr a.1
+
+pub still_open : (refusal : Option PatchRefusal) (P done Q : PatchModel) (r : Result (Unit {0}) PatchRefusal) → Answers refusal P done Q r →
+    (q : Parts) (m : Margins) (lemmas : List LemmaModel) (S : State) → (IsOpen q m lemmas S P → IsOpen q m lemmas S done) → IsOpen q m lemmas S P → IsOpen q m lemmas S Q
+still_open refusal P done Q r a q m lemmas S f h = elim (done-or-same refusal P done Q r a) [
+  | inl e ↦ subst (IsOpen q m lemmas S) (sym e) (f h)
+  | inr e ↦ subst (IsOpen q m lemmas S) (sym e) h
+]
+
+pub among_more : (lemmas quoted : List LemmaModel) (L : LemmaModel) → Contains lemmas L → AreAmong lemmas quoted → AreAmong lemmas (quoted ++ (L ∷ []))
+among_more lemmas quoted L c h = All-push (λ (X : LemmaModel). Contains lemmas X) quoted L h c

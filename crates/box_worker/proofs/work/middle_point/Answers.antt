@@ -1,0 +1,16 @@
+use Rattle.std.proofs.Common.{◌≡◌, ◌∙◌, ap, sym, subst, IsTrue}
+use Rattle.dyadic.specs.Space.{Space}
+use Rattle.dyadic.proofs.Equal.{both_true}
+use Rattle.poly_graph.specs.Problem.{root_space}
+use Rattle.poly_graph.specs.ProblemViews.{problem_of}
+use Rattle.poly_graph.specs.State.{State, space_within, marks_within}
+use Rattle.poly_graph.proofs.Within.{space_through}
+use Rattle.ival.specs.SpaceViews.{space_of}
+use Rattle.box_worker.proofs.work.middle_point.Goals as goal
+
+pub of_middle-requires-clause-space : goal.of_middle-requires-clause-space
+of_middle-requires-clause-space c =
+    let k = c.args.patch.now.kept in let root = root_space (problem_of c.args.problem.now) in
+    let at : space_of c.space.result.now ≡ k.reached.space = c.space.ensures ∙ ap (λ (S : State). S.space) c.reached.ensures.state in
+    subst (λ (s : Space). IsTrue (space_within s root)) (sym at)
+    (space_through k.reached.space k.first.space root (both_true (space_within k.reached.space k.first.space) (marks_within k.first.marks k.reached.marks) c.reached.ensures.run.sound.within).0 c.requires.root)

@@ -1,0 +1,44 @@
+-- How a patch comes to its end.
+use Rattle.std.specs.Prelude.{◌≡◌, List, Bool, true, false, Option, Some, None, IsTrue, find, ◌⊎◌}
+use Rattle.poly_graph.specs.ProblemViews.{problem_of}
+use Rattle.poly_graph.specs.State.{State, covers, may}
+use Rattle.poly_graph.specs.Honest.{middle, not_shown}
+use Rattle.poly_graph.specs.Rules.{Line, make_false, cut, flip, case, stuck}
+use Rattle.poly_graph.specs.Fits.{IsShownAt}
+use Rattle.cover_rule.specs.Margins.{loosenings_of}
+use Rattle.cover_rule.specs.Models.{LemmaModel, PatchModel}
+use Rattle.cover_rule.specs.Patch.{problem_in, loosenings_in, now_in}
+use Rattle.cover_rule.specs.Refusals.{ended_with, covered_by}
+use Rattle.cover_rule.specs.Runs.{IsClosed}
+use Rattle.box_worker.specs.declared.ended.Ended.{Ended}
+use Rattle.box_worker.specs.declared.ended.Ended.TheVariants.{Closed, Parted, Shown}
+
+-- the first lemma that covers the state
+abbrev pub first_covering : List LemmaModel → State → Option LemmaModel
+first_covering lemmas S = find (λ (L : LemmaModel). covers L.state S) lemmas
+
+-- the line parts a state, or leaves it as a stuck one
+abbrev pub leaves_some : Line → Bool
+leaves_some (cut axis c) = true
+leaves_some (flip axis) = true
+leaves_some (case j) = true
+leaves_some (stuck j) = true
+leaves_some l = false
+
+abbrev pub is_left : Option Line → Bool
+is_left None = false
+is_left (Some l) = leaves_some l
+
+-- what stands when a patch has come to its end
+abbrev pub HasEnded : PatchModel → Ended → Type 0
+HasEnded Q Closed = IsClosed Q.kept
+HasEnded Q Parted = IsTrue (is_left Q.kept.end)
+HasEnded Q (Shown x) = (Q.kept.end ≡ None) × (x ≡ middle Q.kept.reached.space) × IsShownAt (problem_of Q.problem) (loosenings_of Q.margins) x
+
+-- a patch that has just begun ends before any step: it can't hold, it is sure at the middle, or the first lemma that covers the state closes it
+abbrev pub AtOnce : List LemmaModel → PatchModel → PatchModel → Option Ended → Type 0
+AtOnce lemmas P Q None = (Q ≡ P) × (not_shown (problem_in P) (loosenings_in P) (now_in P) ≡ true) × (first_covering lemmas (now_in P) ≡ None)
+AtOnce lemmas P Q (Some Closed) = ((may (problem_in P) (loosenings_in P) (now_in P) ≡ false) × (Q ≡ ended_with P make_false)) ⊎
+    ((L : LemmaModel) × (not_shown (problem_in P) (loosenings_in P) (now_in P) ≡ true) × (first_covering lemmas (now_in P) ≡ Some L) × (Q ≡ covered_by P L))
+AtOnce lemmas P Q (Some Parted) = ⊥
+AtOnce lemmas P Q (Some (Shown x)) = (Q ≡ P) × (may (problem_in P) (loosenings_in P) (now_in P) ≡ true) × (x ≡ middle (now_in P).space) × IsShownAt (problem_in P) (loosenings_in P) x

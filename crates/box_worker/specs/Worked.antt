@@ -1,0 +1,122 @@
+-- What work on a state comes to.
+use Rattle.std.specs.Prelude.{◌≡◌, List, [], ◌∷◌, Bool, true, false, ◌&&◌, ◌||◌, All, Option, Some, None, IsTrue}
+use Rattle.poly_graph.specs.Problem.{Problem}
+use Rattle.poly_graph.specs.ProblemViews.{problem_of}
+use Rattle.poly_graph.specs.Space.{Space}
+use Rattle.poly_graph.specs.State.{State, Loosenings, IsLemma, covers, may, sure}
+use Rattle.poly_graph.specs.Honest.{middle, not_shown}
+use Rattle.poly_graph.specs.Rules.{Line, make_false, by}
+use Rattle.poly_graph.specs.Fits.{FitsProblem, IsShownAt}
+use Rattle.cover_rule.specs.declared.margins.Margins.{Margins}
+use Rattle.cover_rule.specs.declared.margins.Options.{Options}
+use Rattle.cover_rule.specs.Margins.{loosenings_of}
+use Rattle.cover_rule.specs.Models.{LemmaModel, KeptModel, PatchModel}
+use Rattle.cover_rule.specs.Patch.{run_at, ended_by}
+use Rattle.cover_rule.specs.Refusals.{covered}
+use Rattle.cover_rule.specs.Runs.{IsRun, IsClosed}
+use Rattle.cover_rule.specs.Views.{kept_of}
+use Rattle.box_worker.specs.Attempts.{AreAmong}
+use Rattle.box_worker.specs.Ended.{first_covering, is_left}
+use Rattle.box_worker.specs.declared.worked.Worked.{Worked}
+use Rattle.box_worker.specs.declared.worked.Worked.TheVariants.{Patch, Closed, Point}
+
+abbrev pub margins_of : Options → Margins
+margins_of o = record { delta_bits = o.delta_bits; margin_bits = o.margin_bits; least_bits = o.least_bits }
+
+-- ---- lemmas
+
+-- these are states of the problem of which no point meets the form
+abbrev pub AreLemmasFor : Problem → Loosenings → List LemmaModel → Type 0
+AreLemmasFor p s lemmas = All (λ (L : LemmaModel). FitsProblem p L.state × IsLemma p s L.state) lemmas
+
+-- ---- runs
+
+-- a run from the state, for the problem at these margins, which quotes lemmas of the list alone
+pub record IsRunFrom (p : Problem) (m : Margins) (lemmas : List LemmaModel) (S : State) (k : KeptModel) : Type 0 where
+  pub first : k.first ≡ S
+  pub run : IsRun p m k
+  pub among : AreAmong lemmas k.quoted
+
+abbrev pub has_no_step : List Line → Bool
+has_no_step [] = true
+has_no_step (l ∷ ls) = false
+
+abbrev pub is_false : Option Line → Bool
+is_false (Some make_false) = true
+is_false end = false
+
+abbrev pub is_by : Option Line → Bool
+is_by (Some (by i)) = true
+is_by end = false
+
+-- the run is the one line `false`, or ends by a lemma
+abbrev pub teaches_nothing : KeptModel → Bool
+teaches_nothing k = (has_no_step k.steps && is_false k.end) || is_by k.end
+
+-- a run that closed a state which covers this one
+pub record IsLearned (p : Problem) (m : Margins) (lemmas : List LemmaModel) (S : State) (c : KeptModel) : Type 0 where
+  pub run : IsRun p m c
+  pub among : AreAmong lemmas c.quoted
+  pub closed : IsClosed c
+  pub wide : IsTrue (covers c.first S)
+
+-- what there is to learn of a run from the state that closed it
+abbrev pub Teaches : Problem → Margins → List LemmaModel → State → KeptModel → Option KeptModel → Type 0
+Teaches p m lemmas S k None = teaches_nothing k ≡ true
+Teaches p m lemmas S k (Some c) = (teaches_nothing k ≡ false) × IsLearned p m lemmas S c
+
+-- ---- answers
+
+-- the middle of a state that steps from this one reach
+pub record IsMiddleFrom (p : Problem) (m : Margins) (lemmas : List LemmaModel) (S : State) (x : Space) : Type 0 where
+  pub steps : KeptModel
+  pub run : IsRunFrom p m lemmas S steps
+  pub open_end : steps.end ≡ None
+  pub middle_is : x ≡ middle steps.reached.space
+  pub shown : IsShownAt p (loosenings_of m) x
+
+-- each answer is of this kind
+abbrev pub IsWork : Problem → Margins → List LemmaModel → State → Worked → Type 0
+IsWork p m lemmas S (Patch k) = IsRunFrom p m lemmas S (kept_of k) × IsTrue (is_left (kept_of k).end)
+IsWork p m lemmas S (Closed k c) = IsRunFrom p m lemmas S (kept_of k) × IsClosed (kept_of k) × Teaches p m lemmas S (kept_of k) c
+IsWork p m lemmas S (Point x) = IsMiddleFrom p m lemmas S x
+
+-- the state was closed by this run, of which there is nothing to learn
+abbrev pub IsClosedBy : KeptModel → Worked → Type 0
+IsClosedBy k (Patch k') = ⊥
+IsClosedBy k (Closed k' c) = (kept_of k' ≡ k) × (c ≡ None)
+IsClosedBy k (Point x) = ⊥
+
+-- this point
+abbrev pub IsPointAt : Space → Worked → Type 0
+IsPointAt x (Patch k) = ⊥
+IsPointAt x (Closed k c) = ⊥
+IsPointAt x (Point y) = y ≡ x
+
+-- a run that parts the state, or finds it stuck, is given only where the form may hold and is not sure at the middle
+abbrev pub IsLeftOpen : Problem → Loosenings → State → Worked → Type 0
+IsLeftOpen p s S (Patch k) = not_shown p s S ≡ true
+IsLeftOpen p s S (Closed k c) = Unit {0}
+IsLeftOpen p s S (Point x) = Unit {0}
+
+-- the answers that are given before any step, in this order: that the form can't hold, that it is sure at the middle, and that the first lemma which covers the state closes it
+pub record AnswersAtOnce (p : Problem) (s : Loosenings) (lemmas : List LemmaModel) (S : State) (w : Worked) : Type 0 where
+  pub cannot_hold : may p s S ≡ false → IsClosedBy (ended_by (run_at S) make_false []) w
+  pub is_sure : may p s S ≡ true → sure p s (middle S.space) ≡ true → IsPointAt (middle S.space) w
+  pub is_open : IsLeftOpen p s S w
+  pub is_covered : not_shown p s S ≡ true → (L : LemmaModel) → first_covering lemmas S ≡ Some L → IsClosedBy (covered (run_at S) L) w
+
+-- ---- what a patch comes to
+
+-- the closed run, and what may be learned of it
+abbrev pub IsClosedWork : KeptModel → Worked → Type 0
+IsClosedWork k (Patch k') = ⊥
+IsClosedWork k (Closed k' None) = (kept_of k' ≡ k) × (teaches_nothing k ≡ true)
+IsClosedWork k (Closed k' (Some c)) = (kept_of k' ≡ k) × (teaches_nothing k ≡ false) × (c ≡ k) × IsClosed c
+IsClosedWork k (Point x) = ⊥
+
+-- what the work has come to by a patch
+abbrev pub WorkOf : PatchModel → Worked → Type 0
+WorkOf P (Patch k) = (kept_of k ≡ P.kept) × IsRun (problem_of P.problem) P.margins P.kept × IsTrue (is_left P.kept.end)
+WorkOf P (Closed k c) = IsClosedWork P.kept (Closed k c) × IsRun (problem_of P.problem) P.margins P.kept × IsClosed P.kept
+WorkOf P (Point x) = (P.kept.end ≡ None) × IsRun (problem_of P.problem) P.margins P.kept × (x ≡ middle P.kept.reached.space) × IsShownAt (problem_of P.problem) (loosenings_of P.margins) x

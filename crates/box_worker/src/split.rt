@@ -1,0 +1,84 @@
+// Branches at an atom or a Bool axis that was chosen, or at the widest axis.
+ghost use Rattle.std.specs.Prelude.{◌≡◌, IfOk, IsTrue, true, false, None};
+ghost use Rattle.cover_rule.specs.Margins.{AreMargins};
+ghost use Rattle.box_worker.specs.Attempts.{Continues};
+ghost use Rattle.box_worker.specs.Ended.{is_left};
+
+use crate::attempt;
+use crate::choose::{Choice, choose, is_open};
+use crate::look::Needs;
+use crate::scout::see;
+use cover_rule::{Margins, Patch};
+use poly_graph::Problem;
+use std::alloc::{AllocError, Global};
+
+// Parts the state at what was chosen, where nothing else is left to do.
+fn part_at(problem: &Problem, choice: Option<Choice>, patch: &mut Patch) -> Result<bool, AllocError>
+    requires problem { patch.old.problem ≡ problem.now }
+    ensures continues { IfOk result (λ b. Continues patch.old patch.new) }
+    ensures parted { IfOk result (λ b. b ≡ true → IsTrue (is_left patch.new.kept.end)) }
+    ensures same { IfOk result (λ b. b ≡ false → patch.new ≡ patch.old) }
+{
+    match choice {
+        Some(Choice::Atom(j)) => {
+            if (j as usize) < problem.atoms().len() {
+                attempt::case(patch, j)
+            } else {
+                Ok(false)
+            }
+        }
+        Some(Choice::Flip(axis)) => {
+            if (axis as usize) < problem.axes().len() {
+                attempt::flip(patch, axis)
+            } else {
+                Ok(false)
+            }
+        }
+        None => Ok(false),
+    }
+}
+
+// Parts the state at an atom or axis of a needed disjunction of at most so many children.
+fn part_by_form(
+    alloc: Global,
+    problem: &Problem,
+    needs: &Needs,
+    most: u32,
+    patch: &mut Patch,
+) -> Result<bool, AllocError>
+    requires problem { patch.old.problem ≡ problem.now }
+    ensures continues { IfOk result (λ b. Continues patch.old patch.new) }
+    ensures parted { IfOk result (λ b. b ≡ true → IsTrue (is_left patch.new.kept.end)) }
+    ensures same { IfOk result (λ b. b ≡ false → patch.new ≡ patch.old) }
+{
+    let choice = choose(alloc, problem, needs, patch.reached(), most)?;
+    part_at(problem, choice, patch)
+}
+
+/// Parts the state where nothing else is left to do: at a Bool axis that is needed at one value, or at an atom or
+/// axis of a needed disjunction with two children left; else at the widest axis; else at an atom or axis of any
+/// needed disjunction.
+pub fn split(
+    alloc: Global,
+    problem: &Problem,
+    margins: &Margins,
+    patch: &mut Patch,
+) -> Result<bool, AllocError>
+    requires problem { patch.old.problem ≡ problem.now }
+    requires bits { AreMargins margins.now }
+    ensures continues { IfOk result (λ b. Continues patch.old patch.new) }
+    ensures parted { IfOk result (λ b. b ≡ true → IsTrue (is_left patch.new.kept.end)) }
+    ensures same { IfOk result (λ b. b ≡ false → patch.new ≡ patch.old) }
+{
+    if !is_open(patch.reached()) {
+        return attempt::cut(patch);
+    }
+    let needs = see(alloc, problem, margins, patch)?;
+    if part_by_form(alloc, problem, &needs, 2, patch)? {
+        return Ok(true);
+    }
+    if attempt::cut(patch)? {
+        return Ok(true);
+    }
+    part_by_form(alloc, problem, &needs, u32::MAX, patch)
+}

@@ -1,0 +1,70 @@
+// Steps of an open patch, by which it stays open.
+ghost use Rattle.std.specs.Prelude.{◌≡◌, ◌<◌, List, length};
+ghost use Rattle.poly_graph.specs.ProblemViews.{Parts, problem_of};
+ghost use Rattle.poly_graph.specs.State.{State as Box};
+ghost use Rattle.cover_rule.specs.declared.margins.Margins.{Margins as Bits};
+ghost use Rattle.cover_rule.specs.Margins.{loosenings_of};
+ghost use Rattle.cover_rule.specs.Models.{LemmaModel};
+ghost use Rattle.box_worker.specs.Attempts.{IsOpen};
+ghost use Rattle.box_worker.specs.Worked.{AreLemmasFor};
+
+use cover_rule::{Lemma, Margins, Patch, PatchRefusal};
+use poly_graph::Problem;
+use std::alloc::AllocError;
+
+/// What a step came to.
+#[derive(Clone, Copy, PartialEq, Eq, Debug)]
+pub enum Outcome {
+    Done,
+    Refused,
+    /// Narrowing leaves nothing.
+    Void,
+}
+
+// What it came to. Want of memory is handed on.
+fn told(answer: Result<(), PatchRefusal>) -> Result<Outcome, AllocError> {
+    match answer {
+        Ok(()) => Ok(Outcome::Done),
+        Err(PatchRefusal::Memory) => Err(AllocError),
+        Err(PatchRefusal::IsVoid) => Ok(Outcome::Void),
+        Err(_) => Ok(Outcome::Refused),
+    }
+}
+
+/// Pulls atom j where it is marked yes.
+pub fn pull(patch: &mut Patch, j: u32) -> Result<Outcome, AllocError>
+    requires { j < length patch.old.problem.atoms }
+    ensures { (q : Parts) (m : Bits) (lemmas : List LemmaModel) (S : Box) → IsOpen q m lemmas S patch.old → IsOpen q m lemmas S patch.new }
+{
+    let answer = patch.pull(j);
+    told(answer)
+}
+
+/// Marks atom j yes where the form can't hold without it.
+pub fn unit(patch: &mut Patch, j: u32) -> Result<Outcome, AllocError>
+    requires { j < length patch.old.problem.atoms }
+    ensures { (q : Parts) (m : Bits) (lemmas : List LemmaModel) (S : Box) → IsOpen q m lemmas S patch.old → IsOpen q m lemmas S patch.new }
+{
+    let answer = patch.unit(j);
+    told(answer)
+}
+
+/// Marks atom j no where the lemma at this place of the list covers the state with the atom marked yes.
+pub fn ban(
+    problem: &Problem,
+    margins: &Margins,
+    lemmas: &[Lemma],
+    patch: &mut Patch,
+    j: u32,
+    i: usize,
+) -> Result<Outcome, AllocError>
+    requires atom { j < length problem.now.atoms }
+    requires place { i < length lemmas.now }
+    requires lemmas { AreLemmasFor (problem_of problem.now) (loosenings_of margins.now) lemmas.now }
+    requires open { IsOpen problem.now margins.now lemmas.now patch.old.kept.first patch.old }
+    ensures { IsOpen problem.now margins.now lemmas.now patch.old.kept.first patch.new }
+{
+    let _ = problem.axes();
+    let answer = patch.ban(j, &lemmas[i]);
+    told(answer)
+}

@@ -1,0 +1,188 @@
+// The work on one box.
+ghost use Rattle.std.specs.Prelude.{◌≡◌, IfOk, IsTrue, MatchOption, not, length, None, All};
+ghost use Rattle.poly_graph.specs.Problem.{root_space};
+ghost use Rattle.poly_graph.specs.ProblemViews.{problem_of};
+ghost use Rattle.poly_graph.specs.State.{sure, space_within};
+ghost use Rattle.poly_graph.specs.Honest.{middle};
+ghost use Rattle.poly_graph.specs.Fits.{FitsProblem, IsShownAt};
+ghost use Rattle.cover_rule.specs.Margins.{AreMargins, loosenings_of};
+ghost use Rattle.cover_rule.specs.Serves.{IsNumbered};
+ghost use Rattle.box_worker.specs.Attempts.{Continues};
+ghost use Rattle.box_worker.specs.Ended.{HasEnded, AtOnce, first_covering};
+ghost use Rattle.box_worker.specs.Worked.{margins_of, AreLemmasFor, AnswersAtOnce, IsWork, IsClosedWork, WorkOf};
+ghost use Rattle.cover_rule.specs.Runs.{IsClosed};
+ghost use Rattle.cover_rule.specs.Views.{kept_of};
+
+use crate::again::without_idle;
+use crate::attempt;
+use crate::ended::Ended;
+use crate::learn::{copy, teaches_nothing};
+use crate::part::part;
+use crate::scout::take_steps;
+use crate::settle::{close_at, mark_conjuncts, void_any};
+use crate::split::split;
+use crate::worked::Worked;
+use cover_rule::{KeptPatch, Lemma, Margins, Options, Patch, Point, State};
+use poly_graph::Problem;
+use std::alloc::{AllocError, Global};
+
+// The middle of the state that the patch has reached; none where the form is not sure there.
+fn middle_point(
+    alloc: Global,
+    problem: &Problem,
+    margins: &Margins,
+    patch: &Patch,
+) -> Result<Option<Point>, AllocError>
+    requires problem { patch.now.problem ≡ problem.now }
+    requires margins { patch.now.margins ≡ margins.now }
+    requires bits { AreMargins margins.now }
+    requires root { IsTrue (space_within patch.now.kept.first.space (root_space (problem_of problem.now))) }
+    ensures { IfOk result (λ o. MatchOption o (IsTrue (not (sure (problem_of problem.now) (loosenings_of margins.now) (middle patch.now.kept.reached.space)))) (λ x. (x ≡ middle patch.now.kept.reached.space) × IsShownAt (problem_of problem.now) (loosenings_of margins.now) x)) }
+{
+    Point::of_middle(alloc, problem, margins, patch.reached().space())
+}
+
+// The first lemma that covers the state.
+fn first_covering<'a>(lemmas: &'a [Lemma], state: &State) -> Option<&'a Lemma>
+    requires axes { All (λ l. length l.state.space ≡ length state.now.space) lemmas.now }
+    requires atoms { All (λ l. length l.state.marks ≡ length state.now.marks) lemmas.now }
+    ensures { MatchOption result (first_covering lemmas.now state.now ≡ None) (λ l. first_covering lemmas.now state.now ≡ Some l.now) }
+{
+    for lemma in lemmas {
+        if lemma.state().covers(state) {
+            return Some(lemma);
+        }
+    }
+    None
+}
+
+// What ends a patch that has just begun before any step: that the form can't hold, that it is sure at the
+// middle, or that a lemma covers the state.
+fn at_once(
+    alloc: Global,
+    problem: &Problem,
+    margins: &Margins,
+    lemmas: &[Lemma],
+    patch: &mut Patch,
+) -> Result<Option<Ended>, AllocError>
+    requires problem { patch.old.problem ≡ problem.now }
+    requires margins { patch.old.margins ≡ margins.now }
+    requires bits { AreMargins margins.now }
+    requires open { patch.old.kept.end ≡ None }
+    requires root { IsTrue (space_within patch.old.kept.first.space (root_space (problem_of problem.now))) }
+    requires lemmas { AreLemmasFor (problem_of problem.now) (loosenings_of margins.now) lemmas.now }
+    ensures { IfOk result (AtOnce lemmas.now patch.old patch.new) }
+{
+    if attempt::make_false(patch)? {
+        return Ok(Some(Ended::Closed));
+    }
+    if let Some(point) = middle_point(alloc, problem, margins, patch)? {
+        return Ok(Some(Ended::Shown(point)));
+    }
+    let Some(lemma) = first_covering(lemmas, patch.reached()) else {
+        return Ok(None);
+    };
+    if attempt::by(patch, lemma)? {
+        Ok(Some(Ended::Closed))
+    } else {
+        unreachable!()
+    }
+}
+
+// Does what is left to do at a state, and parts it where it is then still open. By the atom that is given nothing
+// may be left.
+fn finish(
+    alloc: Global,
+    problem: &Problem,
+    margins: &Margins,
+    void: Option<u32>,
+    patch: &mut Patch,
+) -> Result<Ended, AllocError>
+    requires problem { patch.old.problem ≡ problem.now }
+    requires margins { patch.old.margins ≡ margins.now }
+    requires numbered { IsNumbered problem.now }
+    requires bits { AreMargins margins.now }
+    requires open { patch.old.kept.end ≡ None }
+    requires root { IsTrue (space_within patch.old.kept.first.space (root_space (problem_of problem.now))) }
+    ensures continues { IfOk result (λ e. Continues patch.old patch.new) }
+    ensures ended { IfOk result (HasEnded patch.new) }
+{
+    let _ = problem.axes();
+    if close_at(problem, void, patch)? {
+        return Ok(Ended::Closed);
+    }
+    mark_conjuncts(alloc, problem, patch)?;
+    if attempt::make_false(patch)? {
+        return Ok(Ended::Closed);
+    }
+    if split(alloc, problem, margins, patch)? {
+        return Ok(Ended::Parted);
+    }
+    if let Some(point) = middle_point(alloc, problem, margins, patch)? {
+        return Ok(Ended::Shown(point));
+    }
+    if void_any(problem, patch)? {
+        return Ok(Ended::Closed);
+    }
+    let _ = patch.reached();
+    part(problem, patch)?;
+    Ok(Ended::Parted)
+}
+
+// A run that has closed its state, and what may be learned of it.
+fn closed(alloc: Global, kept: KeptPatch) -> Result<Worked, AllocError>
+    requires { IsClosed (kept_of kept) }
+    ensures { IfOk result (IsClosedWork (kept_of kept)) }
+{
+    if teaches_nothing(&kept) {
+        return Ok(Worked::Closed(kept, None));
+    }
+    let learned = copy(alloc, &kept)?;
+    match learned.closed() {
+        Ok(learned) => Ok(Worked::Closed(kept, Some(learned))),
+        Err(_) => unreachable!(),
+    }
+}
+
+// What the work has come to, where the patch has come to its end.
+fn worked(alloc: Global, ended: Ended, patch: Patch) -> Result<Worked, AllocError>
+    requires { HasEnded patch ended }
+    ensures { IfOk result (WorkOf patch.entry) }
+{
+    let (kept, _) = patch.into_kept();
+    match ended {
+        Ended::Closed => closed(alloc, kept),
+        Ended::Parted => Ok(Worked::Patch(kept)),
+        Ended::Shown(point) => Ok(Worked::Point(point)),
+    }
+}
+
+/// Works on the box of a state that lies within the root space, by lawful and honest lines: until it is closed,
+/// until a point is found in it, or else until it is parted or found stuck. Where the form can't hold at the state
+/// it is closed by that alone; else a point is its middle, where the form is sure there; else it is closed by the
+/// first of the lemmas that covers it. No other lemmas are quoted.
+pub fn work_on(
+    alloc: Global,
+    problem: &Problem,
+    options: &Options,
+    state: State,
+    lemmas: &[Lemma],
+) -> Result<Worked, AllocError>
+    requires numbered { IsNumbered problem.now }
+    requires margins { AreMargins (margins_of options.now) }
+    requires state { FitsProblem (problem_of problem.now) state }
+    requires root { IsTrue (space_within state.space (root_space (problem_of problem.now))) }
+    requires lemmas { AreLemmasFor (problem_of problem.now) (loosenings_of (margins_of options.now)) lemmas.now }
+    ensures at_once { IfOk result (AnswersAtOnce (problem_of problem.now) (loosenings_of (margins_of options.now)) lemmas.now state) }
+    ensures work { IfOk result (IsWork (problem_of problem.now) (margins_of options.now) lemmas.now state) }
+{
+    let margins = options.margins();
+    let mut patch = Patch::begin(alloc, problem, &margins, state)?;
+    if let Some(ended) = at_once(alloc, problem, &margins, lemmas, &mut patch)? {
+        return worked(alloc, ended, patch);
+    }
+    let taken = take_steps(alloc, problem, &margins, lemmas, &mut patch)?;
+    let mut patch = without_idle(alloc, problem, &margins, lemmas, &taken, patch)?;
+    let ended = finish(alloc, problem, &margins, taken.void, &mut patch)?;
+    worked(alloc, ended, patch)
+}
