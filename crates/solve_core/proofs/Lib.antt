@@ -1,0 +1,8 @@
+pub mod Begins
+pub mod Ends
+pub mod Left
+pub mod Reached
+pub mod Tried
+pub mod Visits
+pub mod Waits
+pub mod Works

@@ -1,0 +1,4 @@
+pub mod Reaches
+pub mod Left
+pub mod Search
+pub mod Tried

@@ -1,0 +1,181 @@
+// A search on its way.
+ghost use Rattle.std.specs.Prelude.{◌≡◌, ◌≢◌, ◌∷◌, [], ◌++◌, ◌≤◌, ℕ, drop, OnOk, IfOk, IfSome, IsNone, None};
+ghost use Rattle.cover_book.specs.Limits.{IsWithinLimits};
+ghost use Rattle.cover_rule.specs.Views.{kept_of};
+ghost use Rattle.cover_book.specs.Model.{opening};
+ghost use Rattle.solve_core.specs.Reaches.{Reaches};
+ghost use Rattle.solve_core.specs.Search.{IsSearch, CanFind, CanCommit, CanLearn, CanHand, IsOver, work_left};
+
+use box_worker::{Worked, work_on};
+use cover_book::{Book, BookRefusal, Kids};
+use cover_rule::{ClosedPatch, KeptPatch, Lemma, Options, Point};
+use poly_graph::Problem;
+use std::alloc::{AllocError, Global};
+
+/// So many lemmas at most are handed to the work on a box, the latest ones.
+const MOST_HANDED: usize = 64;
+
+/// A book, the numbers of the nodes that wait to be worked on, of which the last is the next, and lemmas of the book
+/// that are handed to the work on a box.
+#[derive(Drop)]
+pub struct Search {
+    pub book: Book,
+    pub waiting: Vec<u32>,
+    pub lemmas: Vec<Lemma>,
+}
+
+// What is refused for want of memory ends the search; any other refusal is let be.
+fn unless_memory(refusal: BookRefusal) -> Result<(), AllocError>
+    ensures { OnOk result (refusal ≢ BookRefusal.Memory) }
+{
+    match refusal {
+        BookRefusal::Memory => Err(AllocError),
+        _ => Ok(()),
+    }
+}
+
+// Leaves out the oldest lemma where there are as many as may be handed on.
+fn make_room(lemmas: &mut Vec<Lemma>)
+    ensures { (k : ℕ) × (lemmas.new.items ≡ drop k lemmas.old.items) }
+{
+    if lemmas.len() >= MOST_HANDED {
+        drop(lemmas.remove(0));
+    }
+}
+
+impl Search {
+    /// The opening book, whose live node waits.
+    pub fn begin(alloc: Global, problem: &Problem, options: &Options) -> Result<Search, AllocError>
+        requires { IsWithinLimits problem.now options.now }
+        ensures search { IfOk result (λ s. IsSearch s s.waiting.items) }
+        ensures book { IfOk result (λ s. s.book ≡ opening problem.now options.now) }
+    {
+        let copy = problem.try_clone(alloc)?;
+        let book = Book::new(alloc, copy, *options)?;
+        let mut waiting = Vec::new(alloc);
+        if let Some(node) = book.live_after(0) {
+            waiting.push(node)?;
+        }
+        Ok(Search {
+            book,
+            waiting,
+            lemmas: Vec::new(alloc),
+        })
+    }
+
+    /// Takes the next node; none where a point is kept or no node waits.
+    pub fn next(&mut self) -> Option<u32>
+        ensures book { self.new.book ≡ self.old.book }
+        ensures lemmas { self.new.lemmas ≡ self.old.lemmas }
+        ensures none { IsNone result → IsOver self.old }
+        ensures taken { IfSome result (λ n. self.old.waiting.items ≡ self.new.waiting.items ++ (n ∷ [])) }
+        ensures no_point { IfSome result (λ n. self.old.book.point ≡ None) }
+    {
+        if self.book.point().is_some() {
+            return None;
+        }
+        self.waiting.pop()
+    }
+
+    // Keeps the point that was found at the node.
+    fn keep_point(&mut self, node: u32, point: Point) -> Result<(), AllocError>
+        requires { CanFind self.old node point }
+        ensures search { OnOk result (IsSearch self.new self.new.waiting.items) }
+        ensures left { OnOk result (work_left self.new ≤ work_left self.old) }
+        ensures reached { Reaches self.old.book self.new.book }
+    {
+        match self.book.found(node, point) {
+            Ok(()) => Ok(()),
+            Err(refusal) => unless_memory(refusal),
+        }
+    }
+
+    // Commits the patch to the node, whose parts wait then, the lower one in front. A node for whose branch there is no
+    // budget stays live.
+    fn commit(&mut self, node: u32, patch: KeptPatch) -> Result<(), AllocError>
+        requires { CanCommit self.old node patch }
+        ensures search { OnOk result (IsSearch self.new self.new.waiting.items) }
+        ensures left { OnOk result (work_left self.new ≤ work_left self.old) }
+        ensures reached { Reaches self.old.book self.new.book }
+        ensures lemmas { self.new.book.lemmas ≡ self.old.book.lemmas }
+    {
+        match self.book.commit(node, patch) {
+            Ok(Kids::Two(lower, upper)) => {
+                self.waiting.push(upper)?;
+                self.waiting.push(lower)?;
+                Ok(())
+            }
+            Ok(Kids::None) => Ok(()),
+            Err(refusal) => unless_memory(refusal),
+        }
+    }
+
+    // Hands the lemma to the work on later boxes.
+    fn hand(&mut self, lemma: Lemma) -> Result<(), AllocError>
+        requires { CanHand self.old lemma }
+        ensures search { OnOk result (IsSearch self.new self.new.waiting.items) }
+        ensures book { self.new.book ≡ self.old.book }
+        ensures waiting { self.new.waiting ≡ self.old.waiting }
+    {
+        make_room(&mut self.lemmas);
+        self.lemmas.push(lemma)?;
+        Ok(())
+    }
+
+    // Keeps the first state of the closed patch as a lemma, unless the book has as many as it may have.
+    fn learn(&mut self, alloc: Global, closed: ClosedPatch) -> Result<(), AllocError>
+        requires { CanLearn self.old closed }
+        ensures search { OnOk result (IsSearch self.new self.new.waiting.items) }
+        ensures left { OnOk result (work_left self.new ≤ work_left self.old) }
+        ensures reached { Reaches self.old.book self.new.book }
+    {
+        let state = closed.kept().first.try_clone(alloc)?;
+        match self.book.learn(closed) {
+            Ok(id) => self.hand(Lemma::new(id, state)),
+            Err(refusal) => unless_memory(refusal),
+        }
+    }
+
+    /// Works on a node that is not among those that wait, and has the book keep what comes of it.
+    pub fn visit(&mut self, alloc: Global, node: u32) -> Result<(), AllocError>
+        requires search { IsSearch self.old (self.old.waiting.items ++ (node ∷ [])) }
+        requires no_point { self.old.book.point ≡ None }
+        ensures search { OnOk result (IsSearch self.new self.new.waiting.items) }
+        ensures left { OnOk result (work_left self.new ≤ work_left self.old) }
+        ensures reached { Reaches self.old.book self.new.book }
+    {
+        let state = match self.book.state_of(node) {
+            Ok(state) => state,
+            Err(refusal) => return unless_memory(refusal),
+        };
+        match work_on(
+            alloc,
+            self.book.problem(),
+            self.book.options(),
+            state,
+            &self.lemmas,
+        )? {
+            Worked::Point(point) => self.keep_point(node, point),
+            Worked::Patch(patch) => self.commit(node, patch),
+            Worked::Closed(patch, lesson) => {
+                self.commit(node, patch)?;
+                match lesson {
+                    Some(closed) => self.learn(alloc, closed),
+                    None => Ok(()),
+                }
+            }
+        }
+    }
+
+    /// The book.
+    pub fn into_book(self) -> Book
+        ensures { result ≡ self.book }
+    {
+        let Search {
+            book,
+            waiting: _,
+            lemmas: _,
+        } = self;
+        book
+    }
+}
