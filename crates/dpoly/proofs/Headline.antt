@@ -16,7 +16,7 @@ use Rattle.cert_model.specs.Accepted.{Verdict, accepted, refused, verdict, IsAcc
 use Rattle.cert_model.specs.AnswerText.{solve_text, check_text, unsat_text, delta_sat_text, budget_text, width_text, has_open}
 use Rattle.headline.proofs.Headline.{unsat_is, delta_sat_is}
 use Rattle.script_faults.specs.Faults.{ScriptFault}
-use Rattle.dpoly.specs.Reader.{told_fault}
+use Rattle.script_faults.specs.Faults.{script_fault}
 use Rattle.dpoly.specs.declared.status.Status.{Status}
 use Rattle.dpoly.specs.declared.status.Status.TheVariants.{Answered, CertRefused, ScriptRefused}
 use Rattle.dpoly.specs.Reader.{commands_of, IsBuilt}
@@ -24,7 +24,7 @@ use Rattle.dpoly.specs.Answer.{loosenings_of, IsAnswer}
 use Rattle.dpoly.specs.Course.{Course, behind, appended}
 use Rattle.dpoly.specs.Can.{CanSolve, CanCheck, CanDemo, CanBy, OfProblem, Can, verdict_course}
 use Rattle.dpoly.specs.Run.{Shows}
-use Rattle.dpoly.specs.Headline.{Wrote, IsUnsat, UnsatIsTrue, IsDeltaSat, DeltaSatIsTrue, delta_sat_word, confirmed_unsat_word, confirmed_delta_sat_word}
+use Rattle.dpoly.specs.Headline.{Wrote, IsUnsat, UnsatIsTrue, IsDeltaSat, DeltaSatIsTrue, IsRefusedCert, RefusalIsTrue, delta_sat_word, confirmed_unsat_word, confirmed_delta_sat_word}
 
 -- ---- texts that differ
 
@@ -90,8 +90,7 @@ record Solved-so (p : Problem) (o : Options) (course : Course) : Type 0 where
   answer_is : course.answer ≡ solve_text p o.budget (loosenings_of o) value
 
 solved-so : (p : Problem) (o : Options) (name : List ℕ) (course : Course) → CanSolve p o name course → course.status ≡ Answered → Solved-so p o course
-solved-so p o name course (inl can) e = record { cert = can.0; value = can.1; is = can.2; cert_is = ap (λ (c : Course). c.cert) can.3; answer_is = ap (λ (c : Course). c.answer) can.3 }
-solved-so p o name course (inr can) e = absurd (refused-not course.status (ap (λ (c : Course). c.status) can.1) e)
+solved-so p o name course can e = record { cert = can.0; value = can.1; is = can.2; cert_is = ap (λ (c : Course). c.cert) can.3; answer_is = ap (λ (c : Course). c.answer) can.3 }
 
 -- ---- unsat
 
@@ -111,7 +110,7 @@ solve-unsat words script cert_in old new (course, can, status, went) wrote =
     let o : Options = words.options in
     let tail : Course = can.0 in
     let status_is : tail.status ≡ Answered = sym (ap (λ (c : Course). c.status) can.2) ∙ status in
-    let on = goes-on o.bound script (λ p. CanSolve p o words.cert) (told_fault o.bound script) tail can.1 status_is in
+    let on = goes-on o.bound script (λ p. CanSolve p o words.cert) (script_fault o.bound script) tail can.1 status_is in
     let so = solved-so on.p o words.cert tail on.can status_is in
     let answer : course.answer ≡ solve_text on.p o.budget (loosenings_of o) so.value = ap (λ (c : Course). c.answer) can.2 ∙ so.answer_is in
     let cert : course.cert ≡ so.cert = ap (λ (c : Course). c.cert) can.2 ∙ so.cert_is in
@@ -125,11 +124,10 @@ demo-unsat : (words : Demo) (script cert_in : List ℕ) (old new : Sight) → Sh
 demo-unsat words script cert_in old new (course, can, status, went) =
     let o : Options = words.options in
     let made : List ℕ = demo_script words.seed words.size in
-    let on = goes-on o.bound made (λ p. CanDemo p o words.cert made) (told_fault o.bound made) course can status in
+    let on = goes-on o.bound made (λ p. CanDemo p o words.cert made) (script_fault o.bound made) course can status in
     by on.p on.built on.can where
       by : (p : Problem) → IsBuilt words.options.bound (demo_script words.seed words.size) p → CanDemo p words.options words.cert (demo_script words.seed words.size) course → IsUnsat words.options (demo_script words.seed words.size) old new
-      by p built (inl so) = unsat-so words.options (demo_script words.seed words.size) p old new so.0 built (went.cert ∙ ap (λ (c : Course). appended old.cert_out c.cert) so.2) so.1.accepted
-      by p built (inr so) = absurd (refused-not course.status (ap (λ (c : Course). c.status) so.1) status)
+      by p built so = unsat-so words.options (demo_script words.seed words.size) p old new so.0 built (went.cert ∙ ap (λ (c : Course). appended old.cert_out c.cert) so.2) so.1.accepted
 
 -- ---- what is checked
 
@@ -159,7 +157,7 @@ check-goes : (words : Check) (script cert_in : List ℕ) (course : Course) → C
 check-goes words script cert_in course can status =
     let tail : Course = can.0 in
     let status_is : tail.status ≡ Answered = sym (ap (λ (c : Course). c.status) can.2) ∙ status in
-    let on = goes-on words.bound script (λ p. CanCheck p words.bound words.cert cert_in) (told_fault words.bound script) tail can.1 status_is in
+    let on = goes-on words.bound script (λ p. CanCheck p words.bound words.cert cert_in) (script_fault words.bound script) tail can.1 status_is in
     let so = checked-by on.p words.bound words.cert cert_in tail (verdict on.p words.bound cert_in) refl on.can status_is in
     record { p = on.p; built = on.built; s = so.s; value = so.value; accepts = so.accepts; answer_is = ap (λ (c : Course). c.answer) can.2 ∙ so.answer_is }
 
@@ -170,8 +168,16 @@ check-unsat words script cert_in old new (course, can, status, went) rest wrote 
     let none : so.value ≡ left_open [] = confirms-unsat so.s rest so.value text in
     let P : Value → Type 0 = λ v. IsAccepted so.p words.bound cert_in so.s v in
     let W : List ℕ → Type 0 = λ t. Wrote t old new in
-    let accepts : P (left_open []) = subst P none so.accepts in
-    (so.s, subst W (text ∙ ap (λ (v : Value). check_text so.s v) none) wrote, unsat_is words.bound (commands_of script) so.p so.built.whole so.built.problem cert_in so.s accepts)
+    let accepts : P (left_open []) = subst P none so.accepts in (
+      so.s,
+      subst W (text ∙ ap (λ (v : Value). check_text so.s v) none) wrote,
+      record {
+        no_point = unsat_is words.bound (commands_of script) so.p so.built.whole so.built.problem cert_in so.s accepts;
+        problem = so.p;
+        built = so.built;
+        accepted = accepts;
+      },
+    )
 
 pub unsat-true : (command : Option Command) (script cert_in : List ℕ) (old new : Sight) → Shows command script cert_in old new Answered → UnsatIsTrue command script cert_in old new
 unsat-true None script cert_in old new shows = tt
@@ -191,7 +197,7 @@ solve-delta words script cert_in old new (course, can, status, went) rest wrote 
     let s : Loosenings = loosenings_of o in
     let tail : Course = can.0 in
     let status_is : tail.status ≡ Answered = sym (ap (λ (c : Course). c.status) can.2) ∙ status in
-    let on = goes-on o.bound script (λ p. CanSolve p o words.cert) (told_fault o.bound script) tail can.1 status_is in
+    let on = goes-on o.bound script (λ p. CanSolve p o words.cert) (script_fault o.bound script) tail can.1 status_is in
     let so = solved-so on.p o words.cert tail on.can status_is in
     let answer : course.answer ≡ solve_text on.p o.budget s so.value = ap (λ (c : Course). c.answer) can.2 ∙ so.answer_is in
     let text : delta_sat_word ++ rest ≡ solve_text on.p o.budget s so.value = written-is old.answer new.answer (delta_sat_word ++ rest) course.answer wrote went.answer ∙ answer in
@@ -207,10 +213,55 @@ check-delta words script cert_in old new (course, can, status, went) rest wrote 
     let point = confirms-delta-sat so.s rest so.value text in
     let P : Value → Type 0 = λ v. IsAccepted so.p words.bound cert_in so.s v in
     let W : List ℕ → Type 0 = λ t. Wrote t old new in
-    (so.s, point.0, subst W (text ∙ ap (λ (v : Value). check_text so.s v) point.1) wrote, delta-so words.bound script so.p cert_in so.s point.0 so.built (subst P point.1 so.accepts))
+    let accepts : P (at_point point.0) = subst P point.1 so.accepts in (
+      so.s,
+      point.0,
+      subst W (text ∙ ap (λ (v : Value). check_text so.s v) point.1) wrote,
+      record {
+        point = delta-so words.bound script so.p cert_in so.s point.0 so.built accepts;
+        problem = so.p;
+        built = so.built;
+        accepted = accepts;
+      },
+    )
 
 pub delta-sat-true : (command : Option Command) (script cert_in : List ℕ) (old new : Sight) → Shows command script cert_in old new Answered → DeltaSatIsTrue command script cert_in old new
 delta-sat-true None script cert_in old new shows = tt
 delta-sat-true (Some (solve words)) script cert_in old new shows = solve-delta words script cert_in old new shows
 delta-sat-true (Some (check words)) script cert_in old new shows = check-delta words script cert_in old new shows
 delta-sat-true (Some (demo words)) script cert_in old new shows = tt
+
+-- ---- certificates that are refused
+
+answered-not : (x : Status) → x ≡ Answered → x ≡ CertRefused → ⊥
+answered-not x e f = let same : ◌≡◌ {A = Status} Answered CertRefused = sym e ∙ f in cc
+
+script-refused-not : (x : Status) → x ≡ ScriptRefused → x ≡ CertRefused → ⊥
+script-refused-not x e f = let same : ◌≡◌ {A = Status} ScriptRefused CertRefused = sym e ∙ f in cc
+
+refused-by : (words : Check) (script cert_in : List ℕ) (old new : Sight) (p : Problem) (course : Course) (v : Verdict) → IsBuilt words.bound script p → verdict p words.bound cert_in ≡ v → course ≡ behind ((CertIn, words.cert) ∷ []) (verdict_course v)
+    → course.status ≡ CertRefused → new.answer ≡ appended old.answer course.answer → IsRefusedCert words.bound script cert_in old new
+refused-by words script cert_in old new p course (accepted s value) built e can status wrote = absurd (answered-not course.status (ap (λ (c : Course). c.status) can) status)
+refused-by words script cert_in old new p course (refused f n) built e can status wrote = record {
+  problem = p;
+  built = built;
+  fault = f;
+  line = n;
+  refuses = e;
+  written = wrote ∙ ap (λ (c : Course). appended old.answer c.answer) can;
+}
+
+check-refused : (words : Check) (script cert_in : List ℕ) (old new : Sight) (tail : Course) (f : Option ScriptFault) → CanBy f (OfProblem words.bound script (λ p. CanCheck p words.bound words.cert cert_in)) tail
+    → tail.status ≡ CertRefused → new.answer ≡ appended old.answer tail.answer → IsRefusedCert words.bound script cert_in old new
+check-refused words script cert_in old new tail (Some f) can status wrote = absurd (script-refused-not tail.status (ap (λ (c : Course). c.status) can) status)
+check-refused words script cert_in old new tail None can status wrote =
+    refused-by words script cert_in old new can.0 tail (verdict can.0 words.bound cert_in) can.1 refl can.2 status wrote
+
+pub refusal-true : (command : Option Command) (script cert_in : List ℕ) (old new : Sight) → Shows command script cert_in old new CertRefused → RefusalIsTrue command script cert_in old new
+refusal-true None script cert_in old new shows = tt
+refusal-true (Some (solve words)) script cert_in old new shows = tt
+refusal-true (Some (demo words)) script cert_in old new shows = tt
+refusal-true (Some (check words)) script cert_in old new (course, can, status, went) =
+    let tail : Course = can.0 in
+    check-refused words script cert_in old new tail (script_fault words.bound script) can.1 (sym (ap (λ (c : Course). c.status) can.2) ∙ status)
+    (went.answer ∙ ap (λ (c : Course). appended old.answer c.answer) can.2)

@@ -3,10 +3,10 @@ use Rattle.std.proofs.Common.{◌≡◌, ◌≤◌, ◌<◌, ℕ, List, [], Bool
 use Rattle.std.specs.Prelude.{option_map}
 use Rattle.std.proofs.lemmas.Bool.Decides.{leb_tells}
 use Rattle.desk.specs.Sight.{Sight}
-use Rattle.script_faults.specs.Faults.{ScriptFault, fault_text, most_bytes}
-use Rattle.dpoly.specs.Reader.{told_fault}
+use Rattle.script_faults.specs.Faults.{ScriptFault, fault_text, in_text, most_bytes}
+use Rattle.script_faults.specs.Faults.{script_fault}
 use Rattle.smt_sexp.specs.Lexicon.{read}
-use Rattle.dpoly.specs.Reader.{too_many_bytes, told_in_text}
+use Rattle.dpoly.specs.Reader.{too_many_bytes}
 use Rattle.dpoly.specs.declared.script.Halt.{Halt}
 use Rattle.dpoly.specs.declared.script.Halt.TheVariants as halt
 use Rattle.dpoly.specs.Course.{Quiet}
@@ -19,8 +19,8 @@ long_by b x e = ap (λ (t : Bool). cond t x (Some too_many_bytes)) e
 not_within : (n m : ℕ) → m < n → nat_le n m ≡ false
 not_within n m above = grind (arith, leb_tells)
 
-pub long_fault : (bound : Option ℕ) (script : List ℕ) → most_bytes < length script → told_fault bound script ≡ Some too_many_bytes
-long_fault bound script long = long_by (nat_le (length script) most_bytes) (told_in_text (read script)) (not_within (length script) most_bytes long)
+pub long_fault : (bound : Option ℕ) (script : List ℕ) → most_bytes < length script → script_fault bound script ≡ Some too_many_bytes
+long_fault bound script long = long_by (nat_le (length script) most_bytes) (in_text bound (read script)) (not_within (length script) most_bytes long)
 
 over : (P Q : List ℕ → Type 0) (o : Option (List ℕ)) → ((x : List ℕ) → P x → Q x) → IfSome o P → IfSome o Q
 over P Q None f h = tt
@@ -34,7 +34,7 @@ pub fetches_long : (bound : Option ℕ) (name : List ℕ) (old new : Sight) (h :
 fetches_long bound name old new (halt.Refused text) after long is = record {
   after = after;
   read = over (λ held. most_bytes < length held) (λ script. length script ≤ most_bytes → new.script ≡ Some []) old.script (λ script l short. absurd (omega arith)) long;
-  has = over (λ held. most_bytes < length held) (λ script. HasFaultText (told_fault bound script) text.items) old.script
+  has = over (λ held. most_bytes < length held) (λ script. HasFaultText (script_fault bound script) text.items) old.script
       (λ script l. ap (λ (f : Option ScriptFault). option_map fault_text f) (long_fault bound script l) ∙ ap (λ (t : List ℕ). Some t) (sym is)) long;
 }
 fetches_long bound name old new halt.Failed after long is = absurd is

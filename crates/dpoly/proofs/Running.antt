@@ -7,7 +7,7 @@ use Rattle.words.specs.Words.{Demo, Command, demo}
 use Rattle.gen_script.specs.Demo.{demo_script}
 use Rattle.poly_graph.specs.Problem.{Problem}
 use Rattle.script_faults.specs.Faults.{ScriptFault, fault_text, most_bytes}
-use Rattle.dpoly.specs.Reader.{told_fault}
+use Rattle.script_faults.specs.Faults.{script_fault}
 use Rattle.dpoly.specs.declared.status.Status.{Status}
 use Rattle.dpoly.specs.declared.status.Status.TheVariants.{Answered, CertRefused, ScriptRefused, Usage, InFailed, OutFailed, NoMemory}
 use Rattle.dpoly.specs.declared.script.Halt.{Halt}
@@ -22,7 +22,7 @@ use Rattle.dpoly.proofs.Ending.{appended-nil, take_first, ends_behind, run_behin
 -- ---- what a course is behind its script
 
 by_problem : (bound : Option ℕ) (script : List ℕ) (p : Problem) (goes : Problem → Course → Type 0) → HasProblem bound p script → (course : Course) → goes p course →
-    CanBy (told_fault bound script) (OfProblem bound script goes) course
+    CanBy (script_fault bound script) (OfProblem bound script goes) course
 by_problem bound script p goes has course can =
     let P : Option ScriptFault → Type 0 = λ f. CanBy f (OfProblem bound script goes) course in
     subst P (sym has.clean) (p, has.built, can)
@@ -39,10 +39,10 @@ told P o script e h = let Q : Option (List ℕ) → Type 0 = λ x. IfSome x P in
 
 module _ (bound : Option ℕ) (name script : List ℕ) (goes : Problem → Course → Type 0) (ins : List Start) (old mid new : Sight) (status : Status) where
   pub run_problem : (p : Problem) → Fetches bound name p old mid → old.script ≡ Some script → RunEnds (goes p) ins mid new status →
-      RunEnds (CanFrom name (told_fault bound script) (OfProblem bound script goes)) ((Script, name) ∷ ins) old new status
+      RunEnds (CanFrom name (script_fault bound script) (OfProblem bound script goes)) ((Script, name) ∷ ins) old new status
   run_problem p fetched e ends =
       let has = told (HasProblem bound p) old.script script e fetched.has in
-      run_behind (goes p) (CanFrom name (told_fault bound script) (OfProblem bound script goes)) (Script, name) ins old mid new status fetched.after
+      run_behind (goes p) (CanFrom name (script_fault bound script) (OfProblem bound script goes)) (Script, name) ins old mid new status fetched.after
       (λ tail can. (tail, by_problem bound script p goes has tail can, refl)) ends
 
   quiet_more : Quiet (script_start name) old new → Quiet ((Script, name) ∷ ins) old new
@@ -54,11 +54,11 @@ module _ (bound : Option ℕ) (name script : List ℕ) (goes : Problem → Cours
   }
 
   pub run_halted : (h : Halt) → Halts bound name h old mid → old.script ≡ Some script → HaltEnds h mid new status →
-      RunEnds (CanFrom name (told_fault bound script) (OfProblem bound script goes)) ((Script, name) ∷ ins) old new status
+      RunEnds (CanFrom name (script_fault bound script) (OfProblem bound script goes)) ((Script, name) ∷ ins) old new status
   run_halted (halt.Refused text) fetched e ends =
-      let has = told (λ s. HasFaultText (told_fault bound s) text.items) old.script script e fetched.has in
+      let has = told (λ s. HasFaultText (script_fault bound s) text.items) old.script script e fetched.has in
       on_course (behind (script_start name) (says ScriptRefused text.items))
-      (says ScriptRefused text.items, by_text (told_fault bound script) text.items (OfProblem bound script goes) has, refl)
+      (says ScriptRefused text.items, by_text (script_fault bound script) text.items (OfProblem bound script goes) has, refl)
       (ends_behind (script_start name) (says ScriptRefused text.items) old mid new status fetched.after ends)
   run_halted halt.Failed halted e ends =
       let S : Sight → Type 0 = λ d. SideFailed old.in_faults d.in_faults in let Q : Sight → Type 0 = λ d. Quiet (script_start name) old d in
@@ -80,8 +80,8 @@ demo_problem words bytes p old new status has made ends script cert_in =
 pub demo_halted : (words : Demo) (bytes : List ℕ) (h : Halt) (old new : Sight) (status : Status) → Refuses words.options.bound bytes h → bytes ≡ demo_script words.seed words.size →
     HaltEnds h old new status → (script cert_in : List ℕ) → RunEnds (Can (Some (demo words)) script cert_in) [] old new status
 demo_halted words bytes (halt.Refused text) old new status refuses made ends script cert_in =
-    let H : List ℕ → Type 0 = λ b. HasFaultText (told_fault words.options.bound b) text.items in
-    on_course (says ScriptRefused text.items) (by_text (told_fault words.options.bound (demo_script words.seed words.size)) text.items _ (subst H made refuses)) ends
+    let H : List ℕ → Type 0 = λ b. HasFaultText (script_fault words.options.bound b) text.items in
+    on_course (says ScriptRefused text.items) (by_text (script_fault words.options.bound (demo_script words.seed words.size)) text.items _ (subst H made refuses)) ends
 demo_halted words bytes halt.Failed old new status refuses made ends script cert_in = absurd refuses
 demo_halted words bytes halt.Memory old new status refuses made ends script cert_in =
     let Q : Sight → Type 0 = λ d. Quiet [] old d in

@@ -7,7 +7,7 @@ use Rattle.gen_script.specs.Demo.{demo_script}
 use Rattle.poly_graph.specs.Problem.{Problem}
 use Rattle.cert_model.specs.Accepted.{Verdict, accepted, refused, verdict}
 use Rattle.script_faults.specs.Faults.{ScriptFault}
-use Rattle.dpoly.specs.Reader.{told_fault}
+use Rattle.script_faults.specs.Faults.{script_fault}
 use Rattle.dpoly.specs.declared.status.Status.{Status}
 use Rattle.dpoly.specs.declared.status.Status.TheVariants.{Answered, CertRefused, ScriptRefused, Usage, InFailed, OutFailed, NoMemory}
 use Rattle.dpoly.specs.Course.{Course, Went, Ends, at_its_end, out_failed, no_memory, RunEnds, on_course, in_failed, no_memory_yet}
@@ -28,12 +28,10 @@ said-same : (a b : Course) → a ≡ b → IsSaid b.status → IsSaid a.status
 said-same a b e h = let P : Course → Type 0 = λ c. IsSaid c.status in subst P (sym e) h
 
 said-solve : (p : Problem) (o : Options) (name : List ℕ) (course : Course) → CanSolve p o name course → IsSaid course.status
-said-solve p o name course (inl can) = said-same course _ can.3 tt
-said-solve p o name course (inr can) = said-same course _ can.1 tt
+said-solve p o name course can = said-same course _ can.3 tt
 
 said-demo : (p : Problem) (o : Options) (name bytes : List ℕ) (course : Course) → CanDemo p o name bytes course → IsSaid course.status
-said-demo p o name bytes course (inl can) = said-same course _ can.2 tt
-said-demo p o name bytes course (inr can) = said-same course _ can.1 tt
+said-demo p o name bytes course can = said-same course _ can.2 tt
 
 said-verdict : (v : Verdict) → IsSaid (verdict_course v).status
 said-verdict (accepted s value) = tt
@@ -48,12 +46,12 @@ said-by bound script goes said None course can = said can.0 course can.2
 said : (command : Option Command) (script cert_in : List ℕ) (course : Course) → Can command script cert_in course → IsSaid course.status
 said None script cert_in course can = said-same course _ can tt
 said (Some (solve words)) script cert_in course can = said-same course _ can.2
-    (said-by words.options.bound script (λ p. CanSolve p words.options words.cert) (λ p c h. said-solve p words.options words.cert c h) (told_fault words.options.bound script) can.0 can.1)
+    (said-by words.options.bound script (λ p. CanSolve p words.options words.cert) (λ p c h. said-solve p words.options words.cert c h) (script_fault words.options.bound script) can.0 can.1)
 said (Some (check words)) script cert_in course can = said-same course _ can.2
-    (said-by words.bound script (λ p. CanCheck p words.bound words.cert cert_in) (λ p c h. said-same c _ h (said-verdict (verdict p words.bound cert_in))) (told_fault words.bound script) can.0 can.1)
+    (said-by words.bound script (λ p. CanCheck p words.bound words.cert cert_in) (λ p c h. said-same c _ h (said-verdict (verdict p words.bound cert_in))) (script_fault words.bound script) can.0 can.1)
 said (Some (demo words)) script cert_in course can =
     said-by words.options.bound (demo_script words.seed words.size) (λ p. CanDemo p words.options words.cert (demo_script words.seed words.size))
-    (λ p c h. said-demo p words.options words.cert (demo_script words.seed words.size) c h) (told_fault words.options.bound (demo_script words.seed words.size)) course can
+    (λ p c h. said-demo p words.options words.cert (demo_script words.seed words.size) c h) (script_fault words.options.bound (demo_script words.seed words.size)) course can
 
 module _ (command : Option Command) (script cert_in : List ℕ) (old new : Sight) where
   at-end : (status : Status) (course : Course) → Can command script cert_in course → IsSaid course.status → status ≡ course.status → Went course old new → Shows command script cert_in old new status
@@ -76,8 +74,8 @@ module _ (command : Option Command) (script cert_in : List ℕ) (old new : Sight
   shows-run status (no_memory_yet e quiet) = let P : Status → Type 0 = λ s. Shows command script cert_in old new s in let here : P NoMemory = inl quiet in subst P (sym e) here
 
   pub completes-run : (status : Status) → RunEnds (Can command script cert_in) (in_starts command) old new status → Completes command script cert_in old new status
-  completes-run status (on_course course can (at_its_end e went)) all ins outs = inl (e ∙ all course can)
-  completes-run status (on_course course can (out_failed e side stopped)) all ins outs = absurd (outs side)
-  completes-run status (on_course course can (no_memory e stopped)) all ins outs = inr e
-  completes-run status (in_failed e any side quiet) all ins outs = absurd (ins side)
-  completes-run status (no_memory_yet e quiet) all ins outs = inr e
+  completes-run status (on_course course can (at_its_end e went)) due all ins outs = inl (e ∙ all course can)
+  completes-run status (on_course course can (out_failed e side stopped)) due all ins outs = absurd (outs side)
+  completes-run status (on_course course can (no_memory e stopped)) due all ins outs = inr e
+  completes-run status (in_failed e any side quiet) due all ins outs = absurd (ins side)
+  completes-run status (no_memory_yet e quiet) due all ins outs = inr e

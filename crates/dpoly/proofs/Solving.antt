@@ -1,16 +1,13 @@
 -- From a certificate to the end of a run.
-use Rattle.std.proofs.Common.{◌≡◌, ℕ, List, [], length, refl, subst, ◌∙◌, inl, inr}
+use Rattle.std.proofs.Common.{◌≡◌, ℕ, List, [], length, refl, subst, ◌∙◌}
 use Rattle.desk.specs.Sight.{Sight}
 use Rattle.words.specs.declared.asked.Options.{Options}
 use Rattle.poly_graph.specs.Problem.{Problem}
 use Rattle.cert_model.specs.Due.{Value, left_open}
 use Rattle.cert_model.specs.AnswerText.{solve_text, demo_text}
 use Rattle.dpoly.specs.declared.status.Status.{Status}
-use Rattle.dpoly.specs.declared.status.Status.TheVariants.{ScriptRefused}
-use Rattle.script_faults.specs.Faults.{fault_text}
-use Rattle.dpoly.specs.Reader.{unsolved}
-use Rattle.dpoly.specs.Answer.{loosenings_of, IsAnswer, IsNotYetSolved}
-use Rattle.dpoly.specs.Course.{says, gives, Ends, RunEnds, on_course}
+use Rattle.dpoly.specs.Answer.{loosenings_of, IsAnswer}
+use Rattle.dpoly.specs.Course.{gives, Ends, RunEnds, on_course}
 use Rattle.dpoly.specs.Can.{CanSolve, CanDemo}
 
 -- what is written is the certificate, and then a text
@@ -24,18 +21,10 @@ pub solved : (p : Problem) (o : Options) (name bytes cert text answer : List ℕ
     → IsAnswer p o cert value → bytes ≡ cert → text ≡ solve_text p o.budget (loosenings_of o) value → answer ≡ text
     → Ends (gives name bytes answer) old new status → RunEnds (CanSolve p o name) [] old new status
 solved p o name bytes cert text answer value old new status is e e' e'' ends =
-    on_course (gives name cert (solve_text p o.budget (loosenings_of o) value)) (inl (cert, value, is, refl)) (written name bytes cert answer _ old new status e (e'' ∙ e') ends)
+    on_course (gives name cert (solve_text p o.budget (loosenings_of o) value)) (cert, value, is, refl) (written name bytes cert answer _ old new status e (e'' ∙ e') ends)
 
 pub demonstrated : (p : Problem) (o : Options) (name script bytes cert text answer : List ℕ) (old new : Sight) (status : Status)
     → IsAnswer p o cert (left_open []) → bytes ≡ cert → text ≡ demo_text (length script) (length p.atoms) → answer ≡ text
     → Ends (gives name bytes answer) old new status → RunEnds (CanDemo p o name script) [] old new status
 demonstrated p o name script bytes cert text answer old new status is e e' e'' ends =
-    on_course (gives name cert (demo_text (length script) (length p.atoms))) (inl (cert, is, refl)) (written name bytes cert answer _ old new status e (e'' ∙ e') ends)
-
-pub not_solved : (p : Problem) (o : Options) (name : List ℕ) (old new : Sight) (status : Status)
-    → IsNotYetSolved p o → Ends (says ScriptRefused (fault_text unsolved)) old new status → RunEnds (CanSolve p o name) [] old new status
-not_solved p o name old new status is ends = on_course (says ScriptRefused (fault_text unsolved)) (inr (is, refl)) ends
-
-pub not_demonstrated : (p : Problem) (o : Options) (name script : List ℕ) (old new : Sight) (status : Status)
-    → IsNotYetSolved p o → Ends (says ScriptRefused (fault_text unsolved)) old new status → RunEnds (CanDemo p o name script) [] old new status
-not_demonstrated p o name script old new status is ends = on_course (says ScriptRefused (fault_text unsolved)) (inr (is, refl)) ends
+    on_course (gives name cert (demo_text (length script) (length p.atoms))) (cert, is, refl) (written name bytes cert answer _ old new status e (e'' ∙ e') ends)

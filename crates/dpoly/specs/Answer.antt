@@ -1,8 +1,8 @@
 -- The certificate that answers a problem, whoever's search found it.
-use Rattle.std.specs.Prelude.{◌≡◌, ◌≤◌, ℕ, List, IsTrue, None, true}
+use Rattle.std.specs.Prelude.{◌≡◌, ◌≤◌, ℕ, List, IsTrue}
 use Rattle.words.specs.declared.asked.Options.{Options}
-use Rattle.poly_graph.specs.Problem.{Problem, first_crossed}
-use Rattle.poly_graph.specs.State.{Loosenings, may, root_state}
+use Rattle.poly_graph.specs.Problem.{Problem}
+use Rattle.poly_graph.specs.State.{Loosenings}
 use Rattle.cert_model.specs.Due.{Standing, Value, at_point, left_open}
 use Rattle.cert_model.specs.Accepted.{IsAccepted}
 use Rattle.cert_model.specs.AnswerText.{has_open}
@@ -26,8 +26,3 @@ IsFound p options cert (left_open left) = IsHonestCover p options cert left
 pub record IsAnswer (p : Problem) (options : Options) (cert : List ℕ) (value : Value) : Type 0 where
   pub accepted : IsAccepted p options.bound cert (loosenings_of options) value
   pub found : IsFound p options cert value
-
--- The declared box is not empty, and the form may hold at its root: until the search stands, nothing is answered then.
-pub record IsNotYetSolved (p : Problem) (options : Options) : Type 0 where
-  pub upright : first_crossed p ≡ None
-  pub may_hold : may p (loosenings_of options) (root_state p) ≡ true

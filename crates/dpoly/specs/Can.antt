@@ -1,5 +1,5 @@
 -- The courses that a run may take.
-use Rattle.std.specs.Prelude.{◌≡◌, ◌⊎◌, ℕ, List, [], ◌∷◌, Option, Some, None, codes, length}
+use Rattle.std.specs.Prelude.{◌≡◌, ℕ, List, [], ◌∷◌, Option, Some, None, codes, length}
 use Rattle.desk.specs.declared.desk.Port.TheVariants.{Script, CertIn}
 use Rattle.words.specs.declared.asked.Options.{Options}
 use Rattle.words.specs.Words.{Command, solve, check, demo}
@@ -10,25 +10,18 @@ use Rattle.cert_model.specs.Accepted.{Verdict, accepted, refused, verdict}
 use Rattle.cert_model.specs.AnswerText.{solve_text, verdict_text, demo_text}
 use Rattle.dpoly.specs.declared.status.Status.TheVariants.{Answered, CertRefused, ScriptRefused, Usage}
 use Rattle.script_faults.specs.Faults.{ScriptFault, fault_text}
-use Rattle.dpoly.specs.Reader.{told_fault}
-use Rattle.dpoly.specs.Reader.{IsBuilt, unsolved}
-use Rattle.dpoly.specs.Answer.{loosenings_of, IsAnswer, IsNotYetSolved}
+use Rattle.script_faults.specs.Faults.{script_fault}
+use Rattle.dpoly.specs.Reader.{IsBuilt}
+use Rattle.dpoly.specs.Answer.{loosenings_of, IsAnswer}
 use Rattle.dpoly.specs.Course.{Start, Course, says, gives, behind}
 
 abbrev pub usage_text : List ℕ
 usage_text = codes "usage fault\n"
 
--- Until the search stands: where the form may hold at the root, the script is refused.
-abbrev pub NotYetSolved : Problem → Options → Course → Type 0
-NotYetSolved p options course = IsNotYetSolved p options × (course ≡ says ScriptRefused (fault_text unsolved))
-
 -- `solve`: any certificate that answers the problem, with the text of its value
-abbrev pub Solves : Problem → Options → List ℕ → Course → Type 0
-Solves p options name course =
-    (cert : List ℕ) × (value : Value) × IsAnswer p options cert value × (course ≡ gives name cert (solve_text p options.budget (loosenings_of options) value))
-
 abbrev pub CanSolve : Problem → Options → List ℕ → Course → Type 0
-CanSolve p options name course = Solves p options name course ⊎ NotYetSolved p options course
+CanSolve p options name course =
+    (cert : List ℕ) × (value : Value) × IsAnswer p options cert value × (course ≡ gives name cert (solve_text p options.budget (loosenings_of options) value))
 
 -- a certificate is confirmed, or refused at its first fault
 abbrev pub verdict_course : Verdict → Course
@@ -40,12 +33,9 @@ abbrev pub CanCheck : Problem → Option ℕ → List ℕ → List ℕ → Cours
 CanCheck p bound name cert_in course = course ≡ behind ((CertIn, name) ∷ []) (verdict_course (verdict p bound cert_in))
 
 -- `demo`: any certificate that leaves nothing of the problem, with a line on the script
-abbrev pub SolvesDemo : Problem → Options → List ℕ → List ℕ → Course → Type 0
-SolvesDemo p options name bytes course =
-    (cert : List ℕ) × IsAnswer p options cert (left_open []) × (course ≡ gives name cert (demo_text (length bytes) (length p.atoms)))
-
 abbrev pub CanDemo : Problem → Options → List ℕ → List ℕ → Course → Type 0
-CanDemo p options name bytes course = SolvesDemo p options name bytes course ⊎ NotYetSolved p options course
+CanDemo p options name bytes course =
+    (cert : List ℕ) × IsAnswer p options cert (left_open []) × (course ≡ gives name cert (demo_text (length bytes) (length p.atoms)))
 
 -- a script with a fault is refused, one without goes on
 abbrev pub CanBy : Option ScriptFault → (Course → Type 0) → Course → Type 0
@@ -64,13 +54,13 @@ OfProblem bound script goes_on course = (p : Problem) × IsBuilt bound script p 
 abbrev pub Can : Option Command → List ℕ → List ℕ → Course → Type 0
 Can None script cert_in course = course ≡ says Usage usage_text
 Can (Some (solve words)) script cert_in course =
-    CanFrom words.script (told_fault words.options.bound script)
+    CanFrom words.script (script_fault words.options.bound script)
     (OfProblem words.options.bound script (λ p. CanSolve p words.options words.cert)) course
 Can (Some (check words)) script cert_in course =
-    CanFrom words.script (told_fault words.bound script)
+    CanFrom words.script (script_fault words.bound script)
     (OfProblem words.bound script (λ p. CanCheck p words.bound words.cert cert_in)) course
 Can (Some (demo words)) script cert_in course =
-    CanBy (told_fault words.options.bound (demo_script words.seed words.size))
+    CanBy (script_fault words.options.bound (demo_script words.seed words.size))
     (OfProblem words.options.bound (demo_script words.seed words.size) (λ p. CanDemo p words.options words.cert (demo_script words.seed words.size))) course
 
 -- the starts of the in ports, in their order

@@ -9,9 +9,9 @@ use Rattle.script_model.specs.Script.{Satisfies}
 use Rattle.poly_graph.specs.Problem.{Problem}
 use Rattle.poly_graph.specs.Space.{Space}
 use Rattle.poly_graph.specs.State.{Loosenings, margin_of, delta_of}
-use Rattle.cert_model.specs.Due.{at_point, left_open, coordinates}
-use Rattle.cert_model.specs.Accepted.{IsAccepted}
-use Rattle.cert_model.specs.AnswerText.{text_line, unsat_text, delta_sat_text, check_text}
+use Rattle.cert_model.specs.Due.{CertFault, at_point, left_open, coordinates}
+use Rattle.cert_model.specs.Accepted.{IsAccepted, refused, verdict}
+use Rattle.cert_model.specs.AnswerText.{text_line, unsat_text, delta_sat_text, check_text, verdict_text}
 use Rattle.headline.specs.Laws.{HasNoPoint}
 use Rattle.headline.specs.Near.{IsNearDeclaredBox}
 use Rattle.dpoly.specs.Reader.{commands_of, IsBuilt}
@@ -32,6 +32,13 @@ pub record IsUnsat (options : Options) (script : List ℕ) (old new : Sight) : T
   pub written : new.cert_out ≡ appended old.cert_out cert
   pub accepted : IsAccepted problem options.bound cert (loosenings_of options) (left_open [])
 
+-- The certificate is accepted as a cover that leaves nothing, so the script holds nowhere in its declared box, each atom loosened by the margin.
+pub record IsConfirmedUnsat (bound : Option ℕ) (script cert_in : List ℕ) (s : Loosenings) : Type 0 where
+  pub no_point : HasNoPoint bound (commands_of script) (exact (margin_of s))
+  pub problem : Problem
+  pub built : IsBuilt bound script problem
+  pub accepted : IsAccepted problem bound cert_in s (left_open [])
+
 abbrev pub confirmed_unsat_word : List ℕ
 confirmed_unsat_word = text_line (codes "confirmed unsat")
 
@@ -41,7 +48,7 @@ UnsatIsTrue (Some (solve words)) script cert_in old new =
     Wrote (unsat_text (loosenings_of words.options)) old new → IsUnsat words.options script old new
 UnsatIsTrue (Some (check words)) script cert_in old new =
     (rest : List ℕ) → Wrote (confirmed_unsat_word ++ rest) old new →
-    (s : Loosenings) × Wrote (check_text s (left_open [])) old new × HasNoPoint words.bound (commands_of script) (exact (margin_of s))
+    (s : Loosenings) × Wrote (check_text s (left_open [])) old new × IsConfirmedUnsat words.bound script cert_in s
 UnsatIsTrue (Some (demo words)) script cert_in old new = IsUnsat words.options (demo_script words.seed words.size) old new
 UnsatIsTrue None script cert_in old new = Unit {0}
 
@@ -49,6 +56,13 @@ UnsatIsTrue None script cert_in old new = Unit {0}
 pub record IsDeltaSat (bound : Option ℕ) (script : List ℕ) (s : Loosenings) (space : Space) : Type 0 where
   pub satisfies : Satisfies (exact (delta_of s)) (coordinates space) (commands_of script)
   pub near : IsNearDeclaredBox (exact (delta_of s)) bound (commands_of script) (coordinates space)
+
+-- The certificate is accepted as this point, which is one of the script.
+pub record IsConfirmedPoint (bound : Option ℕ) (script cert_in : List ℕ) (s : Loosenings) (space : Space) : Type 0 where
+  pub point : IsDeltaSat bound script s space
+  pub problem : Problem
+  pub built : IsBuilt bound script problem
+  pub accepted : IsAccepted problem bound cert_in s (at_point space)
 
 abbrev pub delta_sat_word : List ℕ
 delta_sat_word = text_line (codes "delta-sat")
@@ -64,5 +78,19 @@ DeltaSatIsTrue (Some (solve words)) script cert_in old new =
     × IsDeltaSat words.options.bound script (loosenings_of words.options) space
 DeltaSatIsTrue (Some (check words)) script cert_in old new =
     (rest : List ℕ) → Wrote (confirmed_delta_sat_word ++ rest) old new →
-    (s : Loosenings) × (space : Space) × Wrote (check_text s (at_point space)) old new × IsDeltaSat words.bound script s space
+    (s : Loosenings) × (space : Space) × Wrote (check_text s (at_point space)) old new × IsConfirmedPoint words.bound script cert_in s space
 DeltaSatIsTrue _ script cert_in old new = Unit {0}
+
+-- The certificate has this fault at this line, by the script's problem, and the answer tells it.
+pub record IsRefusedCert (bound : Option ℕ) (script cert_in : List ℕ) (old new : Sight) : Type 0 where
+  pub problem : Problem
+  pub built : IsBuilt bound script problem
+  pub fault : CertFault
+  pub line : ℕ
+  pub refuses : verdict problem bound cert_in ≡ refused fault line
+  pub written : new.answer ≡ appended old.answer (verdict_text (refused fault line))
+
+-- A certificate that is refused has a fault.
+abbrev pub RefusalIsTrue : Option Command → List ℕ → List ℕ → Sight → Sight → Type 0
+RefusalIsTrue (Some (check words)) script cert_in old new = IsRefusedCert words.bound script cert_in old new
+RefusalIsTrue _ script cert_in old new = Unit {0}

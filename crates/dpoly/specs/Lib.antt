@@ -1,9 +1,11 @@
 pub mod Answer
+pub mod Building
 pub mod Can
+pub mod Check
 pub mod Course
-pub mod FirstPath
 pub mod Headline
 pub mod Parts
 pub mod Reader
 pub mod Run
 pub mod Script
+pub mod Search

@@ -60,9 +60,9 @@ ScriptIsRead command old new status =
 abbrev pub CertIsRead : Option Command → Sight → Sight → Status → Type 0
 CertIsRead command old new status = IsCheck command → status ≡ Answered → new.cert_in ≡ option_map (λ cert. []) old.cert_in
 
--- Where neither side fails, a run that can answer answers, or wants memory.
+-- Where neither side fails, and each course of a run ends with one status, so does the run, or it wants memory.
 abbrev pub Completes : Option Command → List ℕ → List ℕ → Sight → Sight → Status → Type 0
 Completes command script cert_in old new status =
-    ((course : Course) → Can command script cert_in course → course.status ≡ Answered)
+    (due : Status) → ((course : Course) → Can command script cert_in course → course.status ≡ due)
     → (SideFailed old.in_faults new.in_faults → ⊥) → (SideFailed old.out_faults new.out_faults → ⊥)
-    → (status ≡ Answered) ⊎ (status ≡ NoMemory)
+    → (status ≡ due) ⊎ (status ≡ NoMemory)

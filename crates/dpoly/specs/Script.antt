@@ -6,7 +6,7 @@ use Rattle.poly_graph.specs.Problem.{Problem}
 use Rattle.dpoly.specs.declared.script.Halt.{Halt}
 use Rattle.dpoly.specs.declared.script.Halt.TheVariants as halt
 use Rattle.script_faults.specs.Faults.{ScriptFault, fault_text, most_bytes}
-use Rattle.dpoly.specs.Reader.{told_fault}
+use Rattle.script_faults.specs.Faults.{script_fault}
 use Rattle.dpoly.specs.Reader.{IsBuilt, too_many_bytes}
 use Rattle.dpoly.specs.declared.status.Status.{Status}
 use Rattle.dpoly.specs.declared.status.Status.TheVariants.{ScriptRefused, InFailed, NoMemory}
@@ -24,7 +24,7 @@ IsTold fault halt.Failed = ⊥
 IsTold fault halt.Memory = Unit {0}
 
 abbrev pub Refuses : Option ℕ → List ℕ → Halt → Type 0
-Refuses bound script h = IsTold (told_fault bound script) h
+Refuses bound script h = IsTold (script_fault bound script) h
 
 -- a refusal with this text
 abbrev pub HasText : List ℕ → Halt → Type 0
@@ -34,7 +34,7 @@ HasText text halt.Memory = Unit {0}
 
 -- the script has no fault, and this is its problem
 pub record HasProblem (bound : Option ℕ) (p : Problem) (script : List ℕ) : Type 0 where
-  pub clean : told_fault bound script ≡ None
+  pub clean : script_fault bound script ≡ None
   pub built : IsBuilt bound script p
 
 abbrev pub script_start : List ℕ → List Start
@@ -50,7 +50,7 @@ pub record Fetches (bound : Option ℕ) (name : List ℕ) (p : Problem) (old new
 pub record FetchesFault (bound : Option ℕ) (name text : List ℕ) (old new : Sight) : Type 0 where
   pub after : After (script_start name) old new
   pub read : IfSome old.script (λ script. length script ≤ most_bytes → new.script ≡ Some [])
-  pub has : IfSome old.script (λ script. HasFaultText (told_fault bound script) text)
+  pub has : IfSome old.script (λ script. HasFaultText (script_fault bound script) text)
 
 abbrev pub Halts : Option ℕ → List ℕ → Halt → Sight → Sight → Type 0
 Halts bound name (halt.Refused text) old new = FetchesFault bound name text.items old new

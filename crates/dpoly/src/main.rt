@@ -1,9 +1,11 @@
 // The program: reads the words of the call, and hands them with the real ports to `run_top`.
 #![tactic(auto)]
 
+mod answers;
+mod building;
+mod check;
+mod feed;
 mod files;
-mod first_path;
-mod gate;
 mod ports;
 mod script;
 mod solve;
@@ -11,7 +13,7 @@ mod status;
 mod top;
 
 use files::FileDesk;
-pub use gate::{Gate, NoGate};
+pub use solve_core::{Gate, NoGate};
 pub use status::Status;
 use std::env;
 use std::process::ExitCode;

@@ -1,56 +1,81 @@
 // `solve` and `demo`, from a problem to their answers.
-ghost use Rattle.std.specs.Prelude.{◌≡◌, [], IfOk, MatchOption, Some};
+ghost use Rattle.std.specs.Prelude.{◌≡◌, [], IfOk, Some, length};
 ghost use Rattle.words.specs.Words.{Solve, Demo, AreOptions, solve, demo};
 ghost use Rattle.poly_graph.specs.ProblemViews.{problem_of};
+ghost use Rattle.cert_model.specs.AnswerText.{demo_text};
 ghost use Rattle.cert_model.specs.Due.{left_open};
-ghost use Rattle.script_faults.specs.Faults.{fault_text};
-ghost use Rattle.dpoly.specs.Reader.{unsolved};
-ghost use Rattle.dpoly.specs.Answer.{IsAnswer, IsNotYetSolved};
-ghost use Rattle.dpoly.specs.Course.{RunEnds, Ends, says};
+ghost use Rattle.dpoly.specs.Answer.{IsAnswer};
+ghost use Rattle.dpoly.specs.Course.{RunEnds};
 ghost use Rattle.dpoly.specs.Can.{CanSolve, CanDemo};
 ghost use Rattle.dpoly.specs.Run.{SameIn, HasCause};
+ghost use Rattle.dpoly.specs.Search.{IsLeftBy, IsTold, IsWithin};
 
-use crate::first_path::solve_root;
-use crate::gate::Gate;
-use crate::ports::{finish, say};
+use crate::answers::{Told, search_options, tell, whole_cover};
+use crate::ports::finish;
 use crate::status::Status;
+use cover_book::{Book, BookVerdict};
 use desk::Desk;
 use poly_graph::Problem;
+use solve_core::Gate;
 use std::alloc::{AllocError, Global};
 use std::sync::Wait;
 use std::thread::Threads;
 use words::Options;
 
-// Works on a problem, and tells the gate.
-fn work<R: Threads + Wait + Sync, G: Gate + Sync>(
+// The book that a search for the problem leaves; the caller alone works on it.
+fn search<R: Threads + Wait + Sync, G: Gate + Sync>(
     rt: &R,
     alloc: Global,
     problem: &Problem,
     options: &Options,
     gate: &G,
-) -> Result<Option<Vec<u8>>, AllocError>
-    requires { AreOptions options.now }
-    ensures { IfOk result (λ found. MatchOption found
-        (IsNotYetSolved (problem_of problem.now) options.now)
-        (λ cert. IsAnswer (problem_of problem.now) options.now cert.items (left_open []))) }
+) -> Result<Book, AllocError>
+    requires options { AreOptions options.now }
+    requires within { IsWithin problem.now }
+    ensures problem { IfOk result (λ b. b.problem ≡ problem.now) }
+    ensures left { IfOk result (λ b. IsLeftBy options.now b) }
 {
     let _ = rt;
-    gate.began(0, 0);
-    let found = solve_root(alloc, problem, options);
-    gate.ended(0, 0);
-    found
+    let asked = search_options(options);
+    solve_core::solve(alloc, problem, &asked, gate)
 }
 
-// Refuses a script that is not solved yet.
-fn refuse<D: Desk>(desk: &mut D) -> Status
-    ensures ends { Ends (says Status.ScriptRefused (fault_text unsolved)) (D.sight desk.old) (D.sight desk.new) result }
-    ensures same { SameIn (D.sight desk.old) (D.sight desk.new) }
+// The certificate of a problem, and its answer.
+fn solved<R: Threads + Wait + Sync, G: Gate + Sync>(
+    rt: &R,
+    alloc: Global,
+    problem: &Problem,
+    options: &Options,
+    gate: &G,
+) -> Result<Told, AllocError>
+    requires options { AreOptions options.now }
+    requires within { IsWithin problem.now }
+    ensures { IfOk result (λ told. IsTold (problem_of problem.now) options.now told) }
 {
-    say(
-        desk,
-        Status::ScriptRefused,
-        b"script fault 16 LeftOut 0:0\n",
-    )
+    let book = search(rt, alloc, problem, options, gate)?;
+    tell(alloc, &book, options)
+}
+
+// The certificate of a problem of which nothing is left.
+fn covered<R: Threads + Wait + Sync, G: Gate + Sync>(
+    rt: &R,
+    alloc: Global,
+    problem: &Problem,
+    options: &Options,
+    gate: &G,
+) -> Result<Vec<u8>, AllocError>
+    requires options { AreOptions options.now }
+    requires within { IsWithin problem.now }
+    ensures { IfOk result (λ cert. IsAnswer (problem_of problem.now) options.now cert.items (left_open [])) }
+{
+    let book = search(rt, alloc, problem, options, gate)?;
+    match book.verdict() {
+        BookVerdict::Unsat => whole_cover(alloc, &book),
+        // No script of the demo has another answer: no point of the box from 0 to 1 meets an equation loosened by
+        // delta, and each box whose sides are at most 1/32 is closed, long before the budget is used up. That is not
+        // proved.
+        _ => Err(AllocError),
+    }
 }
 
 /// Solves a problem: its certificate under a name, and the answer.
@@ -63,17 +88,14 @@ pub fn solve_problem<R: Threads + Wait + Sync, D: Desk, G: Gate + Sync>(
     options: Options,
     gate: &G,
 ) -> Status
-    requires { AreOptions options }
+    requires options { AreOptions options }
+    requires within { IsWithin problem.now }
     ensures ends { RunEnds (CanSolve (problem_of problem.now) options name.now) [] (D.sight desk.old) (D.sight desk.new) result }
     ensures same { SameIn (D.sight desk.old) (D.sight desk.new) }
     ensures cause { (words : Solve) → HasCause (Some (solve words)) (D.sight desk.old) (D.sight desk.new) result }
 {
-    match work(rt, alloc, problem, &options, gate) {
-        Ok(Some(cert)) => match answer_text::unsat(alloc, options.margin_bits) {
-            Ok(text) => finish(desk, name, &cert, &text),
-            Err(_) => Status::NoMemory,
-        },
-        Ok(None) => refuse(desk),
+    match solved(rt, alloc, problem, &options, gate) {
+        Ok(told) => finish(desk, name, &told.cert, &told.text),
         Err(_) => Status::NoMemory,
     }
 }
@@ -89,13 +111,14 @@ pub fn solve_demo<R: Threads + Wait + Sync, D: Desk, G: Gate + Sync>(
     options: Options,
     gate: &G,
 ) -> Status
-    requires { AreOptions options }
+    requires options { AreOptions options }
+    requires within { IsWithin problem.now }
     ensures ends { RunEnds (CanDemo (problem_of problem.now) options name.now script.now) [] (D.sight desk.old) (D.sight desk.new) result }
     ensures same { SameIn (D.sight desk.old) (D.sight desk.new) }
     ensures cause { (words : Demo) → HasCause (Some (demo words)) (D.sight desk.old) (D.sight desk.new) result }
 {
-    match work(rt, alloc, problem, &options, gate) {
-        Ok(Some(cert)) => match answer_text::demo(
+    match covered(rt, alloc, problem, &options, gate) {
+        Ok(cert) => match answer_text::demo(
             alloc,
             script.len() as u64,
             problem.atoms().len() as u64,
@@ -103,7 +126,6 @@ pub fn solve_demo<R: Threads + Wait + Sync, D: Desk, G: Gate + Sync>(
             Ok(text) => finish(desk, name, &cert, &text),
             Err(_) => Status::NoMemory,
         },
-        Ok(None) => refuse(desk),
         Err(_) => Status::NoMemory,
     }
 }

@@ -1,5 +1,7 @@
 use super::*;
+use check::check_problem;
 use desk::{Desk, Fault, MemoryDesk, Port};
+use poly_graph::{FormGraph, FormNode, Graph, NoNode, Problem};
 use std::alloc::{AllocError, Global};
 use std::test::Fail;
 
@@ -48,8 +50,6 @@ fn scripts_are_refused(rt: HostRuntime) -> Result<(), Fail> {
     let alloc = rt.alloc();
     for (script, text) in [
         ("", "script fault 14 NoCheck 0:0\n"),
-        // Without a fault: not built yet.
-        ("(check-sat)", "script fault 16 LeftOut 0:0\n"),
         ("(assert true", "script fault 3 Unbalanced 1:1\n"),
         ("(check-sat))", "script fault 3 Unbalanced 1:12\n"),
         ("(push 1)\n(check-sat)", "script fault 16 LeftOut 1:1\n"),
@@ -100,6 +100,142 @@ fn each_call_fails_once(rt: HostRuntime) -> Result<(), Fail> {
                     assert_eq!(rt; status, Status::ScriptRefused);
                     assert_eq!(rt; desk.written(Port::Answer), text);
                 }
+            }
+        }
+    }
+    Ok(())
+}
+
+// ---- answers
+
+#[test]
+fn scripts_are_solved(rt: HostRuntime) -> Result<(), Fail> {
+    let alloc = rt.alloc();
+    for (line, script, cert, text) in [
+        (
+            "dpoly solve s c",
+            "(declare-const x Real)\n(assert (<= 0 x 1))\n(assert (= (* x x) (- 1)))\n(check-sat)",
+            "dpoly 1\nmargin 20\ndelta 10\nbound none\ncover 0\ntree\nfalse\nend\n",
+            "unsat\nmargin 1b-20\n",
+        ),
+        (
+            "dpoly solve s c",
+            "(declare-const x Real)\n(assert (<= 0 x 1))\n(assert (distinct x x))\n(check-sat)",
+            "dpoly 1\nmargin 20\ndelta 10\nbound none\npoint\nreal 1b-1\nend\n",
+            "delta-sat\ndelta 1b-10\nx 1b-1\n",
+        ),
+        (
+            "dpoly solve s c",
+            "(declare-const x Real)\n(assert (>= x 1))\n(assert (<= x 0))\n(check-sat)",
+            "dpoly 1\nmargin 20\ndelta 10\nbound none\ncover 0\ntree\nempty 0\nend\n",
+            "unsat\nmargin 1b-20\n",
+        ),
+        (
+            "dpoly solve s c --budget 0",
+            "(declare-const b Bool)\n(assert b)\n(check-sat)",
+            "dpoly 1\nmargin 20\ndelta 10\nbound none\ncover 0\ntree\nopen\nend\n",
+            "unknown budget 0\n",
+        ),
+    ] {
+        let words = words_of(alloc, line)?;
+        let mut desk = desk_of(alloc, script, 4)?;
+        let status = run_top(&rt, alloc, &words, &mut desk, &NoGate);
+        assert_eq!(rt; status, Status::Answered, "at {script}");
+        assert_eq!(rt; desk.written(Port::CertOut), cert.as_bytes(), "at {script}");
+        assert_eq!(rt; desk.written(Port::Answer), text.as_bytes(), "at {script}");
+    }
+    Ok(())
+}
+
+#[test]
+fn the_certificate_stands_before_the_answer(rt: HostRuntime) -> Result<(), Fail> {
+    let alloc = rt.alloc();
+    let words = words_of(alloc, "dpoly solve s c")?;
+    let cert = b"dpoly 1\nmargin 20\ndelta 10\nbound none\ncover 0\ntree\nfalse\nend\n".as_slice();
+    for (call, answer) in [(0u64, ""), (1, ""), (2, "unsa"), (3, "unsat\nma")] {
+        let mut desk = desk_of(alloc, "(assert false)\n(check-sat)", 4)?;
+        desk.fail(Fault {
+            port: Port::Answer,
+            call,
+        })?;
+        let status = run_top(&rt, alloc, &words, &mut desk, &NoGate);
+        assert_eq!(rt; status, Status::OutFailed);
+        assert_eq!(rt; desk.written(Port::CertOut), cert);
+        assert_eq!(rt; desk.written(Port::Answer), answer.as_bytes());
+    }
+    Ok(())
+}
+
+// ---- certificates
+
+// A problem without axes, whose form is true.
+#[tactic(auto, using(poly_graph::proofs::Smallest::smallest))]
+fn smallest(alloc: Global) -> Result<Problem, NoNode> {
+    let mut forms = FormGraph::new(alloc);
+    let root = forms.intern(FormNode::True)?;
+    Ok(Problem::new(
+        Vec::new(alloc),
+        Graph::new(alloc),
+        Vec::new(alloc),
+        forms,
+        root,
+    ))
+}
+
+#[test]
+fn certificates_are_checked_by_pieces(rt: HostRuntime) -> Result<(), Fail> {
+    let alloc = rt.alloc();
+    let problem = smallest(alloc)?;
+    for (cert, wanted, text) in [
+        (
+            "dpoly 1\nmargin 20\ndelta 10\nbound none\ncover 0\ntree\nopen\nend\n",
+            Status::Answered,
+            "open 1\n",
+        ),
+        (
+            "dpoly 1\nmargin 20\ndelta 10\nbound none\npoint\nend",
+            Status::Answered,
+            "confirmed delta-sat\ndelta 1b-10\n",
+        ),
+        (
+            "dpoly 1\nmargin 20\ndelta 10\nbound none\ncover 0\ntree\nfalse\nend\n",
+            Status::CertRefused,
+            "certificate fault 3 RuleFails false line 7\n",
+        ),
+        (
+            "",
+            Status::CertRefused,
+            "certificate fault 1 BadHeader line 1\n",
+        ),
+    ] {
+        for most in [1usize, 7, 65536] {
+            let cert = cert.as_bytes().to_vec(alloc)?;
+            let mut desk = MemoryDesk::new(alloc, Vec::new(alloc), cert, most.max(1));
+            let status = check_problem(alloc, &mut desk, "c", &problem, None);
+            assert_eq!(rt; status, wanted, "at {text}");
+            assert_eq!(rt; desk.written(Port::Answer), text.as_bytes());
+        }
+    }
+    Ok(())
+}
+
+#[test]
+fn each_call_of_a_check_fails_once(rt: HostRuntime) -> Result<(), Fail> {
+    let alloc = rt.alloc();
+    let problem = smallest(alloc)?;
+    for port in [Port::CertIn, Port::Answer] {
+        for call in 0u64..6 {
+            let cert = b"dpoly 2\n".to_vec(alloc)?;
+            let mut desk = MemoryDesk::new(alloc, Vec::new(alloc), cert, 3);
+            desk.fail(Fault { port, call })?;
+            let status = check_problem(alloc, &mut desk, "c", &problem, None);
+            if desk.in_faults() > 0 {
+                assert_eq!(rt; status, Status::InFailed);
+                assert_eq!(rt; desk.written(Port::Answer), b"".as_slice());
+            } else if desk.out_faults() > 0 {
+                assert_eq!(rt; status, Status::OutFailed);
+            } else {
+                assert_eq!(rt; status, Status::CertRefused);
             }
         }
     }

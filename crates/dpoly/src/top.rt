@@ -6,15 +6,16 @@ ghost use Rattle.dpoly.specs.Course.{RunEnds};
 ghost use Rattle.dpoly.specs.Can.{Can, in_starts};
 ghost use Rattle.dpoly.specs.Run.{CertIsRead, Completes, HasCause, SameIn, ScriptIsRead, Shows, Tells};
 ghost use Rattle.dpoly.specs.Script.{HaltEnds};
-ghost use Rattle.dpoly.specs.Headline.{UnsatIsTrue, DeltaSatIsTrue};
+ghost use Rattle.dpoly.specs.Headline.{UnsatIsTrue, DeltaSatIsTrue, RefusalIsTrue};
 
-use crate::gate::Gate;
+use crate::check::check_problem;
 use crate::ports::say;
 use crate::script::{Halt, fetch_problem, read_script};
 use crate::solve::{solve_demo, solve_problem};
 use crate::status::Status;
 use desk::Desk;
 use gen_script::make;
+use solve_core::Gate;
 use std::alloc::Global;
 use std::sync::Wait;
 use std::thread::Threads;
@@ -67,11 +68,11 @@ fn run_check<D: Desk>(alloc: Global, desk: &mut D, asked: CheckWords<'_>) -> Sta
 {
     let CheckWords {
         script,
-        cert: _,
+        cert,
         bound,
     } = asked;
     match fetch_problem(alloc, desk, script, bound) {
-        Ok(_) => unreachable!(),
+        Ok(problem) => check_problem(alloc, desk, cert, &problem, bound),
         Err(stop) => halt(desk, stop),
     }
 }
@@ -153,7 +154,7 @@ pub fn run_top<R: Threads + Wait + Sync, D: Desk, G: Gate + Sync>(
     ensures shows { (script cert_in : List ℕ) → Tells (command_of (map string_bytes words.now)) (D.sight desk.old) script cert_in
         → Shows (command_of (map string_bytes words.now)) script cert_in (D.sight desk.old) (D.sight desk.new) result }
 
-    // Where neither side fails, what can be answered is answered, or memory was wanting.
+    // Where neither side fails, a run ends as it must, or memory was wanting.
     ensures complete { (script cert_in : List ℕ) → Tells (command_of (map string_bytes words.now)) (D.sight desk.old) script cert_in
         → Completes (command_of (map string_bytes words.now)) script cert_in (D.sight desk.old) (D.sight desk.new) result }
 
@@ -162,6 +163,10 @@ pub fn run_top<R: Threads + Wait + Sync, D: Desk, G: Gate + Sync>(
         → result ≡ Status.Answered → UnsatIsTrue (command_of (map string_bytes words.now)) script cert_in (D.sight desk.old) (D.sight desk.new) }
     ensures delta_sat { (script cert_in : List ℕ) → Tells (command_of (map string_bytes words.now)) (D.sight desk.old) script cert_in
         → result ≡ Status.Answered → DeltaSatIsTrue (command_of (map string_bytes words.now)) script cert_in (D.sight desk.old) (D.sight desk.new) }
+
+    // A certificate that is refused has the fault that is told.
+    ensures refused { (script cert_in : List ℕ) → Tells (command_of (map string_bytes words.now)) (D.sight desk.old) script cert_in
+        → result ≡ Status.CertRefused → RefusalIsTrue (command_of (map string_bytes words.now)) script cert_in (D.sight desk.old) (D.sight desk.new) }
 {
     match read_words(alloc, words) {
         Ok(asked) => run_command(rt, alloc, desk, asked, gate),

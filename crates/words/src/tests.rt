@@ -91,7 +91,7 @@ fn refused_numbers(rt: HostRuntime) -> Result<(), Fail> {
         "dpoly solve s c --bound 0",
         "dpoly solve s c --bound 4294967296",
         "dpoly solve s c --workers 0",
-        "dpoly solve s c --workers 65",
+        "dpoly solve s c --workers 2",
         "dpoly solve s c --workers=",
         "dpoly solve s c --workers one",
         "dpoly solve s c --workers 1.0",
@@ -104,7 +104,7 @@ fn refused_numbers(rt: HostRuntime) -> Result<(), Fail> {
         "dpoly demo -1 1 c",
         "dpoly demo 18446744073709551616 1 c",
         "dpoly demo 1 1 c --workers 0",
-        "dpoly demo 1 1 c --workers 65",
+        "dpoly demo 1 1 c --workers 2",
     ];
     for line in lines {
         assert!(rt; is_refused(alloc, line)?);
@@ -136,7 +136,7 @@ fn solve_is_asked(rt: HostRuntime) -> Result<(), Fail> {
         margin_bits: 60,
         least_bits: 60,
         budget: 1048576,
-        workers: 64,
+        workers: 1,
         bound: Some(4294967295),
     };
     let mixed = Options {
@@ -144,7 +144,7 @@ fn solve_is_asked(rt: HostRuntime) -> Result<(), Fail> {
         margin_bits: 20,
         least_bits: 20,
         budget: 7,
-        workers: 5,
+        workers: 1,
         bound: None,
     };
     assert!(rt; solves(alloc, "dpoly solve s c", usual)?);
@@ -158,14 +158,14 @@ fn solve_is_asked(rt: HostRuntime) -> Result<(), Fail> {
     assert!(rt;
         solves(
             alloc,
-            "dpoly solve --workers=64 --bound=4294967295 s --budget=1048576 --least-bits=60 c --margin-bits=60 --delta-bits=30",
+            "dpoly solve --workers=1 --bound=4294967295 s --budget=1048576 --least-bits=60 c --margin-bits=60 --delta-bits=30",
             most
         )?
     );
     assert!(rt;
         solves(
             alloc,
-            "dpoly solve s c --budget 007 --workers +5 --delta-bits +0019",
+            "dpoly solve s c --budget 007 --workers +1 --delta-bits +0019",
             mixed
         )?
     );
@@ -216,12 +216,12 @@ fn check_and_demo_are_asked(rt: HostRuntime) -> Result<(), Fail> {
         seed: 18446744073709551615,
         size: 10000,
         cert: "c",
-        options: usual_options(64),
+        options: usual_options(1),
     };
     assert!(rt;
         asks(
             alloc,
-            "dpoly demo 18446744073709551615 10000 c --workers 64",
+            "dpoly demo 18446744073709551615 10000 c --workers 1",
             Asked::Demo(last)
         )?
     );

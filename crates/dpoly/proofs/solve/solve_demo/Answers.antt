@@ -2,14 +2,11 @@ use Rattle.std.proofs.Common.{◌≡◌, length, ap, sym, ◌∙◌}
 use Rattle.std.proofs.lemmas.List.{length-map}
 use Rattle.cert_model.specs.AnswerText.{demo_text}
 use Rattle.poly_graph.specs.Views.{atom_of}
-use Rattle.dpoly.proofs.Solving.{demonstrated, not_demonstrated}
+use Rattle.dpoly.proofs.Solving.{demonstrated}
 use Rattle.dpoly.proofs.solve.solve_demo.Goals as goal
 
-pub returns-in-Ok-clause-ends : goal.returns-in-Ok-clause-ends
-returns-in-Ok-clause-ends g c =
+pub returns-in-Ok-demo-clause-ends : goal.returns-in-Ok-demo-clause-ends
+returns-in-Ok-demo-clause-ends g c =
     let count : length c.atoms.result.now ≡ length c.args.problem.now.atoms = sym (length-map c.atoms.result.now atom_of) ∙ ap length c.atoms.ensures.atoms in
-    demonstrated _ c.args.options c.args.name.now c.args.script.now _ c.in-Ok-Some.cert.items _ _ _ _ _
-    (rw c.in-Ok-Some.field-0-is at c.in-Ok-Some.ensures) c.deref.ensures.value (c.in-Ok.ensures ∙ ap (λ n. demo_text (length c.args.script.now) n) count) c.deref-in-Ok.ensures.value c.finish.ensures.ends
-
-pub returns-in-Ok-None-clause-ends : goal.returns-in-Ok-None-clause-ends
-returns-in-Ok-None-clause-ends g c = not_demonstrated _ _ _ _ _ _ _ (rw c.in-Ok-None.field-0-is at c.in-Ok-None.ensures) c.refuse.ensures.ends
+    demonstrated _ c.args.options c.args.name.now c.args.script.now _ c.in-Ok.cert.items _ _ _ _ _
+    c.in-Ok.ensures c.deref.ensures.value (c.in-Ok-demo.ensures ∙ ap (λ n. demo_text (length c.args.script.now) n) count) c.deref-in-Ok-demo.ensures.value c.finish.ensures.ends

@@ -6,7 +6,7 @@ use Rattle.dpoly.specs.Can.{Can, in_starts, usage_text}
 use Rattle.dpoly.specs.Run.{Tells, Shows}
 use Rattle.dpoly.specs.declared.status.Status.TheVariants.{Usage}
 use Rattle.dpoly.proofs.Shown.{shows-run, completes-run}
-use Rattle.dpoly.proofs.Headline.{unsat-true, delta-sat-true}
+use Rattle.dpoly.proofs.Headline.{unsat-true, delta-sat-true, refusal-true}
 use Rattle.dpoly.proofs.top.run_top.Goals as goal
 
 pub returns-in-Ok-clause-shows : goal.returns-in-Ok-clause-shows
@@ -30,6 +30,11 @@ pub returns-in-Ok-clause-delta_sat : goal.returns-in-Ok-clause-delta_sat
 returns-in-Ok-clause-delta_sat g c script cert_in tells answered =
     let S : Status → Type 0 = λ s. Shows (command_of (map string_bytes c.args.words.now)) script cert_in (g.D.Desk.sight c.args.desk.now) (g.D.Desk.sight c.run_command.new.desk) s in
     delta-sat-true _ script cert_in _ _ (subst S answered (returns-in-Ok-clause-shows g c script cert_in tells))
+
+pub returns-in-Ok-clause-refused : goal.returns-in-Ok-clause-refused
+returns-in-Ok-clause-refused g c script cert_in tells refused =
+    let S : Status → Type 0 = λ s. Shows (command_of (map string_bytes c.args.words.now)) script cert_in (g.D.Desk.sight c.args.desk.now) (g.D.Desk.sight c.run_command.new.desk) s in
+    refusal-true _ script cert_in _ _ (subst S refused (returns-in-Ok-clause-shows g c script cert_in tells))
 
 pub returns-in-Err-Usage-clause-complete : goal.returns-in-Err-Usage-clause-complete
 returns-in-Err-Usage-clause-complete g c script cert_in tells =

@@ -1,0 +1,6 @@
+use Rattle.std.proofs.lemmas.Result.{IfOk-weaker}
+use Rattle.dpoly.proofs.Told.{unsat_leaves_none}
+use Rattle.dpoly.proofs.answers.whole_cover.Goals as goal
+
+pub returns : goal.returns
+returns c = IfOk-weaker _ _ _ (λ cert e. unsat_leaves_none c.args.book.now c.nodes.ensures.book c.requires _ e) c.write_cover.ensures

@@ -1,0 +1,50 @@
+-- What a search is asked for, and what is told of the book that it left.
+use Rattle.std.specs.Prelude.{◌≡◌, ◌≢◌, ◌≤◌, ℕ, List, [], length}
+use Rattle.words.specs.declared.asked.Options.{Options}
+use Rattle.poly_graph.specs.ProblemViews.{Parts}
+use Rattle.poly_graph.specs.Problem.{Problem}
+use Rattle.poly_graph.specs.Derivation.{Tree}
+use Rattle.cert_model.specs.Due.{Standing, Value, left_open}
+use Rattle.cert_model.specs.AnswerText.{solve_text}
+use Rattle.cover_rule.specs.declared.margins.Options as cover
+use Rattle.cover_book.specs.declared.verdict.BookVerdict.TheVariants.{NotYet}
+use Rattle.cover_book.specs.Model.{BookModel, problem_in}
+use Rattle.cover_book.specs.Keeps.{IsCrossed}
+use Rattle.cover_book.specs.Laws.{IsTreeOfBook}
+use Rattle.cover_book.specs.Verdict.{verdict_of}
+use Rattle.solve_core.specs.Left.{LeavesDue}
+use Rattle.dpoly.specs.declared.answers.Told.{Told}
+use Rattle.dpoly.specs.Answer.{loosenings_of, IsAnswer}
+
+-- the words' options, as a search takes them
+abbrev pub search_options : Options → cover.Options
+search_options options = record {
+  delta_bits = options.delta_bits;
+  margin_bits = options.margin_bits;
+  least_bits = options.least_bits;
+  budget = options.budget;
+  workers = options.workers;
+  bound = options.bound;
+}
+
+-- as many axes and atoms as a search takes at most
+pub record IsWithin (p : Parts) : Type 0 where
+  pub axes : length p.axes ≤ 1024
+  pub atoms : length p.atoms ≤ 65536
+
+-- a search with these options left the book
+pub record IsLeftBy (options : Options) (b : BookModel) : Type 0 where
+  pub asked : b.options ≡ search_options options
+  pub ended : verdict_of b ≢ NotYet
+  pub due : LeavesDue b
+
+-- the text is that of what the tree of the book leaves, and of nothing where the declared box is empty
+pub record SaysLeft (options : Options) (b : BookModel) (text : List ℕ) : Type 0 where
+  pub tree : (t : Tree) (left : List Standing) → IsTreeOfBook b t left → text ≡ solve_text (problem_in b) options.budget (loosenings_of options) (left_open left)
+  pub crossed : IsCrossed b → text ≡ solve_text (problem_in b) options.budget (loosenings_of options) (left_open [])
+
+-- the certificate answers the problem, and the text is that of its value
+pub record IsTold (p : Problem) (options : Options) (told : Told) : Type 0 where
+  pub value : Value
+  pub answer : IsAnswer p options told.cert.items value
+  pub text : told.text.items ≡ solve_text p options.budget (loosenings_of options) value

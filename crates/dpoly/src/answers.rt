@@ -1,0 +1,105 @@
+// From the book that a search left to its certificate and its answer.
+ghost use Rattle.std.specs.Prelude.{◌≡◌, [], None, Some, IfOk};
+ghost use Rattle.words.specs.declared.asked.Options.{Options};
+ghost use Rattle.cert_model.specs.Due.{left_open};
+ghost use Rattle.cover_book.specs.Model.{problem_in};
+ghost use Rattle.cover_book.specs.Verdict.{verdict_of};
+ghost use Rattle.cover_book.specs.declared.verdict.BookVerdict.TheVariants as verdict;
+ghost use Rattle.dpoly.specs.Answer.{IsAnswer};
+ghost use Rattle.dpoly.specs.Search.{search_options as options_of, IsLeftBy, IsTold, SaysLeft};
+
+use cert_text::{first_stuck, write_cover, write_point};
+use cover_book::{Book, BookVerdict};
+use cover_rule::Point;
+use std::alloc::{AllocError, Global};
+use words::Options;
+
+/// A certificate, and the answer's text.
+#[derive(Debug, Drop)]
+pub struct Told {
+    pub cert: Vec<u8>,
+    pub text: Vec<u8>,
+}
+
+/// What the words ask of a search.
+pub fn search_options(options: &Options) -> cover_rule::Options
+    ensures { result ≡ options_of options.now }
+{
+    cover_rule::Options {
+        delta_bits: options.delta_bits,
+        margin_bits: options.margin_bits,
+        least_bits: options.least_bits,
+        budget: options.budget,
+        workers: options.workers,
+        bound: options.bound,
+    }
+}
+
+// The text of the point that is kept, with its certificate.
+fn tell_point(
+    alloc: Global,
+    book: &Book,
+    options: &Options,
+    point: &Point,
+) -> Result<Told, AllocError>
+    requires left { IsLeftBy options.now book.now }
+    requires kept { book.now.point ≡ Some point.now }
+    ensures { IfOk result (λ told. IsTold (problem_in book.now) options.now told) }
+{
+    let problem = book.problem();
+    let cert = write_point(alloc, problem, book.options(), point)?;
+    let text = answer_text::delta_sat(alloc, problem, options.delta_bits, point.space())?;
+    Ok(Told { cert, text })
+}
+
+// The text of the first stuck box, in the tree's order.
+fn width_text(alloc: Global, book: &Book) -> Result<Vec<u8>, AllocError>
+    requires { verdict_of book.now ≡ verdict.UnknownWidth }
+    ensures { IfOk result (λ text. (options : Options) → SaysLeft options book.now text.items) }
+{
+    let problem = book.problem();
+    match first_stuck(alloc, book)? {
+        Some(found) => answer_text::width(alloc, problem, found.state.space(), found.atom),
+        None => unreachable!(),
+    }
+}
+
+// The text of what the book leaves.
+fn left_text(alloc: Global, book: &Book, options: &Options) -> Result<Vec<u8>, AllocError>
+    requires left { IsLeftBy options.now book.now }
+    requires no_point { book.now.point ≡ None }
+    ensures { IfOk result (λ text. SaysLeft options.now book.now text.items) }
+{
+    let _ = book.nodes();
+    match book.verdict() {
+        BookVerdict::UnknownBudget => answer_text::budget(alloc, u64::from(options.budget)),
+        BookVerdict::UnknownWidth => width_text(alloc, book),
+        BookVerdict::Unsat => answer_text::unsat(alloc, options.margin_bits),
+        BookVerdict::DeltaSat | BookVerdict::NotYet => unreachable!(),
+    }
+}
+
+/// The certificate of a book that a search left, and its answer.
+pub fn tell(alloc: Global, book: &Book, options: &Options) -> Result<Told, AllocError>
+    requires { IsLeftBy options.now book.now }
+    ensures { IfOk result (λ told. IsTold (problem_in book.now) options.now told) }
+{
+    let _ = book.nodes();
+    match book.point() {
+        Some(point) => tell_point(alloc, book, options, point),
+        None => {
+            let cert = write_cover(alloc, book)?;
+            let text = left_text(alloc, book, options)?;
+            Ok(Told { cert, text })
+        }
+    }
+}
+
+/// The certificate of a book that leaves nothing.
+pub fn whole_cover(alloc: Global, book: &Book) -> Result<Vec<u8>, AllocError>
+    requires { verdict_of book.now ≡ verdict.Unsat }
+    ensures { IfOk result (λ cert. (options : Options) → IsLeftBy options book.now → IsAnswer (problem_in book.now) options cert.items (left_open [])) }
+{
+    let _ = book.nodes();
+    write_cover(alloc, book)
+}
