@@ -1,0 +1,13 @@
+-- What a patch for a book's problem did is a run for it.
+use Rattle.std.specs.Prelude.{◌≡◌}
+use Rattle.std.proofs.Common.{sym, subst}
+use Rattle.poly_graph.specs.ProblemViews.{Parts, problem_of}
+use Rattle.cover_rule.specs.declared.margins.Margins.{Margins}
+use Rattle.cover_rule.specs.Models.{KeptModel, PatchModel}
+use Rattle.cover_rule.specs.Runs.{IsRun}
+
+pub is_run_for : (p : Parts) (m : Margins) (Q : PatchModel) (k : KeptModel) → Q.problem ≡ p → Q.margins ≡ m → k ≡ Q.kept → IsRun (problem_of Q.problem) Q.margins Q.kept → IsRun (problem_of p) m k
+is_run_for p m Q k a b e h =
+    subst (λ (x : KeptModel). IsRun (problem_of p) m x) (sym e)
+    (subst (λ (x : Margins). IsRun (problem_of p) x Q.kept) b
+    (subst (λ (x : Parts). IsRun (problem_of x) Q.margins Q.kept) a h))

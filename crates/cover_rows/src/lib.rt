@@ -1,0 +1,5 @@
+//! Worked rows from the text of a script to the text of a certificate and back: the checker, the book and its patches, and points.
+#![tactic(auto)]
+
+#[cfg(test)]
+mod tests;

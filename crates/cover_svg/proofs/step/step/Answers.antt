@@ -1,0 +1,50 @@
+use Rattle.std.proofs.Common.{◌≡◌, List, length, subst, sym, IfOk, IfSome, Option}
+use Rattle.poly_graph.specs.ProblemViews.{problem_of}
+use Rattle.poly_graph.specs.State.{State, Loosenings}
+use Rattle.cert_read.specs.declared.line.Line.{Line}
+use Rattle.cert_read.specs.Views.{line_of}
+use Rattle.cover_svg.specs.declared.step.Left.{Left}
+use Rattle.cover_svg.specs.Steps.{Follows, rule_in, EndsBy}
+use Rattle.cover_svg.proofs.Follow.{in_ok}
+use Rattle.cover_svg.proofs.step.step.Goals as goal
+
+pub returns-in-Pull-clause-follows : goal.returns-in-Pull-clause-follows
+returns-in-Pull-clause-follows c =
+    subst (λ (l : Line). IfOk c.pull.result (λ (o : Option Left). (s : Loosenings) (lemmas : List State) → s.margin_bits ≡ c.args.margin_bits → length c.args.state.marks ≡ length c.args.problem.now.atoms → Follows (rule_in (problem_of c.args.problem.now) s lemmas c.args.state (line_of l)) o))
+    (sym c.in-Pull.is) c.pull.ensures.follows
+
+pub returns-in-Pull-clause-end : goal.returns-in-Pull-clause-end
+returns-in-Pull-clause-end c =
+    subst (λ (l : Line). IfOk c.pull.result (λ (o : Option Left). IfSome o (EndsBy c.args.state (line_of l)))) (sym c.in-Pull.is) c.pull.ensures.end
+
+pub returns-in-Void-clause-follows : goal.returns-in-Void-clause-follows
+returns-in-Void-clause-follows c =
+    subst (λ (l : Line). IfOk c.void.result (λ (o : Option Left). (s : Loosenings) (lemmas : List State) → s.margin_bits ≡ c.args.margin_bits → length c.args.state.marks ≡ length c.args.problem.now.atoms → Follows (rule_in (problem_of c.args.problem.now) s lemmas c.args.state (line_of l)) o))
+    (sym c.in-Void.is) c.void.ensures.follows
+
+pub returns-in-Case-clause-follows : goal.returns-in-Case-clause-follows
+returns-in-Case-clause-follows c =
+    subst (λ (l : Line). IfOk c.case.result (λ (o : Option Left). (s : Loosenings) (lemmas : List State) → s.margin_bits ≡ c.args.margin_bits → length c.args.state.marks ≡ length c.args.problem.now.atoms → Follows (rule_in (problem_of c.args.problem.now) s lemmas c.args.state (line_of l)) o))
+    (sym c.in-Case.is) (in_ok c.case.result _ _ (λ o h s lemmas m n. h (problem_of c.args.problem.now) s lemmas) c.case.ensures.follows)
+
+pub returns-in-Case-clause-end : goal.returns-in-Case-clause-end
+returns-in-Case-clause-end c =
+    subst (λ (l : Line). IfOk c.case.result (λ (o : Option Left). IfSome o (EndsBy c.args.state (line_of l)))) (sym c.in-Case.is) c.case.ensures.end
+
+pub returns-in-Cut-clause-follows : goal.returns-in-Cut-clause-follows
+returns-in-Cut-clause-follows c =
+    subst (λ (l : Line). IfOk c.cut.result (λ (o : Option Left). (s : Loosenings) (lemmas : List State) → s.margin_bits ≡ c.args.margin_bits → length c.args.state.marks ≡ length c.args.problem.now.atoms → Follows (rule_in (problem_of c.args.problem.now) s lemmas c.args.state (line_of l)) o))
+    (sym c.in-Cut.is) (in_ok c.cut.result _ _ (λ o h s lemmas m n. h (problem_of c.args.problem.now) s lemmas) c.cut.ensures.follows)
+
+pub returns-in-Cut-clause-end : goal.returns-in-Cut-clause-end
+returns-in-Cut-clause-end c =
+    subst (λ (l : Line). IfOk c.cut.result (λ (o : Option Left). IfSome o (EndsBy c.args.state (line_of l)))) (sym c.in-Cut.is) c.cut.ensures.end
+
+pub returns-in-Flip-clause-follows : goal.returns-in-Flip-clause-follows
+returns-in-Flip-clause-follows c =
+    subst (λ (l : Line). IfOk c.flip.result (λ (o : Option Left). (s : Loosenings) (lemmas : List State) → s.margin_bits ≡ c.args.margin_bits → length c.args.state.marks ≡ length c.args.problem.now.atoms → Follows (rule_in (problem_of c.args.problem.now) s lemmas c.args.state (line_of l)) o))
+    (sym c.in-Flip.is) (in_ok c.flip.result _ _ (λ o h s lemmas m n. h (problem_of c.args.problem.now) s lemmas) c.flip.ensures.follows)
+
+pub returns-in-Flip-clause-end : goal.returns-in-Flip-clause-end
+returns-in-Flip-clause-end c =
+    subst (λ (l : Line). IfOk c.flip.result (λ (o : Option Left). IfSome o (EndsBy c.args.state (line_of l)))) (sym c.in-Flip.is) c.flip.ensures.end

@@ -1,0 +1,78 @@
+// Why there is no picture.
+
+use cert_read::LineFault;
+use problem_build::ScriptFault as BuildFault;
+use smt_script::ScriptFault as CommandFault;
+use smt_sexp::TextFault;
+use sort_check::ScriptFault as SortFault;
+use std::alloc::{AllocError, AllocFailed};
+use thiserror::Error;
+
+/// Why there is no picture.
+#[derive(Debug, Drop, Error)]
+pub enum Fault {
+    #[error("wants the names of a script and of a certificate")]
+    Usage,
+    #[error("the script can't be read")]
+    Script,
+    #[error("the certificate can't be read")]
+    Cert,
+    #[error("the picture can't be written")]
+    Output,
+    #[error("no memory")]
+    Memory,
+    /// The script is too long.
+    #[error("the script has more than 67,108,864 bytes")]
+    TooLong,
+    /// The script has a fault.
+    #[error("script: {0}")]
+    Text(TextFault),
+    #[error("script: {0}")]
+    Commands(CommandFault),
+    #[error("script: {0}")]
+    Sorts(SortFault),
+    #[error("script: {0}")]
+    Build(BuildFault),
+    /// The script has another number of Real constants than two.
+    #[error("the script does not have two Real constants")]
+    Axes,
+    /// The bounds of a constant cross.
+    #[error("the declared box is empty")]
+    EmptyBox,
+    /// A line of the certificate says nothing that can be read.
+    #[error("certificate line {line}: {fault}")]
+    Line { line: u64, fault: LineFault },
+    /// A line of the certificate does not fit where it stands, or is missing.
+    #[error("certificate line {line} does not fit")]
+    Misfit { line: u64 },
+}
+
+impl Fault {
+    /// The status with which the program ends: 1 for the certificate, 2 for the script, 3 for the words, 4 where a file
+    /// is not read, 5 where the picture is not written, 6 where there is no memory.
+    pub fn status(&self) -> u8 {
+        match self {
+            Fault::Line { .. } | Fault::Misfit { .. } => 1,
+            Fault::TooLong | Fault::Axes | Fault::EmptyBox => 2,
+            Fault::Text(TextFault::Memory) | Fault::Commands(CommandFault::Memory) => 6,
+            Fault::Sorts(SortFault::Memory) | Fault::Build(BuildFault::Memory) => 6,
+            Fault::Text(_) | Fault::Commands(_) | Fault::Sorts(_) | Fault::Build(_) => 2,
+            Fault::Usage => 3,
+            Fault::Script | Fault::Cert => 4,
+            Fault::Output => 5,
+            Fault::Memory => 6,
+        }
+    }
+}
+
+impl From<AllocError> for Fault {
+    fn from(_: AllocError) -> Self {
+        Fault::Memory
+    }
+}
+
+impl<T: Drop> From<AllocFailed<T>> for Fault {
+    fn from(_: AllocFailed<T>) -> Self {
+        Fault::Memory
+    }
+}

@@ -1,0 +1,51 @@
+// The program `cover_svg SCRIPT CERT`: draws the cover that a certificate describes.
+#![tactic(auto)]
+
+mod drawing;
+mod fault;
+mod frame;
+mod header;
+mod lines;
+mod picture;
+mod script;
+mod step;
+
+use drawing::draw;
+use fault::Fault;
+use std::alloc::Global;
+use std::process::ExitCode;
+use std::{env, fs};
+
+// The picture of the files that the words name.
+fn drawn(rt: &HostRuntime, alloc: Global) -> Result<String, Fault> {
+    let Ok(args) = env::args(rt) else {
+        return Err(Fault::Memory);
+    };
+    let words = args.collect::<Vec<String>>(alloc)?;
+    let [_, script, cert] = words.as_slice() else {
+        return Err(Fault::Usage);
+    };
+    let Ok(script) = fs::read(rt, script.as_str()) else {
+        return Err(Fault::Script);
+    };
+    let Ok(cert) = fs::read(rt, cert.as_str()) else {
+        return Err(Fault::Cert);
+    };
+    draw(alloc, &script, &cert)
+}
+
+fn main(rt: HostRuntime) -> ExitCode {
+    let fault = match drawn(&rt, rt.alloc()) {
+        Ok(text) => match rt.print(text) {
+            Ok(()) => return ExitCode::from(0),
+            Err(_) => Fault::Output,
+        },
+        Err(fault) => fault,
+    };
+    let status = fault.status();
+    let _ = eprintln!(rt; "cover_svg: {fault}");
+    ExitCode::from(status)
+}
+
+#[cfg(test)]
+mod tests;
