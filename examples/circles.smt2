@@ -1,0 +1,22 @@
+; Four points of the unit square whose distances are all at least 1.1: there are none, since the four corners are as
+; far apart as four points can be, and their least distance is 1.
+; answer: unsat
+(set-logic QF_NRA)
+(declare-const x1 Real)
+(declare-const y1 Real)
+(declare-const x2 Real)
+(declare-const y2 Real)
+(declare-const x3 Real)
+(declare-const y3 Real)
+(declare-const x4 Real)
+(declare-const y4 Real)
+(assert (and (<= 0 x1 1) (<= 0 y1 1) (<= 0 x2 1) (<= 0 y2 1) (<= 0 x3 1) (<= 0 y3 1) (<= 0 x4 1) (<= 0 y4 1)))
+(define-fun sq ((t Real)) Real (* t t))
+(define-fun far ((x Real) (y Real) (u Real) (v Real)) Bool (>= (+ (sq (- x u)) (sq (- y v))) 1.21))
+(assert (far x1 y1 x2 y2))
+(assert (far x1 y1 x3 y3))
+(assert (far x1 y1 x4 y4))
+(assert (far x2 y2 x3 y3))
+(assert (far x2 y2 x4 y4))
+(assert (far x3 y3 x4 y4))
+(check-sat)
