@@ -61,6 +61,13 @@ ceil_least q s k m z big least r h =
     (let large = mul-le-mul_right (2 ^ k) big in
     omega (arith, small, large, ap (λ n. 2 ^ 61 * n) joined, h)))
 
+-- a size that needs no rounding
+pub rounded_down_same : (v r : ℕ) → r ≡ v → IsRoundedDown v r
+rounded_down_same v r e = record { at_most = omega arith; greatest = λ z _ h. omega arith }
+
+pub rounded_up_same : (v r : ℕ) → r ≡ v → IsRoundedUp v r
+rounded_up_same v r e = record { at_least = omega arith; least = λ z _ h. omega arith }
+
 -- what the code rounds down to
 pub rounded_down : (q s k : ℕ) → (0 < s → 2 ^ 61 * 2 ^ s ≤ q) → IsRoundedDown (q * 2 ^ k) (q / 2 ^ s * 2 ^ (k + s))
 rounded_down q s k least = record {

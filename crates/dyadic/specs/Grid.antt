@@ -40,15 +40,6 @@ pub record IsPart (v shift whole : ℕ) (has_rest : Bool) : Type 0 where
   pub some : has_rest ≡ true → 0 < rest
   pub none : has_rest ≡ false → rest ≡ 0
 
--- the steps of 2^shift of a greater and a lesser size
-pub record IsAligned (a b shift greater lesser : ℕ) (has_rest : Bool) : Type 0 where
-  pub exact : greater * 2 ^ shift ≡ a
-  pub part : IsPart b shift lesser has_rest
-  pub room : greater < 2 ^ 127
-  pub less : lesser ≤ greater
-  pub many : has_rest ≡ true → 2 ^ 64 ≤ greater
-  pub few : has_rest ≡ true → lesser ≤ 2 ^ 62
-
 -- Of the root of n units of units, low * 2^shift and high * 2^shift are a lower and an upper bound,
 -- with no representable size between either of them and the root.
 pub record IsTightRoot (n low high shift : ℕ) : Type 0 where

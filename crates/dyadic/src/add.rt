@@ -1,63 +1,29 @@
 // Sums of numbers.
-ghost use Rattle.std.specs.Prelude.{◌≡◌, ℕ, ◌≤◌, ◌+ℤ◌};
+ghost use Rattle.std.specs.Prelude.{◌≡◌};
 ghost use Rattle.dyadic.specs.Fraction.{sum_of};
 ghost use Rattle.dyadic.specs.Rounding.{exact, down, up, end_of};
 ghost use Rattle.dyadic.specs.Interval.{end_sum, rounded_down, rounded_up};
-ghost use Rattle.dyadic.specs.Size.{units};
-ghost use Rattle.dyadic.specs.Views.{units_of, dyadic_of, ext_of};
-ghost use Rattle.dyadic.specs.InUnits.{IsDownAt, IsUpAt};
+ghost use Rattle.dyadic.specs.Views.{dyadic_of, ext_of};
 ghost use Rattle.dyadic.specs.Calls.{AreAddable};
 
 use crate::bracket::{down, up};
-use crate::compare::cmp_sizes;
 use crate::dy::{Dy, Ext};
-use crate::sum::{difference_bracket, sum_bracket};
-use std::cmp::Ordering;
-
-// The sum of a number and one of no greater size, rounded down.
-fn ordered_down(a: Dy, b: Dy) -> Ext
-    requires { units b.size ≤ units a.size }
-    ensures { IsDownAt (units_of a +ℤ units_of b) 1 result }
-{
-    if a.negative == b.negative {
-        down(a.negative, sum_bracket(a.size, b.size))
-    } else {
-        down(a.negative, difference_bracket(a.size, b.size))
-    }
-}
-
-// The sum of a number and one of no greater size, rounded up.
-fn ordered_up(a: Dy, b: Dy) -> Ext
-    requires { units b.size ≤ units a.size }
-    ensures { IsUpAt (units_of a +ℤ units_of b) 1 result }
-{
-    if a.negative == b.negative {
-        up(a.negative, sum_bracket(a.size, b.size))
-    } else {
-        up(a.negative, difference_bracket(a.size, b.size))
-    }
-}
+use crate::sum::{total_of, whole_bracket};
 
 // The sum of two numbers, rounded down.
 fn finite_down(a: Dy, b: Dy) -> Ext
     ensures { ext_of result ≡ down (sum_of (exact (dyadic_of a)) (exact (dyadic_of b))) }
 {
-    if cmp_sizes(a.size, b.size) == Ordering::Less {
-        ordered_down(b, a)
-    } else {
-        ordered_down(a, b)
-    }
+    let total = total_of(a, b);
+    down(total.negative, whole_bracket(total))
 }
 
 // The sum of two numbers, rounded up.
 fn finite_up(a: Dy, b: Dy) -> Ext
     ensures { ext_of result ≡ up (sum_of (exact (dyadic_of a)) (exact (dyadic_of b))) }
 {
-    if cmp_sizes(a.size, b.size) == Ordering::Less {
-        ordered_up(b, a)
-    } else {
-        ordered_up(a, b)
-    }
+    let total = total_of(a, b);
+    up(total.negative, whole_bracket(total))
 }
 
 /// The sum, rounded down.

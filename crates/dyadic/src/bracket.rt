@@ -20,6 +20,7 @@ pub struct Bracket {
 }
 
 /// The greatest number that is not above the exact result, whose size is bracketed and whose sign is given.
+#[inline(always)]
 pub fn down(negative: bool, bracket: Bracket) -> Ext
     requires { bracket.shift ≤ 1000 }
     ensures { (n d : ℕ) → 0 < d → IsTight n d bracket.low bracket.high bracket.shift →
@@ -36,6 +37,7 @@ pub fn down(negative: bool, bracket: Bracket) -> Ext
 }
 
 /// The least number that is not below the exact result.
+#[inline(always)]
 pub fn up(negative: bool, bracket: Bracket) -> Ext
     requires { bracket.shift ≤ 1000 }
     ensures { (n d : ℕ) → 0 < d → IsTight n d bracket.low bracket.high bracket.shift →

@@ -11,15 +11,16 @@ use crate::dy::{Dy, Ext};
 use crate::size::Size;
 use std::cmp::Ordering;
 
-// A size as `digits * 2^(top - 64)` units, the highest digit being 1 unless the size is 0.
+/// A size as `digits * 2^(top - 64)` units, the highest digit being 1 unless the size is 0.
 #[derive(Clone, Copy)]
-struct Leading {
-    top: u32,
-    digits: u64,
+pub struct Leading {
+    pub top: u32,
+    pub digits: u64,
 }
 
+/// The digits of a size, from its highest on.
 #[tactic(auto, using(crate::proofs::Order::leading_value, crate::proofs::Order::leading_tops, crate::proofs::Order::leading_zero))]
-fn digits_of(a: Size) -> Leading
+pub fn digits_of(a: Size) -> Leading
     ensures value { result.digits * 2 ^ result.top ≡ units a * 2 ^ 64 }
     ensures below { units a < 2 ^ result.top }
     ensures top { 0 < units a → 2 ^ result.top ≤ 2 * units a }
@@ -36,10 +37,13 @@ fn digits_of(a: Size) -> Leading
 }
 
 /// The order of two sizes.
-#[tactic(auto, using(crate::proofs::Order::cmp_by_top, crate::proofs::Order::cmp_by_digits))]
+#[tactic(auto, using(crate::proofs::Order::cmp_by_odd, crate::proofs::Order::cmp_by_top, crate::proofs::Order::cmp_by_digits))]
 pub fn cmp_sizes(a: Size, b: Size) -> Ordering
     ensures { result ≡ nat_cmp (units a) (units b) }
 {
+    if a.shift == b.shift {
+        return a.odd.cmp(&b.odd);
+    }
     let a = digits_of(a);
     let b = digits_of(b);
     if a.top == b.top {

@@ -1,36 +1,19 @@
 // Middles.
-ghost use Rattle.std.specs.Prelude.{◌≡◌, ℕ, ◌≤◌, ◌+ℤ◌};
-ghost use Rattle.dyadic.specs.Size.{units};
+ghost use Rattle.std.specs.Prelude.{◌≡◌, ◌+ℤ◌};
 ghost use Rattle.dyadic.specs.Rounding.{mid};
 ghost use Rattle.dyadic.specs.Views.{units_of, dyadic_of};
 ghost use Rattle.dyadic.specs.InUnits.{IsDownAt};
 
 use crate::bracket::down;
-use crate::compare::cmp_sizes;
 use crate::dy::{Dy, Ext};
-use crate::sum::half_bracket;
-use std::cmp::Ordering;
-
-// Half the sum of a number and one of no greater size, rounded down.
-fn ordered_half(a: Dy, b: Dy) -> Ext
-    requires { units b.size ≤ units a.size }
-    ensures { IsDownAt (units_of a +ℤ units_of b) 2 result }
-{
-    down(
-        a.negative,
-        half_bracket(a.size, b.size, a.negative == b.negative),
-    )
-}
+use crate::sum::{half_bracket, total_of};
 
 // Half the sum of two numbers, rounded down.
 fn half_of(a: Dy, b: Dy) -> Ext
     ensures { IsDownAt (units_of a +ℤ units_of b) 2 result }
 {
-    if cmp_sizes(a.size, b.size) == Ordering::Less {
-        ordered_half(b, a)
-    } else {
-        ordered_half(a, b)
-    }
+    let total = total_of(a, b);
+    down(total.negative, half_bracket(total))
 }
 
 /// Half the sum of two numbers, rounded down.

@@ -11,8 +11,48 @@ use crate::dy::Ext;
 use crate::frac::Frac;
 use crate::product::UNIT_BITS;
 
-/// Bounds of `n * 2^digits / d`, by long division until there are 62 bits or no digit is left.
-pub fn quotient_bracket(n: u128, d: u128, digits: u32) -> Bracket
+// By how many bits a short numerator is moved up: by all the digits, or until the quotient has 63 or 64 bits.
+#[tactic(auto, using(crate::proofs::Division::lead_apart, crate::proofs::Division::lead_room, crate::proofs::Division::quotient_room, crate::proofs::Division::quotient_many))]
+fn bits_up(n: u128, d: u128, digits: u32) -> u32
+    requires positive { 0 < d }
+    requires few_bits { n < 2 ^ 64 }
+    requires few_bits_below { d < 2 ^ 64 }
+    ensures within { result ≤ digits }
+    ensures short { result < 128 }
+    ensures room { n * 2 ^ result < 2 ^ 127 }
+    ensures many { result < digits → 0 < n → 2 ^ 62 * d ≤ n * 2 ^ result }
+{
+    let most = 63 + n.leading_zeros() - d.leading_zeros();
+    if digits < most { digits } else { most }
+}
+
+// Bounds of `n * 2^digits / d` for short numbers, by one division.
+#[tactic(auto, using(crate::proofs::Division::tight_short))]
+fn short_bracket(n: u128, d: u128, digits: u32) -> Bracket
+    requires positive { 0 < d }
+    requires few_digits { digits ≤ 1000 }
+    requires few_bits { n < 2 ^ 64 }
+    requires few_bits_below { d < 2 ^ 64 }
+    ensures short { result.shift ≤ 1000 }
+    ensures tight { IsTight (n * 2 ^ digits) d result.low result.high result.shift }
+{
+    let up = bits_up(n, d, digits);
+    let raised = n << up;
+    let quotient = raised / d;
+    Bracket {
+        low: quotient,
+        high: if quotient * d == raised {
+            quotient
+        } else {
+            quotient + 1
+        },
+        shift: digits - up,
+    }
+}
+
+// Bounds of `n * 2^digits / d`, by long division until there are 62 bits or no digit is left.
+#[inline(never)]
+fn long_bracket(n: u128, d: u128, digits: u32) -> Bracket
     requires positive { 0 < d }
     requires few_digits { digits ≤ 1000 }
     requires few_bits { n < 2 ^ 126 }
@@ -36,6 +76,22 @@ pub fn quotient_bracket(n: u128, d: u128, digits: u32) -> Bracket
         low: quotient,
         high: if rest == 0 { quotient } else { quotient + 1 },
         shift,
+    }
+}
+
+/// Bounds of `n * 2^digits / d`.
+pub fn quotient_bracket(n: u128, d: u128, digits: u32) -> Bracket
+    requires positive { 0 < d }
+    requires few_digits { digits ≤ 1000 }
+    requires few_bits { n < 2 ^ 126 }
+    requires few_bits_below { d < 2 ^ 126 }
+    ensures short { result.shift ≤ 1000 }
+    ensures tight { IsTight (n * 2 ^ digits) d result.low result.high result.shift }
+{
+    if n < 1 << 64 && d < 1 << 64 {
+        short_bracket(n, d, digits)
+    } else {
+        long_bracket(n, d, digits)
     }
 }
 

@@ -1,5 +1,4 @@
-use Rattle.std.proofs.Common.{◌^◌, subst, ◌+ℤ◌}
-use Rattle.std.proofs.Math.IntN.{+ℤ_comm}
+use Rattle.std.proofs.Common.{◌^◌, subst, lit<, ◌+ℤ◌}
 use Rattle.dyadic.specs.Fraction.{sum_of}
 use Rattle.dyadic.specs.Rounding.{exact}
 use Rattle.dyadic.specs.Views.{units_of, dyadic_of}
@@ -7,15 +6,10 @@ use Rattle.dyadic.specs.InUnits.{IsUpAt}
 use Rattle.dyadic.proofs.Bridge.{up_over, sum_over}
 use Rattle.dyadic.proofs.add.finite_up.Goals as goal
 
-pub returns-then-eq : goal.returns-then-eq
-returns-then-eq c =
+pub returns : goal.returns
+returns c =
     let a = c.args.a in
     let b = c.args.b in
-    up_over (sum_of (exact (dyadic_of a)) (exact (dyadic_of b))) (units_of a +ℤ units_of b) 1 (2 ^ 240) c.ordered_up.result (sum_over a b)
-    (subst (λ z. IsUpAt z 1 c.ordered_up.result) (+ℤ_comm (units_of b) (units_of a)) c.ordered_up.ensures)
-
-pub returns-else-eq : goal.returns-else-eq
-returns-else-eq c =
-    let a = c.args.a in
-    let b = c.args.b in
-    up_over (sum_of (exact (dyadic_of a)) (exact (dyadic_of b))) (units_of a +ℤ units_of b) 1 (2 ^ 240) c.ordered_up-else-eq.result (sum_over a b) c.ordered_up-else-eq.ensures
+    let total = c.total_of-total.ensures.total in
+    up_over (sum_of (exact (dyadic_of a)) (exact (dyadic_of b))) (units_of a +ℤ units_of b) 1 (2 ^ 240) c.up.result (sum_over a b)
+    (subst (λ z. IsUpAt z 1 c.up.result) total.value (c.up.ensures total.size 1 (lit< tt) (c.whole_bracket.ensures.tight total.size total.part)))
