@@ -1,5 +1,5 @@
 -- Steps leave a patch open.
-use Rattle.std.proofs.Common.{◌≡◌, ◌⊎◌, inl, inr, List, [], ◌∷◌, ◌++◌, Option, sym, subst}
+use Rattle.std.proofs.Common.{◌≡◌, ◌⊎◌, inl, inr, ℕ, Bool, true, false, List, [], ◌∷◌, ◌++◌, Option, sym, subst}
 use Rattle.std.specs.Prelude.{Contains, Result, Ok, Err}
 use Rattle.std.proofs.lemmas.List.Elements.{All-push}
 use Rattle.poly_graph.specs.ProblemViews.{Parts}
@@ -8,7 +8,7 @@ use Rattle.cover_rule.specs.declared.margins.Margins.{Margins}
 use Rattle.cover_rule.specs.declared.refusal.PatchRefusal.{PatchRefusal}
 use Rattle.cover_rule.specs.declared.refusal.PatchRefusal.TheVariants.{NotYes, NotForced, NotCovered, NotFalse, NotInside, NotStuck, NotHonest, Ended, IsVoid, Decided, Memory}
 use Rattle.cover_rule.specs.Models.{LemmaModel, PatchModel}
-use Rattle.cover_rule.specs.Refusals.{Answers}
+use Rattle.cover_rule.specs.Refusals.{Answers, PullsIfLess, pull_refusal, pulled_by}
 use Rattle.box_worker.specs.Attempts.{AreAmong, IsOpen}
 
 done-or-same : (refusal : Option PatchRefusal) (P done Q : PatchModel) (r : Result (Unit {0}) PatchRefusal) → Answers refusal P done Q r → (Q ≡ done) ⊎ (Q ≡ P)
@@ -31,6 +31,11 @@ still_open refusal P done Q r a q m lemmas S f h = elim (done-or-same refusal P 
   | inl e ↦ subst (IsOpen q m lemmas S) (sym e) (f h)
   | inr e ↦ subst (IsOpen q m lemmas S) (sym e) h
 ]
+
+pub still_open_if_less : (P Q : PatchModel) (j : ℕ) (r : Result Bool PatchRefusal) → PullsIfLess P j Q r → (q : Parts) (m : Margins) (lemmas : List LemmaModel) (S : State) → IsOpen q m lemmas S P → IsOpen q m lemmas S Q
+still_open_if_less P Q j (Ok true) a q m lemmas S h = still_open (pull_refusal P j) P (pulled_by P j) Q (Ok tt) a.1 q m lemmas S (λ k. record { problem = k.problem; margins = k.margins; first = k.first; among = k.among; open_end = k.open_end }) h
+still_open_if_less P Q j (Ok false) a q m lemmas S h = still_open (pull_refusal P j) P P Q (Ok tt) a.1 q m lemmas S (λ k. k) h
+still_open_if_less P Q j (Err x) a q m lemmas S h = still_open (pull_refusal P j) P (pulled_by P j) Q (Err x) a q m lemmas S (λ k. record { problem = k.problem; margins = k.margins; first = k.first; among = k.among; open_end = k.open_end }) h
 
 pub among_more : (lemmas quoted : List LemmaModel) (L : LemmaModel) → Contains lemmas L → AreAmong lemmas quoted → AreAmong lemmas (quoted ++ (L ∷ []))
 among_more lemmas quoted L c h = All-push (λ (X : LemmaModel). Contains lemmas X) quoted L h c

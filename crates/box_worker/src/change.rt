@@ -6,15 +6,7 @@ use ival::{Domain, Range, Space};
 use poly_graph::{Node, Problem};
 use std::alloc::{AllocError, Global};
 
-/// Whether a space has changed at all, and on which axes it fell by about a tenth: the bit of an axis is that of
-/// its number modulo 64.
-#[derive(Clone, Copy, PartialEq, Eq, Debug)]
-pub struct Change {
-    pub any: bool,
-    pub fell: u64,
-}
-
-/// The bit of an axis.
+/// The bit of an axis: that of its number modulo 64.
 pub fn bit_of(axis: u32) -> u64 {
     1 << (axis % 64)
 }
@@ -40,26 +32,22 @@ fn fell(old: Domain, new: Domain) -> bool {
     }
 }
 
-/// Puts the new space into the old one, and tells what has changed.
-pub fn take_over(old: &mut Space, new: &Space) -> Change {
-    let mut change = Change {
-        any: false,
-        fell: 0,
-    };
+/// Puts the new space into the old one, and tells by their bits which axes fell by about a tenth.
+pub fn take_over(old: &mut Space, new: &Space) -> u64 {
+    let mut fallen = 0;
     for axis in 0..new.len() {
         if axis < old.len() {
             let before = old.get(axis);
             let after = new.get(axis);
             if before != after {
-                change.any = true;
                 if fell(before, after) {
-                    change.fell |= bit_of((axis % 64) as u32);
+                    fallen |= bit_of((axis % 64) as u32);
                 }
                 old.set(axis, after);
             }
         }
     }
-    change
+    fallen
 }
 
 // The mask of a node, none where there is no such one.

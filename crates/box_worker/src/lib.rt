@@ -2,7 +2,6 @@
 //! stuck, or a point is found in it.
 #![tactic(auto)]
 
-mod again;
 mod attempt;
 mod change;
 mod choose;

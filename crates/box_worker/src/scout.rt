@@ -9,7 +9,7 @@ ghost use Rattle.box_worker.specs.Attempts.{IsOpen};
 use crate::change::{atom_masks, take_over};
 use crate::look::{Needs, is_set, look};
 use crate::step::{self, Outcome};
-use cover_rule::{Lemma, Margins, Patch, State, Step};
+use cover_rule::{Lemma, Margins, Patch, State};
 use ival::Space;
 use poly_graph::{FormNode, Mark, Problem};
 use std::alloc::{AllocError, Global};
@@ -17,22 +17,14 @@ use std::alloc::{AllocError, Global};
 /// At most so many times an atom is pulled at a state.
 const MOST_ROUNDS: u32 = 10;
 
-/// The steps that were taken, but for pulls that changed nothing; whether there were such; and the atom by which
-/// nothing is left. The number of a lemma is its place in the list that was given.
-#[derive(Drop)]
-pub struct Taken {
-    pub steps: Vec<Step, Global>,
-    pub idle: bool,
-    pub void: Option<u32>,
-}
-
-// What guides the steps: which atoms are due, what they depend on, and the space as it was.
+// What guides the steps: which atoms are due, what they depend on, the space as it was, and the atom by which nothing
+// is left.
 #[derive(Drop)]
 struct Scout {
     due: Vec<bool, Global>,
     masks: Vec<u64, Global>,
     space: Space,
-    taken: Taken,
+    void: Option<u32>,
 }
 
 // Atom j is due.
@@ -76,16 +68,11 @@ fn start(alloc: Global, problem: &Problem, patch: &Patch) -> Result<Scout, Alloc
     let due = vec![in alloc; true; problem.atoms().len()]?;
     let masks = atom_masks(alloc, problem)?;
     let space = patch.reached().space().try_clone(alloc)?;
-    let taken = Taken {
-        steps: Vec::new(alloc),
-        idle: false,
-        void: None,
-    };
     Ok(Scout {
         due,
         masks,
         space,
-        taken,
+        void: None,
     })
 }
 
@@ -103,19 +90,14 @@ fn pull(
     ensures { IsOpen problem.now margins.now lemmas.now patch.old.kept.first patch.new }
 {
     match step::pull(patch, j)? {
-        Outcome::Refused => {}
         Outcome::Void => {
-            scout.taken.void = Some(j);
+            scout.void = Some(j);
         }
         Outcome::Done => {
-            let change = take_over(&mut scout.space, patch.reached().space());
-            make_due_by(&mut scout.due, &scout.masks, change.fell);
-            if change.any {
-                scout.taken.steps.push(Step::Pull(j))?;
-            } else {
-                scout.taken.idle = true;
-            }
+            let fallen = take_over(&mut scout.space, patch.reached().space());
+            make_due_by(&mut scout.due, &scout.masks, fallen);
         }
+        Outcome::Idle | Outcome::Refused => {}
     }
     Ok(())
 }
@@ -133,7 +115,7 @@ fn pull_round(
     ensures { IsOpen problem.now margins.now lemmas.now patch.old.kept.first patch.new }
 {
     for j in 0..problem.atoms().len() {
-        if take_due(&mut scout.due, j) && scout.taken.void.is_none() {
+        if take_due(&mut scout.due, j) && scout.void.is_none() {
             pull(problem, margins, lemmas, scout, patch, j as u32)?;
         }
     }
@@ -153,13 +135,8 @@ fn mark(
     ensures { IsOpen problem.now margins.now lemmas.now patch.old.kept.first patch.new }
 {
     if (j as usize) < problem.atoms().len() {
-        match step::unit(patch, j)? {
-            Outcome::Done => {
-                make_due(&mut scout.due, j as usize);
-                scout.taken.steps.push(Step::Unit(j))?;
-            }
-            Outcome::Refused => {}
-            Outcome::Void => {}
+        if let Outcome::Done = step::unit(patch, j)? {
+            make_due(&mut scout.due, j as usize);
         }
     }
     Ok(())
@@ -229,7 +206,6 @@ fn ban(
     problem: &Problem,
     margins: &Margins,
     lemmas: &[Lemma],
-    scout: &mut Scout,
     patch: &mut Patch,
     i: usize,
 ) -> Result<(), AllocError>
@@ -238,18 +214,11 @@ fn ban(
     requires open { IsOpen problem.now margins.now lemmas.now patch.old.kept.first patch.old }
     ensures { IsOpen problem.now margins.now lemmas.now patch.old.kept.first patch.new }
 {
-    let Ok(place) = u32::try_from(i) else {
-        return Ok(());
-    };
     let Some(j) = banned_by(lemmas[i].state(), patch.reached()) else {
         return Ok(());
     };
     if (j as usize) < problem.atoms().len() {
-        match step::ban(problem, margins, lemmas, patch, j, i)? {
-            Outcome::Done => scout.taken.steps.push(Step::Ban(j, place))?,
-            Outcome::Refused => {}
-            Outcome::Void => {}
-        }
+        step::ban(problem, margins, lemmas, patch, j, i)?;
     }
     Ok(())
 }
@@ -259,7 +228,6 @@ fn ban_all(
     problem: &Problem,
     margins: &Margins,
     lemmas: &[Lemma],
-    scout: &mut Scout,
     patch: &mut Patch,
 ) -> Result<(), AllocError>
     requires lemmas { AreLemmasFor (problem_of problem.now) (loosenings_of margins.now) lemmas.now }
@@ -267,7 +235,7 @@ fn ban_all(
     ensures { IsOpen problem.now margins.now lemmas.now patch.old.kept.first patch.new }
 {
     for i in 0..lemmas.len() {
-        ban(problem, margins, lemmas, scout, patch, i)?;
+        ban(problem, margins, lemmas, patch, i)?;
     }
     Ok(())
 }
@@ -333,7 +301,7 @@ fn go_on(
     ensures { IsOpen problem.now margins.now lemmas.now patch.old.kept.first patch.new }
 {
     pull_round(problem, margins, lemmas, scout, patch)?;
-    if scout.taken.void.is_some() {
+    if scout.void.is_some() {
         return Ok(false);
     }
     if any_due(&scout.due) {
@@ -366,14 +334,15 @@ fn go_on_while_due(
 }
 
 /// Takes steps at the state: marks the atoms that the form needs, and pulls those that are marked yes, again
-/// while an axis that they depend on falls by about a tenth, but no more than ten times.
+/// while an axis that they depend on falls by about a tenth, but no more than ten times. The atom by which nothing is
+/// left, where one is met.
 pub fn take_steps(
     alloc: Global,
     problem: &Problem,
     margins: &Margins,
     lemmas: &[Lemma],
     patch: &mut Patch,
-) -> Result<Taken, AllocError>
+) -> Result<Option<u32>, AllocError>
     requires numbered { IsNumbered problem.now }
     requires bits { AreMargins margins.now }
     requires lemmas { AreLemmasFor (problem_of problem.now) (loosenings_of margins.now) lemmas.now }
@@ -381,14 +350,8 @@ pub fn take_steps(
     ensures { IsOpen problem.now margins.now lemmas.now patch.old.kept.first patch.new }
 {
     let mut scout = start(alloc, problem, patch)?;
-    ban_all(problem, margins, lemmas, &mut scout, patch)?;
+    ban_all(problem, margins, lemmas, patch)?;
     look_again(alloc, problem, margins, lemmas, &mut scout, patch)?;
     go_on_while_due(alloc, problem, margins, lemmas, &mut scout, patch)?;
-    let Scout {
-        due: _,
-        masks: _,
-        space: _,
-        taken,
-    } = scout;
-    Ok(taken)
+    Ok(scout.void)
 }

@@ -16,27 +16,30 @@ use std::alloc::AllocError;
 #[derive(Clone, Copy, PartialEq, Eq, Debug)]
 pub enum Outcome {
     Done,
+    /// Narrowing leaves the space as it is.
+    Idle,
     Refused,
     /// Narrowing leaves nothing.
     Void,
 }
 
-// What it came to. Want of memory is handed on.
-fn told(answer: Result<(), PatchRefusal>) -> Result<Outcome, AllocError> {
+// What it came to, where it tells whether it was done. Want of memory is handed on.
+fn told(answer: Result<bool, PatchRefusal>) -> Result<Outcome, AllocError> {
     match answer {
-        Ok(()) => Ok(Outcome::Done),
+        Ok(true) => Ok(Outcome::Done),
+        Ok(false) => Ok(Outcome::Idle),
         Err(PatchRefusal::Memory) => Err(AllocError),
         Err(PatchRefusal::IsVoid) => Ok(Outcome::Void),
         Err(_) => Ok(Outcome::Refused),
     }
 }
 
-/// Pulls atom j where it is marked yes.
+/// Pulls atom j where it is marked yes and leaves less of the space.
 pub fn pull(patch: &mut Patch, j: u32) -> Result<Outcome, AllocError>
     requires { j < length patch.old.problem.atoms }
     ensures { (q : Parts) (m : Bits) (lemmas : List LemmaModel) (S : Box) → IsOpen q m lemmas S patch.old → IsOpen q m lemmas S patch.new }
 {
-    let answer = patch.pull(j);
+    let answer = patch.pull_if_less(j);
     told(answer)
 }
 
@@ -46,7 +49,7 @@ pub fn unit(patch: &mut Patch, j: u32) -> Result<Outcome, AllocError>
     ensures { (q : Parts) (m : Bits) (lemmas : List LemmaModel) (S : Box) → IsOpen q m lemmas S patch.old → IsOpen q m lemmas S patch.new }
 {
     let answer = patch.unit(j);
-    told(answer)
+    told(answer.map(|()| true))
 }
 
 /// Marks atom j no where the lemma at this place of the list covers the state with the atom marked yes.
@@ -66,5 +69,5 @@ pub fn ban(
 {
     let _ = problem.axes();
     let answer = patch.ban(j, &lemmas[i]);
-    told(answer)
+    told(answer.map(|()| true))
 }

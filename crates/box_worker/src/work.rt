@@ -13,7 +13,6 @@ ghost use Rattle.box_worker.specs.Worked.{margins_of, AreLemmasFor, AnswersAtOnc
 ghost use Rattle.cover_rule.specs.Runs.{IsClosed};
 ghost use Rattle.cover_rule.specs.Views.{kept_of};
 
-use crate::again::without_idle;
 use crate::attempt;
 use crate::ended::Ended;
 use crate::learn::{copy, teaches_nothing};
@@ -181,8 +180,7 @@ pub fn work_on(
     if let Some(ended) = at_once(alloc, problem, &margins, lemmas, &mut patch)? {
         return worked(alloc, ended, patch);
     }
-    let taken = take_steps(alloc, problem, &margins, lemmas, &mut patch)?;
-    let mut patch = without_idle(alloc, problem, &margins, lemmas, &taken, patch)?;
-    let ended = finish(alloc, problem, &margins, taken.void, &mut patch)?;
+    let void = take_steps(alloc, problem, &margins, lemmas, &mut patch)?;
+    let ended = finish(alloc, problem, &margins, void, &mut patch)?;
     worked(alloc, ended, patch)
 }

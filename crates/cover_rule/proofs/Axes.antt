@@ -1,19 +1,17 @@
 -- Axes that are set one after the other, and the rows that serve.
-use Rattle.std.proofs.Common.{◌≡◌, ◌≢◌, ℕ, zero, suc, ◌+◌, ◌<◌, List, [], ◌∷◌, length, map, get_or, set, add-one, All, Bool, refl, sym, ap, ◌∙◌, subst, arith}
+use Rattle.std.proofs.Common.{◌≡◌, ◌≢◌, ℕ, zero, suc, ◌+◌, ◌<◌, List, [], ◌∷◌, length, get_or, set, add-one, Bool, refl, ap, ◌∙◌, arith}
 use Rattle.std.proofs.lemmas.List.{get_or-map, length-map}
 use Rattle.dyadic.specs.Fraction.{zero_fraction}
 use Rattle.dyadic.specs.Interval.{Interval, nothing}
 use Rattle.dyadic.specs.Space.{Domain, Space, axis_interval, test_axis}
-use Rattle.poly_graph.specs.Term.{Term, Kind, constant, graph_terms}
+use Rattle.poly_graph.specs.Term.{constant, graph_terms}
 use Rattle.poly_graph.specs.Space.{enclosure}
 use Rattle.poly_graph.specs.Problem.{Axis, atom_at, no_place}
 use Rattle.poly_graph.specs.ProblemViews.{Parts, problem_of, IsWhole}
 use Rattle.poly_graph.specs.Narrowed.{enclosures}
 use Rattle.poly_graph.specs.NodeEnclosure.{row}
-use Rattle.poly_graph.specs.State.{atom_enclosure}
 use Rattle.poly_graph.specs.Fits.{FitsAxes}
 use Rattle.poly_graph.proofs.Graphs.{length_terms}
-use Rattle.hc4_fwd.specs.Reached.{SameBut}
 use Rattle.truth3.specs.Truth.{HasRows}
 
 -- the first so many axes of a space, and what stood there before of the others

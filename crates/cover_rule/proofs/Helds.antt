@@ -1,8 +1,7 @@
 -- What a patch keeps through a step or an end.
-use Rattle.std.proofs.Common.{◌≡◌, ◌⊎◌, inl, inr, ℕ, zero, suc, ◌+◌, List, [], ◌∷◌, ◌++◌, map, Bool, true, false, not, ◌&&◌, ◌||◌, cond, IsTrue, Option, Some, None, Result, Ok, Err, refl, sym, ap, ◌∙◌, subst, true≢false}
+use Rattle.std.proofs.Common.{◌≡◌, ℕ, List, [], ◌∷◌, ◌++◌, map, Bool, true, false, not, ◌&&◌, cond, IsTrue, Option, Some, None, Result, Ok, Err, refl, sym, ap, ◌∙◌, subst, true≢false}
 use Rattle.std.specs.Prelude.{is_none, slice_get, OnOk}
-use Rattle.dyadic.specs.Fraction.{at_most}
-use Rattle.dyadic.specs.Rounding.{Dyadic, exact}
+use Rattle.dyadic.specs.Rounding.{Dyadic}
 use Rattle.dyadic.proofs.Equal.{both_true, both_pass}
 use Rattle.dyadic.specs.Space.{space_within, domain_within}
 use Rattle.ival.specs.declared.domain.Domain.{Domain as CodeDomain}
@@ -11,20 +10,19 @@ use Rattle.ival.specs.declared.domain.Truths.TheVariants.{False as only_false, T
 use Rattle.ival.specs.declared.space.Space.{Space as CodeSpace}
 use Rattle.ival.specs.SpaceViews.{domain_of, space_of}
 use Rattle.poly_graph.specs.Space.{Domain, real_domain, bool_domain, Space}
-use Rattle.poly_graph.specs.Problem.{Declared, real_between, any_bool, Axis, Problem, IsProblem}
+use Rattle.poly_graph.specs.Problem.{Declared, real_between, any_bool, Axis}
 use Rattle.poly_graph.specs.ProblemViews.{Parts, problem_of, IsWhole}
-use Rattle.poly_graph.specs.State.{State, Loosenings, IsLemma, in_yes, undecided, with_yes, with_no, with_space, may, covers, marked_yes, marked_no}
-use Rattle.poly_graph.specs.Rules.{Line, pull, unit, ban, void, make_false, by, cut, flip, case, stuck, Left, closed, one, two, stays, when, pulled, voided, narrowing, lemma_covers, covers_by, is_stuck_atom, rule, is_undecided, test_axis}
+use Rattle.poly_graph.specs.State.{State, IsLemma, in_yes, undecided, with_yes, with_no, with_space, may, covers, marked_yes, marked_no}
+use Rattle.poly_graph.specs.Rules.{Line, pull, unit, ban, void, make_false, by, cut, flip, case, stuck, Left, closed, one, stays, when, pulled, voided, covers_by, is_stuck_atom, rule, is_undecided, test_axis}
 use Rattle.poly_graph.specs.Honest.{is_honest, is_small, is_some_space}
-use Rattle.poly_graph.specs.Fits.{FitsAxis, FitsAxes, FitsProblem}
+use Rattle.poly_graph.specs.Fits.{FitsAxis, FitsAxes}
 use Rattle.cover_rule.specs.declared.margins.Margins.{Margins}
 use Rattle.cover_rule.specs.declared.refusal.PatchRefusal.{PatchRefusal}
 use Rattle.cover_rule.specs.declared.refusal.PatchRefusal.TheVariants.{NotYes, NotForced, NotCovered, NotFalse, NotInside, NotStuck, NotHonest, Ended, IsVoid, Decided, Memory}
-use Rattle.cover_rule.specs.Margins.{loosenings_of}
-use Rattle.cover_rule.specs.Models.{LemmaModel, KeptModel, PatchModel}
-use Rattle.cover_rule.specs.Runs.{AreKept, is_closing, CanPart, IsEnding, IsRun}
-use Rattle.cover_rule.specs.Patch.{problem_in, loosenings_in, now_in, stepped, ended_by, narrowing_in, space_or}
-use Rattle.cover_rule.specs.Refusals.{unless, then_by, if_ended, honestly, pull_refusal, pulled_by, unit_refusal, forced_by, ban_refusal, banned_by, void_refusal, false_refusal, by_refusal, ended_with, covered_by, flip_refusal, case_refusal, stuck_refusal, cut_line, cut_test, cut_refusal, ended_if, cut_by, Answers}
+use Rattle.cover_rule.specs.Models.{LemmaModel, PatchModel}
+use Rattle.cover_rule.specs.Runs.{is_closing, CanPart, IsEnding, IsRun}
+use Rattle.cover_rule.specs.Patch.{problem_in, loosenings_in, now_in, narrowing_in, space_or}
+use Rattle.cover_rule.specs.Refusals.{PullsIfLess, unless, then_by, if_ended, honestly, pull_refusal, pulled_by, unit_refusal, forced_by, ban_refusal, banned_by, void_refusal, false_refusal, by_refusal, ended_with, covered_by, flip_refusal, case_refusal, stuck_refusal, cut_line, cut_test, cut_refusal, ended_if, cut_by, Answers}
 use Rattle.cover_rule.proofs.RunSteps.{run_steps, run_ends, kept_before, lemmas_and, alone, kept_alone, sound_alone, no_lemmas}
 use Rattle.cover_rule.specs.declared.kept.KeptPatch.{KeptPatch}
 use Rattle.cover_rule.specs.declared.workspace.Workspace.{Workspace}
@@ -106,6 +104,14 @@ on_ok A B (Err x) f h = tt
 pub any_ok : (A : Type 0) (r : Result (Unit {0}) PatchRefusal) → A → OnOk r A
 any_ok A (Ok u) h = h
 any_ok A (Err x) h = tt
+
+-- the same of a pull that is made where it leaves less
+pub run_if_less : (P Q : PatchModel) (j : ℕ) (r : Result Bool PatchRefusal) → PullsIfLess P j Q r → IsRunOf P →
+    (FitsAxes (problem_in P).axes (space_or (now_in P).space (narrowing_in P j)) → pull_refusal P j ≡ None → IsRunOf (pulled_by P j)) →
+    OnOk r (FitsAxes (problem_in P).axes (space_or (now_in P).space (narrowing_in P j))) → IsRunOf Q
+run_if_less P Q j (Ok true) a h k fits = run_after (pull_refusal P j) P (pulled_by P j) Q (Ok tt) a.1 h (k fits)
+run_if_less P Q j (Ok false) a h k fits = run_after (pull_refusal P j) P P Q (Ok tt) a.1 h (λ e. h)
+run_if_less P Q j (Err x) a h k fits = run_refused (pull_refusal P j) P (pulled_by P j) Q x a h
 
 -- the same of more than what is answered
 pub answers_lift : {X Y : Type 0} (f : X → Y) (refusal : Option PatchRefusal) (old done new : X) (r : Result (Unit {0}) PatchRefusal) → Answers refusal old done new r → Answers refusal (f old) (f done) (f new) r

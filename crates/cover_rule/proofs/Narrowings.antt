@@ -1,5 +1,5 @@
 -- Narrowed spaces.
-use Rattle.std.proofs.Common.{◌≡◌, ℕ, List, [], ◌∷◌, length, Bool, true, false, ◌&&◌, IsTrue, Some, refl, sym, arith, true≢false}
+use Rattle.std.proofs.Common.{◌≡◌, ℕ, [], ◌∷◌, length, IsTrue, Some, refl, sym, arith, true≢false}
 use Rattle.dyadic.proofs.Equal.{both_true}
 use Rattle.dyadic.specs.Space.{Space, domain_within, space_within}
 use Rattle.poly_graph.specs.Space.{range}

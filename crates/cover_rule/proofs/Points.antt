@@ -1,19 +1,18 @@
 -- The middle of a space that lies within the root space is a point near the declared box.
-use Rattle.std.proofs.Common.{◌≡◌, ◌⊎◌, inl, inr, ℕ, zero, suc, ◌+◌, ◌-◌, ◌*◌, ◌^◌, ◌<◌, ◌≤◌, List, [], ◌∷◌, map, All, ℤ, pos, negsuc, nat_abs, neg_ℤ, ◌*ℤ◌, ◌≤ℤ◌, Bool, true, false, not, ◌&&◌, ◌||◌, IsTrue, refl, sym, ap, ◌∙◌, subst, arith, true≢false, lit<}
+use Rattle.std.proofs.Common.{◌≡◌, inl, inr, ℕ, suc, ◌-◌, ◌*◌, ◌^◌, ◌≤◌, List, [], ◌∷◌, map, All, ℤ, pos, negsuc, nat_abs, neg_ℤ, ◌*ℤ◌, ◌≤ℤ◌, true, false, IsTrue, refl, sym, ap, ◌∙◌, subst, arith, true≢false, lit<}
 use Rattle.std.proofs.lemmas.Int.{ints}
 use Rattle.std.proofs.lemmas.List.Elements.{All-head, All-tail}
 use Rattle.dyadic.specs.Fraction.{Fraction, IsFraction, whole, at_most, power_below, sum_of, negated, difference_of}
-use Rattle.dyadic.specs.Point.{Coordinate, at_fraction, at_bool}
-use Rattle.dyadic.specs.Rounding.{Dyadic, exact, IsOnGrid, Ext, finite, down, up, mid, two_to_minus}
+use Rattle.dyadic.specs.Rounding.{Dyadic, exact, finite, down, up, mid, two_to_minus}
 use Rattle.dyadic.specs.Space.{middle_domain, middle, domain_within, space_within}
 use Rattle.dyadic.proofs.Equal.{both_true, both_pass, total}
-use Rattle.dyadic.proofs.Rounds.{at_most_from, at_most_read, at_most_trans, exact_self}
+use Rattle.dyadic.proofs.Rounds.{at_most_from, at_most_read, at_most_trans}
 use Rattle.dyadic.proofs.RoundsMove.{down_of_equal, up_of_equal, down_moves, up_moves}
 use Rattle.dyadic.proofs.EndsSums.{sum_mono, sum_is_good, negated_mono, negated_is_good}
 use Rattle.dyadic.proofs.Nearest.{pow_le}
 use Rattle.dyadic.proofs.Ring
 use Rattle.dyadic.proofs.Ring.{atom, natural, plus, minus, times, read_below}
-use Rattle.poly_graph.specs.Space.{Domain, real_domain, bool_domain, Space, is_upright, is_upright_domain, IsGridSpace, IsGridDomain}
+use Rattle.poly_graph.specs.Space.{Domain, real_domain, bool_domain, Space, is_upright, is_upright_domain, IsGridSpace}
 use Rattle.poly_graph.specs.Problem.{Declared, real_between, any_bool, Axis, Problem, IsProblem, root_space, IsBound, IsDeclared, size_of, root_domain, root_of_axes, finite_or_nought}
 use Rattle.poly_graph.specs.State.{Loosenings, delta_of, sure}
 use Rattle.poly_graph.specs.Fits.{FitsAxis, FitsAxes, IsSingle, AreSingle, coordinate_of, coordinates, is_near, are_near, IsShownAt}

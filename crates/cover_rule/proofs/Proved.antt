@@ -1,16 +1,15 @@
 -- The laws.
-use Rattle.std.proofs.Common.{◌≡◌, ◌⊎◌, inl, inr, ℕ, List, [], ◌∷◌, IsTrue, Option, Some, None, subst, sym, ap}
+use Rattle.std.proofs.Common.{◌≡◌, ℕ, List, [], ◌∷◌, Option, Some, subst}
 use Rattle.std.specs.Prelude.{IfSome, slice_get}
-use Rattle.dyadic.specs.Point.{Coordinate}
 use Rattle.poly_graph.specs.Problem.{Problem}
 use Rattle.poly_graph.specs.State.{State, Loosenings}
 use Rattle.poly_graph.specs.Rules.{Line, Left, two, stuck, rule}
-use Rattle.poly_graph.specs.Derivation.{leaf, fork, at_closed, at_left, at_fork, KeepsIf, LiesWithinIf}
+use Rattle.poly_graph.specs.Derivation.{leaf, at_closed, at_left, at_fork, KeepsIf, LiesWithinIf}
 use Rattle.poly_graph.proofs.Proved.{rules_keep, rules_lie_within}
 use Rattle.cover_rule.specs.declared.margins.Margins.{Margins}
 use Rattle.cover_rule.specs.Margins.{loosenings_of}
 use Rattle.cover_rule.specs.Models.{KeptModel}
-use Rattle.cover_rule.specs.Runs.{AreKept, is_closing, closes, children, CanPart, IsEnding, IsLawfulRun, IsRun}
+use Rattle.cover_rule.specs.Runs.{AreKept, children, CanPart, IsEnding, IsLawfulRun}
 use Rattle.cover_rule.specs.Laws.{StepsBeforeTree, ClosedRunIsTree, StuckRunIsTree, BranchRunIsTree, ClosedRunIsLemma, BranchKeepsPoints, ChildrenLieWithin}
 use Rattle.cover_rule.proofs.Runs.{covers_through, before_tree, closing_leaves, stuck_stays, branch_leaves}
 use Rattle.cover_rule.proofs.Children.{children_fit, can_end}

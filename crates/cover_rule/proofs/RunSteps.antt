@@ -1,10 +1,9 @@
 -- Runs that take one more step, or end.
-use Rattle.std.proofs.Common.{◌≡◌, ◌⊎◌, ℕ, zero, suc, List, [], ◌∷◌, ◌++◌, length, set, replicate, All, Bool, true, false, IsTrue, Option, Some, None, refl, sym, ap, ◌∙◌, subst, arith, true≢false}
+use Rattle.std.proofs.Common.{◌≡◌, ℕ, zero, suc, List, [], ◌∷◌, ◌++◌, set, replicate, All, IsTrue, Option, Some, None, refl, sym, ap, ◌∙◌, subst, true≢false}
 use Rattle.std.specs.Prelude.{IfSome, slice_get}
 use Rattle.std.proofs.lemmas.List.Elements.{All-nil, All-cons, All-head, All-tail, All-append}
-use Rattle.dyadic.specs.Point.{Coordinate}
 use Rattle.poly_graph.specs.Problem.{Problem, IsProblem}
-use Rattle.poly_graph.specs.State.{Mark, marked_yes, marked_no, unmarked, undecided_in, State, Loosenings, IsPointOf, MeetsForm, IsLemma, covers}
+use Rattle.poly_graph.specs.State.{Mark, marked_yes, marked_no, unmarked, undecided_in, State, Loosenings, IsLemma}
 use Rattle.poly_graph.specs.Rules.{Line, Left, one, closed, rule}
 use Rattle.poly_graph.specs.Derivation.{AreLemmas, KeepsIf, LiesWithinIf}
 use Rattle.poly_graph.specs.Honest.{is_honest}
@@ -13,7 +12,7 @@ use Rattle.poly_graph.proofs.Proved.{rules_keep, rules_lie_within}
 use Rattle.cover_rule.specs.declared.margins.Margins.{Margins}
 use Rattle.cover_rule.specs.Margins.{loosenings_of}
 use Rattle.cover_rule.specs.Models.{LemmaModel, KeptModel}
-use Rattle.cover_rule.specs.Runs.{AreKept, is_closing, closes, CanPart, IsEnding, IsLawfulRun, IsSoundRun, IsRun}
+use Rattle.cover_rule.specs.Runs.{AreKept, is_closing, closes, CanPart, IsEnding, IsRun}
 use Rattle.cover_rule.specs.Patch.{run_at, stepped, ended_by}
 use Rattle.cover_rule.proofs.Runs.{leads_on, covers_itself, covers_through}
 

@@ -1,9 +1,7 @@
 -- Steps one after another, what an end leaves, and what lies within what.
-use Rattle.std.proofs.Common.{◌≡◌, ◌⊎◌, ℕ, List, [], ◌∷◌, ◌++◌, Bool, true, false, not, ◌&&◌, cond, IsTrue, Option, Some, None, refl, sym, ap, subst, true≢false}
-use Rattle.std.specs.Prelude.{IfSome}
-use Rattle.dyadic.specs.Rounding.{Dyadic}
+use Rattle.std.proofs.Common.{◌≡◌, ℕ, List, [], ◌∷◌, ◌++◌, Bool, true, false, not, cond, IsTrue, Option, Some, None, refl, sym, ap, subst, true≢false}
 use Rattle.dyadic.proofs.Equal.{both_true, both_pass}
-use Rattle.poly_graph.specs.Space.{Domain, Space}
+use Rattle.poly_graph.specs.Space.{Space}
 use Rattle.poly_graph.specs.Problem.{Problem}
 use Rattle.poly_graph.specs.State.{State, Loosenings, in_yes, undecided, with_yes, with_no, may, space_within, marks_within, covers}
 use Rattle.poly_graph.specs.Rules.{Line, pull, unit, ban, void, make_false, by, cut, flip, case, open_line, stuck, Left, closed, one, two, stays, narrowing, lemma_covers, strictly_inside, lower_part, upper_part, is_undecided, keep, test_axis, with_changed, when, voided, is_stuck_atom, rule}

@@ -1,5 +1,5 @@
 -- What is proved of runs.
-use Rattle.std.specs.Prelude.{◌≡◌, ◌⊎◌, ℕ, List, [], ◌∷◌, ◌++◌, Some, None, IsTrue}
+use Rattle.std.specs.Prelude.{◌≡◌, ◌⊎◌, ℕ, List, [], ◌∷◌, ◌++◌, Some, IsTrue}
 use Rattle.dyadic.specs.Point.{Coordinate}
 use Rattle.poly_graph.specs.Problem.{Problem, IsProblem}
 use Rattle.poly_graph.specs.State.{State, Loosenings, IsPointOf, MeetsForm, IsLemma, covers}

@@ -2,7 +2,7 @@
 use Rattle.std.specs.Prelude.{ℕ, List, [], ◌∷◌, ◌++◌, Option, Some, None}
 use Rattle.poly_graph.specs.ProblemViews.{problem_of}
 use Rattle.poly_graph.specs.Problem.{Problem}
-use Rattle.poly_graph.specs.State.{State, Loosenings, with_yes, with_no, with_space}
+use Rattle.poly_graph.specs.State.{State, Loosenings}
 use Rattle.poly_graph.specs.Space.{Space}
 use Rattle.poly_graph.specs.Rules.{Line, narrowing}
 use Rattle.cover_rule.specs.Margins.{loosenings_of}

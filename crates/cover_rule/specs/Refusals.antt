@@ -1,10 +1,10 @@
 -- What a patch answers: for each step and each end the first refusal, and the patch after it where there is none.
-use Rattle.std.specs.Prelude.{◌≡◌, ◌<◌, ℕ, zero, suc, List, [], ◌∷◌, ◌++◌, Option, Some, None, Bool, true, false, not, ◌&&◌, is_none, length, IsTrue, Result, Ok, Err}
+use Rattle.std.specs.Prelude.{◌≡◌, ◌≢◌, ◌<◌, ℕ, zero, suc, [], ◌∷◌, ◌++◌, Option, Some, None, Bool, true, false, not, ◌&&◌, is_none, length, IsTrue, Result, Ok, Err}
 use Rattle.dyadic.specs.Fraction.{Fraction, at_most, difference_of}
 use Rattle.dyadic.specs.Rounding.{Dyadic, exact, two_to_minus, mid}
 use Rattle.poly_graph.specs.Space.{Domain, real_domain, bool_domain, Space}
 use Rattle.poly_graph.specs.State.{State, in_yes, undecided, with_yes, with_no, with_space, may, covers}
-use Rattle.poly_graph.specs.Rules.{Line, pull, unit, ban, void, make_false, by, cut, flip, case, stuck, is_stuck_atom, test_axis, strictly_inside, is_undecided}
+use Rattle.poly_graph.specs.Rules.{Line, pull, unit, ban, by, cut, flip, case, stuck, is_stuck_atom, test_axis, strictly_inside, is_undecided}
 use Rattle.poly_graph.specs.Honest.{widest, is_honest, is_wide, is_middle_at, is_small, is_some_space}
 use Rattle.cover_rule.specs.declared.refusal.PatchRefusal.{PatchRefusal}
 use Rattle.cover_rule.specs.declared.refusal.PatchRefusal.TheVariants.{NotYes, NotForced, NotCovered, NotFalse, NotInside, NotStuck, NotHonest, Ended, IsVoid, Decided, Memory}
@@ -139,6 +139,12 @@ abbrev pub Answers : {X : Type 0} → Option PatchRefusal → X → X → X → 
 Answers refusal old done new (Ok u) = (refusal ≡ None) × (new ≡ done)
 Answers refusal old done new (Err Memory) = (refusal ≡ None) × (new ≡ old)
 Answers refusal old done new (Err e) = (refusal ≡ Some e) × (new ≡ old)
+
+-- a pull where it leaves less of the space, and nothing where the space stays
+abbrev pub PullsIfLess : PatchModel → ℕ → PatchModel → Result Bool PatchRefusal → Type 0
+PullsIfLess P j Q (Ok true) = (narrowing_in P j ≢ Some (now_in P).space) × Answers (pull_refusal P j) P (pulled_by P j) Q (Ok tt)
+PullsIfLess P j Q (Ok false) = (narrowing_in P j ≡ Some (now_in P).space) × Answers (pull_refusal P j) P P Q (Ok tt)
+PullsIfLess P j Q (Err e) = Answers (pull_refusal P j) P (pulled_by P j) Q (Err e)
 
 -- the widest axis is a Real one with these ends, whose middle lies strictly between them; it is wide where its side is above 2^-w
 pub record CutsAt (w : ℕ) (space : Space) (axis : ℕ) (l h : Dyadic) : Type 0 where

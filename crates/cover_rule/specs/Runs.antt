@@ -1,10 +1,10 @@
 -- Runs of steps, the states that an end leaves, and runs that are lawful and end honestly.
-use Rattle.std.specs.Prelude.{◌≡◌, ℕ, List, [], ◌∷◌, All, Option, Some, None, Bool, true, false, IsTrue, IfSome, slice_get}
+use Rattle.std.specs.Prelude.{◌≡◌, List, [], ◌∷◌, All, Option, Some, None, Bool, true, false, IsTrue, IfSome, slice_get}
 use Rattle.dyadic.specs.Point.{Coordinate}
 use Rattle.poly_graph.specs.Problem.{Problem}
 use Rattle.poly_graph.specs.State.{State, Loosenings, IsPointOf, MeetsForm, IsLemma, covers, undecided, with_yes, with_no}
-use Rattle.poly_graph.specs.Rules.{Line, pull, unit, ban, void, make_false, by, cut, flip, case, open_line, stuck, Left, closed, one, two, stays, rule, with_changed, lower_part, upper_part, keep, strictly_inside, is_undecided, test_axis}
-use Rattle.poly_graph.specs.Derivation.{Tree, leaf, then}
+use Rattle.poly_graph.specs.Rules.{Line, void, make_false, by, cut, flip, case, Left, one, rule, with_changed, lower_part, upper_part, keep, strictly_inside, is_undecided, test_axis}
+use Rattle.poly_graph.specs.Derivation.{Tree, then}
 use Rattle.poly_graph.specs.Honest.{is_honest}
 use Rattle.poly_graph.specs.Fits.{FitsProblem}
 use Rattle.cover_rule.specs.declared.margins.Margins.{Margins}

@@ -1,5 +1,5 @@
 -- Rows, marks and spaces that serve work on a state.
-use Rattle.std.specs.Prelude.{◌≡◌, ◌<◌, ◌^◌, ℕ, length, vec_len}
+use Rattle.std.specs.Prelude.{◌≡◌, ◌<◌, ◌^◌, length, vec_len}
 use Rattle.poly_graph.specs.Space.{Space}
 use Rattle.poly_graph.specs.Narrowed.{enclosures}
 use Rattle.poly_graph.specs.ProblemViews.{Parts}

@@ -1,12 +1,11 @@
 -- The code's steps, ends and kept patches as the definitions see them.
-use Rattle.std.specs.Prelude.{◌≡◌, Option, Some, None, map, IfOk, IfSome}
+use Rattle.std.specs.Prelude.{Option, Some, None, map}
 use Rattle.cover_rule.specs.declared.step.Step.{Step}
 use Rattle.cover_rule.specs.declared.step.Step.TheVariants as steps
 use Rattle.cover_rule.specs.declared.step.End.{End}
 use Rattle.cover_rule.specs.declared.step.End.TheVariants as ends
 use Rattle.cover_rule.specs.declared.kept.KeptPatch.{KeptPatch}
 use Rattle.dyadic.specs.Views.{dyadic_of}
-use Rattle.poly_graph.specs.State.{State}
 use Rattle.poly_graph.specs.Rules.{Line, pull, unit, ban, void, make_false, by, cut, flip, case, stuck}
 use Rattle.cover_rule.specs.Models.{KeptModel}
 

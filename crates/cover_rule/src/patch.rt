@@ -9,7 +9,7 @@ ghost use Rattle.cover_rule.specs.Margins.{AreMargins, loosenings_of};
 ghost use Rattle.cover_rule.specs.Runs.{IsRun, IsClosed};
 ghost use Rattle.cover_rule.specs.Serves.{HasRoom, IsNumbered};
 ghost use Rattle.cover_rule.specs.Patch.{run_at};
-ghost use Rattle.cover_rule.specs.Refusals.{Answers, pull_refusal, pulled_by, unit_refusal, forced_by, ban_refusal, banned_by, void_refusal, false_refusal, by_refusal, covered_by, cut_refusal, cut_by, flip_refusal, case_refusal, stuck_refusal, ended_with};
+ghost use Rattle.cover_rule.specs.Refusals.{Answers, PullsIfLess, pull_refusal, pulled_by, unit_refusal, forced_by, ban_refusal, banned_by, void_refusal, false_refusal, by_refusal, covered_by, cut_refusal, cut_by, flip_refusal, case_refusal, stuck_refusal, ended_with};
 ghost use Rattle.cover_rule.specs.Views.{kept_of};
 
 use crate::closed::ClosedPatch;
@@ -165,6 +165,21 @@ impl<'a> Patch<'a> {
         ensures { Answers (pull_refusal self.old j) self.old (pulled_by self.old j) self.new result }
     {
         steps::pull(
+            self.problem,
+            &self.margins,
+            &mut self.kept,
+            &mut self.work,
+            j,
+        )
+    }
+
+    /// Pulls atom j, which has to be marked yes, where that leaves less of the space; whether it does. So no line is
+    /// spent on a pull by which nothing changes.
+    pub fn pull_if_less(&mut self, j: u32) -> Result<bool, PatchRefusal>
+        requires { j < length self.old.problem.atoms }
+        ensures { PullsIfLess self.old j self.new result }
+    {
+        steps::pull_if_less(
             self.problem,
             &self.margins,
             &mut self.kept,

@@ -1,13 +1,15 @@
 // Steps of a patch, over its parts.
-ghost use Rattle.std.specs.Prelude.{◌≡◌, ◌<◌, [], ◌∷◌, ◌++◌, length, not, IsTrue, OnOk, OnErr, IfNone, OnSome};
+ghost use Rattle.std.specs.Prelude.{◌≡◌, ◌≢◌, ◌<◌, [], ◌∷◌, ◌++◌, length, not, true, false, IsTrue, None, Some, OnOk, OnErr, IfErr, IfNone, OnSome};
 ghost use Rattle.poly_graph.specs.ProblemViews.{problem_of};
 ghost use Rattle.poly_graph.specs.Fits.{FitsProblem, FitsAxes};
-ghost use Rattle.poly_graph.specs.State.{IsLemma, may, undecided, with_yes, with_no, covers};
+ghost use Rattle.poly_graph.specs.State.{IsLemma, may, undecided, with_yes, with_no, with_space, covers};
+ghost use Rattle.poly_graph.specs.Rules.{pull};
 ghost use Rattle.ival.specs.SpaceViews.{space_of};
 ghost use Rattle.cover_rule.specs.Margins.{AreMargins, loosenings_of};
-ghost use Rattle.cover_rule.specs.Serves.{Serves, IsReady};
+ghost use Rattle.cover_rule.specs.Serves.{Serves, IsReady, IsNumbered};
 ghost use Rattle.cover_rule.specs.Patch.{stepped, narrowing_in, space_or};
-ghost use Rattle.cover_rule.specs.Refusals.{Answers, pull_refusal, pulled_by, unit_refusal, forced_by, ban_refusal, banned};
+ghost use Rattle.cover_rule.specs.Refusals.{Answers, PullsIfLess, pull_refusal, pulled_by, unit_refusal, forced_by, ban_refusal, banned};
+ghost use Rattle.cover_rule.specs.declared.refusal.PatchRefusal.TheVariants as refusal;
 ghost use Rattle.cover_rule.specs.Views.{kept_of, step_line};
 ghost use Rattle.cover_rule.specs.Held.{IsHeld, patch_of};
 
@@ -24,34 +26,37 @@ use ival::Narrowed;
 use poly_graph::{Mark, Problem};
 use std::alloc::{AllocError, Global};
 
-// Why atom j can't be pulled. Where it can, the spare space is the narrowed one afterwards.
-fn pull_refusal(
+// Narrows the spare space by atom j where it may be pulled, and tells whether that is less than the state's space.
+fn narrowed(
     problem: &Problem,
     margins: &Margins,
     kept: &KeptPatch,
     work: &mut Workspace,
     j: u32,
-) -> Option<PatchRefusal>
+) -> Result<bool, PatchRefusal>
     requires held { IsHeld problem.now margins.now kept.now work.old }
     requires atom { j < length problem.now.atoms }
-    ensures refusal { result ≡ pull_refusal (patch_of problem.now margins.now kept.now) j }
-    ensures refused { OnSome result (IsReady problem.now kept.now.reached.space work.new) }
+    ensures may { OnOk result (pull_refusal (patch_of problem.now margins.now kept.now) j ≡ None) }
+    ensures refusal { IfErr result (λ e. (pull_refusal (patch_of problem.now margins.now kept.now) j ≡ Some e) × (e ≢ refusal.Memory)) }
+    ensures refused { OnErr result (IsReady problem.now kept.now.reached.space work.new) }
     ensures serves { Serves problem.now kept.now.reached.space work.new }
     ensures length { length (space_of work.new.spare) ≡ length kept.now.reached.space }
-    ensures fits { IfNone result (FitsAxes (problem_of problem.now).axes (space_or kept.now.reached.space (narrowing_in (patch_of problem.now margins.now kept.now) j))) }
-    ensures narrowed { IfNone result (space_of work.new.spare ≡ space_or kept.now.reached.space (narrowing_in (patch_of problem.now margins.now kept.now) j)) }
+    ensures fits { OnOk result (FitsAxes (problem_of problem.now).axes (space_or kept.now.reached.space (narrowing_in (patch_of problem.now margins.now kept.now) j))) }
+    ensures spare { OnOk result (space_of work.new.spare ≡ space_or kept.now.reached.space (narrowing_in (patch_of problem.now margins.now kept.now) j)) }
+    ensures same { result ≡ Ok false → (narrowing_in (patch_of problem.now margins.now kept.now) j ≡ Some kept.now.reached.space) × IsReady problem.now kept.now.reached.space work.new }
+    ensures less { result ≡ Ok true → narrowing_in (patch_of problem.now margins.now kept.now) j ≢ Some kept.now.reached.space }
 {
     let _ = problem.axes();
     if kept.end.is_some() {
-        return Some(PatchRefusal::Ended);
+        return Err(PatchRefusal::Ended);
     }
     if !kept.reached.is_yes(j) {
-        return Some(PatchRefusal::NotYes);
+        return Err(PatchRefusal::NotYes);
     }
     match narrow_spare(problem, margins, &kept.reached, j, work) {
-        Narrowed::Empty => Some(PatchRefusal::IsVoid),
-        Narrowed::Same => None,
-        Narrowed::Less => None,
+        Narrowed::Empty => Err(PatchRefusal::IsVoid),
+        Narrowed::Same => Ok(false),
+        Narrowed::Less => Ok(true),
     }
 }
 
@@ -65,6 +70,30 @@ fn add_step(kept: &mut KeptPatch, step: Step) -> Result<(), PatchRefusal>
         Ok(()) => Ok(()),
         Err(_) => Err(PatchRefusal::Memory),
     }
+}
+
+// Pulls atom j, by which the spare space was narrowed; where there is no memory all stays.
+fn take_narrowed(
+    problem: &Problem,
+    kept: &mut KeptPatch,
+    work: &mut Workspace,
+    j: u32,
+) -> Result<(), PatchRefusal>
+    requires numbered { IsNumbered problem.now }
+    requires state { FitsProblem (problem_of problem.now) kept.old.reached }
+    requires serves { Serves problem.now kept.old.reached.space work.old }
+    requires length { length (space_of work.old.spare) ≡ length kept.old.reached.space }
+    ensures ok { OnOk result (kept_of kept.new ≡ stepped (kept_of kept.old) (pull j) (kept_of kept.old).quoted (with_space kept.old.reached (space_of work.old.spare))) }
+    ensures err { OnErr result (kept_of kept.new ≡ kept_of kept.old) }
+    ensures memory { OnErr result (result ≡ Err refusal.Memory) }
+    ensures ready { IsReady problem.now kept.new.reached.space work.new }
+{
+    if add_step(kept, Step::Pull(j)).is_err() {
+        copy_space(kept.reached.space(), &mut work.spare);
+        return Err(PatchRefusal::Memory);
+    }
+    adopt_spare(problem, &mut kept.reached, work);
+    Ok(())
 }
 
 /// Pulls atom j, which has to be marked yes: leaves of the space what the atom leaves of it.
@@ -81,16 +110,29 @@ pub fn pull(
     ensures ready { IsReady problem.now kept.new.reached.space work.new }
     ensures fits { OnOk result (FitsAxes (problem_of problem.now).axes (space_or kept.old.reached.space (narrowing_in (patch_of problem.now margins.now kept.old) j))) }
 {
-    let _ = problem.axes();
-    if let Some(refusal) = pull_refusal(problem, margins, kept, work, j) {
-        return Err(refusal);
+    narrowed(problem, margins, kept, work, j)?;
+    take_narrowed(problem, kept, work, j)
+}
+
+/// Pulls atom j, which has to be marked yes, where that leaves less of the space; whether it does.
+pub fn pull_if_less(
+    problem: &Problem,
+    margins: &Margins,
+    kept: &mut KeptPatch,
+    work: &mut Workspace,
+    j: u32,
+) -> Result<bool, PatchRefusal>
+    requires held { IsHeld problem.now margins.now kept.old work.old }
+    requires atom { j < length problem.now.atoms }
+    ensures answer { PullsIfLess (patch_of problem.now margins.now kept.old) j (patch_of problem.now margins.now kept.new) result }
+    ensures ready { IsReady problem.now kept.new.reached.space work.new }
+    ensures fits { OnOk result (FitsAxes (problem_of problem.now).axes (space_or kept.old.reached.space (narrowing_in (patch_of problem.now margins.now kept.old) j))) }
+{
+    if !narrowed(problem, margins, kept, work, j)? {
+        return Ok(false);
     }
-    if add_step(kept, Step::Pull(j)).is_err() {
-        copy_space(kept.reached.space(), &mut work.spare);
-        return Err(PatchRefusal::Memory);
-    }
-    adopt_spare(problem, &mut kept.reached, work);
-    Ok(())
+    take_narrowed(problem, kept, work, j)?;
+    Ok(true)
 }
 
 /// Whether the form may hold with the atom, which is not marked, marked no.

@@ -9,19 +9,32 @@ ghost use Rattle.solve_core.specs.Search.{IsSearch, CanFind, CanCommit, CanLearn
 use box_worker::{Worked, work_on};
 use cover_book::{Book, BookRefusal, Kids};
 use cover_rule::{ClosedPatch, KeptPatch, Lemma, Options, Point};
-use poly_graph::Problem;
+use poly_graph::{FormNode, Problem};
 use std::alloc::{AllocError, Global};
 
 /// So many lemmas at most are handed to the work on a box, the latest ones.
 const MOST_HANDED: usize = 64;
 
-/// A book, the numbers of the nodes that wait to be worked on, of which the last is the next, and lemmas of the book
-/// that are handed to the work on a box.
+/// A book, the numbers of the nodes that wait to be worked on, of which the last is the next, lemmas of the book that
+/// are handed to the work on a box, and whether lemmas are learned at all.
 #[derive(Drop)]
 pub struct Search {
     pub book: Book,
     pub waiting: Vec<u32>,
     pub lemmas: Vec<Lemma>,
+    pub learns: bool,
+}
+
+// Whether the form has a disjunction. Without one boxes are parted by cuts and by Bool values alone, so no two of them
+// meet but at their ends, and what closed one of them closes no other.
+fn has_choice(problem: &Problem) -> bool {
+    let forms = problem.forms();
+    for n in 0..forms.len() {
+        if let FormNode::Or(_) = forms.node(n as u32) {
+            return true;
+        }
+    }
+    false
 }
 
 // What is refused for want of memory ends the search; any other refusal is let be.
@@ -51,6 +64,7 @@ impl Search {
         ensures book { IfOk result (λ s. s.book ≡ opening problem.now options.now) }
     {
         let copy = problem.try_clone(alloc)?;
+        let learns = has_choice(problem);
         let book = Book::new(alloc, copy, *options)?;
         let mut waiting = Vec::new(alloc);
         if let Some(node) = book.live_after(0) {
@@ -60,6 +74,7 @@ impl Search {
             book,
             waiting,
             lemmas: Vec::new(alloc),
+            learns,
         })
     }
 
@@ -122,13 +137,17 @@ impl Search {
         Ok(())
     }
 
-    // Keeps the first state of the closed patch as a lemma, unless the book has as many as it may have.
+    // Keeps the first state of the closed patch as a lemma where lemmas are learned, unless the book has as many as it
+    // may have.
     fn learn(&mut self, alloc: Global, closed: ClosedPatch) -> Result<(), AllocError>
         requires { CanLearn self.old closed }
         ensures search { OnOk result (IsSearch self.new self.new.waiting.items) }
         ensures left { OnOk result (work_left self.new ≤ work_left self.old) }
         ensures reached { Reaches self.old.book self.new.book }
     {
+        if !self.learns {
+            return Ok(());
+        }
         let state = closed.kept().first.try_clone(alloc)?;
         match self.book.learn(closed) {
             Ok(id) => self.hand(Lemma::new(id, state)),
@@ -175,6 +194,7 @@ impl Search {
             book,
             waiting: _,
             lemmas: _,
+            learns: _,
         } = self;
         book
     }

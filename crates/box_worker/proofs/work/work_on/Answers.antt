@@ -34,11 +34,11 @@ returns-clause-at_once c =
 
 pub returns-clause-work : goal.returns-clause-work
 returns-clause-work c =
-    let P = c.in_ok-patch.patch in let Q = c.at_once.new.patch in let T = c.take_steps.new.patch in let R = c.in_ok-patch-2.patch in let Z = c.finish.new.patch in
+    let P = c.in_ok-patch.patch in let Q = c.at_once.new.patch in let Z = c.finish.new.patch in
     let q = c.args.problem.now in let m = margins_of c.args.options.now in let S = c.args.state in let lemmas = c.args.lemmas.now in
     let a : AtOnce lemmas P Q None = subst (AtOnce lemmas P Q) c.in_default.is c.in_ok-ended.ensures in
-    let first : T.kept.first ≡ S = c.take_steps.ensures.first ∙ ap (λ (X : PatchModel). X.kept.first) a.0 ∙ ap (λ (k : KeptModel). k.first) c.in_ok-patch.ensures.kept in
+    let first : Q.kept.first ≡ S = ap (λ (X : PatchModel). X.kept.first) a.0 ∙ ap (λ (k : KeptModel). k.first) c.in_ok-patch.ensures.kept in
     let e : c.margins-margins.result ≡ m = margins_are c.margins-margins.result c.args.options.now c.margins-margins.ensures.delta c.margins-margins.ensures.margin c.margins-margins.ensures.least in
-    let k = c.in_ok-ended-2.ensures.continues in let o = c.in_ok-patch-2.ensures in
+    let k = c.in_ok-ended-2.ensures.continues in let o = c.take_steps.ensures in
     if_ok_then (WorkOf Z) (IsWork (problem_of q) m lemmas S) c.worked-2.result
     (λ w h. work_is q m lemmas S Z w (k.problem ∙ o.problem) (k.margins ∙ o.margins ∙ e) (k.first ∙ o.first ∙ first) (subst (AreAmong lemmas) (sym k.quoted) o.among) h) c.worked-2.ensures

@@ -1,7 +1,7 @@
-use Rattle.std.proofs.Common.{◌≡◌, ◌<◌, ◌∙◌, length, get_or, ap, sym, arith}
-use Rattle.dyadic.specs.Space.{Domain, Space, test_axis}
+use Rattle.std.proofs.Common.{◌∙◌, get_or, ap, sym}
+use Rattle.dyadic.specs.Space.{Space}
 use Rattle.dyadic.specs.Space.{is_undecided}
-use Rattle.ival.specs.SpaceViews.{space_of, domain_of}
+use Rattle.ival.specs.SpaceViews.{domain_of}
 use Rattle.cover_rule.proofs.Axes.{test_is}
 use Rattle.cover_rule.proofs.branches.is_undecided_axis.Goals as goal
 

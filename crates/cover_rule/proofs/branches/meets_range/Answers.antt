@@ -2,7 +2,7 @@ use Rattle.std.proofs.Common.{◌∙◌, ap, ap₂, sym, List, length, Bool, not
 use Rattle.dyadic.specs.Space.{Space}
 use Rattle.poly_graph.specs.Narrowed.{enclosures}
 use Rattle.poly_graph.specs.ProblemViews.{problem_of}
-use Rattle.poly_graph.specs.State.{State, Mark, may_atom, misses, margin_of, mark_at, is_no}
+use Rattle.poly_graph.specs.State.{Mark, may_atom, misses, margin_of}
 use Rattle.ival.specs.RowViews.{rows_of}
 use Rattle.ival.specs.SpaceViews.{space_of}
 use Rattle.truth3.specs.Truth.{pruning, state_of}

@@ -1,6 +1,5 @@
-use Rattle.std.proofs.Common.{◌≡◌, ◌∙◌, get_or, ap, sym}
+use Rattle.std.proofs.Common.{◌∙◌, ap, sym}
 use Rattle.std.proofs.lemmas.List.{get_or_default}
-use Rattle.dyadic.specs.Space.{Domain}
 use Rattle.dyadic.specs.Views.{dyadic_of}
 use Rattle.ival.specs.SpaceViews.{space_of, domain_of}
 use Rattle.cover_rule.proofs.Widest.{cuts_at, no_cut, found_below, bool_not_found}

@@ -1,4 +1,4 @@
-use Rattle.std.proofs.Common.{ℕ, suc, ◌<◌, ◌≤◌, ◌∙◌, add-one, length, drop, map, ap, sym, arith, Bool, ◌&&◌}
+use Rattle.std.proofs.Common.{suc, ◌<◌, ◌≤◌, ◌∙◌, add-one, length, drop, map, ap, sym, arith, Bool, ◌&&◌}
 use Rattle.poly_graph.specs.declared.mark.Mark.TheVariants.{Yes}
 use Rattle.poly_graph.specs.MarkViews.{mark_of}
 use Rattle.poly_graph.specs.State.{marks_within}

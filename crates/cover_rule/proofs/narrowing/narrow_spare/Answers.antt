@@ -1,4 +1,4 @@
-use Rattle.std.proofs.Common.{ℕ, ◌<◌, ◌∙◌, List, length, get_or, ap, arith}
+use Rattle.std.proofs.Common.{ℕ, ◌<◌, List, length, get_or, ap, arith}
 use Rattle.std.proofs.lemmas.List.{get_or-map, length-map}
 use Rattle.poly_graph.specs.declared.node.Atom.{Atom}
 use Rattle.poly_graph.specs.declared.node.Kind.TheVariants.{Le}

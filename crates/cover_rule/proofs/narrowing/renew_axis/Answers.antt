@@ -1,6 +1,6 @@
 use Rattle.std.proofs.Common.{◌≡◌, ◌∙◌, List, ap, sym, subst, set, get_or}
 use Rattle.std.proofs.lemmas.List.{set-get_or}
-use Rattle.dyadic.specs.Space.{Domain, Space, axis_interval}
+use Rattle.dyadic.specs.Space.{Space, axis_interval}
 use Rattle.poly_graph.specs.Term.{Node}
 use Rattle.poly_graph.specs.Narrowed.{enclosures}
 use Rattle.poly_graph.specs.State.{State, with_space}

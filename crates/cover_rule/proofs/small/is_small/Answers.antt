@@ -1,5 +1,4 @@
 use Rattle.std.proofs.Common.{◌<◌, ◌+◌, ◌∙◌, length, drop, ap, sym, arith, Bool, ◌&&◌}
-use Rattle.dyadic.specs.Space.{Domain}
 use Rattle.poly_graph.specs.Honest.{is_small, is_small_domain}
 use Rattle.ival.specs.SpaceViews.{space_of, domain_of}
 use Rattle.cover_rule.proofs.Sides.{small_step}

@@ -1,4 +1,4 @@
-use Rattle.std.proofs.Common.{◌≡◌, ◌∙◌, List, ap, ap₂, sym, subst, length}
+use Rattle.std.proofs.Common.{◌∙◌, List, ap, ap₂, sym, subst, length}
 use Rattle.dyadic.specs.Space.{Space}
 use Rattle.poly_graph.specs.Term.{Node}
 use Rattle.poly_graph.specs.ProblemViews.{problem_of}

@@ -1,15 +1,10 @@
-use Rattle.std.proofs.Common.{◌≡◌, ◌∙◌, ap, sym, arith, None, length}
-use Rattle.poly_graph.specs.ProblemViews.{problem_of}
-use Rattle.poly_graph.specs.Fits.{FitsAxes}
+use Rattle.std.proofs.Common.{◌≡◌, ap, None}
 use Rattle.poly_graph.specs.State.{State}
-use Rattle.poly_graph.specs.Rules.{void, make_false, flip, case, stuck}
-use Rattle.cover_rule.specs.Models.{KeptModel, PatchModel}
-use Rattle.cover_rule.specs.Patch.{with_kept, narrowing_in, now_in, problem_in, space_or}
-use Rattle.cover_rule.specs.Refusals.{pull_refusal, pulled_by, unit_refusal, forced_by, ban_refusal, banned, banned_by, void_refusal, false_refusal, by_refusal, covered, covered_by, cut_refusal, cut_by, flip_refusal, case_refusal, stuck_refusal, ended_with}
-use Rattle.cover_rule.specs.Views.{kept_of}
+use Rattle.poly_graph.specs.Rules.{make_false}
+use Rattle.cover_rule.specs.Models.{PatchModel}
+use Rattle.cover_rule.specs.Refusals.{false_refusal, ended_with}
 use Rattle.cover_rule.specs.Held.{patch_of}
-use Rattle.cover_rule.proofs.Axes.{fits_length}
-use Rattle.cover_rule.proofs.Helds.{IsRunOf, run_after, on_ok, any_ok, answers_lift, held_with, still_ready, run_pulled, run_forced, run_banned, run_voided, run_made_false, run_covered, run_cut_by, run_flipped, run_cased, run_stuck}
+use Rattle.cover_rule.proofs.Helds.{IsRunOf, run_after, any_ok, held_with, still_ready, run_made_false}
 use Rattle.cover_rule.proofs.patch.Patch.make_false.Goals as goal
 
 pub invariant_of-self : goal.invariant_of-self

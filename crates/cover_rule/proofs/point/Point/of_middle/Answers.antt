@@ -1,8 +1,6 @@
-use Rattle.std.proofs.Common.{◌∙◌, sym, subst, IsTrue}
-use Rattle.dyadic.specs.Space.{Space}
+use Rattle.std.proofs.Common.{◌∙◌, sym, subst}
 use Rattle.poly_graph.specs.ProblemViews.{problem_of}
 use Rattle.poly_graph.specs.Fits.{IsShownAt}
-use Rattle.ival.specs.SpaceViews.{space_of}
 use Rattle.cover_rule.specs.Margins.{loosenings_of}
 use Rattle.cover_rule.proofs.Points.{middle_shown}
 use Rattle.cover_rule.proofs.point.Point.of_middle.Goals as goal

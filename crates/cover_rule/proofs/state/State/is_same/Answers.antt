@@ -1,4 +1,4 @@
-use Rattle.std.proofs.Common.{◌≡◌, ◌∙◌, ap, sym, subst, IsTrue, true≢false}
+use Rattle.std.proofs.Common.{◌∙◌, sym, subst, IsTrue, true≢false}
 use Rattle.poly_graph.specs.State.{State, covers}
 use Rattle.cover_rule.proofs.Runs.{covers_itself}
 use Rattle.cover_rule.proofs.Withins.{same_states}

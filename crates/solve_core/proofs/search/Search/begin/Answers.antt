@@ -11,7 +11,7 @@ pub returns-clause-search : goal.returns-clause-search
 returns-clause-search c =
     let b : BookModel = c.in_ok-book.book in
     let e : b ≡ opening c.in_ok-copy.copy c.args.options.now = c.in_ok-book.ensures in
-    begun (record { book = b; waiting = c.match-live_after.waiting; lemmas = c.new-2.result }) c.new-2.ensures.items c.match-live_after.waiting.items (elim c.match-live_after.branch [
+    begun (record { book = b; waiting = c.match-live_after.waiting; lemmas = c.new-2.result; learns = c.has_choice-learns.result }) c.new-2.ensures.items c.match-live_after.waiting.items (elim c.match-live_after.branch [
       | in-Some+in_ok-push w ↦
           let f : live_after b 0 ≡ Some w.in-Some.node = sym c.live_after.ensures.first ∙ w.in-Some.is in
           let g : c.match-live_after.waiting.items ≡ w.in-Some.node ∷ [] = ap (λ v. v.items) w.waiting-is ∙ w.in_ok-push.ensures.items ∙ ap (λ (xs : List ℕ). xs ++ (w.in-Some.node ∷ [])) c.new-waiting.ensures.items in

@@ -7,12 +7,15 @@ use Rattle.solve_core.proofs.Reached.{same_reaches}
 use Rattle.solve_core.proofs.Visits.{can_hand, learn_reaches}
 use Rattle.solve_core.proofs.search.Search.learn.Goals as goal
 
+pub returns-then-not-self-clause-reached : goal.returns-then-not-self-clause-reached
+returns-then-not-self-clause-reached c = stays
+
 pub returns-in_err-state-clause-reached : goal.returns-in_err-state-clause-reached
 returns-in_err-state-clause-reached c = stays
 
 pub hand-requires : goal.hand-requires
 hand-requires c =
-    let s : Search = record { book = c.learn.new.self; waiting = c.args.self.now.waiting; lemmas = c.args.self.now.lemmas } in
+    let s : Search = record { book = c.learn.new.self; waiting = c.args.self.now.waiting; lemmas = c.args.self.now.lemmas; learns = c.args.self.now.learns } in
     let e : c.in_ok-state.state ≡ c.args.closed.first = c.in_ok-state.ensures ∙ ap (λ (k : KeptModel). k.first) c.kept.ensures.kept in
     subst (CanHand s) (sym c.new.ensures) (can_hand c.args.self.now c.args.closed c.requires s c.in-Ok.id c.in_ok-state.state c.in-Ok.ensures e refl refl)
 

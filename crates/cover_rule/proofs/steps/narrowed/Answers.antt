@@ -1,4 +1,4 @@
-use Rattle.std.proofs.Common.{◌∙◌, ap, sym, subst, Option}
+use Rattle.std.proofs.Common.{sym, subst, Option}
 use Rattle.dyadic.specs.Space.{Space}
 use Rattle.poly_graph.specs.Fits.{FitsAxes}
 use Rattle.poly_graph.specs.ProblemViews.{problem_of}
@@ -7,7 +7,7 @@ use Rattle.cover_rule.specs.Margins.{loosenings_of}
 use Rattle.cover_rule.specs.Patch.{space_or}
 use Rattle.cover_rule.proofs.Narrowings.{within_length, narrowing_within}
 use Rattle.cover_rule.proofs.Helds.{code_fits}
-use Rattle.cover_rule.proofs.steps.pull_refusal.Goals as goal
+use Rattle.cover_rule.proofs.steps.narrowed.Goals as goal
 
 pub returns-in-Less-clause-length : goal.returns-in-Less-clause-length
 returns-in-Less-clause-length c =
