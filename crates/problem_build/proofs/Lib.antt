@@ -4,8 +4,12 @@ pub mod Whole
 pub mod Rooted
 pub mod ByForm
 pub mod Lookups
+pub mod Tables
 pub mod Steps
-pub mod SoFar
-pub mod Gives
+pub mod Turns
+pub mod Reached
+pub mod Waiting
+pub mod Stacked
+pub mod Sizes
 pub mod Standing
 pub mod Finishing

@@ -1,5 +1,5 @@
 -- What is found under a name, in both meanings.
-use Rattle.std.proofs.Common.{◌≡◌, ℕ, zero, suc, ◌-◌, ◌<◌, arith, List, [], ◌∷◌, ◌++◌, Bool, true, false, cond, Option, Some, None, refl, ap, ◌∙◌, subst}
+use Rattle.std.proofs.Common.{◌≡◌, ℕ, zero, suc, List, [], ◌∷◌, ◌++◌, Bool, true, false, cond, Option, Some, None, refl, ap, ◌∙◌, subst}
 use Rattle.std.specs.Prelude.{slice_get}
 use Rattle.std.specs.Str.{bytes_eq}
 use Rattle.dyadic.specs.Point.{Sort}
@@ -11,8 +11,8 @@ use Rattle.value_build.specs.Making.{Making}
 use Rattle.value_build.specs.Values.{IsValue}
 use Rattle.value_build.specs.declared.value.Value.{Value}
 use Rattle.problem_build.specs.Names.{local_value, if_named, top_known, known_of, entry_of, top_names, AreLocals, KnownFits, TopFits}
-use Rattle.problem_build.specs.declared.names.Known.{Known}
-use Rattle.problem_build.specs.declared.names.Top.{Top}
+use Rattle.problem_build.specs.declared.top.Known.{Known}
+use Rattle.problem_build.specs.declared.top.Top.{Top}
 use Rattle.problem_build.specs.declared.names.Local.{Local}
 
 -- ---- the top
@@ -120,8 +120,3 @@ module _ (m : Making) (x : List ℕ) (ns : Names Work) (bs : Names Bounding) whe
   none_local (l ∷ ls) ((y, value w) ∷ near) ((z, value b) ∷ bounded) h e =
       none-first (bytes_eq x l.name.now) w b l.value y z l.name.now near bounded (local_value x ls) h.0 h.1 refl (λ g. none_local ls near bounded h.3 g) e
   none_local (l ∷ ls) _ _ h e = elim h [ ]
-
--- ---- one step of the search
-
-pub top_step : (x : List ℕ) (top : List Top) (n : ℕ) (t : Option Top) → 0 < n → slice_get top (n - 1) ≡ t → top_known x top n ≡ if_named x (n - 1) t (top_known x top (n - 1))
-top_step x top n t h e = let f : n ≡ suc (n - 1) = omega arith in ap (top_known x top) f ∙ ap (λ o. if_named x (n - 1) o (top_known x top (n - 1))) e

@@ -5,7 +5,7 @@ use Rattle.std.specs.Borrow.{Bor}
 use Rattle.dyadic.specs.Point.{Sort, real_sort, bool_sort}
 use Rattle.script_model.specs.Sexp.{Place, Sexp}
 use Rattle.script_model.specs.Reading.{Meanings, meaning}
-use Rattle.script_model.specs.Script.{Command, declare, define, claim, check, ineffective, claims, sorts_of}
+use Rattle.script_model.specs.Script.{Command, declare, define, claim, claims, sorts_of}
 use Rattle.script_model.specs.Declared.{Bounding, bounding, constant_bounding, numbered}
 use Rattle.poly_graph.specs.Problem.{HasSort}
 use Rattle.poly_graph.specs.Form.{form_atoms, form_map}
@@ -35,8 +35,8 @@ use Rattle.problem_build.specs.Names.{known_of, entry_of, top_names, work_names,
 use Rattle.problem_build.specs.Standing.{IsAsserted, Asserts, AreClaims, left_works, left_bounds, boundings, walk_of, Stands, IsDone}
 use Rattle.problem_build.specs.Walking.{Fails, Gives}
 use Rattle.problem_build.proofs.Steps.{fails_on}
-use Rattle.problem_build.specs.declared.names.Known.TheVariants as known
-use Rattle.problem_build.specs.declared.names.Top.{Top}
+use Rattle.problem_build.specs.declared.top.Known.TheVariants as known
+use Rattle.problem_build.specs.declared.top.Top.{Top}
 
 -- ---- one more name
 
@@ -203,12 +203,6 @@ module _ (s : arena.Sexps) (script rest : List Command) (m : Making) (top : List
     pub stopped : (m1 : Making) (stop : Stop) → Asserts m m1 work bound (Err stop) → StopsAs at (walk_of script) stop
     stopped m1 stop a = stops_so at (walk_of script) _ stop h.walk
         (stopped_on at (after_events at (stand_of m.made) (assertion_events work)) (λ s'. after_assertions s' (claim_places rest) (left_works s top axis rest)) stop (a at))
-
-  pub checked_so : (at : Place) → Stands s script (check at ∷ rest) m top axis made → Stands s script rest m top axis made
-  checked_so at h = record { done = h.done; bounded = h.bounded; works = h.works; bounds = h.bounds; walk = h.walk; claims = h.claims; fits = h.fits; sorts = h.sorts; before = h.before; counted = h.counted; split = h.split }
-
-  pub passed : (at : Place) → Stands s script (ineffective at ∷ rest) m top axis made → Stands s script rest m top axis made
-  passed at h = record { done = h.done; bounded = h.bounded; works = h.works; bounds = h.bounds; walk = h.walk; claims = h.claims; fits = h.fits; sorts = h.sorts; before = h.before; counted = h.counted; split = h.split }
 
 pub ends : (s : arena.Sexps) (script rest : List Command) (m : Making) (top : List Top) (axis : ℕ) (made : List (ℕ × ℕ)) → rest ≡ [] → Stands s script rest m top axis made → IsDone script m made
 ends s script rest m top axis made none h0 =

@@ -1,11 +1,10 @@
 -- Works one after the other.
 use Rattle.std.proofs.Common.{◌≡◌, ℕ, List, [], ◌∷◌, ◌++◌, map, refl, ap, sym, ◌∙◌, subst, append_assoc}
 use Rattle.std.specs.Prelude.{Ok, Err}
-use Rattle.dyadic.specs.Point.{Sort}
 use Rattle.script_model.specs.Reading.{Names, value}
 use Rattle.script_model.specs.Script.{bound_to}
 use Rattle.script_model.specs.Declared.{Bounding}
-use Rattle.script_forms.specs.Terms.{ill_formed, Unfolded, refused}
+use Rattle.script_forms.specs.Terms.{ill_formed, refused}
 use Rattle.script_forms.specs.Work.{Event, met, Work, outcome_of}
 use Rattle.smt_sexp.specs.Views.{place_of}
 use Rattle.smt_sexp.specs.declared.leaf.Place as code
@@ -17,13 +16,14 @@ use Rattle.term_build.specs.declared.stop.Stop.TheVariants as stop
 use Rattle.term_build.specs.declared.stop.Fault.TheVariants.{IllFormed}
 use Rattle.term_build.proofs.Emits.{emits_fault, emits_stop}
 use Rattle.value_build.specs.Making.{Making, Grows, Steps}
-use Rattle.value_build.specs.Values.{AreValues, AreKnown}
+use Rattle.value_build.specs.Values.{AreValues}
 use Rattle.value_build.specs.declared.value.Value.{Value}
 use Rattle.value_build.proofs.Growth.{value_stays, steps_then}
-use Rattle.problem_build.specs.Names.{work_names, bound_names_of, bound_locals, AreLocals, Sees, Knows, TopFits}
-use Rattle.problem_build.specs.Walking.{Fails}
+use Rattle.problem_build.specs.Names.{work_names, bound_names_of, bound_locals, AreLocals, Knows}
+use Rattle.problem_build.specs.Walking.{Fails, IsScope}
+use Rattle.problem_build.specs.declared.frames.Scope.{Scope}
 use Rattle.problem_build.specs.declared.names.Local.{Local}
-use Rattle.problem_build.specs.declared.names.Top.{Top}
+use Rattle.problem_build.specs.declared.top.Top.{Top}
 
 -- an expression without a sort
 pub steps_ill : (m : Making) (at : code.Place) → Fails m (met (ill_formed (place_of at)) ∷ []) (stop.Fault at IllFormed)
@@ -44,14 +44,6 @@ locals_stay m m1 g [] [] [] h = tt
 locals_stay m m1 g (l ∷ ls) ((x, value w) ∷ ns) ((y, value b) ∷ bs) h = (h.0, h.1, value_stays m m1 w.outcome b l.value g h.2, locals_stay m m1 g ls ns bs h.3)
 locals_stay m m1 g _ _ _ h = elim h [ ]
 
-pub sees_stays : (m m1 : Making) (top : List Top) (ls : List Local) → Grows m m1 → m1.made.sorts ≡ m.made.sorts → Sees m top ls → Sees m1 top ls
-sees_stays m m1 top ls g s h = record {
-  near = h.near;
-  bounded = h.bounded;
-  fits = subst (λ (sorts : List Sort). TopFits sorts top) (sym s) h.fits;
-  stand = locals_stay m m1 g ls h.near h.bounded h.stand;
-}
-
 pub knows_stays : (m m1 : Making) (s : arena.Sexps) (top : List Top) (n : ℕ) (ls : List Local) (names : Names Work) (bnames : Names Bounding) → Grows m m1 → Knows m s top n ls names bnames → Knows m1 s top n ls names bnames
 knows_stays m m1 s top n ls names bnames g h = record {
   near = h.near;
@@ -61,16 +53,11 @@ knows_stays m m1 s top n ls names bnames g h = record {
   bounds = h.bounds;
 }
 
--- what the locals stand for, with the top
-module _ (m : Making) (s : arena.Sexps) (top : List Top) (n : ℕ) (ls : List Local) (h : Sees m top ls) where
-  abbrev pub seen_works : Names Work
-  seen_works = h.near ++ work_names s top n
-
-  abbrev pub seen_bounds : Names Bounding
-  seen_bounds = h.bounded ++ bound_names_of s top n
-
-  pub knows_seen : Knows m s top n ls seen_works seen_bounds
-  knows_seen = record { near = h.near; bounded = h.bounded; stand = h.stand; works = refl; bounds = refl }
+-- what a scope sees
+pub knows_scope : (m : Making) (s : arena.Sexps) (top : List Top) (n : ℕ) (ls : List Local) (names : Names Work) (bnames : Names Bounding) (scope : Scope) → IsScope scope n ls → Knows m s top n ls names bnames →
+    Knows m s top scope.visible scope.locals.value.items names bnames
+knows_scope m s top n ls names bnames scope is h =
+    subst (λ (k : ℕ). Knows m s top k scope.locals.value.items names bnames) (sym is.0) (subst (λ (xs : List Local). Knows m s top n xs names bnames) (sym is.1) h)
 
 -- ---- more locals
 
@@ -89,14 +76,6 @@ knows_more m s top n ls ks ns names bs bnames h k = record {
   bounds = ap (λ x. bs ++ x) k.bounds ∙ sym (append_assoc bs k.bounded (bound_names_of s top n));
 }
 
-pub sees_more : (m : Making) (top : List Top) (ls ks : List Local) (ns : Names Work) (bs : Names Bounding) → AreLocals m ls ns bs → Sees m top ks → Sees m top (ls ++ ks)
-sees_more m top ls ks ns bs h k = record {
-  near = ns ++ k.near;
-  bounded = bs ++ k.bounded;
-  fits = k.fits;
-  stand = locals_both m ls ks ns k.near bs k.bounded h k.stand;
-}
-
 -- ---- parameters that stand for values
 
 pub bound_stand : (m : Making) (ps : List Parameter) (ws : List Work) (bs : List Bounding) (vs : List Value) → AreValues m (map outcome_of ws) bs vs →
@@ -109,23 +88,6 @@ bound_stand m (p ∷ ps) [] (b ∷ bs) vs h = elim h [ ]
 bound_stand m (p ∷ ps) (w ∷ ws) [] vs h = elim h [ ]
 bound_stand m (p ∷ ps) (w ∷ ws) (b ∷ bs) [] h = elim h [ ]
 
--- works of which nothing is done
-abbrev pub idle : List Unfolded → List Work
-idle [] = []
-idle (u ∷ us) = record { events = []; outcome = u } ∷ idle us
-
-idle-are : (us : List Unfolded) → us ≡ map outcome_of (idle us)
-idle-are [] = refl
-idle-are (u ∷ us) = ap (λ x. u ∷ x) (idle-are us)
-
-pub sees_bound : (m : Making) (top : List Top) (ps : List Parameter) (vs : List Value) → TopFits m.made.sorts top → AreKnown m vs → Sees m top (bound_locals ps vs)
-sees_bound m top ps vs fits h = record {
-  near = bound_to (map parameter_of ps) (idle h.0);
-  bounded = bound_to (map parameter_of ps) h.1;
-  fits = fits;
-  stand = bound_stand m ps (idle h.0) h.1 vs (subst (λ (us : List Unfolded). AreValues m us h.1 vs) (idle-are h.0) h.2);
-}
-
 pub knows_bound : (m : Making) (s : arena.Sexps) (top : List Top) (n : ℕ) (ps : List Parameter) (vs : List Value) (ls : List Local) (ws : List Work) (bs : List Bounding) → ls ≡ bound_locals ps vs → AreValues m (map outcome_of ws) bs vs →
     Knows m s top n ls (bound_to (map parameter_of ps) ws ++ work_names s top n) (bound_to (map parameter_of ps) bs ++ bound_names_of s top n)
 knows_bound m s top n ps vs ls ws bs e h = record {
@@ -137,8 +99,5 @@ knows_bound m s top n ps vs ls ws bs e h = record {
 }
 
 -- no locals
-pub sees_none : (m : Making) (top : List Top) → TopFits m.made.sorts top → Sees m top []
-sees_none m top fits = record { near = []; bounded = []; fits = fits; stand = tt }
-
 pub knows_none : (m : Making) (s : arena.Sexps) (top : List Top) (n : ℕ) → Knows m s top n [] (work_names s top n) (bound_names_of s top n)
 knows_none m s top n = record { near = []; bounded = []; stand = tt; works = refl; bounds = refl }

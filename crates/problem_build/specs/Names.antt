@@ -1,5 +1,7 @@
 -- What names stand for while a script is built: in both meanings, by what is kept of them.
-use Rattle.std.specs.Prelude.{◌≡◌, ℕ, zero, suc, ◌<◌, List, [], ◌∷◌, ◌++◌, map, length, Option, Some, None, cond, slice_get}
+use Rattle.std.specs.Prelude.{◌≡◌, ℕ, zero, suc, ◌<◌, List, [], ◌∷◌, ◌++◌, map, length, Option, Some, None, cond, option_map, slice_get}
+use Rattle.std.specs.Borrow.{Bor}
+use Rattle.std.specs.HashMap.{HashMap, get_by}
 use Rattle.std.specs.Str.{bytes_eq}
 use Rattle.dyadic.specs.Point.{Sort}
 use Rattle.poly_graph.specs.Problem.{HasSort}
@@ -14,9 +16,10 @@ use Rattle.smt_script.specs.Views.{parameter_of, sort_of}
 use Rattle.value_build.specs.Making.{Making}
 use Rattle.value_build.specs.Values.{IsValue}
 use Rattle.value_build.specs.declared.value.Value.{Value}
-use Rattle.problem_build.specs.declared.names.Known.{Known}
-use Rattle.problem_build.specs.declared.names.Known.TheVariants as known
-use Rattle.problem_build.specs.declared.names.Top.{Top}
+use Rattle.problem_build.specs.declared.top.Known.{Known}
+use Rattle.problem_build.specs.declared.top.Known.TheVariants as known
+use Rattle.problem_build.specs.declared.top.Entry.{Entry}
+use Rattle.problem_build.specs.declared.top.Top.{Top}
 use Rattle.problem_build.specs.declared.names.Local.{Local}
 use Rattle.problem_build.specs.declared.names.Head.{Head}
 use Rattle.problem_build.specs.declared.names.Head.TheVariants as head
@@ -38,6 +41,18 @@ if_named x n (Some t) before = cond (bytes_eq x t.name.now) (Some (n, t.known)) 
 abbrev pub top_known : List ℕ → List Top → ℕ → Option (ℕ × Known)
 top_known x top zero = None
 top_known x top (suc n) = if_named x n (slice_get top n) (top_known x top n)
+
+abbrev pub top_of : Entry → Top
+top_of e = e.top
+
+-- the number of those before it
+abbrev pub top_place : List ℕ → List Top → ℕ → Option ℕ
+top_place x top n = option_map (λ p. p.0) (top_known x top n)
+
+-- the map has the last place of each name, and each name the last place of its own before it
+pub record IsTable {S : Type 0} (entries : List Entry) (last : HashMap (Bor (List ℕ)) ℕ S) : Type 0 where
+  pub last_places : (x : List ℕ) → get_by (λ k. bytes_eq x k.now) last ≡ top_place x (map top_of entries) (length entries)
+  pub earlier_places : (i : ℕ) (e : Entry) → slice_get entries i ≡ Some e → e.earlier ≡ top_place e.top.name.now (map top_of entries) i
 
 -- what a name stands for
 abbrev pub IsHead : List ℕ → List Top → ℕ → List Local → Option Head → Type 0
@@ -88,13 +103,6 @@ KnownFits sorts (known.Function params body) = Unit {0}
 
 abbrev pub TopFits : List Sort → List Top → Type 0
 TopFits sorts top = (i : ℕ) (t : Top) → slice_get top i ≡ Some t → KnownFits sorts t.known
-
--- the constants of the top have their sorts, and there is something that the locals stand for
-pub record Sees (m : Making) (top : List Top) (locals : List Local) : Type 0 where
-  pub near : Names Work
-  pub bounded : Names Bounding
-  pub fits : TopFits m.made.sorts top
-  pub stand : AreLocals m locals near bounded
 
 -- what names stand for, in both meanings
 pub record Knows (m : Making) (s : arena.Sexps) (top : List Top) (visible : ℕ) (locals : List Local) (names : Names Work) (bnames : Names Bounding) : Type 0 where

@@ -20,7 +20,7 @@ use Rattle.value_build.specs.Values.{IsClaim}
 use Rattle.problem_build.specs.Names.{work_names, bound_names_of, TopFits}
 use Rattle.problem_build.specs.Told.{Refuses, found_by}
 use Rattle.problem_build.specs.declared.fault.ScriptFault.{ScriptFault}
-use Rattle.problem_build.specs.declared.names.Top.{Top}
+use Rattle.problem_build.specs.declared.top.Top.{Top}
 
 -- an assertion's form is made, and what was made stays
 pub record IsAsserted (old new : Making) (w : Work) (b : Bounding) (made : ℕ × ℕ) : Type 0 where

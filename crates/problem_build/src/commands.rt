@@ -16,9 +16,9 @@ ghost use Rattle.problem_build.specs.Names.{TopFits, bound_names_of, work_names}
 ghost use Rattle.problem_build.specs.Standing.{Asserts, Does, Goes, IsNext, Stands, StopsSorted};
 ghost use Rattle.problem_build.specs.Told.{Refuses, found_by};
 
-use crate::expressions::{MOST_LEVELS, expression};
 use crate::fault::{ScriptFault, told};
-use crate::names::{Known, Top};
+use crate::top::{Known, Top, TopTable};
+use crate::walk::expression;
 use smt_script::{Command, Script};
 use smt_sexp::{Place, Sexps};
 use std::alloc::Global;
@@ -40,7 +40,7 @@ pub(crate) fn stopped(claim: Place, stop: Stop) -> ScriptFault
 fn assertion<'p, 'a>(
     alloc: Global,
     sexps: &'a Sexps,
-    top: &[Top<'p, 'a>],
+    top: &TopTable<'p, 'a>,
     maker: &mut Maker,
     body: usize,
 ) -> Result<(u32, u32), Stop>
@@ -50,7 +50,7 @@ fn assertion<'p, 'a>(
         (meaning bounding (bound_names_of sexps.now top.now (length top.now)) (expression_at sexps.now body)) result }
     ensures sorts { maker.new.made.sorts ≡ maker.old.made.sorts }
 {
-    let value = expression(alloc, sexps, top, top.len(), &[], maker, MOST_LEVELS, body)?;
+    let value = expression(alloc, sexps, top, maker, body)?;
     maker.claim(alloc, value)
 }
 
@@ -58,15 +58,15 @@ fn assertion<'p, 'a>(
 fn step<'p, 'a>(
     alloc: Global,
     sexps: &'a Sexps,
-    top: &mut Vec<Top<'p, 'a>>,
+    top: &mut TopTable<'p, 'a>,
     maker: &mut Maker,
     claims: &mut Vec<(u32, u32)>,
     axis: u32,
     command: &'p Command<'a>,
 ) -> Result<u32, ScriptFault>
-    requires { IsNext sexps.now (command_of sexps.now command.now) maker.old top.old.items axis claims.old.items }
-    ensures { (script rest : List model.Command) → Stands sexps.now script (command_of sexps.now command.now ∷ rest) maker.old top.old.items axis claims.old.items →
-        Goes sexps.now script rest maker.new top.new.items claims.new.items result }
+    requires { IsNext sexps.now (command_of sexps.now command.now) maker.old top.old axis claims.old.items }
+    ensures { (script rest : List model.Command) → Stands sexps.now script (command_of sexps.now command.now ∷ rest) maker.old top.old axis claims.old.items →
+        Goes sexps.now script rest maker.new top.new claims.new.items result }
 {
     match command {
         Command::Declare(_, name, sort) => {
@@ -87,7 +87,7 @@ fn step<'p, 'a>(
             Ok(axis)
         }
         Command::Assert(place, body) => {
-            match assertion(alloc, sexps, top.as_slice(), maker, *body) {
+            match assertion(alloc, sexps, top, maker, *body) {
                 Ok(made) => {
                     claims.push(made)?;
                     Ok(axis)
@@ -110,7 +110,7 @@ pub(crate) fn claims<'p, 'a>(
     requires sorted { sort_fault (commands_in script.now) ≡ None }
     ensures { Does (commands_in script.now) maker.new result }
 {
-    let mut top: Vec<Top<'p, 'a>> = Vec::new(alloc);
+    let mut top = TopTable::new(alloc);
     let mut claims = Vec::new(alloc);
     let mut axis = 0;
     let mut rest = script.commands.as_slice();

@@ -7,9 +7,12 @@ mod assembly;
 mod commands;
 mod expressions;
 mod fault;
+mod frames;
 mod lets;
 mod names;
 mod script;
+mod top;
+mod walk;
 
 pub use assembly::{assemble, root_form};
 pub use fault::{ScriptFault, told};

@@ -1,27 +1,13 @@
 // What names stand for: the nearest of `let` and of parameters, and then those of the top, the last first.
 ghost use Rattle.std.specs.Prelude.{◌≡◌, ◌≤◌, ◌<◌, length, IfOk};
-ghost use Rattle.problem_build.specs.Names.{IsHead, bound_locals, local_value, top_known};
+ghost use Rattle.problem_build.specs.Names.{IsHead, bound_locals, local_value};
 
+use crate::top::{Known, TopTable};
 use smt_script::{Parameter, Sort};
 use smt_sexp::Name;
 use sort_check::{Operator, operator_named};
 use std::alloc::{AllocError, Global};
 use value_build::Value;
-
-/// What a name of the top stands for: a declared constant, by its number, or a definition, by its parameters and the
-/// place of its body.
-#[derive(Clone, Copy, Debug)]
-pub(crate) enum Known<'p, 'a> {
-    Constant(u32, Sort),
-    Function(&'p [Parameter<'a>], usize),
-}
-
-/// A name of the top. The body of a definition sees those before it.
-#[derive(Clone, Copy, Debug)]
-pub(crate) struct Top<'p, 'a> {
-    pub(crate) name: &'a Name,
-    pub(crate) known: Known<'p, 'a>,
-}
 
 /// A name that a `let` or a parameter binds to a value.
 #[derive(Clone, Copy, Debug)]
@@ -44,26 +30,6 @@ pub(crate) fn local_value(locals: &[Local<'_>], name: &Name) -> Option<Value>
     None
 }
 
-/// The last of this name among the first names of the top: how many stand before it, and what it stands for.
-pub(crate) fn top_known<'p, 'a>(
-    top: &[Top<'p, 'a>],
-    visible: usize,
-    name: &Name,
-) -> Option<(usize, Known<'p, 'a>)>
-    ensures { result ≡ top_known name.now top.now visible }
-{
-    let mut left = visible;
-    while left > 0 {
-        left -= 1;
-        if let Some(first) = top.get(left) {
-            if name.as_slice() == first.name.as_slice() {
-                return Some((left, first.known));
-            }
-        }
-    }
-    None
-}
-
 /// What a name stands for.
 #[derive(Clone, Copy, Debug)]
 pub(crate) enum Head<'p, 'a> {
@@ -77,7 +43,7 @@ pub(crate) enum Head<'p, 'a> {
 
 /// What a name stands for.
 pub(crate) fn head_of<'p, 'a>(
-    top: &[Top<'p, 'a>],
+    top: &TopTable<'p, 'a>,
     visible: usize,
     locals: &[Local<'_>],
     name: &Name,
@@ -90,7 +56,7 @@ pub(crate) fn head_of<'p, 'a>(
     if let Some(value) = local_value(locals, name) {
         return Some(Head::Local(value));
     }
-    let (before, known) = top_known(top, visible, name)?;
+    let (before, known) = top.known(visible, name)?;
     match known {
         Known::Constant(axis, sort) => Some(Head::Constant(before, axis, sort)),
         Known::Function(parameters, body) => Some(Head::Function(before, parameters, body)),

@@ -2,7 +2,7 @@ use super::*;
 use smt_script::commands;
 use smt_sexp::read;
 use sort_check::check;
-use std::alloc::Global;
+use std::alloc::{AllocError, Global};
 
 // What is counted of a script's problem: its axes, the nodes of its terms, its atoms, the nodes of its form.
 type Counts = (usize, usize, usize, usize);
@@ -76,13 +76,30 @@ const OPEN: &str = "(declare-const p Bool)
 (assert (! (>= x (- 3)) :named low))
 (check-sat)";
 
+// A chain of definitions, each of which calls the one before it within its own body. Of an even number of calls the terms
+// are 0, x, -x, 0 + -x; and then 4, -4, x + -4.
+fn chain(alloc: Global, calls: u32) -> Result<String, AllocError> {
+    let mut text = String::new(alloc);
+    text.push_str("(declare-const x Real)\n(define-fun p0 ((a Real)) Bool (<= a 4))\n")?;
+    for k in 0..calls {
+        let next = k + 1;
+        text.push_str(&format!(in alloc;
+            "(define-fun p{next} ((a Real)) Bool (not (p{k} a)))\n"
+        )?)?;
+    }
+    text.push_str(&format!(in alloc; "(assert (<= 0 x))\n(assert (p{calls} x))\n(check-sat)")?)?;
+    Ok(text)
+}
+
 #[test]
 fn builds_problems_and_tells_faults(rt: HostRuntime) {
+    let deep = chain(rt.alloc(), 2_000).expect(&rt, "memory");
     let rows = [
         (BOX, None, Ok((1, 11, 3, 5))),
         (CALLS, None, Ok((1, 13, 3, 5))),
         (OPEN, Some(10), Ok((2, 7, 2, 5))),
         (OPEN, None, Err(Refused::NoBound(2, 1))),
+        (deep.as_str(), Some(10), Ok((1, 7, 2, 3))),
         (
             "(declare-const x Real)\n(assert (<= (/ x 0) 1))\n(check-sat)",
             None,

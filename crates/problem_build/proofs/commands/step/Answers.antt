@@ -1,15 +1,10 @@
-use Rattle.std.proofs.Common.{◌≡◌, ℕ, suc, List, ◌∷◌, subst, sym, arith, length}
-use Rattle.std.specs.Prelude.{Ok, Err}
-use Rattle.script_model.specs.Reading.{meaning}
-use Rattle.script_model.specs.Declared.{bounding}
-use Rattle.script_forms.specs.Work.{as_work}
+use Rattle.std.proofs.Common.{◌≡◌, ℕ, suc, List, ◌∷◌, subst, sym, arith}
 use Rattle.smt_script.specs.Views.{command_of, sort_of}
 use Rattle.smt_script.specs.declared.command.Command.{Command}
 use Rattle.smt_sexp.specs.Arena.{expression_at}
 use Rattle.smt_sexp.specs.Views.{place_of}
-use Rattle.problem_build.specs.Names.{work_names, bound_names_of, TopFits}
-use Rattle.problem_build.specs.Standing.{Asserts, Stands, walk_of}
-use Rattle.problem_build.specs.declared.names.Top.{Top}
+use Rattle.problem_build.specs.Standing.{Stands, walk_of}
+use Rattle.problem_build.specs.declared.top.Top.{Top}
 use Rattle.problem_build.proofs.Sound.{claims_sorted}
 use Rattle.problem_build.proofs.Standing as standing
 use Rattle.problem_build.proofs.commands.step.Goals as goal
@@ -17,47 +12,47 @@ use Rattle.problem_build.proofs.commands.step.Goals as goal
 pub returns-in_ok-push-in-Declare : goal.returns-in_ok-push-in-Declare
 returns-in_ok-push-in-Declare c = λ script rest h0.
     let d = c.in-Declare in
-    let h = subst (λ (x : Command). Stands c.args.sexps.now script (command_of c.args.sexps.now x ∷ rest) c.args.maker.now c.args.top.now.items c.args.axis c.args.claims.now.items) d.is h0 in
+    let h = subst (λ (x : Command). Stands c.args.sexps.now script (command_of c.args.sexps.now x ∷ rest) c.args.maker.now c.args.top.now c.args.axis c.args.claims.now.items) d.is h0 in
     let next : c.in-Some.next ≡ suc c.args.axis = omega (arith, c.in-Some.ensures) in
-    standing.stands_same c.args.sexps.now script rest c.args.maker.now _ _ _ _ c.args.claims.now.items c.in_ok-push-in-Declare.ensures.items next
-    (standing.declared c.args.sexps.now script rest c.args.maker.now c.args.top.now.items c.args.axis c.args.claims.now.items (place_of d.field-0) d.name d.sort h)
+    standing.stands_same c.args.sexps.now script rest c.args.maker.now _ _ _ _ c.args.claims.now.items c.in_ok-push-in-Declare.ensures.added next
+    (standing.declared c.args.sexps.now script rest c.args.maker.now c.args.top.now c.args.axis c.args.claims.now.items (place_of d.field-0) d.name d.sort h)
 
 pub returns-in_ok-push-in-Define : goal.returns-in_ok-push-in-Define
 returns-in_ok-push-in-Define c = λ script rest h0.
     let d = c.in-Define in
-    let h = subst (λ (x : Command). Stands c.args.sexps.now script (command_of c.args.sexps.now x ∷ rest) c.args.maker.now c.args.top.now.items c.args.axis c.args.claims.now.items) d.is h0 in
-    subst (λ (x : List Top). Stands c.args.sexps.now script rest c.args.maker.now x c.args.axis c.args.claims.now.items) (sym c.in_ok-push-in-Define.ensures.items)
-    (standing.defined_so c.args.sexps.now script rest c.args.maker.now c.args.top.now.items c.args.axis c.args.claims.now.items (place_of d.field-0) d.name d.parameters.items c.as_slice.result (sort_of d.field-3) d.body c.as_slice.ensures.value h)
+    let h = subst (λ (x : Command). Stands c.args.sexps.now script (command_of c.args.sexps.now x ∷ rest) c.args.maker.now c.args.top.now c.args.axis c.args.claims.now.items) d.is h0 in
+    subst (λ (x : List Top). Stands c.args.sexps.now script rest c.args.maker.now x c.args.axis c.args.claims.now.items) (sym c.in_ok-push-in-Define.ensures.added)
+    (standing.defined_so c.args.sexps.now script rest c.args.maker.now c.args.top.now c.args.axis c.args.claims.now.items (place_of d.field-0) d.name d.parameters.items c.as_slice.result (sort_of d.field-3) d.body c.as_slice.ensures.value h)
 
 pub returns-in_ok-push-in-Ok : goal.returns-in_ok-push-in-Ok
 returns-in_ok-push-in-Ok c = λ script rest h0.
     let d = c.in-Assert in
     let e = expression_at c.args.sexps.now d.body in
-    let h = subst (λ (x : Command). Stands c.args.sexps.now script (command_of c.args.sexps.now x ∷ rest) c.args.maker.now c.args.top.now.items c.args.axis c.args.claims.now.items) d.is h0 in
-    let a = subst (λ (ts : List Top). Asserts c.args.maker.now c.assertion.new.maker (meaning as_work (work_names c.args.sexps.now ts (length ts)) e) (meaning bounding (bound_names_of c.args.sexps.now ts (length ts)) e) (Ok c.in-Ok.made)) c.as_slice-in-Assert.ensures.value c.in-Ok.ensures.asserts in
-    subst (λ (x : List (ℕ × ℕ)). Stands c.args.sexps.now script rest c.assertion.new.maker c.args.top.now.items c.args.axis x) (sym c.in_ok-push-in-Ok.ensures.items)
-    (standing.asserted c.args.sexps.now script rest c.args.maker.now c.args.top.now.items c.args.axis c.args.claims.now.items (place_of d.place) e h c.assertion.new.maker c.in-Ok.made a c.assertion.ensures.sorts)
+    let h = subst (λ (x : Command). Stands c.args.sexps.now script (command_of c.args.sexps.now x ∷ rest) c.args.maker.now c.args.top.now c.args.axis c.args.claims.now.items) d.is h0 in
+    let a = c.in-Ok.ensures.asserts in
+    subst (λ (x : List (ℕ × ℕ)). Stands c.args.sexps.now script rest c.assertion.new.maker c.args.top.now c.args.axis x) (sym c.in_ok-push-in-Ok.ensures.items)
+    (standing.asserted c.args.sexps.now script rest c.args.maker.now c.args.top.now c.args.axis c.args.claims.now.items (place_of d.place) e h c.assertion.new.maker c.in-Ok.made a c.assertion.ensures.sorts)
 
 pub returns-in-Err : goal.returns-in-Err
 returns-in-Err c = λ script rest h0.
     let d = c.in-Assert in
     let e = expression_at c.args.sexps.now d.body in
-    let h = subst (λ (x : Command). Stands c.args.sexps.now script (command_of c.args.sexps.now x ∷ rest) c.args.maker.now c.args.top.now.items c.args.axis c.args.claims.now.items) d.is h0 in
-    let a = subst (λ (ts : List Top). Asserts c.args.maker.now c.assertion.new.maker (meaning as_work (work_names c.args.sexps.now ts (length ts)) e) (meaning bounding (bound_names_of c.args.sexps.now ts (length ts)) e) (Err c.in-Err.stop)) c.as_slice-in-Assert.ensures.value c.in-Err.ensures.asserts in
-    c.stopped.ensures (walk_of script) (standing.stopped c.args.sexps.now script rest c.args.maker.now c.args.top.now.items c.args.axis c.args.claims.now.items (place_of d.place) e h c.assertion.new.maker c.in-Err.stop a)
+    let h = subst (λ (x : Command). Stands c.args.sexps.now script (command_of c.args.sexps.now x ∷ rest) c.args.maker.now c.args.top.now c.args.axis c.args.claims.now.items) d.is h0 in
+    let a = c.in-Err.ensures.asserts in
+    c.stopped.ensures (walk_of script) (standing.stopped c.args.sexps.now script rest c.args.maker.now c.args.top.now c.args.axis c.args.claims.now.items (place_of d.place) e h c.assertion.new.maker c.in-Err.stop a)
 
 pub assertion-requires : goal.assertion-requires
-assertion-requires c = subst (λ (ts : List Top). TopFits c.args.maker.now.made.sorts ts) (sym c.as_slice-in-Assert.ensures.value) c.requires.stand.fits
+assertion-requires c = c.requires.stand.fits
 
 pub stopped-requires : goal.stopped-requires
 stopped-requires c =
     let d = c.in-Assert in
     let e = expression_at c.args.sexps.now d.body in
     let n = c.requires in
-    let h = subst (λ (x : Command). Stands c.args.sexps.now n.script (command_of c.args.sexps.now x ∷ n.rest) c.args.maker.now c.args.top.now.items c.args.axis c.args.claims.now.items) d.is n.stand in
-    let a = subst (λ (ts : List Top). Asserts c.args.maker.now c.assertion.new.maker (meaning as_work (work_names c.args.sexps.now ts (length ts)) e) (meaning bounding (bound_names_of c.args.sexps.now ts (length ts)) e) (Err c.in-Err.stop)) c.as_slice-in-Assert.ensures.value c.in-Err.ensures.asserts in
+    let h = subst (λ (x : Command). Stands c.args.sexps.now n.script (command_of c.args.sexps.now x ∷ n.rest) c.args.maker.now c.args.top.now c.args.axis c.args.claims.now.items) d.is n.stand in
+    let a = c.in-Err.ensures.asserts in
     record {
       walked = walk_of n.script;
       sorted = claims_sorted n.script n.sorted;
-      so = standing.stopped c.args.sexps.now n.script n.rest c.args.maker.now c.args.top.now.items c.args.axis c.args.claims.now.items (place_of d.place) e h c.assertion.new.maker c.in-Err.stop a;
+      so = standing.stopped c.args.sexps.now n.script n.rest c.args.maker.now c.args.top.now c.args.axis c.args.claims.now.items (place_of d.place) e h c.assertion.new.maker c.in-Err.stop a;
     }
