@@ -2,4 +2,12 @@
 #![tactic(auto)]
 
 #[cfg(test)]
+mod books;
+#[cfg(test)]
+mod patches;
+#[cfg(test)]
+mod points;
+#[cfg(test)]
+mod shared;
+#[cfg(test)]
 mod tests;

@@ -1,6 +1,7 @@
 // Scripts and certificates whose every line was worked out by hand.
-ghost use Rattle.std.specs.Prelude.{◌≡◌, ◌<◌, ◌≤◌, IfSome, IsSome};
-ghost use Rattle.cover_book.specs.Model.{margins_of, problem_in};
+ghost use Rattle.std.specs.Prelude.{◌≡◌, ◌<◌, ◌≤◌, IfOk, IfSome, IsSome};
+ghost use Rattle.cover_book.specs.Model.{loosenings_in, margins_of, problem_in};
+ghost use Rattle.poly_graph.specs.Fits.{IsShownAt};
 ghost use Rattle.cover_rule.specs.Runs.{IsRun};
 ghost use Rattle.cover_rule.specs.Views.{kept_of};
 
@@ -18,7 +19,7 @@ use std::alloc::Global;
 use std::test::Fail;
 
 // The problem of a script's text.
-fn problem(alloc: Global, text: &str) -> Option<Problem> {
+pub(crate) fn problem(alloc: Global, text: &str) -> Option<Problem> {
     let bytes = text.as_bytes();
     if bytes.len() > 67_108_864 {
         return None;
@@ -30,7 +31,12 @@ fn problem(alloc: Global, text: &str) -> Option<Problem> {
 }
 
 // The verdict of a certificate that comes in pieces of so many bytes.
-fn verdict(alloc: Global, problem: &Problem, text: &[u8], size: usize) -> Result<Verdict, CertFault>
+pub(crate) fn verdict(
+    alloc: Global,
+    problem: &Problem,
+    text: &[u8],
+    size: usize,
+) -> Result<Verdict, CertFault>
     requires { 0 < size }
 {
     let mut checker = Checker::new(alloc, problem, None)?;
@@ -45,7 +51,7 @@ fn verdict(alloc: Global, problem: &Problem, text: &[u8], size: usize) -> Result
 }
 
 // The points with x^2 + y^2 = 1 and x * y = 1, of which there are none.
-const CIRCLE: &str = "(declare-const x Real)
+pub(crate) const CIRCLE: &str = "(declare-const x Real)
 (declare-const y Real)
 (assert (<= 0 x 2))
 (assert (<= 0 y 2))
@@ -108,14 +114,14 @@ fn a_cover_of_two_cuts_is_confirmed(rt: HostRuntime) -> Result<(), Fail> {
 }
 
 // The points of the unit interval outside its inner half with x^2 = 1/4, of which there are none.
-const OUTSIDE: &str = "(declare-const x Real)
+pub(crate) const OUTSIDE: &str = "(declare-const x Real)
 (assert (<= 0 x 1))
 (assert (or (>= x (/ 3 4)) (<= x (/ 1 4))))
 (assert (= (* x x) (/ 1 4)))
 (check-sat)";
 
 // A lemma of the whole interval with the last atom marked yes, up to its lines.
-const LEMMA: &str = "dpoly 1
+pub(crate) const LEMMA: &str = "dpoly 1
 margin 20
 delta 10
 bound none
@@ -161,7 +167,7 @@ fn a_lemma_closes_the_root(rt: HostRuntime) -> Result<(), Fail> {
 }
 
 // What a search is asked for.
-fn options(budget: u32) -> Options
+pub(crate) fn options(budget: u32) -> Options
     ensures delta { result.delta_bits ≡ 10 }
     ensures margin { result.margin_bits ≡ 20 }
     ensures least { result.least_bits ≡ 20 }
@@ -216,7 +222,7 @@ fn falsified(alloc: Global, book: &Book) -> Option<KeptPatch>
 }
 
 // No number of the unit interval has the square -1.
-const NO_ROOT: &str = "(declare-const x Real)
+pub(crate) const NO_ROOT: &str = "(declare-const x Real)
 (assert (<= 0 x 1))
 (assert (= (* x x) (- 1)))
 (check-sat)";
@@ -240,21 +246,36 @@ fn a_closed_book_is_written_and_confirmed(rt: HostRuntime) -> Result<(), Fail> {
     Ok(())
 }
 
-// The certificate of the point in the middle of the opening box.
-fn middle_text(alloc: Global, book: &Book) -> Option<Vec<u8>> {
-    let Ok(state) = book.state_of(0) else {
-        return None;
+// The point in the middle of a live node's box, where the form is sure there.
+pub(crate) fn middle_of(
+    alloc: Global,
+    book: &Book,
+    node: u32,
+) -> Result<Option<Point>, &'static str>
+    ensures { IfOk result (λ o. IfSome o (λ p. IsShownAt (problem_in book.now) (loosenings_in book.now) p)) }
+{
+    let Ok(state) = book.state_of(node) else {
+        return Err("no state");
     };
     let problem = book.problem();
-    let options = book.options();
-    let Ok(Some(point)) = Point::of_middle(alloc, problem, &options.margins(), state.space()) else {
-        return None;
-    };
-    write_point(alloc, problem, options, &point).ok()
+    let margins = book.options().margins();
+    match Point::of_middle(alloc, problem, &margins, state.space()) {
+        Ok(point) => Ok(point),
+        Err(_) => Err("no memory"),
+    }
+}
+
+// The certificate of that of the opening box.
+fn middle_text(alloc: Global, book: &Book) -> Option<Vec<u8>> {
+    match middle_of(alloc, book, 0) {
+        Ok(Some(point)) => write_point(alloc, book.problem(), book.options(), &point).ok(),
+        Ok(None) => None,
+        Err(_) => None,
+    }
 }
 
 // No number differs from itself; up to delta each does.
-const ANYWHERE: &str = "(declare-const x Real)
+pub(crate) const ANYWHERE: &str = "(declare-const x Real)
 (assert (<= 0 x 1))
 (assert (distinct x x))
 (check-sat)";
@@ -277,7 +298,7 @@ fn the_middle_is_a_point(rt: HostRuntime) -> Result<(), Fail> {
 }
 
 // x * y - y * x is no 1/8, which enclosures alone do not tell.
-const SWAPPED: &str = "(declare-const x Real)
+pub(crate) const SWAPPED: &str = "(declare-const x Real)
 (declare-const y Real)
 (assert (<= (- (/ 1 2)) x (/ 1 2)))
 (assert (<= (- (/ 1 2)) y (/ 1 2)))

@@ -1,0 +1,93 @@
+// Middles of opening boxes: where the form is sure there, and the points that they then are.
+ghost use Rattle.std.specs.Prelude.{◌≤◌};
+
+use crate::patches::{BOOL, book_of, is_state};
+use crate::tests::{ANYWHERE, CIRCLE, NO_ROOT, OUTSIDE, SWAPPED, middle_of};
+use cover_book::Book;
+use cover_rule::{State, midpoint_sure};
+use ival::{Rows, Space};
+use poly_graph::Lits;
+use std::alloc::Global;
+use truth3::Marks;
+
+// Whether the form is sure at the middle of the opening box, loosened by 2 to the power of minus so many bits.
+fn is_sure(alloc: Global, book: &Book, bits: u32) -> Option<bool>
+    requires { bits ≤ 120 }
+{
+    let state = book.state_of(0).ok()?;
+    let problem = book.problem();
+    let mut middle = state.space().try_clone(alloc).ok()?;
+    let mut rows = Rows::new(alloc, problem.graph().len()).ok()?;
+    let mut marks = Marks::new(alloc, problem).ok()?;
+    Some(midpoint_sure(
+        problem,
+        state.space(),
+        bits,
+        &mut middle,
+        &mut rows,
+        &mut marks,
+    ))
+}
+
+// Whether the form is found sure there, or not, as said.
+fn is_found(alloc: Global, script: &str, bits: u32, expected: bool) -> bool
+    requires { bits ≤ 120 }
+{
+    match book_of(alloc, script, 20, 0) {
+        Some(book) => is_sure(alloc, &book, bits) == Some(expected),
+        None => false,
+    }
+}
+
+#[test]
+fn the_middle_is_sure_as_far_as_it_is_loosened(rt: HostRuntime) {
+    let alloc = rt.alloc();
+    assert!(rt; is_found(alloc, ANYWHERE, 10, true));
+    assert!(rt; is_found(alloc, NO_ROOT, 0, false));
+    assert!(rt; is_found(alloc, CIRCLE, 0, true));
+    assert!(rt; is_found(alloc, CIRCLE, 1, false));
+    assert!(rt; is_found(alloc, OUTSIDE, 2, true));
+    assert!(rt; is_found(alloc, OUTSIDE, 3, false));
+    assert!(rt; is_found(alloc, SWAPPED, 3, true));
+    assert!(rt; is_found(alloc, SWAPPED, 4, false));
+    assert!(rt; is_found(alloc, BOOL, 0, false));
+}
+
+// Whether this is the space that the lines say.
+pub(crate) fn is_space(alloc: Global, space: &Space, lines: &[&str]) -> bool {
+    match (space.try_clone(alloc), Lits::new(alloc, 0)) {
+        (Ok(space), Ok(lits)) => is_state(alloc, &State::new(space, lits), lines),
+        _ => false,
+    }
+}
+
+// Whether the form is sure nowhere near the middle of the script's opening box, so that there is no point.
+fn has_no_point(alloc: Global, script: &str) -> bool {
+    match book_of(alloc, script, 20, 0) {
+        Some(book) => matches!(middle_of(alloc, &book, 0), Ok(None)),
+        None => false,
+    }
+}
+
+// Whether the point in the middle of the script's opening box, and a copy of it, is that of these lines.
+fn has_point(alloc: Global, script: &str, lines: &[&str]) -> bool {
+    let Some(book) = book_of(alloc, script, 20, 0) else {
+        return false;
+    };
+    let Ok(Some(point)) = middle_of(alloc, &book, 0) else {
+        return false;
+    };
+    let Ok(copy) = point.try_clone(alloc) else {
+        return false;
+    };
+    is_space(alloc, point.space(), lines) && is_space(alloc, copy.space(), lines)
+}
+
+#[test]
+fn a_point_is_a_sure_middle(rt: HostRuntime) {
+    let alloc = rt.alloc();
+    for script in [NO_ROOT, CIRCLE, OUTSIDE, SWAPPED, BOOL] {
+        assert!(rt; has_no_point(alloc, script), "{script}");
+    }
+    assert!(rt; has_point(alloc, ANYWHERE, &["real 1b-1 1b-1"]));
+}
