@@ -1,4 +1,4 @@
-; No real number has the square -1: the shortest script that dpoly answers by one line of its certificate.
+; No real number has the square -1: a short script, which dpoly answers by one line of its certificate.
 ; answer: unsat
 (set-logic QF_NRA)
 (declare-const x Real)
