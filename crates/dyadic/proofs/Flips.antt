@@ -6,7 +6,7 @@ use Rattle.dyadic.specs.declared.dy.Ext.TheVariants.{NegInf, Fin, PosInf}
 use Rattle.dyadic.specs.Signed.{signed_of, IsCeiling}
 use Rattle.dyadic.specs.Views.{units_of, dyadic_of, ext_of}
 use Rattle.dyadic.specs.Rounding.{Dyadic, Ext as KeptEnd, finite}
-use Rattle.dyadic.specs.Interval.{negated_dyadic, negated_ext}
+use Rattle.dyadic.specs.End.{negated_dyadic, negated_ext}
 use Rattle.dyadic.specs.InUnits.{IsDownAt, IsUpAt, IsFlipped}
 use Rattle.dyadic.proofs.Signs.{ceiling_from_floor, above_from_below}
 

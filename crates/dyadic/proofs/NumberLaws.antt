@@ -2,7 +2,7 @@
 use Rattle.dyadic.specs.declared.size.Size.{Size}
 use Rattle.dyadic.specs.Size.{units}
 use Rattle.dyadic.specs.Signed.{signed_of}
-use Rattle.dyadic.specs.Views.{units_of}
+use Rattle.dyadic.specs.Views.{units_of, dyadic_of, ext_of}
 use Rattle.dyadic.proofs.Unique.{same_size}
 use Rattle.std.proofs.Common.{◌≡◌, ◌<◌, arith, refl, ap, subst, Bool, true, false, mul-pos}
 use Rattle.std.proofs.Math.Bridge.{le_prop}
@@ -12,7 +12,6 @@ use Rattle.dyadic.specs.declared.dy.Dy.{Dy}
 use Rattle.dyadic.specs.declared.dy.Ext.{Ext}
 use Rattle.dyadic.specs.declared.dy.Ext.TheVariants.{NegInf, Fin, PosInf}
 use Rattle.dyadic.specs.Rounding.{Ext as KeptEnd, below_all, finite, above_all, IsOnGrid}
-use Rattle.dyadic.specs.Views.{dyadic_of, ext_of}
 use Rattle.dyadic.specs.Calls.{AreAddable}
 use Rattle.dyadic.proofs.Floors.{number_on_grid}
 use Rattle.dyadic.proofs.Rounds.{IsExtOnGrid}

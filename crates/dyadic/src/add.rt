@@ -2,7 +2,7 @@
 ghost use Rattle.std.specs.Prelude.{◌≡◌};
 ghost use Rattle.dyadic.specs.Fraction.{sum_of};
 ghost use Rattle.dyadic.specs.Rounding.{exact, down, up, end_of};
-ghost use Rattle.dyadic.specs.Interval.{end_sum, rounded_down, rounded_up};
+ghost use Rattle.dyadic.specs.End.{end_sum, rounded_down, rounded_up};
 ghost use Rattle.dyadic.specs.Views.{dyadic_of, ext_of};
 ghost use Rattle.dyadic.specs.Calls.{AreAddable};
 

@@ -47,6 +47,3 @@ pub use root::{sqrt_down, sqrt_up};
 pub use sign::{Sign, sign_of};
 pub use size::Size;
 pub use writing::write_dy;
-
-#[cfg(test)]
-mod tests;

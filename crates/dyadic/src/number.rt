@@ -1,6 +1,6 @@
 // Numbers and ends with the other sign, and the number 0.
 ghost use Rattle.std.specs.Prelude.{◌≡◌, ℕ, ◌<ℤ◌, ◌↔◌, pos, IsTrue};
-ghost use Rattle.dyadic.specs.Interval.{negated_dyadic, negated_ext};
+ghost use Rattle.dyadic.specs.End.{negated_dyadic, negated_ext};
 ghost use Rattle.dyadic.specs.Size.{units};
 ghost use Rattle.dyadic.specs.Signed.{signed_of};
 ghost use Rattle.dyadic.specs.Views.{units_of, dyadic_of, ext_of};

@@ -2,7 +2,7 @@
 ghost use Rattle.std.specs.Prelude.{◌≡◌, ℕ, ◌+◌, ◌*◌, ◌/◌, ◌^◌, ◌<◌, ◌≤◌};
 ghost use Rattle.dyadic.specs.Fraction.{product_of};
 ghost use Rattle.dyadic.specs.Rounding.{exact, down, up, end_of};
-ghost use Rattle.dyadic.specs.Interval.{end_product, rounded_down, rounded_up};
+ghost use Rattle.dyadic.specs.End.{end_product, rounded_down, rounded_up};
 ghost use Rattle.dyadic.specs.Grid.{IsTight};
 ghost use Rattle.dyadic.specs.Size.{units};
 ghost use Rattle.dyadic.specs.Views.{dyadic_of, ext_of};

@@ -1,7 +1,7 @@
 // Signs, and the products of infinities by signs.
 ghost use Rattle.std.specs.Prelude.{◌≡◌, ℕ, pos};
 ghost use Rattle.dyadic.specs.Rounding.{end_of, finite};
-ghost use Rattle.dyadic.specs.Interval.{end_sign, infinite, rounded_down, rounded_up};
+ghost use Rattle.dyadic.specs.End.{end_sign, infinite, rounded_down, rounded_up};
 ghost use Rattle.dyadic.specs.Size.{units};
 ghost use Rattle.dyadic.specs.Views.{dyadic_of, ext_of};
 ghost use Rattle.dyadic.specs.SignView.{sign_view};

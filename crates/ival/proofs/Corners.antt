@@ -4,10 +4,10 @@ use Rattle.ival.specs.declared.side.Side.{Side}
 use Rattle.ival.specs.declared.side.Side.TheVariants.{Above, Below, Across}
 use Rattle.dyadic.specs.Fraction.{zero_fraction}
 use Rattle.dyadic.specs.Rounding.{End, at}
-use Rattle.dyadic.specs.Interval.{end_product, lesser, greater}
-use Rattle.dyadic.proofs.Ends.{◌⊑◌, Good, end_trans, lesser_below, greater_above, good_product, good_lesser, good_greater}
-use Rattle.dyadic.proofs.EndsProducts.{end_refl, scale_up, scale_down, scale_up_second, scale_down_second, least_of_four, greatest_of_four}
-use Rattle.dyadic.proofs.Isotone.{below_lesser, above_greater}
+use Rattle.dyadic.specs.End.{end_product, lesser, greater}
+use Rattle.interval_model.proofs.Ends.{◌⊑◌, Good, end_trans, lesser_below, greater_above, good_product, good_lesser, good_greater}
+use Rattle.interval_model.proofs.EndsProducts.{end_refl, scale_up, scale_down, scale_up_second, scale_down_second, least_of_four, greatest_of_four}
+use Rattle.interval_model.proofs.Isotone.{below_lesser, above_greater}
 use Rattle.ival.specs.Sides.{LiesOn, first_of_least, second_of_least, first_of_greatest, second_of_greatest}
 
 -- each lies below the other

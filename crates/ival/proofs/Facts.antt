@@ -10,13 +10,13 @@ use Rattle.dyadic.specs.declared.dy.Dy.{Dy}
 use Rattle.dyadic.specs.declared.dy.Ext.{Ext}
 use Rattle.dyadic.specs.declared.dy.Ext.TheVariants.{NegInf, Fin, PosInf}
 use Rattle.dyadic.specs.Rounding.{IsOnGrid}
-use Rattle.dyadic.specs.Interval.{IsProper}
-use Rattle.dyadic.specs.Space.{axis_interval, is_upright, is_upright_domain}
+use Rattle.interval_model.specs.Interval.{IsProper}
+use Rattle.interval_model.specs.Space.{axis_interval, is_upright, is_upright_domain}
 use Rattle.dyadic.specs.Views.{dyadic_of, ext_of}
 use Rattle.dyadic.proofs.Equal.{both_pass}
 use Rattle.dyadic.proofs.Floors
 use Rattle.dyadic.proofs.Rounds.{IsExtOnGrid}
-use Rattle.dyadic.proofs.InversesSquares.{IsKept}
+use Rattle.interval_model.proofs.InversesSquares.{IsKept}
 use Rattle.ival.specs.Views.{interval_of}
 use Rattle.ival.specs.SpaceViews.{domain_of, space_of}
 use Rattle.ival.proofs.Proper.{proper_of}

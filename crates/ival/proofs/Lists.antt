@@ -1,7 +1,7 @@
 -- Lists of intervals and of domains, place by place.
 use Rattle.std.proofs.Common.{◌≡◌, ℕ, zero, suc, ◌+◌, ◌<◌, ◌≤◌, [], ◌∷◌, map, length, replicate, get_or, set, add-one, Bool, IsTrue, refl, ap, sym, arith, true≢false}
-use Rattle.dyadic.specs.Space.{Domain, Space, changed, test_axis, middle_domain, domain_interval, axis_interval}
-use Rattle.dyadic.specs.Interval.{nothing}
+use Rattle.interval_model.specs.Space.{Domain, Space, changed, test_axis, middle_domain, domain_interval, axis_interval}
+use Rattle.interval_model.specs.Interval.{nothing}
 
 pub map_replicate : {X Y : Type 0} (f : X → Y) (x : X) (n : ℕ) → map f (replicate n x) ≡ replicate n (f x)
 map_replicate f x zero = refl

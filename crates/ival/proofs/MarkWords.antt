@@ -1,7 +1,7 @@
 -- Marks as words of bits.
 use Rattle.std.proofs.Common.{◌≡◌, ◌≢◌, ℕ, suc, ◌+◌, ◌*◌, ◌/◌, ◌%◌, ◌<◌, ◌≤◌, ◌∙◌, List, Bool, true, false, length, map, get_or, set, Option, Some, None, MatchOption, zero, replicate, ap, sym, subst, refl, nat_eq, arith, inl, inr, get_or-set_same, get_or-set_other}
 use Rattle.std.proofs.lemmas.Bool.{cases_eq, cases_lt}
-use Rattle.std.proofs.lemmas.List.{length-set, length-replicate, get_or_past}
+use Rattle.std.proofs.lemmas.List.{length-set, length-replicate, get_or_past, length-map}
 use Rattle.std.proofs.lemmas.List.FromFn.{length-map-range_with_len, get_or-map-range_with_len, fill_by_all}
 use Rattle.std.proofs.lemmas.Nat.{div-mul-add, mod-mul-add}
 use Rattle.std.proofs.lemmas.Nat.Bits.{bit_at-zero}
@@ -11,7 +11,6 @@ use Rattle.std.specs.Int.{bit_at}
 use Rattle.ival.specs.declared.row_parts.Rows.{Rows}
 use Rattle.ival.specs.Views.{interval_of}
 use Rattle.ival.specs.RowViews.{rows_of, has_place, marks_of, is_marked, NoneAbove, IsNextBelow, IsNextAbove}
-use Rattle.std.proofs.lemmas.List.{length-map}
 
 -- n marks in these words
 abbrev pub marks_in : ℕ → List ℕ → List Bool

@@ -2,10 +2,11 @@
 use Rattle.std.proofs.Common.{◌≡◌, Bool, true, false, cond, IsTrue, refl, ap, ap₂, sym, ◌∙◌, subst, arith, ℤ, true≢false}
 use Rattle.std.proofs.lemmas.Int.{ints}
 use Rattle.dyadic.specs.Rounding.{Dyadic, Ext, below_all, finite, above_all, ext_at_most}
-use Rattle.dyadic.specs.Interval.{Interval, nothing, between, everything, lesser_ext, greater_ext, met, within}
+use Rattle.interval_model.specs.Interval.{Interval, nothing, between, everything, met, within}
+use Rattle.dyadic.specs.End.{lesser_ext, greater_ext}
 use Rattle.dyadic.proofs.Rounds.{exact_read}
 use Rattle.dyadic.proofs.Equal.{both_true}
-use Rattle.dyadic.proofs.Isotone.{within_refl, within_trans, within_everything, met_within_first, met_within_second, met_isotone}
+use Rattle.interval_model.proofs.Isotone.{within_refl, within_trans, within_everything, met_within_first, met_within_second, met_isotone}
 
 pub equal_numbers : (a b : Dyadic) → IsTrue (ext_at_most (finite a) (finite b)) → IsTrue (ext_at_most (finite b) (finite a)) → a ≡ b
 equal_numbers a b h k = let p = exact_read a b h in let q = exact_read b a k in let e : a.units ≡ b.units = omega (arith, ints, p, q) in ap (λ (z : ℤ). record { units = z }) e

@@ -2,7 +2,7 @@
 use Rattle.std.proofs.Common.{◌≡◌, ◌≢◌, ℕ, zero, suc, ◌<◌, ◌≤◌, Option, get_or-set_same, get_or-set_other, List, [], ◌∷◌, length, set, get_or, drop, Bool, true, false, Some, None, inl, inr, refl, ap, ap₂, sym, ◌∙◌, arith}
 use Rattle.std.proofs.lemmas.Bool.{cases_lt}
 use Rattle.std.proofs.lemmas.List.{get_or_past}
-use Rattle.dyadic.specs.Interval.{Interval, nothing}
+use Rattle.interval_model.specs.Interval.{Interval, nothing}
 use Rattle.ival.specs.declared.row_parts.Rows.{Rows}
 use Rattle.ival.specs.RowViews.{rows_of, marks_of, is_marked}
 use Rattle.ival.specs.Options.{kept, options, options_of, option_at}

@@ -4,13 +4,13 @@ use Rattle.ival.specs.declared.side.Side.{Side}
 use Rattle.ival.specs.declared.side.Side.TheVariants.{Above, Below, Across}
 use Rattle.dyadic.specs.Fraction.{zero_fraction}
 use Rattle.dyadic.specs.Rounding.{Ext, End, at, end_of, end_at_most, ext_at_most}
-use Rattle.dyadic.specs.Interval.{end_product, lesser, greater, lesser_ext, greater_ext, rounded_down, rounded_up}
-use Rattle.dyadic.proofs.Ends.{◌⊑◌, Good, end_trans, end_comm, good_product, good_lesser, good_greater, zero_is_good, greater_above}
-use Rattle.dyadic.proofs.EndsProducts.{end_refl, scale_up, times_zero_high, good_least, good_greatest}
-use Rattle.dyadic.proofs.EndsSums.{good_ext}
-use Rattle.dyadic.proofs.Squares.{good_least_square, good_greatest_square, square_below, square_above, squares_rise, squares_fall}
-use Rattle.dyadic.proofs.Squares
-use Rattle.dyadic.proofs.Isotone.{below_lesser, above_greater}
+use Rattle.dyadic.specs.End.{end_product, lesser, greater, lesser_ext, greater_ext, rounded_down, rounded_up}
+use Rattle.interval_model.proofs.Ends.{◌⊑◌, Good, end_trans, end_comm, good_product, good_lesser, good_greater, zero_is_good, greater_above}
+use Rattle.interval_model.proofs.EndsProducts.{end_refl, scale_up, times_zero_high, good_least, good_greatest}
+use Rattle.interval_model.proofs.EndsSums.{good_ext}
+use Rattle.interval_model.proofs.Squares.{good_least_square, good_greatest_square, square_below, square_above, squares_rise, squares_fall}
+use Rattle.interval_model.proofs.Squares
+use Rattle.interval_model.proofs.Isotone.{below_lesser, above_greater}
 use Rattle.ival.specs.Sides.{LiesOn, first_of_least, second_of_least, first_of_greatest, second_of_greatest}
 use Rattle.ival.specs.Corners.{least_product, greatest_product, square_from, square_to}
 use Rattle.ival.proofs.Corners.{least_corner, greatest_corner, least_at, greatest_at}

@@ -1,10 +1,11 @@
 -- The ends of the operations' intervals are ends.
 use Rattle.std.proofs.Common.{◌≡◌, Bool, true, false, cond, ◌&&◌, ◌∙◌, ap, IsTrue, refl, sym, subst, true≢false, inl}
 use Rattle.dyadic.specs.Rounding.{Ext, below_all, finite, above_all, end_of, ext_at_most}
-use Rattle.dyadic.specs.Interval.{Interval, nothing, between, IsProper, IsLow, IsHigh, lesser_ext, greater_ext}
+use Rattle.interval_model.specs.Interval.{Interval, nothing, between, IsProper, IsLow, IsHigh}
+use Rattle.dyadic.specs.End.{lesser_ext, greater_ext}
 use Rattle.dyadic.specs.Calls.{AreAddable}
 use Rattle.dyadic.proofs.Equal.{both_true, both_pass}
-use Rattle.dyadic.proofs.Holds.{lesser_ext_below, greater_ext_above}
+use Rattle.interval_model.proofs.Holds.{lesser_ext_below, greater_ext_above}
 use Rattle.ival.specs.Proper.{is_low, is_high, are_ends}
 
 low-is : (e : Ext) → IsTrue (is_low e) → IsLow e

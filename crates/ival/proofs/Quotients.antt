@@ -4,17 +4,18 @@ use Rattle.ival.specs.declared.side.Side.{Side}
 use Rattle.ival.specs.declared.side.Side.TheVariants.{Above, Below, Across}
 use Rattle.dyadic.specs.Fraction.{Fraction, IsFraction, product_of}
 use Rattle.dyadic.specs.Rounding.{Ext, below_all, finite, above_all, End, at, end_of, end_at_most, ext_at_most}
-use Rattle.dyadic.specs.Interval.{Interval, between, Sign, nought, sign_of, end_sign, is_above, is_below, end_product, end_quotient, of_four, misses_nought, rounded_down, rounded_up, IsProper, nought_inside, everything}
+use Rattle.interval_model.specs.Interval.{Interval, between, is_above, is_below, of_four, misses_nought, IsProper, nought_inside, everything}
+use Rattle.dyadic.specs.End.{Sign, nought, sign_of, end_sign, end_product, end_quotient, rounded_down, rounded_up}
 use Rattle.dyadic.specs.Calls.{IsDivisor}
 use Rattle.dyadic.proofs.Ring.{atom, natural, minus, times, same}
 use Rattle.dyadic.proofs.Equal.{◌≈◌, ≈_sym, both_true}
-use Rattle.dyadic.proofs.Ends.{◌⊑◌, Good, value, end_trans, good_product, product_is_good}
-use Rattle.dyadic.proofs.EndsProducts.{end_refl, least_of_four, greatest_of_four, good_least, good_greatest, four_below, four_above}
-use Rattle.dyadic.proofs.EndsSums.{good_ext}
-use Rattle.dyadic.proofs.InversesEnds.{inverse_of, one_over, inverse_end, good_inverse, good_quotient, end_quotient_is, quotient_low, quotient_high, above_rises, below_falls, inverse_high, inverse_low, inverse_falls_above, inverse_falls_below, good_least_quotient, good_greatest_quotient, quotients_below, quotients_above}
-use Rattle.dyadic.proofs.Inverses.{inverse_product_holds}
-use Rattle.dyadic.proofs.Holds.{Holds, same_holds}
-use Rattle.dyadic.proofs.Isotone.{member_of, proper_from, below_lesser, above_greater}
+use Rattle.interval_model.proofs.Ends.{◌⊑◌, Good, value, end_trans, good_product, product_is_good}
+use Rattle.interval_model.proofs.EndsProducts.{end_refl, least_of_four, greatest_of_four, good_least, good_greatest, four_below, four_above}
+use Rattle.interval_model.proofs.EndsSums.{good_ext}
+use Rattle.interval_model.proofs.InversesEnds.{inverse_of, one_over, inverse_end, good_inverse, good_quotient, end_quotient_is, quotient_low, quotient_high, above_rises, below_falls, inverse_high, inverse_low, inverse_falls_above, inverse_falls_below, good_least_quotient, good_greatest_quotient, quotients_below, quotients_above}
+use Rattle.interval_model.proofs.Inverses.{inverse_product_holds}
+use Rattle.interval_model.proofs.Holds.{Holds, same_holds}
+use Rattle.interval_model.proofs.Isotone.{member_of, proper_from, below_lesser, above_greater}
 use Rattle.ival.specs.Sides.{LiesOn, MissesOn, first_of_least, second_of_least, first_of_greatest, second_of_greatest}
 use Rattle.ival.specs.Corners.{least_quotient, greatest_quotient}
 use Rattle.ival.proofs.Corners.{IsAlike, least_corner, greatest_corner, least_at, greatest_at}

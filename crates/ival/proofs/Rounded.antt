@@ -1,10 +1,10 @@
 -- Rounding of ends that lie below each other, and of the lesser and the greater of two.
 use Rattle.std.proofs.Common.{◌≡◌, Bool, true, false, cond, IsTrue, refl, ap, sym, ◌∙◌, true≢false}
 use Rattle.dyadic.specs.Rounding.{Ext, below_all, finite, above_all, End, end_at_most, ext_at_most}
-use Rattle.dyadic.specs.Interval.{lesser, greater, lesser_ext, greater_ext, rounded_down, rounded_up}
+use Rattle.dyadic.specs.End.{lesser, greater, lesser_ext, greater_ext, rounded_down, rounded_up}
 use Rattle.dyadic.proofs.Rounds.{same_units, exact_read}
-use Rattle.dyadic.proofs.Ends.{Good, other_way}
-use Rattle.dyadic.proofs.Isotone.{rounded_down_rises, rounded_up_rises}
+use Rattle.interval_model.proofs.Ends.{Good, other_way}
+use Rattle.interval_model.proofs.Isotone.{rounded_down_rises, rounded_up_rises}
 use Rattle.ival.proofs.Corners.{IsAlike}
 
 pub same_ext : (e f : Ext) → IsTrue (ext_at_most e f) → IsTrue (ext_at_most f e) → e ≡ f

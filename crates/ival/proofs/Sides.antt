@@ -2,10 +2,11 @@
 use Rattle.std.proofs.Common.{◌≡◌, ℕ, suc, zero, IsTrue, refl, ℤ, pos, negsuc, true≢false, false, true}
 use Rattle.dyadic.specs.Fraction.{at_most, zero_fraction}
 use Rattle.dyadic.specs.Rounding.{End, minus_infinity, at, plus_infinity}
-use Rattle.dyadic.specs.Interval.{sign_of, end_sign, is_below, is_above}
-use Rattle.dyadic.proofs.Ends.{◌⊑◌, value}
-use Rattle.dyadic.proofs.InversesEnds.{from_zero, to_zero, below_is_low, above_is_high}
-use Rattle.dyadic.proofs.InversesSquares.{zero_at_most}
+use Rattle.dyadic.specs.End.{sign_of, end_sign}
+use Rattle.interval_model.specs.Interval.{is_below, is_above}
+use Rattle.interval_model.proofs.Ends.{◌⊑◌, value}
+use Rattle.interval_model.proofs.InversesEnds.{from_zero, to_zero, below_is_low, above_is_high}
+use Rattle.interval_model.proofs.InversesSquares.{zero_at_most}
 
 pub high_from : (e : End) → is_below (end_sign e) ≡ false → ◌⊑◌ (at zero_fraction) e
 high_from e k = go e k

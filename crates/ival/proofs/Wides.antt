@@ -6,7 +6,7 @@ use Rattle.std.proofs.lemmas.Nat.{pow-add, pow_pos}
 use Rattle.std.proofs.Math.Nat.{mod-eq_of_lt, mul-lt-mul_of_pos_right}
 use Rattle.dyadic.specs.Fraction.{Fraction, at_most, difference_of, sum_of, negated}
 use Rattle.dyadic.specs.Rounding.{Dyadic, exact}
-use Rattle.dyadic.specs.Space.{real_domain, can_be_halved, side, better}
+use Rattle.interval_model.specs.Space.{real_domain, can_be_halved, side, better}
 use Rattle.dyadic.proofs.Ints.{*ℤ-le_right, le_of_*ℤ-le_right}
 use Rattle.dyadic.proofs.Ring.{atom, natural, plus, minus, times, same, read}
 use Rattle.dyadic.proofs.Rounds.{at_most_from, at_most_read}

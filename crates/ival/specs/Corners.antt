@@ -2,7 +2,7 @@
 use Rattle.std.specs.Prelude.{cond, ◌&&◌}
 use Rattle.dyadic.specs.Fraction.{zero_fraction}
 use Rattle.dyadic.specs.Rounding.{End, at, Ext, end_of, end_at_most}
-use Rattle.dyadic.specs.Interval.{end_product, end_quotient, lesser, greater, rounded_down, rounded_up}
+use Rattle.dyadic.specs.End.{end_product, end_quotient, lesser, greater, rounded_down, rounded_up}
 
 abbrev pub least_of : (End → End → End) → Ext → Ext → Ext → Ext → Ext
 least_of f l h m k = rounded_down (lesser (lesser (f (end_of l) (end_of m)) (f (end_of l) (end_of k))) (lesser (f (end_of h) (end_of m)) (f (end_of h) (end_of k))))

@@ -2,7 +2,7 @@
 use Rattle.std.specs.Prelude.{◌≡◌, ◌≢◌, Option, Some, None}
 use Rattle.ival.specs.declared.narrowed.Narrowed.{Narrowed}
 use Rattle.ival.specs.declared.narrowed.Narrowed.TheVariants.{Same, Less, Empty}
-use Rattle.dyadic.specs.Space.{Space}
+use Rattle.interval_model.specs.Space.{Space}
 
 -- from the old space to the new one, where the narrowed space is n
 abbrev pub IsNarrowed : Space → Space → Option Space → Narrowed → Type 0

@@ -1,6 +1,6 @@
 -- Rows in which some have no interval: those without a mark.
 use Rattle.std.specs.Prelude.{ℕ, List, [], ◌∷◌, Bool, true, false, Option, Some, None, slice_index_or}
-use Rattle.dyadic.specs.Interval.{Interval}
+use Rattle.interval_model.specs.Interval.{Interval}
 use Rattle.ival.specs.declared.ends.Ival.{Ival}
 use Rattle.ival.specs.declared.row_parts.Rows.{Rows}
 use Rattle.ival.specs.Views.{interval_of}

@@ -1,9 +1,9 @@
 -- A row as its intervals and its marks.
-use Rattle.std.specs.Prelude.{◌≡◌, ℕ, ◌/◌, ◌%◌, ◌<◌, List, map, Bool, true, false, nat_eq, length, slice_index, slice_index_or}
+use Rattle.std.specs.Prelude.{◌≡◌, ℕ, ◌/◌, ◌%◌, ◌<◌, List, map, Bool, true, false, Option, MatchOption, nat_eq, length, slice_index, slice_index_or}
 use Rattle.std.specs.List.{range_with_len}
 use Rattle.std.specs.Int.{bit_at}
 use Rattle.ival.specs.declared.row_parts.Rows.{Rows}
-use Rattle.dyadic.specs.Interval.{Interval}
+use Rattle.interval_model.specs.Interval.{Interval}
 use Rattle.ival.specs.Views.{interval_of}
 
 abbrev pub rows_of : Rows → List Interval
@@ -36,3 +36,11 @@ pub record IsNextAbove (marks : List Bool) (place n : ℕ) : Type 0 where
   pub above : place < n
   pub marked : is_marked marks n ≡ true
   pub between : (k : ℕ) → place < k → k < n → is_marked marks k ≡ false
+
+-- the greatest mark below a place, if there is one
+abbrev pub IsLastBelow : List Bool → ℕ → Option ℕ → Type 0
+IsLastBelow marks place o = MatchOption o (NoneBelow marks place) (IsNextBelow marks place)
+
+-- the least mark above a place, if there is one
+abbrev pub IsFirstAbove : List Bool → ℕ → Option ℕ → Type 0
+IsFirstAbove marks place o = MatchOption o (NoneAbove marks place) (IsNextAbove marks place)

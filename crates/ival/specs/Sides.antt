@@ -4,7 +4,8 @@ use Rattle.ival.specs.declared.side.Side.{Side}
 use Rattle.ival.specs.declared.side.Side.TheVariants.{Above, Below, Across}
 use Rattle.dyadic.specs.Fraction.{zero_fraction}
 use Rattle.dyadic.specs.Rounding.{End, at, end_at_most, Ext, finite, end_of}
-use Rattle.dyadic.specs.Interval.{end_sign, is_above, is_below}
+use Rattle.dyadic.specs.End.{end_sign}
+use Rattle.interval_model.specs.Interval.{is_above, is_below}
 
 abbrev pub LiesOn : Side → End → End → Type 0
 LiesOn Above l h = IsTrue (end_at_most (at zero_fraction) l)

@@ -1,9 +1,10 @@
 // Intervals, and the operations that need no product.
 ghost use Rattle.std.specs.Prelude.{◌≡◌, ◌≢◌, MatchOption, IsTrue, if◌then◌else◌};
 ghost use Rattle.dyadic.specs.Rounding.{Dyadic, finite, exact, down, up, ext_at_most};
-ghost use Rattle.dyadic.specs.Interval.{between, nothing, everything, lesser_ext, greater_ext, interval_sum, interval_negated, met, hull, within, holds_fraction, inverse_sum, is_nothing};
+ghost use Rattle.interval_model.specs.Interval.{between, nothing, everything, interval_sum, interval_negated, met, hull, within, holds_fraction, inverse_sum, is_nothing};
+ghost use Rattle.dyadic.specs.End.{lesser_ext, greater_ext};
 ghost use Rattle.dyadic.specs.Views.{ext_of, dyadic_of, fraction_of_frac};
-ghost use Rattle.ival.specs.Views.{interval_of};
+ghost use Rattle.ival.specs.Views.{interval_of, ends_of, range_of, HasNoRange, span, around};
 ghost use Rattle.ival.specs.Proper.{is_low, is_high};
 
 use crate::domain::Range;
@@ -26,7 +27,7 @@ pub fn greater(a: Ext, b: Ext) -> Ext
 
 // The sum of two intervals that are not empty.
 fn sum_of_ends(a: Ends, b: Ends) -> Ends
-    ensures { between (ext_of result.low) (ext_of result.high) ≡ interval_sum (between (ext_of a.low) (ext_of a.high)) (between (ext_of b.low) (ext_of b.high)) }
+    ensures { ends_of result ≡ interval_sum (ends_of a) (ends_of b) }
 {
     Ends {
         low: add_down(a.low, b.low),
@@ -36,7 +37,7 @@ fn sum_of_ends(a: Ends, b: Ends) -> Ends
 
 // The opposites of an interval that is not empty.
 fn negated_ends(a: Ends) -> Ends
-    ensures { between (ext_of result.low) (ext_of result.high) ≡ interval_negated (between (ext_of a.low) (ext_of a.high)) }
+    ensures { ends_of result ≡ interval_negated (ends_of a) }
 {
     Ends {
         low: a.high.neg(),
@@ -46,7 +47,7 @@ fn negated_ends(a: Ends) -> Ends
 
 // The hull of two intervals that are not empty.
 fn hull_of_ends(a: Ends, b: Ends) -> Ends
-    ensures { between (ext_of result.low) (ext_of result.high) ≡ hull (between (ext_of a.low) (ext_of a.high)) (between (ext_of b.low) (ext_of b.high)) }
+    ensures { ends_of result ≡ hull (ends_of a) (ends_of b) }
 {
     Ends {
         low: lesser(a.low, b.low),
@@ -69,7 +70,7 @@ impl Ival {
     pub fn new(low: Ext, high: Ext) -> Ival
         requires low { IsTrue (is_low (ext_of low)) }
         requires high { IsTrue (is_high (ext_of high)) }
-        ensures { interval_of result ≡ (if ext_at_most (ext_of low) (ext_of high) then between (ext_of low) (ext_of high) else nothing) }
+        ensures { interval_of result ≡ span (ext_of low) (ext_of high) }
     {
         if at_most(low, high) {
             Ival::Between(Ends { low, high })
@@ -80,7 +81,7 @@ impl Ival {
 
     /// The least interval around a fraction.
     pub fn around(fraction: Frac) -> Ival
-        ensures { interval_of result ≡ between (down (fraction_of_frac fraction)) (up (fraction_of_frac fraction)) }
+        ensures { interval_of result ≡ around (fraction_of_frac fraction) }
     {
         Ival::Between(Ends {
             low: down_frac(fraction),
@@ -120,7 +121,7 @@ impl Ival {
 
     /// From a number to a number; none where the interval is empty or unbounded.
     pub fn range(self) -> Option<Range>
-        ensures { MatchOption result ((l h : Dyadic) → interval_of self ≢ between (finite l) (finite h)) (λ r. interval_of self ≡ between (finite (dyadic_of r.low)) (finite (dyadic_of r.high))) }
+        ensures { MatchOption result (HasNoRange (interval_of self)) (λ r. interval_of self ≡ range_of r) }
     {
         let Ival::Between(ends) = self else {
             return None;
@@ -189,7 +190,7 @@ impl Ival {
 pub fn met_ends(a: Ends, low: Ext, high: Ext) -> Ival
     requires low { IsTrue (is_low (ext_of low)) }
     requires high { IsTrue (is_high (ext_of high)) }
-    ensures { interval_of result ≡ met (between (ext_of a.low) (ext_of a.high)) (between (ext_of low) (ext_of high)) }
+    ensures { interval_of result ≡ met (ends_of a) (between (ext_of low) (ext_of high)) }
 {
     let from = greater(a.low, low);
     let to = lesser(a.high, high);

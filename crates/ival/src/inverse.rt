@@ -1,10 +1,11 @@
 // What a product and a square leave to an operand.
 ghost use Rattle.std.specs.Prelude.{◌≡◌, IsTrue, false};
 ghost use Rattle.dyadic.specs.Rounding.{end_of, below_all, above_all};
-ghost use Rattle.dyadic.specs.Interval.{between, end_quotient, of_four, misses_nought, nought_inside, up_from, up_to, inverse_product, inverse_square, rounded_down, rounded_up, end_sign, is_above};
+ghost use Rattle.interval_model.specs.Interval.{between, of_four, misses_nought, nought_inside, up_from, up_to, inverse_product, inverse_square, is_above};
+ghost use Rattle.dyadic.specs.End.{end_quotient, rounded_down, rounded_up, end_sign};
 ghost use Rattle.dyadic.specs.Calls.{IsDivisor};
 ghost use Rattle.dyadic.specs.Views.{ext_of};
-ghost use Rattle.ival.specs.Views.{interval_of};
+ghost use Rattle.ival.specs.Views.{interval_of, ends_of};
 ghost use Rattle.ival.specs.Sides.{LiesOn, MissesOn, IsFinite};
 ghost use Rattle.ival.specs.Corners.{least_quotient, greatest_quotient};
 
@@ -15,14 +16,14 @@ use dyadic::{Ext, Sign, div_down, div_up, sign_of};
 
 // Whether 0 lies outside.
 fn misses_nought(ends: Ends) -> bool
-    ensures { result ≡ misses_nought (between (ext_of ends.low) (ext_of ends.high)) }
+    ensures { result ≡ misses_nought (ends_of ends) }
 {
     is_below(ends.high) || is_above(ends.low)
 }
 
 // The side on which a divisor without 0 lies.
 fn divisor_side(divisor: Ends) -> Side
-    requires { IsTrue (misses_nought (between (ext_of divisor.low) (ext_of divisor.high))) }
+    requires { IsTrue (misses_nought (ends_of divisor)) }
     ensures { MissesOn result (ext_of divisor.low) (ext_of divisor.high) }
 {
     if is_above(divisor.low) {
@@ -54,8 +55,8 @@ fn greatest_quotient(a: Ends, first: Side, divisor: Ends, second: Side) -> Ext
 
 // The quotients by an interval without 0.
 fn quotient_of_ends(a: Ends, divisor: Ends) -> Ends
-    requires { IsTrue (misses_nought (between (ext_of divisor.low) (ext_of divisor.high))) }
-    ensures { between (ext_of result.low) (ext_of result.high) ≡ of_four end_quotient (between (ext_of a.low) (ext_of a.high)) (between (ext_of divisor.low) (ext_of divisor.high)) }
+    requires { IsTrue (misses_nought (ends_of divisor)) }
+    ensures { ends_of result ≡ of_four end_quotient (ends_of a) (ends_of divisor) }
 {
     let first = side_of(a);
     let second = divisor_side(divisor);
@@ -91,8 +92,8 @@ fn to_quotient(end: Ext, divisor: Ext) -> Ival
 
 // What a product without 0 leaves to an operand, where the other one holds 0.
 fn beside_nought(product: Ends, other: Ends) -> Ival
-    requires { IsTrue (misses_nought (between (ext_of product.low) (ext_of product.high))) }
-    ensures { interval_of result ≡ nought_inside (between (ext_of product.low) (ext_of product.high)) (ext_of other.low) (ext_of other.high) }
+    requires { IsTrue (misses_nought (ends_of product)) }
+    ensures { interval_of result ≡ nought_inside (ends_of product) (ext_of other.low) (ext_of other.high) }
 {
     let is_high = is_above(product.low);
     match (sign_of(other.low), sign_of(other.high)) {

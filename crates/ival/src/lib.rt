@@ -15,8 +15,6 @@ mod rows;
 mod side;
 mod side_length;
 mod space;
-#[cfg(test)]
-mod tests;
 mod wide;
 mod wide_parts;
 mod word;

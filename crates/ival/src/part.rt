@@ -1,6 +1,6 @@
 // Parts of a domain, its middle, and whether it lies within another.
 ghost use Rattle.std.specs.Prelude.{◌≡◌, ◌↔◌, IsTrue};
-ghost use Rattle.dyadic.specs.Space.{real_domain, domain_interval, lower_part, upper_part, keep, allows, holds_number, middle_domain, domain_within};
+ghost use Rattle.interval_model.specs.Space.{real_domain, domain_interval, lower_part, upper_part, keep, allows, holds_number, middle_domain, domain_within};
 ghost use Rattle.dyadic.specs.Rounding.{mid};
 ghost use Rattle.dyadic.specs.Views.{dyadic_of};
 ghost use Rattle.ival.specs.Views.{interval_of};
@@ -25,7 +25,7 @@ pub fn domain_interval(domain: Domain) -> Ival
 
 /// Whether this range is what is left to an axis.
 pub fn is_range(domain: Domain, range: Range) -> bool
-    ensures { IsTrue result ↔ (domain_of domain ≡ real_domain (dyadic_of range.low) (dyadic_of range.high)) }
+    ensures { IsTrue result ↔ (domain_of domain ≡ domain_of (Domain.Real range)) }
 {
     match domain {
         Domain::Real(own) => own.low == range.low && own.high == range.high,

@@ -1,9 +1,10 @@
 // Products and squares, by the sides of 0 on which the factors lie.
 ghost use Rattle.std.specs.Prelude.{◌≡◌, IsTrue};
 ghost use Rattle.dyadic.specs.Rounding.{end_of};
-ghost use Rattle.dyadic.specs.Interval.{between, interval_product, interval_square, rounded_down, rounded_up};
+ghost use Rattle.interval_model.specs.Interval.{between, interval_product, interval_square};
+ghost use Rattle.dyadic.specs.End.{rounded_down, rounded_up};
 ghost use Rattle.dyadic.specs.Views.{ext_of};
-ghost use Rattle.ival.specs.Views.{interval_of};
+ghost use Rattle.ival.specs.Views.{interval_of, ends_of};
 ghost use Rattle.ival.specs.Sides.{LiesOn, first_of_least, second_of_least, first_of_greatest, second_of_greatest};
 ghost use Rattle.ival.specs.Corners.{least_product, greatest_product, square_from, square_to};
 
@@ -18,22 +19,22 @@ pub fn least_factors(
     second: Side,
     low: Ext,
     high: Ext,
-    other_low: Ext,
-    other_high: Ext,
+    from: Ext,
+    to: Ext,
 ) -> (Ext, Ext)
     ensures first { ext_of result.0 ≡ first_of_least first second (ext_of low) (ext_of high) }
-    ensures second { ext_of result.1 ≡ second_of_least first second (ext_of other_low) (ext_of other_high) }
+    ensures second { ext_of result.1 ≡ second_of_least first second (ext_of from) (ext_of to) }
 {
     match (first, second) {
-        (Side::Above, Side::Above) => (low, other_low),
-        (Side::Above, Side::Below) => (high, other_low),
-        (Side::Above, Side::Across) => (high, other_low),
-        (Side::Below, Side::Above) => (low, other_high),
-        (Side::Below, Side::Below) => (high, other_high),
-        (Side::Below, Side::Across) => (low, other_high),
-        (Side::Across, Side::Above) => (low, other_high),
-        (Side::Across, Side::Below) => (high, other_low),
-        (Side::Across, Side::Across) => (low, other_high),
+        (Side::Above, Side::Above) => (low, from),
+        (Side::Above, Side::Below) => (high, from),
+        (Side::Above, Side::Across) => (high, from),
+        (Side::Below, Side::Above) => (low, to),
+        (Side::Below, Side::Below) => (high, to),
+        (Side::Below, Side::Across) => (low, to),
+        (Side::Across, Side::Above) => (low, to),
+        (Side::Across, Side::Below) => (high, from),
+        (Side::Across, Side::Across) => (low, to),
     }
 }
 
@@ -43,22 +44,22 @@ pub fn greatest_factors(
     second: Side,
     low: Ext,
     high: Ext,
-    other_low: Ext,
-    other_high: Ext,
+    from: Ext,
+    to: Ext,
 ) -> (Ext, Ext)
     ensures first { ext_of result.0 ≡ first_of_greatest first second (ext_of low) (ext_of high) }
-    ensures second { ext_of result.1 ≡ second_of_greatest first second (ext_of other_low) (ext_of other_high) }
+    ensures second { ext_of result.1 ≡ second_of_greatest first second (ext_of from) (ext_of to) }
 {
     match (first, second) {
-        (Side::Above, Side::Above) => (high, other_high),
-        (Side::Above, Side::Below) => (low, other_high),
-        (Side::Above, Side::Across) => (high, other_high),
-        (Side::Below, Side::Above) => (high, other_low),
-        (Side::Below, Side::Below) => (low, other_low),
-        (Side::Below, Side::Across) => (low, other_low),
-        (Side::Across, Side::Above) => (high, other_high),
-        (Side::Across, Side::Below) => (low, other_low),
-        (Side::Across, Side::Across) => (low, other_low),
+        (Side::Above, Side::Above) => (high, to),
+        (Side::Above, Side::Below) => (low, to),
+        (Side::Above, Side::Across) => (high, to),
+        (Side::Below, Side::Above) => (high, from),
+        (Side::Below, Side::Below) => (low, from),
+        (Side::Below, Side::Across) => (low, from),
+        (Side::Across, Side::Above) => (high, to),
+        (Side::Across, Side::Below) => (low, from),
+        (Side::Across, Side::Across) => (low, from),
     }
 }
 
@@ -94,7 +95,7 @@ fn greatest(a: Ends, first: Side, b: Ends, second: Side) -> Ext
 
 // The products of two intervals that are not empty.
 fn product_of_ends(a: Ends, b: Ends) -> Ends
-    ensures { between (ext_of result.low) (ext_of result.high) ≡ interval_product (between (ext_of a.low) (ext_of a.high)) (between (ext_of b.low) (ext_of b.high)) }
+    ensures { ends_of result ≡ interval_product (ends_of a) (ends_of b) }
 {
     let first = side_of(a);
     let second = side_of(b);
@@ -130,7 +131,7 @@ fn greatest_square(a: Ends, side: Side) -> Ext
 
 // The squares of an interval that is not empty.
 fn square_of_ends(a: Ends) -> Ends
-    ensures { between (ext_of result.low) (ext_of result.high) ≡ interval_square (between (ext_of a.low) (ext_of a.high)) }
+    ensures { ends_of result ≡ interval_square (ends_of a) }
 {
     let side = side_of(a);
     Ends {

@@ -1,7 +1,7 @@
 // What a square leaves to its operand.
 ghost use Rattle.std.specs.Prelude.{◌≡◌, IsTrue, pos, ◌≤ℤ◌};
 ghost use Rattle.dyadic.specs.Rounding.{below_all, above_all, not_negative, root_down, root_up};
-ghost use Rattle.dyadic.specs.Interval.{inverse_square, root_end};
+ghost use Rattle.interval_model.specs.Interval.{inverse_square, root_end};
 ghost use Rattle.dyadic.specs.Views.{ext_of, units_of};
 ghost use Rattle.ival.specs.Proper.{is_low, is_high};
 ghost use Rattle.ival.specs.Views.{interval_of};

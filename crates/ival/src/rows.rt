@@ -1,8 +1,8 @@
 // Rows of intervals, with a mark beside each.
 ghost use Rattle.std.specs.Prelude.{◌≡◌, ℕ, ◌+◌, ◌*◌, ◌/◌, ◌<◌, ◌≤◌, length, IfOk, MatchOption, false, true, replicate, slice_set, slice_index_or};
-ghost use Rattle.dyadic.specs.Interval.{nothing};
+ghost use Rattle.interval_model.specs.Interval.{nothing};
 ghost use Rattle.ival.specs.Views.{interval_of};
-ghost use Rattle.ival.specs.RowViews.{rows_of, marks_of, is_marked, NoneBelow, NoneAbove, IsNextBelow, IsNextAbove};
+ghost use Rattle.ival.specs.RowViews.{rows_of, marks_of, is_marked, IsLastBelow, IsFirstAbove};
 
 use crate::ends::Ival;
 use crate::row_parts::Rows;
@@ -85,7 +85,7 @@ impl Rows {
     /// The greatest marked place below this one, if there is one.
     pub fn next_marked_below(&self, place: usize) -> Option<usize>
         requires { place ≤ length (rows_of self.now) }
-        ensures { MatchOption result (NoneBelow (marks_of self.now) place) (IsNextBelow (marks_of self.now) place) }
+        ensures { IsLastBelow (marks_of self.now) place result }
     {
         let last = place / 64;
         let word = bits_below(self.words[last], (place % 64) as u32);
@@ -104,7 +104,7 @@ impl Rows {
     /// The least marked place above this one, if there is one.
     pub fn next_marked_above(&self, place: usize) -> Option<usize>
         requires { place < length (rows_of self.now) }
-        ensures { MatchOption result (NoneAbove (marks_of self.now) place) (IsNextAbove (marks_of self.now) place) }
+        ensures { IsFirstAbove (marks_of self.now) place result }
     {
         let next = place + 1;
         let first = next / 64;

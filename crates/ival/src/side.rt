@@ -1,7 +1,8 @@
 // On which side of 0 an interval lies.
 ghost use Rattle.std.specs.Prelude.{◌≡◌};
 ghost use Rattle.dyadic.specs.Rounding.{end_of};
-ghost use Rattle.dyadic.specs.Interval.{end_sign, is_below, is_above};
+ghost use Rattle.dyadic.specs.End.{end_sign};
+ghost use Rattle.interval_model.specs.Interval.{is_below, is_above};
 ghost use Rattle.dyadic.specs.Views.{ext_of};
 ghost use Rattle.ival.specs.Sides.{LiesOn};
 

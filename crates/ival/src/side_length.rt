@@ -2,7 +2,7 @@
 ghost use Rattle.std.specs.Prelude.{◌≡◌, ℕ, ◌-◌, ◌≤◌, pos, neg_ℤ, ◌+ℤ◌, None, Some};
 ghost use Rattle.dyadic.specs.Fraction.{difference_of};
 ghost use Rattle.dyadic.specs.Rounding.{exact};
-ghost use Rattle.dyadic.specs.Space.{can_be_halved, real_domain, side, better};
+ghost use Rattle.interval_model.specs.Space.{can_be_halved, real_domain, side, better};
 ghost use Rattle.dyadic.specs.Views.{units_of, dyadic_of};
 ghost use Rattle.ival.specs.SpaceViews.{domain_of};
 ghost use Rattle.ival.specs.WideViews.{wide_value, side_of_units};

@@ -16,9 +16,9 @@ pub struct Space {
 
 impl Space {
     ghost use Rattle.std.specs.Prelude.{◌≡◌, ◌≢◌, ℕ, true, false, ◌<◌, ◌≤◌, [], ◌∷◌, ◌++◌, length, map, IfOk, IsTrue, slice_set, slice_index_or};
-    ghost use Rattle.dyadic.specs.Space.{axis_interval, changed, test_axis, lower_part, upper_part, keep, allows, holds_number, middle, space_within, widest};
+    ghost use Rattle.interval_model.specs.Space.{axis_interval, changed, test_axis, lower_part, upper_part, keep, allows, holds_number, middle, space_within, widest};
     ghost use Rattle.dyadic.specs.Views.{dyadic_of};
-    ghost use Rattle.ival.specs.SpaceViews.{domain_of, space_of, capacity_of};
+    ghost use Rattle.ival.specs.SpaceViews.{domain_of, space_of, capacity_of, with_range};
     ghost use Rattle.ival.specs.Views.{interval_of};
     ghost use Rattle.ival.specs.BestViews.{axis_of};
 
@@ -82,7 +82,7 @@ impl Space {
     /// Leaves this range to the axis, and tells whether that is a change.
     pub fn set_real(&mut self, axis: usize, range: Range) -> bool
         requires { axis < length (space_of self.old) }
-        ensures axes { space_of self.new ≡ slice_set (space_of self.old) axis (domain_of (Domain.Real range)) }
+        ensures axes { space_of self.new ≡ with_range axis range (space_of self.old) }
         ensures same { result ≡ false → space_of self.new ≡ space_of self.old }
         ensures changed { result ≡ true → space_of self.new ≢ space_of self.old }
         ensures room { capacity_of self.new ≡ capacity_of self.old }

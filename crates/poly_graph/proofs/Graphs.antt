@@ -94,3 +94,11 @@ length_terms_after (n ∷ nodes) done = length_terms_after nodes (done ++ (node_
 
 pub length_terms : (nodes : List Node) → length (graph_terms nodes) ≡ length nodes
 length_terms nodes = length_terms_after nodes [] ∙ omega arith
+
+-- the node that stands i places on
+pub in_order_at : (k : ℕ) (nodes : List Node) → IsTrue (in_order k nodes) → (i : ℕ) (p : Node) → slice_get nodes i ≡ Some p → IsTrue (comes_after (k + i) p) × (i < length nodes)
+in_order_at k [] o i p e = cc
+in_order_at k (n ∷ nodes) o zero p e = let start : k ≡ k + 0 = omega arith in
+    (subst (λ (j : ℕ). IsTrue (comes_after j p)) start (subst (λ (m : Node). IsTrue (comes_after k m)) (some_is n p e) (both_true (comes_after k n) (in_order (suc k) nodes) o).0), omega arith)
+in_order_at k (n ∷ nodes) o (suc i) p e = let h = in_order_at (suc k) nodes (both_true (comes_after k n) (in_order (suc k) nodes) o).1 i p e in let place : suc k + i ≡ k + suc i = omega arith in
+    (subst (λ (j : ℕ). IsTrue (comes_after j p)) place h.0, let l = h.1 in omega arith)

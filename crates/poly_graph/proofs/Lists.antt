@@ -2,7 +2,7 @@
 use Rattle.std.proofs.Common.{◌≡◌, ℕ, suc, zero, ◌<◌, ◌≤◌, List, [], ◌∷◌, length, Bool, true, false, cond, ◌||◌, refl, ap, ap₂, ◌∙◌, arith, nat_eq, eqb→eq}
 use Rattle.std.proofs.lemmas.Bool.{eq-eqb}
 use Rattle.std.specs.Bool.{passes}
-use Rattle.poly_graph.specs.State.{Mark, marked_yes, marked_no, unmarked, is_yes, is_no, member, marks_from, marks_of, numbers_from, yes_of, no_of}
+use Rattle.poly_graph.specs.Marks.{Mark, marked_yes, marked_no, unmarked, is_yes, is_no, member, marks_from, marks_of, numbers_from, yes_of, no_of}
 
 -- numbers that differ are not equal
 after : (j k : ℕ) → j < k → (b : Bool) → nat_eq j k ≡ b → nat_eq j k ≡ false

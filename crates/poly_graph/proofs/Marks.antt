@@ -2,7 +2,7 @@
 use Rattle.std.proofs.Common.{◌≡◌, map, replicate, take, ◌++◌, ◌-◌, ap₂, arith, ◌∙◌, ◌⊎◌, inl, inr, ℕ, suc, zero, List, [], ◌∷◌, IsTrue, refl, ap, sym, true≢false}
 use Rattle.std.specs.Prelude.{slice_set}
 use Rattle.dyadic.proofs.Equal.{both_true, both_pass}
-use Rattle.poly_graph.specs.State.{Mark, marked_yes, marked_no, unmarked, is_yes, is_no, is_unmarked, mark_at, undecided_in, mark_within, marks_within}
+use Rattle.poly_graph.specs.Marks.{Mark, marked_yes, marked_no, unmarked, is_yes, is_no, is_unmarked, mark_at, undecided_in, mark_within, marks_within}
 
 -- after a mark is set, an atom has it, or its former mark
 pub set_or_same : (marks : List Mark) (j : ℕ) (m : Mark) (k : ℕ) → ((j ≡ k) × (mark_at (slice_set marks j m) k ≡ m)) ⊎ (mark_at (slice_set marks j m) k ≡ mark_at marks k)

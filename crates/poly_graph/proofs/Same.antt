@@ -5,8 +5,7 @@ use Rattle.std.specs.Bool.{passes}
 use Rattle.dyadic.proofs.Equal.{both_true}
 use Rattle.poly_graph.specs.Term.{Term, Node, constant_node, variable_node, negate_node, add_node, multiply_node, square_node, node_term, graph_terms, comes_after}
 use Rattle.poly_graph.specs.Shared.{IsGraph, HaveSameTerm}
-use Rattle.poly_graph.proofs.Graphs.{term_at, unfolds}
-use Rattle.poly_graph.proofs.Narrows.{in_order_at}
+use Rattle.poly_graph.proofs.Graphs.{term_at, unfolds, in_order_at}
 
 -- two nodes of equal terms are equal where their children are
 same-by-children : (ts : List Term) (j k : ℕ) (m n : Node) → IsTrue (comes_after j m) → IsTrue (comes_after k n) → ((x y : ℕ) → x < j → y < k → term_at ts x ≡ term_at ts y → x ≡ y) →

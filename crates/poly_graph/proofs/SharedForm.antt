@@ -1,7 +1,7 @@
 -- A shared form stays one where a new node is added.
 use Rattle.std.proofs.Common.{◌≡◌, inr, ℕ, suc, ◌+◌, ◌<◌, ◌≤◌, List, [], ◌∷◌, ◌++◌, map, length, Bool, true, false, IsTrue, Some, None, refl, ap, ap₂, sym, ◌∙◌, subst, arith, nat_eq, eqb→eq}
 use Rattle.std.proofs.lemmas.Bool.{eq-eqb}
-use Rattle.std.specs.Bool.{passes}
+use Rattle.std.specs.Bool.{passes, Decides}
 use Rattle.dyadic.proofs.Equal.{both_true, both_pass}
 use Rattle.poly_graph.specs.declared.form_node.FormNode.{FormNode}
 use Rattle.poly_graph.specs.declared.form_node.FormNode.TheVariants.{True, False, AtomIs, BoolIs, And, Or}
@@ -12,7 +12,6 @@ use Rattle.poly_graph.proofs.Tables.{IsTable, once, absent_new, table_add, at_en
 use Rattle.std.proofs.Math.Bool.{beq}
 use Rattle.std.proofs.lemmas.List.{length-map}
 use Rattle.std.proofs.lemmas.Slice.Eq.{slice_eq-Decides}
-use Rattle.std.specs.Bool.{Decides}
 use Rattle.std.specs.Cmp.Lexicographic.{pointwise}
 use Rattle.std.specs.Prelude.{slice_get, Result, Ok, Err, OnOk, is_err}
 use Rattle.std.specs.HashMap.{HashMap, get, Updates}

@@ -4,13 +4,11 @@ use Rattle.std.specs.Prelude.{slice_get}
 use Rattle.std.proofs.lemmas.List.{get_or-set_same, get_or-set_other, get_or-map, length-set, length-map}
 use Rattle.std.proofs.lemmas.Bool.{eq-eqb}
 use Rattle.std.specs.Bool.{passes}
-use Rattle.poly_graph.specs.Term.{Node, comes_after, in_order}
-use Rattle.poly_graph.specs.Narrowed.{has_child}
+use Rattle.poly_graph.specs.Term.{Node, comes_after, in_order, has_child}
 use Rattle.poly_graph.specs.Parents.{parents_from, row_at, with_one, AreParents, IsPushed, IsNoted}
 use Rattle.poly_graph.proofs.Marks.{map_set}
 use Rattle.poly_graph.proofs.Tables.{map_end}
-use Rattle.poly_graph.proofs.Graphs.{some_is}
-use Rattle.poly_graph.proofs.Narrows.{in_order_at}
+use Rattle.poly_graph.proofs.Graphs.{some_is, in_order_at}
 
 -- ---- one row is longer
 

@@ -1,7 +1,6 @@
 -- The parents of a graph's nodes.
 use Rattle.std.specs.Prelude.{◌≡◌, ℕ, suc, List, [], ◌∷◌, ◌++◌, length, Bool, cond, slice_index_or, nat_eq}
-use Rattle.poly_graph.specs.Term.{Node}
-use Rattle.poly_graph.specs.Narrowed.{has_child}
+use Rattle.poly_graph.specs.Term.{Node, has_child}
 
 -- of nodes from number k on, the numbers of those that have s as a child
 abbrev pub parents_from : ℕ → ℕ → List Node → List ℕ

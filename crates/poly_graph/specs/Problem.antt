@@ -6,7 +6,6 @@ use Rattle.dyadic.specs.Point.{Sort, real_sort, bool_sort, Coordinate, at_fracti
 use Rattle.dyadic.specs.Rounding.{Dyadic, exact, IsOnGrid, Ext, finite, down, up}
 use Rattle.poly_graph.specs.Term.{Term, constant, variable, negate, add, multiply, square, Node, constant_node, variable_node, graph_terms, in_order, Kind, le, Atom}
 use Rattle.poly_graph.specs.Form.{Form, Forms, yes_form, no_form, atom_is, bool_is, all_form, any_form, no_forms, more_forms}
-use Rattle.poly_graph.specs.Space.{Domain, real_domain, bool_domain, Space}
 
 -- what is declared of an axis: a Real one with its lower and its upper bound, or a Bool one
 pub data Declared : Type 0 where
@@ -80,21 +79,7 @@ in_declared_axes _ _ = false
 abbrev pub in_declared_box : Problem → List Coordinate → Bool
 in_declared_box p point = in_declared_axes p.axes point
 
--- ---- the root space: lower bounds rounded down, upper bounds rounded up, and no Bool decided
-
-abbrev pub finite_or_nought : Ext → Dyadic
-finite_or_nought (finite d) = d
-finite_or_nought e = record { units = pos 0 }
-
-abbrev pub root_domain : Declared → Domain
-root_domain (real_between l h) = real_domain (finite_or_nought (down l)) (finite_or_nought (up h))
-root_domain any_bool = bool_domain true true
-
-abbrev pub root_of_axes : List Axis → Space
-root_of_axes axes = map (λ a. root_domain a.declared) axes
-
-abbrev pub root_space : Problem → Space
-root_space p = root_of_axes p.axes
+-- ---- bounds that cross
 
 -- the declared lower bound is above the upper one
 abbrev pub is_crossed : Declared → Bool

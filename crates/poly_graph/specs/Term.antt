@@ -1,5 +1,5 @@
 -- Polynomial terms, their shared graph, and atoms.
-use Rattle.std.specs.Prelude.{ℕ, zero, suc, List, [], ◌∷◌, ◌++◌, Bool, true, ◌&&◌, slice_index_or, nat_lt}
+use Rattle.std.specs.Prelude.{ℕ, zero, suc, List, [], ◌∷◌, ◌++◌, Bool, true, false, ◌&&◌, ◌||◌, slice_index_or, nat_eq, nat_lt}
 use Rattle.dyadic.specs.Fraction.{Fraction, zero_fraction, negated, sum_of, product_of, at_most}
 use Rattle.dyadic.specs.Point.{Coordinate, at_fraction, at_bool}
 
@@ -42,6 +42,14 @@ comes_after n (add_node a b) = nat_lt a n && nat_lt b n
 comes_after n (multiply_node a b) = nat_lt a n && nat_lt b n
 comes_after n (square_node a) = nat_lt a n
 comes_after n node = true
+
+-- whether s is a child of the node
+abbrev pub has_child : ℕ → Node → Bool
+has_child s (negate_node a) = nat_eq a s
+has_child s (add_node a b) = nat_eq a s || nat_eq b s
+has_child s (multiply_node a b) = nat_eq a s || nat_eq b s
+has_child s (square_node a) = nat_eq a s
+has_child s p = false
 
 -- of nodes from number n on, each comes after its children
 abbrev pub in_order : ℕ → List Node → Bool

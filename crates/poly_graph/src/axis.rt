@@ -1,5 +1,10 @@
 // Declared constants.
-use dyadic::Frac;
+ghost use Rattle.std.specs.Prelude.{◌≡◌};
+ghost use Rattle.poly_graph.specs.Problem.{is_crossed};
+ghost use Rattle.poly_graph.specs.ProblemViews.{declared_of};
+
+use dyadic::{Frac, cmp_frac};
+use std::cmp::Ordering;
 
 /// What is declared of an axis.
 #[derive(Clone, Copy, Debug, PartialEq, Eq)]
@@ -7,6 +12,22 @@ pub enum Declared {
     /// A Real axis, with its lower and its upper bound.
     Real(Frac, Frac),
     Bool,
+}
+
+impl Declared {
+    /// Whether the declared lower bound is above the upper one.
+    pub fn is_crossed(self) -> bool
+        ensures { result ≡ is_crossed (declared_of self) }
+    {
+        match self {
+            Declared::Real(low, high) => match cmp_frac(low, high) {
+                Ordering::Greater => true,
+                Ordering::Less => false,
+                Ordering::Equal => false,
+            },
+            Declared::Bool => false,
+        }
+    }
 }
 
 /// A declared constant: its name's bytes, and its sort with bounds.

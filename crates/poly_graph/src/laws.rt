@@ -1,6 +1,6 @@
 //! What is proved of the definitions: each function here does nothing, and its contract is a law.
 
-ghost use Rattle.poly_graph.specs.Laws.{NodeIsItsKind, EqualNodesAgree, EnclosureHolds, EnclosureIsIsotone, NarrowingKeeps, NarrowingLiesWithin, MayIsTrue, SureMeans, ShownPointMeets, RuleKeeps, TreeKeeps, ClosedTreeHasNone, RuleLiesWithin, TreeLiesWithin, CoveredPoints, RootHasDeclaredBox, CrossedBoxIsEmpty, MarksOfLists, MiddleLiesWithin, RootIsUpright, SomeAtomIsStuck, FormNodeIsItsKind};
+ghost use Rattle.poly_graph.specs.Laws.{NodeIsItsKind, EqualNodesAgree, MarksOfLists, FormNodeIsItsKind};
 
 /// In a graph whose children come first, a node's term is that of its kind over its children's terms.
 pub fn node_is_its_kind()
@@ -12,99 +12,9 @@ pub fn equal_nodes_agree()
     ensures { EqualNodesAgree }
 {}
 
-/// The enclosure of a term over a space holds the term's value at each point of the space.
-pub fn enclosures_hold()
-    ensures { EnclosureHolds }
-{}
-
-/// Over a space within another, a term's enclosure lies within the other's.
-pub fn enclosures_are_isotone()
-    ensures { EnclosureIsIsotone }
-{}
-
-/// Narrowing drops no point of the space at which the atom holds, and is not empty where there is one.
-pub fn narrowing_keeps()
-    ensures { NarrowingKeeps }
-{}
-
-/// The narrowed space lies within the space.
-pub fn narrowing_lies_within()
-    ensures { NarrowingLiesWithin }
-{}
-
-/// `may` is true at each state that has a point that meets the form.
-pub fn may_is_true()
-    ensures { MayIsTrue }
-{}
-
-/// Where `sure` holds over a space, each of its points meets the form at that loosening.
-pub fn sure_holds()
-    ensures { SureMeans }
-{}
-
-/// A point that is shown meets the form at delta.
-pub fn shown_points_meet()
-    ensures { ShownPointMeets }
-{}
-
-/// A point of a state that meets the form is a point of some state that a rule leaves.
-pub fn rules_keep()
-    ensures { RuleKeeps }
-{}
-
-/// It is a point of some state that stays of a lawful tree.
-pub fn trees_keep()
-    ensures { TreeKeeps }
-{}
-
-/// Where no state stays of a lawful tree, its state has no point that meets the form.
-pub fn closed_trees_have_none()
-    ensures { ClosedTreeHasNone }
-{}
-
-/// What a rule leaves lies within its state.
-pub fn rules_lie_within()
-    ensures { RuleLiesWithin }
-{}
-
-/// What stays of a lawful tree lies within its state.
-pub fn trees_lie_within()
-    ensures { TreeLiesWithin }
-{}
-
-/// A point of a state is one of each state that covers it.
-pub fn covered_points()
-    ensures { CoveredPoints }
-{}
-
-/// Each point of the declared box is one of the root state.
-pub fn root_has_declared_box()
-    ensures { RootHasDeclaredBox }
-{}
-
-/// Where the bounds of an axis cross, the declared box has no point.
-pub fn crossed_box_is_empty()
-    ensures { CrossedBoxIsEmpty }
-{}
-
 /// Marks are those of the two lists that are read off them.
 pub fn marks_of_lists()
     ensures { MarksOfLists }
-{}
-
-/// The middle of a space lies within the space, and has its ends in order and on the grid.
-pub fn middle_lies_within()
-    ensures { MiddleLiesWithin }
-{}
-
-/// The root space of a problem whose bounds do not cross has its ends in order and on the grid.
-pub fn root_is_upright()
-    ensures { RootIsUpright }
-{}
-
-/// Where no axis is left to halve and the form is not shown at the middle, there is a first atom that is stuck.
-pub fn some_atom_is_stuck()
-    ensures { SomeAtomIsStuck }
 {}
 
 /// In a shared form whose children come first, a node's form is that of its kind over its children's forms.

@@ -1,9 +1,8 @@
-//! Polynomial terms, their shared graph, atoms and forms; states of a cover and the rules between them.
+//! Polynomial terms, their shared graph, atoms, forms and problems; marks of atoms.
 #![tactic(auto)]
 
 mod atom_table;
 mod axis;
-mod ends;
 mod form_graph;
 mod form_node;
 mod graph;
@@ -28,6 +27,3 @@ pub use order::{is_after, is_form_after, is_parent};
 pub use parents::Parents;
 pub use problem::Problem;
 pub use refused::{Limit, NoNode};
-
-#[cfg(test)]
-mod tests;

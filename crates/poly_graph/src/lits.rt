@@ -1,6 +1,6 @@
 // What is said of each atom: it holds, it does not, or neither.
 ghost use Rattle.std.specs.Prelude.{◌≡◌, ℕ, ◌<◌, ◌^◌, length, map, replicate, IfOk, IsTrue, slice_set, ◌↔◌};
-ghost use Rattle.poly_graph.specs.State.{unmarked, mark_at};
+ghost use Rattle.poly_graph.specs.Marks.{unmarked, mark_at};
 ghost use Rattle.poly_graph.specs.MarkViews.{mark_of};
 
 use crate::mark::Mark;
@@ -15,10 +15,10 @@ pub struct Lits {
 
 impl Model for Lits {
     ghost use Rattle.std.specs.Prelude.{List, map};
-    ghost use Rattle.poly_graph.specs.State as state;
+    ghost use Rattle.poly_graph.specs.Marks as mark;
     ghost use Rattle.poly_graph.specs.MarkViews.{mark_of};
 
-    ghost Value = { List state.Mark };
+    ghost Value = { List mark.Mark };
 
     ghost view = { λ l. map mark_of l.marks.items };
 }

@@ -1,8 +1,7 @@
 // The order of a graph's nodes.
 ghost use Rattle.std.specs.Prelude.{◌≡◌, nat_lt};
 ghost use Rattle.std.specs.List.{list_all};
-ghost use Rattle.poly_graph.specs.Term.{comes_after};
-ghost use Rattle.poly_graph.specs.Narrowed.{has_child};
+ghost use Rattle.poly_graph.specs.Term.{comes_after, has_child};
 ghost use Rattle.poly_graph.specs.Views.{node_of};
 ghost use Rattle.poly_graph.specs.FormGraph.{form_comes_after};
 ghost use Rattle.poly_graph.specs.FormViews.{form_node_of};

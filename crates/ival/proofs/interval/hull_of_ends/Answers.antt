@@ -1,5 +1,6 @@
 use Rattle.std.proofs.Common.{ap₂}
-use Rattle.dyadic.specs.Interval.{between, lesser_ext, greater_ext}
+use Rattle.interval_model.specs.Interval.{between}
+use Rattle.dyadic.specs.End.{lesser_ext, greater_ext}
 use Rattle.dyadic.specs.Views.{ext_of}
 use Rattle.ival.proofs.Proper.{proper_of, ends_from, hull_proper}
 use Rattle.ival.proofs.interval.hull_of_ends.Goals as goal

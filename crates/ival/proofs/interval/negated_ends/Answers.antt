@@ -1,7 +1,8 @@
 use Rattle.std.proofs.Common.{ap₂}
-use Rattle.dyadic.specs.Interval.{between, negated_ext}
+use Rattle.interval_model.specs.Interval.{between}
+use Rattle.dyadic.specs.End.{negated_ext}
 use Rattle.dyadic.specs.Views.{ext_of}
-use Rattle.dyadic.proofs.Isotone.{negated_proper}
+use Rattle.interval_model.proofs.Isotone.{negated_proper}
 use Rattle.ival.proofs.Proper.{proper_of, ends_from}
 use Rattle.ival.proofs.interval.negated_ends.Goals as goal
 

@@ -1,6 +1,6 @@
 use Rattle.std.proofs.Common.{◌∙◌, ap₂, subst, sym}
 use Rattle.dyadic.specs.Rounding.{Ext, end_of}
-use Rattle.dyadic.specs.Interval.{end_quotient, rounded_down}
+use Rattle.dyadic.specs.End.{end_quotient, rounded_down}
 use Rattle.dyadic.specs.Calls.{IsDivisor}
 use Rattle.dyadic.specs.Views.{ext_of}
 use Rattle.ival.proofs.Proper.{ordered}

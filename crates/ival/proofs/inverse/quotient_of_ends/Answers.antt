@@ -1,5 +1,6 @@
 use Rattle.std.proofs.Common.{ap₂}
-use Rattle.dyadic.specs.Interval.{between, end_quotient, of_four}
+use Rattle.interval_model.specs.Interval.{between, of_four}
+use Rattle.dyadic.specs.End.{end_quotient}
 use Rattle.dyadic.specs.Views.{ext_of}
 use Rattle.ival.proofs.Proper.{proper_of, ends_from}
 use Rattle.ival.proofs.Quotients.{quotients_proper}

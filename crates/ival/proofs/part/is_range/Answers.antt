@@ -1,5 +1,5 @@
 use Rattle.std.proofs.Common.{◌∙◌, ap, ap₂, sym, true≢false}
-use Rattle.dyadic.specs.Space.{real_domain}
+use Rattle.interval_model.specs.Space.{real_domain}
 use Rattle.dyadic.specs.Views.{dyadic_of}
 use Rattle.ival.specs.SpaceViews.{domain_of}
 use Rattle.ival.proofs.Equality.{same_number, spelled_so, same_ends}

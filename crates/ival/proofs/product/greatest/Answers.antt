@@ -1,6 +1,6 @@
 use Rattle.std.proofs.Common.{◌∙◌, ap₂}
 use Rattle.dyadic.specs.Rounding.{Ext, end_of}
-use Rattle.dyadic.specs.Interval.{end_product, rounded_up, greater_ext}
+use Rattle.dyadic.specs.End.{end_product, rounded_up, greater_ext}
 use Rattle.dyadic.specs.Views.{ext_of}
 use Rattle.ival.proofs.Proper.{ordered}
 use Rattle.ival.proofs.Products.{single_first, single_second, greatest_single, greatest_double}

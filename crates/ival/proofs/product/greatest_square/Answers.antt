@@ -1,5 +1,5 @@
 use Rattle.std.proofs.Common.{◌∙◌, ap₂}
-use Rattle.dyadic.specs.Interval.{greater_ext}
+use Rattle.dyadic.specs.End.{greater_ext}
 use Rattle.dyadic.specs.Views.{ext_of}
 use Rattle.ival.proofs.Proper.{ordered}
 use Rattle.ival.proofs.Products.{square_high_above, square_high_below, square_high_across}

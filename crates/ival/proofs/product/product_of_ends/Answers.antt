@@ -1,7 +1,7 @@
 use Rattle.std.proofs.Common.{ap₂}
-use Rattle.dyadic.specs.Interval.{between, interval_product}
+use Rattle.interval_model.specs.Interval.{between, interval_product}
 use Rattle.dyadic.specs.Views.{ext_of}
-use Rattle.dyadic.proofs.Isotone.{product_proper}
+use Rattle.interval_model.proofs.Isotone.{product_proper}
 use Rattle.ival.proofs.Proper.{proper_of, ends_from}
 use Rattle.ival.proofs.product.product_of_ends.Goals as goal
 

@@ -1,7 +1,7 @@
 use Rattle.std.proofs.Common.{ap₂}
-use Rattle.dyadic.specs.Interval.{between, interval_square}
+use Rattle.interval_model.specs.Interval.{between, interval_square}
 use Rattle.dyadic.specs.Views.{ext_of}
-use Rattle.dyadic.proofs.Isotone.{square_proper}
+use Rattle.interval_model.proofs.Isotone.{square_proper}
 use Rattle.ival.proofs.Proper.{proper_of, ends_from}
 use Rattle.ival.proofs.product.square_of_ends.Goals as goal
 

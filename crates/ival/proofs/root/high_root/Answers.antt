@@ -1,7 +1,7 @@
 use Rattle.std.proofs.Common.{◌≡◌, ◌∙◌, subst, sym}
 use Rattle.dyadic.specs.declared.dy.Ext.{Ext}
 use Rattle.dyadic.specs.Rounding.{above_all, root_up}
-use Rattle.dyadic.specs.Interval.{root_end}
+use Rattle.interval_model.specs.Interval.{root_end}
 use Rattle.dyadic.specs.Views.{ext_of, units_of}
 use Rattle.ival.proofs.RootsOf.{up_same}
 use Rattle.ival.proofs.root.high_root.Goals as goal

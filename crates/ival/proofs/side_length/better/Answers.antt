@@ -1,7 +1,7 @@
 use Rattle.std.proofs.Common.{◌≡◌, Some, sym, subst, ◌∙◌, true≢false}
 use Rattle.std.specs.Prelude.{Option}
 use Rattle.ival.specs.declared.best.Best.{Best}
-use Rattle.dyadic.specs.Space.{better}
+use Rattle.interval_model.specs.Space.{better}
 use Rattle.ival.specs.WideViews.{wide_value, side_of_units}
 use Rattle.ival.specs.BestViews.{best_of}
 use Rattle.ival.proofs.Wides.{found, better_keeps, better_takes}

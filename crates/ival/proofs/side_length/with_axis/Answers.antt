@@ -1,6 +1,6 @@
 use Rattle.std.proofs.Common.{◌≡◌, sym, subst, ◌∙◌, ap}
 use Rattle.ival.specs.declared.domain.Domain.{Domain}
-use Rattle.dyadic.specs.Space.{better, side}
+use Rattle.interval_model.specs.Space.{better, side}
 use Rattle.dyadic.specs.Views.{dyadic_of}
 use Rattle.ival.specs.SpaceViews.{domain_of}
 use Rattle.ival.specs.WideViews.{wide_value}

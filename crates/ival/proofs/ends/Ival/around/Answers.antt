@@ -1,10 +1,10 @@
 use Rattle.std.proofs.Common.{ap₂}
 use Rattle.dyadic.specs.Rounding.{down, up}
-use Rattle.dyadic.specs.Interval.{between}
+use Rattle.interval_model.specs.Interval.{between}
 use Rattle.dyadic.specs.Views.{ext_of, fraction_of_frac}
 use Rattle.dyadic.proofs.SizePositive.{size_positive}
-use Rattle.dyadic.proofs.Holds.{rounded_fraction_holds}
-use Rattle.dyadic.proofs.Isotone.{proper_from}
+use Rattle.interval_model.proofs.Holds.{rounded_fraction_holds}
+use Rattle.interval_model.proofs.Isotone.{proper_from}
 use Rattle.ival.proofs.Proper.{ends_from}
 use Rattle.ival.proofs.ends.Ival.around.Goals as goal
 

@@ -1,5 +1,5 @@
 use Rattle.std.proofs.Common.{◌<◌, ◌≤◌, ◌∙◌, ap, sym, arith, length}
-use Rattle.dyadic.specs.Space.{domain_interval}
+use Rattle.interval_model.specs.Space.{domain_interval}
 use Rattle.ival.specs.SpaceViews.{space_of, domain_of}
 use Rattle.ival.proofs.Lists.{interval_at, no_interval}
 use Rattle.ival.proofs.space.Space.interval.Goals as goal

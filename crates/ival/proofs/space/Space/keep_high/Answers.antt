@@ -1,5 +1,5 @@
 use Rattle.std.proofs.Common.{◌∙◌, ap, sym, subst, IsTrue, set}
-use Rattle.dyadic.specs.Space.{Domain, holds_number, upper_part}
+use Rattle.interval_model.specs.Space.{Domain, holds_number, upper_part}
 use Rattle.dyadic.specs.Views.{dyadic_of}
 use Rattle.ival.specs.SpaceViews.{domain_of, space_of}
 use Rattle.ival.proofs.Lists.{test_bound, test_at, changed_is}

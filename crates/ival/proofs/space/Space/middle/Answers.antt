@@ -1,5 +1,5 @@
 use Rattle.std.proofs.Common.{◌≡◌, ◌<◌, ℕ, ◌∙◌, ap, ap₂, sym, subst, arith, length, map, set}
-use Rattle.dyadic.specs.Space.{Domain, Space, middle_domain}
+use Rattle.interval_model.specs.Space.{Domain, Space, middle_domain}
 use Rattle.ival.specs.SpaceViews.{domain_of, space_of}
 use Rattle.ival.proofs.Lists.{middles, middles_next, middles_end, length_middles}
 use Rattle.ival.proofs.space.Space.middle.Goals as goal

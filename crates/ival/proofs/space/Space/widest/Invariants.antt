@@ -1,5 +1,5 @@
 use Rattle.std.proofs.Common.{◌≡◌, drop}
-use Rattle.dyadic.specs.Space.{widest, widest_from}
+use Rattle.interval_model.specs.Space.{widest, widest_from}
 use Rattle.ival.specs.SpaceViews.{space_of}
 use Rattle.ival.specs.BestViews.{best_of}
 use Rattle.ival.proofs.space.Space.widest.Given as goal

@@ -1,5 +1,5 @@
 use Rattle.std.proofs.Common.{◌≡◌, drop}
-use Rattle.dyadic.specs.Space.{space_within}
+use Rattle.interval_model.specs.Space.{space_within}
 use Rattle.ival.specs.SpaceViews.{space_of}
 use Rattle.ival.proofs.space.Space.within.Given as goal
 

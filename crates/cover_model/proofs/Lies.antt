@@ -1,0 +1,129 @@
+-- What a rule leaves, and what stays of a lawful tree, lies within its state.
+use Rattle.std.proofs.Common.{◌≡◌, inl, inr, ℕ, suc, zero, List, [], ◌∷◌, ◌++◌, Bool, true, false, not, ◌&&◌, cond, IsTrue, Option, Some, None, refl, sym, subst, true≢false}
+use Rattle.dyadic.specs.Fraction.{at_most}
+use Rattle.dyadic.specs.Rounding.{Dyadic, exact}
+use Rattle.dyadic.proofs.Equal.{both_true, both_pass, total}
+use Rattle.interval_model.proofs.EndsProducts.{at_most_refl}
+use Rattle.interval_model.specs.Space.{Domain, real_domain, bool_domain, Space, domain_within, space_within, strictly_inside, lower_part, upper_part, is_undecided, keep, changed, test_axis}
+use Rattle.cover_model.specs.Space.{range}
+use Rattle.poly_graph.specs.Problem.{Problem, IsProblem, atom_at}
+use Rattle.poly_graph.specs.Marks.{Mark, marked_yes, marked_no, marks_within}
+use Rattle.cover_model.specs.State.{State, Loosenings, margin_of, in_yes, undecided, with_mark, with_yes, with_no, with_space, may, covers}
+use Rattle.cover_model.specs.Rules.{Line, pull, unit, ban, void, make_false, by, cut, flip, case, open_line, stuck, Left, closed, one, two, stays, narrowing, lemma_covers, with_changed, when, pulled, voided, is_stuck_atom, rule}
+use Rattle.cover_model.specs.Derivation.{Tree, Lawful, at_closed, at_left, at_step, at_fork, LiesWithin, LiesWithinIf, EachWithin}
+use Rattle.poly_graph.proofs.Marks
+use Rattle.poly_graph.proofs.Marks.{marks_reflexive, marks_through}
+use Rattle.poly_graph.proofs.Bools.{not_both}
+use Rattle.cover_model.proofs.Within.{space_reflexive, space_through, narrowed_lies_within, domain_reflexive}
+
+-- ---- order of states
+
+pub covers_itself : (S : State) → IsTrue (covers S S)
+covers_itself S = both_pass (space_within S.space S.space) (marks_within S.marks S.marks) (space_reflexive S.space) (marks_reflexive S.marks)
+
+pub covers_through : (A B C : State) → IsTrue (covers A B) → IsTrue (covers B C) → IsTrue (covers A C)
+covers_through A B C h k = let a = both_true (space_within B.space A.space) (marks_within A.marks B.marks) h in let b = both_true (space_within C.space B.space) (marks_within B.marks C.marks) k in
+    both_pass (space_within C.space A.space) (marks_within A.marks C.marks) (space_through C.space B.space A.space b.0 a.0) (marks_through A.marks B.marks C.marks a.1 b.1)
+
+pub space_step : (S : State) (space : Space) → IsTrue (space_within space S.space) → IsTrue (covers S (with_space S space))
+space_step S space h = both_pass (space_within space S.space) (marks_within S.marks S.marks) h (marks_reflexive S.marks)
+
+pub mark_step : (S : State) (j : ℕ) (m : Mark) → IsTrue (undecided S j) → IsTrue (covers S (with_mark S j m))
+mark_step S j m h = both_pass (space_within S.space S.space) (marks_within S.marks (with_mark S j m).marks) (space_reflexive S.space) (Marks.set_within S.marks j m h)
+
+-- ---- parts of domains
+
+other-side : (b c : Dyadic) → IsTrue (not (at_most (exact b) (exact c))) → IsTrue (at_most (exact c) (exact b))
+other-side b c h = elim (total (exact b) (exact c)) [
+  | inl k ↦ absurd (not_both (at_most (exact b) (exact c)) k h)
+  | inr k ↦ k
+]
+
+lower-within : (c : Dyadic) (d : Domain) → IsTrue (strictly_inside c d) → IsTrue (domain_within (lower_part c d) d)
+lower-within c (real_domain l h) i = both_pass (at_most (exact l) (exact l)) (at_most (exact c) (exact h)) (at_most_refl (exact l))
+    (other-side h c (both_true (not (at_most (exact c) (exact l))) (not (at_most (exact h) (exact c))) i).1)
+lower-within c (bool_domain f t) i = absurd (true≢false (sym i))
+
+upper-within : (c : Dyadic) (d : Domain) → IsTrue (strictly_inside c d) → IsTrue (domain_within (upper_part c d) d)
+upper-within c (real_domain l h) i = both_pass (at_most (exact l) (exact c)) (at_most (exact h) (exact h))
+    (other-side c l (both_true (not (at_most (exact c) (exact l))) (not (at_most (exact h) (exact c))) i).0) (at_most_refl (exact h))
+upper-within c (bool_domain f t) i = absurd (true≢false (sym i))
+
+keep-within : (v : Bool) (d : Domain) → IsTrue (is_undecided d) → IsTrue (domain_within (keep v d) d)
+keep-within true (bool_domain true true) i = refl
+keep-within false (bool_domain true true) i = refl
+keep-within v (bool_domain true false) i = absurd (true≢false (sym i))
+keep-within v (bool_domain false t) i = absurd (true≢false (sym i))
+keep-within v (real_domain l h) i = absurd (true≢false (sym i))
+
+changed-within : (f : Domain → Domain) (test : Domain → Bool) → ((d : Domain) → IsTrue (test d) → IsTrue (domain_within (f d) d)) → (axis : ℕ) (space : Space) →
+    IsTrue (test_axis test axis space) → IsTrue (space_within (changed f axis space) space)
+changed-within f test g axis [] h = refl
+changed-within f test g zero (d ∷ space) h = both_pass (domain_within (f d) d) (space_within space space) (g d h) (space_reflexive space)
+changed-within f test g (suc axis) (d ∷ space) h = both_pass (domain_within d d) (space_within (changed f axis space) space) (domain_reflexive d) (changed-within f test g axis space h)
+
+-- ---- rules
+
+by-when : (b : Bool) (l : Left) (S : State) → (IsTrue b → LiesWithin S l) → LiesWithinIf S (when b l)
+by-when true l S f = f refl
+by-when false l S f = tt
+
+by-cond : (b : Bool) (o : Option Left) (S : State) → LiesWithinIf S o → LiesWithinIf S (cond b o None)
+by-cond true o S h = h
+by-cond false o S h = tt
+
+pulled-within : (S : State) (o : Option Space) → ((space : Space) → o ≡ Some space → IsTrue (space_within space S.space)) → LiesWithinIf S (pulled S o)
+pulled-within S None f = tt
+pulled-within S (Some space) f = space_step S space (f space refl)
+
+voided-within : (S : State) (o : Option Space) → LiesWithinIf S (voided o)
+voided-within S None = tt
+voided-within S (Some space) = tt
+
+module _ (p : Problem) (g : IsProblem p) (s : Loosenings) where
+  pub narrowing_within : (S : State) (j : ℕ) (space : Space) → narrowing p s S j ≡ Some space → IsTrue (space_within space S.space)
+  narrowing_within S j space e = narrowed_lies_within p.nodes g.ordered (atom_at p j).0 (range (margin_of s) (atom_at p j).1) S.space space e
+
+  -- what a rule leaves lies within its state
+  pub rule_within : (lemmas : List State) (S : State) (l : Line) → LiesWithinIf S (rule p s lemmas S l)
+  rule_within lemmas S (pull j) = by-cond (in_yes S j) (pulled S (narrowing p s S j)) S (pulled-within S (narrowing p s S j) (narrowing_within S j))
+  rule_within lemmas S (unit j) = by-when (undecided S j && not (may p s (with_no S j))) (one (with_yes S j)) S (λ e. mark_step S j marked_yes (both_true (undecided S j) _ e).0)
+  rule_within lemmas S (ban j k) = by-when (undecided S j && lemma_covers lemmas k (with_yes S j)) (one (with_no S j)) S (λ e. mark_step S j marked_no (both_true (undecided S j) _ e).0)
+  rule_within lemmas S (void j) = by-cond (in_yes S j) (voided (narrowing p s S j)) S (voided-within S (narrowing p s S j))
+  rule_within lemmas S make_false = by-when (not (may p s S)) closed S (λ e. tt)
+  rule_within lemmas S (by k) = by-when (lemma_covers lemmas k S) closed S (λ e. tt)
+  rule_within lemmas S (cut axis c) = by-when (test_axis (strictly_inside c) axis S.space) (two (with_changed S (lower_part c) axis) (with_changed S (upper_part c) axis)) S
+      (λ e. (
+        space_step S (changed (lower_part c) axis S.space) (changed-within (lower_part c) (strictly_inside c) (lower-within c) axis S.space e),
+        space_step S (changed (upper_part c) axis S.space) (changed-within (upper_part c) (strictly_inside c) (upper-within c) axis S.space e),
+      ))
+  rule_within lemmas S (flip axis) = by-when (test_axis is_undecided axis S.space) (two (with_changed S (keep false) axis) (with_changed S (keep true) axis)) S
+      (λ e. (
+        space_step S (changed (keep false) axis S.space) (changed-within (keep false) is_undecided (keep-within false) axis S.space e),
+        space_step S (changed (keep true) axis S.space) (changed-within (keep true) is_undecided (keep-within true) axis S.space e),
+      ))
+  rule_within lemmas S (case j) = by-when (undecided S j) (two (with_yes S j) (with_no S j)) S (λ e. (mark_step S j marked_yes e, mark_step S j marked_no e))
+  rule_within lemmas S open_line = tt
+  rule_within lemmas S (stuck j) = by-when (is_stuck_atom p s S j) stays S (λ e. tt)
+
+  -- ---- trees
+
+  each-through : (A B : State) (xs : List State) → IsTrue (covers A B) → EachWithin B xs → EachWithin A xs
+  each-through A B [] h k = tt
+  each-through A B (x ∷ xs) h k = (covers_through A B x h k.0, each-through A B xs h k.1)
+
+  each-append : (A : State) (xs ys : List State) → EachWithin A xs → EachWithin A ys → EachWithin A (xs ++ ys)
+  each-append A [] ys h k = k
+  each-append A (x ∷ xs) ys h k = (h.0, each-append A xs ys h.1 k)
+
+  within-along : (S : State) (o : Option Left) (l : Left) → o ≡ Some l → LiesWithinIf S o → LiesWithin S l
+  within-along S o l e k = subst (λ (x : Option Left). LiesWithinIf S x) e k
+
+  -- the states that stay of a lawful tree lie within its state
+  pub tree_within : (lemmas : List State) → {S : State} {t : Tree} {rest : List State} → Lawful p s lemmas S t rest → EachWithin S rest
+  tree_within lemmas (at_closed e) = tt
+  tree_within lemmas (at_left {S = S} e) = (covers_itself S, tt)
+  tree_within lemmas (at_step {S = S} {S' = S'} {l = l} {rest = xs} e r) = each-through S S' xs (within-along S (rule p s lemmas S l) (one S') e (rule_within lemmas S l)) (tree_within lemmas r)
+  tree_within lemmas (at_fork {S = S} {S' = S'} {S'' = S''} {l = l} {rest = xs} {rest' = ys} e r r') =
+      let k = within-along S (rule p s lemmas S l) (two S' S'') e (rule_within lemmas S l) in
+      each-append S xs ys (each-through S S' xs k.0 (tree_within lemmas r)) (each-through S S'' ys k.1 (tree_within lemmas r'))

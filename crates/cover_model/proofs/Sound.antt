@@ -1,0 +1,173 @@
+-- Each rule of a cover keeps the points that meet the form, and so does each lawful tree.
+use Rattle.std.proofs.Common.{◌≡◌, ◌⊎◌, inl, inr, ℕ, suc, zero, List, [], ◌∷◌, ◌++◌, Bool, true, false, not, ◌&&◌, cond, IsTrue, Option, Some, None, refl, sym, subst, true≢false}
+use Rattle.std.specs.Prelude.{slice_get}
+use Rattle.dyadic.specs.Fraction.{at_most}
+use Rattle.dyadic.specs.Point.{Coordinate, at_fraction, at_bool}
+use Rattle.dyadic.specs.Rounding.{Dyadic, exact}
+use Rattle.dyadic.proofs.Equal.{both_true, both_pass, total}
+use Rattle.poly_graph.specs.Term.{atom_holds, term_value}
+use Rattle.interval_model.specs.Space.{Domain, real_domain, bool_domain, Space, in_space, in_domain, space_within, strictly_inside, lower_part, upper_part, is_undecided, keep, changed, test_axis}
+use Rattle.cover_model.specs.Space.{range}
+use Rattle.poly_graph.specs.Problem.{Problem, IsProblem, sorts_of_problem, atom_at, term_of, full_atom}
+use Rattle.poly_graph.specs.Marks.{Mark, marked_yes, marked_no, is_yes, is_no, marks_within}
+use Rattle.cover_model.specs.State.{State, Loosenings, margin_of, in_yes, undecided, with_yes, with_no, with_space, may, IsPointOf, MeetsForm, IsLemma, covers}
+use Rattle.cover_model.specs.Rules.{Line, pull, unit, ban, void, make_false, by, cut, flip, case, open_line, stuck, Left, closed, one, two, stays, narrowing, covers_by, lemma_covers, with_changed, when, pulled, voided, is_stuck_atom, rule}
+use Rattle.cover_model.specs.Derivation.{Tree, Lawful, at_closed, at_left, at_step, at_fork, Keeps, KeepsIf, Among, here, later, AreLemmas}
+use Rattle.poly_graph.proofs.Marks.{set_or_same, yes_within, no_within}
+use Rattle.cover_model.proofs.May.{may_is, range_holds, range_kept, margin_on_grid}
+use Rattle.cover_model.proofs.Narrows.{narrows}
+use Rattle.poly_graph.proofs.Bools.{not_both, decided}
+use Rattle.cover_model.proofs.Within.{space_keeps_point}
+
+module _ (p : Problem) (s : Loosenings) where
+  pub first_part : {point : List Coordinate} {xs : List State} (ys : List State) → Among p s point xs → Among p s point (xs ++ ys)
+  first_part ys (here i) = here i
+  first_part ys (later a) = later (first_part ys a)
+
+  pub second_part : {point : List Coordinate} (xs : List State) {ys : List State} → Among p s point ys → Among p s point (xs ++ ys)
+  second_part [] a = a
+  second_part (x ∷ xs) a = later (second_part xs a)
+
+  -- ---- marks
+
+  pub with_yes_point : (S : State) (point : List Coordinate) → IsPointOf p s S point → (j : ℕ) → IsTrue (atom_holds (exact (margin_of s)) point (full_atom p j)) → IsPointOf p s (with_yes S j) point
+  with_yes_point S point i j h = record {
+    sorted = i.sorted;
+    inside = i.inside;
+    yes = λ k e. elim (set_or_same S.marks j marked_yes k) [
+      | inl d ↦ subst (λ (n : ℕ). IsTrue (atom_holds (exact (margin_of s)) point (full_atom p n))) d.0 h
+      | inr d ↦ i.yes k (subst (λ (m : Mark). IsTrue (is_yes m)) d e)
+    ];
+    no = λ k e. elim (set_or_same S.marks j marked_yes k) [
+      | inl d ↦ absurd (true≢false (sym (subst (λ (m : Mark). IsTrue (is_no m)) d.1 e)))
+      | inr d ↦ i.no k (subst (λ (m : Mark). IsTrue (is_no m)) d e)
+    ];
+  }
+
+  pub with_no_point : (S : State) (point : List Coordinate) → IsPointOf p s S point → (j : ℕ) → IsTrue (not (atom_holds (exact (margin_of s)) point (full_atom p j))) → IsPointOf p s (with_no S j) point
+  with_no_point S point i j h = record {
+    sorted = i.sorted;
+    inside = i.inside;
+    yes = λ k e. elim (set_or_same S.marks j marked_no k) [
+      | inl d ↦ absurd (true≢false (sym (subst (λ (m : Mark). IsTrue (is_yes m)) d.1 e)))
+      | inr d ↦ i.yes k (subst (λ (m : Mark). IsTrue (is_yes m)) d e)
+    ];
+    no = λ k e. elim (set_or_same S.marks j marked_no k) [
+      | inl d ↦ subst (λ (n : ℕ). IsTrue (not (atom_holds (exact (margin_of s)) point (full_atom p n)))) d.0 h
+      | inr d ↦ i.no k (subst (λ (m : Mark). IsTrue (is_no m)) d e)
+    ];
+  }
+
+  pub atom_split : (S : State) (point : List Coordinate) → IsPointOf p s S point → (j : ℕ) → IsPointOf p s (with_yes S j) point ⊎ IsPointOf p s (with_no S j) point
+  atom_split S point i j = elim (decided (atom_holds (exact (margin_of s)) point (full_atom p j))) [ inl h ↦ inl (with_yes_point S point i j h) | inr h ↦ inr (with_no_point S point i j h) ]
+
+  -- ---- branches
+
+  part-cut : (c : Dyadic) (d : Domain) (x : Coordinate) → IsTrue (in_domain d x) → IsTrue (in_domain (lower_part c d) x) ⊎ IsTrue (in_domain (upper_part c d) x)
+  part-cut c (bool_domain f t) x h = inl h
+  part-cut c (real_domain l u) (at_bool b) h = inl h
+  part-cut c (real_domain l u) (at_fraction q) h = let e = both_true (at_most (exact l) q) (at_most q (exact u)) h in elim (total q (exact c)) [
+    | inl k ↦ inl (both_pass (at_most (exact l) q) (at_most q (exact c)) e.0 k)
+    | inr k ↦ inr (both_pass (at_most (exact c) q) (at_most q (exact u)) k e.1)
+  ]
+
+  part-flip : (d : Domain) (x : Coordinate) → IsTrue (in_domain d x) → IsTrue (in_domain (keep false d) x) ⊎ IsTrue (in_domain (keep true d) x)
+  part-flip (real_domain l u) x h = inl h
+  part-flip (bool_domain f t) (at_bool true) h = inr refl
+  part-flip (bool_domain f t) (at_bool false) h = inl refl
+  part-flip (bool_domain f t) (at_fraction q) h = inl h
+
+  -- two parts of a domain that keep its coordinates make two parts of the space that keep its points
+  space-parts : (f g : Domain → Domain) → ((d : Domain) (x : Coordinate) → IsTrue (in_domain d x) → IsTrue (in_domain (f d) x) ⊎ IsTrue (in_domain (g d) x)) →
+      (axis : ℕ) (space : Space) (point : List Coordinate) → IsTrue (in_space space point) → IsTrue (in_space (changed f axis space) point) ⊎ IsTrue (in_space (changed g axis space) point)
+  space-parts f g parts axis [] point h = inl h
+  space-parts f g parts axis (d ∷ space) [] h = absurd (true≢false (sym h))
+  space-parts f g parts zero (d ∷ space) (x ∷ point) h = let e = both_true (in_domain d x) (in_space space point) h in elim (parts d x e.0) [
+    | inl k ↦ inl (both_pass (in_domain (f d) x) (in_space space point) k e.1)
+    | inr k ↦ inr (both_pass (in_domain (g d) x) (in_space space point) k e.1)
+  ]
+  space-parts f g parts (suc axis) (d ∷ space) (x ∷ point) h = let e = both_true (in_domain d x) (in_space space point) h in elim (space-parts f g parts axis space point e.1) [
+    | inl k ↦ inl (both_pass (in_domain d x) (in_space (changed f axis space) point) e.0 k)
+    | inr k ↦ inr (both_pass (in_domain d x) (in_space (changed g axis space) point) e.0 k)
+  ]
+
+  with-space : (S : State) (point : List Coordinate) → IsPointOf p s S point → (space : Space) → IsTrue (in_space space point) → IsPointOf p s (with_space S space) point
+  with-space S point i space h = record { sorted = i.sorted; inside = h; yes = i.yes; no = i.no }
+
+  -- ---- covering
+
+  -- a point of a state is one of each state that covers it
+  pub covered : (L S : State) (point : List Coordinate) → IsTrue (covers L S) → IsPointOf p s S point → IsPointOf p s L point
+  covered L S point h i = let a = both_true (space_within S.space L.space) (marks_within L.marks S.marks) h in record {
+    sorted = i.sorted;
+    inside = space_keeps_point S.space L.space point a.0 i.inside;
+    yes = λ j k. i.yes j (yes_within L.marks S.marks a.1 j k);
+    no = λ j k. i.no j (no_within L.marks S.marks a.1 j k);
+  }
+
+  lemma-test : (lemmas : List State) (k : ℕ) (S : State) (o : Option State) → slice_get lemmas k ≡ o → IsTrue (covers_by o S) → (L : State) × (slice_get lemmas k ≡ Some L) × IsTrue (covers L S)
+  lemma-test lemmas k S (Some L) e h = (L, e, h)
+  lemma-test lemmas k S None e h = absurd (true≢false (sym h))
+
+  no-point : (lemmas : List State) → AreLemmas p s lemmas → (k : ℕ) (S : State) (point : List Coordinate) → IsTrue (lemma_covers lemmas k S) → IsPointOf p s S point → MeetsForm p s point → ⊥
+  no-point lemmas f k S point h i m = let t = lemma-test lemmas k S (slice_get lemmas k) refl h in f k t.0 t.1 point (covered t.0 S point t.2 i) m
+
+  -- ---- conditions
+
+  by-when : (b : Bool) (l : Left) (S : State) (point : List Coordinate) → (IsTrue b → Keeps p s l S point) → KeepsIf p s (when b l) S point
+  by-when true l S point f = f refl
+  by-when false l S point f = tt
+
+  by-cond : (c b : Bool) (o : Option Left) (S : State) (point : List Coordinate) → c ≡ b → (c ≡ true → KeepsIf p s o S point) → KeepsIf p s (cond b o None) S point
+  by-cond c true o S point e f = f e
+  by-cond c false o S point e f = tt
+
+  keeps-along : (o : Option Left) (l : Left) (S : State) (point : List Coordinate) → o ≡ Some l → KeepsIf p s o S point → Keeps p s l S point
+  keeps-along o l S point e k = subst (λ (x : Option Left). KeepsIf p s x S point) e k
+
+  module _ (g : IsProblem p) where
+    -- a state's point at which atom j holds is a point of the narrowed space
+    pub narrowing_keeps : (S : State) (point : List Coordinate) → IsPointOf p s S point → (j : ℕ) → IsTrue (atom_holds (exact (margin_of s)) point (full_atom p j)) →
+        (space : Space) × (narrowing p s S j ≡ Some space) × IsTrue (in_space space point)
+    narrowing_keeps S point i j h = narrows (sorts_of_problem p) p.nodes g.ordered g.nodes S.space point i.sorted i.inside (atom_at p j).0 (range (margin_of s) (atom_at p j).1) (range_kept (margin_of s) (margin_on_grid s) (atom_at p j).1)
+        (range_holds (margin_of s) (atom_at p j).1 (term_value point (term_of p j)) h)
+
+    pull-keeps : (S : State) (point : List Coordinate) → IsPointOf p s S point → (j : ℕ) → IsTrue (in_yes S j) → KeepsIf p s (pulled S (narrowing p s S j)) S point
+    pull-keeps S point i j e = let n = narrowing_keeps S point i j (i.yes j e) in rw n.1 (with-space S point i n.0 n.2)
+
+    void-keeps : (S : State) (point : List Coordinate) → IsPointOf p s S point → (j : ℕ) → IsTrue (in_yes S j) → KeepsIf p s (voided (narrowing p s S j)) S point
+    void-keeps S point i j e = let n = narrowing_keeps S point i j (i.yes j e) in rw n.1 tt
+
+    -- a point of the state that meets the form is a point of some state that the rule leaves
+    pub rule_keeps : (lemmas : List State) → AreLemmas p s lemmas → (S : State) (l : Line) → (point : List Coordinate) → IsPointOf p s S point → MeetsForm p s point → KeepsIf p s (rule p s lemmas S l) S point
+    rule_keeps lemmas f S (pull j) point i h = by-cond (in_yes S j) (in_yes S j) (pulled S (narrowing p s S j)) S point refl (pull-keeps S point i j)
+    rule_keeps lemmas f S (unit j) point i h = by-when (undecided S j && not (may p s (with_no S j))) (one (with_yes S j)) S point
+        (λ e. elim (atom_split S point i j) [ inl k ↦ k | inr k ↦ absurd (not_both (may p s (with_no S j)) (may_is p g s (with_no S j) point k h) (both_true (undecided S j) _ e).1) ])
+    rule_keeps lemmas f S (ban j k) point i h = by-when (undecided S j && lemma_covers lemmas k (with_yes S j)) (one (with_no S j)) S point
+        (λ e. elim (atom_split S point i j) [ inl a ↦ absurd (no-point lemmas f k (with_yes S j) point (both_true (undecided S j) _ e).1 a h) | inr a ↦ a ])
+    rule_keeps lemmas f S (void j) point i h = by-cond (in_yes S j) (in_yes S j) (voided (narrowing p s S j)) S point refl (void-keeps S point i j)
+    rule_keeps lemmas f S make_false point i h = by-when (not (may p s S)) closed S point (λ e. not_both (may p s S) (may_is p g s S point i h) e)
+    rule_keeps lemmas f S (by k) point i h = by-when (lemma_covers lemmas k S) closed S point (λ e. no-point lemmas f k S point e i h)
+    rule_keeps lemmas f S (cut axis c) point i h = by-when (test_axis (strictly_inside c) axis S.space) (two (with_changed S (lower_part c) axis) (with_changed S (upper_part c) axis)) S point
+        (λ e. elim (space-parts (lower_part c) (upper_part c) (part-cut c) axis S.space point i.inside) [ inl k ↦ inl (with-space S point i _ k) | inr k ↦ inr (with-space S point i _ k) ])
+    rule_keeps lemmas f S (flip axis) point i h = by-when (test_axis is_undecided axis S.space) (two (with_changed S (keep false) axis) (with_changed S (keep true) axis)) S point
+        (λ e. elim (space-parts (keep false) (keep true) part-flip axis S.space point i.inside) [ inl k ↦ inl (with-space S point i _ k) | inr k ↦ inr (with-space S point i _ k) ])
+    rule_keeps lemmas f S (case j) point i h = by-when (undecided S j) (two (with_yes S j) (with_no S j)) S point (λ e. atom_split S point i j)
+    rule_keeps lemmas f S open_line point i h = tt
+    rule_keeps lemmas f S (stuck j) point i h = by-when (is_stuck_atom p s S j) stays S point (λ e. tt)
+
+    -- a whole tree: each point of its state that meets the form is one of a state that stays
+    pub tree_keeps : (lemmas : List State) → AreLemmas p s lemmas → {S : State} {t : Tree} {rest : List State} → Lawful p s lemmas S t rest →
+        (point : List Coordinate) → IsPointOf p s S point → MeetsForm p s point → Among p s point rest
+    tree_keeps lemmas f (at_closed {S = S} {l = l} e) point i h = absurd (keeps-along (rule p s lemmas S l) closed S point e (rule_keeps lemmas f S l point i h))
+    tree_keeps lemmas f (at_left {S = S} e) point i h = here i
+    tree_keeps lemmas f (at_step {S = S} {S' = S'} {l = l} e r) point i h = tree_keeps lemmas f r point (keeps-along (rule p s lemmas S l) (one S') S point e (rule_keeps lemmas f S l point i h)) h
+    tree_keeps lemmas f (at_fork {S = S} {S' = S'} {S'' = S''} {l = l} {rest = xs} {rest' = ys} e r r') point i h =
+        elim (keeps-along (rule p s lemmas S l) (two S' S'') S point e (rule_keeps lemmas f S l point i h)) [
+          | inl k ↦ first_part ys (tree_keeps lemmas f r point k h)
+          | inr k ↦ second_part xs (tree_keeps lemmas f r' point k h)
+        ]
+
+    -- a tree in which no state stays shows that no point of its state meets the form
+    pub none_left : (lemmas : List State) → AreLemmas p s lemmas → {S : State} {t : Tree} → Lawful p s lemmas S t [] → IsLemma p s S
+    none_left lemmas f r point i h = elim (tree_keeps lemmas f r point i h) [ ]

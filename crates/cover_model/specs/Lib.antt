@@ -1,0 +1,11 @@
+pub mod AxisStep
+pub mod Derivation
+pub mod Fits
+pub mod Honest
+pub mod Laws
+pub mod Narrowed
+pub mod NodeEnclosure
+pub mod Root
+pub mod Rules
+pub mod Space
+pub mod State

@@ -1,0 +1,80 @@
+-- The lines of a cover, each with its condition on a state and the states that it leaves.
+use Rattle.std.specs.Prelude.{ℕ, List, Bool, true, false, cond, not, ◌&&◌, Option, Some, None, slice_get}
+use Rattle.dyadic.specs.Rounding.{Dyadic}
+use Rattle.interval_model.specs.Space.{Domain, Space, strictly_inside, lower_part, upper_part, is_undecided, keep, changed, test_axis}
+use Rattle.cover_model.specs.Space.{range}
+use Rattle.poly_graph.specs.Problem.{Problem, atom_at}
+use Rattle.cover_model.specs.State.{State, Loosenings, margin_of, delta_of, in_yes, in_no, undecided, with_yes, with_no, with_space, may, misses, sure_at, covers}
+use Rattle.cover_model.specs.Narrowed.{narrowed_by}
+
+-- numbers of atoms for pull, unit, void, case and stuck; an atom and a lemma for ban; a lemma for by; an axis for cut and flip
+pub data Line : Type 0 where
+  pull unit void : ℕ → Line
+  ban : ℕ → ℕ → Line
+  make_false : Line
+  by : ℕ → Line
+  cut : ℕ → Dyadic → Line
+  flip : ℕ → Line
+  case : ℕ → Line
+  open_line : Line
+  stuck : ℕ → Line
+
+-- what a rule leaves of a state, where its condition holds
+pub data Left : Type 0 where
+  closed : Left
+  one : State → Left
+  two : State → State → Left
+  stays : Left
+
+-- the space narrowed by atom j, none where nothing is left
+abbrev pub narrowing : Problem → Loosenings → State → ℕ → Option Space
+narrowing p s S j = narrowed_by p.nodes (atom_at p j).0 (range (margin_of s) (atom_at p j).1) S.space
+
+-- ---- lemmas
+
+abbrev pub covers_by : Option State → State → Bool
+covers_by None S = false
+covers_by (Some L) S = covers L S
+
+-- lemma i covers the state
+abbrev pub lemma_covers : List State → ℕ → State → Bool
+lemma_covers lemmas i S = covers_by (slice_get lemmas i) S
+
+-- ---- branches
+
+abbrev pub with_changed : State → (Domain → Domain) → ℕ → State
+with_changed S f axis = with_space S (changed f axis S.space)
+
+-- ---- the rules
+
+abbrev pub when : Bool → Left → Option Left
+when true l = Some l
+when false l = None
+
+abbrev pub pulled : State → Option Space → Option Left
+pulled S None = None
+pulled S (Some space) = Some (one (with_space S space))
+
+abbrev pub voided : Option Space → Option Left
+voided None = Some closed
+voided (Some space) = None
+
+-- atom j may hold and does not surely hold
+abbrev pub is_stuck_atom : Problem → Loosenings → State → ℕ → Bool
+is_stuck_atom p s S j = not (in_no S j) && not (misses p (margin_of s) S.space j) && not (sure_at p (delta_of s) S.space j)
+
+-- none, where the line's condition fails
+abbrev pub rule : Problem → Loosenings → List State → State → Line → Option Left
+rule p s lemmas S (pull j) = cond (in_yes S j) (pulled S (narrowing p s S j)) None
+rule p s lemmas S (unit j) = when (undecided S j && not (may p s (with_no S j))) (one (with_yes S j))
+rule p s lemmas S (ban j i) = when (undecided S j && lemma_covers lemmas i (with_yes S j)) (one (with_no S j))
+rule p s lemmas S (void j) = cond (in_yes S j) (voided (narrowing p s S j)) None
+rule p s lemmas S make_false = when (not (may p s S)) closed
+rule p s lemmas S (by i) = when (lemma_covers lemmas i S) closed
+rule p s lemmas S (cut axis c) = when (test_axis (strictly_inside c) axis S.space)
+    (two (with_changed S (lower_part c) axis) (with_changed S (upper_part c) axis))
+rule p s lemmas S (flip axis) = when (test_axis is_undecided axis S.space)
+    (two (with_changed S (keep false) axis) (with_changed S (keep true) axis))
+rule p s lemmas S (case j) = when (undecided S j) (two (with_yes S j) (with_no S j))
+rule p s lemmas S open_line = Some stays
+rule p s lemmas S (stuck j) = when (is_stuck_atom p s S j) stays

@@ -1,0 +1,10 @@
+//! What a cover means: enclosures and narrowed spaces, states, the rules between them, lawful derivations, honest lines.
+//!
+//! The crate holds definitions, in `specs/`, and the laws between them, each the contract of an empty function of
+//! [`laws`]; passes and searches are above it. Its one computation is the range of a kind ([`range_ends`]).
+#![tactic(auto)]
+
+pub mod laws;
+mod range;
+
+pub use range::range_ends;

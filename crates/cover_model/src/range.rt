@@ -1,0 +1,23 @@
+// The range of a kind, as its two ends.
+ghost use Rattle.std.specs.Prelude.{◌≡◌, ◌≤◌};
+ghost use Rattle.dyadic.specs.Rounding.{two_to_minus};
+ghost use Rattle.interval_model.specs.Interval.{between};
+ghost use Rattle.dyadic.specs.Views.{ext_of};
+ghost use Rattle.cover_model.specs.Space.{range};
+ghost use Rattle.poly_graph.specs.Views.{kind_of};
+
+use dyadic::{Ext, two_to_minus};
+use poly_graph::Kind;
+
+/// The ends of the kind's range, loosened by 2 to the power of minus `loosen`.
+pub fn range_ends(kind: Kind, loosen: u32) -> (Ext, Ext)
+    requires { loosen ≤ 120 }
+    ensures { between (ext_of result.0) (ext_of result.1) ≡ range (two_to_minus loosen) (kind_of kind) }
+{
+    let margin = two_to_minus(loosen);
+    match kind {
+        Kind::Le => (Ext::NegInf, Ext::Fin(margin)),
+        Kind::Ge => (Ext::Fin(margin.neg()), Ext::PosInf),
+        Kind::Eq => (Ext::Fin(margin.neg()), Ext::Fin(margin)),
+    }
+}

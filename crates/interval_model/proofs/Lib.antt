@@ -1,0 +1,13 @@
+pub mod Ends
+pub mod EndsProducts
+pub mod EndsSums
+pub mod Holds
+pub mod HoldsGrid
+pub mod Inverses
+pub mod InversesEnds
+pub mod InversesSquares
+pub mod Isotone
+pub mod IsotoneInverses
+pub mod IsotoneRoots
+pub mod Squares
+pub mod Unnarrowed
