@@ -1,5 +1,3 @@
 pub mod Lines
 pub mod Symbols
 pub mod Texts
-pub mod Told
-pub mod Tried

@@ -3,7 +3,7 @@ use Rattle.std.proofs.Common.{◌≡◌, ℕ, List, [], ◌∷◌, ◌++◌, ◌
 use Rattle.std.proofs.lemmas.List.{append-nil}
 use Rattle.poly_graph.specs.declared.axis.Axis.{Axis}
 use Rattle.poly_graph.specs.ProblemViews.{axis_of}
-use Rattle.poly_graph.specs.Space as spaces
+use Rattle.interval_model.specs.Space as spaces
 use Rattle.ival.specs.declared.domain.Domain.{Domain}
 use Rattle.ival.specs.SpaceViews.{domain_of}
 use Rattle.cert_model.specs.AnswerText.{axes_text}

@@ -1,6 +1,6 @@
 -- What is told of an axis.
 use Rattle.std.specs.Prelude.{ℕ, List}
-use Rattle.poly_graph.specs.Space.{Domain}
+use Rattle.interval_model.specs.Space.{Domain}
 use Rattle.cert_model.specs.AnswerText.{value_text, domain_text}
 use Rattle.answer_text.specs.declared.axes.Shown.{Shown}
 use Rattle.answer_text.specs.declared.axes.Shown.TheVariants.{Value, Ends}

@@ -1,7 +1,7 @@
 // The answers of a check.
 ghost use Rattle.std.specs.Prelude.{◌≡◌, [], ◌∷◌, IfOk, List, length};
-ghost use Rattle.poly_graph.specs.Space.{Space};
-ghost use Rattle.poly_graph.specs.State.{Loosenings};
+ghost use Rattle.interval_model.specs.Space.{Space};
+ghost use Rattle.cover_model.specs.State.{Loosenings};
 ghost use Rattle.cert_model.specs.Due.{Standing, at_point, left_open};
 ghost use Rattle.cert_model.specs.AnswerText.{check_text};
 

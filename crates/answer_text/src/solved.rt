@@ -1,7 +1,8 @@
 // The answers of a search.
 ghost use Rattle.std.specs.Prelude.{◌≡◌, IfOk, List};
 ghost use Rattle.poly_graph.specs.ProblemViews.{problem_of};
-ghost use Rattle.poly_graph.specs.State.{Loosenings, Mark};
+ghost use Rattle.cover_model.specs.State.{Loosenings};
+ghost use Rattle.poly_graph.specs.Marks.{Mark};
 ghost use Rattle.ival.specs.SpaceViews.{space_of};
 ghost use Rattle.cert_model.specs.AnswerText.{budget_text, delta_sat_text, demo_text, unsat_text, width_text};
 

@@ -17,11 +17,11 @@ use Rattle.declared_box.specs.Same.{SameBounds}
 use Rattle.declared_box.specs.Interval.{interval_by, interval_at, ended, AreTightest}
 use Rattle.poly_graph.specs.ProblemViews.{axis_of}
 use Rattle.poly_graph.specs.declared.axis.Axis as code_axis
-use Rattle.declared_box.specs.Axes.{constant_of, IsAxisOf, Refuses}
+use Rattle.declared_box.specs.Axes.{constant_of, IsAxisOf, IsBoundsError}
 use Rattle.declared_box.specs.Views.{interval_of}
 use Rattle.declared_box.specs.declared.axes.Constant as code
 use Rattle.declared_box.specs.declared.interval.Interval.{Interval}
-use Rattle.declared_box.specs.declared.fault.BoundsFault.{BoundsFault}
+use Rattle.script_fault.specs.declared.fault.ReadError.{ReadError}
 use Rattle.declared_box.proofs.Widths.{too_wide_same}
 use Rattle.declared_box.proofs.Tight.{SameEnd, same_values, tightest_end_same}
 
@@ -132,9 +132,9 @@ built_next box cs i axes c a b e n = record {
     one (suc k) x l = absurd (omega (arith, l))
 
 -- the fault of the next axis is the first
-pub refused_next : (box : ℕ → DeclaredInterval) (cs : List Constant) (i : ℕ) (axes : List Axis) (c : Constant) (e : BoundsFault) → Built box cs i axes → drop i cs ≡ c ∷ drop (suc i) cs →
-    ((later : Option (Constant × BoundFault)) → Refuses e (or_later c (axis_fault c.sort (box i)) later)) → Refuses e (bound_fault_from box 0 cs)
-refused_next box cs i axes c e b d h = subst (Refuses e) (sym (b.faults ∙ ap (bound_fault_from box i) d)) (h (bound_fault_from box (suc i) (drop (suc i) cs)))
+pub refused_next : (box : ℕ → DeclaredInterval) (cs : List Constant) (i : ℕ) (axes : List Axis) (c : Constant) (e : ReadError) → Built box cs i axes → drop i cs ≡ c ∷ drop (suc i) cs →
+    ((later : Option (Constant × BoundFault)) → IsBoundsError e (or_later c (axis_fault c.sort (box i)) later)) → IsBoundsError e (bound_fault_from box 0 cs)
+refused_next box cs i axes c e b d h = subst (IsBoundsError e) (sym (b.faults ∙ ap (bound_fault_from box i) d)) (h (bound_fault_from box (suc i) (drop (suc i) cs)))
 
 drop-all : {A : Type 0} (xs : List A) (n : ℕ) → length xs ≤ n → drop n xs ≡ []
 drop-all [] zero l = refl
@@ -194,10 +194,10 @@ boxes-same : (bound : Option ℕ) (found bs : List Bound) (cs : List code.Consta
     SameBoxes (interval_by bound bs) (found_box bound intervals) (length (map constant_of cs))
 boxes-same bound found bs cs intervals h t k l = same_interval bound found bs (length cs) (map interval_of intervals) h t k (subst (λ n. k < n) (length-map cs constant_of) l)
 
-pub refused : (bound : Option ℕ) (found bs : List Bound) (cs : List code.Constant) (intervals : List Interval) (k : ℕ) (axes : List Axis) (c : code.Constant) (j : DeclaredInterval) (e : BoundsFault) → SameBounds found bs →
+pub refused : (bound : Option ℕ) (found bs : List Bound) (cs : List code.Constant) (intervals : List Interval) (k : ℕ) (axes : List Axis) (c : code.Constant) (j : DeclaredInterval) (e : ReadError) → SameBounds found bs →
     AreTightest found (length cs) (map interval_of intervals) → Built (found_box bound intervals) (map constant_of cs) k axes → k < length cs → c ≡ slice_index_or cs k c → j ≡ found_box bound intervals k → IsAxisOf (constant_of c) j (Err e) →
-    Refuses e (bound_fault_from (interval_by bound bs) 0 (map constant_of cs))
-refused bound found bs cs intervals k axes c j e h t b l i f r = subst (Refuses e) (sym (same_faults (interval_by bound bs) (found_box bound intervals) (map constant_of cs) (boxes-same bound found bs cs intervals h t)))
+    IsBoundsError e (bound_fault_from (interval_by bound bs) 0 (map constant_of cs))
+refused bound found bs cs intervals k axes c j e h t b l i f r = subst (IsBoundsError e) (sym (same_faults (interval_by bound bs) (found_box bound intervals) (map constant_of cs) (boxes-same bound found bs cs intervals h t)))
     (refused_next (found_box bound intervals) (map constant_of cs) k axes (constant_of c) e b (next_constant cs k c l i) (subst (λ x. IsAxisOf (constant_of c) x (Err e)) f r))
 
 pub answered : (bound : Option ℕ) (found bs : List Bound) (cs : List code.Constant) (intervals : List Interval) (n : ℕ) (axes : List Axis) → SameBounds found bs →
@@ -211,6 +211,6 @@ answered bound found bs cs intervals n axes h t l b =
     )
 
 -- an error that `?` hands on
-pub handed_on : {A : Type 0} (r : Result A BoundsFault) (e : BoundsFault) → IsErr r × IsErrAnd r (λ x. x ≡ e) → r ≡ Err e
+pub handed_on : {A : Type 0} (r : Result A ReadError) (e : ReadError) → IsErr r × IsErrAnd r (λ x. x ≡ e) → r ≡ Err e
 handed_on (Ok a) e h = absurd h.1
 handed_on (Err x) e h = ap (λ y. Err y) h.1

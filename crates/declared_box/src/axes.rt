@@ -1,5 +1,5 @@
 // The axes of a script's declared constants.
-ghost use Rattle.std.specs.Prelude.{◌≡◌, ◌<◌, List, length, map, All, IfOk};
+ghost use Rattle.std.specs.Prelude.{◌≡◌, ◌<◌, List, length, map, All, IfOk, Some};
 ghost use Rattle.dyadic.specs.Point.{real_sort};
 ghost use Rattle.script_model.specs.Script.{sort_of_constant};
 ghost use Rattle.script_model.specs.Declared.{Bound};
@@ -10,16 +10,15 @@ ghost use Rattle.smt_script.specs.Views.{sort_of};
 ghost use Rattle.declared_box.specs.Table.{all_of, AreBefore};
 ghost use Rattle.declared_box.specs.Same.{SameBounds};
 ghost use Rattle.declared_box.specs.Views.{interval_of};
-ghost use Rattle.declared_box.specs.Axes.{constant_of, Declares, IsAxisOf, IsToldOf, Answers};
+ghost use Rattle.declared_box.specs.Axes.{constant_of, Declares, IsAxisOf, IsBoundsError, Answers, fault_of};
 
-use crate::fault::BoundsFault;
 use crate::interval::Interval;
 use crate::kept::is_too_wide;
 use crate::sweep::tightest;
 use crate::table::BoundTable;
 use poly_graph::{Axis, Declared};
+use script_fault::{FaultKind, Name, Place, ReadError};
 use smt_script::Sort;
-use smt_sexp::{Name, Place};
 use std::alloc::Global;
 
 /// A declared constant, with the place of the command that declares it.
@@ -64,21 +63,20 @@ fn declared(sort: Sort, ends: Interval) -> Result<Declared, EndFault>
 }
 
 // The fault of this constant.
-fn told(alloc: Global, constant: &Constant, fault: EndFault) -> BoundsFault
-    ensures { IsToldOf (constant_of constant.now) fault result }
+fn bounds_error(alloc: Global, constant: &Constant, fault: EndFault) -> ReadError
+    ensures { IsBoundsError result (Some (constant_of constant.now, fault_of fault)) }
 {
     let Ok(name) = Name::from_slice(alloc, constant.name.as_slice()) else {
-        return BoundsFault::Memory;
+        return ReadError::Memory;
     };
-    let Place { line, column } = constant.place;
     match fault {
-        EndFault::Missing => BoundsFault::NoBound { line, column, name },
-        EndFault::TooWide => BoundsFault::BoundTooWide { line, column, name },
+        EndFault::Missing => ReadError::at(constant.place, FaultKind::NoBound(name)),
+        EndFault::TooWide => ReadError::at(constant.place, FaultKind::BoundTooWide(name)),
     }
 }
 
 // The axis of this constant with these ends.
-fn axis(alloc: Global, constant: &Constant, ends: Interval) -> Result<Axis, BoundsFault>
+fn axis(alloc: Global, constant: &Constant, ends: Interval) -> Result<Axis, ReadError>
     ensures { IsAxisOf (constant_of constant.now) (interval_of ends) result }
 {
     match declared(constant.sort, ends) {
@@ -86,7 +84,7 @@ fn axis(alloc: Global, constant: &Constant, ends: Interval) -> Result<Axis, Boun
             let name = Vec::from_slice(alloc, constant.name.as_slice())?;
             Ok(Axis { name, declared })
         }
-        Err(fault) => Err(told(alloc, constant, fault)),
+        Err(fault) => Err(bounds_error(alloc, constant, fault)),
     }
 }
 
@@ -103,7 +101,7 @@ pub fn declare(
     roots: &[u32],
     bound: Option<u32>,
     constants: &[Constant],
-) -> Result<Vec<Axis>, BoundsFault>
+) -> Result<Vec<Axis>, ReadError>
     requires { AreBefore (length table.now) roots.now }
     ensures answers { (bs : List Bound) → SameBounds (all_of table.now roots.now) bs → Answers bound bs (map constant_of constants.now) result }
     ensures bounds { IfOk result (λ axes. All (λ (a : problem.Axis). IsDeclared a.declared) (map axis_of axes.items)) }

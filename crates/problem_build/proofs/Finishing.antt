@@ -1,16 +1,16 @@
 -- The end of a script's building.
-use Rattle.std.proofs.Common.{◌≡◌, ℕ, ◌<◌, List, [], ◌∷◌, ◌++◌, map, length, true, Option, None, refl, ap, ap₂, sym, ◌∙◌, subst, arith, nat_lt}
+use Rattle.std.proofs.Common.{◌≡◌, ℕ, ◌<◌, List, [], ◌∷◌, ◌++◌, map, length, true, Option, Some, None, refl, ap, ap₂, sym, ◌∙◌, subst, arith, nat_lt}
 use Rattle.std.specs.Prelude.{Result, Ok, Err}
 use Rattle.std.specs.List.{list_all}
 use Rattle.dyadic.proofs.Equal.{both_pass}
 use Rattle.std.proofs.lemmas.List.Elements.{All-cons, All-nil}
 use Rattle.script_model.specs.Sexp.{Place}
-use Rattle.script_model.specs.Script.{Command, constants_of}
-use Rattle.script_model.specs.Declared.{Bounding, bounds_in, concat, bound_fault, declared_interval}
+use Rattle.script_model.specs.Script.{Command, Constant, constants_of}
+use Rattle.script_model.specs.Declared.{Bounding, bounds_in, concat, BoundFault, no_bound, bound_too_wide, bound_fault, declared_interval}
 use Rattle.std.specs.Borrow.{Bor}
 use Rattle.smt_sexp.specs.declared.sexps.Sexps as arena
-use Rattle.smt_sexp.specs.declared.leaf.Place as code_place
-use Rattle.smt_sexp.specs.declared.name.Name as names
+use Rattle.script_fault.specs.declared.place.Place as code_place
+use Rattle.script_fault.specs.declared.name.Name as names
 use Rattle.smt_script.specs.Views.{command_of}
 use Rattle.smt_script.specs.declared.command.Sort as code_sort
 use Rattle.smt_script.specs.declared.command.Command as code_command
@@ -43,10 +43,11 @@ use Rattle.value_build.specs.Making.{Making}
 use Rattle.problem_build.specs.Laws.{parts_made}
 use Rattle.problem_build.specs.Roots.{AreFormsOf, Roots}
 use Rattle.problem_build.specs.Standing.{AreClaims, boundings, IsDone}
-use Rattle.problem_build.specs.Told.{Refuses, found_by}
-use Rattle.problem_build.specs.declared.fault.ScriptFault.{ScriptFault}
-use Rattle.problem_build.specs.declared.fault.ScriptFault.TheVariants as faults
-use Rattle.smt_sexp.specs.declared.fault.Limit.TheVariants as limit
+use Rattle.problem_build.specs.Told.{IsBuildingError, found_by}
+use Rattle.script_fault.specs.declared.fault.ReadError.{ReadError}
+use Rattle.script_fault.specs.declared.fault.ReadError.TheVariants as errors
+use Rattle.declared_box.specs.Axes.{bounds_fault, IsBoundsError}
+use Rattle.script_faults.specs.Faults.{in_building}
 use Rattle.problem_build.proofs.Parts.{parts_problem}
 
 -- ---- forms and lists
@@ -105,24 +106,24 @@ whole_forms script = ap (λ us. all_form (forms_in us)) (outcomes (trees script)
 
 -- ---- faults
 
-none-refused : (f : ScriptFault) (later : Option (Place × BuildingFault)) → Refuses f None → Refuses f later
-none-refused (faults.NumberTooWide l c) later h = cc
-none-refused (faults.DivisorNotConstant l c) later h = cc
-none-refused (faults.ZeroDivisor l c) later h = cc
-none-refused (faults.NoBound l c n) later h = cc
-none-refused (faults.BoundTooWide l c n) later h = cc
-none-refused (faults.TooMany l c limit.Size) later h = cc
-none-refused (faults.TooMany l c limit.Nodes) later h = cc
-none-refused (faults.TooMany l c limit.Atoms) later h = cc
-none-refused (faults.TooMany l c limit.Forms) later h = cc
-none-refused (faults.TooMany l c _) later h = elim h [ ]
-none-refused faults.Memory later h = tt
+none-refused : (e : ReadError) (later : Option (Place × BuildingFault)) → IsBuildingError e None → IsBuildingError e later
+none-refused (errors.Fault f) later h = cc
+none-refused errors.Memory later h = tt
 
-pub found_first : (f : ScriptFault) (w : Walked) (later : Option (Place × BuildingFault)) → Refuses f (found_by w) → Refuses f (fault_or w later)
+bounds-same : (found : Option (Constant × BoundFault)) → in_building (fault_of_bounds found) ≡ bounds_fault found
+bounds-same None = refl
+bounds-same (Some (c, no_bound)) = refl
+bounds-same (Some (c, bound_too_wide)) = refl
+
+bounds-error : (e : ReadError) (found : Option (Constant × BoundFault)) → IsBoundsError e found → IsBuildingError e (fault_of_bounds found)
+bounds-error (errors.Fault f) found h = bounds-same found ∙ h
+bounds-error errors.Memory found h = tt
+
+pub found_first : (f : ReadError) (w : Walked) (later : Option (Place × BuildingFault)) → IsBuildingError f (found_by w) → IsBuildingError f (fault_or w later)
 found_first f (stops at x) later h = h
 found_first f (stands s) later h = none-refused f later h
 
-pub found_before : (f : ScriptFault) (g : Stand → Walked) (w : Walked) (later : Option (Place × BuildingFault)) → Refuses f (found_by w) → Refuses f (fault_or (goes_on g w) later)
+pub found_before : (f : ReadError) (g : Stand → Walked) (w : Walked) (later : Option (Place × BuildingFault)) → IsBuildingError f (found_by w) → IsBuildingError f (fault_or (goes_on g w) later)
 found_before f g (stops at x) later h = h
 found_before f g (stands s) later h = none-refused f (fault_or (g s) later) h
 
@@ -167,10 +168,10 @@ module _ (script : List Command) (m : Making) (made : List (ℕ × ℕ)) (h : Is
         (subst (λ (f : Form Atom). IsFormOf m1 f root) (whole_forms script) rooted.1) bounded declared in
         (p.1, p.0)
 
-    pub bounds_refuse : (bound : Option ℕ) (f : ScriptFault) → Refuses f (fault_of_bounds (bound_fault bound script)) → Refuses f (building_fault bound script)
-    bounds_refuse bound f r = subst (λ (x : Option (Place × BuildingFault)). Refuses f x)
+    pub bounds_refuse : (bound : Option ℕ) (f : ReadError) → IsBoundsError f (bound_fault bound script) → IsBuildingError f (building_fault bound script)
+    bounds_refuse bound f r = subst (λ (x : Option (Place × BuildingFault)). IsBuildingError f x)
         (sym (ap (λ w. fault_or w (fault_of_bounds (bound_fault bound script)))
-        (walked_root ∙ ap (λ g. make_form (last_place nowhere (claim_places script)) (stand_of m.made) (form_map (number_in (stand_of m.made).atoms) g)) (sym (whole_forms script)) ∙ rooted.0 (last_place nowhere (claim_places script))))) r
+        (walked_root ∙ ap (λ g. make_form (last_place nowhere (claim_places script)) (stand_of m.made) (form_map (number_in (stand_of m.made).atoms) g)) (sym (whole_forms script)) ∙ rooted.0 (last_place nowhere (claim_places script))))) (bounds-error f (bound_fault bound script) r)
 
 pub roots_as : (m m' m1 : Made) (ks ks' : List ℕ) (r : Result ℕ Stop) → m' ≡ m → ks' ≡ ks → Roots m' m1 ks' r → Roots m m1 ks r
 roots_as m m' m1 ks ks' r e f h = subst (λ (x : Made). Roots x m1 ks r) e (subst (λ (x : List ℕ). Roots m' m1 x r) f h)

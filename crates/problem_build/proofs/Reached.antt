@@ -12,7 +12,7 @@ use Rattle.script_forms.specs.Work.{Event, reached, Work, as_work, outcome_of, e
 use Rattle.script_forms.specs.Walk.{constant_work}
 use Rattle.smt_sexp.specs.Arena.{expression_at, rest_of}
 use Rattle.smt_sexp.specs.Views.{place_of}
-use Rattle.smt_sexp.specs.declared.leaf.Place as code
+use Rattle.script_fault.specs.declared.place.Place as code
 use Rattle.smt_sexp.specs.declared.sexps.Sexps as arena
 use Rattle.smt_script.specs.Forms.{is_end}
 use Rattle.smt_script.specs.Views.{parameter_of, sort_of}

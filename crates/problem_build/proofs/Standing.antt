@@ -15,7 +15,7 @@ use Rattle.script_forms.specs.Atoms.{atom_of, number_in}
 use Rattle.script_forms.specs.Work.{Work, as_work, outcome_of, assertion_events, form_events}
 use Rattle.script_forms.specs.Walk.{constant_work, claim_places, after_assertions, after_events, goes_on}
 use Rattle.smt_sexp.specs.Arena.{expression_at}
-use Rattle.smt_sexp.specs.declared.name.Name as names
+use Rattle.script_fault.specs.declared.name.Name as names
 use Rattle.smt_sexp.specs.declared.sexps.Sexps as arena
 use Rattle.smt_script.specs.Views.{sort_of, parameter_of}
 use Rattle.smt_script.specs.declared.command.Sort as code_sort

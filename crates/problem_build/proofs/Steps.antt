@@ -7,7 +7,7 @@ use Rattle.script_model.specs.Declared.{Bounding}
 use Rattle.script_forms.specs.Terms.{ill_formed, refused}
 use Rattle.script_forms.specs.Work.{Event, met, Work, outcome_of}
 use Rattle.smt_sexp.specs.Views.{place_of}
-use Rattle.smt_sexp.specs.declared.leaf.Place as code
+use Rattle.script_fault.specs.declared.place.Place as code
 use Rattle.smt_sexp.specs.declared.sexps.Sexps as arena
 use Rattle.smt_script.specs.Views.{parameter_of}
 use Rattle.smt_script.specs.declared.command.Parameter.{Parameter}

@@ -5,7 +5,7 @@ use Rattle.script_model.specs.Reading.{malformed}
 use Rattle.script_model.specs.Declared.{Bounding}
 use Rattle.script_forms.specs.Work.{Event, reached, Work, as_work}
 use Rattle.smt_sexp.specs.Views.{place_of}
-use Rattle.smt_sexp.specs.declared.leaf.Place as code
+use Rattle.script_fault.specs.declared.place.Place as code
 use Rattle.smt_sexp.specs.declared.sexps.Sexps as arena
 use Rattle.term_build.specs.declared.stop.Stop.{Stop}
 use Rattle.value_build.specs.Making.{Making, Steps}

@@ -11,7 +11,7 @@ use Rattle.script_forms.specs.Unfolded.{first_fault}
 use Rattle.script_forms.specs.Work.{Work, as_work, outcome_of, events_of}
 use Rattle.smt_sexp.specs.Arena.{expression_at, rest_of}
 use Rattle.smt_sexp.specs.Views.{place_of}
-use Rattle.smt_sexp.specs.declared.name.Name as names
+use Rattle.script_fault.specs.declared.name.Name as names
 use Rattle.smt_sexp.specs.declared.sexps.Sexps as arena
 use Rattle.smt_script.specs.Forms.{as_any}
 use Rattle.sort_check.specs.Forms.{as_binding}

@@ -1,5 +1,6 @@
 pub mod Laws
 pub mod Names
+pub mod Reader
 pub mod Reads
 pub mod Roots
 pub mod Standing

@@ -9,7 +9,7 @@ use Rattle.script_forms.specs.Work.{Work, as_work, outcome_of, assertion_events}
 use Rattle.script_forms.specs.Walk.{Walked, stands, stops, unfolds_not, nothing_made, constant_work, works, claim_places, after_assertions}
 use Rattle.smt_sexp.specs.declared.sexps.Sexps as arena
 use Rattle.sort_check.specs.Sorts.{sort_fault}
-use Rattle.sort_check.specs.WellSorted.{IsSound}
+use Rattle.script_faults.specs.WellSorted.{IsSound}
 use Rattle.term_build.specs.Built.{stand_of}
 use Rattle.term_build.specs.Does.{StopsAs}
 use Rattle.term_build.specs.Settled.{Extends}
@@ -18,8 +18,8 @@ use Rattle.term_build.specs.declared.stop.Stop.{Stop}
 use Rattle.value_build.specs.Making.{Making, MoreLists}
 use Rattle.value_build.specs.Values.{IsClaim}
 use Rattle.problem_build.specs.Names.{work_names, bound_names_of, TopFits}
-use Rattle.problem_build.specs.Told.{Refuses, found_by}
-use Rattle.problem_build.specs.declared.fault.ScriptFault.{ScriptFault}
+use Rattle.problem_build.specs.Told.{IsBuildingError, found_by}
+use Rattle.script_fault.specs.declared.fault.ReadError.{ReadError}
 use Rattle.problem_build.specs.declared.top.Top.{Top}
 
 -- an assertion's form is made, and what was made stays
@@ -57,12 +57,6 @@ abbrev pub MeetsSorts : Walked → Type 0
 MeetsSorts (stops at (unfolds_not x)) = IsSound x
 MeetsSorts w = Unit {0}
 
--- a walk that meets sorts alone stops so
-pub record StopsSorted (claim : Place) (stop : Stop) : Type 0 where
-  pub walked : Walked
-  pub sorted : MeetsSorts walked
-  pub so : StopsAs claim walked stop
-
 -- what is done of a script, where these commands are left
 pub record Stands (s : arena.Sexps) (script rest : List Command) (m : Making) (top : List Top) (axis : ℕ) (made : List (ℕ × ℕ)) : Type 0 where
   pub done : List Work
@@ -85,9 +79,9 @@ pub record IsNext (s : arena.Sexps) (c : Command) (m : Making) (top : List Top) 
   pub stand : Stands s script (c ∷ rest) m top axis made
 
 -- behind a command the walk stands so, or the script has this fault
-abbrev pub Goes : arena.Sexps → List Command → List Command → Making → List Top → List (ℕ × ℕ) → Result ℕ ScriptFault → Type 0
+abbrev pub Goes : arena.Sexps → List Command → List Command → Making → List Top → List (ℕ × ℕ) → Result ℕ ReadError → Type 0
 Goes s script rest m top made (Ok axis) = Stands s script rest m top axis made
-Goes s script rest m top made (Err f) = Refuses f (found_by (walk_of script))
+Goes s script rest m top made (Err e) = IsBuildingError e (found_by (walk_of script))
 
 -- all assertions of a script are done
 pub record IsDone (script : List Command) (m : Making) (made : List (ℕ × ℕ)) : Type 0 where
@@ -95,6 +89,6 @@ pub record IsDone (script : List Command) (m : Making) (made : List (ℕ × ℕ)
   pub claims : AreClaims m (map outcome_of (works script)) (boundings script) made
   pub sorts : m.made.sorts ≡ sorts_of script
 
-abbrev pub Does : {A : Type 0} → List Command → Making → Result (Vec (ℕ × ℕ) A) ScriptFault → Type 0
+abbrev pub Does : {A : Type 0} → List Command → Making → Result (Vec (ℕ × ℕ) A) ReadError → Type 0
 Does script m (Ok made) = IsDone script m made.items
-Does script m (Err f) = Refuses f (found_by (walk_of script))
+Does script m (Err e) = IsBuildingError e (found_by (walk_of script))

@@ -10,7 +10,7 @@ use Rattle.script_forms.specs.Walk.{after_events}
 use Rattle.script_forms.specs.Work.{Event, reached, Work, as_work, outcome_of, events_of, operator_events}
 use Rattle.smt_sexp.specs.Arena.{expression_at, rest_of}
 use Rattle.smt_sexp.specs.Views.{place_of}
-use Rattle.smt_sexp.specs.declared.leaf.Place as code
+use Rattle.script_fault.specs.declared.place.Place as code
 use Rattle.smt_sexp.specs.declared.sexps.Sexps as arena
 use Rattle.smt_script.specs.Views.{parameter_of}
 use Rattle.sort_check.specs.Views.{operator_of}

@@ -4,37 +4,23 @@ ghost use Rattle.script_model.specs.Reading.{meaning};
 ghost use Rattle.script_model.specs.Script as model;
 ghost use Rattle.script_model.specs.Script.{sorts_of};
 ghost use Rattle.script_model.specs.Declared.{bounding};
-ghost use Rattle.script_forms.specs.Walk.{Walked};
 ghost use Rattle.script_forms.specs.Work.{as_work};
 ghost use Rattle.smt_script.specs.Views.{command_of, commands_in};
 ghost use Rattle.smt_sexp.specs.Arena.{expression_at};
-ghost use Rattle.smt_sexp.specs.Views.{place_of};
 ghost use Rattle.sort_check.specs.Sorts.{sort_fault};
-ghost use Rattle.term_build.specs.Does.{StopsAs};
 ghost use Rattle.value_build.specs.Making.{beginning};
 ghost use Rattle.problem_build.specs.Names.{TopFits, bound_names_of, work_names};
-ghost use Rattle.problem_build.specs.Standing.{Asserts, Does, Goes, IsNext, Stands, StopsSorted};
-ghost use Rattle.problem_build.specs.Told.{Refuses, found_by};
+ghost use Rattle.problem_build.specs.Standing.{Asserts, Does, Goes, IsNext, Stands};
 
-use crate::fault::{ScriptFault, told};
+use crate::fault::building_error;
 use crate::top::{Known, Top, TopTable};
 use crate::walk::expression;
+use script_fault::ReadError;
 use smt_script::{Command, Script};
-use smt_sexp::{Place, Sexps};
+use smt_sexp::Sexps;
 use std::alloc::Global;
 use term_build::Stop;
 use value_build::Maker;
-
-/// What stops the walk within the assertion at this place, where no expression is without a sort.
-pub(crate) fn stopped(claim: Place, stop: Stop) -> ScriptFault
-    requires { StopsSorted (place_of claim) stop }
-    ensures { (w : Walked) → StopsAs (place_of claim) w stop → Refuses result (found_by w) }
-{
-    match told(claim, stop) {
-        Some(fault) => fault,
-        None => unreachable!(),
-    }
-}
 
 // An assertion: the node of its form, and the list of its bounds.
 fn assertion<'p, 'a>(
@@ -63,7 +49,7 @@ fn step<'p, 'a>(
     claims: &mut Vec<(u32, u32)>,
     axis: u32,
     command: &'p Command<'a>,
-) -> Result<u32, ScriptFault>
+) -> Result<u32, ReadError>
     requires { IsNext sexps.now (command_of sexps.now command.now) maker.old top.old axis claims.old.items }
     ensures { (script rest : List model.Command) → Stands sexps.now script (command_of sexps.now command.now ∷ rest) maker.old top.old axis claims.old.items →
         Goes sexps.now script rest maker.new top.new claims.new.items result }
@@ -71,7 +57,7 @@ fn step<'p, 'a>(
     match command {
         Command::Declare(_, name, sort) => {
             let Some(next) = axis.checked_add(1) else {
-                return Err(ScriptFault::Memory);
+                return Err(ReadError::Memory);
             };
             top.push(Top {
                 name: *name,
@@ -92,7 +78,7 @@ fn step<'p, 'a>(
                     claims.push(made)?;
                     Ok(axis)
                 }
-                Err(stop) => Err(stopped(*place, stop)),
+                Err(stop) => Err(building_error(*place, stop)),
             }
         }
         Command::Check(_) => Ok(axis),
@@ -105,7 +91,7 @@ pub(crate) fn claims<'p, 'a>(
     alloc: Global,
     script: &'p Script<'a>,
     maker: &mut Maker,
-) -> Result<Vec<(u32, u32)>, ScriptFault>
+) -> Result<Vec<(u32, u32)>, ReadError>
     requires begun { maker.old ≡ beginning (sorts_of (commands_in script.now)) }
     requires sorted { sort_fault (commands_in script.now) ≡ None }
     ensures { Does (commands_in script.now) maker.new result }

@@ -1,87 +1,33 @@
-// Why a script is not built.
+// The fault of a builder that stops.
 ghost use Rattle.std.specs.Prelude.{◌≡◌};
+ghost use Rattle.script_forms.specs.Walk.{Walked};
 ghost use Rattle.smt_sexp.specs.Views.{place_of};
-ghost use Rattle.problem_build.specs.Told.{Tells, limit_of};
-ghost use Rattle.problem_build.specs.declared.fault.ScriptFault.TheVariants.{Memory};
+ghost use Rattle.term_build.specs.Does.{StopsAs};
+ghost use Rattle.problem_build.specs.Told.{IsBuildingError, builder_kind, found_by};
 
-use smt_sexp::{Limit, Name, Place};
-use std::alloc::{AllocError, AllocFailed};
-use term_build::{Amount, Fault, Stop};
-use thiserror::Error;
+use script_fault::{FaultKind, Place, ReadError};
+use term_build::{Fault, Stop};
 
-/// The first fault of the building of a script, with its place: that of the expression, of the command that declares
-/// the constant, or of the assertion that a limit ends.
-#[derive(Debug, Drop, Error)]
-pub enum ScriptFault {
-    #[error("number too wide at {line}:{column}")]
-    NumberTooWide { line: u32, column: u32 },
-    #[error("divisor that is not constant at {line}:{column}")]
-    DivisorNotConstant { line: u32, column: u32 },
-    #[error("division by zero at {line}:{column}")]
-    ZeroDivisor { line: u32, column: u32 },
-    #[error("no bound of {name} at {line}:{column}")]
-    NoBound { line: u32, column: u32, name: Name },
-    #[error("bound of {name} too wide at {line}:{column}")]
-    BoundTooWide { line: u32, column: u32, name: Name },
-    #[error("too many {what:?} at {line}:{column}")]
-    TooMany { line: u32, column: u32, what: Limit },
-    #[error("no memory")]
-    Memory,
-}
-
-impl From<AllocError> for ScriptFault {
-    ghost from_gives = { λ _ e. e ≡ Memory };
-
-    fn from(_: AllocError) -> Self {
-        ScriptFault::Memory
-    }
-}
-
-impl<T: Drop> From<AllocFailed<T>> for ScriptFault {
-    ghost from_gives = { λ _ e. e ≡ Memory };
-
-    fn from(_: AllocFailed<T>) -> Self {
-        ScriptFault::Memory
-    }
-}
-
-/// What stops a builder within the assertion at this place. None where an expression has no sort.
-pub fn told(claim: Place, stop: Stop) -> Option<ScriptFault>
-    ensures { Tells (place_of claim) stop result }
+/// What stops the walk within the assertion at this place: a fault of an expression at that expression, a limit at the
+/// assertion.
+pub(crate) fn building_error(claim: Place, stop: Stop) -> ReadError
+    ensures { (w : Walked) → StopsAs (place_of claim) w stop → IsBuildingError result (found_by w) }
 {
-    let Place { line, column } = claim;
     match stop {
-        Stop::Fault(at, fault) => expression_fault(at, fault),
-        Stop::TooMany(amount) => Some(ScriptFault::TooMany {
-            line,
-            column,
-            what: limit(amount),
-        }),
-        Stop::Memory => Some(ScriptFault::Memory),
+        Stop::Fault(at, fault) => ReadError::at(at, kind(fault)),
+        Stop::TooMany(what) => ReadError::at(claim, FaultKind::TooMany(what)),
+        Stop::Memory => ReadError::Memory,
     }
 }
 
-// A fault of an expression at this place.
-fn expression_fault(at: Place, fault: Fault) -> Option<ScriptFault>
-    ensures { Tells (place_of at) (Stop.Fault at fault) result }
+// The kind of an expression's fault. Where sorts were checked, none is without a sort.
+fn kind(fault: Fault) -> FaultKind
+    ensures { result ≡ builder_kind fault }
 {
-    let Place { line, column } = at;
     match fault {
-        Fault::NumberTooWide => Some(ScriptFault::NumberTooWide { line, column }),
-        Fault::DivisorNotConstant => Some(ScriptFault::DivisorNotConstant { line, column }),
-        Fault::ZeroDivisor => Some(ScriptFault::ZeroDivisor { line, column }),
-        Fault::IllFormed => None,
-    }
-}
-
-// What there is too much of.
-fn limit(amount: Amount) -> Limit
-    ensures { result ≡ limit_of amount }
-{
-    match amount {
-        Amount::Size => Limit::Size,
-        Amount::Nodes => Limit::Nodes,
-        Amount::Atoms => Limit::Atoms,
-        Amount::Forms => Limit::Forms,
+        Fault::NumberTooWide => FaultKind::NumberTooWide,
+        Fault::DivisorNotConstant => FaultKind::DivisorNotConstant,
+        Fault::ZeroDivisor => FaultKind::ZeroDivisor,
+        Fault::IllFormed => FaultKind::SortMismatch,
     }
 }

@@ -11,7 +11,8 @@ ghost use Rattle.problem_build.specs.Walking.{Calls, IsIll, IsScope, KnowsValues
 ghost use Rattle.problem_build.specs.declared.top.Top.{Top};
 
 use crate::names::{Head, Local, bound_locals};
-use smt_sexp::{Name, Place, Sexps};
+use script_fault::{Name, Place};
+use smt_sexp::Sexps;
 use sort_check::{behind, binding};
 use std::alloc::{AllocError, Global};
 use std::rc::Rc;

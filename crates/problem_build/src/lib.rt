@@ -1,4 +1,7 @@
-//! The problem of a script: what its building answers, and why the parts that a builder made are the script's.
+//! The reader's last phase, and the reader as one call.
+//!
+//! `read_problem` answers the problem of a script's bytes, or the first fault of the first phase that has one; `build` does
+//! so for a script whose sorts are checked. The crate reads no file, prints no fault, and simplifies no form.
 #![tactic(auto)]
 
 ghost use Rattle.problem_build.specs.Laws.{SortedIsSound, PartsAreProblem};
@@ -10,12 +13,13 @@ mod fault;
 mod frames;
 mod lets;
 mod names;
+mod reader;
 mod script;
 mod top;
 mod walk;
 
 pub use assembly::{assemble, root_form};
-pub use fault::{ScriptFault, told};
+pub use reader::read_problem;
 pub use script::build;
 
 /// A well-sorted script meets no expression without a sort when it is built.
@@ -28,6 +32,3 @@ pub fn sorted_is_sound()
 pub fn parts_are_problem()
     ensures { PartsAreProblem }
 {}
-
-#[cfg(test)]
-mod tests;

@@ -3,8 +3,8 @@ ghost use Rattle.std.specs.Prelude.{◌≡◌, ◌≤◌, ◌<◌, length, IfOk}
 ghost use Rattle.problem_build.specs.Names.{IsHead, bound_locals, local_value};
 
 use crate::top::{Known, TopTable};
+use script_fault::Name;
 use smt_script::{Parameter, Sort};
-use smt_sexp::Name;
 use sort_check::{Operator, operator_named};
 use std::alloc::{AllocError, Global};
 use value_build::Value;

@@ -1,25 +1,22 @@
 // The problem of a well-sorted script.
-ghost use Rattle.std.specs.Prelude.{◌≡◌, IfOk, None, Option, map};
-ghost use Rattle.script_model.specs.Script as model;
+ghost use Rattle.std.specs.Prelude.{◌≡◌, IfOk, None, map};
 ghost use Rattle.script_model.specs.Script.{constants_of, sorts_of};
-ghost use Rattle.script_model.specs.Declared.{BoundFault};
-ghost use Rattle.script_forms.specs.Walk.{claim_places, fault_of_bounds, last_place, nowhere};
+ghost use Rattle.script_forms.specs.Walk.{claim_places, last_place, nowhere};
 ghost use Rattle.smt_script.specs.Views.{command_of, commands_in, sort_of};
 ghost use Rattle.smt_sexp.specs.Views.{place_of};
 ghost use Rattle.smt_sexp.specs.declared.sexps.Sexps as arena;
 ghost use Rattle.sort_check.specs.Sorts.{sort_fault};
-ghost use Rattle.declared_box.specs.Axes as box;
 ghost use Rattle.declared_box.specs.Axes.{constant_of};
 ghost use Rattle.problem_build.specs.Standing.{IsDone};
-ghost use Rattle.problem_build.specs.Told.{Builds, Refuses};
+ghost use Rattle.problem_build.specs.Told.{Builds};
 
 use crate::assembly::{assemble, root_form};
-use crate::commands::{claims, stopped};
-use crate::fault::ScriptFault;
-use declared_box::{BoundsFault, Constant, declare};
+use crate::commands::claims;
+use crate::fault::building_error;
+use declared_box::{Constant, declare};
 use poly_graph::Problem;
+use script_fault::{Place, ReadError};
 use smt_script::{Command, Script, Sort};
-use smt_sexp::Place;
 use sort_check::Typed;
 use std::alloc::{AllocError, Global};
 use value_build::Maker;
@@ -87,19 +84,6 @@ fn seconds(alloc: Global, pairs: &[(u32, u32)]) -> Result<Vec<u32>, AllocError>
     pairs.iter().map(|p| p.1).collect(alloc)
 }
 
-// Why the bounds of a script have no box.
-fn unbounded(fault: BoundsFault) -> ScriptFault
-    ensures { (found : Option (model.Constant × BoundFault)) → box.Refuses fault found → Refuses result (fault_of_bounds found) }
-{
-    match fault {
-        BoundsFault::NoBound { line, column, name } => ScriptFault::NoBound { line, column, name },
-        BoundsFault::BoundTooWide { line, column, name } => {
-            ScriptFault::BoundTooWide { line, column, name }
-        }
-        BoundsFault::Memory => ScriptFault::Memory,
-    }
-}
-
 // The problem of a script whose assertions are all done: its whole form, its axes and all that was made.
 fn finish(
     alloc: Global,
@@ -107,7 +91,7 @@ fn finish(
     maker: Maker,
     made: &[(u32, u32)],
     bound: Option<u32>,
-) -> Result<Problem, ScriptFault>
+) -> Result<Problem, ReadError>
     requires done { IsDone (commands_in script.now) maker made.now }
     requires sorted { sort_fault (commands_in script.now) ≡ None }
     ensures { Builds bound (commands_in script.now) result }
@@ -119,12 +103,10 @@ fn finish(
     let (mut builder, table) = maker.into_parts();
     let root = match root_form(&mut builder, forms) {
         Ok(root) => root,
-        Err(stop) => return Err(stopped(last_claim(commands), stop)),
+        Err(stop) => return Err(building_error(last_claim(commands), stop)),
     };
-    match declare(alloc, &table, lists.as_slice(), bound, constants.as_slice()) {
-        Ok(axes) => Ok(assemble(axes, builder, root)),
-        Err(fault) => Err(unbounded(fault)),
-    }
+    let axes = declare(alloc, &table, lists.as_slice(), bound, constants.as_slice())?;
+    Ok(assemble(axes, builder, root))
 }
 
 /// The problem of a well-sorted script, where the words give this bound of its constants.
@@ -132,7 +114,7 @@ fn finish(
 /// # Errors
 ///
 /// The first fault of its building: of the walk over its assertions, in order, then of the bounds, axis by axis.
-pub fn build(alloc: Global, typed: Typed<'_>, bound: Option<u32>) -> Result<Problem, ScriptFault>
+pub fn build(alloc: Global, typed: Typed<'_>, bound: Option<u32>) -> Result<Problem, ReadError>
     ensures { Builds bound (commands_in typed.entry.script) result }
 {
     let script = &typed.script;

@@ -2,8 +2,8 @@
 ghost use Rattle.std.specs.Prelude.{◌≡◌, [], ◌∷◌, ◌++◌, length, OnOk, OnErr};
 ghost use Rattle.problem_build.specs.Names.{top_known};
 
+use script_fault::Name;
 use smt_script::{Parameter, Sort};
-use smt_sexp::Name;
 use std::alloc::{AllocError, Global};
 use std::collections::HashMap;
 use std::marker::Model;

@@ -6,7 +6,8 @@ use Rattle.smt_sexp.specs.Lexicon.{TextRead, whole, faulty, read}
 use Rattle.smt_script.specs.Commands.{CommandsRead, commands, command_fault, commands_of, accepted, of_read, script_of}
 use Rattle.sort_check.specs.Sorts.{Finding, sort_fault}
 use Rattle.script_forms.specs.Walk.{BuildingFault, building_fault}
-use Rattle.script_faults.specs.Faults.{ScriptFault, in_building, in_sorts, in_commands, in_text, script_fault, most_bytes}
+use Rattle.script_fault.specs.declared.fault.ScriptFault.{ScriptFault}
+use Rattle.script_faults.specs.Faults.{in_building, in_sorts, in_commands, in_text, script_fault, most_bytes}
 use Rattle.script_faults.specs.Laws.{IsAccepted}
 
 built-none : (x : Option (Place × BuildingFault)) → in_building x ≡ None → x ≡ None

@@ -1,2 +1,5 @@
 pub mod Accepted
+pub mod Parts
 mod Rows
+pub mod Shapes
+pub mod WellSorted

@@ -1,13 +1,9 @@
--- Worked examples: scripts with their first faults, each with what its line says of its kind and with its place.
-use Rattle.std.proofs.Common.{◌≡◌, ℕ, List, [], ◌++◌, Option, Some, None, codes, refl, option_map}
+-- Worked examples: scripts with their first faults.
+use Rattle.std.proofs.Common.{◌≡◌, ℕ, List, [], ◌++◌, Option, Some, None, codes, refl}
 use Rattle.script_model.specs.Sexp.{Place}
-use Rattle.script_faults.specs.Faults.{ScriptFault, script_fault, kind_text}
-
-abbrev kind_and_place : ScriptFault → List ℕ × Place
-kind_and_place x = (kind_text x.kind, x.at)
-
-abbrev told : Option ℕ → List ℕ → Option (List ℕ × Place)
-told bound bytes = option_map {U = List ℕ × Place} kind_and_place (script_fault bound bytes)
+use Rattle.script_fault.specs.declared.fault.FaultKind.TheVariants.{Unbalanced, NumberTooWide, UnknownSymbol, DivisorNotConstant, ZeroDivisor, NoBound, BoundTooWide, NoCheck, LeftOut}
+use Rattle.smt_sexp.specs.Reads.{fault_at}
+use Rattle.script_faults.specs.Faults.{script_fault}
 
 abbrev at : ℕ → ℕ → Place
 at l c = record { line = l; column = c }
@@ -15,56 +11,56 @@ at l c = record { line = l; column = c }
 abbrev one_real : List ℕ
 one_real = codes "(declare-const x Real)\n"
 
-no_check_at_all : told None [] ≡ Some (codes "14 NoCheck", at 0 0)
+no_check_at_all : script_fault None [] ≡ Some (fault_at (at 0 0) NoCheck)
 no_check_at_all = refl
 
-open_parenthesis : told None (codes "(assert true") ≡ Some (codes "3 Unbalanced", at 1 1)
+open_parenthesis : script_fault None (codes "(assert true") ≡ Some (fault_at (at 1 1) Unbalanced)
 open_parenthesis = refl
 
-lone_parenthesis : told None (codes "(check-sat))\n") ≡ Some (codes "3 Unbalanced", at 1 12)
+lone_parenthesis : script_fault None (codes "(check-sat))\n") ≡ Some (fault_at (at 1 12) Unbalanced)
 lone_parenthesis = refl
 
-pushed : told None (codes "(push 1)\n(check-sat)\n") ≡ Some (codes "16 LeftOut", at 1 1)
+pushed : script_fault None (codes "(push 1)\n(check-sat)\n") ≡ Some (fault_at (at 1 1) LeftOut)
 pushed = refl
 
-wide_literal : told None (one_real ++ codes "(assert (< x 1000000000000000000000000000000000000000))\n(check-sat)\n") ≡ Some (codes "4 NumberTooWide", at 2 14)
+wide_literal : script_fault None (one_real ++ codes "(assert (< x 1000000000000000000000000000000000000000))\n(check-sat)\n") ≡ Some (fault_at (at 2 14) NumberTooWide)
 wide_literal = refl
 
-another_name : told None (codes "(assert (= 0 |sin|))\n(check-sat)\n") ≡ Some (codes "6 UnknownSymbol sin", at 1 14)
+another_name : script_fault None (codes "(assert (= 0 |sin|))\n(check-sat)\n") ≡ Some (fault_at (at 1 14) (UnknownSymbol (codes "sin")))
 another_name = refl
 
-name_in_bars : told None (codes "(assert (= 0 |let|))\n(check-sat)\n") ≡ Some (codes "6 UnknownSymbol |let|", at 1 14)
+name_in_bars : script_fault None (codes "(assert (= 0 |let|))\n(check-sat)\n") ≡ Some (fault_at (at 1 14) (UnknownSymbol (codes "let")))
 name_in_bars = refl
 
-no_divisor : told None (one_real ++ codes "(declare-const y Real)\n(assert (= (/ x y) 1))\n(check-sat)\n") ≡ Some (codes "9 DivisorNotConstant", at 3 12)
+no_divisor : script_fault None (one_real ++ codes "(declare-const y Real)\n(assert (= (/ x y) 1))\n(check-sat)\n") ≡ Some (fault_at (at 3 12) DivisorNotConstant)
 unfolding Rattle.dyadic.specs.Fraction.negated Rattle.dyadic.specs.Fraction.sum_of Rattle.dyadic.specs.Fraction.product_of Rattle.dyadic.specs.Fraction.at_most
 no_divisor = refl
 
-nought : told None (one_real ++ codes "(assert (= (/ x (- 1 1)) 1))\n(check-sat)\n") ≡ Some (codes "10 ZeroDivisor", at 2 12)
+nought : script_fault None (one_real ++ codes "(assert (= (/ x (- 1 1)) 1))\n(check-sat)\n") ≡ Some (fault_at (at 2 12) ZeroDivisor)
 unfolding Rattle.dyadic.specs.Fraction.negated Rattle.dyadic.specs.Fraction.sum_of Rattle.dyadic.specs.Fraction.product_of Rattle.dyadic.specs.Fraction.at_most
 nought = refl
 
-unbounded : told None (codes "(declare-const y Real)\n(assert (> (* y y) 2))\n(check-sat)\n") ≡ Some (codes "11 NoBound y", at 1 1)
+unbounded : script_fault None (codes "(declare-const y Real)\n(assert (> (* y y) 2))\n(check-sat)\n") ≡ Some (fault_at (at 1 1) (NoBound (codes "y")))
 unfolding Rattle.dyadic.specs.Fraction.negated Rattle.dyadic.specs.Fraction.sum_of Rattle.dyadic.specs.Fraction.product_of Rattle.dyadic.specs.Fraction.at_most
 unbounded = refl
 
-bounded_by_words : told (Some 8) (codes "(declare-const y Real)\n(assert (> (* y y) 2))\n(check-sat)\n") ≡ None
+bounded_by_words : script_fault (Some 8) (codes "(declare-const y Real)\n(assert (> (* y y) 2))\n(check-sat)\n") ≡ None
 unfolding Rattle.dyadic.specs.Fraction.negated Rattle.dyadic.specs.Fraction.sum_of Rattle.dyadic.specs.Fraction.product_of Rattle.dyadic.specs.Fraction.at_most
 bounded_by_words = refl
 
-bound_beyond : told None (one_real ++ codes "(assert (<= 0 x 4294967296.1))\n(check-sat)\n") ≡ Some (codes "12 BoundTooWide x", at 1 1)
+bound_beyond : script_fault None (one_real ++ codes "(assert (<= 0 x 4294967296.1))\n(check-sat)\n") ≡ Some (fault_at (at 1 1) (BoundTooWide (codes "x")))
 unfolding Rattle.dyadic.specs.Fraction.negated Rattle.dyadic.specs.Fraction.sum_of Rattle.dyadic.specs.Fraction.product_of Rattle.dyadic.specs.Fraction.at_most
 bound_beyond = refl
 
-whole_bound : told None (one_real ++ codes "(assert (<= 0 x 4194305))\n(check-sat)\n") ≡ None
+whole_bound : script_fault None (one_real ++ codes "(assert (<= 0 x 4194305))\n(check-sat)\n") ≡ None
 unfolding Rattle.dyadic.specs.Fraction.negated Rattle.dyadic.specs.Fraction.sum_of Rattle.dyadic.specs.Fraction.product_of Rattle.dyadic.specs.Fraction.at_most
 whole_bound = refl
 
 -- a comparison's own fault comes only where its form is asked for
-comparison_of_wide : told None (codes "(assert (< 1000000000000000000000000000000000000 (- 1)))\n(check-sat)\n") ≡ Some (codes "4 NumberTooWide", at 1 9)
+comparison_of_wide : script_fault None (codes "(assert (< 1000000000000000000000000000000000000 (- 1)))\n(check-sat)\n") ≡ Some (fault_at (at 1 9) NumberTooWide)
 unfolding Rattle.dyadic.specs.Fraction.negated Rattle.dyadic.specs.Fraction.sum_of Rattle.dyadic.specs.Fraction.product_of Rattle.dyadic.specs.Fraction.at_most
 comparison_of_wide = refl
 
-never_asked : told None (codes "(assert (distinct 1000000000000000000000000000000000000 (- 1)))\n(check-sat)\n") ≡ None
+never_asked : script_fault None (codes "(assert (distinct 1000000000000000000000000000000000000 (- 1)))\n(check-sat)\n") ≡ None
 unfolding Rattle.dyadic.specs.Fraction.negated Rattle.dyadic.specs.Fraction.sum_of Rattle.dyadic.specs.Fraction.product_of Rattle.dyadic.specs.Fraction.at_most
 never_asked = refl

@@ -1,12 +1,19 @@
-//! The first fault of a script's bytes, and the line that tells it.
+//! The first fault of a script's bytes, and what a script without one is.
 //!
 //! No code runs here: each function is a law about the definitions in `specs/`, and its contract is the law.
 #![tactic(auto)]
 
 ghost use Rattle.script_faults.specs.Laws.{FaultlessIsAccepted};
+ghost use Rattle.script_faults.specs.WellSorted.{SortedUnfolds};
 
 /// Bytes without a fault are the text of a script without one.
 #[tactic(auto, using(crate::proofs::Accepted::faultless_accepted))]
 pub fn faultless_is_accepted()
     ensures { FaultlessIsAccepted }
+{}
+
+/// Each assertion of a well-sorted script unfolds to a formula, or to a fault of a constant step or a division.
+#[tactic(auto, using(crate::proofs::WellSorted::sorted_unfolds))]
+pub fn sorted_unfolds()
+    ensures { SortedUnfolds }
 {}

@@ -1,9 +1,8 @@
 -- One recursion over expressions, for every meaning that an expression has: its value, its pair of truth
 -- values, its term and form, its bounds. It unfolds `let`, definitions and annotations by an environment.
-use Rattle.std.specs.Prelude.{ℕ, List, [], ◌∷◌, ◌++◌, ◌^◌, cond, pos, Option, Some, None, length}
+use Rattle.std.specs.Prelude.{ℕ, List, [], ◌∷◌, ◌++◌, ◌^◌, cond, pos, Option, Some, None, length, codes}
 use Rattle.std.specs.Str.{bytes_eq}
 use Rattle.std.specs.Str.Parse.{digits_value}
-use Rattle.std.specs.Prelude.{codes}
 use Rattle.dyadic.specs.Fraction.{Fraction}
 use Rattle.script_model.specs.Sexp.{Place, Leaf, numeral, decimal, symbol, reserved, Sexp, leaf, group, Sexps, none, more, Reserved, bang, let_word}
 

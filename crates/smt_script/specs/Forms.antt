@@ -3,8 +3,8 @@ use Rattle.std.specs.Prelude.{◌≡◌, ℕ, ◌<◌, List, Bool, true, false, 
 use Rattle.script_model.specs.Sexp.{Place, symbol, Sexp, leaf, group, Sexps, none, more}
 use Rattle.smt_sexp.specs.Arena.{rest_of, places_of, expression_at}
 use Rattle.smt_sexp.specs.Views.{place_of}
-use Rattle.smt_sexp.specs.declared.leaf.Place as code
-use Rattle.smt_sexp.specs.declared.name.Name as names
+use Rattle.script_fault.specs.declared.place.Place as code
+use Rattle.script_fault.specs.declared.name.Name as names
 use Rattle.smt_sexp.specs.declared.sexps.Sexps as arena
 use Rattle.std.specs.Borrow.{Bor}
 

@@ -8,11 +8,12 @@ use Rattle.smt_sexp.specs.declared.sexps.Sexps as arena
 use Rattle.smt_script.specs.Commands as defined
 use Rattle.smt_script.specs.Commands.{Said, says, fails, bad_command, by_head, command_words, CommandsRead, commands, command_fault, commands_from, at_end}
 use Rattle.smt_script.specs.Forms.{Behind}
-use Rattle.smt_script.specs.Told.{FailsAs, Refuses, with_set}
+use Rattle.script_fault.specs.Answers.{IsFaultOrMemory}
+use Rattle.script_fault.specs.declared.fault.ReadError.{ReadError}
+use Rattle.smt_script.specs.Told.{said_fault, commands_fault, with_set}
 use Rattle.smt_script.specs.Views.{command_of}
 use Rattle.smt_script.specs.declared.reading.Before.{Before}
 use Rattle.smt_script.specs.declared.command.Command.{Command}
-use Rattle.smt_script.specs.declared.fault.ScriptFault.{ScriptFault}
 
 abbrev pub before_of : Before → defined.Before
 before_of b = record { logic = b.logic; checked = b.checked; ended = b.ended }
@@ -30,9 +31,9 @@ by_first b at None = fails bad_command
 by_first b at (Some (p, w, args)) = by_head b at (found w command_words) args
 
 -- the command that is said, with what comes before the next one, or its fault
-abbrev pub GivesNext : arena.Sexps → Place → Result (Before × Command) ScriptFault → Said → Type 0
+abbrev pub GivesNext : arena.Sexps → Place → Result (Before × Command) ReadError → Said → Type 0
 GivesNext s at (Ok (b, c)) said = said ≡ says (before_of b) (command_of s c)
-GivesNext s at (Err f) said = FailsAs at f said
+GivesNext s at (Err e) said = IsFaultOrMemory e (said_fault at said)
 
 -- a command before others
 abbrev pub with_first : script.Command → CommandsRead → CommandsRead
@@ -45,8 +46,8 @@ with_front cs (commands ds) = commands (cs ++ ds)
 with_front cs (command_fault at f) = command_fault at f
 
 -- the end of the commands, the first of them with the place behind it, or their first fault
-abbrev pub Steps : arena.Sexps → defined.Before → ℕ → Result (Option (Before × Command × ℕ)) ScriptFault → Type 0
+abbrev pub Steps : arena.Sexps → defined.Before → ℕ → Result (Option (Before × Command × ℕ)) ReadError → Type 0
 Steps s b at (Ok None) = commands_from b (listed (rest_of s at)) ≡ at_end b
 Steps s b at (Ok (Some (next, c, after))) =
     (commands_from b (listed (rest_of s at)) ≡ with_first (command_of s c) (commands_from (before_of next) (listed (rest_of s after)))) × Behind s at after
-Steps s b at (Err f) = Refuses f (commands_from b (listed (rest_of s at)))
+Steps s b at (Err e) = IsFaultOrMemory e (commands_fault (commands_from b (listed (rest_of s at))))

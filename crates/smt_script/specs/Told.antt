@@ -4,19 +4,23 @@ use Rattle.script_model.specs.Sexp.{Place}
 use Rattle.smt_sexp.specs.Arena.{rest_of, expression_at}
 use Rattle.smt_sexp.specs.Views.{place_of}
 use Rattle.smt_sexp.specs.declared.sexps.Sexps as arena
-use Rattle.smt_sexp.specs.declared.leaf.Place as code
+use Rattle.script_fault.specs.declared.place.Place as code
 use Rattle.smt_script.specs.Commands as defined
-use Rattle.smt_script.specs.Commands.{Said, says, fails, bad_command, wrong_logic, left_out, no_check, sort_form, CommandsRead, commands, command_fault}
+use Rattle.smt_script.specs.Commands.{Said, says, fails, CommandFault, bad_command, wrong_logic, left_out, no_check, sort_form, CommandsRead, commands, command_fault}
 use Rattle.smt_script.specs.Forms.{as_any, as_group, Behind}
 use Rattle.smt_script.specs.Shapes.{shape_group}
-use Rattle.smt_sexp.specs.declared.name.Name as names
+use Rattle.script_fault.specs.declared.name.Name as names
 use Rattle.std.specs.Borrow.{Bor}
 use Rattle.smt_script.specs.Views.{form_of, command_of, commands_in, parameter_of}
 use Rattle.smt_script.specs.declared.words.SortForm.{SortForm}
 use Rattle.smt_script.specs.declared.command.Command.{Command}
 use Rattle.smt_script.specs.declared.command.Script.{Script}
-use Rattle.smt_script.specs.declared.fault.ScriptFault.{ScriptFault}
-use Rattle.smt_script.specs.declared.fault.ScriptFault.TheVariants as faults
+use Rattle.script_fault.specs.Answers.{IsFaultOrMemory}
+use Rattle.script_fault.specs.declared.fault.FaultKind.{FaultKind}
+use Rattle.script_fault.specs.declared.fault.FaultKind.TheVariants.{BadCommand, WrongLogic, LeftOut, NoCheck}
+use Rattle.script_fault.specs.declared.fault.ReadError.{ReadError}
+use Rattle.script_fault.specs.declared.fault.ScriptFault.{ScriptFault}
+use Rattle.smt_sexp.specs.Reads.{fault_at}
 use Rattle.smt_script.specs.declared.lists.Arguments.{Arguments}
 use Rattle.smt_script.specs.declared.lists.Arguments.TheVariants as args
 use Rattle.smt_script.specs.declared.lists.Parameters.{Parameters}
@@ -42,30 +46,31 @@ parameters_of (params.Known ps) = defined.known_parameters (map parameter_of ps.
 parameters_of params.Other = defined.other_parameters
 parameters_of params.Wrong = defined.wrong_parameters
 
--- the fault is this one, at this place, or memory
-abbrev pub FailsAs : Place → ScriptFault → Said → Type 0
-FailsAs at (faults.BadCommand line column) said = (said ≡ fails bad_command) × (at ≡ record { line = line; column = column })
-FailsAs at (faults.WrongLogic line column) said = (said ≡ fails wrong_logic) × (at ≡ record { line = line; column = column })
-FailsAs at (faults.LeftOut line column) said = (said ≡ fails left_out) × (at ≡ record { line = line; column = column })
-FailsAs at (faults.NoCheck line column) said = ⊥
-FailsAs at faults.Memory said = Unit {0}
+abbrev pub command_kind : CommandFault → FaultKind
+command_kind bad_command = BadCommand
+command_kind wrong_logic = WrongLogic
+command_kind left_out = LeftOut
+command_kind no_check = NoCheck
+
+-- the fault of a command at this place
+abbrev pub said_fault : Place → Said → Option ScriptFault
+said_fault at (fails x) = Some (fault_at at (command_kind x))
+said_fault at (says b c) = None
 
 -- the command that is said, with what comes before the next one, or its fault
-abbrev pub Gives : arena.Sexps → defined.Before → Place → Result Command ScriptFault → Said → Type 0
+abbrev pub Gives : arena.Sexps → defined.Before → Place → Result Command ReadError → Said → Type 0
 Gives s b at (Ok c) said = said ≡ says b (command_of s c)
-Gives s b at (Err f) said = FailsAs at f said
+Gives s b at (Err e) said = IsFaultOrMemory e (said_fault at said)
 
--- all commands, or their first fault, or memory
-abbrev pub Refuses : ScriptFault → CommandsRead → Type 0
-Refuses (faults.BadCommand line column) read = read ≡ command_fault (record { line = line; column = column }) bad_command
-Refuses (faults.WrongLogic line column) read = read ≡ command_fault (record { line = line; column = column }) wrong_logic
-Refuses (faults.LeftOut line column) read = read ≡ command_fault (record { line = line; column = column }) left_out
-Refuses (faults.NoCheck line column) read = read ≡ command_fault (record { line = line; column = column }) no_check
-Refuses faults.Memory read = Unit {0}
+-- the first fault of commands
+abbrev pub commands_fault : CommandsRead → Option ScriptFault
+commands_fault (command_fault at x) = Some (fault_at at (command_kind x))
+commands_fault (commands cs) = None
 
-abbrev pub Reads : arena.Sexps → Result Script ScriptFault → CommandsRead → Type 0
+-- all commands, or their first fault
+abbrev pub Reads : arena.Sexps → Result Script ReadError → CommandsRead → Type 0
 Reads s (Ok script) read = (script.sexps.now ≡ s) × (read ≡ commands (commands_in script))
-Reads s (Err f) read = Refuses f read
+Reads s (Err e) read = IsFaultOrMemory e (commands_fault read)
 
 -- a logic is set
 abbrev pub with_set : defined.Before → defined.Before

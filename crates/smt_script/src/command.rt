@@ -1,7 +1,8 @@
 // Commands of a script, over its expressions.
 ghost use Rattle.std.specs.Prelude.{◌≡◌};
 
-use smt_sexp::{Name, Place, Sexps};
+use script_fault::{Name, Place};
+use smt_sexp::Sexps;
 
 /// The sort of a constant or of a definition.
 #[derive(Clone, Copy, Debug, PartialEq, Eq)]

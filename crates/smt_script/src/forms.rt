@@ -3,7 +3,8 @@ ghost use Rattle.std.specs.Prelude.{◌≡◌, Option};
 ghost use Rattle.smt_sexp.specs.Arena.{rest_of};
 ghost use Rattle.smt_script.specs.Forms.{FindsAny, FindsGroup, FindsSymbol, is_end};
 
-use smt_sexp::{Leaf, Name, Place, Seen, Sexps};
+use script_fault::{Name, Place};
+use smt_sexp::{Leaf, Seen, Sexps};
 
 /// The symbol at a place, and the place behind it.
 pub(crate) fn symbol(sexps: &Sexps, at: usize) -> Option<(Place, &Name, usize)>

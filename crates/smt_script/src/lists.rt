@@ -7,7 +7,8 @@ ghost use Rattle.smt_script.specs.Told.{FindsForm, FindsShape, arguments_of, par
 use crate::command::Parameter;
 use crate::forms::{any, ends, group, symbol};
 use crate::words::{SortForm, sort_named};
-use smt_sexp::{Leaf, Name, Place, Seen, Sexps};
+use script_fault::{Name, Place};
+use smt_sexp::{Leaf, Seen, Sexps};
 use std::alloc::{AllocError, Global};
 
 /// The sorts of a declaration's arguments.

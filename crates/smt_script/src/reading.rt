@@ -14,8 +14,9 @@ ghost use Rattle.smt_script.specs.Views.{command_of, word_of};
 use crate::forms::{any, ends, group, symbol};
 use crate::lists::{Arguments, Parameters, arguments_from, parameters_from, sort_form};
 use crate::words::{SortForm, Word, is_logic, word_named};
-use crate::{Command, Script, ScriptFault};
-use smt_sexp::{Leaf, Place, Seen, Sexps};
+use crate::{Command, Script};
+use script_fault::{FaultKind, Place, ReadError};
+use smt_sexp::{Leaf, Seen, Sexps};
 use std::alloc::Global;
 
 /// What came before a command.
@@ -27,7 +28,7 @@ pub(crate) struct Before {
 }
 
 /// The commands of the expressions of a text, or their first fault.
-pub fn commands(alloc: Global, sexps: &Sexps) -> Result<Script<'_>, ScriptFault>
+pub fn commands(alloc: Global, sexps: &Sexps) -> Result<Script<'_>, ReadError>
     ensures { Reads sexps.now result (commands_of (listed (rest_of sexps.now 0))) }
 {
     let mut commands = Vec::new(alloc);
@@ -45,7 +46,7 @@ pub fn commands(alloc: Global, sexps: &Sexps) -> Result<Script<'_>, ScriptFault>
     if before.checked {
         Ok(Script { sexps, commands })
     } else {
-        Err(ScriptFault::NoCheck { line: 0, column: 0 })
+        Err(ReadError::at(Place { line: 0, column: 0 }, FaultKind::NoCheck))
     }
 }
 
@@ -55,7 +56,7 @@ fn step(
     sexps: &Sexps,
     before: Before,
     at: usize,
-) -> Result<Option<(Before, Command<'_>, usize)>, ScriptFault>
+) -> Result<Option<(Before, Command<'_>, usize)>, ReadError>
     ensures { Steps sexps.now (before_of before) at result }
 {
     if before.ended {
@@ -78,7 +79,7 @@ fn command(
     before: Before,
     place: Place,
     inside: usize,
-) -> Result<(Before, Command<'_>), ScriptFault>
+) -> Result<(Before, Command<'_>), ReadError>
     ensures { GivesNext sexps.now (place_of place) result (one_command (before_of before) (sexp.group (place_of place) (rest_of sexps.now inside))) }
 {
     let Some((_, name, at)) = symbol(sexps, inside) else {
@@ -130,7 +131,7 @@ fn by_word(
     word: Word,
     place: Place,
     at: usize,
-) -> Result<Command<'_>, ScriptFault>
+) -> Result<Command<'_>, ReadError>
     ensures { (b : defined.Before) → b.logic ≡ is_set →
         Gives sexps.now (after_word (word_of word) b) (place_of place) result (by_word b (place_of place) (word_of word) (rest_of sexps.now at)) }
 {
@@ -154,7 +155,7 @@ fn alone<'a>(
     place: Place,
     at: usize,
     command: Command<'a>,
-) -> Result<Command<'a>, ScriptFault>
+) -> Result<Command<'a>, ReadError>
     ensures { (b : defined.Before) → Gives sexps.now b (place_of place) result (at_last (rest_of sexps.now at) (says b (command_of sexps.now command.entry))) }
 {
     if ends(sexps, at) {
@@ -164,18 +165,16 @@ fn alone<'a>(
     }
 }
 
-fn bad_command(place: Place) -> ScriptFault
-    ensures { result ≡ ScriptFault.BadCommand place.line place.column }
+fn bad_command(place: Place) -> ReadError
+    ensures { result ≡ ReadError.Fault (record { at = place; kind = FaultKind.BadCommand }) }
 {
-    let Place { line, column } = place;
-    ScriptFault::BadCommand { line, column }
+    ReadError::at(place, FaultKind::BadCommand)
 }
 
-fn left_out(place: Place) -> ScriptFault
-    ensures { result ≡ ScriptFault.LeftOut place.line place.column }
+fn left_out(place: Place) -> ReadError
+    ensures { result ≡ ReadError.Fault (record { at = place; kind = FaultKind.LeftOut }) }
 {
-    let Place { line, column } = place;
-    ScriptFault::LeftOut { line, column }
+    ReadError::at(place, FaultKind::LeftOut)
 }
 
 // A logic of those that are read, where none was set before.
@@ -184,7 +183,7 @@ fn set_logic<'a>(
     is_set: bool,
     place: Place,
     at: usize,
-) -> Result<Command<'a>, ScriptFault>
+) -> Result<Command<'a>, ReadError>
     ensures { (b : defined.Before) → b.logic ≡ is_set →
         Gives sexps.now (with_set b) (place_of place) result (sets_name b (place_of place) (as_symbol (rest_of sexps.now at))) }
 {
@@ -198,14 +197,13 @@ fn set_logic<'a>(
         return Err(bad_command(place));
     }
     if !is_logic(name.as_slice()) {
-        let Place { line, column } = place;
-        return Err(ScriptFault::WrongLogic { line, column });
+        return Err(ReadError::at(place, FaultKind::WrongLogic));
     }
     Ok(Command::Ineffective(place))
 }
 
 // A name and a sort.
-fn declare_const(sexps: &Sexps, place: Place, at: usize) -> Result<Command<'_>, ScriptFault>
+fn declare_const(sexps: &Sexps, place: Place, at: usize) -> Result<Command<'_>, ReadError>
     ensures { (b : defined.Before) → Gives sexps.now b (place_of place) result (declares_name b (place_of place) (as_symbol (rest_of sexps.now at))) }
 {
     let Some((_, name, at)) = symbol(sexps, at) else {
@@ -225,7 +223,7 @@ fn declare_const(sexps: &Sexps, place: Place, at: usize) -> Result<Command<'_>, 
 }
 
 // A name, arguments and a sort: an argument is left out.
-fn declare_fun(sexps: &Sexps, place: Place, at: usize) -> Result<Command<'_>, ScriptFault>
+fn declare_fun(sexps: &Sexps, place: Place, at: usize) -> Result<Command<'_>, ReadError>
     ensures { (b : defined.Before) → Gives sexps.now b (place_of place) result (declares_function_name b (place_of place) (as_symbol (rest_of sexps.now at))) }
 {
     let Some((_, name, at)) = symbol(sexps, at) else {
@@ -255,7 +253,7 @@ fn define_fun(
     sexps: &Sexps,
     place: Place,
     at: usize,
-) -> Result<Command<'_>, ScriptFault>
+) -> Result<Command<'_>, ReadError>
     ensures { (b : defined.Before) → Gives sexps.now b (place_of place) result (defines_name b (place_of place) (as_symbol (rest_of sexps.now at))) }
 {
     let Some((_, name, at)) = symbol(sexps, at) else {
@@ -286,7 +284,7 @@ fn define_fun(
 }
 
 // A term.
-fn assert_term(sexps: &Sexps, place: Place, body: usize) -> Result<Command<'_>, ScriptFault>
+fn assert_term(sexps: &Sexps, place: Place, body: usize) -> Result<Command<'_>, ReadError>
     ensures { (b : defined.Before) → Gives sexps.now b (place_of place) result (asserts_term b (place_of place) (as_any (rest_of sexps.now body))) }
 {
     let Some(at) = any(sexps, body) else {

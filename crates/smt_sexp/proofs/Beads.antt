@@ -10,7 +10,7 @@ use Rattle.smt_sexp.specs.Views.{place_of, leaf_of}
 use Rattle.smt_sexp.specs.declared.sexps.Node.{Node}
 use Rattle.smt_sexp.specs.declared.sexps.Node.TheVariants as nodes
 use Rattle.smt_sexp.specs.declared.leaf.Leaf as code
-use Rattle.smt_sexp.specs.declared.leaf.Place as places
+use Rattle.script_fault.specs.declared.place.Place as places
 use Rattle.smt_sexp.specs.declared.building.Opened.{Opened}
 
 -- ---- a place

@@ -1,24 +1,32 @@
--- What a reader answers.
-use Rattle.std.specs.Prelude.{◌≡◌, Result, Ok, Err}
-use Rattle.smt_sexp.specs.Lexicon as lexicon
-use Rattle.smt_sexp.specs.Lexicon.{TextRead, whole, faulty}
+-- What a reader of a text answers.
+use Rattle.std.specs.Prelude.{◌≡◌, Option, Some, None, Result, Ok, Err}
+use Rattle.script_model.specs.Sexp.{Place}
+use Rattle.script_fault.specs.Answers.{IsFaultOrMemory}
+use Rattle.script_fault.specs.declared.fault.FaultKind.{FaultKind}
+use Rattle.script_fault.specs.declared.fault.FaultKind.TheVariants.{BadByte, OpenToken, Unbalanced, NumberTooWide, TooMany}
+use Rattle.script_fault.specs.declared.fault.ReadError.{ReadError}
+use Rattle.script_fault.specs.declared.fault.ScriptFault.{ScriptFault}
+use Rattle.script_fault.specs.declared.limit.Limit.TheVariants.{Depth}
+use Rattle.smt_sexp.specs.Lexicon.{TextFault, bad_byte, open_token, unbalanced, too_wide, too_deep, TextRead, whole, faulty}
 use Rattle.smt_sexp.specs.Arena.{rest_of, listed}
 use Rattle.smt_sexp.specs.declared.sexps.Sexps as code
-use Rattle.smt_sexp.specs.declared.fault.TextFault.{TextFault}
-use Rattle.smt_sexp.specs.declared.fault.TextFault.TheVariants as faults
-use Rattle.smt_sexp.specs.declared.fault.Limit.TheVariants.{Depth}
 
--- the fault is the text's first one, at its place, or memory
-abbrev pub Refuses : TextFault → TextRead → Type 0
-Refuses (faults.BadByte line column) read = read ≡ faulty (record { line = line; column = column }) lexicon.bad_byte
-Refuses (faults.OpenToken line column) read = read ≡ faulty (record { line = line; column = column }) lexicon.open_token
-Refuses (faults.Unbalanced line column) read = read ≡ faulty (record { line = line; column = column }) lexicon.unbalanced
-Refuses (faults.NumberTooWide line column) read = read ≡ faulty (record { line = line; column = column }) lexicon.too_wide
-Refuses (faults.TooMany line column Depth) read = read ≡ faulty (record { line = line; column = column }) lexicon.too_deep
-Refuses (faults.TooMany line column _) read = ⊥
-Refuses faults.Memory read = Unit {0}
+abbrev pub fault_at : Place → FaultKind → ScriptFault
+fault_at at kind = record { at = record { line = at.line; column = at.column }; kind = kind }
+
+abbrev pub text_kind : TextFault → FaultKind
+text_kind bad_byte = BadByte
+text_kind open_token = OpenToken
+text_kind unbalanced = Unbalanced
+text_kind too_wide = NumberTooWide
+text_kind too_deep = TooMany Depth
+
+-- the first fault of a text
+abbrev pub text_fault : TextRead → Option ScriptFault
+text_fault (faulty at x) = Some (fault_at at (text_kind x))
+text_fault (whole es) = None
 
 -- all expressions of the text, or its first fault
-abbrev pub Reads : Result code.Sexps TextFault → TextRead → Type 0
+abbrev pub Reads : Result code.Sexps ReadError → TextRead → Type 0
 Reads (Ok s) read = read ≡ whole (listed (rest_of s 0))
-Reads (Err f) read = Refuses f read
+Reads (Err e) read = IsFaultOrMemory e (text_fault read)

@@ -1,6 +1,6 @@
 -- How leaves and places of the code are seen.
 use Rattle.script_model.specs.Sexp as sexp
-use Rattle.smt_sexp.specs.declared.leaf.Place.{Place}
+use Rattle.script_fault.specs.declared.place.Place.{Place}
 use Rattle.smt_sexp.specs.declared.leaf.Reserved.{Reserved}
 use Rattle.smt_sexp.specs.declared.leaf.Reserved.TheVariants.{Bang, Underscore, As, Let, Exists, Forall, Match, Par}
 use Rattle.smt_sexp.specs.declared.leaf.Leaf.{Leaf}

@@ -7,7 +7,8 @@ ghost use Rattle.smt_sexp.specs.Lexicon.{Unclosed, put};
 ghost use Rattle.smt_sexp.specs.Views.{leaf_of, place_of};
 
 use crate::sexps::Node;
-use crate::{Leaf, Place, Sexps};
+use crate::{Leaf, Sexps};
+use script_fault::Place;
 use std::alloc::{AllocError, Global};
 
 /// An opening parenthesis that is not closed: its bead and its place.

@@ -1,12 +1,5 @@
 // What stands between parentheses.
-use crate::Name;
-
-/// Where a token begins: line and column, both from 1, the column in bytes.
-#[derive(Clone, Copy, Debug, PartialEq, Eq)]
-pub struct Place {
-    pub line: u32,
-    pub column: u32,
-}
+use script_fault::Name;
 
 /// The words that are no symbols unless they are quoted (SMT-LIB 2.6, section 3.1).
 #[derive(Clone, Copy, Debug, PartialEq, Eq)]

@@ -1,21 +1,17 @@
-//! The tokens and the expressions of a script's text.
+//! The tokens and the expressions of a script's text (SMT-LIB 2.6, sections 3.1 and 3.2).
+//!
+//! `read` answers the expressions of a text, or its first fault. It knows no commands, but for the `(exit)` that ends
+//! a text.
 #![tactic(auto)]
 
 mod building;
 mod bytes;
-mod fault;
 mod leaf;
-mod name;
 mod reading;
 mod sexps;
 mod tokens;
 mod words;
 
-pub use fault::{Limit, TextFault};
-pub use leaf::{Leaf, Place, Reserved};
-pub use name::Name;
+pub use leaf::{Leaf, Reserved};
 pub use reading::read;
 pub use sexps::{Seen, Sexps};
-
-#[cfg(test)]
-mod tests;

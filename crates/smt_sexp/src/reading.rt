@@ -4,20 +4,19 @@ ghost use Rattle.script_model.specs.Sexp as sexp;
 ghost use Rattle.smt_sexp.specs.Building.{Stands};
 ghost use Rattle.smt_sexp.specs.Found.{Finds, front_of};
 ghost use Rattle.smt_sexp.specs.Lexicon.{TextRead, Unclosed, place_after, read};
-ghost use Rattle.smt_sexp.specs.Reads.{Reads, Refuses};
+ghost use Rattle.script_fault.specs.Answers.{IsFaultOrMemory};
+ghost use Rattle.smt_sexp.specs.Reads.{Reads, text_fault};
 ghost use Rattle.smt_sexp.specs.Step.{GoesOn, IsRead, IsReading};
 ghost use Rattle.smt_sexp.specs.Views.{place_of};
 
+use crate::Sexps;
 use crate::building::Building;
 use crate::tokens::{Found, Piece, front};
-use crate::{Limit, Place, Sexps, TextFault};
+use script_fault::{FaultKind, Limit, MOST_DEPTH, Place, ReadError};
 use std::alloc::Global;
 
-// How deep parentheses may stand in one another.
-const DEEPEST: usize = 256;
-
 /// All expressions of a text up to a top-level `(exit)`, or its first fault.
-pub fn read(alloc: Global, bytes: &[u8]) -> Result<Sexps, TextFault>
+pub fn read(alloc: Global, bytes: &[u8]) -> Result<Sexps, ReadError>
     requires { length bytes.now ≤ 67108864 }
     ensures { Reads result (read bytes.now) }
 {
@@ -39,7 +38,7 @@ pub fn read(alloc: Global, bytes: &[u8]) -> Result<Sexps, TextFault>
 }
 
 // Takes what stands at the front of the text, and says whether the text ends with it.
-fn step(building: &mut Building, place: Place, rest: &[u8], found: Found) -> Result<bool, TextFault>
+fn step(building: &mut Building, place: Place, rest: &[u8], found: Found) -> Result<bool, ReadError>
     requires some { 0 < length rest.now }
     requires found { Finds rest.now (front_of rest.now) found }
     requires line { place.line + length rest.now < 2 ^ 32 }
@@ -48,26 +47,21 @@ fn step(building: &mut Building, place: Place, rest: &[u8], found: Found) -> Res
     requires stands { (us : List Unclosed) × (tops : List sexp.Sexp) × Stands building.old us tops }
     ensures ok { (all : TextRead) → IsReading building.old (place_of place) rest.now all →
         IfOk result (GoesOn building.new (place_after (place_of place) (take found.size rest.now)) (drop found.size rest.now) all) }
-    ensures err { (all : TextRead) → IsReading building.old (place_of place) rest.now all → IfErr result (λ fault. Refuses fault all) }
+    ensures err { (all : TextRead) → IsReading building.old (place_of place) rest.now all → IfErr result (λ e. IsFaultOrMemory e (text_fault all)) }
     ensures count { OnOk result (vec_len building.new.nodes ≤ vec_len building.old.nodes + 1) }
 {
-    let Place { line, column } = place;
     match found.piece {
         Piece::Blank => Ok(false),
         Piece::Opening => {
-            if building.open.len() >= DEEPEST {
-                return Err(TextFault::TooMany {
-                    line,
-                    column,
-                    what: Limit::Depth,
-                });
+            if building.open.len() >= MOST_DEPTH {
+                return Err(ReadError::at(place, FaultKind::TooMany(Limit::Depth)));
             }
             building.open(place)?;
             Ok(false)
         }
         Piece::Closing => {
             if building.open.is_empty() {
-                return Err(TextFault::Unbalanced { line, column });
+                return Err(ReadError::at(place, FaultKind::Unbalanced));
             }
             let ends = building.close()?;
             Ok(ends)
@@ -78,11 +72,10 @@ fn step(building: &mut Building, place: Place, rest: &[u8], found: Found) -> Res
         }
         Piece::BadByte(distance) => {
             let (text, _) = rest.split_at(distance);
-            let Place { line, column } = after(place, text);
-            Err(TextFault::BadByte { line, column })
+            Err(ReadError::at(after(place, text), FaultKind::BadByte))
         }
-        Piece::TooWide => Err(TextFault::NumberTooWide { line, column }),
-        Piece::Unended => Err(TextFault::OpenToken { line, column }),
+        Piece::TooWide => Err(ReadError::at(place, FaultKind::NumberTooWide)),
+        Piece::Unended => Err(ReadError::at(place, FaultKind::OpenToken)),
     }
 }
 
@@ -110,14 +103,11 @@ fn after(place: Place, bytes: &[u8]) -> Place
 }
 
 // What was read, where each parenthesis is closed.
-fn finish(building: Building) -> Result<Sexps, TextFault>
+fn finish(building: Building) -> Result<Sexps, ReadError>
     ensures { (all : TextRead) → IsRead building all → Reads result all }
 {
     match building.open.last() {
-        Some(opened) => Err(TextFault::Unbalanced {
-            line: opened.place.line,
-            column: opened.place.column,
-        }),
+        Some(opened) => Err(ReadError::at(opened.place, FaultKind::Unbalanced)),
         None => Ok(Sexps {
             nodes: building.nodes,
         }),

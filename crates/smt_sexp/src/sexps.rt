@@ -3,7 +3,8 @@ ghost use Rattle.std.specs.Prelude.{◌≡◌, ◌↔◌, IsTrue};
 ghost use Rattle.smt_sexp.specs.Seen.{Shows};
 ghost use Rattle.smt_sexp.specs.Arena.{places_of};
 
-use crate::{Leaf, Place};
+use crate::Leaf;
+use script_fault::Place;
 
 /// One bead: an opening parenthesis with the number of beads between it and what follows its group, a leaf, or a closing parenthesis.
 #[derive(Debug, Drop)]

@@ -3,9 +3,10 @@ ghost use Rattle.std.specs.Prelude.{◌≡◌, ◌+◌, ◌<◌, ℕ, IfOk, IsTr
 ghost use Rattle.smt_sexp.specs.Found.{Finds, decimal_at, front_of, keyword_at, number_at, quoted_at, string_at, symbol_at};
 ghost use Rattle.smt_sexp.specs.Lexicon.{is_digit, is_symbol_byte, numeral_front, run};
 
+use crate::Leaf;
 use crate::bytes::{Class, run_len};
 use crate::words::{begins_point, begins_symbol, is_wide, leads_zero, reserved, string_text};
-use crate::{Leaf, Name};
+use script_fault::Name;
 use std::alloc::{AllocError, Global};
 
 /// What a front of a text is.

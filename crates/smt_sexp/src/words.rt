@@ -6,8 +6,9 @@ ghost use Rattle.smt_sexp.specs.Classes.{IsDigit, begins_point, begins_symbol, i
 ghost use Rattle.smt_sexp.specs.Lexicon.{reserved_words, string_text};
 ghost use Rattle.smt_sexp.specs.Views.{reserved_of};
 
+use crate::Reserved;
 use crate::bytes::Class;
-use crate::{Name, Reserved};
+use script_fault::Name;
 use std::alloc::{AllocError, Global};
 
 // Digits without their point, and a power of ten, are a number's up to here.

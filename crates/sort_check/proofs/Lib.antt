@@ -3,5 +3,3 @@ pub mod Calls
 pub mod Failures
 pub mod Known
 pub mod Lists
-pub mod Shapes
-pub mod WellSorted

@@ -5,8 +5,8 @@ use Rattle.script_model.specs.Sexp.{Place, symbol, Sexp, leaf, group, Sexps, non
 use Rattle.script_model.specs.Reading.{Names, Label, meaning, bound_names, binding_meanings, values_bound, let_meaning}
 use Rattle.smt_sexp.specs.Arena.{rest_of, places_of, expression_at}
 use Rattle.smt_sexp.specs.Views.{place_of}
-use Rattle.smt_sexp.specs.declared.leaf.Place as code
-use Rattle.smt_sexp.specs.declared.name.Name as names
+use Rattle.script_fault.specs.declared.place.Place as code
+use Rattle.script_fault.specs.declared.name.Name as names
 use Rattle.smt_sexp.specs.declared.sexps.Sexps as arena
 use Rattle.smt_script.specs.Forms.{Behind}
 use Rattle.smt_script.specs.Views.{parameter_of}

@@ -3,4 +3,3 @@ pub mod Sorts
 pub mod Steps
 pub mod Told
 pub mod Views
-pub mod WellSorted

@@ -1,30 +1,31 @@
 -- What a check of a script's sorts and names answers.
-use Rattle.std.specs.Prelude.{◌≡◌, Bool, true, false, Some, None, option_map, Result, Ok, Err}
+use Rattle.std.specs.Prelude.{◌≡◌, Option, Some, None, Result, Ok, Err}
+use Rattle.script_fault.specs.Answers.{IsFaultOrMemory}
+use Rattle.script_fault.specs.declared.fault.FaultKind.{FaultKind}
+use Rattle.script_fault.specs.declared.fault.FaultKind.TheVariants.{UnknownSymbol, SortMismatch, Redeclared, LeftOut, TooMany}
+use Rattle.script_fault.specs.declared.fault.ReadError.{ReadError}
+use Rattle.script_fault.specs.declared.fault.ScriptFault.{ScriptFault}
+use Rattle.script_fault.specs.declared.limit.Limit.TheVariants.{Axes}
+use Rattle.smt_sexp.specs.Reads.{fault_at}
 use Rattle.smt_script.specs.Views.{commands_in}
 use Rattle.smt_script.specs.declared.command.Script.{Script}
-use Rattle.smt_sexp.specs.declared.fault.Limit.TheVariants.{Axes}
 use Rattle.sort_check.specs.Sorts.{SortFault, unknown_symbol, redeclared, sort_mismatch, real_choice, left_out_form, too_many_axes, Finding, sort_fault}
-use Rattle.sort_check.specs.declared.fault.ScriptFault.{ScriptFault}
-use Rattle.sort_check.specs.declared.fault.ScriptFault.TheVariants as faults
 use Rattle.sort_check.specs.declared.typed.Typed.{Typed}
-use Rattle.script_model.specs.Sexp.{Place}
 
-abbrev pub is_left_out : SortFault → Bool
-is_left_out real_choice = true
-is_left_out left_out_form = true
-is_left_out _ = false
+abbrev pub sort_kind : SortFault → FaultKind
+sort_kind (unknown_symbol name) = UnknownSymbol name
+sort_kind sort_mismatch = SortMismatch
+sort_kind (redeclared name) = Redeclared name
+sort_kind real_choice = LeftOut
+sort_kind left_out_form = LeftOut
+sort_kind too_many_axes = TooMany Axes
 
--- the fault is this one, at its place, or memory
-abbrev pub Refuses : ScriptFault → Finding → Type 0
-Refuses (faults.UnknownSymbol line column name) found = found ≡ Some (record { line = line; column = column }, unknown_symbol name)
-Refuses (faults.SortMismatch line column) found = found ≡ Some (record { line = line; column = column }, sort_mismatch)
-Refuses (faults.Redeclared line column name) found = found ≡ Some (record { line = line; column = column }, redeclared name)
-Refuses (faults.LeftOut line column) found = option_map {U = Place × Bool} (λ x. (x.0, is_left_out x.1)) found ≡ Some (record { line = line; column = column }, true)
-Refuses (faults.TooMany line column Axes) found = found ≡ Some (record { line = line; column = column }, too_many_axes)
-Refuses (faults.TooMany line column _) found = ⊥
-Refuses faults.Memory found = Unit {0}
+-- a fault that was found, as it is answered
+abbrev pub finding_fault : Finding → Option ScriptFault
+finding_fault (Some (at, x)) = Some (fault_at at (sort_kind x))
+finding_fault None = None
 
 -- the same commands, which have no fault, or their first one
-abbrev pub Checks : Script → Result Typed ScriptFault → Type 0
+abbrev pub Checks : Script → Result Typed ReadError → Type 0
 Checks script (Ok typed) = (typed.script ≡ script) × (sort_fault (commands_in script) ≡ None)
-Checks script (Err f) = Refuses f (sort_fault (commands_in script))
+Checks script (Err e) = IsFaultOrMemory e (finding_fault (sort_fault (commands_in script)))

@@ -12,13 +12,11 @@ ghost use Rattle.sort_check.specs.Steps.{FindsFault, Steps};
 use crate::expressions::expression;
 use crate::names::{Known, is_operator, is_same, is_taken};
 use crate::stop::{Fault, Stop};
+use script_fault::{MOST_AXES, Name, Place};
 use smt_script::{Command, Parameter, Script, Sort};
-use smt_sexp::{Name, Place, Seen, Sexps};
+use smt_sexp::{Seen, Sexps};
 use std::alloc::Global;
 use std::collections::HashMap;
-
-/// As many constants as a script may declare.
-const MOST_AXES: usize = 1_024;
 
 /// The first fault of a script's names and sorts.
 pub(crate) fn sorts<'p, 'a>(alloc: Global, script: &'p Script<'a>) -> Result<(), Stop<'a>>

@@ -11,8 +11,9 @@ use crate::forms::{behind, binding, ends, let_form};
 use crate::names::{Head, Known, fits, head_of, is_taken};
 use crate::operators::operator_sort;
 use crate::stop::{Fault, Stop, if_takes, unknown};
+use script_fault::{Name, Place};
 use smt_script::{Parameter, Sort};
-use smt_sexp::{Leaf, Name, Place, Reserved, Seen, Sexps};
+use smt_sexp::{Leaf, Reserved, Seen, Sexps};
 use std::alloc::Global;
 use std::collections::HashMap;
 

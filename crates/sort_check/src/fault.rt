@@ -1,55 +1,33 @@
-// Why the sorts and names of a script are refused.
+// The first fault of a script's names and sorts, with names of its own.
 ghost use Rattle.std.specs.Prelude.{Err};
+ghost use Rattle.script_fault.specs.Answers.{IsFaultOrMemory};
 ghost use Rattle.sort_check.specs.Sorts.{Finding};
 ghost use Rattle.sort_check.specs.Steps.{FindsFault};
-ghost use Rattle.sort_check.specs.Told.{Refuses};
+ghost use Rattle.sort_check.specs.Told.{finding_fault};
 
 use crate::stop::{Fault, Stop};
-use smt_sexp::{Limit, Name, Place};
+use script_fault::{FaultKind, Limit, Name, ReadError};
 use std::alloc::Global;
-use thiserror::Error;
 
-/// The first fault of a script's names and sorts, with its place: that of the expression, of the name, or of the command that declares it.
-#[derive(Debug, Drop, Error)]
-pub enum ScriptFault {
-    #[error("unknown symbol {name} at {line}:{column}")]
-    UnknownSymbol { line: u32, column: u32, name: Name },
-    #[error("sorts do not fit at {line}:{column}")]
-    SortMismatch { line: u32, column: u32 },
-    #[error("{name} is declared again at {line}:{column}")]
-    Redeclared { line: u32, column: u32, name: Name },
-    #[error("left out of the language at {line}:{column}")]
-    LeftOut { line: u32, column: u32 },
-    #[error("too many {what:?} at {line}:{column}")]
-    TooMany { line: u32, column: u32, what: Limit },
-    #[error("no memory")]
-    Memory,
-}
-
-/// What stops a check, with names of its own.
-pub(crate) fn told(alloc: Global, stop: Stop<'_>) -> ScriptFault
-    ensures { (found : Finding) → FindsFault (Err stop.entry) found → Refuses result found }
+/// What stops a check, with a name of its own. Until here a name is borrowed, so that no step of a check copies one.
+pub(crate) fn owned(alloc: Global, stop: Stop<'_>) -> ReadError
+    ensures { (found : Finding) → FindsFault (Err stop.entry) found → IsFaultOrMemory result (finding_fault found) }
 {
     let Stop::Fault(place, fault) = stop else {
-        return ScriptFault::Memory;
+        return ReadError::Memory;
     };
-    let Place { line, column } = place;
     match fault {
         Fault::UnknownSymbol(name) => match Name::from_slice(alloc, name.as_slice()) {
-            Ok(name) => ScriptFault::UnknownSymbol { line, column, name },
-            Err(_) => ScriptFault::Memory,
+            Ok(name) => ReadError::at(place, FaultKind::UnknownSymbol(name)),
+            Err(_) => ReadError::Memory,
         },
         Fault::Redeclared(name) => match Name::from_slice(alloc, name.as_slice()) {
-            Ok(name) => ScriptFault::Redeclared { line, column, name },
-            Err(_) => ScriptFault::Memory,
+            Ok(name) => ReadError::at(place, FaultKind::Redeclared(name)),
+            Err(_) => ReadError::Memory,
         },
-        Fault::SortMismatch => ScriptFault::SortMismatch { line, column },
-        Fault::RealChoice => ScriptFault::LeftOut { line, column },
-        Fault::LeftOut => ScriptFault::LeftOut { line, column },
-        Fault::TooManyAxes => ScriptFault::TooMany {
-            line,
-            column,
-            what: Limit::Axes,
-        },
+        Fault::SortMismatch => ReadError::at(place, FaultKind::SortMismatch),
+        Fault::RealChoice => ReadError::at(place, FaultKind::LeftOut),
+        Fault::LeftOut => ReadError::at(place, FaultKind::LeftOut),
+        Fault::TooManyAxes => ReadError::at(place, FaultKind::TooMany(Limit::Axes)),
     }
 }

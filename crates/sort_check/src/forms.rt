@@ -5,7 +5,8 @@ ghost use Rattle.smt_sexp.specs.Arena.{rest_of};
 ghost use Rattle.smt_script.specs.Forms.{FindsAny, is_end};
 ghost use Rattle.sort_check.specs.Forms.{FindsBinding, FindsLet};
 
-use smt_sexp::{Leaf, Name, Place, Seen, Sexps};
+use script_fault::{Name, Place};
+use smt_sexp::{Leaf, Seen, Sexps};
 
 /// The place behind the expression at a place.
 pub fn behind(sexps: &Sexps, at: usize) -> Option<usize>

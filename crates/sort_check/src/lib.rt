@@ -1,8 +1,9 @@
 //! The sorts and names of a script.
+//!
+//! `check` answers the same script, all of whose names and sorts fit, or its first fault. No term is built here.
 #![tactic(auto)]
 
 ghost use Rattle.sort_check.specs.Told.{Checks};
-ghost use Rattle.sort_check.specs.WellSorted.{SortedUnfolds};
 
 mod commands;
 mod expressions;
@@ -13,27 +14,19 @@ mod operators;
 mod stop;
 mod typed;
 
-pub use fault::ScriptFault;
 pub use forms::{behind, binding, ends, let_form};
 pub use operators::{Operator, operator_named};
+use script_fault::ReadError;
 use smt_script::Script;
 use std::alloc::Global;
 pub use typed::Typed;
 
 /// The same script, or the first fault of its names and sorts.
-pub fn check<'a>(alloc: Global, script: Script<'a>) -> Result<Typed<'a>, ScriptFault>
+pub fn check<'a>(alloc: Global, script: Script<'a>) -> Result<Typed<'a>, ReadError>
     ensures { Checks script.entry result }
 {
     match commands::sorts(alloc, &script) {
         Ok(()) => Ok(Typed { script }),
-        Err(stop) => Err(fault::told(alloc, stop)),
+        Err(stop) => Err(fault::owned(alloc, stop)),
     }
 }
-
-/// Each assertion of a well-sorted script unfolds to a formula, or to a fault of a constant step or a division.
-pub fn sorted_unfolds()
-    ensures { SortedUnfolds }
-{}
-
-#[cfg(test)]
-mod tests;

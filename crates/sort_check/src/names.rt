@@ -6,8 +6,8 @@ ghost use Rattle.sort_check.specs.Sorts.{Sorted, fit, is_operator, is_taken, nam
 ghost use Rattle.sort_check.specs.Views.{Heads, Knows, around, named_of, names_back, names_of, sorts_seen};
 
 use crate::operators::{Operator, operator_named};
+use script_fault::Name;
 use smt_script::{Parameter, Sort};
-use smt_sexp::Name;
 use std::collections::HashMap;
 
 /// What a name of the top stands for.

@@ -6,8 +6,8 @@ ghost use Rattle.sort_check.specs.Views.{Says, operator_of, later_operators, sor
 ghost use Rattle.smt_sexp.specs.Views.{place_of};
 
 use crate::stop::{Fault, Stop, if_takes};
+use script_fault::Place;
 use smt_script::Sort;
-use smt_sexp::Place;
 
 /// A symbol of the theories.
 #[derive(Clone, Copy, Debug)]

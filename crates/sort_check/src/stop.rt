@@ -7,8 +7,8 @@ ghost use Rattle.smt_sexp.specs.Views.{place_of};
 ghost use Rattle.smt_script.specs.Views.{sort_of};
 ghost use Rattle.sort_check.specs.declared.stop.Stop.TheVariants.{Memory};
 
+use script_fault::{Name, Place};
 use smt_script::Sort;
-use smt_sexp::{Name, Place};
 use std::alloc::{AllocError, AllocFailed};
 
 /// A fault of the sorts and names of a script.

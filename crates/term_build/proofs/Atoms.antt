@@ -181,6 +181,7 @@ kept_ask m m' xs x r e h b t i = go r i
 pub seen_ask : (m m' : Made) (xs : List (ℕ × Kind)) (x : ℕ × Kind) (r : Result ℕ NoNode) (s : Result ℕ Stop) → m ≡ m' → s ≡ limited_to r → IsMade m → x.0 < length m'.nodes → AreAtoms xs →
     MatchResult r (AtomInterned m.atoms xs x) (AtomRefused m.atoms xs x) →
     Does m' (with_atoms m xs) (λ claim s. ask_atom claim s (full_atom (graph_terms m'.nodes) x)) s (IsAtom (with_atoms m xs) (full_atom (graph_terms m'.nodes) x))
+unfolding Rattle.term_build.specs.Does.IsBeyond
 seen_ask m m' xs x r s e d h b t i =
     subst (λ (n : Made). Does n (with_atoms m xs) (λ claim s. ask_atom claim s (full_atom (graph_terms n.nodes) x)) s (IsAtom (with_atoms m xs) (full_atom (graph_terms n.nodes) x))) e
     (subst (λ (s : Result ℕ Stop). Does m (with_atoms m xs) (λ claim s. ask_atom claim s (full_atom (graph_terms m.nodes) x)) s (IsAtom (with_atoms m xs) (full_atom (graph_terms m.nodes) x))) (sym d) (go r i))

@@ -10,7 +10,8 @@ use Rattle.dyadic.specs.Views.{fraction_of_frac}
 use Rattle.dyadic.specs.declared.frac.Frac.{Frac}
 use Rattle.script_model.specs.Sexp.{Place}
 use Rattle.smt_sexp.specs.Views.{place_of}
-use Rattle.smt_sexp.specs.declared.leaf.Place as code
+use Rattle.script_fault.specs.declared.limit.Limit.TheVariants.{Bytes, Depth, Axes, Size, Nodes, Atoms, Forms}
+use Rattle.script_fault.specs.declared.place.Place as code
 use Rattle.smt_script.specs.Views.{sort_of}
 use Rattle.smt_script.specs.declared.command.Sort as code_sort
 use Rattle.poly_graph.specs.Term.{Term, constant, variable, negate, add, multiply, square, Node, constant_node, variable_node, negate_node, add_node, multiply_node, square_node, node_term, graph_terms}
@@ -60,8 +61,15 @@ pub stops_so : (claim : Place) (w w' : Walked) (e : Stop) → w ≡ w' → Stops
 stops_so claim w w' e h k = subst (λ (x : Walked). StopsAs claim x e) (sym h) k
 
 pub stopped_on : (claim : Place) (w : Walked) (f : Stand → Walked) (e : Stop) → StopsAs claim w e → StopsAs claim (goes_on f w) e
+unfolding Rattle.term_build.specs.Does.IsBeyond
 stopped_on claim w f (stop.Fault at x) h = ap (goes_on f) h
-stopped_on claim w f (stop.TooMany what) h = ap (goes_on f) h
+stopped_on claim w f (stop.TooMany Size) h = ap (goes_on f) h
+stopped_on claim w f (stop.TooMany Nodes) h = ap (goes_on f) h
+stopped_on claim w f (stop.TooMany Atoms) h = ap (goes_on f) h
+stopped_on claim w f (stop.TooMany Forms) h = ap (goes_on f) h
+stopped_on claim w f (stop.TooMany Bytes) h = h
+stopped_on claim w f (stop.TooMany Depth) h = h
+stopped_on claim w f (stop.TooMany Axes) h = h
 stopped_on claim w f stop.Memory h = tt
 
 pub emits_then : {X Y : Type 0} (P : X → Type 0) (Q : Y → Type 0) (m m1 m2 : Made) (es fs : List Event) (k : X) (r : Result Y Stop) → Emits m m1 es (Ok k) P → Emits m1 m2 fs r Q → Emits m m2 (es ++ fs) r Q

@@ -259,6 +259,7 @@ kept_form m m' ns n r e h o f g i = go r i
 pub seen_form : (m m' : Made) (ns : List FormNode) (n : FormNode) (r : Result ℕ NoNode) (s : Result ℕ Stop) → m ≡ m' → s ≡ limited_to r → IsMade m → IsTrue (form_comes_after (length m'.forms) n) → IsFormNode m'.sorts (length m'.atoms) n → IsFormGraph ns →
     MatchResult r (FormInterned m.forms ns n) (FormRefused m.forms ns n) →
     Does m' (with_forms m ns) (λ claim s. make_form claim s (node_form (graph_forms m'.forms) n)) s (IsForm (with_forms m ns) (node_form (graph_forms m'.forms) n))
+unfolding Rattle.term_build.specs.Does.IsBeyond
 seen_form m m' ns n r s e d h o f g i =
     subst (λ (x : Made). Does x (with_forms m ns) (λ claim s. make_form claim s (node_form (graph_forms x.forms) n)) s (IsForm (with_forms m ns) (node_form (graph_forms x.forms) n))) e
     (subst (λ (s : Result ℕ Stop). Does m (with_forms m ns) (λ claim s. make_form claim s (node_form (graph_forms m.forms) n)) s (IsForm (with_forms m ns) (node_form (graph_forms m.forms) n))) (sym d) (go r i))

@@ -105,6 +105,7 @@ kept_made m ns n (Err Memory) h o f g i = same-nodes m ns i h
 pub does_make : (m : Made) (ns : List Node) (n : Node) (r : Result ℕ NoNode) (s : Result ℕ Stop) → s ≡ limited_to r → IsMade m → IsTrue (comes_after (length m.nodes) n) → IsNode m.sorts n → IsGraph ns →
     MatchResult r (Interned m.nodes ns n) (NodeRefused m.nodes ns n) →
     Does m (with_nodes m ns) (λ claim s. make_tree claim s (node_term (graph_terms m.nodes) n)) s (IsTree (with_nodes m ns) (node_term (graph_terms m.nodes) n))
+unfolding Rattle.term_build.specs.Does.IsBeyond
 does_make m ns n r s e h o f g i = subst (λ (s : Result ℕ Stop). Does m (with_nodes m ns) (λ claim s. make_tree claim s (node_term (graph_terms m.nodes) n)) s (IsTree (with_nodes m ns) (node_term (graph_terms m.nodes) n))) (sym e) (go r i)
   where
     go : (r : Result ℕ NoNode) → MatchResult r (Interned m.nodes ns n) (NodeRefused m.nodes ns n) →

@@ -6,8 +6,7 @@ use Rattle.dyadic.proofs.Equal.{both_true}
 use Rattle.dyadic.specs.Fraction.{zero_fraction}
 use Rattle.poly_graph.specs.Term.{Term, constant, Node, constant_node, variable_node, negate_node, add_node, multiply_node, square_node, node_term, terms_after, graph_terms, comes_after, Kind}
 use Rattle.poly_graph.specs.Shared.{IsGraph, IsNew}
-use Rattle.poly_graph.proofs.Graphs.{unfolds, length_terms}
-use Rattle.poly_graph.proofs.Narrows.{in_order_at}
+use Rattle.poly_graph.proofs.Graphs.{unfolds, length_terms, in_order_at}
 use Rattle.poly_graph.proofs.Same.{one_number}
 use Rattle.script_forms.specs.Terms.{same_term}
 use Rattle.script_forms.specs.Walk.{has_tree}

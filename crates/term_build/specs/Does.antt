@@ -13,8 +13,8 @@ use Rattle.poly_graph.specs.declared.refused.Limit.TheVariants as limit
 use Rattle.term_build.specs.Built.{Made, stand_of}
 use Rattle.term_build.specs.declared.stop.Fault.{Fault}
 use Rattle.term_build.specs.declared.stop.Fault.TheVariants.{NumberTooWide, DivisorNotConstant, ZeroDivisor, IllFormed}
-use Rattle.term_build.specs.declared.stop.Amount.{Amount}
-use Rattle.term_build.specs.declared.stop.Amount.TheVariants.{Size, Nodes, Atoms, Forms}
+use Rattle.script_fault.specs.declared.limit.Limit.{Limit}
+use Rattle.script_fault.specs.declared.limit.Limit.TheVariants.{Bytes, Depth, Axes, Size, Nodes, Atoms, Forms}
 use Rattle.term_build.specs.declared.stop.Stop.{Stop}
 use Rattle.term_build.specs.declared.stop.Stop.TheVariants as stop
 
@@ -24,16 +24,20 @@ fault_of at DivisorNotConstant = terms.divisor_not_constant at
 fault_of at ZeroDivisor = terms.zero_divisor at
 fault_of at IllFormed = terms.ill_formed at
 
-abbrev pub limit_of : Amount → BuildingFault
-limit_of Size = too_large
-limit_of Nodes = too_many_nodes
-limit_of Atoms = too_many_atoms
-limit_of Forms = too_many_forms
+-- within the assertion at this place the walk goes beyond a limit of a builder, which are these four
+unfoldable pub IsBeyond : Place → Walked → Limit → Type 0
+IsBeyond claim w Size = w ≡ stops claim too_large
+IsBeyond claim w Nodes = w ≡ stops claim too_many_nodes
+IsBeyond claim w Atoms = w ≡ stops claim too_many_atoms
+IsBeyond claim w Forms = w ≡ stops claim too_many_forms
+IsBeyond claim w Bytes = ⊥
+IsBeyond claim w Depth = ⊥
+IsBeyond claim w Axes = ⊥
 
 -- the walk stops so, within the assertion at this place
 abbrev pub StopsAs : Place → Walked → Stop → Type 0
 StopsAs claim w (stop.Fault at x) = w ≡ stops (place_of at) (unfolds_not (fault_of (place_of at) x))
-StopsAs claim w (stop.TooMany what) = w ≡ stops claim (limit_of what)
+StopsAs claim w (stop.TooMany what) = IsBeyond claim w what
 StopsAs claim w stop.Memory = Unit {0}
 
 -- within each assertion the walk goes on from what was made to what is made now, or stops

@@ -14,15 +14,13 @@ ghost use Rattle.script_forms.specs.Walk.{after_event, ask_atom, make_form, make
 ghost use Rattle.term_build.specs.Built.{IsFormNode, IsMade, begun, full_atom};
 ghost use Rattle.term_build.specs.Does.{Does, IsAtom, IsForm, IsTree};
 
-use crate::stop::{Amount, Stop, limited};
+use crate::stop::{Stop, limited};
 use dyadic::Frac;
 use poly_graph::{Atom, AtomTable, FormGraph, FormNode, Graph, Kind, Node};
+use script_fault::{Limit, MOST_SIZE};
 use smt_script::Sort;
 use std::alloc::Global;
 use std::marker::Model;
-
-/// As many expressions as may be reached.
-pub const MOST_SIZE: u32 = 1_048_576;
 
 /// What is made of a script: the number of expressions that were reached, and each node, atom and node of a form once.
 #[derive(Drop)]
@@ -107,12 +105,13 @@ impl Builder {
     }
 
     /// One more expression is reached.
+    #[tactic(auto, unfolding(crate::specs::Does::IsBeyond))]
     pub fn reach(&mut self) -> Result<(), Stop>
         ensures does { Does self.old self.new (λ claim s. after_event claim s reached) result (λ _. Unit {0}) }
         ensures sorts { self.new.sorts ≡ self.old.sorts }
     {
         if self.size >= MOST_SIZE {
-            return Err(Stop::TooMany(Amount::Size));
+            return Err(Stop::TooMany(Limit::Size));
         }
         self.size += 1;
         Ok(())

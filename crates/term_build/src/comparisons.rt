@@ -13,7 +13,7 @@ ghost use Rattle.term_build.specs.Steps.{Emits, IsTreeOf, tree_of};
 use crate::builder::Builder;
 use crate::stop::Stop;
 use poly_graph::{FormNode, Kind};
-use smt_sexp::Place;
+use script_fault::Place;
 
 impl Builder {
     // Whether a tree is the constant 0.

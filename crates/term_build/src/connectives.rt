@@ -10,7 +10,7 @@ ghost use Rattle.term_build.specs.declared.connectives.Pair as code_pair;
 
 use crate::sketch::Drawn;
 use poly_graph::Kind;
-use smt_sexp::Place;
+use script_fault::Place;
 use std::alloc::{AllocError, Global};
 
 /// A Bool expression: the node of its truth in a sketch, and that of its negation.

@@ -1,4 +1,7 @@
 //! The builder of a problem's terms, atoms and form: what is made, once each, within its limits.
+//!
+//! `Builder` makes a node for each step of a term or a form, or stops; `make_form` makes the form of a whole script. It
+//! knows no names and no expressions.
 #![tactic(auto)]
 
 mod builder;
@@ -9,11 +12,8 @@ mod sketch;
 mod steps;
 mod stop;
 
-pub use builder::{Builder, MOST_SIZE};
+pub use builder::Builder;
 pub use connectives::Pair;
 pub use shape::make_form;
 pub use sketch::Drawn;
-pub use stop::{Amount, Fault, Stop};
-
-#[cfg(test)]
-mod tests;
+pub use stop::{Fault, Stop};

@@ -1,6 +1,6 @@
 // The forms of expressions before their atoms have numbers.
 use poly_graph::Kind;
-use smt_sexp::Place;
+use script_fault::Place;
 
 /// A node of the forms of expressions, with its comparisons in place. The numbers of `And` and `Or` are those of
 /// their children, which come before it.

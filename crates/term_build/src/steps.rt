@@ -14,7 +14,7 @@ use crate::builder::Builder;
 use crate::stop::{Fault, Stop};
 use dyadic::{Frac, TooWide};
 use poly_graph::Node;
-use smt_sexp::Place;
+use script_fault::Place;
 
 // A square, or a product of two.
 fn product_node(a: u32, b: u32, same: bool) -> Node

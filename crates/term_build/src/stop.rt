@@ -3,8 +3,8 @@ ghost use Rattle.std.specs.Prelude.{◌≡◌};
 ghost use Rattle.term_build.specs.Does.{limited_to};
 ghost use Rattle.term_build.specs.declared.stop.Stop.TheVariants.{Memory};
 
-use poly_graph::{Limit, NoNode};
-use smt_sexp::Place;
+use poly_graph::NoNode;
+use script_fault::{Limit, Place};
 use std::alloc::{AllocError, AllocFailed};
 
 /// A fault of an expression's unfolding.
@@ -17,20 +17,11 @@ pub enum Fault {
     IllFormed,
 }
 
-/// What there are too many of.
-#[derive(Clone, Copy, Debug, PartialEq, Eq)]
-pub enum Amount {
-    Size,
-    Nodes,
-    Atoms,
-    Forms,
-}
-
 /// A fault where it stands, a limit, or memory.
 #[derive(Clone, Copy, Debug, PartialEq, Eq)]
 pub enum Stop {
     Fault(Place, Fault),
-    TooMany(Amount),
+    TooMany(Limit),
     Memory,
 }
 
@@ -56,9 +47,9 @@ pub(crate) fn limited(made: Result<u32, NoNode>) -> Result<u32, Stop>
 {
     match made {
         Ok(k) => Ok(k),
-        Err(NoNode::TooMany(Limit::Nodes)) => Err(Stop::TooMany(Amount::Nodes)),
-        Err(NoNode::TooMany(Limit::Atoms)) => Err(Stop::TooMany(Amount::Atoms)),
-        Err(NoNode::TooMany(Limit::Forms)) => Err(Stop::TooMany(Amount::Forms)),
+        Err(NoNode::TooMany(poly_graph::Limit::Nodes)) => Err(Stop::TooMany(Limit::Nodes)),
+        Err(NoNode::TooMany(poly_graph::Limit::Atoms)) => Err(Stop::TooMany(Limit::Atoms)),
+        Err(NoNode::TooMany(poly_graph::Limit::Forms)) => Err(Stop::TooMany(Limit::Forms)),
         Err(NoNode::Memory) => Err(Stop::Memory),
     }
 }

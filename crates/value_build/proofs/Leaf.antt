@@ -3,12 +3,11 @@ use Rattle.std.proofs.Common.{◌≡◌, ℕ, zero, suc, List, [], ◌∷◌, re
 use Rattle.std.specs.Prelude.{Result, Ok, Err}
 use Rattle.dyadic.specs.Fraction.{Fraction, IsFraction}
 use Rattle.dyadic.specs.Lowest.{reduced}
-use Rattle.script_model.specs.Declared.{known}
+use Rattle.script_model.specs.Declared.{known, Bound, constant_of, constant_bounding}
 use Rattle.script_forms.specs.Terms.{term}
 use Rattle.script_forms.proofs.Lowest.{reduced_same}
 use Rattle.value_build.proofs.Weights.{is_same}
 use Rattle.dyadic.specs.Point.{Sort, real_sort, bool_sort}
-use Rattle.script_model.specs.Declared.{Bound, constant_of, constant_bounding}
 use Rattle.poly_graph.specs.Problem.{HasSort}
 use Rattle.poly_graph.specs.Term.{Term, variable, constant}
 use Rattle.script_forms.specs.Work.{made, reached, ending}

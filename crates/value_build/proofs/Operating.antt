@@ -9,7 +9,7 @@ use Rattle.script_model.specs.Reading.{Operator, truth, falsehood, negation, con
 use Rattle.script_model.specs.Declared.{Bound, Bounding, bounds, bounds_in, concat, bounding_operation}
 use Rattle.script_model.specs.Meaning.{neighbours, pairs}
 use Rattle.smt_sexp.specs.Views.{place_of}
-use Rattle.smt_sexp.specs.declared.leaf.Place as code_place
+use Rattle.script_fault.specs.declared.place.Place as code_place
 use Rattle.poly_graph.specs.Term.{Term, eq}
 use Rattle.poly_graph.proofs.Graphs.{length_terms}
 use Rattle.script_forms.specs.Terms.{Unfolded, term, refused, ill_formed}

@@ -9,7 +9,7 @@ ghost use Rattle.term_build.specs.Pairs.{tree_at, trees_at};
 ghost use Rattle.term_build.specs.Steps.{Emits, IsTreeOf, tree_of};
 ghost use Rattle.value_build.specs.Arithmetic.{AreNodes, events_of_step, is_difference, operator_of_step, tree_of_step};
 
-use smt_sexp::Place;
+use script_fault::Place;
 use term_build::{Builder, Stop};
 
 /// A step of two trees.

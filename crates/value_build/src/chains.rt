@@ -7,7 +7,7 @@ ghost use Rattle.term_build.specs.Shapes.{drawn_of};
 ghost use Rattle.value_build.specs.Chains.{AddsComparisons, AddsConnected, ComparesEach, ConnectsEach, others_of, two_of};
 
 use poly_graph::Kind;
-use smt_sexp::Place;
+use script_fault::Place;
 use std::alloc::{AllocError, Global};
 use term_build::{Drawn, Pair};
 

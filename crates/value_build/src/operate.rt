@@ -20,7 +20,7 @@ use crate::chains::{Spread, compare_each, connect_each};
 use crate::value::Value;
 use declared_box::BoundTable;
 use poly_graph::Kind;
-use smt_sexp::Place;
+use script_fault::Place;
 use sort_check::Operator;
 use std::alloc::{AllocError, Global};
 use term_build::{Builder, Drawn, Fault, Pair, Stop};

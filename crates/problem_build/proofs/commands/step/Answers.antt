@@ -5,7 +5,6 @@ use Rattle.smt_sexp.specs.Arena.{expression_at}
 use Rattle.smt_sexp.specs.Views.{place_of}
 use Rattle.problem_build.specs.Standing.{Stands, walk_of}
 use Rattle.problem_build.specs.declared.top.Top.{Top}
-use Rattle.problem_build.proofs.Sound.{claims_sorted}
 use Rattle.problem_build.proofs.Standing as standing
 use Rattle.problem_build.proofs.commands.step.Goals as goal
 
@@ -39,20 +38,7 @@ returns-in-Err c = λ script rest h0.
     let e = expression_at c.args.sexps.now d.body in
     let h = subst (λ (x : Command). Stands c.args.sexps.now script (command_of c.args.sexps.now x ∷ rest) c.args.maker.now c.args.top.now c.args.axis c.args.claims.now.items) d.is h0 in
     let a = c.in-Err.ensures.asserts in
-    c.stopped.ensures (walk_of script) (standing.stopped c.args.sexps.now script rest c.args.maker.now c.args.top.now c.args.axis c.args.claims.now.items (place_of d.place) e h c.assertion.new.maker c.in-Err.stop a)
+    c.building_error.ensures (walk_of script) (standing.stopped c.args.sexps.now script rest c.args.maker.now c.args.top.now c.args.axis c.args.claims.now.items (place_of d.place) e h c.assertion.new.maker c.in-Err.stop a)
 
 pub assertion-requires : goal.assertion-requires
 assertion-requires c = c.requires.stand.fits
-
-pub stopped-requires : goal.stopped-requires
-stopped-requires c =
-    let d = c.in-Assert in
-    let e = expression_at c.args.sexps.now d.body in
-    let n = c.requires in
-    let h = subst (λ (x : Command). Stands c.args.sexps.now n.script (command_of c.args.sexps.now x ∷ n.rest) c.args.maker.now c.args.top.now c.args.axis c.args.claims.now.items) d.is n.stand in
-    let a = c.in-Err.ensures.asserts in
-    record {
-      walked = walk_of n.script;
-      sorted = claims_sorted n.script n.sorted;
-      so = standing.stopped c.args.sexps.now n.script n.rest c.args.maker.now c.args.top.now c.args.axis c.args.claims.now.items (place_of d.place) e h c.assertion.new.maker c.in-Err.stop a;
-    }

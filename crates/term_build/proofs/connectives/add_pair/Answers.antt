@@ -1,6 +1,5 @@
-use Rattle.std.proofs.Common.{map}
+use Rattle.std.proofs.Common.{map, Ok, Err}
 use Rattle.term_build.specs.Shapes.{drawn_of}
-use Rattle.std.proofs.Common.{Ok, Err}
 use Rattle.term_build.proofs.Pairs.{adds_second, adds_both}
 use Rattle.term_build.proofs.connectives.add_pair.Goals as goal
 

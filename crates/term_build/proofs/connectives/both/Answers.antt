@@ -1,6 +1,5 @@
-use Rattle.std.proofs.Common.{map}
+use Rattle.std.proofs.Common.{map, ℕ, List, subst}
 use Rattle.term_build.specs.Shapes.{drawn_of}
-use Rattle.std.proofs.Common.{ℕ, List, subst}
 use Rattle.term_build.specs.Sketch.{all_drawn}
 use Rattle.term_build.specs.Pairs.{Adds}
 use Rattle.term_build.proofs.Pairs.{joins_all}

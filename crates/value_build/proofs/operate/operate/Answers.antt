@@ -1,6 +1,5 @@
-use Rattle.std.proofs.Common.{map, sym, ap₂, subst, ◌∙◌, List, ℕ, length}
+use Rattle.std.proofs.Common.{map, sym, ap₂, subst, ◌∙◌, List, ℕ, length, ◌<◌}
 use Rattle.std.specs.List.{All}
-use Rattle.std.proofs.Common.{◌<◌}
 use Rattle.smt_sexp.specs.Views.{place_of}
 use Rattle.sort_check.specs.Views.{operator_of}
 use Rattle.term_build.specs.Built.{stand_of}

@@ -1,6 +1,5 @@
-use Rattle.std.proofs.Common.{map}
+use Rattle.std.proofs.Common.{map, subst, sym}
 use Rattle.term_build.specs.Shapes.{drawn_of}
-use Rattle.std.proofs.Common.{subst, sym}
 use Rattle.poly_graph.specs.Views.{kind_of}
 use Rattle.poly_graph.specs.declared.node.Kind.{Kind}
 use Rattle.smt_sexp.specs.Views.{place_of}

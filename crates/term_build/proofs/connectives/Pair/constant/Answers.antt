@@ -1,6 +1,5 @@
-use Rattle.std.proofs.Common.{map}
+use Rattle.std.proofs.Common.{map, subst, sym, Bool}
 use Rattle.term_build.specs.Shapes.{drawn_of}
-use Rattle.std.proofs.Common.{subst, sym, Bool}
 use Rattle.term_build.specs.Pairs.{Writes, constant_formula}
 use Rattle.term_build.proofs.Pairs.{writes_true, writes_false}
 use Rattle.term_build.proofs.connectives.Pair.constant.Goals as goal

@@ -1,6 +1,5 @@
-use Rattle.std.proofs.Common.{map}
+use Rattle.std.proofs.Common.{map, subst, List, ℕ, [], ◌∷◌}
 use Rattle.term_build.specs.Shapes.{drawn_of}
-use Rattle.std.proofs.Common.{subst, List, ℕ, [], ◌∷◌}
 use Rattle.term_build.specs.Sketch.{all_drawn, any_drawn}
 use Rattle.term_build.specs.Pairs.{AddsPair}
 use Rattle.term_build.proofs.Pairs.{adds_implies}

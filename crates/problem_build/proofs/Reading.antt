@@ -1,0 +1,85 @@
+-- The first fault of a script, by the phase that met it, and the problem of a script without one.
+use Rattle.std.proofs.Common.{◌≡◌, ◌≤◌, ◌<◌, ℕ, List, Bool, true, false, cond, nat_le, Option, Some, None, length, refl, ap, sym, ◌∙◌, subst, arith}
+use Rattle.std.proofs.lemmas.Bool.{le-leb}
+use Rattle.std.proofs.lemmas.Bool.Decides.{leb_tells}
+use Rattle.script_model.specs.Sexp.{Sexp}
+use Rattle.script_model.specs.Script.{Command}
+use Rattle.script_fault.specs.Answers.{IsFaultOrMemory}
+use Rattle.script_fault.specs.declared.fault.ReadError.{ReadError}
+use Rattle.script_fault.specs.declared.fault.ReadError.TheVariants.{Fault, Memory}
+use Rattle.script_fault.specs.declared.fault.ScriptFault.{ScriptFault}
+use Rattle.smt_sexp.specs.Lexicon.{TextRead, whole, read}
+use Rattle.smt_sexp.specs.Reads.{text_fault}
+use Rattle.smt_script.specs.Commands.{CommandsRead, commands, commands_of, accepted, of_read}
+use Rattle.smt_script.specs.Told.{commands_fault}
+use Rattle.smt_script.specs.Views.{commands_in}
+use Rattle.smt_script.specs.declared.command.Script.{Script}
+use Rattle.sort_check.specs.Sorts.{sort_fault}
+use Rattle.sort_check.specs.Told.{finding_fault}
+use Rattle.script_forms.specs.ProblemOf.{IsProblemOf}
+use Rattle.script_forms.specs.Walk.{building_fault}
+use Rattle.poly_graph.specs.ProblemViews.{Parts, problem_of, IsWhole}
+use Rattle.problem_build.specs.Told.{IsBuildingError}
+use Rattle.script_faults.specs.Faults.{script_fault, in_text, in_commands, in_sorts, in_building, most_bytes}
+use Rattle.script_faults.proofs.Parts.{text_first, commands_first, sorts_first}
+use Rattle.problem_build.specs.Reader as reader
+use Rattle.problem_build.specs.Reader.{HasProblem, too_many_bytes, or_none}
+
+-- ---- a script that is too long
+
+long-by : (b : Bool) (x : Option ScriptFault) → b ≡ false → cond b x (Some too_many_bytes) ≡ Some too_many_bytes
+long-by b x e = ap (λ (t : Bool). cond t x (Some too_many_bytes)) e
+
+not-within : (n m : ℕ) → m < n → nat_le n m ≡ false
+not-within n m above = grind (arith, leb_tells)
+
+pub long_fault : (bound : Option ℕ) (script : List ℕ) → most_bytes < length script → script_fault bound script ≡ Some too_many_bytes
+long_fault bound script long = long-by (nat_le (length script) most_bytes) (in_text bound (read script)) (not-within (length script) most_bytes long)
+
+-- ---- a fault of one phase
+
+lifted : (e : ReadError) (o p : Option ScriptFault) → ((x : ScriptFault) → o ≡ Some x → p ≡ Some x) → IsFaultOrMemory e o → IsFaultOrMemory e p
+lifted (Fault f) o p g h = g f h
+lifted Memory o p g h = tt
+
+module _ (bound : Option ℕ) (text : List ℕ) (few : length text ≤ most_bytes) (e : ReadError) where
+  in-bytes : script_fault bound text ≡ in_text bound (read text)
+  in-bytes = ap (λ (b : Bool). cond b (in_text bound (read text)) (Some too_many_bytes)) (le-leb (length text) most_bytes few)
+
+  pub text_refused : IsFaultOrMemory e (text_fault (read text)) → IsFaultOrMemory e (script_fault bound text)
+  text_refused h = lifted e (text_fault (read text)) (script_fault bound text) (λ x t. in-bytes ∙ text_first bound (read text) x t) h
+
+  module _ (es : List Sexp) (whole_is : read text ≡ whole es) where
+    pub commands_refused : IsFaultOrMemory e (commands_fault (commands_of es)) → IsFaultOrMemory e (script_fault bound text)
+    commands_refused h = lifted e (commands_fault (commands_of es)) (script_fault bound text)
+        (λ x t. in-bytes ∙ ap (in_text bound) whole_is ∙ commands_first bound (commands_of es) x t) h
+
+    module _ (script : Script) (commands_are : commands_of es ≡ commands (commands_in script)) where
+      pub sorts_refused : IsFaultOrMemory e (finding_fault (sort_fault (commands_in script))) → IsFaultOrMemory e (script_fault bound text)
+      sorts_refused h = lifted e (finding_fault (sort_fault (commands_in script))) (script_fault bound text)
+          (λ x t. in-bytes ∙ ap (in_text bound) whole_is ∙ ap (in_commands bound) commands_are ∙ sorts_first bound (commands_in script) (sort_fault (commands_in script)) x t) h
+
+      module _ (typed : Script) (same : typed ≡ script) (sorted : sort_fault (commands_in script) ≡ None) where
+        in-built : script_fault bound text ≡ in_building (building_fault bound (commands_in script))
+        in-built = in-bytes ∙ ap (in_text bound) whole_is ∙ ap (in_commands bound) commands_are ∙ ap (in_sorts bound (commands_in script)) sorted
+
+        pub building_refused : IsBuildingError e (building_fault bound (commands_in typed)) → IsFaultOrMemory e (script_fault bound text)
+        building_refused h =
+            let R : Script → Type 0 = λ t. IsBuildingError e (building_fault bound (commands_in t)) in
+            lifted e (in_building (building_fault bound (commands_in script))) (script_fault bound text) (λ x t. in-built ∙ t) (subst R same h)
+
+-- ---- a script without a fault
+
+commands-are : (text : List ℕ) (es : List Sexp) (cs : List Command) → read text ≡ whole es → commands_of es ≡ commands cs → reader.commands_of text ≡ cs
+commands-are text es cs e e' = ap (λ (r : TextRead). or_none (of_read r)) e ∙ ap (λ (r : CommandsRead). or_none (accepted r)) e'
+
+pub problem_had : (bound : Option ℕ) (text : List ℕ) (es : List Sexp) (script typed : Script) (p : Parts) → length text ≤ most_bytes → read text ≡ whole es → commands_of es ≡ commands (commands_in script) → typed ≡ script
+    → sort_fault (commands_in script) ≡ None → IsWhole p → (building_fault bound (commands_in typed) ≡ None) × IsProblemOf bound (commands_in typed) (problem_of p) → HasProblem bound (problem_of p) text
+problem_had bound text es script typed p few e e' same s w b =
+    let cs : List Command = commands_in script in
+    let B : Script → Type 0 = λ t. (building_fault bound (commands_in t) ≡ None) × IsProblemOf bound (commands_in t) (problem_of p) in
+    let built : B script = subst B same b in
+    record {
+      clean = ap (λ (t : Bool). cond t (in_text bound (read text)) (Some too_many_bytes)) (le-leb (length text) most_bytes few) ∙ ap (in_text bound) e ∙ ap (in_commands bound) e' ∙ ap (in_sorts bound cs) s ∙ ap in_building built.0;
+      built = record { whole = w.problem; problem = subst (λ (c : List Command). IsProblemOf bound c (problem_of p)) (sym (commands-are text es cs e e')) built.1 };
+    }

@@ -1,0 +1,37 @@
+// The reader as one call: its phases, one after the other.
+ghost use Rattle.std.specs.Prelude.{MatchResult};
+ghost use Rattle.poly_graph.specs.ProblemViews.{problem_of};
+ghost use Rattle.script_fault.specs.Answers.{IsFaultOrMemory};
+ghost use Rattle.script_faults.specs.Faults.{script_fault};
+ghost use Rattle.problem_build.specs.Reader.{HasProblem};
+
+use crate::build;
+use poly_graph::Problem;
+use script_fault::{FaultKind, Limit, MOST_BYTES, Place, ReadError};
+use smt_script::commands;
+use smt_sexp::read;
+use sort_check::check;
+use std::alloc::Global;
+
+/// The problem of a script's bytes, where constants without bounds have this one.
+///
+/// # Errors
+///
+/// The first fault of the script: of its size, its text, its commands, its names and sorts, or its building.
+pub fn read_problem(alloc: Global, bytes: &[u8], bound: Option<u32>) -> Result<Problem, ReadError>
+    ensures { MatchResult result
+        (λ p. HasProblem bound (problem_of p) bytes.now)
+        (λ e. IsFaultOrMemory e (script_fault bound bytes.now)) }
+{
+    if bytes.len() > MOST_BYTES {
+        let nowhere = Place { line: 0, column: 0 };
+        return Err(ReadError::at(nowhere, FaultKind::TooMany(Limit::Bytes)));
+    }
+    let sexps = read(alloc, bytes)?;
+    let script = commands(alloc, &sexps)?;
+    let typed = check(alloc, script)?;
+    let problem = build(alloc, typed, bound)?;
+    // Its type keeps that it is whole.
+    let _ = problem.axes();
+    Ok(problem)
+}
