@@ -7,7 +7,8 @@ use Rattle.poly_graph.proofs.Marks.{set_or_same}
 use Rattle.poly_graph.specs.Form.{form_truth}
 use Rattle.poly_graph.specs.Problem.{Problem}
 use Rattle.poly_graph.specs.ProblemViews.{Parts, problem_of}
-use Rattle.poly_graph.specs.State.{Mark, marked_yes, marked_no, unmarked, State, Loosenings, mark_at, is_yes, is_no, is_unmarked, margin_of, in_yes, in_no, misses, undecided, undecided_in, with_no, may, may_atom, domain_allows}
+use Rattle.poly_graph.specs.Marks.{Mark, marked_yes, marked_no, unmarked, mark_at, is_yes, is_no, is_unmarked, undecided_in}
+use Rattle.cover_model.specs.State.{State, Loosenings, margin_of, in_yes, in_no, misses, undecided, with_no, may, may_atom, domain_allows}
 use Rattle.cnf_build.specs.declared.literal.Variable.{Variable}
 use Rattle.cnf_build.specs.declared.literal.Variable.TheVariants.{Atom, BoolIs, Helper}
 use Rattle.cnf_build.specs.Clauses.{Cnf, Assignment, IsFormOf, literal_truth, clauses_truth}

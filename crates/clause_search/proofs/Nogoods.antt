@@ -3,7 +3,7 @@ use Rattle.std.proofs.Common.{◌≡◌, ◌∙◌, sym, ap, ℕ, suc, ◌+◌, 
 use Rattle.std.proofs.Math.Seq.{drop-cons}
 use Rattle.std.proofs.Math.ListN.{drop_of_length-le}
 use Rattle.std.proofs.lemmas.List.{append-nil}
-use Rattle.poly_graph.specs.State.{Mark, mark_at, unmarked}
+use Rattle.poly_graph.specs.Marks.{Mark, mark_at, unmarked}
 use Rattle.cnf_build.specs.declared.literal.Literal.{Literal}
 use Rattle.clause_search.specs.Nogood.{said_of, with_said, literals_from}
 

@@ -1,7 +1,7 @@
 -- States that a trail speaks of.
 use Rattle.std.specs.Prelude.{ℕ, Bool, true, false, not, ◌||◌, IsTrue}
 use Rattle.poly_graph.specs.Problem.{Problem}
-use Rattle.poly_graph.specs.State.{State, Loosenings, margin_of, in_yes, in_no, misses, domain_allows}
+use Rattle.cover_model.specs.State.{State, Loosenings, margin_of, in_yes, in_no, misses, domain_allows}
 use Rattle.cnf_build.specs.declared.literal.Variable.TheVariants.{Atom, BoolIs}
 use Rattle.cnf_build.specs.Encoding.{literal}
 use Rattle.clause_search.specs.declared.table.Table.{Table}

@@ -2,7 +2,7 @@
 use Rattle.std.specs.Prelude.{◌≡◌, ◌⊎◌, ℕ, ◌<◌, List, All, Bool, true, not, IsTrue, Contains, Option, Some, None}
 use Rattle.std.specs.List.{list_all, list_any}
 use Rattle.poly_graph.specs.ProblemViews.{Parts, problem_of}
-use Rattle.poly_graph.specs.State.{State, Loosenings, undecided, with_no, may}
+use Rattle.cover_model.specs.State.{State, Loosenings, undecided, with_no, may}
 use Rattle.cnf_build.specs.declared.literal.Variable.TheVariants.{Atom}
 use Rattle.cnf_build.specs.declared.literal.Literal.{Literal}
 use Rattle.cnf_build.specs.Clauses.{Cnf, IsFormOf}

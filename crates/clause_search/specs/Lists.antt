@@ -20,6 +20,10 @@ code_of atoms axes l = 2 * place_of atoms axes l.variable + cond l.positive 1 0
 abbrev pub list_at : Vec (Vec ℕ Global) Global → ℕ → List ℕ
 list_at lists k = slice_index_or (map (λ v. v.items) lists.items) k []
 
+-- a clause is in the list of each of these literals
+abbrev pub IsListedFor : Vec (Vec ℕ Global) Global → ℕ → ℕ → List Literal → ℕ → Type 0
+IsListedFor lists atoms axes literals i = All (λ (l : Literal). Contains (list_at lists (code_of atoms axes l)) i) literals
+
 -- what was in a list still is
 pub record KeepsLists (old new : Vec (Vec ℕ Global) Global) : Type 0 where
   pub same_length : vec_len new ≡ vec_len old

@@ -1,6 +1,6 @@
 -- The literals that marks say.
 use Rattle.std.specs.Prelude.{ℕ, suc, List, [], ◌∷◌, true, false, Option, Some, None}
-use Rattle.poly_graph.specs.State.{Mark, marked_yes, marked_no, unmarked}
+use Rattle.poly_graph.specs.Marks.{Mark, marked_yes, marked_no, unmarked}
 use Rattle.cnf_build.specs.declared.literal.Variable.TheVariants.{Atom}
 use Rattle.cnf_build.specs.declared.literal.Literal.{Literal}
 use Rattle.cnf_build.specs.Encoding.{literal}

@@ -63,9 +63,13 @@ pub record HasCounts (t : Table) (atoms axes helpers : ℕ) : Type 0 where
   pub few_bools : vec_len t.bools ≡ 2 * axes
   pub few_helpers : vec_len t.helpers ≡ helpers
 
+abbrev pub open_count : Table → ℕ
+open_count t = count_by is_open t.atoms.items + count_by is_open t.bools.items + count_by is_open t.helpers.items
+
+-- one variable less is open, where this one was
+abbrev pub HasOneLessOpen : Table → Table → Variable → Type 0
+HasOneLessOpen old new v = value_at old v ≡ Open → open_count new + 1 ≡ open_count old
+
 -- nothing is known
 abbrev pub AreOpen : Table → Type 0
 AreOpen t = (v : Variable) → value_at t v ≡ Open
-
-abbrev pub open_count : Table → ℕ
-open_count t = count_by is_open t.atoms.items + count_by is_open t.bools.items + count_by is_open t.helpers.items

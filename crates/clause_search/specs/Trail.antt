@@ -1,10 +1,12 @@
 -- A trail: literals that were assumed, or derived from them by clauses.
-use Rattle.std.specs.Prelude.{◌≡◌, ◌⊎◌, ◌<◌, List, map, Bool, true, false, not, IsTrue}
+use Rattle.std.specs.Prelude.{◌≡◌, ◌⊎◌, ◌<◌, List, [], ◌∷◌, ◌++◌, map, Bool, true, false, not, IsTrue}
 use Rattle.cnf_build.specs.declared.literal.Variable.{Variable}
 use Rattle.cnf_build.specs.declared.literal.Variable.TheVariants.{Atom, BoolIs, Helper}
 use Rattle.cnf_build.specs.declared.literal.Literal.{Literal}
 use Rattle.cnf_build.specs.Clauses.{Cnf}
 use Rattle.clause_search.specs.declared.trail.Trail.{Trail}
+use Rattle.poly_graph.specs.Marks.{Mark}
+use Rattle.clause_search.specs.Nogood.{literals_of}
 use Rattle.clause_search.specs.Table.{opposite, is_true, is_undecided}
 use Rattle.clause_search.specs.Watches.{IsWatching}
 use Rattle.clause_search.specs.Entailed.{Entails, HasNoModel}
@@ -50,6 +52,10 @@ pub record SameNogoods (t u : Trail) : Type 0 where
   pub nogoods : nogoods_of u ≡ nogoods_of t
   pub atoms : u.atoms ≡ t.atoms
   pub axes : u.axes ≡ t.axes
+
+-- one more nogood, after the others
+abbrev pub HasNogoodMore : Trail → Trail → List Mark → Type 0
+HasNogoodMore t u marks = nogoods_of u ≡ nogoods_of t ++ (literals_of marks ∷ [])
 
 -- the same literals are assumed and on the trail
 pub record SameLiterals (t u : Trail) : Type 0 where

@@ -8,7 +8,7 @@ use Rattle.clause_search.specs.declared.table.Table.{Table}
 use Rattle.clause_search.specs.declared.watches.Watches.{Watches}
 use Rattle.clause_search.specs.declared.clause.Found.{Found}
 use Rattle.clause_search.specs.declared.clause.Found.TheVariants.{Settled, Unit as Single, Conflict}
-use Rattle.clause_search.specs.Table.{opposite, is_true}
+use Rattle.clause_search.specs.Table.{opposite, is_true, is_undecided, value_for, SetsOne}
 use Rattle.clause_search.specs.Found.{UnitAmong, ConflictAmong}
 use Rattle.clause_search.specs.Lists.{list_at, code_of, AreListed}
 use Rattle.clause_search.specs.Pairs.{IsGuarded}
@@ -45,6 +45,10 @@ pub record IsWatching (c : Cnf) (values : Table) (w : Watches) : Type 0 where
   pub fresh : w.next ≡ length w.queue.items → w.at ≡ 0
   pub queued_true : All (λ (l : Literal). IsTrue (is_true values l)) w.queue.items
   pub guarded : AllGuarded c values (IsPending w.lists w.atoms w.axes w.queue.items w.next w.at) w.first.items w.second.items w.started
+
+-- watches from now on a table in which this literal has become true
+abbrev pub IsWatchingAlso : Watches → Watches → Literal → Type 0
+IsWatchingAlso v w l = (c : Cnf) (t u : Table) → IsWatching c t v → SetsOne t u l.variable (value_for l.positive) → IsTrue (is_undecided t l.variable) → IsWatching c u w
 
 -- a step at one clause: the clause is settled and the next one is due, or what is seen follows
 abbrev pub StepSays : Cnf → Table → ℕ → ℕ → Found → Type 0

@@ -1,7 +1,7 @@
 // A list of clauses for each literal.
 ghost use Rattle.std.specs.Prelude.{◌≡◌, ◌+◌, ◌*◌, ◌<◌, ◌^◌, ℕ, All, Contains, IfOk, OnOk, OnErr, vec_len, length, slice_index_or};
 ghost use Rattle.cnf_build.specs.Clauses.{IsVariableIn};
-ghost use Rattle.clause_search.specs.Lists.{code_of, place_of, list_at, KeepsLists};
+ghost use Rattle.clause_search.specs.Lists.{code_of, place_of, list_at, KeepsLists, IsListedFor};
 
 use crate::table::bool_place;
 use cnf_build::{Literal, Variable};
@@ -57,7 +57,7 @@ pub fn add_clause(
 ) -> Result<(), AllocError>
     requires { All (λ l. code_of atoms axes l < vec_len lists.old) literals.now }
     ensures keeps { KeepsLists lists.old lists.new }
-    ensures there { OnOk result (All (λ l. Contains (list_at lists.new (code_of atoms axes l)) clause) literals.now) }
+    ensures there { OnOk result (IsListedFor lists.new atoms axes literals.now clause) }
 {
     for literal in literals {
         add_to(lists, code_of(atoms, axes, *literal), clause)?;

@@ -1,6 +1,6 @@
 // What is known of each variable.
 ghost use Rattle.std.specs.Prelude.{◌≡◌, ◌+◌, ◌*◌, ℕ, replicate, slice_index_or, All, IfOk, vec_len, length};
-ghost use Rattle.clause_search.specs.Table.{value_at, is_true, is_false, is_undecided, bool_place, value_for, IsKept, SetsOne, SameCounts, HasCounts, open_count, AreOpen};
+ghost use Rattle.clause_search.specs.Table.{value_at, is_true, is_false, is_undecided, bool_place, value_for, IsKept, SetsOne, SameCounts, HasCounts, HasOneLessOpen, AreOpen};
 
 use cnf_build::{Literal, Variable};
 use std::alloc::{AllocError, Global};
@@ -110,7 +110,7 @@ impl Table {
         requires { IsKept self.old literal.variable }
         ensures set { SetsOne self.old self.new literal.variable (value_for literal.positive) }
         ensures counts { SameCounts self.old self.new }
-        ensures open { value_at self.old literal.variable ≡ Value.Open → open_count self.new + 1 ≡ open_count self.old }
+        ensures open { HasOneLessOpen self.old self.new literal.variable }
     {
         let value = if literal.positive {
             Value::True

@@ -27,8 +27,7 @@ pub struct Trail {
 }
 
 impl Trail {
-    ghost use Rattle.clause_search.specs.Nogood.{literals_of};
-    ghost use Rattle.clause_search.specs.Trail.{IsTrailOf, CanAssume, AssumesAlso, SameNogoods, SameLiterals, IsEmpty, nogoods_of, stands_on, was_assumed};
+    ghost use Rattle.clause_search.specs.Trail.{IsTrailOf, CanAssume, AssumesAlso, SameNogoods, HasNogoodMore, SameLiterals, IsEmpty, nogoods_of, stands_on, was_assumed};
     ghost use Rattle.clause_search.specs.Answers.{IsPick};
 
     /// An empty trail over these clauses, without nogoods.
@@ -98,11 +97,12 @@ impl Trail {
     /// Memory ran out; the trail is unchanged.
     pub fn add_nogood(&mut self, alloc: Global, nogood: &Lits) -> Result<(), AllocError>
         requires { length nogood.now ≡ self.old.atoms }
-        ensures added { OnOk result (nogoods_of self.new ≡ nogoods_of self.old ++ (literals_of nogood.now ∷ [])) }
+        ensures added { OnOk result (HasNogoodMore self.old self.new nogood.now) }
         ensures unchanged { OnErr result (nogoods_of self.new ≡ nogoods_of self.old) }
         ensures literals { SameLiterals self.old self.new }
         ensures kept { (c : clauses.Cnf) → IsTrailOf c self.old → IsTrailOf c self.new }
     {
+        // the number of atoms has 32 bits, which `literals_of` requires of the marks
         let _atoms = self.atoms;
         let literals = literals_of(alloc, nogood)?;
         self.nogoods.push(literals)?;

@@ -68,7 +68,7 @@ fn all_lists(alloc: Global, cnf: &Cnf) -> Result<Vec<Vec<u32>>, AllocError>
 }
 
 impl Watches {
-    ghost use Rattle.clause_search.specs.Watches.{IsWatching, HasLists, StepSays, ListSays, StartsAll, VisitsAll, SameQueue, list_of};
+    ghost use Rattle.clause_search.specs.Watches.{IsWatching, IsWatchingAlso, HasLists, StepSays, ListSays, StartsAll, VisitsAll, SameQueue, list_of};
     ghost use Rattle.clause_search.specs.Found.{SeesAll};
 
     /// Nothing is looked at yet.
@@ -121,7 +121,7 @@ impl Watches {
 
     /// A literal came onto the trail.
     pub fn enqueue(&mut self, literal: Literal)
-        ensures { (c : clauses.Cnf) (t u : Table) → IsWatching c t self.old → SetsOne t u literal.variable (value_for literal.positive) → IsTrue (is_undecided t literal.variable) → IsWatching c u self.new }
+        ensures { IsWatchingAlso self.old self.new literal }
     {
         if self.started == 0 {
             return;

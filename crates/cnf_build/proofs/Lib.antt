@@ -5,4 +5,3 @@ pub mod Same
 mod Sorts
 mod Named
 mod Encodes
-pub mod Tried

@@ -45,6 +45,10 @@ IsVariableIn atoms axes helpers (Atom j) = j < atoms
 IsVariableIn atoms axes helpers (BoolIs axis v) = axis < axes
 IsVariableIn atoms axes helpers (Helper k) = k < helpers
 
+-- each literal of the clause has a variable of these
+abbrev pub HasVariablesIn : Cnf → List Literal → Type 0
+HasVariablesIn c clause = All (λ (l : Literal). IsVariableIn c.atoms c.axes c.helpers l.variable) clause
+
 -- each literal of each clause has such a variable
 abbrev pub AreNamed : ℕ → ℕ → ℕ → List (List Literal) → Type 0
 AreNamed atoms axes helpers clauses = All (λ (clause : List Literal). All (λ (l : Literal). IsVariableIn atoms axes helpers l.variable) clause) clauses

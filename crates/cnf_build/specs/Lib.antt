@@ -1,4 +1,3 @@
 pub mod Clauses
 pub mod Encoding
 pub mod Kept
-pub mod Tried

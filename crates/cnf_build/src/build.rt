@@ -123,7 +123,7 @@ fn add_node(alloc: Global, problem: &Problem, made: &mut Made, k: u32) -> Result
     }
 }
 
-// The count as a `u32`; a greater one is taken as want of memory.
+// The count as a `u32`; a greater one counts as out of memory.
 fn narrow(count: usize) -> Result<u32, AllocError>
     ensures { IfOk result (λ n. n ≡ count) }
 {

@@ -1,6 +1,6 @@
 // A form as clauses.
-ghost use Rattle.std.specs.Prelude.{◌≡◌, ◌<◌, ◌↔◌, length, Some, IsTrue, slice_get, All};
-ghost use Rattle.cnf_build.specs.Clauses.{AreNamed, IsVariableIn};
+ghost use Rattle.std.specs.Prelude.{◌≡◌, ◌<◌, ◌↔◌, length, Some, IsTrue, slice_get};
+ghost use Rattle.cnf_build.specs.Clauses.{AreNamed, HasVariablesIn};
 
 use crate::literal::Literal;
 use crate::made::Made;
@@ -58,7 +58,7 @@ impl Cnf {
     pub fn clause(&self, i: usize) -> &[Literal]
         requires { i < length self.now.clauses }
         ensures clause { slice_get self.now.clauses i ≡ Some result.now }
-        ensures named { All (λ l. IsVariableIn self.now.atoms self.now.axes self.now.helpers l.variable) result.now }
+        ensures named { HasVariablesIn self.now result.now }
     {
         self.made.clause(i)
     }

@@ -1,4 +1,6 @@
-//! The form of a problem as clauses over atoms, Bool values and helper variables.
+//! The form of a problem as clauses over atoms, Bool values and helper variables (Tseitin 1968; Plaisted and
+//! Greenbaum 1986 without the polarities): `clauses` is true for some values of the helpers exactly where the form is.
+//! What the terms of the atoms are plays no part here.
 #![tactic(auto)]
 
 mod build;
@@ -9,6 +11,3 @@ mod made;
 pub use build::clauses;
 pub use cnf::Cnf;
 pub use literal::{Literal, Variable};
-
-#[cfg(test)]
-mod tests;

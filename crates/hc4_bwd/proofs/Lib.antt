@@ -1,3 +1,4 @@
 pub mod Pushes
 pub mod Sweeping
 pub mod Skipped
+pub mod Unnarrowed

@@ -1,16 +1,16 @@
 -- Intervals that are passed down one after the other.
-use Rattle.std.proofs.Common.{◌≡◌, ◌≢◌, ℕ, ◌≤◌, List, Bool, IsTrue, nat_lt, ltb→lt, arith, true, false, cond, ◌||◌, Option, Some, None, nat_eq, eqb-true, eq-eqb, refl, ap, ap₂, sym, subst, ◌∙◌}
-use Rattle.dyadic.specs.Interval.{Interval, met, everything}
-use Rattle.poly_graph.specs.Term.{Node, constant_node, variable_node, negate_node, add_node, multiply_node, square_node, comes_after}
+use Rattle.std.proofs.Common.{◌≡◌, ◌≢◌, ℕ, ◌≤◌, List, Bool, IsTrue, nat_lt, ltb→lt, arith, true, false, cond, ◌||◌, Option, Some, None, nat_eq, eqb-true, eq-eqb, inl, inr, refl, ap, ap₂, sym, subst, ◌∙◌}
+use Rattle.interval_model.specs.Interval.{Interval, met, everything}
+use Rattle.poly_graph.specs.Term.{Node, constant_node, variable_node, negate_node, add_node, multiply_node, square_node, comes_after, has_child}
 use Rattle.poly_graph.specs.declared.node.Node as code
 use Rattle.poly_graph.specs.declared.node.Node.TheVariants.{Const, Var, Neg, Add, Mul, Sq}
 use Rattle.poly_graph.specs.Views.{node_of}
 use Rattle.std.specs.Bool.{passes}
 use Rattle.dyadic.proofs.Equal.{both_true}
-use Rattle.poly_graph.specs.Narrowed.{has_child, if_child, with_parent, own}
-use Rattle.poly_graph.specs.NodeEnclosure.{row}
+use Rattle.cover_model.specs.Narrowed.{if_child, left_by, with_parent, own}
+use Rattle.cover_model.specs.NodeEnclosure.{row}
 use Rattle.ival.proofs.Meets.{met_comm, met_assoc, met_everything}
-use Rattle.hc4_bwd.specs.Pushed.{pushed, kept_by}
+use Rattle.hc4_bwd.specs.Pushed.{pushed, IsPassed, kept_by}
 
 pub pushed_twice : (es : List Interval) (s : ℕ) (l m : Interval) (o : Option Interval) → pushed es s m (pushed es s l o) ≡ pushed es s (met l m) o
 pushed_twice es s l m None = ap (λ (i : Interval). Some i) (met_assoc (row es s) l m)
@@ -84,6 +84,11 @@ no_child n k (negate_node a) h l = apart a n k h l
 no_child n k (add_node a b) h l = let e = both_true (nat_lt a n) (nat_lt b n) h in ap₂ (λ (t u : Bool). t || u) (apart a n k e.0 l) (apart b n k e.1 l)
 no_child n k (multiply_node a b) h l = let e = both_true (nat_lt a n) (nat_lt b n) h in ap₂ (λ (t u : Bool). t || u) (apart a n k e.0 l) (apart b n k e.1 l)
 no_child n k (square_node a) h l = apart a n k h l
+
+-- what is no child stays
+pub passed_by : (es : List Interval) (n k : ℕ) (p : Node) (i : Interval) (old new : Option Interval) → has_child k p ≡ false → IsPassed es n k p i old new → new ≡ old
+passed_by es n k p i old new h (inl e) = e ∙ ap (λ (t : Bool). cond t (pushed es k (left_by es k p i) old) old) h
+passed_by es n k p i old new h (inr e) = e.1
 
 -- of a node that is no variable nothing is kept
 pub kept_not : (n : code.Node) → ((a : ℕ) → n ≡ Var a → ⊥) → (o : Option Interval) → kept_by (node_of n) o ≡ None

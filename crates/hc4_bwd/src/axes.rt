@@ -1,7 +1,7 @@
 // What narrowed intervals leave to the axes.
 ghost use Rattle.std.specs.Prelude.{◌≡◌, ◌≢◌, ℕ, true, false, length, Some};
-ghost use Rattle.poly_graph.specs.AxisStep.{axis_step};
-ghost use Rattle.poly_graph.specs.Narrowed.{set_axis, with_axes};
+ghost use Rattle.cover_model.specs.AxisStep.{axis_step};
+ghost use Rattle.cover_model.specs.Narrowed.{set_axis, with_axes};
 ghost use Rattle.poly_graph.specs.Views.{node_of};
 ghost use Rattle.ival.specs.Views.{interval_of};
 ghost use Rattle.ival.specs.RowViews.{rows_of};

@@ -5,7 +5,7 @@ ghost use Rattle.poly_graph.specs.Views.{node_of};
 ghost use Rattle.ival.specs.Views.{interval_of};
 ghost use Rattle.ival.specs.RowViews.{rows_of};
 ghost use Rattle.ival.specs.Options.{option_at};
-ghost use Rattle.hc4_bwd.specs.Pushed.{pushed, pushed_by, kept_by};
+ghost use Rattle.hc4_bwd.specs.Pushed.{pushed, pushed_by, kept_by, IsPassed};
 
 use ival::{Ival, Rows};
 use poly_graph::Node;
@@ -50,13 +50,28 @@ fn push(node: Node, narrowed: Ival, rows: &Rows, scratch: &mut Rows)
     }
 }
 
+// Passes down what node n, which lies in this interval, leaves to its children: nothing where that is its enclosure,
+// since its children's enclosures then stay as they are.
+fn pass(node: Node, n: usize, narrowed: Ival, rows: &Rows, scratch: &mut Rows)
+    requires order { IsTrue (comes_after (length (rows_of rows.now)) (node_of node)) }
+    requires rows { n < length (rows_of rows.now) }
+    requires scratch { length (rows_of scratch.old) ≡ length (rows_of rows.now) }
+    ensures all { (s : ℕ) → IsPassed (rows_of rows.now) n s (node_of node) (interval_of narrowed) (option_at scratch.old s) (option_at scratch.new s) }
+    ensures count { length (rows_of scratch.new) ≡ length (rows_of scratch.old) }
+{
+    if narrowed == rows.get(n) {
+        return;
+    }
+    push(node, narrowed, rows, scratch);
+}
+
 /// Passes down what node n, which lies in this interval, leaves to its children. What stands at it is taken away,
 /// if it is no variable.
 pub fn visit(node: Node, n: usize, narrowed: Ival, rows: &Rows, scratch: &mut Rows)
     requires order { IsTrue (comes_after n (node_of node)) }
     requires rows { n < length (rows_of rows.now) }
     requires scratch { length (rows_of scratch.old) ≡ length (rows_of rows.now) }
-    ensures below { (s : ℕ) → s < n → option_at scratch.new s ≡ pushed_by (rows_of rows.now) s (node_of node) (interval_of narrowed) (option_at scratch.old s) }
+    ensures below { (s : ℕ) → s < n → IsPassed (rows_of rows.now) n s (node_of node) (interval_of narrowed) (option_at scratch.old s) (option_at scratch.new s) }
     ensures at { option_at scratch.new n ≡ kept_by (node_of node) (option_at scratch.old n) }
     ensures above { (k : ℕ) → n < k → option_at scratch.new k ≡ option_at scratch.old k }
     ensures count { length (rows_of scratch.new) ≡ length (rows_of scratch.old) }
@@ -64,6 +79,6 @@ pub fn visit(node: Node, n: usize, narrowed: Ival, rows: &Rows, scratch: &mut Ro
     if let Node::Var(_) = node {
         return;
     }
-    push(node, narrowed, rows, scratch);
+    pass(node, n, narrowed, rows, scratch);
     scratch.unmark(n);
 }

@@ -6,11 +6,10 @@ use Rattle.std.proofs.lemmas.List.Sums.{count_by_more_no, count_by_more_yes}
 use Rattle.std.specs.Prelude.{slice_get}
 use Rattle.std.specs.List.{count_by}
 use Rattle.dyadic.specs.Fraction.{zero_fraction}
-use Rattle.poly_graph.specs.Term.{Term, constant, Node, constant_node, variable_node, negate_node, add_node, multiply_node, square_node, node_term, graph_terms, in_order}
-use Rattle.poly_graph.specs.Narrowed.{has_child}
+use Rattle.poly_graph.specs.Term.{Term, constant, Node, constant_node, variable_node, negate_node, add_node, multiply_node, square_node, node_term, graph_terms, in_order, has_child}
 use Rattle.poly_graph.specs.Parents.{parents_from}
 use Rattle.poly_graph.proofs.Graphs.{term_at, unfolds, length_terms}
-use Rattle.poly_graph.proofs.NodeEnclosures.{comes_at}
+use Rattle.cover_model.proofs.NodeEnclosures.{comes_at}
 use Rattle.ival.specs.RowViews.{is_marked, NoneAbove, IsNextAbove}
 use Rattle.hc4_fwd.specs.ReachedCount.{has_axis, reached_count}
 use Rattle.hc4_fwd.proofs.Upwards.{some_node, child-below, or-right, or-cases}

@@ -4,13 +4,13 @@ use Rattle.std.proofs.lemmas.List.{length-set}
 use Rattle.std.proofs.lemmas.Bool.{eq-eqb}
 use Rattle.std.specs.Prelude.{slice_get}
 use Rattle.std.specs.Bool.{passes}
-use Rattle.dyadic.specs.Interval.{Interval, nothing, interval_negated, interval_sum, interval_product, interval_square}
+use Rattle.interval_model.specs.Interval.{Interval, nothing, interval_negated, interval_sum, interval_product, interval_square}
 use Rattle.dyadic.proofs.Equal.{both_true}
 use Rattle.poly_graph.specs.Term.{Node, constant_node, variable_node, negate_node, add_node, multiply_node, square_node, comes_after, in_order}
-use Rattle.poly_graph.specs.Space.{Domain, Space}
-use Rattle.poly_graph.specs.Narrowed.{enclosures}
-use Rattle.poly_graph.specs.NodeEnclosure.{row, node_enclosure}
-use Rattle.poly_graph.proofs.NodeEnclosures.{comes_at, next_row}
+use Rattle.interval_model.specs.Space.{Domain, Space}
+use Rattle.cover_model.specs.Narrowed.{enclosures}
+use Rattle.cover_model.specs.NodeEnclosure.{row, node_enclosure}
+use Rattle.cover_model.proofs.NodeEnclosures.{comes_at, next_row}
 use Rattle.ival.specs.RowViews.{is_marked}
 use Rattle.hc4_fwd.specs.Reached.{is_reached, SameBut}
 

@@ -4,14 +4,14 @@ use Rattle.std.proofs.lemmas.Bool.{cases_eq, cases_lt}
 use Rattle.std.proofs.lemmas.List.{length-set, get_or_past}
 use Rattle.std.specs.Prelude.{slice_get}
 use Rattle.std.specs.Bool.{passes}
-use Rattle.dyadic.specs.Interval.{Interval, nothing, interval_negated, interval_sum, interval_product, interval_square}
+use Rattle.interval_model.specs.Interval.{Interval, nothing, interval_negated, interval_sum, interval_product, interval_square}
 use Rattle.dyadic.proofs.Equal.{both_true}
-use Rattle.poly_graph.specs.Term.{Node, constant_node, variable_node, negate_node, add_node, multiply_node, square_node, comes_after, in_order}
-use Rattle.poly_graph.specs.Space.{Space}
-use Rattle.poly_graph.specs.Narrowed.{enclosures, has_child}
+use Rattle.poly_graph.specs.Term.{Node, constant_node, variable_node, negate_node, add_node, multiply_node, square_node, comes_after, in_order, has_child}
+use Rattle.interval_model.specs.Space.{Space}
+use Rattle.cover_model.specs.Narrowed.{enclosures}
 use Rattle.poly_graph.specs.Parents.{parents_from}
-use Rattle.poly_graph.specs.NodeEnclosure.{row, node_enclosure}
-use Rattle.poly_graph.proofs.NodeEnclosures.{comes_at, next_row, length_enclosures}
+use Rattle.cover_model.specs.NodeEnclosure.{row, node_enclosure}
+use Rattle.cover_model.proofs.NodeEnclosures.{comes_at, next_row, length_enclosures}
 use Rattle.ival.specs.RowViews.{is_marked, NoneAbove, IsNextAbove}
 use Rattle.hc4_fwd.specs.Reached.{SameBut}
 use Rattle.hc4_fwd.specs.Above.{AreVariables, with_node}

@@ -1,3 +1,4 @@
 pub mod Reached
 pub mod Above
 pub mod ReachedCount
+pub mod Renewed

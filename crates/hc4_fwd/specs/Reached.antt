@@ -1,9 +1,9 @@
 -- From which nodes an axis is reached, and rows that are right but for one axis.
 use Rattle.std.specs.Prelude.{◌≡◌, ◌≢◌, ℕ, List, Bool, false, ◌||◌, nat_eq}
-use Rattle.dyadic.specs.Interval.{Interval}
+use Rattle.interval_model.specs.Interval.{Interval}
 use Rattle.poly_graph.specs.Term.{Node, constant_node, variable_node, negate_node, add_node, multiply_node, square_node}
-use Rattle.poly_graph.specs.Space.{Space, axis_interval}
-use Rattle.poly_graph.specs.Narrowed.{enclosures}
+use Rattle.interval_model.specs.Space.{Space, axis_interval}
+use Rattle.cover_model.specs.Narrowed.{enclosures}
 use Rattle.ival.specs.RowViews.{is_marked}
 
 -- the node is the axis, or has a marked child

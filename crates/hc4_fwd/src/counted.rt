@@ -1,13 +1,14 @@
 // The forward pass upwards from one axis, with its steps counted.
 ghost use Rattle.std.specs.Prelude.{◌≡◌, ◌≢◌, ℕ, ◌+◌, ◌<◌, length, slice_set, slice_index, All, true, false, Some, slice_get};
 ghost use Rattle.poly_graph.specs.Term;
-ghost use Rattle.poly_graph.specs.Narrowed.{enclosures, has_child};
-ghost use Rattle.poly_graph.specs.NodeEnclosure.{node_enclosure};
+ghost use Rattle.cover_model.specs.Narrowed.{enclosures};
+ghost use Rattle.poly_graph.specs.Term.{has_child};
 ghost use Rattle.poly_graph.specs.Parents.{AreParents};
 ghost use Rattle.poly_graph.specs.Views.{node_of};
 ghost use Rattle.ival.specs.RowViews.{rows_of, marks_of, is_marked};
 ghost use Rattle.ival.specs.SpaceViews.{space_of};
 ghost use Rattle.hc4_fwd.specs.Reached.{FilledBut};
+ghost use Rattle.hc4_fwd.specs.Renewed.{renewed};
 ghost use Rattle.hc4_fwd.specs.Above.{IsAbove};
 ghost use Rattle.hc4_fwd.specs.ReachedCount.{reached_count};
 
@@ -43,7 +44,7 @@ fn renew_and_mark(
     requires node { slice_get graph.now n ≡ Some (node_of node) }
     requires parents { AreParents graph.now parents.now }
     requires count { length (rows_of rows.old) ≡ length graph.now }
-    ensures rows { rows_of rows.new ≡ slice_set (rows_of rows.old) n (node_enclosure (space_of space.now) (rows_of rows.old) (node_of node)) }
+    ensures rows { rows_of rows.new ≡ renewed space.now rows.old n node }
     ensures others { (k : ℕ) → is_marked (marks_of rows.new) k ≡ false → is_marked (marks_of rows.old) k ≡ false }
     ensures parents { (k : ℕ) (p : Term.Node) → slice_get graph.now k ≡ Some p → has_child n p ≡ true → is_marked (marks_of rows.new) k ≡ true }
     ensures apart { (k : ℕ) (p : Term.Node) → slice_get graph.now k ≡ Some p → has_child n p ≡ false → is_marked (marks_of rows.new) k ≡ is_marked (marks_of rows.old) k }

@@ -1,4 +1,6 @@
-//! The enclosures of the terms of a shared graph over a space.
+//! The forward pass of HC4 (Benhamou, Goualard, Granvilliers, Puget 1999), for the search: `fill` puts the enclosures
+//! of all terms of a shared graph over a space into rows, `refill` and `refill_by` renew them after one axis changed.
+//! It narrows nothing. The checker has arithmetic of its own (`plain_eval`): the two may read alike in definitions only.
 #![tactic(auto)]
 
 mod above;
@@ -8,8 +10,6 @@ mod forward;
 mod node_interval;
 mod reached;
 mod steps;
-#[cfg(test)]
-mod tests;
 mod upward;
 
 pub use above::Above;

@@ -1,11 +1,10 @@
 // The enclosure of a node, from the rows of its children.
 ghost use Rattle.std.specs.Prelude.{◌≡◌, length, IsTrue};
 ghost use Rattle.poly_graph.specs.Term.{comes_after};
-ghost use Rattle.poly_graph.specs.NodeEnclosure.{node_enclosure};
 ghost use Rattle.poly_graph.specs.Views.{node_of};
 ghost use Rattle.ival.specs.Views.{interval_of};
 ghost use Rattle.ival.specs.RowViews.{rows_of};
-ghost use Rattle.ival.specs.SpaceViews.{space_of};
+ghost use Rattle.hc4_fwd.specs.Renewed.{enclosure_in};
 
 use ival::{Ival, Rows, Space};
 use poly_graph::Node;
@@ -13,7 +12,7 @@ use poly_graph::Node;
 /// The enclosure of a node over the space, where the rows of its children are theirs.
 pub fn node_interval(node: Node, space: &Space, rows: &Rows) -> Ival
     requires { IsTrue (comes_after (length (rows_of rows.now)) (node_of node)) }
-    ensures { interval_of result ≡ node_enclosure (space_of space.now) (rows_of rows.now) (node_of node) }
+    ensures { interval_of result ≡ enclosure_in space.now rows.now node }
 {
     match node {
         Node::Const(fraction) => Ival::around(fraction),

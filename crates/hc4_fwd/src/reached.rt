@@ -1,11 +1,10 @@
 // Nodes from which an axis is reached.
 ghost use Rattle.std.specs.Prelude.{◌≡◌, length, slice_set, true, IsTrue, ◌<◌};
 ghost use Rattle.poly_graph.specs.Term.{comes_after};
-ghost use Rattle.poly_graph.specs.NodeEnclosure.{node_enclosure};
 ghost use Rattle.poly_graph.specs.Views.{node_of};
 ghost use Rattle.ival.specs.RowViews.{rows_of, marks_of};
-ghost use Rattle.ival.specs.SpaceViews.{space_of};
 ghost use Rattle.hc4_fwd.specs.Reached.{is_reached};
+ghost use Rattle.hc4_fwd.specs.Renewed.{renewed};
 
 use crate::node_interval::node_interval;
 use ival::{Rows, Space};
@@ -28,7 +27,7 @@ pub fn is_reached(node: Node, axis: u32, rows: &Rows) -> bool
 pub fn renew(node: Node, n: usize, space: &Space, rows: &mut Rows)
     requires order { IsTrue (comes_after (length (rows_of rows.old)) (node_of node)) }
     requires place { n < length (rows_of rows.old) }
-    ensures rows { rows_of rows.new ≡ slice_set (rows_of rows.old) n (node_enclosure (space_of space.now) (rows_of rows.old) (node_of node)) }
+    ensures rows { rows_of rows.new ≡ renewed space.now rows.old n node }
     ensures marks { marks_of rows.new ≡ slice_set (marks_of rows.old) n true }
 {
     let interval = node_interval(node, space, rows);

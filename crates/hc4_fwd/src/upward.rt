@@ -1,6 +1,6 @@
 // The forward pass upwards from one axis.
 ghost use Rattle.std.specs.Prelude.{◌≡◌, ◌<◌, length};
-ghost use Rattle.poly_graph.specs.Narrowed.{enclosures};
+ghost use Rattle.cover_model.specs.Narrowed.{enclosures};
 ghost use Rattle.ival.specs.RowViews.{rows_of};
 ghost use Rattle.ival.specs.SpaceViews.{space_of};
 ghost use Rattle.hc4_fwd.specs.Reached.{FilledBut};

@@ -1,10 +1,10 @@
 -- The narrowed intervals, node by node.
 use Rattle.std.proofs.Common.{◌≡◌, ℕ, suc, ◌+◌, ◌<◌, List, ◌∷◌, length, get_or, set, drop, cond, nat_eq, Option, Some, None, ap, ap₂, sym, ◌∙◌, arith}
 use Rattle.std.proofs.lemmas.List.{drop_more, drop-set}
-use Rattle.dyadic.specs.Interval.{Interval}
+use Rattle.interval_model.specs.Interval.{Interval}
 use Rattle.poly_graph.specs.Term.{Node}
-use Rattle.poly_graph.specs.Narrowed.{from_parents, own, narrowed}
-use Rattle.poly_graph.proofs.NarrowedAt.{length_narrowed, narrowed_at}
+use Rattle.cover_model.specs.Narrowed.{from_parents, own, narrowed}
+use Rattle.cover_model.proofs.NarrowedAt.{length_narrowed, narrowed_at}
 
 -- one more narrowed interval
 pub narrow_step : (es : List Interval) (root : ℕ) (range : Interval) (nodes : List Node) (old new : List (Option Interval)) (k : ℕ) (v : Option Interval) → k < length nodes → k < length old →

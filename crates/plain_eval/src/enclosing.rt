@@ -1,11 +1,11 @@
 // Enclosures of the nodes up to one of them.
-ghost use Rattle.std.specs.Prelude.{◌≡◌, ℕ, ◌<◌, ◌≤◌, length, slice_index_or};
-ghost use Rattle.dyadic.specs.Interval.{nothing};
-ghost use Rattle.poly_graph.specs.Narrowed.{enclosures};
-ghost use Rattle.poly_graph.specs.NodeEnclosure.{row};
+ghost use Rattle.std.specs.Prelude.{◌≡◌, ◌<◌, length};
+ghost use Rattle.cover_model.specs.Narrowed.{enclosures};
+ghost use Rattle.cover_model.specs.NodeEnclosure.{row};
 ghost use Rattle.ival.specs.Views.{interval_of};
 ghost use Rattle.ival.specs.RowViews.{rows_of, marks_of};
 ghost use Rattle.ival.specs.SpaceViews.{space_of};
+ghost use Rattle.plain_eval.specs.Rows.{AgreeUpTo};
 
 use crate::evaluate::value;
 use ival::{Ival, Rows, Space};
@@ -17,7 +17,7 @@ pub fn enclose(graph: &Graph, node: u32, space: &Space, rows: &mut Rows) -> Ival
     requires count { length (rows_of rows.old) ≡ length graph.now }
     requires place { node < length graph.now }
     ensures result { interval_of result ≡ row (enclosures (space_of space.now) graph.now) node }
-    ensures rows { (k : ℕ) → k ≤ node → row (rows_of rows.new) k ≡ row (enclosures (space_of space.now) graph.now) k }
+    ensures rows { AgreeUpTo node (rows_of rows.new) (enclosures (space_of space.now) graph.now) }
     ensures count { length (rows_of rows.new) ≡ length graph.now }
     ensures marks { marks_of rows.new ≡ marks_of rows.old }
 {

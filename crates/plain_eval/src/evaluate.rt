@@ -1,7 +1,7 @@
 // The enclosure of one node, written from its definition.
 ghost use Rattle.std.specs.Prelude.{◌≡◌, length, IsTrue};
 ghost use Rattle.poly_graph.specs.Term.{comes_after};
-ghost use Rattle.poly_graph.specs.NodeEnclosure.{node_enclosure};
+ghost use Rattle.cover_model.specs.NodeEnclosure.{node_enclosure};
 ghost use Rattle.poly_graph.specs.Views.{node_of};
 ghost use Rattle.ival.specs.Views.{interval_of};
 ghost use Rattle.ival.specs.RowViews.{rows_of};

@@ -1,8 +1,8 @@
 // What a parent leaves to a node.
 ghost use Rattle.std.specs.Prelude.{◌≡◌, ◌<◌, length, IsTrue};
-ghost use Rattle.dyadic.specs.Interval.{met};
-ghost use Rattle.poly_graph.specs.Term.{comes_after};
-ghost use Rattle.poly_graph.specs.Narrowed.{has_child, if_child, left_by, from_parent};
+ghost use Rattle.interval_model.specs.Interval.{met};
+ghost use Rattle.poly_graph.specs.Term.{comes_after, has_child};
+ghost use Rattle.cover_model.specs.Narrowed.{if_child, left_by, from_parent};
 ghost use Rattle.poly_graph.specs.Views.{node_of};
 ghost use Rattle.ival.specs.Views.{interval_of};
 ghost use Rattle.ival.specs.RowViews.{rows_of};

@@ -1,17 +1,15 @@
 // Narrowed spaces.
 ghost use Rattle.std.specs.Prelude.{◌≡◌, ◌<◌, ◌≤◌, length};
-ghost use Rattle.dyadic.specs.Rounding.{two_to_minus};
-ghost use Rattle.poly_graph.specs.Space.{range};
-ghost use Rattle.poly_graph.specs.Narrowed.{enclosures, narrowed_by};
-ghost use Rattle.poly_graph.specs.Views.{kind_of};
+ghost use Rattle.cover_model.specs.Narrowed.{enclosures};
 ghost use Rattle.ival.specs.RowViews.{rows_of};
 ghost use Rattle.ival.specs.SpaceViews.{space_of};
-ghost use Rattle.ival.specs.Narrows.{IsNarrowed};
+ghost use Rattle.plain_eval.specs.Narrowing.{IsNarrowedByAtom};
 
 use crate::axes::narrow_axes;
 use crate::enclosing::enclose;
 use crate::scratch::some_empty;
 use crate::subterms::narrow_rows;
+use cover_model::range_ends;
 use ival::{Ival, Narrowed, Rows, Space};
 use poly_graph::{Atom, Graph};
 
@@ -30,11 +28,11 @@ pub fn narrow_plain(
     requires place { atom.now.term < length graph.now }
     requires rows { length (rows_of rows.old) ≡ length graph.now }
     requires scratch { length (rows_of scratch.old) ≡ length graph.now }
-    ensures narrowed { IsNarrowed (space_of space.old) (space_of space.new) (narrowed_by graph.now atom.now.term (range (two_to_minus loosen) (kind_of atom.now.kind)) (space_of space.old)) result }
+    ensures narrowed { IsNarrowedByAtom graph.now atom.now loosen space.old space.new result }
     ensures rows { rows_of rows.new ≡ enclosures (space_of space.old) graph.now }
     ensures scratch { length (rows_of scratch.new) ≡ length graph.now }
 {
-    let (low, high) = atom.kind.ends(loosen);
+    let (low, high) = range_ends(atom.kind, loosen);
     let range = Ival::new(low, high);
     let last = graph.len() - 1;
     let _ = enclose(graph, last as u32, space, rows);

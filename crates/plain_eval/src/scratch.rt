@@ -1,6 +1,6 @@
 // Rows in which a mark says that there is an interval.
 ghost use Rattle.std.specs.Prelude.{◌≡◌, ℕ, ◌<◌, length, None, false, slice_set, slice_index_or};
-ghost use Rattle.poly_graph.specs.Narrowed.{some_empty};
+ghost use Rattle.cover_model.specs.Narrowed.{some_empty};
 ghost use Rattle.ival.specs.RowViews.{rows_of, marks_of, is_marked};
 ghost use Rattle.ival.specs.Options.{option_of, options_of};
 

@@ -1,7 +1,7 @@
 // The narrowed intervals of an atom's subterms.
 ghost use Rattle.std.specs.Prelude.{◌≡◌, ℕ, ◌+◌, ◌<◌, length, Some, if◌then◌else◌, nat_eq};
 ghost use Rattle.std.proofs.Common.{drop};
-ghost use Rattle.poly_graph.specs.Narrowed.{from_parents, own, narrowed};
+ghost use Rattle.cover_model.specs.Narrowed.{from_parents, own, narrowed};
 ghost use Rattle.ival.specs.Views.{interval_of};
 ghost use Rattle.ival.specs.RowViews.{rows_of};
 ghost use Rattle.ival.specs.Options.{option_of, options_of};

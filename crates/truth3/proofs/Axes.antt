@@ -1,7 +1,7 @@
 -- Bool axes by number.
 use Rattle.std.proofs.Common.{◌≡◌, ℕ, zero, suc, ◌<◌, ◌≤◌, [], ◌∷◌, length, get_or, Bool, false, refl, arith}
-use Rattle.dyadic.specs.Space.{Domain, Space, allows}
-use Rattle.poly_graph.specs.State.{domain_allows}
+use Rattle.interval_model.specs.Space.{Domain, Space, allows}
+use Rattle.cover_model.specs.State.{domain_allows}
 
 pub allowed_at : (space : Space) (axis : ℕ) (v : Bool) (d : Domain) → axis < length space → domain_allows space axis v ≡ allows (get_or space axis d) v
 allowed_at [] axis v d h = absurd (omega arith)

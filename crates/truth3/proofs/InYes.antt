@@ -7,8 +7,9 @@ use Rattle.dyadic.proofs.Equal.{both_true}
 use Rattle.poly_graph.specs.Form.{Form, Forms, no_forms, more_forms}
 use Rattle.poly_graph.specs.FormGraph.{FormNode, yes_node, no_node, atom_node, bool_node, all_node, any_node, form_comes_after, forms_in_order, form_at, picked, node_form, graph_forms}
 use Rattle.poly_graph.proofs.FormGraphs.{form_node_is_its_kind}
-use Rattle.poly_graph.specs.State.{State, Mark, in_yes}
-use Rattle.poly_graph.specs.Honest.{all_in_yes, conjuncts, conjuncts_of}
+use Rattle.cover_model.specs.State.{State, in_yes}
+use Rattle.poly_graph.specs.Marks.{Mark}
+use Rattle.cover_model.specs.Honest.{all_in_yes, conjuncts, conjuncts_of}
 use Rattle.truth3.specs.Truth.{is_true}
 use Rattle.truth3.specs.Conjuncts.{node_in_yes}
 use Rattle.truth3.proofs.FormTruth.{form_comes_at}

@@ -7,9 +7,10 @@ use Rattle.dyadic.specs.Rounding.{Dyadic, exact, finite, down, up}
 use Rattle.dyadic.proofs.Equal.{through}
 use Rattle.poly_graph.specs.declared.axis.Axis.{Axis}
 use Rattle.poly_graph.specs.Problem
-use Rattle.poly_graph.specs.Problem.{IsBound, IsDeclared, is_crossed, first_crossed_from, root_domain, root_of_axes, finite_or_nought}
+use Rattle.poly_graph.specs.Problem.{IsBound, IsDeclared, is_crossed, first_crossed_from}
+use Rattle.cover_model.specs.Root.{root_domain, root_of_axes, finite_or_nought}
 use Rattle.poly_graph.specs.ProblemViews.{axis_of, declared_of}
-use Rattle.poly_graph.proofs.Root.{bound_down, bound_up}
+use Rattle.cover_model.proofs.Root.{bound_down, bound_up}
 
 -- ---- the first axis whose bounds cross
 

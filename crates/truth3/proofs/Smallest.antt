@@ -1,9 +1,9 @@
 -- A problem without axes and atoms needs no rows and no marks.
 use Rattle.std.proofs.Common.{◌≡◌, List, [], length, sym, ap, ◌∙◌, arith, replicate}
 use Rattle.poly_graph.specs.ProblemViews.{Parts}
-use Rattle.poly_graph.specs.State.{Mark, unmarked}
-use Rattle.dyadic.specs.Interval.{Interval, nothing}
-use Rattle.poly_graph.specs.Space.{Space}
+use Rattle.poly_graph.specs.Marks.{Mark, unmarked}
+use Rattle.interval_model.specs.Interval.{Interval, nothing}
+use Rattle.interval_model.specs.Space.{Space}
 use Rattle.truth3.specs.Truth.{HasRows}
 
 pub no_rows : (p : Parts) (space : Space) (es : List Interval) → p.nodes ≡ [] → p.atoms ≡ [] → es ≡ replicate 0 nothing → HasRows p space es

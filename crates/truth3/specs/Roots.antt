@@ -1,6 +1,7 @@
 -- What a problem's cover begins with.
 use Rattle.std.specs.Prelude.{◌≡◌, Some, None}
-use Rattle.poly_graph.specs.Problem.{first_crossed, root_space}
+use Rattle.poly_graph.specs.Problem.{first_crossed}
+use Rattle.cover_model.specs.Root.{root_space}
 use Rattle.poly_graph.specs.ProblemViews.{Parts, problem_of}
 use Rattle.ival.specs.SpaceViews.{space_of}
 use Rattle.truth3.specs.declared.root.Root.{Root}

@@ -1,24 +1,24 @@
 // The truth of atoms over a space.
 ghost use Rattle.std.specs.Prelude.{◌≡◌, ◌<◌, ◌≤◌, length};
 ghost use Rattle.dyadic.specs.Rounding.{two_to_minus};
-ghost use Rattle.poly_graph.specs.Space.{range};
+ghost use Rattle.cover_model.specs.Space.{range};
 ghost use Rattle.poly_graph.specs.Views.{kind_of};
-ghost use Rattle.poly_graph.specs.State.{may_atom, sure_at};
-ghost use Rattle.poly_graph.specs.ProblemViews.{problem_of};
 ghost use Rattle.ival.specs.Views.{interval_of};
 ghost use Rattle.ival.specs.RowViews.{rows_of};
 ghost use Rattle.ival.specs.SpaceViews.{space_of};
-ghost use Rattle.truth3.specs.Truth.{HasRows, of_atoms, pruning, state_of};
+ghost use Rattle.truth3.specs.Truth.{HasRows, atom_may_hold, atom_is_sure};
+ghost use Rattle.cover_model.specs.State.{state_of};
 
+use cover_model::range_ends;
 use ival::{Ival, Rows, Space};
 use poly_graph::{Kind, Lits, Mark, Problem};
 
-// The range of a kind, loosened by 2 to the power of minus `loosen`.
-fn kind_range(kind: Kind, loosen: u32) -> Ival
+/// The range of a kind, loosened by 2 to the power of minus `loosen`.
+pub fn kind_range(kind: Kind, loosen: u32) -> Ival
     requires { loosen ≤ 120 }
     ensures { interval_of result ≡ range (two_to_minus loosen) (kind_of kind) }
 {
-    let (low, high) = kind.ends(loosen);
+    let (low, high) = range_ends(kind, loosen);
     Ival::new(low, high)
 }
 
@@ -34,9 +34,8 @@ pub fn may_atom(
     requires margin { margin ≤ 120 }
     requires rows { HasRows problem.now (space_of space.now) (rows_of rows.now) }
     requires lits { length lits.now ≡ length problem.now.atoms }
-    ensures { result ≡ of_atoms problem.now (may_atom (problem_of problem.now) (pruning margin) (state_of (space_of space.now) lits.now)) j }
+    ensures { result ≡ atom_may_hold problem.now margin (state_of (space_of space.now) lits.now) j }
 {
-    let _ = problem.axes();
     let atoms = problem.atoms();
     if j as usize >= atoms.len() {
         return false;
@@ -55,9 +54,8 @@ pub fn may_atom(
 pub fn sure_atom(problem: &Problem, rows: &Rows, space: &Space, delta: u32, j: u32) -> bool
     requires delta { delta ≤ 120 }
     requires rows { HasRows problem.now (space_of space.now) (rows_of rows.now) }
-    ensures { result ≡ of_atoms problem.now (sure_at (problem_of problem.now) (two_to_minus delta) (space_of space.now)) j }
+    ensures { result ≡ atom_is_sure problem.now delta (space_of space.now) j }
 {
-    let _ = problem.axes();
     let atoms = problem.atoms();
     if j as usize >= atoms.len() {
         return false;

@@ -2,12 +2,10 @@
 ghost use Rattle.std.specs.Prelude.{◌≡◌, length, vec_len, IsTrue};
 ghost use Rattle.poly_graph.specs.FormGraph.{form_comes_after};
 ghost use Rattle.poly_graph.specs.FormViews.{form_node_of};
-ghost use Rattle.poly_graph.specs.Honest.{all_in_yes, conjuncts};
-ghost use Rattle.poly_graph.specs.State.{is_yes, mark_at};
-ghost use Rattle.poly_graph.specs.Space.{Space};
-ghost use Rattle.poly_graph.specs.ProblemViews.{problem_of};
-ghost use Rattle.truth3.specs.Conjuncts.{node_in_yes};
-ghost use Rattle.truth3.specs.Truth.{state_of};
+ghost use Rattle.poly_graph.specs.Marks.{is_yes, mark_at};
+ghost use Rattle.interval_model.specs.Space.{Space};
+ghost use Rattle.truth3.specs.Conjuncts.{node_in_yes, conjuncts_are_in_yes};
+ghost use Rattle.cover_model.specs.State.{state_of};
 
 use crate::marks::Marks;
 use crate::nodes::all_hold;
@@ -38,10 +36,9 @@ fn is_node_in_yes(lits: &Lits, truths: &[bool], node: &FormNode) -> bool
 /// Whether each atom that the form's root reaches through conjunctions alone is marked yes.
 pub fn conjuncts_in_yes(problem: &Problem, lits: &Lits, marks: &mut Marks) -> bool
     requires { vec_len marks.old.truths ≡ length problem.now.forms }
-    ensures truth { (space : Space) → result ≡ all_in_yes (state_of space lits.now) (conjuncts (problem_of problem.now).form) }
+    ensures truth { (space : Space) → result ≡ conjuncts_are_in_yes problem.now (state_of space lits.now) }
     ensures marks { vec_len marks.new.truths ≡ length problem.now.forms }
 {
-    let _ = problem.axes();
     let forms = problem.forms();
     for n in 0..forms.len() {
         let node = forms.node(n as u32);

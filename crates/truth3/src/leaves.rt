@@ -1,7 +1,7 @@
 // The truth of Bool values over a space.
 ghost use Rattle.std.specs.Prelude.{◌≡◌};
-ghost use Rattle.poly_graph.specs.State.{domain_allows, domain_is};
-ghost use Rattle.dyadic.specs.Space.{allows};
+ghost use Rattle.cover_model.specs.State.{domain_allows, domain_is};
+ghost use Rattle.interval_model.specs.Space.{allows};
 ghost use Rattle.ival.specs.SpaceViews.{space_of, domain_of};
 
 use ival::{Domain, Space, Truths};

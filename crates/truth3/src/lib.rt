@@ -1,4 +1,6 @@
-//! Bounds on the truth of a problem's form over a space.
+//! Bounds on the truth of a problem's form over a space: `may` is false only where no point of the space meets the
+//! form, `sure` is true only where each point does. `root_space` is what a cover begins with. Atoms are decided by the
+//! enclosures that the caller's rows hold: nothing is enclosed or narrowed here.
 #![tactic(auto)]
 
 mod atoms;
@@ -8,10 +10,8 @@ mod marks;
 mod nodes;
 mod root;
 mod surely;
-#[cfg(test)]
-mod tests;
 
-pub use atoms::{may_atom, sure_atom};
+pub use atoms::{kind_range, may_atom, sure_atom};
 pub use conjuncts::conjuncts_in_yes;
 pub use marks::{Marks, may};
 pub use root::{Root, root_space};

@@ -2,11 +2,10 @@
 ghost use Rattle.std.specs.Prelude.{◌≡◌, ◌<◌, ◌≤◌, ℕ, length, vec_len, IfOk, IsTrue};
 ghost use Rattle.poly_graph.specs.FormGraph.{form_comes_after};
 ghost use Rattle.poly_graph.specs.FormViews.{form_node_of};
-ghost use Rattle.poly_graph.specs.State.{may, may_atom, domain_allows};
-ghost use Rattle.poly_graph.specs.ProblemViews.{problem_of};
 ghost use Rattle.ival.specs.RowViews.{rows_of};
 ghost use Rattle.ival.specs.SpaceViews.{space_of};
-ghost use Rattle.truth3.specs.Truth.{HasRows, of_atoms, node_truth, pruning, state_of};
+ghost use Rattle.truth3.specs.Truth.{HasRows, node_may_hold, form_may_hold};
+ghost use Rattle.cover_model.specs.State.{state_of};
 
 use crate::atoms::may_atom;
 use crate::leaves::domain_allows;
@@ -45,7 +44,7 @@ fn may_node(
     requires rows { HasRows problem.now (space_of space.now) (rows_of rows.now) }
     requires lits { length lits.now ≡ length problem.now.atoms }
     requires order { IsTrue (form_comes_after (length truths.now) (form_node_of node.now)) }
-    ensures { result ≡ node_truth (of_atoms problem.now (may_atom (problem_of problem.now) (pruning margin) (state_of (space_of space.now) lits.now))) (domain_allows (space_of space.now)) truths.now (form_node_of node.now) }
+    ensures { result ≡ node_may_hold problem.now margin (state_of (space_of space.now) lits.now) truths.now (form_node_of node.now) }
 {
     match node {
         FormNode::True => true,
@@ -71,10 +70,9 @@ pub fn may(
     requires rows { HasRows problem.now (space_of space.now) (rows_of rows.now) }
     requires lits { length lits.now ≡ length problem.now.atoms }
     requires marks { vec_len marks.old.truths ≡ length problem.now.forms }
-    ensures truth { result ≡ may (problem_of problem.now) (pruning margin) (state_of (space_of space.now) lits.now) }
+    ensures truth { result ≡ form_may_hold problem.now margin (state_of (space_of space.now) lits.now) }
     ensures marks { vec_len marks.new.truths ≡ length problem.now.forms }
 {
-    let _ = problem.axes();
     let forms = problem.forms();
     for n in 0..forms.len() {
         let node = forms.node(n as u32);

@@ -1,17 +1,17 @@
 // The space that a problem's cover begins with.
 ghost use Rattle.std.specs.Prelude.{◌≡◌, false, map, All, IfOk, None};
-ghost use Rattle.poly_graph.specs.Problem.{IsDeclared, is_crossed, first_crossed_from, root_domain, root_of_axes};
+ghost use Rattle.poly_graph.specs.Problem.{IsDeclared, is_crossed, first_crossed_from};
+ghost use Rattle.cover_model.specs.Root.{root_domain, root_of_axes};
 ghost use Rattle.poly_graph.specs.ProblemViews.{axis_of, declared_of};
 ghost use Rattle.poly_graph.specs.declared.axis.Declared.TheVariants as declared;
 ghost use Rattle.ival.specs.declared.domain.Domain.TheVariants as domain;
 ghost use Rattle.ival.specs.SpaceViews.{domain_of, space_of};
 ghost use Rattle.truth3.specs.Roots.{IsRoot};
 
-use dyadic::{Ext, Frac, cmp_frac, down_frac, up_frac};
+use dyadic::{Ext, Frac, down_frac, up_frac};
 use ival::{Domain, Range, Space, Truths};
 use poly_graph::{Axis, Declared, Problem};
 use std::alloc::{AllocError, Global};
-use std::cmp::Ordering;
 
 /// What a problem's cover begins with.
 #[derive(Drop)]
@@ -22,26 +22,12 @@ pub enum Root {
     Space(Space),
 }
 
-// Whether the lower bound is above the upper one.
-fn is_crossed(declared: Declared) -> bool
-    ensures { result ≡ is_crossed (declared_of declared) }
-{
-    match declared {
-        Declared::Real(low, high) => match cmp_frac(low, high) {
-            Ordering::Greater => true,
-            Ordering::Less => false,
-            Ordering::Equal => false,
-        },
-        Declared::Bool => false,
-    }
-}
-
 // The first axis whose bounds cross.
 fn first_crossed(axes: &[Axis]) -> Option<usize>
     ensures { result ≡ first_crossed_from 0 (map axis_of axes.now) }
 {
     for axis in 0..axes.len() {
-        if is_crossed(axes[axis].declared) {
+        if axes[axis].declared.is_crossed() {
             return Some(axis);
         }
     }

@@ -1,13 +1,10 @@
 // Whether the form surely holds, node by node.
 ghost use Rattle.std.specs.Prelude.{◌≡◌, ◌<◌, ◌≤◌, ℕ, length, vec_len, IsTrue};
-ghost use Rattle.dyadic.specs.Rounding.{two_to_minus};
 ghost use Rattle.poly_graph.specs.FormGraph.{form_comes_after};
 ghost use Rattle.poly_graph.specs.FormViews.{form_node_of};
-ghost use Rattle.poly_graph.specs.State.{sure_at, sure_within, domain_is};
-ghost use Rattle.poly_graph.specs.ProblemViews.{problem_of};
 ghost use Rattle.ival.specs.RowViews.{rows_of};
 ghost use Rattle.ival.specs.SpaceViews.{space_of};
-ghost use Rattle.truth3.specs.Truth.{HasRows, of_atoms, node_truth};
+ghost use Rattle.truth3.specs.Truth.{HasRows, node_is_sure, form_is_sure};
 
 use crate::atoms::sure_atom;
 use crate::leaves::domain_is;
@@ -28,7 +25,7 @@ fn sure_node(
     requires delta { delta ≤ 120 }
     requires rows { HasRows problem.now (space_of space.now) (rows_of rows.now) }
     requires order { IsTrue (form_comes_after (length truths.now) (form_node_of node.now)) }
-    ensures { result ≡ node_truth (of_atoms problem.now (sure_at (problem_of problem.now) (two_to_minus delta) (space_of space.now))) (domain_is (space_of space.now)) truths.now (form_node_of node.now) }
+    ensures { result ≡ node_is_sure problem.now delta (space_of space.now) truths.now (form_node_of node.now) }
 {
     match node {
         FormNode::True => true,
@@ -46,10 +43,9 @@ pub fn sure(problem: &Problem, rows: &Rows, space: &Space, delta: u32, marks: &m
     requires delta { delta ≤ 120 }
     requires rows { HasRows problem.now (space_of space.now) (rows_of rows.now) }
     requires marks { vec_len marks.old.truths ≡ length problem.now.forms }
-    ensures truth { result ≡ sure_within (problem_of problem.now) (two_to_minus delta) (space_of space.now) }
+    ensures truth { result ≡ form_is_sure problem.now delta (space_of space.now) }
     ensures marks { vec_len marks.new.truths ≡ length problem.now.forms }
 {
-    let _ = problem.axes();
     let forms = problem.forms();
     for n in 0..forms.len() {
         let node = forms.node(n as u32);

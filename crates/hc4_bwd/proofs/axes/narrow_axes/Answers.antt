@@ -1,9 +1,9 @@
 use Rattle.std.proofs.Common.{◌≡◌, ◌+◌, ◌-◌, ◌<◌, ◌∙◌, length, drop, Some, ap, sym, arith, refl}
-use Rattle.dyadic.specs.Interval.{Interval}
-use Rattle.poly_graph.specs.Narrowed.{with_axes}
-use Rattle.poly_graph.specs.AxisStep.{axis_step}
+use Rattle.interval_model.specs.Interval.{Interval}
+use Rattle.cover_model.specs.Narrowed.{with_axes}
+use Rattle.cover_model.specs.AxisStep.{axis_step}
 use Rattle.poly_graph.specs.Views.{node_of}
-use Rattle.poly_graph.proofs.Axes.{axes_next, axes_back}
+use Rattle.cover_model.proofs.Axes.{axes_next, axes_back}
 use Rattle.ival.specs.Views.{interval_of}
 use Rattle.ival.specs.SpaceViews.{space_of}
 use Rattle.ival.specs.Options.{options_of, option_at}

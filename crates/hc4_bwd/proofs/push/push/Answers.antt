@@ -1,8 +1,8 @@
 use Rattle.std.proofs.Common.{ap, sym, ◌∙◌}
-use Rattle.dyadic.specs.Interval.{Interval, inverse_sum, inverse_product, inverse_square}
+use Rattle.interval_model.specs.Interval.{Interval, inverse_sum, inverse_product, inverse_square}
 use Rattle.poly_graph.specs.Term.{Node}
 use Rattle.poly_graph.specs.Views.{node_of}
-use Rattle.poly_graph.specs.NodeEnclosure.{row}
+use Rattle.cover_model.specs.NodeEnclosure.{row}
 use Rattle.ival.specs.Views.{interval_of}
 use Rattle.ival.specs.RowViews.{rows_of}
 use Rattle.ival.specs.Options.{option_at}

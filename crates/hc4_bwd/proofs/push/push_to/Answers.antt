@@ -1,5 +1,5 @@
 use Rattle.std.proofs.Common.{◌≡◌, ◌<◌, List, set, length, Some, ap, sym, ◌∙◌, arith}
-use Rattle.dyadic.specs.Interval.{Interval, met}
+use Rattle.interval_model.specs.Interval.{Interval, met}
 use Rattle.ival.specs.declared.ends.Ival.{Ival}
 use Rattle.ival.specs.Views.{interval_of}
 use Rattle.ival.specs.RowViews.{rows_of}

@@ -1,14 +1,15 @@
 use Rattle.std.proofs.Common.{◌≡◌, ℕ, length, Some, None, ap, sym, ◌∙◌}
-use Rattle.dyadic.specs.Interval.{Interval, nothing}
-use Rattle.poly_graph.specs.Narrowed.{narrowed}
+use Rattle.interval_model.specs.Interval.{Interval, nothing}
+use Rattle.cover_model.specs.Narrowed.{narrowed}
 use Rattle.poly_graph.specs.Views.{node_of}
-use Rattle.poly_graph.proofs.NodeEnclosures.{comes_at}
+use Rattle.cover_model.proofs.NodeEnclosures.{comes_at}
 use Rattle.ival.specs.Views.{interval_of}
 use Rattle.ival.specs.RowViews.{rows_of}
 use Rattle.ival.specs.Options.{option_at}
 use Rattle.ival.proofs.Optional.{no_option, has_option}
 use Rattle.hc4_bwd.specs.Pushed.{pushed}
 use Rattle.hc4_bwd.proofs.Sweeping.{start, found, swept_next, swept_all, empty_at, is_empty}
+use Rattle.hc4_bwd.proofs.Unnarrowed.{rows_proper}
 use Rattle.hc4_bwd.proofs.sweep.sweep.Goals as goal
 
 pub loop-n-init : goal.loop-n-init
@@ -31,7 +32,8 @@ loop-n-preserved c =
     has_option scratch c.in-Some.n next.marked ∙ ap (λ (i : Interval). Some i) (sym c.get-narrowed.ensures) in
     record {
       count = c.visit.ensures.count ∙ c.loop-n.invariant.count;
-      swept = swept_next c.args.graph.now (rows_of c.args.rows.now) c.args.root (interval_of c.args.range) c.loop-n.place c.in-Some.n scratch c.visit.new.scratch
+      swept = swept_next c.requires.enclosures.space c.args.graph.now (rows_of c.args.rows.now) c.args.root (interval_of c.args.range)
+          c.len-2.ensures.graph.ordered c.requires.enclosures.filled (rows_proper c.args.rows.now) c.loop-n.place c.in-Some.n scratch c.visit.new.scratch
           (node_of c.node.result) (interval_of c.get-narrowed.result) c.requires.root c.loop-n.invariant.swept next.below (λ k a b. no_option scratch k (next.between k a b))
           c.node.ensures here (sym c.if-is_empty.ensures) c.visit.ensures.below c.visit.ensures.at c.visit.ensures.above;
     }
@@ -43,7 +45,7 @@ returns-then-is_empty c =
     let here : option_at scratch n ≡ Some (interval_of c.get-narrowed.result) = has_option scratch n next.marked ∙ ap (λ (i : Interval). Some i) (sym c.get-narrowed.ensures) in
     let empty = is_empty (interval_of c.get-narrowed.result) (sym c.if-is_empty.ensures) in
     record {
-      none = λ e. empty_at (narrowed nodes es root range) n (found nodes es root range c.loop-n.place n scratch (Some nothing) c.requires.root c.loop-n.invariant.swept next.below
+      none = λ e. empty_at (narrowed nodes es root range) n (found c.requires.enclosures.space nodes es root range c.len-2.ensures.graph.ordered c.requires.enclosures.filled (rows_proper c.args.rows.now) c.loop-n.place n scratch nothing c.requires.root c.loop-n.invariant.swept next.below
           (λ k a b. no_option scratch k (next.between k a b)) (here ∙ ap (λ (i : Interval). Some i) empty));
       some = λ e. cc;
       variables = λ e. cc;
@@ -53,6 +55,6 @@ returns-then-is_empty c =
 pub returns : goal.returns
 returns c =
     let scratch = c.loop-n.scratch in
-    let all = swept_all c.args.graph.now (rows_of c.args.rows.now) c.args.root (interval_of c.args.range) c.loop-n.place scratch c.requires.root c.loop-n.invariant.swept
+    let all = swept_all c.requires.enclosures.space c.args.graph.now (rows_of c.args.rows.now) c.args.root (interval_of c.args.range) c.len-2.ensures.graph.ordered c.requires.enclosures.filled (rows_proper c.args.rows.now) c.loop-n.place scratch c.requires.root c.loop-n.invariant.swept
     (λ k h. no_option scratch k (c.in_default.ensures k h)) in
     record { none = λ e. cc; some = λ e. all.1; variables = λ e. all.0; count = c.loop-n.invariant.count }

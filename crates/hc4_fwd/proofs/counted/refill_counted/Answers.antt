@@ -2,12 +2,12 @@ use Rattle.std.proofs.Common.{◌≡◌, ℕ, List, ◌<◌, ◌∙◌, length, 
 use Rattle.std.proofs.lemmas.Bool.{cases_lt}
 use Rattle.std.proofs.lemmas.List.{get_or_default, get_or_past, length-set}
 use Rattle.std.specs.Prelude.{slice_get}
-use Rattle.dyadic.specs.Interval.{Interval}
+use Rattle.interval_model.specs.Interval.{Interval}
 use Rattle.poly_graph.specs.Term.{variable_node}
-use Rattle.poly_graph.specs.Narrowed.{enclosures}
-use Rattle.poly_graph.specs.NodeEnclosure.{row, node_enclosure}
+use Rattle.cover_model.specs.Narrowed.{enclosures}
+use Rattle.cover_model.specs.NodeEnclosure.{row, node_enclosure}
 use Rattle.poly_graph.specs.Views.{node_of}
-use Rattle.poly_graph.proofs.NodeEnclosures.{all_rows, length_enclosures}
+use Rattle.cover_model.proofs.NodeEnclosures.{all_rows, length_enclosures}
 use Rattle.ival.specs.RowViews.{rows_of, marks_of}
 use Rattle.ival.proofs.MarkWords.{length_marks}
 use Rattle.ival.specs.SpaceViews.{space_of}

@@ -3,7 +3,7 @@ use Rattle.std.proofs.lemmas.List.{length-set}
 use Rattle.std.specs.Prelude.{slice_get}
 use Rattle.poly_graph.specs.Views.{node_of}
 use Rattle.poly_graph.specs.Parents.{parents_of}
-use Rattle.poly_graph.proofs.NodeEnclosures.{comes_at, comes_later}
+use Rattle.cover_model.proofs.NodeEnclosures.{comes_at, comes_later}
 use Rattle.ival.specs.Views.{interval_of}
 use Rattle.ival.specs.RowViews.{rows_of, marks_of, is_marked}
 use Rattle.hc4_fwd.proofs.Upwards.{node_inside, parents_inside, parent_listed}

@@ -1,9 +1,9 @@
 use Rattle.std.proofs.Common.{List, ◌<◌, ◌≤◌, ◌≢◌, ◌∙◌, length, arith, ap, below_more, get_or-set_other, get_or-set_same}
 use Rattle.std.proofs.lemmas.List.{length-set}
-use Rattle.dyadic.specs.Interval.{Interval, nothing}
-use Rattle.poly_graph.specs.NodeEnclosure.{row}
+use Rattle.interval_model.specs.Interval.{Interval, nothing}
+use Rattle.cover_model.specs.NodeEnclosure.{row}
 use Rattle.poly_graph.specs.Views.{node_of}
-use Rattle.poly_graph.proofs.NodeEnclosures.{comes_at, comes_later, next_row, all_rows}
+use Rattle.cover_model.proofs.NodeEnclosures.{comes_at, comes_later, next_row, all_rows}
 use Rattle.ival.specs.Views.{interval_of}
 use Rattle.ival.specs.RowViews.{rows_of}
 use Rattle.ival.specs.SpaceViews.{space_of}

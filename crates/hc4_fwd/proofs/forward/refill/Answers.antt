@@ -1,7 +1,7 @@
 use Rattle.std.proofs.Common.{◌+◌, ◌<◌, ◌≤◌, ◌∙◌, length, arith, ap, sym, subst, refl}
 use Rattle.ival.specs.declared.row_parts.Rows.{Rows}
 use Rattle.poly_graph.specs.Views.{node_of}
-use Rattle.poly_graph.proofs.NodeEnclosures.{comes_at, comes_later, length_enclosures, all_rows}
+use Rattle.cover_model.proofs.NodeEnclosures.{comes_at, comes_later, length_enclosures, all_rows}
 use Rattle.ival.proofs.MarkWords.{length_marks}
 use Rattle.ival.specs.RowViews.{rows_of, marks_of}
 use Rattle.ival.specs.SpaceViews.{space_of}

@@ -1,11 +1,11 @@
 use Rattle.std.proofs.Common.{◌≡◌, ℕ, ◌+◌, ◌-◌, ◌<◌, ◌∙◌, length, drop, ap, sym, subst, arith, refl}
-use Rattle.poly_graph.specs.Narrowed.{with_axes}
+use Rattle.cover_model.specs.Narrowed.{with_axes}
 use Rattle.poly_graph.specs.Views.{node_of}
 use Rattle.ival.specs.SpaceViews.{space_of}
 use Rattle.ival.specs.Options.{option_of, options_of}
-use Rattle.poly_graph.specs.AxisStep.{axis_step}
+use Rattle.cover_model.specs.AxisStep.{axis_step}
 use Rattle.ival.proofs.Optional.{length_options}
-use Rattle.poly_graph.proofs.Axes.{axes_next, axes_back}
+use Rattle.cover_model.proofs.Axes.{axes_next, axes_back}
 use Rattle.plain_eval.proofs.axes.narrow_axes.Goals as goal
 
 pub loop-n-preserved-then-narrow_axis : goal.loop-n-preserved-then-narrow_axis

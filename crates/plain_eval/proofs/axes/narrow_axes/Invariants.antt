@@ -1,5 +1,5 @@
 use Rattle.std.proofs.Common.{◌≡◌, ◌≢◌, ◌≤◌, length, drop, true, false}
-use Rattle.poly_graph.specs.Narrowed.{with_axes}
+use Rattle.cover_model.specs.Narrowed.{with_axes}
 use Rattle.ival.specs.SpaceViews.{space_of}
 use Rattle.ival.specs.Options.{options_of}
 use Rattle.plain_eval.proofs.axes.narrow_axes.Given as goal

@@ -1,8 +1,8 @@
 use Rattle.std.proofs.Common.{◌≤◌, length, ap, sym, ◌∙◌, arith}
-use Rattle.dyadic.specs.Interval.{Interval}
+use Rattle.interval_model.specs.Interval.{Interval}
 use Rattle.dyadic.specs.Views.{dyadic_of}
-use Rattle.poly_graph.specs.Narrowed.{set_axis}
-use Rattle.poly_graph.proofs.Axes.{set_axis_is, set_past, set_kept}
+use Rattle.cover_model.specs.Narrowed.{set_axis}
+use Rattle.cover_model.proofs.Axes.{set_axis_is, set_past, set_kept}
 use Rattle.ival.specs.Views.{interval_of}
 use Rattle.ival.specs.SpaceViews.{space_of}
 use Rattle.plain_eval.proofs.axes.narrow_variable.Goals as goal

@@ -1,9 +1,9 @@
 use Rattle.std.proofs.Common.{◌<◌, ◌≤◌, ◌∙◌, length, arith, ap}
 use Rattle.std.proofs.lemmas.List.{length-set}
-use Rattle.poly_graph.specs.Narrowed.{enclosures}
-use Rattle.poly_graph.specs.NodeEnclosure.{row}
+use Rattle.cover_model.specs.Narrowed.{enclosures}
+use Rattle.cover_model.specs.NodeEnclosure.{row}
 use Rattle.poly_graph.specs.Views.{node_of}
-use Rattle.poly_graph.proofs.NodeEnclosures.{comes_at, comes_later, next_row}
+use Rattle.cover_model.proofs.NodeEnclosures.{comes_at, comes_later, next_row}
 use Rattle.ival.specs.Views.{interval_of}
 use Rattle.ival.specs.RowViews.{rows_of}
 use Rattle.ival.specs.SpaceViews.{space_of}

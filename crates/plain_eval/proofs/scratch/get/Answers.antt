@@ -1,5 +1,5 @@
 use Rattle.std.proofs.Common.{◌∙◌, ap, ap₂, sym, slice_index_or, Bool}
-use Rattle.dyadic.specs.Interval.{Interval, nothing}
+use Rattle.interval_model.specs.Interval.{Interval, nothing}
 use Rattle.ival.specs.RowViews.{rows_of}
 use Rattle.ival.specs.Options.{kept}
 use Rattle.ival.proofs.Optional.{option_is}

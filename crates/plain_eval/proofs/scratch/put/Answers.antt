@@ -1,6 +1,6 @@
 use Rattle.std.proofs.Common.{◌≡◌, ◌∙◌, List, ap, ap₂, sym, slice_index_or, Bool, true, None, get_or, set}
 use Rattle.std.proofs.lemmas.List.{set-get_or}
-use Rattle.dyadic.specs.Interval.{Interval, nothing}
+use Rattle.interval_model.specs.Interval.{Interval, nothing}
 use Rattle.ival.specs.Views.{interval_of}
 use Rattle.ival.specs.RowViews.{rows_of, marks_of}
 use Rattle.ival.specs.Options.{kept, options, options_of, option_of}

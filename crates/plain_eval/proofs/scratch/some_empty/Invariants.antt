@@ -1,5 +1,5 @@
 use Rattle.std.proofs.Common.{◌≡◌, drop}
-use Rattle.poly_graph.specs.Narrowed.{some_empty}
+use Rattle.cover_model.specs.Narrowed.{some_empty}
 use Rattle.ival.specs.Options.{options_of}
 use Rattle.plain_eval.proofs.scratch.some_empty.Given as goal
 

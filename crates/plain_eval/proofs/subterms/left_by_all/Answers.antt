@@ -1,11 +1,11 @@
 use Rattle.std.proofs.Common.{◌≡◌, ℕ, ◌+◌, ◌-◌, ◌<◌, ◌≤◌, ◌∙◌, length, drop, subst, arith}
-use Rattle.poly_graph.specs.Narrowed.{from_parents}
+use Rattle.cover_model.specs.Narrowed.{from_parents}
 use Rattle.poly_graph.specs.Views.{node_of}
-use Rattle.poly_graph.proofs.NodeEnclosures.{comes_at, comes_later}
+use Rattle.cover_model.proofs.NodeEnclosures.{comes_at, comes_later}
 use Rattle.ival.specs.RowViews.{rows_of}
 use Rattle.ival.specs.Options.{option_of, options_of}
 use Rattle.ival.proofs.Optional.{length_options}
-use Rattle.poly_graph.proofs.NarrowedAt.{parents_step}
+use Rattle.cover_model.proofs.NarrowedAt.{parents_step}
 use Rattle.plain_eval.proofs.subterms.left_by_all.Goals as goal
 
 pub with_parent-left-requires-clause-order : goal.with_parent-left-requires-clause-order

@@ -1,5 +1,5 @@
 use Rattle.std.proofs.Common.{◌≡◌, ◌+◌, ◌≤◌, length, drop}
-use Rattle.poly_graph.specs.Narrowed.{from_parents}
+use Rattle.cover_model.specs.Narrowed.{from_parents}
 use Rattle.ival.specs.RowViews.{rows_of}
 use Rattle.ival.specs.Options.{option_of, options_of}
 use Rattle.plain_eval.proofs.subterms.left_by_all.Given as goal

@@ -1,10 +1,10 @@
 use Rattle.std.proofs.Common.{◌≡◌, ℕ, ◌+◌, ◌-◌, ◌<◌, ◌≤◌, ◌∙◌, length, drop, ap, sym, subst, arith}
-use Rattle.poly_graph.specs.Narrowed.{narrowed}
+use Rattle.cover_model.specs.Narrowed.{narrowed}
 use Rattle.ival.specs.Views.{interval_of}
 use Rattle.ival.specs.RowViews.{rows_of}
 use Rattle.ival.specs.Options.{option_of, options_of}
 use Rattle.ival.proofs.Optional.{length_options, drop_all}
-use Rattle.poly_graph.proofs.NarrowedAt.{length_narrowed}
+use Rattle.cover_model.proofs.NarrowedAt.{length_narrowed}
 use Rattle.plain_eval.proofs.Parents.{narrow_step}
 use Rattle.plain_eval.proofs.subterms.narrow_rows.Goals as goal
 

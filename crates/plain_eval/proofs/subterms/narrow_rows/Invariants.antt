@@ -1,5 +1,5 @@
 use Rattle.std.proofs.Common.{◌≡◌, ℕ, ◌<◌, ◌≤◌, length, drop, false}
-use Rattle.poly_graph.specs.Narrowed.{narrowed}
+use Rattle.cover_model.specs.Narrowed.{narrowed}
 use Rattle.ival.specs.Views.{interval_of}
 use Rattle.ival.specs.RowViews.{rows_of, marks_of, is_marked}
 use Rattle.ival.specs.Options.{options_of}

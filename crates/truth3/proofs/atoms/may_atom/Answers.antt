@@ -12,7 +12,7 @@ get-requires c =
     let d : Atom = record { term = 0; kind = Le } in
     let inside : j < length items = omega (arith, c.if-j-atoms.false) in
     let l : j < length p.atoms = omega (arith, length-map items atom_of, ap length c.atoms-atoms.ensures.atoms, inside) in
-    let h = c.axes.ensures.whole.problem.atoms j (atom_of d) l in
+    let h = c.atoms-atoms.ensures.whole.problem.atoms j (atom_of d) l in
     let e = ap (λ (a : ℕ × Kind). a.0) (get_or-map atom_of items j d (atom_of d) inside) in
     let f = ap (λ (xs : List (ℕ × Kind)). (get_or xs j (atom_of d)).0) c.atoms-atoms.ensures.atoms in
     omega (arith, h, e, f, c.requires.rows.count)

@@ -3,8 +3,8 @@ use Rattle.std.proofs.lemmas.List.{get_or_default}
 use Rattle.std.specs.Prelude.{slice_get}
 use Rattle.poly_graph.specs.FormGraph.{FormNode, forms_in_order, form_at, graph_forms}
 use Rattle.poly_graph.specs.FormViews.{form_node_of}
-use Rattle.poly_graph.specs.Honest.{all_in_yes, conjuncts}
-use Rattle.truth3.specs.Truth.{state_of}
+use Rattle.cover_model.specs.Honest.{all_in_yes, conjuncts}
+use Rattle.cover_model.specs.State.{state_of}
 use Rattle.truth3.specs.Conjuncts.{node_in_yes}
 use Rattle.truth3.proofs.FormTruth.{form_comes_later, form_comes_at}
 use Rattle.truth3.proofs.InYes.{in_yes_next}
@@ -30,7 +30,7 @@ loop-n-preserved c =
 pub returns-clause-truth : goal.returns-clause-truth
 returns-clause-truth c = λ space.
     let p = c.args.problem.now in let truths = c.loop-n.marks.truths.items in let root = c.root.result in
-    let whole = c.axes.ensures.whole in
+    let whole = c.forms-forms.ensures.whole in
     let below : root < c.loop-n.n = omega (arith, c.root.ensures.root, whole.root, c.loop-n-test.false, c.len-n-end.ensures.len, ap length c.forms-forms.ensures.forms) in
     let inside : root < length truths = omega (arith, c.root.ensures.root, whole.root, c.loop-n.invariant.count) in
     c.index.ensures ∙ get_or_default truths root c.index.result.now false inside ∙ c.loop-n.invariant.filled space root below

@@ -1,8 +1,9 @@
 use Rattle.std.proofs.Common.{◌≡◌, ℕ, ◌<◌, length, vec_len}
 use Rattle.poly_graph.specs.FormGraph.{form_at, graph_forms}
-use Rattle.poly_graph.specs.Space.{Space}
-use Rattle.poly_graph.specs.Honest.{all_in_yes, conjuncts}
-use Rattle.truth3.specs.Truth.{is_true, state_of}
+use Rattle.interval_model.specs.Space.{Space}
+use Rattle.cover_model.specs.Honest.{all_in_yes, conjuncts}
+use Rattle.truth3.specs.Truth.{is_true}
+use Rattle.cover_model.specs.State.{state_of}
 use Rattle.truth3.proofs.conjuncts.conjuncts_in_yes.Given as goal
 
 -- the truths so far are those of the nodes' conjuncts

@@ -1,5 +1,5 @@
 use Rattle.std.proofs.Common.{◌<◌, ◌≤◌, ◌∙◌, length, ap, sym, arith}
-use Rattle.dyadic.specs.Space.{Domain, allows}
+use Rattle.interval_model.specs.Space.{Domain, allows}
 use Rattle.ival.specs.SpaceViews.{space_of, domain_of}
 use Rattle.truth3.proofs.Axes.{allowed_at, none_past}
 use Rattle.truth3.proofs.leaves.domain_allows.Goals as goal

@@ -1,10 +1,10 @@
 use Rattle.std.proofs.Common.{◌≡◌, ℕ, ◌<◌, length, vec_len}
 use Rattle.poly_graph.specs.Form.{form_truth}
 use Rattle.poly_graph.specs.FormGraph.{form_at, graph_forms}
-use Rattle.poly_graph.specs.State.{may_atom, domain_allows}
+use Rattle.cover_model.specs.State.{may_atom, domain_allows, state_of}
 use Rattle.poly_graph.specs.ProblemViews.{problem_of}
 use Rattle.ival.specs.SpaceViews.{space_of}
-use Rattle.truth3.specs.Truth.{is_true, of_atoms, pruning, state_of}
+use Rattle.truth3.specs.Truth.{is_true, of_atoms, pruning}
 use Rattle.truth3.proofs.marks.may.Given as goal
 
 -- the truths so far are those of the nodes' forms

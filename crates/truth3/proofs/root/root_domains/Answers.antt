@@ -1,5 +1,5 @@
 use Rattle.std.proofs.Common.{◌<◌, ◌∷◌, [], ◌++◌, ◌∙◌, length, arith, ap₂, sym}
-use Rattle.dyadic.specs.Space.{Domain, Space}
+use Rattle.interval_model.specs.Space.{Domain, Space}
 use Rattle.truth3.proofs.Roots.{upright_at, bound_at, domains_step}
 use Rattle.truth3.proofs.root.root_domains.Goals as goal
 

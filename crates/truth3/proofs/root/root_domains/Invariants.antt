@@ -1,5 +1,5 @@
 use Rattle.std.proofs.Common.{◌≡◌, ◌≤◌, length, take, map}
-use Rattle.poly_graph.specs.Problem.{root_of_axes}
+use Rattle.cover_model.specs.Root.{root_of_axes}
 use Rattle.poly_graph.specs.ProblemViews.{axis_of}
 use Rattle.ival.specs.SpaceViews.{space_of, capacity_of}
 use Rattle.truth3.proofs.root.root_domains.Given as goal

@@ -6,7 +6,7 @@ use Rattle.poly_graph.specs.Form.{form_truth}
 use Rattle.poly_graph.specs.FormGraph.{FormNode, forms_in_order, form_at, graph_forms}
 use Rattle.poly_graph.specs.FormViews.{form_node_of}
 use Rattle.poly_graph.specs.Problem.{sorts_of_problem}
-use Rattle.poly_graph.specs.State.{sure_at, domain_is}
+use Rattle.cover_model.specs.State.{sure_at, domain_is}
 use Rattle.poly_graph.specs.ProblemViews.{problem_of}
 use Rattle.ival.specs.SpaceViews.{space_of}
 use Rattle.truth3.specs.Truth.{of_atoms, node_truth}
@@ -37,7 +37,7 @@ returns-clause-truth c =
     let p = c.args.problem.now in let truths = c.loop-n.marks.truths.items in let root = c.root.result in
     let test : ℕ → Bool = sure_at (problem_of p) (two_to_minus c.args.delta) (space_of c.args.space.now) in
     let bools : ℕ → Bool → Bool = domain_is (space_of c.args.space.now) in
-    let whole = c.axes.ensures.whole in
+    let whole = c.forms-forms.ensures.whole in
     let below : root < c.loop-n.n = omega (arith, c.root.ensures.root, whole.root, c.loop-n-test.false, c.len-n-end.ensures.len, ap length c.forms-forms.ensures.forms) in
     let inside : root < length truths = omega (arith, c.root.ensures.root, whole.root, c.loop-n.invariant.count) in
     c.index.ensures ∙ get_or_default truths root c.index.result.now false inside ∙ c.loop-n.invariant.filled root below

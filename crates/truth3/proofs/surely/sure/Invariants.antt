@@ -2,7 +2,7 @@ use Rattle.std.proofs.Common.{◌≡◌, ℕ, ◌<◌, length, vec_len}
 use Rattle.dyadic.specs.Rounding.{two_to_minus}
 use Rattle.poly_graph.specs.Form.{form_truth}
 use Rattle.poly_graph.specs.FormGraph.{form_at, graph_forms}
-use Rattle.poly_graph.specs.State.{sure_at, domain_is}
+use Rattle.cover_model.specs.State.{sure_at, domain_is}
 use Rattle.poly_graph.specs.ProblemViews.{problem_of}
 use Rattle.ival.specs.SpaceViews.{space_of}
 use Rattle.truth3.specs.Truth.{is_true, of_atoms}
