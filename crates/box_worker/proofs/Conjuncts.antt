@@ -5,17 +5,18 @@ use Rattle.dyadic.specs.Point.{Sort}
 use Rattle.dyadic.proofs.Equal.{both_true, both_pass}
 use Rattle.poly_graph.specs.Form.{Form, Forms, yes_form, no_form, atom_is, bool_is, all_form, any_form, no_forms, more_forms, form_truth, all_truth}
 use Rattle.poly_graph.specs.Problem.{Problem, IsProblem, IsForm, AreForms, sorts_of_problem}
-use Rattle.poly_graph.specs.State.{Mark, marked_yes, marked_no, unmarked, State, Loosenings, is_yes, is_no, is_unmarked, mark_at, in_yes, in_no, undecided_in, undecided, with_no, misses, margin_of, may_atom, may, domain_allows}
-use Rattle.poly_graph.specs.Honest.{conjuncts, conjuncts_of, all_in_yes, is_some_space, none_empty_from, none_empty}
+use Rattle.poly_graph.specs.Marks.{Mark, marked_yes, marked_no, unmarked, is_yes, is_no, is_unmarked, mark_at, undecided_in}
+use Rattle.cover_model.specs.State.{State, Loosenings, in_yes, in_no, undecided, with_no, misses, margin_of, may_atom, may, domain_allows}
+use Rattle.cover_model.specs.Honest.{conjuncts, conjuncts_of, all_in_yes, is_some_space, none_empty_from, none_empty}
 use Rattle.poly_graph.specs.ProblemViews.{Parts, problem_of}
-use Rattle.poly_graph.specs.Rules.{Line, narrowing}
+use Rattle.cover_model.specs.Rules.{Line, narrowing}
 use Rattle.poly_graph.proofs.Bools.{decided}
 use Rattle.cover_rule.specs.declared.refusal.PatchRefusal.{PatchRefusal}
 use Rattle.cover_rule.specs.declared.refusal.PatchRefusal.TheVariants.{NotForced, Decided, NotYes, NotFalse, Ended}
 use Rattle.cover_rule.specs.Models.{PatchModel}
 use Rattle.cover_rule.specs.Patch.{problem_in, loosenings_in, now_in, narrowing_in}
 use Rattle.cover_rule.specs.Refusals.{unless, then_by, if_ended, unit_refusal, forced_by, void_refusal}
-use Rattle.cover_rule.proofs.Withins.{undecided_at}
+use Rattle.cover_data.proofs.Withins.{undecided_at}
 use Rattle.box_worker.specs.Attempts.{Attempts, all_decided}
 
 -- ---- conjuncts hold where the form does

@@ -3,14 +3,15 @@ use Rattle.std.proofs.Common.{◌≡◌, Bool, true, false, not, IsTrue, Option,
 use Rattle.std.specs.Prelude.{MatchOption}
 use Rattle.dyadic.proofs.Equal.{both_pass}
 use Rattle.poly_graph.specs.Problem.{IsProblem}
-use Rattle.poly_graph.specs.State.{may, sure}
-use Rattle.poly_graph.specs.Honest.{middle, all_in_yes, conjuncts, none_empty}
+use Rattle.cover_model.specs.State.{may, sure, covers}
+use Rattle.interval_model.specs.Space.{middle}
+use Rattle.cover_model.specs.Honest.{all_in_yes, conjuncts, none_empty}
 use Rattle.cover_rule.specs.declared.refusal.PatchRefusal.{PatchRefusal}
 use Rattle.cover_rule.specs.declared.refusal.PatchRefusal.TheVariants.{NotFalse, NotCovered}
-use Rattle.cover_rule.specs.Models.{LemmaModel, PatchModel}
+use Rattle.cover_data.specs.Models.{LemmaModel}
+use Rattle.cover_rule.specs.Models.{PatchModel}
 use Rattle.cover_rule.specs.Patch.{problem_in, loosenings_in, now_in}
 use Rattle.cover_rule.specs.Refusals.{unless, then_by, if_ended, false_refusal, by_refusal}
-use Rattle.poly_graph.specs.State.{covers}
 use Rattle.box_worker.specs.Attempts.{Attempts, IsDue, all_decided}
 use Rattle.box_worker.proofs.Conjuncts.{some_none, open_not_ended, conjuncts_are_yes}
 

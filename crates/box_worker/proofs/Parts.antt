@@ -2,13 +2,14 @@
 use Rattle.std.proofs.Common.{◌≡◌, ◌⊎◌, inl, inr, ℕ, zero, suc, ◌+◌, ◌<◌, [], ◌∷◌, length, Bool, true, false, not, ◌&&◌, IsTrue, Option, Some, None, refl, sym, ap, ◌∙◌, subst, arith, true≢false, add-one}
 use Rattle.dyadic.specs.Rounding.{mid}
 use Rattle.dyadic.proofs.Equal.{both_true, both_pass}
-use Rattle.poly_graph.specs.Space.{real_domain, bool_domain, Space, is_upright, IsGridSpace}
+use Rattle.interval_model.specs.Space.{real_domain, bool_domain, Space, is_upright, is_undecided, test_axis, widest}
+use Rattle.cover_model.specs.Space.{IsGridSpace}
 use Rattle.poly_graph.specs.Problem.{Problem, IsProblem}
-use Rattle.poly_graph.specs.State.{State, Loosenings}
-use Rattle.poly_graph.specs.Rules.{Line, cut, is_stuck_atom, is_undecided, test_axis}
-use Rattle.poly_graph.specs.Honest.{not_shown, settled, widest, is_wide, is_middle_at, is_small, none_below}
+use Rattle.cover_model.specs.State.{State, Loosenings}
+use Rattle.cover_model.specs.Rules.{Line, cut, is_stuck_atom}
+use Rattle.cover_model.specs.Honest.{not_shown, settled, is_wide, is_middle_at, is_small, none_below}
 use Rattle.poly_graph.proofs.Bools.{not_both}
-use Rattle.poly_graph.proofs.Stuck.{some_atom_is_stuck}
+use Rattle.cover_model.proofs.Stuck.{some_atom_is_stuck}
 use Rattle.cover_rule.specs.declared.refusal.PatchRefusal.{PatchRefusal}
 use Rattle.cover_rule.specs.declared.refusal.PatchRefusal.TheVariants.{NotInside, NotStuck, NotHonest, Decided}
 use Rattle.cover_rule.specs.Models.{PatchModel}

@@ -3,12 +3,12 @@ use Rattle.std.proofs.Common.{◌≡◌, ◌⊎◌, inl, inr, ℕ, suc, ◌+◌,
 use Rattle.std.specs.Prelude.{nat_eq}
 use Rattle.dyadic.specs.Fraction.{Fraction, IsFraction, at_most, difference_of, negated}
 use Rattle.dyadic.specs.Rounding.{Dyadic, exact, two_to_minus}
-use Rattle.dyadic.specs.Space.{Domain, real_domain, bool_domain, Space, can_be_halved, side, better, widest_from, widest, is_undecided, test_axis}
+use Rattle.interval_model.specs.Space.{Domain, real_domain, bool_domain, Space, can_be_halved, side, better, widest_from, widest, is_undecided, test_axis}
 use Rattle.dyadic.proofs.Equal.{both_true, both_pass, through, total}
-use Rattle.dyadic.proofs.EndsProducts.{at_most_refl}
-use Rattle.dyadic.proofs.EndsSums.{sum_is_good, negated_is_good}
-use Rattle.poly_graph.specs.Honest.{is_wide, is_small_domain, is_small}
-use Rattle.poly_graph.proofs.Within.{exact_is_fraction}
+use Rattle.interval_model.proofs.EndsProducts.{at_most_refl}
+use Rattle.interval_model.proofs.EndsSums.{sum_is_good, negated_is_good}
+use Rattle.cover_model.specs.Honest.{is_wide, is_small_domain, is_small}
+use Rattle.cover_model.proofs.Within.{exact_is_fraction}
 use Rattle.poly_graph.proofs.Bools.{or_first, or_second}
 use Rattle.ival.specs.BestViews.{axis_of}
 use Rattle.cover_rule.specs.Refusals.{CutsAt}

@@ -4,21 +4,22 @@ use Rattle.std.specs.Prelude.{Contains, Result, Ok, Err, IfOk}
 use Rattle.std.specs.declared.alloc.AllocError.{AllocError}
 use Rattle.dyadic.proofs.Equal.{both_true}
 use Rattle.poly_graph.specs.ProblemViews.{Parts, problem_of}
-use Rattle.poly_graph.specs.Space.{Space}
-use Rattle.poly_graph.specs.State.{State, covers, may, sure}
-use Rattle.poly_graph.specs.Honest.{middle, not_shown}
-use Rattle.poly_graph.specs.Rules.{Line, pull, unit, ban, void, make_false, by, cut, flip, case, open_line, stuck}
-use Rattle.poly_graph.specs.Fits.{IsShownAt}
+use Rattle.interval_model.specs.Space.{Space, middle}
+use Rattle.cover_model.specs.State.{State, covers, may, sure}
+use Rattle.cover_model.specs.Honest.{not_shown}
+use Rattle.cover_model.specs.Rules.{Line, pull, unit, ban, void, make_false, by, cut, flip, case, open_line, stuck}
+use Rattle.cover_model.specs.Fits.{IsShownAt}
 use Rattle.poly_graph.proofs.Bools.{not_both}
-use Rattle.cover_rule.specs.declared.margins.Margins.{Margins}
-use Rattle.cover_rule.specs.declared.margins.Options.{Options}
-use Rattle.cover_rule.specs.Margins.{loosenings_of}
-use Rattle.cover_rule.specs.Models.{LemmaModel, KeptModel, PatchModel}
+use Rattle.cover_data.specs.declared.margins.Margins.{Margins}
+use Rattle.cover_data.specs.declared.margins.Options.{Options}
+use Rattle.cover_data.specs.Margins.{loosenings_of}
+use Rattle.cover_data.specs.Models.{LemmaModel, KeptModel}
+use Rattle.cover_rule.specs.Models.{PatchModel}
 use Rattle.cover_rule.specs.Patch.{problem_in, run_at, ended_by}
 use Rattle.cover_rule.specs.Refusals.{ended_with, covered, covered_by}
-use Rattle.cover_rule.specs.Runs.{IsRun, IsClosed, closes, is_closing}
-use Rattle.cover_rule.specs.Views.{kept_of}
-use Rattle.cover_rule.proofs.Runs.{covers_itself}
+use Rattle.cover_data.specs.Runs.{IsRun, IsClosed, closes, is_closing}
+use Rattle.cover_data.specs.Views.{kept_of}
+use Rattle.cover_data.proofs.Runs.{covers_itself}
 use Rattle.box_worker.specs.declared.ended.Ended.{Ended}
 use Rattle.box_worker.specs.declared.ended.Ended.TheVariants as ended
 use Rattle.box_worker.specs.declared.worked.Worked.{Worked}

@@ -1,17 +1,49 @@
 -- Attempts at a step or an end of a patch, and what stays the same as a patch goes on.
-use Rattle.std.specs.Prelude.{◌≡◌, ℕ, List, [], ◌∷◌, Bool, true, false, not, ◌&&◌, Option, None, IsSome, All, Contains}
-use Rattle.poly_graph.specs.ProblemViews.{Parts}
-use Rattle.poly_graph.specs.State.{State, undecided}
-use Rattle.poly_graph.specs.Honest.{not_shown, settled}
-use Rattle.cover_rule.specs.declared.margins.Margins.{Margins}
+use Rattle.std.specs.Prelude.{◌≡◌, ℕ, ◌<◌, length, List, [], ◌∷◌, Bool, true, false, not, ◌&&◌, Option, None, IsSome, All, Contains}
+use Rattle.poly_graph.specs.ProblemViews.{Parts, problem_of}
+use Rattle.interval_model.specs.Space.{is_undecided, test_axis}
+use Rattle.cover_model.specs.State.{State, undecided}
+use Rattle.cover_model.specs.Honest.{not_shown, settled, conjuncts, none_empty}
+use Rattle.cover_data.specs.declared.margins.Margins.{Margins}
 use Rattle.cover_rule.specs.declared.refusal.PatchRefusal.{PatchRefusal}
-use Rattle.cover_rule.specs.Models.{LemmaModel, PatchModel}
+use Rattle.cover_data.specs.Models.{LemmaModel}
+use Rattle.cover_rule.specs.Models.{PatchModel}
 use Rattle.cover_rule.specs.Patch.{problem_in, loosenings_in, now_in}
+use Rattle.cover_model.specs.Rules.{void, make_false, flip, case, stuck}
+use Rattle.cover_rule.specs.Refusals.{unit_refusal, forced_by, void_refusal, false_refusal, by_refusal, covered_by, cut_refusal, cut_by, flip_refusal, case_refusal, stuck_refusal, ended_with}
 
 -- it was done, where nothing refuses it; else the patch is as it was
 abbrev pub Attempts : Option PatchRefusal → PatchModel → PatchModel → PatchModel → Bool → Type 0
 Attempts refusal old done new true = (refusal ≡ None) × (new ≡ done)
 Attempts refusal old done new false = IsSome refusal × (new ≡ old)
+
+-- ---- one for each rule, of the patch before and after it
+
+abbrev pub UnitAttempt : ℕ → PatchModel → PatchModel → Bool → Type 0
+UnitAttempt j P Q = Attempts (unit_refusal P j) P (forced_by P j) Q
+
+abbrev pub VoidAttempt : ℕ → PatchModel → PatchModel → Bool → Type 0
+VoidAttempt j P Q = Attempts (void_refusal P j) P (ended_with P (void j)) Q
+
+abbrev pub FalseAttempt : PatchModel → PatchModel → Bool → Type 0
+FalseAttempt P Q = Attempts (false_refusal P) P (ended_with P make_false) Q
+
+abbrev pub LemmaAttempt : LemmaModel → PatchModel → PatchModel → Bool → Type 0
+LemmaAttempt L P Q = Attempts (by_refusal P.kept L) P (covered_by P L) Q
+
+abbrev pub CutAttempt : PatchModel → PatchModel → Bool → Type 0
+CutAttempt P Q = Attempts (cut_refusal P) P (cut_by P) Q
+
+abbrev pub FlipAttempt : ℕ → PatchModel → PatchModel → Bool → Type 0
+FlipAttempt axis P Q = Attempts (flip_refusal P axis) P (ended_with P (flip axis)) Q
+
+abbrev pub CaseAttempt : ℕ → PatchModel → PatchModel → Bool → Type 0
+CaseAttempt j P Q = Attempts (case_refusal P j) P (ended_with P (case j)) Q
+
+abbrev pub StuckAttempt : ℕ → PatchModel → PatchModel → Bool → Type 0
+StuckAttempt j P Q = Attempts (stuck_refusal P j) P (ended_with P (stuck j)) Q
+
+-- ---- what stays the same
 
 -- the same problem and margins, the same first state and the same lemmas quoted
 pub record Continues (P : PatchModel) (Q : PatchModel) : Type 0 where
@@ -32,10 +64,26 @@ pub record IsOpen (q : Parts) (m : Margins) (lemmas : List LemmaModel) (S : Stat
   pub among : AreAmong lemmas P.kept.quoted
   pub open_end : P.kept.end ≡ None
 
+-- it stays so by a step
+abbrev pub StaysOpen : PatchModel → PatchModel → Type 0
+StaysOpen P Q = (q : Parts) (m : Margins) (lemmas : List LemmaModel) (S : State) → IsOpen q m lemmas S P → IsOpen q m lemmas S Q
+
 -- each of these atoms is marked
 abbrev pub all_decided : State → List ℕ → Bool
 all_decided S [] = true
 all_decided S (j ∷ js) = not (undecided S j) && all_decided S js
+
+-- each conjunct of the form is marked
+abbrev pub conjuncts_are_decided : Parts → State → Bool
+conjuncts_are_decided p S = all_decided S (conjuncts (problem_of p).form)
+
+-- no atom that is marked yes leaves nothing of its state
+abbrev pub no_atom_empties : Parts → PatchModel → Bool
+no_atom_empties p P = none_empty (problem_of p) (loosenings_in P) (now_in P)
+
+-- each of its Bool axes is decided
+abbrev pub HasNoOpenAxis : Parts → PatchModel → Type 0
+HasNoOpenAxis p P = (i : ℕ) → i < length p.axes → test_axis is_undecided i P.kept.reached.space ≡ false
 
 -- it has not ended, and nothing is left to do at its state but to part it
 pub record IsDue (P : PatchModel) : Type 0 where

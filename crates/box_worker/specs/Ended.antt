@@ -1,15 +1,17 @@
 -- How a patch comes to its end.
 use Rattle.std.specs.Prelude.{◌≡◌, List, Bool, true, false, Option, Some, None, IsTrue, find, ◌⊎◌}
 use Rattle.poly_graph.specs.ProblemViews.{problem_of}
-use Rattle.poly_graph.specs.State.{State, covers, may}
-use Rattle.poly_graph.specs.Honest.{middle, not_shown}
-use Rattle.poly_graph.specs.Rules.{Line, make_false, cut, flip, case, stuck}
-use Rattle.poly_graph.specs.Fits.{IsShownAt}
-use Rattle.cover_rule.specs.Margins.{loosenings_of}
-use Rattle.cover_rule.specs.Models.{LemmaModel, PatchModel}
+use Rattle.cover_model.specs.State.{State, covers, may}
+use Rattle.interval_model.specs.Space.{middle}
+use Rattle.cover_model.specs.Honest.{not_shown}
+use Rattle.cover_model.specs.Rules.{Line, make_false, cut, flip, case, stuck}
+use Rattle.cover_model.specs.Fits.{IsShownAt}
+use Rattle.cover_data.specs.Margins.{loosenings_of}
+use Rattle.cover_data.specs.Models.{LemmaModel}
+use Rattle.cover_rule.specs.Models.{PatchModel}
 use Rattle.cover_rule.specs.Patch.{problem_in, loosenings_in, now_in}
 use Rattle.cover_rule.specs.Refusals.{ended_with, covered_by}
-use Rattle.cover_rule.specs.Runs.{IsClosed}
+use Rattle.cover_data.specs.Runs.{IsClosed}
 use Rattle.box_worker.specs.declared.ended.Ended.{Ended}
 use Rattle.box_worker.specs.declared.ended.Ended.TheVariants.{Closed, Parted, Shown}
 

@@ -1,27 +1,26 @@
 -- What work on a state comes to.
 use Rattle.std.specs.Prelude.{◌≡◌, List, [], ◌∷◌, Bool, true, false, ◌&&◌, ◌||◌, All, Option, Some, None, IsTrue}
 use Rattle.poly_graph.specs.Problem.{Problem}
-use Rattle.poly_graph.specs.ProblemViews.{problem_of}
-use Rattle.poly_graph.specs.Space.{Space}
-use Rattle.poly_graph.specs.State.{State, Loosenings, IsLemma, covers, may, sure}
-use Rattle.poly_graph.specs.Honest.{middle, not_shown}
-use Rattle.poly_graph.specs.Rules.{Line, make_false, by}
-use Rattle.poly_graph.specs.Fits.{FitsProblem, IsShownAt}
-use Rattle.cover_rule.specs.declared.margins.Margins.{Margins}
-use Rattle.cover_rule.specs.declared.margins.Options.{Options}
-use Rattle.cover_rule.specs.Margins.{loosenings_of}
-use Rattle.cover_rule.specs.Models.{LemmaModel, KeptModel, PatchModel}
+use Rattle.poly_graph.specs.ProblemViews.{Parts, problem_of}
+use Rattle.interval_model.specs.Space.{Space, middle}
+use Rattle.cover_model.specs.State.{State, Loosenings, IsLemma, covers, may, sure}
+use Rattle.cover_model.specs.Honest.{not_shown}
+use Rattle.cover_model.specs.Rules.{Line, make_false, by}
+use Rattle.cover_model.specs.Fits.{FitsProblem, IsShownAt}
+use Rattle.cover_data.specs.declared.margins.Margins.{Margins}
+use Rattle.cover_data.specs.declared.margins.Options.{Options}
+pub use Rattle.cover_data.specs.Margins.{margins_of}
+use Rattle.cover_data.specs.Margins.{loosenings_of}
+use Rattle.cover_data.specs.Models.{LemmaModel, KeptModel}
+use Rattle.cover_rule.specs.Models.{PatchModel}
 use Rattle.cover_rule.specs.Patch.{run_at, ended_by}
 use Rattle.cover_rule.specs.Refusals.{covered}
-use Rattle.cover_rule.specs.Runs.{IsRun, IsClosed}
-use Rattle.cover_rule.specs.Views.{kept_of}
+use Rattle.cover_data.specs.Runs.{IsRun, IsClosed}
+use Rattle.cover_data.specs.Views.{kept_of}
 use Rattle.box_worker.specs.Attempts.{AreAmong}
 use Rattle.box_worker.specs.Ended.{first_covering, is_left}
 use Rattle.box_worker.specs.declared.worked.Worked.{Worked}
 use Rattle.box_worker.specs.declared.worked.Worked.TheVariants.{Patch, Closed, Point}
-
-abbrev pub margins_of : Options → Margins
-margins_of o = record { delta_bits = o.delta_bits; margin_bits = o.margin_bits; least_bits = o.least_bits }
 
 -- ---- lemmas
 
@@ -105,6 +104,18 @@ pub record AnswersAtOnce (p : Problem) (s : Loosenings) (lemmas : List LemmaMode
   pub is_sure : may p s S ≡ true → sure p s (middle S.space) ≡ true → IsPointAt (middle S.space) w
   pub is_open : IsLeftOpen p s S w
   pub is_covered : not_shown p s S ≡ true → (L : LemmaModel) → first_covering lemmas S ≡ Some L → IsClosedBy (covered (run_at S) L) w
+
+-- ---- of a problem's parts and options
+
+-- lemmas of the problem at its margins
+abbrev pub AreLemmasAt : Parts → Options → List LemmaModel → Type 0
+AreLemmasAt p o lemmas = AreLemmasFor (problem_of p) (loosenings_of (margins_of o)) lemmas
+
+abbrev pub AnswersAtOnceFor : Parts → Options → List LemmaModel → State → Worked → Type 0
+AnswersAtOnceFor p o lemmas S = AnswersAtOnce (problem_of p) (loosenings_of (margins_of o)) lemmas S
+
+abbrev pub IsWorkFor : Parts → Options → List LemmaModel → State → Worked → Type 0
+IsWorkFor p o lemmas S = IsWork (problem_of p) (margins_of o) lemmas S
 
 -- ---- what a patch comes to
 

@@ -1,6 +1,6 @@
 // What may be learned of a patch that has closed its state.
 ghost use Rattle.std.specs.Prelude.{◌≡◌, IfOk, None};
-ghost use Rattle.cover_rule.specs.Views.{kept_of};
+ghost use Rattle.cover_data.specs.Views.{kept_of};
 ghost use Rattle.box_worker.specs.Worked.{teaches_nothing};
 
 use cover_rule::{End, KeptPatch, Lemma};

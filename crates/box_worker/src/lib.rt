@@ -1,16 +1,19 @@
-//! The work on one box of a cover: by lines that are lawful and honest it is closed, parted in two or found to be
-//! stuck, or a point is found in it.
+//! The work on one box of a cover: `work_on` takes a state and closes it, parts it in two or finds it stuck by lines
+//! that are lawful and honest, or finds a point in it. `needs`, `fallen` and `choice` are heuristics that promise
+//! nothing; what holds of an answer is what the lines of a patch ensure. Nothing is kept from one box to the next:
+//! which box is worked on, and which lemmas are at hand, is the caller's choice.
 #![tactic(auto)]
 
 mod attempt;
-mod change;
-mod choose;
+mod branching;
+mod choice;
+mod contraction;
 mod ended;
+mod facts;
+mod fallen;
 mod learn;
-mod look;
-mod part;
-mod scout;
-mod settle;
+mod needs;
+mod preconditions;
 mod split;
 mod step;
 mod work;
@@ -18,6 +21,3 @@ mod worked;
 
 pub use work::work_on;
 pub use worked::Worked;
-
-#[cfg(test)]
-mod tests;

@@ -1,13 +1,13 @@
 // Branches at an atom or a Bool axis that was chosen, or at the widest axis.
 ghost use Rattle.std.specs.Prelude.{◌≡◌, IfOk, IsTrue, true, false, None};
-ghost use Rattle.cover_rule.specs.Margins.{AreMargins};
+ghost use Rattle.cover_data.specs.Margins.{AreMargins};
 ghost use Rattle.box_worker.specs.Attempts.{Continues};
 ghost use Rattle.box_worker.specs.Ended.{is_left};
 
 use crate::attempt;
-use crate::choose::{Choice, choose, is_open};
-use crate::look::Needs;
-use crate::scout::see;
+use crate::choice::{Choice, choose, is_open};
+use crate::contraction::see;
+use crate::needs::Needs;
 use cover_rule::{Margins, Patch};
 use poly_graph::Problem;
 use std::alloc::{AllocError, Global};

@@ -1,11 +1,8 @@
 // Steps of an open patch, by which it stays open.
-ghost use Rattle.std.specs.Prelude.{◌≡◌, ◌<◌, List, length};
-ghost use Rattle.poly_graph.specs.ProblemViews.{Parts, problem_of};
-ghost use Rattle.poly_graph.specs.State.{State as Box};
-ghost use Rattle.cover_rule.specs.declared.margins.Margins.{Margins as Bits};
-ghost use Rattle.cover_rule.specs.Margins.{loosenings_of};
-ghost use Rattle.cover_rule.specs.Models.{LemmaModel};
-ghost use Rattle.box_worker.specs.Attempts.{IsOpen};
+ghost use Rattle.std.specs.Prelude.{◌<◌, length};
+ghost use Rattle.poly_graph.specs.ProblemViews.{problem_of};
+ghost use Rattle.cover_data.specs.Margins.{loosenings_of};
+ghost use Rattle.box_worker.specs.Attempts.{IsOpen, StaysOpen};
 ghost use Rattle.box_worker.specs.Worked.{AreLemmasFor};
 
 use cover_rule::{Lemma, Margins, Patch, PatchRefusal};
@@ -23,8 +20,8 @@ pub enum Outcome {
     Void,
 }
 
-// What it came to, where it tells whether it was done. Want of memory is handed on.
-fn told(answer: Result<bool, PatchRefusal>) -> Result<Outcome, AllocError> {
+// The outcome of an answer that says whether something changed. Out of memory is handed on.
+fn outcome_of(answer: Result<bool, PatchRefusal>) -> Result<Outcome, AllocError> {
     match answer {
         Ok(true) => Ok(Outcome::Done),
         Ok(false) => Ok(Outcome::Idle),
@@ -37,19 +34,19 @@ fn told(answer: Result<bool, PatchRefusal>) -> Result<Outcome, AllocError> {
 /// Pulls atom j where it is marked yes and leaves less of the space.
 pub fn pull(patch: &mut Patch, j: u32) -> Result<Outcome, AllocError>
     requires { j < length patch.old.problem.atoms }
-    ensures { (q : Parts) (m : Bits) (lemmas : List LemmaModel) (S : Box) → IsOpen q m lemmas S patch.old → IsOpen q m lemmas S patch.new }
+    ensures { StaysOpen patch.old patch.new }
 {
     let answer = patch.pull_if_less(j);
-    told(answer)
+    outcome_of(answer)
 }
 
 /// Marks atom j yes where the form can't hold without it.
 pub fn unit(patch: &mut Patch, j: u32) -> Result<Outcome, AllocError>
     requires { j < length patch.old.problem.atoms }
-    ensures { (q : Parts) (m : Bits) (lemmas : List LemmaModel) (S : Box) → IsOpen q m lemmas S patch.old → IsOpen q m lemmas S patch.new }
+    ensures { StaysOpen patch.old patch.new }
 {
     let answer = patch.unit(j);
-    told(answer.map(|()| true))
+    outcome_of(answer.map(|()| true))
 }
 
 /// Marks atom j no where the lemma at this place of the list covers the state with the atom marked yes.
@@ -67,7 +64,6 @@ pub fn ban(
     requires open { IsOpen problem.now margins.now lemmas.now patch.old.kept.first patch.old }
     ensures { IsOpen problem.now margins.now lemmas.now patch.old.kept.first patch.new }
 {
-    let _ = problem.axes();
     let answer = patch.ban(j, &lemmas[i]);
-    told(answer.map(|()| true))
+    outcome_of(answer.map(|()| true))
 }

@@ -1,27 +1,28 @@
 // The work on one box.
 ghost use Rattle.std.specs.Prelude.{◌≡◌, IfOk, IsTrue, MatchOption, not, length, None, All};
-ghost use Rattle.poly_graph.specs.Problem.{root_space};
+ghost use Rattle.cover_model.specs.Root.{root_space};
 ghost use Rattle.poly_graph.specs.ProblemViews.{problem_of};
-ghost use Rattle.poly_graph.specs.State.{sure, space_within};
-ghost use Rattle.poly_graph.specs.Honest.{middle};
-ghost use Rattle.poly_graph.specs.Fits.{FitsProblem, IsShownAt};
-ghost use Rattle.cover_rule.specs.Margins.{AreMargins, loosenings_of};
+ghost use Rattle.cover_model.specs.State.{sure};
+ghost use Rattle.interval_model.specs.Space.{space_within, middle};
+ghost use Rattle.cover_model.specs.Fits.{FitsProblem, IsShownAt};
+ghost use Rattle.cover_data.specs.Margins.{AreMargins, loosenings_of};
 ghost use Rattle.cover_rule.specs.Serves.{IsNumbered};
 ghost use Rattle.box_worker.specs.Attempts.{Continues};
 ghost use Rattle.box_worker.specs.Ended.{HasEnded, AtOnce, first_covering};
-ghost use Rattle.box_worker.specs.Worked.{margins_of, AreLemmasFor, AnswersAtOnce, IsWork, IsClosedWork, WorkOf};
-ghost use Rattle.cover_rule.specs.Runs.{IsClosed};
-ghost use Rattle.cover_rule.specs.Views.{kept_of};
+ghost use Rattle.box_worker.specs.Worked.{margins_of, AreLemmasFor, AreLemmasAt, AnswersAtOnceFor, IsWorkFor, IsClosedWork, WorkOf};
+ghost use Rattle.cover_data.specs.Runs.{IsClosed};
+ghost use Rattle.cover_data.specs.Views.{kept_of};
 
 use crate::attempt;
+use crate::branching::part;
+use crate::contraction::take_steps;
 use crate::ended::Ended;
+use crate::facts::{problem_is_whole, run_is_lawful};
 use crate::learn::{copy, teaches_nothing};
-use crate::part::part;
-use crate::scout::take_steps;
-use crate::settle::{close_at, mark_conjuncts, void_any};
+use crate::preconditions::{close_at, mark_conjuncts, void_any};
 use crate::split::split;
 use crate::worked::Worked;
-use cover_rule::{KeptPatch, Lemma, Margins, Options, Patch, Point, State};
+use cover_rule::{KeptPatch, Lemma, Margins, MiddlePoint, Options, Patch, Point, State};
 use poly_graph::Problem;
 use std::alloc::{AllocError, Global};
 
@@ -55,7 +56,7 @@ fn first_covering<'a>(lemmas: &'a [Lemma], state: &State) -> Option<&'a Lemma>
     None
 }
 
-// What ends a patch that has just begun before any step: that the form can't hold, that it is sure at the
+// What ends a patch that has just begun before any step: that the form cannot hold, that it is sure at the
 // middle, or that a lemma covers the state.
 fn at_once(
     alloc: Global,
@@ -106,7 +107,6 @@ fn finish(
     ensures continues { IfOk result (λ e. Continues patch.old patch.new) }
     ensures ended { IfOk result (HasEnded patch.new) }
 {
-    let _ = problem.axes();
     if close_at(problem, void, patch)? {
         return Ok(Ended::Closed);
     }
@@ -123,7 +123,8 @@ fn finish(
     if void_any(problem, patch)? {
         return Ok(Ended::Closed);
     }
-    let _ = patch.reached();
+    problem_is_whole(problem);
+    run_is_lawful(patch);
     part(problem, patch)?;
     Ok(Ended::Parted)
 }
@@ -157,7 +158,7 @@ fn worked(alloc: Global, ended: Ended, patch: Patch) -> Result<Worked, AllocErro
 }
 
 /// Works on the box of a state that lies within the root space, by lawful and honest lines: until it is closed,
-/// until a point is found in it, or else until it is parted or found stuck. Where the form can't hold at the state
+/// until a point is found in it, or else until it is split or found stuck. Where the form cannot hold at the state
 /// it is closed by that alone; else a point is its middle, where the form is sure there; else it is closed by the
 /// first of the lemmas that covers it. No other lemmas are quoted.
 pub fn work_on(
@@ -171,9 +172,9 @@ pub fn work_on(
     requires margins { AreMargins (margins_of options.now) }
     requires state { FitsProblem (problem_of problem.now) state }
     requires root { IsTrue (space_within state.space (root_space (problem_of problem.now))) }
-    requires lemmas { AreLemmasFor (problem_of problem.now) (loosenings_of (margins_of options.now)) lemmas.now }
-    ensures at_once { IfOk result (AnswersAtOnce (problem_of problem.now) (loosenings_of (margins_of options.now)) lemmas.now state) }
-    ensures work { IfOk result (IsWork (problem_of problem.now) (margins_of options.now) lemmas.now state) }
+    requires lemmas { AreLemmasAt problem.now options.now lemmas.now }
+    ensures at_once { IfOk result (AnswersAtOnceFor problem.now options.now lemmas.now state) }
+    ensures work { IfOk result (IsWorkFor problem.now options.now lemmas.now state) }
 {
     let margins = options.margins();
     let mut patch = Patch::begin(alloc, problem, &margins, state)?;

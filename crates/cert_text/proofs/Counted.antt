@@ -1,7 +1,7 @@
 -- The numbers of a book's tree are as many as its nodes.
 use Rattle.std.proofs.Common.{◌≡◌, inl, inr, ℕ, zero, suc, ◌+◌, ◌<◌, ◌≤◌, List, [], ◌∷◌, length, refl, sym, ◌∙◌, subst, ⊎_elim, arith}
 use Rattle.std.proofs.lemmas.Bool.{cases_lt}
-use Rattle.poly_graph.specs.Derivation.{Tree}
+use Rattle.cover_model.specs.Derivation.{Tree}
 use Rattle.cert_model.specs.Due.{Standing}
 use Rattle.cover_book.specs.Model.{BookModel}
 use Rattle.cover_book.specs.Tree.{occurrences}

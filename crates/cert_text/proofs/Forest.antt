@@ -3,14 +3,14 @@ use Rattle.std.proofs.Common.{◌≡◌, inl, inr, ℕ, suc, ◌+◌, ◌<◌, �
 use Rattle.std.specs.Prelude.{slice_get}
 use Rattle.std.proofs.lemmas.List.{append-nil}
 use Rattle.std.proofs.lemmas.Option.{slice_get_within}
-use Rattle.poly_graph.specs.State.{State}
-use Rattle.poly_graph.specs.Rules.{Line, open_line}
-use Rattle.poly_graph.specs.Derivation.{Tree, leaf, fork}
-use Rattle.cover_rule.specs.Runs.{tree_after}
+use Rattle.cover_model.specs.State.{State}
+use Rattle.cover_model.specs.Rules.{Line, open_line}
+use Rattle.cover_model.specs.Derivation.{Tree, leaf, fork}
+use Rattle.cover_data.specs.Runs.{tree_after}
 use Rattle.cert_model.specs.Due.{Standing}
 use Rattle.cover_book.specs.Model.{NodeModel, live_node, closed_node, parted_node, stuck_node}
 use Rattle.cover_book.specs.Tree.{TreeOf, of_live, of_closed, of_stuck, of_parted}
-use Rattle.cert_text.specs.Parts.{kids, NothingNext}
+use Rattle.cert_text.specs.Parts.{kids, HasNothingNext}
 
 -- what is read off a tree and what it leaves, part by part: of each node its own, then of its parts
 pub record Trace (X : Type 0) : Type 0 where
@@ -170,7 +170,7 @@ module _ (X : Type 0) (T : Trace X) (nodes : List NodeModel) where
   next-within : (stack stack' : List ℕ) (n i : ℕ) (whole done : List X) → Waits stack i whole done → stack ≡ stack' ++ (n ∷ []) → n < length nodes
   next-within stack stack' n i whole done p e = tree-within (take_last stack' n p.rest p.count (subst (λ (ns : List ℕ). Forest ns p.rest p.count) e p.behind)).is_tree
 
-  pub none_next : (stack : List ℕ) (i : ℕ) (whole done : List X) → Waits stack i whole done → NothingNext nodes stack → whole ≡ done
+  pub none_next : (stack : List ℕ) (i : ℕ) (whole done : List X) → Waits stack i whole done → HasNothingNext nodes stack → whole ≡ done
   none_next stack i whole done p h = elim h [
     | inl e ↦ ended stack i whole done p (subst (λ (ns : List ℕ). Forest ns p.rest p.count) e p.behind).0
     | inr f ↦ absurd (omega (arith, f.3, next-within stack f.0 f.1 i whole done p f.2))

@@ -5,12 +5,13 @@ use Rattle.std.specs.List.{AllByRecursion}
 use Rattle.std.proofs.Math.Seq.{drop-cons}
 use Rattle.std.proofs.Math.ListN.{drop_of_length-le}
 use Rattle.std.proofs.lemmas.List.{append-nil, map_more, take_all}
-use Rattle.poly_graph.specs.Space.{Space}
-use Rattle.poly_graph.specs.State.{Mark, Loosenings, numbers_from}
-use Rattle.poly_graph.specs.Rules.{Line}
-use Rattle.poly_graph.specs.Derivation.{leaf}
-use Rattle.cover_rule.specs.declared.step.Step.{Step}
-use Rattle.cover_rule.specs.Views.{step_line, end_line}
+use Rattle.interval_model.specs.Space.{Space}
+use Rattle.poly_graph.specs.Marks.{Mark, numbers_from}
+use Rattle.cover_model.specs.State.{Loosenings}
+use Rattle.cover_model.specs.Rules.{Line}
+use Rattle.cover_model.specs.Derivation.{leaf}
+use Rattle.cover_data.specs.declared.step.Step.{Step}
+use Rattle.cover_data.specs.Views.{step_line, end_line}
 use Rattle.cover_book.proofs.Changed.{lines_after}
 use Rattle.poly_graph.specs.declared.mark.Mark as code
 use Rattle.poly_graph.specs.MarkViews.{mark_of}
@@ -19,7 +20,7 @@ use Rattle.cert_model.specs.Written.{domain_line, line_of, rule_lines, lemma_lin
 use Rattle.cover_book.specs.declared.node.Learned.{Learned}
 use Rattle.cover_book.specs.Views.{learned_of}
 use Rattle.cover_book.specs.Tree.{lemma_tree}
-use Rattle.cert_text.specs.Lines.{Appends, marks_line, listed}
+use Rattle.cert_text.specs.Lines.{HasAppended, marks_line, listed}
 use Rattle.cert_text.specs.Parts.{header_lines, kept_lines, learned_lines}
 use Rattle.cert_text.proofs.Spelling.{rules_append, both_appended}
 
@@ -29,35 +30,35 @@ map_twice f g (x ∷ xs) = ap (λ ys. f (g x) ∷ ys) (map_twice f g xs)
 
 module _ {X : Type 0} (f : X → CertLine) (xs : List X) (a b : List ℕ) where
   -- the line of one more item
-  pub item_appended : (c : List ℕ) (i : ℕ) (x : X) → i < length xs → x ≡ get_or xs i x → Appends a (map f (take i xs)) b → Appends b (f x ∷ []) c → Appends a (map f (take (i + 1) xs)) c
-  item_appended c i x h e p q = subst (λ (ls : List CertLine). Appends a ls c) (sym (map_more f xs i x h ∙ ap (λ (y : X). map f (take i xs) ++ (f y ∷ [])) (sym e))) (both_appended a b c (map f (take i xs)) (f x ∷ []) p q)
+  pub item_appended : (c : List ℕ) (i : ℕ) (x : X) → i < length xs → x ≡ get_or xs i x → HasAppended a (map f (take i xs)) b → HasAppended b (f x ∷ []) c → HasAppended a (map f (take (i + 1) xs)) c
+  item_appended c i x h e p q = subst (λ (ls : List CertLine). HasAppended a ls c) (sym (map_more f xs i x h ∙ ap (λ (y : X). map f (take i xs) ++ (f y ∷ [])) (sym e))) (both_appended a b c (map f (take i xs)) (f x ∷ []) p q)
 
   -- the same of the item at a place
-  pub item_at_appended : (c : List ℕ) (i : ℕ) (d : X) → i < length xs → Appends a (map f (take i xs)) b → Appends b (f (get_or xs i d) ∷ []) c → Appends a (map f (take (i + 1) xs)) c
-  item_at_appended c i d h p q = subst (λ (ls : List CertLine). Appends a ls c) (sym (map_more f xs i d h)) (both_appended a b c (map f (take i xs)) (f (get_or xs i d) ∷ []) p q)
+  pub item_at_appended : (c : List ℕ) (i : ℕ) (d : X) → i < length xs → HasAppended a (map f (take i xs)) b → HasAppended b (f (get_or xs i d) ∷ []) c → HasAppended a (map f (take (i + 1) xs)) c
+  item_at_appended c i d h p q = subst (λ (ls : List CertLine). HasAppended a ls c) (sym (map_more f xs i d h)) (both_appended a b c (map f (take i xs)) (f (get_or xs i d) ∷ []) p q)
 
-  pub items_appended : (i : ℕ) → length xs ≤ i → Appends a (map f (take i xs)) b → Appends a (map f xs) b
-  items_appended i h p = subst (λ (ys : List X). Appends a (map f ys) b) (take_all i xs h) p
+  pub items_appended : (i : ℕ) → length xs ≤ i → HasAppended a (map f (take i xs)) b → HasAppended a (map f xs) b
+  items_appended i h p = subst (λ (ys : List X). HasAppended a (map f ys) b) (take_all i xs h) p
 
 -- the steps, and the end
-pub kept_appended : (xs : List Step) (l : Line) (a b c : List ℕ) → Appends a (map (λ (s : Step). rule_line (line_of (step_line s))) xs) b → Appends b (rule_line (line_of l) ∷ []) c → Appends a (rule_lines (map step_line xs ++ (l ∷ []))) c
+pub kept_appended : (xs : List Step) (l : Line) (a b c : List ℕ) → HasAppended a (map (λ (s : Step). rule_line (line_of (step_line s))) xs) b → HasAppended b (rule_line (line_of l) ∷ []) c → HasAppended a (rule_lines (map step_line xs ++ (l ∷ []))) c
 kept_appended xs l a b c p q =
-    subst (λ (ls : List CertLine). Appends a ls c) (sym (rules_append (map step_line xs) (l ∷ []) ∙ ap (λ (ls : List CertLine). ls ++ (rule_line (line_of l) ∷ [])) (sym (map_twice (λ (x : Line). rule_line (line_of x)) step_line xs))))
+    subst (λ (ls : List CertLine). HasAppended a ls c) (sym (rules_append (map step_line xs) (l ∷ []) ∙ ap (λ (ls : List CertLine). ls ++ (rule_line (line_of l) ∷ [])) (sym (map_twice (λ (x : Line). rule_line (line_of x)) step_line xs))))
     (both_appended a b c (map (λ (s : Step). rule_line (line_of (step_line s))) xs) (rule_line (line_of l) ∷ []) p q)
 
-pub header_appended : (s : Loosenings) (o o' : Option ℕ) (a b c d e : List ℕ) → o ≡ o' → Appends a (version 1 ∷ []) b → Appends b (margin s.margin_bits ∷ []) c → Appends c (delta s.delta_bits ∷ []) d → Appends d (bound o' ∷ []) e →
-    Appends a (header_lines s o) e
-header_appended s o o' a b c d e q f g h k = subst (λ (x : Option ℕ). Appends a (header_lines s x) e) (sym q)
+pub header_appended : (s : Loosenings) (o o' : Option ℕ) (a b c d e : List ℕ) → o ≡ o' → HasAppended a (version 1 ∷ []) b → HasAppended b (margin s.margin_bits ∷ []) c → HasAppended c (delta s.delta_bits ∷ []) d → HasAppended d (bound o' ∷ []) e →
+    HasAppended a (header_lines s o) e
+header_appended s o o' a b c d e q f g h k = subst (λ (x : Option ℕ). HasAppended a (header_lines s x) e) (sym q)
     (both_appended a b e (version 1 ∷ []) _ f (both_appended b c e (margin s.margin_bits ∷ []) _ g (both_appended c d e (delta s.delta_bits ∷ []) (bound o' ∷ []) h k)))
 
 -- ---- lemmas
 
 -- a lemma's number, space and marks, and its lines
-pub whole_lemma : (i : ℕ) (x : Learned) (space : Space) (marks : List Mark) (a b c d e f : List ℕ) → space ≡ x.state.space → marks ≡ x.state.marks → Appends a (lemma i ∷ []) b → Appends b (map domain_line space) c →
-    Appends c (marks_line true marks ∷ []) d → Appends d (marks_line false marks ∷ []) e → Appends e (rule_lines (kept_lines x.lines)) f → Appends a (lemma_lines i (lemma_tree (learned_of x))) f
+pub whole_lemma : (i : ℕ) (x : Learned) (space : Space) (marks : List Mark) (a b c d e f : List ℕ) → space ≡ x.state.space → marks ≡ x.state.marks → HasAppended a (lemma i ∷ []) b → HasAppended b (map domain_line space) c →
+    HasAppended c (marks_line true marks ∷ []) d → HasAppended d (marks_line false marks ∷ []) e → HasAppended e (rule_lines (kept_lines x.lines)) f → HasAppended a (lemma_lines i (lemma_tree (learned_of x))) f
 whole_lemma i x space marks a b c d e f p q h k g m n =
     let body : List CertLine = rule_lines (kept_lines x.lines) in
-    subst (λ (ls : List CertLine). Appends a ls f)
+    subst (λ (ls : List CertLine). HasAppended a ls f)
     (ap (λ (s : Space). lemma i ∷ (map domain_line s ++ (marks_line true marks ∷ marks_line false marks ∷ body))) p
     ∙ ap (λ (ms : List Mark). lemma i ∷ (map domain_line x.state.space ++ (marks_line true ms ∷ marks_line false ms ∷ body))) q
     ∙ ap (λ (ls : List Line). lemma i ∷ (map domain_line x.state.space ++ (marks_line true x.state.marks ∷ marks_line false x.state.marks ∷ rule_lines ls))) (sym (lines_after (map step_line x.lines.steps.items) (leaf (end_line x.lines.end)))))
@@ -74,15 +75,15 @@ more-lemmas k (y ∷ xs) (suc i) x h e =
     ∙ sym (append_assoc first (lemmas_lines (suc k) (map lemma_tree (map learned_of (take i xs)))) (lemma_lines (k + suc i) (lemma_tree (learned_of x))))
 
 -- the lines of one more lemma
-pub lemma_appended : (xs : List Learned) (a b c : List ℕ) (i : ℕ) (x : Learned) → i < length xs → x ≡ get_or xs i x → Appends a (learned_lines (take i xs)) b → Appends b (lemma_lines i (lemma_tree (learned_of x))) c →
-    Appends a (learned_lines (take (i + 1) xs)) c
+pub lemma_appended : (xs : List Learned) (a b c : List ℕ) (i : ℕ) (x : Learned) → i < length xs → x ≡ get_or xs i x → HasAppended a (learned_lines (take i xs)) b → HasAppended b (lemma_lines i (lemma_tree (learned_of x))) c →
+    HasAppended a (learned_lines (take (i + 1) xs)) c
 lemma_appended xs a b c i x h e p q =
     let next : suc i ≡ i + 1 = omega arith in let same : 0 + i ≡ i = omega arith in
-    subst (λ (n : ℕ). Appends a (learned_lines (take n xs)) c) next
-    (subst (λ (ls : List CertLine). Appends a ls c) (sym (more-lemmas 0 xs i x h e ∙ ap (λ (j : ℕ). learned_lines (take i xs) ++ lemma_lines j (lemma_tree (learned_of x))) same)) (both_appended a b c (learned_lines (take i xs)) (lemma_lines i (lemma_tree (learned_of x))) p q))
+    subst (λ (n : ℕ). HasAppended a (learned_lines (take n xs)) c) next
+    (subst (λ (ls : List CertLine). HasAppended a ls c) (sym (more-lemmas 0 xs i x h e ∙ ap (λ (j : ℕ). learned_lines (take i xs) ++ lemma_lines j (lemma_tree (learned_of x))) same)) (both_appended a b c (learned_lines (take i xs)) (lemma_lines i (lemma_tree (learned_of x))) p q))
 
-pub lemmas_appended : (xs : List Learned) (a b : List ℕ) (i : ℕ) → length xs ≤ i → Appends a (learned_lines (take i xs)) b → Appends a (learned_lines xs) b
-lemmas_appended xs a b i h p = subst (λ (ys : List Learned). Appends a (learned_lines ys) b) (take_all i xs h) p
+pub lemmas_appended : (xs : List Learned) (a b : List ℕ) (i : ℕ) → length xs ≤ i → HasAppended a (learned_lines (take i xs)) b → HasAppended a (learned_lines xs) b
+lemmas_appended xs a b i h p = subst (λ (ys : List Learned). HasAppended a (learned_lines ys) b) (take_all i xs h) p
 
 pub item_has : {X : Type 0} (P : X → Type 0) (xs : List X) (i : ℕ) (x : X) → i < length xs → x ≡ get_or xs i x → AllByRecursion P xs → P x
 item_has P [] i x h e g = absurd (omega (arith, h))

@@ -6,5 +6,5 @@ pub mod Numbers
 pub mod Proved
 pub mod Spelling
 pub mod Searched
-pub mod Told
+pub mod Leftovers
 pub mod Wholes

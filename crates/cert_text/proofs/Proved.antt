@@ -3,17 +3,16 @@ use Rattle.std.proofs.Common.{◌≡◌, List, All, IsTrue, ap, sym, ◌∙◌, 
 use Rattle.std.proofs.lemmas.List.{length-map}
 use Rattle.std.proofs.lemmas.List.Elements.{All-map}
 use Rattle.dyadic.proofs.Equal.{both_pass}
-use Rattle.poly_graph.specs.State.{delta_of, sure}
-use Rattle.poly_graph.specs.Rules.{open_line}
-use Rattle.poly_graph.specs.Honest.{is_honest}
-use Rattle.poly_graph.specs.Fits.{coordinates, are_near}
+use Rattle.cover_model.specs.State.{delta_of, sure, root_state}
+use Rattle.cover_model.specs.Rules.{open_line}
+use Rattle.cover_model.specs.Honest.{is_honest}
+use Rattle.cover_model.specs.Fits.{coordinates, are_near}
 use Rattle.dyadic.specs.Rounding.{exact}
 use Rattle.cert_model.specs.Due.{Standing, left_open}
 use Rattle.cert_model.specs.Accepted.{accepted}
 use Rattle.cert_model.specs.Standing.{Stands}
 use Rattle.cert_model.specs.Written.{lemma_states, tree_standing}
 use Rattle.cert_model.proofs.Texts.{tree_accepted, tree_stand, tree_honest, tree_branch, crossing_texts, point_texts}
-use Rattle.poly_graph.specs.State.{root_state}
 use Rattle.cover_book.specs.Model.{problem_in, loosenings_in}
 use Rattle.cover_book.specs.Tree.{lemma_tree, lemma_trees}
 use Rattle.cover_book.proofs.Meaning.{tree_is_honest, fits_limits}

@@ -4,11 +4,11 @@ use Rattle.std.specs.Prelude.{slice_get, IfSome, MatchOption}
 use Rattle.std.specs.List.{list_any}
 use Rattle.std.proofs.lemmas.Option.{slice_get_within}
 use Rattle.poly_graph.specs.Problem.{Problem}
-use Rattle.poly_graph.specs.Space.{Space}
-use Rattle.poly_graph.specs.State.{State, Loosenings, in_yes, undecided, with_yes, with_no, may}
-use Rattle.poly_graph.specs.Rules.{Line, open_line, pull, unit, void, ban, make_false, by, cut, flip, case, stuck, one, when, pulled, narrowing, lemma_covers, rule}
-use Rattle.poly_graph.specs.Derivation.{Tree}
-use Rattle.cover_rule.specs.Runs.{is_closing, children, IsEnding}
+use Rattle.interval_model.specs.Space.{Space}
+use Rattle.cover_model.specs.State.{State, Loosenings, in_yes, undecided, with_yes, with_no, may}
+use Rattle.cover_model.specs.Rules.{Line, open_line, pull, unit, void, ban, make_false, by, cut, flip, case, stuck, one, when, pulled, narrowing, lemma_covers, rule}
+use Rattle.cover_model.specs.Derivation.{Tree}
+use Rattle.cover_data.specs.Runs.{is_closing, children, IsEnding}
 use Rattle.cert_model.specs.Due.{Standing}
 use Rattle.cert_model.specs.AnswerText.{is_open, has_open}
 use Rattle.cover_book.specs.Model.{NodeModel, live_node, crossed_node, closed_node, parted_node, stuck_node, BookModel, problem_in, margins_of, loosenings_in, lemma_states_in}
@@ -18,11 +18,11 @@ use Rattle.cover_book.specs.Keeps.{IsBook, IsCovered, IsCrossed, HasRun}
 use Rattle.cover_book.specs.Laws.{IsTreeOfBook}
 use Rattle.cover_book.proofs.Lists.{some_at}
 use Rattle.cover_book.proofs.Meaning.{book_has_tree}
-use Rattle.cert_text.specs.Parts.{node_left, kids, NothingNext, TakesNext}
-use Rattle.cert_text.specs.Stuck.{is_stuck_line, first_stuck, stuck_at, FindsStuck, FindsNone, IsFirstStuck}
+use Rattle.cert_text.specs.Parts.{node_left, kids, HasNothingNext, IsNextTaken}
+use Rattle.cert_text.specs.Stuck.{is_stuck_line, first_stuck, stuck_at, IsFirstStuckState, HasNoStuckState, IsFirstStuck}
 use Rattle.cert_text.proofs.Counted.{few_numbers}
 use Rattle.cert_text.proofs.Forest.{Trace, Waits, begun, walked, none_next, all_taken}
-use Rattle.cert_text.proofs.Told.{passing_any, any_alike, leaves, told, covered, left_tells_of_nodes}
+use Rattle.cert_text.proofs.Leftovers.{passing_any, any_alike, leaves, told, covered, left_tells_of_nodes}
 
 pub option_weaker : {A : Type 0} (o : Option A) {P P' : Type 0} {Q Q' : A → Type 0} → (P → P') → ((x : A) → Q x → Q' x) → MatchOption o P Q → MatchOption o P' Q'
 option_weaker None f g h = f h
@@ -59,13 +59,13 @@ module _ (nodes : List NodeModel) where
   pub first_searched : (t : Tree) (ns : List ℕ) (xs : List Standing) → TreeOf nodes 0 t ns xs → length ns ≤ length nodes → Searched nodes (0 ∷ []) 0 xs
   first_searched t ns xs w h = record { done = []; none = refl; waits = begun Standing left_trace nodes t ns xs w h }
 
-  pub nothing_searched : (stack : List ℕ) (i : ℕ) (xs : List Standing) → Searched nodes stack i xs → NothingNext nodes stack → first_stuck xs ≡ None
+  pub nothing_searched : (stack : List ℕ) (i : ℕ) (xs : List Standing) → Searched nodes stack i xs → HasNothingNext nodes stack → first_stuck xs ≡ None
   nothing_searched stack i xs p h = ap first_stuck (none_next Standing left_trace nodes stack i xs p.done p.waits h) ∙ p.none
 
   pub all_searched : (stack : List ℕ) (i : ℕ) (xs : List Standing) → Searched nodes stack i xs → length nodes ≤ i → first_stuck xs ≡ None
   all_searched stack i xs p h = ap first_stuck (all_taken Standing left_trace nodes stack i xs p.done p.waits h) ∙ p.none
 
-  pub node_searched : (stack stack' stack'' : List ℕ) (i i' : ℕ) (xs : List Standing) (x : NodeModel) → Searched nodes stack i xs → TakesNext nodes stack stack' x → first_stuck (node_left x) ≡ None →
+  pub node_searched : (stack stack' stack'' : List ℕ) (i i' : ℕ) (xs : List Standing) (x : NodeModel) → Searched nodes stack i xs → IsNextTaken nodes stack stack' x → first_stuck (node_left x) ≡ None →
       stack'' ≡ stack' ++ kids x → i' ≡ i + 1 → Searched nodes stack'' i' xs
   node_searched stack stack' stack'' i i' xs x p n e f g = record {
     done = p.done ++ node_left x;
@@ -73,7 +73,7 @@ module _ (nodes : List NodeModel) where
     waits = walked Standing left_trace nodes stack stack' stack'' n.number i i' xs p.done x p.waits n.last n.there f g;
   }
 
-  pub stuck_reached : (stack stack' : List ℕ) (i : ℕ) (xs : List Standing) (steps : List Line) (j : ℕ) (S : State) → Searched nodes stack i xs → TakesNext nodes stack stack' (stuck_node steps (stuck j) S) →
+  pub stuck_reached : (stack stack' : List ℕ) (i : ℕ) (xs : List Standing) (steps : List Line) (j : ℕ) (S : State) → Searched nodes stack i xs → IsNextTaken nodes stack stack' (stuck_node steps (stuck j) S) →
       first_stuck xs ≡ Some (stuck_at j S)
   stuck_reached stack stack' i xs steps j S p n =
       let x : NodeModel = stuck_node steps (stuck j) S in
@@ -85,7 +85,7 @@ module _ (nodes : List NodeModel) where
       regroup [] qs rs = refl
       regroup (y ∷ ps) qs rs = ap (λ (ys : List Standing). y ∷ ys) (regroup ps qs rs)
 
-  pub some_stuck : (stack stack' : List ℕ) (x : NodeModel) (steps : List Line) (l : Line) (S : State) → TakesNext nodes stack stack' x → x ≡ stuck_node steps l S → list_any is_stuck nodes ≡ true
+  pub some_stuck : (stack stack' : List ℕ) (x : NodeModel) (steps : List Line) (l : Line) (S : State) → IsNextTaken nodes stack stack' x → x ≡ stuck_node steps l S → list_any is_stuck nodes ≡ true
   some_stuck stack stack' x steps l S n e = passing_any is_stuck nodes n.number x n.there (ap is_stuck e)
 
 -- ---- the line of a stuck node
@@ -173,7 +173,7 @@ first-ahead (x ∷ xs) y e h k = by-line (is_stuck_line x.does) (is_open x.does)
   by-line false false e h k = absurd (true≢false k)
 
 module _ (b : BookModel) (w : IsBook b) where
-  pub found_stuck : (j : ℕ) (S : State) → FindsStuck b.nodes j S → IsFirstStuck b j S
+  pub found_stuck : (j : ℕ) (S : State) → IsFirstStuckState b.nodes j S → IsFirstStuck b j S
   found_stuck j S f = record {
     some = f.some;
     first = its-first;
@@ -189,12 +189,12 @@ module _ (b : BookModel) (w : IsBook b) where
   none-crossed : IsCrossed b → has_stuck b ≡ false
   none-crossed c = ap (list_any is_stuck) c.nodes
 
-  none-covered : FindsNone b.nodes → (h : IsCovered b) → ((t : Tree) × (left : List Standing) × IsTreeOfBook b t left) → has_stuck b ≡ false
+  none-covered : HasNoStuckState b.nodes → (h : IsCovered b) → ((t : Tree) × (left : List Standing) × IsTreeOfBook b t left) → has_stuck b ≡ false
   none-covered f h x =
       sym (any_alike (leaves b.nodes is_stuck_standing) is_stuck b.nodes (leaves-stuck b h)) ∙ sym (told b.nodes is_stuck_standing x.2.is_tree x.2.once)
       ∙ none-any x.1 (f x.0 x.2.numbers x.1 x.2.is_tree (few_numbers b x.0 x.1 x.2))
 
-  pub found_none : FindsNone b.nodes → has_stuck b ≡ false
+  pub found_none : HasNoStuckState b.nodes → has_stuck b ≡ false
   found_none f = elim w.nodes [
     | inl c ↦ none-crossed c
     | inr h ↦ none-covered f h (book_has_tree b w h.not_crossed)

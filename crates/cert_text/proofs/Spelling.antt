@@ -4,8 +4,8 @@ use Rattle.std.specs.Prelude.{codes, decimal}
 use Rattle.std.specs.List.{AllByRecursion}
 use Rattle.std.proofs.lemmas.Fmt.{length-decimal-le}
 use Rattle.std.proofs.lemmas.List.{append-nil}
-use Rattle.poly_graph.specs.Rules.{Line}
-use Rattle.poly_graph.specs.State.{Mark, is_yes, is_no, numbers_from}
+use Rattle.cover_model.specs.Rules.{Line}
+use Rattle.poly_graph.specs.Marks.{Mark, is_yes, is_no, numbers_from}
 use Rattle.dyadic.specs.Rounding.{Dyadic}
 use Rattle.dyadic.specs.NumberText.{number_spelling}
 use Rattle.cert_read.specs.CertLine.{CertLine, ban_by, cut_at, real_interval, real_value, rule_line}
@@ -17,7 +17,7 @@ use Rattle.cert_text.specs.declared.keyword.Plain.{Plain}
 use Rattle.cert_text.specs.declared.keyword.Plain.TheVariants as plain
 use Rattle.cert_text.specs.declared.keyword.Counted.{Counted}
 use Rattle.cert_text.specs.declared.keyword.Counted.TheVariants as counted
-use Rattle.cert_text.specs.Lines.{Appends, plain_line, plain_text, counted_line, counted_word, is_marked, marks_word, marks_line, listed, most_atoms}
+use Rattle.cert_text.specs.Lines.{HasAppended, plain_line, plain_text, counted_line, counted_word, is_marked, marks_word, marks_line, listed, most_atoms}
 
 -- ---- texts of lines
 
@@ -29,18 +29,18 @@ all-append : (P : CertLine → Type 0) (xs ys : List CertLine) → AllByRecursio
 all-append P [] ys h k = k
 all-append P (x ∷ xs) ys h k = (h.0, all-append P xs ys h.1 k)
 
-pub nothing_appended : (a : List ℕ) → Appends a [] a
+pub nothing_appended : (a : List ℕ) → HasAppended a [] a
 nothing_appended a = record { written = sym (append-nil a); spelled = tt }
 
 -- one part behind the other
-pub both_appended : (a b c : List ℕ) (ls ms : List CertLine) → Appends a ls b → Appends b ms c → Appends a (ls ++ ms) c
+pub both_appended : (a b c : List ℕ) (ls ms : List CertLine) → HasAppended a ls b → HasAppended b ms c → HasAppended a (ls ++ ms) c
 both_appended a b c ls ms h k = record {
   written = k.written ∙ ap (λ (t : List ℕ). t ++ certificate_text ms) h.written ∙ append_assoc a (certificate_text ls) (certificate_text ms) ∙ ap (λ (t : List ℕ). a ++ t) (sym (text_append ls ms));
   spelled = all-append IsSpelled ls ms h.spelled k.spelled;
 }
 
 -- a line by its bytes
-pub line_appended : (a b : List ℕ) (l : CertLine) → HasSpelling l → length (line_text l) ≤ longest_line → b ≡ a ++ (line_text l ++ (10 ∷ [])) → Appends a (l ∷ []) b
+pub line_appended : (a b : List ℕ) (l : CertLine) → HasSpelling l → length (line_text l) ≤ longest_line → b ≡ a ++ (line_text l ++ (10 ∷ [])) → HasAppended a (l ∷ []) b
 line_appended a b l h k e = record { written = e; spelled = ((h, k), tt) }
 
 pub rules_append : (xs ys : List Line) → rule_lines (xs ++ ys) ≡ rule_lines xs ++ rule_lines ys
@@ -82,7 +82,7 @@ plain-short plain.BoolBoth = omega arith
 plain-short plain.False = omega arith
 plain-short plain.Open = omega arith
 
-pub plain_appended : (w : Plain) (a b c : List ℕ) → b ≡ a ++ plain_text w → c ≡ b ++ (10 ∷ []) → Appends a (plain_line w ∷ []) c
+pub plain_appended : (w : Plain) (a b c : List ℕ) → b ≡ a ++ plain_text w → c ≡ b ++ (10 ∷ []) → HasAppended a (plain_line w ∷ []) c
 plain_appended w a b c e f = line_appended a c (plain_line w) (plain-spelled w) (omega (arith, plain-short w, ap length (plain-text w)))
     (f ∙ ap (λ (t : List ℕ). t ++ (10 ∷ [])) (e ∙ ap (λ (t : List ℕ). a ++ t) (sym (plain-text w))) ∙ append_assoc a (line_text (plain_line w)) (10 ∷ []))
 
@@ -139,7 +139,7 @@ counted-short counted.By = omega arith
 counted-short counted.Flip = omega arith
 counted-short counted.Empty = omega arith
 
-pub counted_appended : (w : Counted) (n : ℕ) (a b c : List ℕ) → IsCount n → b ≡ a ++ (counted_word w ++ (32 ∷ decimal n)) → c ≡ b ++ (10 ∷ []) → Appends a (counted_line w n ∷ []) c
+pub counted_appended : (w : Counted) (n : ℕ) (a b c : List ℕ) → IsCount n → b ≡ a ++ (counted_word w ++ (32 ∷ decimal n)) → c ≡ b ++ (10 ∷ []) → HasAppended a (counted_line w n ∷ []) c
 counted_appended w n a b c h e f = line_appended a c (counted_line w n) (counted-spelled w n h)
     (omega (arith, counted-short w, decimal_short n h, ap length (counted-text w n), length-append (counted_word w) (32 ∷ decimal n)))
     (f ∙ ap (λ (t : List ℕ). t ++ (10 ∷ [])) (e ∙ ap (λ (t : List ℕ). a ++ t) (sym (counted-text w n))) ∙ append_assoc a (line_text (counted_line w n)) (10 ∷ []))
@@ -160,24 +160,24 @@ pub record IsShortNumber (d : Dyadic) : Type 0 where
   pub spelled : IsSpelledNumber d
   pub short : length (number_spelling d) ≤ 64
 
-pub ban_appended : (j i : ℕ) (a b c d : List ℕ) → IsCount j → IsCount i → b ≡ a ++ (codes "ban" ++ (32 ∷ decimal j)) → c ≡ b ++ (32 ∷ decimal i) → d ≡ c ++ (10 ∷ []) → Appends a (rule_line (ban_by j i) ∷ []) d
+pub ban_appended : (j i : ℕ) (a b c d : List ℕ) → IsCount j → IsCount i → b ≡ a ++ (codes "ban" ++ (32 ∷ decimal j)) → c ≡ b ++ (32 ∷ decimal i) → d ≡ c ++ (10 ∷ []) → HasAppended a (rule_line (ban_by j i) ∷ []) d
 ban_appended j i a b c d h k e f g = line_appended a d (rule_line (ban_by j i)) (h, k)
     (omega (arith, decimal_short j h, decimal_short i k, length-append (decimal j) (32 ∷ decimal i)))
     (g ∙ ap (λ (t : List ℕ). t ++ (10 ∷ [])) (f ∙ ap (λ (t : List ℕ). t ++ (32 ∷ decimal i)) e) ∙ two-words a (codes "ban") (decimal j) (decimal i))
 
 pub cut_appended : (axis : ℕ) (at : Dyadic) (a b c d e : List ℕ) → IsCount axis → IsShortNumber at → b ≡ a ++ (codes "cut" ++ (32 ∷ decimal axis)) → c ≡ b ++ (32 ∷ []) → d ≡ c ++ number_spelling at → e ≡ d ++ (10 ∷ []) →
-    Appends a (rule_line (cut_at axis at) ∷ []) e
+    HasAppended a (rule_line (cut_at axis at) ∷ []) e
 cut_appended axis at a b c d e h k p q r s = line_appended a e (rule_line (cut_at axis at)) (h, k.spelled)
     (omega (arith, decimal_short axis h, k.short, length-append (decimal axis) (32 ∷ number_spelling at)))
     (s ∙ ap (λ (t : List ℕ). t ++ (10 ∷ [])) (r ∙ ap (λ (t : List ℕ). t ++ number_spelling at) (q ∙ ap (λ (t : List ℕ). t ++ (32 ∷ [])) p) ∙ append_assoc (a ++ (codes "cut" ++ (32 ∷ decimal axis))) (32 ∷ []) (number_spelling at))
     ∙ two-words a (codes "cut") (decimal axis) (number_spelling at))
 
-pub value_appended : (v : Dyadic) (a b c d : List ℕ) → IsShortNumber v → b ≡ a ++ codes "real " → c ≡ b ++ number_spelling v → d ≡ c ++ (10 ∷ []) → Appends a (real_value v ∷ []) d
+pub value_appended : (v : Dyadic) (a b c d : List ℕ) → IsShortNumber v → b ≡ a ++ codes "real " → c ≡ b ++ number_spelling v → d ≡ c ++ (10 ∷ []) → HasAppended a (real_value v ∷ []) d
 value_appended v a b c d k e f g = line_appended a d (real_value v) k.spelled (omega (arith, k.short))
     (g ∙ ap (λ (t : List ℕ). t ++ (10 ∷ [])) (f ∙ ap (λ (t : List ℕ). t ++ number_spelling v) e) ∙ two-parts a (codes "real ") (number_spelling v))
 
 pub interval_appended : (l h : Dyadic) (a b c d e f : List ℕ) → IsShortNumber l → IsShortNumber h → b ≡ a ++ codes "real " → c ≡ b ++ number_spelling l → d ≡ c ++ (32 ∷ []) → e ≡ d ++ number_spelling h → f ≡ e ++ (10 ∷ []) →
-    Appends a (real_interval l h ∷ []) f
+    HasAppended a (real_interval l h ∷ []) f
 interval_appended l h a b c d e f k m p q r s t = line_appended a f (real_interval l h) (k.spelled, m.spelled)
     (omega (arith, k.short, m.short, length-append (number_spelling l) (32 ∷ number_spelling h)))
     (t ∙ ap (λ (x : List ℕ). x ++ (10 ∷ [])) (s ∙ ap (λ (x : List ℕ). x ++ number_spelling h) (r ∙ ap (λ (x : List ℕ). x ++ (32 ∷ [])) (q ∙ ap (λ (x : List ℕ). x ++ number_spelling l) p))
@@ -217,7 +217,7 @@ marks-short true = omega arith
 marks-short false = omega arith
 
 pub marks_appended : (t : Bool) (marks : List Mark) (a b c d : List ℕ) → length marks ≤ most_atoms → b ≡ a ++ marks_word t → c ≡ b ++ listed (numbers_from (is_marked t) 0 marks) → d ≡ c ++ (10 ∷ []) →
-    Appends a (marks_line t marks ∷ []) d
+    HasAppended a (marks_line t marks ∷ []) d
 marks_appended t marks a b c d h e f g = line_appended a d (marks_line t marks) (marks-spelled t marks h)
     (omega (arith, h, marks-short t, listed-length (is_marked t) 0 marks (omega (arith, h)), ap length (marks-text t marks), length-append (marks_word t) (listed (numbers_from (is_marked t) 0 marks))))
     (g ∙ ap (λ (s : List ℕ). s ++ (10 ∷ [])) (f ∙ ap (λ (s : List ℕ). s ++ listed (numbers_from (is_marked t) 0 marks)) e ∙ append_assoc a (marks_word t) (listed (numbers_from (is_marked t) 0 marks)) ∙ ap (λ (s : List ℕ). a ++ s) (sym (marks-text t marks)))

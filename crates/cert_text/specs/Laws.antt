@@ -1,12 +1,12 @@
 -- What the certificate of a book is.
 use Rattle.std.specs.Prelude.{◌≡◌, ◌↔◌, ℕ, List, [], All, false, Option, Some, IsTrue}
-use Rattle.poly_graph.specs.Space.{Space}
+use Rattle.interval_model.specs.Space.{Space}
 use Rattle.poly_graph.specs.Problem.{Problem, first_crossed}
-use Rattle.poly_graph.specs.State.{State, Loosenings}
-use Rattle.poly_graph.specs.Rules.{open_line}
-use Rattle.poly_graph.specs.Honest.{is_honest, not_shown}
-use Rattle.poly_graph.specs.Derivation.{Tree}
-use Rattle.poly_graph.specs.Fits.{IsShownAt}
+use Rattle.cover_model.specs.State.{State, Loosenings}
+use Rattle.cover_model.specs.Rules.{open_line}
+use Rattle.cover_model.specs.Honest.{is_honest, not_shown}
+use Rattle.cover_model.specs.Derivation.{Tree}
+use Rattle.cover_model.specs.Fits.{IsShownAt}
 use Rattle.cert_model.specs.Due.{Standing, at_point, left_open}
 use Rattle.cert_model.specs.Accepted.{IsAccepted, loosenings_fit}
 use Rattle.cert_model.specs.Standing.{Stands, standing, IsHonest, branches}
@@ -50,10 +50,10 @@ PointTextIsAccepted = (p : Problem) (bound : Option ℕ) (s : Loosenings) → Is
     IsAccepted p bound (point_text s bound space) s (at_point space)
 
 -- an open state is left exactly where a node is live, and nothing exactly where no node is live or stuck
-pub record TellsOfNodes (b : BookModel) (left : List Standing) : Type 0 where
+pub record MatchesNodes (b : BookModel) (left : List Standing) : Type 0 where
   pub live : has_open left ≡ has_live b
   pub nothing : (left ≡ []) ↔ ((has_live b ≡ false) × (has_stuck b ≡ false))
 
 -- What is left of a book's tree tells of its nodes.
-abbrev pub LeftTellsOfNodes : Type 0
-LeftTellsOfNodes = (b : BookModel) → IsBook b → (t : Tree) (left : List Standing) → IsTreeOfBook b t left → TellsOfNodes b left
+abbrev pub LeftMatchesNodes : Type 0
+LeftMatchesNodes = (b : BookModel) → IsBook b → (t : Tree) (left : List Standing) → IsTreeOfBook b t left → MatchesNodes b left

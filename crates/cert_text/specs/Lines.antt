@@ -3,7 +3,7 @@ use Rattle.std.specs.Prelude.{◌≡◌, ℕ, List, [], ◌∷◌, ◌++◌, Boo
 use Rattle.std.specs.List.{AllByRecursion}
 use Rattle.cert_read.specs.CertLine.{says_false, says_true, says_both, pull_at, unit_at, void_at, case_at, stuck_at, by_lemma, flip_at, false_here, open_here, CertLine, version, margin, delta, bound, cover, point_word, tree_word, end_word, lemma, bool_value, yes_list, no_list, rule_line, crossing}
 use Rattle.cert_read.specs.LineText.{IsSpelled}
-use Rattle.poly_graph.specs.State.{Mark, is_yes, is_no, numbers_from}
+use Rattle.poly_graph.specs.Marks.{Mark, is_yes, is_no, numbers_from}
 use Rattle.cert_model.specs.Accepted.{certificate_text}
 use Rattle.cert_text.specs.declared.keyword.Plain.{Plain}
 use Rattle.cert_text.specs.declared.keyword.Plain.TheVariants as plain
@@ -11,7 +11,7 @@ use Rattle.cert_text.specs.declared.keyword.Counted.{Counted}
 use Rattle.cert_text.specs.declared.keyword.Counted.TheVariants as counted
 
 -- the new text is the old one and these lines behind it, each of which can be spelled
-pub record Appends (old : List ℕ) (ls : List CertLine) (new : List ℕ) : Type 0 where
+pub record HasAppended (old : List ℕ) (ls : List CertLine) (new : List ℕ) : Type 0 where
   pub written : new ≡ old ++ certificate_text ls
   pub spelled : AllByRecursion IsSpelled ls
 

@@ -1,11 +1,15 @@
--- What the certificate that is written of a book means.
+-- What the certificates that are written of a book and of a point mean.
 use Rattle.std.specs.Prelude.{◌≡◌, ◌⊎◌, ℕ, List, [], All, Some, IsTrue}
-use Rattle.poly_graph.specs.Problem.{first_crossed}
-use Rattle.poly_graph.specs.State.{State}
-use Rattle.poly_graph.specs.Rules.{open_line}
-use Rattle.poly_graph.specs.Honest.{is_honest, not_shown}
-use Rattle.poly_graph.specs.Derivation.{Tree}
-use Rattle.cert_model.specs.Due.{Standing, left_open}
+use Rattle.interval_model.specs.Space.{Space}
+use Rattle.poly_graph.specs.Problem.{Problem, first_crossed}
+use Rattle.cover_model.specs.State.{State}
+use Rattle.cover_model.specs.Rules.{open_line}
+use Rattle.cover_model.specs.Honest.{is_honest, not_shown}
+use Rattle.cover_model.specs.Derivation.{Tree}
+use Rattle.cover_model.specs.Fits.{IsShownAt}
+use Rattle.cover_data.specs.declared.margins.Options.{Options}
+use Rattle.cover_data.specs.Margins.{AreMargins, margins_of, loosenings_of}
+use Rattle.cert_model.specs.Due.{Standing, left_open, at_point}
 use Rattle.cert_model.specs.Accepted.{IsAccepted}
 use Rattle.cert_model.specs.Standing.{Stands, standing, IsHonest, branches}
 use Rattle.cover_book.specs.Model.{BookModel, problem_in, loosenings_in}
@@ -39,3 +43,10 @@ pub record IsCrossedText (b : BookModel) (bytes : List ℕ) : Type 0 where
 -- the one where the declared box is empty, the other where it is not
 abbrev pub IsCertificateOf : BookModel → List ℕ → Type 0
 IsCertificateOf b text = IsCrossedText b text ⊎ IsTreeText b text
+
+-- ---- of a point
+
+-- at margins of these options at which the point is shown, the text is accepted and its value is the point
+abbrev pub IsPointCertificate : Problem → Options → Space → List ℕ → Type 0
+IsPointCertificate p o x text =
+    AreMargins (margins_of o) → IsShownAt p (loosenings_of (margins_of o)) x → IsAccepted p o.bound text (loosenings_of (margins_of o)) (at_point x)

@@ -1,9 +1,9 @@
 -- The parts of a certificate, as the code writes them.
 use Rattle.std.specs.Prelude.{◌≡◌, ℕ, ◌+◌, ◌<◌, ◌≤◌, ◌^◌, ◌⊎◌, List, [], ◌∷◌, ◌++◌, map, length, Option, Some, slice_get}
-use Rattle.poly_graph.specs.State.{Loosenings}
-use Rattle.poly_graph.specs.Rules.{Line, open_line}
-use Rattle.poly_graph.specs.Derivation.{Tree, tree_lines}
-use Rattle.cover_rule.specs.Views.{step_line, end_line}
+use Rattle.cover_model.specs.State.{Loosenings}
+use Rattle.cover_model.specs.Rules.{Line, open_line}
+use Rattle.cover_model.specs.Derivation.{Tree, tree_lines}
+use Rattle.cover_data.specs.Views.{step_line, end_line}
 use Rattle.cover_book.specs.declared.node.Lines.{Lines}
 use Rattle.cover_book.specs.declared.node.Learned.{Learned}
 use Rattle.cover_book.specs.Model.{NodeModel, live_node, crossed_node, closed_node, parted_node, stuck_node}
@@ -12,7 +12,7 @@ use Rattle.cover_book.specs.Tree.{TreeOf, lemma_tree}
 use Rattle.cert_read.specs.CertLine.{open_here, CertLine, version, margin, delta, bound, rule_line, crossing}
 use Rattle.cert_model.specs.Due.{Standing}
 use Rattle.cert_model.specs.Written.{rule_lines, lemmas_lines}
-use Rattle.cert_text.specs.Lines.{Appends, most_atoms}
+use Rattle.cert_text.specs.Lines.{HasAppended, most_atoms}
 
 abbrev pub header_lines : Loosenings → Option ℕ → List CertLine
 header_lines s b = version 1 ∷ margin s.margin_bits ∷ delta s.delta_bits ∷ bound b ∷ []
@@ -55,25 +55,25 @@ kids (parted_node steps l c) = (c + 1) ∷ c ∷ []
 kids x = []
 
 -- the last of the nodes that wait is taken, and it is this one
-pub record TakesNext (nodes : List NodeModel) (old new : List ℕ) (x : NodeModel) : Type 0 where
+pub record IsNextTaken (nodes : List NodeModel) (old new : List ℕ) (x : NodeModel) : Type 0 where
   pub number : ℕ
   pub last : old ≡ new ++ (number ∷ [])
   pub there : slice_get nodes number ≡ Some x
 
 -- none waits, or the last that does is no node
-abbrev pub NothingNext : List NodeModel → List ℕ → Type 0
-NothingNext nodes old = (old ≡ []) ⊎ ((rest : List ℕ) × (n : ℕ) × (old ≡ rest ++ (n ∷ [])) × (length nodes ≤ n))
+abbrev pub HasNothingNext : List NodeModel → List ℕ → Type 0
+HasNothingNext nodes old = (old ≡ []) ⊎ ((rest : List ℕ) × (n : ℕ) × (old ≡ rest ++ (n ∷ [])) × (length nodes ≤ n))
 
 -- the lines of any tree of these nodes were appended
-abbrev pub AppendsTree : List ℕ → List NodeModel → List ℕ → Type 0
-AppendsTree old nodes new = (t : Tree) (numbers : List ℕ) (left : List Standing) → TreeOf nodes 0 t numbers left → length numbers ≤ length nodes →
-    Appends old (rule_lines (tree_lines t)) new
+abbrev pub HasAppendedTree : List ℕ → List NodeModel → List ℕ → Type 0
+HasAppendedTree old nodes new = (t : Tree) (numbers : List ℕ) (left : List Standing) → TreeOf nodes 0 t numbers left → length numbers ≤ length nodes →
+    HasAppended old (rule_lines (tree_lines t)) new
 
 -- the same; where a node alone says that the bounds of an axis cross, the line that says so was appended
-pub record AppendsCover (old : List ℕ) (nodes : List NodeModel) (new : List ℕ) : Type 0 where
-  pub crossing : (i : ℕ) → nodes ≡ crossed_node i ∷ [] → Appends old (crossing i ∷ []) new
-  pub tree : AppendsTree old nodes new
+pub record HasAppendedCover (old : List ℕ) (nodes : List NodeModel) (new : List ℕ) : Type 0 where
+  pub crossing : (i : ℕ) → nodes ≡ crossed_node i ∷ [] → HasAppended old (crossing i ∷ []) new
+  pub tree : HasAppendedTree old nodes new
 
 -- the number of such an axis is below 2^32
-abbrev pub CountsCrossing : List NodeModel → Type 0
-CountsCrossing nodes = (i : ℕ) → nodes ≡ crossed_node i ∷ [] → i < 2 ^ 32
+abbrev pub IsCountedCrossing : List NodeModel → Type 0
+IsCountedCrossing nodes = (i : ℕ) → nodes ≡ crossed_node i ∷ [] → i < 2 ^ 32

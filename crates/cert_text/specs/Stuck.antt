@@ -1,11 +1,11 @@
 -- The first stuck state of what is left of a tree.
 use Rattle.std.specs.Prelude.{◌≡◌, ℕ, ◌≤◌, List, [], ◌∷◌, length, Bool, true, false, cond, Option, Some, None}
 use Rattle.std.specs.List.{list_any}
-use Rattle.poly_graph.specs.State.{State}
-use Rattle.poly_graph.specs.Rules.{Line, stuck}
-use Rattle.poly_graph.specs.Derivation.{Tree}
+use Rattle.cover_model.specs.State.{State}
+use Rattle.cover_model.specs.Rules.{Line, stuck}
+use Rattle.cover_model.specs.Derivation.{Tree}
 use Rattle.cert_model.specs.Due.{Standing}
-use Rattle.cover_book.specs.Model.{NodeModel, BookModel}
+use Rattle.cover_book.specs.Model.{NodeModel, stuck_node, BookModel}
 use Rattle.cover_book.specs.Verdict.{is_stuck, has_live, has_stuck}
 use Rattle.cover_book.specs.Tree.{TreeOf}
 use Rattle.cover_book.specs.Laws.{IsTreeOfBook}
@@ -25,14 +25,18 @@ stuck_at j S = record { state = S; does = stuck j }
 
 -- ---- of nodes
 
+-- the node is stuck at this atom in this state
+abbrev pub IsStuckNode : NodeModel → ℕ → State → Type 0
+IsStuckNode n j S = (steps : List Line) × (n ≡ stuck_node steps (stuck j) S)
+
 -- of each tree of these nodes this state is the first stuck one
-pub record FindsStuck (nodes : List NodeModel) (j : ℕ) (S : State) : Type 0 where
+pub record IsFirstStuckState (nodes : List NodeModel) (j : ℕ) (S : State) : Type 0 where
   pub some : list_any is_stuck nodes ≡ true
   pub first : (t : Tree) (numbers : List ℕ) (left : List Standing) → TreeOf nodes 0 t numbers left → length numbers ≤ length nodes → first_stuck left ≡ Some (stuck_at j S)
 
 -- no tree of these nodes has a stuck state
-abbrev pub FindsNone : List NodeModel → Type 0
-FindsNone nodes = (t : Tree) (numbers : List ℕ) (left : List Standing) → TreeOf nodes 0 t numbers left → length numbers ≤ length nodes → first_stuck left ≡ None
+abbrev pub HasNoStuckState : List NodeModel → Type 0
+HasNoStuckState nodes = (t : Tree) (numbers : List ℕ) (left : List Standing) → TreeOf nodes 0 t numbers left → length numbers ≤ length nodes → first_stuck left ≡ None
 
 -- ---- of a book
 

@@ -1,6 +1,6 @@
 -- The certificate of a book, and of a point: their texts.
 use Rattle.std.specs.Prelude.{ℕ, List, [], ◌∷◌}
-use Rattle.poly_graph.specs.Derivation.{Tree, tree_lines}
+use Rattle.cover_model.specs.Derivation.{Tree, tree_lines}
 use Rattle.cert_read.specs.CertLine.{CertLine, crossing}
 use Rattle.cert_model.specs.Written.{rule_lines, cover_lines}
 use Rattle.cert_model.specs.Accepted.{certificate_text}

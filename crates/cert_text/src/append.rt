@@ -3,10 +3,10 @@ ghost use Rattle.std.specs.Prelude.{◌≡◌, ◌<◌, ◌≤◌, ◌^◌, ◌+
 ghost use Rattle.dyadic.specs.NumberText.{number_spelling};
 ghost use Rattle.dyadic.specs.Views.{dyadic_of};
 ghost use Rattle.poly_graph.specs.MarkViews.{mark_of};
-ghost use Rattle.poly_graph.specs.State.{numbers_from};
+ghost use Rattle.poly_graph.specs.Marks.{numbers_from};
 ghost use Rattle.cert_read.specs.CertLine.{ban_by, cut_at, real_interval, real_value, rule_line};
 ghost use Rattle.cert_read.specs.LineText.{IsCount, IsSpelledNumber, spaced};
-ghost use Rattle.cert_text.specs.Lines.{Appends, counted_line, is_marked, listed, marks_line, marks_word, most_atoms, plain_line};
+ghost use Rattle.cert_text.specs.Lines.{HasAppended, counted_line, is_marked, listed, marks_line, marks_word, most_atoms, plain_line};
 
 use crate::keyword::{Counted, Plain, counted_bytes, plain_bytes};
 use dyadic::{Dy, write_dy};
@@ -41,7 +41,7 @@ fn append_break(text: &mut Vec<u8>) -> Result<(), AllocError>
 
 /// Appends a line without a number.
 pub(crate) fn append_plain(text: &mut Vec<u8>, line: Plain) -> Result<(), AllocError>
-    ensures { OnOk result (Appends text.old.items (plain_line line ∷ []) text.new.items) }
+    ensures { OnOk result (HasAppended text.old.items (plain_line line ∷ []) text.new.items) }
 {
     text.extend_from_slice(plain_bytes(line).as_bytes())?;
     append_break(text)
@@ -59,7 +59,7 @@ fn append_word_and_count(text: &mut Vec<u8>, word: &str, n: u32) -> Result<(), A
 
 /// Appends a line with one plain number.
 pub(crate) fn append_counted(text: &mut Vec<u8>, word: Counted, n: u32) -> Result<(), AllocError>
-    ensures { OnOk result (Appends text.old.items (counted_line word n ∷ []) text.new.items) }
+    ensures { OnOk result (HasAppended text.old.items (counted_line word n ∷ []) text.new.items) }
 {
     append_word_and_count(text, counted_bytes(word), n)?;
     append_break(text)
@@ -67,7 +67,7 @@ pub(crate) fn append_counted(text: &mut Vec<u8>, word: Counted, n: u32) -> Resul
 
 /// Appends the line that a lemma bans an atom.
 pub(crate) fn append_ban(text: &mut Vec<u8>, atom: u32, lemma: u32) -> Result<(), AllocError>
-    ensures { OnOk result (Appends text.old.items (rule_line (ban_by atom lemma) ∷ []) text.new.items) }
+    ensures { OnOk result (HasAppended text.old.items (rule_line (ban_by atom lemma) ∷ []) text.new.items) }
 {
     append_word_and_count(text, "ban", atom)?;
     append_word_and_count(text, "", lemma)?;
@@ -76,7 +76,7 @@ pub(crate) fn append_ban(text: &mut Vec<u8>, atom: u32, lemma: u32) -> Result<()
 
 /// Appends the line that an axis is cut at a number.
 pub(crate) fn append_cut(text: &mut Vec<u8>, axis: u32, at: Dy) -> Result<(), AllocError>
-    ensures { OnOk result (Appends text.old.items (rule_line (cut_at axis (dyadic_of at)) ∷ []) text.new.items) }
+    ensures { OnOk result (HasAppended text.old.items (rule_line (cut_at axis (dyadic_of at)) ∷ []) text.new.items) }
 {
     append_word_and_count(text, "cut", axis)?;
     text.extend_from_slice(b" ")?;
@@ -86,7 +86,7 @@ pub(crate) fn append_cut(text: &mut Vec<u8>, axis: u32, at: Dy) -> Result<(), Al
 
 /// Appends the line of a Real value.
 pub(crate) fn append_value(text: &mut Vec<u8>, value: Dy) -> Result<(), AllocError>
-    ensures { OnOk result (Appends text.old.items (real_value (dyadic_of value) ∷ []) text.new.items) }
+    ensures { OnOk result (HasAppended text.old.items (real_value (dyadic_of value) ∷ []) text.new.items) }
 {
     text.extend_from_slice(b"real ")?;
     append_number(text, value)?;
@@ -95,7 +95,7 @@ pub(crate) fn append_value(text: &mut Vec<u8>, value: Dy) -> Result<(), AllocErr
 
 /// Appends the line of an interval.
 pub(crate) fn append_interval(text: &mut Vec<u8>, low: Dy, high: Dy) -> Result<(), AllocError>
-    ensures { OnOk result (Appends text.old.items (real_interval (dyadic_of low) (dyadic_of high) ∷ []) text.new.items) }
+    ensures { OnOk result (HasAppended text.old.items (real_interval (dyadic_of low) (dyadic_of high) ∷ []) text.new.items) }
 {
     text.extend_from_slice(b"real ")?;
     append_number(text, low)?;
@@ -137,7 +137,7 @@ fn append_numbers(text: &mut Vec<u8>, marks: &[Mark], yes: bool) -> Result<(), A
 /// Appends the line of the atoms that are marked yes, or of those marked no.
 pub(crate) fn append_marks(text: &mut Vec<u8>, marks: &[Mark], yes: bool) -> Result<(), AllocError>
     requires { length marks.now ≤ most_atoms }
-    ensures { OnOk result (Appends text.old.items (marks_line yes (map mark_of marks.now) ∷ []) text.new.items) }
+    ensures { OnOk result (HasAppended text.old.items (marks_line yes (map mark_of marks.now) ∷ []) text.new.items) }
 {
     text.extend_from_slice(marks_bytes(yes).as_bytes())?;
     append_numbers(text, marks, yes)?;

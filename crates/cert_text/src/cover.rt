@@ -11,8 +11,8 @@ use std::alloc::{AllocError, Global};
 
 /// The certificate of a book, as text: all its lemmas, in the order of their numbers, and its tree, with a line `open`
 /// for each live node; where the declared bounds of an axis cross, the line that says so. It is accepted, and its value
-/// is the states of the live nodes and those in which others are stuck, in the tree's order. It fails for want of
-/// memory alone.
+/// is the states of the live nodes and those in which others are stuck, in the tree's order. Out of memory is its
+/// one error.
 pub fn write_cover(alloc: Global, book: &Book) -> Result<Vec<u8>, AllocError>
     ensures { IfOk result (λ text. IsCertificateOf book.now text.items) }
 {

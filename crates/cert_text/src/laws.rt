@@ -1,6 +1,6 @@
 //! What is proved of the texts: each function here does nothing, and its contract is a law.
 
-ghost use Rattle.cert_text.specs.Laws.{BookTextIsAccepted, BookTextBranches, BookTextEndsHonestly, BookTextIsHonest, CrossedTextIsAccepted, PointTextIsAccepted, LeftTellsOfNodes};
+ghost use Rattle.cert_text.specs.Laws.{BookTextIsAccepted, BookTextBranches, BookTextEndsHonestly, BookTextIsHonest, CrossedTextIsAccepted, PointTextIsAccepted, LeftMatchesNodes};
 
 /// The text of a book's tree is accepted with the states that stay.
 pub fn book_text_is_accepted()
@@ -35,5 +35,5 @@ pub fn point_text_is_accepted()
 /// What is left of a book's tree is open somewhere exactly where a node is live, and is nothing exactly where no node
 /// is live or stuck.
 pub fn left_tells_of_nodes()
-    ensures { LeftTellsOfNodes }
+    ensures { LeftMatchesNodes }
 {}

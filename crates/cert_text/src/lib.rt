@@ -1,4 +1,7 @@
 //! Certificates of books and of points, as text, and the first box in which a book is stuck.
+//!
+//! Its main call is [`write_cover`]: the lemmas of a book, then its tree, in the form that the checker reads
+//! ([`laws`] says what such a text means). The crate checks nothing and writes to no file.
 #![tactic(auto)]
 
 mod append;
@@ -13,6 +16,3 @@ mod walk;
 pub use cover::write_cover;
 pub use point::write_point;
 pub use stuck::{StuckBox, first_stuck};
-
-#[cfg(test)]
-mod tests;

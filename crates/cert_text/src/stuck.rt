@@ -1,11 +1,9 @@
 // The first stuck box of a book.
-ghost use Rattle.std.specs.Prelude.{◌≡◌, ℕ, List, IfOk, MatchOption, false, map};
-ghost use Rattle.poly_graph.specs.Rules.{Line, stuck};
-ghost use Rattle.cover_book.specs.Model.{stuck_node};
+ghost use Rattle.std.specs.Prelude.{◌≡◌, IfOk, MatchOption, None, false, map};
 ghost use Rattle.cover_book.specs.Verdict.{has_stuck};
 ghost use Rattle.cover_book.specs.Views.{node_of};
 ghost use Rattle.cert_text.specs.Parts.{node_left};
-ghost use Rattle.cert_text.specs.Stuck.{FindsNone, FindsStuck, IsFirstStuck, first_stuck};
+ghost use Rattle.cert_text.specs.Stuck.{HasNoStuckState, IsFirstStuckState, IsFirstStuck, IsStuckNode, first_stuck};
 
 use crate::walk::{push_kids, take_next};
 use cover_book::{Book, Node};
@@ -23,7 +21,9 @@ pub struct StuckBox<'a> {
 
 // The box in which a node is stuck.
 fn stuck_box(node: &Node) -> Option<StuckBox<'_>>
-    ensures { MatchOption result (first_stuck (node_left (node_of node.now)) ≡ None) (λ x. (steps : List Line) × (node_of node.now ≡ stuck_node steps (stuck x.atom) x.state.now)) }
+    ensures { let n = node_of node.now in
+        let none = first_stuck (node_left n) ≡ None in
+        MatchOption result none (λ x. IsStuckNode n x.atom x.state.now) }
 {
     match node {
         Node::Stuck(lines, state) => match lines.end {
@@ -39,7 +39,9 @@ fn first_stuck_node<'a>(
     alloc: Global,
     nodes: &'a [Node],
 ) -> Result<Option<StuckBox<'a>>, AllocError>
-    ensures { IfOk result (λ found. MatchOption found (FindsNone (map node_of nodes.now)) (λ x. FindsStuck (map node_of nodes.now) x.atom x.state.now)) }
+    ensures { let ns = map node_of nodes.now in
+        let none = HasNoStuckState ns in
+        IfOk result (λ found. MatchOption found none (λ x. IsFirstStuckState ns x.atom x.state.now)) }
 {
     let mut waiting = Vec::new(alloc);
     waiting.push(0)?;
@@ -56,9 +58,10 @@ fn first_stuck_node<'a>(
 }
 
 /// The first stuck box of a book, in the order of its tree, which is that of what the written certificate leaves; none
-/// where no node is stuck. Where no node is live, it is the first that is left. It fails for want of memory alone.
+/// where no node is stuck. Where no node is live, it is the first that is left. Out of memory is its one error.
 pub fn first_stuck<'a>(alloc: Global, book: &'a Book) -> Result<Option<StuckBox<'a>>, AllocError>
-    ensures { IfOk result (λ found. MatchOption found (has_stuck book.now ≡ false) (λ x. IsFirstStuck book.now x.atom x.state.now)) }
+    ensures { let none = has_stuck book.now ≡ false in
+        IfOk result (λ found. MatchOption found none (λ x. IsFirstStuck book.now x.atom x.state.now)) }
 {
     first_stuck_node(alloc, book.nodes())
 }

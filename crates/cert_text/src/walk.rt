@@ -2,8 +2,8 @@
 ghost use Rattle.std.specs.Prelude.{◌≡◌, ℕ, ◌++◌, ◌∷◌, [], MatchOption, OnOk, map};
 ghost use Rattle.cover_book.specs.Model.{crossed_node};
 ghost use Rattle.cover_book.specs.Views.{node_of};
-ghost use Rattle.cert_text.specs.Lines.{Appends};
-ghost use Rattle.cert_text.specs.Parts.{AppendsCover, AppendsTree, CountsCrossing, NothingNext, TakesNext, kids, node_lines};
+ghost use Rattle.cert_text.specs.Lines.{HasAppended};
+ghost use Rattle.cert_text.specs.Parts.{HasAppendedCover, HasAppendedTree, IsCountedCrossing, HasNothingNext, IsNextTaken, kids, node_lines};
 
 use crate::append::{append_counted, append_plain};
 use crate::keyword::{Counted, Plain};
@@ -13,7 +13,7 @@ use std::alloc::{AllocError, Global};
 
 // The lines of a node of a tree.
 fn append_node(text: &mut Vec<u8>, node: &Node) -> Result<(), AllocError>
-    ensures { OnOk result (Appends text.old.items (node_lines (node_of node.now)) text.new.items) }
+    ensures { OnOk result (HasAppended text.old.items (node_lines (node_of node.now)) text.new.items) }
 {
     match node {
         Node::Live(_) => append_plain(text, Plain::Open),
@@ -26,7 +26,9 @@ fn append_node(text: &mut Vec<u8>, node: &Node) -> Result<(), AllocError>
 
 // Takes the last node of those that wait.
 pub(crate) fn take_next<'a>(waiting: &mut Vec<u64>, nodes: &'a [Node]) -> Option<&'a Node>
-    ensures { MatchOption result (NothingNext (map node_of nodes.now) waiting.old.items) (λ node. TakesNext (map node_of nodes.now) waiting.old.items waiting.new.items (node_of node.now)) }
+    ensures { let ns = map node_of nodes.now in
+        let none = HasNothingNext ns waiting.old.items in
+        MatchOption result none (λ n. IsNextTaken ns waiting.old.items waiting.new.items (node_of n.now)) }
 {
     match waiting.pop() {
         None => None,
@@ -50,7 +52,7 @@ pub(crate) fn push_kids(waiting: &mut Vec<u64>, node: &Node) -> Result<(), Alloc
 
 // The tree that begins at node 0: each node's lines, then its lower part's tree, then its upper part's.
 fn append_tree(text: &mut Vec<u8>, alloc: Global, nodes: &[Node]) -> Result<(), AllocError>
-    ensures { OnOk result (AppendsTree text.old.items (map node_of nodes.now) text.new.items) }
+    ensures { OnOk result (HasAppendedTree text.old.items (map node_of nodes.now) text.new.items) }
 {
     let mut waiting = Vec::new(alloc);
     waiting.push(0)?;
@@ -68,7 +70,9 @@ fn append_tree(text: &mut Vec<u8>, alloc: Global, nodes: &[Node]) -> Result<(), 
 
 // The axis whose bounds cross, where a node alone says so.
 fn crossed_axis(nodes: &[Node]) -> Option<usize>
-    ensures { MatchOption result ((i : ℕ) → map node_of nodes.now ≡ crossed_node i ∷ [] → ⊥) (λ i. map node_of nodes.now ≡ crossed_node i ∷ []) }
+    ensures { let ns = map node_of nodes.now in
+        let none = (i : ℕ) → ns ≡ crossed_node i ∷ [] → ⊥ in
+        MatchOption result none (λ i. ns ≡ crossed_node i ∷ []) }
 {
     if nodes.len() != 1 {
         return None;
@@ -85,8 +89,8 @@ pub(crate) fn append_cover(
     alloc: Global,
     nodes: &[Node],
 ) -> Result<(), AllocError>
-    requires { CountsCrossing (map node_of nodes.now) }
-    ensures { OnOk result (AppendsCover text.old.items (map node_of nodes.now) text.new.items) }
+    requires { IsCountedCrossing (map node_of nodes.now) }
+    ensures { OnOk result (HasAppendedCover text.old.items (map node_of nodes.now) text.new.items) }
 {
     match crossed_axis(nodes) {
         Some(axis) => append_counted(text, Counted::Empty, axis as u32),

@@ -3,11 +3,11 @@ use Rattle.std.proofs.Common.{◌≡◌, inl, inr, ℕ, suc, ◌+◌, ◌*◌, �
 use Rattle.std.specs.Prelude.{slice_get, sum_by}
 use Rattle.std.proofs.lemmas.Option.{slice_get_within}
 use Rattle.std.proofs.lemmas.List.Sums.{sum_by-cons, sum_by-append}
-use Rattle.poly_graph.specs.State.{State}
-use Rattle.poly_graph.specs.Rules.{Line, open_line}
-use Rattle.poly_graph.specs.Derivation.{Tree, leaf, fork, tree_lines}
-use Rattle.poly_graph.specs.Honest.{branch_count}
-use Rattle.cover_rule.specs.Runs.{tree_after}
+use Rattle.cover_model.specs.State.{State}
+use Rattle.cover_model.specs.Rules.{Line, open_line}
+use Rattle.cover_model.specs.Derivation.{Tree, leaf, fork, tree_lines}
+use Rattle.cover_model.specs.Honest.{branch_count}
+use Rattle.cover_data.specs.Runs.{tree_after}
 use Rattle.cert_model.specs.Due.{Standing}
 use Rattle.cert_model.specs.Written.{tree_branches}
 use Rattle.cover_book.specs.Model.{NodeModel, live_node, closed_node, parted_node, stuck_node}

@@ -3,19 +3,19 @@ use Rattle.std.proofs.Common.{◌≡◌, ℕ, zero, suc, ◌+◌, ◌<◌, List,
 use Rattle.std.specs.Prelude.{slice_get, slice_set, sum_by}
 use Rattle.std.proofs.lemmas.List.Sums.{sum_by-cons}
 use Rattle.poly_graph.specs.Problem.{Problem, IsProblem}
-use Rattle.poly_graph.specs.State.{State, Loosenings, root_state, covers}
-use Rattle.poly_graph.specs.Rules.{Line, pull, unit, ban, void, make_false, by, cut, flip, case, open_line, stuck, one, rule}
-use Rattle.poly_graph.specs.Space.{IsGridSpace}
-use Rattle.poly_graph.specs.Derivation.{leaf, fork}
-use Rattle.poly_graph.specs.Honest.{branch_count}
-use Rattle.poly_graph.specs.Fits.{FitsProblem}
-use Rattle.poly_graph.proofs.Lies.{covers_through}
-use Rattle.cover_rule.specs.Models.{KeptModel}
-use Rattle.cover_rule.specs.Runs.{Leads, is_closing, children, IsRun, tree_after}
-use Rattle.cover_rule.proofs.Proved.{children_within}
+use Rattle.cover_model.specs.State.{State, Loosenings, root_state, covers}
+use Rattle.cover_model.specs.Rules.{Line, pull, unit, ban, void, make_false, by, cut, flip, case, open_line, stuck, one, rule}
+use Rattle.cover_model.specs.Space.{IsGridSpace}
+use Rattle.cover_model.specs.Derivation.{leaf, fork}
+use Rattle.cover_model.specs.Honest.{branch_count}
+use Rattle.cover_model.specs.Fits.{FitsProblem}
+use Rattle.cover_model.proofs.Lies.{covers_through}
+use Rattle.cover_data.specs.Models.{KeptModel}
+use Rattle.cover_data.specs.Runs.{StepsLead, is_closing, children, IsRun, tree_after}
+use Rattle.cover_data.proofs.Proved.{children_within}
 use Rattle.cert_model.specs.Written.{tree_branches}
 use Rattle.cover_book.specs.Model.{NodeModel, live_node, closed_node, parted_node, stuck_node, BookModel, problem_in, margins_of, loosenings_in, lemma_states_in}
-use Rattle.cover_book.specs.Steps.{with_nodes, ended_node, parted_book, is_branch, Knows}
+use Rattle.cover_book.specs.Steps.{with_nodes, ended_node, parted_book, is_branch, QuotesKnownLemmas}
 use Rattle.cover_book.specs.Tree.{of_live, of_closed, of_stuck, of_parted, occurrences}
 use Rattle.cover_book.specs.Keeps.{HasRun, IsCovered}
 use Rattle.cover_book.proofs.Lists.{get_right, occurs_other, occurs_here}
@@ -32,7 +32,7 @@ module _ (p : Problem) (s : Loosenings) (lemmas : List State) where
   step-counts S S' (case j) e = no_when _ _ S' e (λ q. cc)
   step-counts S S' _ e = refl
 
-  pub steps_count : (S T : State) (ls : List Line) → Leads p s lemmas S ls T → sum_by branch_count ls ≡ 0
+  pub steps_count : (S T : State) (ls : List Line) → StepsLead p s lemmas S ls T → sum_by branch_count ls ≡ 0
   steps_count S T [] e = refl
   steps_count S T (l ∷ ls) e = sum_by-cons branch_count l ls ∙ omega (arith, step-counts S e.0 l e.1, steps_count e.0 T ls e.2)
 
@@ -63,7 +63,7 @@ two-more c zero h = let e : c + 0 ≡ c = omega arith in subst (λ (i : ℕ). oc
 two-more c (suc zero) h = let e : c + 1 ≡ suc c = omega arith in subst (λ (i : ℕ). occurrences i (c ∷ suc c ∷ []) ≡ 1) (sym e) (occurs_other (suc c) c (suc c ∷ []) (λ q. absurd (omega (arith, q))) ∙ occurs_here (suc c) [])
 two-more c (suc (suc k)) h = absurd (omega (arith, h))
 
-module _ (b : BookModel) (g : IsProblem (problem_in b)) (h : IsCovered b) (n : ℕ) (k : KeptModel) (l : Line) (was : slice_get b.nodes n ≡ Some (live_node k.first)) (known : Knows b k.quoted)
+module _ (b : BookModel) (g : IsProblem (problem_in b)) (h : IsCovered b) (n : ℕ) (k : KeptModel) (l : Line) (was : slice_get b.nodes n ≡ Some (live_node k.first)) (known : QuotesKnownLemmas b k.quoted)
     (r : IsRun (problem_in b) (margins_of b.options) k) (grid : IsGridSpace k.reached.space) (end : k.end ≡ Some l) (not_open : l ≡ open_line → ⊥) where
   abbrev its_run : HasRun (problem_in b) (margins_of b.options) (lemma_states_in b) k.first k.steps l
   its_run = record { run = k; first = refl; steps = refl; end = end; known = known; is_run = r; grid = grid; not_open = not_open }

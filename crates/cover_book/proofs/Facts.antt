@@ -3,17 +3,17 @@ use Rattle.std.proofs.Common.{◌≡◌, ℕ, List, [], ◌∷◌, ◌++◌, Boo
 use Rattle.std.specs.Prelude.{slice_get, IfSome}
 use Rattle.std.specs.List.{AllByRecursion}
 use Rattle.poly_graph.specs.Problem.{Problem, IsProblem}
-use Rattle.poly_graph.specs.State.{State, Loosenings, in_yes, undecided, with_yes, with_no, may}
-use Rattle.poly_graph.specs.Space.{Space}
-use Rattle.poly_graph.specs.Rules.{Line, pull, unit, ban, void, make_false, by, cut, flip, case, open_line, stuck, Left, one, stays, rule, when, pulled, narrowing, lemma_covers, is_stuck_atom}
-use Rattle.poly_graph.specs.Derivation.{Tree, leaf, fork, tree_lines, Lawful, at_closed, at_left, at_fork}
-use Rattle.poly_graph.specs.Honest.{is_honest}
+use Rattle.cover_model.specs.State.{State, Loosenings, in_yes, undecided, with_yes, with_no, may}
+use Rattle.interval_model.specs.Space.{Space}
+use Rattle.cover_model.specs.Rules.{Line, pull, unit, ban, void, make_false, by, cut, flip, case, open_line, stuck, Left, one, stays, rule, when, pulled, narrowing, lemma_covers, is_stuck_atom}
+use Rattle.cover_model.specs.Derivation.{Tree, leaf, fork, tree_lines, Lawful, at_closed, at_left, at_fork}
+use Rattle.cover_model.specs.Honest.{is_honest}
 use Rattle.poly_graph.specs.ProblemViews.{IsWhole}
-use Rattle.cover_rule.specs.declared.margins.Margins.{Margins}
-use Rattle.cover_rule.specs.Margins.{loosenings_of}
-use Rattle.cover_rule.specs.Models.{KeptModel}
-use Rattle.cover_rule.specs.Runs.{Leads, is_closing, children, IsEnding, tree_after}
-use Rattle.cover_rule.proofs.Runs.{before_tree, closing_leaves, branch_leaves}
+use Rattle.cover_data.specs.declared.margins.Margins.{Margins}
+use Rattle.cover_data.specs.Margins.{loosenings_of}
+use Rattle.cover_data.specs.Models.{KeptModel}
+use Rattle.cover_data.specs.Runs.{StepsLead, is_closing, children, IsEnding, tree_after}
+use Rattle.cover_data.proofs.Runs.{before_tree, closing_leaves, branch_leaves}
 use Rattle.cert_model.specs.Due.{Standing, names_well}
 use Rattle.cert_model.specs.Derived.{states_of}
 use Rattle.cert_model.specs.Written.{NamesWell, leaf_standing, step_standing, fork_standing, left_standing, tree_standing}
@@ -78,11 +78,11 @@ module _ (p : Problem) (m : Margins) (lemmas : List State) (P : Standing → Typ
   step-honest S S' open_line e = cc
   step-honest S S' (stuck j) e = no_when _ stays S' e (λ q. cc)
 
-  left-after : (S T : State) (ls : List Line) (t : Tree) → Leads p s lemmas S ls T → left_standing p s lemmas S (tree_after ls t) ≡ left_standing p s lemmas T t
+  left-after : (S T : State) (ls : List Line) (t : Tree) → StepsLead p s lemmas S ls T → left_standing p s lemmas S (tree_after ls t) ≡ left_standing p s lemmas T t
   left-after S T [] t e = ap (λ (U : State). left_standing p s lemmas U t) e
   left-after S T (l ∷ ls) t e = ap (λ (o : Option Left). step_standing o (λ S'. left_standing p s lemmas S' (tree_after ls t))) e.1 ∙ left-after e.0 T ls t e.2
 
-  all-after : (S T : State) (ls : List Line) (t : Tree) → Leads p s lemmas S ls T → AllByRecursion P (tree_standing p s lemmas T t) → AllByRecursion P (tree_standing p s lemmas S (tree_after ls t))
+  all-after : (S T : State) (ls : List Line) (t : Tree) → StepsLead p s lemmas S ls T → AllByRecursion P (tree_standing p s lemmas T t) → AllByRecursion P (tree_standing p s lemmas S (tree_after ls t))
   all-after S T [] t e h = subst (λ (U : State). AllByRecursion P (tree_standing p s lemmas U t)) (sym e) h
   all-after S T (l ∷ ls) t e h = let k = step-honest S e.0 l e.1 in (
     honestly (record { state = S; does = l }) k.1 k.0,

@@ -5,7 +5,7 @@ use Rattle.ival.specs.declared.domain.Truths.TheVariants.{False, True, Either}
 use Rattle.ival.specs.declared.domain.Domain.{Domain}
 use Rattle.ival.specs.declared.domain.Domain.TheVariants.{Real, Bool}
 use Rattle.ival.specs.SpaceViews.{domain_of}
-use Rattle.poly_graph.specs.Space.{IsGridDomain, IsGridSpace}
+use Rattle.cover_model.specs.Space.{IsGridDomain, IsGridSpace}
 
 domain-kept : (d : Domain) → IsGridDomain (domain_of d)
 domain-kept (Real r) = (number_on_grid r.low, number_on_grid r.high)

@@ -5,26 +5,27 @@ use Rattle.std.specs.List.{AllByRecursion}
 use Rattle.std.proofs.lemmas.List.{map-append, length-set}
 use Rattle.std.proofs.lemmas.List.Elements.{All-push}
 use Rattle.poly_graph.specs.Problem.{Problem}
-use Rattle.poly_graph.specs.Space.{Space, IsGridSpace}
-use Rattle.poly_graph.specs.State.{State, Loosenings}
-use Rattle.poly_graph.specs.Rules.{Line, open_line}
-use Rattle.poly_graph.specs.Derivation.{leaf, Lawful}
-use Rattle.poly_graph.specs.Fits.{IsShownAt}
-use Rattle.cover_rule.specs.declared.kept.KeptPatch.{KeptPatch}
-use Rattle.cover_rule.specs.declared.step.End.{End}
-use Rattle.cover_rule.specs.declared.step.End.TheVariants.{Void, False, By, Cut, Flip, Case, Stuck}
-use Rattle.cover_rule.specs.Models.{KeptModel}
-use Rattle.cover_rule.specs.Views.{kept_of, end_of, end_line}
-use Rattle.cover_rule.specs.Runs.{AreKept, is_closing, IsClosed, IsRun, closes, children, tree_after}
-use Rattle.cover_rule.proofs.Proved.{closed_is_tree}
+use Rattle.interval_model.specs.Space.{Space}
+use Rattle.cover_model.specs.Space.{IsGridSpace}
+use Rattle.cover_model.specs.State.{State, Loosenings}
+use Rattle.cover_model.specs.Rules.{Line, open_line}
+use Rattle.cover_model.specs.Derivation.{leaf, Lawful}
+use Rattle.cover_model.specs.Fits.{IsShownAt}
+use Rattle.cover_data.specs.declared.kept.KeptPatch.{KeptPatch}
+use Rattle.cover_data.specs.declared.step.End.{End}
+use Rattle.cover_data.specs.declared.step.End.TheVariants.{Void, False, By, Cut, Flip, Case, Stuck}
+use Rattle.cover_data.specs.Models.{KeptModel}
+use Rattle.cover_data.specs.Views.{kept_of, end_of, end_line}
+use Rattle.cover_data.specs.Runs.{AreKept, is_closing, IsClosed, IsRun, closes, children, tree_after}
+use Rattle.cover_data.proofs.Proved.{closed_is_tree}
 use Rattle.cert_model.specs.Due.{names_well}
 use Rattle.cert_model.specs.Written.{LemmaTree, lemma_states, IsLemmaTree, AreLemmaTrees}
 use Rattle.cover_book.specs.declared.calls.Call.TheVariants.{Commit, Learn, Find, StateOf, LemmasFrom}
-use Rattle.cover_book.specs.declared.calls.Reply.TheVariants.{Committed, Learned, Found, Stands, Lemmas, Refused}
+use Rattle.cover_book.specs.declared.calls.Reply.TheVariants.{Committed, Learned, Found, LiveState, Lemmas, Refused}
 use Rattle.cover_book.specs.declared.refusal.BookRefusal.TheVariants.{Memory}
 use Rattle.cover_book.specs.declared.refusal.Kids.{Kids}
 use Rattle.cover_book.specs.Model.{LearnedLemma, NodeModel, live_node, crossed_node, parted_node, BookModel, problem_in, margins_of, loosenings_in, lemma_states_in}
-use Rattle.cover_book.specs.Steps.{IsLive, most_lemmas, ends_in_branch, ended_node, parted_book, committed, Commits, with_lemma, learned, Learns, Finds}
+use Rattle.cover_book.specs.Steps.{IsLive, most_lemmas, ends_in_branch, ended_node, parted_book, committed_book, CommitStep, with_lemma, learned_book, LemmaStep, PointStep}
 use Rattle.cover_book.specs.Tree.{lemma_tree, lemma_trees}
 use Rattle.cover_book.specs.Keeps.{IsNodeOf, IsCovered, IsCrossed, IsBook}
 use Rattle.cover_book.specs.Laws.{StepKeepsBook}
@@ -87,14 +88,14 @@ parts-keep b w n k l e a (Some o) c h = record {
   nodes = inr h;
 }
 
-commit-covered : (b : BookModel) → IsBook b → (n : ℕ) (P : KeptPatch) → IsRun (problem_in b) (margins_of b.options) (kept_of P) → (c : Kids) (b' : BookModel) → Commits b n (kept_of P) c b' →
+commit-covered : (b : BookModel) → IsBook b → (n : ℕ) (P : KeptPatch) → IsRun (problem_in b) (margins_of b.options) (kept_of P) → (c : Kids) (b' : BookModel) → CommitStep b n (kept_of P) c b' →
     (l : Line) → end_of P.end ≡ Some l → IsCovered b → IsBook (parted_book b n (kept_of P) l (children l P.reached))
 commit-covered b w n P r c b' s l e h = parts-keep b w n (kept_of P) l e (s.passes.affords) (children l P.reached) refl
     (parted_keeps b w.whole.problem h n (kept_of P) l s.passes.live s.passes.known r s.grid e (some-end P.end l e) (children l P.reached) refl)
 
-commit-keeps : (b : BookModel) → IsBook b → (n : ℕ) (P : KeptPatch) → IsRun (problem_in b) (margins_of b.options) (kept_of P) → IsSome P.end → (c : Kids) (b' : BookModel) → Commits b n (kept_of P) c b' → IsBook b'
+commit-keeps : (b : BookModel) → IsBook b → (n : ℕ) (P : KeptPatch) → IsRun (problem_in b) (margins_of b.options) (kept_of P) → IsSome P.end → (c : Kids) (b' : BookModel) → CommitStep b n (kept_of P) c b' → IsBook b'
 commit-keeps b w n P r f c b' s = let e = has-end P.end f in
-    subst IsBook (sym (s.book ∙ ap (committed b n (kept_of P)) e.1))
+    subst IsBook (sym (s.book ∙ ap (committed_book b n (kept_of P)) e.1))
     (elim w.nodes [ inl h ↦ absurd (never_live b h n P.first s.passes.live) | inr h ↦ commit-covered b w n P r c b' s e.0 e.1 h ])
 
 -- ---- lemmas
@@ -165,13 +166,13 @@ closed-end : (k : KeptModel) (o : Option Line) → k.end ≡ o → IsClosed k �
 closed-end k None e c = absurd (true≢false (sym (subst (λ (o : Option Line). IsTrue (closes o)) e c)))
 closed-end k (Some l) e c = (l, e)
 
-learn-keeps : (b : BookModel) → IsBook b → (k : KeptModel) → IsRun (problem_in b) (margins_of b.options) k → IsClosed k → (i : ℕ) (b' : BookModel) → Learns b k i b' → IsBook b'
+learn-keeps : (b : BookModel) → IsBook b → (k : KeptModel) → IsRun (problem_in b) (margins_of b.options) k → IsClosed k → (i : ℕ) (b' : BookModel) → LemmaStep b k i b' → IsBook b'
 learn-keeps b w k r c i b' s = let e = closed-end k k.end refl c in
-    subst IsBook (sym (s.book ∙ ap (learned b k) e.1)) (lemma_keeps b w k r s.known s.grid s.reached s.room e.0 e.1 c)
+    subst IsBook (sym (s.book ∙ ap (learned_book b k) e.1)) (lemma_keeps b w k r s.known s.grid s.reached s.room e.0 e.1 c)
 
 -- ---- points
 
-find-keeps : (b : BookModel) → IsBook b → (n : ℕ) (x : Space) → IsShownAt (problem_in b) (loosenings_in b) x → (b' : BookModel) → Finds b n x b' → IsBook b'
+find-keeps : (b : BookModel) → IsBook b → (n : ℕ) (x : Space) → IsShownAt (problem_in b) (loosenings_in b) x → (b' : BookModel) → PointStep b n x b' → IsBook b'
 find-keeps b w n x h b' s = subst IsBook (sym s.book) (record {
   whole = w.whole;
   limits = w.limits;
@@ -209,7 +210,7 @@ step_keeps_book b w (Learn k) m (Learned i) b' s = learn-keeps b w k m.0 m.1 i b
 step_keeps_book b w (Learn k) m (Refused e) b' s = subst IsBook (sym s.1) w
 step_keeps_book b w (Find n x) m Found b' s = find-keeps b w n x m b' s
 step_keeps_book b w (Find n x) m (Refused e) b' s = subst IsBook (sym s.1) w
-step_keeps_book b w (StateOf n) m (Stands S) b' s = subst IsBook (sym s.1) w
+step_keeps_book b w (StateOf n) m (LiveState S) b' s = subst IsBook (sym s.1) w
 step_keeps_book b w (StateOf n) m (Refused e) b' s = subst IsBook (sym s.1) w
 step_keeps_book b w (LemmasFrom i) m (Lemmas v) b' s = subst IsBook (sym s.1) w
 step_keeps_book b w (LemmasFrom i) m (Refused Memory) b' s = subst IsBook (sym s) w

@@ -4,7 +4,7 @@ use Rattle.std.specs.Prelude.{slice_get}
 use Rattle.std.proofs.Math.Seq.{drop-cons, drop-nil}
 use Rattle.std.proofs.Math.ListN.{drop_of_length-le}
 use Rattle.std.proofs.lemmas.List.{drop-map}
-use Rattle.poly_graph.specs.State.{State}
+use Rattle.cover_model.specs.State.{State}
 use Rattle.cover_book.specs.declared.node.Node.{Node}
 use Rattle.cover_book.specs.declared.node.Learned.{Learned}
 use Rattle.cover_book.specs.Model.{LearnedLemma, NodeModel, BookModel}

@@ -9,14 +9,16 @@ use Rattle.std.proofs.lemmas.List.Elements.{All-from_recursion}
 use Rattle.dyadic.specs.Point.{Coordinate}
 use Rattle.dyadic.proofs.Equal.{both_true, both_pass}
 use Rattle.poly_graph.specs.Problem.{Problem, first_crossed}
-use Rattle.poly_graph.specs.State.{State, Loosenings, IsPointOf, root_state, covers, space_within, marks_within}
-use Rattle.poly_graph.specs.Rules.{open_line}
-use Rattle.poly_graph.specs.Honest.{is_honest}
-use Rattle.poly_graph.specs.Derivation.{Tree, Lawful, Among, here, later, AreLemmas}
-use Rattle.poly_graph.specs.Fits.{FitsProblem}
-use Rattle.poly_graph.proofs.Lies.{covers_through}
-use Rattle.poly_graph.proofs.Root.{root_has, crossed_is_empty}
-use Rattle.poly_graph.proofs.Sound.{tree_keeps}
+use Rattle.cover_model.specs.State.{State, Loosenings, IsPointOf, root_state, covers}
+use Rattle.interval_model.specs.Space.{space_within}
+use Rattle.poly_graph.specs.Marks.{marks_within}
+use Rattle.cover_model.specs.Rules.{open_line}
+use Rattle.cover_model.specs.Honest.{is_honest}
+use Rattle.cover_model.specs.Derivation.{Tree, Lawful, Among, here, later, AreLemmas}
+use Rattle.cover_model.specs.Fits.{FitsProblem}
+use Rattle.cover_model.proofs.Lies.{covers_through}
+use Rattle.cover_model.proofs.Root.{root_has, crossed_is_empty}
+use Rattle.cover_model.proofs.Sound.{tree_keeps}
 use Rattle.cert_model.specs.Accepted.{loosenings_fit}
 use Rattle.cert_model.specs.Due.{Standing}
 use Rattle.cert_model.specs.Derived.{AreDerived, states_of}

@@ -6,18 +6,20 @@ use Rattle.std.proofs.lemmas.Bool.{le-leb}
 use Rattle.std.proofs.lemmas.Bool.Decides.{eqb_tells}
 use Rattle.std.proofs.lemmas.List.{length-set}
 use Rattle.dyadic.proofs.Equal.{both_true, both_pass}
-use Rattle.poly_graph.specs.Space.{Domain, real_domain, bool_domain, Space, is_upright_domain, is_upright, IsGridSpace}
+use Rattle.interval_model.specs.Space.{Domain, real_domain, bool_domain, Space, is_upright_domain, is_upright, test_axis, strictly_inside, is_undecided}
+use Rattle.cover_model.specs.Space.{IsGridSpace}
 use Rattle.poly_graph.specs.Problem.{Declared, real_between, any_bool, Axis, Problem, IsProblem}
-use Rattle.poly_graph.specs.State.{Mark, is_yes, mark_at, undecided_in, marked_yes, marked_no, State, Loosenings, in_yes, undecided, with_yes, with_no, with_space}
-use Rattle.poly_graph.specs.Rules.{Line, pull, unit, ban, void, make_false, by, cut, flip, case, open_line, stuck, Left, closed, one, stays, rule, when, pulled, voided, narrowing, test_axis, is_stuck_atom, strictly_inside, is_undecided}
-use Rattle.poly_graph.specs.Honest.{is_honest, not_shown, settled, is_small, none_below}
-use Rattle.poly_graph.specs.Fits.{FitsAxis, FitsAxes, FitsProblem}
-use Rattle.poly_graph.proofs.Stuck.{some_atom_is_stuck}
+use Rattle.poly_graph.specs.Marks.{Mark, is_yes, mark_at, undecided_in, marked_yes, marked_no}
+use Rattle.cover_model.specs.State.{State, Loosenings, in_yes, undecided, with_yes, with_no, with_space}
+use Rattle.cover_model.specs.Rules.{Line, pull, unit, ban, void, make_false, by, cut, flip, case, open_line, stuck, Left, closed, one, stays, rule, when, pulled, voided, narrowing, is_stuck_atom}
+use Rattle.cover_model.specs.Honest.{is_honest, not_shown, settled, is_small, none_below}
+use Rattle.cover_model.specs.Fits.{FitsAxis, FitsAxes, FitsProblem}
+use Rattle.cover_model.proofs.Stuck.{some_atom_is_stuck}
 use Rattle.cert_model.specs.Due.{names_well, is_atom}
-use Rattle.cover_rule.specs.declared.margins.Margins.{Margins}
-use Rattle.cover_rule.specs.Margins.{loosenings_of}
-use Rattle.cover_rule.specs.Models.{KeptModel}
-use Rattle.cover_rule.specs.Runs.{Leads, AreKept, IsEnding, IsRun}
+use Rattle.cover_data.specs.declared.margins.Margins.{Margins}
+use Rattle.cover_data.specs.Margins.{loosenings_of}
+use Rattle.cover_data.specs.Models.{KeptModel}
+use Rattle.cover_data.specs.Runs.{StepsLead, AreKept, IsEnding, IsRun}
 use Rattle.cover_book.specs.Names.{RunNamesWell}
 
 -- ---- what marks and tests say of numbers
@@ -133,7 +135,7 @@ module _ (p : Problem) (g : IsProblem p) (m : Margins) (lemmas : List State) whe
   step-names S S' open_line h e = cc
   step-names S S' (stuck j) h e = no_when _ stays S' e (λ q. cc)
 
-  steps-name : (S T : State) (ls : List Line) → HasMarks S → Leads p s lemmas S ls T → AllByRecursion (λ (l : Line). IsTrue (names_well p l)) ls
+  steps-name : (S T : State) (ls : List Line) → HasMarks S → StepsLead p s lemmas S ls T → AllByRecursion (λ (l : Line). IsTrue (names_well p l)) ls
   steps-name S T [] h e = tt
   steps-name S T (l ∷ ls) h e = let k = step-names S e.0 l h e.1 in (k.0, steps-name e.0 T ls k.1 e.2)
 

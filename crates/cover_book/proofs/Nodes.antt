@@ -6,13 +6,13 @@ use Rattle.std.proofs.lemmas.Bool.Decides.{eqb_tells, leb_tells}
 use Rattle.std.proofs.lemmas.List.{length-set, length-map}
 use Rattle.std.proofs.lemmas.List.Elements.{All-weaker}
 use Rattle.poly_graph.specs.Problem.{Problem}
-use Rattle.poly_graph.specs.State.{State, root_state, covers}
-use Rattle.poly_graph.specs.Rules.{Line}
-use Rattle.poly_graph.specs.Derivation.{Tree}
-use Rattle.poly_graph.specs.Fits.{FitsProblem}
-use Rattle.cover_rule.specs.declared.margins.Margins.{Margins}
-use Rattle.cover_rule.specs.Models.{LemmaModel}
-use Rattle.cover_rule.specs.Runs.{AreKept}
+use Rattle.cover_model.specs.State.{State, root_state, covers}
+use Rattle.cover_model.specs.Rules.{Line}
+use Rattle.cover_model.specs.Derivation.{Tree}
+use Rattle.cover_model.specs.Fits.{FitsProblem}
+use Rattle.cover_data.specs.declared.margins.Margins.{Margins}
+use Rattle.cover_data.specs.Models.{LemmaModel}
+use Rattle.cover_data.specs.Runs.{AreKept}
 use Rattle.cert_model.specs.Due.{Standing}
 use Rattle.cert_model.specs.Written.{tree_branches}
 use Rattle.cover_book.specs.Model.{NodeModel, live_node, crossed_node, closed_node, parted_node, stuck_node, BookModel, problem_in, margins_of, lemma_states_in}

@@ -4,16 +4,19 @@ use Rattle.std.specs.Prelude.{slice_get}
 use Rattle.std.proofs.lemmas.List.{length-replicate}
 use Rattle.std.proofs.lemmas.List.Elements.{All-nil}
 use Rattle.dyadic.proofs.Equal.{both_true}
-use Rattle.poly_graph.specs.Problem.{Declared, real_between, any_bool, Axis, Problem, IsProblem, root_domain, root_of_axes, is_crossed, crossed_in, crosses, first_crossed_from, first_crossed}
+use Rattle.poly_graph.specs.Problem.{Declared, real_between, any_bool, Axis, Problem, IsProblem, is_crossed, crossed_in, crosses, first_crossed_from, first_crossed}
+use Rattle.cover_model.specs.Root.{root_domain, root_of_axes}
 use Rattle.poly_graph.specs.ProblemViews.{Parts, IsWhole, problem_of}
-use Rattle.poly_graph.specs.Space.{is_upright_domain, is_upright, IsGridSpace}
-use Rattle.poly_graph.specs.State.{State, root_state, unmarked, covers}
-use Rattle.poly_graph.specs.Rules.{open_line}
-use Rattle.poly_graph.specs.Derivation.{leaf}
-use Rattle.poly_graph.specs.Fits.{FitsAxes, FitsProblem}
-use Rattle.poly_graph.proofs.Lies.{covers_itself}
-use Rattle.poly_graph.proofs.Middle.{root_is_upright}
-use Rattle.cover_rule.specs.declared.margins.Options.{Options}
+use Rattle.interval_model.specs.Space.{is_upright_domain, is_upright}
+use Rattle.cover_model.specs.Space.{IsGridSpace}
+use Rattle.cover_model.specs.State.{State, root_state, covers}
+use Rattle.poly_graph.specs.Marks.{unmarked}
+use Rattle.cover_model.specs.Rules.{open_line}
+use Rattle.cover_model.specs.Derivation.{leaf}
+use Rattle.cover_model.specs.Fits.{FitsAxes, FitsProblem}
+use Rattle.cover_model.proofs.Lies.{covers_itself}
+use Rattle.cover_model.proofs.Middle.{root_is_upright}
+use Rattle.cover_data.specs.declared.margins.Options.{Options}
 use Rattle.cover_book.specs.Model.{LearnedLemma, NodeModel, live_node, margins_of, first_node, opening}
 use Rattle.cover_book.specs.Tree.{of_live, occurrences}
 use Rattle.cover_book.specs.Keeps.{IsNodeOf, IsCovered, IsCrossed}

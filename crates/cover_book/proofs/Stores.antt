@@ -3,14 +3,14 @@ use Rattle.std.proofs.Common.{◌≡◌, ℕ, suc, ◌<◌, List, [], ◌∷◌,
 use Rattle.std.specs.Prelude.{slice_get, slice_set}
 use Rattle.std.proofs.lemmas.List.{map-set, map-append, length-map}
 use Rattle.std.proofs.lemmas.Option.{slice_get_within}
-use Rattle.poly_graph.specs.Space.{IsGridSpace}
-use Rattle.poly_graph.specs.State.{State}
-use Rattle.poly_graph.specs.Rules.{Line}
-use Rattle.cover_rule.specs.declared.kept.KeptPatch.{KeptPatch}
-use Rattle.cover_rule.specs.declared.step.End.{End}
-use Rattle.cover_rule.specs.Models.{KeptModel}
-use Rattle.cover_rule.specs.Views.{kept_of, step_line, end_line, end_of}
-use Rattle.cover_rule.specs.Runs.{is_closing, children}
+use Rattle.cover_model.specs.Space.{IsGridSpace}
+use Rattle.cover_model.specs.State.{State}
+use Rattle.cover_model.specs.Rules.{Line}
+use Rattle.cover_data.specs.declared.kept.KeptPatch.{KeptPatch}
+use Rattle.cover_data.specs.declared.step.End.{End}
+use Rattle.cover_data.specs.Models.{KeptModel}
+use Rattle.cover_data.specs.Views.{kept_of, step_line, end_line, end_of}
+use Rattle.cover_data.specs.Runs.{is_closing, children}
 use Rattle.cover_book.specs.declared.refusal.Kids.{Kids}
 use Rattle.cover_book.specs.declared.refusal.Kids.TheVariants as kids
 use Rattle.cover_book.specs.declared.node.Learned.{Learned}
@@ -18,7 +18,7 @@ use Rattle.cover_book.specs.declared.node.Node.{Node}
 use Rattle.cover_book.specs.declared.node.Node.TheVariants.{Live}
 use Rattle.cover_book.specs.Model.{LearnedLemma, NodeModel, live_node, closed_node, parted_node, stuck_node, BookModel}
 use Rattle.cover_book.specs.Views.{node_of, learned_of}
-use Rattle.cover_book.specs.Steps.{Knows, most_lemmas, learned, Learns, MayCommit, Commits, with_nodes, parted_book, committed, kids_of, kids_by}
+use Rattle.cover_book.specs.Steps.{QuotesKnownLemmas, most_lemmas, learned_book, LemmaStep, MayCommit, CommitStep, with_nodes, parted_book, committed_book, kids_of, kids_by}
 
 module _ (b : BookModel) (P : KeptPatch) (n : ℕ) (e : End) (ended : P.end ≡ Some e) (passes : MayCommit b n (kept_of P)) (grid : IsGridSpace P.reached.space) where
   abbrev k : KeptModel
@@ -27,29 +27,29 @@ module _ (b : BookModel) (P : KeptPatch) (n : ℕ) (e : End) (ended : P.end ≡ 
   abbrev l : Line
   l = end_line e
 
-  by-end : (o : Option (State × State)) → children l P.reached ≡ o → (committed b n k (end_of P.end) ≡ parted_book b n k l o) × (kids_by b k (end_of P.end) ≡ kids_of b o)
+  by-end : (o : Option (State × State)) → children l P.reached ≡ o → (committed_book b n k (end_of P.end) ≡ parted_book b n k l o) × (kids_by b k (end_of P.end) ≡ kids_of b o)
   by-end o c = (
-    ap (λ (x : Option End). committed b n k (end_of x)) ended ∙ ap (parted_book b n k l) c,
+    ap (λ (x : Option End). committed_book b n k (end_of x)) ended ∙ ap (parted_book b n k l) c,
     ap (λ (x : Option End). kids_by b k (end_of x)) ended ∙ ap (kids_of b) c,
   )
 
-  commits : (o : Option (State × State)) → children l P.reached ≡ o → (c : Kids) (b' : BookModel) → c ≡ kids_of b o → b' ≡ parted_book b n k l o → Commits b n k c b'
+  commits : (o : Option (State × State)) → children l P.reached ≡ o → (c : Kids) (b' : BookModel) → c ≡ kids_of b o → b' ≡ parted_book b n k l o → CommitStep b n k c b'
   commits o h c b' f g = record { passes = passes; grid = grid; kids = f ∙ sym (by-end o h).1; book = g ∙ sym (by-end o h).0 }
 
   pub stored_closed : IsTrue (is_closing l) → children l P.reached ≡ None → (nodes : List NodeModel) → nodes ≡ slice_set b.nodes n (closed_node (map step_line P.steps.items) l) →
-      Commits b n k kids.None (with_nodes b nodes b.branches)
+      CommitStep b n k kids.None (with_nodes b nodes b.branches)
   stored_closed q h nodes g = commits None h kids.None (with_nodes b nodes b.branches) refl
       (ap (λ (xs : List NodeModel). with_nodes b xs b.branches) g ∙ ap (λ (t : Bool). with_nodes b (slice_set b.nodes n (cond t (closed_node k.steps l) (stuck_node k.steps l k.reached))) b.branches) (sym q))
 
   pub stored_stuck : is_closing l ≡ false → children l P.reached ≡ None → (T : State) → T ≡ P.reached → (nodes : List NodeModel) → nodes ≡ slice_set b.nodes n (stuck_node (map step_line P.steps.items) l T) →
-      Commits b n k kids.None (with_nodes b nodes b.branches)
+      CommitStep b n k kids.None (with_nodes b nodes b.branches)
   stored_stuck q h T f nodes g = commits None h kids.None (with_nodes b nodes b.branches) refl
       (ap (λ (xs : List NodeModel). with_nodes b xs b.branches) g ∙ ap (λ (U : State). with_nodes b (slice_set b.nodes n (stuck_node k.steps l U)) b.branches) f
       ∙ ap (λ (t : Bool). with_nodes b (slice_set b.nodes n (cond t (closed_node k.steps l) (stuck_node k.steps l k.reached))) b.branches) (sym q))
 
   pub stored_parted : (T U : State) → children l P.reached ≡ Some (T, U) → (c c' : ℕ) → c ≡ length b.nodes → c' ≡ suc (length b.nodes) → (nodes : List NodeModel) →
       nodes ≡ slice_set b.nodes n (parted_node (map step_line P.steps.items) l c) ++ (live_node T ∷ live_node U ∷ []) → (m : ℕ) → m ≡ suc b.branches →
-      Commits b n k (kids.Two c c') (with_nodes b nodes m)
+      CommitStep b n k (kids.Two c c') (with_nodes b nodes m)
   stored_parted T U h c c' f f' nodes g m s = commits (Some (T, U)) h (kids.Two c c') (with_nodes b nodes m) (ap₂ kids.Two f f')
       (ap₂ (with_nodes b) g s ∙ ap (λ (i : ℕ). with_nodes b (slice_set b.nodes n (parted_node k.steps l i) ++ (live_node T ∷ live_node U ∷ [])) (suc b.branches)) f)
 
@@ -80,15 +80,15 @@ with_lemmas b lemmas = record {
   point = b.point;
 }
 
-pub stored_lemma : (b : BookModel) (P : KeptPatch) (e : End) → P.end ≡ Some e → Knows b (kept_of P).quoted → length b.lemmas < most_lemmas → IsGridSpace P.first.space → IsGridSpace P.reached.space →
-    (lemmas : List LearnedLemma) → lemmas ≡ b.lemmas ++ (record { state = P.first; steps = map step_line P.steps.items; end = end_line e } ∷ []) → Learns b (kept_of P) (length b.lemmas) (with_lemmas b lemmas)
+pub stored_lemma : (b : BookModel) (P : KeptPatch) (e : End) → P.end ≡ Some e → QuotesKnownLemmas b (kept_of P).quoted → length b.lemmas < most_lemmas → IsGridSpace P.first.space → IsGridSpace P.reached.space →
+    (lemmas : List LearnedLemma) → lemmas ≡ b.lemmas ++ (record { state = P.first; steps = map step_line P.steps.items; end = end_line e } ∷ []) → LemmaStep b (kept_of P) (length b.lemmas) (with_lemmas b lemmas)
 stored_lemma b P e f known room grid reached lemmas g = record {
   known = known;
   room = room;
   grid = grid;
   reached = reached;
   number = refl;
-  book = ap (with_lemmas b) g ∙ ap (λ (x : Option End). learned b (kept_of P) (end_of x)) (sym f);
+  book = ap (with_lemmas b) g ∙ ap (λ (x : Option End). learned_book b (kept_of P) (end_of x)) (sym f);
 }
 
 pub lemma_pushed : (xs ys zs : List Learned) (x : Learned) → ys ≡ xs → zs ≡ ys ++ (x ∷ []) → map learned_of zs ≡ map learned_of xs ++ (learned_of x ∷ [])

@@ -1,8 +1,8 @@
 -- What an end leaves of a state in code.
 use Rattle.std.specs.Prelude.{◌≡◌, false, Some, None, IsTrue}
-use Rattle.poly_graph.specs.State.{State}
-use Rattle.poly_graph.specs.Rules.{Line}
-use Rattle.cover_rule.specs.Runs.{is_closing, children}
+use Rattle.cover_model.specs.State.{State}
+use Rattle.cover_model.specs.Rules.{Line}
+use Rattle.cover_data.specs.Runs.{is_closing, children}
 use Rattle.cover_book.specs.declared.ending.Ending.{Ending}
 use Rattle.cover_book.specs.declared.ending.Ending.TheVariants.{Closed, Parted, Stuck}
 

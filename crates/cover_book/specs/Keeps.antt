@@ -2,14 +2,15 @@
 use Rattle.std.specs.Prelude.{◌≡◌, ◌⊎◌, ℕ, suc, ◌+◌, ◌<◌, ◌≤◌, List, [], ◌∷◌, All, length, false, Some, None, IfSome, IsTrue, slice_get}
 use Rattle.poly_graph.specs.Problem.{Problem, first_crossed}
 use Rattle.poly_graph.specs.ProblemViews.{IsWhole}
-use Rattle.poly_graph.specs.Space.{Space, IsGridSpace}
-use Rattle.poly_graph.specs.State.{State, root_state, covers}
-use Rattle.poly_graph.specs.Rules.{Line, open_line}
-use Rattle.poly_graph.specs.Derivation.{Tree}
-use Rattle.poly_graph.specs.Fits.{FitsProblem, IsShownAt}
-use Rattle.cover_rule.specs.declared.margins.Margins.{Margins}
-use Rattle.cover_rule.specs.Models.{KeptModel}
-use Rattle.cover_rule.specs.Runs.{AreKept, is_closing, children, IsRun}
+use Rattle.interval_model.specs.Space.{Space}
+use Rattle.cover_model.specs.Space.{IsGridSpace}
+use Rattle.cover_model.specs.State.{State, root_state, covers}
+use Rattle.cover_model.specs.Rules.{Line, open_line}
+use Rattle.cover_model.specs.Derivation.{Tree}
+use Rattle.cover_model.specs.Fits.{FitsProblem, IsShownAt}
+use Rattle.cover_data.specs.declared.margins.Margins.{Margins}
+use Rattle.cover_data.specs.Models.{KeptModel}
+use Rattle.cover_data.specs.Runs.{AreKept, is_closing, children, IsRun}
 use Rattle.cert_model.specs.Due.{Standing}
 use Rattle.cert_model.specs.Written.{AreLemmaTrees, tree_branches}
 use Rattle.cover_book.specs.Model.{LearnedLemma, NodeModel, live_node, crossed_node, closed_node, parted_node, stuck_node, BookModel, problem_in, margins_of, loosenings_in, lemma_states_in}

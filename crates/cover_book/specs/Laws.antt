@@ -1,14 +1,16 @@
 -- What every call keeps, and what it means.
 use Rattle.std.specs.Prelude.{◌≡◌, ◌<◌, ◌⊎◌, ℕ, ◌≤◌, List, All, length, false, Some, None, IsTrue, slice_get}
 use Rattle.dyadic.specs.Point.{Coordinate, IsPoint}
-use Rattle.poly_graph.specs.Problem.{sorts_of_problem, in_declared_box, root_space, first_crossed}
+use Rattle.poly_graph.specs.Problem.{sorts_of_problem, in_declared_box, first_crossed}
+use Rattle.cover_model.specs.Root.{root_space}
 use Rattle.poly_graph.specs.ProblemViews.{Parts, IsWhole}
-use Rattle.poly_graph.specs.State.{State, IsPointOf, MeetsForm, root_state, space_within}
-use Rattle.poly_graph.specs.Rules.{Line, open_line}
-use Rattle.poly_graph.specs.Honest.{is_honest, not_shown}
-use Rattle.poly_graph.specs.Derivation.{Tree}
-use Rattle.poly_graph.specs.Fits.{FitsProblem}
-use Rattle.cover_rule.specs.declared.margins.Options.{Options}
+use Rattle.cover_model.specs.State.{State, IsPointOf, MeetsForm, root_state}
+use Rattle.interval_model.specs.Space.{space_within}
+use Rattle.cover_model.specs.Rules.{Line, open_line}
+use Rattle.cover_model.specs.Honest.{is_honest, not_shown}
+use Rattle.cover_model.specs.Derivation.{Tree}
+use Rattle.cover_model.specs.Fits.{FitsProblem}
+use Rattle.cover_data.specs.declared.margins.Options.{Options}
 use Rattle.cert_model.specs.Due.{Standing}
 use Rattle.cert_model.specs.Written.{lemma_states, left_standing, tree_standing, tree_branches, IsHonestTree}
 use Rattle.cert_model.specs.Laws.{IsLawfulCover}
@@ -16,7 +18,7 @@ use Rattle.cover_book.specs.declared.calls.Call.{Call}
 use Rattle.cover_book.specs.declared.calls.Reply.{Reply}
 use Rattle.cover_book.specs.Model.{NodeModel, stuck_node, BookModel, problem_in, loosenings_in, opening}
 use Rattle.cover_book.specs.Verdict.{is_live}
-use Rattle.cover_book.specs.Steps.{Meets, Steps, IsLive}
+use Rattle.cover_book.specs.Steps.{MayBeCalled, BookStep, IsLive}
 use Rattle.cover_book.specs.Tree.{TreeOf, occurrences, lemma_trees}
 use Rattle.cover_book.specs.Limits.{IsWithinLimits}
 use Rattle.cover_book.specs.Keeps.{IsBook}
@@ -27,23 +29,23 @@ OpeningIsBook = (p : Parts) (o : Options) → IsWhole p → IsWithinLimits p o �
 
 -- Every call keeps it one.
 abbrev pub StepKeepsBook : Type 0
-StepKeepsBook = (b : BookModel) → IsBook b → (c : Call) → Meets b c → (r : Reply) (b' : BookModel) → Steps b c r b' → IsBook b'
+StepKeepsBook = (b : BookModel) → IsBook b → (c : Call) → MayBeCalled b c → (r : Reply) (b' : BookModel) → BookStep b c r b' → IsBook b'
 
 -- No call changes the problem or the options.
 abbrev pub StepKeepsProblem : Type 0
-StepKeepsProblem = (b : BookModel) (c : Call) (r : Reply) (b' : BookModel) → Steps b c r b' → (b'.problem ≡ b.problem) × (b'.options ≡ b.options)
+StepKeepsProblem = (b : BookModel) (c : Call) (r : Reply) (b' : BookModel) → BookStep b c r b' → (b'.problem ≡ b.problem) × (b'.options ≡ b.options)
 
 -- So the condition of a call outlasts every call.
 abbrev pub ConditionLasts : Type 0
-ConditionLasts = (b : BookModel) (c : Call) (r : Reply) (b' : BookModel) (d : Call) → Steps b c r b' → Meets b d → Meets b' d
+ConditionLasts = (b : BookModel) (c : Call) (r : Reply) (b' : BookModel) (d : Call) → BookStep b c r b' → MayBeCalled b d → MayBeCalled b' d
 
 -- No number is used again, and a node that is not live stays as it is, so it leaves being live at most once.
-pub record Grows (b b' : BookModel) : Type 0 where
+pub record IsLaterBook (b b' : BookModel) : Type 0 where
   pub count : length b.nodes ≤ length b'.nodes
   pub lasting : (n : ℕ) (x : NodeModel) → slice_get b.nodes n ≡ Some x → is_live x ≡ false → slice_get b'.nodes n ≡ Some x
 
 abbrev pub StepGrows : Type 0
-StepGrows = (b : BookModel) (c : Call) (r : Reply) (b' : BookModel) → Steps b c r b' → Grows b b'
+StepGrows = (b : BookModel) (c : Call) (r : Reply) (b' : BookModel) → BookStep b c r b' → IsLaterBook b b'
 
 -- a node is live in this state, or stuck in it
 abbrev pub IsLeft : BookModel → ℕ → State → Type 0

@@ -1,8 +1,8 @@
 -- How large a problem and its options may be.
 use Rattle.std.specs.Prelude.{◌≤◌, length}
 use Rattle.poly_graph.specs.ProblemViews.{Parts}
-use Rattle.cover_rule.specs.declared.margins.Options.{Options}
-use Rattle.cover_rule.specs.Margins.{AreMargins}
+use Rattle.cover_data.specs.declared.margins.Options.{Options}
+use Rattle.cover_data.specs.Margins.{AreMargins}
 use Rattle.cover_book.specs.Model.{margins_of}
 
 pub record IsWithinLimits (p : Parts) (o : Options) : Type 0 where

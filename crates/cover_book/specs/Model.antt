@@ -1,14 +1,14 @@
 -- The book of a cover as plain data: its nodes, its lemmas, its branches and its point.
 use Rattle.std.specs.Prelude.{ℕ, suc, List, [], ◌∷◌, map, Option, Some, None}
-use Rattle.poly_graph.specs.Space.{Space}
+use Rattle.interval_model.specs.Space.{Space}
 use Rattle.poly_graph.specs.Problem.{Problem, first_crossed}
 use Rattle.poly_graph.specs.ProblemViews.{Parts, problem_of}
-use Rattle.poly_graph.specs.State.{State, Loosenings, root_state}
-use Rattle.poly_graph.specs.Rules.{Line}
-use Rattle.cover_rule.specs.declared.margins.Margins.{Margins}
-use Rattle.cover_rule.specs.declared.margins.Options.{Options}
-use Rattle.cover_rule.specs.Margins.{loosenings_of}
-use Rattle.cover_rule.specs.Models.{LemmaModel}
+use Rattle.cover_model.specs.State.{State, Loosenings, root_state}
+use Rattle.cover_model.specs.Rules.{Line}
+use Rattle.cover_data.specs.declared.margins.Options.{Options}
+pub use Rattle.cover_data.specs.Margins.{margins_of}
+use Rattle.cover_data.specs.Margins.{loosenings_of}
+use Rattle.cover_data.specs.Models.{LemmaModel}
 
 -- a state that no point which meets the form is of, with the lines that close it: steps, and the end
 pub record LearnedLemma : Type 0 where
@@ -41,9 +41,6 @@ pub record BookModel : Type 0 where
 
 abbrev pub problem_in : BookModel → Problem
 problem_in b = problem_of b.problem
-
-abbrev pub margins_of : Options → Margins
-margins_of o = record { delta_bits = o.delta_bits; margin_bits = o.margin_bits; least_bits = o.least_bits }
 
 abbrev pub loosenings_in : BookModel → Loosenings
 loosenings_in b = loosenings_of (margins_of b.options)

@@ -2,9 +2,9 @@
 use Rattle.std.specs.Prelude.{IfSome, IsTrue}
 use Rattle.std.specs.List.{AllByRecursion}
 use Rattle.poly_graph.specs.Problem.{Problem}
-use Rattle.poly_graph.specs.Rules.{Line}
+use Rattle.cover_model.specs.Rules.{Line}
 use Rattle.cert_model.specs.Due.{names_well}
-use Rattle.cover_rule.specs.Models.{KeptModel}
+use Rattle.cover_data.specs.Models.{KeptModel}
 
 -- each step and the end of a run
 pub record RunNamesWell (p : Problem) (k : KeptModel) : Type 0 where

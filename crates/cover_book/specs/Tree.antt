@@ -1,9 +1,9 @@
 -- The tree of a book: what was committed, and an open line for each live node.
 use Rattle.std.specs.Prelude.{◌≡◌, ℕ, suc, List, [], ◌∷◌, ◌++◌, map, cond, Some, nat_eq, slice_get, sum_by}
-use Rattle.poly_graph.specs.State.{State}
-use Rattle.poly_graph.specs.Rules.{Line, open_line}
-use Rattle.poly_graph.specs.Derivation.{Tree, leaf, fork}
-use Rattle.cover_rule.specs.Runs.{tree_after}
+use Rattle.cover_model.specs.State.{State}
+use Rattle.cover_model.specs.Rules.{Line, open_line}
+use Rattle.cover_model.specs.Derivation.{Tree, leaf, fork}
+use Rattle.cover_data.specs.Runs.{tree_after}
 use Rattle.cert_model.specs.Due.{Standing}
 use Rattle.cert_model.specs.Written.{LemmaTree}
 use Rattle.cover_book.specs.Model.{LearnedLemma, NodeModel, live_node, closed_node, parted_node, stuck_node, BookModel}

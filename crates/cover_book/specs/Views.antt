@@ -1,6 +1,6 @@
 -- The book's parts in code as the definitions see them.
 use Rattle.std.specs.Prelude.{map}
-use Rattle.cover_rule.specs.Views.{step_line, end_line}
+use Rattle.cover_data.specs.Views.{step_line, end_line}
 use Rattle.cover_book.specs.declared.node.Node.{Node}
 use Rattle.cover_book.specs.declared.node.Node.TheVariants.{Live, Crossed, Closed, Parted, Stuck}
 use Rattle.cover_book.specs.declared.node.Learned.{Learned}

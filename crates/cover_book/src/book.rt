@@ -1,19 +1,18 @@
 // The book of a cover.
 ghost use Rattle.std.specs.Prelude.{◌≡◌, ◌↔◌, ◌<◌, ◌^◌, IfOk, IfSome, MatchOption, MatchResult, IsTrue, length, map, slice_get};
 ghost use Rattle.std.specs.List.{list_any};
-ghost use Rattle.cover_rule.specs.Views.{kept_of, end_of};
+ghost use Rattle.cover_data.specs.Views.{kept_of, end_of};
 ghost use Rattle.cover_book.specs.Limits.{IsWithinLimits};
 ghost use Rattle.poly_graph.specs.Problem.{first_crossed};
 ghost use Rattle.poly_graph.specs.ProblemViews.{problem_of};
-ghost use Rattle.poly_graph.specs.State.{root_state};
+ghost use Rattle.cover_model.specs.State.{root_state};
 ghost use Rattle.cover_book.specs.Model.{opening, first_node, lemma_states_in};
 ghost use Rattle.cover_book.specs.Verdict.{verdict_of, is_live, is_stuck, live_after};
 ghost use Rattle.cover_book.specs.Views.{learned_of, node_of};
 ghost use Rattle.cover_book.specs.Keeps.{IsBook};
-ghost use Rattle.cover_book.specs.Steps.{Steps, Knows, RefusesQuoted, RefusesPoint, RefusesCommit, MayCommit, Meets, Commits, Learns, most_lemmas, ends_in_branch};
+ghost use Rattle.cover_book.specs.Steps.{BookStep, QuotesKnownLemmas, IsQuotedRefusal, IsPointKeptRefusal, IsCommitRefusal, MayCommit, MayBeCalled, CommitStep, LemmaStep, IsOutOfMemory, ResultStep, most_lemmas, ends_in_branch};
 ghost use Rattle.cover_book.specs.declared.calls.Call.TheVariants as call;
 ghost use Rattle.cover_book.specs.declared.calls.Reply.TheVariants as reply;
-ghost use Rattle.cover_book.specs.declared.refusal.BookRefusal.TheVariants as refusal;
 
 use crate::calls::{Call, Reply};
 use crate::ending::{Ending, ending_of};
@@ -21,7 +20,7 @@ use crate::grid::{on_grid, point_on_grid};
 use crate::node::{Learned, Lines, Node};
 use crate::refusal::{BookRefusal, Kids};
 use crate::verdict::BookVerdict;
-use cover_rule::{ClosedPatch, End, KeptPatch, Lemma, Options, Point, State};
+use cover_data::{ClosedPatch, End, KeptPatch, Lemma, Options, Point, State};
 use poly_graph::{Lits, Problem};
 use std::alloc::{AllocError, Global};
 use std::marker::Model;
@@ -58,7 +57,8 @@ impl Model for Book {
 
 // The node that a book opens with.
 fn opening_node(alloc: Global, problem: &Problem) -> Result<Node, AllocError>
-    ensures { IfOk result (λ n. node_of n ≡ first_node (first_crossed (problem_of problem.now)) (root_state (problem_of problem.now))) }
+    ensures { let p = problem_of problem.now in
+        IfOk result (λ n. node_of n ≡ first_node (first_crossed p) (root_state p)) }
 {
     match root_space(alloc, problem)? {
         Root::Empty(axis) => Ok(Node::Crossed(axis)),
@@ -171,7 +171,7 @@ impl Book {
 
     /// A copy of the state of a live node.
     pub fn state_of(&self, node: u32) -> Result<State, BookRefusal>
-        ensures { MatchResult result (λ s. Steps self.now (call.StateOf node) (reply.Stands s) self.now) (λ e. Steps self.now (call.StateOf node) (reply.Refused e) self.now) }
+        ensures { ResultStep reply.LiveState self.now (call.StateOf node) result self.now }
     {
         match self.nodes.get(node as usize) {
             Some(Node::Live(state)) => match state.try_clone(*self.nodes.allocator()) {
@@ -184,7 +184,7 @@ impl Book {
 
     /// The lemmas of this number and later ones.
     pub fn lemmas_from(&self, from: u32) -> Result<Vec<Lemma>, AllocError>
-        ensures { IfOk result (λ v. Steps self.now (call.LemmasFrom from) (reply.Lemmas v) self.now) }
+        ensures { IfOk result (λ v. BookStep self.now (call.LemmasFrom from) (reply.Lemmas v) self.now) }
     {
         let count = self.lemmas.len();
         let first = (from as usize).min(count);
@@ -208,7 +208,8 @@ impl Book {
 
     // Refuses lemmas of which one is not kept under its number.
     fn test_quoted(&self, quoted: &[Lemma]) -> Result<(), BookRefusal>
-        ensures { MatchResult result (λ _. Knows self.now quoted.now) (λ e. RefusesQuoted self.now quoted.now e) }
+        ensures { let known = QuotesKnownLemmas self.now quoted.now in
+            MatchResult result (λ _. known) (λ e. IsQuotedRefusal self.now quoted.now e) }
     {
         for lemma in quoted {
             if !self.knows(lemma) {
@@ -220,7 +221,7 @@ impl Book {
 
     // Refuses more where a point is kept.
     fn test_point(&self) -> Result<(), BookRefusal>
-        ensures { MatchResult result (λ _. self.now.point ≡ None) (λ e. RefusesPoint self.now e) }
+        ensures { MatchResult result (λ _. self.now.point ≡ None) (λ e. IsPointKeptRefusal self.now e) }
     {
         match &self.point {
             None => Ok(()),
@@ -233,7 +234,8 @@ impl Book {
 
     // Refuses a patch for this node.
     fn test_commit(&self, node: u32, patch: &KeptPatch) -> Result<(), BookRefusal>
-        ensures { MatchResult result (λ _. MayCommit self.now node (kept_of patch.now)) (λ e. RefusesCommit self.now node (kept_of patch.now) e) }
+        ensures { let k = kept_of patch.now in
+            MatchResult result (λ _. MayCommit self.now node k) (λ e. IsCommitRefusal self.now node k e) }
     {
         let state = match self.nodes.get(node as usize) {
             Some(Node::Live(state)) => state,
@@ -245,10 +247,7 @@ impl Book {
                 Err(_) => Err(BookRefusal::Memory),
             };
         }
-        match self.test_quoted(&patch.quoted) {
-            Ok(()) => {}
-            Err(refusal) => return Err(refusal),
-        }
+        self.test_quoted(&patch.quoted)?;
         if parts(patch.end) && self.branches >= self.options.budget {
             return Err(BookRefusal::BudgetSpent(self.branches));
         }
@@ -257,9 +256,10 @@ impl Book {
 
     // Writes a patch that may be committed; without memory for what it leaves, nothing changes.
     fn store(&mut self, node: u32, patch: KeptPatch) -> Result<Kids, BookRefusal>
-        requires meets { Meets self.old (call.Commit node patch) }
+        requires meets { MayBeCalled self.old (call.Commit node patch) }
         requires passes { MayCommit self.old node (kept_of patch) }
-        ensures { MatchResult result (λ c. Commits self.old node (kept_of patch) c self.new) (λ e. (e ≡ refusal.Memory) × (self.new ≡ self.old)) }
+        ensures { let k = kept_of patch in
+            MatchResult result (λ c. CommitStep self.old node k c self.new) (λ e. IsOutOfMemory self.old self.new e) }
     {
         on_grid(&patch.reached);
         let place = node as usize;
@@ -304,25 +304,24 @@ impl Book {
         }
     }
 
-    /// Commits an ended patch to the node in whose state it begins. Refused, in this order: a node that is not live, a
+    /// CommitStep an ended patch to the node in whose state it begins. Refused, in this order: a node that is not live, a
     /// patch that begins elsewhere, a quoted lemma that is not the one kept under its number, a branch where the budget
     /// is used up, anything where a point is kept. A refused patch changes nothing.
     pub fn commit(&mut self, node: u32, patch: KeptPatch) -> Result<Kids, BookRefusal>
-        requires { Meets self.old (call.Commit node patch) }
-        ensures { MatchResult result (λ c. Steps self.old (call.Commit node patch) (reply.Committed c) self.new) (λ e. Steps self.old (call.Commit node patch) (reply.Refused e) self.new) }
+        requires { MayBeCalled self.old (call.Commit node patch) }
+        ensures { ResultStep reply.Committed self.old (call.Commit node patch) result self.new }
     {
-        match self.test_commit(node, &patch) {
-            Ok(()) => self.store(node, patch),
-            Err(refusal) => Err(refusal),
-        }
+        self.test_commit(node, &patch)?;
+        self.store(node, patch)
     }
 
     // Appends a lemma for which there is room; without memory nothing changes.
     fn keep_lemma(&mut self, patch: KeptPatch) -> Result<u32, BookRefusal>
-        requires meets { Meets self.old (call.Learn (kept_of patch)) }
-        requires known { Knows self.old (kept_of patch).quoted }
+        requires meets { MayBeCalled self.old (call.Learn (kept_of patch)) }
+        requires known { QuotesKnownLemmas self.old (kept_of patch).quoted }
         requires room { length self.old.lemmas < most_lemmas }
-        ensures { MatchResult result (λ i. Learns self.old (kept_of patch) i self.new) (λ e. (e ≡ refusal.Memory) × (self.new ≡ self.old)) }
+        ensures { let k = kept_of patch in
+            MatchResult result (λ i. LemmaStep self.old k i self.new) (λ e. IsOutOfMemory self.old self.new e) }
     {
         on_grid(&patch.first);
         on_grid(&patch.reached);
@@ -354,14 +353,11 @@ impl Book {
     /// Keeps the first state of a patch that closed it as a lemma, and answers its number. Refused, in this order: a
     /// quoted lemma that is not the one kept under its number, more than 1,048,576 lemmas. A refusal changes nothing.
     pub fn learn(&mut self, patch: ClosedPatch) -> Result<u32, BookRefusal>
-        requires { Meets self.old (call.Learn patch) }
-        ensures { MatchResult result (λ i. Steps self.old (call.Learn patch) (reply.Learned i) self.new) (λ e. Steps self.old (call.Learn patch) (reply.Refused e) self.new) }
+        requires { MayBeCalled self.old (call.Learn patch) }
+        ensures { ResultStep reply.Learned self.old (call.Learn patch) result self.new }
     {
         let kept = patch.into_kept();
-        match self.test_quoted(&kept.quoted) {
-            Ok(()) => {}
-            Err(refusal) => return Err(refusal),
-        }
+        self.test_quoted(&kept.quoted)?;
         if self.lemmas.len() >= MOST_LEMMAS {
             return Err(BookRefusal::LemmasFull);
         }
@@ -371,17 +367,14 @@ impl Book {
     /// Keeps the point that was found at a live node. Refused, in this order: a node that is not live, anything where a
     /// point is kept. A refusal changes nothing.
     pub fn found(&mut self, node: u32, point: Point) -> Result<(), BookRefusal>
-        requires { Meets self.old (call.Find node point) }
-        ensures { MatchResult result (λ _. Steps self.old (call.Find node point) reply.Found self.new) (λ e. Steps self.old (call.Find node point) (reply.Refused e) self.new) }
+        requires { MayBeCalled self.old (call.Find node point) }
+        ensures { ResultStep (λ _. reply.Found) self.old (call.Find node point) result self.new }
     {
         match self.nodes.get(node as usize) {
             Some(Node::Live(_)) => {}
             _ => return Err(BookRefusal::NotOpen(node)),
         }
-        match self.test_point() {
-            Ok(()) => {}
-            Err(refusal) => return Err(refusal),
-        }
+        self.test_point()?;
         point_on_grid(&point);
         self.point = Some(point);
         Ok(())
@@ -421,8 +414,8 @@ impl Book {
 
     /// Makes one call.
     pub fn run(&mut self, call: Call) -> Reply
-        requires { Meets self.old call }
-        ensures { Steps self.old call result self.new }
+        requires { MayBeCalled self.old call }
+        ensures { BookStep self.old call result self.new }
     {
         match call {
             Call::Commit(node, patch) => match self.commit(node, patch) {
@@ -438,7 +431,7 @@ impl Book {
                 Err(refusal) => Reply::Refused(refusal),
             },
             Call::StateOf(node) => match self.state_of(node) {
-                Ok(state) => Reply::Stands(state),
+                Ok(state) => Reply::LiveState(state),
                 Err(refusal) => Reply::Refused(refusal),
             },
             Call::LemmasFrom(from) => match self.lemmas_from(from) {

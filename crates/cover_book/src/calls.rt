@@ -1,6 +1,6 @@
 // Calls and replies as data.
 use crate::refusal::{BookRefusal, Kids};
-use cover_rule::{ClosedPatch, KeptPatch, Lemma, Point, State};
+use cover_data::{ClosedPatch, KeptPatch, Lemma, Point, State};
 
 /// A call on a book.
 #[derive(Drop)]
@@ -18,7 +18,7 @@ pub enum Reply {
     Committed(Kids),
     Learned(u32),
     Found,
-    Stands(State),
+    LiveState(State),
     Lemmas(Vec<Lemma>),
     Refused(BookRefusal),
 }

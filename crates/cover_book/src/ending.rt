@@ -1,10 +1,10 @@
 // What an end leaves of a state.
 ghost use Rattle.std.specs.Prelude.{IfOk};
-ghost use Rattle.cover_rule.specs.Views.{end_line};
-ghost use Rattle.cover_rule.specs.Runs.{CanPart};
+ghost use Rattle.cover_data.specs.Views.{end_line};
+ghost use Rattle.cover_data.specs.Runs.{CanPart};
 ghost use Rattle.cover_book.specs.Ending.{IsEndingOf};
 
-use cover_rule::{End, State};
+use cover_data::{End, State};
 use poly_graph::Mark;
 use std::alloc::{AllocError, Global};
 

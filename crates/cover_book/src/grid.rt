@@ -1,7 +1,7 @@
 // Numbers of a state.
-ghost use Rattle.poly_graph.specs.Space.{IsGridSpace};
+ghost use Rattle.cover_model.specs.Space.{IsGridSpace};
 
-use cover_rule::{Point, State};
+use cover_data::{Point, State};
 
 /// The ends of a state's axes are numbers that are kept.
 pub fn on_grid(state: &State)

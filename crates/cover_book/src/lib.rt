@@ -1,5 +1,9 @@
-//! The book of a cover: which boxes are open, how the others were closed, parted or got stuck, which lemmas were
+//! The book of a cover: which boxes are live, how the others were closed, split or got stuck, which lemmas were
 //! learned on the way, and the point that ends the search.
+//!
+//! Its main type is [`Book`], which takes only what keeps it a cover: [`Book::commit`], [`Book::learn`] and
+//! [`Book::found`], each one step of one relation. [`laws`] says what a book means. The crate works on no box and
+//! chooses none: `box_worker` and `solve_core` do.
 #![tactic(auto)]
 
 mod book;

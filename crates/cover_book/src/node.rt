@@ -1,5 +1,5 @@
 // The boxes of a cover, and what was committed to them.
-use cover_rule::{End, State, Step};
+use cover_data::{End, State, Step};
 
 /// What a patch did to a state: its steps, and its end.
 #[derive(Drop)]
@@ -17,7 +17,7 @@ pub enum Node {
     Crossed(usize),
     /// It was closed.
     Closed(Lines),
-    /// It was parted in two nodes, of which the lower part has this number and the upper one the next.
+    /// It was split into two nodes: the lower part has this number, the upper one the next.
     Parted(Lines, u32),
     /// It is stuck in this state.
     Stuck(Lines, State),

@@ -1,5 +1,5 @@
 // What a commit adds, and why a call on a book is refused.
-use cover_rule::{Point, State};
+use cover_data::{Point, State};
 
 /// The nodes that a commit adds: none, or the next two numbers, the lower part's first.
 #[derive(Clone, Copy, PartialEq, Eq, Debug)]

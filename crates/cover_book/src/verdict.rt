@@ -11,6 +11,6 @@ pub enum BookVerdict {
     NotYet,
     /// No node is live, and one is stuck.
     UnknownWidth,
-    /// Every node is closed or parted.
+    /// Every node is closed or split.
     Unsat,
 }

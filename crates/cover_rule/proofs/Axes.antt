@@ -2,15 +2,15 @@
 use Rattle.std.proofs.Common.{◌≡◌, ◌≢◌, ℕ, zero, suc, ◌+◌, ◌<◌, List, [], ◌∷◌, length, get_or, set, add-one, Bool, refl, ap, ◌∙◌, arith}
 use Rattle.std.proofs.lemmas.List.{get_or-map, length-map}
 use Rattle.dyadic.specs.Fraction.{zero_fraction}
-use Rattle.dyadic.specs.Interval.{Interval, nothing}
-use Rattle.dyadic.specs.Space.{Domain, Space, axis_interval, test_axis}
+use Rattle.interval_model.specs.Interval.{Interval, nothing}
+use Rattle.interval_model.specs.Space.{Domain, Space, axis_interval, test_axis}
 use Rattle.poly_graph.specs.Term.{constant, graph_terms}
-use Rattle.poly_graph.specs.Space.{enclosure}
+use Rattle.cover_model.specs.Space.{enclosure}
 use Rattle.poly_graph.specs.Problem.{Axis, atom_at, no_place}
 use Rattle.poly_graph.specs.ProblemViews.{Parts, problem_of, IsWhole}
-use Rattle.poly_graph.specs.Narrowed.{enclosures}
-use Rattle.poly_graph.specs.NodeEnclosure.{row}
-use Rattle.poly_graph.specs.Fits.{FitsAxes}
+use Rattle.cover_model.specs.Narrowed.{enclosures}
+use Rattle.cover_model.specs.NodeEnclosure.{row}
+use Rattle.cover_model.specs.Fits.{FitsAxes}
 use Rattle.poly_graph.proofs.Graphs.{length_terms}
 use Rattle.truth3.specs.Truth.{HasRows}
 

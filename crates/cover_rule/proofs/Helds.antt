@@ -3,33 +3,34 @@ use Rattle.std.proofs.Common.{◌≡◌, ℕ, List, [], ◌∷◌, ◌++◌, map
 use Rattle.std.specs.Prelude.{is_none, slice_get, OnOk}
 use Rattle.dyadic.specs.Rounding.{Dyadic}
 use Rattle.dyadic.proofs.Equal.{both_true, both_pass}
-use Rattle.dyadic.specs.Space.{space_within, domain_within}
+use Rattle.interval_model.specs.Space.{space_within, domain_within, Domain, real_domain, bool_domain, Space, is_undecided, test_axis}
 use Rattle.ival.specs.declared.domain.Domain.{Domain as CodeDomain}
 use Rattle.ival.specs.declared.domain.Domain.TheVariants.{Real as code_real, Bool as code_bool}
 use Rattle.ival.specs.declared.domain.Truths.TheVariants.{False as only_false, True as only_true, Either as either}
 use Rattle.ival.specs.declared.space.Space.{Space as CodeSpace}
 use Rattle.ival.specs.SpaceViews.{domain_of, space_of}
-use Rattle.poly_graph.specs.Space.{Domain, real_domain, bool_domain, Space}
 use Rattle.poly_graph.specs.Problem.{Declared, real_between, any_bool, Axis}
 use Rattle.poly_graph.specs.ProblemViews.{Parts, problem_of, IsWhole}
-use Rattle.poly_graph.specs.State.{State, IsLemma, in_yes, undecided, with_yes, with_no, with_space, may, covers, marked_yes, marked_no}
-use Rattle.poly_graph.specs.Rules.{Line, pull, unit, ban, void, make_false, by, cut, flip, case, stuck, Left, closed, one, stays, when, pulled, voided, covers_by, is_stuck_atom, rule, is_undecided, test_axis}
-use Rattle.poly_graph.specs.Honest.{is_honest, is_small, is_some_space}
-use Rattle.poly_graph.specs.Fits.{FitsAxis, FitsAxes}
-use Rattle.cover_rule.specs.declared.margins.Margins.{Margins}
+use Rattle.cover_model.specs.State.{State, IsLemma, in_yes, undecided, with_yes, with_no, with_space, may, covers}
+use Rattle.poly_graph.specs.Marks.{marked_yes, marked_no}
+use Rattle.cover_model.specs.Rules.{Line, pull, unit, ban, void, make_false, by, cut, flip, case, stuck, Left, closed, one, stays, when, pulled, voided, covers_by, is_stuck_atom, rule}
+use Rattle.cover_model.specs.Honest.{is_honest, is_small, is_some_space}
+use Rattle.cover_model.specs.Fits.{FitsAxis, FitsAxes}
+use Rattle.cover_data.specs.declared.margins.Margins.{Margins}
 use Rattle.cover_rule.specs.declared.refusal.PatchRefusal.{PatchRefusal}
 use Rattle.cover_rule.specs.declared.refusal.PatchRefusal.TheVariants.{NotYes, NotForced, NotCovered, NotFalse, NotInside, NotStuck, NotHonest, Ended, IsVoid, Decided, Memory}
-use Rattle.cover_rule.specs.Models.{LemmaModel, PatchModel}
-use Rattle.cover_rule.specs.Runs.{is_closing, CanPart, IsEnding, IsRun}
-use Rattle.cover_rule.specs.Patch.{problem_in, loosenings_in, now_in, narrowing_in, space_or}
-use Rattle.cover_rule.specs.Refusals.{PullsIfLess, unless, then_by, if_ended, honestly, pull_refusal, pulled_by, unit_refusal, forced_by, ban_refusal, banned_by, void_refusal, false_refusal, by_refusal, ended_with, covered_by, flip_refusal, case_refusal, stuck_refusal, cut_line, cut_test, cut_refusal, ended_if, cut_by, Answers}
+use Rattle.cover_data.specs.Models.{LemmaModel}
+use Rattle.cover_rule.specs.Models.{PatchModel}
+use Rattle.cover_data.specs.Runs.{is_closing, CanPart, IsEnding, IsRun}
+use Rattle.cover_rule.specs.Patch.{problem_in, loosenings_in, now_in, IsRunOf, narrowing_in, space_or}
+use Rattle.cover_rule.specs.Refusals.{PullIfLessStep, unless, then_by, if_ended, honestly, pull_refusal, pulled_by, unit_refusal, forced_by, ban_refusal, banned_by, void_refusal, false_refusal, by_refusal, ended_with, covered_by, flip_refusal, case_refusal, stuck_refusal, cut_line, cut_test, cut_refusal, ended_if, cut_by, PatchAnswer}
 use Rattle.cover_rule.proofs.RunSteps.{run_steps, run_ends, kept_before, lemmas_and, alone, kept_alone, sound_alone, no_lemmas}
-use Rattle.cover_rule.specs.declared.kept.KeptPatch.{KeptPatch}
+use Rattle.cover_data.specs.declared.kept.KeptPatch.{KeptPatch}
 use Rattle.cover_rule.specs.declared.workspace.Workspace.{Workspace}
 use Rattle.cover_rule.specs.Serves.{IsReady}
 use Rattle.cover_rule.specs.Held.{IsHeld, patch_of}
 use Rattle.cover_rule.proofs.Widest.{cut_is}
-use Rattle.cover_rule.proofs.Children.{marked_fits, can_end}
+use Rattle.cover_data.proofs.Children.{marked_fits, can_end}
 
 -- ---- spaces of the code
 
@@ -77,10 +78,7 @@ not_ended P e = none-of P.kept.end (passed (is_none P.kept.end) Ended e)
 
 -- ---- answers
 
-abbrev pub IsRunOf : PatchModel → Type 0
-IsRunOf P = IsRun (problem_of P.problem) P.margins P.kept
-
-pub run_refused : (refusal : Option PatchRefusal) (P done Q : PatchModel) (x : PatchRefusal) → Answers refusal P done Q (Err x) → IsRunOf P → IsRunOf Q
+pub run_refused : (refusal : Option PatchRefusal) (P done Q : PatchModel) (x : PatchRefusal) → PatchAnswer refusal P done Q (Err x) → IsRunOf P → IsRunOf Q
 run_refused refusal P done Q NotYes a h = subst IsRunOf (sym a.1) h
 run_refused refusal P done Q NotForced a h = subst IsRunOf (sym a.1) h
 run_refused refusal P done Q NotCovered a h = subst IsRunOf (sym a.1) h
@@ -93,7 +91,7 @@ run_refused refusal P done Q IsVoid a h = subst IsRunOf (sym a.1) h
 run_refused refusal P done Q Decided a h = subst IsRunOf (sym a.1) h
 run_refused refusal P done Q Memory a h = subst IsRunOf (sym a.1) h
 
-pub run_after : (refusal : Option PatchRefusal) (P done Q : PatchModel) (r : Result (Unit {0}) PatchRefusal) → Answers refusal P done Q r → IsRunOf P → OnOk r (refusal ≡ None → IsRunOf done) → IsRunOf Q
+pub run_after : (refusal : Option PatchRefusal) (P done Q : PatchModel) (r : Result (Unit {0}) PatchRefusal) → PatchAnswer refusal P done Q r → IsRunOf P → OnOk r (refusal ≡ None → IsRunOf done) → IsRunOf Q
 run_after refusal P done Q (Ok u) a h k = subst IsRunOf (sym a.1) (k a.0)
 run_after refusal P done Q (Err x) a h k = run_refused refusal P done Q x a h
 
@@ -106,7 +104,7 @@ any_ok A (Ok u) h = h
 any_ok A (Err x) h = tt
 
 -- the same of a pull that is made where it leaves less
-pub run_if_less : (P Q : PatchModel) (j : ℕ) (r : Result Bool PatchRefusal) → PullsIfLess P j Q r → IsRunOf P →
+pub run_if_less : (P Q : PatchModel) (j : ℕ) (r : Result Bool PatchRefusal) → PullIfLessStep P j Q r → IsRunOf P →
     (FitsAxes (problem_in P).axes (space_or (now_in P).space (narrowing_in P j)) → pull_refusal P j ≡ None → IsRunOf (pulled_by P j)) →
     OnOk r (FitsAxes (problem_in P).axes (space_or (now_in P).space (narrowing_in P j))) → IsRunOf Q
 run_if_less P Q j (Ok true) a h k fits = run_after (pull_refusal P j) P (pulled_by P j) Q (Ok tt) a.1 h (k fits)
@@ -114,7 +112,7 @@ run_if_less P Q j (Ok false) a h k fits = run_after (pull_refusal P j) P P Q (Ok
 run_if_less P Q j (Err x) a h k fits = run_refused (pull_refusal P j) P (pulled_by P j) Q x a h
 
 -- the same of more than what is answered
-pub answers_lift : {X Y : Type 0} (f : X → Y) (refusal : Option PatchRefusal) (old done new : X) (r : Result (Unit {0}) PatchRefusal) → Answers refusal old done new r → Answers refusal (f old) (f done) (f new) r
+pub answers_lift : {X Y : Type 0} (f : X → Y) (refusal : Option PatchRefusal) (old done new : X) (r : Result (Unit {0}) PatchRefusal) → PatchAnswer refusal old done new r → PatchAnswer refusal (f old) (f done) (f new) r
 answers_lift f refusal old done new (Ok u) a = (a.0, ap f a.1)
 answers_lift f refusal old done new (Err NotYes) a = (a.0, ap f a.1)
 answers_lift f refusal old done new (Err NotForced) a = (a.0, ap f a.1)

@@ -1,11 +1,7 @@
 pub mod Axes
-pub mod Children
 pub mod Helds
 pub mod Narrowings
 pub mod Points
-pub mod Proved
 pub mod RunSteps
-pub mod Runs
 pub mod Sides
 pub mod Widest
-pub mod Withins

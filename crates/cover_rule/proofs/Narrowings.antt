@@ -1,12 +1,12 @@
 -- Narrowed spaces.
 use Rattle.std.proofs.Common.{◌≡◌, ℕ, [], ◌∷◌, length, IsTrue, Some, refl, sym, arith, true≢false}
 use Rattle.dyadic.proofs.Equal.{both_true}
-use Rattle.dyadic.specs.Space.{Space, domain_within, space_within}
-use Rattle.poly_graph.specs.Space.{range}
+use Rattle.interval_model.specs.Space.{Space, domain_within, space_within}
+use Rattle.cover_model.specs.Space.{range}
 use Rattle.poly_graph.specs.Problem.{Problem, IsProblem, atom_at}
-use Rattle.poly_graph.specs.State.{State, Loosenings, margin_of}
-use Rattle.poly_graph.specs.Rules.{narrowing}
-use Rattle.poly_graph.proofs.Within.{narrowed_lies_within}
+use Rattle.cover_model.specs.State.{State, Loosenings, margin_of}
+use Rattle.cover_model.specs.Rules.{narrowing}
+use Rattle.cover_model.proofs.Within.{narrowed_lies_within}
 
 pub within_length : (a b : Space) → IsTrue (space_within a b) → length a ≡ length b
 within_length [] [] h = refl

@@ -4,20 +4,21 @@ use Rattle.std.proofs.lemmas.Int.{ints}
 use Rattle.std.proofs.lemmas.List.Elements.{All-head, All-tail}
 use Rattle.dyadic.specs.Fraction.{Fraction, IsFraction, whole, at_most, power_below, sum_of, negated, difference_of}
 use Rattle.dyadic.specs.Rounding.{Dyadic, exact, finite, down, up, mid, two_to_minus}
-use Rattle.dyadic.specs.Space.{middle_domain, middle, domain_within, space_within}
+use Rattle.interval_model.specs.Space.{middle_domain, middle, domain_within, space_within, Domain, real_domain, bool_domain, Space, is_upright, is_upright_domain}
 use Rattle.dyadic.proofs.Equal.{both_true, both_pass, total}
 use Rattle.dyadic.proofs.Rounds.{at_most_from, at_most_read, at_most_trans}
 use Rattle.dyadic.proofs.RoundsMove.{down_of_equal, up_of_equal, down_moves, up_moves}
-use Rattle.dyadic.proofs.EndsSums.{sum_mono, sum_is_good, negated_mono, negated_is_good}
+use Rattle.interval_model.proofs.EndsSums.{sum_mono, sum_is_good, negated_mono, negated_is_good}
 use Rattle.dyadic.proofs.Nearest.{pow_le}
 use Rattle.dyadic.proofs.Ring
 use Rattle.dyadic.proofs.Ring.{atom, natural, plus, minus, times, read_below}
-use Rattle.poly_graph.specs.Space.{Domain, real_domain, bool_domain, Space, is_upright, is_upright_domain, IsGridSpace}
-use Rattle.poly_graph.specs.Problem.{Declared, real_between, any_bool, Axis, Problem, IsProblem, root_space, IsBound, IsDeclared, size_of, root_domain, root_of_axes, finite_or_nought}
-use Rattle.poly_graph.specs.State.{Loosenings, delta_of, sure}
-use Rattle.poly_graph.specs.Fits.{FitsAxis, FitsAxes, IsSingle, AreSingle, coordinate_of, coordinates, is_near, are_near, IsShownAt}
-use Rattle.poly_graph.proofs.Root.{bound_down, bound_up}
-use Rattle.poly_graph.proofs.Middle.{middle_lies_within}
+use Rattle.cover_model.specs.Space.{IsGridSpace}
+use Rattle.poly_graph.specs.Problem.{Declared, real_between, any_bool, Axis, Problem, IsProblem, IsBound, IsDeclared, size_of}
+use Rattle.cover_model.specs.Root.{root_space, root_domain, root_of_axes, finite_or_nought}
+use Rattle.cover_model.specs.State.{Loosenings, delta_of, sure}
+use Rattle.cover_model.specs.Fits.{FitsAxis, FitsAxes, IsSingle, AreSingle, coordinate_of, coordinates, is_near, are_near, IsShownAt}
+use Rattle.cover_model.proofs.Root.{bound_down, bound_up}
+use Rattle.cover_model.proofs.Middle.{middle_lies_within}
 use Rattle.ival.specs.declared.domain.Domain.{Domain as CodeDomain}
 use Rattle.ival.specs.declared.domain.Domain.TheVariants.{Real as code_real, Bool as code_bool}
 use Rattle.ival.specs.declared.domain.Truths.TheVariants.{False as only_false, True as only_true, Either as either}

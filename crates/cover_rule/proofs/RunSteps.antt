@@ -3,18 +3,19 @@ use Rattle.std.proofs.Common.{◌≡◌, ℕ, zero, suc, List, [], ◌∷◌, �
 use Rattle.std.specs.Prelude.{IfSome, slice_get}
 use Rattle.std.proofs.lemmas.List.Elements.{All-nil, All-cons, All-head, All-tail, All-append}
 use Rattle.poly_graph.specs.Problem.{Problem, IsProblem}
-use Rattle.poly_graph.specs.State.{Mark, marked_yes, marked_no, unmarked, undecided_in, State, Loosenings, IsLemma}
-use Rattle.poly_graph.specs.Rules.{Line, Left, one, closed, rule}
-use Rattle.poly_graph.specs.Derivation.{AreLemmas, KeepsIf, LiesWithinIf}
-use Rattle.poly_graph.specs.Honest.{is_honest}
-use Rattle.poly_graph.specs.Fits.{FitsProblem}
-use Rattle.poly_graph.proofs.Proved.{rules_keep, rules_lie_within}
-use Rattle.cover_rule.specs.declared.margins.Margins.{Margins}
-use Rattle.cover_rule.specs.Margins.{loosenings_of}
-use Rattle.cover_rule.specs.Models.{LemmaModel, KeptModel}
-use Rattle.cover_rule.specs.Runs.{AreKept, is_closing, closes, CanPart, IsEnding, IsRun}
+use Rattle.poly_graph.specs.Marks.{Mark, marked_yes, marked_no, unmarked, undecided_in}
+use Rattle.cover_model.specs.State.{State, Loosenings, IsLemma}
+use Rattle.cover_model.specs.Rules.{Line, Left, one, closed, rule}
+use Rattle.cover_model.specs.Derivation.{AreLemmas, KeepsIf, LiesWithinIf}
+use Rattle.cover_model.specs.Honest.{is_honest}
+use Rattle.cover_model.specs.Fits.{FitsProblem}
+use Rattle.cover_model.proofs.Proved.{rules_keep, rules_lie_within}
+use Rattle.cover_data.specs.declared.margins.Margins.{Margins}
+use Rattle.cover_data.specs.Margins.{loosenings_of}
+use Rattle.cover_data.specs.Models.{LemmaModel, KeptModel}
+use Rattle.cover_data.specs.Runs.{AreKept, is_closing, closes, CanPart, IsEnding, IsRun}
 use Rattle.cover_rule.specs.Patch.{run_at, stepped, ended_by}
-use Rattle.cover_rule.proofs.Runs.{leads_on, covers_itself, covers_through}
+use Rattle.cover_data.proofs.Runs.{leads_on, covers_itself, covers_through}
 
 -- ---- all of two lists
 

@@ -3,13 +3,13 @@ use Rattle.std.proofs.Common.{◌≡◌, ℕ, zero, suc, ◌+◌, ◌-◌, ◌*�
 use Rattle.std.proofs.lemmas.Int.{ints}
 use Rattle.dyadic.specs.Fraction.{Fraction, IsFraction, at_most, sum_of, negated, difference_of}
 use Rattle.dyadic.specs.Rounding.{Dyadic, exact, IsOnGrid, Ext, below_all, finite, above_all, at, end_of, end_at_most, ext_at_most, down}
-use Rattle.dyadic.specs.Space.{Domain, Space}
+use Rattle.interval_model.specs.Space.{Domain, Space}
 use Rattle.dyadic.proofs.Rounds.{at_most_read, at_most_from, at_most_trans, down_side, down_isotone, down_exact}
-use Rattle.dyadic.proofs.EndsSums.{sum_is_good}
+use Rattle.interval_model.proofs.EndsSums.{sum_is_good}
 use Rattle.poly_graph.specs.Problem.{Problem}
-use Rattle.poly_graph.specs.State.{State, Loosenings}
-use Rattle.poly_graph.specs.Rules.{is_stuck_atom}
-use Rattle.poly_graph.specs.Honest.{is_small, is_small_domain, none_below}
+use Rattle.cover_model.specs.State.{State, Loosenings}
+use Rattle.cover_model.specs.Rules.{is_stuck_atom}
+use Rattle.cover_model.specs.Honest.{is_small, is_small_domain, none_below}
 
 same-tests : (a b : Bool) → (IsTrue a → IsTrue b) → (IsTrue b → IsTrue a) → a ≡ b
 same-tests true true f g = refl

@@ -2,11 +2,11 @@
 use Rattle.std.proofs.Common.{◌≡◌, ◌⊎◌, inl, inr, ℕ, zero, suc, ◌+◌, ◌<◌, [], ◌∷◌, length, get_or, Bool, true, false, cond, not, ◌&&◌, IsTrue, Option, Some, None, refl, sym, ap, ap₂, ◌∙◌, subst, arith, true≢false, eq-eqb}
 use Rattle.dyadic.specs.Fraction.{Fraction, zero_fraction, at_most, difference_of}
 use Rattle.dyadic.specs.Rounding.{Dyadic, exact, two_to_minus, mid}
-use Rattle.dyadic.specs.Space.{Domain, real_domain, bool_domain, Space, strictly_inside, can_be_halved, side, better, widest_from, widest, test_axis}
+use Rattle.interval_model.specs.Space.{Domain, real_domain, bool_domain, Space, strictly_inside, can_be_halved, side, better, widest_from, widest, test_axis}
 use Rattle.dyadic.proofs.Rounds.{exact_self}
 use Rattle.dyadic.proofs.Equal.{both_pass}
-use Rattle.poly_graph.specs.Rules.{Line, cut}
-use Rattle.poly_graph.specs.Honest.{is_wide, is_middle_of, is_middle_at}
+use Rattle.cover_model.specs.Rules.{Line, cut}
+use Rattle.cover_model.specs.Honest.{is_wide, is_middle_of, is_middle_at}
 use Rattle.ival.specs.declared.domain.Truths.{Truths}
 use Rattle.ival.specs.declared.domain.Truths.TheVariants.{False as only_false, True as only_true, Either as either}
 use Rattle.ival.specs.SpaceViews.{truths_of}

@@ -1,9 +1,7 @@
 pub mod Held
-pub mod Laws
-pub mod Margins
+pub mod Middle
 pub mod Models
+pub mod Parting
 pub mod Patch
 pub mod Refusals
-pub mod Runs
 pub mod Serves
-pub mod Views

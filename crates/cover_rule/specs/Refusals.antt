@@ -2,14 +2,14 @@
 use Rattle.std.specs.Prelude.{◌≡◌, ◌≢◌, ◌<◌, ℕ, zero, suc, [], ◌∷◌, ◌++◌, Option, Some, None, Bool, true, false, not, ◌&&◌, is_none, length, IsTrue, Result, Ok, Err}
 use Rattle.dyadic.specs.Fraction.{Fraction, at_most, difference_of}
 use Rattle.dyadic.specs.Rounding.{Dyadic, exact, two_to_minus, mid}
-use Rattle.poly_graph.specs.Space.{Domain, real_domain, bool_domain, Space}
-use Rattle.poly_graph.specs.State.{State, in_yes, undecided, with_yes, with_no, with_space, may, covers}
-use Rattle.poly_graph.specs.Rules.{Line, pull, unit, ban, by, cut, flip, case, stuck, is_stuck_atom, test_axis, strictly_inside, is_undecided}
-use Rattle.poly_graph.specs.Honest.{widest, is_honest, is_wide, is_middle_at, is_small, is_some_space}
+use Rattle.interval_model.specs.Space.{Domain, real_domain, bool_domain, Space, test_axis, strictly_inside, is_undecided, widest}
+use Rattle.cover_model.specs.State.{State, in_yes, undecided, with_yes, with_no, with_space, may, covers}
+use Rattle.cover_model.specs.Rules.{Line, pull, unit, ban, void, make_false, by, cut, flip, case, stuck, is_stuck_atom}
+use Rattle.cover_model.specs.Honest.{is_honest, is_wide, is_middle_at, is_small, is_some_space}
 use Rattle.cover_rule.specs.declared.refusal.PatchRefusal.{PatchRefusal}
 use Rattle.cover_rule.specs.declared.refusal.PatchRefusal.TheVariants.{NotYes, NotForced, NotCovered, NotFalse, NotInside, NotStuck, NotHonest, Ended, IsVoid, Decided, Memory}
-use Rattle.cover_rule.specs.Models.{LemmaModel, KeptModel, PatchModel}
-use Rattle.cover_rule.specs.Runs.{children}
+use Rattle.cover_data.specs.Models.{LemmaModel, KeptModel}
+use Rattle.cover_rule.specs.Models.{PatchModel}
 use Rattle.cover_rule.specs.Patch.{problem_in, loosenings_in, now_in, stepped, ended_by, with_kept, narrowing_in, space_or}
 
 -- ---- refusals in their order
@@ -34,6 +34,10 @@ honestly P l = unless (is_honest (problem_in P) P.margins.least_bits (loosenings
 
 abbrev pub pull_refusal : PatchModel → ℕ → Option PatchRefusal
 pull_refusal P j = then_by (if_ended P.kept) (then_by (unless (in_yes (now_in P) j) NotYes) (unless (is_some_space (narrowing_in P j)) IsVoid))
+
+-- a refusal of a pull that is not for memory
+abbrev pub IsPullRefusal : PatchModel → ℕ → PatchRefusal → Type 0
+IsPullRefusal P j e = (pull_refusal P j ≡ Some e) × (e ≢ Memory)
 
 abbrev pub pulled_by : PatchModel → ℕ → PatchModel
 pulled_by P j = with_kept P (stepped P.kept (pull j) P.kept.quoted (with_space (now_in P) (space_or (now_in P).space (narrowing_in P j))))
@@ -123,28 +127,58 @@ case_refusal P j = then_by (if_ended P.kept) (then_by (unless (undecided (now_in
 abbrev pub stuck_refusal : PatchModel → ℕ → Option PatchRefusal
 stuck_refusal P j = then_by (if_ended P.kept) (then_by (unless (is_stuck_atom (problem_in P) (loosenings_in P) (now_in P) j && is_small P.margins.least_bits (now_in P).space) NotStuck) (honestly P (stuck j)))
 
--- ---- the two states of a branch
-
-abbrev pub kids_by : Option Line → State → Option (State × State)
-kids_by None S = None
-kids_by (Some l) S = children l S
-
-abbrev pub kids_of : KeptModel → Option (State × State)
-kids_of k = kids_by k.end k.reached
-
 -- ---- answers
 
--- what a call answers: done, where nothing refuses it; else the first refusal, or that memory is wanting, and the patch is as it was
-abbrev pub Answers : {X : Type 0} → Option PatchRefusal → X → X → X → Result (Unit {0}) PatchRefusal → Type 0
-Answers refusal old done new (Ok u) = (refusal ≡ None) × (new ≡ done)
-Answers refusal old done new (Err Memory) = (refusal ≡ None) × (new ≡ old)
-Answers refusal old done new (Err e) = (refusal ≡ Some e) × (new ≡ old)
+-- the answer of a call: done, where nothing refuses it; else the first refusal, or out of memory, and the patch is as it was
+abbrev pub PatchAnswer : {X : Type 0} → Option PatchRefusal → X → X → X → Result (Unit {0}) PatchRefusal → Type 0
+PatchAnswer refusal old done new (Ok u) = (refusal ≡ None) × (new ≡ done)
+PatchAnswer refusal old done new (Err Memory) = (refusal ≡ None) × (new ≡ old)
+PatchAnswer refusal old done new (Err e) = (refusal ≡ Some e) × (new ≡ old)
 
 -- a pull where it leaves less of the space, and nothing where the space stays
-abbrev pub PullsIfLess : PatchModel → ℕ → PatchModel → Result Bool PatchRefusal → Type 0
-PullsIfLess P j Q (Ok true) = (narrowing_in P j ≢ Some (now_in P).space) × Answers (pull_refusal P j) P (pulled_by P j) Q (Ok tt)
-PullsIfLess P j Q (Ok false) = (narrowing_in P j ≡ Some (now_in P).space) × Answers (pull_refusal P j) P P Q (Ok tt)
-PullsIfLess P j Q (Err e) = Answers (pull_refusal P j) P (pulled_by P j) Q (Err e)
+abbrev pub PullIfLessStep : PatchModel → ℕ → PatchModel → Result Bool PatchRefusal → Type 0
+PullIfLessStep P j Q (Ok true) = (narrowing_in P j ≢ Some (now_in P).space) × PatchAnswer (pull_refusal P j) P (pulled_by P j) Q (Ok tt)
+PullIfLessStep P j Q (Ok false) = (narrowing_in P j ≡ Some (now_in P).space) × PatchAnswer (pull_refusal P j) P P Q (Ok tt)
+PullIfLessStep P j Q (Err e) = PatchAnswer (pull_refusal P j) P (pulled_by P j) Q (Err e)
+
+-- ---- the calls on a patch P, each with its answer and the patch Q after it
+
+abbrev pub PullStep : PatchModel → ℕ → PatchModel → Result (Unit {0}) PatchRefusal → Type 0
+PullStep P j Q r = PatchAnswer (pull_refusal P j) P (pulled_by P j) Q r
+
+abbrev pub UnitStep : PatchModel → ℕ → PatchModel → Result (Unit {0}) PatchRefusal → Type 0
+UnitStep P j Q r = PatchAnswer (unit_refusal P j) P (forced_by P j) Q r
+
+abbrev pub BanStep : PatchModel → ℕ → LemmaModel → PatchModel → Result (Unit {0}) PatchRefusal → Type 0
+BanStep P j L Q r = PatchAnswer (ban_refusal P.kept j L) P (banned_by P j L) Q r
+
+abbrev pub VoidEnd : PatchModel → ℕ → PatchModel → Result (Unit {0}) PatchRefusal → Type 0
+VoidEnd P j Q r = PatchAnswer (void_refusal P j) P (ended_with P (void j)) Q r
+
+abbrev pub FalseEnd : PatchModel → PatchModel → Result (Unit {0}) PatchRefusal → Type 0
+FalseEnd P Q r = PatchAnswer (false_refusal P) P (ended_with P make_false) Q r
+
+abbrev pub LemmaEnd : PatchModel → LemmaModel → PatchModel → Result (Unit {0}) PatchRefusal → Type 0
+LemmaEnd P L Q r = PatchAnswer (by_refusal P.kept L) P (covered_by P L) Q r
+
+abbrev pub CutEnd : PatchModel → PatchModel → Result (Unit {0}) PatchRefusal → Type 0
+CutEnd P Q r = PatchAnswer (cut_refusal P) P (cut_by P) Q r
+
+abbrev pub FlipEnd : PatchModel → ℕ → PatchModel → Result (Unit {0}) PatchRefusal → Type 0
+FlipEnd P i Q r = PatchAnswer (flip_refusal P i) P (ended_with P (flip i)) Q r
+
+abbrev pub CaseEnd : PatchModel → ℕ → PatchModel → Result (Unit {0}) PatchRefusal → Type 0
+CaseEnd P j Q r = PatchAnswer (case_refusal P j) P (ended_with P (case j)) Q r
+
+abbrev pub StuckEnd : PatchModel → ℕ → PatchModel → Result (Unit {0}) PatchRefusal → Type 0
+StuckEnd P j Q r = PatchAnswer (stuck_refusal P j) P (ended_with P (stuck j)) Q r
+
+-- the same of a run alone, for what quotes a lemma
+abbrev pub RunBanStep : KeptModel → ℕ → LemmaModel → KeptModel → Result (Unit {0}) PatchRefusal → Type 0
+RunBanStep k j L k' r = PatchAnswer (ban_refusal k j L) k (banned k j L) k' r
+
+abbrev pub RunLemmaEnd : KeptModel → LemmaModel → KeptModel → Result (Unit {0}) PatchRefusal → Type 0
+RunLemmaEnd k L k' r = PatchAnswer (by_refusal k L) k (covered k L) k' r
 
 -- the widest axis is a Real one with these ends, whose middle lies strictly between them; it is wide where its side is above 2^-w
 pub record CutsAt (w : ℕ) (space : Space) (axis : ℕ) (l h : Dyadic) : Type 0 where

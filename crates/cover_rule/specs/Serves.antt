@@ -1,7 +1,7 @@
 -- Rows, marks and spaces that serve work on a state.
 use Rattle.std.specs.Prelude.{◌≡◌, ◌<◌, ◌^◌, length, vec_len}
-use Rattle.poly_graph.specs.Space.{Space}
-use Rattle.poly_graph.specs.Narrowed.{enclosures}
+use Rattle.interval_model.specs.Space.{Space}
+use Rattle.cover_model.specs.Narrowed.{enclosures}
 use Rattle.poly_graph.specs.ProblemViews.{Parts}
 use Rattle.ival.specs.RowViews.{rows_of}
 use Rattle.ival.specs.SpaceViews.{space_of}
@@ -21,7 +21,7 @@ pub record HasRoom (p : Parts) (w : Workspace) : Type 0 where
   pub middle : length (space_of w.middle) ≡ length p.axes
 
 -- room, and rows of the space
-pub record Serves (p : Parts) (space : Space) (w : Workspace) : Type 0 where
+pub record HasRowsOf (p : Parts) (space : Space) (w : Workspace) : Type 0 where
   pub rows : rows_of w.rows ≡ enclosures space p.nodes
   pub scratch : length (rows_of w.scratch) ≡ length p.nodes
   pub truths : vec_len w.marks.truths ≡ length p.forms
@@ -29,5 +29,5 @@ pub record Serves (p : Parts) (space : Space) (w : Workspace) : Type 0 where
 
 -- and a spare copy of the space
 pub record IsReady (p : Parts) (space : Space) (w : Workspace) : Type 0 where
-  pub serves : Serves p space w
+  pub serves : HasRowsOf p space w
   pub spare : space_of w.spare ≡ space

@@ -1,28 +1,27 @@
 // Ends of a patch that part its state or leave it, over its parts.
 ghost use Rattle.std.specs.Prelude.{◌≡◌, ◌<◌, ℕ, length, not, ◌&&◌, IsTrue, IsNone, IfSome, None};
 ghost use Rattle.poly_graph.specs.ProblemViews.{problem_of};
-ghost use Rattle.poly_graph.specs.Fits.{FitsProblem};
-ghost use Rattle.poly_graph.specs.State.{misses, margin_of, undecided};
-ghost use Rattle.poly_graph.specs.Rules.{flip, case, stuck, is_undecided, test_axis};
-ghost use Rattle.poly_graph.specs.Honest.{not_shown, settled, is_honest};
+ghost use Rattle.cover_model.specs.Fits.{FitsProblem};
+ghost use Rattle.cover_model.specs.State.{misses, margin_of, undecided};
+ghost use Rattle.cover_model.specs.Rules.{flip, case, stuck};
+ghost use Rattle.interval_model.specs.Space.{is_undecided, test_axis};
+ghost use Rattle.cover_model.specs.Honest.{is_honest};
 ghost use Rattle.dyadic.specs.Views.{dyadic_of};
 ghost use Rattle.ival.specs.SpaceViews.{space_of, domain_of};
-ghost use Rattle.cover_rule.specs.Margins.{AreMargins, loosenings_of};
-ghost use Rattle.cover_rule.specs.Serves.{Serves, IsReady, IsNumbered};
-ghost use Rattle.cover_rule.specs.Refusals.{Answers, cut_line, cut_refusal, cut_by, CutsAt, flip_refusal, case_refusal, stuck_refusal, ended_with, is_decided};
-ghost use Rattle.cover_rule.specs.Views.{kept_of};
+ghost use Rattle.cover_data.specs.Margins.{AreMargins, loosenings_of};
+ghost use Rattle.cover_rule.specs.Serves.{HasRowsOf, IsReady, IsNumbered};
+ghost use Rattle.cover_rule.specs.Refusals.{FlipEnd, CaseEnd, StuckEnd, CutEnd, cut_line, is_decided};
+ghost use Rattle.cover_rule.specs.Parting.{is_due_at, IsWidestRange};
+ghost use Rattle.cover_data.specs.Views.{kept_of};
 ghost use Rattle.cover_rule.specs.Held.{IsHeld, patch_of};
 
-use crate::kept::KeptPatch;
-use crate::margins::Margins;
 use crate::refusal::PatchRefusal;
 use crate::small::{has_small_side, is_small};
-use crate::state::State;
-use crate::step::End;
 use crate::steps::may_without;
 use crate::stuck::{is_settled, is_stuck_atom, none_stuck_below};
 use crate::truth::is_not_shown;
 use crate::workspace::Workspace;
+use cover_data::{End, KeptPatch, Margins, State};
 use dyadic::mid;
 use ival::{Domain, Range, Space, Truths};
 use poly_graph::Problem;
@@ -34,7 +33,7 @@ fn is_due(problem: &Problem, margins: &Margins, state: &State, work: &mut Worksp
     requires numbered { IsNumbered problem.now }
     requires state { FitsProblem (problem_of problem.now) state.now }
     requires work { IsReady problem.now state.now.space work.old }
-    ensures due { result ≡ (not_shown (problem_of problem.now) (loosenings_of margins.now) state.now && settled (problem_of problem.now) (loosenings_of margins.now) state.now) }
+    ensures due { result ≡ is_due_at problem.now margins.now state.now }
     ensures work { IsReady problem.now state.now.space work.new }
 {
     is_not_shown(problem, margins, state, work) && is_settled(problem, margins, state, work)
@@ -90,7 +89,8 @@ pub fn flip(
 ) -> Result<(), PatchRefusal>
     requires held { IsHeld problem.now margins.now kept.old work.old }
     requires axis { axis < length problem.now.axes }
-    ensures answer { Answers (flip_refusal (patch_of problem.now margins.now kept.old) axis) (patch_of problem.now margins.now kept.old) (ended_with (patch_of problem.now margins.now kept.old) (flip axis)) (patch_of problem.now margins.now kept.new) result }
+    ensures answer { let P = patch_of problem.now margins.now in
+        FlipEnd (P kept.old) axis (P kept.new) result }
     ensures reached { kept.new.reached ≡ kept.old.reached }
     ensures ready { IsReady problem.now kept.old.reached.space work.new }
 {
@@ -122,8 +122,9 @@ fn meets_range(
     requires state { FitsProblem (problem_of problem.now) state.now }
     requires small { j < length problem.now.atoms }
     requires atom { IsTrue (undecided state.now j) }
-    requires work { Serves problem.now state.now.space work.now }
-    ensures { result ≡ not (misses (problem_of problem.now) (margin_of (loosenings_of margins.now)) state.now.space j) }
+    requires work { HasRowsOf problem.now state.now.space work.now }
+    ensures { let margin = margin_of (loosenings_of margins.now) in
+        result ≡ not (misses (problem_of problem.now) margin state.now.space j) }
 {
     let _ = problem.axes();
     let space = state.space();
@@ -151,7 +152,8 @@ fn is_case_due(
     requires small { j < length problem.now.atoms }
     requires atom { IsTrue (undecided state.old j) }
     requires work { IsReady problem.now state.old.space work.old }
-    ensures honest { result ≡ is_honest (problem_of problem.now) margins.now.least_bits (loosenings_of margins.now) state.old (case j) }
+    ensures honest { let s = loosenings_of margins.now in
+        result ≡ is_honest (problem_of problem.now) margins.now.least_bits s state.old (case j) }
     ensures state { state.new ≡ state.old }
     ensures work { IsReady problem.now state.old.space work.new }
 {
@@ -174,7 +176,8 @@ pub fn case(
 ) -> Result<(), PatchRefusal>
     requires held { IsHeld problem.now margins.now kept.old work.old }
     requires atom { j < length problem.now.atoms }
-    ensures answer { Answers (case_refusal (patch_of problem.now margins.now kept.old) j) (patch_of problem.now margins.now kept.old) (ended_with (patch_of problem.now margins.now kept.old) (case j)) (patch_of problem.now margins.now kept.new) result }
+    ensures answer { let P = patch_of problem.now margins.now in
+        CaseEnd (P kept.old) j (P kept.new) result }
     ensures reached { kept.new.reached ≡ kept.old.reached }
     ensures ready { IsReady problem.now kept.old.reached.space work.new }
 {
@@ -201,7 +204,8 @@ pub fn stuck(
 ) -> Result<(), PatchRefusal>
     requires held { IsHeld problem.now margins.now kept.old work.old }
     requires atom { j < length problem.now.atoms }
-    ensures answer { Answers (stuck_refusal (patch_of problem.now margins.now kept.old) j) (patch_of problem.now margins.now kept.old) (ended_with (patch_of problem.now margins.now kept.old) (stuck j)) (patch_of problem.now margins.now kept.new) result }
+    ensures answer { let P = patch_of problem.now margins.now in
+        StuckEnd (P kept.old) j (P kept.new) result }
     ensures reached { kept.new.reached ≡ kept.old.reached }
     ensures ready { IsReady problem.now kept.old.reached.space work.new }
 {
@@ -227,7 +231,7 @@ pub fn stuck(
 // The widest axis with its numbers, if there is one that can be halved.
 fn widest_range(space: &Space) -> Option<(usize, Range)>
     ensures none { IsNone result → cut_line (space_of space.now) ≡ None }
-    ensures found { IfSome result (λ f. (w : ℕ) → CutsAt w (space_of space.now) f.0 (dyadic_of f.1.low) (dyadic_of f.1.high)) }
+    ensures found { IfSome result (λ f. IsWidestRange (space_of space.now) f.0 f.1) }
 {
     match space.widest() {
         None => None,
@@ -246,7 +250,8 @@ pub fn cut(
     work: &mut Workspace,
 ) -> Result<(), PatchRefusal>
     requires held { IsHeld problem.now margins.now kept.old work.old }
-    ensures answer { Answers (cut_refusal (patch_of problem.now margins.now kept.old)) (patch_of problem.now margins.now kept.old) (cut_by (patch_of problem.now margins.now kept.old)) (patch_of problem.now margins.now kept.new) result }
+    ensures answer { let P = patch_of problem.now margins.now in
+        CutEnd (P kept.old) (P kept.new) result }
     ensures reached { kept.new.reached ≡ kept.old.reached }
     ensures ready { IsReady problem.now kept.old.reached.space work.new }
 {

@@ -1,26 +1,23 @@
 // Ends of a patch that close its state, over its parts.
 ghost use Rattle.std.specs.Prelude.{◌≡◌, ◌<◌, [], ◌∷◌, ◌++◌, length};
 ghost use Rattle.poly_graph.specs.ProblemViews.{problem_of};
-ghost use Rattle.poly_graph.specs.Rules.{void, make_false};
+ghost use Rattle.cover_model.specs.Rules.{void, make_false};
 ghost use Rattle.cover_rule.specs.Serves.{IsReady};
 ghost use Rattle.cover_rule.specs.Patch.{ended_by};
-ghost use Rattle.cover_rule.specs.Refusals.{Answers, void_refusal, false_refusal, by_refusal, ended_with, covered};
-ghost use Rattle.cover_rule.specs.Views.{kept_of, end_line};
+ghost use Rattle.cover_rule.specs.Refusals.{VoidEnd, FalseEnd, RunLemmaEnd};
+ghost use Rattle.cover_data.specs.Views.{kept_of, end_line};
 ghost use Rattle.cover_rule.specs.Held.{IsHeld, patch_of};
 
-use crate::kept::KeptPatch;
-use crate::lemma::Lemma;
-use crate::margins::Margins;
 use crate::narrowing::leaves_nothing;
 use crate::refusal::PatchRefusal;
-use crate::step::End;
 use crate::steps::quote;
 use crate::truth::may_hold;
 use crate::workspace::Workspace;
+use cover_data::{End, KeptPatch, Lemma, Margins};
 use poly_graph::Problem;
 use std::alloc::Global;
 
-/// Ends the patch by atom j, by which nothing is left.
+/// Ends the patch by atom j, whose narrowing leaves nothing.
 pub fn void(
     problem: &Problem,
     margins: &Margins,
@@ -30,7 +27,8 @@ pub fn void(
 ) -> Result<(), PatchRefusal>
     requires held { IsHeld problem.now margins.now kept.old work.old }
     requires atom { j < length problem.now.atoms }
-    ensures answer { Answers (void_refusal (patch_of problem.now margins.now kept.old) j) (patch_of problem.now margins.now kept.old) (ended_with (patch_of problem.now margins.now kept.old) (void j)) (patch_of problem.now margins.now kept.new) result }
+    ensures answer { let P = patch_of problem.now margins.now in
+        VoidEnd (P kept.old) j (P kept.new) result }
     ensures reached { kept.new.reached ≡ kept.old.reached }
     ensures ready { IsReady problem.now kept.old.reached.space work.new }
 {
@@ -55,7 +53,8 @@ pub fn make_false(
     work: &mut Workspace,
 ) -> Result<(), PatchRefusal>
     requires held { IsHeld problem.now margins.now kept.old work.old }
-    ensures answer { Answers (false_refusal (patch_of problem.now margins.now kept.old)) (patch_of problem.now margins.now kept.old) (ended_with (patch_of problem.now margins.now kept.old) make_false) (patch_of problem.now margins.now kept.new) result }
+    ensures answer { let P = patch_of problem.now margins.now in
+        FalseEnd (P kept.old) (P kept.new) result }
     ensures reached { kept.new.reached ≡ kept.old.reached }
     ensures ready { IsReady problem.now kept.old.reached.space work.new }
 {
@@ -73,7 +72,7 @@ pub fn make_false(
 pub fn by(alloc: Global, kept: &mut KeptPatch, lemma: &Lemma) -> Result<(), PatchRefusal>
     requires axes { length lemma.now.state.space ≡ length kept.old.reached.space }
     requires atoms { length lemma.now.state.marks ≡ length kept.old.reached.marks }
-    ensures answer { Answers (by_refusal (kept_of kept.old) lemma.now) (kept_of kept.old) (covered (kept_of kept.old) lemma.now) (kept_of kept.new) result }
+    ensures answer { RunLemmaEnd (kept_of kept.old) lemma.now (kept_of kept.new) result }
     ensures reached { kept.new.reached ≡ kept.old.reached }
 {
     if kept.end.is_some() {

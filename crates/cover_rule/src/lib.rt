@@ -1,38 +1,25 @@
-//! The rules of a cover in code: states, patches that go from state to state by one rule after another, lemmas and points.
+//! The rules of a cover in code: patches, which go from state to state by one rule after another and may end.
+//!
+//! Its main type is [`Patch`]: each call is one rule, done where it is lawful and honest and refused else. Points come
+//! from the middle of a space ([`MiddlePoint`]). The crate chooses no rule and keeps no book: `box_worker` and
+//! `cover_book` do.
 #![tactic(auto)]
 
 mod branches;
-mod closed;
 mod ends;
-mod has_marks;
-mod kept;
-mod kids;
-pub mod laws;
-mod lemma;
-mod margins;
 mod narrowing;
 mod patch;
 mod point;
 mod refusal;
 mod small;
-mod state;
-mod step;
 mod steps;
 mod stuck;
 mod truth;
 mod workspace;
 
-pub use closed::ClosedPatch;
-pub use kept::KeptPatch;
-pub use lemma::Lemma;
-pub use margins::{Margins, Options};
+pub use cover_data::{ClosedPatch, End, KeptPatch, Lemma, Margins, Options, Point, State, Step};
 pub use patch::Patch;
-pub use point::Point;
+pub use point::MiddlePoint;
 pub use refusal::PatchRefusal;
-pub use state::State;
-pub use step::{End, Step};
 pub use truth::midpoint_sure;
 pub use workspace::Workspace;
-
-#[cfg(test)]
-mod tests;

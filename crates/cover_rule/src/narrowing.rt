@@ -1,18 +1,17 @@
 // Narrowing, and rows that follow it.
 ghost use Rattle.std.specs.Prelude.{◌≡◌, ◌<◌, ◌^◌, not, length, slice_set, IsTrue};
 ghost use Rattle.poly_graph.specs.ProblemViews.{problem_of};
-ghost use Rattle.poly_graph.specs.Fits.{FitsProblem};
-ghost use Rattle.poly_graph.specs.State.{with_space};
-ghost use Rattle.poly_graph.specs.Rules.{narrowing};
-ghost use Rattle.poly_graph.specs.Honest.{is_some_space, none_empty};
+ghost use Rattle.cover_model.specs.Fits.{FitsProblem};
+ghost use Rattle.cover_model.specs.State.{with_space};
+ghost use Rattle.cover_model.specs.Rules.{narrowing};
+ghost use Rattle.cover_model.specs.Honest.{is_some_space, none_empty};
 ghost use Rattle.ival.specs.SpaceViews.{space_of, domain_of};
 ghost use Rattle.ival.specs.Narrows.{IsNarrowed};
-ghost use Rattle.cover_rule.specs.Margins.{AreMargins, loosenings_of};
-ghost use Rattle.cover_rule.specs.Serves.{Serves, IsReady, IsNumbered};
+ghost use Rattle.cover_data.specs.Margins.{AreMargins, loosenings_of};
+ghost use Rattle.cover_rule.specs.Serves.{HasRowsOf, IsReady, IsNumbered};
 
-use crate::margins::Margins;
-use crate::state::State;
 use crate::workspace::Workspace;
+use cover_data::{Margins, State};
 use hc4_bwd::narrow;
 use hc4_fwd::refill;
 use ival::{Domain, Narrowed, Space};
@@ -45,9 +44,9 @@ fn renew_axis(
 )
     requires axis { axis < length state.old.space }
     requires small { axis < 2 ^ 32 }
-    requires work { Serves problem.now state.old.space work.old }
+    requires work { HasRowsOf problem.now state.old.space work.old }
     ensures state { state.new ≡ with_space state.old (slice_set state.old.space axis (domain_of domain)) }
-    ensures work { Serves problem.now state.new.space work.new }
+    ensures work { HasRowsOf problem.now state.new.space work.new }
     ensures spare { work.new.spare ≡ work.old.spare }
 {
     if is_same(state.space().get(axis), domain) {
@@ -61,7 +60,7 @@ fn renew_axis(
 pub fn adopt_spare(problem: &Problem, state: &mut State, work: &mut Workspace)
     requires numbered { IsNumbered problem.now }
     requires state { FitsProblem (problem_of problem.now) state.old }
-    requires work { Serves problem.now state.old.space work.old }
+    requires work { HasRowsOf problem.now state.old.space work.old }
     requires spare { length (space_of work.old.spare) ≡ length state.old.space }
     ensures state { state.new ≡ with_space state.old (space_of work.old.spare) }
     ensures work { IsReady problem.now state.new.space work.new }
@@ -83,8 +82,9 @@ pub fn narrow_spare(
     requires margins { AreMargins margins.now }
     requires atom { j < length problem.now.atoms }
     requires work { IsReady problem.now state.now.space work.old }
-    ensures narrowed { IsNarrowed state.now.space (space_of work.new.spare) (narrowing (problem_of problem.now) (loosenings_of margins.now) state.now j) result }
-    ensures work { Serves problem.now state.now.space work.new }
+    ensures narrowed { let narrow = narrowing (problem_of problem.now) (loosenings_of margins.now) state.now j in
+        IsNarrowed state.now.space (space_of work.new.spare) narrow result }
+    ensures work { HasRowsOf problem.now state.now.space work.new }
 {
     let _ = problem.axes();
     let atom = problem.atoms()[j as usize];
@@ -109,7 +109,8 @@ pub fn leaves_nothing(
     requires margins { AreMargins margins.now }
     requires atom { j < length problem.now.atoms }
     requires work { IsReady problem.now state.now.space work.old }
-    ensures empty { result ≡ not (is_some_space (narrowing (problem_of problem.now) (loosenings_of margins.now) state.now j)) }
+    ensures empty { let narrow = narrowing (problem_of problem.now) (loosenings_of margins.now) state.now j in
+        result ≡ not (is_some_space narrow) }
     ensures work { IsReady problem.now state.now.space work.new }
 {
     let _ = problem.axes();

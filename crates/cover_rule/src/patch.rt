@@ -1,26 +1,20 @@
 // Patches.
 ghost use Rattle.std.specs.Prelude.{◌≡◌, ◌<◌, ◌↔◌, length, IfOk, IsTrue, MatchResult};
 ghost use Rattle.poly_graph.specs.ProblemViews.{problem_of};
-ghost use Rattle.poly_graph.specs.Fits.{FitsProblem};
-ghost use Rattle.poly_graph.specs.State.{IsLemma};
-ghost use Rattle.poly_graph.specs.Rules.{void, make_false, flip, case, stuck};
+ghost use Rattle.cover_model.specs.Fits.{FitsProblem};
 ghost use Rattle.ival.specs.SpaceViews.{space_of};
-ghost use Rattle.cover_rule.specs.Margins.{AreMargins, loosenings_of};
-ghost use Rattle.cover_rule.specs.Runs.{IsRun, IsClosed};
+ghost use Rattle.cover_data.specs.Margins.{AreMargins};
+ghost use Rattle.cover_data.specs.Runs.{IsClosed};
 ghost use Rattle.cover_rule.specs.Serves.{HasRoom, IsNumbered};
-ghost use Rattle.cover_rule.specs.Patch.{run_at};
-ghost use Rattle.cover_rule.specs.Refusals.{Answers, PullsIfLess, pull_refusal, pulled_by, unit_refusal, forced_by, ban_refusal, banned_by, void_refusal, false_refusal, by_refusal, covered_by, cut_refusal, cut_by, flip_refusal, case_refusal, stuck_refusal, ended_with};
-ghost use Rattle.cover_rule.specs.Views.{kept_of};
+ghost use Rattle.cover_rule.specs.Patch.{problem_in, run_at, IsRunOf, IsLemmaState, IsClosedRunOf, IsNotClosed};
+ghost use Rattle.cover_rule.specs.Refusals.{PullStep, PullIfLessStep, UnitStep, BanStep, VoidEnd, FalseEnd, LemmaEnd, CutEnd, FlipEnd, CaseEnd, StuckEnd};
+ghost use Rattle.cover_data.specs.Views.{kept_of};
 
-use crate::closed::ClosedPatch;
-use crate::kept::KeptPatch;
-use crate::lemma::Lemma;
-use crate::margins::Margins;
 use crate::narrowing::copy_space;
 use crate::refusal::PatchRefusal;
-use crate::state::State;
 use crate::workspace::Workspace;
 use crate::{branches, ends, steps};
+use cover_data::{ClosedPatch, KeptPatch, Lemma, Margins, State};
 use hc4_fwd::fill;
 use poly_graph::Problem;
 use std::alloc::{AllocError, Global};
@@ -117,7 +111,7 @@ impl<'a> Patch<'a> {
     /// The state that it has reached.
     pub fn reached(&self) -> &State
         ensures state { result.now ≡ self.now.kept.reached }
-        ensures run { IsRun (problem_of self.now.problem) self.now.margins self.now.kept }
+        ensures run { IsRunOf self.now }
     {
         &self.kept.reached
     }
@@ -125,7 +119,7 @@ impl<'a> Patch<'a> {
     /// What it has done, to be kept, and the room that it worked in.
     pub fn into_kept(self) -> (KeptPatch, Workspace)
         ensures kept { kept_of result.0 ≡ self.entry.kept }
-        ensures run { IsRun (problem_of self.entry.problem) self.entry.margins self.entry.kept }
+        ensures run { IsRunOf self.entry }
         ensures room { HasRoom self.entry.problem result.1 }
     {
         let Patch {
@@ -140,7 +134,7 @@ impl<'a> Patch<'a> {
 
     /// The closed patch; the patch itself where it did not end by closing its state.
     pub fn closed(self) -> Result<ClosedPatch, Patch<'a>>
-        ensures { MatchResult result (λ c. (c ≡ self.entry.kept) × IsClosed self.entry.kept) (λ p. (p ≡ self.entry) × ¬ IsClosed self.entry.kept) }
+        ensures { MatchResult result (IsClosedRunOf self.entry) (IsNotClosed self.entry) }
     {
         if !self.has_closed() {
             return Err(self);
@@ -162,7 +156,7 @@ impl<'a> Patch<'a> {
     /// Pulls atom j, which has to be marked yes: leaves of the space what the atom leaves of it.
     pub fn pull(&mut self, j: u32) -> Result<(), PatchRefusal>
         requires { j < length self.old.problem.atoms }
-        ensures { Answers (pull_refusal self.old j) self.old (pulled_by self.old j) self.new result }
+        ensures { PullStep self.old j self.new result }
     {
         steps::pull(
             self.problem,
@@ -174,10 +168,10 @@ impl<'a> Patch<'a> {
     }
 
     /// Pulls atom j, which has to be marked yes, where that leaves less of the space; whether it does. So no line is
-    /// spent on a pull by which nothing changes.
+    /// spent on a pull that changes nothing.
     pub fn pull_if_less(&mut self, j: u32) -> Result<bool, PatchRefusal>
         requires { j < length self.old.problem.atoms }
-        ensures { PullsIfLess self.old j self.new result }
+        ensures { PullIfLessStep self.old j self.new result }
     {
         steps::pull_if_less(
             self.problem,
@@ -191,7 +185,7 @@ impl<'a> Patch<'a> {
     /// Marks atom j yes, without which the form can't hold.
     pub fn unit(&mut self, j: u32) -> Result<(), PatchRefusal>
         requires { j < length self.old.problem.atoms }
-        ensures { Answers (unit_refusal self.old j) self.old (forced_by self.old j) self.new result }
+        ensures { UnitStep self.old j self.new result }
     {
         steps::unit(
             self.problem,
@@ -205,9 +199,9 @@ impl<'a> Patch<'a> {
     /// Marks atom j no, since the lemma covers the state with the atom marked yes.
     pub fn ban(&mut self, j: u32, lemma: &Lemma) -> Result<(), PatchRefusal>
         requires atom { j < length self.old.problem.atoms }
-        requires state { FitsProblem (problem_of self.old.problem) lemma.now.state }
-        requires lemma { IsLemma (problem_of self.old.problem) (loosenings_of self.old.margins) lemma.now.state }
-        ensures { Answers (ban_refusal self.old.kept j lemma.now) self.old (banned_by self.old j lemma.now) self.new result }
+        requires state { FitsProblem (problem_in self.old) lemma.now.state }
+        requires lemma { IsLemmaState self.old lemma.now.state }
+        ensures { BanStep self.old j lemma.now self.new result }
     {
         steps::ban(self.alloc, &mut self.kept, j, lemma)
     }
@@ -215,7 +209,7 @@ impl<'a> Patch<'a> {
     /// Ends the patch by atom j, which is marked yes and leaves nothing.
     pub fn void(&mut self, j: u32) -> Result<(), PatchRefusal>
         requires { j < length self.old.problem.atoms }
-        ensures { Answers (void_refusal self.old j) self.old (ended_with self.old (void j)) self.new result }
+        ensures { VoidEnd self.old j self.new result }
     {
         ends::void(
             self.problem,
@@ -228,23 +222,23 @@ impl<'a> Patch<'a> {
 
     /// Ends the patch where the form can't hold.
     pub fn make_false(&mut self) -> Result<(), PatchRefusal>
-        ensures { Answers (false_refusal self.old) self.old (ended_with self.old make_false) self.new result }
+        ensures { FalseEnd self.old self.new result }
     {
         ends::make_false(self.problem, &self.margins, &mut self.kept, &mut self.work)
     }
 
     /// Ends the patch by a lemma that covers the state.
     pub fn by(&mut self, lemma: &Lemma) -> Result<(), PatchRefusal>
-        requires state { FitsProblem (problem_of self.old.problem) lemma.now.state }
-        requires lemma { IsLemma (problem_of self.old.problem) (loosenings_of self.old.margins) lemma.now.state }
-        ensures { Answers (by_refusal self.old.kept lemma.now) self.old (covered_by self.old lemma.now) self.new result }
+        requires state { FitsProblem (problem_in self.old) lemma.now.state }
+        requires lemma { IsLemmaState self.old lemma.now.state }
+        ensures { LemmaEnd self.old lemma.now self.new result }
     {
         ends::by(self.alloc, &mut self.kept, lemma)
     }
 
     /// Ends the patch by cutting the widest axis at its middle: the lower part, then the upper one.
     pub fn cut(&mut self) -> Result<(), PatchRefusal>
-        ensures { Answers (cut_refusal self.old) self.old (cut_by self.old) self.new result }
+        ensures { CutEnd self.old self.new result }
     {
         branches::cut(self.problem, &self.margins, &mut self.kept, &mut self.work)
     }
@@ -252,7 +246,7 @@ impl<'a> Patch<'a> {
     /// Ends the patch by parting the Bool axis, which is not decided: false, then true.
     pub fn flip(&mut self, axis: u32) -> Result<(), PatchRefusal>
         requires { axis < length self.old.problem.axes }
-        ensures { Answers (flip_refusal self.old axis) self.old (ended_with self.old (flip axis)) self.new result }
+        ensures { FlipEnd self.old axis self.new result }
     {
         branches::flip(
             self.problem,
@@ -266,7 +260,7 @@ impl<'a> Patch<'a> {
     /// Ends the patch by parting the state at atom j, which is not marked: yes, then no.
     pub fn case(&mut self, j: u32) -> Result<(), PatchRefusal>
         requires { j < length self.old.problem.atoms }
-        ensures { Answers (case_refusal self.old j) self.old (ended_with self.old (case j)) self.new result }
+        ensures { CaseEnd self.old j self.new result }
     {
         branches::case(
             self.problem,
@@ -280,7 +274,7 @@ impl<'a> Patch<'a> {
     /// Ends the patch at a stuck state, whose first stuck atom is j.
     pub fn stuck(&mut self, j: u32) -> Result<(), PatchRefusal>
         requires { j < length self.old.problem.atoms }
-        ensures { Answers (stuck_refusal self.old j) self.old (ended_with self.old (stuck j)) self.new result }
+        ensures { StuckEnd self.old j self.new result }
     {
         branches::stuck(
             self.problem,

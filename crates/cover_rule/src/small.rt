@@ -2,9 +2,9 @@
 ghost use Rattle.std.specs.Prelude.{◌≡◌, ◌<◌, ◌≤◌, not, Some, None, IsTrue};
 ghost use Rattle.dyadic.specs.Fraction.{at_most, difference_of};
 ghost use Rattle.dyadic.specs.Rounding.{exact, two_to_minus, mid};
-ghost use Rattle.dyadic.specs.Space.{real_domain, can_be_halved};
+ghost use Rattle.interval_model.specs.Space.{real_domain, can_be_halved};
 ghost use Rattle.dyadic.specs.Views.{dyadic_of};
-ghost use Rattle.poly_graph.specs.Honest.{is_small, is_small_domain};
+ghost use Rattle.cover_model.specs.Honest.{is_small, is_small_domain};
 ghost use Rattle.ival.specs.SpaceViews.{domain_of, space_of};
 
 use dyadic::{Ext, add_down, at_most, mid, two_to_minus};
@@ -14,7 +14,8 @@ use ival::{Domain, Range, Space, Truths};
 /// exactly where the sum itself is not.
 pub fn has_small_side(range: Range, bits: u32) -> bool
     requires { bits ≤ 120 }
-    ensures { result ≡ at_most (difference_of (exact (dyadic_of range.high)) (exact (dyadic_of range.low))) (exact (two_to_minus bits)) }
+    ensures { let side = difference_of (exact (dyadic_of range.high)) (exact (dyadic_of range.low)) in
+        result ≡ at_most side (exact (two_to_minus bits)) }
 {
     at_most(
         Ext::Fin(range.high),

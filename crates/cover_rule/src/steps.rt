@@ -1,27 +1,23 @@
 // Steps of a patch, over its parts.
 ghost use Rattle.std.specs.Prelude.{◌≡◌, ◌≢◌, ◌<◌, [], ◌∷◌, ◌++◌, length, not, true, false, IsTrue, None, Some, OnOk, OnErr, IfErr, IfNone, OnSome};
 ghost use Rattle.poly_graph.specs.ProblemViews.{problem_of};
-ghost use Rattle.poly_graph.specs.Fits.{FitsProblem, FitsAxes};
-ghost use Rattle.poly_graph.specs.State.{IsLemma, may, undecided, with_yes, with_no, with_space, covers};
-ghost use Rattle.poly_graph.specs.Rules.{pull};
+ghost use Rattle.cover_model.specs.Fits.{FitsProblem};
+ghost use Rattle.cover_model.specs.State.{IsLemma, may, undecided, with_yes, with_no, with_space, covers};
+ghost use Rattle.cover_model.specs.Rules.{pull};
 ghost use Rattle.ival.specs.SpaceViews.{space_of};
-ghost use Rattle.cover_rule.specs.Margins.{AreMargins, loosenings_of};
-ghost use Rattle.cover_rule.specs.Serves.{Serves, IsReady, IsNumbered};
-ghost use Rattle.cover_rule.specs.Patch.{stepped, narrowing_in, space_or};
-ghost use Rattle.cover_rule.specs.Refusals.{Answers, PullsIfLess, pull_refusal, pulled_by, unit_refusal, forced_by, ban_refusal, banned};
+ghost use Rattle.cover_data.specs.Margins.{AreMargins, loosenings_of};
+ghost use Rattle.cover_rule.specs.Serves.{HasRowsOf, IsReady, IsNumbered};
+ghost use Rattle.cover_rule.specs.Patch.{stepped, with_step, narrowing_in, pulled_space, FitsPulled};
+ghost use Rattle.cover_rule.specs.Refusals.{PullStep, PullIfLessStep, UnitStep, RunBanStep, IsPullRefusal, pull_refusal, unit_refusal, ban_refusal};
 ghost use Rattle.cover_rule.specs.declared.refusal.PatchRefusal.TheVariants as refusal;
-ghost use Rattle.cover_rule.specs.Views.{kept_of, step_line};
+ghost use Rattle.cover_data.specs.Views.{kept_of, step_line};
 ghost use Rattle.cover_rule.specs.Held.{IsHeld, patch_of};
 
-use crate::kept::KeptPatch;
-use crate::lemma::Lemma;
-use crate::margins::Margins;
 use crate::narrowing::{adopt_spare, copy_space, narrow_spare};
 use crate::refusal::PatchRefusal;
-use crate::state::State;
-use crate::step::Step;
 use crate::truth::may_hold;
 use crate::workspace::Workspace;
+use cover_data::{KeptPatch, Lemma, Margins, State, Step};
 use ival::Narrowed;
 use poly_graph::{Mark, Problem};
 use std::alloc::{AllocError, Global};
@@ -37,14 +33,19 @@ fn narrowed(
     requires held { IsHeld problem.now margins.now kept.now work.old }
     requires atom { j < length problem.now.atoms }
     ensures may { OnOk result (pull_refusal (patch_of problem.now margins.now kept.now) j ≡ None) }
-    ensures refusal { IfErr result (λ e. (pull_refusal (patch_of problem.now margins.now kept.now) j ≡ Some e) × (e ≢ refusal.Memory)) }
+    ensures refusal { let P = patch_of problem.now margins.now kept.now in
+        IfErr result (λ e. IsPullRefusal P j e) }
     ensures refused { OnErr result (IsReady problem.now kept.now.reached.space work.new) }
-    ensures serves { Serves problem.now kept.now.reached.space work.new }
+    ensures serves { HasRowsOf problem.now kept.now.reached.space work.new }
     ensures length { length (space_of work.new.spare) ≡ length kept.now.reached.space }
-    ensures fits { OnOk result (FitsAxes (problem_of problem.now).axes (space_or kept.now.reached.space (narrowing_in (patch_of problem.now margins.now kept.now) j))) }
-    ensures spare { OnOk result (space_of work.new.spare ≡ space_or kept.now.reached.space (narrowing_in (patch_of problem.now margins.now kept.now) j)) }
-    ensures same { result ≡ Ok false → (narrowing_in (patch_of problem.now margins.now kept.now) j ≡ Some kept.now.reached.space) × IsReady problem.now kept.now.reached.space work.new }
-    ensures less { result ≡ Ok true → narrowing_in (patch_of problem.now margins.now kept.now) j ≢ Some kept.now.reached.space }
+    ensures fits { OnOk result (FitsPulled (patch_of problem.now margins.now kept.now) j) }
+    ensures spare { let P = patch_of problem.now margins.now kept.now in
+        OnOk result (space_of work.new.spare ≡ pulled_space P j) }
+    ensures same { let P = patch_of problem.now margins.now kept.now in
+        let space = kept.now.reached.space in
+        result ≡ Ok false → (narrowing_in P j ≡ Some space) × IsReady problem.now space work.new }
+    ensures less { let P = patch_of problem.now margins.now kept.now in
+        result ≡ Ok true → narrowing_in P j ≢ Some kept.now.reached.space }
 {
     let _ = problem.axes();
     if kept.end.is_some() {
@@ -62,7 +63,7 @@ fn narrowed(
 
 // Adds a step that quotes no lemma; where there is no memory all stays.
 fn add_step(kept: &mut KeptPatch, step: Step) -> Result<(), PatchRefusal>
-    ensures ok { OnOk result (kept_of kept.new ≡ stepped (kept_of kept.old) (step_line step) (kept_of kept.old).quoted kept.old.reached) }
+    ensures ok { OnOk result (kept_of kept.new ≡ with_step (kept_of kept.old) (step_line step)) }
     ensures err { OnErr result (kept_of kept.new ≡ kept_of kept.old) }
     ensures memory { OnErr result (result ≡ Err PatchRefusal.Memory) }
 {
@@ -72,7 +73,7 @@ fn add_step(kept: &mut KeptPatch, step: Step) -> Result<(), PatchRefusal>
     }
 }
 
-// Pulls atom j, by which the spare space was narrowed; where there is no memory all stays.
+// Pulls atom j, which the spare space was narrowed by; out of memory, all stays.
 fn take_narrowed(
     problem: &Problem,
     kept: &mut KeptPatch,
@@ -81,9 +82,11 @@ fn take_narrowed(
 ) -> Result<(), PatchRefusal>
     requires numbered { IsNumbered problem.now }
     requires state { FitsProblem (problem_of problem.now) kept.old.reached }
-    requires serves { Serves problem.now kept.old.reached.space work.old }
+    requires serves { HasRowsOf problem.now kept.old.reached.space work.old }
     requires length { length (space_of work.old.spare) ≡ length kept.old.reached.space }
-    ensures ok { OnOk result (kept_of kept.new ≡ stepped (kept_of kept.old) (pull j) (kept_of kept.old).quoted (with_space kept.old.reached (space_of work.old.spare))) }
+    ensures ok { let k = kept_of kept.old in
+        let reached = with_space k.reached (space_of work.old.spare) in
+        OnOk result (kept_of kept.new ≡ stepped k (pull j) k.quoted reached) }
     ensures err { OnErr result (kept_of kept.new ≡ kept_of kept.old) }
     ensures memory { OnErr result (result ≡ Err refusal.Memory) }
     ensures ready { IsReady problem.now kept.new.reached.space work.new }
@@ -106,9 +109,10 @@ pub fn pull(
 ) -> Result<(), PatchRefusal>
     requires held { IsHeld problem.now margins.now kept.old work.old }
     requires atom { j < length problem.now.atoms }
-    ensures answer { Answers (pull_refusal (patch_of problem.now margins.now kept.old) j) (patch_of problem.now margins.now kept.old) (pulled_by (patch_of problem.now margins.now kept.old) j) (patch_of problem.now margins.now kept.new) result }
+    ensures answer { let P = patch_of problem.now margins.now in
+        PullStep (P kept.old) j (P kept.new) result }
     ensures ready { IsReady problem.now kept.new.reached.space work.new }
-    ensures fits { OnOk result (FitsAxes (problem_of problem.now).axes (space_or kept.old.reached.space (narrowing_in (patch_of problem.now margins.now kept.old) j))) }
+    ensures fits { OnOk result (FitsPulled (patch_of problem.now margins.now kept.old) j) }
 {
     narrowed(problem, margins, kept, work, j)?;
     take_narrowed(problem, kept, work, j)
@@ -124,9 +128,10 @@ pub fn pull_if_less(
 ) -> Result<bool, PatchRefusal>
     requires held { IsHeld problem.now margins.now kept.old work.old }
     requires atom { j < length problem.now.atoms }
-    ensures answer { PullsIfLess (patch_of problem.now margins.now kept.old) j (patch_of problem.now margins.now kept.new) result }
+    ensures answer { let P = patch_of problem.now margins.now in
+        PullIfLessStep (P kept.old) j (P kept.new) result }
     ensures ready { IsReady problem.now kept.new.reached.space work.new }
-    ensures fits { OnOk result (FitsAxes (problem_of problem.now).axes (space_or kept.old.reached.space (narrowing_in (patch_of problem.now margins.now kept.old) j))) }
+    ensures fits { OnOk result (FitsPulled (patch_of problem.now margins.now kept.old) j) }
 {
     if !narrowed(problem, margins, kept, work, j)? {
         return Ok(false);
@@ -210,7 +215,8 @@ pub fn unit(
 ) -> Result<(), PatchRefusal>
     requires held { IsHeld problem.now margins.now kept.old work.old }
     requires atom { j < length problem.now.atoms }
-    ensures answer { Answers (unit_refusal (patch_of problem.now margins.now kept.old) j) (patch_of problem.now margins.now kept.old) (forced_by (patch_of problem.now margins.now kept.old) j) (patch_of problem.now margins.now kept.new) result }
+    ensures answer { let P = patch_of problem.now margins.now in
+        UnitStep (P kept.old) j (P kept.new) result }
     ensures ready { IsReady problem.now kept.new.reached.space work.new }
 {
     if let Some(refusal) = unit_refusal(problem, margins, kept, work, j) {
@@ -265,7 +271,9 @@ fn add_quoting_step(
     step: Step,
     lemma: &Lemma,
 ) -> Result<(), PatchRefusal>
-    ensures ok { OnOk result (kept_of kept.new ≡ stepped (kept_of kept.old) (step_line step) ((kept_of kept.old).quoted ++ (lemma.now ∷ [])) kept.old.reached) }
+    ensures ok { let k = kept_of kept.old in
+        let quoted = k.quoted ++ (lemma.now ∷ []) in
+        OnOk result (kept_of kept.new ≡ stepped k (step_line step) quoted k.reached) }
     ensures err { OnErr result (kept_of kept.new ≡ kept_of kept.old) }
     ensures memory { OnErr result (result ≡ Err PatchRefusal.Memory) }
 {
@@ -284,7 +292,7 @@ pub fn ban(alloc: Global, kept: &mut KeptPatch, j: u32, lemma: &Lemma) -> Result
     requires atom { j < length kept.old.reached.marks }
     requires axes { length lemma.now.state.space ≡ length kept.old.reached.space }
     requires atoms { length lemma.now.state.marks ≡ length kept.old.reached.marks }
-    ensures answer { Answers (ban_refusal (kept_of kept.old) j lemma.now) (kept_of kept.old) (banned (kept_of kept.old) j lemma.now) (kept_of kept.new) result }
+    ensures answer { RunBanStep (kept_of kept.old) j lemma.now (kept_of kept.new) result }
     ensures space { kept.new.reached.space ≡ kept.old.reached.space }
 {
     if let Some(refusal) = ban_refusal(kept, j, lemma) {

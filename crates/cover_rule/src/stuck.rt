@@ -1,16 +1,15 @@
 // Atoms that are stuck.
 ghost use Rattle.std.specs.Prelude.{◌≡◌, ◌<◌, length};
 ghost use Rattle.poly_graph.specs.ProblemViews.{problem_of};
-ghost use Rattle.poly_graph.specs.Fits.{FitsProblem};
-ghost use Rattle.poly_graph.specs.Rules.{is_stuck_atom};
-ghost use Rattle.poly_graph.specs.Honest.{none_below, settled};
-ghost use Rattle.cover_rule.specs.Margins.{AreMargins, loosenings_of};
-ghost use Rattle.cover_rule.specs.Serves.{Serves, IsReady, IsNumbered};
+ghost use Rattle.cover_model.specs.Fits.{FitsProblem};
+ghost use Rattle.cover_model.specs.Rules.{is_stuck_atom};
+ghost use Rattle.cover_model.specs.Honest.{none_below, settled};
+ghost use Rattle.cover_data.specs.Margins.{AreMargins, loosenings_of};
+ghost use Rattle.cover_rule.specs.Serves.{HasRowsOf, IsReady, IsNumbered};
 
-use crate::margins::Margins;
 use crate::narrowing::none_leaves_nothing;
-use crate::state::State;
 use crate::workspace::Workspace;
+use cover_data::{Margins, State};
 use poly_graph::Problem;
 use truth3::{conjuncts_in_yes, may_atom, sure_atom};
 
@@ -25,7 +24,7 @@ pub fn is_stuck_atom(
     requires margins { AreMargins margins.now }
     requires atom { j < length problem.now.atoms }
     requires state { FitsProblem (problem_of problem.now) state.now }
-    requires work { Serves problem.now state.now.space work.now }
+    requires work { HasRowsOf problem.now state.now.space work.now }
     ensures { result ≡ is_stuck_atom (problem_of problem.now) (loosenings_of margins.now) state.now j }
 {
     let _ = problem.axes();
@@ -51,7 +50,7 @@ pub fn none_stuck_below(
     requires margins { AreMargins margins.now }
     requires atom { j < length problem.now.atoms }
     requires state { FitsProblem (problem_of problem.now) state.now }
-    requires work { Serves problem.now state.now.space work.now }
+    requires work { HasRowsOf problem.now state.now.space work.now }
     ensures { result ≡ none_below (problem_of problem.now) (loosenings_of margins.now) state.now j }
 {
     let mut i = j;

@@ -1,19 +1,19 @@
 // Whether the form may hold at a state, and whether it surely does at the middle.
 ghost use Rattle.std.specs.Prelude.{◌≡◌, ◌≤◌, ◌&&◌, not, length, vec_len};
 ghost use Rattle.dyadic.specs.Rounding.{two_to_minus};
-ghost use Rattle.poly_graph.specs.State.{may, sure_within};
-ghost use Rattle.poly_graph.specs.Honest.{middle as middle_space, not_shown};
+ghost use Rattle.cover_model.specs.State.{may, sure_within};
+ghost use Rattle.interval_model.specs.Space.{middle as middle_space};
+ghost use Rattle.cover_model.specs.Honest.{not_shown};
 ghost use Rattle.poly_graph.specs.ProblemViews.{problem_of};
-ghost use Rattle.poly_graph.specs.Fits.{FitsProblem};
-ghost use Rattle.poly_graph.specs.Narrowed.{enclosures};
+ghost use Rattle.cover_model.specs.Fits.{FitsProblem};
+ghost use Rattle.cover_model.specs.Narrowed.{enclosures};
 ghost use Rattle.ival.specs.RowViews.{rows_of};
 ghost use Rattle.ival.specs.SpaceViews.{space_of};
-ghost use Rattle.cover_rule.specs.Margins.{AreMargins, loosenings_of};
-ghost use Rattle.cover_rule.specs.Serves.{Serves};
+ghost use Rattle.cover_data.specs.Margins.{AreMargins, loosenings_of};
+ghost use Rattle.cover_rule.specs.Serves.{HasRowsOf};
 
-use crate::margins::Margins;
-use crate::state::State;
 use crate::workspace::Workspace;
+use cover_data::{Margins, State};
 use hc4_fwd::fill;
 use ival::{Rows, Space};
 use poly_graph::Problem;
@@ -23,9 +23,9 @@ use truth3::{Marks, may, sure};
 pub fn may_hold(problem: &Problem, margins: &Margins, state: &State, work: &mut Workspace) -> bool
     requires margins { AreMargins margins.now }
     requires state { FitsProblem (problem_of problem.now) state.now }
-    requires work { Serves problem.now state.now.space work.old }
+    requires work { HasRowsOf problem.now state.now.space work.old }
     ensures truth { result ≡ may (problem_of problem.now) (loosenings_of margins.now) state.now }
-    ensures work { Serves problem.now state.now.space work.new }
+    ensures work { HasRowsOf problem.now state.now.space work.new }
     ensures spare { work.new.spare ≡ work.old.spare }
 {
     let _ = problem.axes();
@@ -54,7 +54,8 @@ pub fn midpoint_sure(
     requires middle { length (space_of middle.old) ≡ length (space_of space.now) }
     requires rows { length (rows_of rows.old) ≡ length problem.now.nodes }
     requires marks { vec_len marks.old.truths ≡ length problem.now.forms }
-    ensures sure { result ≡ sure_within (problem_of problem.now) (two_to_minus delta) (middle_space (space_of space.now)) }
+    ensures sure { let point = middle_space (space_of space.now) in
+        result ≡ sure_within (problem_of problem.now) (two_to_minus delta) point }
     ensures middle { space_of middle.new ≡ middle_space (space_of space.now) }
     ensures rows { rows_of rows.new ≡ enclosures (middle_space (space_of space.now)) problem.now.nodes }
     ensures marks { vec_len marks.new.truths ≡ length problem.now.forms }
@@ -74,9 +75,9 @@ pub fn is_not_shown(
 ) -> bool
     requires margins { AreMargins margins.now }
     requires state { FitsProblem (problem_of problem.now) state.now }
-    requires work { Serves problem.now state.now.space work.old }
+    requires work { HasRowsOf problem.now state.now.space work.old }
     ensures truth { result ≡ not_shown (problem_of problem.now) (loosenings_of margins.now) state.now }
-    ensures work { Serves problem.now state.now.space work.new }
+    ensures work { HasRowsOf problem.now state.now.space work.new }
     ensures spare { work.new.spare ≡ work.old.spare }
 {
     may_hold(problem, margins, state, work)

@@ -2,11 +2,11 @@
 use Rattle.std.proofs.Common.{◌≡◌, inl, ℕ, zero, suc, List, [], ◌∷◌, Some, None, refl, sym, subst, arith}
 use Rattle.std.specs.Prelude.{slice_get}
 use Rattle.std.proofs.lemmas.List.Elements.{All-nil}
-use Rattle.poly_graph.specs.State.{State}
+use Rattle.cover_model.specs.State.{State}
 use Rattle.poly_graph.specs.ProblemViews.{Parts}
-use Rattle.cover_rule.specs.declared.margins.Options.{Options}
-use Rattle.cover_rule.specs.Models.{LemmaModel}
-use Rattle.cover_rule.specs.Runs.{AreKept}
+use Rattle.cover_data.specs.declared.margins.Options.{Options}
+use Rattle.cover_data.specs.Models.{LemmaModel}
+use Rattle.cover_data.specs.Runs.{AreKept}
 use Rattle.cover_book.specs.Model.{NodeModel, live_node, BookModel, problem_in, loosenings_in, lemma_states_in, opening}
 use Rattle.cover_book.specs.Verdict.{first_live, live_after}
 use Rattle.cover_book.specs.Steps.{IsLive}

@@ -3,8 +3,8 @@ use Rattle.std.proofs.Common.{◌≡◌, inl, inr, ℕ, suc, ◌<◌, List, [], 
 use Rattle.std.specs.Prelude.{slice_get, is_some}
 use Rattle.std.specs.List.{list_any, Contains}
 use Rattle.std.proofs.lemmas.Bool.{ltb-true}
-use Rattle.poly_graph.specs.State.{State}
-use Rattle.poly_graph.specs.Space.{Space}
+use Rattle.cover_model.specs.State.{State}
+use Rattle.interval_model.specs.Space.{Space}
 use Rattle.cover_book.specs.declared.verdict.BookVerdict.TheVariants.{DeltaSat, UnknownBudget, NotYet, UnknownWidth, Unsat}
 use Rattle.cover_book.specs.Model.{NodeModel, live_node, crossed_node, closed_node, parted_node, stuck_node, BookModel}
 use Rattle.cover_book.specs.Verdict.{is_live, has_live, has_stuck, may_branch, verdict_of}

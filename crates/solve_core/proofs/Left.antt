@@ -3,14 +3,14 @@ use Rattle.std.proofs.Common.{◌≡◌, ◌⊎◌, inl, inr, ℕ, zero, suc, �
 use Rattle.std.specs.Prelude.{slice_get, slice_set}
 use Rattle.std.proofs.lemmas.Bool.{cases_eq}
 use Rattle.std.proofs.lemmas.List.{length-set}
-use Rattle.poly_graph.specs.State.{State}
-use Rattle.poly_graph.specs.Rules.{Line}
-use Rattle.cover_rule.specs.Models.{KeptModel}
-use Rattle.cover_rule.specs.Runs.{is_closing, children}
+use Rattle.cover_model.specs.State.{State}
+use Rattle.cover_model.specs.Rules.{Line}
+use Rattle.cover_data.specs.Models.{KeptModel}
+use Rattle.cover_data.specs.Runs.{is_closing, children}
 use Rattle.cover_book.specs.declared.refusal.Kids.{Kids}
 use Rattle.cover_book.specs.declared.refusal.Kids.TheVariants as kids
 use Rattle.cover_book.specs.Model.{NodeModel, live_node, closed_node, parted_node, stuck_node, BookModel}
-use Rattle.cover_book.specs.Steps.{IsLive, ended_node, parted_book, committed, kids_of, kids_by, Commits}
+use Rattle.cover_book.specs.Steps.{IsLive, ended_node, parted_book, committed_book, kids_of, kids_by, CommitStep}
 use Rattle.cover_book.proofs.Lists.{get_cases, set_here, set_other}
 
 -- one of the nodes that a commit adds
@@ -68,9 +68,9 @@ leaves-by b n k l w (Some (T, U)) = record {
 }
 
 -- what a commit leaves
-pub commit_leaves : (b : BookModel) (n : ℕ) (k : KeptModel) (l : Line) → k.end ≡ Some l → (c : Kids) (b' : BookModel) → Commits b n k c b' → CommitLeaves b n c b'
+pub commit_leaves : (b : BookModel) (n : ℕ) (k : KeptModel) (l : Line) → k.end ≡ Some l → (c : Kids) (b' : BookModel) → CommitStep b n k c b' → CommitLeaves b n c b'
 commit_leaves b n k l e c b' s =
     let h : CommitLeaves b n (kids_of b (children l k.reached)) (parted_book b n k l (children l k.reached)) = leaves-by b n k l s.passes.live (children l k.reached) in
     let f : c ≡ kids_of b (children l k.reached) = s.kids ∙ ap (kids_by b k) e in
-    let g : b' ≡ parted_book b n k l (children l k.reached) = s.book ∙ ap (committed b n k) e in
+    let g : b' ≡ parted_book b n k l (children l k.reached) = s.book ∙ ap (committed_book b n k) e in
     subst (λ (d : Kids). CommitLeaves b n d b') (sym f) (subst (λ (d : BookModel). CommitLeaves b n (kids_of b (children l k.reached)) d) (sym g) h)

@@ -2,7 +2,6 @@ pub mod Begins
 pub mod Ends
 pub mod Left
 pub mod Reached
-pub mod Tried
 pub mod Visits
 pub mod Waits
 pub mod Works

@@ -3,11 +3,11 @@ use Rattle.std.proofs.Common.{◌≡◌, refl, sym, subst, ◌∙◌}
 use Rattle.cover_book.specs.declared.calls.Call.{Call}
 use Rattle.cover_book.specs.declared.calls.Reply.{Reply}
 use Rattle.cover_book.specs.Model.{BookModel}
-use Rattle.cover_book.specs.Steps.{Meets, Steps}
+use Rattle.cover_book.specs.Steps.{MayBeCalled, BookStep}
 use Rattle.cover_book.proofs.Grown.{step_keeps_problem}
 use Rattle.solve_core.specs.Reaches.{Reaches, stays, calls}
 
-pub one_call : (b b' : BookModel) (call : Call) (reply : Reply) → Meets b call → Steps b call reply b' → Reaches b b'
+pub one_call : (b b' : BookModel) (call : Call) (reply : Reply) → MayBeCalled b call → BookStep b call reply b' → Reaches b b'
 one_call b b' call reply m s = calls b call reply stays m s
 
 pub reaches_through : {b c : BookModel} → Reaches b c → {d : BookModel} → Reaches c d → Reaches b d

@@ -3,23 +3,23 @@ use Rattle.std.proofs.Common.{◌≡◌, ◌⊎◌, inl, inr, ℕ, zero, suc, �
 use Rattle.std.specs.Prelude.{slice_get, IsSome, OnOk}
 use Rattle.std.proofs.lemmas.List.{map-append, length-map}
 use Rattle.std.proofs.lemmas.List.Elements.{All-weaker, All-drop, All-head, All-tail, All-append, All-cons, All-nil}
-use Rattle.poly_graph.specs.Space.{Space}
-use Rattle.poly_graph.specs.State.{State, IsLemma}
-use Rattle.poly_graph.specs.Fits.{FitsProblem}
-use Rattle.poly_graph.specs.Rules.{Line}
-use Rattle.cover_rule.specs.declared.kept.KeptPatch.{KeptPatch}
-use Rattle.cover_rule.specs.declared.step.End.{End}
-use Rattle.cover_rule.specs.Models.{LemmaModel, KeptModel}
-use Rattle.cover_rule.specs.Views.{kept_of, end_of, end_line}
-use Rattle.cover_rule.specs.Runs.{AreKept, IsRun, IsClosed, closes}
-use Rattle.cover_rule.proofs.Proved.{closed_is_lemma}
+use Rattle.interval_model.specs.Space.{Space}
+use Rattle.cover_model.specs.State.{State, IsLemma}
+use Rattle.cover_model.specs.Fits.{FitsProblem}
+use Rattle.cover_model.specs.Rules.{Line}
+use Rattle.cover_data.specs.declared.kept.KeptPatch.{KeptPatch}
+use Rattle.cover_data.specs.declared.step.End.{End}
+use Rattle.cover_data.specs.Models.{LemmaModel, KeptModel}
+use Rattle.cover_data.specs.Views.{kept_of, end_of, end_line}
+use Rattle.cover_data.specs.Runs.{AreKept, IsRun, IsClosed, closes}
+use Rattle.cover_data.proofs.Proved.{closed_is_lemma}
 use Rattle.cover_book.specs.declared.calls.Call.TheVariants.{Commit, Learn, Find}
 use Rattle.cover_book.specs.declared.calls.Reply.TheVariants.{Committed, Learned, Found}
 use Rattle.cover_book.specs.declared.refusal.BookRefusal.{BookRefusal}
 use Rattle.cover_book.specs.declared.refusal.BookRefusal.TheVariants.{NotOpen, OtherState, UnknownLemma, BudgetSpent, LemmasFull, PointKept, Memory}
 use Rattle.cover_book.specs.declared.refusal.Kids.{Kids}
 use Rattle.cover_book.specs.Model.{LearnedLemma, BookModel, problem_in, margins_of, loosenings_in, lemma_states_in}
-use Rattle.cover_book.specs.Steps.{Meets, IsLive, IsFirstUnknown, RefusesCommit, Commits, Learns, Finds, with_lemma, learned}
+use Rattle.cover_book.specs.Steps.{MayBeCalled, IsLive, IsFirstUnknown, IsCommitRefusal, CommitStep, LemmaStep, PointStep, with_lemma, learned_book}
 use Rattle.cover_book.proofs.Grown.{step_keeps_problem}
 use Rattle.cover_book.proofs.Lists.{get_left, get_right}
 use Rattle.box_worker.specs.Worked.{AreLemmasFor}
@@ -62,13 +62,13 @@ ends-at None h = absurd (true≢false (sym h))
 ends-at (Some e) h = (end_line e, refl)
 
 module _ (s : Search) (n : ℕ) (P : KeptPatch) (h : CanCommit s n P) where
-  pub commit_meets : Meets s.book (Commit n P)
+  pub commit_meets : MayBeCalled s.book (Commit n P)
   commit_meets = (h.run, h.ended)
 
-  leaves : (c : Kids) (b' : BookModel) → Commits s.book n (kept_of P) c b' → CommitLeaves s.book n c b'
+  leaves : (c : Kids) (b' : BookModel) → CommitStep s.book n (kept_of P) c b' → CommitLeaves s.book n c b'
   leaves c b' k = let e = ends-at P.end h.ended in commit_leaves s.book n (kept_of P) e.0 e.1 c b' k
 
-  pub committed_after : (s' : Search) (c : Kids) → Commits s.book n (kept_of P) c s'.book → s'.waiting.items ≡ s.waiting.items ++ kid_list c → s'.lemmas.items ≡ s.lemmas.items → IsSearch s' s'.waiting.items
+  pub committed_after : (s' : Search) (c : Kids) → CommitStep s.book n (kept_of P) c s'.book → s'.waiting.items ≡ s.waiting.items ++ kid_list c → s'.lemmas.items ≡ s.lemmas.items → IsSearch s' s'.waiting.items
   committed_after s' c k e f =
       let same : Same s.book s'.book = step_keeps_problem s.book (Commit n P) (Committed c) s'.book k in
       let w : CommitLeaves s.book n c s'.book = leaves c s'.book k in
@@ -79,14 +79,14 @@ module _ (s : Search) (n : ℕ) (P : KeptPatch) (h : CanCommit s n P) where
       })
 
   -- a node whose branch the budget does not allow stays live
-  pub unspent_after : (s' : Search) (count : ℕ) → RefusesCommit s.book n (kept_of P) (BudgetSpent count) → s'.book ≡ s.book → s'.waiting.items ≡ s.waiting.items → s'.lemmas.items ≡ s.lemmas.items → IsSearch s' s'.waiting.items
+  pub unspent_after : (s' : Search) (count : ℕ) → IsCommitRefusal s.book n (kept_of P) (BudgetSpent count) → s'.book ≡ s.book → s'.waiting.items ≡ s.waiting.items → s'.lemmas.items ≡ s.lemmas.items → IsSearch s' s'.waiting.items
   unspent_after s' count r b e f =
       let due : (S : State) → IsLive s.book n S → IsLeftLive s.book S =
       λ S k. let q : P.first ≡ S = same-live s.book n P.first S h.at.live k in subst (IsLeftLive s.book) q (record { not_shown = h.due r.2; spent = r.3 }) in
       same_search s' s.book s.waiting.items s.lemmas.items b e f (record { waits = λ q. waits_less s.book n s.waiting.items due (h.at.search.waits q); kept = h.at.search.kept; usable = h.at.search.usable })
 
   -- what else might refuse it does not
-  pub commit_refusals : (e : BookRefusal) → RefusesCommit s.book n (kept_of P) e → (e ≡ Memory) ⊎ ((count : ℕ) × (e ≡ BudgetSpent count))
+  pub commit_refusals : (e : BookRefusal) → IsCommitRefusal s.book n (kept_of P) e → (e ≡ Memory) ⊎ ((count : ℕ) × (e ≡ BudgetSpent count))
   commit_refusals (NotOpen m) r = absurd (r.1 P.first h.at.live)
   commit_refusals (OtherState S) r = absurd (r.1 (same-live s.book n P.first S h.at.live r.0))
   commit_refusals (UnknownLemma i count) r = absurd (none-unknown s.book (kept_of P).quoted i h.quoted r.1)
@@ -96,13 +96,13 @@ module _ (s : Search) (n : ℕ) (P : KeptPatch) (h : CanCommit s n P) where
   commit_refusals Memory r = inl refl
 
   -- so a commit that is refused for another cause than want of memory leaves all as it was
-  pub refused_after : (s' : Search) (e : BookRefusal) → RefusesCommit s.book n (kept_of P) e → (e ≡ Memory → ⊥) → s'.book ≡ s.book → s'.waiting.items ≡ s.waiting.items → s'.lemmas.items ≡ s.lemmas.items → IsSearch s' s'.waiting.items
+  pub refused_after : (s' : Search) (e : BookRefusal) → IsCommitRefusal s.book n (kept_of P) e → (e ≡ Memory → ⊥) → s'.book ≡ s.book → s'.waiting.items ≡ s.waiting.items → s'.lemmas.items ≡ s.lemmas.items → IsSearch s' s'.waiting.items
   refused_after s' e r m b f g = elim (commit_refusals e r) [
     | inl k ↦ absurd (m k)
-    | inr k ↦ unspent_after s' k.0 (subst (RefusesCommit s.book n (kept_of P)) k.1 r) b f g
+    | inr k ↦ unspent_after s' k.0 (subst (IsCommitRefusal s.book n (kept_of P)) k.1 r) b f g
   ]
 
-  pub commit_reaches : (c : Kids) (b' : BookModel) → Commits s.book n (kept_of P) c b' → Reaches s.book b'
+  pub commit_reaches : (c : Kids) (b' : BookModel) → CommitStep s.book n (kept_of P) c b' → Reaches s.book b'
   commit_reaches c b' k = one_call s.book b' (Commit n P) (Committed c) commit_meets k
 
 -- ---- a lemma
@@ -132,11 +132,11 @@ module _ (s : Search) (k : KeptModel) (h : CanLearn s k) where
   learn_meets = (h.run, h.closed)
 
   -- the new lemma may be handed on
-  pub can_hand : (s' : Search) (i : ℕ) (S : State) → Learns s.book k i s'.book → S ≡ k.first → s'.waiting.items ≡ s.waiting.items → s'.lemmas.items ≡ s.lemmas.items → CanHand s' (record { id = i; state = S })
+  pub can_hand : (s' : Search) (i : ℕ) (S : State) → LemmaStep s.book k i s'.book → S ≡ k.first → s'.waiting.items ≡ s.waiting.items → s'.lemmas.items ≡ s.lemmas.items → CanHand s' (record { id = i; state = S })
   can_hand s' i S w q e f =
       let l = closed-end k.end h.closed in
       let x : LearnedLemma = record { state = k.first; steps = k.steps; end = l.0 } in
-      let b : s'.book ≡ with_lemma s.book x = w.book ∙ ap (learned s.book k) l.1 in
+      let b : s'.book ≡ with_lemma s.book x = w.book ∙ ap (learned_book s.book k) l.1 in
       let u : IsUnderWay (with_lemma s.book x) s.waiting.items s.lemmas.items = learned-under s.book x s.waiting.items s.lemmas.items h.search in
       let L : LemmaModel = record { id = length s.book.lemmas; state = k.first } in
       let same : record { id = i; state = S } ≡ L = ap (λ (j : ℕ). record { id = j; state = S }) w.number ∙ ap (λ (T : State). record { id = length s.book.lemmas; state = T }) q in
@@ -151,7 +151,7 @@ module _ (s : Search) (k : KeptModel) (h : CanLearn s k) where
         usable = subst (λ (c : BookModel). AreLemmasFor (problem_in c) (loosenings_in c) (record { id = i; state = S } ∷ [])) (sym b) (subst (λ (m : LemmaModel). AreLemmasFor (problem_in s.book) (loosenings_in s.book) (m ∷ [])) (sym same) usable);
       }
 
-  pub learn_reaches : (i : ℕ) (b' : BookModel) → Learns s.book k i b' → Reaches s.book b'
+  pub learn_reaches : (i : ℕ) (b' : BookModel) → LemmaStep s.book k i b' → Reaches s.book b'
   learn_reaches i b' w = one_call s.book b' (Learn k) (Learned i) learn_meets w
 
 -- a lemma more, some fewer at the front
@@ -165,5 +165,5 @@ handed s L h k lemmas e = subst (IsUnderWay s.book s.waiting.items) (sym e) (rec
 
 -- ---- a point
 
-pub find_reaches : (s : Search) (n : ℕ) (x : Space) → CanFind s n x → (b' : BookModel) → Finds s.book n x b' → Reaches s.book b'
+pub find_reaches : (s : Search) (n : ℕ) (x : Space) → CanFind s n x → (b' : BookModel) → PointStep s.book n x b' → Reaches s.book b'
 find_reaches s n x h b' w = one_call s.book b' (Find n x) Found h.shown w

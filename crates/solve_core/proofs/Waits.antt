@@ -3,13 +3,13 @@ use Rattle.std.proofs.Common.{◌≡◌, ◌⊎◌, inl, inr, ℕ, ◌≤◌, Li
 use Rattle.std.specs.Prelude.{slice_get}
 use Rattle.std.specs.List.{Contains}
 use Rattle.std.proofs.lemmas.List.Elements.{All-weaker, All-contains, Contains-append_left, Contains-append_right, Contains-push_cases}
-use Rattle.poly_graph.specs.State.{State}
+use Rattle.cover_model.specs.State.{State}
 use Rattle.poly_graph.specs.ProblemViews.{Parts, problem_of}
-use Rattle.poly_graph.specs.Honest.{not_shown}
-use Rattle.cover_rule.specs.declared.margins.Options.{Options}
-use Rattle.cover_rule.specs.Margins.{loosenings_of}
-use Rattle.cover_rule.specs.Models.{LemmaModel}
-use Rattle.cover_rule.specs.Runs.{AreKept}
+use Rattle.cover_model.specs.Honest.{not_shown}
+use Rattle.cover_data.specs.declared.margins.Options.{Options}
+use Rattle.cover_data.specs.Margins.{loosenings_of}
+use Rattle.cover_data.specs.Models.{LemmaModel}
+use Rattle.cover_data.specs.Runs.{AreKept}
 use Rattle.cover_book.specs.declared.refusal.Kids.{Kids}
 use Rattle.cover_book.specs.declared.refusal.Kids.TheVariants as kids
 use Rattle.cover_book.specs.Model.{LearnedLemma, BookModel, problem_in, margins_of, loosenings_in, lemma_states_in}

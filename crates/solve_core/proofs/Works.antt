@@ -3,18 +3,18 @@ use Rattle.std.proofs.Common.{◌≡◌, ℕ, List, Bool, true, false, not, ◌&
 use Rattle.std.specs.Prelude.{IsSome}
 use Rattle.poly_graph.specs.Problem.{Problem}
 use Rattle.poly_graph.specs.ProblemViews.{Parts, problem_of}
-use Rattle.poly_graph.specs.Space.{Space}
-use Rattle.poly_graph.specs.State.{State, Loosenings, may, sure}
-use Rattle.poly_graph.specs.Rules.{Line, pull, unit, ban, void, make_false, by, cut, flip, case, open_line, stuck}
-use Rattle.poly_graph.specs.Honest.{middle, not_shown}
-use Rattle.cover_rule.specs.declared.kept.KeptPatch.{KeptPatch}
-use Rattle.cover_rule.specs.declared.step.End.{End}
-use Rattle.cover_rule.specs.declared.margins.Margins.{Margins}
-use Rattle.cover_rule.specs.declared.margins.Options.{Options}
-use Rattle.cover_rule.specs.Margins.{loosenings_of}
-use Rattle.cover_rule.specs.Models.{LemmaModel, KeptModel}
-use Rattle.cover_rule.specs.Views.{kept_of, end_of}
-use Rattle.cover_rule.specs.Runs.{IsRun, is_closing, closes}
+use Rattle.interval_model.specs.Space.{Space, middle}
+use Rattle.cover_model.specs.State.{State, Loosenings, may, sure}
+use Rattle.cover_model.specs.Rules.{Line, pull, unit, ban, void, make_false, by, cut, flip, case, open_line, stuck}
+use Rattle.cover_model.specs.Honest.{not_shown}
+use Rattle.cover_data.specs.declared.kept.KeptPatch.{KeptPatch}
+use Rattle.cover_data.specs.declared.step.End.{End}
+use Rattle.cover_data.specs.declared.margins.Margins.{Margins}
+use Rattle.cover_data.specs.declared.margins.Options.{Options}
+use Rattle.cover_data.specs.Margins.{loosenings_of}
+use Rattle.cover_data.specs.Models.{LemmaModel, KeptModel}
+use Rattle.cover_data.specs.Views.{kept_of, end_of}
+use Rattle.cover_data.specs.Runs.{IsRun, is_closing, closes}
 use Rattle.cover_book.specs.Model.{BookModel, problem_in, margins_of, loosenings_in, lemma_states_in}
 use Rattle.cover_book.specs.Steps.{is_branch, ends_in_branch}
 use Rattle.box_worker.specs.declared.worked.Worked.{Worked}

@@ -1,7 +1,7 @@
 -- What a search leaves live.
 use Rattle.std.specs.Prelude.{◌≡◌, ◌≤◌, ℕ, None, IsTrue}
-use Rattle.poly_graph.specs.State.{State}
-use Rattle.poly_graph.specs.Honest.{not_shown}
+use Rattle.cover_model.specs.State.{State}
+use Rattle.cover_model.specs.Honest.{not_shown}
 use Rattle.cover_book.specs.Model.{BookModel, problem_in, loosenings_in}
 use Rattle.cover_book.specs.Steps.{IsLive}
 

@@ -1,4 +1,3 @@
 pub mod Reaches
 pub mod Left
 pub mod Search
-pub mod Tried

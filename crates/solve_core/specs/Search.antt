@@ -1,14 +1,14 @@
 -- A search on its way, and what may be asked of it.
 use Rattle.std.specs.Prelude.{◌≡◌, ◌⊎◌, ◌+◌, ◌*◌, ◌-◌, ℕ, List, [], ◌∷◌, ◌++◌, length, None, IsTrue, IsSome}
 use Rattle.std.specs.List.{Contains}
-use Rattle.poly_graph.specs.State.{State}
-use Rattle.poly_graph.specs.Space.{Space}
-use Rattle.poly_graph.specs.Honest.{not_shown}
-use Rattle.poly_graph.specs.Fits.{IsShownAt}
-use Rattle.cover_rule.specs.declared.kept.KeptPatch.{KeptPatch}
-use Rattle.cover_rule.specs.Models.{LemmaModel, KeptModel}
-use Rattle.cover_rule.specs.Views.{kept_of}
-use Rattle.cover_rule.specs.Runs.{AreKept, IsRun, IsClosed}
+use Rattle.cover_model.specs.State.{State}
+use Rattle.interval_model.specs.Space.{Space}
+use Rattle.cover_model.specs.Honest.{not_shown}
+use Rattle.cover_model.specs.Fits.{IsShownAt}
+use Rattle.cover_data.specs.declared.kept.KeptPatch.{KeptPatch}
+use Rattle.cover_data.specs.Models.{LemmaModel, KeptModel}
+use Rattle.cover_data.specs.Views.{kept_of}
+use Rattle.cover_data.specs.Runs.{AreKept, IsRun, IsClosed}
 use Rattle.cover_book.specs.Model.{BookModel, problem_in, margins_of, loosenings_in, lemma_states_in}
 use Rattle.cover_book.specs.Steps.{IsLive, ends_in_branch}
 use Rattle.box_worker.specs.Worked.{AreLemmasFor}

@@ -1,6 +1,6 @@
-// Who is told of the work on boxes.
+// Who learns of the work on boxes.
 
-/// Is told when a worker begins and ends its work on a node of the cover. Nothing depends on it.
+/// Called when a worker begins and ends its work on a node of the cover. Nothing depends on it.
 pub trait Gate {
     fn began(&self, worker: u32, node: u32);
 

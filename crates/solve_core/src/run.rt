@@ -11,13 +11,14 @@ ghost use Rattle.solve_core.specs.Left.{LeavesDue};
 use crate::gate::Gate;
 use crate::search::Search;
 use cover_book::Book;
-use cover_rule::Options;
+use cover_data::Options;
 use poly_graph::Problem;
 use std::alloc::{AllocError, Global};
 
 /// Searches for a point of the problem, or for a cover of its declared box: from the opening book on, node by node,
 /// the lower part of a box before the upper one, until a point is kept, no node is live, or the budget is used up
-/// and nothing but a branch is left to be done at each live node. The gate is told of the work on each node.
+/// and nothing but a branch is left to be done at each live node. The gate is called before and after the work on
+/// each node.
 pub fn solve<G: Gate>(
     alloc: Global,
     problem: &Problem,

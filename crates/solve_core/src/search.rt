@@ -1,14 +1,14 @@
 // A search on its way.
 ghost use Rattle.std.specs.Prelude.{◌≡◌, ◌≢◌, ◌∷◌, [], ◌++◌, ◌≤◌, ℕ, drop, OnOk, IfOk, IfSome, IsNone, None};
 ghost use Rattle.cover_book.specs.Limits.{IsWithinLimits};
-ghost use Rattle.cover_rule.specs.Views.{kept_of};
+ghost use Rattle.cover_data.specs.Views.{kept_of};
 ghost use Rattle.cover_book.specs.Model.{opening};
 ghost use Rattle.solve_core.specs.Reaches.{Reaches};
 ghost use Rattle.solve_core.specs.Search.{IsSearch, CanFind, CanCommit, CanLearn, CanHand, IsOver, work_left};
 
 use box_worker::{Worked, work_on};
 use cover_book::{Book, BookRefusal, Kids};
-use cover_rule::{ClosedPatch, KeptPatch, Lemma, Options, Point};
+use cover_data::{ClosedPatch, KeptPatch, Lemma, Options, Point};
 use poly_graph::{FormNode, Problem};
 use std::alloc::{AllocError, Global};
 
@@ -25,7 +25,7 @@ pub struct Search {
     pub learns: bool,
 }
 
-// Whether the form has a disjunction. Without one boxes are parted by cuts and by Bool values alone, so no two of them
+// Whether the form has a disjunction. Without one boxes are split by cuts and by Bool values alone, so no two of them
 // meet but at their ends, and what closed one of them closes no other.
 fn has_choice(problem: &Problem) -> bool {
     let forms = problem.forms();
@@ -37,7 +37,7 @@ fn has_choice(problem: &Problem) -> bool {
     false
 }
 
-// What is refused for want of memory ends the search; any other refusal is let be.
+// A refusal out of memory ends the search; any other refusal leaves it as it is.
 fn unless_memory(refusal: BookRefusal) -> Result<(), AllocError>
     ensures { OnOk result (refusal ≢ BookRefusal.Memory) }
 {

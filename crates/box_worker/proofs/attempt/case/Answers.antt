@@ -1,4 +1,4 @@
-use Rattle.poly_graph.specs.Rules.{case}
+use Rattle.cover_model.specs.Rules.{case}
 use Rattle.cover_rule.specs.Refusals.{case_refusal, ended_with}
 use Rattle.box_worker.proofs.attempt.case.Goals as goal
 

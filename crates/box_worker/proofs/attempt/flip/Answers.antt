@@ -1,4 +1,4 @@
-use Rattle.poly_graph.specs.Rules.{flip}
+use Rattle.cover_model.specs.Rules.{flip}
 use Rattle.cover_rule.specs.Refusals.{ended_with, flip_refusal}
 use Rattle.box_worker.proofs.attempt.flip.Goals as goal
 

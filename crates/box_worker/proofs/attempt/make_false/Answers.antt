@@ -1,4 +1,4 @@
-use Rattle.poly_graph.specs.Rules.{make_false}
+use Rattle.cover_model.specs.Rules.{make_false}
 use Rattle.cover_rule.specs.Refusals.{ended_with, false_refusal}
 use Rattle.box_worker.proofs.attempt.make_false.Goals as goal
 

@@ -1,4 +1,4 @@
-use Rattle.poly_graph.specs.Rules.{stuck}
+use Rattle.cover_model.specs.Rules.{stuck}
 use Rattle.cover_rule.specs.Refusals.{ended_with, stuck_refusal}
 use Rattle.box_worker.proofs.attempt.stuck.Goals as goal
 

@@ -1,4 +1,4 @@
-use Rattle.poly_graph.specs.Rules.{void}
+use Rattle.cover_model.specs.Rules.{void}
 use Rattle.cover_rule.specs.Refusals.{ended_with, void_refusal}
 use Rattle.box_worker.proofs.attempt.void.Goals as goal
 

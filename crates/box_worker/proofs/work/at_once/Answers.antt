@@ -1,12 +1,13 @@
 use Rattle.std.proofs.Common.{◌≡◌, ◌∙◌, ap, sym, subst, false, length, get_or, IsTrue}
 use Rattle.std.proofs.lemmas.List.Elements.{All-contains}
 use Rattle.poly_graph.specs.ProblemViews.{Parts, problem_of}
-use Rattle.poly_graph.specs.Rules.{make_false}
-use Rattle.poly_graph.specs.State.{State, IsLemma, covers}
-use Rattle.poly_graph.specs.Fits.{FitsProblem}
-use Rattle.cover_rule.specs.declared.margins.Margins.{Margins}
-use Rattle.cover_rule.specs.Margins.{loosenings_of}
-use Rattle.cover_rule.specs.Models.{LemmaModel, PatchModel}
+use Rattle.cover_model.specs.Rules.{make_false}
+use Rattle.cover_model.specs.State.{State, IsLemma, covers}
+use Rattle.cover_model.specs.Fits.{FitsProblem}
+use Rattle.cover_data.specs.declared.margins.Margins.{Margins}
+use Rattle.cover_data.specs.Margins.{loosenings_of}
+use Rattle.cover_data.specs.Models.{LemmaModel}
+use Rattle.cover_rule.specs.Models.{PatchModel}
 use Rattle.cover_rule.specs.Refusals.{false_refusal, by_refusal, covered_by, ended_with}
 use Rattle.cover_rule.proofs.Axes.{fits_length}
 use Rattle.box_worker.specs.Attempts.{Attempts}

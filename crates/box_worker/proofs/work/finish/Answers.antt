@@ -1,11 +1,12 @@
 use Rattle.std.proofs.Common.{◌≡◌, ◌∙◌, ap, sym, subst, false, true, not, IsTrue}
 use Rattle.poly_graph.specs.ProblemViews.{Parts, problem_of}
 use Rattle.poly_graph.specs.Problem.{IsProblem}
-use Rattle.poly_graph.specs.Rules.{make_false}
-use Rattle.poly_graph.specs.State.{may, sure}
-use Rattle.poly_graph.specs.Honest.{middle, conjuncts, none_empty}
-use Rattle.cover_rule.specs.declared.margins.Margins.{Margins}
-use Rattle.cover_rule.specs.Margins.{loosenings_of}
+use Rattle.cover_model.specs.Rules.{make_false}
+use Rattle.cover_model.specs.State.{may, sure}
+use Rattle.interval_model.specs.Space.{middle}
+use Rattle.cover_model.specs.Honest.{conjuncts, none_empty}
+use Rattle.cover_data.specs.declared.margins.Margins.{Margins}
+use Rattle.cover_data.specs.Margins.{loosenings_of}
 use Rattle.cover_rule.specs.Models.{PatchModel}
 use Rattle.cover_rule.specs.Refusals.{false_refusal, ended_with}
 use Rattle.box_worker.specs.Attempts.{Attempts, all_decided}
@@ -26,8 +27,8 @@ part-requires-clause-due c =
     let v : V ≡ M = e ∙ y ∙ a.1 in
     let prV : V.problem ≡ p = ap (λ (X : PatchModel). X.problem) v ∙ pr in
     let mgV : V.margins ≡ c.args.margins.now = ap (λ (X : PatchModel). X.margins) v ∙ mg in
-    is_due V (subst (λ (r : Parts). IsProblem (problem_of r)) (sym prV) c.axes.ensures.whole.problem)
-    c.reached.ensures.run.sound.reached.marks
+    is_due V (subst (λ (r : Parts). IsProblem (problem_of r)) (sym prV) c.problem_is_whole.ensures.problem)
+    c.run_is_lawful.ensures.sound.reached.marks
     (ap (λ (X : PatchModel). X.kept.end) v ∙ open_end)
     (subst (λ (X : PatchModel). may (problem_of X.problem) (loosenings_of X.margins) X.kept.reached ≡ true) (sym v) (may_hold M (ended_with M make_false) F open_end a))
     (subst (λ (r : Parts). all_decided V.kept.reached (conjuncts (problem_of r).form) ≡ true) (sym prV)

@@ -1,10 +1,11 @@
 use Rattle.std.proofs.Common.{◌≡◌, ◌∙◌, ap, sym, subst, IsTrue}
-use Rattle.dyadic.specs.Space.{Space}
+use Rattle.interval_model.specs.Space.{Space, space_within}
 use Rattle.dyadic.proofs.Equal.{both_true}
-use Rattle.poly_graph.specs.Problem.{root_space}
+use Rattle.cover_model.specs.Root.{root_space}
 use Rattle.poly_graph.specs.ProblemViews.{problem_of}
-use Rattle.poly_graph.specs.State.{State, space_within, marks_within}
-use Rattle.poly_graph.proofs.Within.{space_through}
+use Rattle.cover_model.specs.State.{State}
+use Rattle.poly_graph.specs.Marks.{marks_within}
+use Rattle.cover_model.proofs.Within.{space_through}
 use Rattle.ival.specs.SpaceViews.{space_of}
 use Rattle.box_worker.proofs.work.middle_point.Goals as goal
 

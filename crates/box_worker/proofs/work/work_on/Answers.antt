@@ -1,7 +1,8 @@
 use Rattle.std.proofs.Common.{◌≡◌, ◌∙◌, ap, sym, subst, Some, None}
 use Rattle.poly_graph.specs.ProblemViews.{problem_of}
-use Rattle.cover_rule.specs.Margins.{loosenings_of}
-use Rattle.cover_rule.specs.Models.{KeptModel, PatchModel}
+use Rattle.cover_data.specs.Margins.{loosenings_of}
+use Rattle.cover_data.specs.Models.{KeptModel}
+use Rattle.cover_rule.specs.Models.{PatchModel}
 use Rattle.box_worker.specs.Attempts.{AreAmong}
 use Rattle.box_worker.specs.Ended.{AtOnce}
 use Rattle.box_worker.specs.Worked.{margins_of, AnswersAtOnce, IsWork, WorkOf}

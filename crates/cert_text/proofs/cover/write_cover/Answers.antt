@@ -2,7 +2,7 @@ use Rattle.std.proofs.Common.{ℕ, ◌≤◌, List, map, length, refl, subst, ar
 use Rattle.cover_book.specs.Model.{NodeModel}
 use Rattle.cover_book.specs.Views.{node_of}
 use Rattle.cert_model.specs.Accepted.{most_bytes}
-use Rattle.cert_text.specs.Parts.{AppendsCover}
+use Rattle.cert_text.specs.Parts.{HasAppendedCover}
 use Rattle.cert_text.proofs.Wholes.{marks_few, crossing_counts, written_round, certificate}
 use Rattle.cert_text.proofs.cover.write_cover.Goals as goal
 
@@ -20,4 +20,4 @@ returns c =
     (written_round c.args.book.now c.options.result.now c.lemmas-lemmas.result.now (length c.lemmas-lemmas.result.now) c.new-text.result.items c.append_header.new.text.items c.append_counted.new.text.items c.append_lemmas.new.text.items
     c.append_plain.new.text.items c.append_cover.new.text.items text c.new-text.ensures.items c.options.ensures.options c.lemmas-lemmas.ensures.lemmas refl
     c.in_ok-append_header.ensures c.in_ok-append_counted.ensures c.in_ok-append_lemmas.ensures c.in_ok-append_plain.ensures c.in_ok-append_plain-2.ensures short)
-    (subst (λ (xs : List NodeModel). AppendsCover c.append_plain.new.text.items xs c.append_cover.new.text.items) c.nodes.ensures.nodes c.in_ok-append_cover.ensures)
+    (subst (λ (xs : List NodeModel). HasAppendedCover c.append_plain.new.text.items xs c.append_cover.new.text.items) c.nodes.ensures.nodes c.in_ok-append_cover.ensures)

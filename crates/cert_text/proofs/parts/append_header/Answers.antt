@@ -1,5 +1,5 @@
 use Rattle.std.proofs.lemmas.Result.{on_ok_weaker}
-use Rattle.cover_rule.specs.Margins.{loosenings_of}
+use Rattle.cover_data.specs.Margins.{loosenings_of}
 use Rattle.cover_book.specs.Model.{margins_of}
 use Rattle.cert_text.proofs.Items.{header_appended}
 use Rattle.cert_text.proofs.parts.append_header.Goals as goal

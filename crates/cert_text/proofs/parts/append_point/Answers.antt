@@ -3,7 +3,7 @@ use Rattle.ival.specs.declared.domain.Domain.{Domain}
 use Rattle.ival.specs.SpaceViews.{domain_of}
 use Rattle.cert_read.specs.CertLine.{CertLine}
 use Rattle.cert_model.specs.Written.{point_line}
-use Rattle.cert_text.specs.Lines.{Appends}
+use Rattle.cert_text.specs.Lines.{HasAppended}
 use Rattle.cert_text.proofs.Items.{item_appended, items_appended, map_twice}
 use Rattle.cert_text.proofs.parts.append_point.Goals as goal
 
@@ -19,5 +19,5 @@ pub returns : goal.returns
 returns c =
     let xs : List Domain = c.args.point.now.axes.items in
     let same : c.deref-domain-items.result.now ≡ xs = c.deref-domain-items.ensures.value in
-    subst (λ (ls : List CertLine). Appends c.args.text.now.items ls c.loop-domain.text.items) (map_twice point_line domain_of xs)
+    subst (λ (ls : List CertLine). HasAppended c.args.text.now.items ls c.loop-domain.text.items) (map_twice point_line domain_of xs)
     (items_appended (λ (d : Domain). point_line (domain_of d)) xs c.args.text.now.items c.loop-domain.text.items c.loop-domain.domain-index (omega (arith, c.loop-domain-test.false, ap length same)) c.loop-domain.invariant)

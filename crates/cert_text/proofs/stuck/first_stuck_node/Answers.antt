@@ -1,9 +1,9 @@
 use Rattle.std.proofs.Common.{◌≡◌, ℕ, ◌+◌, List, [], ◌∷◌, ◌++◌, map, refl, ap, sym, ◌∙◌, subst, arith}
 use Rattle.std.proofs.lemmas.List.{length-map}
-use Rattle.poly_graph.specs.Rules.{stuck}
+use Rattle.cover_model.specs.Rules.{stuck}
 use Rattle.cover_book.specs.Model.{NodeModel}
 use Rattle.cover_book.specs.Views.{node_of}
-use Rattle.cert_text.specs.Parts.{TakesNext}
+use Rattle.cert_text.specs.Parts.{IsNextTaken}
 use Rattle.cert_text.proofs.Searched.{Searched, first_searched, node_searched, nothing_searched, all_searched, stuck_reached, some_stuck}
 use Rattle.cert_text.proofs.stuck.first_stuck_node.Goals as goal
 
@@ -24,7 +24,7 @@ returns-in-Some-stuck_box c =
       some = some_stuck nodes c.loop-taken.waiting.items c.take_next.new.waiting.items (node_of c.in-Some.node.now) is.0 (stuck c.in-Some-stuck_box.found.atom) c.in-Some-stuck_box.found.state.now c.in-Some.ensures is.1;
       first = λ t ns xs w h.
           stuck_reached nodes c.loop-taken.waiting.items c.take_next.new.waiting.items c.loop-taken._taken xs is.0 c.in-Some-stuck_box.found.atom c.in-Some-stuck_box.found.state.now (c.loop-taken.invariant t ns xs w h)
-          (subst (TakesNext nodes c.loop-taken.waiting.items c.take_next.new.waiting.items) is.1 c.in-Some.ensures);
+          (subst (IsNextTaken nodes c.loop-taken.waiting.items c.take_next.new.waiting.items) is.1 c.in-Some.ensures);
     }
 
 pub loop-taken-preserved : goal.loop-taken-preserved

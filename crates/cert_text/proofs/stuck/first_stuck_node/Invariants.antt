@@ -1,5 +1,5 @@
 use Rattle.std.proofs.Common.{ℕ, ◌≤◌, List, length, map}
-use Rattle.poly_graph.specs.Derivation.{Tree}
+use Rattle.cover_model.specs.Derivation.{Tree}
 use Rattle.cert_model.specs.Due.{Standing}
 use Rattle.cover_book.specs.Tree.{TreeOf}
 use Rattle.cover_book.specs.Views.{node_of}

@@ -1,7 +1,7 @@
 use Rattle.std.proofs.Common.{List, map, ap, ◌∙◌}
-use Rattle.poly_graph.specs.Rules.{Line}
-use Rattle.cover_rule.specs.declared.step.End.{End}
-use Rattle.cover_rule.specs.Views.{step_line, end_line}
+use Rattle.cover_model.specs.Rules.{Line}
+use Rattle.cover_data.specs.declared.step.End.{End}
+use Rattle.cover_data.specs.Views.{step_line, end_line}
 use Rattle.cover_book.specs.Model.{stuck_node}
 use Rattle.cover_book.specs.Views.{node_of}
 use Rattle.cert_text.proofs.stuck.stuck_box.Goals as goal

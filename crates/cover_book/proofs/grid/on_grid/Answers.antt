@@ -1,5 +1,5 @@
 use Rattle.std.proofs.Common.{subst}
-use Rattle.poly_graph.specs.Space.{IsGridSpace}
+use Rattle.cover_model.specs.Space.{IsGridSpace}
 use Rattle.cover_book.proofs.Grids.{domains_kept}
 use Rattle.cover_book.proofs.grid.on_grid.Goals as goal
 

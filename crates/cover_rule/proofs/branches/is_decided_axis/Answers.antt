@@ -1,5 +1,5 @@
 use Rattle.std.proofs.Common.{◌∙◌, get_or, ap, sym}
-use Rattle.dyadic.specs.Space.{Space}
+use Rattle.interval_model.specs.Space.{Space}
 use Rattle.cover_rule.specs.Refusals.{is_decided}
 use Rattle.ival.specs.SpaceViews.{domain_of}
 use Rattle.cover_rule.proofs.Axes.{test_is}

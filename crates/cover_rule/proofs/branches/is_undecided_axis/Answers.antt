@@ -1,6 +1,5 @@
 use Rattle.std.proofs.Common.{◌∙◌, get_or, ap, sym}
-use Rattle.dyadic.specs.Space.{Space}
-use Rattle.dyadic.specs.Space.{is_undecided}
+use Rattle.interval_model.specs.Space.{Space, is_undecided}
 use Rattle.ival.specs.SpaceViews.{domain_of}
 use Rattle.cover_rule.proofs.Axes.{test_is}
 use Rattle.cover_rule.proofs.branches.is_undecided_axis.Goals as goal

@@ -1,15 +1,16 @@
 use Rattle.std.proofs.Common.{◌∙◌, ap, ap₂, sym, List, length, Bool, not, ◌&&◌}
-use Rattle.dyadic.specs.Space.{Space}
-use Rattle.poly_graph.specs.Narrowed.{enclosures}
+use Rattle.interval_model.specs.Space.{Space}
+use Rattle.cover_model.specs.Narrowed.{enclosures}
 use Rattle.poly_graph.specs.ProblemViews.{problem_of}
-use Rattle.poly_graph.specs.State.{Mark, may_atom, misses, margin_of}
+use Rattle.poly_graph.specs.Marks.{Mark}
+use Rattle.cover_model.specs.State.{may_atom, misses, margin_of, state_of}
 use Rattle.ival.specs.RowViews.{rows_of}
 use Rattle.ival.specs.SpaceViews.{space_of}
-use Rattle.truth3.specs.Truth.{pruning, state_of}
+use Rattle.truth3.specs.Truth.{pruning}
 use Rattle.truth3.proofs.FormTruth.{test_within}
-use Rattle.cover_rule.specs.Margins.{loosenings_of}
+use Rattle.cover_data.specs.Margins.{loosenings_of}
 use Rattle.cover_rule.proofs.Axes.{has_rows}
-use Rattle.cover_rule.proofs.Withins.{not_no}
+use Rattle.cover_data.proofs.Withins.{not_no}
 use Rattle.cover_rule.proofs.branches.meets_range.Goals as goal
 
 pub may_atom-requires-clause-rows : goal.may_atom-requires-clause-rows

@@ -1,5 +1,5 @@
 use Rattle.std.proofs.Common.{◌≡◌, ◌<◌, ℕ, ◌∙◌, ap, ap₂, sym, subst, arith, length, set}
-use Rattle.dyadic.specs.Space.{Domain, Space}
+use Rattle.interval_model.specs.Space.{Domain, Space}
 use Rattle.ival.specs.SpaceViews.{domain_of, space_of}
 use Rattle.cover_rule.proofs.Axes.{blend, blend_next, blend_end, length_blend}
 use Rattle.cover_rule.proofs.narrowing.copy_space.Goals as goal

@@ -1,7 +1,7 @@
 use Rattle.std.proofs.Common.{◌∙◌, ap, sym, length}
 use Rattle.poly_graph.specs.ProblemViews.{problem_of}
 use Rattle.ival.specs.SpaceViews.{space_of}
-use Rattle.cover_rule.specs.Margins.{loosenings_of}
+use Rattle.cover_data.specs.Margins.{loosenings_of}
 use Rattle.cover_rule.proofs.Narrowings.{within_length, narrowing_within}
 use Rattle.cover_rule.proofs.narrowing.leaves_nothing.Goals as goal
 

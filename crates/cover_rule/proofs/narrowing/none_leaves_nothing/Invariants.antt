@@ -1,7 +1,7 @@
 use Rattle.std.proofs.Common.{◌≡◌, drop}
 use Rattle.poly_graph.specs.ProblemViews.{problem_of}
-use Rattle.poly_graph.specs.Honest.{none_empty, none_empty_from}
-use Rattle.cover_rule.specs.Margins.{loosenings_of}
+use Rattle.cover_model.specs.Honest.{none_empty, none_empty_from}
+use Rattle.cover_data.specs.Margins.{loosenings_of}
 use Rattle.cover_rule.specs.Serves.{IsReady}
 use Rattle.cover_rule.proofs.narrowing.none_leaves_nothing.Given as goal
 

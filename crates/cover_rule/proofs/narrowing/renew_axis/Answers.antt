@@ -1,9 +1,9 @@
 use Rattle.std.proofs.Common.{◌≡◌, ◌∙◌, List, ap, sym, subst, set, get_or}
 use Rattle.std.proofs.lemmas.List.{set-get_or}
-use Rattle.dyadic.specs.Space.{Space, axis_interval}
+use Rattle.interval_model.specs.Space.{Space, axis_interval}
 use Rattle.poly_graph.specs.Term.{Node}
-use Rattle.poly_graph.specs.Narrowed.{enclosures}
-use Rattle.poly_graph.specs.State.{State, with_space}
+use Rattle.cover_model.specs.Narrowed.{enclosures}
+use Rattle.cover_model.specs.State.{State, with_space}
 use Rattle.ival.specs.RowViews.{rows_of}
 use Rattle.ival.specs.SpaceViews.{space_of, domain_of}
 use Rattle.cover_rule.proofs.Axes.{same_but}

@@ -1,5 +1,5 @@
 use Rattle.std.proofs.Common.{◌<◌, ◌+◌, ◌∙◌, length, drop, ap, sym, arith, Bool, ◌&&◌}
-use Rattle.poly_graph.specs.Honest.{is_small, is_small_domain}
+use Rattle.cover_model.specs.Honest.{is_small, is_small_domain}
 use Rattle.ival.specs.SpaceViews.{space_of, domain_of}
 use Rattle.cover_rule.proofs.Sides.{small_step}
 use Rattle.cover_rule.proofs.small.is_small.Goals as goal

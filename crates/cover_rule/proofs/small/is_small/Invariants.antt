@@ -1,5 +1,5 @@
 use Rattle.std.proofs.Common.{◌≡◌, drop}
-use Rattle.poly_graph.specs.Honest.{is_small}
+use Rattle.cover_model.specs.Honest.{is_small}
 use Rattle.ival.specs.SpaceViews.{space_of}
 use Rattle.cover_rule.proofs.small.is_small.Given as goal
 

@@ -1,6 +1,6 @@
 use Rattle.std.proofs.Common.{◌∙◌, List, ap}
-use Rattle.poly_graph.specs.State.{Mark, marked_yes, unmarked, State, with_mark}
-use Rattle.truth3.specs.Truth.{state_of}
+use Rattle.poly_graph.specs.Marks.{Mark, marked_yes, unmarked}
+use Rattle.cover_model.specs.State.{State, with_mark, state_of}
 use Rattle.cover_rule.proofs.RunSteps.{mark_taken_back}
 use Rattle.cover_rule.proofs.steps.covers_with.Goals as goal
 

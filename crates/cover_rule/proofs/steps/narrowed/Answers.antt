@@ -1,9 +1,9 @@
 use Rattle.std.proofs.Common.{sym, subst, Option}
-use Rattle.dyadic.specs.Space.{Space}
-use Rattle.poly_graph.specs.Fits.{FitsAxes}
+use Rattle.interval_model.specs.Space.{Space}
+use Rattle.cover_model.specs.Fits.{FitsAxes}
 use Rattle.poly_graph.specs.ProblemViews.{problem_of}
 use Rattle.ival.specs.SpaceViews.{space_of}
-use Rattle.cover_rule.specs.Margins.{loosenings_of}
+use Rattle.cover_data.specs.Margins.{loosenings_of}
 use Rattle.cover_rule.specs.Patch.{space_or}
 use Rattle.cover_rule.proofs.Narrowings.{within_length, narrowing_within}
 use Rattle.cover_rule.proofs.Helds.{code_fits}

@@ -1,9 +1,9 @@
 use Rattle.std.proofs.Common.{◌≡◌, ◌∙◌, List, ap, sym, Bool, true, false, ◌&&◌}
 use Rattle.poly_graph.specs.ProblemViews.{problem_of}
-use Rattle.poly_graph.specs.State.{Mark}
-use Rattle.poly_graph.specs.Honest.{all_in_yes, conjuncts, none_empty}
-use Rattle.truth3.specs.Truth.{state_of}
-use Rattle.cover_rule.specs.Margins.{loosenings_of}
+use Rattle.poly_graph.specs.Marks.{Mark}
+use Rattle.cover_model.specs.Honest.{all_in_yes, conjuncts, none_empty}
+use Rattle.cover_model.specs.State.{state_of}
+use Rattle.cover_data.specs.Margins.{loosenings_of}
 use Rattle.cover_rule.proofs.stuck.is_settled.Goals as goal
 
 pub returns-then-conjuncts_in_yes-clause-settled : goal.returns-then-conjuncts_in_yes-clause-settled

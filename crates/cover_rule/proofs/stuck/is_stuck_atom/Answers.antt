@@ -1,6 +1,6 @@
 use Rattle.std.proofs.Common.{◌∙◌, ap, sym}
-use Rattle.dyadic.specs.Space.{Space}
-use Rattle.poly_graph.specs.Narrowed.{enclosures}
+use Rattle.interval_model.specs.Space.{Space}
+use Rattle.cover_model.specs.Narrowed.{enclosures}
 use Rattle.ival.specs.RowViews.{rows_of}
 use Rattle.ival.specs.SpaceViews.{space_of}
 use Rattle.cover_rule.proofs.Axes.{has_rows}

@@ -1,6 +1,6 @@
 use Rattle.std.proofs.Common.{◌∙◌, sym, arith}
 use Rattle.poly_graph.specs.ProblemViews.{problem_of}
-use Rattle.cover_rule.specs.Margins.{loosenings_of}
+use Rattle.cover_data.specs.Margins.{loosenings_of}
 use Rattle.cover_rule.proofs.Sides.{below_step}
 use Rattle.cover_rule.proofs.stuck.none_stuck_below.Goals as goal
 

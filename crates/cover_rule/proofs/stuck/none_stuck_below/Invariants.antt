@@ -1,7 +1,7 @@
 use Rattle.std.proofs.Common.{◌≡◌, ◌≤◌}
 use Rattle.poly_graph.specs.ProblemViews.{problem_of}
-use Rattle.poly_graph.specs.Honest.{none_below}
-use Rattle.cover_rule.specs.Margins.{loosenings_of}
+use Rattle.cover_model.specs.Honest.{none_below}
+use Rattle.cover_data.specs.Margins.{loosenings_of}
 use Rattle.cover_rule.proofs.stuck.none_stuck_below.Given as goal
 
 -- the atoms that are left decide

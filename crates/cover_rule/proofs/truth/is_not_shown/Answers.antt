@@ -1,6 +1,6 @@
 use Rattle.std.proofs.Common.{◌∙◌, ap, sym, length}
 use Rattle.std.proofs.lemmas.List.{length-map}
-use Rattle.dyadic.specs.Space.{middle_domain}
+use Rattle.interval_model.specs.Space.{middle_domain}
 use Rattle.ival.specs.RowViews.{rows_of}
 use Rattle.poly_graph.specs.ProblemViews.{problem_of}
 use Rattle.cover_rule.proofs.Axes.{fits_length, length_enclosures}

@@ -1,6 +1,6 @@
 use Rattle.std.proofs.Common.{List, ◌∙◌, ap}
 use Rattle.poly_graph.specs.Term.{Node}
-use Rattle.poly_graph.specs.Narrowed.{enclosures}
+use Rattle.cover_model.specs.Narrowed.{enclosures}
 use Rattle.ival.specs.RowViews.{rows_of}
 use Rattle.ival.specs.SpaceViews.{space_of}
 use Rattle.cover_rule.proofs.Axes.{has_rows}

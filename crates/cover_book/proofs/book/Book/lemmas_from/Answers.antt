@@ -1,8 +1,8 @@
 -- The copies so far, with those to come, are the lemmas from a place on.
 use Rattle.std.proofs.Common.{◌≡◌, ℕ, ◌+◌, ◌<◌, ◌≤◌, List, [], ◌∷◌, ◌++◌, map, drop, length, min, get_or, refl, ap, sym, ◌∙◌, append_assoc, append-nil, arith}
-use Rattle.cover_rule.specs.Models.{LemmaModel}
+use Rattle.cover_data.specs.Models.{LemmaModel}
 use Rattle.std.proofs.Math.ListN.{drop_of_length-le}
-use Rattle.poly_graph.specs.State.{State}
+use Rattle.cover_model.specs.State.{State}
 use Rattle.cover_book.specs.declared.node.Learned.{Learned}
 use Rattle.cover_book.specs.Model.{BookModel, numbered_from, numbered}
 use Rattle.cover_book.specs.Views.{learned_of}

@@ -2,7 +2,7 @@
 use Rattle.std.proofs.Common.{◌≡◌, List, [], ◌∷◌, ◌++◌, map, ap, sym, ◌∙◌, subst, None}
 use Rattle.poly_graph.specs.Problem.{first_crossed}
 use Rattle.poly_graph.specs.ProblemViews.{problem_of, IsWhole}
-use Rattle.poly_graph.specs.State.{root_state}
+use Rattle.cover_model.specs.State.{root_state}
 use Rattle.cover_book.specs.Model.{LearnedLemma, NodeModel, first_node}
 use Rattle.cover_book.specs.Views.{node_of, learned_of}
 use Rattle.cover_book.specs.Keeps.{IsBook}

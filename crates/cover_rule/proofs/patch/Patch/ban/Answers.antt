@@ -1,15 +1,15 @@
 use Rattle.std.proofs.Common.{◌≡◌, sym, subst, arith, None}
 use Rattle.poly_graph.specs.ProblemViews.{problem_of}
-use Rattle.poly_graph.specs.Fits.{FitsProblem}
-use Rattle.poly_graph.specs.State.{IsLemma}
-use Rattle.cover_rule.specs.Margins.{loosenings_of}
+use Rattle.cover_model.specs.Fits.{FitsProblem}
+use Rattle.cover_model.specs.State.{IsLemma}
+use Rattle.cover_data.specs.Margins.{loosenings_of}
 use Rattle.cover_rule.specs.Models.{PatchModel}
-use Rattle.cover_rule.specs.Patch.{with_kept}
+use Rattle.cover_rule.specs.Patch.{IsRunOf, with_kept}
 use Rattle.cover_rule.specs.Refusals.{ban_refusal, banned, banned_by}
-use Rattle.cover_rule.specs.Views.{kept_of}
+use Rattle.cover_data.specs.Views.{kept_of}
 use Rattle.cover_rule.specs.Held.{patch_of}
 use Rattle.cover_rule.proofs.Axes.{fits_length}
-use Rattle.cover_rule.proofs.Helds.{IsRunOf, run_after, any_ok, answers_lift, held_with, still_ready, run_banned}
+use Rattle.cover_rule.proofs.Helds.{run_after, any_ok, answers_lift, held_with, still_ready, run_banned}
 use Rattle.cover_rule.proofs.patch.Patch.ban.Goals as goal
 
 pub ban-requires-clause-axes : goal.ban-requires-clause-axes

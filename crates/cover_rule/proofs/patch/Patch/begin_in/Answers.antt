@@ -1,11 +1,11 @@
 use Rattle.std.proofs.Common.{◌∙◌, List, ap, ap₂, sym, subst, length}
-use Rattle.dyadic.specs.Space.{Space}
+use Rattle.interval_model.specs.Space.{Space}
 use Rattle.poly_graph.specs.Term.{Node}
 use Rattle.poly_graph.specs.ProblemViews.{problem_of}
-use Rattle.poly_graph.specs.Narrowed.{enclosures}
-use Rattle.poly_graph.specs.State.{State}
-use Rattle.cover_rule.specs.Models.{KeptModel}
-use Rattle.cover_rule.specs.Runs.{IsRun}
+use Rattle.cover_model.specs.Narrowed.{enclosures}
+use Rattle.cover_model.specs.State.{State}
+use Rattle.cover_data.specs.Models.{KeptModel}
+use Rattle.cover_data.specs.Runs.{IsRun}
 use Rattle.cover_rule.proofs.Axes.{fits_length}
 use Rattle.cover_rule.proofs.RunSteps.{run_begins}
 use Rattle.cover_rule.proofs.patch.Patch.begin_in.Goals as goal

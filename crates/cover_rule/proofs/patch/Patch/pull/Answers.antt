@@ -1,10 +1,10 @@
 use Rattle.std.proofs.Common.{◌≡◌, None}
-use Rattle.poly_graph.specs.Fits.{FitsAxes}
+use Rattle.cover_model.specs.Fits.{FitsAxes}
 use Rattle.cover_rule.specs.Models.{PatchModel}
-use Rattle.cover_rule.specs.Patch.{narrowing_in, now_in, problem_in, space_or}
+use Rattle.cover_rule.specs.Patch.{IsRunOf, narrowing_in, now_in, problem_in, space_or}
 use Rattle.cover_rule.specs.Refusals.{pull_refusal, pulled_by}
 use Rattle.cover_rule.specs.Held.{patch_of}
-use Rattle.cover_rule.proofs.Helds.{IsRunOf, run_after, on_ok, held_with, run_pulled}
+use Rattle.cover_rule.proofs.Helds.{run_after, on_ok, held_with, run_pulled}
 use Rattle.cover_rule.proofs.patch.Patch.pull.Goals as goal
 
 pub invariant_of-self : goal.invariant_of-self

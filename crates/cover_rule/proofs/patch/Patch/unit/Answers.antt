@@ -1,8 +1,9 @@
 use Rattle.std.proofs.Common.{◌≡◌, None}
+use Rattle.cover_rule.specs.Patch.{IsRunOf}
 use Rattle.cover_rule.specs.Models.{PatchModel}
 use Rattle.cover_rule.specs.Refusals.{unit_refusal, forced_by}
 use Rattle.cover_rule.specs.Held.{patch_of}
-use Rattle.cover_rule.proofs.Helds.{IsRunOf, run_after, any_ok, held_with, run_forced}
+use Rattle.cover_rule.proofs.Helds.{run_after, any_ok, held_with, run_forced}
 use Rattle.cover_rule.proofs.patch.Patch.unit.Goals as goal
 
 pub invariant_of-self : goal.invariant_of-self

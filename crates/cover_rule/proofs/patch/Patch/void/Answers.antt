@@ -1,10 +1,11 @@
 use Rattle.std.proofs.Common.{◌≡◌, ap, None}
-use Rattle.poly_graph.specs.State.{State}
-use Rattle.poly_graph.specs.Rules.{void}
+use Rattle.cover_model.specs.State.{State}
+use Rattle.cover_model.specs.Rules.{void}
+use Rattle.cover_rule.specs.Patch.{IsRunOf}
 use Rattle.cover_rule.specs.Models.{PatchModel}
 use Rattle.cover_rule.specs.Refusals.{void_refusal, ended_with}
 use Rattle.cover_rule.specs.Held.{patch_of}
-use Rattle.cover_rule.proofs.Helds.{IsRunOf, run_after, any_ok, held_with, still_ready, run_voided}
+use Rattle.cover_rule.proofs.Helds.{run_after, any_ok, held_with, still_ready, run_voided}
 use Rattle.cover_rule.proofs.patch.Patch.void.Goals as goal
 
 pub invariant_of-self : goal.invariant_of-self

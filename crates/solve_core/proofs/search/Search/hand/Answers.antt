@@ -1,5 +1,5 @@
 use Rattle.std.proofs.Common.{List, [], ◌∷◌, ◌++◌, ap, ◌∙◌}
-use Rattle.cover_rule.specs.Models.{LemmaModel}
+use Rattle.cover_data.specs.Models.{LemmaModel}
 use Rattle.solve_core.proofs.Visits.{handed}
 use Rattle.solve_core.proofs.search.Search.hand.Goals as goal
 

@@ -1,5 +1,5 @@
 use Rattle.std.proofs.Common.{◌≡◌, refl, ap, ◌∙◌, subst, sym}
-use Rattle.cover_rule.specs.Models.{KeptModel}
+use Rattle.cover_data.specs.Models.{KeptModel}
 use Rattle.solve_core.specs.declared.search.Search.{Search}
 use Rattle.solve_core.specs.Reaches.{Reaches, stays}
 use Rattle.solve_core.specs.Search.{CanHand}

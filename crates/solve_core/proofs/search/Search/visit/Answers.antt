@@ -1,9 +1,9 @@
 -- What the work on a node comes to may be kept.
 use Rattle.std.proofs.Common.{inl, subst, sym}
 use Rattle.poly_graph.specs.ProblemViews.{Parts, problem_of}
-use Rattle.poly_graph.specs.Problem.{root_space}
-use Rattle.poly_graph.specs.State.{space_within}
-use Rattle.poly_graph.specs.Fits.{FitsProblem}
+use Rattle.cover_model.specs.Root.{root_space}
+use Rattle.interval_model.specs.Space.{space_within}
+use Rattle.cover_model.specs.Fits.{FitsProblem}
 use Rattle.std.specs.Prelude.{IsTrue}
 use Rattle.cover_book.proofs.Meaning.{nodes_lie_within}
 use Rattle.solve_core.specs.Search.{IsAt}

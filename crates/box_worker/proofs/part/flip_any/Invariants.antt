@@ -1,9 +1,0 @@
-use Rattle.std.proofs.Common.{◌≡◌, ℕ, ◌<◌, false}
-use Rattle.poly_graph.specs.Rules.{is_undecided, test_axis}
-use Rattle.box_worker.proofs.part.flip_any.Given as goal
-
-abbrev pub invariant-loop-axis : goal.invariant-loop-axis
-invariant-loop-axis l = record {
-  same : l.patch ≡ l.initial.patch;
-  none : (i : ℕ) → i < l.axis → test_axis is_undecided i l.initial.patch.kept.reached.space ≡ false;
-}

@@ -1,0 +1,358 @@
+// The contraction of a state before it is split: atoms are marked and pulled. Which ones, in which order and how often
+// is a heuristic that promises nothing; that each step is lawful and honest is what the patch ensures.
+ghost use Rattle.std.specs.Prelude.{◌≡◌, ◌<◌, length, IfOk};
+ghost use Rattle.poly_graph.specs.ProblemViews.{problem_of};
+ghost use Rattle.cover_data.specs.Margins.{AreMargins, loosenings_of};
+ghost use Rattle.box_worker.specs.Worked.{AreLemmasFor};
+ghost use Rattle.cover_rule.specs.Serves.{IsNumbered};
+ghost use Rattle.box_worker.specs.Attempts.{IsOpen};
+
+use crate::fallen::{atom_masks, take_over};
+use crate::needs::{Needs, is_set, look};
+use crate::step::{self, Outcome};
+use cover_rule::{Lemma, Margins, Patch, State};
+use ival::Space;
+use poly_graph::{FormNode, Mark, Problem};
+use std::alloc::{AllocError, Global};
+
+/// At most so many times an atom is pulled at a state.
+const MOST_ROUNDS: u32 = 10;
+
+// What guides the steps: which atoms are due, what they depend on, the space as it was, and the atom by which nothing
+// is left.
+#[derive(Drop)]
+struct Scout {
+    due: Vec<bool, Global>,
+    masks: Vec<u64, Global>,
+    space: Space,
+    void: Option<u32>,
+}
+
+// Atom j is due.
+fn make_due(due: &mut [bool], j: usize) {
+    if j < due.len() {
+        due[j] = true;
+    }
+}
+
+// Whether atom j was due, which it is no more.
+fn take_due(due: &mut [bool], j: usize) -> bool {
+    if j < due.len() && due[j] {
+        due[j] = false;
+        true
+    } else {
+        false
+    }
+}
+
+// Whether some atom is due.
+fn any_due(due: &[bool]) -> bool {
+    for is_due in due {
+        if *is_due {
+            return true;
+        }
+    }
+    false
+}
+
+// Makes the atoms due that depend on an axis of the mask.
+fn make_due_by(due: &mut [bool], masks: &[u64], fell: u64) {
+    for j in 0..due.len() {
+        if j < masks.len() && masks[j] & fell != 0 {
+            due[j] = true;
+        }
+    }
+}
+
+// A scout at the state of the patch, to which all atoms are due.
+fn start(alloc: Global, problem: &Problem, patch: &Patch) -> Result<Scout, AllocError> {
+    let due = vec![in alloc; true; problem.atoms().len()]?;
+    let masks = atom_masks(alloc, problem)?;
+    let space = patch.reached().space().try_clone(alloc)?;
+    Ok(Scout {
+        due,
+        masks,
+        space,
+        void: None,
+    })
+}
+
+// Pulls atom j where it is marked yes, and makes those due that depend on what fell.
+fn pull(
+    problem: &Problem,
+    margins: &Margins,
+    lemmas: &[Lemma],
+    scout: &mut Scout,
+    patch: &mut Patch,
+    j: u32,
+) -> Result<(), AllocError>
+    requires atom { j < length problem.now.atoms }
+    requires open { IsOpen problem.now margins.now lemmas.now patch.old.kept.first patch.old }
+    ensures { IsOpen problem.now margins.now lemmas.now patch.old.kept.first patch.new }
+{
+    match step::pull(patch, j)? {
+        Outcome::Void => {
+            scout.void = Some(j);
+        }
+        Outcome::Done => {
+            let fallen = take_over(&mut scout.space, patch.reached().space());
+            make_due_by(&mut scout.due, &scout.masks, fallen);
+        }
+        Outcome::Idle | Outcome::Refused => {}
+    }
+    Ok(())
+}
+
+// Pulls each atom that is due once.
+fn pull_round(
+    problem: &Problem,
+    margins: &Margins,
+    lemmas: &[Lemma],
+    scout: &mut Scout,
+    patch: &mut Patch,
+) -> Result<(), AllocError>
+    requires numbered { IsNumbered problem.now }
+    requires open { IsOpen problem.now margins.now lemmas.now patch.old.kept.first patch.old }
+    ensures { IsOpen problem.now margins.now lemmas.now patch.old.kept.first patch.new }
+{
+    for j in 0..problem.atoms().len() {
+        if take_due(&mut scout.due, j) && scout.void.is_none() {
+            pull(problem, margins, lemmas, scout, patch, j as u32)?;
+        }
+    }
+    Ok(())
+}
+
+// Marks atom j yes where the form can't hold without it; then it is due.
+fn mark(
+    problem: &Problem,
+    margins: &Margins,
+    lemmas: &[Lemma],
+    scout: &mut Scout,
+    patch: &mut Patch,
+    j: u32,
+) -> Result<(), AllocError>
+    requires open { IsOpen problem.now margins.now lemmas.now patch.old.kept.first patch.old }
+    ensures { IsOpen problem.now margins.now lemmas.now patch.old.kept.first patch.new }
+{
+    if (j as usize) < problem.atoms().len() {
+        if let Outcome::Done = step::unit(patch, j)? {
+            make_due(&mut scout.due, j as usize);
+        }
+    }
+    Ok(())
+}
+
+// Marks the atoms yes that the form needs.
+fn mark_needed(
+    problem: &Problem,
+    margins: &Margins,
+    lemmas: &[Lemma],
+    needs: &Needs,
+    scout: &mut Scout,
+    patch: &mut Patch,
+) -> Result<(), AllocError>
+    requires open { IsOpen problem.now margins.now lemmas.now patch.old.kept.first patch.old }
+    ensures { IsOpen problem.now margins.now lemmas.now patch.old.kept.first patch.new }
+{
+    let forms = problem.forms();
+    for n in 0..forms.len() {
+        if is_set(&needs.needed, n) {
+            if let FormNode::AtomIs(j) = forms.node(n as u32) {
+                mark(problem, margins, lemmas, scout, patch, *j)?;
+            }
+        }
+    }
+    Ok(())
+}
+
+// The one mark of the lemma that the state lacks, where it is a yes of an atom that is not marked.
+fn lacking(lemma: &State, state: &State) -> Option<u32> {
+    let marks = lemma.lits().marks();
+    let others = state.lits().marks();
+    let mut found = None;
+    for j in 0..marks.len() {
+        if j >= others.len() {
+            return None;
+        }
+        match (marks[j], others[j]) {
+            (Mark::Neither, _) => {}
+            (Mark::Yes, Mark::Yes) => {}
+            (Mark::No, Mark::No) => {}
+            (Mark::Yes, Mark::Neither) => {
+                if found.is_some() {
+                    return None;
+                }
+                found = u32::try_from(j).ok();
+            }
+            _ => return None,
+        }
+    }
+    found
+}
+
+// The atom that the lemma lets be marked no at the state.
+fn banned_by(lemma: &State, state: &State) -> Option<u32> {
+    let atom = lacking(lemma, state)?;
+    let same = lemma.space().len() == state.space().len();
+    if same && state.space().within(lemma.space()) {
+        Some(atom)
+    } else {
+        None
+    }
+}
+
+// Marks an atom no where a lemma of the list, that at this place, lets it.
+fn ban(
+    problem: &Problem,
+    margins: &Margins,
+    lemmas: &[Lemma],
+    patch: &mut Patch,
+    i: usize,
+) -> Result<(), AllocError>
+    requires lemmas { AreLemmasFor (problem_of problem.now) (loosenings_of margins.now) lemmas.now }
+    requires place { i < length lemmas.now }
+    requires open { IsOpen problem.now margins.now lemmas.now patch.old.kept.first patch.old }
+    ensures { IsOpen problem.now margins.now lemmas.now patch.old.kept.first patch.new }
+{
+    let Some(j) = banned_by(lemmas[i].state(), patch.reached()) else {
+        return Ok(());
+    };
+    if (j as usize) < problem.atoms().len() {
+        step::ban(problem, margins, lemmas, patch, j, i)?;
+    }
+    Ok(())
+}
+
+// Marks atoms no where lemmas let them.
+fn ban_all(
+    problem: &Problem,
+    margins: &Margins,
+    lemmas: &[Lemma],
+    patch: &mut Patch,
+) -> Result<(), AllocError>
+    requires lemmas { AreLemmasFor (problem_of problem.now) (loosenings_of margins.now) lemmas.now }
+    requires open { IsOpen problem.now margins.now lemmas.now patch.old.kept.first patch.old }
+    ensures { IsOpen problem.now margins.now lemmas.now patch.old.kept.first patch.new }
+{
+    for i in 0..lemmas.len() {
+        ban(problem, margins, lemmas, patch, i)?;
+    }
+    Ok(())
+}
+
+/// Looks at the state that the patch has reached.
+pub fn see(
+    alloc: Global,
+    problem: &Problem,
+    margins: &Margins,
+    patch: &Patch,
+) -> Result<Needs, AllocError>
+    requires problem { patch.now.problem ≡ problem.now }
+    requires margins { AreMargins margins.now }
+{
+    look(alloc, problem, margins, patch.reached())
+}
+
+/// Whether an atom is not marked.
+pub fn any_unmarked(state: &State) -> bool {
+    for mark in state.lits().marks() {
+        if matches!(mark, Mark::Neither) {
+            return true;
+        }
+    }
+    false
+}
+
+// Where an atom is not marked yet, looks at the state and marks those that the form needs.
+fn look_again(
+    alloc: Global,
+    problem: &Problem,
+    margins: &Margins,
+    lemmas: &[Lemma],
+    scout: &mut Scout,
+    patch: &mut Patch,
+) -> Result<(), AllocError>
+    requires bits { AreMargins margins.now }
+    requires open { IsOpen problem.now margins.now lemmas.now patch.old.kept.first patch.old }
+    ensures { IsOpen problem.now margins.now lemmas.now patch.old.kept.first patch.new }
+{
+    if !any_unmarked(patch.reached()) {
+        return Ok(());
+    }
+    let needs = see(alloc, problem, margins, patch)?;
+    if !is_set(&needs.may, problem.root() as usize) {
+        return Ok(());
+    }
+    mark_needed(problem, margins, lemmas, &needs, scout, patch)
+}
+
+// Pulls what is due, and where nothing is left to pull looks again; whether something is due then.
+fn go_on(
+    alloc: Global,
+    problem: &Problem,
+    margins: &Margins,
+    lemmas: &[Lemma],
+    scout: &mut Scout,
+    patch: &mut Patch,
+) -> Result<bool, AllocError>
+    requires numbered { IsNumbered problem.now }
+    requires bits { AreMargins margins.now }
+    requires open { IsOpen problem.now margins.now lemmas.now patch.old.kept.first patch.old }
+    ensures { IsOpen problem.now margins.now lemmas.now patch.old.kept.first patch.new }
+{
+    pull_round(problem, margins, lemmas, scout, patch)?;
+    if scout.void.is_some() {
+        return Ok(false);
+    }
+    if any_due(&scout.due) {
+        return Ok(true);
+    }
+    look_again(alloc, problem, margins, lemmas, scout, patch)?;
+    Ok(any_due(&scout.due))
+}
+
+// Goes on while something is due, but no more than ten times.
+fn go_on_while_due(
+    alloc: Global,
+    problem: &Problem,
+    margins: &Margins,
+    lemmas: &[Lemma],
+    scout: &mut Scout,
+    patch: &mut Patch,
+) -> Result<(), AllocError>
+    requires numbered { IsNumbered problem.now }
+    requires bits { AreMargins margins.now }
+    requires open { IsOpen problem.now margins.now lemmas.now patch.old.kept.first patch.old }
+    ensures { IsOpen problem.now margins.now lemmas.now patch.old.kept.first patch.new }
+{
+    for _ in 0..MOST_ROUNDS {
+        if !go_on(alloc, problem, margins, lemmas, scout, patch)? {
+            return Ok(());
+        }
+    }
+    Ok(())
+}
+
+/// Takes steps at the state: marks the atoms that the form needs, and pulls those that are marked yes, again
+/// while an axis that they depend on falls by about a tenth, but no more than ten times. The atom by which nothing is
+/// left, where one is met.
+pub fn take_steps(
+    alloc: Global,
+    problem: &Problem,
+    margins: &Margins,
+    lemmas: &[Lemma],
+    patch: &mut Patch,
+) -> Result<Option<u32>, AllocError>
+    requires numbered { IsNumbered problem.now }
+    requires bits { AreMargins margins.now }
+    requires lemmas { AreLemmasFor (problem_of problem.now) (loosenings_of margins.now) lemmas.now }
+    requires open { IsOpen problem.now margins.now lemmas.now patch.old.kept.first patch.old }
+    ensures { IsOpen problem.now margins.now lemmas.now patch.old.kept.first patch.new }
+{
+    let mut scout = start(alloc, problem, patch)?;
+    ban_all(problem, margins, lemmas, patch)?;
+    look_again(alloc, problem, margins, lemmas, &mut scout, patch)?;
+    go_on_while_due(alloc, problem, margins, lemmas, &mut scout, patch)?;
+    Ok(scout.void)
+}

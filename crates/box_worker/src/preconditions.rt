@@ -1,0 +1,83 @@
+// The preconditions of a branch: what has to be done before a state may be split.
+ghost use Rattle.std.specs.Prelude.{◌≡◌, IfOk, IsTrue, true, false, None};
+ghost use Rattle.cover_rule.specs.Serves.{IsNumbered};
+ghost use Rattle.cover_data.specs.Runs.{IsClosed};
+ghost use Rattle.box_worker.specs.Attempts.{Continues, conjuncts_are_decided, no_atom_empties};
+
+use crate::attempt;
+use crate::facts::run_is_lawful;
+use cover_rule::Patch;
+use poly_graph::Problem;
+use std::alloc::{AllocError, Global};
+use truth3::{Marks, conjuncts_in_yes};
+
+/// Marks each conjunct that is not marked.
+pub fn mark_conjuncts(alloc: Global, problem: &Problem, patch: &mut Patch) -> Result<(), AllocError>
+    requires problem { patch.old.problem ≡ problem.now }
+    requires numbered { IsNumbered problem.now }
+    requires open { patch.old.kept.end ≡ None }
+    ensures continues { IfOk result (λ u. Continues patch.old patch.new) }
+    ensures open { IfOk result (λ u. patch.new.kept.end ≡ None) }
+    ensures decided { IfOk result (λ u. conjuncts_are_decided problem.now patch.new.kept.reached ≡ true) }
+{
+    let mut marks = Marks::new(alloc, problem)?;
+    if conjuncts_in_yes(problem, patch.reached().lits(), &mut marks) {
+        return Ok(());
+    }
+    for j in 0..problem.atoms().len() {
+        attempt::unit(patch, j as u32)?;
+    }
+    Ok(())
+}
+
+/// Ends the patch by the first atom marked yes that leaves nothing.
+pub fn void_any(problem: &Problem, patch: &mut Patch) -> Result<bool, AllocError>
+    requires problem { patch.old.problem ≡ problem.now }
+    requires numbered { IsNumbered problem.now }
+    requires open { patch.old.kept.end ≡ None }
+    ensures continues { IfOk result (λ b. Continues patch.old patch.new) }
+    ensures closed { IfOk result (λ b. b ≡ true → IsClosed patch.new.kept) }
+    ensures same { IfOk result (λ b. b ≡ false → patch.new ≡ patch.old) }
+    ensures none { IfOk result (λ b. b ≡ false → no_atom_empties problem.now patch.old ≡ true) }
+{
+    run_is_lawful(patch);
+    for j in 0..problem.atoms().len() {
+        if attempt::void(patch, j as u32)? {
+            return Ok(true);
+        }
+    }
+    Ok(false)
+}
+
+// Ends the patch by this atom, where there is such a one that is marked yes and leaves nothing.
+fn void_at(problem: &Problem, atom: Option<u32>, patch: &mut Patch) -> Result<bool, AllocError>
+    requires problem { patch.old.problem ≡ problem.now }
+    ensures continues { IfOk result (λ b. Continues patch.old patch.new) }
+    ensures closed { IfOk result (λ b. b ≡ true → IsClosed patch.new.kept) }
+    ensures same { IfOk result (λ b. b ≡ false → patch.new ≡ patch.old) }
+{
+    match atom {
+        Some(j) => {
+            if (j as usize) < problem.atoms().len() {
+                attempt::void(patch, j)
+            } else {
+                Ok(false)
+            }
+        }
+        None => Ok(false),
+    }
+}
+
+/// Ends the patch where the form cannot hold, or by this atom, where there is such a one that is marked yes and
+/// leaves nothing.
+pub fn close_at(problem: &Problem, atom: Option<u32>, patch: &mut Patch) -> Result<bool, AllocError>
+    requires problem { patch.old.problem ≡ problem.now }
+    ensures continues { IfOk result (λ b. Continues patch.old patch.new) }
+    ensures closed { IfOk result (λ b. b ≡ true → IsClosed patch.new.kept) }
+    ensures same { IfOk result (λ b. b ≡ false → patch.new ≡ patch.old) }
+{
+    if attempt::make_false(patch)? {
+        return Ok(true);
+    }
+    void_at(problem, atom, patch)
+}

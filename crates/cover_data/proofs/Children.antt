@@ -1,0 +1,94 @@
+-- The two states that a branch leaves are states of the problem.
+use Rattle.std.proofs.Common.{◌≡◌, inl, inr, ℕ, zero, suc, List, [], ◌∷◌, Bool, true, false, not, IsTrue, Option, Some, None, refl, sym, ap, ◌∙◌, subst, true≢false}
+use Rattle.std.proofs.Math.ListN.{length-set}
+use Rattle.dyadic.specs.Fraction.{at_most}
+use Rattle.dyadic.specs.Rounding.{Dyadic, exact}
+use Rattle.dyadic.proofs.Equal.{both_true, total}
+use Rattle.interval_model.specs.Space.{Domain, real_domain, bool_domain, Space, strictly_inside, lower_part, upper_part, is_undecided, keep, test_axis, changed}
+use Rattle.poly_graph.specs.Problem.{Declared, real_between, any_bool, Axis, Problem}
+use Rattle.poly_graph.specs.Marks.{Mark, marked_yes, marked_no}
+use Rattle.cover_model.specs.State.{State, Loosenings, undecided, with_mark, with_yes, with_no}
+use Rattle.cover_model.specs.Rules.{Line, pull, unit, ban, void, make_false, by, cut, flip, case, open_line, stuck, with_changed, when, two, rule}
+use Rattle.cover_model.specs.Fits.{FitsAxis, FitsAxes, FitsProblem}
+use Rattle.cover_data.specs.Runs.{CanPart, children, IsEnding}
+
+-- a changed axis whose new domain is one of such an axis
+pub changed_fits : (f : Domain → Domain) (t : Domain → Bool) → ((a : Declared) (d : Domain) → IsTrue (t d) → FitsAxis a d → FitsAxis a (f d)) →
+    (axes : List Axis) (axis : ℕ) (space : Space) → IsTrue (test_axis t axis space) → FitsAxes axes space → FitsAxes axes (changed f axis space)
+changed_fits f t g axes axis [] h k = k
+changed_fits f t g [] zero (d ∷ space) h k = k
+changed_fits f t g [] (suc axis) (d ∷ space) h k = k
+changed_fits f t g (a ∷ axes) zero (d ∷ space) h k = (g a.declared d h k.0, k.1)
+changed_fits f t g (a ∷ axes) (suc axis) (d ∷ space) h k = (k.0, changed_fits f t g axes axis space h k.1)
+
+pub above_if_not : (a b : Dyadic) → IsTrue (not (at_most (exact b) (exact a))) → IsTrue (at_most (exact a) (exact b))
+above_if_not a b h = elim (total (exact a) (exact b)) [ inl e ↦ e | inr e ↦ absurd (true≢false (sym h ∙ ap not e)) ]
+
+low-fits : (c : Dyadic) (a : Declared) (d : Domain) → IsTrue (strictly_inside c d) → FitsAxis a d → FitsAxis a (lower_part c d)
+low-fits c (real_between lo hi) (real_domain l h) t k = above_if_not l c (both_true (not (at_most (exact c) (exact l))) (not (at_most (exact h) (exact c))) t).0
+low-fits c any_bool (real_domain l h) t k = k
+low-fits c a (bool_domain f u) t k = k
+
+high-fits : (c : Dyadic) (a : Declared) (d : Domain) → IsTrue (strictly_inside c d) → FitsAxis a d → FitsAxis a (upper_part c d)
+high-fits c (real_between lo hi) (real_domain l h) t k = above_if_not c h (both_true (not (at_most (exact c) (exact l))) (not (at_most (exact h) (exact c))) t).1
+high-fits c any_bool (real_domain l h) t k = k
+high-fits c a (bool_domain f u) t k = k
+
+keep-fits : (v : Bool) (a : Declared) (d : Domain) → IsTrue (is_undecided d) → FitsAxis a d → FitsAxis a (keep v d)
+keep-fits v a (real_domain l h) t k = k
+keep-fits true any_bool (bool_domain f u) t k = refl
+keep-fits false any_bool (bool_domain f u) t k = refl
+keep-fits v (real_between lo hi) (bool_domain f u) t k = k
+
+module _ (p : Problem) (S : State) (fits : FitsProblem p S) where
+  pub changed_state_fits : (f : Domain → Domain) (t : Domain → Bool) → ((a : Declared) (d : Domain) → IsTrue (t d) → FitsAxis a d → FitsAxis a (f d)) → (axis : ℕ) → IsTrue (test_axis t axis S.space) → FitsProblem p (with_changed S f axis)
+  changed_state_fits f t g axis h = record { axes = changed_fits f t g p.axes axis S.space h fits.axes; marks = fits.marks }
+
+  pub marked_fits : (j : ℕ) (m : Mark) → FitsProblem p (with_mark S j m)
+  marked_fits j m = record { axes = fits.axes; marks = length-set S.marks j m ∙ fits.marks }
+
+first-of : {X : Type 0} → X → Option (X × X) → X
+first-of d None = d
+first-of d (Some x) = x.0
+
+second-of : {X : Type 0} → X → Option (X × X) → X
+second-of d None = d
+second-of d (Some x) = x.1
+
+abbrev Fit : Problem → Option (State × State) → Type 0
+Fit p None = Unit {0}
+Fit p (Some x) = FitsProblem p x.0 × FitsProblem p x.1
+
+children-fit-both : (p : Problem) (S : State) → FitsProblem p S → (l : Line) → CanPart l S → Fit p (children l S)
+children-fit-both p S f (cut axis c) h = (changed_state_fits p S f (lower_part c) (strictly_inside c) (low-fits c) axis h, changed_state_fits p S f (upper_part c) (strictly_inside c) (high-fits c) axis h)
+children-fit-both p S f (flip axis) h = (changed_state_fits p S f (keep false) is_undecided (keep-fits false) axis h, changed_state_fits p S f (keep true) is_undecided (keep-fits true) axis h)
+children-fit-both p S f (case j) h = (marked_fits p S f j marked_yes, marked_fits p S f j marked_no)
+children-fit-both p S f (pull j) h = tt
+children-fit-both p S f (unit j) h = tt
+children-fit-both p S f (ban j i) h = tt
+children-fit-both p S f (void j) h = tt
+children-fit-both p S f make_false h = tt
+children-fit-both p S f (by i) h = tt
+children-fit-both p S f open_line h = tt
+children-fit-both p S f (stuck j) h = tt
+
+pub children_fit : (p : Problem) (S : State) → FitsProblem p S → (l : Line) → CanPart l S → (a b : State) → children l S ≡ Some (a, b) → FitsProblem p a × FitsProblem p b
+children_fit p S f l h a b e = subst (Fit p) e (children-fit-both p S f l h)
+
+ends-if : (b : Bool) (x y : State) → IsTrue b → IsEnding (when b (two x y))
+ends-if true x y h = tt
+ends-if false x y h = absurd (true≢false (sym h))
+
+-- where a branch can stand, its rule holds
+pub can_end : (p : Problem) (s : Loosenings) (lemmas : List State) (S : State) (l : Line) → CanPart l S → (x : State × State) → children l S ≡ Some x → IsEnding (rule p s lemmas S l)
+can_end p s lemmas S (cut axis c) h x e = ends-if (test_axis (strictly_inside c) axis S.space) (with_changed S (lower_part c) axis) (with_changed S (upper_part c) axis) h
+can_end p s lemmas S (flip axis) h x e = ends-if (test_axis is_undecided axis S.space) (with_changed S (keep false) axis) (with_changed S (keep true) axis) h
+can_end p s lemmas S (case j) h x e = ends-if (undecided S j) (with_yes S j) (with_no S j) h
+can_end p s lemmas S (pull j) h x e = cc
+can_end p s lemmas S (unit j) h x e = cc
+can_end p s lemmas S (ban j i) h x e = cc
+can_end p s lemmas S (void j) h x e = cc
+can_end p s lemmas S make_false h x e = cc
+can_end p s lemmas S (by i) h x e = cc
+can_end p s lemmas S open_line h x e = cc
+can_end p s lemmas S (stuck j) h x e = cc

@@ -1,0 +1,4 @@
+pub mod Children
+pub mod Proved
+pub mod Runs
+pub mod Withins

@@ -1,0 +1,5 @@
+use Rattle.cover_data.proofs.Proved.{closed_is_tree}
+use Rattle.cover_data.proofs.laws.closed_run_is_tree.Goals as goal
+
+pub returns : goal.returns
+returns c = closed_is_tree

@@ -1,0 +1,5 @@
+pub mod Laws
+pub mod Margins
+pub mod Models
+pub mod Runs
+pub mod Views

@@ -1,0 +1,85 @@
+// Patches that have closed their state.
+ghost use Rattle.std.specs.Prelude.{◌≡◌, ◌↔◌, IsTrue, MatchResult, IfOk};
+ghost use Rattle.cover_data.specs.Runs.{IsClosed};
+ghost use Rattle.cover_data.specs.Views.{kept_of};
+
+use crate::kept::KeptPatch;
+use crate::lemma::Lemma;
+use crate::step::End;
+use std::alloc::{AllocError, Global};
+use std::marker::Model;
+
+/// A kept patch that ended by closing its state, so that no point of its first state meets the form.
+#[derive(Drop)]
+pub struct ClosedPatch {
+    kept: KeptPatch,
+}
+
+impl Model for ClosedPatch {
+    ghost use Rattle.cover_data.specs.Models.{KeptModel};
+    ghost use Rattle.cover_data.specs.Runs.{IsClosed};
+    ghost use Rattle.cover_data.specs.Views.{kept_of};
+
+    ghost Value = { KeptModel };
+
+    ghost view = { λ c. kept_of c.kept };
+
+    ghost invariant = { λ c. IsClosed (kept_of c.kept) };
+}
+
+impl ClosedPatch {
+    /// The kept patch.
+    pub fn kept(&self) -> &KeptPatch
+        ensures kept { kept_of result.now ≡ self.now }
+        ensures closed { IsClosed self.now }
+    {
+        &self.kept
+    }
+
+    /// The kept patch, by value.
+    pub fn into_kept(self) -> KeptPatch
+        ensures kept { kept_of result ≡ self }
+        ensures closed { IsClosed self }
+    {
+        let ClosedPatch { kept } = self;
+        kept
+    }
+
+    /// The lemma of this number with the patch's first state.
+    pub fn lemma(&self, alloc: Global, id: u32) -> Result<Lemma, AllocError>
+        ensures { IfOk result (λ l. l ≡ record { id = id; state = self.now.first }) }
+    {
+        let state = self.kept.first.try_clone(alloc)?;
+        Ok(Lemma::new(id, state))
+    }
+}
+
+impl KeptPatch {
+    /// Whether it ended by closing its state.
+    pub fn has_closed(&self) -> bool
+        ensures { IsTrue result ↔ IsClosed (kept_of self.now) }
+    {
+        match self.end {
+            Some(End::Void(_)) => true,
+            Some(End::False) => true,
+            Some(End::By(_)) => true,
+            Some(End::Cut(_, _)) => false,
+            Some(End::Flip(_)) => false,
+            Some(End::Case(_)) => false,
+            Some(End::Stuck(_)) => false,
+            None => false,
+        }
+    }
+
+    /// The closed patch; the patch itself where it did not end by closing its state.
+    pub fn closed(self) -> Result<ClosedPatch, KeptPatch>
+        ensures { MatchResult result (λ c. (c ≡ kept_of self) × IsClosed (kept_of self)) (λ k. (k ≡ self) × ¬ IsClosed (kept_of self)) }
+    {
+        match self.end {
+            Some(End::Void(_)) | Some(End::False) | Some(End::By(_)) => {
+                Ok(ClosedPatch { kept: self })
+            }
+            _ => Err(self),
+        }
+    }
+}

@@ -1,0 +1,75 @@
+// The two states that a branch leaves.
+ghost use Rattle.std.specs.Prelude.{◌≡◌, IfOk, IfSome, IfNone, IsTrue, true, false, Some, None};
+ghost use Rattle.interval_model.specs.Space.{test_axis, strictly_inside, is_undecided, lower_part, upper_part, keep};
+ghost use Rattle.dyadic.specs.Views.{dyadic_of};
+ghost use Rattle.cover_model.specs.State.{undecided, with_yes, with_no};
+ghost use Rattle.cover_model.specs.Rules.{with_changed};
+ghost use Rattle.cover_data.specs.Runs.{CanPart, kids_of};
+ghost use Rattle.cover_data.specs.Views.{kept_of};
+
+use crate::kept::KeptPatch;
+use crate::state::State;
+use crate::step::End;
+use dyadic::Dy;
+use poly_graph::Mark;
+use std::alloc::{AllocError, Global};
+
+// The lower part of a Real axis, then its upper part.
+fn cut(alloc: Global, state: &State, axis: u32, at: Dy) -> Result<(State, State), AllocError>
+    requires { IsTrue (test_axis (strictly_inside (dyadic_of at)) axis state.now.space) }
+    ensures first { IfOk result (λ p. p.0 ≡ with_changed state.now (lower_part (dyadic_of at)) axis) }
+    ensures second { IfOk result (λ p. p.1 ≡ with_changed state.now (upper_part (dyadic_of at)) axis) }
+{
+    let mut low = state.try_clone(alloc)?;
+    let mut high = state.try_clone(alloc)?;
+    low.keep_low(axis as usize, at);
+    high.keep_high(axis as usize, at);
+    Ok((low, high))
+}
+
+// A Bool axis false, then true.
+fn flipped(alloc: Global, state: &State, axis: u32) -> Result<(State, State), AllocError>
+    requires { IsTrue (test_axis is_undecided axis state.now.space) }
+    ensures first { IfOk result (λ p. p.0 ≡ with_changed state.now (keep false) axis) }
+    ensures second { IfOk result (λ p. p.1 ≡ with_changed state.now (keep true) axis) }
+{
+    let mut low = state.try_clone(alloc)?;
+    let mut high = state.try_clone(alloc)?;
+    low.keep_bool(axis as usize, false);
+    high.keep_bool(axis as usize, true);
+    Ok((low, high))
+}
+
+// An atom marked yes, then no.
+fn cases(alloc: Global, state: &State, j: u32) -> Result<(State, State), AllocError>
+    requires { IsTrue (undecided state.now j) }
+    ensures first { IfOk result (λ p. p.0 ≡ with_yes state.now j) }
+    ensures second { IfOk result (λ p. p.1 ≡ with_no state.now j) }
+{
+    let mut yes = state.try_clone(alloc)?;
+    let mut no = state.try_clone(alloc)?;
+    yes.set_mark(j, Mark::Yes);
+    no.set_mark(j, Mark::No);
+    Ok((yes, no))
+}
+
+impl KeptPatch {
+    /// The two states that its branch leaves, in memory of their own; none where it did not end in a branch. A
+    /// patch's branch always stands where it can.
+    pub fn kids(&self, alloc: Global) -> Result<Option<(State, State)>, AllocError>
+        requires { IfSome (kept_of self.now).end (λ l. CanPart l self.now.reached) }
+        ensures none { IfOk result (λ o. IfNone o (kids_of (kept_of self.now) ≡ None)) }
+        ensures two { IfOk result (λ o. IfSome o (λ p. kids_of (kept_of self.now) ≡ Some (p.0, p.1))) }
+    {
+        match self.end {
+            Some(End::Cut(axis, at)) => Ok(Some(cut(alloc, &self.reached, axis, at)?)),
+            Some(End::Flip(axis)) => Ok(Some(flipped(alloc, &self.reached, axis)?)),
+            Some(End::Case(j)) => Ok(Some(cases(alloc, &self.reached, j)?)),
+            Some(End::Void(_)) => Ok(None),
+            Some(End::False) => Ok(None),
+            Some(End::By(_)) => Ok(None),
+            Some(End::Stuck(_)) => Ok(None),
+            None => Ok(None),
+        }
+    }
+}

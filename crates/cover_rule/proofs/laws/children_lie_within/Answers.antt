@@ -1,5 +1,0 @@
-use Rattle.cover_rule.proofs.Proved.{children_within}
-use Rattle.cover_rule.proofs.laws.children_lie_within.Goals as goal
-
-pub returns : goal.returns
-returns c = children_within

@@ -1,5 +1,0 @@
-use Rattle.cover_rule.proofs.Proved.{stuck_is_tree}
-use Rattle.cover_rule.proofs.laws.stuck_run_is_tree.Goals as goal
-
-pub returns : goal.returns
-returns c = stuck_is_tree
