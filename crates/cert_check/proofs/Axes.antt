@@ -2,7 +2,7 @@
 use Rattle.std.proofs.Common.{◌≡◌, ℕ, zero, suc, ◌<◌, ◌≤◌, List, [], ◌∷◌, length, map, get_or, Bool, true, false, not, IsTrue, refl, ap, sym, ◌∙◌, true≢false, inl, inr, arith}
 use Rattle.dyadic.specs.Fraction.{Fraction, at_most}
 use Rattle.dyadic.specs.Rounding.{Dyadic, exact}
-use Rattle.dyadic.specs.Space.{Domain, real_domain, bool_domain, Space, strictly_inside, is_undecided, holds_number, allows, test_axis}
+use Rattle.interval_model.specs.Space.{Domain, real_domain, bool_domain, Space, strictly_inside, is_undecided, holds_number, allows, test_axis}
 use Rattle.dyadic.proofs.Equal.{total, both_true, both_pass}
 use Rattle.poly_graph.specs.declared.axis.Axis.{Axis}
 use Rattle.poly_graph.specs.Problem.{is_crossed, crossed_in}

@@ -1,8 +1,8 @@
 -- Lines that are taken one by one lead where all of them do, but for the states that stay.
 use Rattle.std.proofs.Common.{◌≡◌, ℕ, zero, suc, List, [], ◌∷◌, ◌++◌, map, length, Bool, true, false, Option, Some, None, refl, ap, sym, ◌∙◌, arith}
 use Rattle.poly_graph.specs.Problem.{Problem}
-use Rattle.poly_graph.specs.State.{State, Loosenings}
-use Rattle.poly_graph.specs.Rules.{Left, closed, one, two, stays, rule}
+use Rattle.cover_model.specs.State.{State, Loosenings}
+use Rattle.cover_model.specs.Rules.{Left, closed, one, two, stays, rule}
 use Rattle.cert_read.specs.CertLine.{CertLine, end_word, rule_line, word_of, Parsed, too_long, bad_line, bad_number, line, parsed}
 use Rattle.cert_model.specs.Due.{CertFault, RuleFails, Standing, at_point, left_open, Due, tree_due, end_due, nothing_due, Next, on, faulty, names_well, rule_of, after_rule, tree_goes_on}
 use Rattle.cert_model.specs.Accepted.{Course, stopped, reached, next, next_parsed, ruled_line, course, course_next}

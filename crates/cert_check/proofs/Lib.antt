@@ -1,5 +1,6 @@
 pub mod Axes
 pub mod Fed
+pub mod Feeding
 pub mod Firsts
 pub mod Led
 pub mod ListTests

@@ -5,7 +5,7 @@ use Rattle.std.proofs.lemmas.Bool.Decides.{eqb_tells}
 use Rattle.std.specs.List.{list_all}
 use Rattle.std.specs.Bool.{passes}
 use Rattle.dyadic.proofs.Equal.{both_true}
-use Rattle.poly_graph.specs.State.{Mark, marked_yes, marked_no, unmarked, is_unmarked, mark_at, member, mark_in, marks_from, marks_of}
+use Rattle.poly_graph.specs.Marks.{Mark, marked_yes, marked_no, unmarked, is_unmarked, mark_at, member, mark_in, marks_from, marks_of}
 use Rattle.cert_model.specs.Due.{all_below, apart}
 use Rattle.cert_check.specs.Lists.{marked, IsMarked}
 

@@ -1,7 +1,7 @@
 -- Marks of two states, atom by atom.
 use Rattle.std.proofs.Common.{◌≡◌, ℕ, ◌+◌, ◌<◌, ◌≤◌, List, length, drop, Bool, true, false, ◌&&◌, ap, ap₂, ◌∙◌}
 use Rattle.std.proofs.lemmas.List.{drop_more, drop_all}
-use Rattle.poly_graph.specs.State.{Mark, unmarked, mark_within, marks_within, mark_at}
+use Rattle.poly_graph.specs.Marks.{Mark, unmarked, mark_within, marks_within, mark_at}
 
 here : (ls ms : List Mark) (j : ℕ) → j < length ls → j < length ms →
     marks_within (drop j ls) (drop j ms) ≡ (mark_within (mark_at ls j) (mark_at ms j) && marks_within (drop (j + 1) ls) (drop (j + 1) ms))

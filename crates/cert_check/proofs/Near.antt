@@ -6,9 +6,9 @@ use Rattle.dyadic.specs.Fraction.{Fraction, IsFraction, power_below, negated}
 use Rattle.dyadic.specs.Rounding.{Dyadic, exact, two_to_minus}
 use Rattle.dyadic.specs.Calls as calls
 use Rattle.dyadic.specs.Point.{at_fraction}
-use Rattle.dyadic.specs.Space.{Domain, Space}
+use Rattle.interval_model.specs.Space.{Domain, Space}
 use Rattle.dyadic.proofs.Equal.{◌≈◌, ≈_refl, sum_same, negated_same, at_most_same, at_least_same}
-use Rattle.dyadic.proofs.EndsSums.{sum_is_good}
+use Rattle.interval_model.proofs.EndsSums.{sum_is_good}
 use Rattle.poly_graph.specs.declared.axis.Axis as code
 use Rattle.poly_graph.specs.Problem.{Axis, real_between}
 use Rattle.poly_graph.specs.ProblemViews.{axis_of, declared_of}

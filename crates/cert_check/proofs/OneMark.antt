@@ -1,8 +1,9 @@
 -- Marks that are set.
 use Rattle.std.proofs.Common.{◌≡◌, ℕ, zero, suc, ◌<◌, List, [], ◌∷◌, length, set, Bool, true, false, ◌&&◌, not, Some, refl, ap, ap₂, sym, ◌∙◌, arith}
 use Rattle.poly_graph.specs.Problem.{Problem}
-use Rattle.poly_graph.specs.State.{Mark, marked_yes, marked_no, is_unmarked, mark_at, undecided_in, undecided, with_yes, with_no, State, Loosenings, may}
-use Rattle.poly_graph.specs.Rules.{one, when, lemma_covers}
+use Rattle.poly_graph.specs.Marks.{Mark, marked_yes, marked_no, is_unmarked, mark_at, undecided_in}
+use Rattle.cover_model.specs.State.{undecided, with_yes, with_no, State, Loosenings, may}
+use Rattle.cover_model.specs.Rules.{one, when, lemma_covers}
 
 pub undecided_at : (marks : List Mark) (j : ℕ) → j < length marks → undecided_in marks j ≡ is_unmarked (mark_at marks j)
 undecided_at [] j h = absurd (omega (arith, h))

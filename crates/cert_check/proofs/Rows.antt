@@ -1,17 +1,17 @@
 -- The rows of a problem's atoms.
 use Rattle.std.proofs.Common.{◌≡◌, ℕ, ◌<◌, List, length, get_or, map, ap, sym, ◌∙◌, arith}
 use Rattle.std.proofs.lemmas.List.{get_or-map, length-map}
-use Rattle.dyadic.specs.Interval.{Interval}
+use Rattle.interval_model.specs.Interval.{Interval}
 use Rattle.poly_graph.specs.declared.node.Atom.{Atom}
 use Rattle.poly_graph.specs.Term.{Kind}
 use Rattle.poly_graph.specs.Views.{atom_of}
-use Rattle.poly_graph.specs.Space.{Space}
-use Rattle.poly_graph.specs.Narrowed.{enclosures}
-use Rattle.poly_graph.specs.NodeEnclosure.{row}
+use Rattle.interval_model.specs.Space.{Space}
+use Rattle.cover_model.specs.Narrowed.{enclosures}
+use Rattle.cover_model.specs.NodeEnclosure.{row}
 use Rattle.poly_graph.specs.Problem.{atom_at, no_place}
-use Rattle.poly_graph.specs.State.{atom_enclosure}
+use Rattle.cover_model.specs.State.{atom_enclosure}
 use Rattle.poly_graph.specs.ProblemViews.{Parts, problem_of, IsWhole}
-use Rattle.poly_graph.proofs.NodeEnclosures.{row_of_term}
+use Rattle.cover_model.proofs.NodeEnclosures.{row_of_term}
 use Rattle.truth3.specs.Truth.{HasRows}
 
 -- an atom's node is there

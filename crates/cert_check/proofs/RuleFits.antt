@@ -2,15 +2,17 @@
 use Rattle.std.proofs.Common.{◌≡◌, ℕ, zero, suc, List, [], ◌∷◌, length, replicate, Bool, true, false, cond, not, ◌&&◌, Option, Some, None, refl, ap, ap₂, ◌∙◌, arith}
 use Rattle.std.proofs.lemmas.List.{length-set, length-map}
 use Rattle.dyadic.specs.Rounding.{below_all, finite, above_all}
-use Rattle.dyadic.specs.Interval.{Interval, nothing, between}
-use Rattle.dyadic.specs.Space.{Domain, Space, changed, strictly_inside, lower_part, upper_part, is_undecided, keep, test_axis}
+use Rattle.interval_model.specs.Interval.{Interval, nothing, between}
+use Rattle.interval_model.specs.Space.{Domain, Space, changed, strictly_inside, lower_part, upper_part, is_undecided, keep, test_axis}
 use Rattle.poly_graph.specs.Term.{Node, variable_node}
-use Rattle.poly_graph.specs.Space.{range}
-use Rattle.poly_graph.specs.Narrowed.{set_axis, with_axes, some_empty, narrowed, enclosures}
-use Rattle.poly_graph.specs.Problem.{Axis, atom_at, root_domain, root_space}
+use Rattle.cover_model.specs.Space.{range}
+use Rattle.cover_model.specs.Narrowed.{set_axis, with_axes, some_empty, narrowed, enclosures}
+use Rattle.poly_graph.specs.Problem.{Axis, atom_at}
+use Rattle.cover_model.specs.Root.{root_domain, root_space}
 use Rattle.poly_graph.specs.ProblemViews.{Parts, problem_of}
-use Rattle.poly_graph.specs.State.{Mark, marked_yes, marked_no, unmarked, State, Loosenings, margin_of, in_yes, undecided, with_mark, with_yes, with_no, with_space, may, root_state}
-use Rattle.poly_graph.specs.Rules.{Line, pull, unit, ban, void, make_false, by, cut, flip, case, open_line, stuck, Left, closed, one, two, stays, narrowing, lemma_covers, with_changed, when, pulled, voided, is_stuck_atom, rule}
+use Rattle.poly_graph.specs.Marks.{Mark, marked_yes, marked_no, unmarked}
+use Rattle.cover_model.specs.State.{State, Loosenings, margin_of, in_yes, undecided, with_mark, with_yes, with_no, with_space, may, root_state}
+use Rattle.cover_model.specs.Rules.{Line, pull, unit, ban, void, make_false, by, cut, flip, case, open_line, stuck, Left, closed, one, two, stays, narrowing, lemma_covers, with_changed, when, pulled, voided, is_stuck_atom, rule}
 use Rattle.cert_check.specs.States.{Fits}
 use Rattle.cert_check.specs.Waiting.{FitsLeft}
 

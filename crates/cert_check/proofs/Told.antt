@@ -6,7 +6,7 @@ use Rattle.std.proofs.lemmas.Bool.Decides.{eqb_tells}
 use Rattle.std.specs.Bool.{passes}
 use Rattle.dyadic.proofs.Equal.{both_pass}
 use Rattle.poly_graph.specs.Problem.{Problem}
-use Rattle.poly_graph.specs.State.{Loosenings}
+use Rattle.cover_model.specs.State.{Loosenings}
 use Rattle.poly_graph.specs.ProblemViews.{problem_of}
 use Rattle.cert_read.specs.CertLine.{too_long, parsed}
 use Rattle.cert_read.specs.Lines.{without_last_empty, without_unfinished, lines_of, lines_so_far, is_too_long, longest_line}

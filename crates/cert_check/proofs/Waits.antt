@@ -1,12 +1,12 @@
 -- What is due in a tree after a rule.
 use Rattle.std.proofs.Common.{◌≡◌, ℕ, suc, zero, ◌+◌, ◌<◌, ◌≤◌, List, [], ◌∷◌, ◌++◌, length, map, reverse, drop, get_or, Bool, true, false, Option, Some, refl, ap, ap₂, sym, ◌∙◌, append-nil, true≢false, arith, length-append}
 use Rattle.std.proofs.lemmas.List.{reverse-append, map-append, drop_more, drop_all, get_or-map, length-map}
-use Rattle.dyadic.specs.Space.{Domain, Space}
+use Rattle.interval_model.specs.Space.{Domain, Space}
 use Rattle.cert_read.specs.CertLine.{CertLine}
 use Rattle.poly_graph.specs.declared.axis.Axis as code-axis
 use Rattle.poly_graph.specs.Problem.{Axis, Problem}
-use Rattle.poly_graph.specs.State.{State, Loosenings}
-use Rattle.poly_graph.specs.Rules.{Left, closed, one, two, stays}
+use Rattle.cover_model.specs.State.{State, Loosenings}
+use Rattle.cover_model.specs.Rules.{Left, closed, one, two, stays}
 use Rattle.poly_graph.specs.ProblemViews.{axis_of}
 use Rattle.cert_model.specs.Due.{CertFault, Standing, left_open, Due, next_due, lemma_due, tree_due, end_due, Next, on, faulty, after_rule, after_lemma_rule, tree_goes_on, lemma_goes_on, axis_next, coordinate_next}
 use Rattle.cert_model.specs.Accepted.{ruled_line, next, axis_line, coordinate_line}

@@ -2,8 +2,8 @@
 use Rattle.std.specs.Prelude.{◌≡◌, ℕ, List, [], ◌∷◌, ◌++◌, Result, Ok, Err}
 use Rattle.cert_read.specs.CertLine.{CertLine}
 use Rattle.poly_graph.specs.Problem.{Declared, Axis, Problem}
-use Rattle.poly_graph.specs.Space.{Space}
-use Rattle.poly_graph.specs.State.{State, Loosenings}
+use Rattle.interval_model.specs.Space.{Space}
+use Rattle.cover_model.specs.State.{State, Loosenings}
 use Rattle.ival.specs.declared.domain.Domain as code
 use Rattle.ival.specs.SpaceViews.{domain_of}
 use Rattle.cert_model.specs.Due.{on, axis_next, coordinate_next}

@@ -1,11 +1,12 @@
 -- Where lines lead a checker, line by line, and what it answers.
-use Rattle.std.specs.Prelude.{◌≡◌, ◌⊎◌, ℕ, suc, List, [], ◌∷◌, ◌++◌, length, Bool, not, Option, Some, None, Result, Ok, Err, IsTrue, nat_eq, option_map}
+use Rattle.std.specs.Prelude.{◌≡◌, ◌⊎◌, ℕ, suc, List, [], ◌∷◌, ◌++◌, length, Bool, false, not, Option, Some, None, Result, Ok, Err, IsTrue, OnOk, nat_eq, option_map}
 use Rattle.poly_graph.specs.Problem.{Problem}
 use Rattle.poly_graph.specs.ProblemViews.{problem_of}
-use Rattle.poly_graph.specs.State.{Loosenings}
+use Rattle.cover_model.specs.State.{Loosenings}
 use Rattle.cert_read.specs.CertLine.{Parsed}
 use Rattle.cert_read.specs.LineText.{text_of_lines}
 use Rattle.cert_read.specs.Lines.{all_bytes}
+use Rattle.cert_read.specs.State.{Reading}
 use Rattle.cert_read.specs.Reading.{lines_ahead}
 use Rattle.cert_model.specs.Due.{Value, at_point, left_open, Due, version_due, lemma_due, root_due, tree_due, Next, on, faulty}
 use Rattle.cert_model.specs.Accepted.{Course, stopped, reached, Verdict, accepted, refused, next_parsed, course, ended, cut_off}
@@ -106,3 +107,11 @@ pub record IsFed (bytes : List ℕ) (c : Checked) (unread : List ℕ) : Type 0 w
 -- all lines of these bytes are taken, or those up to a fault
 abbrev pub IsAt : Checked → List ℕ → Bool → Type 0
 IsAt c bytes is_end = (c.course ≡ None) ⊎ (c.course ≡ led_by c (lines_ahead (record { unread = bytes; ended = is_end })))
+
+-- the lines that a reader holds are taken, or those up to a fault
+abbrev pub AreLinesTaken : Checked → Reading → Checked → Type 0
+AreLinesTaken old reader new = (bytes : List ℕ) → IsFed bytes old reader.unread → IsAt new bytes reader.ended
+
+-- where the input is not at its end, the checker goes on with what the reader keeps
+abbrev pub IsFedOn : Checked → Reading → Checked → Reading → Result (Unit {0}) CertFault → Type 0
+IsFedOn old reader new rest r = (bytes : List ℕ) → reader.ended ≡ false → IsFed bytes old reader.unread → OnOk r (IsFed bytes new rest.unread)

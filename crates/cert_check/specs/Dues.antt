@@ -1,12 +1,17 @@
 -- What is due in the code as the definitions see it. Of the states that stay open or stuck the code keeps the number.
-use Rattle.std.specs.Prelude.{◌≡◌, ℕ, ◌≤◌, List, [], map, reverse, replicate, length, drop, All, Result, Ok, Err, IsTrue}
-use Rattle.poly_graph.specs.State.{State}
-use Rattle.poly_graph.specs.Rules.{open_line}
-use Rattle.poly_graph.specs.ProblemViews.{Parts}
+use Rattle.std.specs.Prelude.{◌≡◌, ℕ, ◌≤◌, List, [], Option, Some, map, reverse, replicate, length, drop, All, Result, Ok, Err, IsTrue}
+use Rattle.cover_model.specs.State.{State}
+use Rattle.cover_model.specs.Rules as rules
+use Rattle.cover_model.specs.Rules.{open_line}
+use Rattle.cert_read.specs.CertLine.{CertLine}
+use Rattle.poly_graph.specs.ProblemViews.{Parts, problem_of}
+use Rattle.ival.specs.declared.space.Space.{Space}
 use Rattle.ival.specs.SpaceViews.{space_of, capacity_of}
-use Rattle.cert_model.specs.Due.{Standing, Value, at_point, left_open, Due, version_due, margin_due, delta_due, bound_due, kind_due, next_due, no_due, lemma_due, root_due, tree_due, end_due, nothing_due, Next, on, faulty, axis_next, coordinate_next, all_below}
-use Rattle.cert_model.specs.Accepted.{Course, stopped, reached}
+use Rattle.cert_model.specs.Due.{Standing, Value, at_point, left_open, Due, version_due, margin_due, delta_due, bound_due, kind_due, next_due, yes_due, no_due, lemma_due, root_due, tree_due, end_due, nothing_due, Next, on, faulty, axis_next, coordinate_next, all_below, CertFault, after_rule, after_lemma_rule, tree_goes_on, lemma_goes_on}
+use Rattle.cert_model.specs.Accepted.{Course, stopped, reached, next}
 use Rattle.cert_check.specs.declared.state.State as code
+use Rattle.cert_check.specs.declared.loosenings.Loosenings.{Loosenings}
+use Rattle.cert_check.specs.declared.due.Cover.{Cover}
 use Rattle.cert_check.specs.declared.due.Tree.{Tree}
 use Rattle.cert_check.specs.declared.due.Value as value
 use Rattle.cert_check.specs.declared.due.Value.TheVariants as kept
@@ -99,7 +104,47 @@ IsSound p (due.Tree c t n) = AllFit p c.lemmas.items × IsTree p t
 IsSound p (due.Coordinate s space) = HasRoom p (length (space_of space)) (capacity_of space)
 IsSound p d = Unit {0}
 
--- what comes of a line: what is due next, or a fault
-abbrev pub Comes : Parts → Result held.Due Refusal → Next → Type 0
-Comes p (Ok d) x = lean_next x ≡ on (due_of p d)
-Comes p (Err r) x = Refuses r x
+-- ---- what comes of a line
+
+-- the outcome of a line: what is due next, or its fault
+abbrev pub IsOutcome : Parts → Result held.Due Refusal → Next → Type 0
+IsOutcome p (Ok d) x = lean_next x ≡ on (due_of p d)
+IsOutcome p (Err r) x = Refuses r x
+
+-- the outcome of a line where this is due and the words give this bound
+abbrev pub IsNextAt : Parts → Option ℕ → Due → CertLine → Result held.Due Refusal → Type 0
+IsNextAt p bound d line r = IsOutcome p r (next (problem_of p) bound d line)
+
+-- the same at every bound
+abbrev pub IsNextOf : Parts → Due → CertLine → Result held.Due Refusal → Type 0
+IsNextOf p d line r = (bound : Option ℕ) → IsNextAt p bound d line r
+
+-- the same where the code holds what is due
+abbrev pub IsNext : Parts → held.Due → CertLine → Result held.Due Refusal → Type 0
+IsNext p d line r = IsNextOf p (due_of p d) line r
+
+-- the same for every problem
+abbrev pub IsNextAnywhere : held.Due → CertLine → Result held.Due Refusal → Type 0
+IsNextAnywhere d line r = (p : Parts) → IsNext p d line r
+
+-- `yes` of a lemma's state whose space is whole
+abbrev pub yes_of : Cover → Space → Due
+yes_of c space = yes_due (loosenings_of c.loosenings) c.count (states_of c.lemmas.items) (space_of space)
+
+-- `end` of a point whose space is whole
+abbrev pub end_of_point : Loosenings → Space → Due
+end_of_point s space = end_due (loosenings_of s) (at_point (space_of space))
+
+-- the first line of the tree of a lemma with this state
+abbrev pub begun_lemma : Cover → code.State → Next
+begun_lemma c L = on (lemma_due (loosenings_of c.loosenings) c.count (states_of c.lemmas.items) (state_of L) (state_of L) [])
+
+-- what is due after a rule of the main tree that leaves this, with what is due where it fails
+abbrev pub after_main_rule : Cover → List code.State → ℕ → rules.Left → CertFault → Standing → Next
+after_main_rule c pending stayed left f x =
+    after_rule (Some left) f x (pending_of pending) (blanks stayed) (tree_goes_on (loosenings_of c.loosenings) (states_of c.lemmas.items))
+
+-- what is due after a rule of the tree of a lemma with this state
+abbrev pub after_rule_of_lemma : Cover → code.State → List code.State → rules.Left → CertFault → Next
+after_rule_of_lemma c L pending left f =
+    after_lemma_rule (Some left) f (pending_of pending) (lemma_goes_on (loosenings_of c.loosenings) c.count (states_of c.lemmas.items) (state_of L))

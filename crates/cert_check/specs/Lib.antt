@@ -4,6 +4,8 @@ pub mod Checking
 pub mod Courses
 pub mod Dues
 pub mod Faults
+pub mod Feeding
+pub mod Judgements
 pub mod Laws
 pub mod Lists
 pub mod Serving

@@ -1,6 +1,6 @@
 -- Marks that are set one after the other.
 use Rattle.std.specs.Prelude.{◌≡◌, ℕ, List, [], ◌∷◌, true, false, Option, Some, None, slice_set}
-use Rattle.poly_graph.specs.State.{Mark, marks_of}
+use Rattle.poly_graph.specs.Marks.{Mark, marks_of}
 use Rattle.cert_model.specs.Due.{apart}
 
 -- each of the atoms gets the mark

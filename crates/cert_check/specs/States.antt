@@ -1,6 +1,8 @@
 -- The code's states as the definitions see them.
 use Rattle.std.specs.Prelude.{◌≡◌, length}
-use Rattle.poly_graph.specs.State
+use Rattle.dyadic.specs.Fraction.{Fraction}
+use Rattle.dyadic.specs.Rounding.{exact}
+use Rattle.cover_model.specs.State
 use Rattle.poly_graph.specs.ProblemViews.{Parts}
 use Rattle.ival.specs.SpaceViews.{space_of}
 use Rattle.cert_check.specs.declared.state.State.{State}
@@ -11,6 +13,10 @@ state_of S = record { space = space_of S.space; marks = S.lits }
 
 abbrev pub loosenings_of : Loosenings → State.Loosenings
 loosenings_of s = record { margin_bits = s.margin; delta_bits = s.delta }
+
+-- delta itself
+abbrev pub delta_in : Loosenings → Fraction
+delta_in s = exact (State.delta_of (loosenings_of s))
 
 -- a domain for each axis, a mark for each atom
 pub record Fits (p : Parts) (S : State.State) : Type 0 where

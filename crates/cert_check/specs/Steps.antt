@@ -1,7 +1,11 @@
 -- The code's lines of trees as the definitions see them.
-use Rattle.std.specs.Prelude.{◌≡◌, Option, Some, None}
+use Rattle.std.specs.Prelude.{◌≡◌, List, [], map, Option, Some, None}
 use Rattle.dyadic.specs.Views.{dyadic_of}
-use Rattle.poly_graph.specs.Rules as rules
+use Rattle.cover_model.specs.Rules as rules
+use Rattle.cover_model.specs.Rules.{rule}
+use Rattle.cover_model.specs.State.{Loosenings}
+use Rattle.poly_graph.specs.ProblemViews.{Parts, problem_of}
+use Rattle.cert_model.specs.Due.{rule_of}
 use Rattle.cert_read.specs.CertLine.{RuleLine, pull_at, unit_at, void_at, case_at, stuck_at, by_lemma, ban_by, cut_at, flip_at, false_here, open_here, CertLine, rule_line, crossing, lemma, tree_word, end_word}
 use Rattle.cert_check.specs.declared.said.Step.{Step}
 use Rattle.cert_check.specs.declared.said.Step.TheVariants as step
@@ -9,6 +13,7 @@ use Rattle.cert_check.specs.declared.said.TreeLine.{TreeLine}
 use Rattle.cert_check.specs.declared.said.TreeLine.TheVariants as said
 use Rattle.cert_check.specs.declared.left.Left.{Left}
 use Rattle.cert_check.specs.declared.left.Left.TheVariants.{Closed, One, Two, Stays}
+use Rattle.cert_check.specs.declared.state.State.{State}
 use Rattle.cert_check.specs.States.{state_of}
 
 abbrev pub rule_line_of : Step → RuleLine
@@ -23,6 +28,14 @@ rule_line_of (step.Cut axis c) = cut_at axis (dyadic_of c)
 rule_line_of (step.Flip axis) = flip_at axis
 rule_line_of step.False = false_here
 rule_line_of step.Open = open_here
+
+-- the line of a certificate
+abbrev pub line_of_step : Step → CertLine
+line_of_step s = rule_line (rule_line_of s)
+
+-- the rule of the definitions
+abbrev pub step_rule : Step → rules.Line
+step_rule s = rule_of (rule_line_of s)
 
 -- neither a line of a tree nor one that begins a lemma, the main tree or the end
 abbrev pub IsOther : CertLine → Type 0
@@ -51,3 +64,11 @@ left_of Stays = rules.stays
 abbrev pub lefts : Option Left → Option rules.Left
 lefts None = None
 lefts (Some l) = Some (left_of l)
+
+-- what a rule leaves of a state, where these lemmas stand; none, where its condition fails
+abbrev pub IsLeftBy : rules.Line → Parts → Loosenings → List State → State → Option Left → Type 0
+IsLeftBy r p s lemmas S left = lefts left ≡ rule (problem_of p) s (map state_of lemmas) (state_of S) r
+
+-- the same for a rule that asks for nothing but the state
+abbrev pub IsLeftAnywhere : rules.Line → State → Option Left → Type 0
+IsLeftAnywhere r S left = (p : Parts) (s : Loosenings) → IsLeftBy r p s [] S left

@@ -1,13 +1,13 @@
 // The rules that leave two states, and those that leave a state as it is.
 ghost use Rattle.std.specs.Prelude.{◌≡◌, ◌<◌, [], length, IfOk, ◌&&◌, not};
-ghost use Rattle.dyadic.specs.Space.{strictly_inside, is_undecided, test_axis};
+ghost use Rattle.interval_model.specs.Space.{strictly_inside, is_undecided, test_axis};
 ghost use Rattle.dyadic.specs.Views.{dyadic_of};
-ghost use Rattle.poly_graph.specs.Rules.{rule, cut, flip, case, stuck, is_stuck_atom};
-ghost use Rattle.poly_graph.specs.State.{Loosenings as StateLoosenings};
+ghost use Rattle.cover_model.specs.Rules.{cut, flip, case, stuck, is_stuck_atom};
+ghost use Rattle.cover_model.specs.State.{Loosenings as StateLoosenings};
 ghost use Rattle.poly_graph.specs.ProblemViews.{Parts, problem_of};
 ghost use Rattle.ival.specs.SpaceViews.{domain_of, space_of};
 ghost use Rattle.cert_check.specs.States.{state_of, loosenings_of, Fits};
-ghost use Rattle.cert_check.specs.Steps.{lefts};
+ghost use Rattle.cert_check.specs.Steps.{IsLeftAnywhere, IsLeftBy};
 ghost use Rattle.cert_check.specs.Serving.{Serves};
 
 use crate::left::Left;
@@ -64,7 +64,7 @@ fn can_flip(space: &Space, axis: u32) -> bool
 
 /// The parts below and above a cut of a Real axis.
 pub fn cut(alloc: Global, state: State, axis: u32, place: Dy) -> Result<Option<Left>, AllocError>
-    ensures { IfOk result (λ o. (p : Parts) (s : StateLoosenings) → lefts o ≡ rule (problem_of p) s [] (state_of state) (cut axis (dyadic_of place))) }
+    ensures { IfOk result (IsLeftAnywhere (cut axis (dyadic_of place)) state) }
 {
     if !can_cut(&state.space, axis, place) {
         return Ok(None);
@@ -78,7 +78,7 @@ pub fn cut(alloc: Global, state: State, axis: u32, place: Dy) -> Result<Option<L
 
 /// A Bool axis at false and at true.
 pub fn flip(alloc: Global, state: State, axis: u32) -> Result<Option<Left>, AllocError>
-    ensures { IfOk result (λ o. (p : Parts) (s : StateLoosenings) → lefts o ≡ rule (problem_of p) s [] (state_of state) (flip axis)) }
+    ensures { IfOk result (IsLeftAnywhere (flip axis) state) }
 {
     if !can_flip(&state.space, axis) {
         return Ok(None);
@@ -93,7 +93,7 @@ pub fn flip(alloc: Global, state: State, axis: u32) -> Result<Option<Left>, Allo
 /// An atom marked yes and marked no.
 pub fn case(alloc: Global, state: State, j: u32) -> Result<Option<Left>, AllocError>
     requires { j < length state.lits }
-    ensures { IfOk result (λ o. (p : Parts) (s : StateLoosenings) → lefts o ≡ rule (problem_of p) s [] (state_of state) (case j)) }
+    ensures { IfOk result (IsLeftAnywhere (case j) state) }
 {
     if !state.undecided(j) {
         return Ok(None);
@@ -116,7 +116,7 @@ pub fn stuck(
     requires serves { Serves problem.now tools.old }
     requires fits { Fits problem.now (state_of state) }
     requires atom { j < length problem.now.atoms }
-    ensures rule { lefts result ≡ rule (problem_of problem.now) (loosenings_of s) [] (state_of state) (stuck j) }
+    ensures rule { IsLeftBy (stuck j) problem.now (loosenings_of s) [] state result }
     ensures serves { Serves problem.now tools.new }
 {
     if state.in_no(j) {

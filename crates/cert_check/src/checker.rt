@@ -1,18 +1,18 @@
 // The checker.
-ghost use Rattle.std.specs.Prelude.{◌≡◌, ℕ, ◌+◌, ◌<◌, ◌-◌, ◌^◌, List, [], ◌∷◌, Option, Some, Err, false, map, IfOk, OnOk};
+ghost use Rattle.std.specs.Prelude.{◌≡◌, ◌<◌, ◌-◌, ◌^◌, [], ◌∷◌, Some, Err, map, IfOk, OnOk};
 ghost use Rattle.cert_read.specs.CertLine.{line as FormLine, Parsed, parsed};
 ghost use Rattle.cert_read.specs.Reading.{lines_ahead};
 ghost use Rattle.cert_read.specs.Told.{IsFault};
 ghost use Rattle.cert_read.specs.Views.{line_of};
-ghost use Rattle.cert_model.specs.Due.{version_due};
 ghost use Rattle.cert_model.specs.Accepted.{reached};
-ghost use Rattle.poly_graph.specs.ProblemViews.{Parts, problem_of};
+ghost use Rattle.poly_graph.specs.ProblemViews.{Parts};
+ghost use Rattle.cert_check.specs.declared.checker.Stage.TheVariants.{InWork};
+ghost use Rattle.cert_check.specs.Checked.{fresh_checker};
 ghost use Rattle.cert_check.specs.States.{loosenings_of};
 ghost use Rattle.cert_check.specs.Dues.{due_of, IsSound, value_of};
-ghost use Rattle.cert_check.specs.Faults.{stop_of};
 ghost use Rattle.cert_check.specs.Serving.{Serves};
-ghost use Rattle.cert_check.specs.Stages.{course_of, HasLed, IsLed, IsSoundStage};
-ghost use Rattle.cert_check.specs.Courses.{after, Answers, Finishes, in_work, IsAt, IsCutOff, IsFed, states_in_work, Takes, verdict_of};
+ghost use Rattle.cert_check.specs.Stages.{IsFaultAfter, IsOneMore, IsSoundStage, IsStageAfter};
+ghost use Rattle.cert_check.specs.Courses.{Answers, AreLinesTaken, Finishes, in_work, IsCutOff, IsFedOn, states_in_work, Takes, verdict_of};
 
 use crate::due::{Due, Value};
 use crate::fault::CertFault;
@@ -131,7 +131,7 @@ fn stage_of_due(
     requires serves { Serves problem.now tools.old }
     requires sound { IsSound problem.now due }
     requires few { lines < 2 ^ 64 - 1 }
-    ensures course { (n : ℕ) → (lines + 1 < 2 ^ 64 - 1 → n ≡ lines + 1) → IsLed (course_of problem.now result n) (after (problem_of problem.now) bound (reached (due_of problem.now due) lines) (FormLine (line_of line.now))) }
+    ensures course { IsStageAfter problem.now bound (InWork due) lines (line_of line.now) result }
     ensures sound { IsSoundStage problem.now result }
     ensures serves { Serves problem.now tools.new }
 {
@@ -158,7 +158,7 @@ fn stage_after(
     requires serves { Serves problem.now tools.old }
     requires sound { IsSoundStage problem.now stage }
     requires few { lines < 2 ^ 64 - 1 }
-    ensures course { (n : ℕ) → (lines + 1 < 2 ^ 64 - 1 → n ≡ lines + 1) → HasLed (problem_of problem.now) bound (course_of problem.now stage lines) (FormLine (line_of line.now)) (course_of problem.now result n) }
+    ensures course { IsStageAfter problem.now bound stage lines (line_of line.now) result }
     ensures sound { IsSoundStage problem.now result }
     ensures serves { Serves problem.now tools.new }
 {
@@ -172,7 +172,7 @@ fn stage_after(
 #[tactic(auto, using(crate::proofs::OneLine::unread_leads, crate::proofs::OneLine::stays_over))]
 fn fault_after(stage: &Stage, fault: LineFault, lines: u64) -> CertFault
     requires { lines < 2 ^ 64 - 1 }
-    ensures { (x : Parsed) → IsFault fault x → (p : Parts) (b : Option ℕ) → HasLed (problem_of p) b (course_of p stage.now lines) x (stop_of result) }
+    ensures { (x : Parsed) → IsFault fault x → IsFaultAfter stage.now lines x result }
 {
     match stage {
         Stage::InWork(_) => unread(fault).at(lines + 1),
@@ -183,7 +183,7 @@ fn fault_after(stage: &Stage, fault: LineFault, lines: u64) -> CertFault
 // How many lines were taken after one more.
 fn one_more(lines: u64) -> u64
     ensures few { result < 2 ^ 64 - 1 }
-    ensures more { lines + 1 < 2 ^ 64 - 1 → result ≡ lines + 1 }
+    ensures more { IsOneMore lines result }
 {
     if lines < MOST_LINES {
         lines + 1
@@ -195,7 +195,7 @@ fn one_more(lines: u64) -> u64
 impl Checker {
     /// A checker of certificates for the problem, where `bound` is the bound of the words. It has a copy of the problem.
     pub fn new(alloc: Global, problem: &Problem, bound: Option<u32>) -> Result<Checker, AllocError>
-        ensures { IfOk result (λ c. c ≡ record { problem = problem.now; bound = bound; course = Some (reached version_due 0) }) }
+        ensures { IfOk result (λ c. c ≡ fresh_checker problem.now bound) }
     {
         let tools = Tools::new(alloc, problem)?;
         let problem = problem.try_clone(alloc)?;
@@ -251,8 +251,8 @@ impl Checker {
         ensures lines { Takes self.old (map parsed (lines_ahead reader.old)) self.new result }
         ensures drained { OnOk result (lines_ahead reader.new ≡ []) }
         ensures ended { reader.new.ended ≡ reader.old.ended }
-        ensures at { (bytes : List ℕ) → IsFed bytes self.old reader.old.unread → IsAt self.new bytes reader.old.ended }
-        ensures fed { (bytes : List ℕ) → reader.old.ended ≡ false → IsFed bytes self.old reader.old.unread → OnOk result (IsFed bytes self.new reader.new.unread) }
+        ensures at { AreLinesTaken self.old reader.old self.new }
+        ensures fed { IsFedOn self.old reader.old self.new reader.new result }
     {
         'lines: loop {
             match reader.next_line() {

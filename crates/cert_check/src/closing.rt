@@ -1,10 +1,10 @@
 // The rules that leave nothing.
 ghost use Rattle.std.specs.Prelude.{◌≡◌, ◌<◌, [], length, map, All};
-ghost use Rattle.poly_graph.specs.Rules.{rule, void, make_false, by};
-ghost use Rattle.poly_graph.specs.State.{Loosenings as StateLoosenings};
+ghost use Rattle.cover_model.specs.Rules.{void, make_false, by};
+ghost use Rattle.cover_model.specs.State.{Loosenings as StateLoosenings};
 ghost use Rattle.poly_graph.specs.ProblemViews.{problem_of};
 ghost use Rattle.cert_check.specs.States.{state_of, loosenings_of, Fits};
-ghost use Rattle.cert_check.specs.Steps.{lefts};
+ghost use Rattle.cert_check.specs.Steps.{IsLeftBy};
 ghost use Rattle.cert_check.specs.Serving.{Serves};
 
 use crate::left::Left;
@@ -26,7 +26,7 @@ pub fn void(
     requires serves { Serves problem.now tools.old }
     requires fits { Fits problem.now (state_of state) }
     requires atom { j < length problem.now.atoms }
-    ensures rule { lefts result ≡ rule (problem_of problem.now) (loosenings_of s) [] (state_of state) (void j) }
+    ensures rule { IsLeftBy (void j) problem.now (loosenings_of s) [] state result }
     ensures serves { Serves problem.now tools.new }
 {
     if !state.in_yes(j) {
@@ -44,7 +44,7 @@ pub fn void(
 pub fn make_false(problem: &Problem, tools: &mut Tools, s: Loosenings, state: State) -> Option<Left>
     requires serves { Serves problem.now tools.old }
     requires fits { Fits problem.now (state_of state) }
-    ensures rule { lefts result ≡ rule (problem_of problem.now) (loosenings_of s) [] (state_of state) make_false }
+    ensures rule { IsLeftBy make_false problem.now (loosenings_of s) [] state result }
     ensures serves { Serves problem.now tools.new }
 {
     if tools.may(problem, s.margin, &state) {
@@ -59,7 +59,7 @@ pub fn by(problem: &Problem, lemmas: &[State], state: State, i: u32) -> Option<L
     requires few { length problem.now.atoms < 4294967296 }
     requires lemmas { All (λ L. Fits problem.now (state_of L)) lemmas.now }
     requires fits { Fits problem.now (state_of state) }
-    ensures { (s : StateLoosenings) → lefts result ≡ rule (problem_of problem.now) s (map state_of lemmas.now) (state_of state) (by i) }
+    ensures { (s : StateLoosenings) → IsLeftBy (by i) problem.now s lemmas.now state result }
 {
     if lemma_covers(problem, lemmas, i, &state) {
         Some(Left::Closed)

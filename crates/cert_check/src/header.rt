@@ -2,11 +2,11 @@
 ghost use Rattle.std.specs.Prelude.{◌≡◌, ℕ, Option, IfOk};
 ghost use Rattle.cert_read.specs.CertLine.{delta as CertDelta, cover as CoverLine, point_word as PointLine};
 ghost use Rattle.cert_read.specs.Views.{line_of};
-ghost use Rattle.cert_model.specs.Due.{version_due, margin_due, delta_due, bound_due, kind_due, same_bound};
-ghost use Rattle.cert_model.specs.Accepted.{next, loosenings_fit};
-ghost use Rattle.poly_graph.specs.ProblemViews.{Parts, problem_of};
-ghost use Rattle.cert_check.specs.States.{loosenings_of};
-ghost use Rattle.cert_check.specs.Dues.{Comes, IsSound};
+ghost use Rattle.cert_model.specs.Due.{same_bound};
+ghost use Rattle.cert_model.specs.Accepted.{loosenings_fit};
+ghost use Rattle.poly_graph.specs.ProblemViews.{Parts};
+ghost use Rattle.cert_check.specs.declared.due.Due.TheVariants.{Version as VersionDue, Margin as MarginDue, Delta as DeltaDue, Bound as BoundDue, Kind as KindDue};
+ghost use Rattle.cert_check.specs.Dues.{due_of, IsNext, IsNextAnywhere, IsNextAt, IsSound};
 
 use crate::due::{Cover, Due};
 use crate::loosenings::Loosenings;
@@ -21,7 +21,7 @@ const MOST_LEMMAS: u32 = 1_048_576;
 
 /// `dpoly 1`.
 pub fn version_line(line: &Line) -> Result<Due, Refusal>
-    ensures comes { (p : Parts) (b : Option ℕ) → Comes p result (next (problem_of p) b version_due (line_of line.now)) }
+    ensures comes { IsNextAnywhere VersionDue (line_of line.now) result }
     ensures sound { (p : Parts) → IfOk result (IsSound p) }
 {
     match line {
@@ -32,7 +32,7 @@ pub fn version_line(line: &Line) -> Result<Due, Refusal>
 
 /// `margin`.
 pub fn margin_line(line: &Line) -> Result<Due, Refusal>
-    ensures comes { (p : Parts) (b : Option ℕ) → Comes p result (next (problem_of p) b margin_due (line_of line.now)) }
+    ensures comes { IsNextAnywhere MarginDue (line_of line.now) result }
     ensures sound { (p : Parts) → IfOk result (IsSound p) }
 {
     match line {
@@ -50,7 +50,7 @@ fn fit(margin: u32, delta: u32) -> bool
 
 // The loosenings, where they are in their limits.
 fn loosenings(margin: u32, delta: u32) -> Result<Due, Refusal>
-    ensures comes { (p : Parts) (b : Option ℕ) → Comes p result (next (problem_of p) b (delta_due margin) (CertDelta delta)) }
+    ensures comes { IsNextAnywhere (DeltaDue margin) (CertDelta delta) result }
     ensures sound { (p : Parts) → IfOk result (IsSound p) }
 {
     if fit(margin, delta) {
@@ -62,7 +62,7 @@ fn loosenings(margin: u32, delta: u32) -> Result<Due, Refusal>
 
 /// `delta`, below the margin.
 pub fn delta_line(margin: u32, line: &Line) -> Result<Due, Refusal>
-    ensures comes { (p : Parts) (b : Option ℕ) → Comes p result (next (problem_of p) b (delta_due margin) (line_of line.now)) }
+    ensures comes { IsNextAnywhere (DeltaDue margin) (line_of line.now) result }
     ensures sound { (p : Parts) → IfOk result (IsSound p) }
 {
     match line {
@@ -86,7 +86,7 @@ fn same_bound(a: Option<u32>, b: Option<u32>) -> bool
 
 /// `bound`, which has to be that of the words.
 pub fn bound_line(s: Loosenings, bound: Option<u32>, line: &Line) -> Result<Due, Refusal>
-    ensures comes { (p : Parts) → Comes p result (next (problem_of p) bound (bound_due (loosenings_of s)) (line_of line.now)) }
+    ensures comes { (p : Parts) → IsNextAt p bound (due_of p (BoundDue s)) (line_of line.now) result }
     ensures sound { (p : Parts) → IfOk result (IsSound p) }
 {
     match line {
@@ -103,7 +103,7 @@ pub fn bound_line(s: Loosenings, bound: Option<u32>, line: &Line) -> Result<Due,
 
 // The first axis of a point.
 fn point(alloc: Global, problem: &Problem, s: Loosenings) -> Result<Due, Refusal>
-    ensures comes { (b : Option ℕ) → Comes problem.now result (next (problem_of problem.now) b (kind_due (loosenings_of s)) PointLine) }
+    ensures comes { IsNext problem.now (KindDue s) PointLine result }
     ensures sound { IfOk result (IsSound problem.now) }
 {
     let space = Space::with_capacity(alloc, problem.axes().len())?;
@@ -112,7 +112,7 @@ fn point(alloc: Global, problem: &Problem, s: Loosenings) -> Result<Due, Refusal
 
 // The first lemma of a cover.
 fn cover(alloc: Global, s: Loosenings, count: u32) -> Result<Due, Refusal>
-    ensures comes { (p : Parts) (b : Option ℕ) → Comes p result (next (problem_of p) b (kind_due (loosenings_of s)) (CoverLine count)) }
+    ensures comes { IsNextAnywhere (KindDue s) (CoverLine count) result }
     ensures sound { (p : Parts) → IfOk result (IsSound p) }
 {
     if count > MOST_LEMMAS {
@@ -132,7 +132,7 @@ pub fn kind_line(
     s: Loosenings,
     line: &Line,
 ) -> Result<Due, Refusal>
-    ensures comes { (b : Option ℕ) → Comes problem.now result (next (problem_of problem.now) b (kind_due (loosenings_of s)) (line_of line.now)) }
+    ensures comes { IsNext problem.now (KindDue s) (line_of line.now) result }
     ensures sound { IfOk result (IsSound problem.now) }
 {
     match line {

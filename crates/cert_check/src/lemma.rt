@@ -1,16 +1,15 @@
 // The lines of lemmas.
-ghost use Rattle.std.specs.Prelude.{◌≡◌, ℕ, [], Option, IfOk, length};
+ghost use Rattle.std.specs.Prelude.{◌≡◌, IfOk, length};
 ghost use Rattle.cert_read.specs.CertLine.{lemma as LemmaLine, tree_word as TreeWord};
 ghost use Rattle.cert_read.specs.Views.{bool_word_of, line_of};
-ghost use Rattle.cert_model.specs.Due.{bool_domain_of, extra_after, faulty, lemma_due, on, yes_due};
-ghost use Rattle.cert_model.specs.Accepted.{next};
-ghost use Rattle.poly_graph.specs.ProblemViews.{declared_of, Parts, problem_of};
+ghost use Rattle.cert_model.specs.Due.{bool_domain_of, extra_after, faulty};
+ghost use Rattle.poly_graph.specs.ProblemViews.{declared_of, Parts};
 ghost use Rattle.ival.specs.SpaceViews.{space_of, truths_of};
 ghost use Rattle.cert_check.specs.declared.due.Due.TheVariants.{Next as NextDue, Axis as AxisDue, No as NoDue};
-ghost use Rattle.cert_check.specs.States.{Fits, loosenings_of, state_of};
+ghost use Rattle.cert_check.specs.States.{Fits, state_of};
 ghost use Rattle.cert_check.specs.Faults.{Refuses};
 ghost use Rattle.cert_check.specs.Axis.{IsAxis};
-ghost use Rattle.cert_check.specs.Dues.{AllFit, Comes, due_of, IsSound, states_of};
+ghost use Rattle.cert_check.specs.Dues.{AllFit, begun_lemma, IsNext, IsNextOf, IsOutcome, IsSound, states_of, yes_of};
 
 use crate::due::{Cover, Due, Tree};
 use crate::lists::{is_list, marks};
@@ -25,7 +24,7 @@ use std::alloc::Global;
 // The first axis of the next lemma.
 fn first_axis(alloc: Global, problem: &Problem, cover: Cover, number: u32) -> Result<Due, Refusal>
     requires { IsSound problem.now (NextDue cover) }
-    ensures comes { (b : Option ℕ) → Comes problem.now result (next (problem_of problem.now) b (due_of problem.now (NextDue cover)) (LemmaLine number)) }
+    ensures comes { IsNext problem.now (NextDue cover) (LemmaLine number) result }
     ensures sound { IfOk result (IsSound problem.now) }
 {
     if cover.lemmas.len() >= cover.count as usize {
@@ -41,7 +40,7 @@ fn first_axis(alloc: Global, problem: &Problem, cover: Cover, number: u32) -> Re
 // The main tree, after all lemmas.
 fn main_tree(problem: &Problem, cover: Cover) -> Result<Due, Refusal>
     requires { IsSound problem.now (NextDue cover) }
-    ensures comes { (b : Option ℕ) → Comes problem.now result (next (problem_of problem.now) b (due_of problem.now (NextDue cover)) TreeWord) }
+    ensures comes { IsNext problem.now (NextDue cover) TreeWord result }
     ensures sound { IfOk result (IsSound problem.now) }
 {
     let _ = problem;
@@ -71,7 +70,7 @@ pub fn next_line(
     line: &Line,
 ) -> Result<Due, Refusal>
     requires { IsSound problem.now (NextDue cover) }
-    ensures comes { (b : Option ℕ) → Comes problem.now result (next (problem_of problem.now) b (due_of problem.now (NextDue cover)) (line_of line.now)) }
+    ensures comes { IsNext problem.now (NextDue cover) (line_of line.now) result }
     ensures sound { IfOk result (IsSound problem.now) }
 {
     match said(line) {
@@ -124,7 +123,7 @@ fn yes_line(
 ) -> Result<Due, Refusal>
     requires sound { IsSound problem.now (AxisDue cover space) }
     requires whole { length (space_of space) ≡ length problem.now.axes }
-    ensures comes { (b : Option ℕ) → Comes problem.now result (next (problem_of problem.now) b (yes_due (loosenings_of cover.loosenings) cover.count (states_of cover.lemmas.items) (space_of space)) (line_of line.now)) }
+    ensures comes { IsNextOf problem.now (yes_of cover space) (line_of line.now) result }
     ensures sound { IfOk result (IsSound problem.now) }
 {
     match line {
@@ -148,7 +147,7 @@ pub fn axis_line(
     line: &Line,
 ) -> Result<Due, Refusal>
     requires { IsSound problem.now (AxisDue cover space) }
-    ensures comes { (b : Option ℕ) → Comes problem.now result (next (problem_of problem.now) b (due_of problem.now (AxisDue cover space)) (line_of line.now)) }
+    ensures comes { IsNext problem.now (AxisDue cover space) (line_of line.now) result }
     ensures sound { IfOk result (IsSound problem.now) }
 {
     let axes = problem.axes();
@@ -168,7 +167,7 @@ pub fn axis_line(
 
 // The first line of the tree of a lemma with this state.
 fn lemma_tree(alloc: Global, cover: Cover, lemma: State) -> Result<Due, Refusal>
-    ensures comes { (p : Parts) (b : Option ℕ) → Comes p result (on (lemma_due (loosenings_of cover.loosenings) cover.count (states_of cover.lemmas.items) (state_of lemma) (state_of lemma) [])) }
+    ensures comes { (p : Parts) → IsOutcome p result (begun_lemma cover lemma) }
     ensures sound { (p : Parts) → AllFit p cover.lemmas.items → Fits p (state_of lemma) → IfOk result (IsSound p) }
 {
     let state = lemma.try_clone(alloc)?;
@@ -186,7 +185,7 @@ pub fn no_line(
     line: &Line,
 ) -> Result<Due, Refusal>
     requires { IsSound problem.now (NoDue cover space yes) }
-    ensures comes { (b : Option ℕ) → Comes problem.now result (next (problem_of problem.now) b (due_of problem.now (NoDue cover space yes)) (line_of line.now)) }
+    ensures comes { IsNext problem.now (NoDue cover space yes) (line_of line.now) result }
     ensures sound { IfOk result (IsSound problem.now) }
 {
     match line {

@@ -1,5 +1,9 @@
 //! The checker of certificates: it goes through the lines of a certificate once, and answers the verdict of the
-//! definitions, with the first fault and its line. Its arithmetic shares no pass with the search.
+//! definitions, with the first fault and its line.
+//!
+//! The main call is `Feed`: it takes a certificate in any pieces, and `end` answers its verdict. `Checker` is the same
+//! over lines. Its arithmetic shares no pass with the search. It reads no file, writes no answer, and does not ask
+//! whether a cover is honest.
 #![tactic(auto)]
 
 mod branches;
@@ -7,6 +11,7 @@ mod checker;
 mod closing;
 mod due;
 mod fault;
+mod feed;
 mod header;
 pub mod laws;
 mod left;
@@ -26,3 +31,4 @@ mod tree;
 
 pub use checker::{Checker, Verdict};
 pub use fault::{CertFault, Rule};
+pub use feed::Feed;

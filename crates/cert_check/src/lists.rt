@@ -1,7 +1,7 @@
 // Lists of atoms of a lemma's state.
 ghost use Rattle.std.specs.Prelude.{◌≡◌, ◌<◌, ◌&&◌, length, IfOk, IsTrue};
 ghost use Rattle.std.specs.List.{list_all};
-ghost use Rattle.poly_graph.specs.State.{Mark as AtomMark, is_unmarked, mark_at, marks_of};
+ghost use Rattle.poly_graph.specs.Marks.{Mark as AtomMark, is_unmarked, mark_at, marks_of};
 ghost use Rattle.poly_graph.specs.MarkViews.{mark_of};
 ghost use Rattle.cert_model.specs.Due.{all_below, ascends, apart};
 ghost use Rattle.cert_check.specs.Lists.{marked, IsMarked};

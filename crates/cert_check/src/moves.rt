@@ -1,10 +1,10 @@
 // The rules that leave one state.
 ghost use Rattle.std.specs.Prelude.{◌≡◌, ◌<◌, [], length, map, All};
-ghost use Rattle.poly_graph.specs.Rules.{rule, pull, unit, ban, lemma_covers};
-ghost use Rattle.poly_graph.specs.State.{Loosenings as StateLoosenings};
+ghost use Rattle.cover_model.specs.Rules.{pull, unit, ban, lemma_covers};
+ghost use Rattle.cover_model.specs.State.{Loosenings as StateLoosenings};
 ghost use Rattle.poly_graph.specs.ProblemViews.{problem_of};
 ghost use Rattle.cert_check.specs.States.{state_of, loosenings_of, Fits};
-ghost use Rattle.cert_check.specs.Steps.{lefts};
+ghost use Rattle.cert_check.specs.Steps.{IsLeftBy};
 ghost use Rattle.cert_check.specs.Serving.{Serves};
 
 use crate::left::Left;
@@ -25,7 +25,7 @@ pub fn pull(
     requires serves { Serves problem.now tools.old }
     requires fits { Fits problem.now (state_of state) }
     requires atom { j < length problem.now.atoms }
-    ensures rule { lefts result ≡ rule (problem_of problem.now) (loosenings_of s) [] (state_of state) (pull j) }
+    ensures rule { IsLeftBy (pull j) problem.now (loosenings_of s) [] state result }
     ensures serves { Serves problem.now tools.new }
 {
     if !state.in_yes(j) {
@@ -51,7 +51,7 @@ pub fn unit(
     requires serves { Serves problem.now tools.old }
     requires fits { Fits problem.now (state_of state) }
     requires atom { j < length problem.now.atoms }
-    ensures rule { lefts result ≡ rule (problem_of problem.now) (loosenings_of s) [] (state_of state) (unit j) }
+    ensures rule { IsLeftBy (unit j) problem.now (loosenings_of s) [] state result }
     ensures serves { Serves problem.now tools.new }
 {
     if !state.undecided(j) {
@@ -85,7 +85,7 @@ pub fn ban(problem: &Problem, lemmas: &[State], state: State, j: u32, i: u32) ->
     requires lemmas { All (λ L. Fits problem.now (state_of L)) lemmas.now }
     requires fits { Fits problem.now (state_of state) }
     requires atom { j < length problem.now.atoms }
-    ensures { (s : StateLoosenings) → lefts result ≡ rule (problem_of problem.now) s (map state_of lemmas.now) (state_of state) (ban j i) }
+    ensures { (s : StateLoosenings) → IsLeftBy (ban j i) problem.now s lemmas.now state result }
 {
     if !state.undecided(j) {
         return None;

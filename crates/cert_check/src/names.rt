@@ -3,17 +3,14 @@ ghost use Rattle.std.specs.Prelude.{◌≡◌};
 ghost use Rattle.cert_model.specs.Due.{is_atom, is_axis, names_well, rule_of, Next};
 ghost use Rattle.cert_model.specs.Accepted.{no_crossing};
 ghost use Rattle.poly_graph.specs.ProblemViews.{problem_of};
-ghost use Rattle.poly_graph.specs.Problem.{crosses, is_crossed};
-ghost use Rattle.poly_graph.specs.ProblemViews.{declared_of};
+ghost use Rattle.poly_graph.specs.Problem.{crosses};
 ghost use Rattle.cert_check.specs.Faults.{Refuses};
 ghost use Rattle.cert_check.specs.Steps.{rule_line_of};
 
 use crate::fault::Rule;
 use crate::refusal::Refusal;
 use crate::said::Step;
-use dyadic::cmp_frac;
-use poly_graph::{Declared, Problem};
-use std::cmp::Ordering;
+use poly_graph::Problem;
 
 // Whether there is such an atom.
 fn is_atom(problem: &Problem, j: u32) -> bool
@@ -48,27 +45,13 @@ pub fn names_well(problem: &Problem, step: Step) -> bool
     }
 }
 
-// Whether the declared lower bound is above the upper one.
-fn is_crossed(declared: Declared) -> bool
-    ensures { result ≡ is_crossed (declared_of declared) }
-{
-    match declared {
-        Declared::Real(low, high) => match cmp_frac(low, high) {
-            Ordering::Greater => true,
-            Ordering::Less => false,
-            Ordering::Equal => false,
-        },
-        Declared::Bool => false,
-    }
-}
-
 /// Whether the declared bounds of this axis cross.
 pub fn crosses(problem: &Problem, axis: u32) -> bool
     ensures { result ≡ crosses (problem_of problem.now) axis }
 {
     let axes = problem.axes();
     let axis = axis as usize;
-    axis < axes.len() && is_crossed(axes[axis].declared)
+    axis < axes.len() && axes[axis].declared.is_crossed()
 }
 
 /// The fault of a line for crossed bounds where it may not stand.

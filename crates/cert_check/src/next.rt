@@ -1,10 +1,8 @@
 // What comes of a line.
 ghost use Rattle.std.specs.Prelude.{IfOk};
 ghost use Rattle.cert_read.specs.Views.{line_of};
-ghost use Rattle.cert_model.specs.Accepted.{next};
-ghost use Rattle.poly_graph.specs.ProblemViews.{problem_of};
 ghost use Rattle.cert_check.specs.Serving.{Serves};
-ghost use Rattle.cert_check.specs.Dues.{Comes, due_of, IsSound};
+ghost use Rattle.cert_check.specs.Dues.{due_of, IsNextAt, IsSound};
 
 use crate::due::Due;
 use crate::header::{bound_line, delta_line, kind_line, margin_line, version_line};
@@ -28,7 +26,7 @@ pub fn next(
 ) -> Result<Due, Refusal>
     requires serves { Serves problem.now tools.old }
     requires sound { IsSound problem.now due }
-    ensures comes { Comes problem.now result (next (problem_of problem.now) bound (due_of problem.now due) (line_of line.now)) }
+    ensures comes { IsNextAt problem.now bound (due_of problem.now due) (line_of line.now) result }
     ensures sound { IfOk result (IsSound problem.now) }
     ensures serves { Serves problem.now tools.new }
 {

@@ -1,19 +1,16 @@
 // The lines of points.
-ghost use Rattle.std.specs.Prelude.{◌≡◌, ℕ, ◌≤◌, Option, IfOk, length};
-ghost use Rattle.dyadic.specs.Rounding.{exact};
+ghost use Rattle.std.specs.Prelude.{◌≡◌, ◌≤◌, IfOk, length};
 ghost use Rattle.cert_read.specs.CertLine.{bool_value as BoolLine};
 ghost use Rattle.cert_read.specs.Views.{bool_word_of, line_of};
-ghost use Rattle.cert_model.specs.Due.{are_near, at_point, coordinate_of, coordinates, end_due, is_near, is_shown};
-ghost use Rattle.cert_model.specs.Accepted.{next};
+ghost use Rattle.cert_model.specs.Due.{are_near, coordinate_of, coordinates, is_near};
 ghost use Rattle.poly_graph.specs.Problem.{any_bool as AnyBool};
-ghost use Rattle.poly_graph.specs.State.{delta_of};
-ghost use Rattle.poly_graph.specs.ProblemViews.{declared_of, problem_of};
+ghost use Rattle.poly_graph.specs.ProblemViews.{declared_of};
 ghost use Rattle.ival.specs.SpaceViews.{domain_of, space_of};
 ghost use Rattle.cert_check.specs.declared.due.Due.TheVariants.{Coordinate as CoordinateDue};
-ghost use Rattle.cert_check.specs.States.{loosenings_of};
+ghost use Rattle.cert_check.specs.States.{delta_in};
 ghost use Rattle.cert_check.specs.Serving.{Serves};
 ghost use Rattle.cert_check.specs.Axis.{IsCoordinate};
-ghost use Rattle.cert_check.specs.Dues.{Comes, due_of, IsSound};
+ghost use Rattle.cert_check.specs.Dues.{end_of_point, IsNext, IsNextOf, IsSound};
 
 use crate::due::{Due, Value};
 use crate::loosenings::Loosenings;
@@ -56,7 +53,7 @@ fn value(declared: Declared, line: &Line) -> Result<Domain, Refusal>
 
 // Whether the value of an axis lies within delta of what is declared.
 fn is_near(s: Loosenings, declared: Declared, domain: Domain) -> bool
-    ensures { result ≡ is_near (exact (delta_of (loosenings_of s))) (declared_of declared) (coordinate_of (domain_of domain)) }
+    ensures { result ≡ is_near (delta_in s) (declared_of declared) (coordinate_of (domain_of domain)) }
 {
     match declared {
         Declared::Real(low, high) => match domain {
@@ -74,7 +71,7 @@ fn is_near(s: Loosenings, declared: Declared, domain: Domain) -> bool
 #[tactic(auto, using(crate::proofs::Near::near_fails, crate::proofs::Near::near_next, crate::proofs::Near::near_done))]
 fn are_near(problem: &Problem, s: Loosenings, space: &Space) -> bool
     requires { length (space_of space.now) ≡ length problem.now.axes }
-    ensures { result ≡ are_near (exact (delta_of (loosenings_of s))) problem.now.axes (coordinates (space_of space.now)) }
+    ensures { result ≡ are_near (delta_in s) problem.now.axes (coordinates (space_of space.now)) }
 {
     let axes = problem.axes();
     for axis in 0..axes.len() {
@@ -95,7 +92,7 @@ fn point_end(
 ) -> Result<Due, Refusal>
     requires serves { Serves problem.now tools.old }
     requires whole { length (space_of space) ≡ length problem.now.axes }
-    ensures comes { (b : Option ℕ) → Comes problem.now result (next (problem_of problem.now) b (end_due (loosenings_of s) (at_point (space_of space))) (line_of line.now)) }
+    ensures comes { IsNextOf problem.now (end_of_point s space) (line_of line.now) result }
     ensures sound { IfOk result (IsSound problem.now) }
     ensures serves { Serves problem.now tools.new }
 {
@@ -121,7 +118,7 @@ pub fn point_line(
 ) -> Result<Due, Refusal>
     requires serves { Serves problem.now tools.old }
     requires sound { IsSound problem.now (CoordinateDue s space) }
-    ensures comes { (b : Option ℕ) → Comes problem.now result (next (problem_of problem.now) b (due_of problem.now (CoordinateDue s space)) (line_of line.now)) }
+    ensures comes { IsNext problem.now (CoordinateDue s space) (line_of line.now) result }
     ensures sound { IfOk result (IsSound problem.now) }
     ensures serves { Serves problem.now tools.new }
 {

@@ -1,10 +1,9 @@
 // The rules of a tree.
-ghost use Rattle.std.specs.Prelude.{◌≡◌, map, All, IfOk, IsTrue};
-ghost use Rattle.poly_graph.specs.Rules.{rule};
+ghost use Rattle.std.specs.Prelude.{All, IfOk, IsTrue};
 ghost use Rattle.poly_graph.specs.ProblemViews.{problem_of};
-ghost use Rattle.cert_model.specs.Due.{names_well, rule_of};
+ghost use Rattle.cert_model.specs.Due.{names_well};
 ghost use Rattle.cert_check.specs.States.{state_of, loosenings_of, Fits};
-ghost use Rattle.cert_check.specs.Steps.{lefts, rule_line_of};
+ghost use Rattle.cert_check.specs.Steps.{IsLeftBy, step_rule};
 ghost use Rattle.cert_check.specs.Serving.{Serves};
 
 use crate::branches::{case, cut, flip, stuck};
@@ -31,8 +30,8 @@ pub fn rule(
     requires serves { Serves problem.now tools.old }
     requires lemmas { All (λ L. Fits problem.now (state_of L)) lemmas.now }
     requires fits { Fits problem.now (state_of state) }
-    requires names { IsTrue (names_well (problem_of problem.now) (rule_of (rule_line_of step))) }
-    ensures rule { IfOk result (λ o. lefts o ≡ rule (problem_of problem.now) (loosenings_of s) (map state_of lemmas.now) (state_of state) (rule_of (rule_line_of step))) }
+    requires names { IsTrue (names_well (problem_of problem.now) (step_rule step)) }
+    ensures rule { IfOk result (IsLeftBy (step_rule step) problem.now (loosenings_of s) lemmas.now state) }
     ensures serves { Serves problem.now tools.new }
 {
     match step {

@@ -1,6 +1,7 @@
 // States of trees.
 ghost use Rattle.std.specs.Prelude.{◌≡◌, ◌<◌, ◌^◌, length, IfOk};
-ghost use Rattle.poly_graph.specs.State.{covers, marks_within, mark_within, in_yes, in_no, undecided};
+ghost use Rattle.cover_model.specs.State.{covers, in_yes, in_no, undecided};
+ghost use Rattle.poly_graph.specs.Marks.{marks_within, mark_within};
 ghost use Rattle.poly_graph.specs.MarkViews.{mark_of};
 ghost use Rattle.ival.specs.SpaceViews.{space_of};
 ghost use Rattle.cert_check.specs.States.{state_of};

@@ -1,26 +1,24 @@
 // What the rules are tested with.
 ghost use Rattle.std.specs.Prelude.{◌≡◌, ◌<◌, ◌≤◌, length, IfOk};
-ghost use Rattle.dyadic.specs.Rounding.{two_to_minus};
-ghost use Rattle.poly_graph.specs.Space.{range};
-ghost use Rattle.poly_graph.specs.State.{may, sure_within, atom_enclosure, misses, sure_at};
+ghost use Rattle.cover_model.specs.Space.{range};
+ghost use Rattle.cover_model.specs.State.{may};
 ghost use Rattle.poly_graph.specs.Problem.{atom_at};
-ghost use Rattle.poly_graph.specs.Narrowed.{narrowed_by};
 ghost use Rattle.poly_graph.specs.ProblemViews.{problem_of};
-ghost use Rattle.poly_graph.specs.Views.{atom_of, kind_of};
+ghost use Rattle.poly_graph.specs.Views.{atom_of};
 ghost use Rattle.ival.specs.Views.{interval_of};
 ghost use Rattle.ival.specs.RowViews.{rows_of};
 ghost use Rattle.ival.specs.SpaceViews.{space_of};
-ghost use Rattle.ival.specs.Narrows.{IsNarrowed};
 ghost use Rattle.truth3.specs.Truth.{HasRows, pruning};
 ghost use Rattle.cert_check.specs.States.{state_of};
+ghost use Rattle.cert_check.specs.Judgements.{enclosure_over, is_sure_atom_over, is_sure_over, IsNarrowedByAtom, misses_over};
 ghost use Rattle.cert_check.specs.Serving.{Serves};
 
 use crate::state::State;
 use ival::{Ival, Narrowed, Rows, Space};
 use plain_eval::{enclose, narrow_plain};
-use poly_graph::{Atom, Kind, Problem};
+use poly_graph::{Atom, Problem};
 use std::alloc::{AllocError, Global};
-use truth3::{Marks, may, sure};
+use truth3::{Marks, kind_range, may, sure};
 
 /// Rows and truth values for the nodes of a problem, made once.
 #[derive(Drop)]
@@ -38,15 +36,6 @@ fn atom_at(problem: &Problem, j: u32) -> Atom
 {
     let atoms = problem.atoms();
     atoms[j as usize]
-}
-
-// The range of a kind, loosened by 2 to the power of minus `loosen`.
-fn kind_range(kind: Kind, loosen: u32) -> Ival
-    requires { loosen ≤ 120 }
-    ensures { interval_of result ≡ range (two_to_minus loosen) (kind_of kind) }
-{
-    let (low, high) = kind.ends(loosen);
-    Ival::new(low, high)
 }
 
 impl Tools {
@@ -104,7 +93,7 @@ impl Tools {
     pub fn sure(&mut self, problem: &Problem, delta: u32, space: &Space) -> bool
         requires serves { Serves problem.now self.old }
         requires delta { delta ≤ 120 }
-        ensures truth { result ≡ sure_within (problem_of problem.now) (two_to_minus delta) (space_of space.now) }
+        ensures truth { result ≡ is_sure_over problem.now delta space.now }
         ensures serves { Serves problem.now self.new }
     {
         self.fill(problem, space);
@@ -115,7 +104,7 @@ impl Tools {
     fn enclosure(&mut self, problem: &Problem, j: u32, space: &Space) -> Ival
         requires serves { Serves problem.now self.old }
         requires atom { j < length problem.now.atoms }
-        ensures interval { interval_of result ≡ atom_enclosure (problem_of problem.now) (space_of space.now) j }
+        ensures interval { interval_of result ≡ enclosure_over problem.now j space.now }
         ensures serves { Serves problem.now self.new }
     {
         let atom = atom_at(problem, j);
@@ -127,7 +116,7 @@ impl Tools {
         requires serves { Serves problem.now self.old }
         requires margin { margin ≤ 120 }
         requires atom { j < length problem.now.atoms }
-        ensures misses { result ≡ misses (problem_of problem.now) (two_to_minus margin) (space_of space.now) j }
+        ensures misses { result ≡ misses_over problem.now margin j space.now }
         ensures serves { Serves problem.now self.new }
     {
         let range = kind_range(atom_at(problem, j).kind, margin);
@@ -139,7 +128,7 @@ impl Tools {
         requires serves { Serves problem.now self.old }
         requires delta { delta ≤ 120 }
         requires atom { j < length problem.now.atoms }
-        ensures sure { result ≡ sure_at (problem_of problem.now) (two_to_minus delta) (space_of space.now) j }
+        ensures sure { result ≡ is_sure_atom_over problem.now delta j space.now }
         ensures serves { Serves problem.now self.new }
     {
         let range = kind_range(atom_at(problem, j).kind, delta);
@@ -151,7 +140,7 @@ impl Tools {
         requires serves { Serves problem.now self.old }
         requires margin { margin ≤ 120 }
         requires atom { j < length problem.now.atoms }
-        ensures narrowed { IsNarrowed (space_of space.old) (space_of space.new) (narrowed_by problem.now.nodes (atom_at (problem_of problem.now) j).0 (range (two_to_minus margin) (atom_at (problem_of problem.now) j).1) (space_of space.old)) result }
+        ensures narrowed { IsNarrowedByAtom problem.now margin j space.old space.new result }
         ensures serves { Serves problem.now self.new }
     {
         let atom = atom_at(problem, j);

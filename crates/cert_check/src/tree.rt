@@ -1,17 +1,15 @@
 // The lines of trees.
-ghost use Rattle.std.specs.Prelude.{◌≡◌, ℕ, ◌++◌, Option, IfOk, IfSome, Some};
-ghost use Rattle.cert_read.specs.CertLine.{rule_line};
+ghost use Rattle.std.specs.Prelude.{◌≡◌, ◌++◌, IfOk, IfSome, Some};
 ghost use Rattle.cert_read.specs.Views.{line_of};
-ghost use Rattle.cert_model.specs.Due.{CertFault as Fault, Standing, RuleFails, after_rule, after_lemma_rule, end_due, left_open, lemma_goes_on, tree_goes_on};
-ghost use Rattle.cert_model.specs.Accepted.{next};
-ghost use Rattle.poly_graph.specs.ProblemViews.{Parts, problem_of};
-ghost use Rattle.cert_check.specs.declared.due.Due.TheVariants.{Lemma as LemmaDue, Root as RootDue, Tree as TreeDue};
-ghost use Rattle.cert_check.specs.States.{Fits, loosenings_of, state_of};
-ghost use Rattle.cert_check.specs.Steps.{left_of, rule_line_of};
+ghost use Rattle.cert_model.specs.Due.{CertFault as Fault, Standing, RuleFails};
+ghost use Rattle.poly_graph.specs.ProblemViews.{Parts};
+ghost use Rattle.cert_check.specs.declared.due.Due.TheVariants.{End as EndDue, Lemma as LemmaDue, Root as RootDue, Tree as TreeDue};
+ghost use Rattle.cert_check.specs.States.{Fits, state_of};
+ghost use Rattle.cert_check.specs.Steps.{left_of, line_of_step};
 ghost use Rattle.cert_check.specs.Faults.{rule_word};
 ghost use Rattle.cert_check.specs.Serving.{Serves};
-ghost use Rattle.cert_check.specs.Dues.{AllFit, blanks, Comes, due_of, IsSound, IsTree, pending_of, states_of};
-ghost use Rattle.cert_check.specs.Waiting.{counted_stays, FitsLeft, is_stays, left_states, waiting};
+ghost use Rattle.cert_check.specs.Dues.{after_main_rule, after_rule_of_lemma, AllFit, IsNext, IsNextAnywhere, IsOutcome, IsSound, IsTree, pending_of};
+ghost use Rattle.cert_check.specs.Waiting.{counted_stays, HasTreeBehind, is_stays, IsSoundBehind, IsSoundInLemma, left_states, waiting};
 
 use crate::due::{Cover, Due, Tree, Value};
 use crate::fault::Rule;
@@ -45,7 +43,7 @@ fn next_state(pending: Vec<State>) -> Option<Tree>
 #[tactic(auto, using(crate::proofs::Waits::pending_more, crate::proofs::Waits::pending_none))]
 fn leave(pending: Vec<State>, left: Left) -> Result<Option<Tree>, AllocError>
     ensures waiting { IfOk result (λ o. waiting o ≡ left_states (left_of left) ++ pending_of pending.items) }
-    ensures fits { (p : Parts) → AllFit p pending.items → FitsLeft p (Some (left_of left)) → IfOk result (λ o. IfSome o (IsTree p)) }
+    ensures fits { HasTreeBehind pending.items left result }
 {
     match left {
         Left::Closed => Ok(next_state(pending)),
@@ -91,8 +89,8 @@ fn is_stays(left: &Left) -> bool
 // What is due in the main tree after a rule of which this is left.
 #[tactic(auto, using(crate::proofs::Waits::main_done, crate::proofs::Waits::main_on))]
 fn main_left(cover: Cover, pending: Vec<State>, stayed: u64, left: Left) -> Result<Due, Refusal>
-    ensures comes { (p : Parts) (f : Fault) (x : Standing) → Comes p result (after_rule (Some (left_of left)) f x (pending_of pending.items) (blanks stayed) (tree_goes_on (loosenings_of cover.loosenings) (states_of cover.lemmas.items))) }
-    ensures sound { (p : Parts) → AllFit p cover.lemmas.items → AllFit p pending.items → FitsLeft p (Some (left_of left)) → IfOk result (IsSound p) }
+    ensures comes { (p : Parts) (f : Fault) (x : Standing) → IsOutcome p result (after_main_rule cover pending.items stayed (left_of left) f x) }
+    ensures sound { IsSoundBehind cover.lemmas.items pending.items left result }
 {
     let stayed = count_stays(stayed, &left)?;
     match leave(pending, left)? {
@@ -110,8 +108,8 @@ fn lemma_left(
     left: Left,
     word: Rule,
 ) -> Result<Due, Refusal>
-    ensures comes { (p : Parts) → Comes p result (after_lemma_rule (Some (left_of left)) (RuleFails (rule_word word)) (pending_of pending.items) (lemma_goes_on (loosenings_of cover.loosenings) cover.count (states_of cover.lemmas.items) (state_of lemma))) }
-    ensures sound { (p : Parts) → AllFit p cover.lemmas.items → Fits p (state_of lemma) → AllFit p pending.items → FitsLeft p (Some (left_of left)) → IfOk result (IsSound p) }
+    ensures comes { (p : Parts) → IsOutcome p result (after_rule_of_lemma cover lemma pending.items (left_of left) (RuleFails (rule_word word))) }
+    ensures sound { IsSoundInLemma cover.lemmas.items lemma pending.items left result }
 {
     if is_stays(&left) {
         return Err(Refusal::RuleFails(word));
@@ -138,7 +136,7 @@ fn main_rule(
 ) -> Result<Due, Refusal>
     requires serves { Serves problem.now tools.old }
     requires sound { IsSound problem.now (TreeDue cover tree stayed) }
-    ensures comes { (b : Option ℕ) → Comes problem.now result (next (problem_of problem.now) b (due_of problem.now (TreeDue cover tree stayed)) (rule_line (rule_line_of step))) }
+    ensures comes { IsNext problem.now (TreeDue cover tree stayed) (line_of_step step) result }
     ensures sound { IfOk result (IsSound problem.now) }
     ensures serves { Serves problem.now tools.new }
 {
@@ -172,7 +170,7 @@ fn lemma_rule(
 ) -> Result<Due, Refusal>
     requires serves { Serves problem.now tools.old }
     requires sound { IsSound problem.now (LemmaDue cover lemma tree) }
-    ensures comes { (b : Option ℕ) → Comes problem.now result (next (problem_of problem.now) b (due_of problem.now (LemmaDue cover lemma tree)) (rule_line (rule_line_of step))) }
+    ensures comes { IsNext problem.now (LemmaDue cover lemma tree) (line_of_step step) result }
     ensures sound { IfOk result (IsSound problem.now) }
     ensures serves { Serves problem.now tools.new }
 {
@@ -206,7 +204,7 @@ pub fn lemma_line(
 ) -> Result<Due, Refusal>
     requires serves { Serves problem.now tools.old }
     requires sound { IsSound problem.now (LemmaDue cover lemma tree) }
-    ensures comes { (b : Option ℕ) → Comes problem.now result (next (problem_of problem.now) b (due_of problem.now (LemmaDue cover lemma tree)) (line_of line.now)) }
+    ensures comes { IsNext problem.now (LemmaDue cover lemma tree) (line_of line.now) result }
     ensures sound { IfOk result (IsSound problem.now) }
     ensures serves { Serves problem.now tools.new }
 {
@@ -232,7 +230,7 @@ pub fn tree_line(
 ) -> Result<Due, Refusal>
     requires serves { Serves problem.now tools.old }
     requires sound { IsSound problem.now (TreeDue cover tree stayed) }
-    ensures comes { (b : Option ℕ) → Comes problem.now result (next (problem_of problem.now) b (due_of problem.now (TreeDue cover tree stayed)) (line_of line.now)) }
+    ensures comes { IsNext problem.now (TreeDue cover tree stayed) (line_of line.now) result }
     ensures sound { IfOk result (IsSound problem.now) }
     ensures serves { Serves problem.now tools.new }
 {
@@ -256,7 +254,7 @@ fn root_rule(
 ) -> Result<Due, Refusal>
     requires serves { Serves problem.now tools.old }
     requires sound { IsSound problem.now (RootDue cover) }
-    ensures comes { (b : Option ℕ) → Comes problem.now result (next (problem_of problem.now) b (due_of problem.now (RootDue cover)) (rule_line (rule_line_of step))) }
+    ensures comes { IsNext problem.now (RootDue cover) (line_of_step step) result }
     ensures sound { IfOk result (IsSound problem.now) }
     ensures serves { Serves problem.now tools.new }
 {
@@ -295,7 +293,7 @@ pub fn root_line(
 ) -> Result<Due, Refusal>
     requires serves { Serves problem.now tools.old }
     requires sound { IsSound problem.now (RootDue cover) }
-    ensures comes { (b : Option ℕ) → Comes problem.now result (next (problem_of problem.now) b (due_of problem.now (RootDue cover)) (line_of line.now)) }
+    ensures comes { IsNext problem.now (RootDue cover) (line_of line.now) result }
     ensures sound { IfOk result (IsSound problem.now) }
     ensures serves { Serves problem.now tools.new }
 {
@@ -317,7 +315,7 @@ pub fn root_line(
 
 /// `end` of a cover.
 pub fn end_line(s: Loosenings, stayed: u64, line: &Line) -> Result<Due, Refusal>
-    ensures comes { (p : Parts) (b : Option ℕ) → Comes p result (next (problem_of p) b (end_due (loosenings_of s) (left_open (blanks stayed))) (line_of line.now)) }
+    ensures comes { IsNextAnywhere (EndDue s stayed) (line_of line.now) result }
     ensures sound { (p : Parts) → IfOk result (IsSound p) }
 {
     match said(line) {

@@ -1,15 +1,14 @@
 -- The shortest cover, for every problem whose form can't hold at the root.
-use Rattle.std.proofs.Common.{◌≡◌, ℕ, ◌≤◌, [], ◌∷◌, Bool, true, false, not, ◌&&◌, inl, inr, IsTrue, Option, Some, None, refl, ap, ◌∙◌, length, nat_lt, nat_le, arith}
+use Rattle.std.proofs.Common.{◌≡◌, ℕ, ◌≤◌, [], ◌∷◌, Bool, true, false, not, ◌&&◌, inl, inr, IsTrue, Option, Some, None, refl, ap, ◌∙◌, length, nat_lt, nat_le, arith, leb→le}
 use Rattle.std.specs.Prelude.{decimal}
 use Rattle.std.specs.List.{AllByRecursion}
 use Rattle.std.specs.Bool.{passes}
-use Rattle.std.proofs.Common.{leb→le}
 use Rattle.std.proofs.lemmas.Fmt.{length-decimal-le}
 use Rattle.std.proofs.lemmas.Bool.Decides.{eqb_tells}
 use Rattle.dyadic.proofs.Equal.{both_true}
 use Rattle.poly_graph.specs.Problem.{Problem, first_crossed}
-use Rattle.poly_graph.specs.State.{Loosenings, may, root_state}
-use Rattle.poly_graph.specs.Rules.{when, closed, make_false}
+use Rattle.cover_model.specs.State.{Loosenings, may, root_state}
+use Rattle.cover_model.specs.Rules.{when, closed, make_false}
 use Rattle.cert_read.specs.CertLine.{version, margin, delta, bound, cover, tree_word, end_word, rule_line, false_here, false_word}
 use Rattle.cert_read.specs.LineText.{IsCount, IsSpelledBound, IsSpelled}
 use Rattle.cert_model.specs.Due.{left_open, after_rule, RuleFails, BadHeader, WrongBound, tree_goes_on, is_some_axis, version_due, bound_due, kind_due, Next, given, same_bound}

@@ -1,9 +1,9 @@
 -- Trees that grow as their lines are read.
 use Rattle.std.proofs.Common.{◌≡◌, List, [], ◌∷◌, ◌++◌, Some, refl, ap, sym, subst, append_assoc, append-nil}
 use Rattle.poly_graph.specs.Problem.{Problem}
-use Rattle.poly_graph.specs.State.{State, Loosenings}
-use Rattle.poly_graph.specs.Rules.{Line, closed, one, two, stays, rule}
-use Rattle.poly_graph.specs.Derivation.{Tree, Lawful, at_closed, at_left, at_step, at_fork}
+use Rattle.cover_model.specs.State.{State, Loosenings}
+use Rattle.cover_model.specs.Rules.{Line, closed, one, two, stays, rule}
+use Rattle.cover_model.specs.Derivation.{Tree, Lawful, at_closed, at_left, at_step, at_fork}
 use Rattle.cert_model.specs.Due.{Standing}
 use Rattle.cert_model.specs.Derived.{AreDerived, states_of}
 

@@ -1,7 +1,7 @@
 -- What holds of what is due at the first line, and goes on to hold, holds after the last line of an accepted certificate.
 use Rattle.std.proofs.Common.{ℕ, suc, List, [], ◌∷◌, Bool, true, false, Option, subst, length, nat_le, take}
 use Rattle.poly_graph.specs.Problem.{Problem}
-use Rattle.poly_graph.specs.State.{Loosenings}
+use Rattle.cover_model.specs.State.{Loosenings}
 use Rattle.cert_read.specs.Lines.{lines_of, lines_so_far}
 use Rattle.cert_read.specs.CertLine.{CertLine, Parsed, too_long, bad_line, bad_number, line, parsed}
 use Rattle.cert_model.specs.Due.{Value, Due, version_due, nothing_due, Next, on, faulty}

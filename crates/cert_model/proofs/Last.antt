@@ -1,9 +1,9 @@
 -- Nothing follows the line `end` of an accepted certificate.
 use Rattle.std.proofs.Common.{◌≡◌, ℕ, suc, List, [], ◌∷◌, ◌++◌, Bool, true, false, cond, Option, Some, None, refl, ap, sym, ◌∙◌, subst, true≢false, nat_eq, nat_lt, nat_le, length, take}
 use Rattle.poly_graph.specs.Problem.{Declared, real_between, any_bool, Axis, Problem, crosses}
-use Rattle.poly_graph.specs.State.{State, Loosenings, root_state}
-use Rattle.poly_graph.specs.Space.{Space}
-use Rattle.poly_graph.specs.Rules.{Left, closed, one, two, stays, rule}
+use Rattle.cover_model.specs.State.{State, Loosenings, root_state}
+use Rattle.interval_model.specs.Space.{Space}
+use Rattle.cover_model.specs.Rules.{Left, closed, one, two, stays, rule}
 use Rattle.cert_read.specs.Lines.{lines_of, lines_so_far}
 use Rattle.cert_read.specs.CertLine.{CertLine, RuleLine, version, margin, delta, bound, cover, point_word, tree_word, end_word, lemma, real_interval, real_value, bool_value, says_false, says_true, yes_list, no_list, rule_line, crossing, word_of, Parsed, too_long, bad_line, bad_number, line, parsed}
 use Rattle.cert_model.specs.Due.{CertFault, RuleFails, Standing, Value, Due, version_due, margin_due, delta_due, bound_due, kind_due, next_due, axis_due, yes_due, no_due, lemma_due, root_due, tree_due, coordinate_due, end_due, nothing_due, Next, on, faulty, given, rule_of, names_well, after_rule, after_lemma_rule, tree_goes_on, lemma_goes_on, axis_next, coordinate_next, is_crossed_box, is_shown, same_bound}

@@ -3,7 +3,7 @@ use Rattle.std.proofs.Common.{◌≡◌, inl, inr, ℕ, zero, suc, ◌+◌, ◌<
 use Rattle.std.proofs.lemmas.Bool.{le-leb}
 use Rattle.std.proofs.lemmas.Bool.Decides.{eqb_tells}
 use Rattle.dyadic.proofs.Equal.{both_pass}
-use Rattle.poly_graph.specs.State.{Mark, marked_yes, marked_no, unmarked, is_yes, is_no, member, marks_from, marks_of, numbers_from, yes_of, no_of}
+use Rattle.poly_graph.specs.Marks.{Mark, marked_yes, marked_no, unmarked, is_yes, is_no, member, marks_from, marks_of, numbers_from, yes_of, no_of}
 use Rattle.cert_model.specs.Due.{ascends, apart, all_below}
 
 either-way : (P : Bool → Type 0) (t : Bool) → P true → P false → P t

@@ -5,13 +5,13 @@ use Rattle.dyadic.specs.Fraction.{Fraction, at_most, sum_of, difference_of}
 use Rattle.dyadic.specs.Point.{Sort, Coordinate, at_fraction, at_bool, IsPoint}
 use Rattle.dyadic.specs.Rounding.{Dyadic, exact}
 use Rattle.dyadic.proofs.Equal.{both_true, both_pass, total}
-use Rattle.poly_graph.specs.Space.{Domain, real_domain, bool_domain, Space, in_domain, in_space}
+use Rattle.interval_model.specs.Space.{Domain, real_domain, bool_domain, Space, in_domain, in_space}
 use Rattle.poly_graph.specs.Problem.{Declared, real_between, any_bool, Axis, Problem, IsProblem, sort_of, sorts_of_axes, sorts_of_problem, in_declared_box}
-use Rattle.poly_graph.specs.State.{State, Loosenings, delta_of, sure, MeetsAt, MeetsForm, IsLemma}
-use Rattle.poly_graph.specs.Derivation.{Among, AreLemmas}
-use Rattle.poly_graph.proofs.May.{sure_means}
-use Rattle.poly_graph.proofs.Sound.{tree_keeps, none_left}
-use Rattle.poly_graph.proofs.Root.{root_has, crossed_is_empty}
+use Rattle.cover_model.specs.State.{State, Loosenings, delta_of, sure, MeetsAt, MeetsForm, IsLemma}
+use Rattle.cover_model.specs.Derivation.{Among, AreLemmas}
+use Rattle.cover_model.proofs.May.{sure_means}
+use Rattle.cover_model.proofs.Sound.{tree_keeps, none_left}
+use Rattle.cover_model.proofs.Root.{root_has, crossed_is_empty}
 use Rattle.cert_model.specs.Due.{Standing, at_point, left_open, coordinate_of, coordinates, is_near, are_near}
 use Rattle.cert_model.specs.Accepted.{IsAccepted}
 use Rattle.cert_model.specs.Derived.{AreDerived, states_of, IsTree, IsCover, IsNear, AreNear, IsSingle, AreSingle}

@@ -1,9 +1,9 @@
 -- Worked certificates, computed from their bytes.
 use Rattle.std.proofs.Common.{◌≡◌, ℕ, List, [], ◌∷◌, ◌++◌, Bool, true, false, Some, None, map, refl, codes}
-use Rattle.poly_graph.specs.Space.{real_domain, bool_domain}
-use Rattle.poly_graph.specs.State.{Loosenings, root_state}
-use Rattle.poly_graph.specs.Rules.{open_line}
-use Rattle.poly_graph.specs.Honest.{is_honest}
+use Rattle.interval_model.specs.Space.{real_domain, bool_domain}
+use Rattle.cover_model.specs.State.{Loosenings, root_state}
+use Rattle.cover_model.specs.Rules.{open_line}
+use Rattle.cover_model.specs.Honest.{is_honest}
 use Rattle.cert_read.specs.CertLine.{empty_word, pull_word, by_word, cut_word, case_word, stuck_word, open_word, false_word}
 use Rattle.cert_model.specs.Due.{BadHeader, BadNumber, RuleFails, Missing, Extra, WrongBound, NotShown, BadLine, at_point, left_open}
 use Rattle.cert_model.specs.Accepted.{Verdict, accepted, refused, verdict}

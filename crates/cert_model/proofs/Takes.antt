@@ -4,10 +4,10 @@ use Rattle.std.specs.List.{AllByRecursion}
 use Rattle.std.proofs.lemmas.List.{map-append}
 use Rattle.std.proofs.lemmas.List.Sums.{sum_by-cons, sum_by-append}
 use Rattle.poly_graph.specs.Problem.{Problem}
-use Rattle.poly_graph.specs.State.{State, Loosenings}
-use Rattle.poly_graph.specs.Rules.{Line, pull, unit, void, ban, make_false, by, cut, flip, case, open_line, stuck, Left, closed, one, two, stays, rule}
-use Rattle.poly_graph.specs.Honest.{branch_count}
-use Rattle.poly_graph.specs.Derivation.{Tree, tree_lines, Lawful, at_closed, at_left, at_step, at_fork}
+use Rattle.cover_model.specs.State.{State, Loosenings}
+use Rattle.cover_model.specs.Rules.{Line, pull, unit, void, ban, make_false, by, cut, flip, case, open_line, stuck, Left, closed, one, two, stays, rule}
+use Rattle.cover_model.specs.Honest.{branch_count}
+use Rattle.cover_model.specs.Derivation.{Tree, tree_lines, Lawful, at_closed, at_left, at_step, at_fork}
 use Rattle.cert_read.specs.CertLine.{CertLine, rule_line, word_of}
 use Rattle.cert_model.specs.Due.{RuleFails, Standing, Next, lemma_due, tree_due, names_well, rule_of, after_rule, after_lemma_rule, tree_goes_on, lemma_goes_on}
 use Rattle.cert_model.specs.Accepted.{next, ruled_line, Course, course_next, course_of_lines}

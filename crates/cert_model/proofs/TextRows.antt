@@ -1,8 +1,8 @@
 -- Worked answers.
 use Rattle.std.proofs.Common.{◌≡◌, [], ◌∷◌, true, false, map, refl, codes, None}
-use Rattle.poly_graph.specs.Space.{real_domain, bool_domain}
-use Rattle.poly_graph.specs.State.{Loosenings}
-use Rattle.poly_graph.specs.Rules.{open_line, stuck}
+use Rattle.interval_model.specs.Space.{real_domain, bool_domain}
+use Rattle.cover_model.specs.State.{Loosenings}
+use Rattle.cover_model.specs.Rules.{open_line, stuck}
 use Rattle.cert_read.specs.CertLine.{pull_word}
 use Rattle.cert_model.specs.Due.{NotShown, RuleFails, Standing, at_point, left_open}
 use Rattle.cert_model.specs.Accepted.{refused, certificate_text}

@@ -1,11 +1,11 @@
 -- The texts of covers and points: accepted, with the lines of the main tree where they stand.
 use Rattle.std.proofs.Common.{◌≡◌, ℕ, List, [], ◌∷◌, Option, ◌≤◌, IsTrue, All, map, ap, ◌∙◌, sym, subst, length}
 use Rattle.std.proofs.lemmas.List.Elements.{All-map}
-use Rattle.poly_graph.specs.Space.{Space}
+use Rattle.interval_model.specs.Space.{Space}
 use Rattle.poly_graph.specs.Problem.{Problem, crosses}
-use Rattle.poly_graph.specs.State.{Loosenings, root_state}
-use Rattle.poly_graph.specs.Honest.{is_honest}
-use Rattle.poly_graph.specs.Derivation.{Tree, tree_lines}
+use Rattle.cover_model.specs.State.{Loosenings, root_state}
+use Rattle.cover_model.specs.Honest.{is_honest}
+use Rattle.cover_model.specs.Derivation.{Tree, tree_lines}
 use Rattle.cert_read.specs.CertLine.{CertLine, crossing}
 use Rattle.cert_model.specs.Due.{Standing, left_open, at_point, is_shown}
 use Rattle.cert_model.specs.Accepted.{IsAccepted, loosenings_fit, most_lemmas}

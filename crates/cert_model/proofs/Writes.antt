@@ -4,10 +4,11 @@ use Rattle.std.proofs.lemmas.Bool.{le-leb}
 use Rattle.std.proofs.lemmas.Bool.Decides.{eqb_tells}
 use Rattle.dyadic.specs.Rounding.{Dyadic}
 use Rattle.dyadic.proofs.Equal.{both_pass}
-use Rattle.poly_graph.specs.Space.{Domain, real_domain, bool_domain, Space}
+use Rattle.interval_model.specs.Space.{Domain, real_domain, bool_domain, Space}
 use Rattle.poly_graph.specs.Problem.{Declared, real_between, any_bool, Axis, Problem, first_crossed, crosses}
-use Rattle.poly_graph.specs.State.{Mark, State, Loosenings, root_state, yes_of, no_of, marks_of}
-use Rattle.poly_graph.specs.Derivation.{Tree, leaf, then, fork, tree_lines, Lawful}
+use Rattle.poly_graph.specs.Marks.{Mark, yes_of, no_of, marks_of, numbers_from, is_no, is_yes}
+use Rattle.cover_model.specs.State.{State, Loosenings, root_state}
+use Rattle.cover_model.specs.Derivation.{Tree, leaf, then, fork, tree_lines, Lawful}
 use Rattle.cert_read.specs.CertLine.{CertLine, line, version, margin, delta, bound, cover, lemma, point_word, tree_word, end_word, yes_list, no_list, crossing}
 use Rattle.cert_model.specs.Due.{BadHeader, BadNumber, Missing, WrongBound, NotShown, Standing, at_point, left_open, is_shown, coordinate_next, Due, version_due, margin_due, delta_due, bound_due, kind_due, next_due, yes_due, no_due, lemma_due, root_due, tree_due, end_due, nothing_due, Next, on, faulty, given, same_bound, ascends, apart, all_below, state_of, axis_next, is_some_axis}
 use Rattle.cert_model.specs.Accepted.{next, coordinate_line, axis_line, no_crossing, root_line, loosenings_fit, most_lemmas, course_next, course_of_lines, ended, accepted}
@@ -68,8 +69,8 @@ module _ (p : Problem) (b : Option ℕ) (s : Loosenings) where
   axes-lead k lemmas [] (d ∷ ds) f space ls = elim f [ ]
   axes-lead k lemmas (a ∷ axes) [] f space ls = elim f [ ]
 
-  list-fits : (test : Mark → Bool) (marks : List Mark) → length marks ≡ length p.atoms → all_below (length p.atoms) (Rattle.poly_graph.specs.State.numbers_from test 0 marks) && ascends (Rattle.poly_graph.specs.State.numbers_from test 0 marks) ≡ true
-  list-fits test marks e = both_pass (all_below (length p.atoms) (Rattle.poly_graph.specs.State.numbers_from test 0 marks)) (ascends (Rattle.poly_graph.specs.State.numbers_from test 0 marks))
+  list-fits : (test : Mark → Bool) (marks : List Mark) → length marks ≡ length p.atoms → all_below (length p.atoms) (numbers_from test 0 marks) && ascends (numbers_from test 0 marks) ≡ true
+  list-fits test marks e = both_pass (all_below (length p.atoms) (numbers_from test 0 marks)) (ascends (numbers_from test 0 marks))
       (numbers_below test marks 0 (length p.atoms) (omega (arith, e))) (numbers_ascend test marks 0)
 
   state-again : (S : State) → length S.marks ≡ length p.atoms → state_of p S.space (yes_of S.marks) (no_of S.marks) ≡ S
@@ -85,7 +86,7 @@ module _ (p : Problem) (b : Option ℕ) (s : Loosenings) where
   no-step : (k : ℕ) (lemmas : List State) (S : State) → length S.marks ≡ length p.atoms → next p b (no_due s k lemmas S.space (yes_of S.marks)) (no_list (no_of S.marks)) ≡ on (lemma_due s k lemmas S S [])
   no-step k lemmas S e =
       ap (λ (t : Bool). given t (lemma_due s k lemmas (state_of p S.space (yes_of S.marks) (no_of S.marks)) (state_of p S.space (yes_of S.marks) (no_of S.marks)) []) BadNumber)
-      (both_pass (all_below (length p.atoms) (no_of S.marks) && ascends (no_of S.marks)) (apart (yes_of S.marks) (no_of S.marks)) (list-fits Rattle.poly_graph.specs.State.is_no S.marks e) (lists_apart S.marks))
+      (both_pass (all_below (length p.atoms) (no_of S.marks) && ascends (no_of S.marks)) (apart (yes_of S.marks) (no_of S.marks)) (list-fits is_no S.marks e) (lists_apart S.marks))
       ∙ ap (λ (X : State). on (lemma_due s k lemmas X X [])) (state-again S e)
 
   lemma-leads : (k : ℕ) (lemmas : List State) (x : LemmaTree) → IsLemmaTree p s lemmas x → length lemmas < k → (ls : List CertLine) →
@@ -98,7 +99,7 @@ module _ (p : Problem) (b : Option ℕ) (s : Loosenings) where
       let space : Leads (axis_next s k lemmas p.axes []) (map domain_line S.space ++ lists) (yes_due s k lemmas S.space) lists = axes-lead k lemmas p.axes S.space g.fits [] lists in
       let yes : Leads (yes_due s k lemmas S.space) lists (no_due s k lemmas S.space (yes_of S.marks)) (no_list (no_of S.marks) ∷ rules) =
       one-line (yes_due s k lemmas S.space) (yes_list (yes_of S.marks)) (no_list (no_of S.marks) ∷ rules) (no_due s k lemmas S.space (yes_of S.marks))
-      (ap (λ (t : Bool). given t (no_due s k lemmas S.space (yes_of S.marks)) BadNumber) (list-fits Rattle.poly_graph.specs.State.is_yes S.marks g.marks)) refl in
+      (ap (λ (t : Bool). given t (no_due s k lemmas S.space (yes_of S.marks)) BadNumber) (list-fits is_yes S.marks g.marks)) refl in
       let no : Leads (no_due s k lemmas S.space (yes_of S.marks)) (no_list (no_of S.marks) ∷ rules) (lemma_due s k lemmas S S []) rules =
       one-line (no_due s k lemmas S.space (yes_of S.marks)) (no_list (no_of S.marks)) rules (lemma_due s k lemmas S S []) (no-step k lemmas S g.marks) refl in
       let tree : Leads (lemma_due s k lemmas S S []) rules (next_due s k (lemmas ++ (S ∷ []))) ls =

@@ -5,10 +5,10 @@ use Rattle.dyadic.specs.Rounding.{exact}
 use Rattle.cert_read.specs.LineText.{text_of_lines, line_text}
 use Rattle.cert_read.specs.Lines.{lines_of, lines_so_far}
 use Rattle.cert_read.specs.CertLine.{says_both, says_false, says_true, RuleLine, CertLine, version, margin, delta, bound, cover, point_word, tree_word, end_word, lemma, real_interval, real_value, bool_value, yes_list, no_list, rule_line, crossing, word_of, empty_word, Parsed, too_long, bad_line, bad_number, line, parsed}
-use Rattle.poly_graph.specs.Space.{real_domain, bool_domain, Space}
+use Rattle.interval_model.specs.Space.{real_domain, bool_domain, Space}
 use Rattle.poly_graph.specs.Problem.{Declared, real_between, any_bool, Axis, Problem, crosses}
-use Rattle.poly_graph.specs.State.{State, Loosenings, root_state}
-use Rattle.poly_graph.specs.Rules.{rule}
+use Rattle.cover_model.specs.State.{State, Loosenings, root_state}
+use Rattle.cover_model.specs.Rules.{rule}
 use Rattle.cert_model.specs.Due.{CertFault, BadHeader, BadNumber, RuleFails, Missing, Extra, WrongBound, NotShown, BadLine, LineTooLong, TooLong, Standing, Value, left_open, Due, version_due, margin_due, delta_due, bound_due, kind_due, next_due, axis_due, yes_due, no_due, lemma_due, root_due, tree_due, coordinate_due, end_due, nothing_due, Next, on, faulty, given, same_bound, bool_domain_of, ascends, apart, all_below, state_of, rule_of, is_axis, names_well, after_rule, after_lemma_rule, tree_goes_on, lemma_goes_on, axis_next, is_crossed_box, extra_after, extra_at_end, coordinate_next, is_shown}
 
 -- ---- a line that is well formed, where something is due

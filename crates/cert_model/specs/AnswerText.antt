@@ -3,10 +3,10 @@ use Rattle.std.specs.Prelude.{ℕ, List, [], ◌∷◌, ◌++◌, length, Bool, 
 use Rattle.dyadic.specs.NumberText.{number_spelling}
 use Rattle.cert_read.specs.CertLine.{word_text}
 use Rattle.script_model.specs.Symbol.{is_simple_symbol}
-use Rattle.poly_graph.specs.Space.{Domain, real_domain, bool_domain, Space}
+use Rattle.interval_model.specs.Space.{Domain, real_domain, bool_domain, Space}
 use Rattle.poly_graph.specs.Problem.{Axis, Problem}
-use Rattle.poly_graph.specs.State.{State, Loosenings}
-use Rattle.poly_graph.specs.Rules.{Line, open_line, stuck}
+use Rattle.cover_model.specs.State.{State, Loosenings}
+use Rattle.cover_model.specs.Rules.{Line, open_line, stuck}
 use Rattle.cert_model.specs.Due.{CertFault, BadHeader, BadNumber, RuleFails, Missing, Extra, WrongBound, NotShown, BadLine, LineTooLong, TooLong, Standing, Value, at_point, left_open}
 use Rattle.cert_model.specs.Accepted.{Verdict, accepted, refused}
 

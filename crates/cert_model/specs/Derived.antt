@@ -2,11 +2,11 @@
 use Rattle.std.specs.Prelude.{◌≡◌, ℕ, ◌⊎◌, List, [], ◌∷◌, ◌++◌, map, true, false, IsTrue}
 use Rattle.dyadic.specs.Fraction.{Fraction, at_most, sum_of, difference_of}
 use Rattle.dyadic.specs.Point.{Coordinate, at_fraction, at_bool}
-use Rattle.poly_graph.specs.Space.{Domain, real_domain, bool_domain, Space}
+use Rattle.interval_model.specs.Space.{Domain, real_domain, bool_domain, Space}
 use Rattle.poly_graph.specs.Problem.{Declared, real_between, any_bool, Axis, Problem, crosses}
-pub use Rattle.poly_graph.specs.Fits.{IsSingle, AreSingle}
-use Rattle.poly_graph.specs.State.{State, Loosenings, root_state}
-use Rattle.poly_graph.specs.Derivation.{Tree, Lawful}
+pub use Rattle.cover_model.specs.Fits.{IsSingle, AreSingle}
+use Rattle.cover_model.specs.State.{State, Loosenings, root_state}
+use Rattle.cover_model.specs.Derivation.{Tree, Lawful}
 use Rattle.cert_read.specs.CertLine.{end_word, line, parsed}
 use Rattle.cert_model.specs.Due.{Standing}
 

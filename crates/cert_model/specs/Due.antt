@@ -4,11 +4,12 @@ use Rattle.dyadic.specs.Fraction.{Fraction, at_most, sum_of, difference_of}
 use Rattle.dyadic.specs.Point.{Coordinate, at_fraction, at_bool}
 use Rattle.dyadic.specs.Rounding.{exact}
 use Rattle.cert_read.specs.CertLine.{BoolWord, says_false, says_true, says_both, RuleLine, pull_at, unit_at, void_at, case_at, stuck_at, by_lemma, ban_by, cut_at, flip_at, false_here, open_here, RuleWord}
-use Rattle.poly_graph.specs.Space.{Domain, real_domain, bool_domain, Space}
+use Rattle.interval_model.specs.Space.{Domain, real_domain, bool_domain, Space}
 use Rattle.poly_graph.specs.Problem.{Declared, real_between, any_bool, Axis, Problem, first_crossed}
-pub use Rattle.poly_graph.specs.Fits.{coordinate_of, coordinates, is_near, are_near}
-use Rattle.poly_graph.specs.State.{State, Loosenings, delta_of, member, sure, marks_of}
-use Rattle.poly_graph.specs.Rules.{Line, pull, unit, void, ban, make_false, by, cut, flip, case, open_line, stuck, Left, closed, one, two, stays}
+pub use Rattle.cover_model.specs.Fits.{coordinate_of, coordinates, is_near, are_near}
+use Rattle.cover_model.specs.State.{State, Loosenings, delta_of, sure}
+use Rattle.poly_graph.specs.Marks.{member, marks_of}
+use Rattle.cover_model.specs.Rules.{Line, pull, unit, void, ban, make_false, by, cut, flip, case, open_line, stuck, Left, closed, one, two, stays}
 
 pub data CertFault : Type 0 where
   BadHeader BadNumber : CertFault
@@ -16,7 +17,8 @@ pub data CertFault : Type 0 where
   RuleFails : RuleWord → CertFault
   Missing Extra WrongBound NotShown BadLine LineTooLong TooLong : CertFault
 
--- a line of a tree with the state where it stands
+-- A line of a tree with its standing: the state where it is written, a box with the marks of the atoms, which the lines
+-- before it left.
 pub record Standing : Type 0 where
   pub state : State
   pub does : Line

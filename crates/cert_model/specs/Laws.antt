@@ -4,9 +4,9 @@ use Rattle.std.specs.List.{AllByRecursion}
 use Rattle.dyadic.specs.Point.{Coordinate, IsPoint}
 use Rattle.dyadic.specs.Rounding.{exact}
 use Rattle.poly_graph.specs.Problem.{Problem, IsProblem, sorts_of_problem, in_declared_box, first_crossed, crosses}
-use Rattle.poly_graph.specs.Space.{Space}
-use Rattle.poly_graph.specs.State.{State, Loosenings, delta_of, root_state, may, MeetsAt, MeetsForm}
-use Rattle.poly_graph.specs.Derivation.{Tree, tree_lines, Lawful, Among, AreLemmas}
+use Rattle.interval_model.specs.Space.{Space}
+use Rattle.cover_model.specs.State.{State, Loosenings, delta_of, root_state, may, MeetsAt, MeetsForm}
+use Rattle.cover_model.specs.Derivation.{Tree, tree_lines, Lawful, Among, AreLemmas}
 use Rattle.cert_read.specs.LineText.{IsSpelledBound, IsSpelled}
 use Rattle.cert_read.specs.CertLine.{CertLine, version, margin, delta, bound, cover, tree_word, end_word, rule_line, false_here, crossing}
 use Rattle.cert_read.specs.Lines.{lines_of}

@@ -1,14 +1,21 @@
 -- The lines of a certificate's main tree with their states; honest certificates, and the number of branches.
+--
+-- The standing of a line is the state where it is written: a box with its marks, which the lines before it left.
+-- A certificate is honest where each line of its main tree stands where it is called for: a branch, and a state that is left
+-- open or stuck, where the form may hold and is not shown to hold at the middle of the box; a branch, and a stuck state, where
+-- each atom that the form needs is marked yes and none of them empties the box; a cut at the middle of a widest side, above
+-- the least width; a stuck state in a box that is down to the least width, by its first stuck atom. What is accepted need
+-- not be honest: honesty says that the search did not give up early.
 use Rattle.std.specs.Prelude.{ℕ, ◌+◌, List, [], ◌∷◌, ◌++◌, Bool, true, false, Option, IsTrue, All}
 use Rattle.cert_read.specs.Lines.{lines_of}
 use Rattle.cert_read.specs.CertLine.{RuleLine, CertLine, rule_line, Parsed, line, parsed}
 use Rattle.poly_graph.specs.Problem.{Problem}
-use Rattle.poly_graph.specs.State.{State, Loosenings, root_state}
-use Rattle.poly_graph.specs.Honest.{is_honest, branch_count}
+use Rattle.cover_model.specs.State.{State, Loosenings, root_state}
+use Rattle.cover_model.specs.Honest.{is_honest, branch_count}
 use Rattle.cert_model.specs.Due.{Standing, Due, version_due, root_due, tree_due, Next, on, faulty, rule_of, is_crossed_box}
 use Rattle.cert_model.specs.Accepted.{next, next_parsed}
 
--- with the margin and delta of the header
+-- a line of the main tree with its state, and the margin and delta of the header
 pub record Stands : Type 0 where
   pub loosenings : Loosenings
   pub line : Standing

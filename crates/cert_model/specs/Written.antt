@@ -4,13 +4,14 @@ use Rattle.std.specs.List.{AllByRecursion}
 use Rattle.dyadic.specs.Fraction.{at_most}
 use Rattle.dyadic.specs.Rounding.{exact}
 use Rattle.cert_read.specs.CertLine.{says_false, says_true, says_both, RuleLine, pull_at, unit_at, void_at, case_at, stuck_at, by_lemma, ban_by, cut_at, flip_at, false_here, open_here, CertLine, rule_line, version, margin, delta, bound, cover, lemma, point_word, tree_word, end_word, real_interval, real_value, bool_value, yes_list, no_list}
-use Rattle.poly_graph.specs.Space.{Domain, real_domain, bool_domain, Space}
+use Rattle.interval_model.specs.Space.{Domain, real_domain, bool_domain, Space}
 use Rattle.poly_graph.specs.Problem.{Declared, real_between, any_bool, Axis, Problem}
-pub use Rattle.poly_graph.specs.Fits.{FitsAxis, FitsAxes}
-use Rattle.poly_graph.specs.State.{State, Loosenings, yes_of, no_of}
-use Rattle.poly_graph.specs.Rules.{Line, pull, unit, void, ban, make_false, by, cut, flip, case, open_line, stuck, Left, one, two, stays, rule}
-use Rattle.poly_graph.specs.Honest.{is_honest, branch_count}
-use Rattle.poly_graph.specs.Derivation.{Tree, leaf, then, fork, tree_lines, Lawful}
+pub use Rattle.cover_model.specs.Fits.{FitsAxis, FitsAxes}
+use Rattle.cover_model.specs.State.{State, Loosenings}
+use Rattle.poly_graph.specs.Marks.{yes_of, no_of}
+use Rattle.cover_model.specs.Rules.{Line, pull, unit, void, ban, make_false, by, cut, flip, case, open_line, stuck, Left, one, two, stays, rule}
+use Rattle.cover_model.specs.Honest.{is_honest, branch_count}
+use Rattle.cover_model.specs.Derivation.{Tree, leaf, then, fork, tree_lines, Lawful}
 use Rattle.cert_model.specs.Due.{Standing, names_well}
 
 abbrev pub line_of : Line → RuleLine

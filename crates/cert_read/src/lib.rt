@@ -12,6 +12,3 @@ mod reader;
 pub use fault::LineFault;
 pub use line::{BoolSet, Line};
 pub use reader::LineReader;
-
-#[cfg(test)]
-mod tests;

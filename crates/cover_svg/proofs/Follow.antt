@@ -1,10 +1,10 @@
 -- Steps that follow the rules.
 use Rattle.std.proofs.Common.{Result, Ok, Err, IfOk, ◌≡◌, ℕ, zero, suc, ◌<◌, ◌≤◌, ◌∙◌, List, [], ◌∷◌, length, get_or, Bool, true, false, true≢false, Option, Some, refl, ap, sym, arith}
-use Rattle.dyadic.specs.Space.{Domain, Space, test_axis}
+use Rattle.interval_model.specs.Space.{Domain, Space, test_axis}
 use Rattle.cover_rule.proofs.Axes.{test_is}
-use Rattle.poly_graph.specs.State.{Mark, undecided_in, mark_at, unmarked}
-use Rattle.poly_graph.specs.Rules as rules
-use Rattle.poly_graph.specs.Rules.{when}
+use Rattle.poly_graph.specs.Marks.{Mark, undecided_in, mark_at, unmarked}
+use Rattle.cover_model.specs.Rules as rules
+use Rattle.cover_model.specs.Rules.{when}
 use Rattle.cover_svg.specs.declared.step.Left.{Left}
 use Rattle.cover_svg.specs.Steps.{left_of, Follows}
 

@@ -3,9 +3,9 @@ use Rattle.std.specs.Prelude.{◌≡◌, List, Option, Some, None}
 use Rattle.cert_read.specs.CertLine.{CertLine, rule_line, void_at, stuck_at, by_lemma, false_here, open_here}
 use Rattle.cert_model.specs.Due.{rule_of}
 use Rattle.poly_graph.specs.Problem.{Problem}
-use Rattle.poly_graph.specs.State.{State, Loosenings}
-use Rattle.poly_graph.specs.Rules as rules
-use Rattle.poly_graph.specs.Rules.{rule}
+use Rattle.cover_model.specs.State.{State, Loosenings}
+use Rattle.cover_model.specs.Rules as rules
+use Rattle.cover_model.specs.Rules.{rule}
 use Rattle.cover_svg.specs.declared.step.Fate.{Fate}
 use Rattle.cover_svg.specs.declared.step.Fate.TheVariants.{Void, False, By, Open, Stuck}
 use Rattle.cover_svg.specs.declared.step.Left.{Left}

@@ -6,12 +6,12 @@ use crate::frame::{Frame, frame_of};
 use crate::header::{Header, Matter, read_header};
 use crate::lines::Lines;
 use crate::picture::Picture;
-use crate::script::problem_of;
 use crate::step::{Left, step};
 use cert_read::{BoolSet, Line};
 use cover_rule::State;
 use ival::Space;
 use poly_graph::{Declared, Lits, Problem};
+use problem_build::read_problem;
 use std::alloc::Global;
 use truth3::{Root, root_space};
 
@@ -111,7 +111,7 @@ fn draw_point(
 pub fn draw(alloc: Global, script: &[u8], cert: &[u8]) -> Result<String, Fault> {
     let mut lines = Lines::new(alloc, cert)?;
     let header = read_header(&mut lines)?;
-    let problem = problem_of(alloc, script, header.bound)?;
+    let problem = read_problem(alloc, script, header.bound)?;
     let root = match root_space(alloc, &problem)? {
         Root::Space(root) => root,
         Root::Empty(_) => return Err(Fault::EmptyBox),

@@ -1,10 +1,7 @@
 // Why there is no picture.
 
 use cert_read::LineFault;
-use problem_build::ScriptFault as BuildFault;
-use smt_script::ScriptFault as CommandFault;
-use smt_sexp::TextFault;
-use sort_check::ScriptFault as SortFault;
+use script_fault::ReadError;
 use std::alloc::{AllocError, AllocFailed};
 use thiserror::Error;
 
@@ -19,20 +16,11 @@ pub enum Fault {
     Cert,
     #[error("the picture can't be written")]
     Output,
-    #[error("no memory")]
+    #[error("out of memory")]
     Memory,
-    /// The script is too long.
-    #[error("the script has more than 67,108,864 bytes")]
-    TooLong,
     /// The script has a fault.
     #[error("script: {0}")]
-    Text(TextFault),
-    #[error("script: {0}")]
-    Commands(CommandFault),
-    #[error("script: {0}")]
-    Sorts(SortFault),
-    #[error("script: {0}")]
-    Build(BuildFault),
+    Refused(ReadError),
     /// The script has another number of Real constants than two.
     #[error("the script does not have two Real constants")]
     Axes,
@@ -53,15 +41,20 @@ impl Fault {
     pub fn status(&self) -> u8 {
         match self {
             Fault::Line { .. } | Fault::Misfit { .. } => 1,
-            Fault::TooLong | Fault::Axes | Fault::EmptyBox => 2,
-            Fault::Text(TextFault::Memory) | Fault::Commands(CommandFault::Memory) => 6,
-            Fault::Sorts(SortFault::Memory) | Fault::Build(BuildFault::Memory) => 6,
-            Fault::Text(_) | Fault::Commands(_) | Fault::Sorts(_) | Fault::Build(_) => 2,
+            Fault::Axes | Fault::EmptyBox => 2,
+            Fault::Refused(ReadError::Memory) => 6,
+            Fault::Refused(_) => 2,
             Fault::Usage => 3,
             Fault::Script | Fault::Cert => 4,
             Fault::Output => 5,
             Fault::Memory => 6,
         }
+    }
+}
+
+impl From<ReadError> for Fault {
+    fn from(error: ReadError) -> Self {
+        Fault::Refused(error)
     }
 }
 

@@ -7,7 +7,6 @@ mod frame;
 mod header;
 mod lines;
 mod picture;
-mod script;
 mod step;
 
 use drawing::draw;

@@ -1,16 +1,16 @@
 // The lines of a tree, each as a step on its state.
 ghost use Rattle.std.specs.Prelude.{◌≡◌, ◌<◌, ◌≤◌, List, length, false, true, Ok, Some, IfOk, IfSome, IsNone, MatchOption};
 ghost use Rattle.dyadic.specs.Rounding.{two_to_minus};
-ghost use Rattle.dyadic.specs.Space.{strictly_inside, is_undecided, test_axis};
+ghost use Rattle.interval_model.specs.Space.{strictly_inside, is_undecided, test_axis};
 ghost use Rattle.dyadic.specs.Views.{dyadic_of};
 ghost use Rattle.ival.specs.Narrows.{IsNarrowed};
 ghost use Rattle.ival.specs.SpaceViews.{domain_of, space_of};
-ghost use Rattle.poly_graph.specs.Narrowed.{narrowed_by};
+ghost use Rattle.cover_model.specs.Narrowed.{narrowed_by};
 ghost use Rattle.poly_graph.specs.Problem.{Problem as WholeProblem, atom_at};
 ghost use Rattle.poly_graph.specs.ProblemViews.{problem_of};
-ghost use Rattle.poly_graph.specs.Rules.{rule, pull, void, cut, flip, case};
-ghost use Rattle.poly_graph.specs.Space.{range};
-ghost use Rattle.poly_graph.specs.State.{State as CoverState, Loosenings, in_yes, undecided, with_mark};
+ghost use Rattle.cover_model.specs.Rules.{rule, pull, void, cut, flip, case};
+ghost use Rattle.cover_model.specs.Space.{range};
+ghost use Rattle.cover_model.specs.State.{State as CoverState, Loosenings, in_yes, undecided, with_mark};
 ghost use Rattle.poly_graph.specs.Views.{kind_of};
 ghost use Rattle.poly_graph.specs.MarkViews.{mark_of};
 ghost use Rattle.cert_read.specs.CertLine.{rule_line, pull_at, void_at, case_at, cut_at, flip_at};

@@ -1,5 +1,5 @@
 -- A listed fault is found by `==`.
-use Rattle.std.proofs.Common.{◌≡◌, ℕ, List, Bool, true, false, refl, ap, Contains, sym, subst, true≢false}
+use Rattle.std.proofs.Common.{◌≡◌, ℕ, List, true, refl, ap, Contains, sym, subst, true≢false}
 use Rattle.std.proofs.lemmas.Bool.{eqb-true, eq-eqb}
 use Rattle.std.proofs.lemmas.Map.Views.{Contains-from_any}
 use Rattle.std.proofs.lemmas.List.Folds.{list_any_at}

@@ -1,9 +1,10 @@
 -- What the desks in memory tell.
-use Rattle.std.specs.Prelude.{ℕ, List, Some, drop, map, string_bytes, Contains}
+use Rattle.std.specs.Prelude.{ℕ, List, [], Some, drop, map, string_bytes, Contains}
 use Rattle.desk.specs.declared.desk.Port.{Port}
 use Rattle.desk.specs.declared.calls.Calls.{Calls}
 use Rattle.desk.specs.declared.calls.Fault.{Fault}
 use Rattle.desk.specs.Calls.{calls_on}
+use Rattle.desk.specs.declared.memory.Source.{Source}
 use Rattle.desk.specs.declared.memory.Start.{Start}
 use Rattle.desk.specs.declared.memory.SteadyDesk.{SteadyDesk}
 use Rattle.desk.specs.declared.memory.MemoryDesk.{MemoryDesk}
@@ -13,10 +14,14 @@ use Rattle.desk.specs.Sight.{Sight}
 abbrev pub start_of : Start → Port × List ℕ
 start_of s = (s.port, string_bytes s.name)
 
+-- what is left to read of a port's bytes
+abbrev pub left_in : Source → List ℕ
+left_in s = drop s.at s.bytes.items
+
 abbrev pub steady_sight : SteadyDesk → Sight
 steady_sight d = record {
-  script = Some (drop d.script.at d.script.bytes.items);
-  cert_in = Some (drop d.cert_in.at d.cert_in.bytes.items);
+  script = Some (left_in d.script);
+  cert_in = Some (left_in d.cert_in);
   answer = Some d.answer.items;
   cert_out = Some d.cert_out.items;
   starts = Some (map start_of d.starts.items);
@@ -38,3 +43,15 @@ calls_of d = d.calls
 -- the next call on the port is one that is to fail
 abbrev pub IsDue : MemoryDesk → Port → Type 0
 IsDue d p = Contains (faults_of d) (record { port = p; call = calls_on p (calls_of d) })
+
+-- these bytes to read, nothing written or started, and no failure
+abbrev pub unused_sight : List ℕ → List ℕ → Sight
+unused_sight script cert_in = record {
+  script = Some script;
+  cert_in = Some cert_in;
+  answer = Some [];
+  cert_out = Some [];
+  starts = Some [];
+  in_faults = 0;
+  out_faults = 0;
+}

@@ -1,6 +1,6 @@
 // Which calls of a desk in memory are to fail, and how many it has seen.
-ghost use Rattle.std.specs.Prelude.{◌≡◌, ◌+◌, ◌-◌, ◌^◌, min};
-ghost use Rattle.desk.specs.Calls.{calls_on};
+ghost use Rattle.std.specs.Prelude.{◌≡◌};
+ghost use Rattle.desk.specs.Calls.{calls_on, IsCounted};
 
 use crate::Port;
 
@@ -35,7 +35,7 @@ impl Calls {
 
     // One more call on a port.
     pub(crate) fn count(&mut self, p: Port)
-        ensures one { calls_on p self.new ≡ min (calls_on p self.old + 1) (2 ^ 64 - 1) }
+        ensures one { IsCounted p self.old self.new }
     {
         match p {
             Port::Script => self.script = self.script.saturating_add(1),

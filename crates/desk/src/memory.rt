@@ -14,10 +14,12 @@ pub struct Source {
 }
 
 impl Source {
+    ghost use Rattle.desk.specs.Memory.{left_in};
+
     // Reads at most so many bytes to the front of a buffer, and answers how many.
     fn read(&mut self, most: usize, into: &mut [u8]) -> usize
-        ensures count { result ≡ min most (min (length (drop self.old.at self.old.bytes.items)) (length into.old)) }
-        ensures bytes { into.new ≡ take result (drop self.old.at self.old.bytes.items) ++ drop result into.old }
+        ensures count { result ≡ min most (min (length (left_in self.old)) (length into.old)) }
+        ensures bytes { into.new ≡ take result (left_in self.old) ++ drop result into.old }
         ensures same { self.new.bytes ≡ self.old.bytes }
         ensures at { self.new.at ≡ self.old.at + result }
     {
@@ -87,12 +89,12 @@ fn append_front(sink: &mut Vec<u8>, most: usize, piece: &[u8]) -> Result<usize, 
 impl SteadyDesk {
     ghost use Rattle.std.specs.Prelude.{◌≡◌, ◌<◌, Some, [], map};
     ghost use Rattle.desk.specs.Sight.{left_on, written_on, IsIn, IsOut};
-    ghost use Rattle.desk.specs.Memory.{steady_sight, start_of};
+    ghost use Rattle.desk.specs.Memory.{steady_sight, start_of, unused_sight};
 
     /// Ports with these bytes to read, and calls that take at most this many bytes.
     pub fn new(alloc: Global, script: Vec<u8>, cert_in: Vec<u8>, most: usize) -> Self
         requires { 0 < most }
-        ensures { steady_sight result ≡ record { script = Some script.items; cert_in = Some cert_in.items; answer = Some []; cert_out = Some []; starts = Some []; in_faults = 0; out_faults = 0 } }
+        ensures { steady_sight result ≡ unused_sight script.items cert_in.items }
     {
         SteadyDesk {
             alloc,
@@ -174,14 +176,14 @@ impl Desk for SteadyDesk {
 impl MemoryDesk {
     ghost use Rattle.std.specs.Prelude.{◌≡◌, ◌<◌, Some, [], OnOk, OnErr, map};
     ghost use Rattle.desk.specs.Sight.{left_on, written_on, IsIn, IsOut, FailsOn};
-    ghost use Rattle.desk.specs.Calls.{calls_on};
-    ghost use Rattle.desk.specs.Memory.{memory_sight, start_of, IsDue, calls_of, faults_of};
+    ghost use Rattle.desk.specs.Calls.{IsCounted, no_calls};
+    ghost use Rattle.desk.specs.Memory.{memory_sight, start_of, IsDue, calls_of, faults_of, unused_sight};
 
     /// Ports with these bytes to read, and calls that take at most this many bytes. None fails yet.
     pub fn new(alloc: Global, script: Vec<u8>, cert_in: Vec<u8>, most: usize) -> Self
         requires { 0 < most }
-        ensures sight { memory_sight result ≡ record { script = Some script.items; cert_in = Some cert_in.items; answer = Some []; cert_out = Some []; starts = Some []; in_faults = 0; out_faults = 0 } }
-        ensures calls { calls_of result ≡ record { script = 0; cert_in = 0; answer = 0; cert_out = 0 } }
+        ensures sight { memory_sight result ≡ unused_sight script.items cert_in.items }
+        ensures calls { calls_of result ≡ no_calls }
         ensures faults { faults_of result ≡ [] }
     {
         MemoryDesk {
@@ -264,7 +266,7 @@ impl MemoryDesk {
     fn fails_now(&mut self, p: Port) -> bool
         ensures same { memory_sight self.new ≡ memory_sight self.old }
         ensures due { IsTrue result ↔ IsDue self.old p }
-        ensures counted { calls_on p (calls_of self.new) ≡ min (calls_on p (calls_of self.old) + 1) (2 ^ 64 - 1) }
+        ensures counted { IsCounted p (calls_of self.old) (calls_of self.new) }
         ensures listed { faults_of self.new ≡ faults_of self.old }
     {
         let call = self.calls.on(p);
@@ -287,7 +289,7 @@ impl MemoryDesk {
 
 impl Desk for MemoryDesk {
     ghost use Rattle.desk.specs.Sight.{IsIn, IsOut, with_start, FailsOn, Reads, Writes};
-    ghost use Rattle.desk.specs.Calls.{calls_on};
+    ghost use Rattle.desk.specs.Calls.{IsCounted};
     ghost use Rattle.desk.specs.Memory.{memory_sight, IsDue, calls_of, faults_of};
 
     ghost sight = { memory_sight };
@@ -297,7 +299,7 @@ impl Desk for MemoryDesk {
         ensures failed { IsErrOf result Denied.Failed → FailsOn p (memory_sight self.old) (memory_sight self.new) }
         ensures memory { IsErrOf result Denied.Memory → memory_sight self.new ≡ memory_sight self.old }
         ensures due { IsErrOf result Denied.Failed ↔ IsDue self.old p }
-        ensures counted { calls_on p (calls_of self.new) ≡ min (calls_on p (calls_of self.old) + 1) (2 ^ 64 - 1) }
+        ensures counted { IsCounted p (calls_of self.old) (calls_of self.new) }
         ensures listed { faults_of self.new ≡ faults_of self.old }
     {
         if self.fails_now(p) {
@@ -312,7 +314,7 @@ impl Desk for MemoryDesk {
         ensures ok { IfOk result (λ n. Reads p n into.new (memory_sight self.old) (memory_sight self.new)) }
         ensures failed { OnErr result (FailsOn p (memory_sight self.old) (memory_sight self.new)) }
         ensures due { IsErr result ↔ IsDue self.old p }
-        ensures counted { calls_on p (calls_of self.new) ≡ min (calls_on p (calls_of self.old) + 1) (2 ^ 64 - 1) }
+        ensures counted { IsCounted p (calls_of self.old) (calls_of self.new) }
         ensures listed { faults_of self.new ≡ faults_of self.old }
     {
         if self.fails_now(p) {
@@ -328,7 +330,7 @@ impl Desk for MemoryDesk {
         ensures failed { IsErrOf result Denied.Failed → FailsOn p (memory_sight self.old) (memory_sight self.new) }
         ensures memory { IsErrOf result Denied.Memory → memory_sight self.new ≡ memory_sight self.old }
         ensures due { IsErrOf result Denied.Failed ↔ IsDue self.old p }
-        ensures counted { calls_on p (calls_of self.new) ≡ min (calls_on p (calls_of self.old) + 1) (2 ^ 64 - 1) }
+        ensures counted { IsCounted p (calls_of self.old) (calls_of self.new) }
         ensures listed { faults_of self.new ≡ faults_of self.old }
     {
         if self.fails_now(p) {

@@ -1,5 +1,5 @@
 -- How parts of a run make a run.
-use Rattle.std.proofs.Common.{◌≡◌, ◌≤◌, ◌+◌, ℕ, List, [], ◌∷◌, ◌++◌, Option, Some, None, length, take, refl, ap, sym, subst, ◌∙◌, inl, inr, arith, append_assoc, append-nil, codes, min, IfSome, zero, suc}
+use Rattle.std.proofs.Common.{◌≡◌, ◌≤◌, ◌+◌, ℕ, List, [], ◌∷◌, ◌++◌, Option, Some, None, length, take, refl, ap, sym, subst, ◌∙◌, inl, inr, arith, append_assoc, append-nil, length-append, codes, min, IfSome, zero, suc}
 use Rattle.std.proofs.Math.Seq.{take-append-add, take-length}
 use Rattle.std.proofs.lemmas.List.{take_min, take-append-le}
 use Rattle.desk.specs.declared.desk.Port.{Port}
@@ -58,7 +58,10 @@ stopped_behind starts tail old mid new after stopped = record {
       ∙ ap (λ l. appended old.starts l) (sym (take-append-add starts tail.starts stopped.starts_made));
   cert = stopped.cert ∙ ap (λ o. appended o (take stopped.cert_bytes tail.cert)) after.cert;
   answer = stopped.answer ∙ ap (λ o. appended o (take stopped.answer_bytes tail.answer)) after.answer;
-  order = stopped.order;
+  order = elim stopped.order [
+    | inl h ↦ inl (omega (arith, h.0, length-append starts tail.starts), h.1)
+    | inr h ↦ inr h
+  ];
 }
 
 quiet_behind : (starts ins : List Start) (old mid new : Sight) → After starts old mid → Quiet ins mid new → Quiet (starts ++ ins) old new
@@ -128,7 +131,7 @@ cert_stops name cert text old new stops = record {
   starts = ap (λ d. d.starts) stops.same ∙ ap (λ l. appended old.starts l) (take_first stops.starts_made ((CertOut, name) ∷ []) ((Answer, codes "-") ∷ []));
   cert = ap (λ d. d.cert_out) stops.same;
   answer = ap (λ d. d.answer) stops.same ∙ sym (appended-nil old.answer);
-  order = inl refl;
+  order = inl (omega arith, refl);
 }
 
 pub widen : (some cant : Course → Type 0) (ins : List Start) (old new : Sight) (status : Status)

@@ -1,6 +1,7 @@
 -- The refusal of a script for a fault.
 use Rattle.std.proofs.Common.{ℕ, List, Some, ap, sym}
-use Rattle.script_faults.specs.Faults.{ScriptFault, fault_text}
+use Rattle.script_fault.specs.declared.fault.ScriptFault.{ScriptFault}
+use Rattle.answer_text.specs.ScriptFaults.{fault_text}
 use Rattle.dpoly.specs.declared.script.Halt.{Halt}
 use Rattle.dpoly.specs.declared.script.Halt.TheVariants as halt
 use Rattle.dpoly.specs.Script.{HasText, IsTold}

@@ -9,22 +9,23 @@ use Rattle.words.specs.declared.asked.Options.{Options}
 use Rattle.words.specs.Words.{Solve, Check, Demo, Command, solve, check, demo}
 use Rattle.gen_script.specs.Demo.{demo_script}
 use Rattle.poly_graph.specs.Problem.{Problem}
-use Rattle.poly_graph.specs.Space.{Space}
-use Rattle.poly_graph.specs.State.{Loosenings}
+use Rattle.interval_model.specs.Space.{Space}
+use Rattle.cover_model.specs.State.{Loosenings}
 use Rattle.cert_model.specs.Due.{Standing, Value, at_point, left_open}
 use Rattle.cert_model.specs.Accepted.{Verdict, accepted, refused, verdict, IsAccepted}
 use Rattle.cert_model.specs.AnswerText.{solve_text, check_text, unsat_text, delta_sat_text, budget_text, width_text, has_open}
 use Rattle.headline.proofs.Headline.{unsat_is, delta_sat_is}
-use Rattle.script_faults.specs.Faults.{ScriptFault}
+use Rattle.script_fault.specs.declared.fault.ScriptFault.{ScriptFault}
 use Rattle.script_faults.specs.Faults.{script_fault}
 use Rattle.dpoly.specs.declared.status.Status.{Status}
 use Rattle.dpoly.specs.declared.status.Status.TheVariants.{Answered, CertRefused, ScriptRefused}
-use Rattle.dpoly.specs.Reader.{commands_of, IsBuilt}
+use Rattle.problem_build.specs.Reader.{commands_of, IsBuilt}
 use Rattle.dpoly.specs.Answer.{loosenings_of, IsAnswer}
 use Rattle.dpoly.specs.Course.{Course, behind, appended}
 use Rattle.dpoly.specs.Can.{CanSolve, CanCheck, CanDemo, CanBy, OfProblem, Can, verdict_course}
-use Rattle.dpoly.specs.Run.{Shows}
-use Rattle.dpoly.specs.Headline.{Wrote, IsUnsat, UnsatIsTrue, IsDeltaSat, DeltaSatIsTrue, IsRefusedCert, RefusalIsTrue, delta_sat_word, confirmed_unsat_word, confirmed_delta_sat_word}
+use Rattle.dpoly.specs.Run.{Run, HasCourse, HasInput, IsShown}
+use Rattle.dpoly.proofs.Shown.{status_is_shown}
+use Rattle.dpoly.specs.Headline.{IsWritten, IsUnsat, IsTrueUnsat, UnsatIsTrue, IsDeltaSat, IsTrueDeltaSat, DeltaSatIsTrue, IsRefusedCert, IsTrueRefusal, RefusalIsTrue, delta_sat_word, confirmed_unsat_word, confirmed_delta_sat_word}
 
 -- ---- texts that differ
 
@@ -105,7 +106,7 @@ unsat-so o script p old new cert built written accepts = record {
   accepted = accepts;
 }
 
-solve-unsat : (words : Solve) (script cert_in : List ℕ) (old new : Sight) → Shows (Some (solve words)) script cert_in old new Answered → UnsatIsTrue (Some (solve words)) script cert_in old new
+solve-unsat : (words : Solve) (script cert_in : List ℕ) (old new : Sight) → IsShown (Some (solve words)) script cert_in old new Answered → IsTrueUnsat (Some (solve words)) script cert_in old new
 solve-unsat words script cert_in old new (course, can, status, went) wrote =
     let o : Options = words.options in
     let tail : Course = can.0 in
@@ -120,7 +121,7 @@ solve-unsat words script cert_in old new (course, can, status, went) wrote =
     unsat-so o script on.p old new so.cert on.built (went.cert ∙ ap (λ (c : List ℕ). appended old.cert_out c) cert)
     (subst P (says-unsat on.p (loosenings_of o) o.budget so.value text) so.is.accepted)
 
-demo-unsat : (words : Demo) (script cert_in : List ℕ) (old new : Sight) → Shows (Some (demo words)) script cert_in old new Answered → UnsatIsTrue (Some (demo words)) script cert_in old new
+demo-unsat : (words : Demo) (script cert_in : List ℕ) (old new : Sight) → IsShown (Some (demo words)) script cert_in old new Answered → IsTrueUnsat (Some (demo words)) script cert_in old new
 demo-unsat words script cert_in old new (course, can, status, went) =
     let o : Options = words.options in
     let made : List ℕ = demo_script words.seed words.size in
@@ -161,13 +162,13 @@ check-goes words script cert_in course can status =
     let so = checked-by on.p words.bound words.cert cert_in tail (verdict on.p words.bound cert_in) refl on.can status_is in
     record { p = on.p; built = on.built; s = so.s; value = so.value; accepts = so.accepts; answer_is = ap (λ (c : Course). c.answer) can.2 ∙ so.answer_is }
 
-check-unsat : (words : Check) (script cert_in : List ℕ) (old new : Sight) → Shows (Some (check words)) script cert_in old new Answered → UnsatIsTrue (Some (check words)) script cert_in old new
+check-unsat : (words : Check) (script cert_in : List ℕ) (old new : Sight) → IsShown (Some (check words)) script cert_in old new Answered → IsTrueUnsat (Some (check words)) script cert_in old new
 check-unsat words script cert_in old new (course, can, status, went) rest wrote =
     let so = check-goes words script cert_in course can status in
     let text : confirmed_unsat_word ++ rest ≡ check_text so.s so.value = written-is old.answer new.answer (confirmed_unsat_word ++ rest) course.answer wrote went.answer ∙ so.answer_is in
     let none : so.value ≡ left_open [] = confirms-unsat so.s rest so.value text in
     let P : Value → Type 0 = λ v. IsAccepted so.p words.bound cert_in so.s v in
-    let W : List ℕ → Type 0 = λ t. Wrote t old new in
+    let W : List ℕ → Type 0 = λ t. IsWritten t old new in
     let accepts : P (left_open []) = subst P none so.accepts in (
       so.s,
       subst W (text ∙ ap (λ (v : Value). check_text so.s v) none) wrote,
@@ -179,7 +180,7 @@ check-unsat words script cert_in old new (course, can, status, went) rest wrote 
       },
     )
 
-pub unsat-true : (command : Option Command) (script cert_in : List ℕ) (old new : Sight) → Shows command script cert_in old new Answered → UnsatIsTrue command script cert_in old new
+unsat-true : (command : Option Command) (script cert_in : List ℕ) (old new : Sight) → IsShown command script cert_in old new Answered → IsTrueUnsat command script cert_in old new
 unsat-true None script cert_in old new shows = tt
 unsat-true (Some (solve words)) script cert_in old new shows = solve-unsat words script cert_in old new shows
 unsat-true (Some (check words)) script cert_in old new shows = check-unsat words script cert_in old new shows
@@ -191,7 +192,7 @@ delta-so : (bound : Option ℕ) (script : List ℕ) (p : Problem) (cert : List �
 delta-so bound script p cert s space built accepts =
     let means = delta_sat_is bound (commands_of script) p built.whole built.problem cert s space accepts in record { satisfies = means.0; near = means.1 }
 
-solve-delta : (words : Solve) (script cert_in : List ℕ) (old new : Sight) → Shows (Some (solve words)) script cert_in old new Answered → DeltaSatIsTrue (Some (solve words)) script cert_in old new
+solve-delta : (words : Solve) (script cert_in : List ℕ) (old new : Sight) → IsShown (Some (solve words)) script cert_in old new Answered → IsTrueDeltaSat (Some (solve words)) script cert_in old new
 solve-delta words script cert_in old new (course, can, status, went) rest wrote =
     let o : Options = words.options in
     let s : Loosenings = loosenings_of o in
@@ -203,16 +204,16 @@ solve-delta words script cert_in old new (course, can, status, went) rest wrote 
     let text : delta_sat_word ++ rest ≡ solve_text on.p o.budget s so.value = written-is old.answer new.answer (delta_sat_word ++ rest) course.answer wrote went.answer ∙ answer in
     let point = says-delta-sat on.p s o.budget rest so.value text in
     let P : Value → Type 0 = λ v. IsAccepted on.p o.bound so.cert s v in
-    let W : List ℕ → Type 0 = λ t. Wrote t old new in
+    let W : List ℕ → Type 0 = λ t. IsWritten t old new in
     (on.p, point.0, on.built, subst W (text ∙ ap (λ (v : Value). solve_text on.p o.budget s v) point.1) wrote, delta-so o.bound script on.p so.cert s point.0 on.built (subst P point.1 so.is.accepted))
 
-check-delta : (words : Check) (script cert_in : List ℕ) (old new : Sight) → Shows (Some (check words)) script cert_in old new Answered → DeltaSatIsTrue (Some (check words)) script cert_in old new
+check-delta : (words : Check) (script cert_in : List ℕ) (old new : Sight) → IsShown (Some (check words)) script cert_in old new Answered → IsTrueDeltaSat (Some (check words)) script cert_in old new
 check-delta words script cert_in old new (course, can, status, went) rest wrote =
     let so = check-goes words script cert_in course can status in
     let text : confirmed_delta_sat_word ++ rest ≡ check_text so.s so.value = written-is old.answer new.answer (confirmed_delta_sat_word ++ rest) course.answer wrote went.answer ∙ so.answer_is in
     let point = confirms-delta-sat so.s rest so.value text in
     let P : Value → Type 0 = λ v. IsAccepted so.p words.bound cert_in so.s v in
-    let W : List ℕ → Type 0 = λ t. Wrote t old new in
+    let W : List ℕ → Type 0 = λ t. IsWritten t old new in
     let accepts : P (at_point point.0) = subst P point.1 so.accepts in (
       so.s,
       point.0,
@@ -225,7 +226,7 @@ check-delta words script cert_in old new (course, can, status, went) rest wrote 
       },
     )
 
-pub delta-sat-true : (command : Option Command) (script cert_in : List ℕ) (old new : Sight) → Shows command script cert_in old new Answered → DeltaSatIsTrue command script cert_in old new
+delta-sat-true : (command : Option Command) (script cert_in : List ℕ) (old new : Sight) → IsShown command script cert_in old new Answered → IsTrueDeltaSat command script cert_in old new
 delta-sat-true None script cert_in old new shows = tt
 delta-sat-true (Some (solve words)) script cert_in old new shows = solve-delta words script cert_in old new shows
 delta-sat-true (Some (check words)) script cert_in old new shows = check-delta words script cert_in old new shows
@@ -257,7 +258,7 @@ check-refused words script cert_in old new tail (Some f) can status wrote = absu
 check-refused words script cert_in old new tail None can status wrote =
     refused-by words script cert_in old new can.0 tail (verdict can.0 words.bound cert_in) can.1 refl can.2 status wrote
 
-pub refusal-true : (command : Option Command) (script cert_in : List ℕ) (old new : Sight) → Shows command script cert_in old new CertRefused → RefusalIsTrue command script cert_in old new
+refusal-true : (command : Option Command) (script cert_in : List ℕ) (old new : Sight) → IsShown command script cert_in old new CertRefused → IsTrueRefusal command script cert_in old new
 refusal-true None script cert_in old new shows = tt
 refusal-true (Some (solve words)) script cert_in old new shows = tt
 refusal-true (Some (demo words)) script cert_in old new shows = tt
@@ -265,3 +266,18 @@ refusal-true (Some (check words)) script cert_in old new (course, can, status, w
     let tail : Course = can.0 in
     check-refused words script cert_in old new tail (script_fault words.bound script) can.1 (sym (ap (λ (c : Course). c.status) can.2) ∙ status)
     (went.answer ∙ ap (λ (c : Course). appended old.answer c.answer) can.2)
+
+-- ---- of whole runs
+
+-- the status of a run that ends with it shows what its row says
+shown-with : (r : Run) (status : Status) → HasCourse r → (script cert_in : List ℕ) → HasInput r.command r.old script cert_in → r.status ≡ status → IsShown r.command script cert_in r.old r.new status
+shown-with r status course script cert_in tells e = subst (λ (s : Status). IsShown r.command script cert_in r.old r.new s) e (status_is_shown r course script cert_in tells)
+
+pub unsat_is_true : (r : Run) → HasCourse r → UnsatIsTrue r
+unsat_is_true r course script cert_in tells e = unsat-true r.command script cert_in r.old r.new (shown-with r Answered course script cert_in tells e)
+
+pub delta_sat_is_true : (r : Run) → HasCourse r → DeltaSatIsTrue r
+delta_sat_is_true r course script cert_in tells e = delta-sat-true r.command script cert_in r.old r.new (shown-with r Answered course script cert_in tells e)
+
+pub refusal_is_true : (r : Run) → HasCourse r → RefusalIsTrue r
+refusal_is_true r course script cert_in tells e = refusal-true r.command script cert_in r.old r.new (shown-with r CertRefused course script cert_in tells e)

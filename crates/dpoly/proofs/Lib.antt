@@ -1,12 +1,9 @@
-pub mod Checking
 pub mod Ending
 pub mod Faulty
 pub mod Headline
 pub mod Reading
-pub mod Refusing
 pub mod Running
 pub mod Shown
 pub mod Solving
-pub mod Texts
 pub mod Told
 pub mod Verdicts

@@ -1,26 +1,16 @@
 -- Scripts that are too long.
 use Rattle.std.proofs.Common.{◌≡◌, ◌≤◌, ◌<◌, ℕ, List, [], Bool, false, cond, Option, Some, None, length, ap, sym, ◌∙◌, arith, IfSome, nat_le}
 use Rattle.std.specs.Prelude.{option_map}
-use Rattle.std.proofs.lemmas.Bool.Decides.{leb_tells}
 use Rattle.desk.specs.Sight.{Sight}
-use Rattle.script_faults.specs.Faults.{ScriptFault, fault_text, in_text, most_bytes}
-use Rattle.script_faults.specs.Faults.{script_fault}
-use Rattle.smt_sexp.specs.Lexicon.{read}
-use Rattle.dpoly.specs.Reader.{too_many_bytes}
+use Rattle.script_fault.specs.declared.fault.ScriptFault.{ScriptFault}
+use Rattle.answer_text.specs.ScriptFaults.{fault_text}
+use Rattle.script_faults.specs.Faults.{most_bytes, script_fault}
+use Rattle.problem_build.proofs.Reading.{long_fault}
 use Rattle.dpoly.specs.declared.script.Halt.{Halt}
 use Rattle.dpoly.specs.declared.script.Halt.TheVariants as halt
 use Rattle.dpoly.specs.Course.{Quiet}
 use Rattle.dpoly.specs.Parts.{After}
 use Rattle.dpoly.specs.Script.{HasFaultText, Halts, IsTooLong, script_start}
-
-long_by : (b : Bool) (x : Option ScriptFault) → b ≡ false → cond b x (Some too_many_bytes) ≡ Some too_many_bytes
-long_by b x e = ap (λ (t : Bool). cond t x (Some too_many_bytes)) e
-
-not_within : (n m : ℕ) → m < n → nat_le n m ≡ false
-not_within n m above = grind (arith, leb_tells)
-
-pub long_fault : (bound : Option ℕ) (script : List ℕ) → most_bytes < length script → script_fault bound script ≡ Some too_many_bytes
-long_fault bound script long = long_by (nat_le (length script) most_bytes) (in_text bound (read script)) (not_within (length script) most_bytes long)
 
 over : (P Q : List ℕ → Type 0) (o : Option (List ℕ)) → ((x : List ℕ) → P x → Q x) → IfSome o P → IfSome o Q
 over P Q None f h = tt

@@ -6,17 +6,19 @@ use Rattle.desk.specs.Sight.{Sight, SideFailed}
 use Rattle.words.specs.Words.{Demo, Command, demo}
 use Rattle.gen_script.specs.Demo.{demo_script}
 use Rattle.poly_graph.specs.Problem.{Problem}
-use Rattle.script_faults.specs.Faults.{ScriptFault, fault_text, most_bytes}
-use Rattle.script_faults.specs.Faults.{script_fault}
+use Rattle.script_fault.specs.declared.fault.ScriptFault.{ScriptFault}
+use Rattle.answer_text.specs.ScriptFaults.{fault_text}
+use Rattle.script_faults.specs.Faults.{most_bytes, script_fault}
 use Rattle.dpoly.specs.declared.status.Status.{Status}
 use Rattle.dpoly.specs.declared.status.Status.TheVariants.{Answered, CertRefused, ScriptRefused, Usage, InFailed, OutFailed, NoMemory}
 use Rattle.dpoly.specs.declared.script.Halt.{Halt}
 use Rattle.dpoly.specs.declared.script.Halt.TheVariants as halt
 use Rattle.dpoly.specs.Course.{Start, Course, says, behind, appended, Quiet, Ends, at_its_end, out_failed, no_memory, RunEnds, on_course, in_failed, no_memory_yet}
 use Rattle.dpoly.specs.Can.{CanDemo, CanBy, CanFrom, OfProblem, Can}
-use Rattle.dpoly.specs.Run.{HasCause, ReadsScript, ScriptIsRead}
+use Rattle.dpoly.specs.Run.{HasCause, ReadsScript, ScriptIsRead, run_of}
 use Rattle.dpoly.specs.Parts.{After}
-use Rattle.dpoly.specs.Script.{HasFaultText, Refuses, HasProblem, script_start, Fetches, Halts, HaltEnds}
+use Rattle.problem_build.specs.Reader.{HasProblem}
+use Rattle.dpoly.specs.Script.{HasFaultText, Refuses, script_start, Fetches, Halts, HaltEnds}
 use Rattle.dpoly.proofs.Ending.{appended-nil, take_first, ends_behind, run_behind, widen}
 
 -- ---- what a course is behind its script
@@ -89,7 +91,7 @@ demo_halted words bytes halt.Memory old new status refuses made ends script cert
 
 -- ---- causes
 
-pub cause_behind : (command : Option Command) (starts : List Start) (old mid new : Sight) (status : Status) → After starts old mid → HasCause command mid new status → HasCause command old new status
+pub cause_behind : (command : Option Command) (starts : List Start) (old mid new : Sight) (status : Status) → After starts old mid → HasCause (run_of command mid new status) → HasCause (run_of command old new status)
 cause_behind command starts old mid new Answered after h = h
 cause_behind command starts old mid new CertRefused after h = h
 cause_behind command starts old mid new ScriptRefused after h = h
@@ -99,26 +101,26 @@ cause_behind command starts old mid new OutFailed after h = let P : ℕ → Type
 cause_behind command starts old mid new NoMemory after h = h
 
 -- of an answer that refuses a script
-cause_refused : (command : Command) (text : List ℕ) (old new : Sight) (status : Status) → Ends (says ScriptRefused text) old new status → HasCause (Some command) old new status
-cause_refused command text old new status (at_its_end is went) = let P : Status → Type 0 = λ s. HasCause (Some command) old new s in let here : P ScriptRefused = search rules in subst P (sym is) here
-cause_refused command text old new status (out_failed is side stopped) = let P : Status → Type 0 = λ s. HasCause (Some command) old new s in subst P (sym is) side
-cause_refused command text old new status (no_memory is stopped) = let P : Status → Type 0 = λ s. HasCause (Some command) old new s in let here : P NoMemory = tt in subst P (sym is) here
+cause_refused : (command : Command) (text : List ℕ) (old new : Sight) (status : Status) → Ends (says ScriptRefused text) old new status → HasCause (run_of (Some command) old new status)
+cause_refused command text old new status (at_its_end is went) = let P : Status → Type 0 = λ s. HasCause (run_of (Some command) old new s) in let here : P ScriptRefused = search rules in subst P (sym is) here
+cause_refused command text old new status (out_failed is side stopped) = let P : Status → Type 0 = λ s. HasCause (run_of (Some command) old new s) in subst P (sym is) side
+cause_refused command text old new status (no_memory is stopped) = let P : Status → Type 0 = λ s. HasCause (run_of (Some command) old new s) in let here : P NoMemory = tt in subst P (sym is) here
 
 pub cause_halted : (command : Command) (bound : Option ℕ) (name : List ℕ) (h : Halt) (old mid new : Sight) (status : Status) → ReadsScript (Some command) → Halts bound name h old mid → HaltEnds h mid new status →
-    HasCause (Some command) old new status
+    HasCause (run_of (Some command) old new status)
 cause_halted command bound name (halt.Refused text) old mid new status reads halted ends =
     cause_behind (Some command) (script_start name) old mid new status halted.after (cause_refused command text.items mid new status ends)
 cause_halted command bound name halt.Failed old mid new status reads halted ends =
-    let S : Sight → Type 0 = λ d. SideFailed old.in_faults d.in_faults in let P : Status → Type 0 = λ s. HasCause (Some command) old new s in
+    let S : Sight → Type 0 = λ d. SideFailed old.in_faults d.in_faults in let P : Status → Type 0 = λ s. HasCause (run_of (Some command) old new s) in
     subst P (sym ends.0) (reads, subst S (sym ends.1) halted.0)
-cause_halted command bound name halt.Memory old mid new status reads halted ends = let P : Status → Type 0 = λ s. HasCause (Some command) old new s in let here : P NoMemory = tt in subst P (sym ends.0) here
+cause_halted command bound name halt.Memory old mid new status reads halted ends = let P : Status → Type 0 = λ s. HasCause (run_of (Some command) old new s) in let here : P NoMemory = tt in subst P (sym ends.0) here
 
 -- ---- that the script was read
 
-pub read_fetched : (command : Option Command) (bound : Option ℕ) (name : List ℕ) (p : Problem) (old mid new : Sight) (status : Status) → Fetches bound name p old mid → new.script ≡ mid.script → ScriptIsRead command old new status
+pub read_fetched : (command : Option Command) (bound : Option ℕ) (name : List ℕ) (p : Problem) (old mid new : Sight) (status : Status) → Fetches bound name p old mid → new.script ≡ mid.script → ScriptIsRead (run_of command old new status)
 read_fetched command bound name p old mid new status fetched same reads script e short failed memory = same ∙ told (λ s. mid.script ≡ Some []) old.script script e fetched.read
 
-pub read_halted : (command : Option Command) (bound : Option ℕ) (name : List ℕ) (h : Halt) (old mid new : Sight) (status : Status) → Halts bound name h old mid → HaltEnds h mid new status → new.script ≡ mid.script → ScriptIsRead command old new status
+pub read_halted : (command : Option Command) (bound : Option ℕ) (name : List ℕ) (h : Halt) (old mid new : Sight) (status : Status) → Halts bound name h old mid → HaltEnds h mid new status → new.script ≡ mid.script → ScriptIsRead (run_of command old new status)
 read_halted command bound name (halt.Refused text) old mid new status halted ends same reads script e short failed memory = same ∙ told (λ s. length s ≤ most_bytes → mid.script ≡ Some []) old.script script e halted.read short
 read_halted command bound name halt.Failed old mid new status halted ends same reads script e short failed memory = absurd (failed ends.0)
 read_halted command bound name halt.Memory old mid new status halted ends same reads script e short failed memory = absurd (memory ends.0)

@@ -6,13 +6,13 @@ use Rattle.words.specs.Words.{Command, solve, check, demo}
 use Rattle.gen_script.specs.Demo.{demo_script}
 use Rattle.poly_graph.specs.Problem.{Problem}
 use Rattle.cert_model.specs.Accepted.{Verdict, accepted, refused, verdict}
-use Rattle.script_faults.specs.Faults.{ScriptFault}
+use Rattle.script_fault.specs.declared.fault.ScriptFault.{ScriptFault}
 use Rattle.script_faults.specs.Faults.{script_fault}
 use Rattle.dpoly.specs.declared.status.Status.{Status}
 use Rattle.dpoly.specs.declared.status.Status.TheVariants.{Answered, CertRefused, ScriptRefused, Usage, InFailed, OutFailed, NoMemory}
 use Rattle.dpoly.specs.Course.{Course, Went, Ends, at_its_end, out_failed, no_memory, RunEnds, on_course, in_failed, no_memory_yet}
 use Rattle.dpoly.specs.Can.{CanSolve, CanCheck, CanDemo, CanBy, OfProblem, Can, in_starts, verdict_course}
-use Rattle.dpoly.specs.Run.{Shows, Completes}
+use Rattle.dpoly.specs.Run.{Run, HasCourse, IsShown, IsDue, run_of, StatusIsDue, StatusIsShown}
 
 -- a status that is told by an answer
 abbrev IsSaid : Status → Type 0
@@ -54,7 +54,7 @@ said (Some (demo words)) script cert_in course can =
     (λ p c h. said-demo p words.options words.cert (demo_script words.seed words.size) c h) (script_fault words.options.bound (demo_script words.seed words.size)) course can
 
 module _ (command : Option Command) (script cert_in : List ℕ) (old new : Sight) where
-  at-end : (status : Status) (course : Course) → Can command script cert_in course → IsSaid course.status → status ≡ course.status → Went course old new → Shows command script cert_in old new status
+  at-end : (status : Status) (course : Course) → Can command script cert_in course → IsSaid course.status → status ≡ course.status → Went course old new → IsShown command script cert_in old new status
   at-end Answered course can is e went = (course, can, sym e, went)
   at-end CertRefused course can is e went = (course, can, sym e, went)
   at-end ScriptRefused course can is e went = (course, can, sym e, went)
@@ -63,19 +63,27 @@ module _ (command : Option Command) (script cert_in : List ℕ) (old new : Sight
   at-end OutFailed course can is e went = absurd (subst IsSaid (sym e) is)
   at-end NoMemory course can is e went = absurd (subst IsSaid (sym e) is)
 
-  shows-ends : (course : Course) (status : Status) → Can command script cert_in course → Ends course old new status → Shows command script cert_in old new status
+  shows-ends : (course : Course) (status : Status) → Can command script cert_in course → Ends course old new status → IsShown command script cert_in old new status
   shows-ends course status can (at_its_end e went) = at-end status course can (said command script cert_in course can) e went
-  shows-ends course status can (out_failed e side stopped) = let P : Status → Type 0 = λ s. Shows command script cert_in old new s in let here : P OutFailed = (side, course, can, stopped) in subst P (sym e) here
-  shows-ends course status can (no_memory e stopped) = let P : Status → Type 0 = λ s. Shows command script cert_in old new s in let here : P NoMemory = inr (course, can, stopped) in subst P (sym e) here
+  shows-ends course status can (out_failed e side stopped) = let P : Status → Type 0 = λ s. IsShown command script cert_in old new s in let here : P OutFailed = (side, course, can, stopped) in subst P (sym e) here
+  shows-ends course status can (no_memory e stopped) = let P : Status → Type 0 = λ s. IsShown command script cert_in old new s in let here : P NoMemory = inr (course, can, stopped) in subst P (sym e) here
 
-  pub shows-run : (status : Status) → RunEnds (Can command script cert_in) (in_starts command) old new status → Shows command script cert_in old new status
+  shows-run : (status : Status) → RunEnds (Can command script cert_in) (in_starts command) old new status → IsShown command script cert_in old new status
   shows-run status (on_course course can ends) = shows-ends course status can ends
-  shows-run status (in_failed e any side quiet) = let P : Status → Type 0 = λ s. Shows command script cert_in old new s in let here : P InFailed = (any, side, quiet) in subst P (sym e) here
-  shows-run status (no_memory_yet e quiet) = let P : Status → Type 0 = λ s. Shows command script cert_in old new s in let here : P NoMemory = inl quiet in subst P (sym e) here
+  shows-run status (in_failed e any side quiet) = let P : Status → Type 0 = λ s. IsShown command script cert_in old new s in let here : P InFailed = (any, side, quiet) in subst P (sym e) here
+  shows-run status (no_memory_yet e quiet) = let P : Status → Type 0 = λ s. IsShown command script cert_in old new s in let here : P NoMemory = inl quiet in subst P (sym e) here
 
-  pub completes-run : (status : Status) → RunEnds (Can command script cert_in) (in_starts command) old new status → Completes command script cert_in old new status
-  completes-run status (on_course course can (at_its_end e went)) due all ins outs = inl (e ∙ all course can)
-  completes-run status (on_course course can (out_failed e side stopped)) due all ins outs = absurd (outs side)
-  completes-run status (on_course course can (no_memory e stopped)) due all ins outs = inr e
-  completes-run status (in_failed e any side quiet) due all ins outs = absurd (ins side)
-  completes-run status (no_memory_yet e quiet) due all ins outs = inr e
+  due-run : (status : Status) → RunEnds (Can command script cert_in) (in_starts command) old new status → IsDue (run_of command old new status) script cert_in
+  due-run status (on_course course can (at_its_end e went)) due all ins outs = inl (e ∙ all course can)
+  due-run status (on_course course can (out_failed e side stopped)) due all ins outs = absurd (outs side)
+  due-run status (on_course course can (no_memory e stopped)) due all ins outs = inr e
+  due-run status (in_failed e any side quiet) due all ins outs = absurd (ins side)
+  due-run status (no_memory_yet e quiet) due all ins outs = inr e
+
+-- ---- of whole runs
+
+pub status_is_shown : (r : Run) → HasCourse r → StatusIsShown r
+status_is_shown r course script cert_in tells = shows-run r.command script cert_in r.old r.new r.status (course script cert_in tells)
+
+pub status_is_due : (r : Run) → HasCourse r → StatusIsDue r
+status_is_due r course script cert_in tells = due-run r.command script cert_in r.old r.new r.status (course script cert_in tells)

@@ -7,16 +7,18 @@ use Rattle.words.specs.declared.asked.Options.{Options}
 use Rattle.words.specs.Words.{AreOptions}
 use Rattle.poly_graph.specs.Problem.{Problem, first_crossed}
 use Rattle.poly_graph.specs.ProblemViews.{Parts, problem_of}
-use Rattle.poly_graph.specs.Space.{Space, IsGridSpace}
-use Rattle.poly_graph.specs.State.{State, Mark, Loosenings}
-use Rattle.poly_graph.specs.Fits.{IsShownAt}
-use Rattle.poly_graph.specs.Honest.{is_honest}
+use Rattle.interval_model.specs.Space.{Space}
+use Rattle.cover_model.specs.Space.{IsGridSpace}
+use Rattle.cover_model.specs.State.{State, Loosenings}
+use Rattle.poly_graph.specs.Marks.{Mark}
+use Rattle.cover_model.specs.Fits.{IsShownAt}
+use Rattle.cover_model.specs.Honest.{is_honest}
 use Rattle.cert_model.specs.Due.{Standing, Value, at_point, left_open}
 use Rattle.cert_model.specs.Accepted.{IsAccepted}
 use Rattle.cert_model.specs.AnswerText.{has_open, budget_text, unsat_text, delta_sat_text, width_text, solve_text}
 use Rattle.cert_model.specs.Standing.{Stands, standing, IsHonest, branches, branches_of}
-use Rattle.cover_rule.specs.declared.margins.Options as cover
-use Rattle.cover_rule.specs.Margins.{AreMargins, loosenings_of as of_margins}
+use Rattle.cover_data.specs.declared.margins.Options as cover
+use Rattle.cover_data.specs.Margins.{AreMargins, loosenings_of as of_margins}
 use Rattle.cover_book.specs.declared.verdict.BookVerdict.{BookVerdict}
 use Rattle.cover_book.specs.declared.verdict.BookVerdict.TheVariants.{DeltaSat, UnknownBudget, NotYet, UnknownWidth, Unsat}
 use Rattle.cover_book.specs.Limits.{IsWithinLimits}
@@ -26,7 +28,7 @@ use Rattle.cover_book.specs.Steps.{IsLive}
 use Rattle.cover_book.specs.Keeps.{IsBook, IsCrossed, IsCovered}
 use Rattle.cert_text.specs.Means.{IsTreeText, IsCrossedText, IsCertificateOf}
 use Rattle.cert_text.specs.Stuck.{stuck_at, IsFirstStuck}
-use Rattle.cert_text.proofs.Told.{left_tells_of_nodes}
+use Rattle.cert_text.proofs.Leftovers.{left_tells_of_nodes}
 use Rattle.dpoly.specs.Answer.{loosenings_of, IsAnswer}
 use Rattle.dpoly.specs.Search.{search_options, IsWithin, IsLeftBy, SaysLeft}
 

@@ -9,8 +9,8 @@ use Rattle.desk.specs.Texts.{ReadsSome, ReadsThenFails}
 use Rattle.desk.proofs.Reading.{ReadSoFar, read_start, read_step, read_end}
 use Rattle.poly_graph.specs.Problem.{Problem}
 use Rattle.poly_graph.specs.ProblemViews.{Parts, problem_of}
-use Rattle.poly_graph.specs.Space.{Space}
-use Rattle.poly_graph.specs.State.{Loosenings}
+use Rattle.interval_model.specs.Space.{Space}
+use Rattle.cover_model.specs.State.{Loosenings}
 use Rattle.cert_model.specs.Due.{Standing, at_point, left_open}
 use Rattle.cert_model.specs.Accepted.{Verdict, accepted, refused, verdict}
 use Rattle.cert_model.specs.AnswerText.{check_text, verdict_text}
@@ -21,10 +21,11 @@ use Rattle.cert_check.specs.declared.fault.CertFault.TheVariants.{Memory}
 use Rattle.cert_check.specs.Courses.{IsVerdict}
 use Rattle.cert_check.specs.Faults.{stop_of}
 use Rattle.answer_text.specs.Stops.{stop_text}
-use Rattle.dpoly.specs.declared.feed.Feed.{Feed}
+use Rattle.cert_check.specs.declared.feed.Feed.{Feed}
 use Rattle.dpoly.specs.declared.status.Status.{Status}
 use Rattle.dpoly.specs.declared.status.Status.TheVariants.{Answered, CertRefused, InFailed, NoMemory}
-use Rattle.dpoly.specs.Check.{HasTaken, Tells, Concludes}
+use Rattle.cert_check.specs.Feeding.{HasTaken, IsVerdictOrMemory}
+use Rattle.dpoly.specs.Check.{IsCourseOf}
 use Rattle.dpoly.specs.Course.{Start, Course, says, behind, appended, Quiet, Ends, RunEnds, on_course, in_failed, no_memory_yet}
 use Rattle.dpoly.specs.Can.{CanCheck, verdict_course}
 use Rattle.dpoly.proofs.Ending.{appended-nil, run_behind, all_of, over, after_cert_in}
@@ -50,11 +51,11 @@ module _ (p : Parts) (bound : Option ℕ) (f : Feed) (n : ℕ) (buffer : List �
   }
 
   pub check_end : (r : Result told.Verdict CertFault) → n ≡ 0 → 0 < length buffer → CheckedSoFar p bound f old now → Reads CertIn n buffer now new
-      → ((q : Parts) (b : Option ℕ) (bs : List ℕ) → HasTaken q b bs f → Tells (verdict (problem_of q) b bs) r) → IfSome old.cert_in (λ cert. Tells (verdict (problem_of p) bound cert) r)
+      → ((q : Parts) (b : Option ℕ) (bs : List ℕ) → HasTaken q b bs f → IsVerdictOrMemory (verdict (problem_of q) b bs) r) → IfSome old.cert_in (λ cert. IsVerdictOrMemory (verdict (problem_of p) bound cert) r)
   check_end r none room so_far step tells =
       let all = read_end CertIn n so_far.bytes buffer old now new none room so_far.read step in
-      over (λ (held : List ℕ). so_far.bytes ≡ held) (λ (cert : List ℕ). Tells (verdict (problem_of p) bound cert) r) old.cert_in all.all
-      (λ held e. subst (λ (bs : List ℕ). Tells (verdict (problem_of p) bound bs) r) e (tells p bound so_far.bytes so_far.has))
+      over (λ (held : List ℕ). so_far.bytes ≡ held) (λ (cert : List ℕ). IsVerdictOrMemory (verdict (problem_of p) bound cert) r) old.cert_in all.all
+      (λ held e. subst (λ (bs : List ℕ). IsVerdictOrMemory (verdict (problem_of p) bound bs) r) e (tells p bound so_far.bytes so_far.has))
 
   none_left : (bytes : List ℕ) (o : Option (List ℕ)) → IfSome o (λ held. bytes ≡ held) → option_map (λ held. drop (length bytes) held) o ≡ option_map (λ (held : List ℕ). []) o
   none_left bytes None h = refl
@@ -66,15 +67,15 @@ module _ (p : Parts) (bound : Option ℕ) (f : Feed) (n : ℕ) (buffer : List �
       ap (λ (d : Sight). d.cert_in) all.rest ∙ none_left so_far.bytes old.cert_in all.all
 
   pub check_fault : (x : CertFault) → CheckedSoFar p bound f old now → Reads CertIn n buffer now new
-      → ((q : Parts) (b : Option ℕ) (bs : List ℕ) → HasTaken q b bs f → (rest : List ℕ) → Tells (verdict (problem_of q) b ((bs ++ take n buffer) ++ rest)) (Err x))
-      → IfSome old.cert_in (λ cert. Tells (verdict (problem_of p) bound cert) (Err x))
+      → ((q : Parts) (b : Option ℕ) (bs : List ℕ) → HasTaken q b bs f → (rest : List ℕ) → IsVerdictOrMemory (verdict (problem_of q) b ((bs ++ take n buffer) ++ rest)) (Err x))
+      → IfSome old.cert_in (λ cert. IsVerdictOrMemory (verdict (problem_of p) bound cert) (Err x))
   check_fault x so_far step tells =
       let bytes : List ℕ = so_far.bytes ++ take n buffer in
       let front = (read_step CertIn n so_far.bytes buffer old now new so_far.read step).front in
-      over (λ (held : List ℕ). (length bytes ≤ length held) × (bytes ≡ take (length bytes) held)) (λ (cert : List ℕ). Tells (verdict (problem_of p) bound cert) (Err x)) old.cert_in front
+      over (λ (held : List ℕ). (length bytes ≤ length held) × (bytes ≡ take (length bytes) held)) (λ (cert : List ℕ). IsVerdictOrMemory (verdict (problem_of p) bound cert) (Err x)) old.cert_in front
       (λ held e.
       let whole : bytes ++ drop (length bytes) held ≡ held = ap (λ (l : List ℕ). l ++ drop (length bytes) held) e.1 ∙ take-append-drop (length bytes) held in
-      subst (λ (bs : List ℕ). Tells (verdict (problem_of p) bound bs) (Err x)) whole (tells p bound so_far.bytes so_far.has (drop (length bytes) held)))
+      subst (λ (bs : List ℕ). IsVerdictOrMemory (verdict (problem_of p) bound bs) (Err x)) whole (tells p bound so_far.bytes so_far.has (drop (length bytes) held)))
 
 -- ---- the text of a verdict
 
@@ -111,13 +112,13 @@ refused-text fault text (refused f n) e h =
     let same : ◌≡◌ {A = Option (List ℕ)} (Some (verdict_text (refused f n))) (Some text) = ap stop_text h ∙ e in
     let is : verdict_text (refused f n) ≡ text = cc in ap (λ (t : List ℕ). says CertRefused t) is
 
-pub shown_fault : (fault : CertFault) (text : List ℕ) → stop_text (stop_of fault) ≡ Some text → (v : Verdict) → Tells v (Err fault) → verdict_course v ≡ says CertRefused text
+pub shown_fault : (fault : CertFault) (text : List ℕ) → stop_text (stop_of fault) ≡ Some text → (v : Verdict) → IsVerdictOrMemory v (Err fault) → verdict_course v ≡ says CertRefused text
 shown_fault fault text e v (inl m) = absurd (none-some text (sym (ap (λ (f : CertFault). stop_text (stop_of f)) m) ∙ e))
 shown_fault fault text e v (inr h) = refused-text fault text v e h
 
 -- the answer that tells a verdict
 pub concluded : (v : Verdict) (status : Status) (text bytes : List ℕ) (old new : Sight) (result : Status) → verdict_course v ≡ says status text → bytes ≡ text
-    → Ends (says status bytes) old new result → RunEnds (Concludes v) [] old new result
+    → Ends (says status bytes) old new result → RunEnds (IsCourseOf v) [] old new result
 concluded v status text bytes old new result e e' ends =
     on_course (says status text) (sym e) (subst (λ (t : List ℕ). Ends (says status t) old new result) e' ends)
 
@@ -125,13 +126,13 @@ concluded v status text bytes old new result e e' ends =
 
 module _ (p : Problem) (bound : Option ℕ) (name : List ℕ) where
   pub checked : (r : Result told.Verdict CertFault) (old first mid new : Sight) (status : Status) → first ≡ with_start CertIn name old → ReadsSome CertIn first mid
-      → IfSome first.cert_in (λ cert. Tells (verdict p bound cert) r) → ((v : Verdict) → Tells v r → RunEnds (Concludes v) [] mid new status)
+      → IfSome first.cert_in (λ cert. IsVerdictOrMemory (verdict p bound cert) r) → ((v : Verdict) → IsVerdictOrMemory v r → RunEnds (IsCourseOf v) [] mid new status)
       → IfSome old.cert_in (λ cert. RunEnds (CanCheck p bound name cert) ((CertIn, name) ∷ []) old new status)
   checked r old first mid new status started some tells ends =
-      over (λ (cert : List ℕ). Tells (verdict p bound cert) r) (λ (cert : List ℕ). RunEnds (CanCheck p bound name cert) ((CertIn, name) ∷ []) old new status) old.cert_in
-      (subst (λ (o : Option (List ℕ)). IfSome o (λ cert. Tells (verdict p bound cert) r)) (ap (λ (d : Sight). d.cert_in) started) tells)
+      over (λ (cert : List ℕ). IsVerdictOrMemory (verdict p bound cert) r) (λ (cert : List ℕ). RunEnds (CanCheck p bound name cert) ((CertIn, name) ∷ []) old new status) old.cert_in
+      (subst (λ (o : Option (List ℕ)). IfSome o (λ cert. IsVerdictOrMemory (verdict p bound cert) r)) (ap (λ (d : Sight). d.cert_in) started) tells)
       (λ cert h.
-      run_behind (Concludes (verdict p bound cert)) (CanCheck p bound name cert) (CertIn, name) [] old mid new status (after_cert_in name old first mid started some)
+      run_behind (IsCourseOf (verdict p bound cert)) (CanCheck p bound name cert) (CertIn, name) [] old mid new status (after_cert_in name old first mid started some)
       (λ tail can. ap (λ (c : Course). behind ((CertIn, name) ∷ []) c) can) (ends (verdict p bound cert) h))
 
   pub not_started : (old new : Sight) → FailsOn CertIn old new → IfSome old.cert_in (λ cert. RunEnds (CanCheck p bound name cert) ((CertIn, name) ∷ []) old new InFailed)

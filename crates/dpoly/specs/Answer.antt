@@ -2,7 +2,7 @@
 use Rattle.std.specs.Prelude.{◌≡◌, ◌≤◌, ℕ, List, IsTrue}
 use Rattle.words.specs.declared.asked.Options.{Options}
 use Rattle.poly_graph.specs.Problem.{Problem}
-use Rattle.poly_graph.specs.State.{Loosenings}
+use Rattle.cover_model.specs.State.{Loosenings}
 use Rattle.cert_model.specs.Due.{Standing, Value, at_point, left_open}
 use Rattle.cert_model.specs.Accepted.{IsAccepted}
 use Rattle.cert_model.specs.AnswerText.{has_open}

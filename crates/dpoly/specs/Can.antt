@@ -9,9 +9,10 @@ use Rattle.cert_model.specs.Due.{Value, left_open}
 use Rattle.cert_model.specs.Accepted.{Verdict, accepted, refused, verdict}
 use Rattle.cert_model.specs.AnswerText.{solve_text, verdict_text, demo_text}
 use Rattle.dpoly.specs.declared.status.Status.TheVariants.{Answered, CertRefused, ScriptRefused, Usage}
-use Rattle.script_faults.specs.Faults.{ScriptFault, fault_text}
+use Rattle.script_fault.specs.declared.fault.ScriptFault.{ScriptFault}
+use Rattle.answer_text.specs.ScriptFaults.{fault_text}
 use Rattle.script_faults.specs.Faults.{script_fault}
-use Rattle.dpoly.specs.Reader.{IsBuilt}
+use Rattle.problem_build.specs.Reader.{IsBuilt}
 use Rattle.dpoly.specs.Answer.{loosenings_of, IsAnswer}
 use Rattle.dpoly.specs.Course.{Start, Course, says, gives, behind}
 

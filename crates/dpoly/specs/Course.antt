@@ -1,5 +1,5 @@
 -- What a run does to its desk, from its words to its end, and what is seen of it.
-use Rattle.std.specs.Prelude.{◌≡◌, ◌≢◌, ◌⊎◌, ◌++◌, ◌≤◌, ℕ, List, [], ◌∷◌, Option, length, take, codes}
+use Rattle.std.specs.Prelude.{◌≡◌, ◌≢◌, ◌⊎◌, ◌++◌, ◌≤◌, ◌<◌, ℕ, List, [], ◌∷◌, Option, length, take, codes}
 use Rattle.std.specs.Option.{option_map}
 use Rattle.desk.specs.declared.desk.Port.{Port}
 use Rattle.desk.specs.declared.desk.Port.TheVariants.{Answer, CertOut}
@@ -44,7 +44,8 @@ pub record Went (course : Course) (old new : Sight) : Type 0 where
   pub cert : new.cert_out ≡ appended old.cert_out course.cert
   pub answer : new.answer ≡ appended old.answer course.answer
 
--- it stopped on its way: its first starts and a prefix of each text stand, and nothing of the answer before the certificate is whole
+-- it stopped on its way: its first starts and a prefix of each text stand; the answer's port, which is started last, was not started
+-- before the certificate was whole
 pub record Stopped (course : Course) (old new : Sight) : Type 0 where
   pub starts_made : ℕ
   pub cert_bytes : ℕ
@@ -52,7 +53,7 @@ pub record Stopped (course : Course) (old new : Sight) : Type 0 where
   pub starts : new.starts ≡ appended old.starts (take starts_made course.starts)
   pub cert : new.cert_out ≡ appended old.cert_out (take cert_bytes course.cert)
   pub answer : new.answer ≡ appended old.answer (take answer_bytes course.answer)
-  pub order : (answer_bytes ≡ 0) ⊎ (length course.cert ≤ cert_bytes)
+  pub order : ((starts_made < length course.starts) × (answer_bytes ≡ 0)) ⊎ (length course.cert ≤ cert_bytes)
 
 -- some of these starts at most were made, and nothing is written
 pub record Quiet (starts : List Start) (old new : Sight) : Type 0 where

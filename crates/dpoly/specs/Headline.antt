@@ -7,20 +7,22 @@ use Rattle.gen_script.specs.Demo.{demo_script}
 use Rattle.dyadic.specs.Rounding.{exact}
 use Rattle.script_model.specs.Script.{Satisfies}
 use Rattle.poly_graph.specs.Problem.{Problem}
-use Rattle.poly_graph.specs.Space.{Space}
-use Rattle.poly_graph.specs.State.{Loosenings, margin_of, delta_of}
+use Rattle.interval_model.specs.Space.{Space}
+use Rattle.cover_model.specs.State.{Loosenings, margin_of, delta_of}
 use Rattle.cert_model.specs.Due.{CertFault, at_point, left_open, coordinates}
 use Rattle.cert_model.specs.Accepted.{IsAccepted, refused, verdict}
 use Rattle.cert_model.specs.AnswerText.{text_line, unsat_text, delta_sat_text, check_text, verdict_text}
 use Rattle.headline.specs.Laws.{HasNoPoint}
 use Rattle.headline.specs.Near.{IsNearDeclaredBox}
-use Rattle.dpoly.specs.Reader.{commands_of, IsBuilt}
+use Rattle.problem_build.specs.Reader.{commands_of, IsBuilt}
 use Rattle.dpoly.specs.Answer.{loosenings_of}
+use Rattle.dpoly.specs.declared.status.Status.TheVariants.{Answered, CertRefused}
 use Rattle.dpoly.specs.Course.{appended}
+use Rattle.dpoly.specs.Run.{Run, OnInput}
 
 -- this text was written as answer, where the answer's bytes are told
-abbrev pub Wrote : List ℕ → Sight → Sight → Type 0
-Wrote text old new = IsSomeAnd old.answer (λ before. new.answer ≡ Some (before ++ text))
+abbrev pub IsWritten : List ℕ → Sight → Sight → Type 0
+IsWritten text old new = IsSomeAnd old.answer (λ before. new.answer ≡ Some (before ++ text))
 
 -- The script holds nowhere in its declared box, each atom loosened by the margin; and what was written as certificate is
 -- accepted as a cover that leaves nothing.
@@ -43,14 +45,14 @@ abbrev pub confirmed_unsat_word : List ℕ
 confirmed_unsat_word = text_line (codes "confirmed unsat")
 
 -- The answer is `unsat` at the margin of the words, or `demo`'s, or confirms it at some margin: so it is.
-abbrev pub UnsatIsTrue : Option Command → List ℕ → List ℕ → Sight → Sight → Type 0
-UnsatIsTrue (Some (solve words)) script cert_in old new =
-    Wrote (unsat_text (loosenings_of words.options)) old new → IsUnsat words.options script old new
-UnsatIsTrue (Some (check words)) script cert_in old new =
-    (rest : List ℕ) → Wrote (confirmed_unsat_word ++ rest) old new →
-    (s : Loosenings) × Wrote (check_text s (left_open [])) old new × IsConfirmedUnsat words.bound script cert_in s
-UnsatIsTrue (Some (demo words)) script cert_in old new = IsUnsat words.options (demo_script words.seed words.size) old new
-UnsatIsTrue None script cert_in old new = Unit {0}
+abbrev pub IsTrueUnsat : Option Command → List ℕ → List ℕ → Sight → Sight → Type 0
+IsTrueUnsat (Some (solve words)) script cert_in old new =
+    IsWritten (unsat_text (loosenings_of words.options)) old new → IsUnsat words.options script old new
+IsTrueUnsat (Some (check words)) script cert_in old new =
+    (rest : List ℕ) → IsWritten (confirmed_unsat_word ++ rest) old new →
+    (s : Loosenings) × IsWritten (check_text s (left_open [])) old new × IsConfirmedUnsat words.bound script cert_in s
+IsTrueUnsat (Some (demo words)) script cert_in old new = IsUnsat words.options (demo_script words.seed words.size) old new
+IsTrueUnsat None script cert_in old new = Unit {0}
 
 -- The point satisfies the script, each atom loosened by delta, and lies within delta of the declared box.
 pub record IsDeltaSat (bound : Option ℕ) (script : List ℕ) (s : Loosenings) (space : Space) : Type 0 where
@@ -71,15 +73,15 @@ abbrev pub confirmed_delta_sat_word : List ℕ
 confirmed_delta_sat_word = text_line (codes "confirmed delta-sat")
 
 -- The answer is `delta-sat` with a point, or confirms such a one: the point is one.
-abbrev pub DeltaSatIsTrue : Option Command → List ℕ → List ℕ → Sight → Sight → Type 0
-DeltaSatIsTrue (Some (solve words)) script cert_in old new =
-    (rest : List ℕ) → Wrote (delta_sat_word ++ rest) old new →
-    (p : Problem) × (space : Space) × IsBuilt words.options.bound script p × Wrote (delta_sat_text p (loosenings_of words.options) space) old new
+abbrev pub IsTrueDeltaSat : Option Command → List ℕ → List ℕ → Sight → Sight → Type 0
+IsTrueDeltaSat (Some (solve words)) script cert_in old new =
+    (rest : List ℕ) → IsWritten (delta_sat_word ++ rest) old new →
+    (p : Problem) × (space : Space) × IsBuilt words.options.bound script p × IsWritten (delta_sat_text p (loosenings_of words.options) space) old new
     × IsDeltaSat words.options.bound script (loosenings_of words.options) space
-DeltaSatIsTrue (Some (check words)) script cert_in old new =
-    (rest : List ℕ) → Wrote (confirmed_delta_sat_word ++ rest) old new →
-    (s : Loosenings) × (space : Space) × Wrote (check_text s (at_point space)) old new × IsConfirmedPoint words.bound script cert_in s space
-DeltaSatIsTrue _ script cert_in old new = Unit {0}
+IsTrueDeltaSat (Some (check words)) script cert_in old new =
+    (rest : List ℕ) → IsWritten (confirmed_delta_sat_word ++ rest) old new →
+    (s : Loosenings) × (space : Space) × IsWritten (check_text s (at_point space)) old new × IsConfirmedPoint words.bound script cert_in s space
+IsTrueDeltaSat _ script cert_in old new = Unit {0}
 
 -- The certificate has this fault at this line, by the script's problem, and the answer tells it.
 pub record IsRefusedCert (bound : Option ℕ) (script cert_in : List ℕ) (old new : Sight) : Type 0 where
@@ -91,6 +93,20 @@ pub record IsRefusedCert (bound : Option ℕ) (script cert_in : List ℕ) (old n
   pub written : new.answer ≡ appended old.answer (verdict_text (refused fault line))
 
 -- A certificate that is refused has a fault.
-abbrev pub RefusalIsTrue : Option Command → List ℕ → List ℕ → Sight → Sight → Type 0
-RefusalIsTrue (Some (check words)) script cert_in old new = IsRefusedCert words.bound script cert_in old new
-RefusalIsTrue _ script cert_in old new = Unit {0}
+abbrev pub IsTrueRefusal : Option Command → List ℕ → List ℕ → Sight → Sight → Type 0
+IsTrueRefusal (Some (check words)) script cert_in old new = IsRefusedCert words.bound script cert_in old new
+IsTrueRefusal _ script cert_in old new = Unit {0}
+
+-- ---- runs
+
+-- where the run answers `unsat`, or confirms it, the script holds nowhere in its declared box
+abbrev pub UnsatIsTrue : Run → Type 0
+UnsatIsTrue r = OnInput r (λ script cert_in. r.status ≡ Answered → IsTrueUnsat r.command script cert_in r.old r.new)
+
+-- where it answers `delta-sat`, or confirms it, the point satisfies the script and lies near its declared box, both within delta
+abbrev pub DeltaSatIsTrue : Run → Type 0
+DeltaSatIsTrue r = OnInput r (λ script cert_in. r.status ≡ Answered → IsTrueDeltaSat r.command script cert_in r.old r.new)
+
+-- where it refuses a certificate, that has the fault
+abbrev pub RefusalIsTrue : Run → Type 0
+RefusalIsTrue r = OnInput r (λ script cert_in. r.status ≡ CertRefused → IsTrueRefusal r.command script cert_in r.old r.new)

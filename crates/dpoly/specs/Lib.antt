@@ -1,11 +1,10 @@
 pub mod Answer
-pub mod Building
 pub mod Can
 pub mod Check
 pub mod Course
 pub mod Headline
 pub mod Parts
-pub mod Reader
 pub mod Run
 pub mod Script
 pub mod Search
+pub mod Statuses

@@ -5,9 +5,10 @@ use Rattle.desk.specs.Sight.{Sight, SideFailed}
 use Rattle.poly_graph.specs.Problem.{Problem}
 use Rattle.dpoly.specs.declared.script.Halt.{Halt}
 use Rattle.dpoly.specs.declared.script.Halt.TheVariants as halt
-use Rattle.script_faults.specs.Faults.{ScriptFault, fault_text, most_bytes}
-use Rattle.script_faults.specs.Faults.{script_fault}
-use Rattle.dpoly.specs.Reader.{IsBuilt, too_many_bytes}
+use Rattle.script_fault.specs.declared.fault.ScriptFault.{ScriptFault}
+use Rattle.answer_text.specs.ScriptFaults.{fault_text}
+use Rattle.script_faults.specs.Faults.{most_bytes, script_fault}
+use Rattle.problem_build.specs.Reader.{HasProblem, too_many_bytes}
 use Rattle.dpoly.specs.declared.status.Status.{Status}
 use Rattle.dpoly.specs.declared.status.Status.TheVariants.{ScriptRefused, InFailed, NoMemory}
 use Rattle.dpoly.specs.Course.{Start, Quiet, says, Ends}
@@ -31,11 +32,6 @@ abbrev pub HasText : List ℕ → Halt → Type 0
 HasText text (halt.Refused said) = said.items ≡ text
 HasText text halt.Failed = ⊥
 HasText text halt.Memory = Unit {0}
-
--- the script has no fault, and this is its problem
-pub record HasProblem (bound : Option ℕ) (p : Problem) (script : List ℕ) : Type 0 where
-  pub clean : script_fault bound script ≡ None
-  pub built : IsBuilt bound script p
 
 abbrev pub script_start : List ℕ → List Start
 script_start name = (Script, name) ∷ []

@@ -3,10 +3,10 @@ use Rattle.std.specs.Prelude.{◌≡◌, ◌≢◌, ◌≤◌, ℕ, List, [], le
 use Rattle.words.specs.declared.asked.Options.{Options}
 use Rattle.poly_graph.specs.ProblemViews.{Parts}
 use Rattle.poly_graph.specs.Problem.{Problem}
-use Rattle.poly_graph.specs.Derivation.{Tree}
+use Rattle.cover_model.specs.Derivation.{Tree}
 use Rattle.cert_model.specs.Due.{Standing, Value, left_open}
 use Rattle.cert_model.specs.AnswerText.{solve_text}
-use Rattle.cover_rule.specs.declared.margins.Options as cover
+use Rattle.cover_data.specs.declared.margins.Options as cover
 use Rattle.cover_book.specs.declared.verdict.BookVerdict.TheVariants.{NotYet}
 use Rattle.cover_book.specs.Model.{BookModel, problem_in}
 use Rattle.cover_book.specs.Keeps.{IsCrossed}

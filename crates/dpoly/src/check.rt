@@ -1,23 +1,12 @@
 // `check`, from a problem to the verdict of a certificate.
-ghost use Rattle.std.specs.Prelude.{◌≡◌, ◌∷◌, [], IfOk, IfSome, option_map};
-ghost use Rattle.desk.specs.declared.desk.Port.TheVariants.{CertIn};
-ghost use Rattle.words.specs.Words.{Check, check};
-ghost use Rattle.poly_graph.specs.ProblemViews.{problem_of};
-ghost use Rattle.cert_check.specs.Courses.{IsVerdict};
-ghost use Rattle.cert_model.specs.Accepted as accepted;
-ghost use Rattle.cert_model.specs.Accepted.{verdict};
-ghost use Rattle.cert_model.specs.AnswerText.{verdict_text};
-ghost use Rattle.dpoly.specs.declared.check.Unconfirmed.TheVariants.{Fault};
-ghost use Rattle.dpoly.specs.Check.{Concludes, IsToldOf, Leaves, Tells};
-ghost use Rattle.dpoly.specs.Course.{RunEnds, says};
-ghost use Rattle.dpoly.specs.Can.{CanCheck, verdict_course};
-ghost use Rattle.dpoly.specs.Run.{SameIn, HasCause};
+ghost use Rattle.std.specs.Prelude.{◌≡◌, Err, IfOk, Ok};
+ghost use Rattle.dpoly.specs.Check.{EndsOnCheck, EndsOnVerdict, IsConfirmation, IsReadFor, IsVerdictFor};
+ghost use Rattle.dpoly.specs.Run.{CheckHasCause, IsReadToEnd, SameIn};
 
-use crate::feed::Feed;
 use crate::ports::say;
 use crate::status::Status;
 use answer_text::{cert_fault, confirmed_delta_sat, confirmed_unsat, left_open};
-use cert_check::{CertFault, Verdict};
+use cert_check::{CertFault, Feed, Verdict};
 use desk::{Denied, Desk, Port};
 use poly_graph::Problem;
 use std::alloc::{AllocError, Global};
@@ -25,19 +14,11 @@ use std::alloc::{AllocError, Global};
 // The most bytes of a certificate that are read at once.
 const ROOM: usize = 65_536;
 
-/// Why a certificate is not confirmed: its first fault, want of memory included, or its port failed.
+/// Why a certificate is not confirmed: its first fault, out of memory included, or its port failed.
 #[derive(Clone, Copy, Debug, PartialEq, Eq)]
 pub enum Unconfirmed {
     Fault(CertFault),
     Failed,
-}
-
-impl From<CertFault> for Unconfirmed {
-    ghost from_gives = { λ f e. e ≡ Fault f };
-
-    fn from(fault: CertFault) -> Self {
-        Unconfirmed::Fault(fault)
-    }
 }
 
 // The verdict of the certificate on its port, which is read up to its first fault.
@@ -47,8 +28,8 @@ fn read_verdict<D: Desk>(
     problem: &Problem,
     bound: Option<u32>,
 ) -> Result<Verdict, Unconfirmed>
-    ensures told { IfSome (D.sight desk.old).cert_in (λ cert. IsToldOf (verdict (problem_of problem.now) bound cert) result) }
-    ensures leaves { Leaves result (D.sight desk.old) (D.sight desk.new) }
+    ensures told { IsVerdictFor problem.now bound (D.sight desk.old) result }
+    ensures leaves { IsReadFor result (D.sight desk.old) (D.sight desk.new) }
 {
     let mut feed = match Feed::new(alloc, problem, bound) {
         Ok(feed) => feed,
@@ -75,7 +56,7 @@ fn read_verdict<D: Desk>(
 
 // What a certificate without a fault shows.
 fn shown(alloc: Global, verdict: Verdict) -> Result<Vec<u8>, AllocError>
-    ensures { IfOk result (λ text. (v : accepted.Verdict) → IsVerdict v (Ok verdict) → verdict_course v ≡ says Status.Answered text.items) }
+    ensures { IfOk result (λ text. IsConfirmation verdict text.items) }
 {
     match verdict {
         Verdict::Unsat(margin_bits) => confirmed_unsat(alloc, margin_bits),
@@ -86,9 +67,9 @@ fn shown(alloc: Global, verdict: Verdict) -> Result<Vec<u8>, AllocError>
 
 // Confirms a certificate.
 fn confirm<D: Desk>(alloc: Global, desk: &mut D, verdict: Verdict) -> Status
-    ensures ends { (v : accepted.Verdict) → Tells v (Ok verdict) → RunEnds (Concludes v) [] (D.sight desk.old) (D.sight desk.new) result }
+    ensures ends { EndsOnVerdict (Ok verdict) (D.sight desk.old) (D.sight desk.new) result }
     ensures same { SameIn (D.sight desk.old) (D.sight desk.new) }
-    ensures cause { (words : Check) → HasCause (Some (check words)) (D.sight desk.old) (D.sight desk.new) result }
+    ensures cause { CheckHasCause (D.sight desk.old) (D.sight desk.new) result }
 {
     match shown(alloc, verdict) {
         Ok(text) => say(desk, Status::Answered, &text),
@@ -98,9 +79,9 @@ fn confirm<D: Desk>(alloc: Global, desk: &mut D, verdict: Verdict) -> Status
 
 // Refuses a certificate for its first fault.
 fn refuse<D: Desk>(alloc: Global, desk: &mut D, fault: CertFault) -> Status
-    ensures ends { (v : accepted.Verdict) → Tells v (Err fault) → RunEnds (Concludes v) [] (D.sight desk.old) (D.sight desk.new) result }
+    ensures ends { EndsOnVerdict (Err fault) (D.sight desk.old) (D.sight desk.new) result }
     ensures same { SameIn (D.sight desk.old) (D.sight desk.new) }
-    ensures cause { (words : Check) → HasCause (Some (check words)) (D.sight desk.old) (D.sight desk.new) result }
+    ensures cause { CheckHasCause (D.sight desk.old) (D.sight desk.new) result }
     ensures refused { result ≡ Status.Answered → ⊥ }
 {
     match cert_fault(alloc, fault) {
@@ -117,11 +98,10 @@ pub fn check_problem<D: Desk>(
     problem: &Problem,
     bound: Option<u32>,
 ) -> Status
-    ensures ends { IfSome (D.sight desk.old).cert_in (λ cert.
-        RunEnds (CanCheck (problem_of problem.now) bound name.now cert) ((CertIn, name.now) ∷ []) (D.sight desk.old) (D.sight desk.new) result) }
-    ensures cause { (words : Check) → HasCause (Some (check words)) (D.sight desk.old) (D.sight desk.new) result }
+    ensures ends { EndsOnCheck problem.now bound name.now (D.sight desk.old) (D.sight desk.new) result }
+    ensures cause { CheckHasCause (D.sight desk.old) (D.sight desk.new) result }
     ensures script { (D.sight desk.new).script ≡ (D.sight desk.old).script }
-    ensures read { result ≡ Status.Answered → (D.sight desk.new).cert_in ≡ option_map (λ cert. []) (D.sight desk.old).cert_in }
+    ensures read { result ≡ Status.Answered → IsReadToEnd (D.sight desk.old) (D.sight desk.new) }
 {
     match desk.start(Port::CertIn, name) {
         Ok(()) => {}

@@ -2,9 +2,7 @@
 #![tactic(auto)]
 
 mod answers;
-mod building;
 mod check;
-mod feed;
 mod files;
 mod ports;
 mod script;
@@ -24,13 +22,13 @@ fn main(rt: HostRuntime) -> ExitCode {
     let words = match env::args(&rt) {
         Ok(args) => match args.collect::<Vec<String>>(alloc) {
             Ok(words) => words,
-            Err(_) => return ExitCode::from(Status::NoMemory as u8),
+            Err(_) => return ExitCode::from(Status::NoMemory.code()),
         },
-        Err(_) => return ExitCode::from(Status::NoMemory as u8),
+        Err(_) => return ExitCode::from(Status::NoMemory.code()),
     };
     let mut desk = FileDesk::new(rt);
     let status = run_top(&rt, alloc, &words, &mut desk, &NoGate);
-    ExitCode::from(status as u8)
+    ExitCode::from(status.code())
 }
 
 #[cfg(test)]

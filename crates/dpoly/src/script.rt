@@ -1,21 +1,17 @@
 // A script's problem, from its port.
-ghost use Rattle.std.specs.Prelude.{◌≡◌, ◌≤◌, ◌<◌, IfOk, IfSome, IsTrue, MatchResult, length};
+ghost use Rattle.std.specs.Prelude.{◌≡◌, IfOk, IsTrue, MatchResult, Option};
 ghost use Rattle.poly_graph.specs.ProblemViews.{problem_of};
-ghost use Rattle.script_faults.specs.Faults.{fault_text, most_bytes};
-ghost use Rattle.answer_text.specs.ScriptFaults.{command_tells, script_fault_of, sort_tells, text_tells};
-ghost use Rattle.dpoly.specs.Building.{building_tells};
+ghost use Rattle.script_fault.specs.Answers.{IsFaultOrMemory};
+ghost use Rattle.answer_text.specs.ScriptFaults.{fault_text};
+ghost use Rattle.problem_build.specs.Reader.{HasProblem};
 ghost use Rattle.dpoly.specs.Search.{IsWithin};
-ghost use Rattle.dpoly.specs.Script.{HasProblem, Refuses, Fetches, Halts, HasText, IsTold, IsTooLong};
+ghost use Rattle.dpoly.specs.Script.{Refuses, Fetches, Halts, HasText, IsTold, IsTooLong};
 
-use crate::building::building_fault;
-use crate::ports::{SCRIPT_LIMIT, fetch};
-use answer_text::{ScriptFault, script_fault};
+use crate::ports::fetch;
 use desk::{Desk, ReadAll};
-use poly_graph::Problem;
-use problem_build::build;
-use smt_script::commands;
-use smt_sexp::{TextFault, read};
-use sort_check::check;
+use poly_graph::{MOST_ATOMS, Problem};
+use problem_build::read_problem;
+use script_fault::{FaultKind, Limit, MOST_AXES, Place, ReadError, ScriptFault};
 use std::alloc::Global;
 
 /// Why a run ends before its script has a problem: the text of the script's first fault, a port that failed, or want
@@ -28,52 +24,22 @@ pub enum Halt {
 }
 
 // The refusal of a script for a fault.
-fn refusal(alloc: Global, fault: &ScriptFault<'_>) -> Halt
-    ensures { HasText (fault_text (script_fault_of fault.now)) result }
+fn fault_refusal(alloc: Global, fault: &ScriptFault) -> Halt
+    ensures { HasText (fault_text fault.now) result }
 {
-    match script_fault(alloc, fault) {
+    match answer_text::script_fault(alloc, fault) {
         Ok(text) => Halt::Refused(text),
         Err(_) => Halt::Memory,
     }
 }
 
-// The refusal of a script for a fault of its text.
-fn text_refusal(alloc: Global, fault: &TextFault) -> Halt
-    ensures { IsTold (text_tells fault.now) result }
+// Why a script is not read.
+fn refusal(alloc: Global, error: &ReadError) -> Halt
+    ensures { (found : Option ScriptFault) → IsFaultOrMemory error.now found → IsTold found result }
 {
-    match ScriptFault::try_from(fault) {
-        Ok(fault) => refusal(alloc, &fault),
-        Err(_) => Halt::Memory,
-    }
-}
-
-// The refusal of a script for a fault of its commands.
-fn command_refusal(alloc: Global, fault: &smt_script::ScriptFault) -> Halt
-    ensures { IsTold (command_tells fault.now) result }
-{
-    match ScriptFault::try_from(fault) {
-        Ok(fault) => refusal(alloc, &fault),
-        Err(_) => Halt::Memory,
-    }
-}
-
-// The refusal of a script for a fault of its names or sorts.
-fn sort_refusal(alloc: Global, fault: &sort_check::ScriptFault) -> Halt
-    ensures { IsTold (sort_tells fault.now) result }
-{
-    match ScriptFault::try_from(fault) {
-        Ok(fault) => refusal(alloc, &fault),
-        Err(_) => Halt::Memory,
-    }
-}
-
-// The refusal of a script for a fault of its building.
-fn building_refusal(alloc: Global, fault: &problem_build::ScriptFault) -> Halt
-    ensures { IsTold (building_tells fault.now) result }
-{
-    match building_fault(fault) {
-        Some(fault) => refusal(alloc, &fault),
-        None => Halt::Memory,
+    match error {
+        ReadError::Fault(fault) => fault_refusal(alloc, fault),
+        ReadError::Memory => Halt::Memory,
     }
 }
 
@@ -81,47 +47,18 @@ fn building_refusal(alloc: Global, fault: &problem_build::ScriptFault) -> Halt
 fn too_long(alloc: Global) -> Halt
     ensures { IsTooLong result }
 {
-    match Vec::from_slice(alloc, b"script fault 13 TooMany Bytes 0:0\n") {
-        Ok(text) => Halt::Refused(text),
-        Err(_) => Halt::Memory,
-    }
-}
-
-// The problem of a script's bytes.
-fn read_problem(alloc: Global, bytes: &[u8], bound: Option<u32>) -> Result<Problem, Halt>
-    ensures script { MatchResult result
-        (λ p. HasProblem bound (problem_of p) bytes.now)
-        (λ halt. Refuses bound bytes.now halt) }
-{
-    if bytes.len() > SCRIPT_LIMIT {
-        return Err(too_long(alloc));
-    }
-    let sexps = match read(alloc, bytes) {
-        Ok(sexps) => sexps,
-        Err(fault) => return Err(text_refusal(alloc, &fault)),
+    let fault = ScriptFault {
+        at: Place { line: 0, column: 0 },
+        kind: FaultKind::TooMany(Limit::Bytes),
     };
-    let script = match commands(alloc, &sexps) {
-        Ok(script) => script,
-        Err(fault) => return Err(command_refusal(alloc, &fault)),
-    };
-    let typed = match check(alloc, script) {
-        Ok(typed) => typed,
-        Err(fault) => return Err(sort_refusal(alloc, &fault)),
-    };
-    let problem = match build(alloc, typed, bound) {
-        Ok(problem) => problem,
-        Err(fault) => return Err(building_refusal(alloc, &fault)),
-    };
-    // Its type keeps that it is whole.
-    let _ = problem.axes();
-    Ok(problem)
+    fault_refusal(alloc, &fault)
 }
 
 // Whether a search takes as many axes and atoms. The limits of the reader are the same, so it does.
 fn is_within(problem: &Problem) -> bool
     ensures { IsTrue result → IsWithin problem.now }
 {
-    problem.axes().len() <= 1_024 && problem.atoms().len() <= 65_536
+    problem.axes().len() <= MOST_AXES && problem.atoms().len() <= MOST_ATOMS
 }
 
 /// The problem of a script's bytes, which a search takes.
@@ -139,7 +76,7 @@ pub fn read_script(alloc: Global, bytes: &[u8], bound: Option<u32>) -> Result<Pr
                 Err(Halt::Memory)
             }
         }
-        Err(halt) => Err(halt),
+        Err(error) => Err(refusal(alloc, &error)),
     }
 }
 

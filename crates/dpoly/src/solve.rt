@@ -1,13 +1,13 @@
 // `solve` and `demo`, from a problem to their answers.
-ghost use Rattle.std.specs.Prelude.{◌≡◌, [], IfOk, Some, length};
-ghost use Rattle.words.specs.Words.{Solve, Demo, AreOptions, solve, demo};
+ghost use Rattle.std.specs.Prelude.{◌≡◌, [], IfOk, length};
+ghost use Rattle.words.specs.Words.{AreOptions};
 ghost use Rattle.poly_graph.specs.ProblemViews.{problem_of};
 ghost use Rattle.cert_model.specs.AnswerText.{demo_text};
 ghost use Rattle.cert_model.specs.Due.{left_open};
 ghost use Rattle.dpoly.specs.Answer.{IsAnswer};
 ghost use Rattle.dpoly.specs.Course.{RunEnds};
 ghost use Rattle.dpoly.specs.Can.{CanSolve, CanDemo};
-ghost use Rattle.dpoly.specs.Run.{SameIn, HasCause};
+ghost use Rattle.dpoly.specs.Run.{DemoHasCause, SameIn, SolveHasCause};
 ghost use Rattle.dpoly.specs.Search.{IsLeftBy, IsTold, IsWithin};
 
 use crate::answers::{Told, search_options, tell, whole_cover};
@@ -92,7 +92,7 @@ pub fn solve_problem<R: Threads + Wait + Sync, D: Desk, G: Gate + Sync>(
     requires within { IsWithin problem.now }
     ensures ends { RunEnds (CanSolve (problem_of problem.now) options name.now) [] (D.sight desk.old) (D.sight desk.new) result }
     ensures same { SameIn (D.sight desk.old) (D.sight desk.new) }
-    ensures cause { (words : Solve) → HasCause (Some (solve words)) (D.sight desk.old) (D.sight desk.new) result }
+    ensures cause { SolveHasCause (D.sight desk.old) (D.sight desk.new) result }
 {
     match solved(rt, alloc, problem, &options, gate) {
         Ok(told) => finish(desk, name, &told.cert, &told.text),
@@ -115,7 +115,7 @@ pub fn solve_demo<R: Threads + Wait + Sync, D: Desk, G: Gate + Sync>(
     requires within { IsWithin problem.now }
     ensures ends { RunEnds (CanDemo (problem_of problem.now) options name.now script.now) [] (D.sight desk.old) (D.sight desk.new) result }
     ensures same { SameIn (D.sight desk.old) (D.sight desk.new) }
-    ensures cause { (words : Demo) → HasCause (Some (demo words)) (D.sight desk.old) (D.sight desk.new) result }
+    ensures cause { DemoHasCause (D.sight desk.old) (D.sight desk.new) result }
 {
     match covered(rt, alloc, problem, &options, gate) {
         Ok(cert) => match answer_text::demo(

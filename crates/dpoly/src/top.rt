@@ -1,12 +1,10 @@
 // The run of the whole program.
-ghost use Rattle.std.specs.Prelude.{◌≡◌, [], None, Some, List, ℕ, map, string_bytes};
-ghost use Rattle.words.specs.Words.{command_of, AreOptions, IsBound, IsDemo, IsInRange, solve, check, demo};
-ghost use Rattle.words.specs.Seen.{seen, seen_solve, seen_check, seen_demo};
-ghost use Rattle.dpoly.specs.Course.{RunEnds};
-ghost use Rattle.dpoly.specs.Can.{Can, in_starts};
-ghost use Rattle.dpoly.specs.Run.{CertIsRead, Completes, HasCause, SameIn, ScriptIsRead, Shows, Tells};
+ghost use Rattle.std.specs.Prelude.{◌≡◌, None};
+ghost use Rattle.words.specs.Words.{AreOptions, IsDemo, IsInRange};
+ghost use Rattle.words.specs.Seen.{seen, seen_demo};
+ghost use Rattle.dpoly.specs.Run.{asked_run, CertIsRead, check_run, command_in, demo_run, HasCause, HasCourse, run, SameIn, ScriptIsRead, solve_run, StatusIsDue, StatusIsShown};
 ghost use Rattle.dpoly.specs.Script.{HaltEnds};
-ghost use Rattle.dpoly.specs.Headline.{UnsatIsTrue, DeltaSatIsTrue, RefusalIsTrue};
+ghost use Rattle.dpoly.specs.Headline.{DeltaSatIsTrue, RefusalIsTrue, UnsatIsTrue};
 
 use crate::check::check_problem;
 use crate::ports::say;
@@ -42,10 +40,9 @@ fn run_solve<R: Threads + Wait + Sync, D: Desk, G: Gate + Sync>(
     gate: &G,
 ) -> Status
     requires { AreOptions asked.options }
-    ensures cause { HasCause (Some (solve (seen_solve asked.entry))) (D.sight desk.old) (D.sight desk.new) result }
-    ensures script { ScriptIsRead (Some (solve (seen_solve asked.entry))) (D.sight desk.old) (D.sight desk.new) result }
-    ensures ends { (script cert_in : List ℕ) → Tells (Some (solve (seen_solve asked.entry))) (D.sight desk.old) script cert_in
-        → RunEnds (Can (Some (solve (seen_solve asked.entry))) script cert_in) (in_starts (Some (solve (seen_solve asked.entry)))) (D.sight desk.old) (D.sight desk.new) result }
+    ensures cause { HasCause (solve_run asked.entry (D.sight desk.old) (D.sight desk.new) result) }
+    ensures script { ScriptIsRead (solve_run asked.entry (D.sight desk.old) (D.sight desk.new) result) }
+    ensures course { HasCourse (solve_run asked.entry (D.sight desk.old) (D.sight desk.new) result) }
 {
     let SolveWords {
         script,
@@ -60,11 +57,10 @@ fn run_solve<R: Threads + Wait + Sync, D: Desk, G: Gate + Sync>(
 
 // Checks a certificate of a script.
 fn run_check<D: Desk>(alloc: Global, desk: &mut D, asked: CheckWords<'_>) -> Status
-    ensures cause { HasCause (Some (check (seen_check asked.entry))) (D.sight desk.old) (D.sight desk.new) result }
-    ensures script { ScriptIsRead (Some (check (seen_check asked.entry))) (D.sight desk.old) (D.sight desk.new) result }
-    ensures cert { CertIsRead (Some (check (seen_check asked.entry))) (D.sight desk.old) (D.sight desk.new) result }
-    ensures ends { (script cert_in : List ℕ) → Tells (Some (check (seen_check asked.entry))) (D.sight desk.old) script cert_in
-        → RunEnds (Can (Some (check (seen_check asked.entry))) script cert_in) (in_starts (Some (check (seen_check asked.entry)))) (D.sight desk.old) (D.sight desk.new) result }
+    ensures cause { HasCause (check_run asked.entry (D.sight desk.old) (D.sight desk.new) result) }
+    ensures script { ScriptIsRead (check_run asked.entry (D.sight desk.old) (D.sight desk.new) result) }
+    ensures cert { CertIsRead (check_run asked.entry (D.sight desk.old) (D.sight desk.new) result) }
+    ensures course { HasCourse (check_run asked.entry (D.sight desk.old) (D.sight desk.new) result) }
 {
     let CheckWords {
         script,
@@ -86,10 +82,9 @@ fn run_demo<R: Threads + Wait + Sync, D: Desk, G: Gate + Sync>(
     gate: &G,
 ) -> Status
     requires { IsDemo (seen_demo asked) }
-    ensures cause { HasCause (Some (demo (seen_demo asked.entry))) (D.sight desk.old) (D.sight desk.new) result }
+    ensures cause { HasCause (demo_run asked.entry (D.sight desk.old) (D.sight desk.new) result) }
     ensures same { SameIn (D.sight desk.old) (D.sight desk.new) }
-    ensures ends { (script cert_in : List ℕ)
-        → RunEnds (Can (Some (demo (seen_demo asked.entry))) script cert_in) [] (D.sight desk.old) (D.sight desk.new) result }
+    ensures course { HasCourse (demo_run asked.entry (D.sight desk.old) (D.sight desk.new) result) }
 {
     let DemoWords {
         seed,
@@ -115,11 +110,10 @@ fn run_command<R: Threads + Wait + Sync, D: Desk, G: Gate + Sync>(
     gate: &G,
 ) -> Status
     requires { IsInRange (seen asked) }
-    ensures cause { HasCause (Some (seen asked.entry)) (D.sight desk.old) (D.sight desk.new) result }
-    ensures script { ScriptIsRead (Some (seen asked.entry)) (D.sight desk.old) (D.sight desk.new) result }
-    ensures cert { CertIsRead (Some (seen asked.entry)) (D.sight desk.old) (D.sight desk.new) result }
-    ensures ends { (script cert_in : List ℕ) → Tells (Some (seen asked.entry)) (D.sight desk.old) script cert_in
-        → RunEnds (Can (Some (seen asked.entry)) script cert_in) (in_starts (Some (seen asked.entry))) (D.sight desk.old) (D.sight desk.new) result }
+    ensures cause { HasCause (asked_run asked.entry (D.sight desk.old) (D.sight desk.new) result) }
+    ensures script { ScriptIsRead (asked_run asked.entry (D.sight desk.old) (D.sight desk.new) result) }
+    ensures cert { CertIsRead (asked_run asked.entry (D.sight desk.old) (D.sight desk.new) result) }
+    ensures course { HasCourse (asked_run asked.entry (D.sight desk.old) (D.sight desk.new) result) }
 {
     match asked {
         Asked::Solve(asked) => run_solve(rt, alloc, desk, asked, gate),
@@ -140,33 +134,22 @@ pub fn run_top<R: Threads + Wait + Sync, D: Desk, G: Gate + Sync>(
     desk: &mut D,
     gate: &G,
 ) -> Status
-    // No status comes without its cause, even where the desk tells nothing.
-    ensures cause { HasCause (command_of (map string_bytes words.now)) (D.sight desk.old) (D.sight desk.new) result }
+    // Whatever the desk tells: a status has its cause, refused words read nothing, and a script, and a certificate that
+    // is confirmed, are read to their ends.
+    ensures cause { HasCause (run words.now (D.sight desk.old) (D.sight desk.new) result) }
+    ensures unread { command_in words.now ≡ None → SameIn (D.sight desk.old) (D.sight desk.new) }
+    ensures script { ScriptIsRead (run words.now (D.sight desk.old) (D.sight desk.new) result) }
+    ensures cert { CertIsRead (run words.now (D.sight desk.old) (D.sight desk.new) result) }
 
-    // Refused words: nothing was read.
-    ensures unread { command_of (map string_bytes words.now) ≡ None → SameIn (D.sight desk.old) (D.sight desk.new) }
+    // Of what the desk tells: each status shows what its row says, and where neither side fails it is the one that is
+    // due, or there was no memory.
+    ensures shows { StatusIsShown (run words.now (D.sight desk.old) (D.sight desk.new) result) }
+    ensures complete { StatusIsDue (run words.now (D.sight desk.old) (D.sight desk.new) result) }
 
-    // A script, and a certificate that is confirmed, were read to their ends.
-    ensures script { ScriptIsRead (command_of (map string_bytes words.now)) (D.sight desk.old) (D.sight desk.new) result }
-    ensures cert { CertIsRead (command_of (map string_bytes words.now)) (D.sight desk.old) (D.sight desk.new) result }
-
-    // Each status shows what its row says.
-    ensures shows { (script cert_in : List ℕ) → Tells (command_of (map string_bytes words.now)) (D.sight desk.old) script cert_in
-        → Shows (command_of (map string_bytes words.now)) script cert_in (D.sight desk.old) (D.sight desk.new) result }
-
-    // Where neither side fails, a run ends as it must, or memory was wanting.
-    ensures complete { (script cert_in : List ℕ) → Tells (command_of (map string_bytes words.now)) (D.sight desk.old) script cert_in
-        → Completes (command_of (map string_bytes words.now)) script cert_in (D.sight desk.old) (D.sight desk.new) result }
-
-    // What is answered is true of the script.
-    ensures unsat { (script cert_in : List ℕ) → Tells (command_of (map string_bytes words.now)) (D.sight desk.old) script cert_in
-        → result ≡ Status.Answered → UnsatIsTrue (command_of (map string_bytes words.now)) script cert_in (D.sight desk.old) (D.sight desk.new) }
-    ensures delta_sat { (script cert_in : List ℕ) → Tells (command_of (map string_bytes words.now)) (D.sight desk.old) script cert_in
-        → result ≡ Status.Answered → DeltaSatIsTrue (command_of (map string_bytes words.now)) script cert_in (D.sight desk.old) (D.sight desk.new) }
-
-    // A certificate that is refused has the fault that is told.
-    ensures refused { (script cert_in : List ℕ) → Tells (command_of (map string_bytes words.now)) (D.sight desk.old) script cert_in
-        → result ≡ Status.CertRefused → RefusalIsTrue (command_of (map string_bytes words.now)) script cert_in (D.sight desk.old) (D.sight desk.new) }
+    // What is answered is true of the script, and a certificate that is refused has the fault that is answered.
+    ensures unsat { UnsatIsTrue (run words.now (D.sight desk.old) (D.sight desk.new) result) }
+    ensures delta_sat { DeltaSatIsTrue (run words.now (D.sight desk.old) (D.sight desk.new) result) }
+    ensures refused { RefusalIsTrue (run words.now (D.sight desk.old) (D.sight desk.new) result) }
 {
     match read_words(alloc, words) {
         Ok(asked) => run_command(rt, alloc, desk, asked, gate),

@@ -4,14 +4,14 @@ use Rattle.dyadic.specs.Fraction.{Fraction, IsFraction, at_most, sum_of, negated
 use Rattle.dyadic.specs.Point.{Sort, real_sort, bool_sort, Coordinate, at_fraction, at_bool, IsPoint}
 use Rattle.dyadic.specs.Rounding.{Dyadic, exact}
 use Rattle.dyadic.proofs.Equal.{through, total}
-use Rattle.dyadic.proofs.EndsSums.{sum_mono, sum_is_good, negated_is_good}
+use Rattle.interval_model.proofs.EndsSums.{sum_mono, sum_is_good, negated_is_good}
 use Rattle.script_model.specs.Script.{Command, Constant, constants_of, sort_of_constant, Satisfies}
 use Rattle.script_model.specs.Declared.{DeclaredInterval, declared_interval}
 use Rattle.script_forms.specs.ProblemOf.{IsEnd, IsDeclaredBy, AreAxes, IsProblemOf}
 use Rattle.script_forms.proofs.Box.{box_declared, problem_means}
-use Rattle.poly_graph.specs.Space.{Space}
+use Rattle.interval_model.specs.Space.{Space}
 use Rattle.poly_graph.specs.Problem.{Problem, IsProblem, Axis, Declared, real_between, any_bool, sort_of, sorts_of_axes}
-use Rattle.poly_graph.specs.State.{Loosenings, margin_of, delta_of}
+use Rattle.cover_model.specs.State.{Loosenings, margin_of, delta_of}
 use Rattle.cert_model.specs.Due.{at_point, left_open, coordinates}
 use Rattle.cert_model.specs.Accepted.{IsAccepted}
 use Rattle.cert_model.specs.Derived.{IsNear, AreNear}

@@ -7,8 +7,8 @@ use Rattle.script_model.specs.Script.{Command, Satisfies}
 use Rattle.script_model.specs.Declared.{InDeclaredBox}
 use Rattle.script_forms.specs.ProblemOf.{IsProblemOf}
 use Rattle.poly_graph.specs.Problem.{Problem, IsProblem}
-use Rattle.poly_graph.specs.Space.{Space}
-use Rattle.poly_graph.specs.State.{Loosenings, margin_of, delta_of}
+use Rattle.interval_model.specs.Space.{Space}
+use Rattle.cover_model.specs.State.{Loosenings, margin_of, delta_of}
 use Rattle.cert_model.specs.Due.{at_point, left_open, coordinates}
 use Rattle.cert_model.specs.Accepted.{IsAccepted}
 use Rattle.headline.specs.Near.{IsNearDeclaredBox}

@@ -1,5 +1,5 @@
 use Rattle.std.proofs.Common.{ap, sym, ◌∙◌}
-use Rattle.dyadic.specs.Space.{strictly_inside, holds_number, test_axis}
+use Rattle.interval_model.specs.Space.{strictly_inside, holds_number, test_axis}
 use Rattle.dyadic.specs.Views.{dyadic_of}
 use Rattle.ival.specs.SpaceViews.{space_of}
 use Rattle.cert_check.proofs.Axes.{weaker, inside_holds}

@@ -1,5 +1,5 @@
 use Rattle.std.proofs.Common.{ap, sym, ◌∙◌, true, false}
-use Rattle.dyadic.specs.Space.{is_undecided, allows, test_axis}
+use Rattle.interval_model.specs.Space.{is_undecided, allows, test_axis}
 use Rattle.ival.specs.SpaceViews.{space_of}
 use Rattle.cert_check.proofs.Axes.{weaker, undecided_allows}
 use Rattle.cert_check.proofs.branches.flip.Goals as goal

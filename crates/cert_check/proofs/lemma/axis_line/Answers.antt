@@ -6,7 +6,7 @@ use Rattle.poly_graph.specs.Problem.{Axis}
 use Rattle.poly_graph.specs.ProblemViews.{problem_of, axis_of}
 use Rattle.ival.specs.SpaceViews.{space_of, domain_of}
 use Rattle.cert_check.specs.States.{loosenings_of}
-use Rattle.cert_check.specs.Dues.{Comes, states_of}
+use Rattle.cert_check.specs.Dues.{IsOutcome, states_of}
 use Rattle.cert_check.specs.Faults.{Refuses}
 use Rattle.cert_check.proofs.Waits.{axes_here, axes_done, axis_goes}
 use Rattle.cert_check.proofs.lemma.axis_line.Goals as goal
@@ -15,7 +15,7 @@ pub returns-then-axis-axes-clause-comes : goal.returns-then-axis-axes-clause-com
 returns-then-axis-axes-clause-comes c b =
     let p = c.args.problem.now in let cover = c.args.cover in let space = space_of c.args.space in
     let none : drop (length space) p.axes ≡ _ = axes_done c.axes-axes.result.now p.axes (length space) c.axes-axes.ensures.axes (omega (arith, c.if-axis-axes.true, c.len-axis.ensures)) in
-    subst (λ (xs : List Axis). Comes p c.yes_line.result (next (problem_of p) b (axis_next (loosenings_of cover.loosenings) cover.count (states_of cover.lemmas.items) xs space) (line_of c.args.line.now)))
+    subst (λ (xs : List Axis). IsOutcome p c.yes_line.result (next (problem_of p) b (axis_next (loosenings_of cover.loosenings) cover.count (states_of cover.lemmas.items) xs space) (line_of c.args.line.now)))
     (sym none) (c.yes_line.ensures.comes b)
 
 pub returns-in-Err-clause-comes : goal.returns-in-Err-clause-comes

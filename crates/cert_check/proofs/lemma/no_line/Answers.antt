@@ -1,6 +1,6 @@
 use Rattle.std.proofs.Common.{length, ap, ◌∙◌, sym, subst, Option, List}
 use Rattle.std.proofs.lemmas.List.{length-map}
-use Rattle.poly_graph.specs.State.{Mark}
+use Rattle.poly_graph.specs.Marks.{Mark}
 use Rattle.poly_graph.specs.Views.{atom_of}
 use Rattle.cert_check.specs.Lists.{IsMarked}
 use Rattle.cert_check.proofs.Marking.{length_marks}

@@ -1,6 +1,6 @@
 use Rattle.std.proofs.Common.{◌≡◌, ℕ, drop}
 use Rattle.std.specs.List.{list_all}
-use Rattle.poly_graph.specs.State.{is_unmarked, mark_at}
+use Rattle.poly_graph.specs.Marks.{is_unmarked, mark_at}
 use Rattle.cert_check.proofs.lists.all_unmarked.Given as goal
 
 abbrev pub invariant-loop-j : goal.invariant-loop-j

@@ -1,5 +1,5 @@
 use Rattle.std.proofs.Common.{◌≡◌, ℕ, length, ap, sym, ◌∙◌, subst, IsTrue, List}
-use Rattle.poly_graph.specs.State.{Mark, marked_yes}
+use Rattle.poly_graph.specs.Marks.{Mark, marked_yes}
 use Rattle.cert_model.specs.Due.{all_below}
 use Rattle.cert_check.specs.Lists.{marked}
 use Rattle.cert_check.proofs.Marking.{length_marked, length_none, marks_meet, marks_part}

@@ -1,7 +1,7 @@
 use Rattle.std.proofs.Common.{List, length, get_or, refl, sym, ap, ◌∙◌, arith}
 use Rattle.std.proofs.lemmas.List.{length-map}
 use Rattle.dyadic.specs.Rounding.{exact}
-use Rattle.poly_graph.specs.State.{delta_of}
+use Rattle.cover_model.specs.State.{delta_of}
 use Rattle.poly_graph.specs.Problem.{Axis}
 use Rattle.poly_graph.specs.ProblemViews.{axis_of}
 use Rattle.ival.specs.SpaceViews.{domain_of, space_of}

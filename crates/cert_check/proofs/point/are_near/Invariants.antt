@@ -1,6 +1,6 @@
 use Rattle.std.proofs.Common.{◌≡◌, map, drop}
 use Rattle.dyadic.specs.Rounding.{exact}
-use Rattle.poly_graph.specs.State.{delta_of}
+use Rattle.cover_model.specs.State.{delta_of}
 use Rattle.poly_graph.specs.ProblemViews.{axis_of}
 use Rattle.ival.specs.SpaceViews.{space_of}
 use Rattle.cert_model.specs.Due.{are_near, coordinates}

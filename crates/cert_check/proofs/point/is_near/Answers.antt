@@ -2,7 +2,7 @@ use Rattle.std.proofs.Common.{ap₂, sym, ◌∙◌, arith}
 use Rattle.dyadic.specs.Rounding.{exact}
 use Rattle.dyadic.specs.Views.{dyadic_of, fraction_of_frac}
 use Rattle.dyadic.proofs.SizePositive.{size_positive}
-use Rattle.poly_graph.specs.State.{delta_of}
+use Rattle.cover_model.specs.State.{delta_of}
 use Rattle.poly_graph.specs.ProblemViews.{declared_of}
 use Rattle.ival.specs.SpaceViews.{domain_of}
 use Rattle.cert_model.specs.Due.{is_near, coordinate_of}

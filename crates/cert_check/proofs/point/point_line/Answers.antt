@@ -6,7 +6,7 @@ use Rattle.poly_graph.specs.Problem.{Axis}
 use Rattle.poly_graph.specs.ProblemViews.{problem_of, axis_of}
 use Rattle.ival.specs.SpaceViews.{space_of, domain_of}
 use Rattle.cert_check.specs.States.{loosenings_of}
-use Rattle.cert_check.specs.Dues.{Comes}
+use Rattle.cert_check.specs.Dues.{IsOutcome}
 use Rattle.cert_check.specs.Faults.{Refuses}
 use Rattle.cert_check.proofs.Waits.{axes_here, axes_done, coordinate_goes}
 use Rattle.cert_check.proofs.point.point_line.Goals as goal
@@ -15,7 +15,7 @@ pub returns-then-axis-axes-clause-comes : goal.returns-then-axis-axes-clause-com
 returns-then-axis-axes-clause-comes c b =
     let p = c.args.problem.now in let space = space_of c.args.space in
     let none : drop (length space) p.axes ≡ _ = axes_done c.axes-axes.result.now p.axes (length space) c.axes-axes.ensures.axes (omega (arith, c.if-axis-axes.true, c.len-axis.ensures)) in
-    subst (λ (xs : List Axis). Comes p c.point_end.result (next (problem_of p) b (coordinate_next (loosenings_of c.args.s) xs space) (line_of c.args.line.now)))
+    subst (λ (xs : List Axis). IsOutcome p c.point_end.result (next (problem_of p) b (coordinate_next (loosenings_of c.args.s) xs space) (line_of c.args.line.now)))
     (sym none) (c.point_end.ensures.comes b)
 
 pub returns-in-Err-clause-comes : goal.returns-in-Err-clause-comes

@@ -1,5 +1,5 @@
 use Rattle.std.proofs.Common.{◌≡◌, sym, subst, map, IfOk}
-use Rattle.poly_graph.specs.Rules.{rule}
+use Rattle.cover_model.specs.Rules.{rule}
 use Rattle.poly_graph.specs.ProblemViews.{problem_of}
 use Rattle.cert_model.specs.Due.{rule_of}
 use Rattle.cert_check.specs.declared.said.Step.{Step}

@@ -1,5 +1,5 @@
 use Rattle.std.proofs.Common.{◌≡◌, drop}
-use Rattle.poly_graph.specs.State.{marks_within}
+use Rattle.poly_graph.specs.Marks.{marks_within}
 use Rattle.cert_check.proofs.state.marks_within.Given as goal
 
 -- what is left to compare decides

@@ -1,5 +1,5 @@
 use Rattle.std.proofs.Common.{Option, ap, sym, ◌∙◌, subst}
-use Rattle.poly_graph.specs.Rules.{Left}
+use Rattle.cover_model.specs.Rules.{Left}
 use Rattle.cert_model.specs.Due.{rule_of}
 use Rattle.cert_check.specs.declared.left.Left as code
 use Rattle.cert_check.specs.States.{state_of, loosenings_of}

@@ -1,6 +1,6 @@
 use Rattle.std.proofs.Common.{ℕ, List, [], Option, length, sym, subst, ap, ap₂, ◌∙◌}
 use Rattle.std.proofs.lemmas.List.{length-map}
-use Rattle.poly_graph.specs.State.{State}
+use Rattle.cover_model.specs.State.{State}
 use Rattle.poly_graph.specs.Views.{atom_of}
 use Rattle.poly_graph.specs.ProblemViews.{problem_of}
 use Rattle.cert_model.specs.Due.{Next, is_some_axis}
@@ -10,7 +10,7 @@ use Rattle.ival.specs.SpaceViews.{space_of}
 use Rattle.truth3.specs.Roots.{IsRoot}
 use Rattle.cert_check.specs.States.{loosenings_of}
 use Rattle.cert_check.specs.Steps.{rule_line_of}
-use Rattle.cert_check.specs.Dues.{Comes, states_of, pending_of}
+use Rattle.cert_check.specs.Dues.{IsOutcome, states_of, pending_of}
 use Rattle.cert_check.proofs.RuleFits.{root_is}
 use Rattle.cert_check.proofs.tree.root_rule.Goals as goal
 
@@ -20,7 +20,7 @@ returns-clause-comes c b =
     let root = subst (λ (r : Root). IsRoot p r) c.in-Space.is c.in_ok-root_space.ensures in
     let count = sym (length-map c.atoms.result.now atom_of) ∙ ap length c.atoms.ensures.atoms in
     let state = root_is p (space_of c.in-Space.space) c.in_ok-lits-in-Space.lits (length c.atoms.result.now) root.1 (c.in_ok-lits-in-Space.ensures) count in
-    subst (λ (x : Next). Comes p c.main_rule.result x)
+    subst (λ (x : Next). IsOutcome p c.main_rule.result x)
     (ap₂ (λ (S : State) (ps : List State). tree_line P s lemmas S ps [] l) state (ap pending_of c.new-pending.ensures.items)
     ∙ sym (ap (λ (o : Option ℕ). root_line (is_some_axis o) P s lemmas l) root.0))
     (c.main_rule.ensures.comes b)

@@ -3,10 +3,10 @@ use Rattle.cert_read.specs.CertLine.{CertLine}
 use Rattle.cert_model.specs.Accepted.{next}
 use Rattle.poly_graph.specs.ProblemViews.{problem_of}
 use Rattle.cert_check.specs.declared.due.Due.TheVariants.{Tree}
-use Rattle.cert_check.specs.Dues.{Comes, due_of}
+use Rattle.cert_check.specs.Dues.{IsOutcome, due_of}
 use Rattle.cert_check.proofs.tree.tree_line.Goals as goal
 
 pub returns-in-Rule-clause-comes : goal.returns-in-Rule-clause-comes
 returns-in-Rule-clause-comes c b =
     let p = c.args.problem.now in
-    subst (λ (l : CertLine). Comes p c.main_rule.result (next (problem_of p) b (due_of p (Tree c.args.cover c.args.tree c.args.stayed)) l)) (sym c.in-Rule.ensures) (c.main_rule.ensures.comes b)
+    subst (λ (l : CertLine). IsOutcome p c.main_rule.result (next (problem_of p) b (due_of p (Tree c.args.cover c.args.tree c.args.stayed)) l)) (sym c.in-Rule.ensures) (c.main_rule.ensures.comes b)

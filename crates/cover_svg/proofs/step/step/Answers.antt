@@ -1,6 +1,6 @@
 use Rattle.std.proofs.Common.{◌≡◌, List, length, subst, sym, IfOk, IfSome, Option}
 use Rattle.poly_graph.specs.ProblemViews.{problem_of}
-use Rattle.poly_graph.specs.State.{State, Loosenings}
+use Rattle.cover_model.specs.State.{State, Loosenings}
 use Rattle.cert_read.specs.declared.line.Line.{Line}
 use Rattle.cert_read.specs.Views.{line_of}
 use Rattle.cover_svg.specs.declared.step.Left.{Left}

@@ -1,4 +1,5 @@
 use Rattle.std.proofs.Common.{◌-◌}
+use Rattle.cert_check.specs.Feeding.{bytes_taken}
 use Rattle.dpoly.proofs.Verdicts.{CheckedSoFar}
 use Rattle.dpoly.proofs.check.read_verdict.Given as goal
 
@@ -6,4 +7,4 @@ abbrev pub invariant-loop-n : goal.invariant-loop-n
 invariant-loop-n g l = CheckedSoFar l.problem l.fn.bound l.feed (g.D.Desk.sight l.fn.desk) (g.D.Desk.sight l.desk)
 
 abbrev pub decreases-loop-n : goal.decreases-loop-n
-decreases-loop-n g l = 18446744073709551615 - l.feed.taken
+decreases-loop-n g l = 18446744073709551615 - bytes_taken l.feed

@@ -1,5 +1,5 @@
 use Rattle.std.proofs.Common.{subst, sym}
-use Rattle.cover_rule.specs.declared.margins.Options.{Options}
+use Rattle.cover_data.specs.declared.margins.Options.{Options}
 use Rattle.cover_book.specs.Limits.{IsWithinLimits}
 use Rattle.dpoly.proofs.Told.{limits}
 use Rattle.dpoly.proofs.solve.search.Goals as goal

@@ -9,15 +9,15 @@ use Rattle.dpoly.specs.Script.{script_start}
 use Rattle.dpoly.proofs.Running.{cause_behind, run_problem, run_halted, told}
 use Rattle.dpoly.proofs.top.run_check.Goals as goal
 
-pub returns-in-Ok-clause-ends : goal.returns-in-Ok-clause-ends
-returns-in-Ok-clause-ends g c script cert_in tells =
+pub returns-in-Ok-clause-course : goal.returns-in-Ok-clause-course
+returns-in-Ok-clause-course g c script cert_in tells =
     let ends = told (λ (cert : List ℕ). RunEnds (CanCheck (problem_of c.in-Ok.problem) c.args.asked.bound c.args.asked.cert.now cert) ((CertIn, c.args.asked.cert.now) ∷ [])
     (g.D.Desk.sight c.fetch_problem.new.desk) (g.D.Desk.sight c.check_problem.new.desk) c.check_problem.result) _ cert_in (c.in-Ok.ensures.other ∙ tells.1) c.check_problem.ensures.ends in
     run_problem c.args.asked.bound c.args.asked.script.now script (λ p. CanCheck p c.args.asked.bound c.args.asked.cert.now cert_in) ((CertIn, c.args.asked.cert.now) ∷ []) _ _ _ _
     (problem_of c.in-Ok.problem) c.in-Ok.ensures.script tells.0 ends
 
-pub returns-in-Err-clause-ends : goal.returns-in-Err-clause-ends
-returns-in-Err-clause-ends g c script cert_in tells =
+pub returns-in-Err-clause-course : goal.returns-in-Err-clause-course
+returns-in-Err-clause-course g c script cert_in tells =
     run_halted c.args.asked.bound c.args.asked.script.now script (λ p. CanCheck p c.args.asked.bound c.args.asked.cert.now cert_in) ((CertIn, c.args.asked.cert.now) ∷ []) _ _ _ _
     c.in-Err.stop c.in-Err.ensures.script tells.0 c.halt.ensures.ends
 

@@ -1,20 +1,20 @@
-use Rattle.std.proofs.Common.{ℕ, List, subst, ◌∙◌}
+use Rattle.std.proofs.Common.{ℕ, List, [], subst, ◌∙◌}
 use Rattle.words.specs.Seen.{seen_demo}
 use Rattle.poly_graph.specs.ProblemViews.{problem_of}
 use Rattle.dpoly.specs.Course.{RunEnds}
 use Rattle.dpoly.specs.Can.{CanDemo}
-use Rattle.dpoly.specs.Script.{HasProblem}
+use Rattle.problem_build.specs.Reader.{HasProblem}
 use Rattle.dpoly.proofs.Running.{demo_problem, demo_halted}
 use Rattle.dpoly.proofs.top.run_demo.Goals as goal
 
-pub returns-in-Ok-read_script-clause-ends : goal.returns-in-Ok-read_script-clause-ends
-returns-in-Ok-read_script-clause-ends g c =
+pub returns-in-Ok-read_script-clause-course : goal.returns-in-Ok-read_script-clause-course
+returns-in-Ok-read_script-clause-course g c script cert_in tells =
     let H : List ℕ → Type 0 = λ b. HasProblem c.args.asked.options.bound (problem_of c.in-Ok-read_script.problem) b in
-    let R : List ℕ → Type 0 = λ b. RunEnds (CanDemo (problem_of c.in-Ok-read_script.problem) c.args.asked.options c.args.asked.cert.now b) _
+    let R : List ℕ → Type 0 = λ b. RunEnds (CanDemo (problem_of c.in-Ok-read_script.problem) c.args.asked.options c.args.asked.cert.now b) []
     (g.D.Desk.sight c.args.desk.now) (g.D.Desk.sight c.solve_demo.new.desk) c.solve_demo.result in
     demo_problem (seen_demo c.args.asked) c.in-Ok.script.items (problem_of c.in-Ok-read_script.problem) _ _ _
-    (subst H c.deref.ensures.value c.in-Ok-read_script.ensures.script) c.in-Ok.ensures (subst R c.deref-in-Ok-read_script.ensures.value c.solve_demo.ensures.ends)
+    (subst H c.deref.ensures.value c.in-Ok-read_script.ensures.script) c.in-Ok.ensures (subst R c.deref-in-Ok-read_script.ensures.value c.solve_demo.ensures.ends) script cert_in
 
-pub returns-clause-ends : goal.returns-clause-ends
-returns-clause-ends g c =
-    demo_halted (seen_demo c.args.asked) c.deref.result.now c.in-Err.stop _ _ _ c.in-Err.ensures.script (c.deref.ensures.value ∙ c.in-Ok.ensures) c.halt.ensures.ends
+pub returns-clause-course : goal.returns-clause-course
+returns-clause-course g c script cert_in tells =
+    demo_halted (seen_demo c.args.asked) c.deref.result.now c.in-Err.stop _ _ _ c.in-Err.ensures.script (c.deref.ensures.value ∙ c.in-Ok.ensures) c.halt.ensures.ends script cert_in

@@ -4,12 +4,12 @@ use Rattle.dpoly.specs.Can.{CanSolve}
 use Rattle.dpoly.proofs.Running.{run_problem, run_halted}
 use Rattle.dpoly.proofs.top.run_solve.Goals as goal
 
-pub returns-in-Ok-clause-ends : goal.returns-in-Ok-clause-ends
-returns-in-Ok-clause-ends g c script cert_in tells =
+pub returns-in-Ok-clause-course : goal.returns-in-Ok-clause-course
+returns-in-Ok-clause-course g c script cert_in tells =
     run_problem c.args.asked.options.bound c.args.asked.script.now script (λ p. CanSolve p c.args.asked.options c.args.asked.cert.now) [] _ _ _ _
     (problem_of c.in-Ok.problem) c.in-Ok.ensures.script tells c.solve_problem.ensures.ends
 
-pub returns-in-Err-clause-ends : goal.returns-in-Err-clause-ends
-returns-in-Err-clause-ends g c script cert_in tells =
+pub returns-in-Err-clause-course : goal.returns-in-Err-clause-course
+returns-in-Err-clause-course g c script cert_in tells =
     run_halted c.args.asked.options.bound c.args.asked.script.now script (λ p. CanSolve p c.args.asked.options c.args.asked.cert.now) [] _ _ _ _
     c.in-Err.stop c.in-Err.ensures.script tells c.halt.ensures.ends

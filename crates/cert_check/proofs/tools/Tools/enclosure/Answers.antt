@@ -1,6 +1,6 @@
 use Rattle.std.proofs.Common.{List, ap, ◌∙◌}
-use Rattle.poly_graph.specs.Narrowed.{enclosures}
-use Rattle.poly_graph.specs.NodeEnclosure.{row}
+use Rattle.cover_model.specs.Narrowed.{enclosures}
+use Rattle.cover_model.specs.NodeEnclosure.{row}
 use Rattle.poly_graph.specs.Term.{Node}
 use Rattle.ival.specs.SpaceViews.{space_of}
 use Rattle.cert_check.proofs.Rows.{row_of_atom}

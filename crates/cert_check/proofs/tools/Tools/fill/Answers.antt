@@ -1,6 +1,6 @@
 use Rattle.std.proofs.Common.{List, ap, ◌∙◌, arith, length}
-use Rattle.poly_graph.specs.Narrowed.{enclosures}
-use Rattle.poly_graph.specs.NodeEnclosure.{row}
+use Rattle.cover_model.specs.Narrowed.{enclosures}
+use Rattle.cover_model.specs.NodeEnclosure.{row}
 use Rattle.poly_graph.specs.Term.{Node}
 use Rattle.ival.specs.SpaceViews.{space_of}
 use Rattle.ival.specs.RowViews.{rows_of}

@@ -1,6 +1,6 @@
 use Rattle.std.proofs.Common.{ap, ◌∙◌, length}
 use Rattle.ival.specs.SpaceViews.{space_of}
-use Rattle.poly_graph.proofs.NodeEnclosures.{length_enclosures}
+use Rattle.cover_model.proofs.NodeEnclosures.{length_enclosures}
 use Rattle.cert_check.proofs.tools.Tools.narrow.Goals as goal
 
 pub returns-clause-serves : goal.returns-clause-serves

@@ -13,8 +13,8 @@ use Rattle.cert_check.specs.Checked.{Checked}
 use Rattle.cert_check.specs.Courses.{Takes, Finishes, IsAt, IsCutOff, IsFed, IsVerdict}
 use Rattle.cert_check.proofs.Fed.{fed_nothing, fed_on}
 use Rattle.cert_check.proofs.Told.{verdict_is_told, fault_is_told, too_long_is_told}
-use Rattle.dpoly.specs.declared.feed.Feed.{Feed}
-use Rattle.dpoly.specs.Check.{HasTaken, Tells, Goes}
+use Rattle.cert_check.specs.declared.feed.Feed.{Feed}
+use Rattle.cert_check.specs.Feeding.{HasTaken, IsVerdictOrMemory}
 
 pub feed_start : (p : Parts) (bound : Option ℕ) (f : Feed) → f.checker ≡ record { problem = p; bound = bound; course = Some (reached version_due 0) }
     → f.reader ≡ record { unread = []; ended = false } → f.taken ≡ 0 → HasTaken p bound [] f
@@ -32,9 +32,9 @@ fed_open r piece e = ap (λ (t : Bool). cond t r (record { unread = r.unread ++ 
 
 -- the same problem and bound have the same verdict
 of_same : (c : Checked) (p : Parts) (bound : Option ℕ) (bytes : List ℕ) (r : Result told.Verdict CertFault) → c.problem ≡ p → c.bound ≡ bound
-    → Tells (verdict (problem_of c.problem) c.bound bytes) r → Tells (verdict (problem_of p) bound bytes) r
+    → IsVerdictOrMemory (verdict (problem_of c.problem) c.bound bytes) r → IsVerdictOrMemory (verdict (problem_of p) bound bytes) r
 of_same c p bound bytes r e e' h =
-    subst (λ (v : Verdict). Tells v r) (ap₂ (λ (q : Parts) (b : Option ℕ). verdict (problem_of q) b bytes) e e') h
+    subst (λ (v : Verdict). IsVerdictOrMemory v r) (ap₂ (λ (q : Parts) (b : Option ℕ). verdict (problem_of q) b bytes) e e') h
 
 -- a piece was fed, and its lines were taken
 module _ (p : Parts) (bound : Option ℕ) (bytes piece : List ℕ) (old new : Feed) (ahead : Reading) where
@@ -64,7 +64,7 @@ module _ (p : Parts) (bound : Option ℕ) (bytes piece : List ℕ) (old new : Fe
 
   pub piece_faulty : (f : CertFault) → HasTaken p bound bytes old → old.taken + length piece ≤ most_bytes → ahead ≡ fed old.reader piece → Takes old.checker (map parsed (lines_ahead ahead)) new.checker (Err f)
       → ((bs : List ℕ) → IsFed bs old.checker ahead.unread → IsAt new.checker bs ahead.ended)
-      → (rest : List ℕ) → Tells (verdict (problem_of p) bound ((bytes ++ piece) ++ rest)) (Err f)
+      → (rest : List ℕ) → IsVerdictOrMemory (verdict (problem_of p) bound ((bytes ++ piece) ++ rest)) (Err f)
   piece_faulty f has few e t at rest =
       let size : length (bytes ++ piece) ≤ most_bytes = omega (arith, few, has.count, length-append bytes piece) in
       of_same new.checker p bound ((bytes ++ piece) ++ rest) (Err f) (t.problem ∙ has.problem) (t.bound ∙ has.bound_is)
@@ -79,23 +79,23 @@ module _ (p : Parts) (bound : Option ℕ) (bytes piece : List ℕ) (n : ℕ) whe
       ∙ ap (λ (l : List ℕ). bytes ++ l) (sym (append_assoc (take n piece) (drop n piece) rest) ∙ ap (λ (l : List ℕ). l ++ rest) (take-append-drop n piece))
       ∙ sym (append_assoc bytes piece rest)
 
-  pub first_faulty : (f : CertFault) → ((rest : List ℕ) → Tells (verdict (problem_of p) bound ((bytes ++ take n piece) ++ rest)) (Err f))
-      → (rest : List ℕ) → Tells (verdict (problem_of p) bound ((bytes ++ piece) ++ rest)) (Err f)
-  first_faulty f h rest = subst (λ (bs : List ℕ). Tells (verdict (problem_of p) bound bs) (Err f)) (parted rest) (h (drop n piece ++ rest))
+  pub first_faulty : (f : CertFault) → ((rest : List ℕ) → IsVerdictOrMemory (verdict (problem_of p) bound ((bytes ++ take n piece) ++ rest)) (Err f))
+      → (rest : List ℕ) → IsVerdictOrMemory (verdict (problem_of p) bound ((bytes ++ piece) ++ rest)) (Err f)
+  first_faulty f h rest = subst (λ (bs : List ℕ). IsVerdictOrMemory (verdict (problem_of p) bound bs) (Err f)) (parted rest) (h (drop n piece ++ rest))
 
   -- the first part of the piece fills the certificate
   pub piece_too_long : (f : CertFault) (old c : Feed) → HasTaken p bound bytes old → HasTaken p bound (bytes ++ take n piece) c → old.taken ≤ most_bytes → n ≡ most_bytes - old.taken → n < length piece → IsCutOff c.checker.course f
-      → (rest : List ℕ) → Tells (verdict (problem_of p) bound ((bytes ++ piece) ++ rest)) (Err f)
+      → (rest : List ℕ) → IsVerdictOrMemory (verdict (problem_of p) bound ((bytes ++ piece) ++ rest)) (Err f)
   piece_too_long f old c before has few left beyond cut rest =
       let full : length (bytes ++ take n piece) ≡ most_bytes = omega (arith, few, left, before.count, length-append bytes (take n piece), length-take-le n piece (omega (arith, beyond))) in
       let more : 0 < length (drop n piece ++ rest) = omega (arith, beyond, length-drop n piece, length-append (drop n piece) rest) in
-      subst (λ (bs : List ℕ). Tells (verdict (problem_of p) bound bs) (Err f)) (parted rest)
+      subst (λ (bs : List ℕ). IsVerdictOrMemory (verdict (problem_of p) bound bs) (Err f)) (parted rest)
       (of_same c.checker p bound ((bytes ++ take n piece) ++ (drop n piece ++ rest)) (Err f) has.problem has.bound_is
       (too_long_is_told c.checker (bytes ++ take n piece) (drop n piece ++ rest) f full more has.at cut))
 
 -- ---- the end
 
-verdict_or : (v : Verdict) (r : Result told.Verdict CertFault) → (r ≡ Err Memory) ⊎ IsVerdict v r → Tells v r
+verdict_or : (v : Verdict) (r : Result told.Verdict CertFault) → (r ≡ Err Memory) ⊎ IsVerdict v r → IsVerdictOrMemory v r
 verdict_or v (Ok w) (inl e) = cc
 verdict_or v (Ok w) (inr h) = h
 verdict_or v (Err f) (inl e) = inl cc
@@ -103,7 +103,7 @@ verdict_or v (Err f) (inr h) = inr h
 
 pub ends_here : (p : Parts) (bound : Option ℕ) (bytes : List ℕ) (old : Feed) (ahead : Reading) (c : Checked) (x : Result (Unit {0}) CertFault) (r : Result told.Verdict CertFault)
     → HasTaken p bound bytes old → old.taken ≤ most_bytes → ahead ≡ record old.reader { ended = true } → Takes old.checker (map parsed (lines_ahead ahead)) c x
-    → ((bs : List ℕ) → IsFed bs old.checker ahead.unread → IsAt c bs ahead.ended) → Finishes c.course r → Tells (verdict (problem_of p) bound bytes) r
+    → ((bs : List ℕ) → IsFed bs old.checker ahead.unread → IsAt c bs ahead.ended) → Finishes c.course r → IsVerdictOrMemory (verdict (problem_of p) bound bytes) r
 ends_here p bound bytes old ahead c x r has few e t at finishes =
     let fed : IsFed bytes old.checker ahead.unread = subst (λ (a : Reading). IsFed bytes old.checker a.unread) (sym e) has.fed in
     let is : IsAt c bytes true = subst (λ (b : Bool). IsAt c bytes b) (ap (λ (a : Reading). a.ended) e) (at bytes fed) in

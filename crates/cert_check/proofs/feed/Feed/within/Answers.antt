@@ -1,6 +1,6 @@
 use Rattle.std.proofs.Common.{length, ◌+◌, refl}
-use Rattle.dpoly.proofs.Checking.{piece_taken, piece_faulty}
-use Rattle.dpoly.proofs.feed.Feed.within.Goals as goal
+use Rattle.cert_check.proofs.Feeding.{piece_taken, piece_faulty}
+use Rattle.cert_check.proofs.feed.Feed.within.Goals as goal
 
 pub returns-in-Ok-take-clause-goes : goal.returns-in-Ok-take-clause-goes
 returns-in-Ok-take-clause-goes c p bound bytes has =

@@ -1,7 +1,7 @@
 use Rattle.std.proofs.Common.{◌≤◌, ◌<◌, ◌-◌, length, refl, arith}
 use Rattle.cert_model.specs.Accepted.{most_bytes}
-use Rattle.dpoly.proofs.Checking.{first_faulty, piece_too_long}
-use Rattle.dpoly.proofs.feed.Feed.piece.Goals as goal
+use Rattle.cert_check.proofs.Feeding.{first_faulty, piece_too_long}
+use Rattle.cert_check.proofs.feed.Feed.piece.Goals as goal
 
 pub returns-in-Ok-clause-goes : goal.returns-in-Ok-clause-goes
 returns-in-Ok-clause-goes c p bound bytes has =

@@ -1,15 +1,19 @@
 // A certificate that comes by pieces.
-ghost use Rattle.std.specs.Prelude.{◌≡◌, ◌≤◌, ◌<◌, ◌+◌, ◌++◌, ◌^◌, [], ℕ, List, Option, IfOk, OnOk, length};
-ghost use Rattle.poly_graph.specs.ProblemViews.{Parts, problem_of};
-ghost use Rattle.cert_model.specs.Accepted.{most_bytes, verdict};
-ghost use Rattle.dpoly.specs.Check.{Goes, HasTaken, Tells};
+ghost use Rattle.std.specs.Prelude.{◌≡◌, ◌≤◌, ◌<◌, ◌+◌, ◌^◌, [], IfOk, OnOk, length};
+ghost use Rattle.cert_model.specs.Accepted.{most_bytes};
+ghost use Rattle.cert_check.specs.Feeding.{bytes_taken, HasTaken, IsFedPiece, IsVerdictOfTaken};
 
-use cert_check::{CertFault, Checker, Verdict};
+use crate::checker::{Checker, Verdict};
+use crate::fault::CertFault;
 use cert_read::LineReader;
 use poly_graph::Problem;
 use std::alloc::{AllocError, Global};
 
-/// A checker with the reader of its lines, and how many bytes they were fed.
+// A certificate has at most so many bytes.
+const MOST_BYTES: u64 = u64::MAX;
+
+/// A checker with the reader of its lines, and how many bytes they were fed: at most 2^64 - 1, the limit of a
+/// certificate.
 #[derive(Drop)]
 pub struct Feed {
     checker: Checker,
@@ -20,7 +24,7 @@ pub struct Feed {
 impl Feed {
     /// A checker that was fed nothing, of certificates for the problem, where `bound` is the bound of the words.
     pub fn new(alloc: Global, problem: &Problem, bound: Option<u32>) -> Result<Feed, AllocError>
-        ensures { IfOk result (λ f. HasTaken problem.now bound [] f) }
+        ensures { IfOk result (HasTaken problem.now bound []) }
     {
         let checker = Checker::new(alloc, problem, bound)?;
         Ok(Feed {
@@ -33,7 +37,7 @@ impl Feed {
     // Takes a piece with which the certificate is not too long.
     fn within(&mut self, piece: &[u8]) -> Result<(), CertFault>
         requires { self.old.taken + length piece.now ≤ most_bytes }
-        ensures goes { (p : Parts) (bound : Option ℕ) (bytes : List ℕ) → HasTaken p bound bytes self.old → Goes p bound (bytes ++ piece.now) self.new result }
+        ensures goes { IsFedPiece self.old piece.now self.new result }
         ensures more { OnOk result (self.new.taken ≡ self.old.taken + length piece.now) }
         ensures fits { self.new.taken < 2 ^ 64 }
     {
@@ -53,11 +57,11 @@ impl Feed {
 
     /// Takes a piece, and answers the certificate's first fault.
     pub fn piece(&mut self, piece: &[u8]) -> Result<(), CertFault>
-        ensures goes { (p : Parts) (bound : Option ℕ) (bytes : List ℕ) → HasTaken p bound bytes self.old → Goes p bound (bytes ++ piece.now) self.new result }
-        ensures more { OnOk result (self.new.taken ≡ self.old.taken + length piece.now) }
-        ensures fits { self.new.taken < 2 ^ 64 }
+        ensures goes { IsFedPiece self.old piece.now self.new result }
+        ensures more { OnOk result (bytes_taken self.new ≡ bytes_taken self.old + length piece.now) }
+        ensures fits { bytes_taken self.new < 2 ^ 64 }
     {
-        let left = u64::MAX - self.taken;
+        let left = MOST_BYTES - self.taken;
         if piece.len() as u64 <= left {
             return self.within(piece);
         }
@@ -69,7 +73,7 @@ impl Feed {
 
     /// The verdict, where the certificate ends here.
     pub fn end(&mut self) -> Result<Verdict, CertFault>
-        ensures { (p : Parts) (bound : Option ℕ) (bytes : List ℕ) → HasTaken p bound bytes self.old → Tells (verdict (problem_of p) bound bytes) result }
+        ensures { IsVerdictOfTaken self.old result }
     {
         let _taken = self.taken;
         self.reader.end();
