@@ -1,0 +1,4 @@
+mod Allowed
+pub mod Histories
+mod Replies
+mod Rows
