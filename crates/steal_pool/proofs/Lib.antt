@@ -1,0 +1,15 @@
+pub mod Counts
+pub mod Lists
+pub mod Moves
+pub mod Rows
+pub mod Sweeps
+pub mod Maps
+pub mod Accounts
+pub mod Columns
+pub mod Linking
+pub mod NewPools
+pub mod Sums
+pub mod Absorbing
+pub mod Gathers
+pub mod Lefts
+pub mod Places

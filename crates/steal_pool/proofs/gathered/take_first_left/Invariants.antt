@@ -1,0 +1,10 @@
+use Rattle.std.proofs.Common.{◌≡◌, ℕ, ◌<◌, ◌≤◌, slice_index_or}
+use Rattle.steal_pool.specs.declared.hand.Hand.{Hand}
+use Rattle.steal_pool.specs.Gathering.{IsEmptied}
+use Rattle.steal_pool.proofs.gathered.take_first_left.Given as goal
+
+abbrev pub invariant-loop-k : goal.invariant-loop-k
+invariant-loop-k l = record {
+  done : (j : ℕ) (d : Hand) → j < l.k → IsEmptied (slice_index_or l.initial.hands j d) (slice_index_or l.hands j d);
+  rest : (j : ℕ) (d : Hand) → l.k ≤ j → slice_index_or l.hands j d ≡ slice_index_or l.initial.hands j d;
+}

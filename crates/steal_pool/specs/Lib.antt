@@ -1,0 +1,11 @@
+pub mod Count
+pub mod Law
+pub mod Links
+pub mod Bits
+pub mod Account
+pub mod Turns
+pub mod Made
+pub mod Gathering
+pub mod Pool
+pub mod PoolLaw
+pub mod Left
