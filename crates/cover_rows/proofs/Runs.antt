@@ -2,9 +2,10 @@
 use Rattle.std.specs.Prelude.{◌≡◌}
 use Rattle.std.proofs.Common.{sym, subst}
 use Rattle.poly_graph.specs.ProblemViews.{Parts, problem_of}
-use Rattle.cover_rule.specs.declared.margins.Margins.{Margins}
-use Rattle.cover_rule.specs.Models.{KeptModel, PatchModel}
-use Rattle.cover_rule.specs.Runs.{IsRun}
+use Rattle.cover_data.specs.declared.margins.Margins.{Margins}
+use Rattle.cover_data.specs.Models.{KeptModel}
+use Rattle.cover_rule.specs.Models.{PatchModel}
+use Rattle.cover_data.specs.Runs.{IsRun}
 
 pub is_run_for : (p : Parts) (m : Margins) (Q : PatchModel) (k : KeptModel) → Q.problem ≡ p → Q.margins ≡ m → k ≡ Q.kept → IsRun (problem_of Q.problem) Q.margins Q.kept → IsRun (problem_of p) m k
 is_run_for p m Q k a b e h =

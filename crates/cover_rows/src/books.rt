@@ -1,11 +1,11 @@
 // Books that are made patch by patch: what they answer, and the certificates that they are written as.
 ghost use Rattle.std.specs.Prelude.{◌≡◌, IfSome, IsSome};
-ghost use Rattle.poly_graph.specs.Fits.{FitsProblem};
+ghost use Rattle.cover_model.specs.Fits.{FitsProblem};
 ghost use Rattle.poly_graph.specs.ProblemViews.{problem_of};
-ghost use Rattle.poly_graph.specs.State.{IsLemma};
+ghost use Rattle.cover_model.specs.State.{IsLemma};
 ghost use Rattle.cover_book.specs.Model.{loosenings_in, margins_of, problem_in};
-ghost use Rattle.cover_rule.specs.Runs.{IsRun};
-ghost use Rattle.cover_rule.specs.Views.{kept_of};
+ghost use Rattle.cover_data.specs.Runs.{IsRun};
+ghost use Rattle.cover_data.specs.Views.{kept_of};
 
 use crate::patches::{Answer, DONE, book_of, is_state, led, outside_lemma, state_of};
 use crate::points::is_space;

@@ -1,8 +1,8 @@
 // Patches that are led by hand: what they answer to each line, and the states that they leave.
 ghost use Rattle.std.specs.Prelude.{◌≡◌, ◌<◌, ◌≤◌, length, IfOk, IfSome, IsTrue};
-ghost use Rattle.poly_graph.specs.Fits.{FitsProblem};
+ghost use Rattle.cover_model.specs.Fits.{FitsProblem};
 ghost use Rattle.poly_graph.specs.ProblemViews.{problem_of};
-ghost use Rattle.poly_graph.specs.State.{IsLemma};
+ghost use Rattle.cover_model.specs.State.{IsLemma};
 ghost use Rattle.cover_book.specs.Model.{margins_of, problem_in, loosenings_in};
 
 use crate::tests::{CIRCLE, OUTSIDE, SWAPPED, options, problem};

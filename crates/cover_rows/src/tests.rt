@@ -1,15 +1,15 @@
 // Scripts and certificates whose every line was worked out by hand.
 ghost use Rattle.std.specs.Prelude.{◌≡◌, ◌<◌, ◌≤◌, IfOk, IfSome, IsSome};
 ghost use Rattle.cover_book.specs.Model.{loosenings_in, margins_of, problem_in};
-ghost use Rattle.poly_graph.specs.Fits.{IsShownAt};
-ghost use Rattle.cover_rule.specs.Runs.{IsRun};
-ghost use Rattle.cover_rule.specs.Views.{kept_of};
+ghost use Rattle.cover_model.specs.Fits.{IsShownAt};
+ghost use Rattle.cover_data.specs.Runs.{IsRun};
+ghost use Rattle.cover_data.specs.Views.{kept_of};
 
 use cert_check::{CertFault, Checker, Rule, Verdict};
 use cert_read::LineReader;
 use cert_text::{write_cover, write_point};
 use cover_book::{Book, Kids};
-use cover_rule::{KeptPatch, Options, Patch, Point};
+use cover_rule::{KeptPatch, MiddlePoint, Options, Patch, Point};
 use poly_graph::Problem;
 use problem_build::build;
 use smt_script::commands;

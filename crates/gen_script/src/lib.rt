@@ -67,6 +67,3 @@ pub fn make(alloc: Global, seed: u64, size: u32) -> Result<Vec<u8>, Memory>
     script.extend_from_slice(TAIL.as_bytes())?;
     Ok(script)
 }
-
-#[cfg(test)]
-mod tests;

@@ -1,5 +1,15 @@
-//! Worked examples of the passes: the forward and the backward pass against the checker's own arithmetic.
+//! Worked rows of the passes: the search's forward and backward passes against the checker's own arithmetic, on small
+//! graphs, and ends that were computed by hand. There are tests alone, nothing to call; that both passes meet their
+//! definitions is what their contracts say.
 #![tactic(auto)]
 
+#[cfg(test)]
+mod of_hc4_fwd;
+#[cfg(test)]
+mod of_plain_eval;
+#[cfg(test)]
+mod of_poly_graph;
+#[cfg(test)]
+mod of_truth3;
 #[cfg(test)]
 mod tests;

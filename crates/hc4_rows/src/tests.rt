@@ -8,12 +8,16 @@ use poly_graph::{Atom, Graph, Kind, Node, is_after};
 use std::alloc::{AllocError, Global};
 use std::test::Fail;
 
-// Adds a node that is new, and gives its number.
-fn add(graph: &mut Graph, node: Node) -> Option<u32> {
-    if !is_after(node, graph.len() as u32) {
-        return None;
+// The graph of these nodes, none of which stands twice.
+fn graph_of(alloc: Global, nodes: &[Node]) -> Result<Graph, Fail> {
+    let mut graph = Graph::new(alloc);
+    for node in nodes {
+        if !is_after(*node, graph.len() as u32) {
+            return Err(Fail::from("no such node"));
+        }
+        graph.intern(*node).map_err(|_| "no memory")?;
     }
-    graph.intern(node).ok()
+    Ok(graph)
 }
 
 // Two axes, each between these numbers.
@@ -60,48 +64,51 @@ fn same_rows(a: &Rows, b: &Rows) -> bool {
     true
 }
 
-// The graph of this number.
-fn graph_of(alloc: Global, number: u32) -> Graph {
-    let mut graph = Graph::new(alloc);
-    let _ = add(&mut graph, Node::Var(0));
-    let _ = add(&mut graph, Node::Var(1));
-    let _ = add(&mut graph, Node::Const(Frac::new(-1, 1)));
+// The graph of this number: x and y, -1, and a term over them.
+fn sample(alloc: Global, number: u32) -> Result<Graph, Fail> {
+    let (x, y, minus_one) = (Node::Var(0), Node::Var(1), Node::Const(Frac::new(-1, 1)));
     match number {
         // x * x * x - 1
-        0 => {
-            let _ = add(&mut graph, Node::Mul(0, 0));
-            let _ = add(&mut graph, Node::Mul(3, 0));
-            let _ = add(&mut graph, Node::Add(4, 2));
-        }
+        0 => graph_of(
+            alloc,
+            &[
+                x,
+                y,
+                minus_one,
+                Node::Mul(0, 0),
+                Node::Mul(3, 0),
+                Node::Add(4, 2),
+            ],
+        ),
         // x * y - y * x
-        1 => {
-            let _ = add(&mut graph, Node::Mul(0, 1));
-            let _ = add(&mut graph, Node::Mul(1, 0));
-            let _ = add(&mut graph, Node::Neg(4));
-            let _ = add(&mut graph, Node::Add(3, 5));
-        }
+        1 => graph_of(
+            alloc,
+            &[
+                x,
+                y,
+                minus_one,
+                Node::Mul(0, 1),
+                Node::Mul(1, 0),
+                Node::Neg(4),
+                Node::Add(3, 5),
+            ],
+        ),
         // x^2 + y^2 - 1
-        2 => {
-            let _ = add(&mut graph, Node::Sq(0));
-            let _ = add(&mut graph, Node::Sq(1));
-            let _ = add(&mut graph, Node::Add(3, 4));
-            let _ = add(&mut graph, Node::Add(5, 2));
-        }
+        2 => graph_of(
+            alloc,
+            &[
+                x,
+                y,
+                minus_one,
+                Node::Sq(0),
+                Node::Sq(1),
+                Node::Add(3, 4),
+                Node::Add(5, 2),
+            ],
+        ),
         // x * y - 1
-        3 => {
-            let _ = add(&mut graph, Node::Mul(0, 1));
-            let _ = add(&mut graph, Node::Add(3, 2));
-        }
-        // (x + y)^2 - (x + x)
-        _ => {
-            let _ = add(&mut graph, Node::Add(0, 1));
-            let _ = add(&mut graph, Node::Sq(3));
-            let _ = add(&mut graph, Node::Add(0, 0));
-            let _ = add(&mut graph, Node::Neg(5));
-            let _ = add(&mut graph, Node::Add(4, 6));
-        }
+        _ => graph_of(alloc, &[x, y, minus_one, Node::Mul(0, 1), Node::Add(3, 2)]),
     }
-    graph
 }
 
 // Narrows the space by the last node, by the sweep and the plain way; no answer where they differ.
@@ -124,9 +131,9 @@ fn narrowed(
     let mut other = space.try_clone(alloc)?;
     let plain = narrow_plain(graph, &atom, 20, &mut rows, &mut scratch, &mut other);
     fill(graph, space, &mut rows);
-    let told = narrow(graph, &atom, 20, &rows, &mut scratch, space);
-    if told == plain && same_space(space, &other) {
-        Ok(Some(told))
+    let answer = narrow(graph, &atom, 20, &rows, &mut scratch, space);
+    if answer == plain && same_space(space, &other) {
+        Ok(Some(answer))
     } else {
         Ok(None)
     }
@@ -147,8 +154,8 @@ fn fills_alike(alloc: Global, graph: &Graph, space: &Space) -> Result<bool, Allo
 #[test]
 fn both_ways_agree(rt: HostRuntime) -> Result<(), Fail> {
     let alloc = rt.alloc();
-    for number in 0..5 {
-        let graph = graph_of(alloc, number);
+    for number in 0..4 {
+        let graph = sample(alloc, number)?;
         for kind in [Kind::Le, Kind::Ge, Kind::Eq] {
             for low in [pow2(-2), pow2(1).neg(), pow2(50).neg()] {
                 let mut space = square(alloc, low, pow2(3))?;
@@ -166,13 +173,13 @@ fn both_ways_agree(rt: HostRuntime) -> Result<(), Fail> {
 fn circle_and_hyperbola_do_not_meet(rt: HostRuntime) -> Result<(), Fail> {
     let alloc = rt.alloc();
     let mut space = square(alloc, Dy::ZERO, pow2(0))?;
-    let hyperbola = graph_of(alloc, 3);
+    let hyperbola = sample(alloc, 3)?;
     assert_eq!(rt;
         narrowed(alloc, &hyperbola, Kind::Eq, &mut space)?,
         Some(Narrowed::Less)
     );
     let before = space.try_clone(alloc)?;
-    let circle = graph_of(alloc, 2);
+    let circle = sample(alloc, 2)?;
     assert_eq!(rt;
         narrowed(alloc, &circle, Kind::Eq, &mut space)?,
         Some(Narrowed::Empty)
@@ -184,10 +191,7 @@ fn circle_and_hyperbola_do_not_meet(rt: HostRuntime) -> Result<(), Fail> {
 #[test]
 fn products_with_nought_leave_all(rt: HostRuntime) -> Result<(), Fail> {
     let alloc = rt.alloc();
-    let mut graph = Graph::new(alloc);
-    let _ = add(&mut graph, Node::Var(0));
-    let _ = add(&mut graph, Node::Var(1));
-    let _ = add(&mut graph, Node::Mul(0, 1));
+    let graph = graph_of(alloc, &[Node::Var(0), Node::Var(1), Node::Mul(0, 1)])?;
     let mut space = square(alloc, pow2(0).neg(), pow2(0))?;
     assert_eq!(rt;
         narrowed(alloc, &graph, Kind::Eq, &mut space)?,
@@ -199,11 +203,11 @@ fn products_with_nought_leave_all(rt: HostRuntime) -> Result<(), Fail> {
 #[test]
 fn squares_below_four(rt: HostRuntime) -> Result<(), Fail> {
     let alloc = rt.alloc();
-    let mut graph = Graph::new(alloc);
-    let _ = add(&mut graph, Node::Var(0));
-    let _ = add(&mut graph, Node::Sq(0));
-    let _ = add(&mut graph, Node::Const(Frac::new(-4, 1)));
-    let _ = add(&mut graph, Node::Add(1, 2));
+    let minus_four = Node::Const(Frac::new(-4, 1));
+    let graph = graph_of(
+        alloc,
+        &[Node::Var(0), Node::Sq(0), minus_four, Node::Add(1, 2)],
+    )?;
     let Ext::Fin(three) = down_frac(Frac::new(3, 1)) else {
         return Err(Fail::from("no number"));
     };
@@ -256,8 +260,8 @@ fn refilled_alike(
 fn rows_are_renewed_upwards(rt: HostRuntime) -> Result<(), Fail> {
     let alloc = rt.alloc();
     let range = Range::between(pow2(-1), pow2(0)).ok_or("crossed")?;
-    for number in 0..5 {
-        let graph = graph_of(alloc, number);
+    for number in 0..4 {
+        let graph = sample(alloc, number)?;
         let mut space = square(alloc, pow2(0).neg(), pow2(1))?;
         assert!(rt; refilled_alike(alloc, &graph, &mut space, Domain::Real(range))?);
     }

@@ -9,13 +9,13 @@ use Rattle.script_model.specs.Script.{Command, Satisfies}
 use Rattle.smt_script.specs.Commands.{script_of}
 use Rattle.poly_graph.specs.Term.{Kind, constant_node, variable_node, negate_node, add_node, le}
 use Rattle.poly_graph.specs.Form.{atom_is, yes_form, all_form, no_forms, more_forms}
-use Rattle.poly_graph.specs.Space.{Space, real_domain}
+use Rattle.interval_model.specs.Space.{Space, real_domain}
 use Rattle.poly_graph.specs.Problem.{Problem, IsProblem, Axis, IsDeclared, IsNode, sorts_of_axes, real_between, full_atom, no_atom}
 use Rattle.script_forms.specs.Atoms.{script_atoms}
 use Rattle.script_forms.specs.ProblemOf.{IsProblemOf}
 use Rattle.cert_model.specs.Due.{at_point, coordinates}
 use Rattle.cert_model.specs.Accepted.{IsAccepted}
-use Rattle.poly_graph.specs.State.{Loosenings}
+use Rattle.cover_model.specs.State.{Loosenings}
 use Rattle.headline.specs.Near.{IsNearDeclaredBox}
 use Rattle.headline.proofs.Headline.{delta_sat_is}
 use Rattle.headline_rows.proofs.Problems.{or_none, small_bound, apart_from_one}

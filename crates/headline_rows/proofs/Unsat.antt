@@ -14,7 +14,7 @@ use Rattle.script_forms.specs.Atoms.{script_atoms}
 use Rattle.script_forms.specs.ProblemOf.{IsProblemOf}
 use Rattle.cert_model.specs.Due.{left_open}
 use Rattle.cert_model.specs.Accepted.{IsAccepted}
-use Rattle.poly_graph.specs.State.{Loosenings}
+use Rattle.cover_model.specs.State.{Loosenings}
 use Rattle.headline.specs.Laws.{HasNoPoint}
 use Rattle.headline.proofs.Headline.{unsat_is}
 use Rattle.headline_rows.proofs.Problems.{or_none, small_bound, apart_from_one}

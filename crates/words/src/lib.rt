@@ -7,6 +7,3 @@ mod read;
 
 pub use asked::{Asked, CheckWords, DemoWords, Options, SolveWords};
 pub use read::{Refused, read_words};
-
-#[cfg(test)]
-mod tests;

@@ -1,10 +1,10 @@
 use Rattle.std.proofs.Common.{◌≡◌, ◌∙◌, IsTrue, None, ap, arith, length, subst, sym}
 use Rattle.std.proofs.lemmas.List.{length-map}
-use Rattle.poly_graph.specs.Fits.{FitsAxes}
-use Rattle.poly_graph.specs.Problem.{first_crossed, root_space}
+use Rattle.cover_model.specs.Fits.{FitsAxes}
+use Rattle.poly_graph.specs.Problem.{first_crossed}
+use Rattle.cover_model.specs.Root.{root_space}
 use Rattle.poly_graph.specs.ProblemViews.{problem_of}
-use Rattle.poly_graph.specs.Space.{Space}
-use Rattle.poly_graph.specs.State.{space_within}
+use Rattle.interval_model.specs.Space.{Space, space_within}
 use Rattle.poly_graph.specs.Views.{atom_of}
 use Rattle.ival.specs.SpaceViews.{space_of}
 use Rattle.truth3.specs.Roots.{IsRoot}

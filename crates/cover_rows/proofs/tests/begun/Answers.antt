@@ -1,6 +1,6 @@
 use Rattle.std.proofs.Common.{inl, subst, sym}
 use Rattle.poly_graph.specs.ProblemViews.{Parts, problem_of}
-use Rattle.poly_graph.specs.Fits.{FitsProblem}
+use Rattle.cover_model.specs.Fits.{FitsProblem}
 use Rattle.cover_book.proofs.Meaning.{nodes_lie_within}
 use Rattle.cover_rows.proofs.tests.begun.Goals as goal
 

@@ -1,6 +1,6 @@
 use Rattle.std.proofs.Common.{◌∙◌, ap, rules}
 use Rattle.cover_rule.specs.Models.{PatchModel}
-use Rattle.cover_rule.specs.Views.{kept_of}
+use Rattle.cover_data.specs.Views.{kept_of}
 use Rattle.cover_book.specs.Model.{margins_of}
 use Rattle.cover_rows.proofs.Runs.{is_run_for}
 use Rattle.cover_rows.proofs.tests.falsified.Goals as goal

@@ -1,9 +1,8 @@
 use Rattle.std.specs.Prelude.{IsTrue}
 use Rattle.std.proofs.Common.{inl, subst, sym}
-use Rattle.poly_graph.specs.Problem.{root_space}
+use Rattle.cover_model.specs.Root.{root_space}
 use Rattle.poly_graph.specs.ProblemViews.{Parts, problem_of}
-use Rattle.poly_graph.specs.Space.{Space}
-use Rattle.poly_graph.specs.State.{space_within}
+use Rattle.interval_model.specs.Space.{Space, space_within}
 use Rattle.cover_book.proofs.Meaning.{nodes_lie_within}
 use Rattle.cover_rows.proofs.tests.middle_of.Goals as goal
 

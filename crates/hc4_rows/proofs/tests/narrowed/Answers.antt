@@ -1,5 +1,5 @@
 use Rattle.std.proofs.Common.{◌∙◌, length, ap}
-use Rattle.poly_graph.proofs.NodeEnclosures.{length_enclosures}
+use Rattle.cover_model.proofs.NodeEnclosures.{length_enclosures}
 use Rattle.ival.specs.SpaceViews.{space_of}
 use Rattle.hc4_rows.proofs.tests.narrowed.Goals as goal
 

@@ -1,5 +1,5 @@
 use Rattle.std.proofs.Common.{sym, subst}
-use Rattle.poly_graph.specs.Space.{Space}
+use Rattle.interval_model.specs.Space.{Space}
 use Rattle.ival.specs.SpaceViews.{domain_of, space_of}
 use Rattle.hc4_fwd.specs.Reached.{SameBut}
 use Rattle.hc4_fwd.proofs.Reaches.{set_same_but}

@@ -1,11 +1,10 @@
-use super::*;
+use gen_script::*;
 use std::test::Fail;
 
 #[test]
 fn one_atom(rt: HostRuntime) -> Result<(), Fail> {
     let script = make(rt.alloc(), 1, 1).map_err(|_| "no memory")?;
     assert_eq!(rt; script.len(), 175);
-    assert_eq!(rt; following(1), 7806831264735756412);
     let text = b"(set-logic QF_NRA)
 (declare-const x Real)
 (declare-const y Real)

@@ -1,7 +1,18 @@
-use super::*;
-use crate::asked::usual_options;
 use std::alloc::{AllocError, Global};
 use std::test::Fail;
+use words::*;
+
+// The options where none is given but the number of workers.
+fn usual_options(workers: u32) -> Options {
+    Options {
+        delta_bits: 10,
+        margin_bits: 20,
+        least_bits: 20,
+        budget: 65536,
+        workers,
+        bound: None,
+    }
+}
 
 fn words_of(alloc: Global, line: &str) -> Result<Vec<String>, AllocError> {
     let mut words = Vec::new(alloc);

@@ -1,0 +1,56 @@
+// The work on a problem without axes and atoms, whose form is true.
+ghost use Rattle.std.specs.Prelude.{◌≡◌, [], IfOk};
+
+use box_worker::*;
+use cover_rule::{Options, State};
+use ival::Space;
+use poly_graph::{FormGraph, FormNode, Graph, Lits, NoNode, Problem};
+use std::alloc::{AllocError, Global};
+use std::test::Fail;
+
+// A problem without axes and atoms, whose form is true.
+#[tactic(auto, using(poly_graph::proofs::Smallest::smallest))]
+fn smallest(alloc: Global) -> Result<Problem, NoNode>
+    ensures axes { IfOk result (λ p. p.axes ≡ []) }
+    ensures atoms { IfOk result (λ p. p.atoms ≡ []) }
+{
+    let mut forms = FormGraph::new(alloc);
+    let root = forms.intern(FormNode::True)?;
+    Ok(Problem::new(
+        Vec::new(alloc),
+        Graph::new(alloc),
+        Vec::new(alloc),
+        forms,
+        root,
+    ))
+}
+
+// The work on its one state.
+fn work(alloc: Global, problem: &Problem) -> Result<Worked, AllocError>
+    requires axes { problem.now.axes ≡ [] }
+    requires atoms { problem.now.atoms ≡ [] }
+{
+    let options = Options {
+        delta_bits: 10,
+        margin_bits: 20,
+        least_bits: 20,
+        budget: 1,
+        workers: 1,
+        bound: None,
+    };
+    let space = Space::with_capacity(alloc, 0)?;
+    let lits = Lits::new(alloc, 0)?;
+    work_on(alloc, problem, &options, State::new(space, lits), &[])
+}
+
+#[test]
+fn a_true_form_is_sure_at_once(rt: HostRuntime) -> Result<(), Fail> {
+    let alloc = rt.alloc();
+    let problem = smallest(alloc)?;
+    match work(alloc, &problem)? {
+        Worked::Point(point) => assert_eq!(rt; point.space().len(), 0),
+        Worked::Patch(_) => assert!(rt; false),
+        Worked::Closed(_, _) => assert!(rt; false),
+    }
+    Ok(())
+}

@@ -1,0 +1,136 @@
+use problem_build::*;
+use script_fault::{FaultKind, MOST_BYTES, Place, ReadError};
+use smt_script::commands;
+use smt_sexp::read;
+use sort_check::check;
+use std::alloc::{AllocError, Global};
+
+// What is counted of a script's problem: its axes, the nodes of its terms, its atoms, the nodes of its form.
+type Counts = (usize, usize, usize, usize);
+
+// A fault of a script's building, without the name; or another one.
+#[derive(Clone, Copy, Debug, PartialEq, Eq)]
+enum Refused {
+    TooWide(u32, u32),
+    NotConstant(u32, u32),
+    Zero(u32, u32),
+    NoBound(u32, u32),
+    Far(u32, u32),
+    Other,
+}
+
+fn refusal_of(error: &ReadError) -> Refused {
+    let ReadError::Fault(fault) = error else {
+        return Refused::Other;
+    };
+    let Place { line, column } = fault.at;
+    match &fault.kind {
+        FaultKind::NumberTooWide => Refused::TooWide(line, column),
+        FaultKind::DivisorNotConstant => Refused::NotConstant(line, column),
+        FaultKind::ZeroDivisor => Refused::Zero(line, column),
+        FaultKind::NoBound(_) => Refused::NoBound(line, column),
+        FaultKind::BoundTooWide(_) => Refused::Far(line, column),
+        _ => Refused::Other,
+    }
+}
+
+// The counts of a script's problem, or its first fault.
+fn counts(alloc: Global, text: &[u8], bound: Option<u32>) -> Result<Counts, Refused> {
+    if text.len() > MOST_BYTES {
+        return Err(Refused::Other);
+    }
+    let Ok(sexps) = read(alloc, text) else {
+        return Err(Refused::Other);
+    };
+    let Ok(script) = commands(alloc, &sexps) else {
+        return Err(Refused::Other);
+    };
+    let Ok(typed) = check(alloc, script) else {
+        return Err(Refused::Other);
+    };
+    match build(alloc, typed, bound) {
+        Ok(p) => Ok((
+            p.axes().len(),
+            p.graph().len(),
+            p.atoms().len(),
+            p.forms().len(),
+        )),
+        Err(error) => Err(refusal_of(&error)),
+    }
+}
+
+// The terms 0, x, 4, -x, 0 + -x, -4, x + -4; and then x * x, 2, -2, x * x + -2.
+const BOX: &str = "(declare-const x Real)
+(assert (and (<= 0 x) (<= x 4)))
+(assert (= (* x x) 2))
+(check-sat)";
+
+// The terms 0, x, 2, x + x, 2 * (x + x), 1, -x, 0 + -x, -1, 2 * (x + x) + -1; and then 7, -7, x + -7. The outer `x` is
+// at most 7, and the second call makes nothing new.
+const CALLS: &str = "(declare-const x Real)
+(define-fun twice ((a Real)) Real (+ a a))
+(define-fun small ((b Real)) Bool (<= (* 2 (twice b)) 1))
+(assert (and (<= 0 x) (small x) (small x)))
+(assert (let ((x 7) (y x)) (<= y x)))
+(check-sat)";
+
+// The terms x, 1, -1, x + -1; and then 3, -3, x + 3. What stands in an `or` is no bound.
+const OPEN: &str = "(declare-const p Bool)
+(declare-const x Real)
+(assert (or p (<= x 1)))
+(assert (! (>= x (- 3)) :named low))
+(check-sat)";
+
+// A chain of definitions, each of which calls the one before it within its own body. Of an even number of calls the terms
+// are 0, x, -x, 0 + -x; and then 4, -4, x + -4.
+fn chain(alloc: Global, calls: u32) -> Result<String, AllocError> {
+    let mut text = String::new(alloc);
+    text.push_str("(declare-const x Real)\n(define-fun p0 ((a Real)) Bool (<= a 4))\n")?;
+    for k in 0..calls {
+        let next = k + 1;
+        text.push_str(&format!(in alloc;
+            "(define-fun p{next} ((a Real)) Bool (not (p{k} a)))\n"
+        )?)?;
+    }
+    text.push_str(&format!(in alloc; "(assert (<= 0 x))\n(assert (p{calls} x))\n(check-sat)")?)?;
+    Ok(text)
+}
+
+#[test]
+fn builds_problems_and_tells_faults(rt: HostRuntime) {
+    let deep = chain(rt.alloc(), 2_000).expect(&rt, "memory");
+    let rows = [
+        (BOX, None, Ok((1, 11, 3, 5))),
+        (CALLS, None, Ok((1, 13, 3, 5))),
+        (OPEN, Some(10), Ok((2, 7, 2, 5))),
+        (OPEN, None, Err(Refused::NoBound(2, 1))),
+        (deep.as_str(), Some(10), Ok((1, 7, 2, 3))),
+        (
+            "(declare-const x Real)\n(assert (<= (/ x 0) 1))\n(check-sat)",
+            None,
+            Err(Refused::Zero(2, 13)),
+        ),
+        (
+            "(declare-const x Real)\n(assert (<= (/ 1 x) 1))\n(check-sat)",
+            None,
+            Err(Refused::NotConstant(2, 13)),
+        ),
+        (
+            "(declare-const x Real)\n(assert (<= x (* 1000000000000000000000000000000000000 10)))\n(check-sat)",
+            None,
+            Err(Refused::TooWide(2, 15)),
+        ),
+        (
+            "(declare-const x Real)\n(assert (<= 0 x))\n(assert (<= x (/ 40000000000 7)))\n(check-sat)",
+            None,
+            Err(Refused::Far(1, 1)),
+        ),
+    ];
+    for (text, bound, expected) in rows {
+        assert_eq!(rt;
+            counts(rt.alloc(), text.as_bytes(), bound),
+            expected,
+            "{text}"
+        );
+    }
+}

@@ -1,0 +1,13 @@
+//! Worked rows of texts: ports, words of a call, lines of a certificate, answers.
+#![tactic(auto)]
+
+#[cfg(test)]
+mod of_answer_text;
+#[cfg(test)]
+mod of_cert_read;
+#[cfg(test)]
+mod of_desk;
+#[cfg(test)]
+mod of_gen_script;
+#[cfg(test)]
+mod of_words;

@@ -1,0 +1,156 @@
+// Lines and what they say, long lines, and a text cut at every place.
+use cert_read::*;
+use dyadic::{Dy, read_dy};
+use std::alloc::{AllocError, Global};
+use std::test::Fail;
+
+fn dy(text: &str) -> Dy {
+    read_dy(text.as_bytes()).unwrap_or(Dy::ZERO)
+}
+
+// What the first line of an input says.
+fn first(alloc: Global, text: &[u8]) -> Result<Option<Line>, LineFault> {
+    let mut reader = LineReader::new(alloc);
+    reader.feed(text)?;
+    reader.end();
+    reader.next_line()
+}
+
+#[test]
+fn tells_lines(rt: HostRuntime) -> Result<(), Fail> {
+    let alloc = rt.alloc();
+    let rows = [
+        ("dpoly 1", Line::Version(1)),
+        ("margin 20", Line::Margin(20)),
+        ("delta 10\n", Line::Delta(10)),
+        ("bound none", Line::Bound(None)),
+        ("bound 7", Line::Bound(Some(7))),
+        ("cover 4294967295", Line::Cover(4_294_967_295)),
+        ("point", Line::Point),
+        ("tree\n\n", Line::Tree),
+        ("end", Line::End),
+        ("lemma 0", Line::Lemma(0)),
+        ("real 0 1b0", Line::RealInterval(dy("0"), dy("1b0"))),
+        ("real -3b-2", Line::RealValue(dy("-3b-2"))),
+        ("bool both", Line::Bool(BoolSet::Both)),
+        ("bool true", Line::Bool(BoolSet::True)),
+        ("bool false", Line::Bool(BoolSet::False)),
+        ("yes", Line::Yes(vec![in alloc]?)),
+        ("yes 4 0 12", Line::Yes(vec![in alloc; 4, 0, 12]?)),
+        ("no 3", Line::No(vec![in alloc; 3]?)),
+        ("pull 4", Line::Pull(4)),
+        ("unit 5", Line::Unit(5)),
+        ("void 6", Line::Void(6)),
+        ("case 7", Line::Case(7)),
+        ("stuck 8", Line::Stuck(8)),
+        ("by 9", Line::By(9)),
+        ("ban 1 2", Line::Ban(1, 2)),
+        ("cut 1 1b-1", Line::Cut(1, dy("1b-1"))),
+        ("flip 2", Line::Flip(2)),
+        ("false", Line::False),
+        ("open", Line::Open),
+        ("empty 3", Line::Empty(3)),
+    ];
+    for (text, expected) in rows {
+        let told = first(alloc, text.as_bytes());
+        assert!(rt; told == Ok(Some(expected)), "{text}");
+    }
+    Ok(())
+}
+
+#[test]
+fn tells_faults(rt: HostRuntime) {
+    let rows = [
+        ("\n", LineFault::BadLine),
+        ("push 4", LineFault::BadLine),
+        ("pull", LineFault::BadLine),
+        ("pull 4 5", LineFault::BadLine),
+        ("pull  4", LineFault::BadLine),
+        (" pull 4", LineFault::BadLine),
+        ("pull 4 ", LineFault::BadLine),
+        ("pull 4\r", LineFault::BadNumber),
+        ("tree 1", LineFault::BadLine),
+        ("real 0 0 0", LineFault::BadLine),
+        ("bool x", LineFault::BadLine),
+        ("yes  1", LineFault::BadLine),
+        ("ÿ", LineFault::BadLine),
+        ("Pull 4", LineFault::BadLine),
+        ("pull 04", LineFault::BadNumber),
+        ("pull -4", LineFault::BadNumber),
+        ("pull +4", LineFault::BadNumber),
+        ("pull 4294967296", LineFault::BadNumber),
+        ("pull 99999999999999999999999999", LineFault::BadNumber),
+        ("bound some", LineFault::BadNumber),
+        ("real 2b-1 0", LineFault::BadNumber),
+        ("real 0 1b123", LineFault::BadNumber),
+        ("cut 1b0 1b0", LineFault::BadNumber),
+        ("no 1 x", LineFault::BadNumber),
+    ];
+    for (text, expected) in rows {
+        let told = first(rt.alloc(), text.as_bytes());
+        assert!(rt; told == Err(expected), "{text}");
+    }
+}
+
+#[test]
+fn tells_long_lines(rt: HostRuntime) -> Result<(), Fail> {
+    let alloc = rt.alloc();
+    let longest = vec![in alloc; b'x'; 524_288]?;
+    let mut reader = LineReader::new(alloc);
+    reader.feed(&longest)?;
+    assert!(rt; reader.next_line() == Ok(None));
+    assert_eq!(rt; reader.held(), 524_288);
+    reader.feed(b"\n")?;
+    assert!(rt; reader.next_line() == Err(LineFault::BadLine));
+    let mut reader = LineReader::new(alloc);
+    reader.feed(&longest)?;
+    reader.feed(b"x")?;
+    assert!(rt; reader.next_line() == Err(LineFault::LineTooLong));
+    reader.feed(b"\n")?;
+    assert!(rt; reader.next_line() == Err(LineFault::LineTooLong));
+    Ok(())
+}
+
+// Reads the lines that stand in what was fed.
+fn take_lines(reader: &mut LineReader, lines: &mut Vec<Line>) -> Result<(), LineFault> {
+    for _ in 0..100 {
+        match reader.next_line()? {
+            Some(line) => lines.push(line)?,
+            None => return Ok(()),
+        }
+    }
+    Ok(())
+}
+
+#[test]
+fn cuts_do_not_matter(rt: HostRuntime) -> Result<(), Fail> {
+    let alloc = rt.alloc();
+    let text = b"dpoly 1\nyes 1 22 3\nreal 0 1b0\nfalse\ncut 1 -1b-1\nend";
+    let expected = [
+        Line::Version(1),
+        Line::Yes(vec![in alloc; 1, 22, 3]?),
+        Line::RealInterval(dy("0"), dy("1b0")),
+        Line::False,
+        Line::Cut(1, dy("-1b-1")),
+        Line::End,
+    ];
+    for cut in 0..=text.len() {
+        let (front, back) = text.split_at(cut);
+        let mut reader = LineReader::new(alloc);
+        let mut lines = Vec::new(alloc);
+        reader.feed(front)?;
+        let told = take_lines(&mut reader, &mut lines);
+        assert!(rt; told == Ok(()), "{cut}");
+        reader.feed(back)?;
+        let told = take_lines(&mut reader, &mut lines);
+        assert!(rt; told == Ok(()), "{cut}");
+        assert_eq!(rt; reader.held(), 3);
+        reader.end();
+        reader.feed(b"tree\n")?;
+        let told = take_lines(&mut reader, &mut lines);
+        assert!(rt; told == Ok(()), "{cut}");
+        assert!(rt; lines.as_slice() == expected.as_slice(), "{cut}");
+        assert_eq!(rt; reader.held(), 0);
+    }
+    Ok(())
+}

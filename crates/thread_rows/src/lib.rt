@@ -1,0 +1,7 @@
+//! Worked rows of what threads share: the book under its lock, the pool of hands.
+#![tactic(auto)]
+
+#[cfg(test)]
+mod of_book_lock;
+#[cfg(test)]
+mod of_steal_pool;
