@@ -1,7 +1,7 @@
 ; x^2 - 2xy + y^2 is a square, so it is never -1/128. But delta is 1/32 here: a point where it is at most
 ; -1/128 + 1/32 satisfies the loosened script, and delta-sat says no more than that. near_miss_finer.smt2 asks the
 ; same with the default delta, and the answer is unsat.
-; words: --delta-bits 5
+; options: --delta-bits 5
 ; answer: delta-sat
 (set-logic QF_NRA)
 (declare-const x Real)

@@ -1,6 +1,6 @@
 ; With boxes no smaller than 1/4 this question stays open: 'unknown width' shows a box that could not be decided and
 ; the atom that stands in the way. narrow.smt2 is the same script with the default least width, which decides it.
-; words: --least-bits 2
+; options: --least-bits 2
 ; answer: unknown width
 (set-logic QF_NRA)
 (declare-const x Real)

@@ -1,0 +1,31 @@
+; The stock of harvest.smt2, unrolled four times by unroll.py 4 0.55: it can fall to 0.55 after four steps, and the
+; answer shows how, with the mode of each step.
+; answer: delta-sat
+(set-logic QF_NRA)
+(declare-const p0 Real)
+(declare-const h0 Bool)
+(assert (<= 0 p0 2))
+(declare-const p1 Real)
+(declare-const h1 Bool)
+(assert (<= 0 p1 2))
+(declare-const p2 Real)
+(declare-const h2 Bool)
+(assert (<= 0 p2 2))
+(declare-const p3 Real)
+(declare-const h3 Bool)
+(assert (<= 0 p3 2))
+(declare-const p4 Real)
+(declare-const h4 Bool)
+(assert (<= 0 p4 2))
+(define-fun grown ((p Real)) Real (+ p (* 0.5 p (- 1 p))))
+(define-fun step ((p Real) (h Bool) (q Real)) Bool
+  (ite h (= q (- (grown p) 0.2)) (= q (grown p))))
+(define-fun switch ((h Bool) (q Real) (g Bool)) Bool
+  (and (=> (>= q 0.8) g) (=> (<= q 0.6) (not g)) (or (>= q 0.8) (<= q 0.6) (= g h))))
+(assert (and (<= 0.7 p0 0.75) (not h0)))
+(assert (and (step p0 h0 p1) (switch h0 p1 h1)))
+(assert (and (step p1 h1 p2) (switch h1 p2 h2)))
+(assert (and (step p2 h2 p3) (switch h2 p3 h3)))
+(assert (and (step p3 h3 p4) (switch h3 p4 h4)))
+(assert (or (<= p1 0.55) (<= p2 0.55) (<= p3 0.55) (<= p4 0.55)))
+(check-sat)
