@@ -13,4 +13,4 @@ mod scratch;
 mod subterms;
 
 pub use enclosing::enclose;
-pub use narrowing::narrow_plain;
+pub use narrowing::{narrow_off_plain, narrow_plain};
