@@ -39,6 +39,8 @@ fn failed_rule(rule: Rule) -> &'static str
         Rule::Unit => "3 RuleFails unit",
         Rule::Ban => "3 RuleFails ban",
         Rule::Void => "3 RuleFails void",
+        Rule::Push => "3 RuleFails push",
+        Rule::VoidNo => "3 RuleFails voidno",
         Rule::False => "3 RuleFails false",
         Rule::By => "3 RuleFails by",
         Rule::Cut => "3 RuleFails cut",

@@ -3,13 +3,14 @@ use Rattle.std.proofs.Common.{◌≡◌, ◌⊎◌, inl, inr, ℕ, Bool, true, f
 use Rattle.std.specs.Prelude.{Contains, Result, Ok, Err}
 use Rattle.std.proofs.lemmas.List.Elements.{All-push}
 use Rattle.poly_graph.specs.ProblemViews.{Parts}
+use Rattle.interval_model.specs.Space.{Space}
 use Rattle.cover_model.specs.State.{State}
 use Rattle.cover_data.specs.declared.margins.Margins.{Margins}
 use Rattle.cover_rule.specs.declared.refusal.PatchRefusal.{PatchRefusal}
-use Rattle.cover_rule.specs.declared.refusal.PatchRefusal.TheVariants.{NotYes, NotForced, NotCovered, NotFalse, NotInside, NotStuck, NotHonest, Ended, IsVoid, Decided, Memory}
+use Rattle.cover_rule.specs.declared.refusal.PatchRefusal.TheVariants.{NotYes, NotForced, NotCovered, NotFalse, NotInside, NotStuck, NotHonest, Ended, IsVoid, Decided, NotNo, Memory}
 use Rattle.cover_data.specs.Models.{LemmaModel}
 use Rattle.cover_rule.specs.Models.{PatchModel}
-use Rattle.cover_rule.specs.Refusals.{PatchAnswer, PullIfLessStep, pull_refusal, pulled_by}
+use Rattle.cover_rule.specs.Refusals.{PatchAnswer, IfLessStep}
 use Rattle.box_worker.specs.Attempts.{AreAmong, IsOpen}
 
 done-or-same : (refusal : Option PatchRefusal) (P done Q : PatchModel) (r : Result (Unit {0}) PatchRefusal) → PatchAnswer refusal P done Q r → (Q ≡ done) ⊎ (Q ≡ P)
@@ -24,6 +25,7 @@ done-or-same refusal P done Q (Err NotHonest) a = inr a.1
 done-or-same refusal P done Q (Err Ended) a = inr a.1
 done-or-same refusal P done Q (Err IsVoid) a = inr a.1
 done-or-same refusal P done Q (Err Decided) a = inr a.1
+done-or-same refusal P done Q (Err NotNo) a = inr a.1
 done-or-same refusal P done Q (Err Memory) a = inr a.1
 
 pub still_open : (refusal : Option PatchRefusal) (P done Q : PatchModel) (r : Result (Unit {0}) PatchRefusal) → PatchAnswer refusal P done Q r →
@@ -33,10 +35,11 @@ still_open refusal P done Q r a q m lemmas S f h = elim (done-or-same refusal P 
   | inr e ↦ subst (IsOpen q m lemmas S) (sym e) h
 ]
 
-pub still_open_if_less : (P Q : PatchModel) (j : ℕ) (r : Result Bool PatchRefusal) → PullIfLessStep P j Q r → (q : Parts) (m : Margins) (lemmas : List LemmaModel) (S : State) → IsOpen q m lemmas S P → IsOpen q m lemmas S Q
-still_open_if_less P Q j (Ok true) a q m lemmas S h = still_open (pull_refusal P j) P (pulled_by P j) Q (Ok tt) a.1 q m lemmas S (λ k. record { problem = k.problem; margins = k.margins; first = k.first; among = k.among; open_end = k.open_end }) h
-still_open_if_less P Q j (Ok false) a q m lemmas S h = still_open (pull_refusal P j) P P Q (Ok tt) a.1 q m lemmas S (λ k. k) h
-still_open_if_less P Q j (Err x) a q m lemmas S h = still_open (pull_refusal P j) P (pulled_by P j) Q (Err x) a q m lemmas S (λ k. record { problem = k.problem; margins = k.margins; first = k.first; among = k.among; open_end = k.open_end }) h
+pub still_open_if_less : (narrow : Option Space) (refusal : Option PatchRefusal) (P done Q : PatchModel) (r : Result Bool PatchRefusal) → IfLessStep narrow refusal P done Q r →
+    (q : Parts) (m : Margins) (lemmas : List LemmaModel) (S : State) → (IsOpen q m lemmas S P → IsOpen q m lemmas S done) → IsOpen q m lemmas S P → IsOpen q m lemmas S Q
+still_open_if_less narrow refusal P done Q (Ok true) a q m lemmas S f h = still_open refusal P done Q (Ok tt) a.1 q m lemmas S f h
+still_open_if_less narrow refusal P done Q (Ok false) a q m lemmas S f h = still_open refusal P P Q (Ok tt) a.1 q m lemmas S (λ k. k) h
+still_open_if_less narrow refusal P done Q (Err x) a q m lemmas S f h = still_open refusal P done Q (Err x) a q m lemmas S f h
 
 pub among_more : (lemmas quoted : List LemmaModel) (L : LemmaModel) → Contains lemmas L → AreAmong lemmas quoted → AreAmong lemmas (quoted ++ (L ∷ []))
 among_more lemmas quoted L c h = All-push (λ (X : LemmaModel). Contains lemmas X) quoted L h c

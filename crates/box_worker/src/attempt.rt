@@ -6,7 +6,7 @@ ghost use Rattle.cover_rule.specs.declared.refusal.PatchRefusal.{PatchRefusal as
 ghost use Rattle.cover_rule.specs.Patch.{problem_in, loosenings_in};
 ghost use Rattle.cover_rule.specs.Models.{PatchModel};
 ghost use Rattle.cover_rule.specs.Refusals.{PatchAnswer};
-ghost use Rattle.box_worker.specs.Attempts.{Attempts, UnitAttempt, VoidAttempt, FalseAttempt, LemmaAttempt, CutAttempt, FlipAttempt, CaseAttempt, StuckAttempt};
+ghost use Rattle.box_worker.specs.Attempts.{Attempts, UnitAttempt, VoidAttempt, VoidNoAttempt, FalseAttempt, LemmaAttempt, CutAttempt, FlipAttempt, CaseAttempt, StuckAttempt};
 
 use cover_rule::{Lemma, Patch, PatchRefusal};
 use std::alloc::AllocError;
@@ -37,6 +37,15 @@ pub fn void(patch: &mut Patch, j: u32) -> Result<bool, AllocError>
     ensures { IfOk result (VoidAttempt j patch.old patch.new) }
 {
     let answer = patch.void(j);
+    was_done(answer)
+}
+
+/// Ends the patch by atom j where it is marked no, is an inequality and leaves nothing.
+pub fn void_no(patch: &mut Patch, j: u32) -> Result<bool, AllocError>
+    requires { j < length patch.old.problem.atoms }
+    ensures { IfOk result (VoidNoAttempt j patch.old patch.new) }
+{
+    let answer = patch.void_no(j);
     was_done(answer)
 }
 

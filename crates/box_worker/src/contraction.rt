@@ -77,7 +77,7 @@ fn start(alloc: Global, problem: &Problem, patch: &Patch) -> Result<Scout, Alloc
     })
 }
 
-// Pulls atom j where it is marked yes, and makes those due that depend on what fell.
+// Narrows by atom j where it is marked, and makes those due that depend on what fell.
 fn pull(
     problem: &Problem,
     margins: &Margins,
@@ -90,7 +90,7 @@ fn pull(
     requires open { IsOpen problem.now margins.now lemmas.now patch.old.kept.first patch.old }
     ensures { IsOpen problem.now margins.now lemmas.now patch.old.kept.first patch.new }
 {
-    match step::pull(patch, j)? {
+    match step::narrow(patch, j)? {
         Outcome::Void => {
             scout.void = Some(j);
         }
@@ -334,7 +334,7 @@ fn go_on_while_due(
     Ok(())
 }
 
-/// Takes steps at the state: marks the atoms that the form needs, and pulls those that are marked yes, again
+/// Takes steps at the state: marks the atoms that the form needs, and narrows by those that are marked, again
 /// while an axis that they depend on falls by about a tenth, but no more than ten times. The atom by which nothing is
 /// left, where one is met.
 pub fn take_steps(

@@ -39,6 +39,7 @@ pub fn teaches_nothing(kept: &KeptPatch) -> bool
         Some(End::False) => kept.steps.is_empty(),
         Some(End::By(_)) => true,
         Some(End::Void(_)) => false,
+        Some(End::VoidNo(_)) => false,
         Some(End::Cut(_, _)) => false,
         Some(End::Flip(_)) => false,
         Some(End::Case(_)) => false,

@@ -1,5 +1,5 @@
 // The preconditions of a branch: what has to be done before a state may be split.
-ghost use Rattle.std.specs.Prelude.{◌≡◌, IfOk, IsTrue, true, false, None};
+ghost use Rattle.std.specs.Prelude.{◌≡◌, ◌<◌, IfOk, IsTrue, length, true, false, None};
 ghost use Rattle.cover_rule.specs.Serves.{IsNumbered};
 ghost use Rattle.cover_data.specs.Runs.{IsClosed};
 ghost use Rattle.box_worker.specs.Attempts.{Continues, conjuncts_are_decided, no_atom_empties};
@@ -49,7 +49,22 @@ pub fn void_any(problem: &Problem, patch: &mut Patch) -> Result<bool, AllocError
     Ok(false)
 }
 
-// Ends the patch by this atom, where there is such a one that is marked yes and leaves nothing.
+// Ends the patch by atom j, where it is marked and leaves nothing.
+fn void_by(problem: &Problem, j: u32, patch: &mut Patch) -> Result<bool, AllocError>
+    requires problem { patch.old.problem ≡ problem.now }
+    requires atom { j < length problem.now.atoms }
+    ensures continues { IfOk result (λ b. Continues patch.old patch.new) }
+    ensures closed { IfOk result (λ b. b ≡ true → IsClosed patch.new.kept) }
+    ensures same { IfOk result (λ b. b ≡ false → patch.new ≡ patch.old) }
+{
+    let _ = problem;
+    if attempt::void(patch, j)? {
+        return Ok(true);
+    }
+    attempt::void_no(patch, j)
+}
+
+// Ends the patch by this atom, where there is such a one that is marked and leaves nothing.
 fn void_at(problem: &Problem, atom: Option<u32>, patch: &mut Patch) -> Result<bool, AllocError>
     requires problem { patch.old.problem ≡ problem.now }
     ensures continues { IfOk result (λ b. Continues patch.old patch.new) }
@@ -59,7 +74,7 @@ fn void_at(problem: &Problem, atom: Option<u32>, patch: &mut Patch) -> Result<bo
     match atom {
         Some(j) => {
             if (j as usize) < problem.atoms().len() {
-                attempt::void(patch, j)
+                void_by(problem, j, patch)
             } else {
                 Ok(false)
             }
@@ -68,8 +83,8 @@ fn void_at(problem: &Problem, atom: Option<u32>, patch: &mut Patch) -> Result<bo
     }
 }
 
-/// Ends the patch where the form cannot hold, or by this atom, where there is such a one that is marked yes and
-/// leaves nothing.
+/// Ends the patch where the form cannot hold, or by this atom, where there is such a one that is marked and leaves
+/// nothing.
 pub fn close_at(problem: &Problem, atom: Option<u32>, patch: &mut Patch) -> Result<bool, AllocError>
     requires problem { patch.old.problem ≡ problem.now }
     ensures continues { IfOk result (λ b. Continues patch.old patch.new) }

@@ -5,8 +5,8 @@ ghost use Rattle.cover_data.specs.Margins.{loosenings_of};
 ghost use Rattle.box_worker.specs.Attempts.{IsOpen, StaysOpen};
 ghost use Rattle.box_worker.specs.Worked.{AreLemmasFor};
 
-use cover_rule::{Lemma, Margins, Patch, PatchRefusal};
-use poly_graph::Problem;
+use cover_rule::{Lemma, Margins, Patch, PatchRefusal, State};
+use poly_graph::{Mark, Problem};
 use std::alloc::AllocError;
 
 /// What a step came to.
@@ -38,6 +38,34 @@ pub fn pull(patch: &mut Patch, j: u32) -> Result<Outcome, AllocError>
 {
     let answer = patch.pull_if_less(j);
     outcome_of(answer)
+}
+
+/// Pushes atom j where it is marked no, is an inequality and leaves less of the space.
+pub fn push(patch: &mut Patch, j: u32) -> Result<Outcome, AllocError>
+    requires { j < length patch.old.problem.atoms }
+    ensures { StaysOpen patch.old patch.new }
+{
+    let answer = patch.push_if_less(j);
+    outcome_of(answer)
+}
+
+// Whether atom j is marked no.
+fn is_no(state: &State, j: u32) -> bool {
+    let marks = state.lits().marks();
+    let j = j as usize;
+    j < marks.len() && matches!(marks[j], Mark::No)
+}
+
+/// Pulls atom j where it is marked yes, and pushes it where it is marked no, if that leaves less of the space.
+pub fn narrow(patch: &mut Patch, j: u32) -> Result<Outcome, AllocError>
+    requires { j < length patch.old.problem.atoms }
+    ensures { StaysOpen patch.old patch.new }
+{
+    if is_no(patch.reached(), j) {
+        push(patch, j)
+    } else {
+        pull(patch, j)
+    }
 }
 
 /// Marks atom j yes where the form can't hold without it.

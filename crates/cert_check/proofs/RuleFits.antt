@@ -5,6 +5,7 @@ use Rattle.dyadic.specs.Rounding.{below_all, finite, above_all}
 use Rattle.interval_model.specs.Interval.{Interval, nothing, between}
 use Rattle.interval_model.specs.Space.{Domain, Space, changed, strictly_inside, lower_part, upper_part, is_undecided, keep, test_axis}
 use Rattle.poly_graph.specs.Term.{Node, variable_node}
+use Rattle.cover_model.specs.OffRange.{off_range}
 use Rattle.cover_model.specs.Space.{range}
 use Rattle.cover_model.specs.Narrowed.{set_axis, with_axes, some_empty, narrowed, enclosures}
 use Rattle.poly_graph.specs.Problem.{Axis, atom_at}
@@ -12,7 +13,7 @@ use Rattle.cover_model.specs.Root.{root_domain, root_space}
 use Rattle.poly_graph.specs.ProblemViews.{Parts, problem_of}
 use Rattle.poly_graph.specs.Marks.{Mark, marked_yes, marked_no, unmarked}
 use Rattle.cover_model.specs.State.{State, Loosenings, margin_of, in_yes, undecided, with_mark, with_yes, with_no, with_space, may, root_state}
-use Rattle.cover_model.specs.Rules.{Line, pull, unit, ban, void, make_false, by, cut, flip, case, open_line, stuck, Left, closed, one, two, stays, narrowing, lemma_covers, with_changed, when, pulled, voided, is_stuck_atom, rule}
+use Rattle.cover_model.specs.Rules.{Line, pull, unit, ban, void, push, void_no, make_false, by, cut, flip, case, open_line, stuck, Left, closed, one, two, stays, narrowing, narrowing_off, can_push, lemma_covers, with_changed, when, pulled, voided, is_stuck_atom, rule}
 use Rattle.cert_check.specs.States.{Fits}
 use Rattle.cert_check.specs.Waiting.{FitsLeft}
 
@@ -72,6 +73,10 @@ module _ (p : Parts) where
   rule_fits s lemmas S (unit j) h = when-fits (undecided S j && not (may (problem_of p) s (with_no S j))) (one (with_yes S j)) (mark_fits S j marked_yes h)
   rule_fits s lemmas S (ban j i) h = when-fits (undecided S j && lemma_covers lemmas i (with_yes S j)) (one (with_no S j)) (mark_fits S j marked_no h)
   rule_fits s lemmas S (void j) h = cond-fits (in_yes S j) (voided (narrowing (problem_of p) s S j)) (voided-fits (narrowing (problem_of p) s S j))
+  rule_fits s lemmas S (push j) h =
+      let ns : List (Option Interval) = narrowed p.nodes (enclosures S.space p.nodes) (atom_at (problem_of p) j).0 (off_range (margin_of s) (atom_at (problem_of p) j).1) in
+      cond-fits (can_push (problem_of p) s S j) (pulled S (narrowing_off (problem_of p) s S j)) (pulled-fits S (some_empty ns) (with_axes p.nodes ns S.space) (length-axes p.nodes ns S.space) h)
+  rule_fits s lemmas S (void_no j) h = cond-fits (can_push (problem_of p) s S j) (voided (narrowing_off (problem_of p) s S j)) (voided-fits (narrowing_off (problem_of p) s S j))
   rule_fits s lemmas S make_false h = when-fits (not (may (problem_of p) s S)) closed tt
   rule_fits s lemmas S (by i) h = when-fits (lemma_covers lemmas i S) closed tt
   rule_fits s lemmas S (cut axis c) h = when-fits (test_axis (strictly_inside c) axis S.space) (two (with_changed S (lower_part c) axis) (with_changed S (upper_part c) axis))

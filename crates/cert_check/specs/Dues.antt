@@ -66,8 +66,8 @@ value_of (kept.Left n) = left_open (blanks n)
 
 abbrev pub due_of : Parts → held.Due → Due
 due_of p due.Version = version_due
-due_of p due.Margin = margin_due
-due_of p (due.Delta m) = delta_due m
+due_of p (due.Margin v) = margin_due v
+due_of p (due.Delta v m) = delta_due v m
 due_of p (due.Bound s) = bound_due (loosenings_of s)
 due_of p (due.Kind s) = kind_due (loosenings_of s)
 due_of p (due.Next c) = next_due (loosenings_of c.loosenings) c.count (states_of c.lemmas.items)

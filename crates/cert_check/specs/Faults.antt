@@ -1,6 +1,6 @@
 -- The code's faults as the definitions see them.
 use Rattle.std.specs.Prelude.{◌≡◌, ℕ, Option, Some, None}
-use Rattle.cert_read.specs.CertLine.{RuleWord, empty_word, pull_word, unit_word, ban_word, void_word, false_word, by_word, cut_word, flip_word, case_word, open_word, stuck_word}
+use Rattle.cert_read.specs.CertLine.{RuleWord, empty_word, pull_word, unit_word, ban_word, void_word, push_word, void_no_word, false_word, by_word, cut_word, flip_word, case_word, open_word, stuck_word}
 use Rattle.cert_read.specs.declared.fault.LineFault.{LineFault}
 use Rattle.cert_read.specs.declared.fault.LineFault.TheVariants as unread
 use Rattle.cert_model.specs.Due as due
@@ -19,6 +19,8 @@ rule_word word.Pull = pull_word
 rule_word word.Unit = unit_word
 rule_word word.Ban = ban_word
 rule_word word.Void = void_word
+rule_word word.Push = push_word
+rule_word word.VoidNo = void_no_word
 rule_word word.False = false_word
 rule_word word.By = by_word
 rule_word word.Cut = cut_word

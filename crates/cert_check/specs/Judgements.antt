@@ -2,6 +2,7 @@
 use Rattle.std.specs.Prelude.{ℕ, Bool}
 use Rattle.dyadic.specs.Rounding.{two_to_minus}
 use Rattle.interval_model.specs.Interval.{Interval}
+use Rattle.cover_model.specs.OffRange.{off_range}
 use Rattle.cover_model.specs.Space.{range}
 use Rattle.cover_model.specs.Narrowed.{narrowed_by}
 use Rattle.cover_model.specs.State.{sure_within, atom_enclosure, misses, sure_at}
@@ -33,3 +34,9 @@ abbrev pub IsNarrowedByAtom : Parts → ℕ → ℕ → Space → Space → Narr
 IsNarrowedByAtom p bits j old new narrowed =
     let atom = atom_at (problem_of p) j in
     IsNarrowed (space_of old) (space_of new) (narrowed_by p.nodes atom.0 (range (two_to_minus bits) atom.1) (space_of old)) narrowed
+
+-- the space is narrowed by the off-range of the atom
+abbrev pub IsNarrowedOff : Parts → ℕ → ℕ → Space → Space → Narrowed → Type 0
+IsNarrowedOff p bits j old new narrowed =
+    let atom = atom_at (problem_of p) j in
+    IsNarrowed (space_of old) (space_of new) (narrowed_by p.nodes atom.0 (off_range (two_to_minus bits) atom.1) (space_of old)) narrowed

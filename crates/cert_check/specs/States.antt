@@ -12,7 +12,7 @@ abbrev pub state_of : State → State.State
 state_of S = record { space = space_of S.space; marks = S.lits }
 
 abbrev pub loosenings_of : Loosenings → State.Loosenings
-loosenings_of s = record { margin_bits = s.margin; delta_bits = s.delta }
+loosenings_of s = record { margin_bits = s.margin; delta_bits = s.delta; version = s.version }
 
 -- delta itself
 abbrev pub delta_in : Loosenings → Fraction

@@ -6,7 +6,7 @@ use Rattle.cover_model.specs.Rules.{rule}
 use Rattle.cover_model.specs.State.{Loosenings}
 use Rattle.poly_graph.specs.ProblemViews.{Parts, problem_of}
 use Rattle.cert_model.specs.Due.{rule_of}
-use Rattle.cert_read.specs.CertLine.{RuleLine, pull_at, unit_at, void_at, case_at, stuck_at, by_lemma, ban_by, cut_at, flip_at, false_here, open_here, CertLine, rule_line, crossing, lemma, tree_word, end_word}
+use Rattle.cert_read.specs.CertLine.{RuleLine, pull_at, unit_at, void_at, push_at, void_no_at, case_at, stuck_at, by_lemma, ban_by, cut_at, flip_at, false_here, open_here, CertLine, rule_line, crossing, lemma, tree_word, end_word}
 use Rattle.cert_check.specs.declared.said.Step.{Step}
 use Rattle.cert_check.specs.declared.said.Step.TheVariants as step
 use Rattle.cert_check.specs.declared.said.TreeLine.{TreeLine}
@@ -20,6 +20,8 @@ abbrev pub rule_line_of : Step → RuleLine
 rule_line_of (step.Pull j) = pull_at j
 rule_line_of (step.Unit j) = unit_at j
 rule_line_of (step.Void j) = void_at j
+rule_line_of (step.Push j) = push_at j
+rule_line_of (step.VoidNo j) = void_no_at j
 rule_line_of (step.Case j) = case_at j
 rule_line_of (step.Stuck j) = stuck_at j
 rule_line_of (step.Ban j i) = ban_by j i

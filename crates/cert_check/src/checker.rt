@@ -81,8 +81,8 @@ fn ending(due: &Due, lines: u64) -> Result<Verdict, CertFault>
     match due {
         Due::Nothing(s, value) => Ok(said_by(*s, value)),
         Due::Version => Err(CertFault::BadHeader { line: lines + 1 }),
-        Due::Margin => Err(CertFault::BadHeader { line: lines + 1 }),
-        Due::Delta(_) => Err(CertFault::BadHeader { line: lines + 1 }),
+        Due::Margin(_) => Err(CertFault::BadHeader { line: lines + 1 }),
+        Due::Delta(_, _) => Err(CertFault::BadHeader { line: lines + 1 }),
         Due::Bound(_) => Err(CertFault::BadHeader { line: lines + 1 }),
         Due::Kind(_) => Err(CertFault::BadHeader { line: lines + 1 }),
         _ => Err(CertFault::Missing { line: lines + 1 }),

@@ -34,9 +34,10 @@ pub enum Value {
 #[derive(Drop)]
 pub enum Due {
     Version,
-    Margin,
-    /// The margin is known.
-    Delta(u32),
+    /// The version is known.
+    Margin(u32),
+    /// The version and the margin are known.
+    Delta(u32, u32),
     Bound(Loosenings),
     Kind(Loosenings),
     /// The next lemma, or `tree`.

@@ -13,6 +13,8 @@ pub enum Rule {
     Unit,
     Ban,
     Void,
+    Push,
+    VoidNo,
     False,
     By,
     Cut,

@@ -1,6 +1,6 @@
 // The five lines of a header.
 ghost use Rattle.std.specs.Prelude.{◌≡◌, ℕ, Option, IfOk};
-ghost use Rattle.cert_read.specs.CertLine.{delta as CertDelta, cover as CoverLine, point_word as PointLine};
+ghost use Rattle.cert_read.specs.CertLine.{version as VersionLine, delta as CertDelta, cover as CoverLine, point_word as PointLine};
 ghost use Rattle.cert_read.specs.Views.{line_of};
 ghost use Rattle.cert_model.specs.Due.{same_bound};
 ghost use Rattle.cert_model.specs.Accepted.{loosenings_fit};
@@ -19,24 +19,36 @@ use std::alloc::Global;
 // A certificate has at most so many lemmas.
 const MOST_LEMMAS: u32 = 1_048_576;
 
-/// `dpoly 1`.
+// What is due after this version.
+fn after_version(version: u32) -> Result<Due, Refusal>
+    ensures comes { IsNextAnywhere VersionDue (VersionLine version) result }
+    ensures sound { (p : Parts) → IfOk result (IsSound p) }
+{
+    if version == 1 || version == 2 {
+        Ok(Due::Margin(version))
+    } else {
+        Err(Refusal::BadHeader)
+    }
+}
+
+/// `dpoly`, with a version that is read: 1 or 2.
 pub fn version_line(line: &Line) -> Result<Due, Refusal>
     ensures comes { IsNextAnywhere VersionDue (line_of line.now) result }
     ensures sound { (p : Parts) → IfOk result (IsSound p) }
 {
     match line {
-        Line::Version(1) => Ok(Due::Margin),
+        Line::Version(version) => after_version(*version),
         _ => Err(Refusal::BadHeader),
     }
 }
 
 /// `margin`.
-pub fn margin_line(line: &Line) -> Result<Due, Refusal>
-    ensures comes { IsNextAnywhere MarginDue (line_of line.now) result }
+pub fn margin_line(version: u32, line: &Line) -> Result<Due, Refusal>
+    ensures comes { IsNextAnywhere (MarginDue version) (line_of line.now) result }
     ensures sound { (p : Parts) → IfOk result (IsSound p) }
 {
     match line {
-        Line::Margin(margin) => Ok(Due::Delta(*margin)),
+        Line::Margin(margin) => Ok(Due::Delta(version, *margin)),
         _ => Err(Refusal::BadHeader),
     }
 }
@@ -49,24 +61,28 @@ fn fit(margin: u32, delta: u32) -> bool
 }
 
 // The loosenings, where they are in their limits.
-fn loosenings(margin: u32, delta: u32) -> Result<Due, Refusal>
-    ensures comes { IsNextAnywhere (DeltaDue margin) (CertDelta delta) result }
+fn loosenings(version: u32, margin: u32, delta: u32) -> Result<Due, Refusal>
+    ensures comes { IsNextAnywhere (DeltaDue version margin) (CertDelta delta) result }
     ensures sound { (p : Parts) → IfOk result (IsSound p) }
 {
     if fit(margin, delta) {
-        Ok(Due::Bound(Loosenings { margin, delta }))
+        Ok(Due::Bound(Loosenings {
+            margin,
+            delta,
+            version,
+        }))
     } else {
         Err(Refusal::BadHeader)
     }
 }
 
 /// `delta`, below the margin.
-pub fn delta_line(margin: u32, line: &Line) -> Result<Due, Refusal>
-    ensures comes { IsNextAnywhere (DeltaDue margin) (line_of line.now) result }
+pub fn delta_line(version: u32, margin: u32, line: &Line) -> Result<Due, Refusal>
+    ensures comes { IsNextAnywhere (DeltaDue version margin) (line_of line.now) result }
     ensures sound { (p : Parts) → IfOk result (IsSound p) }
 {
     match line {
-        Line::Delta(delta) => loosenings(margin, *delta),
+        Line::Delta(delta) => loosenings(version, margin, *delta),
         _ => Err(Refusal::BadHeader),
     }
 }

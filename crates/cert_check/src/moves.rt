@@ -1,6 +1,6 @@
 // The rules that leave one state.
 ghost use Rattle.std.specs.Prelude.{◌≡◌, ◌<◌, [], length, map, All};
-ghost use Rattle.cover_model.specs.Rules.{pull, unit, ban, lemma_covers};
+ghost use Rattle.cover_model.specs.Rules.{pull, push, unit, ban, can_push, lemma_covers};
 ghost use Rattle.cover_model.specs.State.{Loosenings as StateLoosenings};
 ghost use Rattle.poly_graph.specs.ProblemViews.{problem_of};
 ghost use Rattle.cert_check.specs.States.{state_of, loosenings_of, Fits};
@@ -10,7 +10,7 @@ ghost use Rattle.cert_check.specs.Serving.{Serves};
 use crate::left::Left;
 use crate::loosenings::Loosenings;
 use crate::state::State;
-use crate::tools::Tools;
+use crate::tools::{Tools, is_inequality};
 use ival::Narrowed;
 use poly_graph::{Mark, Problem};
 
@@ -33,6 +33,40 @@ pub fn pull(
     }
     let mut state = state;
     match tools.narrow(problem, s.margin, j, &mut state.space) {
+        Narrowed::Empty => None,
+        Narrowed::Less => Some(Left::One(state)),
+        Narrowed::Same => Some(Left::One(state)),
+    }
+}
+
+/// Whether the lines of version 2 are read, and the atom is marked no and is an inequality.
+pub fn can_push(problem: &Problem, s: Loosenings, state: &State, j: u32) -> bool
+    requires fits { Fits problem.now (state_of state.now) }
+    requires atom { j < length problem.now.atoms }
+    ensures { result ≡ can_push (problem_of problem.now) (loosenings_of s) (state_of state.now) j }
+{
+    2 <= s.version && state.in_no(j) && is_inequality(problem, j)
+}
+
+/// The space narrowed by the off-range of an inequality marked no, where that leaves something.
+pub fn push(
+    problem: &Problem,
+    tools: &mut Tools,
+    s: Loosenings,
+    state: State,
+    j: u32,
+) -> Option<Left>
+    requires serves { Serves problem.now tools.old }
+    requires fits { Fits problem.now (state_of state) }
+    requires atom { j < length problem.now.atoms }
+    ensures rule { IsLeftBy (push j) problem.now (loosenings_of s) [] state result }
+    ensures serves { Serves problem.now tools.new }
+{
+    if !can_push(problem, s, &state, j) {
+        return None;
+    }
+    let mut state = state;
+    match tools.narrow_off(problem, s.margin, j, &mut state.space) {
         Narrowed::Empty => None,
         Narrowed::Less => Some(Left::One(state)),
         Narrowed::Same => Some(Left::One(state)),

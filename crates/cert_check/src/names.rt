@@ -34,6 +34,8 @@ pub fn names_well(problem: &Problem, step: Step) -> bool
         Step::Pull(j) => is_atom(problem, j),
         Step::Unit(j) => is_atom(problem, j),
         Step::Void(j) => is_atom(problem, j),
+        Step::Push(j) => is_atom(problem, j),
+        Step::VoidNo(j) => is_atom(problem, j),
         Step::Case(j) => is_atom(problem, j),
         Step::Stuck(j) => is_atom(problem, j),
         Step::Ban(j, _) => is_atom(problem, j),

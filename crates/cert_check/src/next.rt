@@ -32,8 +32,8 @@ pub fn next(
 {
     match due {
         Due::Version => version_line(line),
-        Due::Margin => margin_line(line),
-        Due::Delta(margin) => delta_line(margin, line),
+        Due::Margin(version) => margin_line(version, line),
+        Due::Delta(version, margin) => delta_line(version, margin, line),
         Due::Bound(s) => bound_line(s, bound, line),
         Due::Kind(s) => kind_line(alloc, problem, s, line),
         Due::Next(cover) => next_line(alloc, problem, cover, line),

@@ -7,10 +7,10 @@ ghost use Rattle.cert_check.specs.Steps.{IsLeftBy, step_rule};
 ghost use Rattle.cert_check.specs.Serving.{Serves};
 
 use crate::branches::{case, cut, flip, stuck};
-use crate::closing::{by, make_false, void};
+use crate::closing::{by, make_false, void, void_no};
 use crate::left::Left;
 use crate::loosenings::Loosenings;
-use crate::moves::{ban, pull, unit};
+use crate::moves::{ban, pull, push, unit};
 use crate::said::Step;
 use crate::state::State;
 use crate::tools::Tools;
@@ -38,6 +38,8 @@ pub fn rule(
         Step::Pull(j) => Ok(pull(problem, tools, s, state, j)),
         Step::Unit(j) => Ok(unit(problem, tools, s, state, j)),
         Step::Void(j) => Ok(void(problem, tools, s, state, j)),
+        Step::Push(j) => Ok(push(problem, tools, s, state, j)),
+        Step::VoidNo(j) => Ok(void_no(problem, tools, s, state, j)),
         Step::Case(j) => case(alloc, state, j),
         Step::Stuck(j) => Ok(stuck(problem, tools, s, state, j)),
         Step::Ban(j, i) => Ok(ban(problem, lemmas, state, j, i)),

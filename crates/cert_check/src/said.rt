@@ -12,10 +12,12 @@ use dyadic::Dy;
 /// A line of a tree, but the one for crossed bounds.
 #[derive(Clone, Copy, Debug, PartialEq, Eq)]
 pub enum Step {
-    /// These five with an atom.
+    /// These seven with an atom.
     Pull(u32),
     Unit(u32),
     Void(u32),
+    Push(u32),
+    VoidNo(u32),
     Case(u32),
     Stuck(u32),
     /// With an atom and a lemma.
@@ -39,6 +41,8 @@ impl Step {
             Step::Pull(_) => Rule::Pull,
             Step::Unit(_) => Rule::Unit,
             Step::Void(_) => Rule::Void,
+            Step::Push(_) => Rule::Push,
+            Step::VoidNo(_) => Rule::VoidNo,
             Step::Case(_) => Rule::Case,
             Step::Stuck(_) => Rule::Stuck,
             Step::Ban(_, _) => Rule::Ban,
@@ -74,6 +78,8 @@ pub fn said(line: &Line) -> TreeLine
         Line::Pull(j) => TreeLine::Rule(Step::Pull(*j)),
         Line::Unit(j) => TreeLine::Rule(Step::Unit(*j)),
         Line::Void(j) => TreeLine::Rule(Step::Void(*j)),
+        Line::Push(j) => TreeLine::Rule(Step::Push(*j)),
+        Line::VoidNo(j) => TreeLine::Rule(Step::VoidNo(*j)),
         Line::Case(j) => TreeLine::Rule(Step::Case(*j)),
         Line::Stuck(j) => TreeLine::Rule(Step::Stuck(*j)),
         Line::Ban(j, i) => TreeLine::Rule(Step::Ban(*j, *i)),

@@ -1,5 +1,6 @@
 // What the rules are tested with.
 ghost use Rattle.std.specs.Prelude.{◌≡◌, ◌<◌, ◌≤◌, length, IfOk};
+ghost use Rattle.cover_model.specs.Rules.{is_one_sided};
 ghost use Rattle.cover_model.specs.Space.{range};
 ghost use Rattle.cover_model.specs.State.{may};
 ghost use Rattle.poly_graph.specs.Problem.{atom_at};
@@ -10,12 +11,13 @@ ghost use Rattle.ival.specs.RowViews.{rows_of};
 ghost use Rattle.ival.specs.SpaceViews.{space_of};
 ghost use Rattle.truth3.specs.Truth.{HasRows, pruning};
 ghost use Rattle.cert_check.specs.States.{state_of};
-ghost use Rattle.cert_check.specs.Judgements.{enclosure_over, is_sure_atom_over, is_sure_over, IsNarrowedByAtom, misses_over};
+ghost use Rattle.cert_check.specs.Judgements.{enclosure_over, is_sure_atom_over, is_sure_over, IsNarrowedByAtom, IsNarrowedOff, misses_over};
 ghost use Rattle.cert_check.specs.Serving.{Serves};
 
 use crate::state::State;
+use cover_model::is_one_sided;
 use ival::{Ival, Narrowed, Rows, Space};
-use plain_eval::{enclose, narrow_plain};
+use plain_eval::{enclose, narrow_off_plain, narrow_plain};
 use poly_graph::{Atom, Problem};
 use std::alloc::{AllocError, Global};
 use truth3::{Marks, kind_range, may, sure};
@@ -36,6 +38,14 @@ fn atom_at(problem: &Problem, j: u32) -> Atom
 {
     let atoms = problem.atoms();
     atoms[j as usize]
+}
+
+/// Whether the atom is an inequality.
+pub fn is_inequality(problem: &Problem, j: u32) -> bool
+    requires atom { j < length problem.now.atoms }
+    ensures { result ≡ is_one_sided (atom_at (problem_of problem.now) j).1 }
+{
+    is_one_sided(atom_at(problem, j).kind)
 }
 
 impl Tools {
@@ -145,6 +155,31 @@ impl Tools {
     {
         let atom = atom_at(problem, j);
         narrow_plain(
+            problem.graph(),
+            &atom,
+            margin,
+            &mut self.rows,
+            &mut self.scratch,
+            space,
+        )
+    }
+
+    /// Leaves of the space what the off-range of the atom leaves of it.
+    pub fn narrow_off(
+        &mut self,
+        problem: &Problem,
+        margin: u32,
+        j: u32,
+        space: &mut Space,
+    ) -> Narrowed
+        requires serves { Serves problem.now self.old }
+        requires margin { margin ≤ 120 }
+        requires atom { j < length problem.now.atoms }
+        ensures narrowed { IsNarrowedOff problem.now margin j space.old space.new result }
+        ensures serves { Serves problem.now self.new }
+    {
+        let atom = atom_at(problem, j);
+        narrow_off_plain(
             problem.graph(),
             &atom,
             margin,

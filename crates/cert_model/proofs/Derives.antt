@@ -8,7 +8,7 @@ use Rattle.cover_model.specs.State.{State, Loosenings, root_state}
 use Rattle.cover_model.specs.Rules.{Line, Left, closed, one, two, stays, rule}
 use Rattle.cert_read.specs.CertLine.{says_both, says_false, says_true, RuleLine, CertLine, version, margin, delta, bound, cover, point_word, tree_word, end_word, lemma, real_interval, real_value, bool_value, yes_list, no_list, rule_line, crossing, word_of}
 use Rattle.cert_model.specs.Due
-use Rattle.cert_model.specs.Due.{CertFault, Standing, Value, at_point, left_open, Due, version_due, margin_due, delta_due, bound_due, kind_due, next_due, axis_due, yes_due, no_due, lemma_due, root_due, tree_due, coordinate_due, end_due, nothing_due, Next, on, faulty, given, same_bound, bool_domain_of, ascends, apart, all_below, state_of, rule_of, names_well, after_rule, after_lemma_rule, tree_goes_on, lemma_goes_on, axis_next, is_crossed_box, coordinate_next, is_shown, extra_after, extra_at_end}
+use Rattle.cert_model.specs.Due.{CertFault, Standing, Value, at_point, left_open, Due, version_due, margin_due, delta_due, bound_due, kind_due, next_due, axis_due, yes_due, no_due, lemma_due, root_due, tree_due, coordinate_due, end_due, nothing_due, Next, on, faulty, given, is_version, same_bound, bool_domain_of, ascends, apart, all_below, state_of, rule_of, names_well, after_rule, after_lemma_rule, tree_goes_on, lemma_goes_on, axis_next, is_crossed_box, coordinate_next, is_shown, extra_after, extra_at_end}
 use Rattle.cert_model.specs.Accepted.{ruled_line, tree_line, root_line, no_crossing, axis_line, coordinate_line, next, loosenings_fit, most_lemmas, IsAccepted}
 use Rattle.cert_model.specs.Derived.{AreDerived, states_of, IsCover, IsSingle, AreSingle}
 use Rattle.cert_model.proofs.Invariant.{IfOn, holds_at_end}
@@ -121,12 +121,12 @@ module _ (p : Problem) (b : Option ℕ) where
   -- ---- a line, where something is due
 
   next-fine : (d : Due) (l : CertLine) → Fine d → FineNext (next p b d l)
-  next-fine version_due (version n) h = given-keeps (nat_eq n 1) margin_due Due.BadHeader (λ e. tt)
+  next-fine version_due (version n) h = given-keeps (is_version n) (margin_due n) Due.BadHeader (λ e. tt)
   next-fine version_due _ h = tt
-  next-fine margin_due (margin m) h = tt
-  next-fine margin_due _ h = tt
-  next-fine (delta_due m) (delta n) h = given-keeps (loosenings_fit m n) (bound_due (record { margin_bits = m; delta_bits = n })) Due.BadHeader (λ e. tt)
-  next-fine (delta_due m) _ h = tt
+  next-fine (margin_due v) (margin m) h = tt
+  next-fine (margin_due v) _ h = tt
+  next-fine (delta_due v m) (delta n) h = given-keeps (loosenings_fit m n) (bound_due (record { margin_bits = m; delta_bits = n; version = v })) Due.BadHeader (λ e. tt)
+  next-fine (delta_due v m) _ h = tt
   next-fine (bound_due s) (bound n) h = given-keeps (same_bound n b) (kind_due s) Due.WrongBound (λ e. tt)
   next-fine (bound_due s) _ h = tt
   next-fine (kind_due s) (cover k) h = given-keeps (nat_le k most_lemmas) (next_due s k []) Due.BadHeader (λ e. tt)

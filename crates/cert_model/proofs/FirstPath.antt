@@ -11,9 +11,10 @@ use Rattle.cover_model.specs.State.{Loosenings, may, root_state}
 use Rattle.cover_model.specs.Rules.{when, closed, make_false}
 use Rattle.cert_read.specs.CertLine.{version, margin, delta, bound, cover, tree_word, end_word, rule_line, false_here, false_word}
 use Rattle.cert_read.specs.LineText.{IsCount, IsSpelledBound, IsSpelled}
-use Rattle.cert_model.specs.Due.{left_open, after_rule, RuleFails, BadHeader, WrongBound, tree_goes_on, is_some_axis, version_due, bound_due, kind_due, Next, given, same_bound}
-use Rattle.cert_model.specs.Accepted.{verdict, Verdict, accepted, ended, course_of_lines, course_next, root_line, loosenings_fit, certificate_text}
+use Rattle.cert_model.specs.Due.{left_open, after_rule, RuleFails, BadHeader, WrongBound, tree_goes_on, is_some_axis, version_due, margin_due, bound_due, kind_due, Next, given, is_version, same_bound}
+use Rattle.cert_model.specs.Accepted.{verdict, Verdict, accepted, ended, course_of_lines, course_next, root_line, loosenings_fit, is_header, certificate_text}
 use Rattle.cert_model.specs.Laws.{shortest_lines}
+use Rattle.cert_model.proofs.Header.{version_limits}
 use Rattle.cert_model.proofs.Spells.{text_has_lines, text_length}
 
 -- ---- its lines can be spelled
@@ -31,8 +32,8 @@ bound-spelled : (b : Option ℕ) → IsSpelledBound b → IsSpelled (bound b)
 bound-spelled None h = (tt, omega arith)
 bound-spelled (Some n) h = (h, omega (arith, short n h))
 
-version-spelled : IsSpelled (version 1)
-version-spelled = (omega arith, omega (arith, short 1 (omega arith)))
+version-spelled : (v : ℕ) → IsTrue (is_version v) → IsSpelled (version v)
+version-spelled v h = let n = version_limits v h in let c : IsCount v = omega (arith, n.1) in (c, omega (arith, short v c))
 
 cover-spelled : IsSpelled (cover 0)
 cover-spelled = (omega arith, omega (arith, short 0 (omega arith)))
@@ -42,9 +43,9 @@ few m d h = let x = both_true (nat_le 1 d && nat_le d 30 && nat_lt d m) (nat_le 
     let y = both_true (nat_le 1 d && nat_le d 30) (nat_lt d m) x.0 in let z = both_true (nat_le 1 d) (nat_le d 30) y.0 in
     (leb→le m 60 (passes _ x.1), leb→le d 30 (passes _ z.1))
 
-lines-spelled : (s : Loosenings) (b : Option ℕ) → IsSpelledBound b → IsTrue (loosenings_fit s.margin_bits s.delta_bits) → AllByRecursion IsSpelled (shortest_lines s b)
-lines-spelled s b g h = let e = few s.margin_bits s.delta_bits h in (
-  version-spelled,
+lines-spelled : (s : Loosenings) (b : Option ℕ) → IsSpelledBound b → IsTrue (is_header s) → AllByRecursion IsSpelled (shortest_lines s b)
+lines-spelled s b g h = let x = both_true (is_version s.version) (loosenings_fit s.margin_bits s.delta_bits) h in let e = few s.margin_bits s.delta_bits x.1 in (
+  version-spelled s.version x.0,
   (
     margin-spelled s.margin_bits (omega (arith, e.0)),
     (
@@ -74,6 +75,9 @@ module _ (p : Problem) (b : Option ℕ) (s : Loosenings) where
   abbrev by_bound : Bool → Verdict
   by_bound t = ended (course_next (given t (kind_due s) WrongBound) 4 (λ d. course_of_lines p b 4 d (cover 0 ∷ tree_word ∷ rule_line false_here ∷ end_word ∷ [])))
 
+  abbrev by_version : Bool → Verdict
+  by_version t = ended (course_next (given t (margin_due s.version) BadHeader) 1 (λ d. course_of_lines p b 1 d (margin s.margin_bits ∷ delta s.delta_bits ∷ bound b ∷ cover 0 ∷ tree_word ∷ rule_line false_here ∷ end_word ∷ [])))
+
   abbrev by_header : Bool → Verdict
   by_header t = ended (course_next (given t (bound_due s) BadHeader) 3 (λ d. course_of_lines p b 3 d (bound b ∷ cover 0 ∷ tree_word ∷ rule_line false_here ∷ end_word ∷ [])))
 
@@ -81,8 +85,11 @@ module _ (p : Problem) (b : Option ℕ) (s : Loosenings) where
   abbrev after_false : Bool → Next
   after_false m = after_rule (when (not m) closed) (RuleFails false_word) (record { state = root_state p; does = make_false }) [] [] (tree_goes_on s [])
 
-  header-first : ended (course_of_lines p b 0 version_due (shortest_lines s b)) ≡ by_header (loosenings_fit s.margin_bits s.delta_bits)
-  header-first = refl
+  version-first : ended (course_of_lines p b 0 version_due (shortest_lines s b)) ≡ by_version (is_version s.version)
+  version-first = refl
+
+  header-next : by_version true ≡ by_header (loosenings_fit s.margin_bits s.delta_bits)
+  header-next = refl
 
   bound-next : by_header true ≡ by_bound (same_bound b b)
   bound-next = refl
@@ -93,11 +100,11 @@ module _ (p : Problem) (b : Option ℕ) (s : Loosenings) where
   may-next : by_false (root_line false p s [] false_here) ≡ by_false (after_false (may p s (root_state p)))
   may-next = refl
 
-  pub shortest_accepted : IsSpelledBound b → IsTrue (loosenings_fit s.margin_bits s.delta_bits) → first_crossed p ≡ None → may p s (root_state p) ≡ false →
+  pub shortest_accepted : IsSpelledBound b → IsTrue (is_header s) → first_crossed p ≡ None → may p s (root_state p) ≡ false →
       verdict p b (certificate_text (shortest_lines s b)) ≡ accepted s (left_open [])
   shortest_accepted g h e m =
-      let spelled = lines-spelled s b g h in
+      let spelled = lines-spelled s b g h in let x = both_true (is_version s.version) (loosenings_fit s.margin_bits s.delta_bits) h in
       text_has_lines p b (shortest_lines s b) spelled (omega (arith, text_length (shortest_lines s b) spelled))
-      ∙ header-first ∙ ap by_header h ∙ bound-next ∙ ap by_bound (same-bounds b) ∙ false-next
+      ∙ version-first ∙ ap by_version x.0 ∙ header-next ∙ ap by_header x.1 ∙ bound-next ∙ ap by_bound (same-bounds b) ∙ false-next
       ∙ ap (λ (o : Option ℕ). by_false (root_line (is_some_axis o) p s [] false_here)) e
       ∙ may-next ∙ ap (λ (t : Bool). by_false (after_false t)) m

@@ -1,15 +1,24 @@
--- The margin and delta of an accepted certificate's header.
-use Rattle.std.proofs.Common.{◌≡◌, ℕ, ◌<◌, ◌≤◌, List, [], ◌∷◌, ◌++◌, Bool, true, false, ◌&&◌, cond, IsTrue, Option, Some, None, refl, sym, subst, nat_eq, nat_lt, nat_le, length, ltb→lt, leb→le}
+-- The version, margin and delta of an accepted certificate's header.
+use Rattle.std.proofs.Common.{◌≡◌, ℕ, ◌<◌, ◌≤◌, List, [], ◌∷◌, ◌++◌, Bool, true, false, ◌&&◌, ◌||◌, cond, IsTrue, Option, Some, None, refl, sym, subst, nat_eq, nat_lt, nat_le, length, arith, true≢false, ltb→lt, leb→le, eqb→eq}
 use Rattle.std.specs.Bool.{passes}
-use Rattle.dyadic.proofs.Equal.{both_true}
+use Rattle.dyadic.proofs.Equal.{both_true, both_pass}
 use Rattle.poly_graph.specs.Problem.{Declared, real_between, any_bool, Axis, Problem, crosses}
 use Rattle.cover_model.specs.State.{State, Loosenings, root_state}
 use Rattle.interval_model.specs.Space.{Space}
 use Rattle.cover_model.specs.Rules.{Left, closed, one, two, stays, rule}
 use Rattle.cert_read.specs.CertLine.{CertLine, RuleLine, version, margin, delta, bound, cover, point_word, tree_word, end_word, lemma, real_interval, real_value, bool_value, says_false, says_true, yes_list, no_list, rule_line, crossing, word_of}
-use Rattle.cert_model.specs.Due.{CertFault, RuleFails, Standing, Value, Due, version_due, margin_due, delta_due, bound_due, kind_due, next_due, axis_due, yes_due, no_due, lemma_due, root_due, tree_due, coordinate_due, end_due, nothing_due, Next, on, faulty, given, rule_of, names_well, after_rule, after_lemma_rule, tree_goes_on, lemma_goes_on, axis_next, coordinate_next, is_crossed_box, is_shown, same_bound}
-use Rattle.cert_model.specs.Accepted.{next, loosenings_fit, ruled_line, tree_line, root_line, axis_line, coordinate_line, IsAccepted, most_lemmas}
+use Rattle.cert_model.specs.Due.{CertFault, RuleFails, Standing, Value, Due, version_due, margin_due, delta_due, bound_due, kind_due, next_due, axis_due, yes_due, no_due, lemma_due, root_due, tree_due, coordinate_due, end_due, nothing_due, Next, on, faulty, given, is_version, rule_of, names_well, after_rule, after_lemma_rule, tree_goes_on, lemma_goes_on, axis_next, coordinate_next, is_crossed_box, is_shown, same_bound}
+use Rattle.cert_model.specs.Accepted.{next, loosenings_fit, is_header, ruled_line, tree_line, root_line, axis_line, coordinate_line, IsAccepted, most_lemmas}
 use Rattle.cert_model.proofs.Invariant.{IfOn, holds_at_end}
+
+-- a version that is read
+pub version_limits : (v : ℕ) → IsTrue (is_version v) → (1 ≤ v) × (v ≤ 2)
+version_limits v h = by (nat_eq v 1) refl (nat_eq v 2) refl h
+  where
+    by : (t : Bool) → nat_eq v 1 ≡ t → (u : Bool) → nat_eq v 2 ≡ u → IsTrue (t || u) → (1 ≤ v) × (v ≤ 2)
+    by true e u f h = let k = eqb→eq v 1 (passes _ e) in (omega (arith, k), omega (arith, k))
+    by false e true f h = let k = eqb→eq v 2 (passes _ f) in (omega (arith, k), omega (arith, k))
+    by false e false f h = absurd (true≢false (sym h))
 
 -- the margin and delta of what is due, where they are known
 abbrev pub known : Due → Option Loosenings
@@ -94,17 +103,38 @@ module _ (p : Problem) (b : Option ℕ) (s : Loosenings) where
 
 abbrev Fits : Option Loosenings → Type 0
 Fits None = Unit {0}
-Fits (Some s) = IsTrue (loosenings_fit s.margin_bits s.delta_bits)
+Fits (Some s) = IsTrue (is_header s)
 
+-- where the version alone is known, it is one that is read
 abbrev FitsDue : Due → Type 0
+FitsDue (margin_due v) = IsTrue (is_version v)
+FitsDue (delta_due v m) = IsTrue (is_version v)
 FitsDue d = Fits (known d)
 
-given-fits : (m d : ℕ) (f : CertFault) → IfOn FitsDue (given (loosenings_fit m d) (bound_due (record { margin_bits = m; delta_bits = d })) f)
-given-fits m d f = by (loosenings_fit m d) (λ h. h)
+given-fits : (v m d : ℕ) (f : CertFault) → IsTrue (is_version v) → IfOn FitsDue (given (loosenings_fit m d) (bound_due (record { margin_bits = m; delta_bits = d; version = v })) f)
+given-fits v m d f k = by (loosenings_fit m d) (λ h. h)
   where
-    by : (t : Bool) → (IsTrue t → IsTrue (loosenings_fit m d)) → IfOn FitsDue (given t (bound_due (record { margin_bits = m; delta_bits = d })) f)
-    by true h = h refl
+    by : (t : Bool) → (IsTrue t → IsTrue (loosenings_fit m d)) → IfOn FitsDue (given t (bound_due (record { margin_bits = m; delta_bits = d; version = v })) f)
+    by true h = both_pass (is_version v) (loosenings_fit m d) k (h refl)
     by false h = tt
+
+-- what is due where the loosenings are known fits where they do
+due-fits : (s : Loosenings) (d : Due) → known d ≡ Some s → IsTrue (is_header s) → FitsDue d
+due-fits s version_due e h = tt
+due-fits s (margin_due v) e h = cc
+due-fits s (delta_due v m) e h = cc
+due-fits s (bound_due t) e h = subst Fits (sym e) h
+due-fits s (kind_due t) e h = subst Fits (sym e) h
+due-fits s (next_due t k lemmas) e h = subst Fits (sym e) h
+due-fits s (axis_due t k lemmas a axes space) e h = subst Fits (sym e) h
+due-fits s (yes_due t k lemmas space) e h = subst Fits (sym e) h
+due-fits s (no_due t k lemmas space js) e h = subst Fits (sym e) h
+due-fits s (lemma_due t k lemmas L S pending) e h = subst Fits (sym e) h
+due-fits s (root_due t lemmas) e h = subst Fits (sym e) h
+due-fits s (tree_due t lemmas S pending done) e h = subst Fits (sym e) h
+due-fits s (coordinate_due t a axes space) e h = subst Fits (sym e) h
+due-fits s (end_due t v) e h = subst Fits (sym e) h
+due-fits s (nothing_due t v) e h = subst Fits (sym e) h
 
 -- of what comes next, where the margin and delta are known
 abbrev AllSame : Option Loosenings → Next → Type 0
@@ -114,8 +144,8 @@ AllSame (Some s) x = Same s x
 module _ (p : Problem) (b : Option ℕ) where
   next-same : (d : Due) (l : CertLine) → AllSame (known d) (next p b d l)
   next-same version_due l = tt
-  next-same margin_due l = tt
-  next-same (delta_due m) l = tt
+  next-same (margin_due v) l = tt
+  next-same (delta_due v m) l = tt
   next-same (bound_due s) (bound n) = given-same s (same_bound n b) (kind_due s) _ refl
   next-same (bound_due s) _ = tt
   next-same (kind_due s) (cover k) = given-same s (nat_le k most_lemmas) (next_due s k []) _ refl
@@ -142,20 +172,23 @@ module _ (p : Problem) (b : Option ℕ) where
   next-same (nothing_due s v) _ = tt
 
   keep-fit : (s : Loosenings) (x : Next) → Same s x → Fits (Some s) → IfOn FitsDue x
-  keep-fit s (on d) e h = subst (λ (o : Option Loosenings). Fits o) (sym e) h
+  keep-fit s (on d) e h = due-fits s d e h
   keep-fit s (faulty f) e h = tt
 
-  margin-next : (t : Bool) (f : CertFault) → IfOn FitsDue (given t margin_due f)
-  margin-next true f = tt
-  margin-next false f = tt
+  margin-next : (v : ℕ) (f : CertFault) → IfOn FitsDue (given (is_version v) (margin_due v) f)
+  margin-next v f = by (is_version v) (λ h. h)
+    where
+      by : (t : Bool) → (IsTrue t → IsTrue (is_version v)) → IfOn FitsDue (given t (margin_due v) f)
+      by true h = h refl
+      by false h = tt
 
   next-fits : (d : Due) (l : CertLine) → FitsDue d → IfOn FitsDue (next p b d l)
-  next-fits version_due (version n) h = margin-next (nat_eq n 1) _
+  next-fits version_due (version n) h = margin-next n _
   next-fits version_due _ h = tt
-  next-fits margin_due (margin m) h = tt
-  next-fits margin_due _ h = tt
-  next-fits (delta_due m) (delta n) h = given-fits m n _
-  next-fits (delta_due m) _ h = tt
+  next-fits (margin_due v) (margin m) h = h
+  next-fits (margin_due v) _ h = tt
+  next-fits (delta_due v m) (delta n) h = given-fits v m n _ h
+  next-fits (delta_due v m) _ h = tt
   next-fits (bound_due s) l h = keep-fit s (next p b (bound_due s) l) (next-same (bound_due s) l) h
   next-fits (kind_due s) l h = keep-fit s (next p b (kind_due s) l) (next-same (kind_due s) l) h
   next-fits (next_due s k lemmas) l h = keep-fit s (next p b (next_due s k lemmas) l) (next-same (next_due s k lemmas) l) h
@@ -169,11 +202,14 @@ module _ (p : Problem) (b : Option ℕ) where
   next-fits (end_due s v) l h = keep-fit s (next p b (end_due s v) l) (next-same (end_due s v) l) h
   next-fits (nothing_due s v) l h = keep-fit s (next p b (nothing_due s v) l) (next-same (nothing_due s v) l) h
 
-  -- the margin and delta of accepted bytes are in their limits
-  pub header_fits : (bytes : List ℕ) (s : Loosenings) (v : Value) → IsAccepted p b bytes s v → (1 ≤ s.delta_bits) × (s.delta_bits ≤ 30) × (s.delta_bits < s.margin_bits) × (s.margin_bits ≤ 60)
+  -- the version, margin and delta of accepted bytes are in their limits
+  pub header_fits : (bytes : List ℕ) (s : Loosenings) (v : Value) → IsAccepted p b bytes s v →
+      (1 ≤ s.delta_bits) × (s.delta_bits ≤ 30) × (s.delta_bits < s.margin_bits) × (s.margin_bits ≤ 60) × (1 ≤ s.version) × (s.version ≤ 2)
   header_fits bytes s v e =
-      let h : IsTrue (loosenings_fit s.margin_bits s.delta_bits) = holds_at_end p b FitsDue tt next-fits bytes s v e in
-      let x = both_true (nat_le 1 s.delta_bits && nat_le s.delta_bits 30 && nat_lt s.delta_bits s.margin_bits) (nat_le s.margin_bits 60) h in
+      let all : IsTrue (is_header s) = holds_at_end p b FitsDue tt next-fits bytes s v e in
+      let w = both_true (is_version s.version) (loosenings_fit s.margin_bits s.delta_bits) all in
+      let x = both_true (nat_le 1 s.delta_bits && nat_le s.delta_bits 30 && nat_lt s.delta_bits s.margin_bits) (nat_le s.margin_bits 60) w.1 in
       let y = both_true (nat_le 1 s.delta_bits && nat_le s.delta_bits 30) (nat_lt s.delta_bits s.margin_bits) x.0 in
       let z = both_true (nat_le 1 s.delta_bits) (nat_le s.delta_bits 30) y.0 in
-      (leb→le 1 s.delta_bits (passes _ z.0), leb→le s.delta_bits 30 (passes _ z.1), ltb→lt s.delta_bits s.margin_bits (passes _ y.1), leb→le s.margin_bits 60 (passes _ x.1))
+      let n = version_limits s.version w.0 in
+      (leb→le 1 s.delta_bits (passes _ z.0), leb→le s.delta_bits 30 (passes _ z.1), ltb→lt s.delta_bits s.margin_bits (passes _ y.1), leb→le s.margin_bits 60 (passes _ x.1), n.0, n.1)

@@ -6,7 +6,7 @@ use Rattle.interval_model.specs.Space.{Space}
 use Rattle.cover_model.specs.Rules.{Left, closed, one, two, stays, rule}
 use Rattle.cert_read.specs.Lines.{lines_of, lines_so_far}
 use Rattle.cert_read.specs.CertLine.{CertLine, RuleLine, version, margin, delta, bound, cover, point_word, tree_word, end_word, lemma, real_interval, real_value, bool_value, says_false, says_true, yes_list, no_list, rule_line, crossing, word_of, Parsed, too_long, bad_line, bad_number, line, parsed}
-use Rattle.cert_model.specs.Due.{CertFault, RuleFails, Standing, Value, Due, version_due, margin_due, delta_due, bound_due, kind_due, next_due, axis_due, yes_due, no_due, lemma_due, root_due, tree_due, coordinate_due, end_due, nothing_due, Next, on, faulty, given, rule_of, names_well, after_rule, after_lemma_rule, tree_goes_on, lemma_goes_on, axis_next, coordinate_next, is_crossed_box, is_shown, same_bound}
+use Rattle.cert_model.specs.Due.{CertFault, RuleFails, Standing, Value, Due, version_due, margin_due, delta_due, bound_due, kind_due, next_due, axis_due, yes_due, no_due, lemma_due, root_due, tree_due, coordinate_due, end_due, nothing_due, Next, on, faulty, given, is_version, rule_of, names_well, after_rule, after_lemma_rule, tree_goes_on, lemma_goes_on, axis_next, coordinate_next, is_crossed_box, is_shown, same_bound}
 use Rattle.cert_model.specs.Accepted.{next, next_parsed, loosenings_fit, ruled_line, tree_line, root_line, axis_line, coordinate_line, IsAccepted, most_lemmas, most_bytes, Course, stopped, reached, course_next, course, Verdict, accepted, refused, at_end, ended, cut_off, verdict_by}
 use Rattle.cert_model.specs.Derived.{EndsOnce}
 use Rattle.cert_model.proofs.Invariant.{IfOn}
@@ -102,12 +102,12 @@ module _ (p : Problem) (b : Option ℕ) where
 
   -- nothing is due after `end`, and something is after every other line
   after-line : (d : Due) (l : CertLine) → IfOn (λ d'. is_done d' ≡ is_end l) (next p b d l)
-  after-line version_due (version n) = given-on (nat_eq n 1) margin_due _ false refl
+  after-line version_due (version n) = given-on (is_version n) (margin_due n) _ false refl
   after-line version_due _ = tt
-  after-line margin_due (margin m) = refl
-  after-line margin_due _ = tt
-  after-line (delta_due m) (delta n) = given-on (loosenings_fit m n) (bound_due _) _ false refl
-  after-line (delta_due m) _ = tt
+  after-line (margin_due v) (margin m) = refl
+  after-line (margin_due v) _ = tt
+  after-line (delta_due v m) (delta n) = given-on (loosenings_fit m n) (bound_due _) _ false refl
+  after-line (delta_due v m) _ = tt
   after-line (bound_due s) (bound n) = given-on (same_bound n b) (kind_due s) _ false refl
   after-line (bound_due s) _ = tt
   after-line (kind_due s) (cover k) = given-on (nat_le k most_lemmas) (next_due s k []) _ false refl

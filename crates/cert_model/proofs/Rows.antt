@@ -4,14 +4,14 @@ use Rattle.interval_model.specs.Space.{real_domain, bool_domain}
 use Rattle.cover_model.specs.State.{Loosenings, root_state}
 use Rattle.cover_model.specs.Rules.{open_line}
 use Rattle.cover_model.specs.Honest.{is_honest}
-use Rattle.cert_read.specs.CertLine.{empty_word, pull_word, by_word, cut_word, case_word, stuck_word, open_word, false_word}
+use Rattle.cert_read.specs.CertLine.{empty_word, pull_word, push_word, void_no_word, by_word, cut_word, case_word, stuck_word, open_word, false_word}
 use Rattle.cert_model.specs.Due.{BadHeader, BadNumber, RuleFails, Missing, Extra, WrongBound, NotShown, BadLine, at_point, left_open}
 use Rattle.cert_model.specs.Accepted.{Verdict, accepted, refused, verdict}
 use Rattle.cert_model.specs.Standing.{standing, branches}
 use Rattle.cert_model.proofs.Problems.{no_root, unit_axis, crossed, circle, wide_axis, opposite_products, two_sides, one_bool, dyadic, minus_dyadic, head}
 
 abbrev usual : Loosenings
-usual = record { margin_bits = 20; delta_bits = 10 }
+usual = record { margin_bits = 20; delta_bits = 10; version = 1 }
 
 abbrev nothing_left : Verdict
 nothing_left = accepted usual (left_open [])
@@ -43,6 +43,29 @@ by_a_lemma : map (verdict two_sides None) (
     (nothing_left ∷ nothing_left ∷ nothing_left ∷ refused Missing 15 ∷ refused Extra 16 ∷ refused (RuleFails by_word) 10 ∷ refused (RuleFails pull_word) 7 ∷ [])
 unfolding Rattle.dyadic.specs.Fraction.negated Rattle.dyadic.specs.Fraction.sum_of Rattle.dyadic.specs.Fraction.product_of Rattle.dyadic.specs.Fraction.quotient_of Rattle.dyadic.specs.Fraction.at_most
 by_a_lemma = refl
+
+-- ---- version 2: an atom marked no narrows too
+
+abbrev second_usual : Loosenings
+second_usual = record { margin_bits = 20; delta_bits = 10; version = 2 }
+
+abbrev second_head : List ℕ
+second_head = codes "dpoly 2\nmargin 20\ndelta 10\nbound none\n"
+
+-- x is above 1/4, so at least 3/4, where its square is more than 1/4; the same lines with one other
+pushes : map (verdict two_sides None) (
+    (second_head ++ codes "cover 0\ntree\ncase 3\npull 3\nfalse\npush 3\nunit 2\npull 2\nfalse\nend\n") ∷
+    (head ++ codes "cover 0\ntree\ncase 3\npull 3\nfalse\npush 3\nunit 2\npull 2\nfalse\nend\n") ∷
+    (second_head ++ codes "cover 0\ntree\ncase 3\npull 3\nfalse\npush 2\nunit 2\npull 2\nfalse\nend\n") ∷
+    (second_head ++ codes "cover 0\ntree\ncase 3\npull 3\nfalse\nvoidno 3\nend\n") ∷
+    (head ++ codes "cover 0\ntree\ncase 3\npull 3\nfalse\nvoidno 3\nend\n") ∷
+    (second_head ++ codes "cover 0\ntree\ncase 4\npull 4\nopen\npush 4\n") ∷
+    (second_head ++ codes "cover 0\ntree\npush 5\n") ∷
+    (second_head ++ codes "cover 1\nlemma 0\nreal 0 1b-2\nyes\nno 3\nvoidno 3\ntree\ncase 3\npull 3\nfalse\npush 3\nunit 2\npull 2\nfalse\nend\n") ∷ []) ≡
+    (accepted second_usual (left_open []) ∷ refused (RuleFails push_word) 10 ∷ refused (RuleFails push_word) 10 ∷ refused (RuleFails void_no_word) 10 ∷ refused (RuleFails void_no_word) 10 ∷
+    refused (RuleFails push_word) 10 ∷ refused BadNumber 7 ∷ accepted second_usual (left_open []) ∷ [])
+unfolding Rattle.dyadic.specs.Fraction.negated Rattle.dyadic.specs.Fraction.sum_of Rattle.dyadic.specs.Fraction.product_of Rattle.dyadic.specs.Fraction.quotient_of Rattle.dyadic.specs.Fraction.at_most
+pushes = refl
 
 -- ---- points
 
@@ -83,14 +106,14 @@ hostile = refl
 
 -- header and places
 headers : map (verdict no_root None) (
-    codes "dpoly 2\n" ∷ codes "dpoly 1\nmargin 61\ndelta 10\n" ∷ codes "dpoly 1\nmargin 60\ndelta 31\n" ∷ codes "dpoly 1\nmargin 60\ndelta 0\n" ∷ codes "dpoly 1\nmargin 60\ndelta 30\n" ∷
+    codes "dpoly 3\n" ∷ codes "dpoly 0\n" ∷ codes "dpoly 1\nmargin 61\ndelta 10\n" ∷ codes "dpoly 1\nmargin 60\ndelta 31\n" ∷ codes "dpoly 1\nmargin 60\ndelta 0\n" ∷ codes "dpoly 1\nmargin 60\ndelta 30\n" ∷
     codes "dpoly 1\ndelta 10\n" ∷ codes "dpoly 1\nmargin 20\ndelta 10\nbound 4294967296\n" ∷ codes "dpoly 1\nmargin 20\ndelta 10\nbound x y\n" ∷
     (head ++ codes "cover 1048577\n") ∷ (head ++ codes "cover 4294967296\n") ∷ (head ++ codes "tree\n") ∷ (head ++ codes "cover 0\nfalse\n") ∷ (head ++ codes "cover 0\nlemma 0\n") ∷
     (head ++ codes "cover 1\ntree\n") ∷ (head ++ codes "cover 1\nlemma 1\n") ∷ (head ++ codes "cover 1\nlemma 0\nreal 1b0 0\n") ∷ (head ++ codes "cover 1\nlemma 0\nbool true\n") ∷
     (head ++ codes "cover 1\nlemma 0\nreal 0 1b0\nyes 1 1\n") ∷ (head ++ codes "cover 1\nlemma 0\nreal 0 1b0\nyes 3\n") ∷ (head ++ codes "cover 1\nlemma 0\nreal 0 1b0\nyes 1\nno 0 1\n") ∷
     (head ++ codes "cover 1\nlemma 0\nreal 0 1b0\nyes\nno\nopen\n") ∷ (head ++ codes "cover 1\nlemma 0\nreal 0 1b0\nyes\nno\nempty 0\n") ∷ (head ++ codes "cover 1\nlemma 0\nreal 0 1b0\nyes\nno\nfalse\nfalse\n") ∷
     (head ++ codes "cover 0\ntree\nempty 0\n") ∷ (head ++ codes "cover 0\ntree\nby 0\n") ∷ (head ++ codes "cover 0\ntree\npull 3\n") ∷ (head ++ codes "cover 0\ntree\nend\n") ∷ (head ++ codes "cover 0\ntree\n\n") ∷ []) ≡
-    (refused BadHeader 1 ∷ refused BadHeader 3 ∷ refused BadHeader 3 ∷ refused BadHeader 3 ∷ refused BadHeader 4 ∷ refused BadHeader 2 ∷ refused BadNumber 4 ∷ refused BadLine 4 ∷
+    (refused BadHeader 1 ∷ refused BadHeader 1 ∷ refused BadHeader 3 ∷ refused BadHeader 3 ∷ refused BadHeader 3 ∷ refused BadHeader 4 ∷ refused BadHeader 2 ∷ refused BadNumber 4 ∷ refused BadLine 4 ∷
     refused BadHeader 5 ∷ refused BadNumber 5 ∷ refused BadHeader 5 ∷ refused Missing 6 ∷ refused Missing 6 ∷
     refused Missing 6 ∷ refused BadNumber 6 ∷ refused BadNumber 7 ∷ refused Missing 7 ∷
     refused BadNumber 8 ∷ refused BadNumber 8 ∷ refused BadNumber 9 ∷

@@ -11,7 +11,7 @@ use Rattle.cert_model.specs.AnswerText.{solve_text, check_text, verdict_text, de
 use Rattle.cert_model.proofs.Problems.{unit_axis, opposite_products, one_bool, dyadic, minus_dyadic}
 
 abbrev usual : Loosenings
-usual = record { margin_bits = 20; delta_bits = 10 }
+usual = record { margin_bits = 20; delta_bits = 10; version = 1 }
 
 abbrev stuck_root : Standing
 stuck_root = record { state = record { space = real_domain (minus_dyadic 1 1) (dyadic 1 1) ∷ real_domain (minus_dyadic 1 1) (dyadic 1 1) ∷ []; marks = [] }; does = stuck 4 }

@@ -8,7 +8,7 @@ use Rattle.cover_model.specs.Honest.{is_honest}
 use Rattle.cover_model.specs.Derivation.{Tree, tree_lines}
 use Rattle.cert_read.specs.CertLine.{CertLine, crossing}
 use Rattle.cert_model.specs.Due.{Standing, left_open, at_point, is_shown}
-use Rattle.cert_model.specs.Accepted.{IsAccepted, loosenings_fit, most_lemmas}
+use Rattle.cert_model.specs.Accepted.{IsAccepted, is_header, most_lemmas}
 use Rattle.cert_model.specs.Standing.{Stands, branches_of, branches, standing, IsHonest}
 use Rattle.cert_model.specs.Written.{rule_lines, left_standing, tree_standing, tree_branches, IsHonestTree, LemmaTree, lemma_states, AreLemmaTrees, cover_lines, point_lines}
 use Rattle.cert_model.specs.Derived.{AreSingle}
@@ -40,14 +40,14 @@ pub tree_branch : (p : Problem) (b : Option ℕ) (s : Loosenings) (lemmas : List
     branches p b (tree_text s b lemmas t) ≡ tree_branches t
 tree_branch p b s lemmas t h k = ap branches_of (tree_stand p b s lemmas t h k) ∙ branches_stand p b s (lemma_states lemmas) h.lawful
 
-pub crossing_texts : (p : Problem) (b : Option ℕ) (s : Loosenings) (lemmas : List LemmaTree) → IsTrue (loosenings_fit s.margin_bits s.delta_bits) → length lemmas ≤ most_lemmas →
+pub crossing_texts : (p : Problem) (b : Option ℕ) (s : Loosenings) (lemmas : List LemmaTree) → IsTrue (is_header s) → length lemmas ≤ most_lemmas →
     AreLemmaTrees p s [] lemmas → (i : ℕ) → IsTrue (crosses p i) → CanBeWritten (cover_lines s b lemmas (crossing i ∷ [])) →
     IsAccepted p b (crossing_text s b lemmas i) s (left_open []) × (standing p b (crossing_text s b lemmas i) ≡ [])
 crossing_texts p b s lemmas f h g i c k =
     let ls : List CertLine = cover_lines s b lemmas (crossing i ∷ []) in
     (text_has_lines p b ls k.0 k.1 ∙ crossing_accepted p b s lemmas f h g i c, text_stands p b ls k.0 ∙ crossing_stands p b s lemmas f h g i c)
 
-pub point_texts : (p : Problem) (b : Option ℕ) (s : Loosenings) → IsTrue (loosenings_fit s.margin_bits s.delta_bits) → (space : Space) → AreSingle p.axes space → IsTrue (is_shown p s (at_point space)) →
+pub point_texts : (p : Problem) (b : Option ℕ) (s : Loosenings) → IsTrue (is_header s) → (space : Space) → AreSingle p.axes space → IsTrue (is_shown p s (at_point space)) →
     CanBeWritten (point_lines s b space) → IsAccepted p b (point_text s b space) s (at_point space) × (standing p b (point_text s b space) ≡ [])
 point_texts p b s f space g h k =
     let ls : List CertLine = point_lines s b space in

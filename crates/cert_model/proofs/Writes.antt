@@ -3,15 +3,15 @@ use Rattle.std.proofs.Common.{◌≡◌, inl, inr, ℕ, suc, ◌+◌, ◌<◌, �
 use Rattle.std.proofs.lemmas.Bool.{le-leb}
 use Rattle.std.proofs.lemmas.Bool.Decides.{eqb_tells}
 use Rattle.dyadic.specs.Rounding.{Dyadic}
-use Rattle.dyadic.proofs.Equal.{both_pass}
+use Rattle.dyadic.proofs.Equal.{both_true, both_pass}
 use Rattle.interval_model.specs.Space.{Domain, real_domain, bool_domain, Space}
 use Rattle.poly_graph.specs.Problem.{Declared, real_between, any_bool, Axis, Problem, first_crossed, crosses}
 use Rattle.poly_graph.specs.Marks.{Mark, yes_of, no_of, marks_of, numbers_from, is_no, is_yes}
 use Rattle.cover_model.specs.State.{State, Loosenings, root_state}
 use Rattle.cover_model.specs.Derivation.{Tree, leaf, then, fork, tree_lines, Lawful}
 use Rattle.cert_read.specs.CertLine.{CertLine, line, version, margin, delta, bound, cover, lemma, point_word, tree_word, end_word, yes_list, no_list, crossing}
-use Rattle.cert_model.specs.Due.{BadHeader, BadNumber, Missing, WrongBound, NotShown, Standing, at_point, left_open, is_shown, coordinate_next, Due, version_due, margin_due, delta_due, bound_due, kind_due, next_due, yes_due, no_due, lemma_due, root_due, tree_due, end_due, nothing_due, Next, on, faulty, given, same_bound, ascends, apart, all_below, state_of, axis_next, is_some_axis}
-use Rattle.cert_model.specs.Accepted.{next, coordinate_line, axis_line, no_crossing, root_line, loosenings_fit, most_lemmas, course_next, course_of_lines, ended, accepted}
+use Rattle.cert_model.specs.Due.{BadHeader, BadNumber, Missing, WrongBound, NotShown, Standing, at_point, left_open, is_shown, coordinate_next, Due, version_due, margin_due, delta_due, bound_due, kind_due, next_due, yes_due, no_due, lemma_due, root_due, tree_due, end_due, nothing_due, Next, on, faulty, given, is_version, same_bound, ascends, apart, all_below, state_of, axis_next, is_some_axis}
+use Rattle.cert_model.specs.Accepted.{next, coordinate_line, axis_line, no_crossing, root_line, loosenings_fit, is_header, most_lemmas, course_next, course_of_lines, ended, accepted}
 use Rattle.cert_model.specs.Written.{line_of, rule_lines, NamesWell, left_standing, tree_standing, LemmaTree, lemma_states, domain_line, lemma_lines, lemmas_lines, cover_lines, FitsAxis, FitsAxes, IsLemmaTree, AreLemmaTrees, point_line, point_lines}
 use Rattle.cert_model.specs.Standing.{Stands, at_root, stands_at, standing_next, standing_of_lines}
 use Rattle.cert_model.specs.Derived.{IsSingle, AreSingle}
@@ -127,12 +127,15 @@ module _ (p : Problem) (b : Option ℕ) (s : Loosenings) where
 
   -- ---- the header, the main tree and the end
 
-  header-leads : (k : ℕ) → IsTrue (loosenings_fit s.margin_bits s.delta_bits) → k ≤ most_lemmas → (ls : List CertLine) →
-      Leads version_due (version 1 ∷ margin s.margin_bits ∷ delta s.delta_bits ∷ bound b ∷ cover k ∷ ls) (next_due s k []) ls
+  header-parts : IsTrue (is_header s) → IsTrue (is_version s.version) × IsTrue (loosenings_fit s.margin_bits s.delta_bits)
+  header-parts h = both_true (is_version s.version) (loosenings_fit s.margin_bits s.delta_bits) h
+
+  header-leads : (k : ℕ) → IsTrue (is_header s) → k ≤ most_lemmas → (ls : List CertLine) →
+      Leads version_due (version s.version ∷ margin s.margin_bits ∷ delta s.delta_bits ∷ bound b ∷ cover k ∷ ls) (next_due s k []) ls
   header-leads k f h ls =
-      through (one-line version_due (version 1) _ margin_due refl refl)
-      (through (one-line margin_due (margin s.margin_bits) _ (delta_due s.margin_bits) refl refl)
-      (through (one-line (delta_due s.margin_bits) (delta s.delta_bits) _ (bound_due s) (ap (λ (t : Bool). given t (bound_due s) BadHeader) f) refl)
+      through (one-line version_due (version s.version) _ (margin_due s.version) (ap (λ (t : Bool). given t (margin_due s.version) BadHeader) (header-parts f).0) refl)
+      (through (one-line (margin_due s.version) (margin s.margin_bits) _ (delta_due s.version s.margin_bits) refl refl)
+      (through (one-line (delta_due s.version s.margin_bits) (delta s.delta_bits) _ (bound_due s) (ap (λ (t : Bool). given t (bound_due s) BadHeader) (header-parts f).1) refl)
       (through (one-line (bound_due s) (bound b) _ (kind_due s) (ap (λ (t : Bool). given t (kind_due s) WrongBound) (same-bounds b)) refl)
       (one-line (kind_due s) (cover k) ls (next_due s k []) (ap (λ (t : Bool). given t (next_due s k []) BadHeader) (le-leb k most_lemmas h)) refl))))
 
@@ -146,7 +149,7 @@ module _ (p : Problem) (b : Option ℕ) (s : Loosenings) where
   root-leads lemmas (then l t) e ls n = ap (λ (o : Option ℕ). course_next (root_line (is_some_axis o) p s lemmas (line_of l)) (suc n) (λ d. course_of_lines p b (suc n) d (rule_lines (tree_lines t) ++ ls))) e
   root-leads lemmas (fork l t u) e ls n = ap (λ (o : Option ℕ). course_next (root_line (is_some_axis o) p s lemmas (line_of l)) (suc n) (λ d. course_of_lines p b (suc n) d (rule_lines (tree_lines t ++ tree_lines u) ++ ls))) e
 
-  up-to-tree : (xs : List LemmaTree) → IsTrue (loosenings_fit s.margin_bits s.delta_bits) → length xs ≤ most_lemmas → AreLemmaTrees p s [] xs → (body : List CertLine) →
+  up-to-tree : (xs : List LemmaTree) → IsTrue (is_header s) → length xs ≤ most_lemmas → AreLemmaTrees p s [] xs → (body : List CertLine) →
       Leads version_due (cover_lines s b xs body) (root_due s (lemma_states xs)) (body ++ (end_word ∷ []))
   up-to-tree xs f h g body =
       through (header-leads (length xs) f h _)
@@ -164,7 +167,7 @@ module _ (p : Problem) (b : Option ℕ) (s : Loosenings) where
       ap (λ (o : Option ℕ). at_root (is_some_axis o) p s (line_of l) ++ standing_next (root_line (is_some_axis o) p s lemmas (line_of l)) (λ d. standing_of_lines p b d (rule_lines (tree_lines t ++ tree_lines u) ++ ls))) e
 
   -- lemmas with their trees and a lawful tree at the root, written as lines, are accepted with what the tree leaves
-  pub cover_accepted : (xs : List LemmaTree) → IsTrue (loosenings_fit s.margin_bits s.delta_bits) → length xs ≤ most_lemmas → AreLemmaTrees p s [] xs → first_crossed p ≡ None →
+  pub cover_accepted : (xs : List LemmaTree) → IsTrue (is_header s) → length xs ≤ most_lemmas → AreLemmaTrees p s [] xs → first_crossed p ≡ None →
       (t : Tree) (rest : List State) → Lawful p s (lemma_states xs) (root_state p) t rest → NamesWell p t →
       ended (course_of_lines p b 0 version_due (cover_lines s b xs (rule_lines (tree_lines t)))) ≡ accepted s (left_open (left_standing p s (lemma_states xs) (root_state p) t))
   cover_accepted xs f h g e t rest r w =
@@ -172,7 +175,7 @@ module _ (p : Problem) (b : Option ℕ) (s : Loosenings) where
       ap ended (u.1 ∙ root-leads lemmas t e (end_word ∷ []) u.0 ∙ tree_takes p b s lemmas r w (end_word ∷ []) u.0 [] [])
 
   -- where the tree's lines stand as in the tree
-  pub cover_stands : (xs : List LemmaTree) → IsTrue (loosenings_fit s.margin_bits s.delta_bits) → length xs ≤ most_lemmas → AreLemmaTrees p s [] xs → first_crossed p ≡ None →
+  pub cover_stands : (xs : List LemmaTree) → IsTrue (is_header s) → length xs ≤ most_lemmas → AreLemmaTrees p s [] xs → first_crossed p ≡ None →
       (t : Tree) (rest : List State) → Lawful p s (lemma_states xs) (root_state p) t rest → NamesWell p t →
       standing_of_lines p b version_due (cover_lines s b xs (rule_lines (tree_lines t))) ≡ map (λ (x : Standing). record { loosenings = s; line = x }) (tree_standing p s (lemma_states xs) (root_state p) t)
   cover_stands xs f h g e t rest r w =
@@ -180,19 +183,19 @@ module _ (p : Problem) (b : Option ℕ) (s : Loosenings) where
       (up-to-tree xs f h g (rule_lines (tree_lines t))).quiet ∙ root-stands lemmas t e (end_word ∷ []) ∙ tree_stands p b s lemmas r w (end_word ∷ []) [] []
       ∙ append-nil (map (λ (x : Standing). record { loosenings = s; line = x }) (tree_standing p s lemmas (root_state p) t))
 
-  crossing-leads : (xs : List LemmaTree) → IsTrue (loosenings_fit s.margin_bits s.delta_bits) → length xs ≤ most_lemmas → AreLemmaTrees p s [] xs → (i : ℕ) → IsTrue (crosses p i) →
+  crossing-leads : (xs : List LemmaTree) → IsTrue (is_header s) → length xs ≤ most_lemmas → AreLemmaTrees p s [] xs → (i : ℕ) → IsTrue (crosses p i) →
       Leads version_due (cover_lines s b xs (crossing i ∷ [])) (end_due s (left_open [])) (end_word ∷ [])
   crossing-leads xs f h g i c =
       through (up-to-tree xs f h g (crossing i ∷ []))
       (one-line (root_due s (lemma_states xs)) (crossing i) (end_word ∷ []) (end_due s (left_open [])) (ap (λ (t : Bool). cond t (on (end_due s (left_open []))) (no_crossing p i)) c) refl)
 
   -- and so is the line for bounds that cross
-  pub crossing_accepted : (xs : List LemmaTree) → IsTrue (loosenings_fit s.margin_bits s.delta_bits) → length xs ≤ most_lemmas → AreLemmaTrees p s [] xs → (i : ℕ) → IsTrue (crosses p i) →
+  pub crossing_accepted : (xs : List LemmaTree) → IsTrue (is_header s) → length xs ≤ most_lemmas → AreLemmaTrees p s [] xs → (i : ℕ) → IsTrue (crosses p i) →
       ended (course_of_lines p b 0 version_due (cover_lines s b xs (crossing i ∷ []))) ≡ accepted s (left_open [])
   crossing_accepted xs f h g i c = ap ended ((crossing-leads xs f h g i c).to 0).1
 
   -- which is no line that stands at a state
-  pub crossing_stands : (xs : List LemmaTree) → IsTrue (loosenings_fit s.margin_bits s.delta_bits) → length xs ≤ most_lemmas → AreLemmaTrees p s [] xs → (i : ℕ) → IsTrue (crosses p i) →
+  pub crossing_stands : (xs : List LemmaTree) → IsTrue (is_header s) → length xs ≤ most_lemmas → AreLemmaTrees p s [] xs → (i : ℕ) → IsTrue (crosses p i) →
       standing_of_lines p b version_due (cover_lines s b xs (crossing i ∷ [])) ≡ []
   crossing_stands xs f h g i c = (crossing-leads xs f h g i c).quiet
 
@@ -217,22 +220,22 @@ module _ (p : Problem) (b : Option ℕ) (s : Loosenings) where
   coordinates-lead [] (d ∷ ds) f space ls = elim f [ ]
   coordinates-lead (a ∷ axes) [] f space ls = elim f [ ]
 
-  point-leads : IsTrue (loosenings_fit s.margin_bits s.delta_bits) → (space : Space) → AreSingle p.axes space → IsTrue (is_shown p s (at_point space)) →
+  point-leads : IsTrue (is_header s) → (space : Space) → AreSingle p.axes space → IsTrue (is_shown p s (at_point space)) →
       Leads version_due (point_lines s b space) (nothing_due s (at_point space)) []
   point-leads f space g h =
-      through (one-line version_due (version 1) _ margin_due refl refl)
-      (through (one-line margin_due (margin s.margin_bits) _ (delta_due s.margin_bits) refl refl)
-      (through (one-line (delta_due s.margin_bits) (delta s.delta_bits) _ (bound_due s) (ap (λ (t : Bool). given t (bound_due s) BadHeader) f) refl)
+      through (one-line version_due (version s.version) _ (margin_due s.version) (ap (λ (t : Bool). given t (margin_due s.version) BadHeader) (header-parts f).0) refl)
+      (through (one-line (margin_due s.version) (margin s.margin_bits) _ (delta_due s.version s.margin_bits) refl refl)
+      (through (one-line (delta_due s.version s.margin_bits) (delta s.delta_bits) _ (bound_due s) (ap (λ (t : Bool). given t (bound_due s) BadHeader) (header-parts f).1) refl)
       (through (one-line (bound_due s) (bound b) _ (kind_due s) (ap (λ (t : Bool). given t (kind_due s) WrongBound) (same-bounds b)) refl)
       (through (one-line (kind_due s) point_word (map point_line space ++ (end_word ∷ [])) (coordinate_next s p.axes []) refl refl)
       (through (coordinates-lead p.axes space g [] (end_word ∷ []))
       (one-line (end_due s (at_point space)) end_word [] (nothing_due s (at_point space)) (ap (λ (t : Bool). given t (nothing_due s (at_point space)) NotShown) h) refl))))))
 
   -- a point that is shown, written as lines, is accepted
-  pub point_accepted : IsTrue (loosenings_fit s.margin_bits s.delta_bits) → (space : Space) → AreSingle p.axes space → IsTrue (is_shown p s (at_point space)) →
+  pub point_accepted : IsTrue (is_header s) → (space : Space) → AreSingle p.axes space → IsTrue (is_shown p s (at_point space)) →
       ended (course_of_lines p b 0 version_due (point_lines s b space)) ≡ accepted s (at_point space)
   point_accepted f space g h = ap ended ((point-leads f space g h).to 0).1
 
-  pub point_stands : IsTrue (loosenings_fit s.margin_bits s.delta_bits) → (space : Space) → AreSingle p.axes space → IsTrue (is_shown p s (at_point space)) →
+  pub point_stands : IsTrue (is_header s) → (space : Space) → AreSingle p.axes space → IsTrue (is_shown p s (at_point space)) →
       standing_of_lines p b version_due (point_lines s b space) ≡ []
   point_stands f space g h = (point-leads f space g h).quiet

@@ -9,7 +9,7 @@ use Rattle.interval_model.specs.Space.{real_domain, bool_domain, Space}
 use Rattle.poly_graph.specs.Problem.{Declared, real_between, any_bool, Axis, Problem, crosses}
 use Rattle.cover_model.specs.State.{State, Loosenings, root_state}
 use Rattle.cover_model.specs.Rules.{rule}
-use Rattle.cert_model.specs.Due.{CertFault, BadHeader, BadNumber, RuleFails, Missing, Extra, WrongBound, NotShown, BadLine, LineTooLong, TooLong, Standing, Value, left_open, Due, version_due, margin_due, delta_due, bound_due, kind_due, next_due, axis_due, yes_due, no_due, lemma_due, root_due, tree_due, coordinate_due, end_due, nothing_due, Next, on, faulty, given, same_bound, bool_domain_of, ascends, apart, all_below, state_of, rule_of, is_axis, names_well, after_rule, after_lemma_rule, tree_goes_on, lemma_goes_on, axis_next, is_crossed_box, extra_after, extra_at_end, coordinate_next, is_shown}
+use Rattle.cert_model.specs.Due.{CertFault, BadHeader, BadNumber, RuleFails, Missing, Extra, WrongBound, NotShown, BadLine, LineTooLong, TooLong, Standing, Value, left_open, Due, version_due, margin_due, delta_due, bound_due, kind_due, next_due, axis_due, yes_due, no_due, lemma_due, root_due, tree_due, coordinate_due, end_due, nothing_due, Next, on, faulty, given, is_version, same_bound, bool_domain_of, ascends, apart, all_below, state_of, rule_of, is_axis, names_well, after_rule, after_lemma_rule, tree_goes_on, lemma_goes_on, axis_next, is_crossed_box, extra_after, extra_at_end, coordinate_next, is_shown}
 
 -- ---- a line that is well formed, where something is due
 
@@ -20,6 +20,10 @@ most_lemmas = 1048576
 -- from one bit of delta up to sixty of margin
 abbrev pub loosenings_fit : ℕ → ℕ → Bool
 loosenings_fit m d = nat_le 1 d && nat_le d 30 && nat_lt d m && nat_le m 60
+
+-- a version that is read, with such loosenings
+abbrev pub is_header : Loosenings → Bool
+is_header s = is_version s.version && loosenings_fit s.margin_bits s.delta_bits
 
 -- a line of a lemma's or the main tree, by what its rule leaves
 abbrev pub ruled_line : Bool → Next → Next
@@ -59,12 +63,12 @@ coordinate_line s a axes space l = faulty Missing
 
 -- b is the bound of the words
 abbrev pub next : Problem → Option ℕ → Due → CertLine → Next
-next p b version_due (version n) = given (nat_eq n 1) margin_due BadHeader
+next p b version_due (version n) = given (is_version n) (margin_due n) BadHeader
 next p b version_due l = faulty BadHeader
-next p b margin_due (margin m) = on (delta_due m)
-next p b margin_due l = faulty BadHeader
-next p b (delta_due m) (delta d) = given (loosenings_fit m d) (bound_due (record { margin_bits = m; delta_bits = d })) BadHeader
-next p b (delta_due m) l = faulty BadHeader
+next p b (margin_due v) (margin m) = on (delta_due v m)
+next p b (margin_due v) l = faulty BadHeader
+next p b (delta_due v m) (delta d) = given (loosenings_fit m d) (bound_due (record { margin_bits = m; delta_bits = d; version = v })) BadHeader
+next p b (delta_due v m) l = faulty BadHeader
 next p b (bound_due s) (bound n) = given (same_bound n b) (kind_due s) WrongBound
 next p b (bound_due s) l = faulty BadHeader
 next p b (kind_due s) (cover k) = given (nat_le k most_lemmas) (next_due s k []) BadHeader
@@ -133,8 +137,8 @@ pub data Verdict : Type 0 where
 -- the input ends where this is due
 abbrev pub missing : Due → CertFault
 missing version_due = BadHeader
-missing margin_due = BadHeader
-missing (delta_due m) = BadHeader
+missing (margin_due v) = BadHeader
+missing (delta_due v m) = BadHeader
 missing (bound_due s) = BadHeader
 missing (kind_due s) = BadHeader
 missing d = Missing

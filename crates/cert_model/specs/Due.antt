@@ -1,15 +1,15 @@
 -- Faults and values of a certificate, what is due in it, and the tests of one line.
-use Rattle.std.specs.Prelude.{ℕ, List, [], ◌∷◌, ◌++◌, Bool, true, false, not, ◌&&◌, Option, Some, None, nat_eq, nat_lt, length}
+use Rattle.std.specs.Prelude.{ℕ, List, [], ◌∷◌, ◌++◌, Bool, true, false, not, ◌&&◌, ◌||◌, Option, Some, None, nat_eq, nat_lt, length}
 use Rattle.dyadic.specs.Fraction.{Fraction, at_most, sum_of, difference_of}
 use Rattle.dyadic.specs.Point.{Coordinate, at_fraction, at_bool}
 use Rattle.dyadic.specs.Rounding.{exact}
-use Rattle.cert_read.specs.CertLine.{BoolWord, says_false, says_true, says_both, RuleLine, pull_at, unit_at, void_at, case_at, stuck_at, by_lemma, ban_by, cut_at, flip_at, false_here, open_here, RuleWord}
+use Rattle.cert_read.specs.CertLine.{BoolWord, says_false, says_true, says_both, RuleLine, pull_at, unit_at, void_at, push_at, void_no_at, case_at, stuck_at, by_lemma, ban_by, cut_at, flip_at, false_here, open_here, RuleWord}
 use Rattle.interval_model.specs.Space.{Domain, real_domain, bool_domain, Space}
 use Rattle.poly_graph.specs.Problem.{Declared, real_between, any_bool, Axis, Problem, first_crossed}
 pub use Rattle.cover_model.specs.Fits.{coordinate_of, coordinates, is_near, are_near}
 use Rattle.cover_model.specs.State.{State, Loosenings, delta_of, sure}
 use Rattle.poly_graph.specs.Marks.{member, marks_of}
-use Rattle.cover_model.specs.Rules.{Line, pull, unit, void, ban, make_false, by, cut, flip, case, open_line, stuck, Left, closed, one, two, stays}
+use Rattle.cover_model.specs.Rules.{Line, pull, unit, void, push, void_no, ban, make_false, by, cut, flip, case, open_line, stuck, Left, closed, one, two, stays}
 
 pub data CertFault : Type 0 where
   BadHeader BadNumber : CertFault
@@ -30,12 +30,13 @@ pub data Value : Type 0 where
   -- the states that stay open or stuck, in the tree's order, each with its line
   left_open : List Standing → Value
 
--- ---- what is due, once the header's margin and delta are known
+-- ---- what is due, once the header's version, margin and delta are known
 
 pub data Due : Type 0 where
-  version_due margin_due : Due
-  -- the margin is known
-  delta_due : ℕ → Due
+  version_due : Due
+  -- the version is known, then the margin too
+  margin_due : ℕ → Due
+  delta_due : ℕ → ℕ → Due
   bound_due kind_due : Loosenings → Due
   -- the number of lemmas and the states of those that stand: the next lemma, or `tree`
   next_due : Loosenings → ℕ → List State → Due
@@ -64,6 +65,10 @@ given true d f = on d
 given false d f = faulty f
 
 -- ---- the header
+
+-- a version of the format that is read
+abbrev pub is_version : ℕ → Bool
+is_version v = nat_eq v 1 || nat_eq v 2
 
 abbrev pub same_bound : Option ℕ → Option ℕ → Bool
 same_bound None None = true
@@ -101,6 +106,8 @@ abbrev pub rule_of : RuleLine → Line
 rule_of (pull_at j) = pull j
 rule_of (unit_at j) = unit j
 rule_of (void_at j) = void j
+rule_of (push_at j) = push j
+rule_of (void_no_at j) = void_no j
 rule_of (case_at j) = case j
 rule_of (stuck_at j) = stuck j
 rule_of (by_lemma i) = by i
@@ -121,6 +128,8 @@ abbrev pub names_well : Problem → Line → Bool
 names_well p (pull j) = is_atom p j
 names_well p (unit j) = is_atom p j
 names_well p (void j) = is_atom p j
+names_well p (push j) = is_atom p j
+names_well p (void_no j) = is_atom p j
 names_well p (ban j i) = is_atom p j
 names_well p (cut axis c) = is_axis p axis
 names_well p (flip axis) = is_axis p axis

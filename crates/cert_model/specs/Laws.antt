@@ -11,15 +11,15 @@ use Rattle.cert_read.specs.LineText.{IsSpelledBound, IsSpelled}
 use Rattle.cert_read.specs.CertLine.{CertLine, version, margin, delta, bound, cover, tree_word, end_word, rule_line, false_here, crossing}
 use Rattle.cert_read.specs.Lines.{lines_of}
 use Rattle.cert_model.specs.Due.{Standing, Value, version_due, at_point, left_open, is_shown, coordinates}
-use Rattle.cert_model.specs.Accepted.{IsAccepted, loosenings_fit, course_of_lines, ended, verdict, certificate_text, most_bytes, most_lemmas, accepted}
+use Rattle.cert_model.specs.Accepted.{IsAccepted, is_header, course_of_lines, ended, verdict, certificate_text, most_bytes, most_lemmas, accepted}
 use Rattle.cert_model.specs.Derived.{AreDerived, states_of, IsCover, AreNear, EndsOnce, AreSingle}
 use Rattle.cert_model.specs.Standing.{standing, IsHonest, branches}
 use Rattle.cert_model.specs.Written.{rule_lines, NamesWell, left_standing, tree_standing, IsHonestTree, tree_branches, LemmaTree, lemma_states, AreLemmaTrees, cover_lines, point_lines}
 
--- The margin and delta of an accepted certificate's header are in their limits.
+-- The version, margin and delta of an accepted certificate's header are in their limits.
 abbrev pub HeaderFits : Type 0
 HeaderFits = (p : Problem) (bound : Option ℕ) (bytes : List ℕ) (s : Loosenings) (v : Value) → IsAccepted p bound bytes s v →
-    (1 ≤ s.delta_bits) × (s.delta_bits ≤ 30) × (s.delta_bits < s.margin_bits) × (s.margin_bits ≤ 60)
+    (1 ≤ s.delta_bits) × (s.delta_bits ≤ 30) × (s.delta_bits < s.margin_bits) × (s.margin_bits ≤ 60) × (1 ≤ s.version) × (s.version ≤ 2)
 
 -- The last line of accepted bytes is `end`, and no other line is.
 abbrev pub EndIsLast : Type 0
@@ -61,28 +61,28 @@ TextHasLines = (p : Problem) (bound : Option ℕ) (ls : List CertLine) → AllBy
 
 -- the certificate that has the line `false` for its tree
 abbrev pub shortest_lines : Loosenings → Option ℕ → List CertLine
-shortest_lines s b = version 1 ∷ margin s.margin_bits ∷ delta s.delta_bits ∷ bound b ∷ cover 0 ∷ tree_word ∷ rule_line false_here ∷ end_word ∷ []
+shortest_lines s b = version s.version ∷ margin s.margin_bits ∷ delta s.delta_bits ∷ bound b ∷ cover 0 ∷ tree_word ∷ rule_line false_here ∷ end_word ∷ []
 
 -- Where the declared box is not empty, and the form can't hold at the root, it is accepted.
 abbrev pub ShortestIsAccepted : Type 0
-ShortestIsAccepted = (p : Problem) (b : Option ℕ) → IsSpelledBound b → (s : Loosenings) → IsTrue (loosenings_fit s.margin_bits s.delta_bits) →
+ShortestIsAccepted = (p : Problem) (b : Option ℕ) → IsSpelledBound b → (s : Loosenings) → IsTrue (is_header s) →
     first_crossed p ≡ None → may p s (root_state p) ≡ false → IsAccepted p b (certificate_text (shortest_lines s b)) s (left_open [])
 
 -- Lemmas with their trees and a lawful tree at the root, written as lines, are accepted with what the tree leaves.
 abbrev pub CoverIsAccepted : Type 0
-CoverIsAccepted = (p : Problem) (b : Option ℕ) (s : Loosenings) (lemmas : List LemmaTree) → IsTrue (loosenings_fit s.margin_bits s.delta_bits) → length lemmas ≤ most_lemmas →
+CoverIsAccepted = (p : Problem) (b : Option ℕ) (s : Loosenings) (lemmas : List LemmaTree) → IsTrue (is_header s) → length lemmas ≤ most_lemmas →
     AreLemmaTrees p s [] lemmas → first_crossed p ≡ None → (t : Tree) (rest : List State) → Lawful p s (lemma_states lemmas) (root_state p) t rest → NamesWell p t →
     ended (course_of_lines p b 0 version_due (cover_lines s b lemmas (rule_lines (tree_lines t)))) ≡ accepted s (left_open (left_standing p s (lemma_states lemmas) (root_state p) t))
 
 -- And so is the line for bounds that cross.
 abbrev pub CrossingIsAccepted : Type 0
-CrossingIsAccepted = (p : Problem) (b : Option ℕ) (s : Loosenings) (lemmas : List LemmaTree) → IsTrue (loosenings_fit s.margin_bits s.delta_bits) → length lemmas ≤ most_lemmas →
+CrossingIsAccepted = (p : Problem) (b : Option ℕ) (s : Loosenings) (lemmas : List LemmaTree) → IsTrue (is_header s) → length lemmas ≤ most_lemmas →
     AreLemmaTrees p s [] lemmas → (i : ℕ) → IsTrue (crosses p i) →
     ended (course_of_lines p b 0 version_due (cover_lines s b lemmas (crossing i ∷ []))) ≡ accepted s (left_open [])
 
 -- And so is a point that is shown.
 abbrev pub PointIsAccepted : Type 0
-PointIsAccepted = (p : Problem) (b : Option ℕ) (s : Loosenings) → IsTrue (loosenings_fit s.margin_bits s.delta_bits) → (space : Space) → AreSingle p.axes space → IsTrue (is_shown p s (at_point space)) →
+PointIsAccepted = (p : Problem) (b : Option ℕ) (s : Loosenings) → IsTrue (is_header s) → (space : Space) → AreSingle p.axes space → IsTrue (is_shown p s (at_point space)) →
     ended (course_of_lines p b 0 version_due (point_lines s b space)) ≡ accepted s (at_point space)
 
 -- ---- the same of the bytes
@@ -93,7 +93,7 @@ CanBeWritten ls = AllByRecursion IsSpelled ls × (length (certificate_text ls) �
 
 -- lemmas with their trees, and a tree at the root of a declared box that is not empty, which follow the rules
 pub record IsLawfulCover (p : Problem) (s : Loosenings) (lemmas : List LemmaTree) (t : Tree) : Type 0 where
-  pub loosenings : IsTrue (loosenings_fit s.margin_bits s.delta_bits)
+  pub loosenings : IsTrue (is_header s)
   pub count : length lemmas ≤ most_lemmas
   pub lemma_trees : AreLemmaTrees p s [] lemmas
   pub not_crossed : first_crossed p ≡ None
@@ -132,11 +132,11 @@ TreeTextBranches = (p : Problem) (b : Option ℕ) (s : Loosenings) (lemmas : Lis
 
 -- The text for an axis whose bounds cross is accepted with nothing left, and no line of it stands at a state.
 abbrev pub CrossingText : Type 0
-CrossingText = (p : Problem) (b : Option ℕ) (s : Loosenings) (lemmas : List LemmaTree) → IsTrue (loosenings_fit s.margin_bits s.delta_bits) → length lemmas ≤ most_lemmas →
+CrossingText = (p : Problem) (b : Option ℕ) (s : Loosenings) (lemmas : List LemmaTree) → IsTrue (is_header s) → length lemmas ≤ most_lemmas →
     AreLemmaTrees p s [] lemmas → (i : ℕ) → IsTrue (crosses p i) → CanBeWritten (cover_lines s b lemmas (crossing i ∷ [])) →
     IsAccepted p b (crossing_text s b lemmas i) s (left_open []) × (standing p b (crossing_text s b lemmas i) ≡ [])
 
 -- So is the text of a point that is shown, with that point.
 abbrev pub PointText : Type 0
-PointText = (p : Problem) (b : Option ℕ) (s : Loosenings) → IsTrue (loosenings_fit s.margin_bits s.delta_bits) → (space : Space) → AreSingle p.axes space → IsTrue (is_shown p s (at_point space)) →
+PointText = (p : Problem) (b : Option ℕ) (s : Loosenings) → IsTrue (is_header s) → (space : Space) → AreSingle p.axes space → IsTrue (is_shown p s (at_point space)) →
     CanBeWritten (point_lines s b space) → IsAccepted p b (point_text s b space) s (at_point space) × (standing p b (point_text s b space) ≡ [])

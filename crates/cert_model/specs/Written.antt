@@ -3,13 +3,13 @@ use Rattle.std.specs.Prelude.{◌≡◌, ℕ, suc, List, [], ◌∷◌, ◌++◌
 use Rattle.std.specs.List.{AllByRecursion}
 use Rattle.dyadic.specs.Fraction.{at_most}
 use Rattle.dyadic.specs.Rounding.{exact}
-use Rattle.cert_read.specs.CertLine.{says_false, says_true, says_both, RuleLine, pull_at, unit_at, void_at, case_at, stuck_at, by_lemma, ban_by, cut_at, flip_at, false_here, open_here, CertLine, rule_line, version, margin, delta, bound, cover, lemma, point_word, tree_word, end_word, real_interval, real_value, bool_value, yes_list, no_list}
+use Rattle.cert_read.specs.CertLine.{says_false, says_true, says_both, RuleLine, pull_at, unit_at, void_at, push_at, void_no_at, case_at, stuck_at, by_lemma, ban_by, cut_at, flip_at, false_here, open_here, CertLine, rule_line, version, margin, delta, bound, cover, lemma, point_word, tree_word, end_word, real_interval, real_value, bool_value, yes_list, no_list}
 use Rattle.interval_model.specs.Space.{Domain, real_domain, bool_domain, Space}
 use Rattle.poly_graph.specs.Problem.{Declared, real_between, any_bool, Axis, Problem}
 pub use Rattle.cover_model.specs.Fits.{FitsAxis, FitsAxes}
 use Rattle.cover_model.specs.State.{State, Loosenings}
 use Rattle.poly_graph.specs.Marks.{yes_of, no_of}
-use Rattle.cover_model.specs.Rules.{Line, pull, unit, void, ban, make_false, by, cut, flip, case, open_line, stuck, Left, one, two, stays, rule}
+use Rattle.cover_model.specs.Rules.{Line, pull, unit, void, push, void_no, ban, make_false, by, cut, flip, case, open_line, stuck, Left, one, two, stays, rule}
 use Rattle.cover_model.specs.Honest.{is_honest, branch_count}
 use Rattle.cover_model.specs.Derivation.{Tree, leaf, then, fork, tree_lines, Lawful}
 use Rattle.cert_model.specs.Due.{Standing, names_well}
@@ -18,6 +18,8 @@ abbrev pub line_of : Line → RuleLine
 line_of (pull j) = pull_at j
 line_of (unit j) = unit_at j
 line_of (void j) = void_at j
+line_of (push j) = push_at j
+line_of (void_no j) = void_no_at j
 line_of (ban j i) = ban_by j i
 line_of make_false = false_here
 line_of (by i) = by_lemma i
@@ -95,7 +97,7 @@ lemmas_lines i (x ∷ xs) = lemma_lines i x ++ lemmas_lines (suc i) xs
 -- the header and the number of lemmas, the lemmas, the tree
 abbrev pub cover_lines : Loosenings → Option ℕ → List LemmaTree → List CertLine → List CertLine
 cover_lines s b lemmas body =
-    version 1 ∷ margin s.margin_bits ∷ delta s.delta_bits ∷ bound b ∷ cover (length lemmas) ∷ (lemmas_lines 0 lemmas ++ (tree_word ∷ (body ++ (end_word ∷ []))))
+    version s.version ∷ margin s.margin_bits ∷ delta s.delta_bits ∷ bound b ∷ cover (length lemmas) ∷ (lemmas_lines 0 lemmas ++ (tree_word ∷ (body ++ (end_word ∷ []))))
 
 -- a state that a certificate can spell, with a tree over the lemmas before it in which no state stays
 pub record IsLemmaTree (p : Problem) (s : Loosenings) (before : List State) (x : LemmaTree) : Type 0 where
@@ -117,4 +119,4 @@ point_line (bool_domain f false) = bool_value says_false
 
 abbrev pub point_lines : Loosenings → Option ℕ → Space → List CertLine
 point_lines s b space =
-    version 1 ∷ margin s.margin_bits ∷ delta s.delta_bits ∷ bound b ∷ point_word ∷ (map point_line space ++ (end_word ∷ []))
+    version s.version ∷ margin s.margin_bits ∷ delta s.delta_bits ∷ bound b ∷ point_word ∷ (map point_line space ++ (end_word ∷ []))

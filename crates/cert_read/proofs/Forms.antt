@@ -1,7 +1,7 @@
 -- What the first word of a line decides.
 use Rattle.std.proofs.Common.{◌≡◌, ◌≢◌, ℕ, List, [], ◌∷◌, refl, ap, ◌∙◌}
 use Rattle.cert_read.specs.declared.keyword.Keyword.{Keyword}
-use Rattle.cert_read.specs.declared.keyword.Keyword.TheVariants.{Version, Margin, Delta, Bound, Cover, Point, Tree, End, Lemma, Real, Bool, Yes, No, Pull, Unit, Void, Case, Stuck, By, Ban, Cut, Flip, False, Open, Empty}
+use Rattle.cert_read.specs.declared.keyword.Keyword.TheVariants.{Version, Margin, Delta, Bound, Cover, Point, Tree, End, Lemma, Real, Bool, Yes, No, Pull, Unit, Void, Push, VoidNo, Case, Stuck, By, Ban, Cut, Flip, False, Open, Empty}
 use Rattle.cert_read.specs.CertLine.{by_first, bad_line}
 use Rattle.cert_read.specs.Keywords.{keyword_text}
 use Rattle.cert_read.specs.Lines.{words_of}
@@ -26,6 +26,8 @@ alone_other No p h0 h1 h2 h3 h4 = absurd p
 alone_other Pull p h0 h1 h2 h3 h4 = refl
 alone_other Unit p h0 h1 h2 h3 h4 = refl
 alone_other Void p h0 h1 h2 h3 h4 = refl
+alone_other Push p h0 h1 h2 h3 h4 = refl
+alone_other VoidNo p h0 h1 h2 h3 h4 = refl
 alone_other Case p h0 h1 h2 h3 h4 = refl
 alone_other Stuck p h0 h1 h2 h3 h4 = refl
 alone_other By p h0 h1 h2 h3 h4 = refl
@@ -37,32 +39,34 @@ alone_other Open p h0 h1 h2 h3 h4 = absurd (h4 refl)
 alone_other Empty p h0 h1 h2 h3 h4 = refl
 
 -- no other form has a plain number alone
-pub count_other : (k : Keyword) → HasCount k → (k ≢ Version) → (k ≢ Margin) → (k ≢ Delta) → (k ≢ Cover) → (k ≢ Lemma) → (k ≢ Pull) → (k ≢ Unit) → (k ≢ Void) → (k ≢ Case) → (k ≢ Stuck) → (k ≢ By) → (k ≢ Flip) → (k ≢ Empty) → (w : List ℕ) → by_first (keyword_text k ∷ w ∷ []) ≡ bad_line
-count_other Version p h0 h1 h2 h3 h4 h5 h6 h7 h8 h9 h10 h11 h12 w = absurd (h0 refl)
-count_other Margin p h0 h1 h2 h3 h4 h5 h6 h7 h8 h9 h10 h11 h12 w = absurd (h1 refl)
-count_other Delta p h0 h1 h2 h3 h4 h5 h6 h7 h8 h9 h10 h11 h12 w = absurd (h2 refl)
-count_other Bound p h0 h1 h2 h3 h4 h5 h6 h7 h8 h9 h10 h11 h12 w = absurd p
-count_other Cover p h0 h1 h2 h3 h4 h5 h6 h7 h8 h9 h10 h11 h12 w = absurd (h3 refl)
-count_other Point p h0 h1 h2 h3 h4 h5 h6 h7 h8 h9 h10 h11 h12 w = refl
-count_other Tree p h0 h1 h2 h3 h4 h5 h6 h7 h8 h9 h10 h11 h12 w = refl
-count_other End p h0 h1 h2 h3 h4 h5 h6 h7 h8 h9 h10 h11 h12 w = refl
-count_other Lemma p h0 h1 h2 h3 h4 h5 h6 h7 h8 h9 h10 h11 h12 w = absurd (h4 refl)
-count_other Real p h0 h1 h2 h3 h4 h5 h6 h7 h8 h9 h10 h11 h12 w = absurd p
-count_other Bool p h0 h1 h2 h3 h4 h5 h6 h7 h8 h9 h10 h11 h12 w = absurd p
-count_other Yes p h0 h1 h2 h3 h4 h5 h6 h7 h8 h9 h10 h11 h12 w = absurd p
-count_other No p h0 h1 h2 h3 h4 h5 h6 h7 h8 h9 h10 h11 h12 w = absurd p
-count_other Pull p h0 h1 h2 h3 h4 h5 h6 h7 h8 h9 h10 h11 h12 w = absurd (h5 refl)
-count_other Unit p h0 h1 h2 h3 h4 h5 h6 h7 h8 h9 h10 h11 h12 w = absurd (h6 refl)
-count_other Void p h0 h1 h2 h3 h4 h5 h6 h7 h8 h9 h10 h11 h12 w = absurd (h7 refl)
-count_other Case p h0 h1 h2 h3 h4 h5 h6 h7 h8 h9 h10 h11 h12 w = absurd (h8 refl)
-count_other Stuck p h0 h1 h2 h3 h4 h5 h6 h7 h8 h9 h10 h11 h12 w = absurd (h9 refl)
-count_other By p h0 h1 h2 h3 h4 h5 h6 h7 h8 h9 h10 h11 h12 w = absurd (h10 refl)
-count_other Ban p h0 h1 h2 h3 h4 h5 h6 h7 h8 h9 h10 h11 h12 w = refl
-count_other Cut p h0 h1 h2 h3 h4 h5 h6 h7 h8 h9 h10 h11 h12 w = refl
-count_other Flip p h0 h1 h2 h3 h4 h5 h6 h7 h8 h9 h10 h11 h12 w = absurd (h11 refl)
-count_other False p h0 h1 h2 h3 h4 h5 h6 h7 h8 h9 h10 h11 h12 w = refl
-count_other Open p h0 h1 h2 h3 h4 h5 h6 h7 h8 h9 h10 h11 h12 w = refl
-count_other Empty p h0 h1 h2 h3 h4 h5 h6 h7 h8 h9 h10 h11 h12 w = absurd (h12 refl)
+pub count_other : (k : Keyword) → HasCount k → (k ≢ Version) → (k ≢ Margin) → (k ≢ Delta) → (k ≢ Cover) → (k ≢ Lemma) → (k ≢ Pull) → (k ≢ Unit) → (k ≢ Void) → (k ≢ Push) → (k ≢ VoidNo) → (k ≢ Case) → (k ≢ Stuck) → (k ≢ By) → (k ≢ Flip) → (k ≢ Empty) → (w : List ℕ) → by_first (keyword_text k ∷ w ∷ []) ≡ bad_line
+count_other Version p h0 h1 h2 h3 h4 h5 h6 h7 h8 h9 h10 h11 h12 h13 h14 w = absurd (h0 refl)
+count_other Margin p h0 h1 h2 h3 h4 h5 h6 h7 h8 h9 h10 h11 h12 h13 h14 w = absurd (h1 refl)
+count_other Delta p h0 h1 h2 h3 h4 h5 h6 h7 h8 h9 h10 h11 h12 h13 h14 w = absurd (h2 refl)
+count_other Bound p h0 h1 h2 h3 h4 h5 h6 h7 h8 h9 h10 h11 h12 h13 h14 w = absurd p
+count_other Cover p h0 h1 h2 h3 h4 h5 h6 h7 h8 h9 h10 h11 h12 h13 h14 w = absurd (h3 refl)
+count_other Point p h0 h1 h2 h3 h4 h5 h6 h7 h8 h9 h10 h11 h12 h13 h14 w = refl
+count_other Tree p h0 h1 h2 h3 h4 h5 h6 h7 h8 h9 h10 h11 h12 h13 h14 w = refl
+count_other End p h0 h1 h2 h3 h4 h5 h6 h7 h8 h9 h10 h11 h12 h13 h14 w = refl
+count_other Lemma p h0 h1 h2 h3 h4 h5 h6 h7 h8 h9 h10 h11 h12 h13 h14 w = absurd (h4 refl)
+count_other Real p h0 h1 h2 h3 h4 h5 h6 h7 h8 h9 h10 h11 h12 h13 h14 w = absurd p
+count_other Bool p h0 h1 h2 h3 h4 h5 h6 h7 h8 h9 h10 h11 h12 h13 h14 w = absurd p
+count_other Yes p h0 h1 h2 h3 h4 h5 h6 h7 h8 h9 h10 h11 h12 h13 h14 w = absurd p
+count_other No p h0 h1 h2 h3 h4 h5 h6 h7 h8 h9 h10 h11 h12 h13 h14 w = absurd p
+count_other Pull p h0 h1 h2 h3 h4 h5 h6 h7 h8 h9 h10 h11 h12 h13 h14 w = absurd (h5 refl)
+count_other Unit p h0 h1 h2 h3 h4 h5 h6 h7 h8 h9 h10 h11 h12 h13 h14 w = absurd (h6 refl)
+count_other Void p h0 h1 h2 h3 h4 h5 h6 h7 h8 h9 h10 h11 h12 h13 h14 w = absurd (h7 refl)
+count_other Push p h0 h1 h2 h3 h4 h5 h6 h7 h8 h9 h10 h11 h12 h13 h14 w = absurd (h8 refl)
+count_other VoidNo p h0 h1 h2 h3 h4 h5 h6 h7 h8 h9 h10 h11 h12 h13 h14 w = absurd (h9 refl)
+count_other Case p h0 h1 h2 h3 h4 h5 h6 h7 h8 h9 h10 h11 h12 h13 h14 w = absurd (h10 refl)
+count_other Stuck p h0 h1 h2 h3 h4 h5 h6 h7 h8 h9 h10 h11 h12 h13 h14 w = absurd (h11 refl)
+count_other By p h0 h1 h2 h3 h4 h5 h6 h7 h8 h9 h10 h11 h12 h13 h14 w = absurd (h12 refl)
+count_other Ban p h0 h1 h2 h3 h4 h5 h6 h7 h8 h9 h10 h11 h12 h13 h14 w = refl
+count_other Cut p h0 h1 h2 h3 h4 h5 h6 h7 h8 h9 h10 h11 h12 h13 h14 w = refl
+count_other Flip p h0 h1 h2 h3 h4 h5 h6 h7 h8 h9 h10 h11 h12 h13 h14 w = absurd (h13 refl)
+count_other False p h0 h1 h2 h3 h4 h5 h6 h7 h8 h9 h10 h11 h12 h13 h14 w = refl
+count_other Open p h0 h1 h2 h3 h4 h5 h6 h7 h8 h9 h10 h11 h12 h13 h14 w = refl
+count_other Empty p h0 h1 h2 h3 h4 h5 h6 h7 h8 h9 h10 h11 h12 h13 h14 w = absurd (h14 refl)
 
 -- no other form has two more words
 pub two_other : (k : Keyword) → HasForm k → (k ≢ Real) → (k ≢ Ban) → (k ≢ Cut) → (v w : List ℕ) → by_first (keyword_text k ∷ v ∷ w ∷ []) ≡ bad_line
@@ -82,6 +86,8 @@ two_other No p h0 h1 h2 v w = absurd p
 two_other Pull p h0 h1 h2 v w = refl
 two_other Unit p h0 h1 h2 v w = refl
 two_other Void p h0 h1 h2 v w = refl
+two_other Push p h0 h1 h2 v w = refl
+two_other VoidNo p h0 h1 h2 v w = refl
 two_other Case p h0 h1 h2 v w = refl
 two_other Stuck p h0 h1 h2 v w = refl
 two_other By p h0 h1 h2 v w = refl
@@ -110,6 +116,8 @@ many_other No p u v w ws = absurd p
 many_other Pull p u v w ws = refl
 many_other Unit p u v w ws = refl
 many_other Void p u v w ws = refl
+many_other Push p u v w ws = refl
+many_other VoidNo p u v w ws = refl
 many_other Case p u v w ws = refl
 many_other Stuck p u v w ws = refl
 many_other By p u v w ws = refl
@@ -137,6 +145,8 @@ form_of No h0 h1 = absurd (h1 refl)
 form_of Pull h0 h1 = tt
 form_of Unit h0 h1 = tt
 form_of Void h0 h1 = tt
+form_of Push h0 h1 = tt
+form_of VoidNo h0 h1 = tt
 form_of Case h0 h1 = tt
 form_of Stuck h0 h1 = tt
 form_of By h0 h1 = tt
@@ -164,6 +174,8 @@ count_form No p h0 h1 h2 = absurd p
 count_form Pull p h0 h1 h2 = tt
 count_form Unit p h0 h1 h2 = tt
 count_form Void p h0 h1 h2 = tt
+count_form Push p h0 h1 h2 = tt
+count_form VoidNo p h0 h1 h2 = tt
 count_form Case p h0 h1 h2 = tt
 count_form Stuck p h0 h1 h2 = tt
 count_form By p h0 h1 h2 = tt

@@ -13,6 +13,6 @@ numbers : map parsed (lines_of (codes "margin 020\ncut 1 1b-1\nreal 0 1b0\nyes 4
     line (real_interval (record { units = neg_ℤ (pos (3 * 2 ^ 118)) }) (record { units = pos (5 * 2 ^ 120) })) ∷ bad_number ∷ line (cover 4294967295) ∷ bad_number ∷ [])
 numbers = refl
 
-forms : map parsed (lines_of (codes "pull  4\n\nbool both\nbool x\n pull 4\npull 4 \nreal\nreal 0 0 0\npush 4\nempty\nyes 1 x")) ≡
+forms : map parsed (lines_of (codes "pull  4\n\nbool both\nbool x\n pull 4\npull 4 \nreal\nreal 0 0 0\nshove 4\nempty\nyes 1 x")) ≡
     (bad_line ∷ bad_line ∷ line (bool_value says_both) ∷ bad_line ∷ bad_line ∷ bad_line ∷ bad_line ∷ bad_line ∷ bad_line ∷ bad_line ∷ bad_number ∷ [])
 forms = refl

@@ -12,7 +12,7 @@ use Rattle.dyadic.specs.Rounding.{Dyadic}
 use Rattle.dyadic.specs.NumberText.{number_spelling}
 use Rattle.dyadic.proofs.Equal.{both_true, both_pass}
 use Rattle.cert_read.specs.Lines.{all_bytes, is_word, are_words, words_of, is_too_long, longest_line}
-use Rattle.cert_read.specs.CertLine.{BoolWord, says_false, says_true, says_both, RuleLine, pull_at, unit_at, void_at, case_at, stuck_at, by_lemma, ban_by, cut_at, flip_at, false_here, open_here, CertLine, version, margin, delta, bound, cover, point_word, tree_word, end_word, lemma, real_interval, real_value, bool_value, yes_list, no_list, rule_line, crossing, is_plain, if_below, if_plain, count_of, if_number, dyadic_of, counts_of, and_count, line, parsed, with_count, with_counts, with_dyadic, with_dyadics, with_both, with_list, of_bound, by_first, if_words, unless_long}
+use Rattle.cert_read.specs.CertLine.{BoolWord, says_false, says_true, says_both, RuleLine, pull_at, unit_at, void_at, push_at, void_no_at, case_at, stuck_at, by_lemma, ban_by, cut_at, flip_at, false_here, open_here, CertLine, version, margin, delta, bound, cover, point_word, tree_word, end_word, lemma, real_interval, real_value, bool_value, yes_list, no_list, rule_line, crossing, is_plain, if_below, if_plain, count_of, if_number, dyadic_of, counts_of, and_count, line, parsed, with_count, with_counts, with_dyadic, with_dyadics, with_both, with_list, of_bound, by_first, if_words, unless_long}
 use Rattle.cert_read.specs.LineText.{spaced, line_words, line_text, rule_words, bound_text, bool_text, is_word_byte, IsCount, IsSpelledNumber, IsSpelledRule, IsSpelledBound, HasSpelling, IsSpelled}
 use Rattle.cert_read.proofs.Pieces.{lacks, AllLack, words_of_spaced, spaced_lacks}
 
@@ -124,6 +124,8 @@ rule-clean : (l : RuleLine) → IsSpelledRule l → AreCleanWords (rule_words l)
 rule-clean (pull_at j) h = (literal (codes "pull") refl refl, (decimal-clean j h, tt))
 rule-clean (unit_at j) h = (literal (codes "unit") refl refl, (decimal-clean j h, tt))
 rule-clean (void_at j) h = (literal (codes "void") refl refl, (decimal-clean j h, tt))
+rule-clean (push_at j) h = (literal (codes "push") refl refl, (decimal-clean j h, tt))
+rule-clean (void_no_at j) h = (literal (codes "voidno") refl refl, (decimal-clean j h, tt))
 rule-clean (case_at j) h = (literal (codes "case") refl refl, (decimal-clean j h, tt))
 rule-clean (stuck_at j) h = (literal (codes "stuck") refl refl, (decimal-clean j h, tt))
 rule-clean (by_lemma i) h = (literal (codes "by") refl refl, (decimal-clean i h, tt))
@@ -170,6 +172,8 @@ rule-says : (l : RuleLine) → IsSpelledRule l → by_first (rule_words l) ≡ l
 rule-says (pull_at j) h = one-says (λ n. rule_line (pull_at n)) j h
 rule-says (unit_at j) h = one-says (λ n. rule_line (unit_at n)) j h
 rule-says (void_at j) h = one-says (λ n. rule_line (void_at n)) j h
+rule-says (push_at j) h = one-says (λ n. rule_line (push_at n)) j h
+rule-says (void_no_at j) h = one-says (λ n. rule_line (void_no_at n)) j h
 rule-says (case_at j) h = one-says (λ n. rule_line (case_at n)) j h
 rule-says (stuck_at j) h = one-says (λ n. rule_line (stuck_at n)) j h
 rule-says (by_lemma i) h = one-says (λ n. rule_line (by_lemma n)) i h
@@ -238,6 +242,8 @@ has-word : (l : CertLine) → 0 < length (line_words l)
 has-word (rule_line (pull_at j)) = omega arith
 has-word (rule_line (unit_at j)) = omega arith
 has-word (rule_line (void_at j)) = omega arith
+has-word (rule_line (push_at j)) = omega arith
+has-word (rule_line (void_no_at j)) = omega arith
 has-word (rule_line (case_at j)) = omega arith
 has-word (rule_line (stuck_at j)) = omega arith
 has-word (rule_line (by_lemma i)) = omega arith

@@ -14,7 +14,7 @@ pub data BoolWord : Type 0 where
 -- a line of a tree, but the one for crossed bounds: the number of an atom, an axis or a lemma
 pub data RuleLine : Type 0 where
   -- an atom
-  pull_at unit_at void_at case_at stuck_at : ℕ → RuleLine
+  pull_at unit_at void_at push_at void_no_at case_at stuck_at : ℕ → RuleLine
   -- a lemma
   by_lemma : ℕ → RuleLine
   -- an atom and a lemma
@@ -41,12 +41,14 @@ pub data CertLine : Type 0 where
 
 -- the first words of a tree's lines
 pub data RuleWord : Type 0 where
-  empty_word pull_word unit_word ban_word void_word false_word by_word cut_word flip_word case_word open_word stuck_word : RuleWord
+  empty_word pull_word unit_word ban_word void_word push_word void_no_word false_word by_word cut_word flip_word case_word open_word stuck_word : RuleWord
 
 abbrev pub word_of : RuleLine → RuleWord
 word_of (pull_at j) = pull_word
 word_of (unit_at j) = unit_word
 word_of (void_at j) = void_word
+word_of (push_at j) = push_word
+word_of (void_no_at j) = void_no_word
 word_of (case_at j) = case_word
 word_of (stuck_at j) = stuck_word
 word_of (by_lemma i) = by_word
@@ -62,6 +64,8 @@ word_text pull_word = codes "pull"
 word_text unit_word = codes "unit"
 word_text ban_word = codes "ban"
 word_text void_word = codes "void"
+word_text push_word = codes "push"
+word_text void_no_word = codes "voidno"
 word_text false_word = codes "false"
 word_text by_word = codes "by"
 word_text cut_word = codes "cut"
@@ -161,7 +165,7 @@ abbrev pub one_more : List (List ℕ × (List ℕ → Parsed))
 one_more =
     (codes "dpoly", counted version) ∷ (codes "margin", counted margin) ∷ (codes "delta", counted delta) ∷ (codes "bound", of_bound) ∷ (codes "cover", counted cover) ∷
     (codes "lemma", counted lemma) ∷ (codes "real", λ w. with_dyadic real_value (dyadic_of w)) ∷ (codes "bool", of_bool) ∷ (codes "empty", counted crossing) ∷
-    (codes "pull", ruled pull_at) ∷ (codes "unit", ruled unit_at) ∷ (codes "void", ruled void_at) ∷ (codes "by", ruled by_lemma) ∷ (codes "flip", ruled flip_at) ∷
+    (codes "pull", ruled pull_at) ∷ (codes "unit", ruled unit_at) ∷ (codes "void", ruled void_at) ∷ (codes "push", ruled push_at) ∷ (codes "voidno", ruled void_no_at) ∷ (codes "by", ruled by_lemma) ∷ (codes "flip", ruled flip_at) ∷
     (codes "case", ruled case_at) ∷ (codes "stuck", ruled stuck_at) ∷ []
 
 abbrev pub two_more : List (List ℕ × (List ℕ → List ℕ → Parsed))

@@ -2,7 +2,7 @@
 use Rattle.std.specs.Prelude.{ℕ, List, cond, Option, Some, None, codes}
 use Rattle.std.specs.Str.{bytes_eq}
 use Rattle.cert_read.specs.declared.keyword.Keyword.{Keyword}
-use Rattle.cert_read.specs.declared.keyword.Keyword.TheVariants.{Version, Margin, Delta, Bound, Cover, Point, Tree, End, Lemma, Real, Bool, Yes, No, Pull, Unit, Void, Case, Stuck, By, Ban, Cut, Flip, False, Open, Empty}
+use Rattle.cert_read.specs.declared.keyword.Keyword.TheVariants.{Version, Margin, Delta, Bound, Cover, Point, Tree, End, Lemma, Real, Bool, Yes, No, Pull, Unit, Void, Push, VoidNo, Case, Stuck, By, Ban, Cut, Flip, False, Open, Empty}
 
 abbrev pub keyword_text : Keyword → List ℕ
 keyword_text Version = codes "dpoly"
@@ -21,6 +21,8 @@ keyword_text No = codes "no"
 keyword_text Pull = codes "pull"
 keyword_text Unit = codes "unit"
 keyword_text Void = codes "void"
+keyword_text Push = codes "push"
+keyword_text VoidNo = codes "voidno"
 keyword_text Case = codes "case"
 keyword_text Stuck = codes "stuck"
 keyword_text By = codes "by"
@@ -37,6 +39,8 @@ rule_keyword_of w =
     cond (bytes_eq w (codes "pull")) (Some Pull) (
     cond (bytes_eq w (codes "unit")) (Some Unit) (
     cond (bytes_eq w (codes "void")) (Some Void) (
+    cond (bytes_eq w (codes "push")) (Some Push) (
+    cond (bytes_eq w (codes "voidno")) (Some VoidNo) (
     cond (bytes_eq w (codes "case")) (Some Case) (
     cond (bytes_eq w (codes "stuck")) (Some Stuck) (
     cond (bytes_eq w (codes "by")) (Some By) (
@@ -46,7 +50,7 @@ rule_keyword_of w =
     cond (bytes_eq w (codes "false")) (Some False) (
     cond (bytes_eq w (codes "open")) (Some Open) (
     cond (bytes_eq w (codes "empty")) (Some Empty) (
-    None))))))))))))
+    None))))))))))))))
 
 -- the word that leads a line
 abbrev pub keyword_of : List ℕ → Option Keyword

@@ -4,7 +4,7 @@ use Rattle.std.specs.List.{AllByRecursion}
 use Rattle.dyadic.specs.Rounding.{Dyadic}
 use Rattle.dyadic.specs.NumberText.{number, number_text, number_spelling}
 use Rattle.cert_read.specs.Lines.{all_bytes, longest_line}
-use Rattle.cert_read.specs.CertLine.{BoolWord, says_false, says_true, says_both, RuleLine, pull_at, unit_at, void_at, case_at, stuck_at, by_lemma, ban_by, cut_at, flip_at, false_here, open_here, CertLine, version, margin, delta, bound, cover, point_word, tree_word, end_word, lemma, real_interval, real_value, bool_value, yes_list, no_list, rule_line, crossing}
+use Rattle.cert_read.specs.CertLine.{BoolWord, says_false, says_true, says_both, RuleLine, pull_at, unit_at, void_at, push_at, void_no_at, case_at, stuck_at, by_lemma, ban_by, cut_at, flip_at, false_here, open_here, CertLine, version, margin, delta, bound, cover, point_word, tree_word, end_word, lemma, real_interval, real_value, bool_value, yes_list, no_list, rule_line, crossing}
 
 -- words parted by one space
 abbrev pub spaced : List (List ℕ) → List ℕ
@@ -30,6 +30,8 @@ abbrev pub rule_words : RuleLine → List (List ℕ)
 rule_words (pull_at j) = codes "pull" ∷ decimal j ∷ []
 rule_words (unit_at j) = codes "unit" ∷ decimal j ∷ []
 rule_words (void_at j) = codes "void" ∷ decimal j ∷ []
+rule_words (push_at j) = codes "push" ∷ decimal j ∷ []
+rule_words (void_no_at j) = codes "voidno" ∷ decimal j ∷ []
 rule_words (case_at j) = codes "case" ∷ decimal j ∷ []
 rule_words (stuck_at j) = codes "stuck" ∷ decimal j ∷ []
 rule_words (by_lemma i) = codes "by" ∷ decimal i ∷ []
@@ -78,6 +80,8 @@ abbrev pub IsSpelledRule : RuleLine → Type 0
 IsSpelledRule (pull_at j) = IsCount j
 IsSpelledRule (unit_at j) = IsCount j
 IsSpelledRule (void_at j) = IsCount j
+IsSpelledRule (push_at j) = IsCount j
+IsSpelledRule (void_no_at j) = IsCount j
 IsSpelledRule (case_at j) = IsCount j
 IsSpelledRule (stuck_at j) = IsCount j
 IsSpelledRule (by_lemma i) = IsCount i

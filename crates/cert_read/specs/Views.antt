@@ -3,8 +3,8 @@ use Rattle.dyadic.specs.Views.{dyadic_of}
 use Rattle.cert_read.specs.declared.line.BoolSet.{BoolSet}
 use Rattle.cert_read.specs.declared.line.BoolSet.TheVariants as set
 use Rattle.cert_read.specs.declared.line.Line.{Line}
-use Rattle.cert_read.specs.declared.line.Line.TheVariants.{Version, Margin, Delta, Bound, Cover, Point, Tree, End, Lemma, RealInterval, RealValue, Bool, Yes, No, Pull, Unit, Void, Case, Stuck, By, Ban, Cut, Flip, False, Open, Empty}
-use Rattle.cert_read.specs.CertLine.{BoolWord, says_false, says_true, says_both, pull_at, unit_at, void_at, case_at, stuck_at, by_lemma, ban_by, cut_at, flip_at, false_here, open_here, CertLine, version, margin, delta, bound, cover, point_word, tree_word, end_word, lemma, real_interval, real_value, bool_value, yes_list, no_list, rule_line, crossing}
+use Rattle.cert_read.specs.declared.line.Line.TheVariants.{Version, Margin, Delta, Bound, Cover, Point, Tree, End, Lemma, RealInterval, RealValue, Bool, Yes, No, Pull, Unit, Void, Push, VoidNo, Case, Stuck, By, Ban, Cut, Flip, False, Open, Empty}
+use Rattle.cert_read.specs.CertLine.{BoolWord, says_false, says_true, says_both, pull_at, unit_at, void_at, push_at, void_no_at, case_at, stuck_at, by_lemma, ban_by, cut_at, flip_at, false_here, open_here, CertLine, version, margin, delta, bound, cover, point_word, tree_word, end_word, lemma, real_interval, real_value, bool_value, yes_list, no_list, rule_line, crossing}
 
 abbrev pub bool_word_of : BoolSet → BoolWord
 bool_word_of set.False = says_false
@@ -29,6 +29,8 @@ line_of (No js) = no_list js.items
 line_of (Pull j) = rule_line (pull_at j)
 line_of (Unit j) = rule_line (unit_at j)
 line_of (Void j) = rule_line (void_at j)
+line_of (Push j) = rule_line (push_at j)
+line_of (VoidNo j) = rule_line (void_no_at j)
 line_of (Case j) = rule_line (case_at j)
 line_of (Stuck j) = rule_line (stuck_at j)
 line_of (By i) = rule_line (by_lemma i)

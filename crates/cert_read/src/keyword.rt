@@ -21,6 +21,8 @@ pub(crate) enum Keyword {
     Pull,
     Unit,
     Void,
+    Push,
+    VoidNo,
     Case,
     Stuck,
     By,
@@ -90,6 +92,12 @@ fn rule_keyword_in(word: &[u8]) -> Option<Keyword>
     }
     if word == b"void".as_slice() {
         return Some(Keyword::Void);
+    }
+    if word == b"push".as_slice() {
+        return Some(Keyword::Push);
+    }
+    if word == b"voidno".as_slice() {
+        return Some(Keyword::VoidNo);
     }
     if word == b"case".as_slice() {
         return Some(Keyword::Case);

@@ -46,6 +46,10 @@ pub enum Line {
     Unit(u32),
     /// `void`, with an atom.
     Void(u32),
+    /// `push`, with an atom.
+    Push(u32),
+    /// `voidno`, with an atom.
+    VoidNo(u32),
     /// `case`, with an atom.
     Case(u32),
     /// `stuck`, with an atom.

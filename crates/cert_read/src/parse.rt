@@ -149,6 +149,8 @@ fn with_count(word: Keyword, text: &[u8]) -> Result<Line, LineFault>
         Keyword::Pull => Ok(Line::Pull(count(text)?)),
         Keyword::Unit => Ok(Line::Unit(count(text)?)),
         Keyword::Void => Ok(Line::Void(count(text)?)),
+        Keyword::Push => Ok(Line::Push(count(text)?)),
+        Keyword::VoidNo => Ok(Line::VoidNo(count(text)?)),
         Keyword::Case => Ok(Line::Case(count(text)?)),
         Keyword::Stuck => Ok(Line::Stuck(count(text)?)),
         Keyword::By => Ok(Line::By(count(text)?)),

@@ -46,10 +46,10 @@ kept_appended xs l a b c p q =
     subst (λ (ls : List CertLine). HasAppended a ls c) (sym (rules_append (map step_line xs) (l ∷ []) ∙ ap (λ (ls : List CertLine). ls ++ (rule_line (line_of l) ∷ [])) (sym (map_twice (λ (x : Line). rule_line (line_of x)) step_line xs))))
     (both_appended a b c (map (λ (s : Step). rule_line (line_of (step_line s))) xs) (rule_line (line_of l) ∷ []) p q)
 
-pub header_appended : (s : Loosenings) (o o' : Option ℕ) (a b c d e : List ℕ) → o ≡ o' → HasAppended a (version 1 ∷ []) b → HasAppended b (margin s.margin_bits ∷ []) c → HasAppended c (delta s.delta_bits ∷ []) d → HasAppended d (bound o' ∷ []) e →
+pub header_appended : (s : Loosenings) (o o' : Option ℕ) (a b c d e : List ℕ) → o ≡ o' → HasAppended a (version s.version ∷ []) b → HasAppended b (margin s.margin_bits ∷ []) c → HasAppended c (delta s.delta_bits ∷ []) d → HasAppended d (bound o' ∷ []) e →
     HasAppended a (header_lines s o) e
 header_appended s o o' a b c d e q f g h k = subst (λ (x : Option ℕ). HasAppended a (header_lines s x) e) (sym q)
-    (both_appended a b e (version 1 ∷ []) _ f (both_appended b c e (margin s.margin_bits ∷ []) _ g (both_appended c d e (delta s.delta_bits ∷ []) (bound o' ∷ []) h k)))
+    (both_appended a b e (version s.version ∷ []) _ f (both_appended b c e (margin s.margin_bits ∷ []) _ g (both_appended c d e (delta s.delta_bits ∷ []) (bound o' ∷ []) h k)))
 
 -- ---- lemmas
 

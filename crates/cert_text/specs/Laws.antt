@@ -8,7 +8,7 @@ use Rattle.cover_model.specs.Honest.{is_honest, not_shown}
 use Rattle.cover_model.specs.Derivation.{Tree}
 use Rattle.cover_model.specs.Fits.{IsShownAt}
 use Rattle.cert_model.specs.Due.{Standing, at_point, left_open}
-use Rattle.cert_model.specs.Accepted.{IsAccepted, loosenings_fit}
+use Rattle.cert_model.specs.Accepted.{IsAccepted, is_header}
 use Rattle.cert_model.specs.Standing.{Stands, standing, IsHonest, branches}
 use Rattle.cert_model.specs.AnswerText.{has_open}
 use Rattle.cert_model.specs.Written.{point_lines}
@@ -46,7 +46,7 @@ CrossedTextIsAccepted = (b : BookModel) → IsBook b → (i : ℕ) → first_cro
 
 -- The text of a point that is shown is accepted with the point.
 abbrev pub PointTextIsAccepted : Type 0
-PointTextIsAccepted = (p : Problem) (bound : Option ℕ) (s : Loosenings) → IsTrue (loosenings_fit s.margin_bits s.delta_bits) → (space : Space) → IsShownAt p s space → CanBeWritten (point_lines s bound space) →
+PointTextIsAccepted = (p : Problem) (bound : Option ℕ) (s : Loosenings) → IsTrue (is_header s) → (space : Space) → IsShownAt p s space → CanBeWritten (point_lines s bound space) →
     IsAccepted p bound (point_text s bound space) s (at_point space)
 
 -- an open state is left exactly where a node is live, and nothing exactly where no node is live or stuck

@@ -1,7 +1,7 @@
 -- Lines that are appended to a text, and the forms in which the code has them.
 use Rattle.std.specs.Prelude.{◌≡◌, ℕ, List, [], ◌∷◌, ◌++◌, Bool, true, false, Some, None, codes, decimal}
 use Rattle.std.specs.List.{AllByRecursion}
-use Rattle.cert_read.specs.CertLine.{says_false, says_true, says_both, pull_at, unit_at, void_at, case_at, stuck_at, by_lemma, flip_at, false_here, open_here, CertLine, version, margin, delta, bound, cover, point_word, tree_word, end_word, lemma, bool_value, yes_list, no_list, rule_line, crossing}
+use Rattle.cert_read.specs.CertLine.{says_false, says_true, says_both, pull_at, unit_at, void_at, push_at, void_no_at, case_at, stuck_at, by_lemma, flip_at, false_here, open_here, CertLine, version, margin, delta, bound, cover, point_word, tree_word, end_word, lemma, bool_value, yes_list, no_list, rule_line, crossing}
 use Rattle.cert_read.specs.LineText.{IsSpelled}
 use Rattle.poly_graph.specs.Marks.{Mark, is_yes, is_no, numbers_from}
 use Rattle.cert_model.specs.Accepted.{certificate_text}
@@ -51,6 +51,8 @@ counted_line counted.Lemma n = lemma n
 counted_line counted.Pull n = rule_line (pull_at n)
 counted_line counted.Unit n = rule_line (unit_at n)
 counted_line counted.Void n = rule_line (void_at n)
+counted_line counted.Push n = rule_line (push_at n)
+counted_line counted.VoidNo n = rule_line (void_no_at n)
 counted_line counted.Case n = rule_line (case_at n)
 counted_line counted.Stuck n = rule_line (stuck_at n)
 counted_line counted.By n = rule_line (by_lemma n)
@@ -67,6 +69,8 @@ counted_word counted.Lemma = codes "lemma"
 counted_word counted.Pull = codes "pull"
 counted_word counted.Unit = codes "unit"
 counted_word counted.Void = codes "void"
+counted_word counted.Push = codes "push"
+counted_word counted.VoidNo = codes "voidno"
 counted_word counted.Case = codes "case"
 counted_word counted.Stuck = codes "stuck"
 counted_word counted.By = codes "by"

@@ -15,7 +15,7 @@ use Rattle.cert_model.specs.Written.{rule_lines, lemmas_lines}
 use Rattle.cert_text.specs.Lines.{HasAppended, most_atoms}
 
 abbrev pub header_lines : Loosenings → Option ℕ → List CertLine
-header_lines s b = version 1 ∷ margin s.margin_bits ∷ delta s.delta_bits ∷ bound b ∷ []
+header_lines s b = version s.version ∷ margin s.margin_bits ∷ delta s.delta_bits ∷ bound b ∷ []
 
 -- steps, and the end
 abbrev pub kept_lines : Lines → List Line

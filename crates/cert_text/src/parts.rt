@@ -24,11 +24,14 @@ use cover_rule::{End, Options, Step};
 use ival::{Domain, Space, Truths};
 use std::alloc::AllocError;
 
+// The version of the format that is written.
+const VERSION: u32 = 2;
+
 /// Appends the version, the margin, the delta and the bound.
 pub(crate) fn append_header(text: &mut Vec<u8>, options: &Options) -> Result<(), AllocError>
     ensures { OnOk result (HasAppended text.old.items (header_lines (loosenings_of (margins_of options.now)) options.now.bound) text.new.items) }
 {
-    append_counted(text, Counted::Version, 1)?;
+    append_counted(text, Counted::Version, VERSION)?;
     append_counted(text, Counted::Margin, options.margin_bits)?;
     append_counted(text, Counted::Delta, options.delta_bits)?;
     match options.bound {
@@ -85,6 +88,7 @@ fn append_step(text: &mut Vec<u8>, step: Step) -> Result<(), AllocError>
 {
     match step {
         Step::Pull(atom) => append_counted(text, Counted::Pull, atom),
+        Step::Push(atom) => append_counted(text, Counted::Push, atom),
         Step::Unit(atom) => append_counted(text, Counted::Unit, atom),
         Step::Ban(atom, lemma) => append_ban(text, atom, lemma),
     }
@@ -95,6 +99,7 @@ fn append_end(text: &mut Vec<u8>, end: End) -> Result<(), AllocError>
 {
     match end {
         End::Void(atom) => append_counted(text, Counted::Void, atom),
+        End::VoidNo(atom) => append_counted(text, Counted::VoidNo, atom),
         End::False => append_plain(text, Plain::False),
         End::By(lemma) => append_counted(text, Counted::By, lemma),
         End::Cut(axis, at) => append_cut(text, axis, at),

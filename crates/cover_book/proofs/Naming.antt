@@ -8,10 +8,10 @@ use Rattle.std.proofs.lemmas.List.{length-set}
 use Rattle.dyadic.proofs.Equal.{both_true, both_pass}
 use Rattle.interval_model.specs.Space.{Domain, real_domain, bool_domain, Space, is_upright_domain, is_upright, test_axis, strictly_inside, is_undecided}
 use Rattle.cover_model.specs.Space.{IsGridSpace}
-use Rattle.poly_graph.specs.Problem.{Declared, real_between, any_bool, Axis, Problem, IsProblem}
-use Rattle.poly_graph.specs.Marks.{Mark, is_yes, mark_at, undecided_in, marked_yes, marked_no}
-use Rattle.cover_model.specs.State.{State, Loosenings, in_yes, undecided, with_yes, with_no, with_space}
-use Rattle.cover_model.specs.Rules.{Line, pull, unit, ban, void, make_false, by, cut, flip, case, open_line, stuck, Left, closed, one, stays, rule, when, pulled, voided, narrowing, is_stuck_atom}
+use Rattle.poly_graph.specs.Problem.{Declared, real_between, any_bool, Axis, Problem, IsProblem, atom_at}
+use Rattle.poly_graph.specs.Marks.{Mark, is_yes, is_no, mark_at, undecided_in, marked_yes, marked_no}
+use Rattle.cover_model.specs.State.{State, Loosenings, in_yes, in_no, undecided, with_yes, with_no, with_space}
+use Rattle.cover_model.specs.Rules.{Line, pull, unit, ban, void, push, void_no, make_false, by, cut, flip, case, open_line, stuck, Left, closed, one, stays, rule, when, pulled, voided, narrowing, narrowing_off, has_version_2, is_one_sided, in_no_one_sided, can_push, is_stuck_atom}
 use Rattle.cover_model.specs.Honest.{is_honest, not_shown, settled, is_small, none_below}
 use Rattle.cover_model.specs.Fits.{FitsAxis, FitsAxes, FitsProblem}
 use Rattle.cover_model.proofs.Stuck.{some_atom_is_stuck}
@@ -23,6 +23,11 @@ use Rattle.cover_data.specs.Runs.{StepsLead, AreKept, IsEnding, IsRun}
 use Rattle.cover_book.specs.Names.{RunNamesWell}
 
 -- ---- what marks and tests say of numbers
+
+no-below : (marks : List Mark) (j : ℕ) → IsTrue (is_no (mark_at marks j)) → j < length marks
+no-below [] j h = absurd (true≢false (sym h))
+no-below (m ∷ marks) zero h = omega arith
+no-below (m ∷ marks) (suc j) h = omega (arith, no-below marks j h)
 
 yes-below : (marks : List Mark) (j : ℕ) → IsTrue (is_yes (mark_at marks j)) → j < length marks
 yes-below [] j h = absurd (true≢false (sym h))
@@ -119,6 +124,9 @@ module _ (p : Problem) (g : IsProblem p) (m : Margins) (lemmas : List State) whe
   pulled-keeps S S' None h = cc
   pulled-keeps S S' (Some space) h = let e : S' ≡ with_space S space = cc in ap (λ (T : State). T.marks) e
 
+  in-no : (S : State) (j : ℕ) → IsTrue (can_push p s S j) → IsTrue (in_no S j)
+  in-no S j h = (both_true (in_no S j) (is_one_sided (atom_at p j).1) (both_true (has_version_2 s) (in_no_one_sided p S j) h).1).0
+
   step-names : (S S' : State) (l : Line) → HasMarks S → rule p s lemmas S l ≡ Some (one S') → IsTrue (names_well p l) × HasMarks S'
   step-names S S' (pull j) h e = let k = cond-true (in_yes S j) (pulled S (narrowing p s S j)) (one S') e in
       (atom-there S j h (yes-below S.marks j k.0), ap length (pulled-keeps S S' (narrowing p s S j) k.1) ∙ h)
@@ -127,6 +135,9 @@ module _ (p : Problem) (g : IsProblem p) (m : Margins) (lemmas : List State) whe
   step-names S S' (ban j i) h e = let k = both_true (undecided S j) _ (when-true _ _ _ e) in let q : S' ≡ with_no S j = marked _ (with_no S j) S' e in
       (atom-there S j h (undecided_below S.marks j k.0), ap (λ (T : State). length T.marks) q ∙ length-set S.marks j marked_no ∙ h)
   step-names S S' (void j) h e = let k = cond-true (in_yes S j) (voided (narrowing p s S j)) (one S') e in no_void (narrowing p s S j) k.1
+  step-names S S' (push j) h e = let k = cond-true (can_push p s S j) (pulled S (narrowing_off p s S j)) (one S') e in
+      (atom-there S j h (no-below S.marks j (in-no S j k.0)), ap length (pulled-keeps S S' (narrowing_off p s S j) k.1) ∙ h)
+  step-names S S' (void_no j) h e = let k = cond-true (can_push p s S j) (voided (narrowing_off p s S j)) (one S') e in no_void (narrowing_off p s S j) k.1
   step-names S S' make_false h e = no_when _ closed S' e (λ q. cc)
   step-names S S' (by i) h e = no_when _ closed S' e (λ q. cc)
   step-names S S' (cut axis c) h e = no_when _ _ S' e (λ q. cc)
@@ -144,6 +155,8 @@ module _ (p : Problem) (g : IsProblem p) (m : Margins) (lemmas : List State) whe
   end-names S f grid (unit j) e h = atom-there S j f.marks (undecided_below S.marks j (both_true (undecided S j) _ (ending-true _ _ e)).0)
   end-names S f grid (ban j i) e h = atom-there S j f.marks (undecided_below S.marks j (both_true (undecided S j) _ (ending-true _ _ e)).0)
   end-names S f grid (void j) e h = atom-there S j f.marks (yes-below S.marks j (ending-cond (in_yes S j) _ e))
+  end-names S f grid (push j) e h = atom-there S j f.marks (no-below S.marks j (in-no S j (ending-cond (can_push p s S j) _ e)))
+  end-names S f grid (void_no j) e h = atom-there S j f.marks (no-below S.marks j (in-no S j (ending-cond (can_push p s S j) _ e)))
   end-names S f grid make_false e h = refl
   end-names S f grid (by i) e h = refl
   end-names S f grid (cut axis c) e h = le-leb (suc axis) (length p.axes) (omega (arith, axes_length p.axes S.space f.axes, tested-below (strictly_inside c) axis S.space (ending-true _ _ e)))

@@ -23,7 +23,7 @@ pub fn ending_of(alloc: Global, end: End, state: State) -> Result<Ending, AllocE
     ensures { IfOk result (λ x. IsEndingOf (end_line end) state x) }
 {
     match end {
-        End::Void(_) | End::False | End::By(_) => Ok(Ending::Closed),
+        End::Void(_) | End::VoidNo(_) | End::False | End::By(_) => Ok(Ending::Closed),
         End::Stuck(_) => Ok(Ending::Stuck(state)),
         End::Cut(axis, cut) => {
             let mut upper = state.try_clone(alloc)?;

@@ -17,4 +17,4 @@ margins_of o = record { delta_bits = o.delta_bits; margin_bits = o.margin_bits; 
 
 -- the margin and the delta, as the definitions of a cover take them
 abbrev pub loosenings_of : Margins → Loosenings
-loosenings_of m = record { margin_bits = m.margin_bits; delta_bits = m.delta_bits }
+loosenings_of m = record { margin_bits = m.margin_bits; delta_bits = m.delta_bits; version = 2 }

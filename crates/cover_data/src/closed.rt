@@ -61,6 +61,7 @@ impl KeptPatch {
     {
         match self.end {
             Some(End::Void(_)) => true,
+            Some(End::VoidNo(_)) => true,
             Some(End::False) => true,
             Some(End::By(_)) => true,
             Some(End::Cut(_, _)) => false,
@@ -76,7 +77,7 @@ impl KeptPatch {
         ensures { MatchResult result (λ c. (c ≡ kept_of self) × IsClosed (kept_of self)) (λ k. (k ≡ self) × ¬ IsClosed (kept_of self)) }
     {
         match self.end {
-            Some(End::Void(_)) | Some(End::False) | Some(End::By(_)) => {
+            Some(End::Void(_)) | Some(End::VoidNo(_)) | Some(End::False) | Some(End::By(_)) => {
                 Ok(ClosedPatch { kept: self })
             }
             _ => Err(self),

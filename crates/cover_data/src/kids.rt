@@ -66,6 +66,7 @@ impl KeptPatch {
             Some(End::Flip(axis)) => Ok(Some(flipped(alloc, &self.reached, axis)?)),
             Some(End::Case(j)) => Ok(Some(cases(alloc, &self.reached, j)?)),
             Some(End::Void(_)) => Ok(None),
+            Some(End::VoidNo(_)) => Ok(None),
             Some(End::False) => Ok(None),
             Some(End::By(_)) => Ok(None),
             Some(End::Stuck(_)) => Ok(None),

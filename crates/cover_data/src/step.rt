@@ -7,6 +7,7 @@ pub enum Step {
     Pull(u32),
     Unit(u32),
     Ban(u32, u32),
+    Push(u32),
 }
 
 /// An end: it closes the state, parts it in two, or leaves it as a stuck one. Numbers are those of atoms, of
@@ -14,6 +15,7 @@ pub enum Step {
 #[derive(Clone, Copy, PartialEq, Eq, Debug)]
 pub enum End {
     Void(u32),
+    VoidNo(u32),
     False,
     By(u32),
     Cut(u32, Dy),

@@ -11,7 +11,7 @@ use Rattle.cover_model.specs.Narrowed.{narrowed_by}
 use Rattle.cover_model.specs.OffRange.{off_range}
 use Rattle.cover_model.specs.Root.{root_space}
 use Rattle.cover_model.specs.State.{State, Loosenings, root_state, with_yes, with_no, with_space, atom_enclosure, may}
-use Rattle.cover_model.specs.Rules.{make_false, unit, cut, stuck, one, two, lemma_covers, narrowing, rule}
+use Rattle.cover_model.specs.Rules.{make_false, unit, push, void_no, cut, stuck, closed, one, two, lemma_covers, narrowing, rule}
 use Rattle.cover_model.specs.Derivation.{leaf, left_of}
 use Rattle.cover_model.specs.Honest.{is_honest}
 
@@ -29,7 +29,7 @@ abbrev pub minus_dyadic : ℕ → ℕ → Dyadic
 minus_dyadic m k = record { units = negsuc (m * 2 ^ (120 - k) - 1) }
 
 abbrev pub loosenings : Loosenings
-loosenings = record { margin_bits = 20; delta_bits = 10 }
+loosenings = record { margin_bits = 20; delta_bits = 10; version = 2 }
 
 abbrev pub axis : ℕ → Fraction → Fraction → Axis
 axis name l h = record { name = name ∷ []; declared = real_between l h }
@@ -170,16 +170,43 @@ quarter = record {
   form = all_form (more_forms (atom_is 0) no_forms);
 }
 
-quarter_off : narrowed_by quarter.nodes 3 (off_range (dyadic 1 20) le) (root_space quarter) ≡ Some (real_domain (dyadic 262145 20) (dyadic 1 0) ∷ [])
+abbrev pub quarter_state : State
+quarter_state = with_no (root_state quarter) 0
+
+quarter_off : rule quarter loosenings [] quarter_state (push 0) ≡ Some (one (with_space quarter_state (real_domain (dyadic 262145 20) (dyadic 1 0) ∷ [])))
 unfolding Rattle.dyadic.specs.Fraction.negated Rattle.dyadic.specs.Fraction.sum_of Rattle.dyadic.specs.Fraction.product_of Rattle.dyadic.specs.Fraction.quotient_of Rattle.dyadic.specs.Fraction.at_most
 quarter_off = refl
 
+-- under version 1 there is no such line, nor is there where the atom is not marked no
+abbrev pub first_loosenings : Loosenings
+first_loosenings = record { margin_bits = 20; delta_bits = 10; version = 1 }
+
+quarter_off_first : rule quarter first_loosenings [] quarter_state (push 0) ≡ None
+unfolding Rattle.dyadic.specs.Fraction.negated Rattle.dyadic.specs.Fraction.sum_of Rattle.dyadic.specs.Fraction.product_of Rattle.dyadic.specs.Fraction.quotient_of Rattle.dyadic.specs.Fraction.at_most
+quarter_off_first = refl
+
+quarter_off_unmarked : rule quarter loosenings [] (root_state quarter) (push 0) ≡ None
+unfolding Rattle.dyadic.specs.Fraction.negated Rattle.dyadic.specs.Fraction.sum_of Rattle.dyadic.specs.Fraction.product_of Rattle.dyadic.specs.Fraction.quotient_of Rattle.dyadic.specs.Fraction.at_most
+quarter_off_unmarked = refl
+
 -- from 0 to 1/4 there is no such x
-quarter_off_below : narrowed_by quarter.nodes 3 (off_range (dyadic 1 20) le) (real_domain (dyadic 0 0) (dyadic 1 2) ∷ []) ≡ None
+abbrev pub quarter_low : State
+quarter_low = with_space quarter_state (real_domain (dyadic 0 0) (dyadic 1 2) ∷ [])
+
+quarter_off_below : rule quarter loosenings [] quarter_low (void_no 0) ≡ Some closed
 unfolding Rattle.dyadic.specs.Fraction.negated Rattle.dyadic.specs.Fraction.sum_of Rattle.dyadic.specs.Fraction.product_of Rattle.dyadic.specs.Fraction.quotient_of Rattle.dyadic.specs.Fraction.at_most
 quarter_off_below = refl
+
+quarter_off_left : rule quarter loosenings [] quarter_state (void_no 0) ≡ None
+unfolding Rattle.dyadic.specs.Fraction.negated Rattle.dyadic.specs.Fraction.sum_of Rattle.dyadic.specs.Fraction.product_of Rattle.dyadic.specs.Fraction.quotient_of Rattle.dyadic.specs.Fraction.at_most
+quarter_off_left = refl
 
 -- x >= 1/4, where the atom fails: x is below 1/4 by more than the margin
 quarter_off_above : narrowed_by quarter.nodes 3 (off_range (dyadic 1 20) ge) (root_space quarter) ≡ Some (real_domain (dyadic 0 0) (dyadic 262143 20) ∷ [])
 unfolding Rattle.dyadic.specs.Fraction.negated Rattle.dyadic.specs.Fraction.sum_of Rattle.dyadic.specs.Fraction.product_of Rattle.dyadic.specs.Fraction.quotient_of Rattle.dyadic.specs.Fraction.at_most
 quarter_off_above = refl
+
+-- an equation that fails narrows nothing
+difference_off : rule difference loosenings [] (with_no (root_state difference) 0) (push 0) ≡ None
+unfolding Rattle.dyadic.specs.Fraction.negated Rattle.dyadic.specs.Fraction.sum_of Rattle.dyadic.specs.Fraction.product_of Rattle.dyadic.specs.Fraction.quotient_of Rattle.dyadic.specs.Fraction.at_most
+difference_off = refl

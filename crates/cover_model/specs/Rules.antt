@@ -1,15 +1,17 @@
 -- The lines of a cover, each with its condition on a state and the states that it leaves.
-use Rattle.std.specs.Prelude.{ℕ, List, Bool, true, false, cond, not, ◌&&◌, Option, Some, None, slice_get}
+use Rattle.std.specs.Prelude.{ℕ, List, Bool, true, false, cond, not, ◌&&◌, Option, Some, None, nat_le, slice_get}
 use Rattle.dyadic.specs.Rounding.{Dyadic}
+use Rattle.poly_graph.specs.Term.{Kind, le, ge, eq}
 use Rattle.interval_model.specs.Space.{Domain, Space, strictly_inside, lower_part, upper_part, is_undecided, keep, changed, test_axis}
 use Rattle.cover_model.specs.Space.{range}
 use Rattle.poly_graph.specs.Problem.{Problem, atom_at}
 use Rattle.cover_model.specs.State.{State, Loosenings, margin_of, delta_of, in_yes, in_no, undecided, with_yes, with_no, with_space, may, misses, sure_at, covers}
 use Rattle.cover_model.specs.Narrowed.{narrowed_by}
+use Rattle.cover_model.specs.OffRange.{off_range}
 
--- numbers of atoms for pull, unit, void, case and stuck; an atom and a lemma for ban; a lemma for by; an axis for cut and flip
+-- numbers of atoms for pull, unit, void, push, void_no, case and stuck; an atom and a lemma for ban; a lemma for by; an axis for cut and flip
 pub data Line : Type 0 where
-  pull unit void : ℕ → Line
+  pull unit void push void_no : ℕ → Line
   ban : ℕ → ℕ → Line
   make_false : Line
   by : ℕ → Line
@@ -29,6 +31,28 @@ pub data Left : Type 0 where
 -- the space narrowed by atom j, none where nothing is left
 abbrev pub narrowing : Problem → Loosenings → State → ℕ → Option Space
 narrowing p s S j = narrowed_by p.nodes (atom_at p j).0 (range (margin_of s) (atom_at p j).1) S.space
+
+-- the same by its off-range, where it fails
+abbrev pub narrowing_off : Problem → Loosenings → State → ℕ → Option Space
+narrowing_off p s S j = narrowed_by p.nodes (atom_at p j).0 (off_range (margin_of s) (atom_at p j).1) S.space
+
+-- an inequality, whose off-range is less than all values
+abbrev pub is_one_sided : Kind → Bool
+is_one_sided le = true
+is_one_sided ge = true
+is_one_sided eq = false
+
+-- atom j is marked no, and is an inequality
+abbrev pub in_no_one_sided : Problem → State → ℕ → Bool
+in_no_one_sided p S j = in_no S j && is_one_sided (atom_at p j).1
+
+-- the lines of version 2 are among those that are read
+abbrev pub has_version_2 : Loosenings → Bool
+has_version_2 s = nat_le 2 s.version
+
+-- atom j, which fails, may narrow the space
+abbrev pub can_push : Problem → Loosenings → State → ℕ → Bool
+can_push p s S j = has_version_2 s && in_no_one_sided p S j
 
 -- ---- lemmas
 
@@ -69,6 +93,8 @@ rule p s lemmas S (pull j) = cond (in_yes S j) (pulled S (narrowing p s S j)) No
 rule p s lemmas S (unit j) = when (undecided S j && not (may p s (with_no S j))) (one (with_yes S j))
 rule p s lemmas S (ban j i) = when (undecided S j && lemma_covers lemmas i (with_yes S j)) (one (with_no S j))
 rule p s lemmas S (void j) = cond (in_yes S j) (voided (narrowing p s S j)) None
+rule p s lemmas S (push j) = cond (can_push p s S j) (pulled S (narrowing_off p s S j)) None
+rule p s lemmas S (void_no j) = cond (can_push p s S j) (voided (narrowing_off p s S j)) None
 rule p s lemmas S make_false = when (not (may p s S)) closed
 rule p s lemmas S (by i) = when (lemma_covers lemmas i S) closed
 rule p s lemmas S (cut axis c) = when (test_axis (strictly_inside c) axis S.space)

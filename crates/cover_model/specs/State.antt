@@ -16,10 +16,12 @@ pub record State : Type 0 where
   pub space : Space
   pub marks : List Mark
 
--- the loosenings of pruning, 2^-margin_bits, and of points, 2^-delta_bits
+-- what the lines of a cover are read by: the loosenings of pruning, 2^-margin_bits, and of points, 2^-delta_bits, and the
+-- version of the certificate's format, which says what lines there are
 pub record Loosenings : Type 0 where
   pub margin_bits : ℕ
   pub delta_bits : ℕ
+  pub version : ℕ
 
 abbrev pub margin_of : Loosenings → Dyadic
 margin_of s = two_to_minus s.margin_bits

@@ -8,4 +8,4 @@
 pub mod laws;
 mod range;
 
-pub use range::{off_range_ends, range_ends};
+pub use range::{is_one_sided, off_range_ends, range_ends};

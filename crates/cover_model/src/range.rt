@@ -4,6 +4,7 @@ ghost use Rattle.dyadic.specs.Rounding.{two_to_minus};
 ghost use Rattle.interval_model.specs.Interval.{between};
 ghost use Rattle.dyadic.specs.Views.{ext_of};
 ghost use Rattle.cover_model.specs.OffRange.{off_range};
+ghost use Rattle.cover_model.specs.Rules.{is_one_sided};
 ghost use Rattle.cover_model.specs.Space.{range};
 ghost use Rattle.poly_graph.specs.Views.{kind_of};
 
@@ -34,5 +35,16 @@ pub fn off_range_ends(kind: Kind, loosen: u32) -> (Ext, Ext)
         Kind::Le => (Ext::Fin(margin), Ext::PosInf),
         Kind::Ge => (Ext::NegInf, Ext::Fin(margin.neg())),
         Kind::Eq => (Ext::NegInf, Ext::PosInf),
+    }
+}
+
+/// Whether it is an inequality, so that its off-range is less than all values.
+pub fn is_one_sided(kind: Kind) -> bool
+    ensures { result ≡ is_one_sided (kind_of kind) }
+{
+    match kind {
+        Kind::Le => true,
+        Kind::Ge => true,
+        Kind::Eq => false,
     }
 }

@@ -239,7 +239,7 @@ const BRANCH: [Commit; 4] = [
 ];
 
 // A branch, with a lemma of its own that nothing quotes.
-const OPEN_BRANCH: &str = "dpoly 1
+const OPEN_BRANCH: &str = "dpoly 2
 margin 20
 delta 10
 bound none
@@ -303,7 +303,7 @@ const STUCK: [Commit; 1] = [Commit {
     reply: Ok(Kids::None),
 }];
 
-const STUCK_ROOT: &str = "dpoly 1
+const STUCK_ROOT: &str = "dpoly 2
 margin 20
 delta 10
 bound none
@@ -399,7 +399,7 @@ const COVER: [Commit; 5] = [
 ];
 
 // A cut is honest only where each conjunct is marked.
-const MARKED_COVER: &str = "dpoly 1
+const MARKED_COVER: &str = "dpoly 2
 margin 20
 delta 10
 bound none

@@ -50,7 +50,7 @@ fn an_open_box_is_written(rt: HostRuntime) -> Result<(), Fail> {
     let text = write_cover(alloc, &book)?;
     assert!(rt;
         text.as_slice()
-            == b"dpoly 1\nmargin 30\ndelta 20\nbound none\ncover 0\ntree\nopen\nend\n".as_slice()
+            == b"dpoly 2\nmargin 30\ndelta 20\nbound none\ncover 0\ntree\nopen\nend\n".as_slice()
     );
     assert!(rt; first_stuck(alloc, &book)?.is_none());
     Ok(())
@@ -67,7 +67,7 @@ fn a_point_is_written(rt: HostRuntime) -> Result<(), Fail> {
             let text = write_point(alloc, &problem, &asked, &point)?;
             assert!(rt;
                 text.as_slice()
-                    == b"dpoly 1\nmargin 30\ndelta 20\nbound 1000\npoint\nend\n".as_slice()
+                    == b"dpoly 2\nmargin 30\ndelta 20\nbound 1000\npoint\nend\n".as_slice()
             );
         }
         None => assert!(rt; false),

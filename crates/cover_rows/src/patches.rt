@@ -98,6 +98,8 @@ const NOT_STUCK: Answer = Err(PatchRefusal::NotStuck);
 
 const NOT_YES: Answer = Err(PatchRefusal::NotYes);
 
+const NOT_NO: Answer = Err(PatchRefusal::NotNo);
+
 const NOT_INSIDE: Answer = Err(PatchRefusal::NotInside);
 
 const NOT_COVERED: Answer = Err(PatchRefusal::NotCovered);
@@ -159,6 +161,8 @@ fn answer_at_atom(book: &Book, patch: &mut Patch, line: &Line) -> Option<Answer>
         Line::Pull(j) if is_atom(book, *j) => Some(patch.pull(*j)),
         Line::Unit(j) if is_atom(book, *j) => Some(patch.unit(*j)),
         Line::Void(j) if is_atom(book, *j) => Some(patch.void(*j)),
+        Line::Push(j) if is_atom(book, *j) => Some(patch.push(*j)),
+        Line::VoidNo(j) if is_atom(book, *j) => Some(patch.void_no(*j)),
         Line::Case(j) if is_atom(book, *j) => Some(patch.case(*j)),
         Line::Stuck(j) if is_atom(book, *j) => Some(patch.stuck(*j)),
         _ => None,
@@ -299,6 +303,7 @@ fn is_end(line: &Line, end: End) -> bool {
     match line {
         Line::False => end == End::False,
         Line::Void(j) => end == End::Void(*j),
+        Line::VoidNo(j) => end == End::VoidNo(*j),
         Line::By(id) => end == End::By(*id),
         _ => false,
     }
@@ -727,6 +732,53 @@ const BY_LEMMA: [(Case, &[Step], &str); 3] = [
 fn a_lemma_closes_and_a_refusal_changes_nothing(rt: HostRuntime) {
     for (case, steps, end) in BY_LEMMA {
         assert!(rt; closes_by_lemma(rt.alloc(), case, steps, end));
+    }
+}
+
+// ---- an atom that fails: x is not at most 1/4
+
+const PUSHED: [(Case, &[&str]); 1] = [(
+    Case {
+        script: OUTSIDE,
+        least_bits: 20,
+        state: &["real 0 1b0", "no 3 4"],
+        lines: &[
+            ("pull 3", NOT_YES),
+            ("push 2", NOT_NO),
+            ("push 4", NOT_NO),
+            ("voidno 2", NOT_NO),
+            ("voidno 4", NOT_NO),
+            ("voidno 3", NOT_FALSE),
+            ("push 3", DONE),
+        ],
+    },
+    &["real 262145b-20 1b0", "no 3 4"],
+)];
+
+const CLOSED_BY_FAILURE: [(Case, &[Step], &str); 1] = [(
+    Case {
+        script: OUTSIDE,
+        least_bits: 20,
+        state: &["real 0 1b-2", "no 3"],
+        lines: &[
+            ("push 3", Err(PatchRefusal::IsVoid)),
+            ("void 3", NOT_YES),
+            ("voidno 3", DONE),
+            ("push 3", ENDED),
+            ("voidno 3", ENDED),
+        ],
+    },
+    &[],
+    "voidno 3",
+)];
+
+#[test]
+fn atoms_that_fail_narrow_and_close(rt: HostRuntime) {
+    for (case, state) in PUSHED {
+        assert!(rt; reaches(rt.alloc(), case, state));
+    }
+    for (case, steps, end) in CLOSED_BY_FAILURE {
+        assert!(rt; closes(rt.alloc(), case, steps, end));
     }
 }
 

@@ -121,7 +121,7 @@ pub(crate) const OUTSIDE: &str = "(declare-const x Real)
 (check-sat)";
 
 // A lemma of the whole interval with the last atom marked yes, up to its lines.
-pub(crate) const LEMMA: &str = "dpoly 1
+pub(crate) const LEMMA: &str = "dpoly 2
 margin 20
 delta 10
 bound none
@@ -237,7 +237,7 @@ fn a_closed_book_is_written_and_confirmed(rt: HostRuntime) -> Result<(), Fail> {
     let text = write_cover(alloc, &book)?;
     assert!(rt;
         text.as_slice()
-            == b"dpoly 1\nmargin 20\ndelta 10\nbound none\ncover 0\ntree\nfalse\nend\n".as_slice()
+            == b"dpoly 2\nmargin 20\ndelta 10\nbound none\ncover 0\ntree\nfalse\nend\n".as_slice()
     );
     assert_eq!(rt;
         verdict(alloc, &problem, &text, 1000),
@@ -288,7 +288,7 @@ fn the_middle_is_a_point(rt: HostRuntime) -> Result<(), Fail> {
     let text = middle_text(alloc, &book).ok_or("no point")?;
     assert!(rt;
         text.as_slice()
-            == b"dpoly 1\nmargin 20\ndelta 10\nbound none\npoint\nreal 1b-1\nend\n".as_slice()
+            == b"dpoly 2\nmargin 20\ndelta 10\nbound none\npoint\nreal 1b-1\nend\n".as_slice()
     );
     assert_eq!(rt;
         verdict(alloc, &problem, &text, 1000),
@@ -313,7 +313,7 @@ fn an_open_book_is_written(rt: HostRuntime) -> Result<(), Fail> {
     let text = write_cover(alloc, &book)?;
     assert!(rt;
         text.as_slice()
-            == b"dpoly 1\nmargin 20\ndelta 10\nbound none\ncover 0\ntree\nopen\nend\n".as_slice()
+            == b"dpoly 2\nmargin 20\ndelta 10\nbound none\ncover 0\ntree\nopen\nend\n".as_slice()
     );
     Ok(())
 }

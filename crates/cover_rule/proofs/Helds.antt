@@ -13,17 +13,17 @@ use Rattle.poly_graph.specs.Problem.{Declared, real_between, any_bool, Axis}
 use Rattle.poly_graph.specs.ProblemViews.{Parts, problem_of, IsWhole}
 use Rattle.cover_model.specs.State.{State, IsLemma, in_yes, undecided, with_yes, with_no, with_space, may, covers}
 use Rattle.poly_graph.specs.Marks.{marked_yes, marked_no}
-use Rattle.cover_model.specs.Rules.{Line, pull, unit, ban, void, make_false, by, cut, flip, case, stuck, Left, closed, one, stays, when, pulled, voided, covers_by, is_stuck_atom, rule}
+use Rattle.cover_model.specs.Rules.{Line, pull, unit, ban, void, push, void_no, make_false, by, cut, flip, case, stuck, Left, closed, one, stays, when, pulled, voided, covers_by, in_no_one_sided, is_stuck_atom, rule}
 use Rattle.cover_model.specs.Honest.{is_honest, is_small, is_some_space}
 use Rattle.cover_model.specs.Fits.{FitsAxis, FitsAxes}
 use Rattle.cover_data.specs.declared.margins.Margins.{Margins}
 use Rattle.cover_rule.specs.declared.refusal.PatchRefusal.{PatchRefusal}
-use Rattle.cover_rule.specs.declared.refusal.PatchRefusal.TheVariants.{NotYes, NotForced, NotCovered, NotFalse, NotInside, NotStuck, NotHonest, Ended, IsVoid, Decided, Memory}
+use Rattle.cover_rule.specs.declared.refusal.PatchRefusal.TheVariants.{NotYes, NotForced, NotCovered, NotFalse, NotInside, NotStuck, NotHonest, Ended, IsVoid, Decided, NotNo, Memory}
 use Rattle.cover_data.specs.Models.{LemmaModel}
 use Rattle.cover_rule.specs.Models.{PatchModel}
 use Rattle.cover_data.specs.Runs.{is_closing, CanPart, IsEnding, IsRun}
-use Rattle.cover_rule.specs.Patch.{problem_in, loosenings_in, now_in, IsRunOf, narrowing_in, space_or}
-use Rattle.cover_rule.specs.Refusals.{PullIfLessStep, unless, then_by, if_ended, honestly, pull_refusal, pulled_by, unit_refusal, forced_by, ban_refusal, banned_by, void_refusal, false_refusal, by_refusal, ended_with, covered_by, flip_refusal, case_refusal, stuck_refusal, cut_line, cut_test, cut_refusal, ended_if, cut_by, PatchAnswer}
+use Rattle.cover_rule.specs.Patch.{problem_in, loosenings_in, now_in, IsRunOf, narrowing_in, narrowing_off_in, space_or}
+use Rattle.cover_rule.specs.Refusals.{IfLessStep, unless, then_by, if_ended, honestly, pull_refusal, pulled_by, push_refusal, pushed_by, void_no_refusal, unit_refusal, forced_by, ban_refusal, banned_by, void_refusal, false_refusal, by_refusal, ended_with, covered_by, flip_refusal, case_refusal, stuck_refusal, cut_line, cut_test, cut_refusal, ended_if, cut_by, PatchAnswer}
 use Rattle.cover_rule.proofs.RunSteps.{run_steps, run_ends, kept_before, lemmas_and, alone, kept_alone, sound_alone, no_lemmas}
 use Rattle.cover_data.specs.declared.kept.KeptPatch.{KeptPatch}
 use Rattle.cover_rule.specs.declared.workspace.Workspace.{Workspace}
@@ -89,6 +89,7 @@ run_refused refusal P done Q NotHonest a h = subst IsRunOf (sym a.1) h
 run_refused refusal P done Q Ended a h = subst IsRunOf (sym a.1) h
 run_refused refusal P done Q IsVoid a h = subst IsRunOf (sym a.1) h
 run_refused refusal P done Q Decided a h = subst IsRunOf (sym a.1) h
+run_refused refusal P done Q NotNo a h = subst IsRunOf (sym a.1) h
 run_refused refusal P done Q Memory a h = subst IsRunOf (sym a.1) h
 
 pub run_after : (refusal : Option PatchRefusal) (P done Q : PatchModel) (r : Result (Unit {0}) PatchRefusal) → PatchAnswer refusal P done Q r → IsRunOf P → OnOk r (refusal ≡ None → IsRunOf done) → IsRunOf Q
@@ -103,13 +104,13 @@ pub any_ok : (A : Type 0) (r : Result (Unit {0}) PatchRefusal) → A → OnOk r 
 any_ok A (Ok u) h = h
 any_ok A (Err x) h = tt
 
--- the same of a pull that is made where it leaves less
-pub run_if_less : (P Q : PatchModel) (j : ℕ) (r : Result Bool PatchRefusal) → PullIfLessStep P j Q r → IsRunOf P →
-    (FitsAxes (problem_in P).axes (space_or (now_in P).space (narrowing_in P j)) → pull_refusal P j ≡ None → IsRunOf (pulled_by P j)) →
-    OnOk r (FitsAxes (problem_in P).axes (space_or (now_in P).space (narrowing_in P j))) → IsRunOf Q
-run_if_less P Q j (Ok true) a h k fits = run_after (pull_refusal P j) P (pulled_by P j) Q (Ok tt) a.1 h (k fits)
-run_if_less P Q j (Ok false) a h k fits = run_after (pull_refusal P j) P P Q (Ok tt) a.1 h (λ e. h)
-run_if_less P Q j (Err x) a h k fits = run_refused (pull_refusal P j) P (pulled_by P j) Q x a h
+-- the same of a step that is made where it leaves less, which fits
+pub run_if_less : (narrow : Option Space) (refusal : Option PatchRefusal) (P done Q : PatchModel) (r : Result Bool PatchRefusal) → IfLessStep narrow refusal P done Q r → IsRunOf P →
+    (FitsAxes (problem_in P).axes (space_or (now_in P).space narrow) → refusal ≡ None → IsRunOf done) →
+    OnOk r (FitsAxes (problem_in P).axes (space_or (now_in P).space narrow)) → IsRunOf Q
+run_if_less narrow refusal P done Q (Ok true) a h k fits = run_after refusal P done Q (Ok tt) a.1 h (k fits)
+run_if_less narrow refusal P done Q (Ok false) a h k fits = run_after refusal P P Q (Ok tt) a.1 h (λ e. h)
+run_if_less narrow refusal P done Q (Err x) a h k fits = run_refused refusal P done Q x a h
 
 -- the same of more than what is answered
 pub answers_lift : {X Y : Type 0} (f : X → Y) (refusal : Option PatchRefusal) (old done new : X) (r : Result (Unit {0}) PatchRefusal) → PatchAnswer refusal old done new r → PatchAnswer refusal (f old) (f done) (f new) r
@@ -124,6 +125,7 @@ answers_lift f refusal old done new (Err NotHonest) a = (a.0, ap f a.1)
 answers_lift f refusal old done new (Err Ended) a = (a.0, ap f a.1)
 answers_lift f refusal old done new (Err IsVoid) a = (a.0, ap f a.1)
 answers_lift f refusal old done new (Err Decided) a = (a.0, ap f a.1)
+answers_lift f refusal old done new (Err NotNo) a = (a.0, ap f a.1)
 answers_lift f refusal old done new (Err Memory) a = (a.0, ap f a.1)
 
 -- ---- steps
@@ -144,6 +146,15 @@ module _ (P : PatchModel) (whole : IsWhole P.problem) (r : IsRunOf P) where
       let b = neither (unless (in_yes (now_in P) j) NotYes) (unless (is_some_space (narrowing_in P j)) IsVoid) a.1 in
       let t = pulls (in_yes (now_in P) j) (now_in P) (narrowing_in P j) (passed (in_yes (now_in P) j) NotYes b.0) (passed (is_some_space (narrowing_in P j)) IsVoid b.1) in
       run_steps (problem_in P) whole.problem P.margins P.kept r (not_ended P a.0) (pull j) P.kept.quoted (with_space (now_in P) (space_or (now_in P).space (narrowing_in P j)))
+      (λ lemmas h. (h, t)) r.sound.quoted (record { axes = fits; marks = r.sound.reached.marks }) [] (no_lemmas (problem_in P) (loosenings_in P)) t
+
+  pub run_pushed : (j : ℕ) → FitsAxes (problem_in P).axes (space_or (now_in P).space (narrowing_off_in P j)) → push_refusal P j ≡ None → IsRunOf (pushed_by P j)
+  run_pushed j fits e =
+      let no = in_no_one_sided (problem_in P) (now_in P) j in
+      let a = neither (if_ended P.kept) (then_by (unless no NotNo) (unless (is_some_space (narrowing_off_in P j)) IsVoid)) e in
+      let b = neither (unless no NotNo) (unless (is_some_space (narrowing_off_in P j)) IsVoid) a.1 in
+      let t = pulls no (now_in P) (narrowing_off_in P j) (passed no NotNo b.0) (passed (is_some_space (narrowing_off_in P j)) IsVoid b.1) in
+      run_steps (problem_in P) whole.problem P.margins P.kept r (not_ended P a.0) (push j) P.kept.quoted (with_space (now_in P) (space_or (now_in P).space (narrowing_off_in P j)))
       (λ lemmas h. (h, t)) r.sound.quoted (record { axes = fits; marks = r.sound.reached.marks }) [] (no_lemmas (problem_in P) (loosenings_in P)) t
 
   pub run_forced : (j : ℕ) → unit_refusal P j ≡ None → IsRunOf (forced_by P j)
@@ -190,6 +201,13 @@ module _ (P : PatchModel) (whole : IsWhole P.problem) (r : IsRunOf P) where
       let a = neither (if_ended P.kept) (then_by (unless u NotYes) (unless v NotFalse)) e in
       let b = neither (unless u NotYes) (unless v NotFalse) a.1 in
       closes-plain (void j) (not_ended P a.0) (λ lemmas. voids u (narrowing_in P j) (passed u NotYes b.0) (passed v NotFalse b.1)) refl tt
+
+  pub run_voided_no : (j : ℕ) → void_no_refusal P j ≡ None → IsRunOf (ended_with P (void_no j))
+  run_voided_no j e =
+      let u = in_no_one_sided (problem_in P) (now_in P) j in let v = not (is_some_space (narrowing_off_in P j)) in
+      let a = neither (if_ended P.kept) (then_by (unless u NotNo) (unless v NotFalse)) e in
+      let b = neither (unless u NotNo) (unless v NotFalse) a.1 in
+      closes-plain (void_no j) (not_ended P a.0) (λ lemmas. voids u (narrowing_off_in P j) (passed u NotNo b.0) (passed v NotFalse b.1)) refl tt
 
   pub run_made_false : false_refusal P ≡ None → IsRunOf (ended_with P make_false)
   run_made_false e =

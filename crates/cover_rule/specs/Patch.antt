@@ -4,7 +4,7 @@ use Rattle.poly_graph.specs.ProblemViews.{problem_of}
 use Rattle.poly_graph.specs.Problem.{Problem}
 use Rattle.cover_model.specs.State.{State, Loosenings, IsLemma}
 use Rattle.interval_model.specs.Space.{Space}
-use Rattle.cover_model.specs.Rules.{Line, narrowing}
+use Rattle.cover_model.specs.Rules.{Line, narrowing, narrowing_off}
 use Rattle.cover_model.specs.Fits.{FitsAxes}
 use Rattle.cover_data.specs.Margins.{loosenings_of}
 use Rattle.cover_data.specs.Runs.{IsRun, IsClosed}
@@ -67,3 +67,14 @@ pulled_space P j = space_or (now_in P).space (narrowing_in P j)
 
 abbrev pub FitsPulled : PatchModel → ℕ → Type 0
 FitsPulled P j = FitsAxes (problem_in P).axes (pulled_space P j)
+
+-- the same by the off-range of atom j
+abbrev pub narrowing_off_in : PatchModel → ℕ → Option Space
+narrowing_off_in P j = narrowing_off (problem_in P) (loosenings_in P) (now_in P) j
+
+-- the space that a push of atom j leaves to the patch
+abbrev pub pushed_space : PatchModel → ℕ → Space
+pushed_space P j = space_or (now_in P).space (narrowing_off_in P j)
+
+abbrev pub FitsPushed : PatchModel → ℕ → Type 0
+FitsPushed P j = FitsAxes (problem_in P).axes (pushed_space P j)

@@ -4,13 +4,13 @@ use Rattle.dyadic.specs.Fraction.{Fraction, at_most, difference_of}
 use Rattle.dyadic.specs.Rounding.{Dyadic, exact, two_to_minus, mid}
 use Rattle.interval_model.specs.Space.{Domain, real_domain, bool_domain, Space, test_axis, strictly_inside, is_undecided, widest}
 use Rattle.cover_model.specs.State.{State, in_yes, undecided, with_yes, with_no, with_space, may, covers}
-use Rattle.cover_model.specs.Rules.{Line, pull, unit, ban, void, make_false, by, cut, flip, case, stuck, is_stuck_atom}
+use Rattle.cover_model.specs.Rules.{Line, pull, unit, ban, void, push, void_no, make_false, by, cut, flip, case, stuck, in_no_one_sided, is_stuck_atom}
 use Rattle.cover_model.specs.Honest.{is_honest, is_wide, is_middle_at, is_small, is_some_space}
 use Rattle.cover_rule.specs.declared.refusal.PatchRefusal.{PatchRefusal}
-use Rattle.cover_rule.specs.declared.refusal.PatchRefusal.TheVariants.{NotYes, NotForced, NotCovered, NotFalse, NotInside, NotStuck, NotHonest, Ended, IsVoid, Decided, Memory}
+use Rattle.cover_rule.specs.declared.refusal.PatchRefusal.TheVariants.{NotYes, NotForced, NotCovered, NotFalse, NotInside, NotStuck, NotHonest, Ended, IsVoid, Decided, NotNo, Memory}
 use Rattle.cover_data.specs.Models.{LemmaModel, KeptModel}
 use Rattle.cover_rule.specs.Models.{PatchModel}
-use Rattle.cover_rule.specs.Patch.{problem_in, loosenings_in, now_in, stepped, ended_by, with_kept, narrowing_in, space_or}
+use Rattle.cover_rule.specs.Patch.{problem_in, loosenings_in, now_in, stepped, ended_by, with_kept, narrowing_in, narrowing_off_in, space_or}
 
 -- ---- refusals in their order
 
@@ -42,6 +42,16 @@ IsPullRefusal P j e = (pull_refusal P j ≡ Some e) × (e ≢ Memory)
 abbrev pub pulled_by : PatchModel → ℕ → PatchModel
 pulled_by P j = with_kept P (stepped P.kept (pull j) P.kept.quoted (with_space (now_in P) (space_or (now_in P).space (narrowing_in P j))))
 
+abbrev pub push_refusal : PatchModel → ℕ → Option PatchRefusal
+push_refusal P j = then_by (if_ended P.kept) (then_by (unless (in_no_one_sided (problem_in P) (now_in P) j) NotNo) (unless (is_some_space (narrowing_off_in P j)) IsVoid))
+
+-- a refusal of a push that is not for memory
+abbrev pub IsPushRefusal : PatchModel → ℕ → PatchRefusal → Type 0
+IsPushRefusal P j e = (push_refusal P j ≡ Some e) × (e ≢ Memory)
+
+abbrev pub pushed_by : PatchModel → ℕ → PatchModel
+pushed_by P j = with_kept P (stepped P.kept (push j) P.kept.quoted (with_space (now_in P) (space_or (now_in P).space (narrowing_off_in P j))))
+
 abbrev pub unit_refusal : PatchModel → ℕ → Option PatchRefusal
 unit_refusal P j = then_by (if_ended P.kept) (then_by (unless (undecided (now_in P) j) Decided) (unless (not (may (problem_in P) (loosenings_in P) (with_no (now_in P) j))) NotForced))
 
@@ -61,6 +71,9 @@ banned_by P j L = with_kept P (banned P.kept j L)
 
 abbrev pub void_refusal : PatchModel → ℕ → Option PatchRefusal
 void_refusal P j = then_by (if_ended P.kept) (then_by (unless (in_yes (now_in P) j) NotYes) (unless (not (is_some_space (narrowing_in P j))) NotFalse))
+
+abbrev pub void_no_refusal : PatchModel → ℕ → Option PatchRefusal
+void_no_refusal P j = then_by (if_ended P.kept) (then_by (unless (in_no_one_sided (problem_in P) (now_in P) j) NotNo) (unless (not (is_some_space (narrowing_off_in P j))) NotFalse))
 
 abbrev pub false_refusal : PatchModel → Option PatchRefusal
 false_refusal P = then_by (if_ended P.kept) (unless (not (may (problem_in P) (loosenings_in P) (now_in P))) NotFalse)
@@ -135,16 +148,25 @@ PatchAnswer refusal old done new (Ok u) = (refusal ≡ None) × (new ≡ done)
 PatchAnswer refusal old done new (Err Memory) = (refusal ≡ None) × (new ≡ old)
 PatchAnswer refusal old done new (Err e) = (refusal ≡ Some e) × (new ≡ old)
 
--- a pull where it leaves less of the space, and nothing where the space stays
+-- a step that narrows the space to this one, where that is less, and nothing where the space stays
+abbrev pub IfLessStep : Option Space → Option PatchRefusal → PatchModel → PatchModel → PatchModel → Result Bool PatchRefusal → Type 0
+IfLessStep narrow refusal P done Q (Ok true) = (narrow ≢ Some (now_in P).space) × PatchAnswer refusal P done Q (Ok tt)
+IfLessStep narrow refusal P done Q (Ok false) = (narrow ≡ Some (now_in P).space) × PatchAnswer refusal P P Q (Ok tt)
+IfLessStep narrow refusal P done Q (Err e) = PatchAnswer refusal P done Q (Err e)
+
 abbrev pub PullIfLessStep : PatchModel → ℕ → PatchModel → Result Bool PatchRefusal → Type 0
-PullIfLessStep P j Q (Ok true) = (narrowing_in P j ≢ Some (now_in P).space) × PatchAnswer (pull_refusal P j) P (pulled_by P j) Q (Ok tt)
-PullIfLessStep P j Q (Ok false) = (narrowing_in P j ≡ Some (now_in P).space) × PatchAnswer (pull_refusal P j) P P Q (Ok tt)
-PullIfLessStep P j Q (Err e) = PatchAnswer (pull_refusal P j) P (pulled_by P j) Q (Err e)
+PullIfLessStep P j Q r = IfLessStep (narrowing_in P j) (pull_refusal P j) P (pulled_by P j) Q r
+
+abbrev pub PushIfLessStep : PatchModel → ℕ → PatchModel → Result Bool PatchRefusal → Type 0
+PushIfLessStep P j Q r = IfLessStep (narrowing_off_in P j) (push_refusal P j) P (pushed_by P j) Q r
 
 -- ---- the calls on a patch P, each with its answer and the patch Q after it
 
 abbrev pub PullStep : PatchModel → ℕ → PatchModel → Result (Unit {0}) PatchRefusal → Type 0
 PullStep P j Q r = PatchAnswer (pull_refusal P j) P (pulled_by P j) Q r
+
+abbrev pub PushStep : PatchModel → ℕ → PatchModel → Result (Unit {0}) PatchRefusal → Type 0
+PushStep P j Q r = PatchAnswer (push_refusal P j) P (pushed_by P j) Q r
 
 abbrev pub UnitStep : PatchModel → ℕ → PatchModel → Result (Unit {0}) PatchRefusal → Type 0
 UnitStep P j Q r = PatchAnswer (unit_refusal P j) P (forced_by P j) Q r
@@ -154,6 +176,9 @@ BanStep P j L Q r = PatchAnswer (ban_refusal P.kept j L) P (banned_by P j L) Q r
 
 abbrev pub VoidEnd : PatchModel → ℕ → PatchModel → Result (Unit {0}) PatchRefusal → Type 0
 VoidEnd P j Q r = PatchAnswer (void_refusal P j) P (ended_with P (void j)) Q r
+
+abbrev pub VoidNoEnd : PatchModel → ℕ → PatchModel → Result (Unit {0}) PatchRefusal → Type 0
+VoidNoEnd P j Q r = PatchAnswer (void_no_refusal P j) P (ended_with P (void_no j)) Q r
 
 abbrev pub FalseEnd : PatchModel → PatchModel → Result (Unit {0}) PatchRefusal → Type 0
 FalseEnd P Q r = PatchAnswer (false_refusal P) P (ended_with P make_false) Q r

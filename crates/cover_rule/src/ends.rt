@@ -1,14 +1,14 @@
 // Ends of a patch that close its state, over its parts.
 ghost use Rattle.std.specs.Prelude.{◌≡◌, ◌<◌, [], ◌∷◌, ◌++◌, length};
 ghost use Rattle.poly_graph.specs.ProblemViews.{problem_of};
-ghost use Rattle.cover_model.specs.Rules.{void, make_false};
+ghost use Rattle.cover_model.specs.Rules.{void, void_no, make_false};
 ghost use Rattle.cover_rule.specs.Serves.{IsReady};
 ghost use Rattle.cover_rule.specs.Patch.{ended_by};
-ghost use Rattle.cover_rule.specs.Refusals.{VoidEnd, FalseEnd, RunLemmaEnd};
+ghost use Rattle.cover_rule.specs.Refusals.{VoidEnd, VoidNoEnd, FalseEnd, RunLemmaEnd};
 ghost use Rattle.cover_data.specs.Views.{kept_of, end_line};
 ghost use Rattle.cover_rule.specs.Held.{IsHeld, patch_of};
 
-use crate::narrowing::leaves_nothing;
+use crate::narrowing::{is_no_one_sided, leaves_nothing, off_leaves_nothing};
 use crate::refusal::PatchRefusal;
 use crate::steps::quote;
 use crate::truth::may_hold;
@@ -42,6 +42,34 @@ pub fn void(
         return Err(PatchRefusal::NotFalse);
     }
     kept.end = Some(End::Void(j));
+    Ok(())
+}
+
+/// Ends the patch by atom j, which fails, and whose off-range leaves nothing.
+pub fn void_no(
+    problem: &Problem,
+    margins: &Margins,
+    kept: &mut KeptPatch,
+    work: &mut Workspace,
+    j: u32,
+) -> Result<(), PatchRefusal>
+    requires held { IsHeld problem.now margins.now kept.old work.old }
+    requires atom { j < length problem.now.atoms }
+    ensures answer { let P = patch_of problem.now margins.now in
+        VoidNoEnd (P kept.old) j (P kept.new) result }
+    ensures reached { kept.new.reached ≡ kept.old.reached }
+    ensures ready { IsReady problem.now kept.old.reached.space work.new }
+{
+    if kept.end.is_some() {
+        return Err(PatchRefusal::Ended);
+    }
+    if !is_no_one_sided(problem, &kept.reached, j) {
+        return Err(PatchRefusal::NotNo);
+    }
+    if !off_leaves_nothing(problem, margins, &kept.reached, j, work) {
+        return Err(PatchRefusal::NotFalse);
+    }
+    kept.end = Some(End::VoidNo(j));
     Ok(())
 }
 

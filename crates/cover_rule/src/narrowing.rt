@@ -3,7 +3,7 @@ ghost use Rattle.std.specs.Prelude.{◌≡◌, ◌<◌, ◌^◌, not, length, sl
 ghost use Rattle.poly_graph.specs.ProblemViews.{problem_of};
 ghost use Rattle.cover_model.specs.Fits.{FitsProblem};
 ghost use Rattle.cover_model.specs.State.{with_space};
-ghost use Rattle.cover_model.specs.Rules.{narrowing};
+ghost use Rattle.cover_model.specs.Rules.{narrowing, narrowing_off, in_no_one_sided};
 ghost use Rattle.cover_model.specs.Honest.{is_some_space, none_empty};
 ghost use Rattle.ival.specs.SpaceViews.{space_of, domain_of};
 ghost use Rattle.ival.specs.Narrows.{IsNarrowed};
@@ -12,7 +12,8 @@ ghost use Rattle.cover_rule.specs.Serves.{HasRowsOf, IsReady, IsNumbered};
 
 use crate::workspace::Workspace;
 use cover_data::{Margins, State};
-use hc4_bwd::narrow;
+use cover_model::is_one_sided;
+use hc4_bwd::{narrow, narrow_off};
 use hc4_fwd::refill;
 use ival::{Domain, Narrowed, Space};
 use poly_graph::Problem;
@@ -115,6 +116,69 @@ pub fn leaves_nothing(
 {
     let _ = problem.axes();
     match narrow_spare(problem, margins, state, j, work) {
+        Narrowed::Empty => true,
+        Narrowed::Same => false,
+        Narrowed::Less => {
+            copy_space(state.space(), &mut work.spare);
+            false
+        }
+    }
+}
+
+/// Whether atom j is marked no and is an inequality.
+pub fn is_no_one_sided(problem: &Problem, state: &State, j: u32) -> bool
+    requires atom { j < length problem.now.atoms }
+    requires marks { j < length state.now.marks }
+    ensures { result ≡ in_no_one_sided (problem_of problem.now) state.now j }
+{
+    let atom = problem.atoms()[j as usize];
+    state.is_no(j) && is_one_sided(atom.kind)
+}
+
+/// Narrows the spare space, a copy of the state's, by the off-range of atom j.
+pub fn narrow_off_spare(
+    problem: &Problem,
+    margins: &Margins,
+    state: &State,
+    j: u32,
+    work: &mut Workspace,
+) -> Narrowed
+    requires margins { AreMargins margins.now }
+    requires atom { j < length problem.now.atoms }
+    requires work { IsReady problem.now state.now.space work.old }
+    ensures narrowed { let narrow = narrowing_off (problem_of problem.now) (loosenings_of margins.now) state.now j in
+        IsNarrowed state.now.space (space_of work.new.spare) narrow result }
+    ensures work { HasRowsOf problem.now state.now.space work.new }
+{
+    let _ = problem.axes();
+    let atom = problem.atoms()[j as usize];
+    narrow_off(
+        problem.graph(),
+        &atom,
+        margins.margin_bits,
+        &work.rows,
+        &mut work.scratch,
+        &mut work.spare,
+    )
+}
+
+/// Whether narrowing by the off-range of atom j leaves nothing.
+pub fn off_leaves_nothing(
+    problem: &Problem,
+    margins: &Margins,
+    state: &State,
+    j: u32,
+    work: &mut Workspace,
+) -> bool
+    requires margins { AreMargins margins.now }
+    requires atom { j < length problem.now.atoms }
+    requires work { IsReady problem.now state.now.space work.old }
+    ensures empty { let narrow = narrowing_off (problem_of problem.now) (loosenings_of margins.now) state.now j in
+        result ≡ not (is_some_space narrow) }
+    ensures work { IsReady problem.now state.now.space work.new }
+{
+    let _ = problem.axes();
+    match narrow_off_spare(problem, margins, state, j, work) {
         Narrowed::Empty => true,
         Narrowed::Same => false,
         Narrowed::Less => {

@@ -7,7 +7,7 @@ ghost use Rattle.cover_data.specs.Margins.{AreMargins};
 ghost use Rattle.cover_data.specs.Runs.{IsClosed};
 ghost use Rattle.cover_rule.specs.Serves.{HasRoom, IsNumbered};
 ghost use Rattle.cover_rule.specs.Patch.{problem_in, run_at, IsRunOf, IsLemmaState, IsClosedRunOf, IsNotClosed};
-ghost use Rattle.cover_rule.specs.Refusals.{PullStep, PullIfLessStep, UnitStep, BanStep, VoidEnd, FalseEnd, LemmaEnd, CutEnd, FlipEnd, CaseEnd, StuckEnd};
+ghost use Rattle.cover_rule.specs.Refusals.{PullStep, PullIfLessStep, PushStep, PushIfLessStep, UnitStep, BanStep, VoidEnd, VoidNoEnd, FalseEnd, LemmaEnd, CutEnd, FlipEnd, CaseEnd, StuckEnd};
 ghost use Rattle.cover_data.specs.Views.{kept_of};
 
 use crate::narrowing::copy_space;
@@ -182,6 +182,36 @@ impl<'a> Patch<'a> {
         )
     }
 
+    /// Pushes atom j, which has to be marked no and to be an inequality: leaves of the space what its off-range leaves
+    /// of it.
+    pub fn push(&mut self, j: u32) -> Result<(), PatchRefusal>
+        requires { j < length self.old.problem.atoms }
+        ensures { PushStep self.old j self.new result }
+    {
+        steps::push(
+            self.problem,
+            &self.margins,
+            &mut self.kept,
+            &mut self.work,
+            j,
+        )
+    }
+
+    /// Pushes atom j, which has to be marked no and to be an inequality, where that leaves less of the space; whether
+    /// it does.
+    pub fn push_if_less(&mut self, j: u32) -> Result<bool, PatchRefusal>
+        requires { j < length self.old.problem.atoms }
+        ensures { PushIfLessStep self.old j self.new result }
+    {
+        steps::push_if_less(
+            self.problem,
+            &self.margins,
+            &mut self.kept,
+            &mut self.work,
+            j,
+        )
+    }
+
     /// Marks atom j yes, without which the form can't hold.
     pub fn unit(&mut self, j: u32) -> Result<(), PatchRefusal>
         requires { j < length self.old.problem.atoms }
@@ -212,6 +242,20 @@ impl<'a> Patch<'a> {
         ensures { VoidEnd self.old j self.new result }
     {
         ends::void(
+            self.problem,
+            &self.margins,
+            &mut self.kept,
+            &mut self.work,
+            j,
+        )
+    }
+
+    /// Ends the patch by atom j, which is marked no, is an inequality, and leaves nothing.
+    pub fn void_no(&mut self, j: u32) -> Result<(), PatchRefusal>
+        requires { j < length self.old.problem.atoms }
+        ensures { VoidNoEnd self.old j self.new result }
+    {
+        ends::void_no(
             self.problem,
             &self.margins,
             &mut self.kept,

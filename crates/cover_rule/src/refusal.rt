@@ -24,6 +24,8 @@ pub enum PatchRefusal {
     IsVoid,
     /// The atom is marked, or the Bool axis decided.
     Decided,
+    /// The atom is not marked no, or is an equation.
+    NotNo,
     /// There is no memory.
     Memory,
 }

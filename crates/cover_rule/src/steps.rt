@@ -3,17 +3,16 @@ ghost use Rattle.std.specs.Prelude.{◌≡◌, ◌≢◌, ◌<◌, [], ◌∷◌
 ghost use Rattle.poly_graph.specs.ProblemViews.{problem_of};
 ghost use Rattle.cover_model.specs.Fits.{FitsProblem};
 ghost use Rattle.cover_model.specs.State.{IsLemma, may, undecided, with_yes, with_no, with_space, covers};
-ghost use Rattle.cover_model.specs.Rules.{pull};
 ghost use Rattle.ival.specs.SpaceViews.{space_of};
 ghost use Rattle.cover_data.specs.Margins.{AreMargins, loosenings_of};
 ghost use Rattle.cover_rule.specs.Serves.{HasRowsOf, IsReady, IsNumbered};
-ghost use Rattle.cover_rule.specs.Patch.{stepped, with_step, narrowing_in, pulled_space, FitsPulled};
-ghost use Rattle.cover_rule.specs.Refusals.{PullStep, PullIfLessStep, UnitStep, RunBanStep, IsPullRefusal, pull_refusal, unit_refusal, ban_refusal};
+ghost use Rattle.cover_rule.specs.Patch.{stepped, with_step, narrowing_in, pulled_space, FitsPulled, narrowing_off_in, pushed_space, FitsPushed};
+ghost use Rattle.cover_rule.specs.Refusals.{PullStep, PullIfLessStep, PushStep, PushIfLessStep, UnitStep, RunBanStep, IsPullRefusal, pull_refusal, IsPushRefusal, push_refusal, unit_refusal, ban_refusal};
 ghost use Rattle.cover_rule.specs.declared.refusal.PatchRefusal.TheVariants as refusal;
 ghost use Rattle.cover_data.specs.Views.{kept_of, step_line};
 ghost use Rattle.cover_rule.specs.Held.{IsHeld, patch_of};
 
-use crate::narrowing::{adopt_spare, copy_space, narrow_spare};
+use crate::narrowing::{adopt_spare, copy_space, is_no_one_sided, narrow_off_spare, narrow_spare};
 use crate::refusal::PatchRefusal;
 use crate::truth::may_hold;
 use crate::workspace::Workspace;
@@ -61,6 +60,46 @@ fn narrowed(
     }
 }
 
+// Narrows the spare space by the off-range of atom j where it may be pushed, and tells whether that is less than the
+// state's space.
+fn narrowed_off(
+    problem: &Problem,
+    margins: &Margins,
+    kept: &KeptPatch,
+    work: &mut Workspace,
+    j: u32,
+) -> Result<bool, PatchRefusal>
+    requires held { IsHeld problem.now margins.now kept.now work.old }
+    requires atom { j < length problem.now.atoms }
+    ensures may { OnOk result (push_refusal (patch_of problem.now margins.now kept.now) j ≡ None) }
+    ensures refusal { let P = patch_of problem.now margins.now kept.now in
+        IfErr result (λ e. IsPushRefusal P j e) }
+    ensures refused { OnErr result (IsReady problem.now kept.now.reached.space work.new) }
+    ensures serves { HasRowsOf problem.now kept.now.reached.space work.new }
+    ensures length { length (space_of work.new.spare) ≡ length kept.now.reached.space }
+    ensures fits { OnOk result (FitsPushed (patch_of problem.now margins.now kept.now) j) }
+    ensures spare { let P = patch_of problem.now margins.now kept.now in
+        OnOk result (space_of work.new.spare ≡ pushed_space P j) }
+    ensures same { let P = patch_of problem.now margins.now kept.now in
+        let space = kept.now.reached.space in
+        result ≡ Ok false → (narrowing_off_in P j ≡ Some space) × IsReady problem.now space work.new }
+    ensures less { let P = patch_of problem.now margins.now kept.now in
+        result ≡ Ok true → narrowing_off_in P j ≢ Some kept.now.reached.space }
+{
+    let _ = problem.axes();
+    if kept.end.is_some() {
+        return Err(PatchRefusal::Ended);
+    }
+    if !is_no_one_sided(problem, &kept.reached, j) {
+        return Err(PatchRefusal::NotNo);
+    }
+    match narrow_off_spare(problem, margins, &kept.reached, j, work) {
+        Narrowed::Empty => Err(PatchRefusal::IsVoid),
+        Narrowed::Same => Ok(false),
+        Narrowed::Less => Ok(true),
+    }
+}
+
 // Adds a step that quotes no lemma; where there is no memory all stays.
 fn add_step(kept: &mut KeptPatch, step: Step) -> Result<(), PatchRefusal>
     ensures ok { OnOk result (kept_of kept.new ≡ with_step (kept_of kept.old) (step_line step)) }
@@ -73,12 +112,12 @@ fn add_step(kept: &mut KeptPatch, step: Step) -> Result<(), PatchRefusal>
     }
 }
 
-// Pulls atom j, which the spare space was narrowed by; out of memory, all stays.
+// Takes the step that the spare space was narrowed by; out of memory, all stays.
 fn take_narrowed(
     problem: &Problem,
     kept: &mut KeptPatch,
     work: &mut Workspace,
-    j: u32,
+    step: Step,
 ) -> Result<(), PatchRefusal>
     requires numbered { IsNumbered problem.now }
     requires state { FitsProblem (problem_of problem.now) kept.old.reached }
@@ -86,12 +125,12 @@ fn take_narrowed(
     requires length { length (space_of work.old.spare) ≡ length kept.old.reached.space }
     ensures ok { let k = kept_of kept.old in
         let reached = with_space k.reached (space_of work.old.spare) in
-        OnOk result (kept_of kept.new ≡ stepped k (pull j) k.quoted reached) }
+        OnOk result (kept_of kept.new ≡ stepped k (step_line step) k.quoted reached) }
     ensures err { OnErr result (kept_of kept.new ≡ kept_of kept.old) }
     ensures memory { OnErr result (result ≡ Err refusal.Memory) }
     ensures ready { IsReady problem.now kept.new.reached.space work.new }
 {
-    if add_step(kept, Step::Pull(j)).is_err() {
+    if add_step(kept, step).is_err() {
         copy_space(kept.reached.space(), &mut work.spare);
         return Err(PatchRefusal::Memory);
     }
@@ -115,7 +154,7 @@ pub fn pull(
     ensures fits { OnOk result (FitsPulled (patch_of problem.now margins.now kept.old) j) }
 {
     narrowed(problem, margins, kept, work, j)?;
-    take_narrowed(problem, kept, work, j)
+    take_narrowed(problem, kept, work, Step::Pull(j))
 }
 
 /// Pulls atom j, which has to be marked yes, where that leaves less of the space; whether it does.
@@ -136,7 +175,50 @@ pub fn pull_if_less(
     if !narrowed(problem, margins, kept, work, j)? {
         return Ok(false);
     }
-    take_narrowed(problem, kept, work, j)?;
+    take_narrowed(problem, kept, work, Step::Pull(j))?;
+    Ok(true)
+}
+
+/// Pushes atom j, which has to be marked no and to be an inequality: leaves of the space what its off-range leaves of
+/// it.
+pub fn push(
+    problem: &Problem,
+    margins: &Margins,
+    kept: &mut KeptPatch,
+    work: &mut Workspace,
+    j: u32,
+) -> Result<(), PatchRefusal>
+    requires held { IsHeld problem.now margins.now kept.old work.old }
+    requires atom { j < length problem.now.atoms }
+    ensures answer { let P = patch_of problem.now margins.now in
+        PushStep (P kept.old) j (P kept.new) result }
+    ensures ready { IsReady problem.now kept.new.reached.space work.new }
+    ensures fits { OnOk result (FitsPushed (patch_of problem.now margins.now kept.old) j) }
+{
+    narrowed_off(problem, margins, kept, work, j)?;
+    take_narrowed(problem, kept, work, Step::Push(j))
+}
+
+/// Pushes atom j, which has to be marked no and to be an inequality, where that leaves less of the space; whether it
+/// does.
+pub fn push_if_less(
+    problem: &Problem,
+    margins: &Margins,
+    kept: &mut KeptPatch,
+    work: &mut Workspace,
+    j: u32,
+) -> Result<bool, PatchRefusal>
+    requires held { IsHeld problem.now margins.now kept.old work.old }
+    requires atom { j < length problem.now.atoms }
+    ensures answer { let P = patch_of problem.now margins.now in
+        PushIfLessStep (P kept.old) j (P kept.new) result }
+    ensures ready { IsReady problem.now kept.new.reached.space work.new }
+    ensures fits { OnOk result (FitsPushed (patch_of problem.now margins.now kept.old) j) }
+{
+    if !narrowed_off(problem, margins, kept, work, j)? {
+        return Ok(false);
+    }
+    take_narrowed(problem, kept, work, Step::Push(j))?;
     Ok(true)
 }
 

@@ -43,7 +43,7 @@ pub fn read_header(lines: &mut Lines) -> Result<Header, Fault>
     ensures { IfOk result (λ h. h.margin_bits ≤ 60) }
 {
     match lines.due()? {
-        Line::Version(1) => {}
+        Line::Version(1 | 2) => {}
         _ => return Err(lines.misfit()),
     }
     let margin_bits = margin(lines)?;

@@ -8,19 +8,20 @@ ghost use Rattle.ival.specs.SpaceViews.{domain_of, space_of};
 ghost use Rattle.cover_model.specs.Narrowed.{narrowed_by};
 ghost use Rattle.poly_graph.specs.Problem.{Problem as WholeProblem, atom_at};
 ghost use Rattle.poly_graph.specs.ProblemViews.{problem_of};
-ghost use Rattle.cover_model.specs.Rules.{rule, pull, void, cut, flip, case};
+ghost use Rattle.cover_model.specs.Rules.{rule, pull, void, push, void_no, cut, flip, case};
+ghost use Rattle.cover_model.specs.OffRange.{off_range};
 ghost use Rattle.cover_model.specs.Space.{range};
-ghost use Rattle.cover_model.specs.State.{State as CoverState, Loosenings, in_yes, undecided, with_mark};
+ghost use Rattle.cover_model.specs.State.{State as CoverState, Loosenings, in_yes, in_no, undecided, with_mark};
 ghost use Rattle.poly_graph.specs.Views.{kind_of};
 ghost use Rattle.poly_graph.specs.MarkViews.{mark_of};
-ghost use Rattle.cert_read.specs.CertLine.{rule_line, pull_at, void_at, case_at, cut_at, flip_at};
+ghost use Rattle.cert_read.specs.CertLine.{rule_line, pull_at, void_at, push_at, void_no_at, case_at, cut_at, flip_at};
 ghost use Rattle.cert_read.specs.Views.{line_of};
 ghost use Rattle.cover_svg.specs.Steps.{Follows, rule_in, EndsBy};
 
 use cert_read::Line;
 use cover_rule::State;
 use dyadic::{Dy, Ext, at_most};
-use hc4_bwd::narrow;
+use hc4_bwd::{narrow, narrow_off};
 use hc4_fwd::fill;
 use ival::{Domain, Narrowed, Rows, Space, Truths};
 use poly_graph::{Atom, Mark, Problem};
@@ -50,6 +51,14 @@ fn is_yes(state: &State, j: u32) -> bool
     ensures { result ≡ in_yes state.now j }
 {
     (j as usize) < state.lits().len() && state.is_yes(j)
+}
+
+// Whether atom j is marked no.
+#[tactic(auto, using(crate::proofs::Follow::mark_past))]
+fn is_no(state: &State, j: u32) -> bool
+    ensures { result ≡ in_no state.now j }
+{
+    (j as usize) < state.lits().len() && state.is_no(j)
 }
 
 // Whether there is an atom j without a mark.
@@ -140,6 +149,29 @@ fn narrowed(
     Ok((State::new(space, lits), did))
 }
 
+// The state narrowed by the off-range of an atom, and what that did.
+fn narrowed_off(
+    alloc: Global,
+    problem: &Problem,
+    margin_bits: u32,
+    atom: &Atom,
+    state: State,
+) -> Result<(State, Narrowed), AllocError>
+    requires margin { margin_bits ≤ 60 }
+    requires atom { atom.now.term < length problem.now.nodes }
+    ensures marks { IfOk result (λ r. r.0.marks ≡ state.marks) }
+    ensures space { IfOk result (λ r. IsNarrowed state.space r.0.space (narrowed_by problem.now.nodes atom.now.term (off_range (two_to_minus margin_bits) (kind_of atom.now.kind)) state.space) r.1) }
+{
+    let graph = problem.graph();
+    let mut rows = Rows::new(alloc, graph.len())?;
+    let mut scratch = Rows::new(alloc, graph.len())?;
+    let (space, lits) = state.into_parts();
+    let mut space = space;
+    fill(graph, &space, &mut rows);
+    let did = narrow_off(graph, atom, margin_bits, &rows, &mut scratch, &mut space);
+    Ok((State::new(space, lits), did))
+}
+
 // The state narrowed by atom j, which has to be marked yes and to leave something.
 fn pull(
     alloc: Global,
@@ -191,6 +223,58 @@ fn void(
         Narrowed::Empty => Ok(Some(Left::Done(state, Fate::Void))),
         Narrowed::Same => Ok(None),
         Narrowed::Less => Ok(None),
+    }
+}
+
+// The state narrowed by the off-range of atom j, which has to be marked no and to leave something.
+fn push(
+    alloc: Global,
+    problem: &Problem,
+    margin_bits: u32,
+    state: State,
+    j: u32,
+) -> Result<Option<Left>, AllocError>
+    requires margin { margin_bits ≤ 60 }
+    ensures follows { IfOk result (λ o. (s : Loosenings) (lemmas : List CoverState) → s.margin_bits ≡ margin_bits → length state.marks ≡ length problem.now.atoms →
+        Follows (rule (problem_of problem.now) s lemmas state (push j)) o) }
+    ensures end { IfOk result (λ o. IfSome o (EndsBy state (rule_line (push_at j)))) }
+{
+    if !is_no(&state, j) {
+        return Ok(None);
+    }
+    let Some(atom) = atom_of(problem, j) else {
+        return Ok(None);
+    };
+    let (state, did) = narrowed_off(alloc, problem, margin_bits, &atom, state)?;
+    match did {
+        Narrowed::Empty => Ok(None),
+        Narrowed::Same | Narrowed::Less => Ok(Some(Left::One(state))),
+    }
+}
+
+// The end at a state of which the off-range of atom j, which has to be marked no, leaves nothing.
+fn void_no(
+    alloc: Global,
+    problem: &Problem,
+    margin_bits: u32,
+    state: State,
+    j: u32,
+) -> Result<Option<Left>, AllocError>
+    requires margin { margin_bits ≤ 60 }
+    ensures follows { IfOk result (λ o. (s : Loosenings) (lemmas : List CoverState) → s.margin_bits ≡ margin_bits → length state.marks ≡ length problem.now.atoms →
+        Follows (rule (problem_of problem.now) s lemmas state (void_no j)) o) }
+    ensures end { IfOk result (λ o. IfSome o (EndsBy state (rule_line (void_no_at j)))) }
+{
+    if !is_no(&state, j) {
+        return Ok(None);
+    }
+    let Some(atom) = atom_of(problem, j) else {
+        return Ok(None);
+    };
+    let (state, did) = narrowed_off(alloc, problem, margin_bits, &atom, state)?;
+    match did {
+        Narrowed::Empty => done(state, Fate::Void),
+        Narrowed::Same | Narrowed::Less => Ok(None),
     }
 }
 
@@ -277,6 +361,8 @@ pub fn step(
     match line {
         Line::Pull(j) => pull(alloc, problem, margin_bits, state, *j),
         Line::Void(j) => void(alloc, problem, margin_bits, state, *j),
+        Line::Push(j) => push(alloc, problem, margin_bits, state, *j),
+        Line::VoidNo(j) => void_no(alloc, problem, margin_bits, state, *j),
         Line::Unit(j) => Ok(mark(state, *j, Mark::Yes)),
         Line::Ban(j, _) => Ok(mark(state, *j, Mark::No)),
         Line::Case(j) => case(alloc, state, *j),

@@ -10,7 +10,7 @@ use Rattle.cert_model.specs.Standing.{IsHonest, branches}
 
 -- the margin and delta of the words
 abbrev pub loosenings_of : Options → Loosenings
-loosenings_of options = record { margin_bits = options.margin_bits; delta_bits = options.delta_bits }
+loosenings_of options = record { margin_bits = options.margin_bits; delta_bits = options.delta_bits; version = 2 }
 
 -- The cover is honest at the least width; it has at most as many branches as the budget, and exactly as many where a state is open.
 pub record IsHonestCover (p : Problem) (options : Options) (cert : List ℕ) (left : List Standing) : Type 0 where

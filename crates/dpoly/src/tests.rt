@@ -115,25 +115,25 @@ fn scripts_are_solved(rt: HostRuntime) -> Result<(), Fail> {
         (
             "dpoly solve s c",
             "(declare-const x Real)\n(assert (<= 0 x 1))\n(assert (= (* x x) (- 1)))\n(check-sat)",
-            "dpoly 1\nmargin 20\ndelta 10\nbound none\ncover 0\ntree\nfalse\nend\n",
+            "dpoly 2\nmargin 20\ndelta 10\nbound none\ncover 0\ntree\nfalse\nend\n",
             "unsat\nmargin 1b-20\n",
         ),
         (
             "dpoly solve s c",
             "(declare-const x Real)\n(assert (<= 0 x 1))\n(assert (distinct x x))\n(check-sat)",
-            "dpoly 1\nmargin 20\ndelta 10\nbound none\npoint\nreal 1b-1\nend\n",
+            "dpoly 2\nmargin 20\ndelta 10\nbound none\npoint\nreal 1b-1\nend\n",
             "delta-sat\ndelta 1b-10\nx 1b-1\n",
         ),
         (
             "dpoly solve s c",
             "(declare-const x Real)\n(assert (>= x 1))\n(assert (<= x 0))\n(check-sat)",
-            "dpoly 1\nmargin 20\ndelta 10\nbound none\ncover 0\ntree\nempty 0\nend\n",
+            "dpoly 2\nmargin 20\ndelta 10\nbound none\ncover 0\ntree\nempty 0\nend\n",
             "unsat\nmargin 1b-20\n",
         ),
         (
             "dpoly solve s c --budget 0",
             "(declare-const b Bool)\n(assert b)\n(check-sat)",
-            "dpoly 1\nmargin 20\ndelta 10\nbound none\ncover 0\ntree\nopen\nend\n",
+            "dpoly 2\nmargin 20\ndelta 10\nbound none\ncover 0\ntree\nopen\nend\n",
             "unknown budget 0\n",
         ),
     ] {
@@ -151,7 +151,7 @@ fn scripts_are_solved(rt: HostRuntime) -> Result<(), Fail> {
 fn the_certificate_stands_before_the_answer(rt: HostRuntime) -> Result<(), Fail> {
     let alloc = rt.alloc();
     let words = words_of(alloc, "dpoly solve s c")?;
-    let cert = b"dpoly 1\nmargin 20\ndelta 10\nbound none\ncover 0\ntree\nfalse\nend\n".as_slice();
+    let cert = b"dpoly 2\nmargin 20\ndelta 10\nbound none\ncover 0\ntree\nfalse\nend\n".as_slice();
     for (call, answer) in [(0u64, ""), (1, ""), (2, "unsa"), (3, "unsat\nma")] {
         let mut desk = desk_of(alloc, "(assert false)\n(check-sat)", 4)?;
         desk.fail(Fault {

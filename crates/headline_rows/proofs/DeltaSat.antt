@@ -81,7 +81,7 @@ abbrev certificate : List ℕ
 certificate = codes "dpoly 1\nmargin 20\ndelta 10\nbound none\npoint\nreal 1b-1\nend\n"
 
 abbrev usual : Loosenings
-usual = record { margin_bits = 20; delta_bits = 10 }
+usual = record { margin_bits = 20; delta_bits = 10; version = 1 }
 
 -- x = 1/2
 abbrev half : Space

@@ -86,7 +86,7 @@ abbrev certificate : List ℕ
 certificate = codes "dpoly 1\nmargin 20\ndelta 10\nbound none\ncover 0\ntree\nfalse\nend\n"
 
 abbrev usual : Loosenings
-usual = record { margin_bits = 20; delta_bits = 10 }
+usual = record { margin_bits = 20; delta_bits = 10; version = 1 }
 
 is_accepted : IsAccepted problem None certificate usual (left_open [])
 unfolding Rattle.dyadic.specs.Fraction.negated Rattle.dyadic.specs.Fraction.sum_of Rattle.dyadic.specs.Fraction.product_of Rattle.dyadic.specs.Fraction.quotient_of Rattle.dyadic.specs.Fraction.at_most

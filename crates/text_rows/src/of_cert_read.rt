@@ -41,6 +41,8 @@ fn tells_lines(rt: HostRuntime) -> Result<(), Fail> {
         ("pull 4", Line::Pull(4)),
         ("unit 5", Line::Unit(5)),
         ("void 6", Line::Void(6)),
+        ("push 10", Line::Push(10)),
+        ("voidno 11", Line::VoidNo(11)),
         ("case 7", Line::Case(7)),
         ("stuck 8", Line::Stuck(8)),
         ("by 9", Line::By(9)),
@@ -62,7 +64,7 @@ fn tells_lines(rt: HostRuntime) -> Result<(), Fail> {
 fn tells_faults(rt: HostRuntime) {
     let rows = [
         ("\n", LineFault::BadLine),
-        ("push 4", LineFault::BadLine),
+        ("shove 4", LineFault::BadLine),
         ("pull", LineFault::BadLine),
         ("pull 4 5", LineFault::BadLine),
         ("pull  4", LineFault::BadLine),

@@ -34,7 +34,7 @@ of_atoms p test j = cond (nat_lt j (length p.atoms)) (test j) false
 
 -- the loosenings, where those of points do not matter
 abbrev pub pruning : ℕ → Loosenings
-pruning margin = record { margin_bits = margin; delta_bits = 0 }
+pruning margin = record { margin_bits = margin; delta_bits = 0; version = 2 }
 
 -- ---- atoms, nodes and the form of a problem
 

@@ -9,4 +9,4 @@ use Rattle.cert_check.proofs.header.delta_line.Goals as goal
 
 pub returns-in-Delta-clause-comes : goal.returns-in-Delta-clause-comes
 returns-in-Delta-clause-comes c p b =
-    subst (λ (l : Line). IsOutcome p c.loosenings.result (next (problem_of p) b (delta_due c.args.margin) (line_of l))) (sym c.in-Delta.is) (c.loosenings.ensures.comes p b)
+    subst (λ (l : Line). IsOutcome p c.loosenings.result (next (problem_of p) b (delta_due c.args.version c.args.margin) (line_of l))) (sym c.in-Delta.is) (c.loosenings.ensures.comes p b)

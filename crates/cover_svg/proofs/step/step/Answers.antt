@@ -22,6 +22,20 @@ returns-in-Void-clause-follows c =
     subst (λ (l : Line). IfOk c.void.result (λ (o : Option Left). (s : Loosenings) (lemmas : List State) → s.margin_bits ≡ c.args.margin_bits → length c.args.state.marks ≡ length c.args.problem.now.atoms → Follows (rule_in (problem_of c.args.problem.now) s lemmas c.args.state (line_of l)) o))
     (sym c.in-Void.is) c.void.ensures.follows
 
+pub returns-in-Push-clause-follows : goal.returns-in-Push-clause-follows
+returns-in-Push-clause-follows c =
+    subst (λ (l : Line). IfOk c.push.result (λ (o : Option Left). (s : Loosenings) (lemmas : List State) → s.margin_bits ≡ c.args.margin_bits → length c.args.state.marks ≡ length c.args.problem.now.atoms → Follows (rule_in (problem_of c.args.problem.now) s lemmas c.args.state (line_of l)) o))
+    (sym c.in-Push.is) c.push.ensures.follows
+
+pub returns-in-Push-clause-end : goal.returns-in-Push-clause-end
+returns-in-Push-clause-end c =
+    subst (λ (l : Line). IfOk c.push.result (λ (o : Option Left). IfSome o (EndsBy c.args.state (line_of l)))) (sym c.in-Push.is) c.push.ensures.end
+
+pub returns-in-VoidNo-clause-follows : goal.returns-in-VoidNo-clause-follows
+returns-in-VoidNo-clause-follows c =
+    subst (λ (l : Line). IfOk c.void_no.result (λ (o : Option Left). (s : Loosenings) (lemmas : List State) → s.margin_bits ≡ c.args.margin_bits → length c.args.state.marks ≡ length c.args.problem.now.atoms → Follows (rule_in (problem_of c.args.problem.now) s lemmas c.args.state (line_of l)) o))
+    (sym c.in-VoidNo.is) c.void_no.ensures.follows
+
 pub returns-in-Case-clause-follows : goal.returns-in-Case-clause-follows
 returns-in-Case-clause-follows c =
     subst (λ (l : Line). IfOk c.case.result (λ (o : Option Left). (s : Loosenings) (lemmas : List State) → s.margin_bits ≡ c.args.margin_bits → length c.args.state.marks ≡ length c.args.problem.now.atoms → Follows (rule_in (problem_of c.args.problem.now) s lemmas c.args.state (line_of l)) o))

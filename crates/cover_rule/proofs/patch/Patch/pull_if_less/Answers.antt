@@ -1,4 +1,6 @@
 use Rattle.cover_rule.specs.Models.{PatchModel}
+use Rattle.cover_rule.specs.Patch.{narrowing_in}
+use Rattle.cover_rule.specs.Refusals.{pull_refusal, pulled_by}
 use Rattle.cover_rule.specs.Held.{patch_of}
 use Rattle.cover_rule.proofs.Helds.{held_with, run_if_less, run_pulled}
 use Rattle.cover_rule.proofs.patch.Patch.pull_if_less.Goals as goal
@@ -8,5 +10,5 @@ invariant_of-self c =
     let i = c.self.inside in let h = c.self.invariant in let p = i.problem.now in let k = i.kept in let k' = c.pull_if_less.new.kept in let r = c.pull_if_less.result in
     let P : PatchModel = patch_of p i.margins k in let Q : PatchModel = patch_of p i.margins k' in
     held_with p i.margins k k' i.work c.pull_if_less.new.work h
-    (run_if_less P Q c.args.j r c.pull_if_less.ensures.answer h.run (λ f e. run_pulled P h.whole h.run c.args.j f e) c.pull_if_less.ensures.fits)
+    (run_if_less (narrowing_in P c.args.j) (pull_refusal P c.args.j) P (pulled_by P c.args.j) Q r c.pull_if_less.ensures.answer h.run (λ f e. run_pulled P h.whole h.run c.args.j f e) c.pull_if_less.ensures.fits)
     c.pull_if_less.ensures.ready
