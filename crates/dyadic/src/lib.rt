@@ -11,6 +11,7 @@ mod compare;
 mod divide;
 mod dy;
 mod dy_text;
+mod exact_root;
 mod frac;
 mod frac_order;
 mod frac_steps;
