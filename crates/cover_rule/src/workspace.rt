@@ -20,6 +20,10 @@ pub struct Workspace {
     pub spare: Space,
     /// The middle of the present space.
     pub middle: Space,
+    /// Of each atom whether narrowing by it is known to leave something of the present space.
+    pub leaves: Vec<bool, Global>,
+    /// Whether the form is known not to be sure at the middle of the present space.
+    pub unsure: bool,
 }
 
 // A space of so many axes, for others to be put in.
@@ -47,12 +51,15 @@ impl Workspace {
         let marks = Marks::new(alloc, problem)?;
         let spare = room_for(alloc, axes)?;
         let middle = room_for(alloc, axes)?;
+        let leaves = vec![in alloc; false; problem.atoms().len()]?;
         Ok(Workspace {
             rows,
             scratch,
             marks,
             spare,
             middle,
+            leaves,
+            unsure: false,
         })
     }
 }
