@@ -251,7 +251,8 @@ pub fn see(
     requires problem { patch.now.problem ≡ problem.now }
     requires margins { AreMargins margins.now }
 {
-    look(alloc, problem, margins, patch.reached())
+    let _ = problem.axes();
+    look(alloc, problem, margins, patch.rows(), patch.reached())
 }
 
 /// Whether an atom is not marked.

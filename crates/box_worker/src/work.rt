@@ -31,14 +31,18 @@ fn middle_point(
     alloc: Global,
     problem: &Problem,
     margins: &Margins,
-    patch: &Patch,
+    patch: &mut Patch,
 ) -> Result<Option<Point>, AllocError>
-    requires problem { patch.now.problem ≡ problem.now }
-    requires margins { patch.now.margins ≡ margins.now }
+    requires problem { patch.old.problem ≡ problem.now }
+    requires margins { patch.old.margins ≡ margins.now }
     requires bits { AreMargins margins.now }
-    requires root { IsTrue (space_within patch.now.kept.first.space (root_space (problem_of problem.now))) }
-    ensures { IfOk result (λ o. MatchOption o (IsTrue (not (sure (problem_of problem.now) (loosenings_of margins.now) (middle patch.now.kept.reached.space)))) (λ x. (x ≡ middle patch.now.kept.reached.space) × IsShownAt (problem_of problem.now) (loosenings_of margins.now) x)) }
+    requires root { IsTrue (space_within patch.old.kept.first.space (root_space (problem_of problem.now))) }
+    ensures middle { IfOk result (λ o. MatchOption o (IsTrue (not (sure (problem_of problem.now) (loosenings_of margins.now) (middle patch.old.kept.reached.space)))) (λ x. (x ≡ middle patch.old.kept.reached.space) × IsShownAt (problem_of problem.now) (loosenings_of margins.now) x)) }
+    ensures same { patch.new ≡ patch.old }
 {
+    if !patch.is_sure_at_middle() {
+        return Ok(None);
+    }
     Point::of_middle(alloc, problem, margins, patch.reached().space())
 }
 
