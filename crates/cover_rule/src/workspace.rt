@@ -1,5 +1,5 @@
 // Room for work on states.
-ghost use Rattle.std.specs.Prelude.{◌≡◌, ◌<◌, length, IfOk};
+ghost use Rattle.std.specs.Prelude.{◌≡◌, ◌<◌, length, true, IfOk};
 ghost use Rattle.ival.specs.SpaceViews.{space_of};
 
 use ival::{Domain, Rows, Space, Truths};
@@ -61,5 +61,19 @@ impl Workspace {
             leaves,
             unsure: false,
         })
+    }
+
+    /// Whether there is room for the problem.
+    pub fn has_room(&self, problem: &Problem) -> bool
+        ensures { result ≡ true → HasRoom problem.now self.now }
+    {
+        let nodes = problem.graph().len();
+        let axes = problem.axes().len();
+        self.rows.len() == nodes
+            && self.scratch.len() == nodes
+            && self.marks.truths.len() == problem.forms().len()
+            && self.spare.len() == axes
+            && self.middle.len() == axes
+            && self.leaves.len() == problem.atoms().len()
     }
 }

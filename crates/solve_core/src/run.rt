@@ -10,6 +10,7 @@ ghost use Rattle.solve_core.specs.Left.{LeavesDue};
 
 use crate::gate::Gate;
 use crate::search::Search;
+use box_worker::Room;
 use cover_book::Book;
 use cover_data::Options;
 use poly_graph::Problem;
@@ -37,9 +38,10 @@ pub fn solve<G: Gate>(
     ensures left { IfOk result (λ b. LeavesDue b) }
 {
     let mut search = Search::begin(alloc, problem, options)?;
+    let mut room = Room::new();
     while let Some(node) = search.next() {
         gate.began(0, node);
-        let done = search.visit(alloc, node);
+        let done = search.visit(alloc, &mut room, node);
         gate.ended(0, node);
         done?;
     }

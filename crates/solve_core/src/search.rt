@@ -6,7 +6,7 @@ ghost use Rattle.cover_book.specs.Model.{opening};
 ghost use Rattle.solve_core.specs.Reaches.{Reaches};
 ghost use Rattle.solve_core.specs.Search.{IsSearch, CanFind, CanCommit, CanLearn, CanHand, IsOver, work_left};
 
-use box_worker::{Worked, work_on};
+use box_worker::{Room, Worked, work_in};
 use cover_book::{Book, BookRefusal, Kids};
 use cover_data::{ClosedPatch, KeptPatch, Lemma, Options, Point};
 use poly_graph::{FormNode, Problem};
@@ -155,8 +155,8 @@ impl Search {
         }
     }
 
-    /// Works on a node that is not among those that wait, and has the book keep what comes of it.
-    pub fn visit(&mut self, alloc: Global, node: u32) -> Result<(), AllocError>
+    /// Works on a node that is not among those that wait, in this room, and has the book keep what comes of it.
+    pub fn visit(&mut self, alloc: Global, room: &mut Room, node: u32) -> Result<(), AllocError>
         requires search { IsSearch self.old (self.old.waiting.items ++ (node ∷ [])) }
         requires no_point { self.old.book.point ≡ None }
         ensures search { OnOk result (IsSearch self.new self.new.waiting.items) }
@@ -167,8 +167,9 @@ impl Search {
             Ok(state) => state,
             Err(refusal) => return unless_memory(refusal),
         };
-        match work_on(
+        match work_in(
             alloc,
+            room,
             self.book.problem(),
             self.book.options(),
             state,

@@ -7,7 +7,7 @@ use Rattle.box_worker.specs.Attempts.{AreAmong}
 use Rattle.box_worker.specs.Ended.{AtOnce}
 use Rattle.box_worker.specs.Worked.{margins_of, AnswersAtOnce, IsWork, WorkOf}
 use Rattle.box_worker.proofs.Works.{margins_are, begun, is_begun, at_once_is, none_at_once, work_is, if_ok_then}
-use Rattle.box_worker.proofs.work.work_on.Goals as goal
+use Rattle.box_worker.proofs.work.work_in.Goals as goal
 
 pub returns-in-Some-clause-at_once : goal.returns-in-Some-clause-at_once
 returns-in-Some-clause-at_once c =
@@ -40,6 +40,6 @@ returns-clause-work c =
     let a : AtOnce lemmas P Q None = subst (AtOnce lemmas P Q) c.in_default.is c.in_ok-ended.ensures in
     let first : Q.kept.first ≡ S = ap (λ (X : PatchModel). X.kept.first) a.0 ∙ ap (λ (k : KeptModel). k.first) c.in_ok-patch.ensures.kept in
     let e : c.margins-margins.result ≡ m = margins_are c.margins-margins.result c.args.options.now c.margins-margins.ensures.delta c.margins-margins.ensures.margin c.margins-margins.ensures.least in
-    let k = c.in_ok-ended-2.ensures.continues in let o = c.take_steps.ensures in
+    let k = c.in_ok-ended-2.ensures.continues in let o = c.contract.ensures in
     if_ok_then (WorkOf Z) (IsWork (problem_of q) m lemmas S) c.worked-2.result
     (λ w h. work_is q m lemmas S Z w (k.problem ∙ o.problem) (k.margins ∙ o.margins ∙ e) (k.first ∙ o.first ∙ first) (subst (AreAmong lemmas) (sym k.quoted) o.among) h) c.worked-2.ensures
