@@ -2,3 +2,4 @@ pub mod Filling
 pub mod Leaves
 pub mod Sweeping
 pub mod Skipped
+pub mod Upwards
