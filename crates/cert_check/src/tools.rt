@@ -2,6 +2,8 @@
 ghost use Rattle.std.specs.Prelude.{◌≡◌, ◌<◌, ◌≤◌, length, IfOk};
 ghost use Rattle.cover_model.specs.Space.{range};
 ghost use Rattle.cover_model.specs.State.{may};
+ghost use Rattle.cover_model.specs.Narrowed.{enclosures};
+ghost use Rattle.plain_eval.specs.Rows.{AreEnclosures};
 ghost use Rattle.poly_graph.specs.Problem.{atom_at};
 ghost use Rattle.poly_graph.specs.ProblemViews.{problem_of};
 ghost use Rattle.poly_graph.specs.Views.{atom_of};
@@ -15,14 +17,16 @@ ghost use Rattle.cert_check.specs.Serving.{Serves};
 
 use crate::state::State;
 use ival::{Ival, Narrowed, Rows, Space};
-use plain_eval::{enclose, narrow_plain};
-use poly_graph::{Atom, Problem};
+use plain_eval::{Upward, enclose, follow, narrow_enclosed};
+use poly_graph::{Atom, Graph, Problem};
 use std::alloc::{AllocError, Global};
 use truth3::{Marks, kind_range, may, sure};
 
-/// Rows and truth values for the nodes of a problem, made once.
+/// Rows and truth values for the nodes of a problem, made once. The rows are the enclosures over the space that was
+/// looked at last, so that a line costs what stands above the axes that changed since.
 #[derive(Drop)]
 pub struct Tools {
+    pub upward: Upward,
     pub rows: Rows,
     pub scratch: Rows,
     pub marks: Marks,
@@ -38,6 +42,19 @@ fn atom_at(problem: &Problem, j: u32) -> Atom
     atoms[j as usize]
 }
 
+// Rows to begin with: the enclosures over a space without axes.
+fn first_rows(alloc: Global, graph: &Graph) -> Result<Rows, AllocError>
+    ensures { IfOk result (λ r. AreEnclosures graph.now (rows_of r)) }
+{
+    let nodes = graph.len();
+    let mut rows = Rows::new(alloc, nodes)?;
+    let space = Space::with_capacity(alloc, 0)?;
+    if nodes > 0 {
+        let _ = enclose(graph, (nodes - 1) as u32, &space, &mut rows);
+    }
+    Ok(rows)
+}
+
 impl Tools {
     /// Those that serve the problem. Of more atoms than lines can name there are none.
     pub fn new(alloc: Global, problem: &Problem) -> Result<Tools, AllocError>
@@ -46,28 +63,27 @@ impl Tools {
         if problem.atoms().len() > u32::MAX as usize {
             return Err(AllocError);
         }
-        let nodes = problem.graph().len();
-        let rows = Rows::new(alloc, nodes)?;
-        let scratch = Rows::new(alloc, nodes)?;
+        let graph = problem.graph();
+        let upward = Upward::new(alloc, graph)?;
+        let rows = first_rows(alloc, graph)?;
+        let scratch = Rows::new(alloc, graph.len())?;
         let marks = Marks::new(alloc, problem)?;
         Ok(Tools {
+            upward,
             rows,
             scratch,
             marks,
         })
     }
 
-    // Puts the enclosures of all nodes into the rows.
-    fn fill(&mut self, problem: &Problem, space: &Space)
+    // Lets the rows follow to the space.
+    fn follow(&mut self, problem: &Problem, space: &Space)
         requires { Serves problem.now self.old }
+        ensures all { rows_of self.new.rows ≡ enclosures (space_of space.now) problem.now.nodes }
         ensures rows { HasRows problem.now (space_of space.now) (rows_of self.new.rows) }
         ensures serves { Serves problem.now self.new }
     {
-        let graph = problem.graph();
-        let nodes = graph.len();
-        if nodes > 0 {
-            let _ = enclose(graph, (nodes - 1) as u32, space, &mut self.rows);
-        }
+        follow(problem.graph(), &self.upward, space, &mut self.rows);
     }
 
     /// Whether the form may hold at a point of the state.
@@ -78,7 +94,7 @@ impl Tools {
         ensures truth { result ≡ may (problem_of problem.now) (pruning margin) (state_of state.now) }
         ensures serves { Serves problem.now self.new }
     {
-        self.fill(problem, &state.space);
+        self.follow(problem, &state.space);
         may(
             problem,
             &self.rows,
@@ -96,7 +112,7 @@ impl Tools {
         ensures truth { result ≡ is_sure_over problem.now delta space.now }
         ensures serves { Serves problem.now self.new }
     {
-        self.fill(problem, space);
+        self.follow(problem, space);
         sure(problem, &self.rows, space, delta, &mut self.marks)
     }
 
@@ -108,7 +124,8 @@ impl Tools {
         ensures serves { Serves problem.now self.new }
     {
         let atom = atom_at(problem, j);
-        enclose(problem.graph(), atom.term, space, &mut self.rows)
+        self.follow(problem, space);
+        self.rows.get(atom.term as usize)
     }
 
     /// Whether the atom's enclosure misses its range at the margin.
@@ -144,11 +161,12 @@ impl Tools {
         ensures serves { Serves problem.now self.new }
     {
         let atom = atom_at(problem, j);
-        narrow_plain(
+        self.follow(problem, space);
+        narrow_enclosed(
             problem.graph(),
             &atom,
             margin,
-            &mut self.rows,
+            &self.rows,
             &mut self.scratch,
             space,
         )

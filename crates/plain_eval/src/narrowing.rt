@@ -13,6 +13,35 @@ use cover_model::range_ends;
 use ival::{Ival, Narrowed, Rows, Space};
 use poly_graph::{Atom, Graph};
 
+/// As `narrow_plain`, where the rows are the enclosures over the space already: only nodes under the atom are looked
+/// at.
+pub fn narrow_enclosed(
+    graph: &Graph,
+    atom: &Atom,
+    loosen: u32,
+    rows: &Rows,
+    scratch: &mut Rows,
+    space: &mut Space,
+) -> Narrowed
+    requires loosen { loosen ≤ 120 }
+    requires place { atom.now.term < length graph.now }
+    requires rows { rows_of rows.now ≡ enclosures (space_of space.old) graph.now }
+    requires scratch { length (rows_of scratch.old) ≡ length graph.now }
+    ensures narrowed { IsNarrowedByAtom graph.now atom.now loosen space.old space.new result }
+    ensures scratch { length (rows_of scratch.new) ≡ length graph.now }
+{
+    let (low, high) = range_ends(atom.kind, loosen);
+    narrow_rows(graph, atom.term, Ival::new(low, high), rows, scratch);
+    if some_empty(scratch) {
+        return Narrowed::Empty;
+    }
+    if narrow_axes(graph, scratch, space) {
+        Narrowed::Less
+    } else {
+        Narrowed::Same
+    }
+}
+
 /// Leaves of the space what an atom leaves of it that holds but for 2 to the power of minus `loosen`, and tells
 /// whether that is less; where it is nothing the space stays as it was. There are as many rows and as many rows
 /// of scratch as nodes; after it the rows are the enclosures over the space as it was.
@@ -32,17 +61,7 @@ pub fn narrow_plain(
     ensures rows { rows_of rows.new ≡ enclosures (space_of space.old) graph.now }
     ensures scratch { length (rows_of scratch.new) ≡ length graph.now }
 {
-    let (low, high) = range_ends(atom.kind, loosen);
-    let range = Ival::new(low, high);
     let last = graph.len() - 1;
     let _ = enclose(graph, last as u32, space, rows);
-    narrow_rows(graph, atom.term, range, rows, scratch);
-    if some_empty(scratch) {
-        return Narrowed::Empty;
-    }
-    if narrow_axes(graph, scratch, space) {
-        Narrowed::Less
-    } else {
-        Narrowed::Same
-    }
+    narrow_enclosed(graph, atom, loosen, rows, scratch, space)
 }

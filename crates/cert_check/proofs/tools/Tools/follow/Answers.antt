@@ -1,0 +1,28 @@
+use Rattle.std.proofs.Common.{◌≡◌, List, ap, ◌∙◌, length}
+use Rattle.interval_model.specs.Interval.{Interval}
+use Rattle.poly_graph.specs.Term.{Node}
+use Rattle.cover_model.specs.Narrowed.{enclosures}
+use Rattle.cover_model.specs.NodeEnclosure.{row}
+use Rattle.cover_model.proofs.NodeEnclosures.{length_enclosures}
+use Rattle.ival.specs.RowViews.{rows_of}
+use Rattle.ival.specs.SpaceViews.{space_of}
+use Rattle.cert_check.proofs.Rows.{has_rows}
+use Rattle.cert_check.proofs.tools.Tools.follow.Goals as goal
+
+pub returns-clause-rows : goal.returns-clause-rows
+returns-clause-rows c =
+    let p = c.args.problem.now in let space = space_of c.args.space.now in
+    let all : rows_of c.follow.new.rows ≡ enclosures space p.nodes = c.follow.ensures ∙ ap (λ (ns : List Node). enclosures space ns) c.graph.ensures.graph in
+    has_rows p space (rows_of c.follow.new.rows) c.graph.ensures.whole (ap length all ∙ length_enclosures space p.nodes) (λ k h. ap (λ (es : List Interval). row es k) all)
+
+pub returns-clause-serves : goal.returns-clause-serves
+returns-clause-serves c = record {
+  upward = c.requires.upward;
+  rows = record {
+    space = space_of c.args.space.now;
+    filled = c.follow.ensures ∙ ap (λ (ns : List Node). enclosures (space_of c.args.space.now) ns) c.graph.ensures.graph;
+  };
+  scratch = c.requires.scratch;
+  truths = c.requires.truths;
+  few = c.requires.few;
+}
