@@ -8,6 +8,7 @@ pub mod Middle
 pub mod NarrowedAt
 pub mod Narrows
 pub mod NodeEnclosures
+pub mod OffRanges
 pub mod Proved
 pub mod Ranges
 pub mod Root

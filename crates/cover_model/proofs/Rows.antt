@@ -1,12 +1,14 @@
 -- Small problems, computed.
-use Rattle.std.specs.Prelude.{◌≡◌, ℕ, [], ◌∷◌, true, false, pos, negsuc, ◌^◌, ◌*◌, ◌-◌, ◌+◌, refl, Some}
+use Rattle.std.specs.Prelude.{◌≡◌, ℕ, [], ◌∷◌, true, false, pos, negsuc, ◌^◌, ◌*◌, ◌-◌, ◌+◌, refl, Some, None}
 use Rattle.dyadic.specs.Fraction.{Fraction}
 use Rattle.dyadic.specs.Rounding.{Dyadic, finite}
 use Rattle.interval_model.specs.Interval.{between}
-use Rattle.poly_graph.specs.Term.{le, eq, constant_node, variable_node, negate_node, add_node, multiply_node, square_node}
+use Rattle.poly_graph.specs.Term.{le, ge, eq, constant_node, variable_node, negate_node, add_node, multiply_node, square_node}
 use Rattle.poly_graph.specs.Form.{atom_is, all_form, no_forms, more_forms}
 use Rattle.interval_model.specs.Space.{real_domain, widest}
 use Rattle.poly_graph.specs.Problem.{Problem, Axis, real_between}
+use Rattle.cover_model.specs.Narrowed.{narrowed_by}
+use Rattle.cover_model.specs.OffRange.{off_range}
 use Rattle.cover_model.specs.Root.{root_space}
 use Rattle.cover_model.specs.State.{State, Loosenings, root_state, with_yes, with_no, with_space, atom_enclosure, may}
 use Rattle.cover_model.specs.Rules.{make_false, unit, cut, stuck, one, two, lemma_covers, narrowing, rule}
@@ -158,3 +160,26 @@ two_places_narrow : narrowing two_places loosenings (root_state two_places) 0 �
     Some (real_domain (record { units = negsuc (3255930600253477866124759220336197632 - 1) }) (record { units = pos (2 * 2 ^ 120 + 2 ^ 100) }) ∷ [])
 unfolding Rattle.dyadic.specs.Fraction.negated Rattle.dyadic.specs.Fraction.sum_of Rattle.dyadic.specs.Fraction.product_of Rattle.dyadic.specs.Fraction.quotient_of Rattle.dyadic.specs.Fraction.at_most
 two_places_narrow = refl
+
+-- x from 0 to 1, x <= 1/4, where the atom fails: x is above 1/4 by more than the margin
+abbrev pub quarter : Problem
+quarter = record {
+  axes = axis 120 (fraction 0 1) (fraction 1 1) ∷ [];
+  nodes = variable_node 0 ∷ constant_node (fraction 1 4) ∷ negate_node 1 ∷ add_node 0 2 ∷ [];
+  atoms = (3, le) ∷ [];
+  form = all_form (more_forms (atom_is 0) no_forms);
+}
+
+quarter_off : narrowed_by quarter.nodes 3 (off_range (dyadic 1 20) le) (root_space quarter) ≡ Some (real_domain (dyadic 262145 20) (dyadic 1 0) ∷ [])
+unfolding Rattle.dyadic.specs.Fraction.negated Rattle.dyadic.specs.Fraction.sum_of Rattle.dyadic.specs.Fraction.product_of Rattle.dyadic.specs.Fraction.quotient_of Rattle.dyadic.specs.Fraction.at_most
+quarter_off = refl
+
+-- from 0 to 1/4 there is no such x
+quarter_off_below : narrowed_by quarter.nodes 3 (off_range (dyadic 1 20) le) (real_domain (dyadic 0 0) (dyadic 1 2) ∷ []) ≡ None
+unfolding Rattle.dyadic.specs.Fraction.negated Rattle.dyadic.specs.Fraction.sum_of Rattle.dyadic.specs.Fraction.product_of Rattle.dyadic.specs.Fraction.quotient_of Rattle.dyadic.specs.Fraction.at_most
+quarter_off_below = refl
+
+-- x >= 1/4, where the atom fails: x is below 1/4 by more than the margin
+quarter_off_above : narrowed_by quarter.nodes 3 (off_range (dyadic 1 20) ge) (root_space quarter) ≡ Some (real_domain (dyadic 0 0) (dyadic 262143 20) ∷ [])
+unfolding Rattle.dyadic.specs.Fraction.negated Rattle.dyadic.specs.Fraction.sum_of Rattle.dyadic.specs.Fraction.product_of Rattle.dyadic.specs.Fraction.quotient_of Rattle.dyadic.specs.Fraction.at_most
+quarter_off_above = refl

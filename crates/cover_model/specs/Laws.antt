@@ -11,6 +11,7 @@ use Rattle.cover_model.specs.Root.{root_space}
 use Rattle.cover_model.specs.State.{State, Loosenings, root_state, delta_of, may, sure_within, IsPointOf, MeetsForm, MeetsAt, IsLemma, covers}
 use Rattle.cover_model.specs.Fits.{IsShownAt, coordinates}
 use Rattle.cover_model.specs.Narrowed.{narrowed_by}
+use Rattle.cover_model.specs.OffRange.{off_range}
 use Rattle.cover_model.specs.Rules.{Line, rule, is_stuck_atom}
 use Rattle.cover_model.specs.Honest.{not_shown, is_small, none_below}
 use Rattle.cover_model.specs.Derivation.{Tree, Lawful, KeepsIf, LiesWithinIf, EachWithin, Among, AreLemmas}
@@ -31,7 +32,13 @@ NarrowingKeeps = (p : Problem) → IsProblem p → (space : Space) (point : List
     (j bits : ℕ) → IsTrue (atom_holds (exact (two_to_minus bits)) point (full_atom p j)) →
     (narrow : Space) × (narrowed_by p.nodes (atom_at p j).0 (range (two_to_minus bits) (atom_at p j).1) space ≡ Some narrow) × IsTrue (in_space narrow point)
 
--- The narrowed space lies within the space.
+-- Narrowing by the off-range of an atom drops no point of the space at which the atom fails at the loosening, and is not empty where there is such a point.
+abbrev pub NarrowingOffKeeps : Type 0
+NarrowingOffKeeps = (p : Problem) → IsProblem p → (space : Space) (point : List Coordinate) → IsPoint (sorts_of_problem p) point → IsTrue (in_space space point) →
+    (j bits : ℕ) → IsTrue (not (atom_holds (exact (two_to_minus bits)) point (full_atom p j))) →
+    (narrow : Space) × (narrowed_by p.nodes (atom_at p j).0 (off_range (two_to_minus bits) (atom_at p j).1) space ≡ Some narrow) × IsTrue (in_space narrow point)
+
+-- The narrowed space lies within the space, whatever the range.
 abbrev pub NarrowingLiesWithin : Type 0
 NarrowingLiesWithin = (p : Problem) → IsProblem p → (space narrow : Space) (node : ℕ) (i : Interval) → narrowed_by p.nodes node i space ≡ Some narrow → IsTrue (space_within narrow space)
 

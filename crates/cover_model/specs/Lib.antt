@@ -5,6 +5,7 @@ pub mod Honest
 pub mod Laws
 pub mod Narrowed
 pub mod NodeEnclosure
+pub mod OffRange
 pub mod Root
 pub mod Rules
 pub mod Space

@@ -1,6 +1,6 @@
 //! What is proved of the definitions: each function here does nothing, and its contract is a law.
 
-ghost use Rattle.cover_model.specs.Laws.{EnclosureHolds, EnclosureIsIsotone, NarrowingKeeps, NarrowingLiesWithin, MayIsTrue, SureMeans, ShownPointMeets, RuleKeeps, TreeKeeps, ClosedTreeHasNone, RuleLiesWithin, TreeLiesWithin, CoveredPoints, RootHasDeclaredBox, CrossedBoxIsEmpty, MiddleLiesWithin, RootIsUpright, SomeAtomIsStuck};
+ghost use Rattle.cover_model.specs.Laws.{EnclosureHolds, EnclosureIsIsotone, NarrowingKeeps, NarrowingOffKeeps, NarrowingLiesWithin, MayIsTrue, SureMeans, ShownPointMeets, RuleKeeps, TreeKeeps, ClosedTreeHasNone, RuleLiesWithin, TreeLiesWithin, CoveredPoints, RootHasDeclaredBox, CrossedBoxIsEmpty, MiddleLiesWithin, RootIsUpright, SomeAtomIsStuck};
 
 /// The enclosure of a term over a space holds the term's value at each point of the space.
 pub fn enclosures_hold()
@@ -17,7 +17,13 @@ pub fn narrowing_keeps()
     ensures { NarrowingKeeps }
 {}
 
-/// The narrowed space lies within the space.
+/// Narrowing by an atom's off-range drops no point of the space at which the atom fails, and is not empty where there is
+/// one.
+pub fn narrowing_off_keeps()
+    ensures { NarrowingOffKeeps }
+{}
+
+/// The narrowed space lies within the space, by a range or an off-range.
 pub fn narrowing_lies_within()
     ensures { NarrowingLiesWithin }
 {}

@@ -1,8 +1,9 @@
-// The range of a kind, as its two ends.
+// The range and the off-range of a kind, each as its two ends.
 ghost use Rattle.std.specs.Prelude.{◌≡◌, ◌≤◌};
 ghost use Rattle.dyadic.specs.Rounding.{two_to_minus};
 ghost use Rattle.interval_model.specs.Interval.{between};
 ghost use Rattle.dyadic.specs.Views.{ext_of};
+ghost use Rattle.cover_model.specs.OffRange.{off_range};
 ghost use Rattle.cover_model.specs.Space.{range};
 ghost use Rattle.poly_graph.specs.Views.{kind_of};
 
@@ -19,5 +20,19 @@ pub fn range_ends(kind: Kind, loosen: u32) -> (Ext, Ext)
         Kind::Le => (Ext::NegInf, Ext::Fin(margin)),
         Kind::Ge => (Ext::Fin(margin.neg()), Ext::PosInf),
         Kind::Eq => (Ext::Fin(margin.neg()), Ext::Fin(margin)),
+    }
+}
+
+/// The ends of the kind's off-range, loosened by 2 to the power of minus `loosen`: where the term's value lies where
+/// an atom of this kind fails.
+pub fn off_range_ends(kind: Kind, loosen: u32) -> (Ext, Ext)
+    requires { loosen ≤ 120 }
+    ensures { between (ext_of result.0) (ext_of result.1) ≡ off_range (two_to_minus loosen) (kind_of kind) }
+{
+    let margin = two_to_minus(loosen);
+    match kind {
+        Kind::Le => (Ext::Fin(margin), Ext::PosInf),
+        Kind::Ge => (Ext::NegInf, Ext::Fin(margin.neg())),
+        Kind::Eq => (Ext::NegInf, Ext::PosInf),
     }
 }

@@ -9,4 +9,4 @@ mod narrowing;
 mod push;
 mod sweep;
 
-pub use narrowing::narrow;
+pub use narrowing::{narrow, narrow_off};

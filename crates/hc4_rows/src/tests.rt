@@ -1,9 +1,9 @@
 // Small graphs on which both ways of the passes agree, and ends that were computed by hand.
 use dyadic::{Dy, Ext, Frac, add_up, at_most, down_frac, mul_up, pow2};
-use hc4_bwd::narrow;
+use hc4_bwd::{narrow, narrow_off};
 use hc4_fwd::{Above, fill, refill, refill_by};
 use ival::{Domain, Narrowed, Range, Rows, Space};
-use plain_eval::{enclose, narrow_plain};
+use plain_eval::{enclose, narrow_off_plain, narrow_plain};
 use poly_graph::{Atom, Graph, Kind, Node, is_after};
 use std::alloc::{AllocError, Global};
 use std::test::Fail;
@@ -139,6 +139,34 @@ fn narrowed(
     }
 }
 
+// Narrows the space by the last node where it fails, by the sweep and the plain way; no answer where they differ.
+fn narrowed_off(
+    alloc: Global,
+    graph: &Graph,
+    kind: Kind,
+    space: &mut Space,
+) -> Result<Option<Narrowed>, AllocError> {
+    let count = graph.len();
+    if count == 0 {
+        return Ok(None);
+    }
+    let atom = Atom {
+        term: (count - 1) as u32,
+        kind,
+    };
+    let mut rows = Rows::new(alloc, count)?;
+    let mut scratch = Rows::new(alloc, count)?;
+    let mut other = space.try_clone(alloc)?;
+    let plain = narrow_off_plain(graph, &atom, 20, &mut rows, &mut scratch, &mut other);
+    fill(graph, space, &mut rows);
+    let answer = narrow_off(graph, &atom, 20, &rows, &mut scratch, space);
+    if answer == plain && same_space(space, &other) {
+        Ok(Some(answer))
+    } else {
+        Ok(None)
+    }
+}
+
 // Whether a fill gives the enclosure of the last node.
 fn fills_alike(alloc: Global, graph: &Graph, space: &Space) -> Result<bool, AllocError> {
     let count = graph.len();
@@ -265,5 +293,35 @@ fn rows_are_renewed_upwards(rt: HostRuntime) -> Result<(), Fail> {
         let mut space = square(alloc, pow2(0).neg(), pow2(1))?;
         assert!(rt; refilled_alike(alloc, &graph, &mut space, Domain::Real(range))?);
     }
+    Ok(())
+}
+
+#[test]
+fn failing_atoms_narrow(rt: HostRuntime) -> Result<(), Fail> {
+    let alloc = rt.alloc();
+    let minus_quarter = Node::Const(Frac::new(-1, 4));
+    let graph = graph_of(alloc, &[Node::Var(0), minus_quarter, Node::Add(0, 1)])?;
+    let mut space = square(alloc, Dy::ZERO, pow2(0))?;
+    assert_eq!(rt;
+        narrowed_off(alloc, &graph, Kind::Le, &mut space)?,
+        Some(Narrowed::Less)
+    );
+    let Some(Domain::Real(range)) = left(&space, 0) else {
+        return Err(Fail::from("no range"));
+    };
+    // x is above 1/4 by at least 2^-20, and still at most 1
+    let least = add_up(Ext::Fin(pow2(-2)), Ext::Fin(pow2(-20)));
+    assert_eq!(rt; Ext::Fin(range.low), least);
+    assert_eq!(rt; range.high, pow2(0));
+    // nowhere there is it below 1/4, and an equation that fails says nothing of it
+    assert_eq!(rt;
+        narrowed_off(alloc, &graph, Kind::Ge, &mut space)?,
+        Some(Narrowed::Empty)
+    );
+    assert_eq!(rt; left(&space, 0), Some(Domain::Real(range)));
+    assert_eq!(rt;
+        narrowed_off(alloc, &graph, Kind::Eq, &mut space)?,
+        Some(Narrowed::Same)
+    );
     Ok(())
 }

@@ -19,5 +19,5 @@ mod upward;
 
 pub use enclosing::enclose;
 pub use following::follow;
-pub use narrowing::{narrow_enclosed, narrow_plain};
+pub use narrowing::{narrow_enclosed, narrow_off_plain, narrow_plain};
 pub use upward::Upward;

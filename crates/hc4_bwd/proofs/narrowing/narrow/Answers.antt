@@ -1,24 +1,14 @@
-use Rattle.std.proofs.Common.{◌≡◌, List, Option, None, get_or, subst, length, ap, ap₂, sym, ◌∙◌, refl}
+use Rattle.std.proofs.Common.{◌∙◌, subst}
 use Rattle.dyadic.specs.Rounding.{two_to_minus}
-use Rattle.interval_model.specs.Interval.{Interval}
 use Rattle.dyadic.specs.Views.{ext_of}
-use Rattle.poly_graph.specs.Term.{variable_node}
+use Rattle.interval_model.specs.Interval.{Interval}
 use Rattle.cover_model.specs.Space.{range}
-use Rattle.cover_model.specs.Narrowed.{enclosures, narrowed, with_axes}
-use Rattle.poly_graph.specs.Views.{kind_of}
-use Rattle.cover_model.proofs.NodeEnclosures.{length_enclosures}
-use Rattle.cover_model.proofs.NarrowedAt.{length_narrowed}
-use Rattle.cover_model.proofs.Axes.{told_empty, told_space}
+use Rattle.cover_model.specs.Narrowed.{narrowed_by}
 use Rattle.cover_model.proofs.Ranges.{range_proper}
-use Rattle.ival.specs.Views.{interval_of}
-use Rattle.ival.specs.RowViews.{rows_of}
+use Rattle.poly_graph.specs.Views.{kind_of}
+use Rattle.ival.specs.Narrows.{IsNarrowed}
 use Rattle.ival.specs.SpaceViews.{space_of}
-use Rattle.ival.specs.Options.{options_of, option_at}
 use Rattle.ival.proofs.Proper.{new_is, ends_from, low_of, high_of}
-use Rattle.ival.proofs.Optional.{length_options}
-use Rattle.hc4_bwd.proofs.Skipped.{axes_stand}
-use Rattle.hc4_bwd.proofs.Unnarrowed.{variable_row}
-use Rattle.hc4_bwd.specs.Sweeps.{StandsFor}
 use Rattle.hc4_bwd.proofs.narrowing.narrow.Goals as goal
 
 pub new-requires-clause-low : goal.new-requires-clause-low
@@ -29,46 +19,8 @@ pub new-requires-clause-high : goal.new-requires-clause-high
 new-requires-clause-high c = let l = ext_of c.range_ends-low.result.0 in let h = ext_of c.range_ends-low.result.1 in let kind = kind_of c.args.atom.now.kind in
     high_of l h (ends_from l h (range (two_to_minus c.args.loosen) kind) c.range_ends-low.ensures (range_proper c.args.loosen kind))
 
-pub sweep-requires-clause-rows : goal.sweep-requires-clause-rows
-sweep-requires-clause-rows c = ap length c.requires.rows ∙ length_enclosures (space_of c.args.space.now) c.args.graph.now
-
-pub prove_eq-unreachable-requires : goal.prove_eq-unreachable-requires
-prove_eq-unreachable-requires c = c.if-prove_eq.true (c.len.ensures ∙ ap length c.requires.rows ∙ length_enclosures (space_of c.args.space.now) c.args.graph.now ∙ sym c.len-2.ensures.len)
-
-pub sweep-requires-clause-enclosures : goal.sweep-requires-clause-enclosures
-sweep-requires-clause-enclosures c = record { space = space_of c.args.space.now; filled = c.requires.rows }
-
-pub returns-then-not-sweep-clause-narrowed : goal.returns-then-not-sweep-clause-narrowed
-returns-then-not-sweep-clause-narrowed c =
-    let nodes = c.args.graph.now in let space = space_of c.args.space.now in let root = c.args.atom.now.term in let kind = kind_of c.args.atom.now.kind in
-    let wanted = range (two_to_minus c.args.loosen) kind in
-    let given : interval_of c.new.result ≡ wanted = c.new.ensures ∙ new_is (ext_of c.range_ends-low.result.0) (ext_of c.range_ends-low.result.1) wanted c.range_ends-low.ensures (range_proper c.args.loosen kind) in
-    let same = ap₂ (λ (es : List Interval) (i : Interval). narrowed nodes es root i) c.requires.rows given in
-    (told_empty nodes (narrowed nodes (enclosures space nodes) root wanted) (narrowed nodes (rows_of c.args.rows.now) root (interval_of c.new.result)) space same (c.if-not-sweep.ensures.none refl), refl)
-
-pub returns-then-narrow_axes-clause-narrowed : goal.returns-then-narrow_axes-clause-narrowed
-returns-then-narrow_axes-clause-narrowed c =
-    let nodes = c.args.graph.now in let space = space_of c.args.space.now in let root = c.args.atom.now.term in let kind = kind_of c.args.atom.now.kind in
-    let wanted = range (two_to_minus c.args.loosen) kind in let es = rows_of c.args.rows.now in let scratch = c.sweep.new.scratch in
-    let given : interval_of c.new.result ≡ wanted = c.new.ensures ∙ new_is (ext_of c.range_ends-low.result.0) (ext_of c.range_ends-low.result.1) wanted c.range_ends-low.ensures (range_proper c.args.loosen kind) in
-    let same = ap₂ (λ (xs : List Interval) (i : Interval). narrowed nodes xs root i) c.requires.rows given in
-    let ns = narrowed nodes es root (interval_of c.new.result) in
-    let axes : with_axes nodes (options_of scratch) space ≡ with_axes nodes ns space =
-    axes_stand nodes (options_of scratch) ns space c.len-2.ensures.graph.once (length_options scratch ∙ c.sweep.ensures.count) (length_narrowed es root (interval_of c.new.result) 0 nodes)
-    (λ k a e. subst (λ (i : Interval). StandsFor i (option_at scratch k) (get_or ns k None)) (variable_row space nodes es c.len-2.ensures.graph.ordered c.requires.rows k a e)
-    (c.if-not-sweep.ensures.variables refl k (variable_node a) e)) in
-    (told_space nodes (narrowed nodes (enclosures space nodes) root wanted) ns space (space_of c.narrow_axes.new.space) same (c.if-not-sweep.ensures.some refl) (c.narrow_axes.ensures.axes ∙ axes), c.if-narrow_axes.ensures.less refl)
-
-pub returns-else-narrow_axes-clause-narrowed : goal.returns-else-narrow_axes-clause-narrowed
-returns-else-narrow_axes-clause-narrowed c =
-    let nodes = c.args.graph.now in let space = space_of c.args.space.now in let root = c.args.atom.now.term in let kind = kind_of c.args.atom.now.kind in
-    let wanted = range (two_to_minus c.args.loosen) kind in let es = rows_of c.args.rows.now in let scratch = c.sweep.new.scratch in
-    let given : interval_of c.new.result ≡ wanted = c.new.ensures ∙ new_is (ext_of c.range_ends-low.result.0) (ext_of c.range_ends-low.result.1) wanted c.range_ends-low.ensures (range_proper c.args.loosen kind) in
-    let same = ap₂ (λ (xs : List Interval) (i : Interval). narrowed nodes xs root i) c.requires.rows given in
-    let ns = narrowed nodes es root (interval_of c.new.result) in
-    let axes : with_axes nodes (options_of scratch) space ≡ with_axes nodes ns space =
-    axes_stand nodes (options_of scratch) ns space c.len-2.ensures.graph.once (length_options scratch ∙ c.sweep.ensures.count) (length_narrowed es root (interval_of c.new.result) 0 nodes)
-    (λ k a e. subst (λ (i : Interval). StandsFor i (option_at scratch k) (get_or ns k None)) (variable_row space nodes es c.len-2.ensures.graph.ordered c.requires.rows k a e)
-    (c.if-not-sweep.ensures.variables refl k (variable_node a) e)) in
-    let kept = c.if-narrow_axes.ensures.same refl in
-    (told_space nodes (narrowed nodes (enclosures space nodes) root wanted) ns space space same (c.if-not-sweep.ensures.some refl) (sym kept ∙ c.narrow_axes.ensures.axes ∙ axes), kept)
+pub returns-clause-narrowed : goal.returns-clause-narrowed
+returns-clause-narrowed c =
+    let old = space_of c.args.space.now in let kind = kind_of c.args.atom.now.kind in
+    let given = c.new.ensures ∙ new_is (ext_of c.range_ends-low.result.0) (ext_of c.range_ends-low.result.1) (range (two_to_minus c.args.loosen) kind) c.range_ends-low.ensures (range_proper c.args.loosen kind) in
+    subst (λ (i : Interval). IsNarrowed old (space_of c.narrow_by.new.space) (narrowed_by c.args.graph.now c.args.atom.now.term i old) c.narrow_by.result) given c.narrow_by.ensures.narrowed
