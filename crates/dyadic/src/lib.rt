@@ -14,6 +14,7 @@ mod dy_text;
 mod frac;
 mod frac_order;
 mod frac_steps;
+pub mod laws;
 mod margin;
 mod middle;
 mod number;
