@@ -15,6 +15,7 @@ mod exact_root;
 mod frac;
 mod frac_order;
 mod frac_steps;
+pub mod laws;
 mod margin;
 mod middle;
 mod number;
