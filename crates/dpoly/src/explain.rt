@@ -17,7 +17,7 @@ struct Spot {
 }
 
 // The place with which the text of a script's fault ends, if it is one within the script.
-fn spot(text: &str) -> Option<Spot> {
+fn spot_in(text: &str) -> Option<Spot> {
     let (_, place) = text.trim_end().rsplit_once(' ')?;
     let (line, column) = place.split_once(':')?;
     match (line.parse::<usize>(), column.parse::<usize>()) {
@@ -97,7 +97,7 @@ fn explain_trouble(rt: &HostRuntime, names: (&str, &str), trouble: &Trouble) {
 fn explain_script(rt: &HostRuntime, alloc: Global, name: &str, desk: &FileDesk) {
     let text = desk.answer();
     let _ = eprint!(rt; "dpoly: {}: {text}", called(name, "standard input"));
-    let Some(at) = spot(text) else {
+    let Some(at) = spot_in(text) else {
         return;
     };
     let shown = if name == "-" {
