@@ -15,20 +15,24 @@ ghost use Rattle.cert_check.specs.States.{state_of};
 ghost use Rattle.cert_check.specs.Judgements.{enclosure_over, is_sure_atom_over, is_sure_over, IsNarrowedByAtom, misses_over};
 ghost use Rattle.cert_check.specs.Serving.{Serves};
 
+use crate::form::may_hold;
+use crate::judged::Judged;
 use crate::state::State;
 use ival::{Ival, Narrowed, Rows, Space};
 use plain_eval::{Upward, enclose, follow, narrow_enclosed};
 use poly_graph::{Atom, Graph, Problem};
 use std::alloc::{AllocError, Global};
-use truth3::{Marks, kind_range, may, sure};
+use truth3::{Marks, kind_range, sure};
 
 /// Rows and truth values for the nodes of a problem, made once. The rows are the enclosures over the space that was
-/// looked at last, so that a line costs what stands above the axes that changed since.
+/// looked at last, and the atoms are judged by them, so that a line costs what stands above the axes that changed
+/// since.
 #[derive(Drop)]
 pub struct Tools {
     pub upward: Upward,
     pub rows: Rows,
     pub scratch: Rows,
+    pub judged: Judged,
     pub marks: Marks,
 }
 
@@ -67,16 +71,18 @@ impl Tools {
         let upward = Upward::new(alloc, graph)?;
         let rows = first_rows(alloc, graph)?;
         let scratch = Rows::new(alloc, graph.len())?;
+        let judged = Judged::new(alloc, problem, &rows)?;
         let marks = Marks::new(alloc, problem)?;
         Ok(Tools {
             upward,
             rows,
             scratch,
+            judged,
             marks,
         })
     }
 
-    // Lets the rows follow to the space.
+    // Lets the rows follow to the space, and judges again the atoms whose rows changed.
     fn follow(&mut self, problem: &Problem, space: &Space)
         requires { Serves problem.now self.old }
         ensures all { rows_of self.new.rows ≡ enclosures (space_of space.now) problem.now.nodes }
@@ -84,6 +90,7 @@ impl Tools {
         ensures serves { Serves problem.now self.new }
     {
         follow(problem.graph(), &self.upward, space, &mut self.rows);
+        self.judged.renew(problem, &self.rows);
     }
 
     /// Whether the form may hold at a point of the state.
@@ -95,12 +102,12 @@ impl Tools {
         ensures serves { Serves problem.now self.new }
     {
         self.follow(problem, &state.space);
-        may(
+        self.judged.judge_at(problem, margin, &self.rows);
+        may_hold(
             problem,
-            &self.rows,
             &state.space,
             &state.lits,
-            margin,
+            &self.judged,
             &mut self.marks,
         )
     }

@@ -14,7 +14,7 @@ use Rattle.cover_model.specs.NodeEnclosure.{row, node_enclosure}
 use Rattle.cover_model.proofs.NodeEnclosures.{comes_at, next_row, all_rows, length_enclosures}
 use Rattle.ival.specs.declared.row_parts.Rows.{Rows}
 use Rattle.ival.specs.RowViews.{rows_of, marks_of, is_marked, NoneAbove, IsNextAbove}
-use Rattle.plain_eval.specs.Renewed.{IsRenewed}
+use Rattle.plain_eval.specs.Renewed.{AreKept, IsRenewed}
 use Rattle.plain_eval.specs.Settled.{IsCalm, IsSettled, Begun}
 use Rattle.plain_eval.specs.Upward.{AreVariables, with_node}
 use Rattle.plain_eval.proofs.Sweeping.{some_node}
@@ -167,6 +167,13 @@ module _ (nodes : List Node) (ordered : IsTrue (in_order 0 nodes)) (space : Spac
 
     pub renewed_calm : (k : ℕ) (p : Node) → IsCalm new k p → IsCalm old k p
     renewed_calm k p h = λ c j. r.marks k (h c j)
+
+    pub renewed_kept : (start : Rows) → AreKept start old → AreKept start new
+    renewed_kept start f k h = elim (cases_eq k n) [
+      | inl same ↦ let unmarked : is_marked (marks_of new) n ≡ false = subst (λ (x : ℕ). is_marked (marks_of new) x ≡ false) same h in
+          subst (λ (x : ℕ). row (rows_of new) x ≡ row (rows_of start) x) (sym same) (value-at ∙ sym (r.here unmarked) ∙ f n (r.marks n unmarked))
+      | inr o ↦ other-at k o ∙ f k (r.marks k h)
+    ]
 
     -- it is settled
     pub settled_here : IsSettled space new n m

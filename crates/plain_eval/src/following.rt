@@ -5,7 +5,7 @@ ghost use Rattle.poly_graph.specs.Views.{node_of};
 ghost use Rattle.cover_model.specs.Narrowed.{enclosures};
 ghost use Rattle.ival.specs.RowViews.{rows_of, marks_of, is_marked};
 ghost use Rattle.ival.specs.SpaceViews.{space_of};
-ghost use Rattle.plain_eval.specs.Renewed.{IsRenewed};
+ghost use Rattle.plain_eval.specs.Renewed.{AreKept, IsRenewed};
 ghost use Rattle.plain_eval.specs.Rows.{AreEnclosures};
 ghost use Rattle.plain_eval.specs.Settled.{Begun};
 ghost use Rattle.plain_eval.specs.Upward.{IsUpward};
@@ -27,8 +27,8 @@ fn mark_all(places: &[u32], rows: &mut Rows)
     }
 }
 
-// Puts its enclosure, from the rows of its children, into the row of node n, and marks its parents where that is a
-// change.
+// Puts its enclosure, from the rows of its children, into the row of node n, and marks the node and its parents
+// where that is a change.
 fn renew(node: Node, n: usize, graph: &Graph, parents: &Parents, space: &Space, rows: &mut Rows)
     requires node { slice_get graph.now n ≡ Some (node_of node) }
     requires parents { AreParents graph.now parents.now }
@@ -41,6 +41,7 @@ fn renew(node: Node, n: usize, graph: &Graph, parents: &Parents, space: &Space, 
         return;
     }
     rows.set(n, interval);
+    rows.mark(n);
     mark_all(parents.of(n as u32), rows);
 }
 
@@ -48,7 +49,8 @@ fn renew(node: Node, n: usize, graph: &Graph, parents: &Parents, space: &Space, 
 fn renew_variables(graph: &Graph, upward: &Upward, space: &Space, rows: &mut Rows)
     requires upward { IsUpward graph.now upward.now }
     requires rows { AreEnclosures graph.now (rows_of rows.old) }
-    ensures { Begun graph.now (space_of space.now) rows.new }
+    ensures begun { Begun graph.now (space_of space.now) rows.new }
+    ensures kept { AreKept rows.old rows.new }
 {
     prove_eq!(rows.len(), graph.len());
     for v in &upward.variables {
@@ -59,16 +61,18 @@ fn renew_variables(graph: &Graph, upward: &Upward, space: &Space, rows: &mut Row
 
 /// Puts the enclosure of each node's term over the space into its row, where the rows were the enclosures over another
 /// space: each variable is looked at, and of the other nodes only those that have a child whose enclosure changed.
+/// Then the rows that changed are marked, and some others.
 pub fn follow(graph: &Graph, upward: &Upward, space: &Space, rows: &mut Rows)
     requires upward { IsUpward graph.now upward.now }
     requires rows { AreEnclosures graph.now (rows_of rows.old) }
-    ensures { rows_of rows.new ≡ enclosures (space_of space.now) graph.now }
+    ensures rows { rows_of rows.new ≡ enclosures (space_of space.now) graph.now }
+    ensures kept { AreKept rows.old rows.new }
 {
     prove_eq!(rows.len(), graph.len());
+    rows.clear_marks();
     if graph.len() == 0 {
         return;
     }
-    rows.clear_marks();
     renew_variables(graph, upward, space, rows);
     let mut place = 0;
     while let Some(n) = rows.next_marked_above(place) {
