@@ -1,4 +1,6 @@
 // What standard error says of a run that gave no answer: for people to read, and promised by no clause.
+ghost use Rattle.std.specs.Prelude.{◌<◌};
+
 use crate::files::{FileDesk, Trouble};
 use crate::status::Status;
 use desk::Port;
@@ -74,18 +76,27 @@ fn names<'a>(alloc: Global, words: &'a [String]) -> (&'a str, &'a str) {
     }
 }
 
-// What a port is called.
-fn called<'a>(name: &'a str, stream: &'a str) -> &'a str {
-    if name == "-" { stream } else { name }
+// What a file that is read is called.
+fn source<'a>(name: &'a str) -> &'a str {
+    if name == "-" { "standard input" } else { name }
+}
+
+// What a file that is written is called.
+fn sink<'a>(name: &'a str) -> &'a str {
+    if name == "-" { "standard output" } else { name }
 }
 
 // Says which port failed, and why.
-fn explain_trouble(rt: &HostRuntime, names: (&str, &str), trouble: &Trouble) {
-    let (verb, name) = match trouble.port {
-        Port::Script => ("read", called(names.0, "standard input")),
-        Port::CertIn => ("read", called(names.1, "standard input")),
-        Port::CertOut => ("write", called(names.1, "standard output")),
-        Port::Answer => ("write", "standard output"),
+fn explain_trouble(rt: &HostRuntime, script: &str, cert: &str, trouble: &Trouble) {
+    let name = match trouble.port {
+        Port::Script => source(script),
+        Port::CertIn => source(cert),
+        Port::CertOut => sink(cert),
+        Port::Answer => "standard output",
+    };
+    let verb = match trouble.port {
+        Port::Script | Port::CertIn => "read",
+        Port::CertOut | Port::Answer => "write",
     };
     let _ = match &trouble.error {
         Some(error) => eprintln!(rt; "dpoly: cannot {verb} {name}: {error}"),
@@ -96,7 +107,7 @@ fn explain_trouble(rt: &HostRuntime, names: (&str, &str), trouble: &Trouble) {
 // Says which script is refused, for what, and shows its line.
 fn explain_script(rt: &HostRuntime, alloc: Global, name: &str, desk: &FileDesk) {
     let text = desk.answer();
-    let _ = eprint!(rt; "dpoly: {}: {text}", called(name, "standard input"));
+    let _ = eprint!(rt; "dpoly: {}: {text}", source(name));
     let Some(at) = spot_in(text) else {
         return;
     };
@@ -117,7 +128,7 @@ fn explain_script(rt: &HostRuntime, alloc: Global, name: &str, desk: &FileDesk) 
 /// not be read or written; where the script, or the certificate, is refused.
 pub fn explain(rt: &HostRuntime, words: &[String], desk: &FileDesk, status: Status) {
     let alloc = rt.alloc();
-    let names = names(alloc, words);
+    let (script, cert) = names(alloc, words);
     match status {
         Status::Answered => {}
         Status::Usage => {
@@ -125,14 +136,14 @@ pub fn explain(rt: &HostRuntime, words: &[String], desk: &FileDesk, status: Stat
                 let _ = rt.eprint(text);
             }
         }
-        Status::ScriptRefused => explain_script(rt, alloc, names.0, desk),
+        Status::ScriptRefused => explain_script(rt, alloc, script, desk),
         Status::CertRefused => {
-            let name = called(names.1, "standard input");
+            let name = source(cert);
             let _ = eprint!(rt; "dpoly: {name}: {}", desk.answer());
         }
         Status::InFailed | Status::OutFailed => {
             if let Some(trouble) = desk.trouble() {
-                explain_trouble(rt, names, trouble);
+                explain_trouble(rt, script, cert, trouble);
             }
         }
         Status::NoMemory => {
