@@ -25,11 +25,7 @@ impl Room {
 }
 
 /// Takes the room for a patch out of there, or makes it where there is none for the problem.
-pub fn take_work(
-    alloc: Global,
-    problem: &Problem,
-    room: &mut Room,
-) -> Result<Workspace, AllocError>
+pub fn take_work(alloc: Global, problem: &Problem, room: &mut Room) -> Result<Workspace, AllocError>
     ensures { IfOk result (HasRoom problem.now) }
 {
     if let Some(work) = room.work.take() {

@@ -150,12 +150,7 @@ fn closed(alloc: Global, kept: KeptPatch) -> Result<Worked, AllocError>
 }
 
 // What the work has come to, where the patch has come to its end. Its room is kept.
-fn worked(
-    alloc: Global,
-    room: &mut Room,
-    ended: Ended,
-    patch: Patch,
-) -> Result<Worked, AllocError>
+fn worked(alloc: Global, room: &mut Room, ended: Ended, patch: Patch) -> Result<Worked, AllocError>
     requires { HasEnded patch ended }
     ensures { IfOk result (WorkOf patch.entry) }
 {

@@ -36,7 +36,7 @@ sure_at_middle p m space = sure (problem_of p) (loosenings_of m) (middle space)
 
 -- what is known of a space: that narrowing by these atoms leaves something of it, and that the form is not sure at its middle
 pub record IsKnown (p : Parts) (m : Margins) (space : Space) (atoms : List Bool) (is_unsure : Bool) : Type 0 where
-  pub leaves : (j : ℕ) → slice_index_or atoms j false ≡ true → leaves_some p m space j ≡ true
+  pub leaves : (j : ℕ) → j < length p.atoms → slice_index_or atoms j false ≡ true → leaves_some p m space j ≡ true
   pub unsure : is_unsure ≡ true → sure_at_middle p m space ≡ false
 
 -- room, rows of the space, and what is known of it

@@ -1,10 +1,12 @@
 // Narrowing, and rows that follow it.
 ghost use Rattle.std.specs.Prelude.{◌≡◌, ◌≢◌, ℕ, ◌<◌, ◌^◌, not, true, false, length, vec_len, slice_set, slice_index_or, IsTrue};
 ghost use Rattle.poly_graph.specs.ProblemViews.{problem_of};
+ghost use Rattle.poly_graph.specs.Problem.{atom_at};
 ghost use Rattle.cover_model.specs.Fits.{FitsProblem};
 ghost use Rattle.cover_model.specs.State.{with_space};
 ghost use Rattle.cover_model.specs.Rules.{narrowing};
 ghost use Rattle.cover_model.specs.Honest.{is_some_space, none_empty};
+ghost use Rattle.ival.specs.RowViews.{marks_of, is_marked};
 ghost use Rattle.ival.specs.SpaceViews.{space_of, domain_of};
 ghost use Rattle.ival.specs.Narrows.{IsNarrowed};
 ghost use Rattle.cover_data.specs.Margins.{AreMargins, loosenings_of};
@@ -14,7 +16,7 @@ use crate::workspace::Workspace;
 use cover_data::{Margins, State};
 use hc4_bwd::narrow;
 use hc4_fwd::refill;
-use ival::{Domain, Narrowed, Space};
+use ival::{Domain, Narrowed, Rows, Space};
 use poly_graph::Problem;
 use std::alloc::Global;
 
@@ -59,7 +61,31 @@ pub fn forget(work: &mut Workspace)
     work.unsure = false;
 }
 
-// Leaves a domain to the axis, and renews the rows where that is a change: then nothing is known any more.
+// Whether the row of atom j's term is marked.
+fn is_reached(problem: &Problem, rows: &Rows, j: usize) -> bool
+    requires { j < length problem.now.atoms }
+    ensures { result ≡ false → is_marked (marks_of rows.now) (atom_at (problem_of problem.now) j).0 ≡ false }
+{
+    let place = problem.atoms()[j].term as usize;
+    place >= rows.len() || rows.marked(place)
+}
+
+// Takes away the flags of atoms whose term's row is marked.
+fn drop_reached(problem: &Problem, rows: &Rows, leaves: &mut Vec<bool, Global>)
+    requires { vec_len leaves.old ≡ length problem.now.atoms }
+    ensures count { vec_len leaves.new ≡ vec_len leaves.old }
+    ensures kept { (j : ℕ) → slice_index_or leaves.new.items j false ≡ true → slice_index_or leaves.old.items j false ≡ true }
+    ensures unmarked { (j : ℕ) → j < length problem.now.atoms → slice_index_or leaves.new.items j false ≡ true → is_marked (marks_of rows.now) (atom_at (problem_of problem.now) j).0 ≡ false }
+{
+    for j in 0..problem.atoms().len() {
+        if is_reached(problem, rows, j) {
+            leaves[j] = false;
+        }
+    }
+}
+
+// Leaves a domain to the axis, and renews the rows where that is a change: then nothing more is known of atoms from
+// which the axis is reached, nor of the middle.
 fn renew_axis(
     problem: &Problem,
     margins: &Margins,
@@ -80,7 +106,8 @@ fn renew_axis(
     }
     state.set_axis(axis, domain);
     refill(problem.graph(), state.space(), axis as u32, &mut work.rows);
-    forget(work);
+    drop_reached(problem, &work.rows, &mut work.leaves);
+    work.unsure = false;
 }
 
 /// Takes over the spare space, and renews the rows of the axes that differ.
