@@ -63,7 +63,7 @@ fn workers_option<'a>(alloc: Global) -> Arg<'a>
 {
     Arg::new(alloc, "workers")
         .long("workers")
-        .value_parser(value_parser!(u32).range(1..=1))
+        .value_parser(value_parser!(u32).range(1..=64))
         .default_value("1")
 }
 
