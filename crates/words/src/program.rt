@@ -69,7 +69,7 @@ fn workers_option<'a>(alloc: Global) -> Arg<'a>
     Arg::new(alloc, "workers")
         .long("workers")
         .help("The number of threads that search; 1 to 64")
-        .value_parser(value_parser!(u32).range(1..=1))
+        .value_parser(value_parser!(u32).range(1..=64))
         .default_value("1")
 }
 
