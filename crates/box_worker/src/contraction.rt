@@ -18,10 +18,10 @@ use std::alloc::{AllocError, Global};
 /// At most so many times an atom is pulled at a state.
 const MOST_ROUNDS: u32 = 10;
 
-// What guides the steps: which atoms are due, what they depend on, the space as it was, and the atom by which nothing
-// is left.
+/// What guides the steps: which atoms are due, what they depend on, the space as it was, and the atom by which nothing
+/// is left.
 #[derive(Drop)]
-struct Scout {
+pub struct Scout {
     due: Vec<bool, Global>,
     masks: Vec<u64, Global>,
     space: Space,
@@ -75,6 +75,42 @@ fn start(alloc: Global, problem: &Problem, patch: &Patch) -> Result<Scout, Alloc
         space,
         void: None,
     })
+}
+
+// Puts each domain of a space into the other one, where it has the axis.
+fn put(from: &Space, into: &mut Space) {
+    for axis in 0..from.len() {
+        if axis < into.len() {
+            into.set(axis, from.get(axis));
+        }
+    }
+}
+
+// Makes each atom due.
+fn make_all_due(due: &mut [bool]) {
+    for is_due in due.iter_mut() {
+        *is_due = true;
+    }
+}
+
+/// The scout at the state of the patch, to which all atoms are due; a new one where there is none for the problem.
+pub fn scout_at(
+    alloc: Global,
+    problem: &Problem,
+    scout: Option<Scout>,
+    patch: &Patch,
+) -> Result<Scout, AllocError> {
+    let Some(mut scout) = scout else {
+        return start(alloc, problem, patch);
+    };
+    let space = patch.reached().space();
+    if scout.due.len() != problem.atoms().len() || scout.space.len() != space.len() {
+        return start(alloc, problem, patch);
+    }
+    make_all_due(&mut scout.due);
+    put(space, &mut scout.space);
+    scout.void = None;
+    Ok(scout)
 }
 
 // Narrows by atom j where it is marked, and makes those due that depend on what fell.
@@ -251,7 +287,8 @@ pub fn see(
     requires problem { patch.now.problem ≡ problem.now }
     requires margins { AreMargins margins.now }
 {
-    look(alloc, problem, margins, patch.reached())
+    let _ = problem.axes();
+    look(alloc, problem, margins, patch.rows(), patch.reached())
 }
 
 /// Whether an atom is not marked.
@@ -342,6 +379,7 @@ pub fn take_steps(
     problem: &Problem,
     margins: &Margins,
     lemmas: &[Lemma],
+    scout: &mut Scout,
     patch: &mut Patch,
 ) -> Result<Option<u32>, AllocError>
     requires numbered { IsNumbered problem.now }
@@ -350,9 +388,8 @@ pub fn take_steps(
     requires open { IsOpen problem.now margins.now lemmas.now patch.old.kept.first patch.old }
     ensures { IsOpen problem.now margins.now lemmas.now patch.old.kept.first patch.new }
 {
-    let mut scout = start(alloc, problem, patch)?;
     ban_all(problem, margins, lemmas, patch)?;
-    look_again(alloc, problem, margins, lemmas, &mut scout, patch)?;
-    go_on_while_due(alloc, problem, margins, lemmas, &mut scout, patch)?;
+    look_again(alloc, problem, margins, lemmas, scout, patch)?;
+    go_on_while_due(alloc, problem, margins, lemmas, scout, patch)?;
     Ok(scout.void)
 }

@@ -1,7 +1,7 @@
 //! The work on one box of a cover: `work_on` takes a state and closes it, parts it in two or finds it stuck by lines
 //! that are lawful and honest, or finds a point in it. `needs`, `fallen` and `choice` are heuristics that promise
-//! nothing; what holds of an answer is what the lines of a patch ensure. Nothing is kept from one box to the next:
-//! which box is worked on, and which lemmas are at hand, is the caller's choice.
+//! nothing; what holds of an answer is what the lines of a patch ensure. Nothing but room is kept from one box to the
+//! next (`Room`, with `work_in`): which box is worked on, and which lemmas are at hand, is the caller's choice.
 #![tactic(auto)]
 
 mod attempt;
@@ -14,10 +14,12 @@ mod fallen;
 mod learn;
 mod needs;
 mod preconditions;
+mod room;
 mod split;
 mod step;
 mod work;
 mod worked;
 
-pub use work::work_on;
+pub use room::Room;
+pub use work::{work_in, work_on};
 pub use worked::Worked;

@@ -9,7 +9,6 @@ ghost use Rattle.ival.specs.SpaceViews.{space_of};
 ghost use Rattle.truth3.specs.Truth.{HasRows};
 
 use cover_rule::{Margins, State};
-use hc4_fwd::fill;
 use ival::{Domain, Rows, Space, Truths};
 use poly_graph::{FormNode, Problem};
 use std::alloc::{AllocError, Global};
@@ -92,19 +91,19 @@ fn atom(problem: &Problem, margins: &Margins, rows: &Rows, state: &State, j: u32
     (may, may && done)
 }
 
-/// Looks at the state: from the leaves of the form up, then from its root down.
+/// Looks at the state, whose enclosures the rows hold: from the leaves of the form up, then from its root down.
 pub fn look(
     alloc: Global,
     problem: &Problem,
     margins: &Margins,
+    rows: &Rows,
     state: &State,
 ) -> Result<Needs, AllocError>
     requires margins { AreMargins margins.now }
     requires state { FitsProblem (problem_of problem.now) state.now }
+    requires rows { HasRows problem.now state.now.space (rows_of rows.now) }
 {
-    let mut rows = Rows::new(alloc, problem.graph().len())?;
-    fill(problem.graph(), state.space(), &mut rows);
-    let (may, done) = upwards(alloc, problem, margins, &rows, state)?;
+    let (may, done) = upwards(alloc, problem, margins, rows, state)?;
     let needed = downwards(alloc, problem, &may)?;
     Ok(Needs { may, done, needed })
 }

@@ -7,7 +7,7 @@ ghost use Rattle.interval_model.specs.Space.{space_within, middle};
 ghost use Rattle.cover_model.specs.Fits.{FitsProblem, IsShownAt};
 ghost use Rattle.cover_data.specs.Margins.{AreMargins, loosenings_of};
 ghost use Rattle.cover_rule.specs.Serves.{IsNumbered};
-ghost use Rattle.box_worker.specs.Attempts.{Continues};
+ghost use Rattle.box_worker.specs.Attempts.{Continues, IsOpen};
 ghost use Rattle.box_worker.specs.Ended.{HasEnded, AtOnce, first_covering};
 ghost use Rattle.box_worker.specs.Worked.{margins_of, AreLemmasFor, AreLemmasAt, AnswersAtOnceFor, IsWorkFor, IsClosedWork, WorkOf};
 ghost use Rattle.cover_data.specs.Runs.{IsClosed};
@@ -15,11 +15,12 @@ ghost use Rattle.cover_data.specs.Views.{kept_of};
 
 use crate::attempt;
 use crate::branching::part;
-use crate::contraction::take_steps;
+use crate::contraction::{scout_at, take_steps};
 use crate::ended::Ended;
 use crate::facts::{problem_is_whole, run_is_lawful};
 use crate::learn::{copy, teaches_nothing};
 use crate::preconditions::{close_at, mark_conjuncts, void_any};
+use crate::room::{Room, take_work};
 use crate::split::split;
 use crate::worked::Worked;
 use cover_rule::{KeptPatch, Lemma, Margins, MiddlePoint, Options, Patch, Point, State};
@@ -31,14 +32,18 @@ fn middle_point(
     alloc: Global,
     problem: &Problem,
     margins: &Margins,
-    patch: &Patch,
+    patch: &mut Patch,
 ) -> Result<Option<Point>, AllocError>
-    requires problem { patch.now.problem ≡ problem.now }
-    requires margins { patch.now.margins ≡ margins.now }
+    requires problem { patch.old.problem ≡ problem.now }
+    requires margins { patch.old.margins ≡ margins.now }
     requires bits { AreMargins margins.now }
-    requires root { IsTrue (space_within patch.now.kept.first.space (root_space (problem_of problem.now))) }
-    ensures { IfOk result (λ o. MatchOption o (IsTrue (not (sure (problem_of problem.now) (loosenings_of margins.now) (middle patch.now.kept.reached.space)))) (λ x. (x ≡ middle patch.now.kept.reached.space) × IsShownAt (problem_of problem.now) (loosenings_of margins.now) x)) }
+    requires root { IsTrue (space_within patch.old.kept.first.space (root_space (problem_of problem.now))) }
+    ensures middle { IfOk result (λ o. MatchOption o (IsTrue (not (sure (problem_of problem.now) (loosenings_of margins.now) (middle patch.old.kept.reached.space)))) (λ x. (x ≡ middle patch.old.kept.reached.space) × IsShownAt (problem_of problem.now) (loosenings_of margins.now) x)) }
+    ensures same { patch.new ≡ patch.old }
 {
+    if !patch.is_sure_at_middle() {
+        return Ok(None);
+    }
     Point::of_middle(alloc, problem, margins, patch.reached().space())
 }
 
@@ -144,12 +149,13 @@ fn closed(alloc: Global, kept: KeptPatch) -> Result<Worked, AllocError>
     }
 }
 
-// What the work has come to, where the patch has come to its end.
-fn worked(alloc: Global, ended: Ended, patch: Patch) -> Result<Worked, AllocError>
+// What the work has come to, where the patch has come to its end. Its room is kept.
+fn worked(alloc: Global, room: &mut Room, ended: Ended, patch: Patch) -> Result<Worked, AllocError>
     requires { HasEnded patch ended }
     ensures { IfOk result (WorkOf patch.entry) }
 {
-    let (kept, _) = patch.into_kept();
+    let (kept, work) = patch.into_kept();
+    room.work = Some(work);
     match ended {
         Ended::Closed => closed(alloc, kept),
         Ended::Parted => Ok(Worked::Patch(kept)),
@@ -157,10 +163,60 @@ fn worked(alloc: Global, ended: Ended, patch: Patch) -> Result<Worked, AllocErro
     }
 }
 
+// Contracts the state of a patch that has just begun, by the scout of the room; the atom by which nothing is left,
+// where one is met.
+fn contract(
+    alloc: Global,
+    room: &mut Room,
+    problem: &Problem,
+    margins: &Margins,
+    lemmas: &[Lemma],
+    patch: &mut Patch,
+) -> Result<Option<u32>, AllocError>
+    requires numbered { IsNumbered problem.now }
+    requires bits { AreMargins margins.now }
+    requires lemmas { AreLemmasFor (problem_of problem.now) (loosenings_of margins.now) lemmas.now }
+    requires open { IsOpen problem.now margins.now lemmas.now patch.old.kept.first patch.old }
+    ensures { IsOpen problem.now margins.now lemmas.now patch.old.kept.first patch.new }
+{
+    let mut scout = scout_at(alloc, problem, room.scout.take(), patch)?;
+    let void = take_steps(alloc, problem, margins, lemmas, &mut scout, patch)?;
+    room.scout = Some(scout);
+    Ok(void)
+}
+
 /// Works on the box of a state that lies within the root space, by lawful and honest lines: until it is closed,
 /// until a point is found in it, or else until it is split or found stuck. Where the form cannot hold at the state
 /// it is closed by that alone; else a point is its middle, where the form is sure there; else it is closed by the
-/// first of the lemmas that covers it. No other lemmas are quoted.
+/// first of the lemmas that covers it. No other lemmas are quoted. The room is made for the problem where it is not yet.
+pub fn work_in(
+    alloc: Global,
+    room: &mut Room,
+    problem: &Problem,
+    options: &Options,
+    state: State,
+    lemmas: &[Lemma],
+) -> Result<Worked, AllocError>
+    requires numbered { IsNumbered problem.now }
+    requires margins { AreMargins (margins_of options.now) }
+    requires state { FitsProblem (problem_of problem.now) state }
+    requires root { IsTrue (space_within state.space (root_space (problem_of problem.now))) }
+    requires lemmas { AreLemmasAt problem.now options.now lemmas.now }
+    ensures at_once { IfOk result (AnswersAtOnceFor problem.now options.now lemmas.now state) }
+    ensures work { IfOk result (IsWorkFor problem.now options.now lemmas.now state) }
+{
+    let margins = options.margins();
+    let work = take_work(alloc, problem, room)?;
+    let mut patch = Patch::begin_in(alloc, work, problem, &margins, state)?;
+    if let Some(ended) = at_once(alloc, problem, &margins, lemmas, &mut patch)? {
+        return worked(alloc, room, ended, patch);
+    }
+    let void = contract(alloc, room, problem, &margins, lemmas, &mut patch)?;
+    let ended = finish(alloc, problem, &margins, void, &mut patch)?;
+    worked(alloc, room, ended, patch)
+}
+
+/// As `work_in`, in room of its own.
 pub fn work_on(
     alloc: Global,
     problem: &Problem,
@@ -176,12 +232,6 @@ pub fn work_on(
     ensures at_once { IfOk result (AnswersAtOnceFor problem.now options.now lemmas.now state) }
     ensures work { IfOk result (IsWorkFor problem.now options.now lemmas.now state) }
 {
-    let margins = options.margins();
-    let mut patch = Patch::begin(alloc, problem, &margins, state)?;
-    if let Some(ended) = at_once(alloc, problem, &margins, lemmas, &mut patch)? {
-        return worked(alloc, ended, patch);
-    }
-    let void = take_steps(alloc, problem, &margins, lemmas, &mut patch)?;
-    let ended = finish(alloc, problem, &margins, void, &mut patch)?;
-    worked(alloc, ended, patch)
+    let mut room = Room::new();
+    work_in(alloc, &mut room, problem, options, state, lemmas)
 }

@@ -1,5 +1,5 @@
 -- A certificate that comes by pieces.
-use Rattle.std.proofs.Common.{◌≡◌, ◌⊎◌, ◌+◌, ◌-◌, ◌<◌, ◌≤◌, ◌++◌, ℕ, List, [], map, Bool, false, true, cond, Option, Some, Result, Ok, Err, OnOk, length, take, drop, refl, ap, ap₂, sym, ◌∙◌, subst, inl, inr, arith, append_assoc, length-append, length-take-le, length-drop, take-append-drop}
+use Rattle.std.proofs.Common.{◌≡◌, ◌⊎◌, ◌+◌, ◌-◌, ◌<◌, ◌≤◌, ◌++◌, ℕ, List, [], map, Bool, false, true, cond, Option, Some, Result, Ok, Err, length, take, drop, ap, ap₂, sym, ◌∙◌, subst, inl, inr, arith, append_assoc, length-append, length-take-le, length-drop, take-append-drop}
 use Rattle.poly_graph.specs.ProblemViews.{Parts, problem_of}
 use Rattle.cert_read.specs.CertLine.{parsed}
 use Rattle.cert_read.specs.Reading.{lines_ahead, fed}

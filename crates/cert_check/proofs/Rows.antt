@@ -1,7 +1,8 @@
 -- The rows of a problem's atoms.
 use Rattle.std.proofs.Common.{◌≡◌, ℕ, ◌<◌, List, length, get_or, map, ap, sym, ◌∙◌, arith}
 use Rattle.std.proofs.lemmas.List.{get_or-map, length-map}
-use Rattle.interval_model.specs.Interval.{Interval}
+use Rattle.dyadic.specs.Rounding.{two_to_minus}
+use Rattle.interval_model.specs.Interval.{Interval, met, is_nothing}
 use Rattle.poly_graph.specs.declared.node.Atom.{Atom}
 use Rattle.poly_graph.specs.Term.{Kind}
 use Rattle.poly_graph.specs.Views.{atom_of}
@@ -13,6 +14,9 @@ use Rattle.cover_model.specs.State.{atom_enclosure}
 use Rattle.poly_graph.specs.ProblemViews.{Parts, problem_of, IsWhole}
 use Rattle.cover_model.proofs.NodeEnclosures.{row_of_term}
 use Rattle.truth3.specs.Truth.{HasRows}
+use Rattle.cover_model.specs.Space.{range}
+use Rattle.cert_check.specs.declared.judged.Judged.{Judged}
+use Rattle.cert_check.specs.Judged.{AreJudged, AreJudgedOver}
 
 -- an atom's node is there
 pub atom_place : (p : Parts) → IsWhole p → (j : ℕ) → j < length p.atoms → (atom_at (problem_of p) j).0 < length p.nodes
@@ -34,3 +38,10 @@ same_atom p items d j e h =
 
 pub row_of_atom : (p : Parts) (space : Space) (j k : ℕ) → k < length p.nodes → k ≡ (atom_at (problem_of p) j).0 → row (enclosures space p.nodes) k ≡ atom_enclosure (problem_of p) space j
 row_of_atom p space j k l e = ap (λ (i : ℕ). row (enclosures space p.nodes) i) e ∙ row_of_term space p.nodes (atom_at (problem_of p) j).0 (omega (arith, l, e))
+
+-- atoms that are judged by rows which serve are judged by their enclosures
+pub judged_over : (p : Parts) (space : Space) (es : List Interval) (g : Judged) → HasRows p space es → AreJudged p es g → AreJudgedOver p space g
+judged_over p space es g h a = record {
+  count = a.count;
+  each = λ j l. a.each j l ∙ ap (λ (i : Interval). is_nothing (met i (range (two_to_minus g.margin) (atom_at (problem_of p) j).1))) (h.rows j l);
+}

@@ -1,5 +1,5 @@
 -- A certificate that comes by pieces, and its verdict.
-use Rattle.std.specs.Prelude.{◌≡◌, ◌⊎◌, ◌++◌, ℕ, List, [], Option, false, Result, Ok, Err, length}
+use Rattle.std.specs.Prelude.{◌≡◌, ◌⊎◌, ◌++◌, ℕ, List, Option, false, Result, Ok, Err, length}
 use Rattle.poly_graph.specs.ProblemViews.{Parts, problem_of}
 use Rattle.cert_model.specs.Accepted.{Verdict, verdict}
 use Rattle.cert_check.specs.declared.checker.Verdict as code

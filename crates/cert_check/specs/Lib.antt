@@ -5,6 +5,7 @@ pub mod Courses
 pub mod Dues
 pub mod Faults
 pub mod Feeding
+pub mod Judged
 pub mod Judgements
 pub mod Laws
 pub mod Lists

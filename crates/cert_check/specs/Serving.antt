@@ -2,11 +2,16 @@
 use Rattle.std.specs.Prelude.{◌≡◌, ◌<◌, ◌^◌, length, vec_len}
 use Rattle.poly_graph.specs.ProblemViews.{Parts}
 use Rattle.ival.specs.RowViews.{rows_of}
+use Rattle.plain_eval.specs.Rows.{AreEnclosures}
+use Rattle.plain_eval.specs.Upward.{IsUpward}
+use Rattle.cert_check.specs.Judged.{AreJudged}
 use Rattle.cert_check.specs.declared.tools.Tools.{Tools}
 
--- and the problem has no more atoms than lines can name
+-- the rows are the enclosures over some space, each atom is judged by its row, and the problem has no more atoms than lines can name
 pub record Serves (p : Parts) (t : Tools) : Type 0 where
-  pub rows : length (rows_of t.rows) ≡ length p.nodes
+  pub upward : IsUpward p.nodes t.upward
+  pub rows : AreEnclosures p.nodes (rows_of t.rows)
+  pub judged : AreJudged p (rows_of t.rows) t.judged
   pub scratch : length (rows_of t.scratch) ≡ length p.nodes
   pub truths : vec_len t.marks.truths ≡ length p.forms
   pub few : length p.atoms < 2 ^ 32

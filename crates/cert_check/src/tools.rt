@@ -3,6 +3,8 @@ ghost use Rattle.std.specs.Prelude.{◌≡◌, ◌<◌, ◌≤◌, length, IfOk}
 ghost use Rattle.cover_model.specs.Rules.{is_one_sided};
 ghost use Rattle.cover_model.specs.Space.{range};
 ghost use Rattle.cover_model.specs.State.{may};
+ghost use Rattle.cover_model.specs.Narrowed.{enclosures};
+ghost use Rattle.plain_eval.specs.Rows.{AreEnclosures};
 ghost use Rattle.poly_graph.specs.Problem.{atom_at};
 ghost use Rattle.poly_graph.specs.ProblemViews.{problem_of};
 ghost use Rattle.poly_graph.specs.Views.{atom_of};
@@ -14,19 +16,25 @@ ghost use Rattle.cert_check.specs.States.{state_of};
 ghost use Rattle.cert_check.specs.Judgements.{enclosure_over, is_sure_atom_over, is_sure_over, IsNarrowedByAtom, IsNarrowedOff, misses_over};
 ghost use Rattle.cert_check.specs.Serving.{Serves};
 
+use crate::form::may_hold;
+use crate::judged::Judged;
 use crate::state::State;
 use cover_model::is_one_sided;
 use ival::{Ival, Narrowed, Rows, Space};
-use plain_eval::{enclose, narrow_off_plain, narrow_plain};
-use poly_graph::{Atom, Problem};
+use plain_eval::{Upward, enclose, follow, narrow_enclosed, narrow_off_enclosed};
+use poly_graph::{Atom, Graph, Problem};
 use std::alloc::{AllocError, Global};
-use truth3::{Marks, kind_range, may, sure};
+use truth3::{Marks, kind_range, sure};
 
-/// Rows and truth values for the nodes of a problem, made once.
+/// Rows and truth values for the nodes of a problem, made once. The rows are the enclosures over the space that was
+/// looked at last, and the atoms are judged by them, so that a line costs what stands above the axes that changed
+/// since.
 #[derive(Drop)]
 pub struct Tools {
+    pub upward: Upward,
     pub rows: Rows,
     pub scratch: Rows,
+    pub judged: Judged,
     pub marks: Marks,
 }
 
@@ -48,6 +56,19 @@ pub fn is_inequality(problem: &Problem, j: u32) -> bool
     is_one_sided(atom_at(problem, j).kind)
 }
 
+// Rows to begin with: the enclosures over a space without axes.
+fn first_rows(alloc: Global, graph: &Graph) -> Result<Rows, AllocError>
+    ensures { IfOk result (λ r. AreEnclosures graph.now (rows_of r)) }
+{
+    let nodes = graph.len();
+    let mut rows = Rows::new(alloc, nodes)?;
+    let space = Space::with_capacity(alloc, 0)?;
+    if nodes > 0 {
+        let _ = enclose(graph, (nodes - 1) as u32, &space, &mut rows);
+    }
+    Ok(rows)
+}
+
 impl Tools {
     /// Those that serve the problem. Of more atoms than lines can name there are none.
     pub fn new(alloc: Global, problem: &Problem) -> Result<Tools, AllocError>
@@ -56,28 +77,30 @@ impl Tools {
         if problem.atoms().len() > u32::MAX as usize {
             return Err(AllocError);
         }
-        let nodes = problem.graph().len();
-        let rows = Rows::new(alloc, nodes)?;
-        let scratch = Rows::new(alloc, nodes)?;
+        let graph = problem.graph();
+        let upward = Upward::new(alloc, graph)?;
+        let rows = first_rows(alloc, graph)?;
+        let scratch = Rows::new(alloc, graph.len())?;
+        let judged = Judged::new(alloc, problem, &rows)?;
         let marks = Marks::new(alloc, problem)?;
         Ok(Tools {
+            upward,
             rows,
             scratch,
+            judged,
             marks,
         })
     }
 
-    // Puts the enclosures of all nodes into the rows.
-    fn fill(&mut self, problem: &Problem, space: &Space)
+    // Lets the rows follow to the space, and judges again the atoms whose rows changed.
+    fn follow(&mut self, problem: &Problem, space: &Space)
         requires { Serves problem.now self.old }
+        ensures all { rows_of self.new.rows ≡ enclosures (space_of space.now) problem.now.nodes }
         ensures rows { HasRows problem.now (space_of space.now) (rows_of self.new.rows) }
         ensures serves { Serves problem.now self.new }
     {
-        let graph = problem.graph();
-        let nodes = graph.len();
-        if nodes > 0 {
-            let _ = enclose(graph, (nodes - 1) as u32, space, &mut self.rows);
-        }
+        follow(problem.graph(), &self.upward, space, &mut self.rows);
+        self.judged.renew(problem, &self.rows);
     }
 
     /// Whether the form may hold at a point of the state.
@@ -88,13 +111,13 @@ impl Tools {
         ensures truth { result ≡ may (problem_of problem.now) (pruning margin) (state_of state.now) }
         ensures serves { Serves problem.now self.new }
     {
-        self.fill(problem, &state.space);
-        may(
+        self.follow(problem, &state.space);
+        self.judged.judge_at(problem, margin, &self.rows);
+        may_hold(
             problem,
-            &self.rows,
             &state.space,
             &state.lits,
-            margin,
+            &self.judged,
             &mut self.marks,
         )
     }
@@ -106,7 +129,7 @@ impl Tools {
         ensures truth { result ≡ is_sure_over problem.now delta space.now }
         ensures serves { Serves problem.now self.new }
     {
-        self.fill(problem, space);
+        self.follow(problem, space);
         sure(problem, &self.rows, space, delta, &mut self.marks)
     }
 
@@ -118,7 +141,8 @@ impl Tools {
         ensures serves { Serves problem.now self.new }
     {
         let atom = atom_at(problem, j);
-        enclose(problem.graph(), atom.term, space, &mut self.rows)
+        self.follow(problem, space);
+        self.rows.get(atom.term as usize)
     }
 
     /// Whether the atom's enclosure misses its range at the margin.
@@ -154,11 +178,12 @@ impl Tools {
         ensures serves { Serves problem.now self.new }
     {
         let atom = atom_at(problem, j);
-        narrow_plain(
+        self.follow(problem, space);
+        narrow_enclosed(
             problem.graph(),
             &atom,
             margin,
-            &mut self.rows,
+            &self.rows,
             &mut self.scratch,
             space,
         )
@@ -179,11 +204,12 @@ impl Tools {
         ensures serves { Serves problem.now self.new }
     {
         let atom = atom_at(problem, j);
-        narrow_off_plain(
+        self.follow(problem, space);
+        narrow_off_enclosed(
             problem.graph(),
             &atom,
             margin,
-            &mut self.rows,
+            &self.rows,
             &mut self.scratch,
             space,
         )

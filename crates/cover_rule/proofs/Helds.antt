@@ -268,8 +268,8 @@ module _ (P : PatchModel) (whole : IsWhole P.problem) (r : IsRunOf P) where
 
 -- ---- what is held
 
-pub still_ready : (p : Parts) (k k' : KeptPatch) (w : Workspace) → k'.reached.space ≡ k.reached.space → IsReady p k.reached.space w → IsReady p k'.reached.space w
-still_ready p k k' w e h = subst (λ (s : Space). IsReady p s w) (sym e) h
+pub still_ready : (p : Parts) (m : Margins) (k k' : KeptPatch) (w : Workspace) → k'.reached.space ≡ k.reached.space → IsReady p m k.reached.space w → IsReady p m k'.reached.space w
+still_ready p m k k' w e h = subst (λ (s : Space). IsReady p m s w) (sym e) h
 
-pub held_with : (p : Parts) (m : Margins) (k k' : KeptPatch) (w w' : Workspace) → IsHeld p m k w → IsRunOf (patch_of p m k') → IsReady p k'.reached.space w' → IsHeld p m k' w'
+pub held_with : (p : Parts) (m : Margins) (k k' : KeptPatch) (w w' : Workspace) → IsHeld p m k w → IsRunOf (patch_of p m k') → IsReady p m k'.reached.space w' → IsHeld p m k' w'
 held_with p m k k' w w' h r y = record { whole = h.whole; numbered = h.numbered; margins = h.margins; run = r; ready = y }

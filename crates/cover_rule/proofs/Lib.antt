@@ -1,5 +1,6 @@
 pub mod Axes
 pub mod Helds
+pub mod Knowns
 pub mod Narrowings
 pub mod Points
 pub mod RunSteps

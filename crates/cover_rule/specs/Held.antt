@@ -18,4 +18,4 @@ pub record IsHeld (p : Parts) (m : Margins) (k : KeptPatch) (w : Workspace) : Ty
   pub numbered : IsNumbered p
   pub margins : AreMargins m
   pub run : IsRun (problem_of p) m (kept_of k)
-  pub ready : IsReady p k.reached.space w
+  pub ready : IsReady p m k.reached.space w

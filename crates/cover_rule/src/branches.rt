@@ -32,9 +32,9 @@ fn is_due(problem: &Problem, margins: &Margins, state: &State, work: &mut Worksp
     requires margins { AreMargins margins.now }
     requires numbered { IsNumbered problem.now }
     requires state { FitsProblem (problem_of problem.now) state.now }
-    requires work { IsReady problem.now state.now.space work.old }
+    requires work { IsReady problem.now margins.now state.now.space work.old }
     ensures due { result ≡ is_due_at problem.now margins.now state.now }
-    ensures work { IsReady problem.now state.now.space work.new }
+    ensures work { IsReady problem.now margins.now state.now.space work.new }
 {
     is_not_shown(problem, margins, state, work) && is_settled(problem, margins, state, work)
 }
@@ -92,7 +92,7 @@ pub fn flip(
     ensures answer { let P = patch_of problem.now margins.now in
         FlipEnd (P kept.old) axis (P kept.new) result }
     ensures reached { kept.new.reached ≡ kept.old.reached }
-    ensures ready { IsReady problem.now kept.old.reached.space work.new }
+    ensures ready { IsReady problem.now margins.now kept.old.reached.space work.new }
 {
     if kept.end.is_some() {
         return Err(PatchRefusal::Ended);
@@ -122,7 +122,7 @@ fn meets_range(
     requires state { FitsProblem (problem_of problem.now) state.now }
     requires small { j < length problem.now.atoms }
     requires atom { IsTrue (undecided state.now j) }
-    requires work { HasRowsOf problem.now state.now.space work.now }
+    requires work { HasRowsOf problem.now margins.now state.now.space work.now }
     ensures { let margin = margin_of (loosenings_of margins.now) in
         result ≡ not (misses (problem_of problem.now) margin state.now.space j) }
 {
@@ -151,11 +151,11 @@ fn is_case_due(
     requires state { FitsProblem (problem_of problem.now) state.old }
     requires small { j < length problem.now.atoms }
     requires atom { IsTrue (undecided state.old j) }
-    requires work { IsReady problem.now state.old.space work.old }
+    requires work { IsReady problem.now margins.now state.old.space work.old }
     ensures honest { let s = loosenings_of margins.now in
         result ≡ is_honest (problem_of problem.now) margins.now.least_bits s state.old (case j) }
     ensures state { state.new ≡ state.old }
-    ensures work { IsReady problem.now state.old.space work.new }
+    ensures work { IsReady problem.now margins.now state.old.space work.new }
 {
     if !is_due(problem, margins, state, work) {
         return false;
@@ -179,7 +179,7 @@ pub fn case(
     ensures answer { let P = patch_of problem.now margins.now in
         CaseEnd (P kept.old) j (P kept.new) result }
     ensures reached { kept.new.reached ≡ kept.old.reached }
-    ensures ready { IsReady problem.now kept.old.reached.space work.new }
+    ensures ready { IsReady problem.now margins.now kept.old.reached.space work.new }
 {
     if kept.end.is_some() {
         return Err(PatchRefusal::Ended);
@@ -207,7 +207,7 @@ pub fn stuck(
     ensures answer { let P = patch_of problem.now margins.now in
         StuckEnd (P kept.old) j (P kept.new) result }
     ensures reached { kept.new.reached ≡ kept.old.reached }
-    ensures ready { IsReady problem.now kept.old.reached.space work.new }
+    ensures ready { IsReady problem.now margins.now kept.old.reached.space work.new }
 {
     if kept.end.is_some() {
         return Err(PatchRefusal::Ended);
@@ -253,7 +253,7 @@ pub fn cut(
     ensures answer { let P = patch_of problem.now margins.now in
         CutEnd (P kept.old) (P kept.new) result }
     ensures reached { kept.new.reached ≡ kept.old.reached }
-    ensures ready { IsReady problem.now kept.old.reached.space work.new }
+    ensures ready { IsReady problem.now margins.now kept.old.reached.space work.new }
 {
     if kept.end.is_some() {
         return Err(PatchRefusal::Ended);

@@ -30,7 +30,7 @@ pub fn void(
     ensures answer { let P = patch_of problem.now margins.now in
         VoidEnd (P kept.old) j (P kept.new) result }
     ensures reached { kept.new.reached ≡ kept.old.reached }
-    ensures ready { IsReady problem.now kept.old.reached.space work.new }
+    ensures ready { IsReady problem.now margins.now kept.old.reached.space work.new }
 {
     if kept.end.is_some() {
         return Err(PatchRefusal::Ended);
@@ -58,7 +58,7 @@ pub fn void_no(
     ensures answer { let P = patch_of problem.now margins.now in
         VoidNoEnd (P kept.old) j (P kept.new) result }
     ensures reached { kept.new.reached ≡ kept.old.reached }
-    ensures ready { IsReady problem.now kept.old.reached.space work.new }
+    ensures ready { IsReady problem.now margins.now kept.old.reached.space work.new }
 {
     if kept.end.is_some() {
         return Err(PatchRefusal::Ended);
@@ -84,7 +84,7 @@ pub fn make_false(
     ensures answer { let P = patch_of problem.now margins.now in
         FalseEnd (P kept.old) (P kept.new) result }
     ensures reached { kept.new.reached ≡ kept.old.reached }
-    ensures ready { IsReady problem.now kept.old.reached.space work.new }
+    ensures ready { IsReady problem.now margins.now kept.old.reached.space work.new }
 {
     if kept.end.is_some() {
         return Err(PatchRefusal::Ended);

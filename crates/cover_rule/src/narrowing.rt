@@ -1,22 +1,25 @@
 // Narrowing, and rows that follow it.
-ghost use Rattle.std.specs.Prelude.{◌≡◌, ◌<◌, ◌^◌, not, length, slice_set, IsTrue};
+ghost use Rattle.std.specs.Prelude.{◌≡◌, ◌≢◌, ℕ, ◌<◌, ◌^◌, not, true, false, length, vec_len, slice_set, slice_index_or, IsTrue};
 ghost use Rattle.poly_graph.specs.ProblemViews.{problem_of};
+ghost use Rattle.poly_graph.specs.Problem.{atom_at};
 ghost use Rattle.cover_model.specs.Fits.{FitsProblem};
 ghost use Rattle.cover_model.specs.State.{with_space};
 ghost use Rattle.cover_model.specs.Rules.{narrowing, narrowing_off, in_no_one_sided};
 ghost use Rattle.cover_model.specs.Honest.{is_some_space, none_empty};
+ghost use Rattle.ival.specs.RowViews.{marks_of, is_marked};
 ghost use Rattle.ival.specs.SpaceViews.{space_of, domain_of};
 ghost use Rattle.ival.specs.Narrows.{IsNarrowed};
 ghost use Rattle.cover_data.specs.Margins.{AreMargins, loosenings_of};
-ghost use Rattle.cover_rule.specs.Serves.{HasRowsOf, IsReady, IsNumbered};
+ghost use Rattle.cover_rule.specs.Serves.{HasRowsOf, IsReady, IsNumbered, leaves_some};
 
 use crate::workspace::Workspace;
 use cover_data::{Margins, State};
 use cover_model::is_one_sided;
 use hc4_bwd::{narrow, narrow_off};
 use hc4_fwd::refill;
-use ival::{Domain, Narrowed, Space};
+use ival::{Domain, Narrowed, Rows, Space};
 use poly_graph::Problem;
+use std::alloc::Global;
 
 /// Puts the domains of a space into another one, which has as many axes.
 pub fn copy_space(from: &Space, into: &mut Space)
@@ -35,9 +38,58 @@ fn is_same(domain: Domain, other: Domain) -> bool
     domain == other
 }
 
-// Leaves a domain to the axis, and renews the rows where that is a change.
+// Takes each flag away.
+fn clear(flags: &mut [bool])
+    ensures none { (j : ℕ) → slice_index_or flags.new j false ≡ false }
+{
+    for flag in flags.iter_mut() {
+        *flag = false;
+    }
+}
+
+/// Takes it that nothing is known of the present space.
+pub fn forget(work: &mut Workspace)
+    ensures leaves { vec_len work.new.leaves ≡ vec_len work.old.leaves }
+    ensures none { (j : ℕ) → slice_index_or work.new.leaves.items j false ≡ false }
+    ensures unsure { work.new.unsure ≡ false }
+    ensures rows { work.new.rows ≡ work.old.rows }
+    ensures scratch { work.new.scratch ≡ work.old.scratch }
+    ensures marks { work.new.marks ≡ work.old.marks }
+    ensures spare { work.new.spare ≡ work.old.spare }
+    ensures middle { work.new.middle ≡ work.old.middle }
+{
+    clear(&mut work.leaves);
+    work.unsure = false;
+}
+
+// Whether the row of atom j's term is marked.
+fn is_reached(problem: &Problem, rows: &Rows, j: usize) -> bool
+    requires { j < length problem.now.atoms }
+    ensures { result ≡ false → is_marked (marks_of rows.now) (atom_at (problem_of problem.now) j).0 ≡ false }
+{
+    let place = problem.atoms()[j].term as usize;
+    place >= rows.len() || rows.marked(place)
+}
+
+// Takes away the flags of atoms whose term's row is marked.
+fn drop_reached(problem: &Problem, rows: &Rows, leaves: &mut Vec<bool, Global>)
+    requires { vec_len leaves.old ≡ length problem.now.atoms }
+    ensures count { vec_len leaves.new ≡ vec_len leaves.old }
+    ensures kept { (j : ℕ) → slice_index_or leaves.new.items j false ≡ true → slice_index_or leaves.old.items j false ≡ true }
+    ensures unmarked { (j : ℕ) → j < length problem.now.atoms → slice_index_or leaves.new.items j false ≡ true → is_marked (marks_of rows.now) (atom_at (problem_of problem.now) j).0 ≡ false }
+{
+    for j in 0..problem.atoms().len() {
+        if is_reached(problem, rows, j) {
+            leaves[j] = false;
+        }
+    }
+}
+
+// Leaves a domain to the axis, and renews the rows where that is a change: then nothing more is known of atoms from
+// which the axis is reached, nor of the middle.
 fn renew_axis(
     problem: &Problem,
+    margins: &Margins,
     axis: usize,
     domain: Domain,
     state: &mut State,
@@ -45,9 +97,9 @@ fn renew_axis(
 )
     requires axis { axis < length state.old.space }
     requires small { axis < 2 ^ 32 }
-    requires work { HasRowsOf problem.now state.old.space work.old }
+    requires work { HasRowsOf problem.now margins.now state.old.space work.old }
     ensures state { state.new ≡ with_space state.old (slice_set state.old.space axis (domain_of domain)) }
-    ensures work { HasRowsOf problem.now state.new.space work.new }
+    ensures work { HasRowsOf problem.now margins.now state.new.space work.new }
     ensures spare { work.new.spare ≡ work.old.spare }
 {
     if is_same(state.space().get(axis), domain) {
@@ -55,25 +107,27 @@ fn renew_axis(
     }
     state.set_axis(axis, domain);
     refill(problem.graph(), state.space(), axis as u32, &mut work.rows);
+    drop_reached(problem, &work.rows, &mut work.leaves);
+    work.unsure = false;
 }
 
 /// Takes over the spare space, and renews the rows of the axes that differ.
-pub fn adopt_spare(problem: &Problem, state: &mut State, work: &mut Workspace)
+pub fn adopt_spare(problem: &Problem, margins: &Margins, state: &mut State, work: &mut Workspace)
     requires numbered { IsNumbered problem.now }
     requires state { FitsProblem (problem_of problem.now) state.old }
-    requires work { HasRowsOf problem.now state.old.space work.old }
+    requires work { HasRowsOf problem.now margins.now state.old.space work.old }
     requires spare { length (space_of work.old.spare) ≡ length state.old.space }
     ensures state { state.new ≡ with_space state.old (space_of work.old.spare) }
-    ensures work { IsReady problem.now state.new.space work.new }
+    ensures work { IsReady problem.now margins.now state.new.space work.new }
 {
     for axis in 0..work.spare.len() {
         let domain = work.spare.get(axis);
-        renew_axis(problem, axis, domain, state, work);
+        renew_axis(problem, margins, axis, domain, state, work);
     }
 }
 
-/// Narrows the spare space, a copy of the state's, by atom j.
-pub fn narrow_spare(
+// Narrows the spare space, a copy of the state's, by atom j.
+fn narrow_by(
     problem: &Problem,
     margins: &Margins,
     state: &State,
@@ -82,10 +136,10 @@ pub fn narrow_spare(
 ) -> Narrowed
     requires margins { AreMargins margins.now }
     requires atom { j < length problem.now.atoms }
-    requires work { IsReady problem.now state.now.space work.old }
+    requires work { IsReady problem.now margins.now state.now.space work.old }
     ensures narrowed { let narrow = narrowing (problem_of problem.now) (loosenings_of margins.now) state.now j in
         IsNarrowed state.now.space (space_of work.new.spare) narrow result }
-    ensures work { HasRowsOf problem.now state.now.space work.new }
+    ensures work { HasRowsOf problem.now margins.now state.now.space work.new }
 {
     let _ = problem.axes();
     let atom = problem.atoms()[j as usize];
@@ -99,6 +153,39 @@ pub fn narrow_spare(
     )
 }
 
+// Notes of atom j that narrowing by it leaves something, where it does.
+fn note(narrowed: Narrowed, j: u32, leaves: &mut Vec<bool, Global>)
+    requires { j < vec_len leaves.old }
+    ensures none { narrowed ≡ Narrowed.Empty → leaves.new.items ≡ leaves.old.items }
+    ensures some { narrowed ≢ Narrowed.Empty → leaves.new.items ≡ slice_set leaves.old.items j true }
+    ensures count { vec_len leaves.new ≡ vec_len leaves.old }
+{
+    match narrowed {
+        Narrowed::Empty => {}
+        Narrowed::Same | Narrowed::Less => leaves[j as usize] = true,
+    }
+}
+
+/// Narrows the spare space, a copy of the state's, by atom j, and notes where that leaves something.
+pub fn narrow_spare(
+    problem: &Problem,
+    margins: &Margins,
+    state: &State,
+    j: u32,
+    work: &mut Workspace,
+) -> Narrowed
+    requires margins { AreMargins margins.now }
+    requires atom { j < length problem.now.atoms }
+    requires work { IsReady problem.now margins.now state.now.space work.old }
+    ensures narrowed { let narrow = narrowing (problem_of problem.now) (loosenings_of margins.now) state.now j in
+        IsNarrowed state.now.space (space_of work.new.spare) narrow result }
+    ensures work { HasRowsOf problem.now margins.now state.now.space work.new }
+{
+    let narrowed = narrow_by(problem, margins, state, j, work);
+    note(narrowed, j, &mut work.leaves);
+    narrowed
+}
+
 /// Whether narrowing by atom j leaves nothing.
 pub fn leaves_nothing(
     problem: &Problem,
@@ -109,10 +196,10 @@ pub fn leaves_nothing(
 ) -> bool
     requires margins { AreMargins margins.now }
     requires atom { j < length problem.now.atoms }
-    requires work { IsReady problem.now state.now.space work.old }
+    requires work { IsReady problem.now margins.now state.now.space work.old }
     ensures empty { let narrow = narrowing (problem_of problem.now) (loosenings_of margins.now) state.now j in
         result ≡ not (is_some_space narrow) }
-    ensures work { IsReady problem.now state.now.space work.new }
+    ensures work { IsReady problem.now margins.now state.now.space work.new }
 {
     let _ = problem.axes();
     match narrow_spare(problem, margins, state, j, work) {
@@ -145,10 +232,10 @@ pub fn narrow_off_spare(
 ) -> Narrowed
     requires margins { AreMargins margins.now }
     requires atom { j < length problem.now.atoms }
-    requires work { IsReady problem.now state.now.space work.old }
+    requires work { IsReady problem.now margins.now state.now.space work.old }
     ensures narrowed { let narrow = narrowing_off (problem_of problem.now) (loosenings_of margins.now) state.now j in
         IsNarrowed state.now.space (space_of work.new.spare) narrow result }
-    ensures work { HasRowsOf problem.now state.now.space work.new }
+    ensures work { HasRowsOf problem.now margins.now state.now.space work.new }
 {
     let _ = problem.axes();
     let atom = problem.atoms()[j as usize];
@@ -172,10 +259,10 @@ pub fn off_leaves_nothing(
 ) -> bool
     requires margins { AreMargins margins.now }
     requires atom { j < length problem.now.atoms }
-    requires work { IsReady problem.now state.now.space work.old }
+    requires work { IsReady problem.now margins.now state.now.space work.old }
     ensures empty { let narrow = narrowing_off (problem_of problem.now) (loosenings_of margins.now) state.now j in
         result ≡ not (is_some_space narrow) }
-    ensures work { IsReady problem.now state.now.space work.new }
+    ensures work { IsReady problem.now margins.now state.now.space work.new }
 {
     let _ = problem.axes();
     match narrow_off_spare(problem, margins, state, j, work) {
@@ -188,6 +275,23 @@ pub fn off_leaves_nothing(
     }
 }
 
+// Whether narrowing by atom j leaves something; it is tried only where that is not known.
+fn leaves_some(
+    problem: &Problem,
+    margins: &Margins,
+    state: &State,
+    j: u32,
+    work: &mut Workspace,
+) -> bool
+    requires margins { AreMargins margins.now }
+    requires atom { j < length problem.now.atoms }
+    requires work { IsReady problem.now margins.now state.now.space work.old }
+    ensures some { result ≡ leaves_some problem.now margins.now state.now.space j }
+    ensures work { IsReady problem.now margins.now state.now.space work.new }
+{
+    work.leaves[j as usize] || !leaves_nothing(problem, margins, state, j, work)
+}
+
 /// Whether narrowing by no atom that is marked yes leaves nothing.
 pub fn none_leaves_nothing(
     problem: &Problem,
@@ -198,13 +302,13 @@ pub fn none_leaves_nothing(
     requires margins { AreMargins margins.now }
     requires numbered { IsNumbered problem.now }
     requires state { FitsProblem (problem_of problem.now) state.now }
-    requires work { IsReady problem.now state.now.space work.old }
+    requires work { IsReady problem.now margins.now state.now.space work.old }
     ensures none { result ≡ none_empty (problem_of problem.now) (loosenings_of margins.now) state.now }
-    ensures work { IsReady problem.now state.now.space work.new }
+    ensures work { IsReady problem.now margins.now state.now.space work.new }
 {
     for j in 0..state.lits().len() {
         let j = j as u32;
-        if state.is_yes(j) && leaves_nothing(problem, margins, state, j, work) {
+        if state.is_yes(j) && !leaves_some(problem, margins, state, j, work) {
             return false;
         }
     }

@@ -2,20 +2,24 @@
 ghost use Rattle.std.specs.Prelude.{◌≡◌, ◌<◌, ◌↔◌, length, IfOk, IsTrue, MatchResult};
 ghost use Rattle.poly_graph.specs.ProblemViews.{problem_of};
 ghost use Rattle.cover_model.specs.Fits.{FitsProblem};
+ghost use Rattle.cover_model.specs.Narrowed.{enclosures};
+ghost use Rattle.ival.specs.RowViews.{rows_of};
 ghost use Rattle.ival.specs.SpaceViews.{space_of};
 ghost use Rattle.cover_data.specs.Margins.{AreMargins};
 ghost use Rattle.cover_data.specs.Runs.{IsClosed};
-ghost use Rattle.cover_rule.specs.Serves.{HasRoom, IsNumbered};
+ghost use Rattle.cover_rule.specs.Serves.{HasRoom, IsNumbered, sure_at_middle};
 ghost use Rattle.cover_rule.specs.Patch.{problem_in, run_at, IsRunOf, IsLemmaState, IsClosedRunOf, IsNotClosed};
 ghost use Rattle.cover_rule.specs.Refusals.{PullStep, PullIfLessStep, PushStep, PushIfLessStep, UnitStep, BanStep, VoidEnd, VoidNoEnd, FalseEnd, LemmaEnd, CutEnd, FlipEnd, CaseEnd, StuckEnd};
 ghost use Rattle.cover_data.specs.Views.{kept_of};
 
-use crate::narrowing::copy_space;
+use crate::narrowing::{copy_space, forget};
 use crate::refusal::PatchRefusal;
+use crate::truth::is_sure_at_middle;
 use crate::workspace::Workspace;
 use crate::{branches, ends, steps};
 use cover_data::{ClosedPatch, KeptPatch, Lemma, Margins, State};
 use hc4_fwd::fill;
+use ival::Rows;
 use poly_graph::Problem;
 use std::alloc::{AllocError, Global};
 use std::marker::Model;
@@ -80,6 +84,7 @@ impl<'a> Patch<'a> {
         let space = state.space();
         fill(problem.graph(), space, &mut work.rows);
         copy_space(space, &mut work.spare);
+        forget(&mut work);
         let kept = nothing_done(alloc, first, state);
         Ok(Patch {
             alloc,
@@ -114,6 +119,26 @@ impl<'a> Patch<'a> {
         ensures run { IsRunOf self.now }
     {
         &self.kept.reached
+    }
+
+    /// The enclosures of the problem's terms over the space that it has reached.
+    pub fn rows(&self) -> &Rows
+        ensures { rows_of result.now ≡ enclosures self.now.kept.reached.space self.now.problem.nodes }
+    {
+        &self.work.rows
+    }
+
+    /// Whether the form is sure at the middle of the space that it has reached.
+    pub fn is_sure_at_middle(&mut self) -> bool
+        ensures sure { result ≡ sure_at_middle self.old.problem self.old.margins self.old.kept.reached.space }
+        ensures same { self.new ≡ self.old }
+    {
+        is_sure_at_middle(
+            self.problem,
+            &self.margins,
+            &self.kept.reached,
+            &mut self.work,
+        )
     }
 
     /// What it has done, to be kept, and the room that it worked in.

@@ -34,15 +34,15 @@ fn narrowed(
     ensures may { OnOk result (pull_refusal (patch_of problem.now margins.now kept.now) j ≡ None) }
     ensures refusal { let P = patch_of problem.now margins.now kept.now in
         IfErr result (λ e. IsPullRefusal P j e) }
-    ensures refused { OnErr result (IsReady problem.now kept.now.reached.space work.new) }
-    ensures serves { HasRowsOf problem.now kept.now.reached.space work.new }
+    ensures refused { OnErr result (IsReady problem.now margins.now kept.now.reached.space work.new) }
+    ensures serves { HasRowsOf problem.now margins.now kept.now.reached.space work.new }
     ensures length { length (space_of work.new.spare) ≡ length kept.now.reached.space }
     ensures fits { OnOk result (FitsPulled (patch_of problem.now margins.now kept.now) j) }
     ensures spare { let P = patch_of problem.now margins.now kept.now in
         OnOk result (space_of work.new.spare ≡ pulled_space P j) }
     ensures same { let P = patch_of problem.now margins.now kept.now in
         let space = kept.now.reached.space in
-        result ≡ Ok false → (narrowing_in P j ≡ Some space) × IsReady problem.now space work.new }
+        result ≡ Ok false → (narrowing_in P j ≡ Some space) × IsReady problem.now margins.now space work.new }
     ensures less { let P = patch_of problem.now margins.now kept.now in
         result ≡ Ok true → narrowing_in P j ≢ Some kept.now.reached.space }
 {
@@ -74,15 +74,15 @@ fn narrowed_off(
     ensures may { OnOk result (push_refusal (patch_of problem.now margins.now kept.now) j ≡ None) }
     ensures refusal { let P = patch_of problem.now margins.now kept.now in
         IfErr result (λ e. IsPushRefusal P j e) }
-    ensures refused { OnErr result (IsReady problem.now kept.now.reached.space work.new) }
-    ensures serves { HasRowsOf problem.now kept.now.reached.space work.new }
+    ensures refused { OnErr result (IsReady problem.now margins.now kept.now.reached.space work.new) }
+    ensures serves { HasRowsOf problem.now margins.now kept.now.reached.space work.new }
     ensures length { length (space_of work.new.spare) ≡ length kept.now.reached.space }
     ensures fits { OnOk result (FitsPushed (patch_of problem.now margins.now kept.now) j) }
     ensures spare { let P = patch_of problem.now margins.now kept.now in
         OnOk result (space_of work.new.spare ≡ pushed_space P j) }
     ensures same { let P = patch_of problem.now margins.now kept.now in
         let space = kept.now.reached.space in
-        result ≡ Ok false → (narrowing_off_in P j ≡ Some space) × IsReady problem.now space work.new }
+        result ≡ Ok false → (narrowing_off_in P j ≡ Some space) × IsReady problem.now margins.now space work.new }
     ensures less { let P = patch_of problem.now margins.now kept.now in
         result ≡ Ok true → narrowing_off_in P j ≢ Some kept.now.reached.space }
 {
@@ -115,26 +115,27 @@ fn add_step(kept: &mut KeptPatch, step: Step) -> Result<(), PatchRefusal>
 // Takes the step that the spare space was narrowed by; out of memory, all stays.
 fn take_narrowed(
     problem: &Problem,
+    margins: &Margins,
     kept: &mut KeptPatch,
     work: &mut Workspace,
     step: Step,
 ) -> Result<(), PatchRefusal>
     requires numbered { IsNumbered problem.now }
     requires state { FitsProblem (problem_of problem.now) kept.old.reached }
-    requires serves { HasRowsOf problem.now kept.old.reached.space work.old }
+    requires serves { HasRowsOf problem.now margins.now kept.old.reached.space work.old }
     requires length { length (space_of work.old.spare) ≡ length kept.old.reached.space }
     ensures ok { let k = kept_of kept.old in
         let reached = with_space k.reached (space_of work.old.spare) in
         OnOk result (kept_of kept.new ≡ stepped k (step_line step) k.quoted reached) }
     ensures err { OnErr result (kept_of kept.new ≡ kept_of kept.old) }
     ensures memory { OnErr result (result ≡ Err refusal.Memory) }
-    ensures ready { IsReady problem.now kept.new.reached.space work.new }
+    ensures ready { IsReady problem.now margins.now kept.new.reached.space work.new }
 {
     if add_step(kept, step).is_err() {
         copy_space(kept.reached.space(), &mut work.spare);
         return Err(PatchRefusal::Memory);
     }
-    adopt_spare(problem, &mut kept.reached, work);
+    adopt_spare(problem, margins, &mut kept.reached, work);
     Ok(())
 }
 
@@ -150,11 +151,11 @@ pub fn pull(
     requires atom { j < length problem.now.atoms }
     ensures answer { let P = patch_of problem.now margins.now in
         PullStep (P kept.old) j (P kept.new) result }
-    ensures ready { IsReady problem.now kept.new.reached.space work.new }
+    ensures ready { IsReady problem.now margins.now kept.new.reached.space work.new }
     ensures fits { OnOk result (FitsPulled (patch_of problem.now margins.now kept.old) j) }
 {
     narrowed(problem, margins, kept, work, j)?;
-    take_narrowed(problem, kept, work, Step::Pull(j))
+    take_narrowed(problem, margins, kept, work, Step::Pull(j))
 }
 
 /// Pulls atom j, which has to be marked yes, where that leaves less of the space; whether it does.
@@ -169,13 +170,13 @@ pub fn pull_if_less(
     requires atom { j < length problem.now.atoms }
     ensures answer { let P = patch_of problem.now margins.now in
         PullIfLessStep (P kept.old) j (P kept.new) result }
-    ensures ready { IsReady problem.now kept.new.reached.space work.new }
+    ensures ready { IsReady problem.now margins.now kept.new.reached.space work.new }
     ensures fits { OnOk result (FitsPulled (patch_of problem.now margins.now kept.old) j) }
 {
     if !narrowed(problem, margins, kept, work, j)? {
         return Ok(false);
     }
-    take_narrowed(problem, kept, work, Step::Pull(j))?;
+    take_narrowed(problem, margins, kept, work, Step::Pull(j))?;
     Ok(true)
 }
 
@@ -192,11 +193,11 @@ pub fn push(
     requires atom { j < length problem.now.atoms }
     ensures answer { let P = patch_of problem.now margins.now in
         PushStep (P kept.old) j (P kept.new) result }
-    ensures ready { IsReady problem.now kept.new.reached.space work.new }
+    ensures ready { IsReady problem.now margins.now kept.new.reached.space work.new }
     ensures fits { OnOk result (FitsPushed (patch_of problem.now margins.now kept.old) j) }
 {
     narrowed_off(problem, margins, kept, work, j)?;
-    take_narrowed(problem, kept, work, Step::Push(j))
+    take_narrowed(problem, margins, kept, work, Step::Push(j))
 }
 
 /// Pushes atom j, which has to be marked no and to be an inequality, where that leaves less of the space; whether it
@@ -212,13 +213,13 @@ pub fn push_if_less(
     requires atom { j < length problem.now.atoms }
     ensures answer { let P = patch_of problem.now margins.now in
         PushIfLessStep (P kept.old) j (P kept.new) result }
-    ensures ready { IsReady problem.now kept.new.reached.space work.new }
+    ensures ready { IsReady problem.now margins.now kept.new.reached.space work.new }
     ensures fits { OnOk result (FitsPushed (patch_of problem.now margins.now kept.old) j) }
 {
     if !narrowed_off(problem, margins, kept, work, j)? {
         return Ok(false);
     }
-    take_narrowed(problem, kept, work, Step::Push(j))?;
+    take_narrowed(problem, margins, kept, work, Step::Push(j))?;
     Ok(true)
 }
 
@@ -234,10 +235,10 @@ pub fn may_without(
     requires state { FitsProblem (problem_of problem.now) state.old }
     requires atom { IsTrue (undecided state.old j) }
     requires small { j < length problem.now.atoms }
-    requires work { IsReady problem.now state.old.space work.old }
+    requires work { IsReady problem.now margins.now state.old.space work.old }
     ensures truth { result ≡ may (problem_of problem.now) (loosenings_of margins.now) (with_no state.old j) }
     ensures state { state.new ≡ state.old }
-    ensures work { IsReady problem.now state.old.space work.new }
+    ensures work { IsReady problem.now margins.now state.old.space work.new }
 {
     state.set_mark(j, Mark::No);
     let holds = may_hold(problem, margins, state, work);
@@ -273,7 +274,7 @@ fn unit_refusal(
     ensures refusal { result ≡ unit_refusal (patch_of problem.now margins.now kept.old) j }
     ensures kept { kept_of kept.new ≡ kept_of kept.old }
     ensures reached { kept.new.reached ≡ kept.old.reached }
-    ensures ready { IsReady problem.now kept.old.reached.space work.new }
+    ensures ready { IsReady problem.now margins.now kept.old.reached.space work.new }
 {
     if kept.end.is_some() {
         return Some(PatchRefusal::Ended);
@@ -299,7 +300,7 @@ pub fn unit(
     requires atom { j < length problem.now.atoms }
     ensures answer { let P = patch_of problem.now margins.now in
         UnitStep (P kept.old) j (P kept.new) result }
-    ensures ready { IsReady problem.now kept.new.reached.space work.new }
+    ensures ready { IsReady problem.now margins.now kept.new.reached.space work.new }
 {
     if let Some(refusal) = unit_refusal(problem, margins, kept, work, j) {
         return Err(refusal);

@@ -24,7 +24,7 @@ pub fn is_stuck_atom(
     requires margins { AreMargins margins.now }
     requires atom { j < length problem.now.atoms }
     requires state { FitsProblem (problem_of problem.now) state.now }
-    requires work { HasRowsOf problem.now state.now.space work.now }
+    requires work { HasRowsOf problem.now margins.now state.now.space work.now }
     ensures { result ≡ is_stuck_atom (problem_of problem.now) (loosenings_of margins.now) state.now j }
 {
     let _ = problem.axes();
@@ -50,7 +50,7 @@ pub fn none_stuck_below(
     requires margins { AreMargins margins.now }
     requires atom { j < length problem.now.atoms }
     requires state { FitsProblem (problem_of problem.now) state.now }
-    requires work { HasRowsOf problem.now state.now.space work.now }
+    requires work { HasRowsOf problem.now margins.now state.now.space work.now }
     ensures { result ≡ none_below (problem_of problem.now) (loosenings_of margins.now) state.now j }
 {
     let mut i = j;
@@ -68,9 +68,9 @@ pub fn is_settled(problem: &Problem, margins: &Margins, state: &State, work: &mu
     requires margins { AreMargins margins.now }
     requires numbered { IsNumbered problem.now }
     requires state { FitsProblem (problem_of problem.now) state.now }
-    requires work { IsReady problem.now state.now.space work.old }
+    requires work { IsReady problem.now margins.now state.now.space work.old }
     ensures settled { result ≡ settled (problem_of problem.now) (loosenings_of margins.now) state.now }
-    ensures work { IsReady problem.now state.now.space work.new }
+    ensures work { IsReady problem.now margins.now state.now.space work.new }
 {
     conjuncts_in_yes(problem, state.lits(), &mut work.marks)
         && none_leaves_nothing(problem, margins, state, work)

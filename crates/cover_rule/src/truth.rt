@@ -10,7 +10,7 @@ ghost use Rattle.cover_model.specs.Narrowed.{enclosures};
 ghost use Rattle.ival.specs.RowViews.{rows_of};
 ghost use Rattle.ival.specs.SpaceViews.{space_of};
 ghost use Rattle.cover_data.specs.Margins.{AreMargins, loosenings_of};
-ghost use Rattle.cover_rule.specs.Serves.{HasRowsOf};
+ghost use Rattle.cover_rule.specs.Serves.{HasRowsOf, sure_at_middle};
 
 use crate::workspace::Workspace;
 use cover_data::{Margins, State};
@@ -23,9 +23,9 @@ use truth3::{Marks, may, sure};
 pub fn may_hold(problem: &Problem, margins: &Margins, state: &State, work: &mut Workspace) -> bool
     requires margins { AreMargins margins.now }
     requires state { FitsProblem (problem_of problem.now) state.now }
-    requires work { HasRowsOf problem.now state.now.space work.old }
+    requires work { HasRowsOf problem.now margins.now state.now.space work.old }
     ensures truth { result ≡ may (problem_of problem.now) (loosenings_of margins.now) state.now }
-    ensures work { HasRowsOf problem.now state.now.space work.new }
+    ensures work { HasRowsOf problem.now margins.now state.now.space work.new }
     ensures spare { work.new.spare ≡ work.old.spare }
 {
     let _ = problem.axes();
@@ -66,6 +66,35 @@ pub fn midpoint_sure(
     sure(problem, rows, middle, delta, marks)
 }
 
+/// Whether the form surely holds at the middle of the state's space; it is tried only where that is not known.
+pub fn is_sure_at_middle(
+    problem: &Problem,
+    margins: &Margins,
+    state: &State,
+    work: &mut Workspace,
+) -> bool
+    requires margins { AreMargins margins.now }
+    requires state { FitsProblem (problem_of problem.now) state.now }
+    requires work { HasRowsOf problem.now margins.now state.now.space work.old }
+    ensures truth { result ≡ sure_at_middle problem.now margins.now state.now.space }
+    ensures work { HasRowsOf problem.now margins.now state.now.space work.new }
+    ensures spare { work.new.spare ≡ work.old.spare }
+{
+    if work.unsure {
+        return false;
+    }
+    let is_sure = midpoint_sure(
+        problem,
+        state.space(),
+        margins.delta_bits,
+        &mut work.middle,
+        &mut work.scratch,
+        &mut work.marks,
+    );
+    work.unsure = !is_sure;
+    is_sure
+}
+
 /// Whether the form may hold at the state, and does not surely hold at the middle.
 pub fn is_not_shown(
     problem: &Problem,
@@ -75,18 +104,10 @@ pub fn is_not_shown(
 ) -> bool
     requires margins { AreMargins margins.now }
     requires state { FitsProblem (problem_of problem.now) state.now }
-    requires work { HasRowsOf problem.now state.now.space work.old }
+    requires work { HasRowsOf problem.now margins.now state.now.space work.old }
     ensures truth { result ≡ not_shown (problem_of problem.now) (loosenings_of margins.now) state.now }
-    ensures work { HasRowsOf problem.now state.now.space work.new }
+    ensures work { HasRowsOf problem.now margins.now state.now.space work.new }
     ensures spare { work.new.spare ≡ work.old.spare }
 {
-    may_hold(problem, margins, state, work)
-        && !midpoint_sure(
-            problem,
-            state.space(),
-            margins.delta_bits,
-            &mut work.middle,
-            &mut work.scratch,
-            &mut work.marks,
-        )
+    may_hold(problem, margins, state, work) && !is_sure_at_middle(problem, margins, state, work)
 }

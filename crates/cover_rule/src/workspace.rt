@@ -1,5 +1,5 @@
 // Room for work on states.
-ghost use Rattle.std.specs.Prelude.{◌≡◌, ◌<◌, length, IfOk};
+ghost use Rattle.std.specs.Prelude.{◌≡◌, ◌<◌, length, true, IfOk};
 ghost use Rattle.ival.specs.SpaceViews.{space_of};
 
 use ival::{Domain, Rows, Space, Truths};
@@ -20,6 +20,10 @@ pub struct Workspace {
     pub spare: Space,
     /// The middle of the present space.
     pub middle: Space,
+    /// Of each atom whether narrowing by it is known to leave something of the present space.
+    pub leaves: Vec<bool, Global>,
+    /// Whether the form is known not to be sure at the middle of the present space.
+    pub unsure: bool,
 }
 
 // A space of so many axes, for others to be put in.
@@ -47,12 +51,29 @@ impl Workspace {
         let marks = Marks::new(alloc, problem)?;
         let spare = room_for(alloc, axes)?;
         let middle = room_for(alloc, axes)?;
+        let leaves = vec![in alloc; false; problem.atoms().len()]?;
         Ok(Workspace {
             rows,
             scratch,
             marks,
             spare,
             middle,
+            leaves,
+            unsure: false,
         })
+    }
+
+    /// Whether there is room for the problem.
+    pub fn has_room(&self, problem: &Problem) -> bool
+        ensures { result ≡ true → HasRoom problem.now self.now }
+    {
+        let nodes = problem.graph().len();
+        let axes = problem.axes().len();
+        self.rows.len() == nodes
+            && self.scratch.len() == nodes
+            && self.marks.truths.len() == problem.forms().len()
+            && self.spare.len() == axes
+            && self.middle.len() == axes
+            && self.leaves.len() == problem.atoms().len()
     }
 }

@@ -1,5 +1,5 @@
 // A script's problem, from its port.
-ghost use Rattle.std.specs.Prelude.{◌≡◌, IfOk, IsTrue, MatchResult, Option};
+ghost use Rattle.std.specs.Prelude.{◌≡◌, IfOk, MatchResult, Option};
 ghost use Rattle.poly_graph.specs.ProblemViews.{problem_of};
 ghost use Rattle.script_fault.specs.Answers.{IsFaultOrMemory};
 ghost use Rattle.answer_text.specs.ScriptFaults.{fault_text};
@@ -9,9 +9,9 @@ ghost use Rattle.dpoly.specs.Script.{Refuses, Fetches, Halts, HasText, IsTold, I
 
 use crate::ports::fetch;
 use desk::{Desk, ReadAll};
-use poly_graph::{MOST_ATOMS, Problem};
+use poly_graph::Problem;
 use problem_build::read_problem;
-use script_fault::{FaultKind, Limit, MOST_AXES, Place, ReadError, ScriptFault};
+use script_fault::{FaultKind, Limit, Place, ReadError, ScriptFault};
 use std::alloc::Global;
 
 /// Why a run ends before its script has a problem: the text of the script's first fault, a port that failed, or want
@@ -54,13 +54,6 @@ fn too_long(alloc: Global) -> Halt
     fault_refusal(alloc, &fault)
 }
 
-// Whether a search takes as many axes and atoms. The limits of the reader are the same, so it does.
-fn is_within(problem: &Problem) -> bool
-    ensures { IsTrue result → IsWithin problem.now }
-{
-    problem.axes().len() <= MOST_AXES && problem.atoms().len() <= MOST_ATOMS
-}
-
 /// The problem of a script's bytes, which a search takes.
 pub fn read_script(alloc: Global, bytes: &[u8], bound: Option<u32>) -> Result<Problem, Halt>
     ensures script { MatchResult result
@@ -69,13 +62,7 @@ pub fn read_script(alloc: Global, bytes: &[u8], bound: Option<u32>) -> Result<Pr
     ensures within { IfOk result (λ p. IsWithin p) }
 {
     match read_problem(alloc, bytes, bound) {
-        Ok(problem) => {
-            if is_within(&problem) {
-                Ok(problem)
-            } else {
-                Err(Halt::Memory)
-            }
-        }
+        Ok(problem) => Ok(problem),
         Err(error) => Err(refusal(alloc, &error)),
     }
 }

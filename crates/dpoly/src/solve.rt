@@ -22,7 +22,7 @@ use std::sync::Wait;
 use std::thread::Threads;
 use words::Options;
 
-// The book that a search for the problem leaves; the caller alone works on it.
+// The book that a search for the problem leaves.
 fn search<R: Threads + Wait + Sync, G: Gate + Sync>(
     rt: &R,
     alloc: Global,
@@ -35,9 +35,8 @@ fn search<R: Threads + Wait + Sync, G: Gate + Sync>(
     ensures problem { IfOk result (λ b. b.problem ≡ problem.now) }
     ensures left { IfOk result (λ b. IsLeftBy options.now b) }
 {
-    let _ = rt;
     let asked = search_options(options);
-    solve_core::solve(alloc, problem, &asked, gate)
+    solve_core::solve(rt, alloc, problem, &asked, gate)
 }
 
 // The certificate of a problem, and its answer.

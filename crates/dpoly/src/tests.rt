@@ -3,7 +3,10 @@ use check::check_problem;
 use desk::{Desk, Fault, MemoryDesk, Port};
 use poly_graph::{FormGraph, FormNode, Graph, NoNode, Problem};
 use std::alloc::{AllocError, Global};
+use std::process::Abort;
+use std::sync::Wait;
 use std::test::Fail;
+use std::thread::Threads;
 
 fn words_of(alloc: Global, line: &str) -> Result<Vec<String>, AllocError> {
     let mut words = Vec::new(alloc);
@@ -78,29 +81,119 @@ fn scripts_are_refused(rt: HostRuntime) -> Result<(), Fail> {
     Ok(())
 }
 
+// ---- ports that fail
+
+const UNSAT_SCRIPT: &str =
+    "(declare-const x Real)\n(assert (<= 0 x 1))\n(assert (= (* x x) (- 1)))\n(check-sat)";
+
+const UNSAT_CERT: &str = "dpoly 2\nmargin 20\ndelta 10\nbound none\ncover 0\ntree\nfalse\nend\n";
+
+const POINT_SCRIPT: &str =
+    "(declare-const x Real)\n(assert (<= 0 x 1))\n(assert (distinct x x))\n(check-sat)";
+
+const POINT_CERT: &str = "dpoly 2\nmargin 20\ndelta 10\nbound none\npoint\nreal 1b-1\nend\n";
+
+// Runs a line in which the call of a port with this number fails, and tells whether a call did. What stands on the out
+// ports is then a prefix of what a whole run writes, and nothing of the answer before the certificate is whole.
+fn fails_at<R: Threads + Wait + Abort + Alloc<A = Global> + Sync>(
+    rt: &R,
+    line: &str,
+    texts: (&str, &str, &str, &str),
+    most: usize,
+    fault: Fault,
+) -> Result<bool, Fail> {
+    let alloc = rt.alloc();
+    let (script, given, cert, answer) = texts;
+    let words = words_of(alloc, line)?;
+    let script = script.as_bytes().to_vec(alloc)?;
+    let given = given.as_bytes().to_vec(alloc)?;
+    let mut desk = MemoryDesk::new(alloc, script, given, most.max(1));
+    desk.fail(fault)?;
+    let status = run_top(rt, alloc, &words, &mut desk, &NoGate);
+    let (written, told) = (desk.written(Port::CertOut), desk.written(Port::Answer));
+    if desk.in_faults() > 0 {
+        assert_eq!(rt; status, Status::InFailed);
+        assert!(rt; written.is_empty() && told.is_empty());
+        return Ok(true);
+    }
+    assert!(rt; cert.as_bytes().starts_with(written) && answer.as_bytes().starts_with(told));
+    assert!(rt; told.is_empty() || written == cert.as_bytes());
+    if desk.out_faults() > 0 {
+        assert_eq!(rt; status, Status::OutFailed);
+        return Ok(true);
+    }
+    assert_eq!(rt; status, Status::Answered);
+    assert_eq!(rt; told, answer.as_bytes());
+    Ok(false)
+}
+
 #[test]
 fn each_call_fails_once(rt: HostRuntime) -> Result<(), Fail> {
-    let alloc = rt.alloc();
-    let words = words_of(alloc, "dpoly solve s c")?;
-    let text = b"script fault 14 NoCheck 0:0\n".as_slice();
-    for port in [Port::Script, Port::Answer] {
-        for most in [1usize, 4, 65536] {
-            for call in 0u64..12 {
-                let mut desk = desk_of(alloc, "; none", most)?;
-                desk.fail(Fault { port, call })?;
-                let status = run_top(&rt, alloc, &words, &mut desk, &NoGate);
-                assert_eq!(rt; desk.written(Port::CertOut), b"".as_slice());
-                if desk.in_faults() > 0 {
-                    assert_eq!(rt; status, Status::InFailed);
-                    assert_eq!(rt; desk.written(Port::Answer), b"".as_slice());
-                } else if desk.out_faults() > 0 {
-                    assert_eq!(rt; status, Status::OutFailed);
-                    assert!(rt; text.starts_with(desk.written(Port::Answer)));
-                } else {
-                    assert_eq!(rt; status, Status::ScriptRefused);
-                    assert_eq!(rt; desk.written(Port::Answer), text);
+    for (line, texts) in [
+        (
+            "dpoly solve s c",
+            (UNSAT_SCRIPT, "", UNSAT_CERT, "unsat\nmargin 1b-20\n"),
+        ),
+        (
+            "dpoly solve s c",
+            (
+                POINT_SCRIPT,
+                "",
+                POINT_CERT,
+                "delta-sat\ndelta 1b-10\nx 1b-1\n",
+            ),
+        ),
+        (
+            "dpoly check s c",
+            (
+                UNSAT_SCRIPT,
+                UNSAT_CERT,
+                "",
+                "confirmed unsat\nmargin 1b-20\n",
+            ),
+        ),
+        (
+            "dpoly check s c",
+            (
+                POINT_SCRIPT,
+                POINT_CERT,
+                "",
+                "confirmed delta-sat\ndelta 1b-10\n",
+            ),
+        ),
+    ] {
+        for port in [Port::Script, Port::CertIn, Port::CertOut, Port::Answer] {
+            for most in [1usize, 4, 65536] {
+                for call in 0u64..200 {
+                    if !fails_at(&rt, line, texts, most, Fault { port, call })? {
+                        break;
+                    }
                 }
             }
+        }
+    }
+    Ok(())
+}
+
+// The names under which the ports of a run are started.
+#[test]
+fn ports_have_their_names(rt: HostRuntime) -> Result<(), Fail> {
+    let alloc = rt.alloc();
+    for (line, names) in [
+        ("dpoly solve s -", ["s", "-", "-"]),
+        ("dpoly solve s s", ["s", "s", "-"]),
+        ("dpoly solve - c", ["-", "c", "-"]),
+        ("dpoly check s -", ["s", "-", "-"]),
+    ] {
+        let words = words_of(alloc, line)?;
+        let script = UNSAT_SCRIPT.as_bytes().to_vec(alloc)?;
+        let given = UNSAT_CERT.as_bytes().to_vec(alloc)?;
+        let mut desk = MemoryDesk::new(alloc, script, given, 7);
+        let status = run_top(&rt, alloc, &words, &mut desk, &NoGate);
+        assert_eq!(rt; status, Status::Answered, "at {line}");
+        assert_eq!(rt; desk.starts().len(), 3, "at {line}");
+        for (start, name) in desk.starts().iter().zip(names.iter()) {
+            assert_eq!(rt; start.name.as_str(), *name, "at {line}");
         }
     }
     Ok(())

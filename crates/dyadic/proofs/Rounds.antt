@@ -1,4 +1,5 @@
 -- `down` gives the greatest number of the grid that is not above a fraction, and `up` the least that is not below.
+pub use Rattle.dyadic.specs.Rounding.{IsExtOnGrid}
 use Rattle.std.proofs.Common.{◌≡◌, ℕ, suc, ◌*◌, ◌/◌, ◌^◌, ◌<◌, arith, refl, sym, ap, ◌∙◌, subst, IsTrue, nat_le, ℤ, pos, negsuc, neg_ℤ, ◌*ℤ◌, ◌≤ℤ◌}
 use Rattle.std.proofs.Math.IntN.{neg_ℤ-neg_ℤ}
 use Rattle.std.proofs.lemmas.Int.{ints}
@@ -247,10 +248,6 @@ up_isotone p q g k h = isotone_up_of p q (up p) (up q) k h (up_is p g) (up_is q 
 -- ---- the grid
 
 -- what is rounded lies on the grid where it is a number
-abbrev pub IsExtOnGrid : Ext → Type 0
-IsExtOnGrid (finite r) = IsOnGrid r
-IsExtOnGrid _ = Unit {0}
-
 down_on_grid_of : (q : Fraction) (e : Ext) → IsDown q e → IsExtOnGrid e
 down_on_grid_of q (finite r) h = h.0
 down_on_grid_of q below_all h = tt

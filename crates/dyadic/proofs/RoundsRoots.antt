@@ -1,10 +1,11 @@
 -- `root_down` gives the greatest number of the grid whose square is not above a number, and `root_up` the least that is not below 0 and whose square is not below it.
-use Rattle.std.proofs.Common.{◌≡◌, ℕ, ◌*◌, ◌^◌, ◌<◌, ◌≤◌, arith, refl, sym, subst, ⊎_elim, IsTrue, ℤ, pos, negsuc, nat_abs, ◌*ℤ◌, ◌≤ℤ◌, le_antisymm}
+use Rattle.std.proofs.Common.{◌≡◌, ℕ, ◌*◌, ◌^◌, ◌<◌, ◌≤◌, arith, refl, sym, subst, ⊎_elim, ℤ, pos, negsuc, nat_abs, ◌*ℤ◌, ◌≤ℤ◌, le_antisymm}
 use Rattle.std.proofs.Math.Nat.{mul-le-mul}
 use Rattle.std.proofs.lemmas.Int.{ints}
 use Rattle.std.proofs.lemmas.Bool.{cases_lt}
-use Rattle.dyadic.specs.Fraction.{at_most, product_of}
-use Rattle.dyadic.specs.Rounding.{Dyadic, exact, IsRepresentable, IsOnGrid, finite, size_below, size_above, whole_root, root_above, root_down, root_up}
+use Rattle.dyadic.specs.Fraction.{product_of}
+use Rattle.dyadic.specs.Rounding.{Dyadic, exact, IsRepresentable, finite, size_below, size_above, whole_root, root_above, root_down, root_up}
+pub use Rattle.dyadic.specs.Laws.{squares_below, squares_above, IsRootBelow, IsRootAbove}
 use Rattle.dyadic.specs.Grid.{IsRootDown, IsRootUp, IsRoundedDown, IsRoundedUp, IsTightRoot, IsAboveAll}
 use Rattle.dyadic.proofs.Roots.{root_down as sizes_down, root_up as sizes_up}
 use Rattle.dyadic.proofs.Sizes.{root_tight, size_below_is, size_above_is, above_representable}
@@ -53,27 +54,6 @@ root_in_range n low high s h t a =
     let r : IsRepresentable (2 ^ 181) = record { whole = 2; power = 180; few_bits = omega arith; in_range = omega arith; value = refl } in
     let large : n * 2 ^ 120 ≤ 2 ^ 181 * 2 ^ 181 = omega (arith, h) in
     omega (arith, t.least (2 ^ 181) r large, a (2 ^ 181) r)
-
--- ---- the definitions' words
-
--- a square is not above d
-abbrev pub squares_below : Dyadic → Dyadic → Type 0
-squares_below s d = IsTrue (at_most (product_of (exact s) (exact s)) (exact d))
-
-abbrev pub squares_above : Dyadic → Dyadic → Type 0
-squares_above s d = IsTrue (at_most (exact d) (product_of (exact s) (exact s)))
-
-pub record IsRootBelow (d : Dyadic) (r : Dyadic) : Type 0 where
-  pub on_grid : IsOnGrid r
-  pub plus : pos 0 ≤ℤ r.units
-  pub below : squares_below r d
-  pub greatest : (s : Dyadic) → IsOnGrid s → squares_below s d → IsTrue (at_most (exact s) (exact r))
-
-pub record IsRootAbove (d : Dyadic) (r : Dyadic) : Type 0 where
-  pub on_grid : IsOnGrid r
-  pub plus : pos 0 ≤ℤ r.units
-  pub above : squares_above r d
-  pub least : (s : Dyadic) → IsOnGrid s → pos 0 ≤ℤ s.units → squares_above s d → IsTrue (at_most (exact r) (exact s))
 
 -- squares in units
 square_in_units : (z : ℤ) → z *ℤ z ≡ pos (nat_abs z * nat_abs z)

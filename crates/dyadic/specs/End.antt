@@ -1,6 +1,6 @@
 -- Exact ends of intervals, their sums, products and quotients, and their rounding.
 use Rattle.std.specs.Prelude.{zero, suc, cond, ℤ, pos, negsuc, neg_ℤ}
-use Rattle.dyadic.specs.Fraction.{Fraction, zero_fraction, sum_of, product_of, quotient_of}
+use Rattle.dyadic.specs.Fraction.{zero_fraction, sum_of, product_of, quotient_of}
 use Rattle.dyadic.specs.Rounding.{Dyadic, End, minus_infinity, at, plus_infinity, Ext, below_all, finite, above_all, end_at_most, ext_at_most, down, up}
 
 abbrev pub negated_dyadic : Dyadic → Dyadic

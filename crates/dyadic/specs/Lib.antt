@@ -3,6 +3,7 @@ pub mod End
 pub mod Fraction
 pub mod Grid
 pub mod InUnits
+pub mod Laws
 pub mod Lowest
 pub mod Near
 pub mod NumberText

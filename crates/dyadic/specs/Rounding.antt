@@ -37,6 +37,11 @@ pub data Ext : Type 0 where
   finite : Dyadic → Ext
   above_all : Ext
 
+-- a finite end is a number that is kept
+abbrev pub IsExtOnGrid : Ext → Type 0
+IsExtOnGrid (finite r) = IsOnGrid r
+IsExtOnGrid _ = Unit {0}
+
 abbrev pub end_of : Ext → End
 end_of below_all = minus_infinity
 end_of (finite d) = at (exact d)

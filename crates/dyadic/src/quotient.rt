@@ -79,6 +79,20 @@ fn long_bracket(n: u128, d: u128, digits: u32) -> Bracket
     }
 }
 
+// Bounds of `n * 2^digits`, which are itself.
+#[tactic(auto, using(crate::proofs::Division::tight_whole))]
+fn whole_bracket(n: u128, digits: u32) -> Bracket
+    requires few_digits { digits ≤ 1000 }
+    ensures short { result.shift ≤ 1000 }
+    ensures tight { IsTight (n * 2 ^ digits) 1 result.low result.high result.shift }
+{
+    Bracket {
+        low: n,
+        high: n,
+        shift: digits,
+    }
+}
+
 /// Bounds of `n * 2^digits / d`.
 pub fn quotient_bracket(n: u128, d: u128, digits: u32) -> Bracket
     requires positive { 0 < d }
@@ -88,7 +102,9 @@ pub fn quotient_bracket(n: u128, d: u128, digits: u32) -> Bracket
     ensures short { result.shift ≤ 1000 }
     ensures tight { IsTight (n * 2 ^ digits) d result.low result.high result.shift }
 {
-    if n < 1 << 64 && d < 1 << 64 {
+    if d == 1 {
+        whole_bracket(n, digits)
+    } else if n < 1 << 64 && d < 1 << 64 {
         short_bracket(n, d, digits)
     } else {
         long_bracket(n, d, digits)

@@ -9,6 +9,7 @@ ghost use Rattle.dyadic.specs.Calls.{HasRoot, root_ext};
 
 use crate::bracket::Bracket;
 use crate::dy::Ext;
+use crate::exact_root::root_of;
 use crate::number::signed;
 use crate::product::UNIT_BITS;
 use crate::rounding::{round_down, round_up};
@@ -67,7 +68,7 @@ fn root_bracket(a: Size) -> Bracket
         };
     }
     let square = square_of(a);
-    let low = square.square.isqrt();
+    let low = root_of(square.square);
     Bracket {
         low,
         high: if low * low == square.square {

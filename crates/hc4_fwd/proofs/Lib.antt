@@ -1,3 +1,4 @@
+pub mod Leaves
 pub mod Reaches
 pub mod Upwards
 pub mod Counts

@@ -1,4 +1,5 @@
 -- What a square leaves to its operand holds the operand.
+pub use Rattle.interval_model.specs.Interval.{IsKept}
 use Rattle.std.proofs.Common.{◌≡◌, inl, inr, ℕ, suc, ◌+◌, ◌*◌, ◌^◌, ◌<◌, ◌≤◌, IsTrue, ⊎_elim, refl, sym, ◌∙◌, subst, arith, true≢false, ℤ, pos, negsuc, nat_abs, ◌≤ℤ◌, lit<}
 use Rattle.std.proofs.Math.Nat.{mul-le-mul}
 use Rattle.std.proofs.lemmas.Bool.{cases_lt}
@@ -16,11 +17,6 @@ use Rattle.interval_model.proofs.Ends.{◌⊑◌, value, product_is_good, zero_i
 use Rattle.interval_model.proofs.EndsProducts.{not_negative as not_minus}
 use Rattle.interval_model.proofs.Squares.{square_not_negative}
 use Rattle.interval_model.proofs.Holds.{Holds, met_holds, hull_holds, negated_holds}
-
--- an interval's finite ends lie on the grid
-abbrev pub IsKept : Interval → Type 0
-IsKept nothing = Unit {0}
-IsKept (between l h) = IsExtOnGrid l × IsExtOnGrid h
 
 -- ---- the order of squares
 

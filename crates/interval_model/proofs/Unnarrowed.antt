@@ -1,7 +1,7 @@
 -- What an interval that is an operation's own result leaves to an operand: all of it.
-use Rattle.std.proofs.Common.{◌≡◌, ℕ, ℤ, pos, ◌+ℤ◌, ◌-ℤ◌, ◌≤ℤ◌, ◌*ℤ◌, neg_ℤ, Bool, true, false, IsTrue, refl, sym, ap, ◌∙◌, subst, arith, true≢false, lit<}
+use Rattle.std.proofs.Common.{◌≡◌, ℕ, ℤ, pos, ◌+ℤ◌, ◌-ℤ◌, ◌≤ℤ◌, ◌*ℤ◌, neg_ℤ, Bool, true, false, IsTrue, refl, sym, ◌∙◌, subst, arith, true≢false, lit<}
 use Rattle.std.proofs.lemmas.Int.{ints}
-use Rattle.dyadic.specs.Fraction.{Fraction, IsFraction, sum_of, product_of, negated}
+use Rattle.dyadic.specs.Fraction.{Fraction, IsFraction, negated}
 use Rattle.dyadic.specs.Rounding.{Dyadic, exact, at, Ext, below_all, finite, above_all, end_of, end_at_most, ext_at_most}
 use Rattle.interval_model.specs.Interval.{Interval, nothing, between, IsProper, interval_sum, interval_negated, interval_product, interval_square, inverse_sum, inverse_product, inverse_square, within}
 use Rattle.dyadic.proofs.Ring.{atom, natural, minus, times, same}

@@ -1,7 +1,7 @@
 -- Intervals whose ends are computed exactly and then rounded outward (Moore, Interval Analysis, 1966).
 use Rattle.std.specs.Prelude.{Bool, true, false, cond, ◌&&◌, ◌||◌, IsTrue}
 use Rattle.dyadic.specs.Fraction.{Fraction, zero_fraction}
-use Rattle.dyadic.specs.Rounding.{Dyadic, End, at, Ext, below_all, finite, above_all, end_of, end_at_most, ext_at_most, root_down, root_up}
+use Rattle.dyadic.specs.Rounding.{Dyadic, End, at, Ext, below_all, finite, above_all, end_of, end_at_most, ext_at_most, IsExtOnGrid, root_down, root_up}
 use Rattle.dyadic.specs.End.{negated_ext, end_sum, Sign, below, nought, above, end_sign, end_product, end_quotient, lesser, greater, rounded_down, rounded_up, lesser_ext, greater_ext}
 
 pub data Interval : Type 0 where
@@ -15,6 +15,11 @@ everything = between below_all above_all
 abbrev pub holds_fraction : Interval → Fraction → Bool
 holds_fraction nothing v = false
 holds_fraction (between l h) v = end_at_most (end_of l) (at v) && end_at_most (at v) (end_of h)
+
+-- its finite ends are numbers that are kept
+abbrev pub IsKept : Interval → Type 0
+IsKept nothing = Unit {0}
+IsKept (between l h) = IsExtOnGrid l × IsExtOnGrid h
 
 -- ---- rounded intervals
 

@@ -1,2 +1,5 @@
 pub mod Filling
-pub mod Parents
+pub mod Leaves
+pub mod Sweeping
+pub mod Skipped
+pub mod Upwards

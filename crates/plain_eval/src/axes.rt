@@ -1,14 +1,13 @@
 // What narrowed intervals leave to the axes.
-ghost use Rattle.std.specs.Prelude.{◌≡◌, ◌≢◌, true, false, length};
+ghost use Rattle.std.specs.Prelude.{◌≡◌, ◌≢◌, true, false, length, Some};
 ghost use Rattle.cover_model.specs.AxisStep.{axis_step};
 ghost use Rattle.cover_model.specs.Narrowed.{set_axis, with_axes};
 ghost use Rattle.poly_graph.specs.Views.{node_of};
 ghost use Rattle.ival.specs.Views.{interval_of};
 ghost use Rattle.ival.specs.RowViews.{rows_of};
-ghost use Rattle.ival.specs.Options.{option_of, options_of};
+ghost use Rattle.ival.specs.Options.{options_of};
 ghost use Rattle.ival.specs.SpaceViews.{space_of};
 
-use crate::scratch::get;
 use ival::{Ival, Rows, Space};
 use poly_graph::{Graph, Node};
 
@@ -29,16 +28,13 @@ fn narrow_variable(axis: u32, interval: Ival, space: &mut Space) -> bool
 }
 
 // Leaves to the axis of a variable its narrowed interval, and tells whether that is a change.
-fn narrow_axis(node: Node, narrowed: Option<Ival>, space: &mut Space) -> bool
-    ensures axes { space_of space.new ≡ axis_step (node_of node) (option_of narrowed) (space_of space.old) }
+fn narrow_axis(node: Node, narrowed: Ival, space: &mut Space) -> bool
+    ensures axes { space_of space.new ≡ axis_step (node_of node) (Some (interval_of narrowed)) (space_of space.old) }
     ensures same { result ≡ false → space_of space.new ≡ space_of space.old }
     ensures less { result ≡ true → space_of space.new ≢ space_of space.old }
 {
-    let Some(interval) = narrowed else {
-        return false;
-    };
     match node {
-        Node::Var(axis) => narrow_variable(axis, interval, space),
+        Node::Var(axis) => narrow_variable(axis, narrowed, space),
         Node::Const(_) => false,
         Node::Neg(_) => false,
         Node::Add(_, _) => false,
@@ -47,7 +43,8 @@ fn narrow_axis(node: Node, narrowed: Option<Ival>, space: &mut Space) -> bool
     }
 }
 
-/// Leaves to the axis of each variable its narrowed interval, and tells whether that is a change.
+/// Leaves to the axis of each variable its narrowed interval, if it has one, and tells whether that is a change. Only
+/// marked nodes are looked at.
 pub fn narrow_axes(graph: &Graph, scratch: &Rows, space: &mut Space) -> bool
     requires { length (rows_of scratch.now) ≡ length graph.now }
     ensures axes { space_of space.new ≡ with_axes graph.now (options_of scratch.now) (space_of space.old) }
@@ -55,12 +52,12 @@ pub fn narrow_axes(graph: &Graph, scratch: &Rows, space: &mut Space) -> bool
     ensures less { result ≡ true → space_of space.new ≢ space_of space.old }
 {
     let mut is_less = false;
-    let mut n = graph.len();
-    while n > 0 {
-        n -= 1;
-        if narrow_axis(graph.node(n as u32), get(scratch, n), space) {
+    let mut place = graph.len();
+    while let Some(n) = scratch.next_marked_below(place) {
+        if narrow_axis(graph.node(n as u32), scratch.get(n), space) {
             is_less = true;
         }
+        place = n;
     }
     is_less
 }

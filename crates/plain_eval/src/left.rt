@@ -1,69 +1,53 @@
-// What a parent leaves to a node.
-ghost use Rattle.std.specs.Prelude.{◌≡◌, ◌<◌, length, IsTrue};
-ghost use Rattle.interval_model.specs.Interval.{met};
-ghost use Rattle.poly_graph.specs.Term.{comes_after, has_child};
-ghost use Rattle.cover_model.specs.Narrowed.{if_child, left_by, from_parent};
+// What a narrowed node leaves to its children.
+ghost use Rattle.std.specs.Prelude.{◌≡◌, ◌≢◌, ℕ, ◌<◌, length, IsTrue};
+ghost use Rattle.poly_graph.specs.Term.{comes_after};
 ghost use Rattle.poly_graph.specs.Views.{node_of};
 ghost use Rattle.ival.specs.Views.{interval_of};
 ghost use Rattle.ival.specs.RowViews.{rows_of};
-ghost use Rattle.ival.specs.Options.{option_of};
+ghost use Rattle.ival.specs.Options.{option_at};
+ghost use Rattle.plain_eval.specs.Leaving.{left_more, left_more_by};
 
 use ival::{Ival, Rows};
-use poly_graph::{Node, is_parent};
+use poly_graph::Node;
 
-// The interval of a child, and all numbers otherwise.
-fn if_child(is_child: bool, interval: Ival) -> Ival
-    ensures { interval_of result ≡ if_child is_child (interval_of interval) }
+/// Leaves one more interval to node s: it is met with what was left before, at first the node's enclosure.
+pub fn leave(rows: &Rows, s: u32, interval: Ival, scratch: &mut Rows)
+    requires rows { s < length (rows_of rows.now) }
+    requires scratch { length (rows_of scratch.old) ≡ length (rows_of rows.now) }
+    ensures at { option_at scratch.new s ≡ left_more (rows_of rows.now) s (interval_of interval) (option_at scratch.old s) }
+    ensures others { (k : ℕ) → k ≢ s → option_at scratch.new k ≡ option_at scratch.old k }
+    ensures count { length (rows_of scratch.new) ≡ length (rows_of scratch.old) }
 {
-    if is_child {
-        interval
+    let place = s as usize;
+    let before = if scratch.marked(place) {
+        scratch.get(place)
     } else {
-        Ival::everything()
-    }
+        rows.get(place)
+    };
+    scratch.set(place, before.meet(interval));
+    scratch.mark(place);
 }
 
-// What a parent that lies in an interval leaves to node s, by each place where s stands.
-fn left_by(rows: &Rows, s: u32, parent: Node, narrowed: Ival) -> Ival
-    requires order { IsTrue (comes_after (length (rows_of rows.now)) (node_of parent)) }
-    requires place { s < length (rows_of rows.now) }
-    ensures { interval_of result ≡ left_by (rows_of rows.now) s (node_of parent) (interval_of narrowed) }
+/// Leaves to each child of a node that lies in this interval what the node leaves to it, by each place where the
+/// child stands.
+pub fn leave_to_children(node: Node, narrowed: Ival, rows: &Rows, scratch: &mut Rows)
+    requires order { IsTrue (comes_after (length (rows_of rows.now)) (node_of node)) }
+    requires scratch { length (rows_of scratch.old) ≡ length (rows_of rows.now) }
+    ensures all { (s : ℕ) → option_at scratch.new s ≡ left_more_by (rows_of rows.now) s (node_of node) (interval_of narrowed) (option_at scratch.old s) }
+    ensures count { length (rows_of scratch.new) ≡ length (rows_of scratch.old) }
 {
-    match parent {
-        Node::Const(_) | Node::Var(_) => Ival::everything(),
-        Node::Neg(a) => if_child(a == s, narrowed.neg()),
+    match node {
+        Node::Const(_) => {}
+        Node::Var(_) => {}
+        Node::Neg(a) => leave(rows, a, narrowed.neg(), scratch),
         Node::Add(a, b) => {
-            let first = if_child(a == s, narrowed.inv_add(rows.get(b as usize)));
-            first.meet(if_child(b == s, narrowed.inv_add(rows.get(a as usize))))
+            leave(rows, a, narrowed.inv_add(rows.get(b as usize)), scratch);
+            leave(rows, b, narrowed.inv_add(rows.get(a as usize)), scratch);
         }
         Node::Mul(a, b) => {
-            let first = if_child(a == s, narrowed.inv_mul(rows.get(b as usize)));
-            first.meet(if_child(b == s, narrowed.inv_mul(rows.get(a as usize))))
+            leave(rows, a, narrowed.inv_mul(rows.get(b as usize)), scratch);
+            leave(rows, b, narrowed.inv_mul(rows.get(a as usize)), scratch);
         }
-        Node::Sq(a) => if_child(a == s, narrowed.inv_sq(rows.get(s as usize))),
-    }
-}
-
-/// What is left to node s by one more node, which may be a parent that is narrowed.
-pub fn with_parent(
-    rows: &Rows,
-    s: u32,
-    parent: Node,
-    narrowed: Option<Ival>,
-    others: Option<Ival>,
-) -> Option<Ival>
-    requires order { IsTrue (comes_after (length (rows_of rows.now)) (node_of parent)) }
-    requires place { s < length (rows_of rows.now) }
-    ensures { option_of result ≡ from_parent (rows_of rows.now) s (node_of parent) (option_of narrowed) (option_of others) }
-{
-    let Some(interval) = narrowed else {
-        return others;
-    };
-    if !is_parent(parent, s) {
-        return others;
-    }
-    let left = left_by(rows, s, parent, interval);
-    match others {
-        None => Some(left),
-        Some(other) => Some(left.meet(other)),
+        Node::Sq(a) => leave(rows, a, narrowed.inv_sq(rows.get(a as usize)), scratch),
     }
 }

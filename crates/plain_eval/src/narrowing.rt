@@ -15,24 +15,22 @@ use cover_model::{off_range_ends, range_ends};
 use ival::{Ival, Narrowed, Rows, Space};
 use poly_graph::{Atom, Graph};
 
-// Leaves of the space what the root leaves of it where its value lies in the range.
+// Leaves of the space what the root leaves of it where its value lies in the range. The rows are the enclosures over the
+// space.
 fn narrow_by(
     graph: &Graph,
     root: u32,
     range: Ival,
-    rows: &mut Rows,
+    rows: &Rows,
     scratch: &mut Rows,
     space: &mut Space,
 ) -> Narrowed
     requires place { root < length graph.now }
-    requires rows { length (rows_of rows.old) ≡ length graph.now }
+    requires rows { rows_of rows.now ≡ enclosures (space_of space.old) graph.now }
     requires scratch { length (rows_of scratch.old) ≡ length graph.now }
     ensures narrowed { IsNarrowed (space_of space.old) (space_of space.new) (narrowed_by graph.now root (interval_of range) (space_of space.old)) result }
-    ensures rows { rows_of rows.new ≡ enclosures (space_of space.old) graph.now }
     ensures scratch { length (rows_of scratch.new) ≡ length graph.now }
 {
-    let last = graph.len() - 1;
-    let _ = enclose(graph, last as u32, space, rows);
     narrow_rows(graph, root, range, rows, scratch);
     if some_empty(scratch) {
         return Narrowed::Empty;
@@ -42,6 +40,27 @@ fn narrow_by(
     } else {
         Narrowed::Same
     }
+}
+
+/// As `narrow_plain`, where the rows are the enclosures over the space already: only nodes under the atom are looked
+/// at.
+pub fn narrow_enclosed(
+    graph: &Graph,
+    atom: &Atom,
+    loosen: u32,
+    rows: &Rows,
+    scratch: &mut Rows,
+    space: &mut Space,
+) -> Narrowed
+    requires loosen { loosen ≤ 120 }
+    requires place { atom.now.term < length graph.now }
+    requires rows { rows_of rows.now ≡ enclosures (space_of space.old) graph.now }
+    requires scratch { length (rows_of scratch.old) ≡ length graph.now }
+    ensures narrowed { IsNarrowedByAtom graph.now atom.now loosen space.old space.new result }
+    ensures scratch { length (rows_of scratch.new) ≡ length graph.now }
+{
+    let (low, high) = range_ends(atom.kind, loosen);
+    narrow_by(graph, atom.term, Ival::new(low, high), rows, scratch, space)
 }
 
 /// Leaves of the space what an atom leaves of it that holds but for 2 to the power of minus `loosen`, and tells
@@ -63,7 +82,29 @@ pub fn narrow_plain(
     ensures rows { rows_of rows.new ≡ enclosures (space_of space.old) graph.now }
     ensures scratch { length (rows_of scratch.new) ≡ length graph.now }
 {
-    let (low, high) = range_ends(atom.kind, loosen);
+    let last = graph.len() - 1;
+    let _ = enclose(graph, last as u32, space, rows);
+    narrow_enclosed(graph, atom, loosen, rows, scratch, space)
+}
+
+/// As `narrow_off_plain`, where the rows are the enclosures over the space already: only nodes under the atom are looked
+/// at.
+pub fn narrow_off_enclosed(
+    graph: &Graph,
+    atom: &Atom,
+    loosen: u32,
+    rows: &Rows,
+    scratch: &mut Rows,
+    space: &mut Space,
+) -> Narrowed
+    requires loosen { loosen ≤ 120 }
+    requires place { atom.now.term < length graph.now }
+    requires rows { rows_of rows.now ≡ enclosures (space_of space.old) graph.now }
+    requires scratch { length (rows_of scratch.old) ≡ length graph.now }
+    ensures narrowed { IsNarrowedOff graph.now atom.now loosen space.old space.new result }
+    ensures scratch { length (rows_of scratch.new) ≡ length graph.now }
+{
+    let (low, high) = off_range_ends(atom.kind, loosen);
     narrow_by(graph, atom.term, Ival::new(low, high), rows, scratch, space)
 }
 
@@ -86,6 +127,7 @@ pub fn narrow_off_plain(
     ensures rows { rows_of rows.new ≡ enclosures (space_of space.old) graph.now }
     ensures scratch { length (rows_of scratch.new) ≡ length graph.now }
 {
-    let (low, high) = off_range_ends(atom.kind, loosen);
-    narrow_by(graph, atom.term, Ival::new(low, high), rows, scratch, space)
+    let last = graph.len() - 1;
+    let _ = enclose(graph, last as u32, space, rows);
+    narrow_off_enclosed(graph, atom, loosen, rows, scratch, space)
 }

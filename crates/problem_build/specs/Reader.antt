@@ -1,6 +1,8 @@
 -- What is read of a script's bytes.
-use Rattle.std.specs.Prelude.{◌≡◌, ℕ, List, [], Option, Some, None}
+use Rattle.std.specs.Prelude.{◌≡◌, ℕ, ◌≤◌, length, List, [], Option, Some, None}
+use Rattle.poly_graph.specs.AtomTable.{most_atoms}
 use Rattle.poly_graph.specs.Problem.{Problem, IsProblem}
+use Rattle.poly_graph.specs.Shared.{IsGraph}
 use Rattle.script_model.specs.Script.{Command}
 use Rattle.script_fault.specs.declared.fault.FaultKind.TheVariants.{TooMany}
 use Rattle.script_fault.specs.declared.fault.ScriptFault.{ScriptFault}
@@ -22,6 +24,10 @@ commands_of text = or_none (script_of text)
 pub record IsBuilt (bound : Option ℕ) (text : List ℕ) (p : Problem) : Type 0 where
   pub whole : IsProblem p
   pub problem : IsProblemOf bound (commands_of text) p
+  -- each node of its terms stands once, and it is within the reader's limits
+  pub nodes : IsGraph p.nodes
+  pub axes : length p.axes ≤ 1024
+  pub atoms : length p.atoms ≤ most_atoms
 
 -- the script has no fault, and this is its problem
 pub record HasProblem (bound : Option ℕ) (p : Problem) (script : List ℕ) : Type 0 where

@@ -1,8 +1,10 @@
 -- What the building of a script answers.
-use Rattle.std.specs.Prelude.{◌≡◌, ℕ, List, Option, Some, None, Result, Ok, Err}
+use Rattle.std.specs.Prelude.{◌≡◌, ℕ, ◌≤◌, List, length, Option, Some, None, Result, Ok, Err}
 use Rattle.script_model.specs.Sexp.{Place}
 use Rattle.script_model.specs.Script.{Command}
+use Rattle.poly_graph.specs.AtomTable.{most_atoms}
 use Rattle.poly_graph.specs.ProblemViews.{Parts, problem_of}
+use Rattle.poly_graph.specs.Shared.{IsGraph}
 use Rattle.script_forms.specs.ProblemOf.{IsProblemOf}
 use Rattle.script_forms.specs.Walk.{Walked, stops, BuildingFault, building_fault}
 use Rattle.script_fault.specs.Answers.{IsFaultOrMemory}
@@ -28,6 +30,11 @@ IsBuildingError e found = IsFaultOrMemory e (in_building found)
 abbrev pub Builds : Option ℕ → List Command → Result Parts ReadError → Type 0
 Builds bound script (Ok p) = (building_fault bound script ≡ None) × IsProblemOf bound script (problem_of p)
 Builds bound script (Err e) = IsBuildingError e (building_fault bound script)
+
+-- each node of the terms stands once, and there are no more atoms than there may be
+pub record IsLean (p : Parts) : Type 0 where
+  pub nodes : IsGraph p.nodes
+  pub atoms : length p.atoms ≤ most_atoms
 
 -- where a walk stops
 abbrev pub found_by : Walked → Option (Place × BuildingFault)

@@ -6,6 +6,7 @@ ghost use Rattle.poly_graph.specs.ProblemViews.{axis_of};
 ghost use Rattle.term_build.specs.Shapes.{AreNumbers};
 ghost use Rattle.problem_build.specs.Laws.{parts_made};
 ghost use Rattle.problem_build.specs.Roots.{Roots};
+ghost use Rattle.problem_build.specs.Told.{IsLean};
 
 use poly_graph::{Axis, FormNode, Problem};
 use term_build::{Builder, Stop};
@@ -15,7 +16,8 @@ pub fn assemble(axes: Vec<Axis>, builder: Builder, root: u32) -> Problem
     requires bounds { All (λ (a : problem.Axis). IsDeclared a.declared) (map axis_of axes.items) }
     requires sorts { sorts_of_axes (map axis_of axes.items) ≡ builder.sorts }
     requires rooted { root < length builder.forms }
-    ensures { result ≡ parts_made builder (map axis_of axes.items) root }
+    ensures parts { result ≡ parts_made builder (map axis_of axes.items) root }
+    ensures lean { IsLean result }
 {
     let (graph, atoms, forms) = builder.into_parts();
     Problem::new(axes, graph, atoms, forms, root)

@@ -8,7 +8,7 @@ ghost use Rattle.smt_sexp.specs.declared.sexps.Sexps as arena;
 ghost use Rattle.sort_check.specs.Sorts.{sort_fault};
 ghost use Rattle.declared_box.specs.Axes.{constant_of};
 ghost use Rattle.problem_build.specs.Standing.{IsDone};
-ghost use Rattle.problem_build.specs.Told.{Builds};
+ghost use Rattle.problem_build.specs.Told.{Builds, IsLean};
 
 use crate::assembly::{assemble, root_form};
 use crate::commands::claims;
@@ -94,7 +94,8 @@ fn finish(
 ) -> Result<Problem, ReadError>
     requires done { IsDone (commands_in script.now) maker made.now }
     requires sorted { sort_fault (commands_in script.now) ≡ None }
-    ensures { Builds bound (commands_in script.now) result }
+    ensures builds { Builds bound (commands_in script.now) result }
+    ensures lean { IfOk result (λ p. IsLean p) }
 {
     let commands = script.commands.as_slice();
     let constants = constants(alloc, commands)?;
@@ -115,7 +116,8 @@ fn finish(
 ///
 /// The first fault of its building: of the walk over its assertions, in order, then of the bounds, axis by axis.
 pub fn build(alloc: Global, typed: Typed<'_>, bound: Option<u32>) -> Result<Problem, ReadError>
-    ensures { Builds bound (commands_in typed.entry.script) result }
+    ensures builds { Builds bound (commands_in typed.entry.script) result }
+    ensures lean { IfOk result (λ p. IsLean p) }
 {
     let script = &typed.script;
     let sorts = sorts(alloc, script.commands.as_slice())?;

@@ -1,32 +1,48 @@
 -- A search as it begins.
-use Rattle.std.proofs.Common.{◌≡◌, inl, ℕ, zero, suc, List, [], ◌∷◌, Some, None, refl, sym, subst, arith}
+use Rattle.std.proofs.Common.{◌≡◌, inl, ℕ, zero, suc, ◌+◌, List, [], ◌∷◌, drop, Some, refl, ap, sym, ◌∙◌, subst, arith}
 use Rattle.std.specs.Prelude.{slice_get}
-use Rattle.std.proofs.lemmas.List.Elements.{All-nil}
+use Rattle.std.specs.List.{Contains}
+use Rattle.std.proofs.lemmas.List.Elements.{All-nil, Contains-append_right}
 use Rattle.cover_model.specs.State.{State}
-use Rattle.poly_graph.specs.ProblemViews.{Parts}
-use Rattle.cover_data.specs.declared.margins.Options.{Options}
 use Rattle.cover_data.specs.Models.{LemmaModel}
 use Rattle.cover_data.specs.Runs.{AreKept}
-use Rattle.cover_book.specs.Model.{NodeModel, live_node, BookModel, problem_in, loosenings_in, lemma_states_in, opening}
-use Rattle.cover_book.specs.Verdict.{first_live, live_after}
-use Rattle.cover_book.specs.Steps.{IsLive}
+use Rattle.cover_book.specs.Model.{NodeModel, live_node, crossed_node, closed_node, parted_node, stuck_node, BookModel, problem_in, loosenings_in, lemma_states_in}
+use Rattle.cover_book.specs.Verdict.{live_numbers, live_numbers_after}
 use Rattle.box_worker.specs.Worked.{AreLemmasFor}
 use Rattle.solve_core.specs.declared.search.Search.{Search}
 use Rattle.solve_core.specs.Search.{EachWaits, IsSearch}
 
-first-here : (x : NodeModel) (n : ℕ) (S : State) → slice_get (x ∷ []) n ≡ Some (live_node S) → first_live 0 (x ∷ []) ≡ Some n
-first-here x zero S e = let f : live_node S ≡ x = cc in subst (λ (y : NodeModel). first_live 0 (y ∷ []) ≡ Some 0) f refl
-first-here x (suc n) S e = cc
+-- one more at the front
+further : (xs : List ℕ) (y n : ℕ) → Contains xs n → Contains (y ∷ xs) n
+further xs y n c = Contains-append_right (y ∷ []) xs n c
 
--- the only node that may be live is the first one
-opening-live : (b : BookModel) (p : Parts) (o : Options) → b ≡ opening p o → (n : ℕ) (S : State) → IsLive b n S → live_after b 0 ≡ Some n
-opening-live b p o e n S h = subst (λ (c : BookModel). IsLive c n S → live_after c 0 ≡ Some n) (sym e) (λ k. first-here _ n S k) h
+next : (k i : ℕ) (xs : List ℕ) → Contains xs (suc k + i) → Contains xs (k + suc i)
+next k i xs c = let e : suc k + i ≡ k + suc i = omega arith in subst (Contains xs) e c
 
-pub one_waits : (b : BookModel) (p : Parts) (o : Options) → b ≡ opening p o → (k : ℕ) → live_after b 0 ≡ Some k → EachWaits b (k ∷ [])
-one_waits b p o e k f n S h = let g : live_after b 0 ≡ Some n = opening-live b p o e n S h in let q : k ≡ n = cc in inl (0, omega arith, q)
+listed : (k : ℕ) (nodes : List NodeModel) (i : ℕ) (S : State) → slice_get nodes i ≡ Some (live_node S) → Contains (live_numbers k nodes) (k + i)
+listed k [] i S e = cc
+listed k (live_node T ∷ nodes) zero S e = (0, omega arith, omega arith)
+listed k (live_node T ∷ nodes) (suc i) S e = further (live_numbers (suc k) nodes) k (k + suc i) (next k i (live_numbers (suc k) nodes) (listed (suc k) nodes i S e))
+listed k (crossed_node a ∷ nodes) zero S e = cc
+listed k (crossed_node a ∷ nodes) (suc i) S e = next k i (live_numbers (suc k) nodes) (listed (suc k) nodes i S e)
+listed k (closed_node ls l ∷ nodes) zero S e = cc
+listed k (closed_node ls l ∷ nodes) (suc i) S e = next k i (live_numbers (suc k) nodes) (listed (suc k) nodes i S e)
+listed k (parted_node ls l c ∷ nodes) zero S e = cc
+listed k (parted_node ls l c ∷ nodes) (suc i) S e = next k i (live_numbers (suc k) nodes) (listed (suc k) nodes i S e)
+listed k (stuck_node ls l T ∷ nodes) zero S e = cc
+listed k (stuck_node ls l T ∷ nodes) (suc i) S e = next k i (live_numbers (suc k) nodes) (listed (suc k) nodes i S e)
 
-pub none_waits : (b : BookModel) (p : Parts) (o : Options) → b ≡ opening p o → live_after b 0 ≡ None → EachWaits b []
-none_waits b p o e f n S h = let g : live_after b 0 ≡ Some n = opening-live b p o e n S h in cc
+none-dropped : (nodes : List NodeModel) → drop 0 nodes ≡ nodes
+none-dropped [] = refl
+none-dropped (x ∷ nodes) = refl
+
+-- each live node is one of the live numbers
+pub all_wait : (b : BookModel) (waiting : List ℕ) → waiting ≡ live_numbers_after b 0 → EachWaits b waiting
+all_wait b waiting e n S h =
+    let z : 0 + n ≡ n = omega arith in
+    let c : Contains (live_numbers 0 b.nodes) n = subst (Contains (live_numbers 0 b.nodes)) z (listed 0 b.nodes n S h) in
+    let f : waiting ≡ live_numbers 0 b.nodes = e ∙ ap (live_numbers 0) (none-dropped b.nodes) in
+    inl (subst (λ (ns : List ℕ). Contains ns n) (sym f) c)
 
 -- a search with no lemmas
 pub begun : (s : Search) → s.lemmas.items ≡ [] → (waiting : List ℕ) → EachWaits s.book waiting → IsSearch s waiting

@@ -40,13 +40,13 @@ work_here b p o known lemmas S w e f g a h =
 
 -- ---- ends
 
-left-some : (o : Option End) → IsTrue (is_left (end_of o)) → IsSome o
-left-some None h = absurd (true≢false (sym h))
-left-some (Some e) h = refl
+pub left_some : (o : Option End) → IsTrue (is_left (end_of o)) → IsSome o
+left_some None h = absurd (true≢false (sym h))
+left_some (Some e) h = refl
 
-closed-some : (o : Option End) → IsTrue (closes (end_of o)) → IsSome o
-closed-some None h = absurd (true≢false (sym h))
-closed-some (Some e) h = refl
+pub closed_some : (o : Option End) → IsTrue (closes (end_of o)) → IsSome o
+closed_some None h = absurd (true≢false (sym h))
+closed_some (Some e) h = refl
 
 closing-branch : (l : Line) → IsTrue (is_closing l) → IsTrue (is_branch l) → ⊥
 closing-branch (void j) h k = true≢false (sym k)
@@ -89,11 +89,11 @@ module _ (s : Search) (n : ℕ) (S : State) (at : IsAt s n S) (w : Worked) (h : 
 
   pub patch_can : (P : KeptPatch) → w ≡ Patch P → CanCommit s n P
   patch_can P e = let k = subst (HasWork (problem_in s.book) (margins_of s.book.options) s.lemmas.items S) e h in
-      from-run P k.work.0 (left-some P.end k.work.1) (λ _. not_at_once (problem_in s.book) (loosenings_in s.book) s.lemmas.items S P k.at_once)
+      from-run P k.work.0 (left_some P.end k.work.1) (λ _. not_at_once (problem_in s.book) (loosenings_in s.book) s.lemmas.items S P k.at_once)
 
   pub closed_can : (P : KeptPatch) (c : Option KeptModel) → w ≡ Closed P c → CanCommit s n P
   closed_can P c e = let k = subst (HasWork (problem_in s.book) (margins_of s.book.options) s.lemmas.items S) e h in
-      from-run P k.work.0 (closed-some P.end k.work.1) (λ b. absurd (no-branch (kept_of P).end k.work.1 b))
+      from-run P k.work.0 (closed_some P.end k.work.1) (λ b. absurd (no-branch (kept_of P).end k.work.1 b))
 
   pub point_can : (x : Space) → w ≡ Point x → CanFind s n x
   point_can x e = let k = subst (HasWork (problem_in s.book) (margins_of s.book.options) s.lemmas.items S) e h in record { state = S; at = at; shown = k.work.shown }

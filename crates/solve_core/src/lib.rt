@@ -1,11 +1,15 @@
-//! The search for a problem: `solve` works on the book of a cover, one live box after the other, depth first, until
-//! no box is live, a point is found or the budget of branches is spent. It answers nothing by itself: what is known
-//! then is read off the book. It neither reads scripts nor writes certificates, and starts no thread.
+//! The search for a problem: `solve` works on the book of a cover, box by box, depth first, until no box is live, a
+//! point is found or the budget of branches is spent. Many workers share the book, each in a thread of its own, and the
+//! caller finishes what they leave. It answers nothing by itself: what is known then is read off the book. It neither
+//! reads scripts nor writes certificates.
 #![tactic(auto)]
 
 mod gate;
 mod run;
 mod search;
+mod task;
+mod team;
+mod worker;
 
 pub use gate::{Gate, NoGate};
 pub use run::solve;

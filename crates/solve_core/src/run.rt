@@ -1,4 +1,4 @@
-// The search by the caller alone.
+// The search: by many workers on one book, and then by the caller alone.
 ghost use Rattle.std.specs.Prelude.{◌≡◌, ◌≢◌, IfOk};
 ghost use Rattle.cover_book.specs.Limits.{IsWithinLimits};
 ghost use Rattle.cover_book.specs.Model.{opening};
@@ -10,16 +10,43 @@ ghost use Rattle.solve_core.specs.Left.{LeavesDue};
 
 use crate::gate::Gate;
 use crate::search::Search;
+use crate::team::search_together;
+use box_worker::Room;
 use cover_book::Book;
 use cover_data::Options;
 use poly_graph::Problem;
 use std::alloc::{AllocError, Global};
+use std::sync::Wait;
+use std::thread::Threads;
 
-/// Searches for a point of the problem, or for a cover of its declared box: from the opening book on, node by node,
-/// the lower part of a box before the upper one, until a point is kept, no node is live, or the budget is used up
-/// and nothing but a branch is left to be done at each live node. The gate is called before and after the work on
-/// each node.
-pub fn solve<G: Gate>(
+// At most so many workers search side by side.
+const MOST_WORKERS: u32 = 64;
+
+// Goes on alone from a book, node by node, the lower part of a box before the upper one, until a point is kept, no node
+// is live, or the budget is used up and nothing but a branch is left to be done at each live node.
+fn finish<G: Gate>(alloc: Global, book: Book, gate: &G) -> Result<Book, AllocError>
+    ensures reached { IfOk result (λ b. Reaches book b) }
+    ensures verdict { IfOk result (λ b. verdict_of b ≢ verdict.NotYet) }
+    ensures left { IfOk result (λ b. LeavesDue b) }
+{
+    let mut search = Search::resume(alloc, book)?;
+    let mut room = Room::new();
+    while let Some(node) = search.next() {
+        gate.began(0, node);
+        let done = search.visit(alloc, &mut room, node);
+        gate.ended(0, node);
+        done?;
+    }
+    Ok(search.into_book())
+}
+
+/// Searches for a point of the problem, or for a cover of its declared box, from the opening book on. Where the options
+/// have more than one worker, so many of them, 64 at most, search on one book side by side. Then the caller goes on
+/// alone from what they leave, until a point is kept, no node is live, or the budget is used up and nothing but a branch
+/// is left to be done at each live node. With one worker the caller does all of it. The gate is called before and after
+/// the work on each node.
+pub fn solve<R: Threads + Wait + Sync, G: Gate + Sync>(
+    rt: &R,
     alloc: Global,
     problem: &Problem,
     options: &Options,
@@ -36,12 +63,12 @@ pub fn solve<G: Gate>(
     ensures verdict { IfOk result (λ b. verdict_of b ≢ verdict.NotYet) }
     ensures left { IfOk result (λ b. LeavesDue b) }
 {
-    let mut search = Search::begin(alloc, problem, options)?;
-    while let Some(node) = search.next() {
-        gate.began(0, node);
-        let done = search.visit(alloc, node);
-        gate.ended(0, node);
-        done?;
+    let copy = problem.try_clone(alloc)?;
+    let book = Book::new(alloc, copy, *options)?;
+    let workers = options.workers.min(MOST_WORKERS);
+    if workers < 2 {
+        return finish(alloc, book, gate);
     }
-    Ok(search.into_book())
+    let book = search_together(rt, alloc, book, problem, options, workers, gate);
+    finish(alloc, book, gate)
 }

@@ -1,14 +1,13 @@
 // A search on its way.
 ghost use Rattle.std.specs.Prelude.{◌≡◌, ◌≢◌, ◌∷◌, [], ◌++◌, ◌≤◌, ℕ, drop, OnOk, IfOk, IfSome, IsNone, None};
-ghost use Rattle.cover_book.specs.Limits.{IsWithinLimits};
 ghost use Rattle.cover_data.specs.Views.{kept_of};
-ghost use Rattle.cover_book.specs.Model.{opening};
+ghost use Rattle.cover_book.specs.Verdict.{live_numbers_after};
 ghost use Rattle.solve_core.specs.Reaches.{Reaches};
 ghost use Rattle.solve_core.specs.Search.{IsSearch, CanFind, CanCommit, CanLearn, CanHand, IsOver, work_left};
 
-use box_worker::{Worked, work_on};
+use box_worker::{Room, Worked, work_in};
 use cover_book::{Book, BookRefusal, Kids};
-use cover_data::{ClosedPatch, KeptPatch, Lemma, Options, Point};
+use cover_data::{ClosedPatch, KeptPatch, Lemma, Point};
 use poly_graph::{FormNode, Problem};
 use std::alloc::{AllocError, Global};
 
@@ -25,9 +24,9 @@ pub struct Search {
     pub learns: bool,
 }
 
-// Whether the form has a disjunction. Without one boxes are split by cuts and by Bool values alone, so no two of them
-// meet but at their ends, and what closed one of them closes no other.
-fn has_choice(problem: &Problem) -> bool {
+/// Whether the form has a disjunction. Without one boxes are split by cuts and by Bool values alone, so no two of them
+/// meet but at their ends, and what closed one of them closes no other.
+pub fn has_choice(problem: &Problem) -> bool {
     let forms = problem.forms();
     for n in 0..forms.len() {
         if let FormNode::Or(_) = forms.node(n as u32) {
@@ -35,6 +34,13 @@ fn has_choice(problem: &Problem) -> bool {
         }
     }
     false
+}
+
+// The numbers of the live nodes, rising.
+fn live_nodes(alloc: Global, book: &Book) -> Result<Vec<u32>, AllocError>
+    ensures { IfOk result (λ v. v.items ≡ live_numbers_after book.now 0) }
+{
+    book.live_nodes().collect::<Vec<u32>>(alloc)
 }
 
 // A refusal out of memory ends the search; any other refusal leaves it as it is.
@@ -47,8 +53,8 @@ fn unless_memory(refusal: BookRefusal) -> Result<(), AllocError>
     }
 }
 
-// Leaves out the oldest lemma where there are as many as may be handed on.
-fn make_room(lemmas: &mut Vec<Lemma>)
+/// Leaves out the oldest lemma where there are as many as may be handed on.
+pub fn make_room(lemmas: &mut Vec<Lemma>)
     ensures { (k : ℕ) × (lemmas.new.items ≡ drop k lemmas.old.items) }
 {
     if lemmas.len() >= MOST_HANDED {
@@ -57,19 +63,13 @@ fn make_room(lemmas: &mut Vec<Lemma>)
 }
 
 impl Search {
-    /// The opening book, whose live node waits.
-    pub fn begin(alloc: Global, problem: &Problem, options: &Options) -> Result<Search, AllocError>
-        requires { IsWithinLimits problem.now options.now }
+    /// A search that goes on from a book: each live node waits.
+    pub fn resume(alloc: Global, book: Book) -> Result<Search, AllocError>
         ensures search { IfOk result (λ s. IsSearch s s.waiting.items) }
-        ensures book { IfOk result (λ s. s.book ≡ opening problem.now options.now) }
+        ensures book { IfOk result (λ s. s.book ≡ book) }
     {
-        let copy = problem.try_clone(alloc)?;
-        let learns = has_choice(problem);
-        let book = Book::new(alloc, copy, *options)?;
-        let mut waiting = Vec::new(alloc);
-        if let Some(node) = book.live_after(0) {
-            waiting.push(node)?;
-        }
+        let learns = has_choice(book.problem());
+        let waiting = live_nodes(alloc, &book)?;
         Ok(Search {
             book,
             waiting,
@@ -155,8 +155,8 @@ impl Search {
         }
     }
 
-    /// Works on a node that is not among those that wait, and has the book keep what comes of it.
-    pub fn visit(&mut self, alloc: Global, node: u32) -> Result<(), AllocError>
+    /// Works on a node that is not among those that wait, in this room, and has the book keep what comes of it.
+    pub fn visit(&mut self, alloc: Global, room: &mut Room, node: u32) -> Result<(), AllocError>
         requires search { IsSearch self.old (self.old.waiting.items ++ (node ∷ [])) }
         requires no_point { self.old.book.point ≡ None }
         ensures search { OnOk result (IsSearch self.new self.new.waiting.items) }
@@ -167,8 +167,9 @@ impl Search {
             Ok(state) => state,
             Err(refusal) => return unless_memory(refusal),
         };
-        match work_on(
+        match work_in(
             alloc,
+            room,
             self.book.problem(),
             self.book.options(),
             state,

@@ -69,7 +69,7 @@ are_options rows o h =
     let m = between 2 60 (codes "margin-bits") rows margin.value margin.was in
     let l = between 0 60 (codes "least-bits") rows least.value least.was in
     let b = between 0 1048576 (codes "budget") rows budget.value budget.was in
-    let w = between 1 1 (codes "workers") rows workers.value workers.was in
+    let w = between 1 64 (codes "workers") rows workers.value workers.was in
     let p = are_ordered _ o workers.gives in
     subst AreOptions p.1 (record {
       delta_least = d.at_least;
@@ -111,7 +111,7 @@ check_in_range rows asked h = by_parts (first_of (codes "script") rows) (first_o
       let is = parted_is (record { script = script; cert = cert; bound = number_in 1 4294967295 (codes "bound") rows }) asked h in
       is_bound asked.bound rows (ap (λ (c : Check). c.bound) is)
 
-usual_are_options : (workers : ℕ) → Between 1 1 workers → AreOptions (usual workers)
+usual_are_options : (workers : ℕ) → Between 1 64 workers → AreOptions (usual workers)
 usual_are_options workers w = record {
   delta_least = omega arith;
   delta_most = omega arith;
@@ -127,9 +127,9 @@ usual_are_options workers w = record {
 demo_in_range : (rows : List Row) (asked : Demo) → demo_of rows ≡ Some asked → IsDemo asked
 demo_in_range rows asked h =
     by_parts (long_number_in (codes "seed") rows) (number_in 1 10000 (codes "size") rows) (first_of (codes "cert") rows)
-    (number_in 1 1 (codes "workers") rows) refl refl refl h where
+    (number_in 1 64 (codes "workers") rows) refl refl refl h where
       by_parts : (seed size : Option ℕ) (cert : Option Text) (workers : Option ℕ) → long_number_in (codes "seed") rows ≡ seed
-          → number_in 1 10000 (codes "size") rows ≡ size → number_in 1 1 (codes "workers") rows ≡ workers
+          → number_in 1 10000 (codes "size") rows ≡ size → number_in 1 64 (codes "workers") rows ≡ workers
           → option_and_then (λ seed. option_and_then (λ size. option_and_then (λ cert. option_and_then (λ workers.
           Some (record { seed = seed; size = size; cert = cert; options = usual workers })) workers) cert) size) seed ≡ Some asked → IsDemo asked
       by_parts None size cert workers seed_is size_is workers_is h = cc
@@ -139,7 +139,7 @@ demo_in_range rows asked h =
       by_parts (Some seed) (Some size) (Some cert) (Some workers) seed_is size_is workers_is h =
           let is : ◌≡◌ {A = Demo} (record { seed = seed; size = size; cert = cert; options = usual workers }) asked = cc in
           let s = between 1 10000 (codes "size") rows size size_is in
-          let w = between 1 1 (codes "workers") rows workers workers_is in
+          let w = between 1 64 (codes "workers") rows workers workers_is in
           subst IsDemo is (record {
             seed_most = long_below (codes "seed") rows seed seed_is;
             size_least = s.at_least;

@@ -20,7 +20,7 @@ unfolding program clap_on_literals number_of
 least_options = refl
 
 -- and the most
-most_options : command_of (codes "dpoly" ∷ codes "solve" ∷ codes "s" ∷ codes "c" ∷ codes "--delta-bits=30" ∷ codes "--margin-bits=60" ∷ codes "--least-bits=60" ∷ codes "--budget=1048576" ∷ codes "--bound=4294967295" ∷ codes "--workers=1" ∷ []) ≡ Some (solve (record { script = codes "s"; cert = codes "c"; options = record { delta_bits = 30; margin_bits = 60; least_bits = 60; budget = 1048576; workers = 1; bound = Some 4294967295 } }))
+most_options : command_of (codes "dpoly" ∷ codes "solve" ∷ codes "s" ∷ codes "c" ∷ codes "--delta-bits=30" ∷ codes "--margin-bits=60" ∷ codes "--least-bits=60" ∷ codes "--budget=1048576" ∷ codes "--bound=4294967295" ∷ codes "--workers=64" ∷ []) ≡ Some (solve (record { script = codes "s"; cert = codes "c"; options = record { delta_bits = 30; margin_bits = 60; least_bits = 60; budget = 1048576; workers = 64; bound = Some 4294967295 } }))
 unfolding program clap_on_literals number_of
 most_options = refl
 
@@ -66,7 +66,7 @@ no_workers : command_of (codes "dpoly" ∷ codes "demo" ∷ codes "1" ∷ codes 
 unfolding program clap_on_literals number_of
 no_workers = refl
 
-workers_above : command_of (codes "dpoly" ∷ codes "solve" ∷ codes "s" ∷ codes "c" ∷ codes "--workers" ∷ codes "2" ∷ []) ≡ None
+workers_above : command_of (codes "dpoly" ∷ codes "solve" ∷ codes "s" ∷ codes "c" ∷ codes "--workers" ∷ codes "65" ∷ []) ≡ None
 unfolding program clap_on_literals number_of
 workers_above = refl
 
@@ -101,7 +101,7 @@ first_demo : command_of (codes "dpoly" ∷ codes "demo" ∷ codes "0" ∷ codes 
 unfolding program clap_on_literals number_of
 first_demo = refl
 
-last_demo : command_of (codes "dpoly" ∷ codes "demo" ∷ codes "18446744073709551615" ∷ codes "10000" ∷ codes "c" ∷ codes "--workers" ∷ codes "1" ∷ []) ≡ Some (demo (record { seed = 18446744073709551615; size = 10000; cert = codes "c"; options = usual 1 }))
+last_demo : command_of (codes "dpoly" ∷ codes "demo" ∷ codes "18446744073709551615" ∷ codes "10000" ∷ codes "c" ∷ codes "--workers" ∷ codes "64" ∷ []) ≡ Some (demo (record { seed = 18446744073709551615; size = 10000; cert = codes "c"; options = usual 64 }))
 unfolding program clap_on_literals number_of
 last_demo = refl
 

@@ -31,7 +31,7 @@ abbrev pub bound_rule : Rule
 bound_rule = number_rule (codes "bound") 1 4294967295 []
 
 abbrev pub workers_rule : Rule
-workers_rule = number_rule (codes "workers") 1 1 (codes "1" ∷ [])
+workers_rule = number_rule (codes "workers") 1 64 (codes "1" ∷ [])
 
 abbrev pub seed_rule : Rule
 seed_rule = record (word_rule (codes "seed")) { parser = Some (parser.Unsigned 0 18446744073709551615) }

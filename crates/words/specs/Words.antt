@@ -52,7 +52,7 @@ options_of rows =
       workers = workers;
       bound = number_in 1 4294967295 (codes "bound") rows;
     }))
-    (number_in 1 1 (codes "workers") rows)) (number_in 0 1048576 (codes "budget") rows)) (number_in 0 60 (codes "least-bits") rows))
+    (number_in 1 64 (codes "workers") rows)) (number_in 0 1048576 (codes "budget") rows)) (number_in 0 60 (codes "least-bits") rows))
     (number_in 2 60 (codes "margin-bits") rows)) (number_in 1 30 (codes "delta-bits") rows)
 
 -- what `solve` is asked for
@@ -94,7 +94,7 @@ abbrev pub demo_of : List Row → Option Demo
 demo_of rows =
     option_and_then (λ seed. option_and_then (λ size. option_and_then (λ cert. option_and_then (λ workers.
     Some (record { seed = seed; size = size; cert = cert; options = usual workers }))
-    (number_in 1 1 (codes "workers") rows)) (first_of (codes "cert") rows))
+    (number_in 1 64 (codes "workers") rows)) (first_of (codes "cert") rows))
     (number_in 1 10000 (codes "size") rows)) (long_number_in (codes "seed") rows)
 
 pub data Command : Type 0 where
@@ -126,7 +126,7 @@ pub record AreOptions (options : Options) : Type 0 where
   pub least_most : options.least_bits ≤ 60
   pub budget_most : options.budget ≤ 1048576
   pub workers_least : 1 ≤ options.workers
-  pub workers_most : options.workers ≤ 1
+  pub workers_most : options.workers ≤ 64
   pub bound : IsBound options.bound
 
 -- The script that the demo makes has a size that it may have.

@@ -12,7 +12,7 @@ pub struct Options {
     pub least_bits: u32,
     /// How many boxes may be cut at most; from 0 to 1,048,576.
     pub budget: u32,
-    /// How many workers solve; 1 alone, until threads share a search.
+    /// How many workers search side by side; from 1 to 64.
     pub workers: u32,
     /// The size up to which a constant without a bound of its own is looked at, where one is given; from 1.
     pub bound: Option<u32>,

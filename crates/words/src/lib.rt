@@ -4,6 +4,8 @@
 mod asked;
 mod program;
 mod read;
+mod usage;
 
 pub use asked::{Asked, CheckWords, DemoWords, Options, SolveWords};
 pub use read::{Refused, read_words};
+pub use usage::usage_text;

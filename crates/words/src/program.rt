@@ -1,5 +1,5 @@
 ghost use Rattle.std.specs.Prelude.{◌≡◌, IfOk, false};
-ghost use Rattle.clap.specs.Words.{rule_of, app_of};
+ghost use Rattle.clap.specs.Words.{rule_of, app_of, new_app};
 ghost use Rattle.clap.specs.declared.builder.command.Command.TheViews.{out-Command as fields_of};
 ghost use Rattle.words.specs.Program.{delta_rule, margin_rule, least_rule, budget_rule, bound_rule, workers_rule, word_rule, seed_rule, size_rule, solve_app, check_app, demo_app, program};
 
@@ -14,6 +14,7 @@ fn delta_option<'a>(alloc: Global) -> Arg<'a>
 {
     Arg::new(alloc, "delta-bits")
         .long("delta-bits")
+        .help("A point may miss each comparison by 2^-D; 1 to 30, and below the margin's")
         .value_parser(value_parser!(u32).range(1..=30))
         .default_value("10")
 }
@@ -24,6 +25,7 @@ fn bound_option<'a>(alloc: Global) -> Arg<'a>
 {
     Arg::new(alloc, "bound")
         .long("bound")
+        .help("Where a constant has no bound of its own, -N or N stands for it; 1 to 4294967295")
         .value_parser(value_parser!(u32).range(1..=4294967295))
 }
 
@@ -33,6 +35,7 @@ fn margin_option<'a>(alloc: Global) -> Arg<'a>
 {
     Arg::new(alloc, "margin-bits")
         .long("margin-bits")
+        .help("`unsat` holds with each comparison loosened by 2^-M; 2 to 60")
         .value_parser(value_parser!(u32).range(2..=60))
         .default_value(USUAL_MARGIN)
 }
@@ -43,6 +46,7 @@ fn least_option<'a>(alloc: Global) -> Arg<'a>
 {
     Arg::new(alloc, "least-bits")
         .long("least-bits")
+        .help("A box is not cut where its widest side is at most 2^-W; 0 to 60")
         .value_parser(value_parser!(u32).range(0..=60))
         .default_value("20")
 }
@@ -53,6 +57,7 @@ fn budget_option<'a>(alloc: Global) -> Arg<'a>
 {
     Arg::new(alloc, "budget")
         .long("budget")
+        .help("At most N boxes are split; 0 to 1048576")
         .value_parser(value_parser!(u32).range(0..=1048576))
         .default_value("65536")
 }
@@ -63,7 +68,8 @@ fn workers_option<'a>(alloc: Global) -> Arg<'a>
 {
     Arg::new(alloc, "workers")
         .long("workers")
-        .value_parser(value_parser!(u32).range(1..=1))
+        .help("The number of threads that search; 1 to 64")
+        .value_parser(value_parser!(u32).range(1..=64))
         .default_value("1")
 }
 
@@ -75,15 +81,28 @@ fn word<'a>(alloc: Global, id: &'a str) -> Arg<'a>
     Arg::new(alloc, id).required(true)
 }
 
+// A command without arguments yet, and what its help says first and last.
+fn described<'a>(alloc: Global, name: &'a str, about: &'a str, last: &'a str) -> Command<'a>
+    ensures app { app_of result ≡ new_app name.entry.now }
+    ensures local { (fields_of result).has_globals ≡ false }
+{
+    Command::new(alloc, name).about(about).after_help(last)
+}
+
 fn check_command<'a>(alloc: Global) -> Result<Command<'a>, AllocError>
     ensures app { IfOk result (λ c. app_of c ≡ check_app) }
     ensures local { IfOk result (λ c. (fields_of c).has_globals ≡ false) }
 {
     Ok(
-        Command::new(alloc, "check")
-            .arg(word(alloc, "script"))?
-            .arg(word(alloc, "cert"))?
-            .arg(bound_option(alloc))?,
+        described(
+            alloc,
+            "check",
+            "Checks a certificate of a script",
+            "Example: dpoly check braking.smt2 braking.cert",
+        )
+        .arg(word(alloc, "script"))?
+        .arg(word(alloc, "cert"))?
+        .arg(bound_option(alloc))?,
     )
 }
 
@@ -92,15 +111,20 @@ fn solve_command<'a>(alloc: Global) -> Result<Command<'a>, AllocError>
     ensures local { IfOk result (λ c. (fields_of c).has_globals ≡ false) }
 {
     Ok(
-        Command::new(alloc, "solve")
-            .arg(word(alloc, "script"))?
-            .arg(word(alloc, "cert"))?
-            .arg(delta_option(alloc))?
-            .arg(margin_option(alloc))?
-            .arg(least_option(alloc))?
-            .arg(budget_option(alloc))?
-            .arg(bound_option(alloc))?
-            .arg(workers_option(alloc))?,
+        described(
+            alloc,
+            "solve",
+            "Solves a script, and writes a certificate of the answer",
+            "Example: dpoly solve braking.smt2 braking.cert",
+        )
+        .arg(word(alloc, "script"))?
+        .arg(word(alloc, "cert"))?
+        .arg(delta_option(alloc))?
+        .arg(margin_option(alloc))?
+        .arg(least_option(alloc))?
+        .arg(budget_option(alloc))?
+        .arg(bound_option(alloc))?
+        .arg(workers_option(alloc))?,
     )
 }
 
@@ -127,11 +151,16 @@ fn demo_command<'a>(alloc: Global) -> Result<Command<'a>, AllocError>
     ensures local { IfOk result (λ c. (fields_of c).has_globals ≡ false) }
 {
     Ok(
-        Command::new(alloc, "demo")
-            .arg(seed_word(alloc))?
-            .arg(size_word(alloc))?
-            .arg(word(alloc, "cert"))?
-            .arg(workers_option(alloc))?,
+        described(
+            alloc,
+            "demo",
+            "Makes a script from a seed, solves it, and writes a certificate",
+            "Example: dpoly demo 1 100 demo.cert",
+        )
+        .arg(seed_word(alloc))?
+        .arg(size_word(alloc))?
+        .arg(word(alloc, "cert"))?
+        .arg(workers_option(alloc))?,
     )
 }
 
@@ -141,10 +170,15 @@ pub fn program_command<'a>(alloc: Global) -> Result<Command<'a>, AllocError>
     ensures local { IfOk result (λ c. (fields_of c).has_globals ≡ false) }
 {
     Ok(
-        Command::new(alloc, "dpoly")
-            .subcommand_required(true)
-            .subcommand(solve_command(alloc)?)?
-            .subcommand(check_command(alloc)?)?
-            .subcommand(demo_command(alloc)?)?,
+        described(
+            alloc,
+            "dpoly",
+            "Decides bounded polynomial constraints (SMT-LIB 2.6, QF_NRA), with certificates",
+            "A file named - is standard input or standard output.",
+        )
+        .subcommand_required(true)
+        .subcommand(solve_command(alloc)?)?
+        .subcommand(check_command(alloc)?)?
+        .subcommand(demo_command(alloc)?)?,
     )
 }

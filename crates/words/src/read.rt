@@ -82,7 +82,7 @@ fn solve_options(matches: &ArgMatches<'_>) -> Option<Options>
     let margin_bits = number(matches, "margin-bits", 2, 60)?;
     let least_bits = number(matches, "least-bits", 0, 60)?;
     let budget = number(matches, "budget", 0, 1048576)?;
-    let workers = number(matches, "workers", 1, 1)?;
+    let workers = number(matches, "workers", 1, 64)?;
     let bound = number(matches, "bound", 1, 4294967295);
     if delta_bits < margin_bits {
         Some(Options {
@@ -133,7 +133,7 @@ fn demo_words<'a>(matches: &ArgMatches<'a>) -> Option<DemoWords<'a>>
     let seed = long_number(matches, "seed")?;
     let size = number(matches, "size", 1, 10000)?;
     let cert = text(matches, "cert")?;
-    let workers = number(matches, "workers", 1, 1)?;
+    let workers = number(matches, "workers", 1, 64)?;
     Some(DemoWords {
         seed,
         size,

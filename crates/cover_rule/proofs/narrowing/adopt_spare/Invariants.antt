@@ -8,6 +8,6 @@ use Rattle.cover_rule.proofs.narrowing.adopt_spare.Given as goal
 abbrev pub invariant-loop-axis : goal.invariant-loop-axis
 invariant-loop-axis l = record {
   state : l.state ≡ with_space l.initial.state (blend l.axis (space_of l.initial.work.spare) l.initial.state.space);
-  serves : HasRowsOf l.problem l.state.space l.work;
+  serves : HasRowsOf l.problem l.margins l.state.space l.work;
   spare : l.work.spare ≡ l.initial.work.spare;
 }

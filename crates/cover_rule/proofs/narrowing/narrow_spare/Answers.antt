@@ -1,17 +1,17 @@
-use Rattle.std.proofs.Common.{ℕ, ◌<◌, List, length, get_or, ap, arith}
-use Rattle.std.proofs.lemmas.List.{get_or-map, length-map}
-use Rattle.poly_graph.specs.declared.node.Atom.{Atom}
-use Rattle.poly_graph.specs.declared.node.Kind.TheVariants.{Le}
-use Rattle.poly_graph.specs.Term.{Kind}
-use Rattle.poly_graph.specs.Views.{atom_of}
+use Rattle.std.proofs.Common.{◌∙◌}
+use Rattle.ival.specs.SpaceViews.{space_of}
+use Rattle.cover_rule.proofs.Knowns.{noted}
 use Rattle.cover_rule.proofs.narrowing.narrow_spare.Goals as goal
 
-pub narrow-requires-clause-place : goal.narrow-requires-clause-place
-narrow-requires-clause-place c =
-    let items = c.atoms.result.now in let j = c.args.j in let p = c.args.problem.now in
-    let d : Atom = record { term = 0; kind = Le } in
-    let inside : j < length items = omega (arith, length-map items atom_of, ap length c.atoms.ensures.atoms, c.requires.atom) in
-    let h = c.axes.ensures.whole.problem.atoms j (atom_of d) c.requires.atom in
-    let e = ap (λ (a : ℕ × Kind). a.0) (get_or-map atom_of items j d (atom_of d) inside) in
-    let f = ap (λ (xs : List (ℕ × Kind)). (get_or xs j (atom_of d)).0) c.atoms.ensures.atoms in
-    omega (arith, h, e, f, ap length c.graph.ensures.graph)
+pub returns-clause-work : goal.returns-clause-work
+returns-clause-work c =
+    let w = c.narrow_by-narrowed.ensures.work in let old = c.narrow_by-narrowed.new.work in
+    record {
+      rows = w.rows;
+      scratch = w.scratch;
+      truths = w.truths;
+      middle = w.middle;
+      leaves = c.note.ensures.count ∙ w.leaves;
+      known = noted c.args.problem.now c.args.margins.now c.args.state.now (space_of old.spare) c.narrow_by-narrowed.result c.args.j old.leaves.items c.note.new.leaves.items old.unsure c.narrow_by-narrowed.ensures.narrowed
+          c.note.ensures.none c.note.ensures.some w.known;
+    }

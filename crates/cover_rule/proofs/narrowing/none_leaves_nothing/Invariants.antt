@@ -9,5 +9,5 @@ use Rattle.cover_rule.proofs.narrowing.none_leaves_nothing.Given as goal
 abbrev pub invariant-loop-j : goal.invariant-loop-j
 invariant-loop-j l = record {
   rest : none_empty (problem_of l.problem) (loosenings_of l.margins) l.state ≡ none_empty_from (problem_of l.problem) (loosenings_of l.margins) l.state l.j (drop l.j l.state.marks);
-  ready : IsReady l.problem l.state.space l.work;
+  ready : IsReady l.problem l.margins l.state.space l.work;
 }

@@ -1,4 +1,4 @@
-use Rattle.std.proofs.Common.{subst, sym}
+use Rattle.std.proofs.Common.{rules, subst, sym}
 use Rattle.cover_data.specs.declared.margins.Options.{Options}
 use Rattle.cover_book.specs.Limits.{IsWithinLimits}
 use Rattle.dpoly.proofs.Told.{limits}
@@ -6,4 +6,6 @@ use Rattle.dpoly.proofs.solve.search.Goals as goal
 
 pub solve-requires : goal.solve-requires
 solve-requires g c =
-    subst (λ (o : Options). IsWithinLimits c.args.problem.now o) (sym c.search_options-asked.ensures) (limits c.args.problem.now c.args.options.now c.requires.options c.requires.within)
+    let h : IsWithinLimits c.args.problem.now c.search_options-asked.result =
+    subst (λ (o : Options). IsWithinLimits c.args.problem.now o) (sym c.search_options-asked.ensures) (limits c.args.problem.now c.args.options.now c.requires.options c.requires.within) in
+    search (rules, h)

@@ -1,7 +1,9 @@
-use Rattle.std.proofs.Common.{◌+◌, ◌<◌, ◌≤◌, ◌∙◌, length, arith, ap, sym, subst, refl}
+use Rattle.std.proofs.Common.{◌≡◌, ℕ, List, ◌+◌, ◌<◌, ◌≤◌, ◌∙◌, length, arith, ap, sym, subst, refl}
+use Rattle.interval_model.specs.Interval.{Interval}
+use Rattle.cover_model.specs.NodeEnclosure.{row}
 use Rattle.ival.specs.declared.row_parts.Rows.{Rows}
 use Rattle.poly_graph.specs.Views.{node_of}
-use Rattle.cover_model.proofs.NodeEnclosures.{comes_at, comes_later, length_enclosures, all_rows}
+use Rattle.cover_model.proofs.NodeEnclosures.{comes_at, comes_later, length_enclosures, all_rows, order_at}
 use Rattle.ival.proofs.MarkWords.{length_marks}
 use Rattle.ival.specs.RowViews.{rows_of, marks_of}
 use Rattle.ival.specs.SpaceViews.{space_of}
@@ -15,6 +17,7 @@ loop-place-init c = record {
   filled = λ k h. absurd (omega arith);
   stays = λ k h m. absurd (omega arith);
   ahead = λ k h. refl;
+  down = λ k p h f m c t. absurd (omega arith);
 }
 
 pub is_reached-requires : goal.is_reached-requires
@@ -44,7 +47,16 @@ loop-place-preserved c =
           (sym w.if-is_reached.ensures) c.loop-place.invariant)
     ]
 
-pub returns : goal.returns
-returns c =
+pub returns-clause-rows : goal.returns-clause-rows
+returns-clause-rows c =
     all_rows (space_of c.args.space.now) c.args.graph.now (rows_of c.loop-place.rows) c.loop-place.invariant.count
     (λ k h. c.loop-place.invariant.filled k (omega (arith, c.loop-place-test.false, c.loop-place.auto.place-end, c.len-place-end.ensures.len)))
+
+pub returns-clause-apart : goal.returns-clause-apart
+returns-clause-apart c =
+    let nodes = c.args.graph.now in let i = c.loop-place.invariant in
+    let done : (k : ℕ) → k < length nodes → k < c.loop-place.place = λ k h. omega (arith, c.loop-place-test.false, c.loop-place.auto.place-end, c.len-place-end.ensures.len) in
+    record {
+      same = λ k h m. ap (λ (xs : List Interval). row xs k) (sym c.clear_marks.ensures.rows) ∙ i.stays k (done k h) m ∙ sym (i.filled k (done k h));
+      down = λ k p f m. i.down k p (done k (order_at 0 nodes c.len-place-end.ensures.graph.ordered k p f).1) f m;
+    }

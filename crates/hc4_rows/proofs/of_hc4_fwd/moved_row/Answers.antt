@@ -14,4 +14,4 @@ refill-requires c = let was = space_of c.args.space.now in record {
 }
 
 pub get-requires : goal.get-requires
-get-requires c = omega (arith, ap length c.refill.ensures, length_enclosures (space_of c.set.new.self) c.args.graph.now)
+get-requires c = omega (arith, ap length c.refill.ensures.rows, length_enclosures (space_of c.set.new.self) c.args.graph.now)

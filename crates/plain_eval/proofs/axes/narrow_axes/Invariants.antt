@@ -4,14 +4,14 @@ use Rattle.ival.specs.SpaceViews.{space_of}
 use Rattle.ival.specs.Options.{options_of}
 use Rattle.plain_eval.proofs.axes.narrow_axes.Given as goal
 
--- the axes of the nodes from n on are narrowed
+-- the axes of the nodes from this place on are narrowed
 abbrev pub invariant-loop-n : goal.invariant-loop-n
 invariant-loop-n l = record {
-  inside : l.n ≤ length l.graph;
-  axes : space_of l.space ≡ with_axes (drop l.n l.graph) (drop l.n (options_of l.scratch)) (space_of l.initial.space);
+  inside : l.place ≤ length l.graph;
+  axes : space_of l.space ≡ with_axes (drop l.place l.graph) (drop l.place (options_of l.scratch)) (space_of l.initial.space);
   same : l.is_less ≡ false → space_of l.space ≡ space_of l.initial.space;
   less : l.is_less ≡ true → space_of l.space ≢ space_of l.initial.space;
 }
 
 abbrev pub decreases-loop-n : goal.decreases-loop-n
-decreases-loop-n l = l.n
+decreases-loop-n l = l.place

@@ -1,8 +1,15 @@
-use Rattle.std.proofs.Common.{◌≡◌, drop}
-use Rattle.cover_model.specs.Narrowed.{some_empty}
-use Rattle.ival.specs.Options.{options_of}
+use Rattle.std.proofs.Common.{◌≡◌, ℕ, ◌≤◌, length, Some}
+use Rattle.interval_model.specs.Interval.{nothing}
+use Rattle.ival.specs.RowViews.{rows_of}
+use Rattle.ival.specs.Options.{option_at}
 use Rattle.plain_eval.proofs.scratch.some_empty.Given as goal
 
--- what is left to look at decides
-abbrev pub invariant-loop-place : goal.invariant-loop-place
-invariant-loop-place l = some_empty (options_of l.scratch) ≡ some_empty (drop l.place (options_of l.scratch))
+-- no interval from this place on is empty
+abbrev pub invariant-loop-n : goal.invariant-loop-n
+invariant-loop-n l = record {
+  inside : l.place ≤ length (rows_of l.scratch);
+  full : (k : ℕ) → l.place ≤ k → option_at l.scratch k ≡ Some nothing → ⊥;
+}
+
+abbrev pub decreases-loop-n : goal.decreases-loop-n
+decreases-loop-n l = l.place

@@ -1,36 +1,43 @@
-use Rattle.std.proofs.Common.{◌≡◌, ℕ, ◌+◌, ◌-◌, ◌<◌, ◌≤◌, ◌∙◌, length, drop, ap, sym, subst, arith}
-use Rattle.cover_model.specs.Narrowed.{narrowed}
+use Rattle.std.proofs.Common.{◌≡◌, ℕ, ◌≤◌, length, Some, None, ap, sym, ◌∙◌, arith}
+use Rattle.interval_model.specs.Interval.{Interval}
+use Rattle.poly_graph.specs.Views.{node_of}
+use Rattle.cover_model.proofs.NodeEnclosures.{comes_at, comes_later}
 use Rattle.ival.specs.Views.{interval_of}
 use Rattle.ival.specs.RowViews.{rows_of}
-use Rattle.ival.specs.Options.{option_of, options_of}
-use Rattle.ival.proofs.Optional.{length_options, drop_all}
-use Rattle.cover_model.proofs.NarrowedAt.{length_narrowed}
-use Rattle.plain_eval.proofs.Parents.{narrow_step}
+use Rattle.ival.specs.Options.{option_at}
+use Rattle.ival.proofs.Optional.{no_option, has_option}
+use Rattle.plain_eval.specs.Leaving.{left_more}
+use Rattle.plain_eval.proofs.Sweeping.{start, swept_next, swept_all}
 use Rattle.plain_eval.proofs.subterms.narrow_rows.Goals as goal
 
-pub loop-s-init : goal.loop-s-init
-loop-s-init c =
-    let r = c.clear_marks.new.self in let nodes = c.args.graph.now in let es = rows_of c.args.rows.now in let range = interval_of c.args.range in
-    let count : length (rows_of r) ≡ length nodes = ap length c.clear_marks.ensures.rows ∙ c.requires.scratch in
-    let opts : length (options_of r) ≤ c.len-s.result = omega (arith, length_options r, c.len-s.ensures.len, count) in
-    let ns : length (narrowed nodes es c.args.root range) ≤ c.len-s.result = omega (arith, length_narrowed es c.args.root range 0 nodes, c.len-s.ensures.len) in
+pub loop-n-init : goal.loop-n-init
+loop-n-init c =
+    let nodes = c.args.graph.now in let es = rows_of c.args.rows.now in let root = c.args.root in let range = interval_of c.args.range in
+    let cleared = c.clear_marks.new.self in let new = c.leave.new.scratch in
+    let none : (k : ℕ) → option_at cleared k ≡ None = λ k. no_option cleared k (c.clear_marks.ensures.marks k) in
     record {
-      inside = omega (arith, c.len-s.ensures.len);
-      count = count;
-      done = drop_all (options_of r) c.len-s.result opts ∙ sym (drop_all (narrowed nodes es c.args.root range) c.len-s.result ns);
-      none = λ k h. c.clear_marks.ensures.marks k;
+      count = c.leave.ensures.count ∙ ap length c.clear_marks.ensures.rows ∙ c.requires.scratch;
+      swept = start nodes es root range new c.requires.root (c.leave.ensures.at ∙ ap (left_more es root range) (none root)) (λ k o. c.leave.ensures.others k o ∙ none k);
     }
 
-pub loop-s-preserved : goal.loop-s-preserved
-loop-s-preserved c =
-    let n = c.loop-s.s - 1 in let nodes = c.args.graph.now in let r = c.loop-s.scratch in let es = rows_of c.args.rows.now in let range = interval_of c.args.range in
-    let inside-nodes : n < length nodes = omega (arith, c.loop-s.invariant.inside, c.loop-s-test.true) in
-    let inside : n < length (options_of r) = omega (arith, length_options r, c.loop-s.invariant.count, inside-nodes) in
-    let next : c.loop-s.s ≡ n + 1 = omega (arith, c.loop-s-test.true) in
-    let done = subst (λ (k : ℕ). drop k (options_of r) ≡ drop k (narrowed nodes es c.args.root range)) next c.loop-s.invariant.done in
+pub leave_to_children-requires-clause-order : goal.leave_to_children-requires-clause-order
+leave_to_children-requires-clause-order c =
+    let n = c.in-Some.n in let nodes = c.args.graph.now in let node = node_of c.node.result in
+    let low : n ≤ length (rows_of c.args.rows.now) = omega (arith, c.in-Some.ensures.below, c.loop-n.invariant.swept.bound, c.requires.root, c.requires.rows) in
+    comes_later n (length (rows_of c.args.rows.now)) node low (comes_at nodes c.len-2.ensures.graph.ordered n node c.node.ensures)
+
+pub loop-n-preserved : goal.loop-n-preserved
+loop-n-preserved c =
+    let next = c.in-Some.ensures in let scratch = c.loop-n.scratch in let n = c.in-Some.n in
+    let here : option_at scratch n ≡ Some (interval_of c.get.result) = has_option scratch n next.marked ∙ ap (λ (i : Interval). Some i) (sym c.get.ensures) in
     record {
-      inside = omega (arith, c.loop-s.invariant.inside);
-      count = c.put.ensures.count ∙ c.loop-s.invariant.count;
-      done = narrow_step es c.args.root range nodes (options_of r) (options_of c.put.new.scratch) n (option_of c.narrowed-interval.result) inside-nodes inside done c.narrowed-interval.ensures c.put.ensures.options;
-      none = λ k h. c.put.ensures.before k h ∙ c.loop-s.invariant.none k (omega (arith, h));
+      count = c.leave_to_children.ensures.count ∙ c.loop-n.invariant.count;
+      swept = swept_next c.args.graph.now (rows_of c.args.rows.now) c.args.root (interval_of c.args.range) c.len-2.ensures.graph.ordered c.loop-n.place n scratch c.leave_to_children.new.scratch
+          (node_of c.node.result) (interval_of c.get.result) c.requires.root c.loop-n.invariant.swept next.below (λ k a b. no_option scratch k (next.between k a b)) c.node.ensures here c.leave_to_children.ensures.all;
     }
+
+pub returns-clause-options : goal.returns-clause-options
+returns-clause-options c =
+    let scratch = c.loop-n.scratch in
+    swept_all c.args.graph.now (rows_of c.args.rows.now) c.args.root (interval_of c.args.range) c.loop-n.place scratch c.requires.root c.loop-n.invariant.count c.loop-n.invariant.swept
+    (λ k h. no_option scratch k (c.in_default.ensures k h))

@@ -31,10 +31,10 @@ returns-in_err-problem c =
     let few : length c.args.bytes.now ≤ most_bytes = omega arith in
     let p = err_from_is_err_and c.from_residual-in_err-problem.result c.from_residual-in_err-problem.ensures.1 in
     rw (p.1, p.2) (building_refused c.args.bound c.args.bytes.now few c.in_err-problem.field-0.0 (listed (rest_of c.in_ok-sexps.sexps 0)) c.in_ok-sexps.ensures c.in_ok-script.script c.in_ok-script.ensures.1
-    c.in_ok-typed.typed.script c.in_ok-typed.ensures.0 c.in_ok-typed.ensures.1 c.in_err-problem.ensures)
+    c.in_ok-typed.typed.script c.in_ok-typed.ensures.0 c.in_ok-typed.ensures.1 c.in_err-problem.ensures.builds)
 
 pub returns : goal.returns
 returns c =
     let few : length c.args.bytes.now ≤ most_bytes = omega arith in
     problem_had c.args.bound c.args.bytes.now (listed (rest_of c.in_ok-sexps.sexps 0)) c.in_ok-script.script c.in_ok-typed.typed.script c.in_ok-problem.problem few
-    c.in_ok-sexps.ensures c.in_ok-script.ensures.1 c.in_ok-typed.ensures.0 c.in_ok-typed.ensures.1 c.axes.ensures.whole c.in_ok-problem.ensures
+    c.in_ok-sexps.ensures c.in_ok-script.ensures.1 c.in_ok-typed.ensures.0 c.in_ok-typed.ensures.1 c.axes.ensures.whole c.in_ok-problem.ensures.lean c.in_ok-problem.ensures.builds

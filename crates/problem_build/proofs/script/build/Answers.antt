@@ -14,8 +14,8 @@ claims-requires c = let s = c.args.typed.script.sexps.now in record {
   sorted = c.args.typed.sorted;
 }
 
-pub returns-in_err-made : goal.returns-in_err-made
-returns-in_err-made c =
+pub returns-in_err-made-clause-builds : goal.returns-in_err-made-clause-builds
+returns-in_err-made-clause-builds c =
     let script = commands_in c.args.typed.script in
     let p = err_from_is_err_and c.from_residual-in_err-made.result c.from_residual-in_err-made.ensures.1 in
     rw (p.1, p.2) (finishing.found_before c.in_err-made.field-0.0 (after_root script) (walk_of script) _ c.in_err-made.ensures)

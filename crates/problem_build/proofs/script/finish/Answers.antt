@@ -2,7 +2,7 @@ use Rattle.std.proofs.Common.{◌≡◌, ℕ, List, length, map, ap, sym, ◌∙
 use Rattle.std.specs.Prelude.{None, Ok, Err}
 use Rattle.std.proofs.lemmas.Result.{err_from_is_err_and}
 use Rattle.script_model.specs.Script.{Constant, constants_of, sort_of_constant}
-use Rattle.script_model.specs.Declared.{Bound, bound_fault, bound_fault_from, declared_interval, script_bounds}
+use Rattle.script_model.specs.Declared.{Bound, bound_fault_from, declared_interval, script_bounds}
 use Rattle.poly_graph.specs.ProblemViews.{Parts, axis_of, problem_of}
 use Rattle.script_forms.specs.ProblemOf.{AreAxes, IsProblemOf}
 use Rattle.script_forms.specs.Walk.{walked, building_fault, claim_places, last_place, nowhere}
@@ -35,14 +35,14 @@ assemble-requires c =
       rooted = finishing.root_below (commands_in c.args.script.now) c.args.maker c.args.made.now c.requires.done c.root_form.new.builder c.in-Ok.root roots;
     }
 
-pub returns-in-Err : goal.returns-in-Err
-returns-in-Err c =
+pub returns-in-Err-clause-builds : goal.returns-in-Err-clause-builds
+returns-in-Err-clause-builds c =
     let roots = finishing.roots_as c.args.maker.made c.into_parts-builder.result.0 c.root_form.new.builder (map (λ p. p.0) c.args.made.now) c.in_ok-forms.forms.items (Err c.in-Err.stop) c.into_parts-builder.ensures.builder c.in_ok-forms.ensures c.in-Err.ensures.does in
     let last = c.last_claim.ensures c.args.script.now.sexps.now ∙ ap (λ xs. last_place nowhere (claim_places (map (command_of c.args.script.now.sexps.now) xs))) c.as_slice-commands.ensures.value in
     finishing.found_first c.building_error.result (walked (commands_in c.args.script.now)) _ (c.building_error.ensures (walked (commands_in c.args.script.now)) (finishing.root_stops (commands_in c.args.script.now) c.args.maker c.args.made.now c.requires.done c.root_form.new.builder c.in-Err.stop (place_of c.last_claim.result) last roots))
 
-pub returns : goal.returns
-returns c =
+pub returns-clause-builds : goal.returns-clause-builds
+returns-clause-builds c =
     let script = commands_in c.args.script.now in
     let roots = finishing.roots_as c.args.maker.made c.into_parts-builder.result.0 c.root_form.new.builder (map (λ p. p.0) c.args.made.now) c.in_ok-forms.forms.items (Ok c.in-Ok.root) c.into_parts-builder.ensures.builder c.in_ok-forms.ensures c.in-Ok.ensures.does in
     let same : SameBounds (all_of c.into_parts-builder.result.1 c.as_slice.result.now) (script_bounds script) =
@@ -52,11 +52,11 @@ returns c =
     ap (map constant_of) c.as_slice-2.ensures.value ∙ c.in_ok-constants.ensures c.args.script.now.sexps.now ∙ ap (λ xs. constants_of (map (command_of c.args.script.now.sexps.now) xs)) c.as_slice-commands.ensures.value in
     let axes = map axis_of c.in_ok-axes.axes.items in
     let answers = subst (λ (cs : List Constant). (bound_fault_from (declared_interval c.args.bound script) 0 cs ≡ None) × AreAxes (declared_interval c.args.bound script) 0 cs axes) constants_are (c.in_ok-axes.ensures.answers (script_bounds script) same) in
-    subst (λ (p : Parts). (building_fault c.args.bound script ≡ None) × IsProblemOf c.args.bound script (problem_of p)) (sym c.assemble.ensures)
+    subst (λ (p : Parts). (building_fault c.args.bound script ≡ None) × IsProblemOf c.args.bound script (problem_of p)) (sym c.assemble.ensures.parts)
     (finishing.builds_so script c.args.maker c.args.made.now c.requires.done c.root_form.new.builder c.in-Ok.root roots c.args.bound axes (subst (λ (mk : Made). IsMade mk) c.builder.view_is c.builder.invariant) answers.0 answers.1)
 
-pub returns-in_err-axes : goal.returns-in_err-axes
-returns-in_err-axes c =
+pub returns-in_err-axes-clause-builds : goal.returns-in_err-axes-clause-builds
+returns-in_err-axes-clause-builds c =
     let script = commands_in c.args.script.now in
     let roots = finishing.roots_as c.args.maker.made c.into_parts-builder.result.0 c.root_form.new.builder (map (λ p. p.0) c.args.made.now) c.in_ok-forms.forms.items (Ok c.in-Ok.root) c.into_parts-builder.ensures.builder c.in_ok-forms.ensures c.in-Ok.ensures.does in
     let same : SameBounds (all_of c.into_parts-builder.result.1 c.as_slice.result.now) (script_bounds script) =

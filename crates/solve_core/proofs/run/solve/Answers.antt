@@ -1,39 +1,43 @@
--- What the loop leaves when no node is taken any more.
-use Rattle.std.proofs.Common.{◌≡◌, refl, ap, ◌∙◌, subst, sym}
-use Rattle.cover_book.specs.Model.{BookModel}
-use Rattle.cover_book.specs.declared.verdict.BookVerdict.TheVariants as verdict
-use Rattle.cover_book.specs.Verdict.{verdict_of}
+-- What calls lead to is of the same problem and options.
+use Rattle.std.proofs.Common.{◌≡◌, ap, ◌∙◌, subst}
+use Rattle.poly_graph.specs.ProblemViews.{Parts}
+use Rattle.cover_book.specs.Model.{BookModel, opening}
 use Rattle.solve_core.specs.Reaches.{Reaches}
-use Rattle.solve_core.specs.Left.{LeavesDue}
-use Rattle.solve_core.proofs.Reached.{reaches_same, reaches_through, same_reaches}
-use Rattle.solve_core.proofs.Ends.{leaves_due, not_not_yet}
+use Rattle.solve_core.proofs.Reached.{reaches_same, reaches_through}
+use Rattle.solve_core.proofs.Together.{each_ok}
 use Rattle.solve_core.proofs.run.solve.Goals as goal
 
-pub loop-node-init : goal.loop-node-init
-loop-node-init g c = record { search = c.in_ok-search.ensures.search; reached = same_reaches c.in_ok-search.ensures.book }
+pub returns-then-workers-lt2-clause-problem : goal.returns-then-workers-lt2-clause-problem
+returns-then-workers-lt2-clause-problem g c =
+    let o : c.in_ok-book.book ≡ opening c.in_ok-copy.copy c.args.options.now = c.in_ok-book.ensures in
+    let e : c.in_ok-copy.copy ≡ c.args.problem.now = c.in_ok-copy.ensures in
+    each_ok (Reaches c.in_ok-book.book) (λ (b : BookModel). b.problem ≡ c.args.problem.now) c.finish.result (λ b h. (reaches_same h).0 ∙ ap (λ (d : BookModel). d.problem) o ∙ e) c.finish.ensures.reached
 
-pub loop-node-preserved : goal.loop-node-preserved
-loop-node-preserved g c = record {
-  search = c.in_ok-done.ensures.search;
-  reached = reaches_through c.loop-node.invariant.reached (subst (λ (b : BookModel). Reaches b c.visit-done.new.self.book) c.next.ensures.book c.visit-done.ensures.reached);
-}
+pub returns-then-workers-lt2-clause-options : goal.returns-then-workers-lt2-clause-options
+returns-then-workers-lt2-clause-options g c =
+    let o : c.in_ok-book.book ≡ opening c.in_ok-copy.copy c.args.options.now = c.in_ok-book.ensures in
+    each_ok (Reaches c.in_ok-book.book) (λ (b : BookModel). b.options ≡ c.args.options.now) c.finish.result (λ b h. (reaches_same h).1 ∙ ap (λ (d : BookModel). d.options) o) c.finish.ensures.reached
 
 pub returns-clause-problem : goal.returns-clause-problem
 returns-clause-problem g c =
-    let e : c.into_book.result ≡ c.loop-node.search.book = c.into_book.ensures ∙ c.next.ensures.book in
-    ap (λ (b : BookModel). b.problem) e ∙ (reaches_same c.loop-node.invariant.reached).0
+    let o : c.in_ok-book.book ≡ opening c.in_ok-copy.copy c.args.options.now = c.in_ok-book.ensures in
+    let e : c.in_ok-copy.copy ≡ c.args.problem.now = c.in_ok-copy.ensures in
+    let t : Reaches c.in_ok-book.book c.search_together-book.result = c.search_together-book.ensures in
+    each_ok (Reaches c.search_together-book.result) (λ (b : BookModel). b.problem ≡ c.args.problem.now) c.finish-2.result
+    (λ b h. (reaches_same h).0 ∙ (reaches_same t).0 ∙ ap (λ (d : BookModel). d.problem) o ∙ e) c.finish-2.ensures.reached
 
 pub returns-clause-options : goal.returns-clause-options
 returns-clause-options g c =
-    let e : c.into_book.result ≡ c.loop-node.search.book = c.into_book.ensures ∙ c.next.ensures.book in
-    ap (λ (b : BookModel). b.options) e ∙ (reaches_same c.loop-node.invariant.reached).1
+    let o : c.in_ok-book.book ≡ opening c.in_ok-copy.copy c.args.options.now = c.in_ok-book.ensures in
+    let t : Reaches c.in_ok-book.book c.search_together-book.result = c.search_together-book.ensures in
+    each_ok (Reaches c.search_together-book.result) (λ (b : BookModel). b.options ≡ c.args.options.now) c.finish-2.result
+    (λ b h. (reaches_same h).1 ∙ (reaches_same t).1 ∙ ap (λ (d : BookModel). d.options) o) c.finish-2.ensures.reached
 
-pub returns-clause-verdict : goal.returns-clause-verdict
-returns-clause-verdict g c =
-    let e : c.into_book.result ≡ c.loop-node.search.book = c.into_book.ensures ∙ c.next.ensures.book in
-    subst (λ (b : BookModel). verdict_of b ≡ verdict.NotYet → ⊥) (sym e) (not_not_yet c.loop-node.search.book (leaves_due c.loop-node.search c.loop-node.invariant.search (c.in_default.ensures.none refl)))
-
-pub returns-clause-left : goal.returns-clause-left
-returns-clause-left g c =
-    let e : c.into_book.result ≡ c.loop-node.search.book = c.into_book.ensures ∙ c.next.ensures.book in
-    subst LeavesDue (sym e) (leaves_due c.loop-node.search c.loop-node.invariant.search (c.in_default.ensures.none refl))
+pub returns-clause-reached : goal.returns-clause-reached
+returns-clause-reached g c =
+    let o : c.in_ok-book.book ≡ opening c.in_ok-copy.copy c.args.options.now = c.in_ok-book.ensures in
+    let e : c.in_ok-copy.copy ≡ c.args.problem.now = c.in_ok-copy.ensures in
+    let t : Reaches c.in_ok-book.book c.search_together-book.result = c.search_together-book.ensures in
+    let s : Reaches (opening c.args.problem.now c.args.options.now) c.search_together-book.result =
+    subst (λ (p : Parts). Reaches (opening p c.args.options.now) c.search_together-book.result) e (subst (λ (d : BookModel). Reaches d c.search_together-book.result) o t) in
+    each_ok (Reaches c.search_together-book.result) (Reaches (opening c.args.problem.now c.args.options.now)) c.finish-2.result (λ b h. reaches_through s h) c.finish-2.ensures.reached

@@ -26,4 +26,4 @@ invariant_of-self c =
     held_with p i.margins k k' i.work i.work h
     (run_after (ban_refusal (kept_of k) c.args.j L) P (banned_by P c.args.j L) Q r (answers_lift (with_kept P) (ban_refusal (kept_of k) c.args.j L) (kept_of k) (banned (kept_of k) c.args.j L) (kept_of k') r c.ban.ensures.answer) h.run
     (any_ok (ban_refusal (kept_of k) c.args.j L ≡ None → IsRunOf (banned_by P c.args.j L)) r (λ e. run_banned P h.whole h.run c.args.j L g e)))
-    (still_ready p k k' i.work c.ban.ensures.space h.ready)
+    (still_ready p i.margins k k' i.work c.ban.ensures.space h.ready)

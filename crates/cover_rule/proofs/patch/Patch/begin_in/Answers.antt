@@ -1,4 +1,4 @@
-use Rattle.std.proofs.Common.{◌∙◌, List, ap, ap₂, sym, subst, length}
+use Rattle.std.proofs.Common.{◌∙◌, List, ap, ap₂, sym, subst, length, vec_len}
 use Rattle.interval_model.specs.Space.{Space}
 use Rattle.poly_graph.specs.Term.{Node}
 use Rattle.poly_graph.specs.ProblemViews.{problem_of}
@@ -6,7 +6,13 @@ use Rattle.cover_model.specs.Narrowed.{enclosures}
 use Rattle.cover_model.specs.State.{State}
 use Rattle.cover_data.specs.Models.{KeptModel}
 use Rattle.cover_data.specs.Runs.{IsRun}
+use Rattle.ival.specs.declared.row_parts.Rows.{Rows}
+use Rattle.ival.specs.declared.space.Space.{Space as CodeSpace}
+use Rattle.ival.specs.RowViews.{rows_of}
+use Rattle.ival.specs.SpaceViews.{space_of}
+use Rattle.truth3.specs.declared.marks.Marks.{Marks}
 use Rattle.cover_rule.proofs.Axes.{fits_length}
+use Rattle.cover_rule.proofs.Knowns.{nothing_known}
 use Rattle.cover_rule.proofs.RunSteps.{run_begins}
 use Rattle.cover_rule.proofs.patch.Patch.begin_in.Goals as goal
 
@@ -24,11 +30,13 @@ invariant_of-result c =
       run = subst (λ (K : KeptModel). IsRun (problem_of p) m K) (sym c.nothing_done-kept.ensures.kept) (run_begins (problem_of p) m S c.requires.state);
       ready = record {
         serves = record {
-          rows = c.fill.ensures.rows ∙ ap₂ (λ (s : Space) (ns : List Node). enclosures s ns) (c.space-space.ensures ∙ back) c.graph.ensures.graph;
-          scratch = c.requires.room.scratch;
-          truths = c.requires.room.truths;
-          middle = c.requires.room.middle;
+          rows = ap rows_of c.forget.ensures.rows ∙ c.fill.ensures.rows ∙ ap₂ (λ (s : Space) (ns : List Node). enclosures s ns) (c.space-space.ensures ∙ back) c.graph.ensures.graph;
+          scratch = ap (λ (r : Rows). length (rows_of r)) c.forget.ensures.scratch ∙ c.requires.room.scratch;
+          truths = ap (λ (k : Marks). vec_len k.truths) c.forget.ensures.marks ∙ c.requires.room.truths;
+          middle = ap (λ (r : CodeSpace). length (space_of r)) c.forget.ensures.middle ∙ c.requires.room.middle;
+          leaves = c.forget.ensures.leaves ∙ c.requires.room.leaves;
+          known = nothing_known p m c.nothing_done-kept.result.reached.space c.forget.new.work.leaves.items c.forget.new.work.unsure c.forget.ensures.none c.forget.ensures.unsure;
         };
-        spare = c.copy_space.ensures ∙ c.space-space.ensures ∙ back;
+        spare = ap space_of c.forget.ensures.spare ∙ c.copy_space.ensures ∙ c.space-space.ensures ∙ back;
       };
     }

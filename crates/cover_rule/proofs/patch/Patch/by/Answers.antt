@@ -26,4 +26,4 @@ invariant_of-self c =
     held_with p i.margins k k' i.work i.work h
     (run_after (by_refusal (kept_of k) L) P (covered_by P L) Q r (answers_lift (with_kept P) (by_refusal (kept_of k) L) (kept_of k) (covered (kept_of k) L) (kept_of k') r c.by.ensures.answer) h.run
     (any_ok (by_refusal (kept_of k) L ≡ None → IsRunOf (covered_by P L)) r (λ e. run_covered P h.whole h.run L g e)))
-    (still_ready p k k' i.work (ap (λ (S : State). S.space) c.by.ensures.reached) h.ready)
+    (still_ready p i.margins k k' i.work (ap (λ (S : State). S.space) c.by.ensures.reached) h.ready)

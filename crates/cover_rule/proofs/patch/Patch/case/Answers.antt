@@ -14,4 +14,4 @@ invariant_of-self c =
     let P : PatchModel = patch_of p i.margins k in let Q : PatchModel = patch_of p i.margins k' in
     held_with p i.margins k k' i.work c.case.new.work h
     (run_after (case_refusal P c.args.j) P (ended_with P (case c.args.j)) Q r (c.case.ensures.answer) h.run (any_ok (case_refusal P c.args.j ≡ None → IsRunOf (ended_with P (case c.args.j))) r (λ e. run_cased P h.whole h.run c.args.j e)))
-    (still_ready p k k' c.case.new.work (ap (λ (S : State). S.space) c.case.ensures.reached) c.case.ensures.ready)
+    (still_ready p i.margins k k' c.case.new.work (ap (λ (S : State). S.space) c.case.ensures.reached) c.case.ensures.ready)

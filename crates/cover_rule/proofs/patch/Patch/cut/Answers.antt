@@ -13,4 +13,4 @@ invariant_of-self c =
     let P : PatchModel = patch_of p i.margins k in let Q : PatchModel = patch_of p i.margins k' in
     held_with p i.margins k k' i.work c.cut.new.work h
     (run_after (cut_refusal P) P (cut_by P) Q r (c.cut.ensures.answer) h.run (any_ok (cut_refusal P ≡ None → IsRunOf (cut_by P)) r (λ e. run_cut_by P h.whole h.run e)))
-    (still_ready p k k' c.cut.new.work (ap (λ (S : State). S.space) c.cut.ensures.reached) c.cut.ensures.ready)
+    (still_ready p i.margins k k' c.cut.new.work (ap (λ (S : State). S.space) c.cut.ensures.reached) c.cut.ensures.ready)

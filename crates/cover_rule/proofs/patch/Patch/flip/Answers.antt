@@ -14,4 +14,4 @@ invariant_of-self c =
     let P : PatchModel = patch_of p i.margins k in let Q : PatchModel = patch_of p i.margins k' in
     held_with p i.margins k k' i.work c.flip.new.work h
     (run_after (flip_refusal P c.args.axis) P (ended_with P (flip c.args.axis)) Q r (c.flip.ensures.answer) h.run (any_ok (flip_refusal P c.args.axis ≡ None → IsRunOf (ended_with P (flip c.args.axis))) r (λ e. run_flipped P h.whole h.run c.args.axis e)))
-    (still_ready p k k' c.flip.new.work (ap (λ (S : State). S.space) c.flip.ensures.reached) c.flip.ensures.ready)
+    (still_ready p i.margins k k' c.flip.new.work (ap (λ (S : State). S.space) c.flip.ensures.reached) c.flip.ensures.ready)

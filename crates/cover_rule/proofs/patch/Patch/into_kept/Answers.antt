@@ -15,4 +15,5 @@ returns-clause-room c =
       truths = h.ready.serves.truths;
       spare = ap length h.ready.spare ∙ fits_length (problem_of i.problem.now).axes s h.run.sound.reached.axes;
       middle = h.ready.serves.middle;
+      leaves = h.ready.serves.leaves;
     })

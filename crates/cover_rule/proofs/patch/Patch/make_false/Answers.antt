@@ -14,4 +14,4 @@ invariant_of-self c =
     let P : PatchModel = patch_of p i.margins k in let Q : PatchModel = patch_of p i.margins k' in
     held_with p i.margins k k' i.work c.make_false.new.work h
     (run_after (false_refusal P) P (ended_with P make_false) Q r (c.make_false.ensures.answer) h.run (any_ok (false_refusal P ≡ None → IsRunOf (ended_with P make_false)) r (λ e. run_made_false P h.whole h.run e)))
-    (still_ready p k k' c.make_false.new.work (ap (λ (S : State). S.space) c.make_false.ensures.reached) c.make_false.ensures.ready)
+    (still_ready p i.margins k k' c.make_false.new.work (ap (λ (S : State). S.space) c.make_false.ensures.reached) c.make_false.ensures.ready)

@@ -14,4 +14,4 @@ invariant_of-self c =
     let P : PatchModel = patch_of p i.margins k in let Q : PatchModel = patch_of p i.margins k' in
     held_with p i.margins k k' i.work c.stuck.new.work h
     (run_after (stuck_refusal P c.args.j) P (ended_with P (stuck c.args.j)) Q r (c.stuck.ensures.answer) h.run (any_ok (stuck_refusal P c.args.j ≡ None → IsRunOf (ended_with P (stuck c.args.j))) r (λ e. run_stuck P h.whole h.run c.args.j e)))
-    (still_ready p k k' c.stuck.new.work (ap (λ (S : State). S.space) c.stuck.ensures.reached) c.stuck.ensures.ready)
+    (still_ready p i.margins k k' c.stuck.new.work (ap (λ (S : State). S.space) c.stuck.ensures.reached) c.stuck.ensures.ready)

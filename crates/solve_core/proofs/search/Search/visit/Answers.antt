@@ -15,11 +15,11 @@ use Rattle.solve_core.proofs.search.Search.visit.Goals as goal
 pub returns-in-Err-clause-reached : goal.returns-in-Err-clause-reached
 returns-in-Err-clause-reached c = stays
 
-pub work_on-requires-clause-state : goal.work_on-requires-clause-state
-work_on-requires-clause-state c = subst (λ (p : Parts). FitsProblem (problem_of p) c.in-Ok.state) (sym c.problem.ensures.problem) (nodes_lie_within c.args.self.now.book c.problem.ensures.book c.args.node c.in-Ok.state (inl c.in-Ok.ensures.0)).0
+pub work_in-requires-clause-state : goal.work_in-requires-clause-state
+work_in-requires-clause-state c = subst (λ (p : Parts). FitsProblem (problem_of p) c.in-Ok.state) (sym c.problem.ensures.problem) (nodes_lie_within c.args.self.now.book c.problem.ensures.book c.args.node c.in-Ok.state (inl c.in-Ok.ensures.0)).0
 
-pub work_on-requires-clause-root : goal.work_on-requires-clause-root
-work_on-requires-clause-root c = subst (λ (p : Parts). IsTrue (space_within c.in-Ok.state.space (root_space (problem_of p)))) (sym c.problem.ensures.problem) (nodes_lie_within c.args.self.now.book c.problem.ensures.book c.args.node c.in-Ok.state (inl c.in-Ok.ensures.0)).1
+pub work_in-requires-clause-root : goal.work_in-requires-clause-root
+work_in-requires-clause-root c = subst (λ (p : Parts). IsTrue (space_within c.in-Ok.state.space (root_space (problem_of p)))) (sym c.problem.ensures.problem) (nodes_lie_within c.args.self.now.book c.problem.ensures.book c.args.node c.in-Ok.state (inl c.in-Ok.ensures.0)).1
 
 pub returns-in_err-point-clause-reached : goal.returns-in_err-point-clause-reached
 returns-in_err-point-clause-reached c = stays

@@ -1,0 +1,15 @@
+-- What narrowed nodes leave to their children, one after the other.
+use Rattle.std.specs.Prelude.{ℕ, List, cond, Option, Some, None}
+use Rattle.interval_model.specs.Interval.{Interval, met}
+use Rattle.poly_graph.specs.Term.{Node, has_child}
+use Rattle.cover_model.specs.Narrowed.{left_by}
+use Rattle.cover_model.specs.NodeEnclosure.{row}
+
+-- what is left to s, of which this was left before, with one more interval; at first its enclosure is left
+abbrev pub left_more : List Interval → ℕ → Interval → Option Interval → Option Interval
+left_more es s i None = Some (met (row es s) i)
+left_more es s i (Some before) = Some (met before i)
+
+-- the same by a node whose narrowed interval is n, if s is its child
+abbrev pub left_more_by : List Interval → ℕ → Node → Interval → Option Interval → Option Interval
+left_more_by es s p n o = cond (has_child s p) (left_more es s (left_by es s p n) o) o

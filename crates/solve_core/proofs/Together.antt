@@ -1,0 +1,146 @@
+-- Workers on a shared book.
+use Rattle.std.proofs.Common.{◌≡◌, inl, ℕ, suc, ◌+◌, ◌-◌, Bool, true, false, if◌then◌else◌, All, List, [], ◌∷◌, ◌++◌, drop, Some, None, Result, Ok, Err, IfOk, IsTrue, ap, sym, ◌∙◌, subst, arith}
+use Rattle.std.specs.List.{Contains}
+use Rattle.std.proofs.lemmas.List.Elements.{All-append, All-cons, All-contains, All-contains_itself, All-drop, All-nil, All-push, All-weaker, Contains-append_left, Contains-push}
+use Rattle.poly_graph.specs.ProblemViews.{Parts, problem_of}
+use Rattle.interval_model.specs.Space.{space_within}
+use Rattle.cover_model.specs.Fits.{FitsProblem, IsShownAt}
+use Rattle.cover_model.specs.Root.{root_space}
+use Rattle.cover_model.specs.State.{State, IsLemma}
+use Rattle.cover_data.specs.declared.margins.Options.{Options}
+use Rattle.cover_data.specs.Margins.{loosenings_of}
+use Rattle.cover_data.specs.Models.{LemmaModel, KeptModel}
+use Rattle.cover_data.specs.Runs.{IsRun}
+use Rattle.cover_data.specs.Views.{kept_of}
+use Rattle.cover_data.proofs.Proved.{closed_is_lemma}
+use Rattle.cover_book.specs.declared.calls.Call.{Call}
+use Rattle.cover_book.specs.declared.calls.Call.TheVariants.{Learn, StateOf}
+use Rattle.cover_book.specs.declared.calls.Reply.{Reply}
+use Rattle.cover_book.specs.declared.calls.Reply.TheVariants.{LiveState, Refused}
+use Rattle.cover_book.specs.declared.refusal.BookRefusal.{BookRefusal}
+use Rattle.cover_book.specs.Keeps.{IsBook}
+use Rattle.cover_book.specs.Model.{BookModel, problem_in, margins_of, loosenings_in}
+use Rattle.cover_book.specs.Steps.{MayBeCalled}
+use Rattle.cover_book.proofs.Meaning.{nodes_lie_within}
+use Rattle.box_worker.specs.declared.worked.Worked.{Worked}
+use Rattle.box_worker.specs.declared.worked.Worked.TheVariants.{Patch, Closed, Point}
+use Rattle.box_worker.specs.Worked.{AreLemmasFor, AreLemmasAt, IsWorkFor}
+use Rattle.book_lock.specs.declared.shared.SharedBook.{SharedBook}
+use Rattle.book_lock.specs.declared.views.Entry.{Entry}
+use Rattle.book_lock.specs.Laws.{IsBookHistory}
+use Rattle.book_lock.specs.Shared.{BookSeat, view, first_of, IsSeatOf, IsOnePartSeatOf, IsReply, ResultReply, IsSplit, IsJoined}
+use Rattle.book_lock.proofs.Histories.{reply_is_of_book}
+use Rattle.solve_core.specs.Reaches.{Reaches}
+use Rattle.steal_pool.specs.Account.{has_left}
+use Rattle.solve_core.specs.declared.worker.Worker.{Worker}
+use Rattle.solve_core.specs.Workers.{IsWorkerOf, MayBeKept}
+use Rattle.solve_core.proofs.Reached.{one_call, reaches_through, same_reaches}
+use Rattle.solve_core.proofs.Works.{left_some, closed_some}
+
+-- ---- seats
+
+abbrev Holds : BookModel → LemmaModel → Type 0
+Holds b L = FitsProblem (problem_in b) L.state × IsLemma (problem_in b) (loosenings_in b) L.state
+
+-- a call leaves a seat its part
+pub part_stays : (s : SharedBook) (seat seat' : BookSeat) (c : Call) (r : Reply) → IsOnePartSeatOf s seat → IsSeatOf s seat' → IsReply seat c r seat' → IsOnePartSeatOf s seat'
+part_stays s seat seat' c r h o x = (o, ap (λ v. v.parts) x.rest ∙ h.1)
+
+pub part_stays_by : {X : Type 0} (reply : X → Reply) (s : SharedBook) (seat seat' : BookSeat) (c : Call) (answer : Result X BookRefusal) →
+    IsOnePartSeatOf s seat → IsSeatOf s seat' → ResultReply reply seat c answer seat' → IsOnePartSeatOf s seat'
+part_stays_by reply s seat seat' c (Ok x) h o k = part_stays s seat seat' c (reply x) h o k
+part_stays_by reply s seat seat' c (Err e) h o k = part_stays s seat seat' c (Refused e) h o k
+
+-- a seat that took another in has its part too
+pub one_more_part : (s : SharedBook) (seat other seat' : BookSeat) → IsJoined seat other seat' → IsOnePartSeatOf s other → (view seat').parts ≡ suc (view seat).parts
+one_more_part s seat other seat' j h =
+    let e : (view seat').parts ≡ (view seat).parts + (view other).parts = ap (λ v. v.parts) j.view_is in
+    let f : (view other).parts ≡ 1 = h.1 in omega (arith, e, f)
+
+-- a new seat makes a worker that has no lemmas yet
+pub new_worker : (s : SharedBook) (seat seat' new : BookSeat) (w : Worker) → IsBook (first_of s) → IsSeatOf s new → IsSplit seat seat' new → w.seat ≡ new → has_left w.hand ≡ false → w.lemmas.items ≡ [] → IsWorkerOf s w
+new_worker s seat seat' new w b own split e stays none = record {
+  book = b;
+  seat = subst (IsOnePartSeatOf s) (sym e) (own, ap (λ v. v.parts) split.new_view);
+  stays = stays;
+  lemmas = subst (AreLemmasFor (problem_in (first_of s)) (loosenings_in (first_of s))) (sym none) (All-nil (Holds (first_of s)));
+}
+
+-- one part fewer
+pub one_part_fewer : (seat seat' new : BookSeat) → IsSplit seat seat' new → (view seat').parts ≡ (view seat).parts - 1
+one_part_fewer seat seat' new split = ap (λ v. v.parts) split.left
+
+-- what holds of all, and of the last
+pub all_but_last : {X : Type 0} (F : X → Type 0) (old new : List X) (x : X) → old ≡ new ++ (x ∷ []) → All F old → All F new × F x
+all_but_last F old new x e h =
+    let k : All F (new ++ (x ∷ [])) = subst (All F) e h in
+    (All-weaker (Contains new) F (λ y c. All-contains F (new ++ (x ∷ [])) y k (Contains-append_left new (x ∷ []) y c)) new (All-contains_itself new), All-contains F (new ++ (x ∷ [])) x k (Contains-push new x))
+
+pub all_and_one : {X : Type 0} (F : X → Type 0) (old new : List X) (x : X) → new ≡ old ++ (x ∷ []) → All F old → F x → All F new
+all_and_one F old new x e h k = subst (All F) (sym e) (All-push F old x h k)
+
+-- ---- a book of these parts and options
+
+module _ (b : BookModel) (p : Parts) (o : Options) (e : b.problem ≡ p) (f : b.options ≡ o) where
+  of-book : (F : Parts → Options → Type 0) → F p o → F b.problem b.options
+  of-book F h = subst (λ (q : Parts). F q b.options) (sym e) (subst (λ (r : Options). F p r) (sym f) h)
+
+  to-parts : (F : Parts → Options → Type 0) → F b.problem b.options → F p o
+  to-parts F h = subst (λ (q : Parts). F q o) e (subst (λ (r : Options). F b.problem r) f h)
+
+  -- the state of a live node is one to work on
+  pub state_fits : (s : SharedBook) (seat seat' : BookSeat) (n : ℕ) (S : State) → first_of s ≡ b → IsBook b → IsSeatOf s seat → IsReply seat (StateOf n) (LiveState S) seat' →
+      FitsProblem (problem_of p) S × IsTrue (space_within S.space (root_space (problem_of p)))
+  state_fits s seat seat' n S g w own r =
+      let t = reply_is_of_book b seat seat' (StateOf n) (LiveState S) w (own.1 ∙ ap Some g) r in
+      let h = nodes_lie_within t.0 t.2.book n S (inl t.3.0) in
+      let q : t.0.problem ≡ p = t.2.problem ∙ e in
+      subst (λ (x : Parts). FitsProblem (problem_of x) S × IsTrue (space_within S.space (root_space (problem_of x)))) q h
+
+  -- what came of the work may be handed to the book
+  pub may_be_kept : (lemmas : List LemmaModel) (S : State) (n : ℕ) (w : Worked) → IsWorkFor p o lemmas S w → MayBeKept b n w
+  may_be_kept lemmas S n (Patch P) h = (of-book (λ q r. IsRun (problem_of q) (margins_of r) (kept_of P)) h.0.run, left_some P.end h.1)
+  may_be_kept lemmas S n (Closed P None) h = (of-book (λ q r. IsRun (problem_of q) (margins_of r) (kept_of P)) h.0.run, closed_some P.end h.1)
+  may_be_kept lemmas S n (Closed P (Some k)) h = (
+    (of-book (λ q r. IsRun (problem_of q) (margins_of r) (kept_of P)) h.0.run, closed_some P.end h.1),
+    (of-book (λ q r. IsRun (problem_of q) (margins_of r) k) h.2.1.run, h.2.1.closed),
+  )
+  may_be_kept lemmas S n (Point x) h = of-book (λ q r. IsShownAt (problem_of q) (loosenings_of (margins_of r)) x) h.shown
+
+  -- its lemmas are lemmas at these
+  pub lemmas_at : (lemmas : List LemmaModel) → AreLemmasFor (problem_in b) (loosenings_in b) lemmas → AreLemmasAt p o lemmas
+  lemmas_at lemmas h = to-parts (λ q r. AreLemmasFor (problem_of q) (loosenings_of (margins_of r)) lemmas) h
+
+-- ---- lemmas
+
+-- what a closed run begins with is a lemma
+pub lemma_holds : (b : BookModel) (k : KeptModel) → MayBeCalled b (Learn k) → (i : ℕ) (S : State) → S ≡ k.first → AreLemmasFor (problem_in b) (loosenings_in b) (record { id = i; state = S } ∷ [])
+lemma_holds b k h i S e =
+    let L : LemmaModel = record { id = i; state = S } in
+    let at : FitsProblem (problem_in b) k.first × IsLemma (problem_in b) (loosenings_in b) k.first = (h.0.sound.first, closed_is_lemma (problem_in b) (margins_of b.options) k h.0 h.1) in
+    All-cons (Holds b) L [] (subst (λ (T : State). FitsProblem (problem_in b) T × IsLemma (problem_in b) (loosenings_in b) T) (sym e) at) (All-nil (Holds b))
+
+-- a lemma more, some fewer at the front
+pub more_lemmas : (b : BookModel) (lemmas : List LemmaModel) (k : ℕ) (L : LemmaModel) → AreLemmasFor (problem_in b) (loosenings_in b) lemmas → AreLemmasFor (problem_in b) (loosenings_in b) (L ∷ []) →
+    AreLemmasFor (problem_in b) (loosenings_in b) (drop k lemmas ++ (L ∷ []))
+more_lemmas b lemmas k L h g = All-append (Holds b) (drop k lemmas) (L ∷ []) (All-drop (Holds b) k lemmas h) g
+
+pub fewer_lemmas : (b : BookModel) (lemmas : List LemmaModel) (k : ℕ) → AreLemmasFor (problem_in b) (loosenings_in b) lemmas → AreLemmasFor (problem_in b) (loosenings_in b) (drop k lemmas)
+fewer_lemmas b lemmas k h = All-drop (Holds b) k lemmas h
+
+-- the same of a list to which one was added, if there was memory
+pub pushed_lemmas : (b : BookModel) (old made new : List LemmaModel) (k : ℕ) (L : LemmaModel) (ok : Bool) → made ≡ drop k old → new ≡ (if ok then made ++ (L ∷ []) else made) →
+    AreLemmasFor (problem_in b) (loosenings_in b) old → AreLemmasFor (problem_in b) (loosenings_in b) (L ∷ []) → AreLemmasFor (problem_in b) (loosenings_in b) new
+pushed_lemmas b old made new k L true e f h g = subst (AreLemmasFor (problem_in b) (loosenings_in b)) (sym (f ∙ ap (λ (xs : List LemmaModel). xs ++ (L ∷ [])) e)) (more_lemmas b old k L h g)
+pushed_lemmas b old made new k L false e f h g = subst (AreLemmasFor (problem_in b) (loosenings_in b)) (sym (f ∙ e)) (fewer_lemmas b old k h)
+
+-- ---- histories
+
+pub history_reaches : (b b' : BookModel) (log : List (Entry Call Reply)) → IsBookHistory b log b' → Reaches b b'
+history_reaches b b' [] h = same_reaches h
+history_reaches b b' (e ∷ es) h = reaches_through (one_call b h.0 e.call e.reply h.1 h.2) (history_reaches h.0 b' es h.3)
+
+-- what follows of each value
+pub each_ok : {X E : Type 0} (P Q : X → Type 0) (r : Result X E) → ((x : X) → P x → Q x) → IfOk r P → IfOk r Q
+each_ok P Q (Ok x) f h = f x h
+each_ok P Q (Err e) f h = tt

@@ -1,0 +1,223 @@
+// One of the workers that search on a shared book.
+ghost use Rattle.std.specs.Prelude.{◌≡◌, ◌∷◌, [], false};
+ghost use Rattle.steal_pool.specs.Account.{has_left};
+ghost use Rattle.book_lock.specs.Shared.{IsOnePartSeatOf, first_of};
+ghost use Rattle.cover_book.specs.Model.{problem_in, loosenings_in};
+ghost use Rattle.cover_book.specs.Steps.{MayBeCalled};
+ghost use Rattle.cover_book.specs.declared.calls.Call.TheVariants.{Commit, Learn, Find};
+ghost use Rattle.box_worker.specs.Worked.{AreLemmasFor};
+ghost use Rattle.solve_core.specs.Workers.{IsWorkerOf, MayBeKept};
+
+use crate::gate::Gate;
+use crate::search::make_room;
+use crate::task::Task;
+use book_lock::BookSeat;
+use box_worker::{Room, Worked, work_in};
+use cover_book::{BookRefusal, Kids};
+use cover_data::{ClosedPatch, KeptPatch, Lemma, Point};
+use std::alloc::Global;
+use std::sync::Wait;
+use steal_pool::Hand;
+
+/// A hand of the pool of nodes that any worker may take, a seat at the book, the nodes that this worker keeps to
+/// itself, of which the last is the next, and the lemmas that it hands to the work on a box.
+#[derive(Drop)]
+pub struct Worker {
+    pub number: u32,
+    pub hand: Hand,
+    pub seat: BookSeat,
+    pub waiting: Vec<u32>,
+    pub lemmas: Vec<Lemma>,
+}
+
+// Whether a worker goes on after this refusal: not where a point is kept, nor where there is no memory.
+fn goes_on(refusal: &BookRefusal) -> bool {
+    !matches!(refusal, BookRefusal::PointKept(_) | BookRefusal::Memory)
+}
+
+impl Worker {
+    /// A worker that keeps no node yet.
+    pub fn new(alloc: Global, number: u32, hand: Hand, seat: BookSeat) -> Worker
+        ensures hand { result.hand ≡ hand }
+        ensures seat { result.seat ≡ seat }
+        ensures lemmas { result.lemmas.items ≡ [] }
+    {
+        Worker {
+            number,
+            hand,
+            seat,
+            waiting: Vec::new(alloc),
+            lemmas: Vec::new(alloc),
+        }
+    }
+
+    // The next node: the last one that it keeps to itself, else one that its hand finds.
+    fn next<R: Wait>(&mut self, rt: &R) -> Option<u32>
+        requires { has_left self.old.hand ≡ false }
+        ensures stays { has_left self.new.hand ≡ false }
+        ensures seat { self.new.seat ≡ self.old.seat }
+        ensures lemmas { self.new.lemmas ≡ self.old.lemmas }
+    {
+        match self.waiting.pop() {
+            Some(node) => Some(node),
+            None => self.hand.next(rt),
+        }
+    }
+
+    // Offers the oldest node that waits to all workers, unless one is on offer already. Whether there was memory.
+    fn offer(&mut self) -> bool
+        requires { has_left self.old.hand ≡ false }
+        ensures stays { has_left self.new.hand ≡ false }
+        ensures seat { self.new.seat ≡ self.old.seat }
+        ensures lemmas { self.new.lemmas ≡ self.old.lemmas }
+    {
+        if self.waiting.len() < 2 || !self.hand.looks_empty() {
+            return true;
+        }
+        let oldest = self.waiting.remove(0);
+        match self.hand.push(oldest) {
+            Ok(()) => true,
+            Err(node) => self.waiting.push(node).is_ok(),
+        }
+    }
+
+    // Keeps the two parts of a box for later, the lower one in front. Whether there was memory.
+    fn keep(&mut self, lower: u32, upper: u32) -> bool
+        requires { has_left self.old.hand ≡ false }
+        ensures stays { has_left self.new.hand ≡ false }
+        ensures seat { self.new.seat ≡ self.old.seat }
+        ensures lemmas { self.new.lemmas ≡ self.old.lemmas }
+    {
+        self.waiting.push(upper).is_ok() && self.waiting.push(lower).is_ok() && self.offer()
+    }
+
+    // Commits the patch to the node, whose parts wait then. Whether the worker goes on.
+    fn commit<R: Wait>(&mut self, rt: &R, task: &Task, node: u32, patch: KeptPatch) -> bool
+        requires worker { IsWorkerOf task.now.shared.now self.old }
+        requires meets { MayBeCalled (first_of task.now.shared.now) (Commit node patch) }
+        ensures { IsWorkerOf task.now.shared.now self.new }
+    {
+        match task.shared.commit(rt, &mut self.seat, node, patch) {
+            Ok(Kids::Two(lower, upper)) => self.keep(lower, upper),
+            Ok(Kids::None) => true,
+            Err(refusal) => goes_on(&refusal),
+        }
+    }
+
+    // Hands the lemma to the work on later boxes. Whether there was memory.
+    fn remember(&mut self, task: &Task, lemma: Lemma) -> bool
+        requires worker { IsWorkerOf task.now.shared.now self.old }
+        requires usable { let b = first_of task.now.shared.now in
+            AreLemmasFor (problem_in b) (loosenings_in b) (lemma ∷ []) }
+        ensures { IsWorkerOf task.now.shared.now self.new }
+    {
+        let _ = task;
+        make_room(&mut self.lemmas);
+        match self.lemmas.push(lemma) {
+            Ok(()) => true,
+            Err(_) => false,
+        }
+    }
+
+    // Keeps the first state of the closed patch as a lemma where lemmas are learned. Whether the worker goes on.
+    fn learn<R: Wait>(&mut self, rt: &R, alloc: Global, task: &Task, closed: ClosedPatch) -> bool
+        requires worker { IsWorkerOf task.now.shared.now self.old }
+        requires meets { MayBeCalled (first_of task.now.shared.now) (Learn closed) }
+        ensures { IsWorkerOf task.now.shared.now self.new }
+    {
+        if !task.learns {
+            return true;
+        }
+        let Ok(state) = closed.kept().first.try_clone(alloc) else {
+            return false;
+        };
+        match task.shared.learn(rt, &mut self.seat, closed) {
+            Ok(id) => self.remember(task, Lemma::new(id, state)),
+            Err(refusal) => goes_on(&refusal),
+        }
+    }
+
+    // Keeps the point that was found at the node, with which the search is over.
+    fn find<R: Wait>(&mut self, rt: &R, task: &Task, node: u32, point: Point)
+        requires worker { IsWorkerOf task.now.shared.now self.old }
+        requires meets { MayBeCalled (first_of task.now.shared.now) (Find node point) }
+        ensures { IsWorkerOf task.now.shared.now self.new }
+    {
+        let _ = task.shared.found(rt, &mut self.seat, node, point);
+    }
+
+    // Has the book keep what came of the work on the node. Whether the worker goes on.
+    fn settle<R: Wait>(
+        &mut self,
+        rt: &R,
+        alloc: Global,
+        task: &Task,
+        node: u32,
+        worked: Worked,
+    ) -> bool
+        requires worker { IsWorkerOf task.now.shared.now self.old }
+        requires work { MayBeKept (first_of task.now.shared.now) node worked }
+        ensures { IsWorkerOf task.now.shared.now self.new }
+    {
+        match worked {
+            Worked::Point(point) => {
+                self.find(rt, task, node, point);
+                false
+            }
+            Worked::Patch(patch) => self.commit(rt, task, node, patch),
+            Worked::Closed(patch, lesson) => {
+                if !self.commit(rt, task, node, patch) {
+                    return false;
+                }
+                match lesson {
+                    Some(closed) => self.learn(rt, alloc, task, closed),
+                    None => true,
+                }
+            }
+        }
+    }
+
+    // Works on a node in this room, and has the book keep what comes of it. Whether the worker goes on.
+    fn visit<R: Wait>(
+        &mut self,
+        rt: &R,
+        alloc: Global,
+        room: &mut Room,
+        task: &Task,
+        node: u32,
+    ) -> bool
+        requires { IsWorkerOf task.now.shared.now self.old }
+        ensures { IsWorkerOf task.now.shared.now self.new }
+    {
+        let state = match task.shared.state_of(rt, &mut self.seat, node) {
+            Ok(state) => state,
+            Err(refusal) => return goes_on(&refusal),
+        };
+        match work_in(alloc, room, task.problem, task.options, state, &self.lemmas) {
+            Ok(worked) => self.settle(rt, alloc, task, node, worked),
+            Err(_) => false,
+        }
+    }
+
+    /// Works on node after node, until all hands rest, a point is kept or memory runs out. What this worker keeps to
+    /// itself then stays live in the book.
+    pub fn run<R: Wait, G: Gate>(&mut self, rt: &R, alloc: Global, task: &Task, gate: &G)
+        requires { IsWorkerOf task.now.shared.now self.old }
+        ensures { IsOnePartSeatOf task.now.shared.now self.new.seat }
+    {
+        let mut room = Room::new();
+        for _ in rt.forever() {
+            let Some(node) = self.next(rt) else {
+                return;
+            };
+            gate.began(self.number, node);
+            let goes_on = self.visit(rt, alloc, &mut room, task, node);
+            gate.ended(self.number, node);
+            if !goes_on {
+                self.hand.leave();
+                return;
+            }
+        }
+        unreachable!()
+    }
+}
