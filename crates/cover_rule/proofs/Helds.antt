@@ -10,7 +10,7 @@ use Rattle.ival.specs.declared.domain.Truths.TheVariants.{False as only_false, T
 use Rattle.ival.specs.declared.space.Space.{Space as CodeSpace}
 use Rattle.ival.specs.SpaceViews.{domain_of, space_of}
 use Rattle.poly_graph.specs.Problem.{Declared, real_between, any_bool, Axis}
-use Rattle.poly_graph.specs.ProblemViews.{Parts, problem_of, IsWhole}
+use Rattle.poly_graph.specs.ProblemViews.{Parts, IsWhole}
 use Rattle.cover_model.specs.State.{State, IsLemma, in_yes, undecided, with_yes, with_no, with_space, may, covers}
 use Rattle.poly_graph.specs.Marks.{marked_yes, marked_no}
 use Rattle.cover_model.specs.Rules.{Line, pull, unit, ban, void, make_false, by, cut, flip, case, stuck, Left, closed, one, stays, when, pulled, voided, covers_by, is_stuck_atom, rule}
@@ -21,7 +21,7 @@ use Rattle.cover_rule.specs.declared.refusal.PatchRefusal.{PatchRefusal}
 use Rattle.cover_rule.specs.declared.refusal.PatchRefusal.TheVariants.{NotYes, NotForced, NotCovered, NotFalse, NotInside, NotStuck, NotHonest, Ended, IsVoid, Decided, Memory}
 use Rattle.cover_data.specs.Models.{LemmaModel}
 use Rattle.cover_rule.specs.Models.{PatchModel}
-use Rattle.cover_data.specs.Runs.{is_closing, CanPart, IsEnding, IsRun}
+use Rattle.cover_data.specs.Runs.{is_closing, CanPart, IsEnding}
 use Rattle.cover_rule.specs.Patch.{problem_in, loosenings_in, now_in, IsRunOf, narrowing_in, space_or}
 use Rattle.cover_rule.specs.Refusals.{PullIfLessStep, unless, then_by, if_ended, honestly, pull_refusal, pulled_by, unit_refusal, forced_by, ban_refusal, banned_by, void_refusal, false_refusal, by_refusal, ended_with, covered_by, flip_refusal, case_refusal, stuck_refusal, cut_line, cut_test, cut_refusal, ended_if, cut_by, PatchAnswer}
 use Rattle.cover_rule.proofs.RunSteps.{run_steps, run_ends, kept_before, lemmas_and, alone, kept_alone, sound_alone, no_lemmas}
