@@ -10,7 +10,7 @@ use Rattle.ival.specs.declared.domain.Truths.TheVariants.{False as only_false, T
 use Rattle.ival.specs.declared.space.Space.{Space as CodeSpace}
 use Rattle.ival.specs.SpaceViews.{domain_of, space_of}
 use Rattle.poly_graph.specs.Problem.{Declared, real_between, any_bool, Axis}
-use Rattle.poly_graph.specs.ProblemViews.{Parts, problem_of, IsWhole}
+use Rattle.poly_graph.specs.ProblemViews.{Parts, IsWhole}
 use Rattle.cover_model.specs.State.{State, IsLemma, in_yes, undecided, with_yes, with_no, with_space, may, covers}
 use Rattle.poly_graph.specs.Marks.{marked_yes, marked_no}
 use Rattle.cover_model.specs.Rules.{Line, pull, unit, ban, void, push, void_no, make_false, by, cut, flip, case, stuck, Left, closed, one, stays, when, pulled, voided, covers_by, in_no_one_sided, is_stuck_atom, rule}

@@ -1,5 +1,5 @@
 -- What is known of a space.
-use Rattle.std.proofs.Common.{◌≡◌, ◌≢◌, ℕ, ◌<◌, ◌≤◌, arith, List, Bool, true, false, not, length, get_or, set, get_or-set_other, ⊎_elim, Option, refl, ap, sym, subst, ◌∙◌, true≢false}
+use Rattle.std.proofs.Common.{◌≡◌, ◌≢◌, ℕ, ◌<◌, ◌≤◌, arith, List, Bool, true, false, not, length, get_or, set, get_or-set_other, ⊎_elim, refl, ap, sym, subst, ◌∙◌, true≢false}
 use Rattle.std.proofs.lemmas.Bool.{cases_eq, cases_lt}
 use Rattle.std.proofs.lemmas.List.{length-map, get_or_past}
 use Rattle.interval_model.specs.Interval.{nothing}
@@ -23,7 +23,7 @@ use Rattle.cover_data.specs.Margins.{loosenings_of}
 use Rattle.ival.specs.declared.narrowed.Narrowed.{Narrowed}
 use Rattle.ival.specs.declared.narrowed.Narrowed.TheVariants.{Same, Less, Empty}
 use Rattle.ival.specs.Narrows.{IsNarrowed}
-use Rattle.cover_rule.specs.Serves.{IsKnown, leaves_some, sure_at_middle}
+use Rattle.cover_rule.specs.Serves.{IsKnown, leaves_some}
 
 -- nothing
 pub nothing_known : (p : Parts) (m : Margins) (space : Space) (leaves : List Bool) (unsure : Bool) → ((j : ℕ) → get_or leaves j false ≡ false) → unsure ≡ false → IsKnown p m space leaves unsure

@@ -1,5 +1,5 @@
 -- Rows, marks and spaces that serve work on a state, and what is known of its space.
-use Rattle.std.specs.Prelude.{◌≡◌, ℕ, ◌<◌, ◌^◌, [], List, Bool, true, false, length, vec_len, IsTrue, slice_index_or}
+use Rattle.std.specs.Prelude.{◌≡◌, ℕ, ◌<◌, ◌^◌, [], List, Bool, true, false, length, vec_len, slice_index_or}
 use Rattle.interval_model.specs.Space.{Space, middle}
 use Rattle.cover_model.specs.Narrowed.{enclosures}
 use Rattle.cover_model.specs.State.{state_of, sure}
