@@ -19,4 +19,6 @@ mod points;
 #[cfg(test)]
 mod shared;
 #[cfg(test)]
+mod shared_books;
+#[cfg(test)]
 mod tests;

@@ -102,7 +102,7 @@ fn refused_numbers(rt: HostRuntime) -> Result<(), Fail> {
         "dpoly solve s c --bound 0",
         "dpoly solve s c --bound 4294967296",
         "dpoly solve s c --workers 0",
-        "dpoly solve s c --workers 2",
+        "dpoly solve s c --workers 65",
         "dpoly solve s c --workers=",
         "dpoly solve s c --workers one",
         "dpoly solve s c --workers 1.0",
@@ -115,7 +115,7 @@ fn refused_numbers(rt: HostRuntime) -> Result<(), Fail> {
         "dpoly demo -1 1 c",
         "dpoly demo 18446744073709551616 1 c",
         "dpoly demo 1 1 c --workers 0",
-        "dpoly demo 1 1 c --workers 2",
+        "dpoly demo 1 1 c --workers 65",
     ];
     for line in lines {
         assert!(rt; is_refused(alloc, line)?);
@@ -147,7 +147,7 @@ fn solve_is_asked(rt: HostRuntime) -> Result<(), Fail> {
         margin_bits: 60,
         least_bits: 60,
         budget: 1048576,
-        workers: 1,
+        workers: 64,
         bound: Some(4294967295),
     };
     let mixed = Options {
@@ -169,7 +169,7 @@ fn solve_is_asked(rt: HostRuntime) -> Result<(), Fail> {
     assert!(rt;
         solves(
             alloc,
-            "dpoly solve --workers=1 --bound=4294967295 s --budget=1048576 --least-bits=60 c --margin-bits=60 --delta-bits=30",
+            "dpoly solve --workers=64 --bound=4294967295 s --budget=1048576 --least-bits=60 c --margin-bits=60 --delta-bits=30",
             most
         )?
     );
@@ -227,12 +227,12 @@ fn check_and_demo_are_asked(rt: HostRuntime) -> Result<(), Fail> {
         seed: 18446744073709551615,
         size: 10000,
         cert: "c",
-        options: usual_options(1),
+        options: usual_options(64),
     };
     assert!(rt;
         asks(
             alloc,
-            "dpoly demo 18446744073709551615 10000 c --workers 1",
+            "dpoly demo 18446744073709551615 10000 c --workers 64",
             Asked::Demo(last)
         )?
     );

@@ -14,6 +14,7 @@ use ival::Space;
 use poly_graph::{FormGraph, FormNode, Graph, Lits, NoNode, Problem};
 use std::alloc::Global;
 use std::sync::Wait;
+use std::sync::atomic::{AtomicU64, Ordering};
 use std::test::Fail;
 use std::thread::{Threads, for_each_mut};
 
@@ -142,6 +143,85 @@ fn each_call_of_each_thread_is_in_the_book(rt: HostRuntime) -> Result<(), Fail> 
         let book = learned(&rt, alloc, threads, count)?;
         assert_eq!(rt; book.lemmas().len(), (threads * count) as usize);
     }
+    Ok(())
+}
+
+// Learns one lemma, and adds 100 and its number to the sum.
+fn learn_one<R: Wait>(
+    rt: &R,
+    alloc: Global,
+    shared: &SharedBook,
+    seat: &mut BookSeat,
+    problem: &Problem,
+    margins: &Margins,
+    sum: &AtomicU64,
+)
+    requires tried { IsTried (first_of shared.now) problem.now margins.now }
+    requires seat { IsOnePartSeatOf shared.now seat.old }
+    ensures { IsOnePartSeatOf shared.now seat.new }
+{
+    if let Some(patch) = closing(alloc, problem, margins) {
+        if let Ok(id) = shared.learn(rt, seat, patch) {
+            sum.fetch_add(100 + u64::from(id), Ordering::SeqCst);
+        }
+    }
+}
+
+// Two threads learn a lemma each.
+fn learn_two<R: Threads + Wait + Sync>(
+    rt: &R,
+    alloc: Global,
+    shared: &SharedBook,
+    seats: &mut [BookSeat],
+    problem: &Problem,
+    margins: &Margins,
+    sum: &AtomicU64,
+)
+    requires tried { IsTried (first_of shared.now) problem.now margins.now }
+    requires seats { All (IsOnePartSeatOf shared.now) seats.old }
+    ensures { All (IsOnePartSeatOf shared.now) seats.new }
+{
+    for_each_mut(
+        rt,
+        seats,
+        2,
+        &|_, seat| learn_one(rt, alloc, shared, seat, problem, margins, sum),
+    );
+}
+
+// The book in which two threads have learned a lemma each.
+fn learned_by_two<R: Threads + Wait + Sync>(
+    rt: &R,
+    alloc: Global,
+    sum: &AtomicU64,
+) -> Result<Book, Fail> {
+    let problem = problem(alloc)?;
+    let margins = OPTIONS.margins();
+    let book = Book::new(alloc, problem.try_clone(alloc)?, OPTIONS)?;
+    let Ok((shared, mut lead)) = SharedBook::share(alloc, book, 3) else {
+        return Err(Fail::from("no memory"));
+    };
+    let mut seats = shared.split_seats(alloc, &mut lead, 2)?;
+    learn_two(
+        rt,
+        alloc,
+        &shared,
+        seats.as_mut_slice(),
+        &problem,
+        &margins,
+        sum,
+    );
+    shared.join_seats(&mut lead, seats);
+    Ok(shared.close(lead))
+}
+
+// The numbers are 0 and 1, in some order.
+#[test]
+fn lemmas_of_two_threads_have_numbers_of_their_own(rt: HostRuntime) -> Result<(), Fail> {
+    let sum = AtomicU64::new(0);
+    let book = learned_by_two(&rt, rt.alloc(), &sum)?;
+    assert_eq!(rt; book.lemmas().len(), 2);
+    assert_eq!(rt; sum.load(Ordering::SeqCst), 201);
     Ok(())
 }
 
