@@ -1,6 +1,7 @@
+use Rattle.std.proofs.Common.{subst}
 use Rattle.cover_rule.specs.Models.{PatchModel}
 use Rattle.cover_rule.specs.Patch.{narrowing_in}
-use Rattle.cover_rule.specs.Refusals.{pull_refusal, pulled_by}
+use Rattle.cover_rule.specs.Refusals.{pull_refusal, pulled_by, PullIfLessStep}
 use Rattle.cover_rule.specs.Held.{patch_of}
 use Rattle.cover_rule.proofs.Helds.{held_with, run_if_less, run_pulled}
 use Rattle.cover_rule.proofs.patch.Patch.pull_if_less.Goals as goal
@@ -12,3 +13,8 @@ invariant_of-self c =
     held_with p i.margins k k' i.work c.pull_if_less.new.work h
     (run_if_less (narrowing_in P c.args.j) (pull_refusal P c.args.j) P (pulled_by P c.args.j) Q r c.pull_if_less.ensures.answer h.run (λ f e. run_pulled P h.whole h.run c.args.j f e) c.pull_if_less.ensures.fits)
     c.pull_if_less.ensures.ready
+
+pub returns : goal.returns
+returns c =
+    let i = c.self.inside in
+    subst (λ (X : PatchModel). PullIfLessStep X c.args.j (patch_of i.problem.now i.margins c.pull_if_less.new.kept) c.pull_if_less.result) c.self.view_is c.pull_if_less.ensures.answer

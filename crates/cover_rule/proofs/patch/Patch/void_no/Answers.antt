@@ -14,4 +14,4 @@ invariant_of-self c =
     let P : PatchModel = patch_of p i.margins k in let Q : PatchModel = patch_of p i.margins k' in
     held_with p i.margins k k' i.work c.void_no.new.work h
     (run_after (void_no_refusal P c.args.j) P (ended_with P (void_no c.args.j)) Q r (c.void_no.ensures.answer) h.run (any_ok (void_no_refusal P c.args.j ≡ None → IsRunOf (ended_with P (void_no c.args.j))) r (λ e. run_voided_no P h.whole h.run c.args.j e)))
-    (still_ready p k k' c.void_no.new.work (ap (λ (S : State). S.space) c.void_no.ensures.reached) c.void_no.ensures.ready)
+    (still_ready p i.margins k k' c.void_no.new.work (ap (λ (S : State). S.space) c.void_no.ensures.reached) c.void_no.ensures.ready)
