@@ -1,9 +1,9 @@
-use Rattle.std.proofs.Common.{◌≡◌, ap, None}
+use Rattle.std.proofs.Common.{◌≡◌, ap, subst, None}
 use Rattle.cover_model.specs.State.{State}
 use Rattle.cover_model.specs.Rules.{void_no}
 use Rattle.cover_rule.specs.Patch.{IsRunOf}
 use Rattle.cover_rule.specs.Models.{PatchModel}
-use Rattle.cover_rule.specs.Refusals.{void_no_refusal, ended_with}
+use Rattle.cover_rule.specs.Refusals.{void_no_refusal, ended_with, VoidNoEnd}
 use Rattle.cover_rule.specs.Held.{patch_of}
 use Rattle.cover_rule.proofs.Helds.{run_after, any_ok, held_with, still_ready, run_voided_no}
 use Rattle.cover_rule.proofs.patch.Patch.void_no.Goals as goal
@@ -15,3 +15,8 @@ invariant_of-self c =
     held_with p i.margins k k' i.work c.void_no.new.work h
     (run_after (void_no_refusal P c.args.j) P (ended_with P (void_no c.args.j)) Q r (c.void_no.ensures.answer) h.run (any_ok (void_no_refusal P c.args.j ≡ None → IsRunOf (ended_with P (void_no c.args.j))) r (λ e. run_voided_no P h.whole h.run c.args.j e)))
     (still_ready p i.margins k k' c.void_no.new.work (ap (λ (S : State). S.space) c.void_no.ensures.reached) c.void_no.ensures.ready)
+
+pub returns : goal.returns
+returns c =
+    let i = c.self.inside in
+    subst (λ (X : PatchModel). VoidNoEnd X c.args.j (patch_of i.problem.now i.margins c.void_no.new.kept) c.void_no.result) c.self.view_is c.void_no.ensures.answer
