@@ -21,7 +21,7 @@ use Rattle.cover_rule.specs.declared.refusal.PatchRefusal.{PatchRefusal}
 use Rattle.cover_rule.specs.declared.refusal.PatchRefusal.TheVariants.{NotYes, NotForced, NotCovered, NotFalse, NotInside, NotStuck, NotHonest, Ended, IsVoid, Decided, NotNo, Memory}
 use Rattle.cover_data.specs.Models.{LemmaModel}
 use Rattle.cover_rule.specs.Models.{PatchModel}
-use Rattle.cover_data.specs.Runs.{is_closing, CanPart, IsEnding, IsRun}
+use Rattle.cover_data.specs.Runs.{is_closing, CanPart, IsEnding}
 use Rattle.cover_rule.specs.Patch.{problem_in, loosenings_in, now_in, IsRunOf, narrowing_in, narrowing_off_in, space_or}
 use Rattle.cover_rule.specs.Refusals.{IfLessStep, unless, then_by, if_ended, honestly, pull_refusal, pulled_by, push_refusal, pushed_by, void_no_refusal, unit_refusal, forced_by, ban_refusal, banned_by, void_refusal, false_refusal, by_refusal, ended_with, covered_by, flip_refusal, case_refusal, stuck_refusal, cut_line, cut_test, cut_refusal, ended_if, cut_by, PatchAnswer}
 use Rattle.cover_rule.proofs.RunSteps.{run_steps, run_ends, kept_before, lemmas_and, alone, kept_alone, sound_alone, no_lemmas}

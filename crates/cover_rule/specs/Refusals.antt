@@ -3,7 +3,7 @@ use Rattle.std.specs.Prelude.{◌≡◌, ◌≢◌, ◌<◌, ℕ, zero, suc, [],
 use Rattle.dyadic.specs.Fraction.{Fraction, at_most, difference_of}
 use Rattle.dyadic.specs.Rounding.{Dyadic, exact, two_to_minus, mid}
 use Rattle.interval_model.specs.Space.{Domain, real_domain, bool_domain, Space, test_axis, strictly_inside, is_undecided, widest}
-use Rattle.cover_model.specs.State.{State, in_yes, undecided, with_yes, with_no, with_space, may, covers}
+use Rattle.cover_model.specs.State.{in_yes, undecided, with_yes, with_no, with_space, may, covers}
 use Rattle.cover_model.specs.Rules.{Line, pull, unit, ban, void, push, void_no, make_false, by, cut, flip, case, stuck, in_no_one_sided, is_stuck_atom}
 use Rattle.cover_model.specs.Honest.{is_honest, is_wide, is_middle_at, is_small, is_some_space}
 use Rattle.cover_rule.specs.declared.refusal.PatchRefusal.{PatchRefusal}
