@@ -2,6 +2,7 @@
 ; B = x^2 + y^2 - 1 has to fall along the flow wherever B = 0. The script asks for a point where it does not.
 ; unsat means: no trajectory leaves the disc of radius 1.
 ; answer: unsat
+; splits: 12
 (set-logic QF_NRA)
 (declare-const x Real)
 (declare-const y Real)

@@ -2,6 +2,7 @@
 ; between a gear that accelerates (only up to 15 m/s) and one that slows down. Can it go faster than 18 m/s?
 ; Each step adds at most half a second times 4 - 0.004 v^2.
 ; answer: unsat
+; splits: 6
 (set-logic QF_NRA)
 (declare-const v0 Real)
 (declare-const v1 Real)

@@ -2,6 +2,7 @@
 ; Each step has its own constants, p for the stock and h for the mode.
 ; unsat means: it stays above 0.5 in each of the six steps, from every start between 0.7 and 0.75.
 ; answer: unsat
+; splits: 20
 (set-logic QF_NRA)
 (declare-const p0 Real)
 (declare-const h0 Bool)

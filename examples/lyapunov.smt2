@@ -2,6 +2,7 @@
 ; V = 3/2 x^2 + x y + y^2, is there a point of the ring 1/16 <= V <= 1/4 at which V does not fall?
 ; unsat means: V falls everywhere in the ring, so trajectories that begin inside V <= 1/4 reach V <= 1/16.
 ; answer: unsat
+; splits: 100
 (set-logic QF_NRA)
 (declare-const x Real)
 (declare-const y Real)

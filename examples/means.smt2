@@ -1,6 +1,7 @@
 ; The inequality of the arithmetic and the geometric mean of three numbers: x^3 + y^3 + z^3 >= 3xyz for numbers that
 ; are not negative. The script asks for a counterexample by at least 1/4.
 ; answer: unsat
+; splits: 250
 (set-logic QF_NRA)
 (declare-const x Real)
 (declare-const y Real)

@@ -1,5 +1,6 @@
 ; The script of wide.smt2 with the default least width of 2^-20: boxes are cut until each is seen to hold no point.
 ; answer: unsat
+; splits: 1100
 (set-logic QF_NRA)
 (declare-const x Real)
 (declare-const y Real)

@@ -1,5 +1,6 @@
 ; The script of near_miss.smt2 with the default delta of 2^-10 and margin of 2^-20: no point satisfies it.
 ; answer: unsat
+; splits: 4000
 (set-logic QF_NRA)
 (declare-const x Real)
 (declare-const y Real)

@@ -1,6 +1,7 @@
 ; Three jobs of lengths 3, 4 and 5 on one machine: for each two of them a Bool says which comes first. All are to be
 ; done by time 11. unsat: they need 12 together.
 ; answer: unsat
+; splits: 4
 (set-logic QF_LRA)
 (declare-const a Real)
 (declare-const b Real)

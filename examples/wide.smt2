@@ -2,6 +2,7 @@
 ; the atom that stands in the way. narrow.smt2 is the same script with the default least width, which decides it.
 ; options: --least-bits 2
 ; answer: unknown width
+; splits: 20
 (set-logic QF_NRA)
 (declare-const x Real)
 (declare-const y Real)
