@@ -18,6 +18,7 @@
 #include <stdio.h>
 #include <stdlib.h>
 #include <string.h>
+#include <sys/syscall.h>
 #include <unistd.h>
 
 extern void *__libc_malloc(size_t size);
@@ -67,7 +68,15 @@ __attribute__((destructor)) static void end(void)
     length = snprintf(line, sizeof line, "calls %ld %ld %ld\n", (long)refused, (long)calls, (long)outside);
     file = open(log_path, O_WRONLY | O_CREAT | O_TRUNC, 0600);
     if (file >= 0 && write(file, line, (size_t)length) < 0)
-        _exit(99);
+        syscall(SYS_exit_group, 99);
+}
+
+/* A program that may start threads ends by this call, which runs no destructors. */
+void _exit(int status)
+{
+    end();
+    syscall(SYS_exit_group, status);
+    __builtin_unreachable();
 }
 
 static int is_refused(void *caller)
