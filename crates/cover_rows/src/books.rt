@@ -20,7 +20,7 @@ use std::alloc::Global;
 
 // Why a book refuses: states and points are said by lines of a certificate.
 #[derive(Clone, Copy)]
-pub(crate) enum Refused {
+enum Refused {
     NotOpen(u32),
     Elsewhere(&'static [&'static str]),
     Unknown(u32, u32),
@@ -29,7 +29,7 @@ pub(crate) enum Refused {
 }
 
 // Whether the book refuses for this cause.
-pub(crate) fn is_refused(alloc: Global, refusal: &BookRefusal, expected: Refused) -> bool {
+fn is_refused(alloc: Global, refusal: &BookRefusal, expected: Refused) -> bool {
     match (refusal, expected) {
         (BookRefusal::NotOpen(node), Refused::NotOpen(said)) => *node == said,
         (BookRefusal::OtherState(state), Refused::Elsewhere(lines)) => {
@@ -49,12 +49,12 @@ pub(crate) fn is_refused(alloc: Global, refusal: &BookRefusal, expected: Refused
 // A patch that is committed to a node: the number of the lemma that it may quote, the state in which it begins, its
 // lines with what they are answered, and what the book answers.
 #[derive(Clone, Copy)]
-pub(crate) struct Commit {
-    pub(crate) node: u32,
+struct Commit {
+    node: u32,
     quotes: Option<u32>,
     state: &'static [&'static str],
     lines: &'static [(&'static str, Answer)],
-    pub(crate) reply: Result<Kids, Refused>,
+    reply: Result<Kids, Refused>,
 }
 
 // What is kept of a patch that has ended.
@@ -66,7 +66,7 @@ fn ended(patch: Patch<'_>) -> Option<KeptPatch>
 }
 
 // What is kept of the patch that begins in the state and goes by the lines, of which the last ends it.
-pub(crate) fn worked(
+fn worked(
     alloc: Global,
     book: &Book,
     lemma: Option<&Lemma>,
@@ -84,7 +84,7 @@ pub(crate) fn worked(
 }
 
 // The same of a commit, where a lemma may be quoted.
-pub(crate) fn kept(alloc: Global, book: &Book, commit: Commit) -> Option<KeptPatch>
+fn kept(alloc: Global, book: &Book, commit: Commit) -> Option<KeptPatch>
     ensures { IfSome result (λ k. IsRun (problem_in book.now) (margins_of book.now.options) (kept_of k) × IsSome k.end) }
 {
     match commit.quotes {
@@ -158,7 +158,7 @@ fn ends_in_lemma(alloc: Global, book: &Book, id: u32, lines: &[&str]) -> bool {
 }
 
 // Whether the book says this, and is written as this certificate, which is confirmed so.
-pub(crate) fn is_written(
+fn is_written(
     alloc: Global,
     book: &Book,
     said: BookVerdict,
@@ -194,9 +194,9 @@ fn is_found(
 
 // ---- x * y - y * x = 1/8
 
-pub(crate) const ROOT: [&str; 2] = ["real -1b-1 1b-1", "real -1b-1 1b-1"];
+const ROOT: [&str; 2] = ["real -1b-1 1b-1", "real -1b-1 1b-1"];
 
-pub(crate) const LOWER: [&str; 3] = ["real -1b-1 0", "real -1b-1 1b-1", "yes 0 1 2 3 4"];
+const LOWER: [&str; 3] = ["real -1b-1 0", "real -1b-1 1b-1", "yes 0 1 2 3 4"];
 
 const CUT: [(&str, Answer); 6] = [
     ("unit 0", DONE),
@@ -207,7 +207,7 @@ const CUT: [(&str, Answer); 6] = [
     ("cut 0 0", DONE),
 ];
 
-pub(crate) const BRANCH: [Commit; 4] = [
+const BRANCH: [Commit; 4] = [
     Commit {
         node: 0,
         quotes: None,
@@ -239,7 +239,7 @@ pub(crate) const BRANCH: [Commit; 4] = [
 ];
 
 // A branch, with a lemma of its own that nothing quotes.
-pub(crate) const OPEN_BRANCH: &str = "dpoly 2
+const OPEN_BRANCH: &str = "dpoly 2
 margin 20
 delta 10
 bound none

@@ -19,6 +19,4 @@ mod points;
 #[cfg(test)]
 mod shared;
 #[cfg(test)]
-mod shared_books;
-#[cfg(test)]
 mod tests;
