@@ -71,8 +71,9 @@ def main():
             counts = text[text.index('\n; ') + 3:].split('\n')[0].split()
             boxes = int(counts[counts.index('boxes') + 1])
             if plain >= 0.05 and answer != 'delta-sat':
-                solve_ratios.append(solve / plain)
-                check_ratios.append(check / plain)
+                # the clock counts in hundredths of a second
+                solve_ratios.append(max(solve, 0.01) / plain)
+                check_ratios.append(max(check, 0.01) / plain)
             print('| %s | %s | %d | %d | %.2f | %d | %.2f | %d | %.2f | %d |' % (
                 name, answer, branches, len(lines), solve, solve_kb, check, check_kb, plain, boxes), flush=True)
     if solve_ratios:

@@ -1,6 +1,6 @@
 ; The arm of robot_arm.smt2 can't reach the point (1.5, 1.5), whose distance is more than both links together.
 ; answer: unsat
-; splits: 16
+; splits: 5
 (set-logic QF_NRA)
 (declare-const c1 Real)
 (declare-const s1 Real)

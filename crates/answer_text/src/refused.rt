@@ -48,5 +48,7 @@ fn failed_rule(rule: Rule) -> &'static str
         Rule::Case => "3 RuleFails case",
         Rule::Open => "3 RuleFails open",
         Rule::Stuck => "3 RuleFails stuck",
+        Rule::Combine => "3 RuleFails comb",
+        Rule::VoidCombine => "3 RuleFails voidcomb",
     }
 }

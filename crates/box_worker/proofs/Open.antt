@@ -1,5 +1,5 @@
 -- Steps leave a patch open.
-use Rattle.std.proofs.Common.{◌≡◌, ◌⊎◌, inl, inr, ℕ, Bool, true, false, List, [], ◌∷◌, ◌++◌, Option, sym, subst}
+use Rattle.std.proofs.Common.{◌≡◌, ◌⊎◌, inl, inr, Bool, true, false, List, [], ◌∷◌, ◌++◌, Option, sym, subst}
 use Rattle.std.specs.Prelude.{Contains, Result, Ok, Err}
 use Rattle.std.proofs.lemmas.List.Elements.{All-push}
 use Rattle.poly_graph.specs.ProblemViews.{Parts}
@@ -7,7 +7,7 @@ use Rattle.interval_model.specs.Space.{Space}
 use Rattle.cover_model.specs.State.{State}
 use Rattle.cover_data.specs.declared.margins.Margins.{Margins}
 use Rattle.cover_rule.specs.declared.refusal.PatchRefusal.{PatchRefusal}
-use Rattle.cover_rule.specs.declared.refusal.PatchRefusal.TheVariants.{NotYes, NotForced, NotCovered, NotFalse, NotInside, NotStuck, NotHonest, Ended, IsVoid, Decided, NotNo, Memory}
+use Rattle.cover_rule.specs.declared.refusal.PatchRefusal.TheVariants.{NotYes, NotForced, NotCovered, NotFalse, NotInside, NotStuck, NotHonest, Ended, IsVoid, Decided, NotNo, NotCombinable, Memory}
 use Rattle.cover_data.specs.Models.{LemmaModel}
 use Rattle.cover_rule.specs.Models.{PatchModel}
 use Rattle.cover_rule.specs.Refusals.{PatchAnswer, IfLessStep}
@@ -26,6 +26,7 @@ done-or-same refusal P done Q (Err Ended) a = inr a.1
 done-or-same refusal P done Q (Err IsVoid) a = inr a.1
 done-or-same refusal P done Q (Err Decided) a = inr a.1
 done-or-same refusal P done Q (Err NotNo) a = inr a.1
+done-or-same refusal P done Q (Err NotCombinable) a = inr a.1
 done-or-same refusal P done Q (Err Memory) a = inr a.1
 
 pub still_open : (refusal : Option PatchRefusal) (P done Q : PatchModel) (r : Result (Unit {0}) PatchRefusal) → PatchAnswer refusal P done Q r →

@@ -7,7 +7,7 @@ use Rattle.poly_graph.specs.ProblemViews.{Parts, problem_of}
 use Rattle.interval_model.specs.Space.{Space, middle}
 use Rattle.cover_model.specs.State.{State, covers, may, sure}
 use Rattle.cover_model.specs.Honest.{not_shown}
-use Rattle.cover_model.specs.Rules.{Line, pull, unit, ban, void, push, void_no, make_false, by, cut, flip, case, open_line, stuck}
+use Rattle.cover_model.specs.Rules.{Line, pull, unit, ban, void, push, void_no, combine, void_combine, make_false, by, cut, flip, case, open_line, stuck}
 use Rattle.cover_model.specs.Fits.{IsShownAt}
 use Rattle.poly_graph.proofs.Bools.{not_both}
 use Rattle.cover_data.specs.declared.margins.Margins.{Margins}
@@ -90,6 +90,8 @@ work_is q m lemmas S Q w e f g among h =
 not-both-ends : (l : Line) → IsTrue (is_closing l) → IsTrue (leaves_some l) → ⊥
 not-both-ends (void j) h k = true≢false (sym k)
 not-both-ends (void_no j) h k = true≢false (sym k)
+not-both-ends (combine ms) h k = true≢false (sym k)
+not-both-ends (void_combine ms) h k = true≢false (sym k)
 not-both-ends (push j) h k = true≢false (sym k)
 not-both-ends make_false h k = true≢false (sym k)
 not-both-ends (by i) h k = true≢false (sym k)

@@ -2,13 +2,15 @@
 ghost use Rattle.std.specs.Prelude.{◌≡◌, ◌<◌, length, Option, IfOk};
 ghost use Rattle.cover_model.specs.Fits.{FitsProblem};
 ghost use Rattle.cover_model.specs.State.{IsLemma};
+ghost use Rattle.cover_model.specs.Views.{multipliers_of};
 ghost use Rattle.cover_rule.specs.declared.refusal.PatchRefusal.{PatchRefusal as Refusal};
 ghost use Rattle.cover_rule.specs.Patch.{problem_in, loosenings_in};
 ghost use Rattle.cover_rule.specs.Models.{PatchModel};
 ghost use Rattle.cover_rule.specs.Refusals.{PatchAnswer};
-ghost use Rattle.box_worker.specs.Attempts.{Attempts, UnitAttempt, VoidAttempt, VoidNoAttempt, FalseAttempt, LemmaAttempt, CutAttempt, FlipAttempt, CaseAttempt, StuckAttempt};
+ghost use Rattle.box_worker.specs.Attempts.{Attempts, UnitAttempt, VoidAttempt, VoidNoAttempt, VoidCombineAttempt, FalseAttempt, LemmaAttempt, CutAttempt, FlipAttempt, CaseAttempt, StuckAttempt};
 
 use cover_rule::{Lemma, Patch, PatchRefusal};
+use dyadic::Dy;
 use std::alloc::AllocError;
 
 // Whether it was done. Out of memory is handed on.
@@ -46,6 +48,14 @@ pub fn void_no(patch: &mut Patch, j: u32) -> Result<bool, AllocError>
     ensures { IfOk result (VoidNoAttempt j patch.old patch.new) }
 {
     let answer = patch.void_no(j);
+    was_done(answer)
+}
+
+/// Ends the patch by this combination, where its atoms are marked and it leaves nothing.
+pub fn void_combine(patch: &mut Patch, multipliers: &[(u32, Dy)]) -> Result<bool, AllocError>
+    ensures { IfOk result (VoidCombineAttempt (multipliers_of multipliers.now) patch.old patch.new) }
+{
+    let answer = patch.void_combine(multipliers);
     was_done(answer)
 }
 

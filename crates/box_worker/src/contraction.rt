@@ -7,10 +7,12 @@ ghost use Rattle.box_worker.specs.Worked.{AreLemmasFor};
 ghost use Rattle.cover_rule.specs.Serves.{IsNumbered};
 ghost use Rattle.box_worker.specs.Attempts.{IsOpen};
 
-use crate::fallen::{atom_masks, take_over};
+use crate::combining::{Patience, combine_all, relax};
+use crate::fallen::{atom_masks, repeating_atoms, take_over};
 use crate::needs::{Needs, is_set, look};
 use crate::step::{self, Outcome};
 use cover_rule::{Lemma, Margins, Patch, State};
+use dyadic::Dy;
 use ival::Space;
 use poly_graph::{FormNode, Mark, Problem};
 use std::alloc::{AllocError, Global};
@@ -18,14 +20,57 @@ use std::alloc::{AllocError, Global};
 /// At most so many times an atom is pulled at a state.
 const MOST_ROUNDS: u32 = 10;
 
-/// What guides the steps: which atoms are due, what they depend on, the space as it was, and the atom by which nothing
-/// is left.
+/// At most so many rounds of combinations are made at a state.
+const MOST_COMBINING_ROUNDS: u32 = 2;
+
+/// By what nothing is left of a state.
+#[derive(Drop)]
+pub enum Emptied {
+    /// An atom.
+    Atom(u32),
+    /// Atoms with their multipliers.
+    Combination(Vec<(u32, Dy), Global>),
+}
+
+/// What guides the steps: which atoms are due, what they depend on, in which an axis may repeat, the space as it was, by
+/// what nothing is left, and how long combinations of several atoms are left out.
 #[derive(Drop)]
 pub struct Scout {
     due: Vec<bool, Global>,
     masks: Vec<u64, Global>,
+    repeating: Vec<bool, Global>,
     space: Space,
-    void: Option<u32>,
+    void: Option<Emptied>,
+    patience: Patience,
+}
+
+impl Scout {
+    /// Whether an axis may stand more than once in the term of atom j.
+    pub fn may_repeat(&self, j: usize) -> bool {
+        is_set(&self.repeating, j)
+    }
+
+    /// Whether something is known by which nothing is left.
+    pub fn is_void(&self) -> bool {
+        self.void.is_some()
+    }
+
+    /// How long combinations of several atoms are left out.
+    pub fn patience(&mut self) -> &mut Patience {
+        &mut self.patience
+    }
+
+    /// Notes by what nothing is left.
+    pub fn note_void(&mut self, by: Emptied) {
+        self.void = Some(by);
+    }
+
+    /// Takes over the space, and makes the atoms due that depend on an axis that fell; whether one did.
+    pub fn note_space(&mut self, space: &Space) -> bool {
+        let fallen = take_over(&mut self.space, space);
+        make_due_by(&mut self.due, &self.masks, fallen);
+        fallen != 0
+    }
 }
 
 // Atom j is due.
@@ -68,12 +113,15 @@ fn make_due_by(due: &mut [bool], masks: &[u64], fell: u64) {
 fn start(alloc: Global, problem: &Problem, patch: &Patch) -> Result<Scout, AllocError> {
     let due = vec![in alloc; true; problem.atoms().len()]?;
     let masks = atom_masks(alloc, problem)?;
+    let repeating = repeating_atoms(alloc, problem)?;
     let space = patch.reached().space().try_clone(alloc)?;
     Ok(Scout {
         due,
         masks,
+        repeating,
         space,
         void: None,
+        patience: Patience::new(),
     })
 }
 
@@ -128,11 +176,10 @@ fn pull(
 {
     match step::narrow(patch, j)? {
         Outcome::Void => {
-            scout.void = Some(j);
+            scout.note_void(Emptied::Atom(j));
         }
         Outcome::Done => {
-            let fallen = take_over(&mut scout.space, patch.reached().space());
-            make_due_by(&mut scout.due, &scout.masks, fallen);
+            scout.note_space(patch.reached().space());
         }
         Outcome::Idle | Outcome::Refused => {}
     }
@@ -371,9 +418,52 @@ fn go_on_while_due(
     Ok(())
 }
 
+// Combines marked atoms, each alone and then together; whether an axis fell by about a tenth, and nothing is known by
+// which nothing is left.
+fn combine_round(
+    alloc: Global,
+    problem: &Problem,
+    margins: &Margins,
+    lemmas: &[Lemma],
+    scout: &mut Scout,
+    patch: &mut Patch,
+) -> Result<bool, AllocError>
+    requires open { IsOpen problem.now margins.now lemmas.now patch.old.kept.first patch.old }
+    ensures { IsOpen problem.now margins.now lemmas.now patch.old.kept.first patch.new }
+{
+    combine_all(alloc, problem, margins, lemmas, scout, patch)?;
+    if !scout.is_void() {
+        relax(alloc, problem, margins, lemmas, scout, patch)?;
+    }
+    Ok(!scout.is_void() && any_due(&scout.due))
+}
+
+// Combines what is marked, and goes on with what is due then, but no more than twice.
+fn combine_while_due(
+    alloc: Global,
+    problem: &Problem,
+    margins: &Margins,
+    lemmas: &[Lemma],
+    scout: &mut Scout,
+    patch: &mut Patch,
+) -> Result<(), AllocError>
+    requires numbered { IsNumbered problem.now }
+    requires bits { AreMargins margins.now }
+    requires open { IsOpen problem.now margins.now lemmas.now patch.old.kept.first patch.old }
+    ensures { IsOpen problem.now margins.now lemmas.now patch.old.kept.first patch.new }
+{
+    for _ in 0..MOST_COMBINING_ROUNDS {
+        if scout.is_void() || !combine_round(alloc, problem, margins, lemmas, scout, patch)? {
+            return Ok(());
+        }
+        go_on_while_due(alloc, problem, margins, lemmas, scout, patch)?;
+    }
+    Ok(())
+}
+
 /// Takes steps at the state: marks the atoms that the form needs, and narrows by those that are marked, again
-/// while an axis that they depend on falls by about a tenth, but no more than ten times. The atom by which nothing is
-/// left, where one is met.
+/// while an axis that they depend on falls by about a tenth, but no more than ten times; then narrows by combinations of
+/// them, and once more. By what nothing is left, where that is met.
 pub fn take_steps(
     alloc: Global,
     problem: &Problem,
@@ -381,7 +471,7 @@ pub fn take_steps(
     lemmas: &[Lemma],
     scout: &mut Scout,
     patch: &mut Patch,
-) -> Result<Option<u32>, AllocError>
+) -> Result<Option<Emptied>, AllocError>
     requires numbered { IsNumbered problem.now }
     requires bits { AreMargins margins.now }
     requires lemmas { AreLemmasFor (problem_of problem.now) (loosenings_of margins.now) lemmas.now }
@@ -391,5 +481,6 @@ pub fn take_steps(
     ban_all(problem, margins, lemmas, patch)?;
     look_again(alloc, problem, margins, lemmas, scout, patch)?;
     go_on_while_due(alloc, problem, margins, lemmas, scout, patch)?;
-    Ok(scout.void)
+    combine_while_due(alloc, problem, margins, lemmas, scout, patch)?;
+    Ok(scout.void.take())
 }

@@ -1,6 +1,7 @@
 // Which axes of a space fell by about a tenth, and which atoms depend on them: a heuristic that promises nothing.
 ghost use Rattle.std.specs.Prelude.{◌≡◌, length};
 
+use crate::needs::is_set;
 use dyadic::{Ext, add_down, at_most, mid};
 use ival::{Domain, Range, Space};
 use poly_graph::{Node, Problem};
@@ -77,6 +78,35 @@ fn node_masks(alloc: Global, problem: &Problem) -> Result<Vec<u64, Global>, Allo
         masks.push(mask)?;
     }
     Ok(masks)
+}
+
+// Whether an axis may stand more than once under a node whose children have these masks and flags.
+fn repeats_at(node: Node, masks: &[u64], flags: &[bool]) -> bool {
+    match node {
+        Node::Const(_) | Node::Var(_) => false,
+        Node::Neg(a) | Node::Sq(a) => is_set(flags, a as usize),
+        Node::Add(a, b) | Node::Mul(a, b) => {
+            let both = mask_at(masks, a) & mask_at(masks, b);
+            both != 0 || is_set(flags, a as usize) || is_set(flags, b as usize)
+        }
+    }
+}
+
+/// For each atom whether an axis may stand more than once in its term: where none does, narrowing by it alone cannot be
+/// bettered.
+pub fn repeating_atoms(alloc: Global, problem: &Problem) -> Result<Vec<bool, Global>, AllocError> {
+    let graph = problem.graph();
+    let masks = node_masks(alloc, problem)?;
+    let mut flags = Vec::new(alloc);
+    for n in 0..graph.len() {
+        let repeats = repeats_at(graph.node(n as u32), &masks, &flags);
+        flags.push(repeats)?;
+    }
+    let mut all = Vec::new(alloc);
+    for atom in problem.atoms() {
+        all.push(is_set(&flags, atom.term as usize))?;
+    }
+    Ok(all)
 }
 
 /// For each atom the bits of the axes that it depends on.

@@ -1,9 +1,9 @@
 // What may be learned of a patch that has closed its state.
-ghost use Rattle.std.specs.Prelude.{◌≡◌, IfOk, None};
-ghost use Rattle.cover_data.specs.Views.{kept_of};
+ghost use Rattle.std.specs.Prelude.{◌≡◌, IfOk, None, map};
+ghost use Rattle.cover_data.specs.Views.{end_of, kept_of, step_line};
 ghost use Rattle.box_worker.specs.Worked.{teaches_nothing};
 
-use cover_rule::{End, KeptPatch, Lemma};
+use cover_rule::{End, KeptPatch, Lemma, Step};
 use std::alloc::{AllocError, Global};
 
 // The same lemmas in memory of their own.
@@ -17,16 +17,37 @@ fn copies(alloc: Global, lemmas: &[Lemma]) -> Result<Vec<Lemma, Global>, AllocEr
     Ok(all)
 }
 
+// The same steps in memory of their own.
+fn copies_of_steps(alloc: Global, steps: &[Step]) -> Result<Vec<Step, Global>, AllocError>
+    ensures { IfOk result (λ v. map step_line v.items ≡ map step_line steps.now) }
+{
+    let mut all = Vec::new(alloc);
+    for step in steps {
+        all.push(step.try_clone(alloc)?)?;
+    }
+    Ok(all)
+}
+
+// The same end in memory of its own.
+fn copy_of_end(alloc: Global, end: &Option<End>) -> Result<Option<End>, AllocError>
+    ensures { IfOk result (λ e. end_of e ≡ end_of end.now) }
+{
+    match end {
+        Some(end) => Ok(Some(end.try_clone(alloc)?)),
+        None => Ok(None),
+    }
+}
+
 /// The same run in memory of its own.
 pub fn copy(alloc: Global, kept: &KeptPatch) -> Result<KeptPatch, AllocError>
     ensures { IfOk result (λ k. kept_of k ≡ kept_of kept.now) }
 {
-    let steps = kept.steps.clone()?;
+    let steps = copies_of_steps(alloc, &kept.steps)?;
     Ok(KeptPatch {
         first: kept.first.try_clone(alloc)?,
         steps,
         quoted: copies(alloc, &kept.quoted)?,
-        end: kept.end,
+        end: copy_of_end(alloc, &kept.end)?,
         reached: kept.reached.try_clone(alloc)?,
     })
 }
@@ -35,11 +56,12 @@ pub fn copy(alloc: Global, kept: &KeptPatch) -> Result<KeptPatch, AllocError>
 pub fn teaches_nothing(kept: &KeptPatch) -> bool
     ensures { result ≡ teaches_nothing (kept_of kept.now) }
 {
-    match kept.end {
+    match &kept.end {
         Some(End::False) => kept.steps.is_empty(),
         Some(End::By(_)) => true,
         Some(End::Void(_)) => false,
         Some(End::VoidNo(_)) => false,
+        Some(End::VoidCombine(_)) => false,
         Some(End::Cut(_, _)) => false,
         Some(End::Flip(_)) => false,
         Some(End::Case(_)) => false,

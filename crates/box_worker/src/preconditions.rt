@@ -5,6 +5,7 @@ ghost use Rattle.cover_data.specs.Runs.{IsClosed};
 ghost use Rattle.box_worker.specs.Attempts.{Continues, conjuncts_are_decided, no_atom_empties};
 
 use crate::attempt;
+use crate::contraction::Emptied;
 use crate::facts::run_is_lawful;
 use cover_rule::Patch;
 use poly_graph::Problem;
@@ -64,28 +65,33 @@ fn void_by(problem: &Problem, j: u32, patch: &mut Patch) -> Result<bool, AllocEr
     attempt::void_no(patch, j)
 }
 
-// Ends the patch by this atom, where there is such a one that is marked and leaves nothing.
-fn void_at(problem: &Problem, atom: Option<u32>, patch: &mut Patch) -> Result<bool, AllocError>
+// Ends the patch by this atom or combination, where there is such a one that leaves nothing.
+fn void_at(problem: &Problem, by: &Option<Emptied>, patch: &mut Patch) -> Result<bool, AllocError>
     requires problem { patch.old.problem ≡ problem.now }
     ensures continues { IfOk result (λ b. Continues patch.old patch.new) }
     ensures closed { IfOk result (λ b. b ≡ true → IsClosed patch.new.kept) }
     ensures same { IfOk result (λ b. b ≡ false → patch.new ≡ patch.old) }
 {
-    match atom {
-        Some(j) => {
-            if (j as usize) < problem.atoms().len() {
-                void_by(problem, j, patch)
+    match by {
+        Some(Emptied::Atom(j)) => {
+            if (*j as usize) < problem.atoms().len() {
+                void_by(problem, *j, patch)
             } else {
                 Ok(false)
             }
         }
+        Some(Emptied::Combination(multipliers)) => attempt::void_combine(patch, multipliers),
         None => Ok(false),
     }
 }
 
-/// Ends the patch where the form cannot hold, or by this atom, where there is such a one that is marked and leaves
+/// Ends the patch where the form cannot hold, or by this atom or combination, where there is such a one that leaves
 /// nothing.
-pub fn close_at(problem: &Problem, atom: Option<u32>, patch: &mut Patch) -> Result<bool, AllocError>
+pub fn close_at(
+    problem: &Problem,
+    by: &Option<Emptied>,
+    patch: &mut Patch,
+) -> Result<bool, AllocError>
     requires problem { patch.old.problem ≡ problem.now }
     ensures continues { IfOk result (λ b. Continues patch.old patch.new) }
     ensures closed { IfOk result (λ b. b ≡ true → IsClosed patch.new.kept) }
@@ -94,5 +100,5 @@ pub fn close_at(problem: &Problem, atom: Option<u32>, patch: &mut Patch) -> Resu
     if attempt::make_false(patch)? {
         return Ok(true);
     }
-    void_at(problem, atom, patch)
+    void_at(problem, by, patch)
 }

@@ -6,6 +6,7 @@ ghost use Rattle.box_worker.specs.Attempts.{IsOpen, StaysOpen};
 ghost use Rattle.box_worker.specs.Worked.{AreLemmasFor};
 
 use cover_rule::{Lemma, Margins, Patch, PatchRefusal, State};
+use dyadic::Dy;
 use poly_graph::{Mark, Problem};
 use std::alloc::AllocError;
 
@@ -66,6 +67,14 @@ pub fn narrow(patch: &mut Patch, j: u32) -> Result<Outcome, AllocError>
     } else {
         pull(patch, j)
     }
+}
+
+/// Combines these atoms where they are marked, if that leaves less of the space.
+pub fn combine(patch: &mut Patch, multipliers: &[(u32, Dy)]) -> Result<Outcome, AllocError>
+    ensures { StaysOpen patch.old patch.new }
+{
+    let answer = patch.combine_if_less(multipliers);
+    outcome_of(answer)
 }
 
 /// Marks atom j yes where the form can't hold without it.

@@ -15,7 +15,7 @@ ghost use Rattle.cover_data.specs.Views.{kept_of};
 
 use crate::attempt;
 use crate::branching::part;
-use crate::contraction::{scout_at, take_steps};
+use crate::contraction::{Emptied, scout_at, take_steps};
 use crate::ended::Ended;
 use crate::facts::{problem_is_whole, run_is_lawful};
 use crate::learn::{copy, teaches_nothing};
@@ -94,13 +94,13 @@ fn at_once(
     }
 }
 
-// Does what is left to do at a state, and parts it where it is then still open. By the atom that is given nothing
-// may be left.
+// Does what is left to do at a state, and splits it where it is then still open. By the atom or combination that is given
+// nothing may be left.
 fn finish(
     alloc: Global,
     problem: &Problem,
     margins: &Margins,
-    void: Option<u32>,
+    void: &Option<Emptied>,
     patch: &mut Patch,
 ) -> Result<Ended, AllocError>
     requires problem { patch.old.problem ≡ problem.now }
@@ -163,8 +163,8 @@ fn worked(alloc: Global, room: &mut Room, ended: Ended, patch: Patch) -> Result<
     }
 }
 
-// Contracts the state of a patch that has just begun, by the scout of the room; the atom by which nothing is left,
-// where one is met.
+// Contracts the state of a patch that has just begun, by the scout of the room; by what nothing is left, where that is
+// met.
 fn contract(
     alloc: Global,
     room: &mut Room,
@@ -172,7 +172,7 @@ fn contract(
     margins: &Margins,
     lemmas: &[Lemma],
     patch: &mut Patch,
-) -> Result<Option<u32>, AllocError>
+) -> Result<Option<Emptied>, AllocError>
     requires numbered { IsNumbered problem.now }
     requires bits { AreMargins margins.now }
     requires lemmas { AreLemmasFor (problem_of problem.now) (loosenings_of margins.now) lemmas.now }
@@ -212,7 +212,7 @@ pub fn work_in(
         return worked(alloc, room, ended, patch);
     }
     let void = contract(alloc, room, problem, &margins, lemmas, &mut patch)?;
-    let ended = finish(alloc, problem, &margins, void, &mut patch)?;
+    let ended = finish(alloc, problem, &margins, &void, &mut patch)?;
     worked(alloc, room, ended, patch)
 }
 

@@ -9,6 +9,7 @@ pub mod Marks
 pub mod Near
 pub mod OneLine
 pub mod OneMark
+pub mod Pairs
 pub mod Results
 pub mod Rows
 pub mod RuleFits

@@ -1,9 +1,9 @@
 -- What a rule leaves has a domain for each axis and a mark for each atom, as its state has.
-use Rattle.std.proofs.Common.{◌≡◌, ℕ, zero, suc, List, [], ◌∷◌, length, replicate, Bool, true, false, cond, not, ◌&&◌, Option, Some, None, refl, ap, ap₂, ◌∙◌, arith}
+use Rattle.std.proofs.Common.{◌≡◌, ℕ, zero, suc, List, [], ◌∷◌, length, replicate, Bool, true, false, cond, not, ◌&&◌, Option, Some, None, refl, ap, ap₂, sym, ◌∙◌, arith}
 use Rattle.std.proofs.lemmas.List.{length-set, length-map}
 use Rattle.dyadic.specs.Rounding.{below_all, finite, above_all}
-use Rattle.interval_model.specs.Interval.{Interval, nothing, between}
-use Rattle.interval_model.specs.Space.{Domain, Space, changed, strictly_inside, lower_part, upper_part, is_undecided, keep, test_axis}
+use Rattle.interval_model.specs.Interval.{Interval, nothing, between, is_nothing, met}
+use Rattle.interval_model.specs.Space.{Domain, Space, changed, middle, strictly_inside, lower_part, upper_part, is_undecided, keep, test_axis}
 use Rattle.poly_graph.specs.Term.{Node, variable_node}
 use Rattle.cover_model.specs.OffRange.{off_range}
 use Rattle.cover_model.specs.Space.{range}
@@ -13,7 +13,8 @@ use Rattle.cover_model.specs.Root.{root_domain, root_space}
 use Rattle.poly_graph.specs.ProblemViews.{Parts, problem_of}
 use Rattle.poly_graph.specs.Marks.{Mark, marked_yes, marked_no, unmarked}
 use Rattle.cover_model.specs.State.{State, Loosenings, margin_of, in_yes, undecided, with_mark, with_yes, with_no, with_space, may, root_state}
-use Rattle.cover_model.specs.Rules.{Line, pull, unit, ban, void, push, void_no, make_false, by, cut, flip, case, open_line, stuck, Left, closed, one, two, stays, narrowing, narrowing_off, can_push, lemma_covers, with_changed, when, pulled, voided, is_stuck_atom, rule}
+use Rattle.cover_model.specs.Combination.{Expansion, expansion, allowed_range, marked_range, range_of, tightened, with_axis, with_intervals, left_of_space}
+use Rattle.cover_model.specs.Rules.{Line, pull, unit, ban, void, push, void_no, combine, void_combine, make_false, by, cut, flip, case, open_line, stuck, Left, closed, one, two, stays, narrowing, narrowing_off, combining, can_combine, can_push, lemma_covers, with_changed, when, pulled, voided, is_stuck_atom, rule}
 use Rattle.cert_check.specs.States.{Fits}
 use Rattle.cert_check.specs.Waiting.{FitsLeft}
 
@@ -36,6 +37,22 @@ length-changed : (f : Domain → Domain) (axis : ℕ) (space : Space) → length
 length-changed f axis [] = refl
 length-changed f zero (d ∷ space) = refl
 length-changed f (suc axis) (d ∷ space) = let e = length-changed f axis space in omega (arith, e)
+
+length-with : (axis : ℕ) (i : Interval) (o : Option Space) (n : ℕ) → ((space : Space) → o ≡ Some space → length space ≡ n) → (new : Space) → with_axis axis i o ≡ Some new → length new ≡ n
+length-with axis nothing o n f new e = cc
+length-with axis (between l h) None n f new e = cc
+length-with axis (between l h) (Some space) n f new e = let same : set_axis axis (between l h) space ≡ new = cc in ap length (sym same) ∙ length-axis axis (between l h) space ∙ f space refl
+
+length-intervals : (is : List (ℕ × Interval)) (space new : Space) → with_intervals is space ≡ Some new → length new ≡ length space
+length-intervals [] space new e = let same : space ≡ new = cc in ap length (sym same)
+length-intervals ((axis, i) ∷ is) space new e = length-with axis i (with_intervals is space) (length space) (length-intervals is space) new e
+
+length-left : (space centre : Space) (allowed : Interval) (x : Expansion) (new : Space) → left_of_space space centre allowed x ≡ Some new → length new ≡ length space
+length-left space centre allowed x new e = go (is_nothing (met (range_of space centre x) allowed)) e
+  where
+    go : (t : Bool) → cond t None (with_intervals (tightened space centre allowed x.rest x.parts) space) ≡ Some new → length new ≡ length space
+    go true f = cc
+    go false f = length-intervals (tightened space centre allowed x.rest x.parts) space new f
 
 abbrev pub state : Space → List Mark → State
 state space marks = record { space = space; marks = marks }
@@ -62,6 +79,10 @@ module _ (p : Parts) where
   pulled-fits S true space e h = tt
   pulled-fits S false space e h = space-fits S space e h
 
+  left-fits : (S : State) (o : Option Space) → ((space : Space) → o ≡ Some space → length space ≡ length S.space) → Fits p S → FitsLeft p (pulled S o)
+  left-fits S None f h = tt
+  left-fits S (Some space) f h = space-fits S space (f space refl) h
+
   voided-fits : (o : Option Space) → FitsLeft p (voided o)
   voided-fits None = tt
   voided-fits (Some space) = tt
@@ -77,6 +98,9 @@ module _ (p : Parts) where
       let ns : List (Option Interval) = narrowed p.nodes (enclosures S.space p.nodes) (atom_at (problem_of p) j).0 (off_range (margin_of s) (atom_at (problem_of p) j).1) in
       cond-fits (can_push (problem_of p) s S j) (pulled S (narrowing_off (problem_of p) s S j)) (pulled-fits S (some_empty ns) (with_axes p.nodes ns S.space) (length-axes p.nodes ns S.space) h)
   rule_fits s lemmas S (void_no j) h = cond-fits (can_push (problem_of p) s S j) (voided (narrowing_off (problem_of p) s S j)) (voided-fits (narrowing_off (problem_of p) s S j))
+  rule_fits s lemmas S (combine ms) h = cond-fits (can_combine (problem_of p) s S ms) (pulled S (combining (problem_of p) s S ms)) (left-fits S (combining (problem_of p) s S ms) (λ space e.
+      length-left S.space (middle S.space) (allowed_range (marked_range (problem_of p) (margin_of s) S.marks) ms) (expansion (problem_of p) S.space (middle S.space) ms) space e) h)
+  rule_fits s lemmas S (void_combine ms) h = cond-fits (can_combine (problem_of p) s S ms) (voided (combining (problem_of p) s S ms)) (voided-fits (combining (problem_of p) s S ms))
   rule_fits s lemmas S make_false h = when-fits (not (may (problem_of p) s S)) closed tt
   rule_fits s lemmas S (by i) h = when-fits (lemma_covers lemmas i S) closed tt
   rule_fits s lemmas S (cut axis c) h = when-fits (test_axis (strictly_inside c) axis S.space) (two (with_changed S (lower_part c) axis) (with_changed S (upper_part c) axis))

@@ -1,6 +1,6 @@
 -- The code's faults as the definitions see them.
 use Rattle.std.specs.Prelude.{◌≡◌, ℕ, Option, Some, None}
-use Rattle.cert_read.specs.CertLine.{RuleWord, empty_word, pull_word, unit_word, ban_word, void_word, push_word, void_no_word, false_word, by_word, cut_word, flip_word, case_word, open_word, stuck_word}
+use Rattle.cert_read.specs.CertLine.{RuleWord, empty_word, pull_word, unit_word, ban_word, void_word, push_word, void_no_word, false_word, by_word, cut_word, flip_word, case_word, open_word, stuck_word, combine_word, void_combine_word}
 use Rattle.cert_read.specs.declared.fault.LineFault.{LineFault}
 use Rattle.cert_read.specs.declared.fault.LineFault.TheVariants as unread
 use Rattle.cert_model.specs.Due as due
@@ -28,6 +28,8 @@ rule_word word.Flip = flip_word
 rule_word word.Case = case_word
 rule_word word.Open = open_word
 rule_word word.Stuck = stuck_word
+rule_word word.Combine = combine_word
+rule_word word.VoidCombine = void_combine_word
 
 -- where a certificate stops with the fault; nowhere for want of memory
 abbrev pub stop_of : CertFault → Option Course

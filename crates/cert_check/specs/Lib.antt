@@ -1,6 +1,7 @@
 pub mod Axis
 pub mod Checked
 pub mod Checking
+pub mod Combinations
 pub mod Courses
 pub mod Dues
 pub mod Faults

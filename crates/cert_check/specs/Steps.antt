@@ -6,7 +6,8 @@ use Rattle.cover_model.specs.Rules.{rule}
 use Rattle.cover_model.specs.State.{Loosenings}
 use Rattle.poly_graph.specs.ProblemViews.{Parts, problem_of}
 use Rattle.cert_model.specs.Due.{rule_of}
-use Rattle.cert_read.specs.CertLine.{RuleLine, pull_at, unit_at, void_at, push_at, void_no_at, case_at, stuck_at, by_lemma, ban_by, cut_at, flip_at, false_here, open_here, CertLine, rule_line, crossing, lemma, tree_word, end_word}
+use Rattle.cert_read.specs.Views.{pair_list}
+use Rattle.cert_read.specs.CertLine.{RuleLine, pull_at, unit_at, void_at, push_at, void_no_at, case_at, stuck_at, by_lemma, ban_by, cut_at, flip_at, combine_at, void_combine_at, false_here, open_here, CertLine, rule_line, crossing, lemma, tree_word, end_word}
 use Rattle.cert_check.specs.declared.said.Step.{Step}
 use Rattle.cert_check.specs.declared.said.Step.TheVariants as step
 use Rattle.cert_check.specs.declared.said.TreeLine.{TreeLine}
@@ -28,6 +29,8 @@ rule_line_of (step.Ban j i) = ban_by j i
 rule_line_of (step.By i) = by_lemma i
 rule_line_of (step.Cut axis c) = cut_at axis (dyadic_of c)
 rule_line_of (step.Flip axis) = flip_at axis
+rule_line_of (step.Combine pairs) = combine_at (pair_list pairs.now)
+rule_line_of (step.VoidCombine pairs) = void_combine_at (pair_list pairs.now)
 rule_line_of step.False = false_here
 rule_line_of step.Open = open_here
 

@@ -22,6 +22,8 @@ pub enum Rule {
     Case,
     Open,
     Stuck,
+    Combine,
+    VoidCombine,
 }
 
 /// The first fault of a certificate, with the number of its line, from 1 on. Where the input ends too early, that is

@@ -7,8 +7,10 @@
 #![tactic(auto)]
 
 mod branches;
+mod centre;
 mod checker;
 mod closing;
+mod combination;
 mod due;
 mod fault;
 mod feed;

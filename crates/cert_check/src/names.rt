@@ -1,6 +1,7 @@
 // What a line names.
 ghost use Rattle.std.specs.Prelude.{◌≡◌};
-ghost use Rattle.cert_model.specs.Due.{is_atom, is_axis, names_well, rule_of, Next};
+ghost use Rattle.cert_model.specs.Due.{are_atoms, is_atom, is_axis, names_well, rule_of, Next};
+ghost use Rattle.cover_model.specs.Views.{multipliers_of};
 ghost use Rattle.cert_model.specs.Accepted.{no_crossing};
 ghost use Rattle.poly_graph.specs.ProblemViews.{problem_of};
 ghost use Rattle.poly_graph.specs.Problem.{crosses};
@@ -10,6 +11,7 @@ ghost use Rattle.cert_check.specs.Steps.{rule_line_of};
 use crate::fault::Rule;
 use crate::refusal::Refusal;
 use crate::said::Step;
+use dyadic::Dy;
 use poly_graph::Problem;
 
 // Whether there is such an atom.
@@ -26,9 +28,21 @@ fn is_axis(problem: &Problem, axis: u32) -> bool
     (axis as usize) < problem.axes().len()
 }
 
-/// Whether the atom or the axis that the line names is there.
+// Whether there are all these atoms.
+fn are_atoms(problem: &Problem, pairs: &[(u32, Dy)]) -> bool
+    ensures { result ≡ are_atoms (problem_of problem.now) (multipliers_of pairs.now) }
+{
+    for i in 0..pairs.len() {
+        if !is_atom(problem, pairs[i].0) {
+            return false;
+        }
+    }
+    true
+}
+
+/// Whether the atoms or the axis that the line names are there.
 pub fn names_well(problem: &Problem, step: Step) -> bool
-    ensures { result ≡ names_well (problem_of problem.now) (rule_of (rule_line_of step)) }
+    ensures { result ≡ names_well (problem_of problem.now) (rule_of (rule_line_of step.entry)) }
 {
     match step {
         Step::Pull(j) => is_atom(problem, j),
@@ -41,6 +55,8 @@ pub fn names_well(problem: &Problem, step: Step) -> bool
         Step::Ban(j, _) => is_atom(problem, j),
         Step::Cut(axis, _) => is_axis(problem, axis),
         Step::Flip(axis) => is_axis(problem, axis),
+        Step::Combine(pairs) => are_atoms(problem, pairs),
+        Step::VoidCombine(pairs) => are_atoms(problem, pairs),
         Step::By(_) => true,
         Step::False => true,
         Step::Open => true,

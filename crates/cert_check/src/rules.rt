@@ -8,6 +8,7 @@ ghost use Rattle.cert_check.specs.Serving.{Serves};
 
 use crate::branches::{case, cut, flip, stuck};
 use crate::closing::{by, make_false, void, void_no};
+use crate::combination::{combine, void_combine};
 use crate::left::Left;
 use crate::loosenings::Loosenings;
 use crate::moves::{ban, pull, push, unit};
@@ -31,7 +32,7 @@ pub fn rule(
     requires lemmas { All (λ L. Fits problem.now (state_of L)) lemmas.now }
     requires fits { Fits problem.now (state_of state) }
     requires names { IsTrue (names_well (problem_of problem.now) (step_rule step)) }
-    ensures rule { IfOk result (IsLeftBy (step_rule step) problem.now (loosenings_of s) lemmas.now state) }
+    ensures rule { IfOk result (IsLeftBy (step_rule step.entry) problem.now (loosenings_of s) lemmas.now state) }
     ensures serves { Serves problem.now tools.new }
 {
     match step {
@@ -46,6 +47,8 @@ pub fn rule(
         Step::By(i) => Ok(by(problem, lemmas, state, i)),
         Step::Cut(axis, place) => cut(alloc, state, axis, place),
         Step::Flip(axis) => flip(alloc, state, axis),
+        Step::Combine(pairs) => Ok(combine(problem, tools, s, state, pairs)),
+        Step::VoidCombine(pairs) => Ok(void_combine(problem, tools, s, state, pairs)),
         Step::False => Ok(make_false(problem, tools, s, state)),
         Step::Open => Ok(Some(Left::Stays)),
     }

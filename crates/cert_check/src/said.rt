@@ -10,8 +10,8 @@ use cert_read::Line;
 use dyadic::Dy;
 
 /// A line of a tree, but the one for crossed bounds.
-#[derive(Clone, Copy, Debug, PartialEq, Eq)]
-pub enum Step {
+#[derive(Clone, Copy)]
+pub enum Step<'a> {
     /// These seven with an atom.
     Pull(u32),
     Unit(u32),
@@ -28,14 +28,17 @@ pub enum Step {
     Cut(u32, Dy),
     /// With an axis.
     Flip(u32),
+    /// With atoms and their multipliers.
+    Combine(&'a [(u32, Dy)]),
+    VoidCombine(&'a [(u32, Dy)]),
     False,
     Open,
 }
 
-impl Step {
+impl Step<'_> {
     /// The line's first word.
     pub fn word(self) -> Rule
-        ensures { rule_word result ≡ word_of (rule_line_of self) }
+        ensures { rule_word result ≡ word_of (rule_line_of self.entry) }
     {
         match self {
             Step::Pull(_) => Rule::Pull,
@@ -49,6 +52,8 @@ impl Step {
             Step::By(_) => Rule::By,
             Step::Cut(_, _) => Rule::Cut,
             Step::Flip(_) => Rule::Flip,
+            Step::Combine(_) => Rule::Combine,
+            Step::VoidCombine(_) => Rule::VoidCombine,
             Step::False => Rule::False,
             Step::Open => Rule::Open,
         }
@@ -56,18 +61,18 @@ impl Step {
 }
 
 /// A line between trees and in them.
-#[derive(Clone, Copy, Debug, PartialEq, Eq)]
-pub enum TreeLine {
+#[derive(Clone, Copy)]
+pub enum TreeLine<'a> {
     Lemma(u32),
     Tree,
     End,
     Crossing(u32),
-    Rule(Step),
+    Rule(Step<'a>),
     Other,
 }
 
 /// What the line says there.
-pub fn said(line: &Line) -> TreeLine
+pub fn said<'a>(line: &'a Line) -> TreeLine<'a>
     ensures { IsSaid result (line_of line.now) }
 {
     match line {
@@ -86,6 +91,8 @@ pub fn said(line: &Line) -> TreeLine
         Line::By(i) => TreeLine::Rule(Step::By(*i)),
         Line::Cut(axis, cut) => TreeLine::Rule(Step::Cut(*axis, *cut)),
         Line::Flip(axis) => TreeLine::Rule(Step::Flip(*axis)),
+        Line::Combine(pairs) => TreeLine::Rule(Step::Combine(pairs)),
+        Line::VoidCombine(pairs) => TreeLine::Rule(Step::VoidCombine(pairs)),
         Line::False => TreeLine::Rule(Step::False),
         Line::Open => TreeLine::Rule(Step::Open),
         Line::Version(_) => TreeLine::Other,

@@ -1,9 +1,10 @@
 // What the rules are tested with.
-ghost use Rattle.std.specs.Prelude.{◌≡◌, ◌<◌, ◌≤◌, length, IfOk};
+ghost use Rattle.std.specs.Prelude.{◌≡◌, ◌<◌, ◌≤◌, All, length, IfOk};
 ghost use Rattle.cover_model.specs.Rules.{is_one_sided};
 ghost use Rattle.cover_model.specs.Space.{range};
 ghost use Rattle.cover_model.specs.State.{may};
 ghost use Rattle.cover_model.specs.Narrowed.{enclosures};
+ghost use Rattle.plain_combine.specs.Calls.{IsCombined};
 ghost use Rattle.plain_eval.specs.Rows.{AreEnclosures};
 ghost use Rattle.poly_graph.specs.Problem.{atom_at};
 ghost use Rattle.poly_graph.specs.ProblemViews.{problem_of};
@@ -16,13 +17,15 @@ ghost use Rattle.cert_check.specs.States.{state_of};
 ghost use Rattle.cert_check.specs.Judgements.{enclosure_over, is_sure_atom_over, is_sure_over, IsNarrowedByAtom, IsNarrowedOff, misses_over};
 ghost use Rattle.cert_check.specs.Serving.{Serves};
 
+use crate::centre::Centre;
 use crate::form::may_hold;
 use crate::judged::Judged;
 use crate::state::State;
 use cover_model::is_one_sided;
+use dyadic::Dy;
 use ival::{Ival, Narrowed, Rows, Space};
 use plain_eval::{Upward, enclose, follow, narrow_enclosed, narrow_off_enclosed};
-use poly_graph::{Atom, Graph, Problem};
+use poly_graph::{Atom, Graph, Lits, Problem};
 use std::alloc::{AllocError, Global};
 use truth3::{Marks, kind_range, sure};
 
@@ -34,6 +37,7 @@ pub struct Tools {
     pub upward: Upward,
     pub rows: Rows,
     pub scratch: Rows,
+    pub centre: Centre,
     pub judged: Judged,
     pub marks: Marks,
 }
@@ -81,12 +85,14 @@ impl Tools {
         let upward = Upward::new(alloc, graph)?;
         let rows = first_rows(alloc, graph)?;
         let scratch = Rows::new(alloc, graph.len())?;
+        let centre = Centre::new(alloc, problem, first_rows(alloc, graph)?)?;
         let judged = Judged::new(alloc, problem, &rows)?;
         let marks = Marks::new(alloc, problem)?;
         Ok(Tools {
             upward,
             rows,
             scratch,
+            centre,
             judged,
             marks,
         })
@@ -211,6 +217,35 @@ impl Tools {
             margin,
             &self.rows,
             &mut self.scratch,
+            space,
+        )
+    }
+
+    /// Leaves of the space what the combination of marked atoms leaves of it.
+    pub fn combine(
+        &mut self,
+        problem: &Problem,
+        margin: u32,
+        lits: &Lits,
+        pairs: &[(u32, Dy)],
+        space: &mut Space,
+    ) -> Narrowed
+        requires serves { Serves problem.now self.old }
+        requires margin { margin ≤ 120 }
+        requires lits { length lits.now ≡ length problem.now.atoms }
+        requires atoms { All (λ x. x.0 < length problem.now.atoms) pairs.now }
+        requires axes { length (space_of space.old) ≡ length problem.now.axes }
+        ensures narrowed { IsCombined problem.now margin lits.now pairs.now space.old space.new result }
+        ensures serves { Serves problem.now self.new }
+    {
+        self.follow(problem, space);
+        self.centre.combine(
+            problem,
+            &self.upward,
+            margin,
+            lits,
+            pairs,
+            &self.rows,
             space,
         )
     }

@@ -136,7 +136,7 @@ fn main_rule(
 ) -> Result<Due, Refusal>
     requires serves { Serves problem.now tools.old }
     requires sound { IsSound problem.now (TreeDue cover tree stayed) }
-    ensures comes { IsNext problem.now (TreeDue cover tree stayed) (line_of_step step) result }
+    ensures comes { IsNext problem.now (TreeDue cover tree stayed) (line_of_step step.entry) result }
     ensures sound { IfOk result (IsSound problem.now) }
     ensures serves { Serves problem.now tools.new }
 {
@@ -170,7 +170,7 @@ fn lemma_rule(
 ) -> Result<Due, Refusal>
     requires serves { Serves problem.now tools.old }
     requires sound { IsSound problem.now (LemmaDue cover lemma tree) }
-    ensures comes { IsNext problem.now (LemmaDue cover lemma tree) (line_of_step step) result }
+    ensures comes { IsNext problem.now (LemmaDue cover lemma tree) (line_of_step step.entry) result }
     ensures sound { IfOk result (IsSound problem.now) }
     ensures serves { Serves problem.now tools.new }
 {
@@ -254,7 +254,7 @@ fn root_rule(
 ) -> Result<Due, Refusal>
     requires serves { Serves problem.now tools.old }
     requires sound { IsSound problem.now (RootDue cover) }
-    ensures comes { IsNext problem.now (RootDue cover) (line_of_step step) result }
+    ensures comes { IsNext problem.now (RootDue cover) (line_of_step step.entry) result }
     ensures sound { IfOk result (IsSound problem.now) }
     ensures serves { Serves problem.now tools.new }
 {

@@ -4,7 +4,7 @@ use Rattle.interval_model.specs.Space.{real_domain, bool_domain}
 use Rattle.cover_model.specs.State.{Loosenings, root_state}
 use Rattle.cover_model.specs.Rules.{open_line}
 use Rattle.cover_model.specs.Honest.{is_honest}
-use Rattle.cert_read.specs.CertLine.{empty_word, pull_word, push_word, void_no_word, by_word, cut_word, case_word, stuck_word, open_word, false_word}
+use Rattle.cert_read.specs.CertLine.{empty_word, pull_word, push_word, void_no_word, combine_word, void_combine_word, by_word, cut_word, case_word, stuck_word, open_word, false_word}
 use Rattle.cert_model.specs.Due.{BadHeader, BadNumber, RuleFails, Missing, Extra, WrongBound, NotShown, BadLine, at_point, left_open}
 use Rattle.cert_model.specs.Accepted.{Verdict, accepted, refused, verdict}
 use Rattle.cert_model.specs.Standing.{standing, branches}
@@ -66,6 +66,34 @@ pushes : map (verdict two_sides None) (
     refused (RuleFails push_word) 10 ∷ refused BadNumber 7 ∷ accepted second_usual (left_open []) ∷ [])
 unfolding Rattle.dyadic.specs.Fraction.negated Rattle.dyadic.specs.Fraction.sum_of Rattle.dyadic.specs.Fraction.product_of Rattle.dyadic.specs.Fraction.quotient_of Rattle.dyadic.specs.Fraction.at_most
 pushes = refl
+
+-- ---- version 2: combinations
+
+-- x is above 1/4, so at least 3/4, where x * x - 1/4 is not at most x - 3/4
+abbrev above : List ℕ
+above = codes "cover 0\ntree\ncase 3\npull 3\nfalse\nunit 2\nunit 4\n"
+
+combined : map (verdict two_sides None) (
+    (second_head ++ above ++ codes "voidcomb 2 1b0 4 -1b0\nend\n") ∷
+    (second_head ++ codes "cover 0\ntree\ncase 3\npull 3\nfalse\ncomb 3 1b0\nunit 2\npull 2\nfalse\nend\n") ∷
+    (head ++ above ++ codes "voidcomb 2 1b0 4 -1b0\nend\n") ∷
+    (second_head ++ above ++ codes "comb 2 1b0 4 -1b0\nend\n") ∷
+    (second_head ++ above ++ codes "voidcomb 2 1b0\nend\n") ∷
+    (second_head ++ above ++ codes "voidcomb 4 -1b0 2 1b0\nend\n") ∷
+    (second_head ++ above ++ codes "voidcomb 2 1b0 3 0 4 -1b0\nend\n") ∷
+    (second_head ++ above ++ codes "voidcomb 1 1b0 2 1b0 4 -1b0\nend\n") ∷ []) ≡
+    (accepted second_usual (left_open []) ∷ accepted second_usual (left_open []) ∷ refused (RuleFails void_combine_word) 12 ∷ refused (RuleFails combine_word) 12 ∷
+    refused (RuleFails void_combine_word) 12 ∷ refused (RuleFails void_combine_word) 12 ∷ refused (RuleFails void_combine_word) 12 ∷ refused (RuleFails void_combine_word) 12 ∷ [])
+unfolding Rattle.dyadic.specs.Fraction.negated Rattle.dyadic.specs.Fraction.sum_of Rattle.dyadic.specs.Fraction.product_of Rattle.dyadic.specs.Fraction.quotient_of Rattle.dyadic.specs.Fraction.at_most
+combined = refl
+
+-- no pair, an odd number of words, another spelling, and an atom that is not there
+combined_badly : map (verdict two_sides None) (
+    (second_head ++ codes "cover 0\ntree\ncomb\n") ∷ (second_head ++ codes "cover 0\ntree\nvoidcomb 2 1b0 4\n") ∷ (second_head ++ codes "cover 0\ntree\ncomb 2 2b-1\n") ∷
+    (second_head ++ codes "cover 0\ntree\ncomb 2 1b0 5 1b0\n") ∷ []) ≡
+    (refused BadLine 7 ∷ refused BadLine 7 ∷ refused BadNumber 7 ∷ refused BadNumber 7 ∷ [])
+unfolding Rattle.dyadic.specs.Fraction.negated Rattle.dyadic.specs.Fraction.sum_of Rattle.dyadic.specs.Fraction.product_of Rattle.dyadic.specs.Fraction.quotient_of Rattle.dyadic.specs.Fraction.at_most
+combined_badly = refl
 
 -- ---- points
 

@@ -5,7 +5,7 @@ use Rattle.std.proofs.lemmas.List.{map-append}
 use Rattle.std.proofs.lemmas.List.Sums.{sum_by-cons, sum_by-append}
 use Rattle.poly_graph.specs.Problem.{Problem}
 use Rattle.cover_model.specs.State.{State, Loosenings}
-use Rattle.cover_model.specs.Rules.{Line, pull, unit, void, push, void_no, ban, make_false, by, cut, flip, case, open_line, stuck, Left, closed, one, two, stays, rule}
+use Rattle.cover_model.specs.Rules.{Line, pull, unit, void, push, void_no, combine, void_combine, ban, make_false, by, cut, flip, case, open_line, stuck, Left, closed, one, two, stays, rule}
 use Rattle.cover_model.specs.Honest.{branch_count}
 use Rattle.cover_model.specs.Derivation.{Tree, tree_lines, Lawful, at_closed, at_left, at_step, at_fork}
 use Rattle.cert_read.specs.CertLine.{CertLine, rule_line, word_of}
@@ -22,6 +22,8 @@ same-line (unit j) = refl
 same-line (void j) = refl
 same-line (push j) = refl
 same-line (void_no j) = refl
+same-line (combine ms) = refl
+same-line (void_combine ms) = refl
 same-line (ban j i) = refl
 same-line make_false = refl
 same-line (by i) = refl

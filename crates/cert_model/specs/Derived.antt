@@ -1,8 +1,7 @@
 -- What an accepted certificate stands for: lemmas and a tree that are derived by the rules, or a point.
-use Rattle.std.specs.Prelude.{◌≡◌, ℕ, ◌⊎◌, List, [], ◌∷◌, ◌++◌, map, true, false, IsTrue}
+use Rattle.std.specs.Prelude.{◌≡◌, ℕ, ◌⊎◌, List, [], ◌∷◌, ◌++◌, map, IsTrue}
 use Rattle.dyadic.specs.Fraction.{Fraction, at_most, sum_of, difference_of}
 use Rattle.dyadic.specs.Point.{Coordinate, at_fraction, at_bool}
-use Rattle.interval_model.specs.Space.{Domain, real_domain, bool_domain, Space}
 use Rattle.poly_graph.specs.Problem.{Declared, real_between, any_bool, Axis, Problem, crosses}
 pub use Rattle.cover_model.specs.Fits.{IsSingle, AreSingle}
 use Rattle.cover_model.specs.State.{State, Loosenings, root_state}

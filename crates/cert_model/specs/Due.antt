@@ -1,15 +1,14 @@
 -- Faults and values of a certificate, what is due in it, and the tests of one line.
 use Rattle.std.specs.Prelude.{ℕ, List, [], ◌∷◌, ◌++◌, Bool, true, false, not, ◌&&◌, ◌||◌, Option, Some, None, nat_eq, nat_lt, length}
-use Rattle.dyadic.specs.Fraction.{Fraction, at_most, sum_of, difference_of}
-use Rattle.dyadic.specs.Point.{Coordinate, at_fraction, at_bool}
 use Rattle.dyadic.specs.Rounding.{exact}
-use Rattle.cert_read.specs.CertLine.{BoolWord, says_false, says_true, says_both, RuleLine, pull_at, unit_at, void_at, push_at, void_no_at, case_at, stuck_at, by_lemma, ban_by, cut_at, flip_at, false_here, open_here, RuleWord}
-use Rattle.interval_model.specs.Space.{Domain, real_domain, bool_domain, Space}
-use Rattle.poly_graph.specs.Problem.{Declared, real_between, any_bool, Axis, Problem, first_crossed}
+use Rattle.cert_read.specs.CertLine.{BoolWord, says_false, says_true, says_both, RuleLine, pull_at, unit_at, void_at, push_at, void_no_at, case_at, stuck_at, by_lemma, ban_by, cut_at, flip_at, combine_at, void_combine_at, false_here, open_here, RuleWord}
+use Rattle.interval_model.specs.Space.{Domain, bool_domain, Space}
+use Rattle.poly_graph.specs.Problem.{Axis, Problem, first_crossed}
 pub use Rattle.cover_model.specs.Fits.{coordinate_of, coordinates, is_near, are_near}
 use Rattle.cover_model.specs.State.{State, Loosenings, delta_of, sure}
 use Rattle.poly_graph.specs.Marks.{member, marks_of}
-use Rattle.cover_model.specs.Rules.{Line, pull, unit, void, push, void_no, ban, make_false, by, cut, flip, case, open_line, stuck, Left, closed, one, two, stays}
+use Rattle.cover_model.specs.Combination.{Multipliers}
+use Rattle.cover_model.specs.Rules.{Line, pull, unit, void, push, void_no, combine, void_combine, ban, make_false, by, cut, flip, case, open_line, stuck, Left, closed, one, two, stays}
 
 pub data CertFault : Type 0 where
   BadHeader BadNumber : CertFault
@@ -108,6 +107,8 @@ rule_of (unit_at j) = unit j
 rule_of (void_at j) = void j
 rule_of (push_at j) = push j
 rule_of (void_no_at j) = void_no j
+rule_of (combine_at ms) = combine ms
+rule_of (void_combine_at ms) = void_combine ms
 rule_of (case_at j) = case j
 rule_of (stuck_at j) = stuck j
 rule_of (by_lemma i) = by i
@@ -123,13 +124,19 @@ is_atom p j = nat_lt j (length p.atoms)
 abbrev pub is_axis : Problem → ℕ → Bool
 is_axis p axis = nat_lt axis (length p.axes)
 
--- the atom or the axis that the line names is there
+abbrev pub are_atoms : Problem → Multipliers → Bool
+are_atoms p [] = true
+are_atoms p ((j, l) ∷ rest) = is_atom p j && are_atoms p rest
+
+-- the atoms or the axis that the line names are there
 abbrev pub names_well : Problem → Line → Bool
 names_well p (pull j) = is_atom p j
 names_well p (unit j) = is_atom p j
 names_well p (void j) = is_atom p j
 names_well p (push j) = is_atom p j
 names_well p (void_no j) = is_atom p j
+names_well p (combine ms) = are_atoms p ms
+names_well p (void_combine ms) = are_atoms p ms
 names_well p (ban j i) = is_atom p j
 names_well p (cut axis c) = is_axis p axis
 names_well p (flip axis) = is_axis p axis

@@ -1,15 +1,13 @@
 -- Trees as lines of a certificate.
-use Rattle.std.specs.Prelude.{◌≡◌, ℕ, suc, List, [], ◌∷◌, ◌++◌, map, length, true, false, ◌||◌, Option, Some, IsTrue, All, sum_by}
+use Rattle.std.specs.Prelude.{◌≡◌, ℕ, suc, List, [], ◌∷◌, ◌++◌, map, length, true, false, Option, Some, IsTrue, All, sum_by}
 use Rattle.std.specs.List.{AllByRecursion}
-use Rattle.dyadic.specs.Fraction.{at_most}
-use Rattle.dyadic.specs.Rounding.{exact}
-use Rattle.cert_read.specs.CertLine.{says_false, says_true, says_both, RuleLine, pull_at, unit_at, void_at, push_at, void_no_at, case_at, stuck_at, by_lemma, ban_by, cut_at, flip_at, false_here, open_here, CertLine, rule_line, version, margin, delta, bound, cover, lemma, point_word, tree_word, end_word, real_interval, real_value, bool_value, yes_list, no_list}
+use Rattle.cert_read.specs.CertLine.{says_false, says_true, says_both, RuleLine, pull_at, unit_at, void_at, push_at, void_no_at, case_at, stuck_at, by_lemma, ban_by, cut_at, flip_at, combine_at, void_combine_at, false_here, open_here, CertLine, rule_line, version, margin, delta, bound, cover, lemma, point_word, tree_word, end_word, real_interval, real_value, bool_value, yes_list, no_list}
 use Rattle.interval_model.specs.Space.{Domain, real_domain, bool_domain, Space}
-use Rattle.poly_graph.specs.Problem.{Declared, real_between, any_bool, Axis, Problem}
+use Rattle.poly_graph.specs.Problem.{Problem}
 pub use Rattle.cover_model.specs.Fits.{FitsAxis, FitsAxes}
 use Rattle.cover_model.specs.State.{State, Loosenings}
 use Rattle.poly_graph.specs.Marks.{yes_of, no_of}
-use Rattle.cover_model.specs.Rules.{Line, pull, unit, void, push, void_no, ban, make_false, by, cut, flip, case, open_line, stuck, Left, one, two, stays, rule}
+use Rattle.cover_model.specs.Rules.{Line, pull, unit, void, push, void_no, combine, void_combine, ban, make_false, by, cut, flip, case, open_line, stuck, Left, one, two, stays, rule}
 use Rattle.cover_model.specs.Honest.{is_honest, branch_count}
 use Rattle.cover_model.specs.Derivation.{Tree, leaf, then, fork, tree_lines, Lawful}
 use Rattle.cert_model.specs.Due.{Standing, names_well}
@@ -20,6 +18,8 @@ line_of (unit j) = unit_at j
 line_of (void j) = void_at j
 line_of (push j) = push_at j
 line_of (void_no j) = void_no_at j
+line_of (combine ms) = combine_at ms
+line_of (void_combine ms) = void_combine_at ms
 line_of (ban j i) = ban_by j i
 line_of make_false = false_here
 line_of (by i) = by_lemma i

@@ -1,7 +1,7 @@
 -- What the first word of a line decides.
 use Rattle.std.proofs.Common.{◌≡◌, ◌≢◌, ℕ, List, [], ◌∷◌, refl, ap, ◌∙◌}
 use Rattle.cert_read.specs.declared.keyword.Keyword.{Keyword}
-use Rattle.cert_read.specs.declared.keyword.Keyword.TheVariants.{Version, Margin, Delta, Bound, Cover, Point, Tree, End, Lemma, Real, Bool, Yes, No, Pull, Unit, Void, Push, VoidNo, Case, Stuck, By, Ban, Cut, Flip, False, Open, Empty}
+use Rattle.cert_read.specs.declared.keyword.Keyword.TheVariants.{Version, Margin, Delta, Bound, Cover, Point, Tree, End, Lemma, Real, Bool, Yes, No, Pull, Unit, Void, Push, VoidNo, Case, Stuck, By, Ban, Cut, Flip, False, Open, Empty, Combine, VoidCombine}
 use Rattle.cert_read.specs.CertLine.{by_first, bad_line}
 use Rattle.cert_read.specs.Keywords.{keyword_text}
 use Rattle.cert_read.specs.Lines.{words_of}
@@ -37,6 +37,8 @@ alone_other Flip p h0 h1 h2 h3 h4 = refl
 alone_other False p h0 h1 h2 h3 h4 = absurd (h3 refl)
 alone_other Open p h0 h1 h2 h3 h4 = absurd (h4 refl)
 alone_other Empty p h0 h1 h2 h3 h4 = refl
+alone_other Combine p h0 h1 h2 h3 h4 = absurd p
+alone_other VoidCombine p h0 h1 h2 h3 h4 = absurd p
 
 -- no other form has a plain number alone
 pub count_other : (k : Keyword) → HasCount k → (k ≢ Version) → (k ≢ Margin) → (k ≢ Delta) → (k ≢ Cover) → (k ≢ Lemma) → (k ≢ Pull) → (k ≢ Unit) → (k ≢ Void) → (k ≢ Push) → (k ≢ VoidNo) → (k ≢ Case) → (k ≢ Stuck) → (k ≢ By) → (k ≢ Flip) → (k ≢ Empty) → (w : List ℕ) → by_first (keyword_text k ∷ w ∷ []) ≡ bad_line
@@ -67,6 +69,8 @@ count_other Flip p h0 h1 h2 h3 h4 h5 h6 h7 h8 h9 h10 h11 h12 h13 h14 w = absurd 
 count_other False p h0 h1 h2 h3 h4 h5 h6 h7 h8 h9 h10 h11 h12 h13 h14 w = refl
 count_other Open p h0 h1 h2 h3 h4 h5 h6 h7 h8 h9 h10 h11 h12 h13 h14 w = refl
 count_other Empty p h0 h1 h2 h3 h4 h5 h6 h7 h8 h9 h10 h11 h12 h13 h14 w = absurd (h14 refl)
+count_other Combine p h0 h1 h2 h3 h4 h5 h6 h7 h8 h9 h10 h11 h12 h13 h14 w = absurd p
+count_other VoidCombine p h0 h1 h2 h3 h4 h5 h6 h7 h8 h9 h10 h11 h12 h13 h14 w = absurd p
 
 -- no other form has two more words
 pub two_other : (k : Keyword) → HasForm k → (k ≢ Real) → (k ≢ Ban) → (k ≢ Cut) → (v w : List ℕ) → by_first (keyword_text k ∷ v ∷ w ∷ []) ≡ bad_line
@@ -97,6 +101,8 @@ two_other Flip p h0 h1 h2 v w = refl
 two_other False p h0 h1 h2 v w = refl
 two_other Open p h0 h1 h2 v w = refl
 two_other Empty p h0 h1 h2 v w = refl
+two_other Combine p h0 h1 h2 v w = absurd p
+two_other VoidCombine p h0 h1 h2 v w = absurd p
 
 -- but for lists no form has more
 pub many_other : (k : Keyword) → HasForm k → (u v w : List ℕ) (ws : List (List ℕ)) → by_first (keyword_text k ∷ u ∷ v ∷ w ∷ ws) ≡ bad_line
@@ -127,35 +133,39 @@ many_other Flip p u v w ws = refl
 many_other False p u v w ws = refl
 many_other Open p u v w ws = refl
 many_other Empty p u v w ws = refl
+many_other Combine p u v w ws = absurd p
+many_other VoidCombine p u v w ws = absurd p
 
-pub form_of : (k : Keyword) → (k ≢ Yes) → (k ≢ No) → HasForm k
-form_of Version h0 h1 = tt
-form_of Margin h0 h1 = tt
-form_of Delta h0 h1 = tt
-form_of Bound h0 h1 = tt
-form_of Cover h0 h1 = tt
-form_of Point h0 h1 = tt
-form_of Tree h0 h1 = tt
-form_of End h0 h1 = tt
-form_of Lemma h0 h1 = tt
-form_of Real h0 h1 = tt
-form_of Bool h0 h1 = tt
-form_of Yes h0 h1 = absurd (h0 refl)
-form_of No h0 h1 = absurd (h1 refl)
-form_of Pull h0 h1 = tt
-form_of Unit h0 h1 = tt
-form_of Void h0 h1 = tt
-form_of Push h0 h1 = tt
-form_of VoidNo h0 h1 = tt
-form_of Case h0 h1 = tt
-form_of Stuck h0 h1 = tt
-form_of By h0 h1 = tt
-form_of Ban h0 h1 = tt
-form_of Cut h0 h1 = tt
-form_of Flip h0 h1 = tt
-form_of False h0 h1 = tt
-form_of Open h0 h1 = tt
-form_of Empty h0 h1 = tt
+pub form_of : (k : Keyword) → (k ≢ Yes) → (k ≢ No) → (k ≢ Combine) → (k ≢ VoidCombine) → HasForm k
+form_of Version h0 h1 h2 h3 = tt
+form_of Margin h0 h1 h2 h3 = tt
+form_of Delta h0 h1 h2 h3 = tt
+form_of Bound h0 h1 h2 h3 = tt
+form_of Cover h0 h1 h2 h3 = tt
+form_of Point h0 h1 h2 h3 = tt
+form_of Tree h0 h1 h2 h3 = tt
+form_of End h0 h1 h2 h3 = tt
+form_of Lemma h0 h1 h2 h3 = tt
+form_of Real h0 h1 h2 h3 = tt
+form_of Bool h0 h1 h2 h3 = tt
+form_of Yes h0 h1 h2 h3 = absurd (h0 refl)
+form_of No h0 h1 h2 h3 = absurd (h1 refl)
+form_of Pull h0 h1 h2 h3 = tt
+form_of Unit h0 h1 h2 h3 = tt
+form_of Void h0 h1 h2 h3 = tt
+form_of Push h0 h1 h2 h3 = tt
+form_of VoidNo h0 h1 h2 h3 = tt
+form_of Case h0 h1 h2 h3 = tt
+form_of Stuck h0 h1 h2 h3 = tt
+form_of By h0 h1 h2 h3 = tt
+form_of Ban h0 h1 h2 h3 = tt
+form_of Cut h0 h1 h2 h3 = tt
+form_of Flip h0 h1 h2 h3 = tt
+form_of False h0 h1 h2 h3 = tt
+form_of Open h0 h1 h2 h3 = tt
+form_of Empty h0 h1 h2 h3 = tt
+form_of Combine h0 h1 h2 h3 = absurd (h2 refl)
+form_of VoidCombine h0 h1 h2 h3 = absurd (h3 refl)
 
 pub count_form : (k : Keyword) → HasForm k → (k ≢ Bound) → (k ≢ Real) → (k ≢ Bool) → HasCount k
 count_form Version p h0 h1 h2 = tt
@@ -185,6 +195,8 @@ count_form Flip p h0 h1 h2 = tt
 count_form False p h0 h1 h2 = tt
 count_form Open p h0 h1 h2 = tt
 count_form Empty p h0 h1 h2 = tt
+count_form Combine p h0 h1 h2 = absurd p
+count_form VoidCombine p h0 h1 h2 = absurd p
 
 pub three_words : (k : Keyword) → HasForm k → (t u r v s : List ℕ) → words_of t ≡ u ∷ words_of r → words_of r ≡ v ∷ words_of s → by_first (keyword_text k ∷ words_of t) ≡ bad_line
 three_words k p t u r v s e f =

@@ -3,7 +3,7 @@ use Rattle.std.proofs.Common.{◌≡◌, ℕ, List, [], ◌∷◌, Bool as Truth
 use Rattle.std.specs.Str.{bytes_eq}
 use Rattle.std.proofs.lemmas.Slice.Eq.{bytes_eq-Decides}
 use Rattle.cert_read.specs.declared.keyword.Keyword.{Keyword}
-use Rattle.cert_read.specs.declared.keyword.Keyword.TheVariants.{Version, Margin, Delta, Bound, Cover, Point, Tree, End, Lemma, Real, Bool, Yes, No, Pull, Unit, Void, Push, VoidNo, Case, Stuck, By, Ban, Cut, Flip, False, Open, Empty}
+use Rattle.cert_read.specs.declared.keyword.Keyword.TheVariants.{Version, Margin, Delta, Bound, Cover, Point, Tree, End, Lemma, Real, Bool, Yes, No, Pull, Unit, Void, Push, VoidNo, Case, Stuck, By, Ban, Cut, Flip, False, Open, Empty, Combine, VoidCombine}
 use Rattle.cert_read.specs.CertLine.{by_first, by_number, bad_line}
 use Rattle.cert_read.specs.Keywords.{keyword_of, keyword_text}
 
@@ -23,10 +23,10 @@ passed false k rest h = (refl, h)
 
 pub keyword_is : (w : List ℕ) (j : Keyword) → keyword_of w ≡ Some j → w ≡ keyword_text j
 keyword_is w j h =
-    found w Version j _ h (λ h0. found w Margin j _ h0 (λ h1. found w Delta j _ h1 (λ h2. found w Bound j _ h2 (λ h3. found w Cover j _ h3 (λ h4. found w Point j _ h4 (λ h5. found w Tree j _ h5 (λ h6. found w End j _ h6 (λ h7. found w Lemma j _ h7 (λ h8. found w Real j _ h8 (λ h9. found w Bool j _ h9 (λ h10. found w Yes j _ h10 (λ h11. found w No j _ h11 (λ h12. found w Pull j _ h12 (λ h13. found w Unit j _ h13 (λ h14. found w Void j _ h14 (λ h15. found w Push j _ h15 (λ h16. found w VoidNo j _ h16 (λ h17. found w Case j _ h17 (λ h18. found w Stuck j _ h18 (λ h19. found w By j _ h19 (λ h20. found w Ban j _ h20 (λ h21. found w Cut j _ h21 (λ h22. found w Flip j _ h22 (λ h23. found w False j _ h23 (λ h24. found w Open j _ h24 (λ h25. found w Empty j _ h25 (λ h26. absurd (let f : ◌≡◌ {A = Option Keyword} None (Some j) = h26 in cc))))))))))))))))))))))))))))
+    found w Version j _ h (λ h0. found w Margin j _ h0 (λ h1. found w Delta j _ h1 (λ h2. found w Bound j _ h2 (λ h3. found w Cover j _ h3 (λ h4. found w Point j _ h4 (λ h5. found w Tree j _ h5 (λ h6. found w End j _ h6 (λ h7. found w Lemma j _ h7 (λ h8. found w Real j _ h8 (λ h9. found w Bool j _ h9 (λ h10. found w Yes j _ h10 (λ h11. found w No j _ h11 (λ h12. found w Pull j _ h12 (λ h13. found w Unit j _ h13 (λ h14. found w Void j _ h14 (λ h15. found w Push j _ h15 (λ h16. found w VoidNo j _ h16 (λ h17. found w Case j _ h17 (λ h18. found w Stuck j _ h18 (λ h19. found w By j _ h19 (λ h20. found w Ban j _ h20 (λ h21. found w Cut j _ h21 (λ h22. found w Flip j _ h22 (λ h23. found w False j _ h23 (λ h24. found w Open j _ h24 (λ h25. found w Empty j _ h25 (λ h26. found w Combine j _ h26 (λ h27. found w VoidCombine j _ h27 (λ h28. absurd (let f : ◌≡◌ {A = Option Keyword} None (Some j) = h28 in cc))))))))))))))))))))))))))))))
 
-no_list : (w : List ℕ) (ws : List (List ℕ)) → bytes_eq w (codes "yes") ≡ false → bytes_eq w (codes "no") ≡ false → by_first (w ∷ ws) ≡ by_number w ws
-no_list w ws h k = rw (h, k) refl
+no_list : (w : List ℕ) (ws : List (List ℕ)) → bytes_eq w (codes "yes") ≡ false → bytes_eq w (codes "no") ≡ false → bytes_eq w (codes "comb") ≡ false → bytes_eq w (codes "voidcomb") ≡ false → by_first (w ∷ ws) ≡ by_number w ws
+no_list w ws h k m n = rw (h, k, m, n) refl
 
 no_one : (w : List ℕ) → bytes_eq w (codes "point") ≡ false → bytes_eq w (codes "tree") ≡ false → bytes_eq w (codes "end") ≡ false → bytes_eq w (codes "false") ≡ false → bytes_eq w (codes "open") ≡ false → by_number w ([]) ≡ bad_line
 no_one w h0 h1 h2 h3 h4 = rw (h0, h1, h2, h3, h4) refl
@@ -66,7 +66,9 @@ no_keyword w [] h =
     let p24 = passed (bytes_eq w (codes "false")) False _ p23.1 in
     let p25 = passed (bytes_eq w (codes "open")) Open _ p24.1 in
     let p26 = passed (bytes_eq w (codes "empty")) Empty _ p25.1 in
-    no_list w [] p11.0 p12.0 ∙ no_one w p5.0 p6.0 p7.0 p24.0 p25.0
+    let p27 = passed (bytes_eq w (codes "comb")) Combine _ p26.1 in
+    let p28 = passed (bytes_eq w (codes "voidcomb")) VoidCombine _ p27.1 in
+    no_list w [] p11.0 p12.0 p27.0 p28.0 ∙ no_one w p5.0 p6.0 p7.0 p24.0 p25.0
 no_keyword w (v ∷ []) h =
     let p0 = passed (bytes_eq w (codes "dpoly")) Version _ h in
     let p1 = passed (bytes_eq w (codes "margin")) Margin _ p0.1 in
@@ -95,7 +97,9 @@ no_keyword w (v ∷ []) h =
     let p24 = passed (bytes_eq w (codes "false")) False _ p23.1 in
     let p25 = passed (bytes_eq w (codes "open")) Open _ p24.1 in
     let p26 = passed (bytes_eq w (codes "empty")) Empty _ p25.1 in
-    no_list w (v ∷ []) p11.0 p12.0 ∙ no_more w v p0.0 p1.0 p2.0 p3.0 p4.0 p8.0 p9.0 p10.0 p26.0 p13.0 p14.0 p15.0 p16.0 p17.0 p20.0 p23.0 p18.0 p19.0
+    let p27 = passed (bytes_eq w (codes "comb")) Combine _ p26.1 in
+    let p28 = passed (bytes_eq w (codes "voidcomb")) VoidCombine _ p27.1 in
+    no_list w (v ∷ []) p11.0 p12.0 p27.0 p28.0 ∙ no_more w v p0.0 p1.0 p2.0 p3.0 p4.0 p8.0 p9.0 p10.0 p26.0 p13.0 p14.0 p15.0 p16.0 p17.0 p20.0 p23.0 p18.0 p19.0
 no_keyword w (u ∷ v ∷ []) h =
     let p0 = passed (bytes_eq w (codes "dpoly")) Version _ h in
     let p1 = passed (bytes_eq w (codes "margin")) Margin _ p0.1 in
@@ -124,7 +128,9 @@ no_keyword w (u ∷ v ∷ []) h =
     let p24 = passed (bytes_eq w (codes "false")) False _ p23.1 in
     let p25 = passed (bytes_eq w (codes "open")) Open _ p24.1 in
     let p26 = passed (bytes_eq w (codes "empty")) Empty _ p25.1 in
-    no_list w (u ∷ v ∷ []) p11.0 p12.0 ∙ no_two w u v p9.0 p21.0 p22.0
+    let p27 = passed (bytes_eq w (codes "comb")) Combine _ p26.1 in
+    let p28 = passed (bytes_eq w (codes "voidcomb")) VoidCombine _ p27.1 in
+    no_list w (u ∷ v ∷ []) p11.0 p12.0 p27.0 p28.0 ∙ no_two w u v p9.0 p21.0 p22.0
 no_keyword w (u ∷ v ∷ x ∷ ws) h =
     let p0 = passed (bytes_eq w (codes "dpoly")) Version _ h in
     let p1 = passed (bytes_eq w (codes "margin")) Margin _ p0.1 in
@@ -153,4 +159,6 @@ no_keyword w (u ∷ v ∷ x ∷ ws) h =
     let p24 = passed (bytes_eq w (codes "false")) False _ p23.1 in
     let p25 = passed (bytes_eq w (codes "open")) Open _ p24.1 in
     let p26 = passed (bytes_eq w (codes "empty")) Empty _ p25.1 in
-    no_list w (u ∷ v ∷ x ∷ ws) p11.0 p12.0
+    let p27 = passed (bytes_eq w (codes "comb")) Combine _ p26.1 in
+    let p28 = passed (bytes_eq w (codes "voidcomb")) VoidCombine _ p27.1 in
+    no_list w (u ∷ v ∷ x ∷ ws) p11.0 p12.0 p27.0 p28.0

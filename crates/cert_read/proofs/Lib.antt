@@ -5,6 +5,7 @@ mod Counts
 mod Forms
 mod KeywordWords
 mod LineRows
+mod Paired
 pub mod Parts
 pub mod Pieces
 pub mod Spelled

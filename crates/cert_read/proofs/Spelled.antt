@@ -12,8 +12,9 @@ use Rattle.dyadic.specs.Rounding.{Dyadic}
 use Rattle.dyadic.specs.NumberText.{number_spelling}
 use Rattle.dyadic.proofs.Equal.{both_true, both_pass}
 use Rattle.cert_read.specs.Lines.{all_bytes, is_word, are_words, words_of, is_too_long, longest_line}
-use Rattle.cert_read.specs.CertLine.{BoolWord, says_false, says_true, says_both, RuleLine, pull_at, unit_at, void_at, push_at, void_no_at, case_at, stuck_at, by_lemma, ban_by, cut_at, flip_at, false_here, open_here, CertLine, version, margin, delta, bound, cover, point_word, tree_word, end_word, lemma, real_interval, real_value, bool_value, yes_list, no_list, rule_line, crossing, is_plain, if_below, if_plain, count_of, if_number, dyadic_of, counts_of, and_count, line, parsed, with_count, with_counts, with_dyadic, with_dyadics, with_both, with_list, of_bound, by_first, if_words, unless_long}
-use Rattle.cert_read.specs.LineText.{spaced, line_words, line_text, rule_words, bound_text, bool_text, is_word_byte, IsCount, IsSpelledNumber, IsSpelledRule, IsSpelledBound, HasSpelling, IsSpelled}
+use Rattle.cert_read.specs.CertLine.{BoolWord, says_false, says_true, says_both, RuleLine, pull_at, unit_at, void_at, push_at, void_no_at, case_at, stuck_at, by_lemma, ban_by, cut_at, flip_at, combine_at, void_combine_at, false_here, open_here, CertLine, version, margin, delta, bound, cover, point_word, tree_word, end_word, lemma, real_interval, real_value, bool_value, yes_list, no_list, rule_line, crossing, is_plain, if_below, if_plain, count_of, if_number, dyadic_of, counts_of, and_count, pairs_of, and_pair, are_paired, has_pairs, line, parsed, with_count, with_counts, with_dyadic, with_dyadics, with_both, with_list, of_bound, paired, by_first, if_words, unless_long}
+use Rattle.cert_read.specs.LineText.{spaced, line_words, line_text, rule_words, pair_words, bound_text, bool_text, is_word_byte, IsCount, IsSpelledNumber, IsSpelledPair, AreSpelledPairs, IsSpelledRule, IsSpelledBound, HasSpelling, IsSpelled}
+use Rattle.cert_read.proofs.Paired.{paired_line}
 use Rattle.cert_read.proofs.Pieces.{lacks, AllLack, words_of_spaced, spaced_lacks}
 
 -- ---- plain numbers
@@ -107,6 +108,10 @@ decimals-clean (j ∷ js) h = (decimal-clean j h.0, decimals-clean js h.1)
 number-clean : (d : Dyadic) → IsSpelledNumber d → IsCleanWord (number_spelling d)
 number-clean d h = record { some = h.1; clean = h.2 }
 
+pairs-clean : (ps : List (ℕ × Dyadic)) → AllByRecursion IsSpelledPair ps → AreCleanWords (pair_words ps)
+pairs-clean [] h = tt
+pairs-clean ((j, l) ∷ ps) h = (decimal-clean j h.0.0, (number-clean l h.0.1, pairs-clean ps h.1))
+
 -- of a word that stands in the text
 literal : (w : List ℕ) → IsTrue (nat_lt 0 (length w)) → IsTrue (all_bytes is_word_byte w) → IsCleanWord w
 literal w h k = record { some = leb-true 1 (length w) h; clean = k }
@@ -132,6 +137,8 @@ rule-clean (by_lemma i) h = (literal (codes "by") refl refl, (decimal-clean i h,
 rule-clean (ban_by j i) h = (literal (codes "ban") refl refl, (decimal-clean j h.0, (decimal-clean i h.1, tt)))
 rule-clean (cut_at axis c) h = (literal (codes "cut") refl refl, (decimal-clean axis h.0, (number-clean c h.1, tt)))
 rule-clean (flip_at axis) h = (literal (codes "flip") refl refl, (decimal-clean axis h, tt))
+rule-clean (combine_at ps) h = (literal (codes "comb") refl refl, pairs-clean ps h.1)
+rule-clean (void_combine_at ps) h = (literal (codes "voidcomb") refl refl, pairs-clean ps h.1)
 rule-clean false_here h = (literal (codes "false") refl refl, tt)
 rule-clean open_here h = (literal (codes "open") refl refl, tt)
 
@@ -168,6 +175,23 @@ bool-says says_both = refl
 one-says : (f : ℕ → CertLine) (n : ℕ) → IsCount n → with_count f (count_of (decimal n)) ≡ line (f n)
 one-says f n h = ap (λ (o : Option ℕ). with_count f o) (spelled_count n h)
 
+spelled_pairs : (ps : List (ℕ × Dyadic)) → AllByRecursion IsSpelledPair ps → pairs_of (pair_words ps) ≡ Some ps
+spelled_pairs [] h = refl
+spelled_pairs ((j, l) ∷ ps) h =
+    ap₂ (λ (o : Option ℕ) (q : Option Dyadic). and_pair o q (pairs_of (pair_words ps))) (spelled_count j h.0.0) (spelled-number l h.0.1)
+    ∙ ap (λ (os : Option (List (ℕ × Dyadic))). and_pair (Some j) (Some l) os) (spelled_pairs ps h.1)
+
+words-paired : (ps : List (ℕ × Dyadic)) → IsTrue (are_paired (pair_words ps))
+words-paired [] = refl
+words-paired ((j, l) ∷ ps) = ap (λ (t : Bool). not (not t)) (words-paired ps)
+
+spelled-some : (ps : List (ℕ × Dyadic)) → 0 < length ps → IsTrue (has_pairs (pair_words ps))
+spelled-some [] h = absurd (omega (arith, h))
+spelled-some ((j, l) ∷ ps) h = words-paired ((j, l) ∷ ps)
+
+pairs-say : (f : List (ℕ × Dyadic) → RuleLine) (ps : List (ℕ × Dyadic)) → AreSpelledPairs ps → paired f (pair_words ps) ≡ line (rule_line (f ps))
+pairs-say f ps h = paired_line f (pair_words ps) (Some ps) (spelled-some ps h.0) (spelled_pairs ps h.1)
+
 rule-says : (l : RuleLine) → IsSpelledRule l → by_first (rule_words l) ≡ line (rule_line l)
 rule-says (pull_at j) h = one-says (λ n. rule_line (pull_at n)) j h
 rule-says (unit_at j) h = one-says (λ n. rule_line (unit_at n)) j h
@@ -180,6 +204,8 @@ rule-says (by_lemma i) h = one-says (λ n. rule_line (by_lemma n)) i h
 rule-says (ban_by j i) h = ap₂ (λ (o : Option ℕ) (q : Option ℕ). with_counts (λ m n. rule_line (ban_by m n)) o q) (spelled_count j h.0) (spelled_count i h.1)
 rule-says (cut_at axis c) h = ap₂ (λ (o : Option ℕ) (q : Option Dyadic). with_both (λ m d. rule_line (cut_at m d)) o q) (spelled_count axis h.0) (spelled-number c h.1)
 rule-says (flip_at axis) h = one-says (λ n. rule_line (flip_at n)) axis h
+rule-says (combine_at ps) h = pairs-say combine_at ps h
+rule-says (void_combine_at ps) h = pairs-say void_combine_at ps h
 rule-says false_here h = refl
 rule-says open_here h = refl
 
@@ -250,6 +276,8 @@ has-word (rule_line (by_lemma i)) = omega arith
 has-word (rule_line (ban_by j i)) = omega arith
 has-word (rule_line (cut_at axis c)) = omega arith
 has-word (rule_line (flip_at axis)) = omega arith
+has-word (rule_line (combine_at ps)) = omega arith
+has-word (rule_line (void_combine_at ps)) = omega arith
 has-word (rule_line false_here) = omega arith
 has-word (rule_line open_here) = omega arith
 has-word _ = omega arith

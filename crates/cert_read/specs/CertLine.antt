@@ -21,6 +21,8 @@ pub data RuleLine : Type 0 where
   ban_by : ℕ → ℕ → RuleLine
   -- an axis, the first with the place of the cut
   cut_at : ℕ → Dyadic → RuleLine
+  -- atoms, each with its multiplier
+  combine_at void_combine_at : List (ℕ × Dyadic) → RuleLine
   flip_at : ℕ → RuleLine
   false_here open_here : RuleLine
 
@@ -41,7 +43,7 @@ pub data CertLine : Type 0 where
 
 -- the first words of a tree's lines
 pub data RuleWord : Type 0 where
-  empty_word pull_word unit_word ban_word void_word push_word void_no_word false_word by_word cut_word flip_word case_word open_word stuck_word : RuleWord
+  empty_word pull_word unit_word ban_word void_word push_word void_no_word false_word by_word cut_word flip_word case_word open_word stuck_word combine_word void_combine_word : RuleWord
 
 abbrev pub word_of : RuleLine → RuleWord
 word_of (pull_at j) = pull_word
@@ -55,6 +57,8 @@ word_of (by_lemma i) = by_word
 word_of (ban_by j i) = ban_word
 word_of (cut_at axis c) = cut_word
 word_of (flip_at axis) = flip_word
+word_of (combine_at ps) = combine_word
+word_of (void_combine_at ps) = void_combine_word
 word_of false_here = false_word
 word_of open_here = open_word
 
@@ -73,6 +77,8 @@ word_text flip_word = codes "flip"
 word_text case_word = codes "case"
 word_text open_word = codes "open"
 word_text stuck_word = codes "stuck"
+word_text combine_word = codes "comb"
+word_text void_combine_word = codes "voidcomb"
 
 -- ---- numbers
 
@@ -140,6 +146,29 @@ abbrev pub with_list : (List ℕ → CertLine) → Option (List ℕ) → Parsed
 with_list f (Some ns) = line (f ns)
 with_list f None = bad_number
 
+abbrev pub and_pair : Option ℕ → Option Dyadic → Option (List (ℕ × Dyadic)) → Option (List (ℕ × Dyadic))
+and_pair (Some n) (Some d) (Some ps) = Some ((n, d) ∷ ps)
+and_pair _ _ _ = None
+
+-- plain numbers and numbers of the grid in turn
+abbrev pub pairs_of : List (List ℕ) → Option (List (ℕ × Dyadic))
+pairs_of (v ∷ w ∷ ws) = and_pair (count_of v) (dyadic_of w) (pairs_of ws)
+pairs_of _ = Some []
+
+abbrev pub with_pairs : (List (ℕ × Dyadic) → RuleLine) → Option (List (ℕ × Dyadic)) → Parsed
+with_pairs f (Some ps) = line (rule_line (f ps))
+with_pairs f None = bad_number
+
+-- whether the number of words is even
+abbrev pub are_paired : List (List ℕ) → Bool
+are_paired [] = true
+are_paired (w ∷ ws) = not (are_paired ws)
+
+-- one pair or more, and nothing left over
+abbrev pub has_pairs : List (List ℕ) → Bool
+has_pairs [] = false
+has_pairs ws = are_paired ws
+
 -- ---- the forms, by their first words
 
 abbrev pub of_bool : List ℕ → Parsed
@@ -156,6 +185,9 @@ counted f w = with_count f (count_of w)
 
 abbrev pub ruled : (ℕ → RuleLine) → List ℕ → Parsed
 ruled f w = with_count (λ n. rule_line (f n)) (count_of w)
+
+abbrev pub paired : (List (ℕ × Dyadic) → RuleLine) → List (List ℕ) → Parsed
+paired f ws = cond (has_pairs ws) (with_pairs f (pairs_of ws)) bad_line
 
 -- lines of one word, with one more word, with two more, and with any number
 abbrev pub one_word : List (List ℕ × CertLine)
@@ -175,7 +207,9 @@ two_more =
     (codes "cut", λ v w. with_both (λ axis c. rule_line (cut_at axis c)) (count_of v) (dyadic_of w)) ∷ []
 
 abbrev pub any_more : List (List ℕ × (List (List ℕ) → Parsed))
-any_more = (codes "yes", λ ws. with_list yes_list (counts_of ws)) ∷ (codes "no", λ ws. with_list no_list (counts_of ws)) ∷ []
+any_more =
+    (codes "yes", λ ws. with_list yes_list (counts_of ws)) ∷ (codes "no", λ ws. with_list no_list (counts_of ws)) ∷
+    (codes "comb", paired combine_at) ∷ (codes "voidcomb", paired void_combine_at) ∷ []
 
 -- the entry under a name
 abbrev pub entry : {A : Type 0} → List ℕ → List (List ℕ × A) → Option A

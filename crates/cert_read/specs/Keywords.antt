@@ -2,7 +2,7 @@
 use Rattle.std.specs.Prelude.{ℕ, List, cond, Option, Some, None, codes}
 use Rattle.std.specs.Str.{bytes_eq}
 use Rattle.cert_read.specs.declared.keyword.Keyword.{Keyword}
-use Rattle.cert_read.specs.declared.keyword.Keyword.TheVariants.{Version, Margin, Delta, Bound, Cover, Point, Tree, End, Lemma, Real, Bool, Yes, No, Pull, Unit, Void, Push, VoidNo, Case, Stuck, By, Ban, Cut, Flip, False, Open, Empty}
+use Rattle.cert_read.specs.declared.keyword.Keyword.TheVariants.{Version, Margin, Delta, Bound, Cover, Point, Tree, End, Lemma, Real, Bool, Yes, No, Pull, Unit, Void, Push, VoidNo, Case, Stuck, By, Ban, Cut, Flip, False, Open, Empty, Combine, VoidCombine}
 
 abbrev pub keyword_text : Keyword → List ℕ
 keyword_text Version = codes "dpoly"
@@ -32,6 +32,8 @@ keyword_text Flip = codes "flip"
 keyword_text False = codes "false"
 keyword_text Open = codes "open"
 keyword_text Empty = codes "empty"
+keyword_text Combine = codes "comb"
+keyword_text VoidCombine = codes "voidcomb"
 
 -- the word that leads a line of a tree
 abbrev pub rule_keyword_of : List ℕ → Option Keyword
@@ -50,7 +52,9 @@ rule_keyword_of w =
     cond (bytes_eq w (codes "false")) (Some False) (
     cond (bytes_eq w (codes "open")) (Some Open) (
     cond (bytes_eq w (codes "empty")) (Some Empty) (
-    None))))))))))))))
+    cond (bytes_eq w (codes "comb")) (Some Combine) (
+    cond (bytes_eq w (codes "voidcomb")) (Some VoidCombine) (
+    None))))))))))))))))
 
 -- the word that leads a line
 abbrev pub keyword_of : List ℕ → Option Keyword

@@ -4,7 +4,7 @@ use Rattle.std.specs.List.{AllByRecursion}
 use Rattle.dyadic.specs.Rounding.{Dyadic}
 use Rattle.dyadic.specs.NumberText.{number, number_text, number_spelling}
 use Rattle.cert_read.specs.Lines.{all_bytes, longest_line}
-use Rattle.cert_read.specs.CertLine.{BoolWord, says_false, says_true, says_both, RuleLine, pull_at, unit_at, void_at, push_at, void_no_at, case_at, stuck_at, by_lemma, ban_by, cut_at, flip_at, false_here, open_here, CertLine, version, margin, delta, bound, cover, point_word, tree_word, end_word, lemma, real_interval, real_value, bool_value, yes_list, no_list, rule_line, crossing}
+use Rattle.cert_read.specs.CertLine.{BoolWord, says_false, says_true, says_both, RuleLine, pull_at, unit_at, void_at, push_at, void_no_at, case_at, stuck_at, by_lemma, ban_by, cut_at, flip_at, combine_at, void_combine_at, false_here, open_here, CertLine, version, margin, delta, bound, cover, point_word, tree_word, end_word, lemma, real_interval, real_value, bool_value, yes_list, no_list, rule_line, crossing}
 
 -- words parted by one space
 abbrev pub spaced : List (List ℕ) → List ℕ
@@ -26,6 +26,11 @@ bool_text says_false = codes "false"
 bool_text says_true = codes "true"
 bool_text says_both = codes "both"
 
+-- atoms, each with its multiplier
+abbrev pub pair_words : List (ℕ × Dyadic) → List (List ℕ)
+pair_words [] = []
+pair_words ((j, l) ∷ ps) = decimal j ∷ number_spelling l ∷ pair_words ps
+
 abbrev pub rule_words : RuleLine → List (List ℕ)
 rule_words (pull_at j) = codes "pull" ∷ decimal j ∷ []
 rule_words (unit_at j) = codes "unit" ∷ decimal j ∷ []
@@ -38,6 +43,8 @@ rule_words (by_lemma i) = codes "by" ∷ decimal i ∷ []
 rule_words (ban_by j i) = codes "ban" ∷ decimal j ∷ decimal i ∷ []
 rule_words (cut_at axis c) = codes "cut" ∷ decimal axis ∷ number_spelling c ∷ []
 rule_words (flip_at axis) = codes "flip" ∷ decimal axis ∷ []
+rule_words (combine_at ps) = codes "comb" ∷ pair_words ps
+rule_words (void_combine_at ps) = codes "voidcomb" ∷ pair_words ps
 rule_words false_here = codes "false" ∷ []
 rule_words open_here = codes "open" ∷ []
 
@@ -76,6 +83,12 @@ IsCount n = n < 2 ^ 32
 abbrev pub IsSpelledNumber : Dyadic → Type 0
 IsSpelledNumber d = (number_text (number_spelling d) ≡ number d) × (0 < length (number_spelling d)) × IsTrue (all_bytes is_word_byte (number_spelling d))
 
+abbrev pub IsSpelledPair : (ℕ × Dyadic) → Type 0
+IsSpelledPair (j, l) = IsCount j × IsSpelledNumber l
+
+abbrev pub AreSpelledPairs : List (ℕ × Dyadic) → Type 0
+AreSpelledPairs ps = (0 < length ps) × AllByRecursion IsSpelledPair ps
+
 abbrev pub IsSpelledRule : RuleLine → Type 0
 IsSpelledRule (pull_at j) = IsCount j
 IsSpelledRule (unit_at j) = IsCount j
@@ -88,6 +101,8 @@ IsSpelledRule (by_lemma i) = IsCount i
 IsSpelledRule (ban_by j i) = IsCount j × IsCount i
 IsSpelledRule (cut_at axis c) = IsCount axis × IsSpelledNumber c
 IsSpelledRule (flip_at axis) = IsCount axis
+IsSpelledRule (combine_at ps) = AreSpelledPairs ps
+IsSpelledRule (void_combine_at ps) = AreSpelledPairs ps
 IsSpelledRule _ = Unit {0}
 
 abbrev pub IsSpelledBound : Option ℕ → Type 0

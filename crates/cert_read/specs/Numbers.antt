@@ -1,11 +1,14 @@
 -- What the readers of numbers answer.
-use Rattle.std.specs.Prelude.{◌≡◌, ◌≢◌, ◌<◌, ℕ, List, Option, Some, None, Result, Ok, Err, EachIndex, length, slice_index}
+use Rattle.std.specs.Prelude.{◌≡◌, ◌≢◌, ◌<◌, ℕ, false, List, Option, Some, None, Result, Ok, Err, IsTrue, EachIndex, length, slice_index, Vec}
 use Rattle.std.specs.Int.{IsInRange}
+use Rattle.std.specs.declared.alloc.Global.{Global}
 use Rattle.dyadic.specs.declared.dy.Dy.{Dy}
 use Rattle.dyadic.specs.Rounding.{Dyadic}
 use Rattle.dyadic.specs.Views as dy
 use Rattle.cert_read.specs.declared.fault.LineFault.{LineFault}
-use Rattle.cert_read.specs.declared.fault.LineFault.TheVariants.{BadNumber, Memory}
+use Rattle.cert_read.specs.declared.fault.LineFault.TheVariants.{BadLine, BadNumber, Memory}
+use Rattle.cert_read.specs.CertLine.{has_pairs, pairs_of}
+use Rattle.cert_read.specs.Views.{pair_list}
 
 -- the number of a word, or that it has none
 abbrev pub IsMeasured : Result Dy LineFault → Option Dyadic → Type 0
@@ -13,10 +16,16 @@ IsMeasured (Ok d) o = o ≡ Some (dy.dyadic_of d)
 IsMeasured (Err f) o = (f ≡ BadNumber) × (o ≡ None)
 
 -- of some numbers, a fault is that one has none, or want of memory
-abbrev pub IsUncounted : LineFault → Option (List ℕ) → Type 0
+abbrev pub IsUncounted : {A : Type 0} → LineFault → Option A → Type 0
 IsUncounted BadNumber o = o ≡ None
 IsUncounted Memory o = Unit {0}
 IsUncounted f o = ⊥
+
+-- atoms with their multipliers; a fault is that the words are no pairs, that a number is none, or want of memory
+abbrev pub ArePairs : Result (Vec (ℕ × Dy) Global) LineFault → List (List ℕ) → Type 0
+ArePairs (Ok v) ws = IsTrue (has_pairs ws) × (pairs_of ws ≡ Some (pair_list v.items))
+ArePairs (Err BadLine) ws = has_pairs ws ≡ false
+ArePairs (Err f) ws = IsTrue (has_pairs ws) × IsUncounted f (pairs_of ws)
 
 abbrev pub AreDigits : List ℕ → Type 0
 AreDigits w = EachIndex w (λ k. IsInRange 48 57 (slice_index w k))

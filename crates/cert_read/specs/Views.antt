@@ -1,15 +1,24 @@
 -- What the lines of the code stand for.
+use Rattle.std.specs.Prelude.{ℕ, List, map}
+use Rattle.dyadic.specs.declared.dy.Dy.{Dy}
+use Rattle.dyadic.specs.Rounding.{Dyadic}
 use Rattle.dyadic.specs.Views.{dyadic_of}
 use Rattle.cert_read.specs.declared.line.BoolSet.{BoolSet}
 use Rattle.cert_read.specs.declared.line.BoolSet.TheVariants as set
 use Rattle.cert_read.specs.declared.line.Line.{Line}
-use Rattle.cert_read.specs.declared.line.Line.TheVariants.{Version, Margin, Delta, Bound, Cover, Point, Tree, End, Lemma, RealInterval, RealValue, Bool, Yes, No, Pull, Unit, Void, Push, VoidNo, Case, Stuck, By, Ban, Cut, Flip, False, Open, Empty}
-use Rattle.cert_read.specs.CertLine.{BoolWord, says_false, says_true, says_both, pull_at, unit_at, void_at, push_at, void_no_at, case_at, stuck_at, by_lemma, ban_by, cut_at, flip_at, false_here, open_here, CertLine, version, margin, delta, bound, cover, point_word, tree_word, end_word, lemma, real_interval, real_value, bool_value, yes_list, no_list, rule_line, crossing}
+use Rattle.cert_read.specs.declared.line.Line.TheVariants.{Version, Margin, Delta, Bound, Cover, Point, Tree, End, Lemma, RealInterval, RealValue, Bool, Yes, No, Pull, Unit, Void, Push, VoidNo, Case, Stuck, By, Ban, Cut, Flip, False, Open, Empty, Combine, VoidCombine}
+use Rattle.cert_read.specs.CertLine.{BoolWord, says_false, says_true, says_both, pull_at, unit_at, void_at, push_at, void_no_at, case_at, stuck_at, by_lemma, ban_by, cut_at, flip_at, combine_at, void_combine_at, false_here, open_here, CertLine, version, margin, delta, bound, cover, point_word, tree_word, end_word, lemma, real_interval, real_value, bool_value, yes_list, no_list, rule_line, crossing}
 
 abbrev pub bool_word_of : BoolSet → BoolWord
 bool_word_of set.False = says_false
 bool_word_of set.True = says_true
 bool_word_of set.Both = says_both
+
+abbrev pub pair_of : (ℕ × Dy) → (ℕ × Dyadic)
+pair_of x = (x.0, dyadic_of x.1)
+
+abbrev pub pair_list : List (ℕ × Dy) → List (ℕ × Dyadic)
+pair_list ps = map pair_of ps
 
 abbrev pub line_of : Line → CertLine
 line_of (Version n) = version n
@@ -40,3 +49,5 @@ line_of (Flip axis) = rule_line (flip_at axis)
 line_of False = rule_line false_here
 line_of Open = rule_line open_here
 line_of (Empty axis) = crossing axis
+line_of (Combine ps) = rule_line (combine_at (pair_list ps.items))
+line_of (VoidCombine ps) = rule_line (void_combine_at (pair_list ps.items))

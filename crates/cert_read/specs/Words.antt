@@ -1,7 +1,7 @@
 -- The words of a line as the code walks over them.
 use Rattle.std.specs.Prelude.{ℕ, List, [], Option, Some, None}
 use Rattle.cert_read.specs.declared.keyword.Keyword.{Keyword}
-use Rattle.cert_read.specs.declared.keyword.Keyword.TheVariants.{Yes, No, Bound, Real, Bool}
+use Rattle.cert_read.specs.declared.keyword.Keyword.TheVariants.{Yes, No, Combine, VoidCombine, Bound, Real, Bool}
 use Rattle.cert_read.specs.Lines.{words_of}
 
 -- the words of what stands behind a space, where there is one
@@ -13,6 +13,8 @@ words_behind (Some rest) = words_of rest
 abbrev pub HasForm : Keyword → Type 0
 HasForm Yes = ⊥
 HasForm No = ⊥
+HasForm Combine = ⊥
+HasForm VoidCombine = ⊥
 HasForm _ = Unit {0}
 
 -- if it has one more word, that is a plain number

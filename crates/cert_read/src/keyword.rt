@@ -32,6 +32,8 @@ pub(crate) enum Keyword {
     False,
     Open,
     Empty,
+    Combine,
+    VoidCombine,
 }
 
 /// The first word that these bytes are.
@@ -125,6 +127,12 @@ fn rule_keyword_in(word: &[u8]) -> Option<Keyword>
     }
     if word == b"empty".as_slice() {
         return Some(Keyword::Empty);
+    }
+    if word == b"comb".as_slice() {
+        return Some(Keyword::Combine);
+    }
+    if word == b"voidcomb".as_slice() {
+        return Some(Keyword::VoidCombine);
     }
     None
 }

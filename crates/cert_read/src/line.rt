@@ -68,4 +68,8 @@ pub enum Line {
     Open,
     /// `empty`, with an axis.
     Empty(u32),
+    /// `comb`, with atoms, each with its multiplier.
+    Combine(Vec<(u32, Dy)>),
+    /// `voidcomb`, with atoms, each with its multiplier.
+    VoidCombine(Vec<(u32, Dy)>),
 }

@@ -1,13 +1,14 @@
 // The numbers of lines.
 ghost use Rattle.std.specs.Prelude.{◌≡◌, ◌^◌, ◌<◌, ◌≤◌, ◌↔◌, IsTrue, MatchOption, MatchResult, Some};
 ghost use Rattle.std.specs.Str.Parse.{digits_value};
-ghost use Rattle.cert_read.specs.CertLine.{count_of, counts_of, dyadic_of};
+ghost use Rattle.cert_read.specs.CertLine.{are_paired, count_of, counts_of, dyadic_of, pairs_of};
 ghost use Rattle.cert_read.specs.Lines.{words_of};
 ghost use Rattle.cert_read.specs.Numbers.{AreDigits, IsMeasured, IsPlain, IsUncounted};
 ghost use Rattle.cert_read.specs.Told.{IsCounted};
+ghost use Rattle.cert_read.specs.Views.{pair_list};
 
 use crate::LineFault;
-use crate::place::place_of;
+use crate::place::{cut, place_of};
 use dyadic::{Dy, read_dy};
 use std::alloc::Global;
 
@@ -84,5 +85,38 @@ pub(crate) fn counts(alloc: Global, text: &[u8]) -> Result<Vec<u32>, LineFault>
             return Ok(numbers);
         }
         at += size + 1;
+    }
+}
+
+/// Whether the number of words is even.
+pub(crate) fn are_paired(text: &[u8]) -> bool
+    ensures { result ≡ are_paired (words_of text.now) }
+{
+    let mut even = false;
+    for b in text {
+        if *b == b' ' {
+            even = !even;
+        }
+    }
+    even
+}
+
+/// The pairs of a plain number and a number of the grid that words spell, without a word that is left over.
+pub(crate) fn pairs(alloc: Global, text: &[u8]) -> Result<Vec<(u32, Dy)>, LineFault>
+    ensures { MatchResult result (λ v. pairs_of (words_of text.now) ≡ Some (pair_list v.items)) (λ f. IsUncounted f (pairs_of (words_of text.now))) }
+{
+    let mut pairs = Vec::new(alloc);
+    let mut rest = text;
+    loop {
+        let (first, behind) = cut(rest);
+        let Some(behind) = behind else {
+            return Ok(pairs);
+        };
+        let (second, behind) = cut(behind);
+        pairs.push((count(first)?, dyadic(second)?))?;
+        let Some(behind) = behind else {
+            return Ok(pairs);
+        };
+        rest = behind;
     }
 }

@@ -3,14 +3,15 @@ ghost use Rattle.std.specs.Prelude.{◌≡◌, [], ◌∷◌, MatchResult, Some,
 ghost use Rattle.cert_read.specs.CertLine.{by_first, counts_of, of_bool, of_bound, parsed};
 ghost use Rattle.cert_read.specs.Keywords.{keyword_text};
 ghost use Rattle.cert_read.specs.Lines.{are_words, words_of};
-ghost use Rattle.cert_read.specs.Numbers.{IsUncounted};
+ghost use Rattle.cert_read.specs.Numbers.{ArePairs, IsUncounted};
 ghost use Rattle.cert_read.specs.Told.{Says, SaysBool};
 ghost use Rattle.cert_read.specs.Words.{HasCount, HasForm, words_behind};
 
 use crate::keyword::{Keyword, keyword_in};
-use crate::number::{count, counts, dyadic};
-use crate::place::place_of;
+use crate::number::{are_paired, count, counts, dyadic, pairs};
+use crate::place::cut;
 use crate::{BoolSet, Line, LineFault};
+use dyadic::Dy;
 use std::alloc::Global;
 
 /// A line has at most so many bytes.
@@ -54,19 +55,6 @@ fn are_words(bytes: &[u8]) -> bool
     in_word
 }
 
-// The first word, and what stands behind the space after it.
-fn cut(bytes: &[u8]) -> (&[u8], Option<&[u8]>)
-    ensures { words_of bytes.now ≡ result.0.now ∷ words_behind (option_map (λ s. s.now) result.1) }
-{
-    let size = place_of(b' ', 0, bytes);
-    let (word, rest) = bytes.split_at(size);
-    if rest.is_empty() {
-        (word, None)
-    } else {
-        (word, Some(&rest[1..]))
-    }
-}
-
 // What a line says that begins with this word.
 fn after_keyword(alloc: Global, word: Keyword, rest: Option<&[u8]>) -> Result<Line, LineFault>
     ensures { Says result (by_first (keyword_text word ∷ words_behind (option_map (λ s. s.now) rest.entry))) }
@@ -74,6 +62,8 @@ fn after_keyword(alloc: Global, word: Keyword, rest: Option<&[u8]>) -> Result<Li
     match word {
         Keyword::Yes => Ok(Line::Yes(list(alloc, rest)?)),
         Keyword::No => Ok(Line::No(list(alloc, rest)?)),
+        Keyword::Combine => Ok(Line::Combine(multipliers(alloc, rest)?)),
+        Keyword::VoidCombine => Ok(Line::VoidCombine(multipliers(alloc, rest)?)),
         _ => match rest {
             None => alone(word),
             Some(rest) => with_more(word, rest),
@@ -89,6 +79,19 @@ fn list(alloc: Global, rest: Option<&[u8]>) -> Result<Vec<u32>, LineFault>
         None => Ok(Vec::new(alloc)),
         Some(text) => counts(alloc, text),
     }
+}
+
+// The atoms of a combination with their multipliers, which are some.
+fn multipliers(alloc: Global, rest: Option<&[u8]>) -> Result<Vec<(u32, Dy)>, LineFault>
+    ensures { ArePairs result (words_behind (option_map (λ s. s.now) rest.entry)) }
+{
+    let Some(text) = rest else {
+        return Err(LineFault::BadLine);
+    };
+    if !are_paired(text) {
+        return Err(LineFault::BadLine);
+    }
+    pairs(alloc, text)
 }
 
 // What a line says that is one word.

@@ -1,5 +1,7 @@
-// Where a byte stands.
-ghost use Rattle.std.specs.Prelude.{◌≡◌, ◌≢◌, ℕ, ◌<◌, ◌≤◌, length, slice_index};
+// Where a byte stands, and the first word.
+ghost use Rattle.std.specs.Prelude.{◌≡◌, ◌≢◌, ℕ, ◌<◌, ◌≤◌, ◌∷◌, length, slice_index, MatchOption, option_map};
+ghost use Rattle.cert_read.specs.Lines.{words_of};
+ghost use Rattle.cert_read.specs.Words.{words_behind};
 
 /// The first place of a byte that does not stand in the first `from` places, or the length where it stands nowhere.
 pub(crate) fn place_of(byte: u8, from: usize, bytes: &[u8]) -> usize
@@ -14,4 +16,18 @@ pub(crate) fn place_of(byte: u8, from: usize, bytes: &[u8]) -> usize
         place += 1;
     }
     place
+}
+
+/// The first word, and what stands behind the space after it.
+pub(crate) fn cut(bytes: &[u8]) -> (&[u8], Option<&[u8]>)
+    ensures words { words_of bytes.now ≡ result.0.now ∷ words_behind (option_map (λ s. s.now) result.1) }
+    ensures shorter { MatchOption result.1 (Unit {0}) (λ s. length s.now < length bytes.now) }
+{
+    let size = place_of(b' ', 0, bytes);
+    let (word, rest) = bytes.split_at(size);
+    if rest.is_empty() {
+        (word, None)
+    } else {
+        (word, Some(&rest[1..]))
+    }
 }

@@ -20,9 +20,13 @@ use Rattle.cert_model.specs.Written.{domain_line, line_of, rule_lines, lemma_lin
 use Rattle.cover_book.specs.declared.node.Learned.{Learned}
 use Rattle.cover_book.specs.Views.{learned_of}
 use Rattle.cover_book.specs.Tree.{lemma_tree}
-use Rattle.cert_text.specs.Lines.{HasAppended, marks_line, listed}
+use Rattle.cover_model.specs.Views.{multipliers_of}
+use Rattle.dyadic.specs.declared.dy.Dy.{Dy}
+use Rattle.dyadic.specs.Rounding.{Dyadic}
+use Rattle.dyadic.specs.Views.{dyadic_of}
+use Rattle.cert_text.specs.Lines.{HasAppended, HasPairs, marks_line, listed}
 use Rattle.cert_text.specs.Parts.{header_lines, kept_lines, learned_lines}
-use Rattle.cert_text.proofs.Spelling.{rules_append, both_appended}
+use Rattle.cert_text.proofs.Spelling.{rules_append, both_appended, both_pairs}
 
 pub map_twice : {X Y Z : Type 0} (f : Y → Z) (g : X → Y) (xs : List X) → map (λ x. f (g x)) xs ≡ map f (map g xs)
 map_twice f g [] = refl
@@ -32,10 +36,6 @@ module _ {X : Type 0} (f : X → CertLine) (xs : List X) (a b : List ℕ) where
   -- the line of one more item
   pub item_appended : (c : List ℕ) (i : ℕ) (x : X) → i < length xs → x ≡ get_or xs i x → HasAppended a (map f (take i xs)) b → HasAppended b (f x ∷ []) c → HasAppended a (map f (take (i + 1) xs)) c
   item_appended c i x h e p q = subst (λ (ls : List CertLine). HasAppended a ls c) (sym (map_more f xs i x h ∙ ap (λ (y : X). map f (take i xs) ++ (f y ∷ [])) (sym e))) (both_appended a b c (map f (take i xs)) (f x ∷ []) p q)
-
-  -- the same of the item at a place
-  pub item_at_appended : (c : List ℕ) (i : ℕ) (d : X) → i < length xs → HasAppended a (map f (take i xs)) b → HasAppended b (f (get_or xs i d) ∷ []) c → HasAppended a (map f (take (i + 1) xs)) c
-  item_at_appended c i d h p q = subst (λ (ls : List CertLine). HasAppended a ls c) (sym (map_more f xs i d h)) (both_appended a b c (map f (take i xs)) (f (get_or xs i d) ∷ []) p q)
 
   pub items_appended : (i : ℕ) → length xs ≤ i → HasAppended a (map f (take i xs)) b → HasAppended a (map f xs) b
   items_appended i h p = subst (λ (ys : List X). HasAppended a (map f ys) b) (take_all i xs h) p
@@ -119,3 +119,13 @@ other_number test marks j x t old text h e g k inv =
 
 pub no_numbers : (test : Mark → Bool) (marks : List code.Mark) (j : ℕ) (old text : List ℕ) → length marks ≤ j → text ++ listed (numbers_past test j marks) ≡ old → text ≡ old
 no_numbers test marks j old text h inv = sym (append-nil text) ∙ ap (λ (ys : List code.Mark). text ++ listed (numbers_from test j (map mark_of ys))) (sym (drop_of_length-le marks h)) ∙ inv
+
+-- ---- pairs
+
+-- one more pair
+pub next_pair : (xs : List (ℕ × Dy)) (a b c : List ℕ) (i : ℕ) (x : ℕ × Dy) → i < length xs → x ≡ get_or xs i x → HasPairs a (multipliers_of (take i xs)) b → HasPairs b ((x.0, dyadic_of x.1) ∷ []) c →
+    HasPairs a (multipliers_of (take (i + 1) xs)) c
+next_pair xs a b c i x h e p q =
+    let done : List (ℕ × Dyadic) = multipliers_of (take i xs) in
+    let more : multipliers_of (take (i + 1) xs) ≡ done ++ ((x.0, dyadic_of x.1) ∷ []) = map_more (λ (y : ℕ × Dy). (y.0, dyadic_of y.1)) xs i x h ∙ ap (λ (y : ℕ × Dy). done ++ ((y.0, dyadic_of y.1) ∷ [])) (sym e) in
+    subst (λ (ps : List (ℕ × Dyadic)). HasPairs a ps c) (sym more) (both_pairs a b c done ((x.0, dyadic_of x.1) ∷ []) p q)

@@ -5,7 +5,7 @@ use Rattle.std.specs.List.{list_any}
 use Rattle.std.proofs.lemmas.Option.{slice_get_within}
 use Rattle.std.proofs.lemmas.List.Folds.{list_any-append}
 use Rattle.poly_graph.specs.Problem.{Problem, first_crossed}
-use Rattle.cover_model.specs.Rules.{Line, open_line, pull, unit, void, push, void_no, ban, make_false, by, cut, flip, case, stuck}
+use Rattle.cover_model.specs.Rules.{Line, open_line, pull, unit, void, push, void_no, combine, void_combine, ban, make_false, by, cut, flip, case, stuck}
 use Rattle.cover_model.specs.Derivation.{Tree}
 use Rattle.cert_model.specs.Due.{Standing}
 use Rattle.cert_model.specs.AnswerText.{is_open, has_open}
@@ -138,6 +138,8 @@ not-open (unit j) h = refl
 not-open (void j) h = refl
 not-open (push j) h = refl
 not-open (void_no j) h = refl
+not-open (combine ms) h = refl
+not-open (void_combine ms) h = refl
 not-open (ban j i) h = refl
 not-open make_false h = refl
 not-open (by i) h = refl

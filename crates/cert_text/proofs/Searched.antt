@@ -6,7 +6,7 @@ use Rattle.std.proofs.lemmas.Option.{slice_get_within}
 use Rattle.poly_graph.specs.Problem.{Problem}
 use Rattle.interval_model.specs.Space.{Space}
 use Rattle.cover_model.specs.State.{State, Loosenings, in_yes, undecided, with_yes, with_no, may}
-use Rattle.cover_model.specs.Rules.{Line, open_line, pull, unit, void, push, void_no, ban, make_false, by, cut, flip, case, stuck, one, when, pulled, narrowing, narrowing_off, can_push, lemma_covers, rule}
+use Rattle.cover_model.specs.Rules.{Line, open_line, pull, unit, void, push, void_no, combine, void_combine, ban, make_false, by, cut, flip, case, stuck, one, when, pulled, narrowing, narrowing_off, combining, can_push, can_combine, lemma_covers, rule}
 use Rattle.cover_model.specs.Derivation.{Tree}
 use Rattle.cover_data.specs.Runs.{is_closing, children, IsEnding}
 use Rattle.cert_model.specs.Due.{Standing}
@@ -104,6 +104,7 @@ stuck-line p s lemmas S T (stuck j) h c d o = refl
 stuck-line p s lemmas S T open_line h c d o = absurd (o refl)
 stuck-line p s lemmas S T (void j) h c d o = absurd (true≢false c)
 stuck-line p s lemmas S T (void_no j) h c d o = absurd (true≢false c)
+stuck-line p s lemmas S T (void_combine ms) h c d o = absurd (true≢false c)
 stuck-line p s lemmas S T make_false h c d o = absurd (true≢false c)
 stuck-line p s lemmas S T (by i) h c d o = absurd (true≢false c)
 stuck-line p s lemmas S T (cut axis x) h c d o = cc
@@ -111,6 +112,7 @@ stuck-line p s lemmas S T (flip axis) h c d o = cc
 stuck-line p s lemmas S T (case j) h c d o = cc
 stuck-line p s lemmas S T (pull j) h c d o = no-pull S (in_yes S j) (narrowing p s S j) h
 stuck-line p s lemmas S T (push j) h c d o = no-pull S (can_push p s S j) (narrowing_off p s S j) h
+stuck-line p s lemmas S T (combine ms) h c d o = no-pull S (can_combine p s S ms) (combining p s S ms) h
 stuck-line p s lemmas S T (unit j) h c d o = no-one (with_yes S j) (undecided S j && not (may p s (with_no S j))) h
 stuck-line p s lemmas S T (ban j i) h c d o = no-one (with_no S j) (undecided S j && lemma_covers lemmas i (with_yes S j)) h
 

@@ -1,5 +1,5 @@
 -- Lines that can be spelled, and are appended.
-use Rattle.std.proofs.Common.{◌≡◌, ℕ, suc, ◌+◌, ◌*◌, ◌≤◌, List, [], ◌∷◌, ◌++◌, map, Bool, true, false, cond, length, length-append, append_assoc, refl, ap, sym, ◌∙◌, arith}
+use Rattle.std.proofs.Common.{◌≡◌, ℕ, suc, ◌+◌, ◌*◌, ◌<◌, ◌≤◌, List, [], ◌∷◌, ◌++◌, map, Bool, true, false, cond, length, length-append, append_assoc, refl, ap, sym, ◌∙◌, arith}
 use Rattle.std.specs.Prelude.{codes, decimal}
 use Rattle.std.specs.List.{AllByRecursion}
 use Rattle.std.proofs.lemmas.Fmt.{length-decimal-le}
@@ -9,7 +9,7 @@ use Rattle.poly_graph.specs.Marks.{Mark, is_yes, is_no, numbers_from}
 use Rattle.dyadic.specs.Rounding.{Dyadic}
 use Rattle.dyadic.specs.NumberText.{number_spelling}
 use Rattle.cert_read.specs.CertLine.{CertLine, ban_by, cut_at, real_interval, real_value, rule_line}
-use Rattle.cert_read.specs.LineText.{spaced, line_text, IsCount, IsSpelledNumber, HasSpelling, IsSpelled}
+use Rattle.cert_read.specs.LineText.{spaced, line_text, pair_words, IsCount, IsSpelledNumber, IsSpelledPair, HasSpelling, IsSpelled}
 use Rattle.cert_read.specs.Lines.{longest_line}
 use Rattle.cert_model.specs.Accepted.{certificate_text}
 use Rattle.cert_model.specs.Written.{line_of, rule_lines}
@@ -17,7 +17,9 @@ use Rattle.cert_text.specs.declared.keyword.Plain.{Plain}
 use Rattle.cert_text.specs.declared.keyword.Plain.TheVariants as plain
 use Rattle.cert_text.specs.declared.keyword.Counted.{Counted}
 use Rattle.cert_text.specs.declared.keyword.Counted.TheVariants as counted
-use Rattle.cert_text.specs.Lines.{HasAppended, plain_line, plain_text, counted_line, counted_word, is_marked, marks_word, marks_line, listed, most_atoms}
+use Rattle.cert_text.specs.declared.keyword.Paired.{Paired}
+use Rattle.cert_text.specs.declared.keyword.Paired.TheVariants as paired
+use Rattle.cert_text.specs.Lines.{HasAppended, HasPairs, paired_line, paired_word, paired_off, plain_line, plain_text, counted_line, counted_word, is_marked, marks_word, marks_line, listed, most_atoms}
 
 -- ---- texts of lines
 
@@ -188,6 +190,62 @@ interval_appended l h a b c d e f k m p q r s t = line_appended a f (real_interv
     (omega (arith, k.short, m.short, length-append (number_spelling l) (32 ∷ number_spelling h)))
     (t ∙ ap (λ (x : List ℕ). x ++ (10 ∷ [])) (s ∙ ap (λ (x : List ℕ). x ++ number_spelling h) (r ∙ ap (λ (x : List ℕ). x ++ (32 ∷ [])) (q ∙ ap (λ (x : List ℕ). x ++ number_spelling l) p))
     ∙ append_assoc ((a ++ codes "real ") ++ number_spelling l) (32 ∷ []) (number_spelling h)) ∙ three-parts a (codes "real ") (number_spelling l) (number_spelling h))
+
+-- ---- lines of atoms with their multipliers
+
+pair-parts : (a x y : List ℕ) → ((a ++ (32 ∷ x)) ++ (32 ∷ [])) ++ y ≡ a ++ (32 ∷ (x ++ (32 ∷ (y ++ []))))
+pair-parts a x y = ap (λ (t : List ℕ). ((a ++ (32 ∷ x)) ++ (32 ∷ [])) ++ t) (sym (append-nil y)) ∙ append_assoc (a ++ (32 ∷ x)) (32 ∷ []) (y ++ []) ∙ append_assoc a (32 ∷ x) (32 ∷ (y ++ []))
+
+pub pair_appended : (j : ℕ) (l : Dyadic) (a b c d : List ℕ) → IsCount j → IsShortNumber l → b ≡ a ++ (32 ∷ decimal j) → c ≡ b ++ (32 ∷ []) → d ≡ c ++ number_spelling l → HasPairs a ((j, l) ∷ []) d
+pair_appended j l a b c d h k e f g = record {
+  written = g ∙ ap (λ (t : List ℕ). t ++ number_spelling l) (f ∙ ap (λ (t : List ℕ). t ++ (32 ∷ [])) e) ∙ pair-parts a (decimal j) (number_spelling l);
+  spelled = ((h, k.spelled), tt);
+  short = omega (arith, decimal_short j h, k.short, length-append (decimal j) (32 ∷ (number_spelling l ++ [])), length-append (number_spelling l) []);
+}
+
+pub no_pairs : (a : List ℕ) → HasPairs a [] a
+no_pairs a = record { written = sym (append-nil a); spelled = tt; short = omega arith }
+
+paired-append : (ps qs : List (ℕ × Dyadic)) → paired_off (ps ++ qs) ≡ paired_off ps ++ paired_off qs
+paired-append [] qs = refl
+paired-append ((j, l) ∷ ps) qs =
+    ap (λ (t : List ℕ). 32 ∷ (decimal j ++ (32 ∷ (number_spelling l ++ t)))) (paired-append ps qs)
+    ∙ ap (λ (t : List ℕ). 32 ∷ (decimal j ++ (32 ∷ t))) (sym (append_assoc (number_spelling l) (paired_off ps) (paired_off qs)))
+    ∙ ap (λ (t : List ℕ). 32 ∷ t) (sym (append_assoc (decimal j) (32 ∷ (number_spelling l ++ paired_off ps)) (paired_off qs)))
+
+spelled-append : (ps qs : List (ℕ × Dyadic)) → AllByRecursion IsSpelledPair ps → AllByRecursion IsSpelledPair qs → AllByRecursion IsSpelledPair (ps ++ qs)
+spelled-append [] qs h k = k
+spelled-append (p ∷ ps) qs h k = (h.0, spelled-append ps qs h.1 k)
+
+pub both_pairs : (a b c : List ℕ) (ps qs : List (ℕ × Dyadic)) → HasPairs a ps b → HasPairs b qs c → HasPairs a (ps ++ qs) c
+both_pairs a b c ps qs h k = record {
+  written = k.written ∙ ap (λ (t : List ℕ). t ++ paired_off qs) h.written ∙ append_assoc a (paired_off ps) (paired_off qs) ∙ ap (λ (t : List ℕ). a ++ t) (sym (paired-append ps qs));
+  spelled = spelled-append ps qs h.spelled k.spelled;
+  short = omega (arith, h.short, k.short, ap length (paired-append ps qs), length-append (paired_off ps) (paired_off qs), length-append ps qs);
+}
+
+spaced-pairs : (w : List ℕ) (ps : List (ℕ × Dyadic)) → spaced (w ∷ pair_words ps) ≡ w ++ paired_off ps
+spaced-pairs w [] = sym (append-nil w)
+spaced-pairs w ((j, l) ∷ ps) = ap (λ (t : List ℕ). w ++ (32 ∷ (decimal j ++ (32 ∷ t)))) (spaced-pairs (number_spelling l) ps)
+
+paired-text : (w : Paired) (ps : List (ℕ × Dyadic)) → line_text (paired_line w ps) ≡ paired_word w ++ paired_off ps
+paired-text paired.Combine ps = spaced-pairs (codes "comb") ps
+paired-text paired.VoidCombine ps = spaced-pairs (codes "voidcomb") ps
+
+paired-spelled : (w : Paired) (ps : List (ℕ × Dyadic)) → 0 < length ps → AllByRecursion IsSpelledPair ps → HasSpelling (paired_line w ps)
+paired-spelled paired.Combine ps h k = (h, k)
+paired-spelled paired.VoidCombine ps h k = (h, k)
+
+paired-short : (w : Paired) → length (paired_word w) ≤ 16
+paired-short paired.Combine = omega arith
+paired-short paired.VoidCombine = omega arith
+
+pub paired_appended : (w : Paired) (ps : List (ℕ × Dyadic)) (a b c d : List ℕ) → 0 < length ps → length ps ≤ 64 → b ≡ a ++ paired_word w → HasPairs b ps c → d ≡ c ++ (10 ∷ []) → HasAppended a (paired_line w ps ∷ []) d
+paired_appended w ps a b c d some few e h f =
+    let text : c ≡ a ++ line_text (paired_line w ps) = h.written ∙ ap (λ (t : List ℕ). t ++ paired_off ps) e ∙ append_assoc a (paired_word w) (paired_off ps) ∙ ap (λ (t : List ℕ). a ++ t) (sym (paired-text w ps)) in
+    line_appended a d (paired_line w ps) (paired-spelled w ps some h.spelled)
+    (omega (arith, few, h.short, paired-short w, ap length (paired-text w ps), length-append (paired_word w) (paired_off ps)))
+    (f ∙ ap (λ (t : List ℕ). t ++ (10 ∷ [])) text ∙ append_assoc a (line_text (paired_line w ps)) (10 ∷ []))
 
 -- ---- lines of marks
 

@@ -1,14 +1,18 @@
 -- Lines that are appended to a text, and the forms in which the code has them.
-use Rattle.std.specs.Prelude.{◌≡◌, ℕ, List, [], ◌∷◌, ◌++◌, Bool, true, false, Some, None, codes, decimal}
+use Rattle.std.specs.Prelude.{◌≡◌, ℕ, ◌*◌, ◌≤◌, List, [], ◌∷◌, ◌++◌, Bool, true, false, Some, None, codes, decimal, length}
 use Rattle.std.specs.List.{AllByRecursion}
-use Rattle.cert_read.specs.CertLine.{says_false, says_true, says_both, pull_at, unit_at, void_at, push_at, void_no_at, case_at, stuck_at, by_lemma, flip_at, false_here, open_here, CertLine, version, margin, delta, bound, cover, point_word, tree_word, end_word, lemma, bool_value, yes_list, no_list, rule_line, crossing}
-use Rattle.cert_read.specs.LineText.{IsSpelled}
+use Rattle.cert_read.specs.CertLine.{says_false, says_true, says_both, pull_at, unit_at, void_at, push_at, void_no_at, case_at, stuck_at, by_lemma, flip_at, combine_at, void_combine_at, false_here, open_here, CertLine, version, margin, delta, bound, cover, point_word, tree_word, end_word, lemma, bool_value, yes_list, no_list, rule_line, crossing}
+use Rattle.cert_read.specs.LineText.{IsSpelled, IsSpelledPair}
+use Rattle.dyadic.specs.Rounding.{Dyadic}
+use Rattle.dyadic.specs.NumberText.{number_spelling}
 use Rattle.poly_graph.specs.Marks.{Mark, is_yes, is_no, numbers_from}
 use Rattle.cert_model.specs.Accepted.{certificate_text}
 use Rattle.cert_text.specs.declared.keyword.Plain.{Plain}
 use Rattle.cert_text.specs.declared.keyword.Plain.TheVariants as plain
 use Rattle.cert_text.specs.declared.keyword.Counted.{Counted}
 use Rattle.cert_text.specs.declared.keyword.Counted.TheVariants as counted
+use Rattle.cert_text.specs.declared.keyword.Paired.{Paired}
+use Rattle.cert_text.specs.declared.keyword.Paired.TheVariants as paired
 
 -- the new text is the old one and these lines behind it, each of which can be spelled
 pub record HasAppended (old : List ℕ) (ls : List CertLine) (new : List ℕ) : Type 0 where
@@ -76,6 +80,27 @@ counted_word counted.Stuck = codes "stuck"
 counted_word counted.By = codes "by"
 counted_word counted.Flip = codes "flip"
 counted_word counted.Empty = codes "empty"
+
+-- ---- lines of atoms with their multipliers
+
+abbrev pub paired_line : Paired → List (ℕ × Dyadic) → CertLine
+paired_line paired.Combine ps = rule_line (combine_at ps)
+paired_line paired.VoidCombine ps = rule_line (void_combine_at ps)
+
+abbrev pub paired_word : Paired → List ℕ
+paired_word paired.Combine = codes "comb"
+paired_word paired.VoidCombine = codes "voidcomb"
+
+-- each atom and each multiplier with a space before it
+abbrev pub paired_off : List (ℕ × Dyadic) → List ℕ
+paired_off [] = []
+paired_off ((j, l) ∷ ps) = 32 ∷ (decimal j ++ (32 ∷ (number_spelling l ++ paired_off ps)))
+
+-- the new text is the old one and these pairs behind it, each of which can be spelled and is short
+pub record HasPairs (old : List ℕ) (ps : List (ℕ × Dyadic)) (new : List ℕ) : Type 0 where
+  pub written : new ≡ old ++ paired_off ps
+  pub spelled : AllByRecursion IsSpelledPair ps
+  pub short : length (paired_off ps) ≤ length ps * 76
 
 -- ---- lines of marks
 

@@ -6,9 +6,11 @@ ghost use Rattle.poly_graph.specs.MarkViews.{mark_of};
 ghost use Rattle.poly_graph.specs.Marks.{numbers_from};
 ghost use Rattle.cert_read.specs.CertLine.{ban_by, cut_at, real_interval, real_value, rule_line};
 ghost use Rattle.cert_read.specs.LineText.{IsCount, IsSpelledNumber, spaced};
-ghost use Rattle.cert_text.specs.Lines.{HasAppended, counted_line, is_marked, listed, marks_line, marks_word, most_atoms, plain_line};
+ghost use Rattle.cover_model.specs.Views.{multipliers_of};
+ghost use Rattle.cert_text.specs.Lines.{HasAppended, HasPairs, counted_line, is_marked, listed, marks_line, marks_word, most_atoms, paired_line, plain_line};
 
-use crate::keyword::{Counted, Plain, counted_bytes, plain_bytes};
+use crate::keyword::{Counted, Paired, Plain, counted_bytes, paired_bytes, plain_bytes};
+use cover_data::Combination;
 use dyadic::{Dy, write_dy};
 use itoa::Buffer;
 use poly_graph::Mark;
@@ -101,6 +103,39 @@ pub(crate) fn append_interval(text: &mut Vec<u8>, low: Dy, high: Dy) -> Result<(
     append_number(text, low)?;
     text.extend_from_slice(b" ")?;
     append_number(text, high)?;
+    append_break(text)
+}
+
+// An atom and its multiplier, each after a space.
+fn append_pair(text: &mut Vec<u8>, atom: u32, by: Dy) -> Result<(), AllocError>
+    ensures { OnOk result (HasPairs text.old.items ((atom, dyadic_of by) ∷ []) text.new.items) }
+{
+    append_word_and_count(text, "", atom)?;
+    text.extend_from_slice(b" ")?;
+    append_number(text, by)
+}
+
+// Atoms, each with its multiplier.
+fn append_pairs(text: &mut Vec<u8>, pairs: &[(u32, Dy)]) -> Result<(), AllocError>
+    ensures { OnOk result (HasPairs text.old.items (multipliers_of pairs.now) text.new.items) }
+{
+    for pair in pairs {
+        append_pair(text, pair.0, pair.1)?;
+    }
+    Ok(())
+}
+
+/// Appends the line of a combination of atoms.
+pub(crate) fn append_combination(
+    text: &mut Vec<u8>,
+    word: Paired,
+    combination: &Combination,
+) -> Result<(), AllocError>
+    ensures { let ps = multipliers_of combination.now.pairs.items in
+        OnOk result (HasAppended text.old.items (paired_line word ps ∷ []) text.new.items) }
+{
+    text.extend_from_slice(paired_bytes(word).as_bytes())?;
+    append_pairs(text, &combination.pairs)?;
     append_break(text)
 }
 

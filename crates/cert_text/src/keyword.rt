@@ -1,6 +1,6 @@
-// The lines of a certificate that have no number, and the first words of those that have one plain number.
+// The lines of a certificate that have no number, and the first words of those that have one plain number or pairs.
 ghost use Rattle.std.specs.Prelude.{◌≡◌, ◌≤◌, length};
-ghost use Rattle.cert_text.specs.Lines.{counted_word, plain_text};
+ghost use Rattle.cert_text.specs.Lines.{counted_word, paired_word, plain_text};
 
 /// A line without a number.
 #[derive(Clone, Copy, Debug, PartialEq, Eq)]
@@ -35,6 +35,13 @@ pub(crate) enum Counted {
     By,
     Flip,
     Empty,
+}
+
+/// The first word of a line of pairs.
+#[derive(Clone, Copy, Debug, PartialEq, Eq)]
+pub(crate) enum Paired {
+    Combine,
+    VoidCombine,
 }
 
 /// The bytes of the line.
@@ -75,5 +82,15 @@ pub(crate) fn counted_bytes(word: Counted) -> &'static str
         Counted::By => "by",
         Counted::Flip => "flip",
         Counted::Empty => "empty",
+    }
+}
+
+/// The bytes of the word.
+pub(crate) fn paired_bytes(word: Paired) -> &'static str
+    ensures { result.now ≡ paired_word word }
+{
+    match word {
+        Paired::Combine => "comb",
+        Paired::VoidCombine => "voidcomb",
     }
 }

@@ -15,12 +15,12 @@ ghost use Rattle.cert_text.specs.Lines.{HasAppended};
 ghost use Rattle.cert_text.specs.Parts.{HasFewMarks, header_lines, kept_lines, learned_lines};
 
 use crate::append::{
-    append_ban, append_counted, append_cut, append_interval, append_marks, append_plain,
-    append_value,
+    append_ban, append_combination, append_counted, append_cut, append_interval, append_marks,
+    append_plain, append_value,
 };
-use crate::keyword::{Counted, Plain};
+use crate::keyword::{Counted, Paired, Plain};
 use cover_book::{Learned, Lines};
-use cover_rule::{End, Options, Step};
+use cover_data::{End, Options, Step};
 use ival::{Domain, Space, Truths};
 use std::alloc::AllocError;
 
@@ -83,29 +83,31 @@ pub(crate) fn append_point(text: &mut Vec<u8>, point: &Space) -> Result<(), Allo
     Ok(())
 }
 
-fn append_step(text: &mut Vec<u8>, step: Step) -> Result<(), AllocError>
-    ensures { OnOk result (HasAppended text.old.items (rule_line (line_of (step_line step)) ∷ []) text.new.items) }
+fn append_step(text: &mut Vec<u8>, step: &Step) -> Result<(), AllocError>
+    ensures { OnOk result (HasAppended text.old.items (rule_line (line_of (step_line step.now)) ∷ []) text.new.items) }
 {
     match step {
-        Step::Pull(atom) => append_counted(text, Counted::Pull, atom),
-        Step::Push(atom) => append_counted(text, Counted::Push, atom),
-        Step::Unit(atom) => append_counted(text, Counted::Unit, atom),
-        Step::Ban(atom, lemma) => append_ban(text, atom, lemma),
+        Step::Pull(atom) => append_counted(text, Counted::Pull, *atom),
+        Step::Push(atom) => append_counted(text, Counted::Push, *atom),
+        Step::Unit(atom) => append_counted(text, Counted::Unit, *atom),
+        Step::Ban(atom, lemma) => append_ban(text, *atom, *lemma),
+        Step::Combine(combination) => append_combination(text, Paired::Combine, combination),
     }
 }
 
-fn append_end(text: &mut Vec<u8>, end: End) -> Result<(), AllocError>
-    ensures { OnOk result (HasAppended text.old.items (rule_line (line_of (end_line end)) ∷ []) text.new.items) }
+fn append_end(text: &mut Vec<u8>, end: &End) -> Result<(), AllocError>
+    ensures { OnOk result (HasAppended text.old.items (rule_line (line_of (end_line end.now)) ∷ []) text.new.items) }
 {
     match end {
-        End::Void(atom) => append_counted(text, Counted::Void, atom),
-        End::VoidNo(atom) => append_counted(text, Counted::VoidNo, atom),
+        End::Void(atom) => append_counted(text, Counted::Void, *atom),
+        End::VoidNo(atom) => append_counted(text, Counted::VoidNo, *atom),
+        End::VoidCombine(combination) => append_combination(text, Paired::VoidCombine, combination),
         End::False => append_plain(text, Plain::False),
-        End::By(lemma) => append_counted(text, Counted::By, lemma),
-        End::Cut(axis, at) => append_cut(text, axis, at),
-        End::Flip(axis) => append_counted(text, Counted::Flip, axis),
-        End::Case(atom) => append_counted(text, Counted::Case, atom),
-        End::Stuck(atom) => append_counted(text, Counted::Stuck, atom),
+        End::By(lemma) => append_counted(text, Counted::By, *lemma),
+        End::Cut(axis, at) => append_cut(text, *axis, *at),
+        End::Flip(axis) => append_counted(text, Counted::Flip, *axis),
+        End::Case(atom) => append_counted(text, Counted::Case, *atom),
+        End::Stuck(atom) => append_counted(text, Counted::Stuck, *atom),
     }
 }
 
@@ -114,9 +116,9 @@ pub(crate) fn append_lines(text: &mut Vec<u8>, lines: &Lines) -> Result<(), Allo
     ensures { OnOk result (HasAppended text.old.items (rule_lines (kept_lines lines.now)) text.new.items) }
 {
     for step in &lines.steps {
-        append_step(text, *step)?;
+        append_step(text, step)?;
     }
-    append_end(text, lines.end)
+    append_end(text, &lines.end)
 }
 
 // A lemma: its number, its state and its tree.

@@ -8,7 +8,7 @@ ghost use Rattle.cert_text.specs.Means.{IsPointCertificate};
 use crate::append::append_plain;
 use crate::keyword::Plain;
 use crate::parts::{append_header, append_point};
-use cover_rule::{Options, Point};
+use cover_data::{Options, Point};
 use poly_graph::Problem;
 use std::alloc::{AllocError, Global};
 

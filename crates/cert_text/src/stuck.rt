@@ -7,7 +7,7 @@ ghost use Rattle.cert_text.specs.Stuck.{HasNoStuckState, IsFirstStuckState, IsFi
 
 use crate::walk::{push_kids, take_next};
 use cover_book::{Book, Node};
-use cover_rule::{End, State};
+use cover_data::{End, State};
 use std::alloc::{AllocError, Global};
 
 /// A box in which a cover is stuck.

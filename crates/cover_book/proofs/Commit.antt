@@ -4,7 +4,7 @@ use Rattle.std.specs.Prelude.{slice_get, slice_set, sum_by}
 use Rattle.std.proofs.lemmas.List.Sums.{sum_by-cons}
 use Rattle.poly_graph.specs.Problem.{Problem, IsProblem}
 use Rattle.cover_model.specs.State.{State, Loosenings, root_state, covers}
-use Rattle.cover_model.specs.Rules.{Line, pull, unit, ban, void, push, void_no, make_false, by, cut, flip, case, open_line, stuck, one, rule}
+use Rattle.cover_model.specs.Rules.{Line, pull, unit, ban, void, push, void_no, combine, void_combine, make_false, by, cut, flip, case, open_line, stuck, one, rule}
 use Rattle.cover_model.specs.Space.{IsGridSpace}
 use Rattle.cover_model.specs.Derivation.{leaf, fork}
 use Rattle.cover_model.specs.Honest.{branch_count}
@@ -52,6 +52,8 @@ two_ends (ban j i) S o e = cc
 two_ends (void j) S o e = cc
 two_ends (push j) S o e = cc
 two_ends (void_no j) S o e = cc
+two_ends (combine ms) S o e = cc
+two_ends (void_combine ms) S o e = cc
 two_ends make_false S o e = cc
 two_ends (by i) S o e = cc
 two_ends open_line S o e = cc

@@ -5,7 +5,7 @@ use Rattle.std.specs.List.{AllByRecursion}
 use Rattle.poly_graph.specs.Problem.{Problem, IsProblem}
 use Rattle.cover_model.specs.State.{State, Loosenings, in_yes, undecided, with_yes, with_no, may}
 use Rattle.interval_model.specs.Space.{Space}
-use Rattle.cover_model.specs.Rules.{Line, pull, unit, ban, void, push, void_no, make_false, by, cut, flip, case, open_line, stuck, Left, one, stays, rule, when, pulled, narrowing, narrowing_off, can_push, lemma_covers, is_stuck_atom}
+use Rattle.cover_model.specs.Rules.{Line, pull, unit, ban, void, push, void_no, combine, void_combine, make_false, by, cut, flip, case, open_line, stuck, Left, one, stays, rule, when, pulled, narrowing, narrowing_off, combining, can_push, can_combine, lemma_covers, is_stuck_atom}
 use Rattle.cover_model.specs.Derivation.{Tree, leaf, fork, tree_lines, Lawful, at_closed, at_left, at_fork}
 use Rattle.cover_model.specs.Honest.{is_honest}
 use Rattle.poly_graph.specs.ProblemViews.{IsWhole}
@@ -44,6 +44,7 @@ ending-stays p s lemmas S (stuck j) h c d = stays-when (is_stuck_atom p s S j) h
 ending-stays p s lemmas S open_line h c d = refl
 ending-stays p s lemmas S (void j) h c d = absurd (true≢false c)
 ending-stays p s lemmas S (void_no j) h c d = absurd (true≢false c)
+ending-stays p s lemmas S (void_combine ms) h c d = absurd (true≢false c)
 ending-stays p s lemmas S make_false h c d = absurd (true≢false c)
 ending-stays p s lemmas S (by i) h c d = absurd (true≢false c)
 ending-stays p s lemmas S (cut axis x) h c d = cc
@@ -51,6 +52,7 @@ ending-stays p s lemmas S (flip axis) h c d = cc
 ending-stays p s lemmas S (case j) h c d = cc
 ending-stays p s lemmas S (pull j) h c d = no-pull S (in_yes S j) (narrowing p s S j) h
 ending-stays p s lemmas S (push j) h c d = no-pull S (can_push p s S j) (narrowing_off p s S j) h
+ending-stays p s lemmas S (combine ms) h c d = no-pull S (can_combine p s S ms) (combining p s S ms) h
 ending-stays p s lemmas S (unit j) h c d = no-one (with_yes S j) (undecided S j && not (may p s (with_no S j))) h
 ending-stays p s lemmas S (ban j i) h c d = no-one (with_no S j) (undecided S j && lemma_covers lemmas i (with_yes S j)) h
 
@@ -74,6 +76,8 @@ module _ (p : Problem) (m : Margins) (lemmas : List State) (P : Standing → Typ
   step-honest S S' (void j) e = (refl, λ q. cc)
   step-honest S S' (push j) e = (refl, λ q. cc)
   step-honest S S' (void_no j) e = (refl, λ q. cc)
+  step-honest S S' (combine ms) e = (refl, λ q. cc)
+  step-honest S S' (void_combine ms) e = (refl, λ q. cc)
   step-honest S S' make_false e = (refl, λ q. cc)
   step-honest S S' (by i) e = (refl, λ q. cc)
   step-honest S S' (cut axis c) e = no_when _ _ S' e (λ q. cc)

@@ -1,5 +1,5 @@
 -- The lines of a run name atoms and axes that are there.
-use Rattle.std.proofs.Common.{◌≡◌, ◌⊎◌, inl, inr, ℕ, zero, suc, ◌<◌, ◌≤◌, List, [], ◌∷◌, length, Bool, true, false, not, ◌&&◌, cond, Option, Some, None, IsTrue, refl, ap, sym, ◌∙◌, subst, true≢false, arith}
+use Rattle.std.proofs.Common.{◌≡◌, ◌⊎◌, inl, inr, ℕ, zero, suc, ◌<◌, ◌≤◌, List, [], ◌∷◌, length, Bool, true, false, not, ◌&&◌, ◌||◌, nat_lt, cond, Option, Some, None, IsTrue, refl, ap, sym, ◌∙◌, subst, true≢false, arith}
 use Rattle.std.specs.Prelude.{IfSome}
 use Rattle.std.specs.List.{AllByRecursion}
 use Rattle.std.proofs.lemmas.Bool.{le-leb}
@@ -11,11 +11,12 @@ use Rattle.cover_model.specs.Space.{IsGridSpace}
 use Rattle.poly_graph.specs.Problem.{Declared, real_between, any_bool, Axis, Problem, IsProblem, atom_at}
 use Rattle.poly_graph.specs.Marks.{Mark, is_yes, is_no, mark_at, undecided_in, marked_yes, marked_no}
 use Rattle.cover_model.specs.State.{State, Loosenings, in_yes, in_no, undecided, with_yes, with_no, with_space}
-use Rattle.cover_model.specs.Rules.{Line, pull, unit, ban, void, push, void_no, make_false, by, cut, flip, case, open_line, stuck, Left, closed, one, stays, rule, when, pulled, voided, narrowing, narrowing_off, has_version_2, is_one_sided, in_no_one_sided, can_push, is_stuck_atom}
+use Rattle.cover_model.specs.Rules.{Line, pull, unit, ban, void, push, void_no, combine, void_combine, make_false, by, cut, flip, case, open_line, stuck, Left, closed, one, stays, rule, when, pulled, voided, narrowing, narrowing_off, has_version_2, is_one_sided, in_no_one_sided, can_push, combining, is_combination, are_combinable, can_combine, is_stuck_atom}
 use Rattle.cover_model.specs.Honest.{is_honest, not_shown, settled, is_small, none_below}
 use Rattle.cover_model.specs.Fits.{FitsAxis, FitsAxes, FitsProblem}
 use Rattle.cover_model.proofs.Stuck.{some_atom_is_stuck}
-use Rattle.cert_model.specs.Due.{names_well, is_atom}
+use Rattle.cert_model.specs.Due.{names_well, is_atom, are_atoms}
+use Rattle.cover_model.specs.Combination.{Multipliers}
 use Rattle.cover_data.specs.declared.margins.Margins.{Margins}
 use Rattle.cover_data.specs.Margins.{loosenings_of}
 use Rattle.cover_data.specs.Models.{KeptModel}
@@ -127,6 +128,16 @@ module _ (p : Problem) (g : IsProblem p) (m : Margins) (lemmas : List State) whe
   in-no : (S : State) (j : ℕ) → IsTrue (can_push p s S j) → IsTrue (in_no S j)
   in-no S j h = (both_true (in_no S j) (is_one_sided (atom_at p j).1) (both_true (has_version_2 s) (in_no_one_sided p S j) h).1).0
 
+  -- atoms that may be combined are there
+  combinable-there : (S : State) (ms : Multipliers) → IsTrue (are_combinable p S ms) → IsTrue (are_atoms p ms)
+  combinable-there S [] h = refl
+  combinable-there S ((j, l) ∷ rest) h =
+      let a = both_true (nat_lt j (length p.atoms) && (in_yes S j || in_no_one_sided p S j)) (are_combinable p S rest) h in
+      both_pass (is_atom p j) (are_atoms p rest) (both_true (nat_lt j (length p.atoms)) (in_yes S j || in_no_one_sided p S j) a.0).0 (combinable-there S rest a.1)
+
+  combined-there : (S : State) (ms : Multipliers) → IsTrue (can_combine p s S ms) → IsTrue (are_atoms p ms)
+  combined-there S ms h = combinable-there S ms (both_true (has_version_2 s && is_combination ms) (are_combinable p S ms) h).1
+
   step-names : (S S' : State) (l : Line) → HasMarks S → rule p s lemmas S l ≡ Some (one S') → IsTrue (names_well p l) × HasMarks S'
   step-names S S' (pull j) h e = let k = cond-true (in_yes S j) (pulled S (narrowing p s S j)) (one S') e in
       (atom-there S j h (yes-below S.marks j k.0), ap length (pulled-keeps S S' (narrowing p s S j) k.1) ∙ h)
@@ -137,6 +148,9 @@ module _ (p : Problem) (g : IsProblem p) (m : Margins) (lemmas : List State) whe
   step-names S S' (void j) h e = let k = cond-true (in_yes S j) (voided (narrowing p s S j)) (one S') e in no_void (narrowing p s S j) k.1
   step-names S S' (push j) h e = let k = cond-true (can_push p s S j) (pulled S (narrowing_off p s S j)) (one S') e in
       (atom-there S j h (no-below S.marks j (in-no S j k.0)), ap length (pulled-keeps S S' (narrowing_off p s S j) k.1) ∙ h)
+  step-names S S' (combine ms) h e = let k = cond-true (can_combine p s S ms) (pulled S (combining p s S ms)) (one S') e in
+      (combined-there S ms k.0, ap length (pulled-keeps S S' (combining p s S ms) k.1) ∙ h)
+  step-names S S' (void_combine ms) h e = let k = cond-true (can_combine p s S ms) (voided (combining p s S ms)) (one S') e in no_void (combining p s S ms) k.1
   step-names S S' (void_no j) h e = let k = cond-true (can_push p s S j) (voided (narrowing_off p s S j)) (one S') e in no_void (narrowing_off p s S j) k.1
   step-names S S' make_false h e = no_when _ closed S' e (λ q. cc)
   step-names S S' (by i) h e = no_when _ closed S' e (λ q. cc)
@@ -157,6 +171,8 @@ module _ (p : Problem) (g : IsProblem p) (m : Margins) (lemmas : List State) whe
   end-names S f grid (void j) e h = atom-there S j f.marks (yes-below S.marks j (ending-cond (in_yes S j) _ e))
   end-names S f grid (push j) e h = atom-there S j f.marks (no-below S.marks j (in-no S j (ending-cond (can_push p s S j) _ e)))
   end-names S f grid (void_no j) e h = atom-there S j f.marks (no-below S.marks j (in-no S j (ending-cond (can_push p s S j) _ e)))
+  end-names S f grid (combine ms) e h = combined-there S ms (ending-cond (can_combine p s S ms) _ e)
+  end-names S f grid (void_combine ms) e h = combined-there S ms (ending-cond (can_combine p s S ms) _ e)
   end-names S f grid make_false e h = refl
   end-names S f grid (by i) e h = refl
   end-names S f grid (cut axis c) e h = le-leb (suc axis) (length p.axes) (omega (arith, axes_length p.axes S.space f.axes, tested-below (strictly_inside c) axis S.space (ending-true _ _ e)))

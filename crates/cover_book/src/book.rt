@@ -94,8 +94,8 @@ fn any_stuck(nodes: &[Node]) -> bool
 }
 
 // Whether the end is a branch.
-fn parts(end: Option<End>) -> bool
-    ensures { result ≡ ends_in_branch (end_of end) }
+fn parts(end: &Option<End>) -> bool
+    ensures { result ≡ ends_in_branch (end_of end.now) }
 {
     matches!(
         end,
@@ -248,7 +248,7 @@ impl Book {
             };
         }
         self.test_quoted(&patch.quoted)?;
-        if parts(patch.end) && self.branches >= self.options.budget {
+        if parts(&patch.end) && self.branches >= self.options.budget {
             return Err(BookRefusal::BudgetSpent(self.branches));
         }
         self.test_point()
@@ -276,7 +276,7 @@ impl Book {
             Some(end) => end,
             None => unreachable!(),
         };
-        let ending = match ending_of(*self.nodes.allocator(), end, reached) {
+        let ending = match ending_of(*self.nodes.allocator(), &end, reached) {
             Ok(ending) => ending,
             Err(_) => return Err(BookRefusal::Memory),
         };

@@ -8,7 +8,7 @@ use Rattle.interval_model.specs.Space.{Domain, real_domain, bool_domain, Space, 
 use Rattle.poly_graph.specs.Problem.{Declared, real_between, any_bool, Axis, Problem}
 use Rattle.poly_graph.specs.Marks.{Mark, marked_yes, marked_no}
 use Rattle.cover_model.specs.State.{State, Loosenings, undecided, with_mark, with_yes, with_no}
-use Rattle.cover_model.specs.Rules.{Line, pull, unit, ban, void, push, void_no, make_false, by, cut, flip, case, open_line, stuck, with_changed, when, two, rule}
+use Rattle.cover_model.specs.Rules.{Line, pull, unit, ban, void, push, void_no, combine, void_combine, make_false, by, cut, flip, case, open_line, stuck, with_changed, when, two, rule}
 use Rattle.cover_model.specs.Fits.{FitsAxis, FitsAxes, FitsProblem}
 use Rattle.cover_data.specs.Runs.{CanPart, children, IsEnding}
 
@@ -69,6 +69,8 @@ children-fit-both p S f (ban j i) h = tt
 children-fit-both p S f (void j) h = tt
 children-fit-both p S f (push j) h = tt
 children-fit-both p S f (void_no j) h = tt
+children-fit-both p S f (combine ms) h = tt
+children-fit-both p S f (void_combine ms) h = tt
 children-fit-both p S f make_false h = tt
 children-fit-both p S f (by i) h = tt
 children-fit-both p S f open_line h = tt
@@ -92,6 +94,8 @@ can_end p s lemmas S (ban j i) h x e = cc
 can_end p s lemmas S (void j) h x e = cc
 can_end p s lemmas S (push j) h x e = cc
 can_end p s lemmas S (void_no j) h x e = cc
+can_end p s lemmas S (combine ms) h x e = cc
+can_end p s lemmas S (void_combine ms) h x e = cc
 can_end p s lemmas S make_false h x e = cc
 can_end p s lemmas S (by i) h x e = cc
 can_end p s lemmas S open_line h x e = cc

@@ -5,7 +5,7 @@ use Rattle.interval_model.specs.Space.{Space, space_within, strictly_inside, low
 use Rattle.poly_graph.specs.Problem.{Problem}
 use Rattle.cover_model.specs.State.{State, Loosenings, in_yes, undecided, with_yes, with_no, may, covers}
 use Rattle.poly_graph.specs.Marks.{marks_within}
-use Rattle.cover_model.specs.Rules.{Line, pull, unit, ban, void, push, void_no, make_false, by, cut, flip, case, open_line, stuck, Left, closed, one, two, stays, narrowing, narrowing_off, can_push, lemma_covers, with_changed, when, voided, is_stuck_atom, rule}
+use Rattle.cover_model.specs.Rules.{Line, pull, unit, ban, void, push, void_no, combine, void_combine, make_false, by, cut, flip, case, open_line, stuck, Left, closed, one, two, stays, narrowing, narrowing_off, combining, can_push, can_combine, lemma_covers, with_changed, when, voided, is_stuck_atom, rule}
 use Rattle.cover_model.specs.Derivation.{Tree, Lawful, at_step}
 use Rattle.cover_model.proofs.Within.{space_reflexive, space_through}
 use Rattle.poly_graph.proofs.Marks.{marks_reflexive, marks_through}
@@ -53,10 +53,12 @@ module _ (p : Problem) (s : Loosenings) (lemmas : List State) (S : State) where
   pub closing_leaves : (l : Line) → IsTrue (is_closing l) → IsEnding (rule p s lemmas S l) → rule p s lemmas S l ≡ Some closed
   closing_leaves (void j) c h = ends-void (in_yes S j) (narrowing p s S j) h
   closing_leaves (void_no j) c h = ends-void (can_push p s S j) (narrowing_off p s S j) h
+  closing_leaves (void_combine ms) c h = ends-void (can_combine p s S ms) (combining p s S ms) h
   closing_leaves make_false c h = ends-when (not (may p s S)) closed h
   closing_leaves (by i) c h = ends-when (lemma_covers lemmas i S) closed h
   closing_leaves (pull j) c h = absurd (true≢false (sym c))
   closing_leaves (push j) c h = absurd (true≢false (sym c))
+  closing_leaves (combine ms) c h = absurd (true≢false (sym c))
   closing_leaves (unit j) c h = absurd (true≢false (sym c))
   closing_leaves (ban j i) c h = absurd (true≢false (sym c))
   closing_leaves (cut axis x) c h = absurd (true≢false (sym c))
@@ -85,6 +87,8 @@ module _ (p : Problem) (s : Loosenings) (lemmas : List State) (S : State) where
   branch_leaves (void j) a b e h = cc
   branch_leaves (push j) a b e h = cc
   branch_leaves (void_no j) a b e h = cc
+  branch_leaves (combine ms) a b e h = cc
+  branch_leaves (void_combine ms) a b e h = cc
   branch_leaves make_false a b e h = cc
   branch_leaves (by i) a b e h = cc
   branch_leaves open_line a b e h = cc

@@ -3,7 +3,7 @@ use Rattle.std.specs.Prelude.{◌≡◌, List, [], ◌∷◌, All, Option, Some,
 use Rattle.dyadic.specs.Point.{Coordinate}
 use Rattle.poly_graph.specs.Problem.{Problem}
 use Rattle.cover_model.specs.State.{State, Loosenings, IsPointOf, MeetsForm, IsLemma, covers, undecided, with_yes, with_no}
-use Rattle.cover_model.specs.Rules.{Line, void, void_no, make_false, by, cut, flip, case, Left, one, rule, with_changed}
+use Rattle.cover_model.specs.Rules.{Line, void, void_no, void_combine, make_false, by, cut, flip, case, Left, one, rule, with_changed}
 use Rattle.interval_model.specs.Space.{lower_part, upper_part, keep, strictly_inside, is_undecided, test_axis}
 use Rattle.cover_model.specs.Derivation.{Tree, then}
 use Rattle.cover_model.specs.Honest.{is_honest}
@@ -34,6 +34,7 @@ AreKept lemmas quoted = All (λ (l : LemmaModel). slice_get lemmas l.id ≡ Some
 abbrev pub is_closing : Line → Bool
 is_closing (void j) = true
 is_closing (void_no j) = true
+is_closing (void_combine ms) = true
 is_closing make_false = true
 is_closing (by i) = true
 is_closing l = false

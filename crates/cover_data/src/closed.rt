@@ -59,9 +59,10 @@ impl KeptPatch {
     pub fn has_closed(&self) -> bool
         ensures { IsTrue result ↔ IsClosed (kept_of self.now) }
     {
-        match self.end {
+        match &self.end {
             Some(End::Void(_)) => true,
             Some(End::VoidNo(_)) => true,
+            Some(End::VoidCombine(_)) => true,
             Some(End::False) => true,
             Some(End::By(_)) => true,
             Some(End::Cut(_, _)) => false,
@@ -76,11 +77,10 @@ impl KeptPatch {
     pub fn closed(self) -> Result<ClosedPatch, KeptPatch>
         ensures { MatchResult result (λ c. (c ≡ kept_of self) × IsClosed (kept_of self)) (λ k. (k ≡ self) × ¬ IsClosed (kept_of self)) }
     {
-        match self.end {
-            Some(End::Void(_)) | Some(End::VoidNo(_)) | Some(End::False) | Some(End::By(_)) => {
-                Ok(ClosedPatch { kept: self })
-            }
-            _ => Err(self),
+        if self.has_closed() {
+            Ok(ClosedPatch { kept: self })
+        } else {
+            Err(self)
         }
     }
 }

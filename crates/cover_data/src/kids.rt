@@ -61,12 +61,13 @@ impl KeptPatch {
         ensures none { IfOk result (λ o. IfNone o (kids_of (kept_of self.now) ≡ None)) }
         ensures two { IfOk result (λ o. IfSome o (λ p. kids_of (kept_of self.now) ≡ Some (p.0, p.1))) }
     {
-        match self.end {
-            Some(End::Cut(axis, at)) => Ok(Some(cut(alloc, &self.reached, axis, at)?)),
-            Some(End::Flip(axis)) => Ok(Some(flipped(alloc, &self.reached, axis)?)),
-            Some(End::Case(j)) => Ok(Some(cases(alloc, &self.reached, j)?)),
+        match &self.end {
+            Some(End::Cut(axis, at)) => Ok(Some(cut(alloc, &self.reached, *axis, *at)?)),
+            Some(End::Flip(axis)) => Ok(Some(flipped(alloc, &self.reached, *axis)?)),
+            Some(End::Case(j)) => Ok(Some(cases(alloc, &self.reached, *j)?)),
             Some(End::Void(_)) => Ok(None),
             Some(End::VoidNo(_)) => Ok(None),
+            Some(End::VoidCombine(_)) => Ok(None),
             Some(End::False) => Ok(None),
             Some(End::By(_)) => Ok(None),
             Some(End::Stuck(_)) => Ok(None),

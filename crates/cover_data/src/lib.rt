@@ -6,6 +6,7 @@
 #![tactic(auto)]
 
 mod closed;
+mod combination;
 mod has_marks;
 mod kept;
 mod kids;
@@ -17,6 +18,7 @@ mod state;
 mod step;
 
 pub use closed::ClosedPatch;
+pub use combination::Combination;
 pub use kept::KeptPatch;
 pub use lemma::Lemma;
 pub use margins::{Margins, Options};

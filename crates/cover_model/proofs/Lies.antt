@@ -4,13 +4,15 @@ use Rattle.dyadic.specs.Fraction.{at_most}
 use Rattle.dyadic.specs.Rounding.{Dyadic, exact}
 use Rattle.dyadic.proofs.Equal.{both_true, both_pass, total}
 use Rattle.interval_model.proofs.EndsProducts.{at_most_refl}
-use Rattle.interval_model.specs.Space.{Domain, real_domain, bool_domain, Space, domain_within, space_within, strictly_inside, lower_part, upper_part, is_undecided, keep, changed, test_axis}
+use Rattle.interval_model.specs.Space.{Domain, real_domain, bool_domain, Space, domain_within, space_within, middle, strictly_inside, lower_part, upper_part, is_undecided, keep, changed, test_axis}
 use Rattle.cover_model.specs.OffRange.{off_range}
 use Rattle.cover_model.specs.Space.{range}
 use Rattle.poly_graph.specs.Problem.{Problem, IsProblem, atom_at}
 use Rattle.poly_graph.specs.Marks.{Mark, marked_yes, marked_no, marks_within}
 use Rattle.cover_model.specs.State.{State, Loosenings, margin_of, in_yes, undecided, with_mark, with_yes, with_no, with_space, may, covers}
-use Rattle.cover_model.specs.Rules.{Line, pull, unit, ban, void, push, void_no, make_false, by, cut, flip, case, open_line, stuck, Left, closed, one, two, stays, narrowing, narrowing_off, can_push, lemma_covers, with_changed, when, pulled, voided, is_stuck_atom, rule}
+use Rattle.cover_model.specs.Combination.{Multipliers, marked_range}
+use Rattle.cover_model.specs.Rules.{Line, pull, unit, ban, void, push, void_no, combine, void_combine, make_false, by, cut, flip, case, open_line, stuck, Left, closed, one, two, stays, narrowing, narrowing_off, can_push, can_combine, combining, lemma_covers, with_changed, when, pulled, voided, is_stuck_atom, rule}
+use Rattle.cover_model.proofs.CombinationWithin.{combining_lies_within}
 use Rattle.cover_model.specs.Derivation.{Tree, Lawful, at_closed, at_left, at_step, at_fork, LiesWithin, LiesWithinIf, EachWithin}
 use Rattle.poly_graph.proofs.Marks
 use Rattle.poly_graph.proofs.Marks.{marks_reflexive, marks_through}
@@ -88,6 +90,9 @@ module _ (p : Problem) (g : IsProblem p) (s : Loosenings) where
   pub narrowing_off_within : (S : State) (j : ℕ) (space : Space) → narrowing_off p s S j ≡ Some space → IsTrue (space_within space S.space)
   narrowing_off_within S j space e = narrowed_lies_within p.nodes g.ordered (atom_at p j).0 (off_range (margin_of s) (atom_at p j).1) S.space space e
 
+  combining_within : (S : State) (ms : Multipliers) (space : Space) → combining p s S ms ≡ Some space → IsTrue (space_within space S.space)
+  combining_within S ms space e = combining_lies_within p (marked_range p (margin_of s) S.marks) S.space (middle S.space) ms space e
+
   -- what a rule leaves lies within its state
   pub rule_within : (lemmas : List State) (S : State) (l : Line) → LiesWithinIf S (rule p s lemmas S l)
   rule_within lemmas S (pull j) = by-cond (in_yes S j) (pulled S (narrowing p s S j)) S (pulled-within S (narrowing p s S j) (narrowing_within S j))
@@ -96,6 +101,8 @@ module _ (p : Problem) (g : IsProblem p) (s : Loosenings) where
   rule_within lemmas S (void j) = by-cond (in_yes S j) (voided (narrowing p s S j)) S (voided-within S (narrowing p s S j))
   rule_within lemmas S (push j) = by-cond (can_push p s S j) (pulled S (narrowing_off p s S j)) S (pulled-within S (narrowing_off p s S j) (narrowing_off_within S j))
   rule_within lemmas S (void_no j) = by-cond (can_push p s S j) (voided (narrowing_off p s S j)) S (voided-within S (narrowing_off p s S j))
+  rule_within lemmas S (combine ms) = by-cond (can_combine p s S ms) (pulled S (combining p s S ms)) S (pulled-within S (combining p s S ms) (combining_within S ms))
+  rule_within lemmas S (void_combine ms) = by-cond (can_combine p s S ms) (voided (combining p s S ms)) S (voided-within S (combining p s S ms))
   rule_within lemmas S make_false = by-when (not (may p s S)) closed S (λ e. tt)
   rule_within lemmas S (by k) = by-when (lemma_covers lemmas k S) closed S (λ e. tt)
   rule_within lemmas S (cut axis c) = by-when (test_axis (strictly_inside c) axis S.space) (two (with_changed S (lower_part c) axis) (with_changed S (upper_part c) axis)) S

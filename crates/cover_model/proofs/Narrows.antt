@@ -161,6 +161,27 @@ module _ (es : List Interval) (values : ℕ → Fraction) (are : (k : ℕ) → I
 
 -- ---- the narrowed space
 
+-- a space keeps a point of which the new interval of an axis holds the coordinate
+pub set_keeps : (others : List Sort) (axis : ℕ) (i : Interval) (space : Space) (rest : List Coordinate) → IsPoint others rest → HasSort real_sort others axis → IsTrue (in_space space rest) → Holds i (coordinate rest axis) →
+    IsTrue (in_space (set_axis axis i space) rest)
+set_keeps others axis i [] rest p r h v = h
+set_keeps others axis i (d ∷ space) [] p r h v = absurd (true≢false (sym h))
+set_keeps [] axis i (d ∷ space) (c ∷ rest) p r h v = elim r [ ]
+set_keeps (real_sort ∷ others) zero (between (finite l) (finite u)) (d ∷ space) (at_fraction q ∷ rest) p r h v = both_pass (at_most (exact l) q && at_most q (exact u)) (in_space space rest) v (both_true (in_domain d (at_fraction q)) (in_space space rest) h).1
+set_keeps (real_sort ∷ others) zero (between (finite l) below_all) (d ∷ space) (at_fraction q ∷ rest) p r h v = h
+set_keeps (real_sort ∷ others) zero (between (finite l) above_all) (d ∷ space) (at_fraction q ∷ rest) p r h v = h
+set_keeps (real_sort ∷ others) zero (between below_all u) (d ∷ space) (at_fraction q ∷ rest) p r h v = h
+set_keeps (real_sort ∷ others) zero (between above_all u) (d ∷ space) (at_fraction q ∷ rest) p r h v = h
+set_keeps (real_sort ∷ others) zero nothing (d ∷ space) (at_fraction q ∷ rest) p r h v = h
+set_keeps (real_sort ∷ others) zero i (d ∷ space) (at_bool b ∷ rest) p r h v = elim p [ ]
+set_keeps (bool_sort ∷ others) zero i (d ∷ space) (c ∷ rest) p r h v = elim r [ ]
+set_keeps (real_sort ∷ others) (suc axis) i (d ∷ space) (at_fraction q ∷ rest) p r h v = let t = both_true (in_domain d (at_fraction q)) (in_space space rest) h in
+    both_pass (in_domain d (at_fraction q)) (in_space (set_axis axis i space) rest) t.0 (set_keeps others axis i space rest p.1 r t.1 v)
+set_keeps (bool_sort ∷ others) (suc axis) i (d ∷ space) (at_bool b ∷ rest) p r h v = let t = both_true (in_domain d (at_bool b)) (in_space space rest) h in
+    both_pass (in_domain d (at_bool b)) (in_space (set_axis axis i space) rest) t.0 (set_keeps others axis i space rest p r t.1 v)
+set_keeps (real_sort ∷ others) (suc axis) i (d ∷ space) (at_bool b ∷ rest) p r h v = elim p [ ]
+set_keeps (bool_sort ∷ others) (suc axis) i (d ∷ space) (at_fraction q ∷ rest) p r h v = elim p [ ]
+
 module _ (es : List Interval) (values : ℕ → Fraction) (are : (k : ℕ) → IsFraction (values k)) (enclosed : (k : ℕ) → k < length es → Holds (entry es k) (values k)) where
   none-empty : (k : ℕ) (ns : List (Option Interval)) → EachHolds es values are enclosed k ns → some_empty ns ≡ false
   none-empty k [] h = refl
@@ -169,26 +190,6 @@ module _ (es : List Interval) (values : ℕ → Fraction) (are : (k : ℕ) → I
   none-empty k (Some (between l u) ∷ ns) h = none-empty (suc k) ns h.1
 
   module _ (sorts : List Sort) (point : List Coordinate) where
-    set-keeps : (others : List Sort) (axis : ℕ) (i : Interval) (space : Space) (rest : List Coordinate) → IsPoint others rest → HasSort real_sort others axis → IsTrue (in_space space rest) → Holds i (coordinate rest axis) →
-        IsTrue (in_space (set_axis axis i space) rest)
-    set-keeps others axis i [] rest p r h v = h
-    set-keeps others axis i (d ∷ space) [] p r h v = absurd (true≢false (sym h))
-    set-keeps [] axis i (d ∷ space) (c ∷ rest) p r h v = elim r [ ]
-    set-keeps (real_sort ∷ others) zero (between (finite l) (finite u)) (d ∷ space) (at_fraction q ∷ rest) p r h v = both_pass (at_most (exact l) q && at_most q (exact u)) (in_space space rest) v (both_true (in_domain d (at_fraction q)) (in_space space rest) h).1
-    set-keeps (real_sort ∷ others) zero (between (finite l) below_all) (d ∷ space) (at_fraction q ∷ rest) p r h v = h
-    set-keeps (real_sort ∷ others) zero (between (finite l) above_all) (d ∷ space) (at_fraction q ∷ rest) p r h v = h
-    set-keeps (real_sort ∷ others) zero (between below_all u) (d ∷ space) (at_fraction q ∷ rest) p r h v = h
-    set-keeps (real_sort ∷ others) zero (between above_all u) (d ∷ space) (at_fraction q ∷ rest) p r h v = h
-    set-keeps (real_sort ∷ others) zero nothing (d ∷ space) (at_fraction q ∷ rest) p r h v = h
-    set-keeps (real_sort ∷ others) zero i (d ∷ space) (at_bool b ∷ rest) p r h v = elim p [ ]
-    set-keeps (bool_sort ∷ others) zero i (d ∷ space) (c ∷ rest) p r h v = elim r [ ]
-    set-keeps (real_sort ∷ others) (suc axis) i (d ∷ space) (at_fraction q ∷ rest) p r h v = let t = both_true (in_domain d (at_fraction q)) (in_space space rest) h in
-        both_pass (in_domain d (at_fraction q)) (in_space (set_axis axis i space) rest) t.0 (set-keeps others axis i space rest p.1 r t.1 v)
-    set-keeps (bool_sort ∷ others) (suc axis) i (d ∷ space) (at_bool b ∷ rest) p r h v = let t = both_true (in_domain d (at_bool b)) (in_space space rest) h in
-        both_pass (in_domain d (at_bool b)) (in_space (set_axis axis i space) rest) t.0 (set-keeps others axis i space rest p r t.1 v)
-    set-keeps (real_sort ∷ others) (suc axis) i (d ∷ space) (at_bool b ∷ rest) p r h v = elim p [ ]
-    set-keeps (bool_sort ∷ others) (suc axis) i (d ∷ space) (at_fraction q ∷ rest) p r h v = elim p [ ]
-
     -- of nodes from number k on, whose variables are Real axes with these values
     abbrev Variables : ℕ → List Node → Type 0
     Variables k nodes = (i axis : ℕ) → slice_get nodes i ≡ Some (variable_node axis) → HasSort real_sort sorts axis × (values (k + i) ≡ coordinate point axis)
@@ -205,7 +206,7 @@ module _ (es : List Interval) (values : ℕ → Fraction) (are : (k : ℕ) → I
     axes-keep p k (multiply_node a b ∷ nodes) [] space f h i = i
     axes-keep p k (square_node a ∷ nodes) [] space f h i = i
     axes-keep p k (variable_node axis ∷ nodes) (Some j ∷ ns) space f h i = let m = f zero axis refl in let start : k + 0 ≡ k = omega arith in
-        set-keeps sorts axis j (with_axes nodes ns space) point p m.0 (axes-keep p (suc k) nodes ns space (next-variables k (variable_node axis) nodes f) h.1 i)
+        set_keeps sorts axis j (with_axes nodes ns space) point p m.0 (axes-keep p (suc k) nodes ns space (next-variables k (variable_node axis) nodes f) h.1 i)
         (subst (λ (v : Fraction). Holds j v) (ap values (sym start) ∙ m.1) h.0.0)
     axes-keep p k (variable_node axis ∷ nodes) (None ∷ ns) space f h i = axes-keep p (suc k) nodes ns space (next-variables k (variable_node axis) nodes f) h.1 i
     axes-keep p k (constant_node q ∷ nodes) (n ∷ ns) space f h i = axes-keep p (suc k) nodes ns space (next-variables k (constant_node q) nodes f) h.1 i
@@ -220,10 +221,10 @@ module _ (es : List Interval) (values : ℕ → Fraction) (are : (k : ℕ) → I
 
 -- ---- narrowing drops no point of the space at which the root's value lies in the range
 
-nodes-at : (sorts : List Sort) (nodes : List Node) → All (IsNode sorts) nodes → (i : ℕ) (p : Node) → slice_get nodes i ≡ Some p → IsNode sorts p
-nodes-at sorts [] h i p e = cc
-nodes-at sorts (n ∷ nodes) h zero p e = subst (λ (m : Node). IsNode sorts m) (some_is n p e) (h zero n (omega arith))
-nodes-at sorts (n ∷ nodes) h (suc i) p e = nodes-at sorts nodes (λ j d l. h (suc j) d (omega arith)) i p e
+pub nodes_at : (sorts : List Sort) (nodes : List Node) → All (IsNode sorts) nodes → (i : ℕ) (p : Node) → slice_get nodes i ≡ Some p → IsNode sorts p
+nodes_at sorts [] h i p e = cc
+nodes_at sorts (n ∷ nodes) h zero p e = subst (λ (m : Node). IsNode sorts m) (some_is n p e) (h zero n (omega arith))
+nodes_at sorts (n ∷ nodes) h (suc i) p e = nodes_at sorts nodes (λ j d l. h (suc j) d (omega arith)) i p e
 
 -- a node's value is that of its kind
 node-value : (point : List Coordinate) (terms : List Term) (p : Node) → term_value point (node_term terms p) ≡ value-of (λ k. term_value point (term_at terms k)) (term_value point (node_term terms p)) p
@@ -264,4 +265,4 @@ narrows sorts nodes o g space point p i root range kept h =
     )) in
     let ns = narrowed_holds es values are enclosed root range h kept 0 nodes (omega arith) leaves in
     space_keeps es values are enclosed sorts point p nodes (narrowed nodes es root range) space
-    (λ k axis e. let place : 0 + k ≡ k = omega arith in (nodes-at sorts nodes g k (variable_node axis) e, ap values place ∙ ap (term_value point) (unfolds nodes o k (variable_node axis) e))) ns i
+    (λ k axis e. let place : 0 + k ≡ k = omega arith in (nodes_at sorts nodes g k (variable_node axis) e, ap values place ∙ ap (term_value point) (unfolds nodes o k (variable_node axis) e))) ns i

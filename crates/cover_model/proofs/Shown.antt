@@ -1,13 +1,13 @@
 -- Spaces of one point.
-use Rattle.std.proofs.Common.{◌≡◌, inl, inr, List, [], ◌∷◌, Bool, true, false, ◌&&◌, IsTrue, refl, subst, lit<}
+use Rattle.std.proofs.Common.{inl, inr, List, [], ◌∷◌, true, false, IsTrue, refl, subst, lit<}
 use Rattle.dyadic.specs.Fraction.{at_most}
-use Rattle.dyadic.specs.Point.{Sort, Coordinate, at_fraction, at_bool, IsPoint}
+use Rattle.dyadic.specs.Point.{Sort, Coordinate, IsPoint}
 use Rattle.dyadic.specs.Rounding.{Dyadic, exact}
 use Rattle.dyadic.proofs.Equal.{both_pass, total}
 use Rattle.interval_model.specs.Space.{Domain, real_domain, bool_domain, Space, in_domain, in_space}
-use Rattle.poly_graph.specs.Problem.{Declared, real_between, any_bool, Axis, Problem, IsProblem, sort_of, sorts_of_axes}
+use Rattle.poly_graph.specs.Problem.{Declared, real_between, any_bool, Axis, sort_of, sorts_of_axes}
 use Rattle.cover_model.specs.State.{delta_of}
-use Rattle.cover_model.specs.Fits.{IsSingle, AreSingle, coordinate_of, coordinates, IsShownAt}
+use Rattle.cover_model.specs.Fits.{IsSingle, AreSingle, coordinate_of, coordinates}
 use Rattle.cover_model.specs.Laws.{ShownPointMeets}
 use Rattle.cover_model.proofs.May.{sure_means}
 

@@ -11,9 +11,11 @@ use Rattle.cover_model.specs.Space.{range}
 use Rattle.poly_graph.specs.Problem.{Problem, IsProblem, sorts_of_problem, atom_at, term_of, full_atom}
 use Rattle.poly_graph.specs.Marks.{Mark, marked_yes, marked_no, is_yes, is_no, marks_within}
 use Rattle.cover_model.specs.State.{State, Loosenings, margin_of, in_yes, in_no, undecided, with_yes, with_no, with_space, may, IsPointOf, MeetsForm, IsLemma, covers}
-use Rattle.cover_model.specs.Rules.{Line, pull, unit, ban, void, push, void_no, make_false, by, cut, flip, case, open_line, stuck, Left, closed, one, two, stays, narrowing, narrowing_off, has_version_2, is_one_sided, in_no_one_sided, can_push, covers_by, lemma_covers, with_changed, when, pulled, voided, is_stuck_atom, rule}
+use Rattle.cover_model.specs.Rules.{Line, pull, unit, ban, void, push, void_no, combine, void_combine, make_false, by, cut, flip, case, open_line, stuck, Left, closed, one, two, stays, narrowing, narrowing_off, has_version_2, is_one_sided, in_no_one_sided, can_push, can_combine, combining, covers_by, lemma_covers, with_changed, when, pulled, voided, is_stuck_atom, rule}
 use Rattle.cover_model.specs.Derivation.{Tree, Lawful, at_closed, at_left, at_step, at_fork, Keeps, KeepsIf, Among, here, later, AreLemmas}
 use Rattle.poly_graph.proofs.Marks.{set_or_same, yes_within, no_within}
+use Rattle.cover_model.specs.Combination.{Multipliers}
+use Rattle.cover_model.proofs.CombinationMarked.{combined_point}
 use Rattle.cover_model.proofs.May.{may_is, range_holds, range_kept, margin_on_grid}
 use Rattle.cover_model.proofs.Narrows.{narrows}
 use Rattle.cover_model.proofs.OffRanges.{off_range_kept, off_range_holds}
@@ -154,6 +156,12 @@ module _ (p : Problem) (s : Loosenings) where
     void-no-keeps : (S : State) (point : List Coordinate) → IsPointOf p s S point → (j : ℕ) → IsTrue (can_push p s S j) → KeepsIf p s (voided (narrowing_off p s S j)) S point
     void-no-keeps S point i j e = let n = narrowing_off_keeps S point i j (i.no j (can-be-no S j e)) in rw n.1 tt
 
+    combine-keeps : (S : State) (point : List Coordinate) → IsPointOf p s S point → (ms : Multipliers) → IsTrue (can_combine p s S ms) → KeepsIf p s (pulled S (combining p s S ms)) S point
+    combine-keeps S point i ms e = let n = combined_point p s S point i g ms e in rw n.1 (with-space S point i n.0 n.2)
+
+    void-combine-keeps : (S : State) (point : List Coordinate) → IsPointOf p s S point → (ms : Multipliers) → IsTrue (can_combine p s S ms) → KeepsIf p s (voided (combining p s S ms)) S point
+    void-combine-keeps S point i ms e = let n = combined_point p s S point i g ms e in rw n.1 tt
+
     -- a point of the state that meets the form is a point of some state that the rule leaves
     pub rule_keeps : (lemmas : List State) → AreLemmas p s lemmas → (S : State) (l : Line) → (point : List Coordinate) → IsPointOf p s S point → MeetsForm p s point → KeepsIf p s (rule p s lemmas S l) S point
     rule_keeps lemmas f S (pull j) point i h = by-cond (in_yes S j) (in_yes S j) (pulled S (narrowing p s S j)) S point refl (pull-keeps S point i j)
@@ -164,6 +172,8 @@ module _ (p : Problem) (s : Loosenings) where
     rule_keeps lemmas f S (void j) point i h = by-cond (in_yes S j) (in_yes S j) (voided (narrowing p s S j)) S point refl (void-keeps S point i j)
     rule_keeps lemmas f S (push j) point i h = by-cond (can_push p s S j) (can_push p s S j) (pulled S (narrowing_off p s S j)) S point refl (push-keeps S point i j)
     rule_keeps lemmas f S (void_no j) point i h = by-cond (can_push p s S j) (can_push p s S j) (voided (narrowing_off p s S j)) S point refl (void-no-keeps S point i j)
+    rule_keeps lemmas f S (combine ms) point i h = by-cond (can_combine p s S ms) (can_combine p s S ms) (pulled S (combining p s S ms)) S point refl (combine-keeps S point i ms)
+    rule_keeps lemmas f S (void_combine ms) point i h = by-cond (can_combine p s S ms) (can_combine p s S ms) (voided (combining p s S ms)) S point refl (void-combine-keeps S point i ms)
     rule_keeps lemmas f S make_false point i h = by-when (not (may p s S)) closed S point (λ e. not_both (may p s S) (may_is p g s S point i h) e)
     rule_keeps lemmas f S (by k) point i h = by-when (lemma_covers lemmas k S) closed S point (λ e. no-point lemmas f k S point e i h)
     rule_keeps lemmas f S (cut axis c) point i h = by-when (test_axis (strictly_inside c) axis S.space) (two (with_changed S (lower_part c) axis) (with_changed S (upper_part c) axis)) S point

@@ -3,7 +3,7 @@ use Rattle.std.specs.Prelude.{ℕ, zero, suc, List, [], ◌∷◌, ◌++◌, Boo
 use Rattle.dyadic.specs.Fraction.{Fraction, at_most, difference_of}
 use Rattle.dyadic.specs.Rounding.{Dyadic, exact, two_to_minus, mid}
 use Rattle.poly_graph.specs.Form.{Form, atom_is, all_form, Forms, no_forms, more_forms}
-use Rattle.interval_model.specs.Space.{Domain, real_domain, bool_domain, Space, middle_domain, middle, can_be_halved, side, better, widest_from, widest}
+use Rattle.interval_model.specs.Space.{Domain, real_domain, bool_domain, Space, middle, can_be_halved, widest}
 use Rattle.poly_graph.specs.Problem.{Problem}
 use Rattle.poly_graph.specs.Marks.{Mark, is_yes}
 use Rattle.cover_model.specs.State.{State, Loosenings, margin_of, in_yes, with_no, may, sure, misses}

@@ -1,17 +1,19 @@
 -- What is proved of enclosures, narrowing, states, rules and derivations.
-use Rattle.std.specs.Prelude.{◌≡◌, ◌<◌, ℕ, List, [], length, not, IsTrue, Some}
+use Rattle.std.specs.Prelude.{◌≡◌, ◌<◌, ℕ, List, [], ◌∷◌, length, not, IsTrue, Some}
+use Rattle.dyadic.specs.Fraction.{Fraction, IsFraction, sum_of, product_of}
 use Rattle.dyadic.specs.Point.{Sort, Coordinate, IsPoint}
 use Rattle.dyadic.specs.Rounding.{exact, two_to_minus}
-use Rattle.interval_model.specs.Interval.{Interval, within, holds_fraction}
+use Rattle.interval_model.specs.Interval.{Interval, within, holds_fraction, interval_sum, misses_nought}
 use Rattle.poly_graph.specs.Term.{Term, term_value, atom_holds}
 use Rattle.interval_model.specs.Space.{Space, in_space, is_upright, space_within, middle}
 use Rattle.cover_model.specs.Space.{IsGridSpace, enclosure, range}
-use Rattle.poly_graph.specs.Problem.{Problem, IsProblem, IsTerm, sorts_of_problem, atom_at, full_atom, in_declared_box, crosses}
+use Rattle.poly_graph.specs.Problem.{Problem, IsProblem, IsTerm, sorts_of_problem, atom_at, term_of, full_atom, in_declared_box, crosses}
 use Rattle.cover_model.specs.Root.{root_space}
 use Rattle.cover_model.specs.State.{State, Loosenings, root_state, delta_of, may, sure_within, IsPointOf, MeetsForm, MeetsAt, IsLemma, covers}
 use Rattle.cover_model.specs.Fits.{IsShownAt, coordinates}
 use Rattle.cover_model.specs.Narrowed.{narrowed_by}
 use Rattle.cover_model.specs.OffRange.{off_range}
+use Rattle.cover_model.specs.Combination.{Multipliers, combined_about, completed, completed_left}
 use Rattle.cover_model.specs.Rules.{Line, rule, is_stuck_atom}
 use Rattle.cover_model.specs.Honest.{not_shown, is_small, none_below}
 use Rattle.cover_model.specs.Derivation.{Tree, Lawful, KeepsIf, LiesWithinIf, EachWithin, Among, AreLemmas}
@@ -102,3 +104,25 @@ RootIsUpright = (p : Problem) → IsProblem p → ((i : ℕ) → IsTrue (not (cr
 abbrev pub SomeAtomIsStuck : Type 0
 SomeAtomIsStuck = (p : Problem) → IsProblem p → (s : Loosenings) (S : State) (w : ℕ) → IsGridSpace S.space → IsTrue (is_upright S.space) → IsTrue (not_shown p s S) → IsTrue (is_small w S.space) →
     (j : ℕ) × (j < length p.atoms) × IsTrue (is_stuck_atom p s S j) × IsTrue (none_below p s S j)
+
+-- Each is an atom, and its term's value at the point lies in its range.
+abbrev pub AllLie : Problem → (ℕ → Interval) → List Coordinate → Multipliers → Type 0
+AllLie p ranges point [] = Unit {0}
+AllLie p ranges point ((j, l) ∷ rest) = (j < length p.atoms) × IsTrue (holds_fraction (ranges j) (term_value point (term_of p j))) × AllLie p ranges point rest
+
+-- A combination, expanded at any centre, drops no point of the space at which the values of all its atoms lie in their ranges, and leaves something where there is such a point.
+abbrev pub CombiningKeeps : Type 0
+CombiningKeeps = (p : Problem) → IsProblem p → (ranges : ℕ → Interval) (space centre : Space) (point at_centre : List Coordinate) →
+    IsPoint (sorts_of_problem p) point → IsTrue (in_space space point) → IsPoint (sorts_of_problem p) at_centre → IsTrue (in_space centre at_centre) →
+    (ms : Multipliers) → AllLie p ranges point ms → (narrow : Space) × (combined_about p ranges space centre ms ≡ Some narrow) × IsTrue (in_space narrow point)
+
+-- What it leaves lies within the space.
+abbrev pub CombiningLiesWithin : Type 0
+CombiningLiesWithin = (p : Problem) (ranges : ℕ → Interval) (space centre : Space) (ms : Multipliers) (narrow : Space) → combined_about p ranges space centre ms ≡ Some narrow → IsTrue (space_within narrow space)
+
+-- The completed square of a linear and a quadratic part holds their sum, and what a range leaves to it holds the variable's difference.
+abbrev pub SquaresAreCompleted : Type 0
+SquaresAreCompleted = (w q d s : Interval) (a k x : Fraction) → IsFraction a → IsFraction k → IsFraction x → IsTrue (misses_nought (interval_sum q q)) →
+    IsTrue (holds_fraction w a) → IsTrue (holds_fraction q k) → IsTrue (holds_fraction d x) →
+    IsTrue (holds_fraction (completed w q d) (sum_of (product_of a x) (product_of k (product_of x x))))
+    × (IsTrue (holds_fraction s (sum_of (product_of a x) (product_of k (product_of x x)))) → IsTrue (holds_fraction (completed_left s w q d) x))

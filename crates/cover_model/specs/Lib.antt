@@ -1,4 +1,6 @@
 pub mod AxisStep
+pub mod Combination
+pub mod CombinationLists
 pub mod Derivation
 pub mod Fits
 pub mod Honest
@@ -10,3 +12,4 @@ pub mod Root
 pub mod Rules
 pub mod Space
 pub mod State
+pub mod Views

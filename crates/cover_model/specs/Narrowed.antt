@@ -1,5 +1,5 @@
 -- The narrowed intervals of the subterms of an atom, each from those of its parents (the backward pass of HC4: Benhamou, Goualard, Granvilliers, Puget, ICLP 1999).
-use Rattle.std.specs.Prelude.{ℕ, zero, suc, List, [], ◌∷◌, map, Bool, true, false, cond, ◌||◌, Option, Some, None, nat_eq, slice_index_or}
+use Rattle.std.specs.Prelude.{ℕ, zero, suc, List, [], ◌∷◌, map, Bool, true, false, cond, Option, Some, None, nat_eq, slice_index_or}
 use Rattle.dyadic.specs.Rounding.{finite}
 use Rattle.interval_model.specs.Interval.{Interval, nothing, between, everything, interval_negated, met, inverse_sum, inverse_product, inverse_square}
 use Rattle.poly_graph.specs.Term.{Node, variable_node, negate_node, add_node, multiply_node, square_node, graph_terms, has_child}

@@ -1,6 +1,7 @@
 -- The lines of a cover, each with its condition on a state and the states that it leaves.
-use Rattle.std.specs.Prelude.{ℕ, List, Bool, true, false, cond, not, ◌&&◌, Option, Some, None, nat_le, slice_get}
+use Rattle.std.specs.Prelude.{ℕ, List, [], ◌∷◌, length, Bool, true, false, cond, not, ◌&&◌, ◌||◌, Option, Some, None, nat_le, nat_lt, slice_get}
 use Rattle.dyadic.specs.Rounding.{Dyadic}
+use Rattle.interval_model.specs.Interval.{misses_nought}
 use Rattle.poly_graph.specs.Term.{Kind, le, ge, eq}
 use Rattle.interval_model.specs.Space.{Domain, Space, strictly_inside, lower_part, upper_part, is_undecided, keep, changed, test_axis}
 use Rattle.cover_model.specs.Space.{range}
@@ -8,10 +9,13 @@ use Rattle.poly_graph.specs.Problem.{Problem, atom_at}
 use Rattle.cover_model.specs.State.{State, Loosenings, margin_of, delta_of, in_yes, in_no, undecided, with_yes, with_no, with_space, may, misses, sure_at, covers}
 use Rattle.cover_model.specs.Narrowed.{narrowed_by}
 use Rattle.cover_model.specs.OffRange.{off_range}
+use Rattle.cover_model.specs.Combination.{Multipliers, only, combined}
 
--- numbers of atoms for pull, unit, void, push, void_no, case and stuck; an atom and a lemma for ban; a lemma for by; an axis for cut and flip
+-- numbers of atoms for pull, unit, void, push, void_no, case and stuck; atoms with their multipliers for combine and
+-- void_combine; an atom and a lemma for ban; a lemma for by; an axis for cut and flip
 pub data Line : Type 0 where
   pull unit void push void_no : ℕ → Line
+  combine void_combine : Multipliers → Line
   ban : ℕ → ℕ → Line
   make_false : Line
   by : ℕ → Line
@@ -54,6 +58,31 @@ has_version_2 s = nat_le 2 s.version
 abbrev pub can_push : Problem → Loosenings → State → ℕ → Bool
 can_push p s S j = has_version_2 s && in_no_one_sided p S j
 
+-- ---- combinations
+
+-- what a combination of marked atoms leaves of the space, none where nothing is left
+abbrev pub combining : Problem → Loosenings → State → Multipliers → Option Space
+combining p s S ms = combined p (margin_of s) S.marks S.space ms
+
+-- each is an atom that is marked yes, or that is marked no and is an inequality
+abbrev pub are_combinable : Problem → State → Multipliers → Bool
+are_combinable p S [] = true
+are_combinable p S ((j, l) ∷ rest) = (nat_lt j (length p.atoms) && (in_yes S j || in_no_one_sided p S j)) && are_combinable p S rest
+
+-- the atoms' numbers ascend, and no multiplier is 0
+abbrev pub are_ordered : Multipliers → Bool
+are_ordered [] = true
+are_ordered ((j, l) ∷ []) = misses_nought (only l)
+are_ordered ((j, l) ∷ (k, m) ∷ rest) = misses_nought (only l) && nat_lt j k && are_ordered ((k, m) ∷ rest)
+
+-- from 1 to 64 pairs in order
+abbrev pub is_combination : Multipliers → Bool
+is_combination ms = nat_lt 0 (length ms) && nat_le (length ms) 64 && are_ordered ms
+
+-- these atoms may be combined at the state
+abbrev pub can_combine : Problem → Loosenings → State → Multipliers → Bool
+can_combine p s S ms = has_version_2 s && is_combination ms && are_combinable p S ms
+
 -- ---- lemmas
 
 abbrev pub covers_by : Option State → State → Bool
@@ -95,6 +124,8 @@ rule p s lemmas S (ban j i) = when (undecided S j && lemma_covers lemmas i (with
 rule p s lemmas S (void j) = cond (in_yes S j) (voided (narrowing p s S j)) None
 rule p s lemmas S (push j) = cond (can_push p s S j) (pulled S (narrowing_off p s S j)) None
 rule p s lemmas S (void_no j) = cond (can_push p s S j) (voided (narrowing_off p s S j)) None
+rule p s lemmas S (combine ms) = cond (can_combine p s S ms) (pulled S (combining p s S ms)) None
+rule p s lemmas S (void_combine ms) = cond (can_combine p s S ms) (voided (combining p s S ms)) None
 rule p s lemmas S make_false = when (not (may p s S)) closed
 rule p s lemmas S (by i) = when (lemma_covers lemmas i S) closed
 rule p s lemmas S (cut axis c) = when (test_axis (strictly_inside c) axis S.space)

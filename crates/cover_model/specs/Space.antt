@@ -4,7 +4,7 @@ use Rattle.dyadic.specs.Rounding.{Dyadic, IsOnGrid, below_all, finite, above_all
 use Rattle.interval_model.specs.Interval.{Interval, between, interval_negated, interval_sum, interval_product, interval_square}
 use Rattle.dyadic.specs.End.{negated_dyadic}
 use Rattle.poly_graph.specs.Term.{Term, constant, variable, negate, add, multiply, square, Kind, le, ge, eq}
-use Rattle.interval_model.specs.Space.{Domain, real_domain, bool_domain, Space, domain_interval, axis_interval, in_domain, in_space, is_upright_domain, is_upright}
+use Rattle.interval_model.specs.Space.{Domain, real_domain, bool_domain, Space, axis_interval}
 
 abbrev pub IsGridDomain : Domain → Type 0
 IsGridDomain (real_domain l h) = IsOnGrid l × IsOnGrid h

@@ -1,12 +1,12 @@
 -- States of a cover, their points, and the bounds on the form's truth over a space.
-use Rattle.std.specs.Prelude.{ℕ, zero, suc, List, [], ◌∷◌, length, replicate, Bool, true, false, cond, not, ◌&&◌, ◌||◌, IsTrue, nat_eq, slice_index_or, slice_set}
+use Rattle.std.specs.Prelude.{ℕ, zero, suc, List, [], ◌∷◌, length, replicate, Bool, false, not, ◌&&◌, IsTrue, slice_set}
 use Rattle.dyadic.specs.Point.{Coordinate, IsPoint}
 use Rattle.dyadic.specs.Rounding.{Dyadic, exact, two_to_minus}
 use Rattle.interval_model.specs.Interval.{Interval, met, is_nothing, within}
 use Rattle.poly_graph.specs.Marks.{Mark, marked_yes, marked_no, unmarked, is_yes, is_no, mark_at, undecided_in, marks_within}
 use Rattle.poly_graph.specs.Term.{atom_holds}
 use Rattle.poly_graph.specs.Form.{form_truth}
-use Rattle.interval_model.specs.Space.{Space, in_space, domain_within, space_within, allows}
+use Rattle.interval_model.specs.Space.{Space, in_space, space_within, allows}
 use Rattle.cover_model.specs.Space.{enclosure, range}
 use Rattle.poly_graph.specs.Problem.{Problem, sorts_of_problem, atom_at, term_of, full_atom, bool_holds}
 use Rattle.cover_model.specs.Root.{root_space}

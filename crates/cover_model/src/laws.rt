@@ -1,6 +1,7 @@
 //! What is proved of the definitions: each function here does nothing, and its contract is a law.
 
-ghost use Rattle.cover_model.specs.Laws.{EnclosureHolds, EnclosureIsIsotone, NarrowingKeeps, NarrowingOffKeeps, NarrowingLiesWithin, MayIsTrue, SureMeans, ShownPointMeets, RuleKeeps, TreeKeeps, ClosedTreeHasNone, RuleLiesWithin, TreeLiesWithin, CoveredPoints, RootHasDeclaredBox, CrossedBoxIsEmpty, MiddleLiesWithin, RootIsUpright, SomeAtomIsStuck};
+ghost use Rattle.cover_model.specs.Laws.{EnclosureHolds, EnclosureIsIsotone, NarrowingKeeps, NarrowingOffKeeps, NarrowingLiesWithin, MayIsTrue, SureMeans, ShownPointMeets, RuleKeeps, TreeKeeps, ClosedTreeHasNone, RuleLiesWithin, TreeLiesWithin, CoveredPoints, RootHasDeclaredBox, CrossedBoxIsEmpty, MiddleLiesWithin, RootIsUpright, SomeAtomIsStuck, CombiningKeeps, CombiningLiesWithin, SquaresAreCompleted};
+ghost use Rattle.cover_model.specs.CombinationLists.{ListsAreSwept};
 
 /// The enclosure of a term over a space holds the term's value at each point of the space.
 pub fn enclosures_hold()
@@ -96,4 +97,25 @@ pub fn root_is_upright()
 /// Where no axis is left to halve and the form is not shown at the middle, there is a first atom that is stuck.
 pub fn some_atom_is_stuck()
     ensures { SomeAtomIsStuck }
+{}
+
+/// A combination, expanded at any centre, drops no point of the space at which the values of all its atoms lie in their
+/// ranges, and is not empty where there is one.
+pub fn combining_keeps()
+    ensures { CombiningKeeps }
+{}
+
+/// What a combination leaves lies within the space.
+pub fn combining_lies_within()
+    ensures { CombiningLiesWithin }
+{}
+
+/// A completed square holds the sum of its parts, and what is left to it holds the variable's difference.
+pub fn squares_are_completed()
+    ensures { SquaresAreCompleted }
+{}
+
+/// The sweep over lists, as a program keeps them, is the sweep over the function of their entries.
+pub fn lists_are_swept()
+    ensures { ListsAreSwept }
 {}

@@ -9,6 +9,7 @@ ghost use Rattle.cover_data.specs.Views.{kept_of};
 
 use crate::patches::{Answer, DONE, book_of, is_state, led, outside_lemma, state_of};
 use crate::points::is_space;
+use crate::single_rules::{LINES, PARABOLA};
 use crate::tests::{ANYWHERE, CIRCLE, LEMMA, NO_ROOT, OUTSIDE, SWAPPED, middle_of, verdict};
 use cert_check::Verdict;
 use cert_text::write_cover;
@@ -436,6 +437,67 @@ fn a_cover_of_two_cuts_is_made(rt: HostRuntime) {
             Verdict::Unsat(20)
         )
     );
+}
+
+// ---- combinations of marked atoms
+
+const REFUTED: [Commit; 1] = [Commit {
+    node: 0,
+    quotes: None,
+    state: &["real 0 1b0"],
+    lines: &[("unit 2", DONE), ("voidcomb 2 1b0", DONE)],
+    reply: Ok(Kids::None),
+}];
+
+const REFUTED_PARABOLA: &str = "dpoly 2
+margin 20
+delta 10
+bound none
+cover 0
+tree
+unit 2
+voidcomb 2 1b0
+end
+";
+
+const APART: [Commit; 1] = [Commit {
+    node: 0,
+    quotes: None,
+    state: &["real 0 1b2", "real 0 1b2"],
+    lines: &[
+        ("unit 4", DONE),
+        ("unit 5", DONE),
+        ("unit 6", DONE),
+        ("comb 4 1b0 5 1b0", DONE),
+        ("voidcomb 4 1b-1 5 1b-1 6 -1b0", DONE),
+    ],
+    reply: Ok(Kids::None),
+}];
+
+const REFUTED_LINES: &str = "dpoly 2
+margin 20
+delta 10
+bound none
+cover 0
+tree
+unit 4
+unit 5
+unit 6
+comb 4 1b0 5 1b0
+voidcomb 4 1b-1 5 1b-1 6 -1b0
+end
+";
+
+#[test]
+fn combinations_are_written_and_confirmed(rt: HostRuntime) {
+    let alloc = rt.alloc();
+    for (script, commits, text) in [
+        (PARABOLA, REFUTED, REFUTED_PARABOLA),
+        (LINES, APART, REFUTED_LINES),
+    ] {
+        let said = BookVerdict::Unsat;
+        assert!(rt; is_cover(alloc, script, 20, &commits, said, text, Verdict::Unsat(20)));
+    }
 }
 
 // ---- x^2 = 1/4 and (x >= 3/4 or x <= 1/4)

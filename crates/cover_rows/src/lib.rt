@@ -9,6 +9,8 @@ mod of_box_worker;
 #[cfg(test)]
 mod of_cert_text;
 #[cfg(test)]
+mod of_combine;
+#[cfg(test)]
 mod of_cover_data;
 #[cfg(test)]
 mod of_solve_core;
@@ -18,5 +20,7 @@ mod patches;
 mod points;
 #[cfg(test)]
 mod shared;
+#[cfg(test)]
+mod single_rules;
 #[cfg(test)]
 mod tests;

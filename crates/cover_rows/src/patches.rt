@@ -17,7 +17,7 @@ use truth3::{Root, root_space};
 // ---- states by hand
 
 // What a line of a certificate says.
-fn line_of(alloc: Global, text: &str) -> Option<Line> {
+pub(crate) fn line_of(alloc: Global, text: &str) -> Option<Line> {
     let mut reader = LineReader::new(alloc);
     reader.feed(text.as_bytes()).ok()?;
     reader.end();
@@ -92,21 +92,25 @@ pub(crate) const DONE: Answer = Ok(());
 
 const NOT_HONEST: Answer = Err(PatchRefusal::NotHonest);
 
-const NOT_FALSE: Answer = Err(PatchRefusal::NotFalse);
+pub(crate) const NOT_FALSE: Answer = Err(PatchRefusal::NotFalse);
 
 const NOT_STUCK: Answer = Err(PatchRefusal::NotStuck);
 
-const NOT_YES: Answer = Err(PatchRefusal::NotYes);
+pub(crate) const NOT_YES: Answer = Err(PatchRefusal::NotYes);
 
-const NOT_NO: Answer = Err(PatchRefusal::NotNo);
+pub(crate) const NOT_NO: Answer = Err(PatchRefusal::NotNo);
 
-const NOT_INSIDE: Answer = Err(PatchRefusal::NotInside);
+pub(crate) const NOT_COMBINABLE: Answer = Err(PatchRefusal::NotCombinable);
+
+pub(crate) const IS_VOID: Answer = Err(PatchRefusal::IsVoid);
+
+pub(crate) const NOT_INSIDE: Answer = Err(PatchRefusal::NotInside);
 
 const NOT_COVERED: Answer = Err(PatchRefusal::NotCovered);
 
-const DECIDED: Answer = Err(PatchRefusal::Decided);
+pub(crate) const DECIDED: Answer = Err(PatchRefusal::Decided);
 
-const ENDED: Answer = Err(PatchRefusal::Ended);
+pub(crate) const ENDED: Answer = Err(PatchRefusal::Ended);
 
 // The book with which a search for the script's problem opens, where axes are cut down to this width, so often at most.
 pub(crate) fn book_of(alloc: Global, script: &str, least_bits: u32, budget: u32) -> Option<Book>
@@ -125,7 +129,7 @@ pub(crate) fn book_of(alloc: Global, script: &str, least_bits: u32, budget: u32)
 }
 
 // A patch that begins in a state of the book's problem.
-fn begun_at<'a>(alloc: Global, book: &'a Book, state: State) -> Option<Patch<'a>>
+pub(crate) fn begun_at<'a>(alloc: Global, book: &'a Book, state: State) -> Option<Patch<'a>>
     ensures problem { IfSome result (λ p. p.problem ≡ book.now.problem) }
     ensures margins { IfSome result (λ p. p.margins ≡ margins_of book.now.options) }
 {
@@ -198,6 +202,8 @@ fn answer(book: &Book, lemma: Option<&Lemma>, patch: &mut Patch, line: &Line) ->
         Line::False => Some(patch.make_false()),
         Line::Cut(_, _) => Some(patch.cut()),
         Line::Flip(axis) if is_axis(book, *axis) => Some(patch.flip(*axis)),
+        Line::Combine(pairs) => Some(patch.combine(pairs)),
+        Line::VoidCombine(pairs) => Some(patch.void_combine(pairs)),
         Line::Ban(_, _) | Line::By(_) => answer_by(book, lemma?, patch, line),
         _ => answer_at_atom(book, patch, line),
     }
@@ -298,36 +304,65 @@ fn leaves(alloc: Global, patch: Patch, lower: &[&str], upper: &[&str]) -> bool {
     }
 }
 
-// Whether the line says this end, which closes a state.
-fn is_end(line: &Line, end: End) -> bool {
-    match line {
-        Line::False => end == End::False,
-        Line::Void(j) => end == End::Void(*j),
-        Line::VoidNo(j) => end == End::VoidNo(*j),
-        Line::By(id) => end == End::By(*id),
+// Whether the line says this step.
+fn is_step(line: &Line, step: &Step) -> bool {
+    match (line, step) {
+        (Line::Pull(j), Step::Pull(k)) => *j == *k,
+        (Line::Unit(j), Step::Unit(k)) => *j == *k,
+        (Line::Ban(j, id), Step::Ban(k, quoted)) => *j == *k && *id == *quoted,
+        (Line::Push(j), Step::Push(k)) => *j == *k,
+        (Line::Combine(pairs), Step::Combine(made)) => pairs.as_slice() == made.pairs.as_slice(),
         _ => false,
     }
 }
 
-// Whether the patch is closed by these steps and the end that the line says.
-fn is_closed_by(alloc: Global, patch: Patch, steps: &[Step], line: &str) -> bool {
+// Whether the lines say these steps.
+fn are_steps(alloc: Global, lines: &[&str], steps: &[Step]) -> bool {
+    if lines.len() != steps.len() {
+        return false;
+    }
+    for (text, step) in lines.iter().zip(steps) {
+        match line_of(alloc, text) {
+            Some(line) if is_step(&line, step) => {}
+            _ => return false,
+        }
+    }
+    true
+}
+
+// Whether the line says this end, which closes a state.
+fn is_end(line: &Line, end: &End) -> bool {
+    match (line, end) {
+        (Line::False, End::False) => true,
+        (Line::Void(j), End::Void(k)) => *j == *k,
+        (Line::VoidNo(j), End::VoidNo(k)) => *j == *k,
+        (Line::By(id), End::By(quoted)) => *id == *quoted,
+        (Line::VoidCombine(pairs), End::VoidCombine(made)) => {
+            pairs.as_slice() == made.pairs.as_slice()
+        }
+        _ => false,
+    }
+}
+
+// Whether the patch is closed by the steps and the end that these lines say.
+fn is_closed_by(alloc: Global, patch: Patch, steps: &[&str], line: &str) -> bool {
     let Ok(closed) = patch.closed() else {
         return false;
     };
     let kept = closed.kept();
-    match (line_of(alloc, line), kept.end) {
-        (Some(line), Some(end)) => kept.steps.as_slice() == steps && is_end(&line, end),
+    match (line_of(alloc, line), &kept.end) {
+        (Some(line), Some(end)) => are_steps(alloc, steps, &kept.steps) && is_end(&line, end),
         _ => false,
     }
 }
 
 // A patch for a script: the least width, the state in which it begins, and each line with what it answers.
 #[derive(Clone, Copy)]
-struct Case {
-    script: &'static str,
-    least_bits: u32,
-    state: &'static [&'static str],
-    lines: &'static [(&'static str, Answer)],
+pub(crate) struct Case {
+    pub script: &'static str,
+    pub least_bits: u32,
+    pub state: &'static [&'static str],
+    pub lines: &'static [(&'static str, Answer)],
 }
 
 // The patch of the case for its book.
@@ -353,8 +388,8 @@ fn book_in(alloc: Global, case: Case) -> Option<Book> {
     book_of(alloc, case.script, case.least_bits, 0)
 }
 
-// Whether the case is closed by these steps and the end that the line says.
-fn closes(alloc: Global, case: Case, steps: &[Step], line: &str) -> bool {
+// Whether the case is closed by the steps and the end that these lines say.
+pub(crate) fn closes(alloc: Global, case: Case, steps: &[&str], line: &str) -> bool {
     let Some(book) = book_in(alloc, case) else {
         return false;
     };
@@ -365,7 +400,7 @@ fn closes(alloc: Global, case: Case, steps: &[Step], line: &str) -> bool {
 }
 
 // Whether the case ends in a branch that leaves these two states.
-fn parts(alloc: Global, case: Case, lower: &[&str], upper: &[&str]) -> bool {
+pub(crate) fn parts(alloc: Global, case: Case, lower: &[&str], upper: &[&str]) -> bool {
     let Some(book) = book_in(alloc, case) else {
         return false;
     };
@@ -376,7 +411,7 @@ fn parts(alloc: Global, case: Case, lower: &[&str], upper: &[&str]) -> bool {
 }
 
 // Whether the case does not close its state, and reaches this one.
-fn reaches(alloc: Global, case: Case, lines: &[&str]) -> bool {
+pub(crate) fn reaches(alloc: Global, case: Case, lines: &[&str]) -> bool {
     let Some(book) = book_in(alloc, case) else {
         return false;
     };
@@ -441,7 +476,7 @@ const PULLED: [(Case, &[&str]); 1] = [(
     &["real 1048575b-20 1b0", "real 1048575b-20 1b0", "yes 5"],
 )];
 
-const CLOSED_PARTS: [(Case, &[Step], &str); 3] = [
+const CLOSED_PARTS: [(Case, &[&str], &str); 3] = [
     (
         Case {
             script: CIRCLE,
@@ -449,7 +484,7 @@ const CLOSED_PARTS: [(Case, &[Step], &str); 3] = [
             state: &["real 0 1b0", "real 0 1b0"],
             lines: &[("unit 5", DONE), ("pull 5", DONE), ("false", DONE)],
         },
-        &[Step::Unit(5), Step::Pull(5)],
+        &["unit 5", "pull 5"],
         "false",
     ),
     (
@@ -459,7 +494,7 @@ const CLOSED_PARTS: [(Case, &[Step], &str); 3] = [
             state: &["real 0 1b0", "real 1b0 1b1"],
             lines: &[("unit 4", DONE), ("pull 4", DONE), ("false", DONE)],
         },
-        &[Step::Unit(4), Step::Pull(4)],
+        &["unit 4", "pull 4"],
         "false",
     ),
     (
@@ -469,7 +504,7 @@ const CLOSED_PARTS: [(Case, &[Step], &str); 3] = [
             state: &["real 1b0 1b1", "real 0 1b1"],
             lines: &[("unit 4", DONE), ("pull 4", DONE), ("false", DONE)],
         },
-        &[Step::Unit(4), Step::Pull(4)],
+        &["unit 4", "pull 4"],
         "false",
     ),
 ];
@@ -596,7 +631,7 @@ const CHOICE_STATES: [(Case, &[&str]); 2] = [
     ),
 ];
 
-const CHOICE_CLOSED: [(Case, &[Step], &str); 2] = [
+const CHOICE_CLOSED: [(Case, &[&str], &str); 2] = [
     (
         Case {
             script: OUTSIDE,
@@ -604,7 +639,7 @@ const CHOICE_CLOSED: [(Case, &[Step], &str); 2] = [
             state: &["real 0 1b0", "yes 0 1 2 4"],
             lines: &[("pull 2", DONE), ("void 4", DONE)],
         },
-        &[Step::Pull(2)],
+        &["pull 2"],
         "void 4",
     ),
     (
@@ -614,7 +649,7 @@ const CHOICE_CLOSED: [(Case, &[Step], &str); 2] = [
             state: &["real 0 1b0", "yes 0 1 4", "no 2"],
             lines: &[("unit 3", DONE), ("pull 3", DONE), ("void 4", DONE)],
         },
-        &[Step::Unit(3), Step::Pull(3)],
+        &["unit 3", "pull 3"],
         "void 4",
     ),
 ];
@@ -646,7 +681,7 @@ pub(crate) fn outside_lemma(alloc: Global, book: &Book, id: u32) -> Option<Lemma
 }
 
 // Whether the case is closed so, where a copy of that lemma may be quoted.
-fn closes_by_lemma(alloc: Global, case: Case, steps: &[Step], line: &str) -> bool {
+fn closes_by_lemma(alloc: Global, case: Case, steps: &[&str], line: &str) -> bool {
     let Some(book) = book_in(alloc, case) else {
         return false;
     };
@@ -665,7 +700,7 @@ fn closes_by_lemma(alloc: Global, case: Case, steps: &[Step], line: &str) -> boo
     }
 }
 
-const BY_LEMMA: [(Case, &[Step], &str); 3] = [
+const BY_LEMMA: [(Case, &[&str], &str); 3] = [
     (
         Case {
             script: OUTSIDE,
@@ -673,7 +708,7 @@ const BY_LEMMA: [(Case, &[Step], &str); 3] = [
             state: &["real 0 1b0"],
             lines: &[("by 0", NOT_COVERED), ("unit 4", DONE), ("by 0", DONE)],
         },
-        &[Step::Unit(4)],
+        &["unit 4"],
         "by 0",
     ),
     (
@@ -683,7 +718,7 @@ const BY_LEMMA: [(Case, &[Step], &str); 3] = [
             state: &["real 0 1b0"],
             lines: &[("ban 4 0", DONE), ("false", DONE)],
         },
-        &[Step::Ban(4, 0)],
+        &["ban 4 0"],
         "false",
     ),
     (
@@ -709,7 +744,7 @@ const BY_LEMMA: [(Case, &[Step], &str); 3] = [
                 ("void 4", NOT_FALSE),
                 ("pull 4", DONE),
                 ("unit 2", DONE),
-                ("pull 2", Err(PatchRefusal::IsVoid)),
+                ("pull 2", IS_VOID),
                 ("void 2", DONE),
                 ("pull 4", ENDED),
                 ("unit 3", ENDED),
@@ -723,7 +758,7 @@ const BY_LEMMA: [(Case, &[Step], &str); 3] = [
                 ("stuck 3", ENDED),
             ],
         },
-        &[Step::Unit(4), Step::Pull(4), Step::Unit(2)],
+        &["unit 4", "pull 4", "unit 2"],
         "void 2",
     ),
 ];
@@ -732,107 +767,5 @@ const BY_LEMMA: [(Case, &[Step], &str); 3] = [
 fn a_lemma_closes_and_a_refusal_changes_nothing(rt: HostRuntime) {
     for (case, steps, end) in BY_LEMMA {
         assert!(rt; closes_by_lemma(rt.alloc(), case, steps, end));
-    }
-}
-
-// ---- an atom that fails: x is not at most 1/4
-
-const PUSHED: [(Case, &[&str]); 1] = [(
-    Case {
-        script: OUTSIDE,
-        least_bits: 20,
-        state: &["real 0 1b0", "no 3 4"],
-        lines: &[
-            ("pull 3", NOT_YES),
-            ("push 2", NOT_NO),
-            ("push 4", NOT_NO),
-            ("voidno 2", NOT_NO),
-            ("voidno 4", NOT_NO),
-            ("voidno 3", NOT_FALSE),
-            ("push 3", DONE),
-        ],
-    },
-    &["real 262145b-20 1b0", "no 3 4"],
-)];
-
-const CLOSED_BY_FAILURE: [(Case, &[Step], &str); 1] = [(
-    Case {
-        script: OUTSIDE,
-        least_bits: 20,
-        state: &["real 0 1b-2", "no 3"],
-        lines: &[
-            ("push 3", Err(PatchRefusal::IsVoid)),
-            ("void 3", NOT_YES),
-            ("voidno 3", DONE),
-            ("push 3", ENDED),
-            ("voidno 3", ENDED),
-        ],
-    },
-    &[],
-    "voidno 3",
-)];
-
-#[test]
-fn atoms_that_fail_narrow_and_close(rt: HostRuntime) {
-    for (case, state) in PUSHED {
-        assert!(rt; reaches(rt.alloc(), case, state));
-    }
-    for (case, steps, end) in CLOSED_BY_FAILURE {
-        assert!(rt; closes(rt.alloc(), case, steps, end));
-    }
-}
-
-// ---- a Bool
-
-pub(crate) const BOOL: &str = "(declare-const b Bool)
-(assert b)
-(check-sat)";
-
-const FLIPPED: [(Case, &[&str], &[&str]); 1] = [(
-    Case {
-        script: BOOL,
-        least_bits: 20,
-        state: &["bool both"],
-        lines: &[
-            ("false", NOT_FALSE),
-            ("cut 0 0", NOT_INSIDE),
-            ("flip 0", DONE),
-        ],
-    },
-    &["bool false"],
-    &["bool true"],
-)];
-
-const TRUE_STATE: [(Case, &[&str]); 1] = [(
-    Case {
-        script: BOOL,
-        least_bits: 20,
-        state: &["bool true"],
-        lines: &[("flip 0", DECIDED), ("false", NOT_FALSE)],
-    },
-    &["bool true"],
-)];
-
-const FALSE_CLOSED: [(Case, &[Step], &str); 1] = [(
-    Case {
-        script: BOOL,
-        least_bits: 20,
-        state: &["bool false"],
-        lines: &[("flip 0", DECIDED), ("false", DONE)],
-    },
-    &[],
-    "false",
-)];
-
-#[test]
-fn a_bool_is_flipped(rt: HostRuntime) {
-    for (case, lower, upper) in FLIPPED {
-        assert!(rt; parts(rt.alloc(), case, lower, upper));
-    }
-    for (case, state) in TRUE_STATE {
-        assert!(rt; reaches(rt.alloc(), case, state));
-    }
-    for (case, steps, end) in FALSE_CLOSED {
-        assert!(rt; closes(rt.alloc(), case, steps, end));
     }
 }

@@ -1,7 +1,8 @@
 // Middles of opening boxes: where the form is sure there, and the points that they then are.
 ghost use Rattle.std.specs.Prelude.{◌≤◌};
 
-use crate::patches::{BOOL, book_of, is_state};
+use crate::patches::{book_of, is_state};
+use crate::single_rules::BOOL;
 use crate::tests::{ANYWHERE, CIRCLE, NO_ROOT, OUTSIDE, SWAPPED, middle_of};
 use cover_book::Book;
 use cover_rule::{State, midpoint_sure};

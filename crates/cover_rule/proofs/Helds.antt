@@ -13,17 +13,18 @@ use Rattle.poly_graph.specs.Problem.{Declared, real_between, any_bool, Axis}
 use Rattle.poly_graph.specs.ProblemViews.{Parts, IsWhole}
 use Rattle.cover_model.specs.State.{State, IsLemma, in_yes, undecided, with_yes, with_no, with_space, may, covers}
 use Rattle.poly_graph.specs.Marks.{marked_yes, marked_no}
-use Rattle.cover_model.specs.Rules.{Line, pull, unit, ban, void, push, void_no, make_false, by, cut, flip, case, stuck, Left, closed, one, stays, when, pulled, voided, covers_by, in_no_one_sided, is_stuck_atom, rule}
+use Rattle.cover_model.specs.Rules.{Line, pull, unit, ban, void, push, void_no, combine, void_combine, make_false, by, cut, flip, case, stuck, Left, closed, one, stays, when, pulled, voided, covers_by, in_no_one_sided, is_stuck_atom, rule}
 use Rattle.cover_model.specs.Honest.{is_honest, is_small, is_some_space}
+use Rattle.cover_model.specs.Combination.{Multipliers}
 use Rattle.cover_model.specs.Fits.{FitsAxis, FitsAxes}
 use Rattle.cover_data.specs.declared.margins.Margins.{Margins}
 use Rattle.cover_rule.specs.declared.refusal.PatchRefusal.{PatchRefusal}
-use Rattle.cover_rule.specs.declared.refusal.PatchRefusal.TheVariants.{NotYes, NotForced, NotCovered, NotFalse, NotInside, NotStuck, NotHonest, Ended, IsVoid, Decided, NotNo, Memory}
+use Rattle.cover_rule.specs.declared.refusal.PatchRefusal.TheVariants.{NotYes, NotForced, NotCovered, NotFalse, NotInside, NotStuck, NotHonest, Ended, IsVoid, Decided, NotNo, NotCombinable, Memory}
 use Rattle.cover_data.specs.Models.{LemmaModel}
 use Rattle.cover_rule.specs.Models.{PatchModel}
 use Rattle.cover_data.specs.Runs.{is_closing, CanPart, IsEnding}
-use Rattle.cover_rule.specs.Patch.{problem_in, loosenings_in, now_in, IsRunOf, narrowing_in, narrowing_off_in, space_or}
-use Rattle.cover_rule.specs.Refusals.{IfLessStep, unless, then_by, if_ended, honestly, pull_refusal, pulled_by, push_refusal, pushed_by, void_no_refusal, unit_refusal, forced_by, ban_refusal, banned_by, void_refusal, false_refusal, by_refusal, ended_with, covered_by, flip_refusal, case_refusal, stuck_refusal, cut_line, cut_test, cut_refusal, ended_if, cut_by, PatchAnswer}
+use Rattle.cover_rule.specs.Patch.{problem_in, loosenings_in, now_in, IsRunOf, narrowing_in, narrowing_off_in, combining_in, combined_space, space_or}
+use Rattle.cover_rule.specs.Refusals.{IfLessStep, unless, then_by, if_ended, honestly, pull_refusal, pulled_by, push_refusal, pushed_by, can_combine_in, combine_refusal, combined_by, void_no_refusal, void_combine_refusal, unit_refusal, forced_by, ban_refusal, banned_by, void_refusal, false_refusal, by_refusal, ended_with, covered_by, flip_refusal, case_refusal, stuck_refusal, cut_line, cut_test, cut_refusal, ended_if, cut_by, PatchAnswer}
 use Rattle.cover_rule.proofs.RunSteps.{run_steps, run_ends, kept_before, lemmas_and, alone, kept_alone, sound_alone, no_lemmas}
 use Rattle.cover_data.specs.declared.kept.KeptPatch.{KeptPatch}
 use Rattle.cover_rule.specs.declared.workspace.Workspace.{Workspace}
@@ -90,6 +91,7 @@ run_refused refusal P done Q Ended a h = subst IsRunOf (sym a.1) h
 run_refused refusal P done Q IsVoid a h = subst IsRunOf (sym a.1) h
 run_refused refusal P done Q Decided a h = subst IsRunOf (sym a.1) h
 run_refused refusal P done Q NotNo a h = subst IsRunOf (sym a.1) h
+run_refused refusal P done Q NotCombinable a h = subst IsRunOf (sym a.1) h
 run_refused refusal P done Q Memory a h = subst IsRunOf (sym a.1) h
 
 pub run_after : (refusal : Option PatchRefusal) (P done Q : PatchModel) (r : Result (Unit {0}) PatchRefusal) → PatchAnswer refusal P done Q r → IsRunOf P → OnOk r (refusal ≡ None → IsRunOf done) → IsRunOf Q
@@ -126,6 +128,7 @@ answers_lift f refusal old done new (Err Ended) a = (a.0, ap f a.1)
 answers_lift f refusal old done new (Err IsVoid) a = (a.0, ap f a.1)
 answers_lift f refusal old done new (Err Decided) a = (a.0, ap f a.1)
 answers_lift f refusal old done new (Err NotNo) a = (a.0, ap f a.1)
+answers_lift f refusal old done new (Err NotCombinable) a = (a.0, ap f a.1)
 answers_lift f refusal old done new (Err Memory) a = (a.0, ap f a.1)
 
 -- ---- steps
@@ -155,6 +158,15 @@ module _ (P : PatchModel) (whole : IsWhole P.problem) (r : IsRunOf P) where
       let b = neither (unless no NotNo) (unless (is_some_space (narrowing_off_in P j)) IsVoid) a.1 in
       let t = pulls no (now_in P) (narrowing_off_in P j) (passed no NotNo b.0) (passed (is_some_space (narrowing_off_in P j)) IsVoid b.1) in
       run_steps (problem_in P) whole.problem P.margins P.kept r (not_ended P a.0) (push j) P.kept.quoted (with_space (now_in P) (space_or (now_in P).space (narrowing_off_in P j)))
+      (λ lemmas h. (h, t)) r.sound.quoted (record { axes = fits; marks = r.sound.reached.marks }) [] (no_lemmas (problem_in P) (loosenings_in P)) t
+
+  pub run_combined : (ms : Multipliers) → FitsAxes (problem_in P).axes (combined_space P ms) → combine_refusal P ms ≡ None → IsRunOf (combined_by P ms)
+  run_combined ms fits e =
+      let can = can_combine_in P ms in
+      let a = neither (if_ended P.kept) (then_by (unless can NotCombinable) (unless (is_some_space (combining_in P ms)) IsVoid)) e in
+      let b = neither (unless can NotCombinable) (unless (is_some_space (combining_in P ms)) IsVoid) a.1 in
+      let t = pulls can (now_in P) (combining_in P ms) (passed can NotCombinable b.0) (passed (is_some_space (combining_in P ms)) IsVoid b.1) in
+      run_steps (problem_in P) whole.problem P.margins P.kept r (not_ended P a.0) (combine ms) P.kept.quoted (with_space (now_in P) (combined_space P ms))
       (λ lemmas h. (h, t)) r.sound.quoted (record { axes = fits; marks = r.sound.reached.marks }) [] (no_lemmas (problem_in P) (loosenings_in P)) t
 
   pub run_forced : (j : ℕ) → unit_refusal P j ≡ None → IsRunOf (forced_by P j)
@@ -208,6 +220,13 @@ module _ (P : PatchModel) (whole : IsWhole P.problem) (r : IsRunOf P) where
       let a = neither (if_ended P.kept) (then_by (unless u NotNo) (unless v NotFalse)) e in
       let b = neither (unless u NotNo) (unless v NotFalse) a.1 in
       closes-plain (void_no j) (not_ended P a.0) (λ lemmas. voids u (narrowing_off_in P j) (passed u NotNo b.0) (passed v NotFalse b.1)) refl tt
+
+  pub run_void_combined : (ms : Multipliers) → void_combine_refusal P ms ≡ None → IsRunOf (ended_with P (void_combine ms))
+  run_void_combined ms e =
+      let u = can_combine_in P ms in let v = not (is_some_space (combining_in P ms)) in
+      let a = neither (if_ended P.kept) (then_by (unless u NotCombinable) (unless v NotFalse)) e in
+      let b = neither (unless u NotCombinable) (unless v NotFalse) a.1 in
+      closes-plain (void_combine ms) (not_ended P a.0) (λ lemmas. voids u (combining_in P ms) (passed u NotCombinable b.0) (passed v NotFalse b.1)) refl tt
 
   pub run_made_false : false_refusal P ≡ None → IsRunOf (ended_with P make_false)
   run_made_false e =

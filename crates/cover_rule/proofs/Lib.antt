@@ -1,4 +1,5 @@
 pub mod Axes
+mod Combinables
 pub mod Helds
 pub mod Knowns
 pub mod Narrowings

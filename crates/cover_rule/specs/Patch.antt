@@ -4,7 +4,8 @@ use Rattle.poly_graph.specs.ProblemViews.{problem_of}
 use Rattle.poly_graph.specs.Problem.{Problem}
 use Rattle.cover_model.specs.State.{State, Loosenings, IsLemma}
 use Rattle.interval_model.specs.Space.{Space}
-use Rattle.cover_model.specs.Rules.{Line, narrowing, narrowing_off}
+use Rattle.cover_model.specs.Combination.{Multipliers}
+use Rattle.cover_model.specs.Rules.{Line, narrowing, narrowing_off, combining}
 use Rattle.cover_model.specs.Fits.{FitsAxes}
 use Rattle.cover_data.specs.Margins.{loosenings_of}
 use Rattle.cover_data.specs.Runs.{IsRun, IsClosed}
@@ -78,3 +79,14 @@ pushed_space P j = space_or (now_in P).space (narrowing_off_in P j)
 
 abbrev pub FitsPushed : PatchModel → ℕ → Type 0
 FitsPushed P j = FitsAxes (problem_in P).axes (pushed_space P j)
+
+-- the same by a combination of atoms
+abbrev pub combining_in : PatchModel → Multipliers → Option Space
+combining_in P ms = combining (problem_in P) (loosenings_in P) (now_in P) ms
+
+-- the space that a combination leaves to the patch
+abbrev pub combined_space : PatchModel → Multipliers → Space
+combined_space P ms = space_or (now_in P).space (combining_in P ms)
+
+abbrev pub FitsCombined : PatchModel → Multipliers → Type 0
+FitsCombined P ms = FitsAxes (problem_in P).axes (combined_space P ms)

@@ -3,14 +3,15 @@ use Rattle.std.specs.Prelude.{◌≡◌, ◌≢◌, ◌<◌, ℕ, zero, suc, [],
 use Rattle.dyadic.specs.Fraction.{Fraction, at_most, difference_of}
 use Rattle.dyadic.specs.Rounding.{Dyadic, exact, two_to_minus, mid}
 use Rattle.interval_model.specs.Space.{Domain, real_domain, bool_domain, Space, test_axis, strictly_inside, is_undecided, widest}
+use Rattle.cover_model.specs.Combination.{Multipliers}
 use Rattle.cover_model.specs.State.{in_yes, undecided, with_yes, with_no, with_space, may, covers}
-use Rattle.cover_model.specs.Rules.{Line, pull, unit, ban, void, push, void_no, make_false, by, cut, flip, case, stuck, in_no_one_sided, is_stuck_atom}
+use Rattle.cover_model.specs.Rules.{Line, pull, unit, ban, void, push, void_no, combine, void_combine, make_false, by, cut, flip, case, stuck, in_no_one_sided, can_combine, is_stuck_atom}
 use Rattle.cover_model.specs.Honest.{is_honest, is_wide, is_middle_at, is_small, is_some_space}
 use Rattle.cover_rule.specs.declared.refusal.PatchRefusal.{PatchRefusal}
-use Rattle.cover_rule.specs.declared.refusal.PatchRefusal.TheVariants.{NotYes, NotForced, NotCovered, NotFalse, NotInside, NotStuck, NotHonest, Ended, IsVoid, Decided, NotNo, Memory}
+use Rattle.cover_rule.specs.declared.refusal.PatchRefusal.TheVariants.{NotYes, NotForced, NotCovered, NotFalse, NotInside, NotStuck, NotHonest, Ended, IsVoid, Decided, NotNo, NotCombinable, Memory}
 use Rattle.cover_data.specs.Models.{LemmaModel, KeptModel}
 use Rattle.cover_rule.specs.Models.{PatchModel}
-use Rattle.cover_rule.specs.Patch.{problem_in, loosenings_in, now_in, stepped, ended_by, with_kept, narrowing_in, narrowing_off_in, space_or}
+use Rattle.cover_rule.specs.Patch.{problem_in, loosenings_in, now_in, stepped, ended_by, with_kept, narrowing_in, narrowing_off_in, combining_in, combined_space, space_or}
 
 -- ---- refusals in their order
 
@@ -52,6 +53,20 @@ IsPushRefusal P j e = (push_refusal P j ≡ Some e) × (e ≢ Memory)
 abbrev pub pushed_by : PatchModel → ℕ → PatchModel
 pushed_by P j = with_kept P (stepped P.kept (push j) P.kept.quoted (with_space (now_in P) (space_or (now_in P).space (narrowing_off_in P j))))
 
+-- these atoms may be combined at the state that the patch has reached
+abbrev pub can_combine_in : PatchModel → Multipliers → Bool
+can_combine_in P ms = can_combine (problem_in P) (loosenings_in P) (now_in P) ms
+
+abbrev pub combine_refusal : PatchModel → Multipliers → Option PatchRefusal
+combine_refusal P ms = then_by (if_ended P.kept) (then_by (unless (can_combine_in P ms) NotCombinable) (unless (is_some_space (combining_in P ms)) IsVoid))
+
+-- a refusal of a combination that is not for memory
+abbrev pub IsCombineRefusal : PatchModel → Multipliers → PatchRefusal → Type 0
+IsCombineRefusal P ms e = (combine_refusal P ms ≡ Some e) × (e ≢ Memory)
+
+abbrev pub combined_by : PatchModel → Multipliers → PatchModel
+combined_by P ms = with_kept P (stepped P.kept (combine ms) P.kept.quoted (with_space (now_in P) (combined_space P ms)))
+
 abbrev pub unit_refusal : PatchModel → ℕ → Option PatchRefusal
 unit_refusal P j = then_by (if_ended P.kept) (then_by (unless (undecided (now_in P) j) Decided) (unless (not (may (problem_in P) (loosenings_in P) (with_no (now_in P) j))) NotForced))
 
@@ -74,6 +89,9 @@ void_refusal P j = then_by (if_ended P.kept) (then_by (unless (in_yes (now_in P)
 
 abbrev pub void_no_refusal : PatchModel → ℕ → Option PatchRefusal
 void_no_refusal P j = then_by (if_ended P.kept) (then_by (unless (in_no_one_sided (problem_in P) (now_in P) j) NotNo) (unless (not (is_some_space (narrowing_off_in P j))) NotFalse))
+
+abbrev pub void_combine_refusal : PatchModel → Multipliers → Option PatchRefusal
+void_combine_refusal P ms = then_by (if_ended P.kept) (then_by (unless (can_combine_in P ms) NotCombinable) (unless (not (is_some_space (combining_in P ms))) NotFalse))
 
 abbrev pub false_refusal : PatchModel → Option PatchRefusal
 false_refusal P = then_by (if_ended P.kept) (unless (not (may (problem_in P) (loosenings_in P) (now_in P))) NotFalse)
@@ -160,6 +178,9 @@ PullIfLessStep P j Q r = IfLessStep (narrowing_in P j) (pull_refusal P j) P (pul
 abbrev pub PushIfLessStep : PatchModel → ℕ → PatchModel → Result Bool PatchRefusal → Type 0
 PushIfLessStep P j Q r = IfLessStep (narrowing_off_in P j) (push_refusal P j) P (pushed_by P j) Q r
 
+abbrev pub CombineIfLessStep : PatchModel → Multipliers → PatchModel → Result Bool PatchRefusal → Type 0
+CombineIfLessStep P ms Q r = IfLessStep (combining_in P ms) (combine_refusal P ms) P (combined_by P ms) Q r
+
 -- ---- the calls on a patch P, each with its answer and the patch Q after it
 
 abbrev pub PullStep : PatchModel → ℕ → PatchModel → Result (Unit {0}) PatchRefusal → Type 0
@@ -167,6 +188,9 @@ PullStep P j Q r = PatchAnswer (pull_refusal P j) P (pulled_by P j) Q r
 
 abbrev pub PushStep : PatchModel → ℕ → PatchModel → Result (Unit {0}) PatchRefusal → Type 0
 PushStep P j Q r = PatchAnswer (push_refusal P j) P (pushed_by P j) Q r
+
+abbrev pub CombineStep : PatchModel → Multipliers → PatchModel → Result (Unit {0}) PatchRefusal → Type 0
+CombineStep P ms Q r = PatchAnswer (combine_refusal P ms) P (combined_by P ms) Q r
 
 abbrev pub UnitStep : PatchModel → ℕ → PatchModel → Result (Unit {0}) PatchRefusal → Type 0
 UnitStep P j Q r = PatchAnswer (unit_refusal P j) P (forced_by P j) Q r
@@ -179,6 +203,9 @@ VoidEnd P j Q r = PatchAnswer (void_refusal P j) P (ended_with P (void j)) Q r
 
 abbrev pub VoidNoEnd : PatchModel → ℕ → PatchModel → Result (Unit {0}) PatchRefusal → Type 0
 VoidNoEnd P j Q r = PatchAnswer (void_no_refusal P j) P (ended_with P (void_no j)) Q r
+
+abbrev pub VoidCombineEnd : PatchModel → Multipliers → PatchModel → Result (Unit {0}) PatchRefusal → Type 0
+VoidCombineEnd P ms Q r = PatchAnswer (void_combine_refusal P ms) P (ended_with P (void_combine ms)) Q r
 
 abbrev pub FalseEnd : PatchModel → PatchModel → Result (Unit {0}) PatchRefusal → Type 0
 FalseEnd P Q r = PatchAnswer (false_refusal P) P (ended_with P make_false) Q r

@@ -10,6 +10,8 @@ use Rattle.cover_data.specs.Margins.{loosenings_of}
 use Rattle.poly_graph.specs.ProblemViews.{Parts, problem_of}
 use Rattle.ival.specs.RowViews.{rows_of}
 use Rattle.ival.specs.SpaceViews.{space_of}
+use Rattle.combine.specs.Rooms.{FitsRoom}
+use Rattle.cover_rule.specs.declared.workspace.Centre.{Centre}
 use Rattle.cover_rule.specs.declared.workspace.Workspace.{Workspace}
 
 -- axes and atoms have numbers of 32 bits
@@ -17,13 +19,29 @@ pub record IsNumbered (p : Parts) : Type 0 where
   pub axes : length p.axes < 2 ^ 32
   pub atoms : length p.atoms < 2 ^ 32
 
+-- room for the middle of a space of the problem
+pub record HasCentreRoom (p : Parts) (c : Centre) : Type 0 where
+  pub middle : length (space_of c.middle) ≡ length p.axes
+  pub rows : length (rows_of c.rows) ≡ length p.nodes
+
+-- the middle of the space, and the enclosures over it
+pub record IsCentre (p : Parts) (space : Space) (c : Centre) : Type 0 where
+  pub place : space_of c.middle ≡ middle space
+  pub filled : rows_of c.rows ≡ enclosures (middle space) p.nodes
+
+-- where it is known, it is that of the space
+pub record HasCentre (p : Parts) (space : Space) (c : Centre) : Type 0 where
+  pub room : HasCentreRoom p c
+  pub known : c.known ≡ true → IsCentre p space c
+
 -- room for the problem
 pub record HasRoom (p : Parts) (w : Workspace) : Type 0 where
   pub rows : length (rows_of w.rows) ≡ length p.nodes
   pub scratch : length (rows_of w.scratch) ≡ length p.nodes
   pub truths : vec_len w.marks.truths ≡ length p.forms
   pub spare : length (space_of w.spare) ≡ length p.axes
-  pub middle : length (space_of w.middle) ≡ length p.axes
+  pub centre : HasCentreRoom p w.centre
+  pub room : FitsRoom p.nodes w.room
   pub leaves : vec_len w.leaves ≡ length p.atoms
 
 -- narrowing by atom j leaves something of the space
@@ -44,7 +62,8 @@ pub record HasRowsOf (p : Parts) (m : Margins) (space : Space) (w : Workspace) :
   pub rows : rows_of w.rows ≡ enclosures space p.nodes
   pub scratch : length (rows_of w.scratch) ≡ length p.nodes
   pub truths : vec_len w.marks.truths ≡ length p.forms
-  pub middle : length (space_of w.middle) ≡ length p.axes
+  pub centre : HasCentre p space w.centre
+  pub room : FitsRoom p.nodes w.room
   pub leaves : vec_len w.leaves ≡ length p.atoms
   pub known : IsKnown p m space w.leaves.items w.unsure
 

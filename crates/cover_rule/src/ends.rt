@@ -1,19 +1,22 @@
 // Ends of a patch that close its state, over its parts.
 ghost use Rattle.std.specs.Prelude.{◌≡◌, ◌<◌, [], ◌∷◌, ◌++◌, length};
 ghost use Rattle.poly_graph.specs.ProblemViews.{problem_of};
-ghost use Rattle.cover_model.specs.Rules.{void, void_no, make_false};
+ghost use Rattle.cover_model.specs.Views.{multipliers_of};
+ghost use Rattle.cover_model.specs.Rules.{void, void_no, void_combine, make_false};
 ghost use Rattle.cover_rule.specs.Serves.{IsReady};
 ghost use Rattle.cover_rule.specs.Patch.{ended_by};
-ghost use Rattle.cover_rule.specs.Refusals.{VoidEnd, VoidNoEnd, FalseEnd, RunLemmaEnd};
+ghost use Rattle.cover_rule.specs.Refusals.{VoidEnd, VoidNoEnd, VoidCombineEnd, FalseEnd, RunLemmaEnd};
 ghost use Rattle.cover_data.specs.Views.{kept_of, end_line};
 ghost use Rattle.cover_rule.specs.Held.{IsHeld, patch_of};
 
+use crate::combining::{can_combine, combining_leaves_nothing};
 use crate::narrowing::{is_no_one_sided, leaves_nothing, off_leaves_nothing};
 use crate::refusal::PatchRefusal;
 use crate::steps::quote;
 use crate::truth::may_hold;
 use crate::workspace::Workspace;
-use cover_data::{End, KeptPatch, Lemma, Margins};
+use cover_data::{Combination, End, KeptPatch, Lemma, Margins};
+use dyadic::Dy;
 use poly_graph::Problem;
 use std::alloc::Global;
 
@@ -71,6 +74,39 @@ pub fn void_no(
     }
     kept.end = Some(End::VoidNo(j));
     Ok(())
+}
+
+/// Ends the patch by a combination of marked atoms that leaves nothing.
+pub fn void_combine(
+    alloc: Global,
+    problem: &Problem,
+    margins: &Margins,
+    kept: &mut KeptPatch,
+    work: &mut Workspace,
+    multipliers: &[(u32, Dy)],
+) -> Result<(), PatchRefusal>
+    requires held { IsHeld problem.now margins.now kept.old work.old }
+    ensures answer { let P = patch_of problem.now margins.now in
+        VoidCombineEnd (P kept.old) (multipliers_of multipliers.now) (P kept.new) result }
+    ensures reached { kept.new.reached ≡ kept.old.reached }
+    ensures ready { IsReady problem.now margins.now kept.old.reached.space work.new }
+{
+    if kept.end.is_some() {
+        return Err(PatchRefusal::Ended);
+    }
+    if !can_combine(problem, margins, &kept.reached, multipliers) {
+        return Err(PatchRefusal::NotCombinable);
+    }
+    if !combining_leaves_nothing(problem, margins, &kept.reached, multipliers, work) {
+        return Err(PatchRefusal::NotFalse);
+    }
+    match Combination::new(alloc, multipliers) {
+        Ok(combination) => {
+            kept.end = Some(End::VoidCombine(combination));
+            Ok(())
+        }
+        Err(_) => Err(PatchRefusal::Memory),
+    }
 }
 
 /// Ends the patch where the form can't hold.

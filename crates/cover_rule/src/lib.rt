@@ -6,6 +6,7 @@
 #![tactic(auto)]
 
 mod branches;
+mod combining;
 mod ends;
 mod narrowing;
 mod patch;
@@ -17,9 +18,11 @@ mod stuck;
 mod truth;
 mod workspace;
 
-pub use cover_data::{ClosedPatch, End, KeptPatch, Lemma, Margins, Options, Point, State, Step};
+pub use cover_data::{
+    ClosedPatch, Combination, End, KeptPatch, Lemma, Margins, Options, Point, State, Step,
+};
 pub use patch::Patch;
 pub use point::MiddlePoint;
 pub use refusal::PatchRefusal;
 pub use truth::midpoint_sure;
-pub use workspace::Workspace;
+pub use workspace::{Centre, Workspace};

@@ -56,10 +56,14 @@ pub fn forget(work: &mut Workspace)
     ensures scratch { work.new.scratch ≡ work.old.scratch }
     ensures marks { work.new.marks ≡ work.old.marks }
     ensures spare { work.new.spare ≡ work.old.spare }
-    ensures middle { work.new.middle ≡ work.old.middle }
+    ensures middle { work.new.centre.middle ≡ work.old.centre.middle }
+    ensures centre_rows { work.new.centre.rows ≡ work.old.centre.rows }
+    ensures centre { work.new.centre.known ≡ false }
+    ensures room { work.new.room ≡ work.old.room }
 {
     clear(&mut work.leaves);
     work.unsure = false;
+    work.centre.known = false;
 }
 
 // Whether the row of atom j's term is marked.
@@ -109,6 +113,7 @@ fn renew_axis(
     refill(problem.graph(), state.space(), axis as u32, &mut work.rows);
     drop_reached(problem, &work.rows, &mut work.leaves);
     work.unsure = false;
+    work.centre.known = false;
 }
 
 /// Takes over the spare space, and renews the rows of the axes that differ.

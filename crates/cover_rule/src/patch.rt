@@ -1,6 +1,7 @@
 // Patches.
 ghost use Rattle.std.specs.Prelude.{◌≡◌, ◌<◌, ◌↔◌, length, IfOk, IsTrue, MatchResult};
 ghost use Rattle.poly_graph.specs.ProblemViews.{problem_of};
+ghost use Rattle.cover_model.specs.Views.{multipliers_of};
 ghost use Rattle.cover_model.specs.Fits.{FitsProblem};
 ghost use Rattle.cover_model.specs.Narrowed.{enclosures};
 ghost use Rattle.ival.specs.RowViews.{rows_of};
@@ -9,15 +10,16 @@ ghost use Rattle.cover_data.specs.Margins.{AreMargins};
 ghost use Rattle.cover_data.specs.Runs.{IsClosed};
 ghost use Rattle.cover_rule.specs.Serves.{HasRoom, IsNumbered, sure_at_middle};
 ghost use Rattle.cover_rule.specs.Patch.{problem_in, run_at, IsRunOf, IsLemmaState, IsClosedRunOf, IsNotClosed};
-ghost use Rattle.cover_rule.specs.Refusals.{PullStep, PullIfLessStep, PushStep, PushIfLessStep, UnitStep, BanStep, VoidEnd, VoidNoEnd, FalseEnd, LemmaEnd, CutEnd, FlipEnd, CaseEnd, StuckEnd};
+ghost use Rattle.cover_rule.specs.Refusals.{PullStep, PullIfLessStep, PushStep, PushIfLessStep, CombineStep, CombineIfLessStep, UnitStep, BanStep, VoidEnd, VoidNoEnd, VoidCombineEnd, FalseEnd, LemmaEnd, CutEnd, FlipEnd, CaseEnd, StuckEnd};
 ghost use Rattle.cover_data.specs.Views.{kept_of};
 
 use crate::narrowing::{copy_space, forget};
 use crate::refusal::PatchRefusal;
-use crate::truth::is_sure_at_middle;
-use crate::workspace::Workspace;
+use crate::truth::{find_centre, is_sure_at_middle};
+use crate::workspace::{Centre, Workspace};
 use crate::{branches, ends, steps};
 use cover_data::{ClosedPatch, KeptPatch, Lemma, Margins, State};
+use dyadic::Dy;
 use hc4_fwd::fill;
 use ival::Rows;
 use poly_graph::Problem;
@@ -126,6 +128,22 @@ impl<'a> Patch<'a> {
         ensures { rows_of result.now ≡ enclosures self.now.kept.reached.space self.now.problem.nodes }
     {
         &self.work.rows
+    }
+
+    /// Makes the middle of the space that it has reached known, and the enclosures over it.
+    pub fn find_centre(&mut self)
+        ensures same { self.new ≡ self.old }
+    {
+        find_centre(
+            self.problem,
+            self.kept.reached.space(),
+            &mut self.work.centre,
+        )
+    }
+
+    /// The middle of the space that it has reached, and the enclosures over it, where they are known.
+    pub fn centre(&self) -> &Centre {
+        &self.work.centre
     }
 
     /// Whether the form is sure at the middle of the space that it has reached.
@@ -237,6 +255,35 @@ impl<'a> Patch<'a> {
         )
     }
 
+    /// Combines marked atoms, each with its multiplier: leaves of the space what the sum of their terms, expanded at the
+    /// middle of the space, leaves of it.
+    pub fn combine(&mut self, multipliers: &[(u32, Dy)]) -> Result<(), PatchRefusal>
+        ensures { CombineStep self.old (multipliers_of multipliers.now) self.new result }
+    {
+        steps::combine(
+            self.alloc,
+            self.problem,
+            &self.margins,
+            &mut self.kept,
+            &mut self.work,
+            multipliers,
+        )
+    }
+
+    /// Combines marked atoms, where that leaves less of the space; whether it does.
+    pub fn combine_if_less(&mut self, multipliers: &[(u32, Dy)]) -> Result<bool, PatchRefusal>
+        ensures { CombineIfLessStep self.old (multipliers_of multipliers.now) self.new result }
+    {
+        steps::combine_if_less(
+            self.alloc,
+            self.problem,
+            &self.margins,
+            &mut self.kept,
+            &mut self.work,
+            multipliers,
+        )
+    }
+
     /// Marks atom j yes, without which the form can't hold.
     pub fn unit(&mut self, j: u32) -> Result<(), PatchRefusal>
         requires { j < length self.old.problem.atoms }
@@ -286,6 +333,20 @@ impl<'a> Patch<'a> {
             &mut self.kept,
             &mut self.work,
             j,
+        )
+    }
+
+    /// Ends the patch by a combination of marked atoms that leaves nothing.
+    pub fn void_combine(&mut self, multipliers: &[(u32, Dy)]) -> Result<(), PatchRefusal>
+        ensures { VoidCombineEnd self.old (multipliers_of multipliers.now) self.new result }
+    {
+        ends::void_combine(
+            self.alloc,
+            self.problem,
+            &self.margins,
+            &mut self.kept,
+            &mut self.work,
+            multipliers,
         )
     }
 

@@ -26,6 +26,9 @@ pub enum PatchRefusal {
     Decided,
     /// The atom is not marked no, or is an equation.
     NotNo,
-    /// There is no memory.
+    /// The atoms can't be combined: one is not marked, or an equation that is marked no; or they do not ascend, a
+    /// multiplier is 0, or there are none or more than 64.
+    NotCombinable,
+    /// Out of memory.
     Memory,
 }

@@ -1,22 +1,26 @@
 // Steps of a patch, over its parts.
-ghost use Rattle.std.specs.Prelude.{◌≡◌, ◌≢◌, ◌<◌, [], ◌∷◌, ◌++◌, length, not, true, false, IsTrue, None, Some, OnOk, OnErr, IfErr, IfNone, OnSome};
+ghost use Rattle.std.specs.Prelude.{◌≡◌, ◌≢◌, ◌<◌, ◌≤◌, [], ◌∷◌, ◌++◌, length, not, true, false, IsTrue, None, Some, OnOk, OnErr, IfErr, IfNone, OnSome};
 ghost use Rattle.poly_graph.specs.ProblemViews.{problem_of};
 ghost use Rattle.cover_model.specs.Fits.{FitsProblem};
+ghost use Rattle.cover_model.specs.Views.{multipliers_of};
 ghost use Rattle.cover_model.specs.State.{IsLemma, may, undecided, with_yes, with_no, with_space, covers};
 ghost use Rattle.ival.specs.SpaceViews.{space_of};
 ghost use Rattle.cover_data.specs.Margins.{AreMargins, loosenings_of};
+ghost use Rattle.cover_model.specs.Rules.{combine};
 ghost use Rattle.cover_rule.specs.Serves.{HasRowsOf, IsReady, IsNumbered};
-ghost use Rattle.cover_rule.specs.Patch.{stepped, with_step, narrowing_in, pulled_space, FitsPulled, narrowing_off_in, pushed_space, FitsPushed};
-ghost use Rattle.cover_rule.specs.Refusals.{PullStep, PullIfLessStep, PushStep, PushIfLessStep, UnitStep, RunBanStep, IsPullRefusal, pull_refusal, IsPushRefusal, push_refusal, unit_refusal, ban_refusal};
+ghost use Rattle.cover_rule.specs.Patch.{stepped, with_step, narrowing_in, pulled_space, FitsPulled, narrowing_off_in, pushed_space, FitsPushed, combining_in, combined_space, FitsCombined};
+ghost use Rattle.cover_rule.specs.Refusals.{PullStep, PullIfLessStep, PushStep, PushIfLessStep, CombineStep, CombineIfLessStep, UnitStep, RunBanStep, IsPullRefusal, pull_refusal, IsPushRefusal, push_refusal, IsCombineRefusal, combine_refusal, unit_refusal, ban_refusal};
 ghost use Rattle.cover_rule.specs.declared.refusal.PatchRefusal.TheVariants as refusal;
 ghost use Rattle.cover_data.specs.Views.{kept_of, step_line};
 ghost use Rattle.cover_rule.specs.Held.{IsHeld, patch_of};
 
+use crate::combining::{can_combine, combine_spare};
 use crate::narrowing::{adopt_spare, copy_space, is_no_one_sided, narrow_off_spare, narrow_spare};
 use crate::refusal::PatchRefusal;
 use crate::truth::may_hold;
 use crate::workspace::Workspace;
-use cover_data::{KeptPatch, Lemma, Margins, State, Step};
+use cover_data::{Combination, KeptPatch, Lemma, Margins, State, Step};
+use dyadic::Dy;
 use ival::Narrowed;
 use poly_graph::{Mark, Problem};
 use std::alloc::{AllocError, Global};
@@ -94,6 +98,49 @@ fn narrowed_off(
         return Err(PatchRefusal::NotNo);
     }
     match narrow_off_spare(problem, margins, &kept.reached, j, work) {
+        Narrowed::Empty => Err(PatchRefusal::IsVoid),
+        Narrowed::Same => Ok(false),
+        Narrowed::Less => Ok(true),
+    }
+}
+
+// Narrows the spare space by a combination where its atoms may be combined, and tells whether that is less than the
+// state's space.
+fn combined(
+    problem: &Problem,
+    margins: &Margins,
+    kept: &KeptPatch,
+    work: &mut Workspace,
+    multipliers: &[(u32, Dy)],
+) -> Result<bool, PatchRefusal>
+    requires held { IsHeld problem.now margins.now kept.now work.old }
+    ensures may { let P = patch_of problem.now margins.now kept.now in
+        OnOk result (combine_refusal P (multipliers_of multipliers.now) ≡ None) }
+    ensures refusal { let P = patch_of problem.now margins.now kept.now in
+        IfErr result (λ e. IsCombineRefusal P (multipliers_of multipliers.now) e) }
+    ensures refused { OnErr result (IsReady problem.now margins.now kept.now.reached.space work.new) }
+    ensures serves { HasRowsOf problem.now margins.now kept.now.reached.space work.new }
+    ensures length { length (space_of work.new.spare) ≡ length kept.now.reached.space }
+    ensures some { OnOk result (0 < length multipliers.now) }
+    ensures few { OnOk result (length multipliers.now ≤ 64) }
+    ensures fits { let P = patch_of problem.now margins.now kept.now in
+        OnOk result (FitsCombined P (multipliers_of multipliers.now)) }
+    ensures spare { let P = patch_of problem.now margins.now kept.now in
+        OnOk result (space_of work.new.spare ≡ combined_space P (multipliers_of multipliers.now)) }
+    ensures same { let P = patch_of problem.now margins.now kept.now in
+        let space = kept.now.reached.space in
+        result ≡ Ok false → (combining_in P (multipliers_of multipliers.now) ≡ Some space) × IsReady problem.now margins.now space work.new }
+    ensures less { let P = patch_of problem.now margins.now kept.now in
+        result ≡ Ok true → combining_in P (multipliers_of multipliers.now) ≢ Some kept.now.reached.space }
+{
+    let _ = problem.axes();
+    if kept.end.is_some() {
+        return Err(PatchRefusal::Ended);
+    }
+    if !can_combine(problem, margins, &kept.reached, multipliers) {
+        return Err(PatchRefusal::NotCombinable);
+    }
+    match combine_spare(problem, margins, &kept.reached, multipliers, work) {
         Narrowed::Empty => Err(PatchRefusal::IsVoid),
         Narrowed::Same => Ok(false),
         Narrowed::Less => Ok(true),
@@ -220,6 +267,78 @@ pub fn push_if_less(
         return Ok(false);
     }
     take_narrowed(problem, margins, kept, work, Step::Push(j))?;
+    Ok(true)
+}
+
+// Takes the combination that the spare space was narrowed by; out of memory, all stays.
+fn take_combined(
+    alloc: Global,
+    problem: &Problem,
+    margins: &Margins,
+    kept: &mut KeptPatch,
+    work: &mut Workspace,
+    multipliers: &[(u32, Dy)],
+) -> Result<(), PatchRefusal>
+    requires some { 0 < length multipliers.now }
+    requires few { length multipliers.now ≤ 64 }
+    requires numbered { IsNumbered problem.now }
+    requires state { FitsProblem (problem_of problem.now) kept.old.reached }
+    requires serves { HasRowsOf problem.now margins.now kept.old.reached.space work.old }
+    requires length { length (space_of work.old.spare) ≡ length kept.old.reached.space }
+    ensures ok { let k = kept_of kept.old in
+        let reached = with_space k.reached (space_of work.old.spare) in
+        OnOk result (kept_of kept.new ≡ stepped k (combine (multipliers_of multipliers.now)) k.quoted reached) }
+    ensures err { OnErr result (kept_of kept.new ≡ kept_of kept.old) }
+    ensures memory { OnErr result (result ≡ Err refusal.Memory) }
+    ensures ready { IsReady problem.now margins.now kept.new.reached.space work.new }
+{
+    let Ok(combination) = Combination::new(alloc, multipliers) else {
+        copy_space(kept.reached.space(), &mut work.spare);
+        return Err(PatchRefusal::Memory);
+    };
+    take_narrowed(problem, margins, kept, work, Step::Combine(combination))
+}
+
+/// Combines marked atoms: leaves of the space what their combination leaves of it.
+pub fn combine(
+    alloc: Global,
+    problem: &Problem,
+    margins: &Margins,
+    kept: &mut KeptPatch,
+    work: &mut Workspace,
+    multipliers: &[(u32, Dy)],
+) -> Result<(), PatchRefusal>
+    requires held { IsHeld problem.now margins.now kept.old work.old }
+    ensures answer { let P = patch_of problem.now margins.now in
+        CombineStep (P kept.old) (multipliers_of multipliers.now) (P kept.new) result }
+    ensures ready { IsReady problem.now margins.now kept.new.reached.space work.new }
+    ensures fits { let P = patch_of problem.now margins.now kept.old in
+        OnOk result (FitsCombined P (multipliers_of multipliers.now)) }
+{
+    combined(problem, margins, kept, work, multipliers)?;
+    take_combined(alloc, problem, margins, kept, work, multipliers)
+}
+
+/// Combines marked atoms, where that leaves less of the space; whether it does.
+pub fn combine_if_less(
+    alloc: Global,
+    problem: &Problem,
+    margins: &Margins,
+    kept: &mut KeptPatch,
+    work: &mut Workspace,
+    multipliers: &[(u32, Dy)],
+) -> Result<bool, PatchRefusal>
+    requires held { IsHeld problem.now margins.now kept.old work.old }
+    ensures answer { let P = patch_of problem.now margins.now in
+        CombineIfLessStep (P kept.old) (multipliers_of multipliers.now) (P kept.new) result }
+    ensures ready { IsReady problem.now margins.now kept.new.reached.space work.new }
+    ensures fits { let P = patch_of problem.now margins.now kept.old in
+        OnOk result (FitsCombined P (multipliers_of multipliers.now)) }
+{
+    if !combined(problem, margins, kept, work, multipliers)? {
+        return Ok(false);
+    }
+    take_combined(alloc, problem, margins, kept, work, multipliers)?;
     Ok(true)
 }
 

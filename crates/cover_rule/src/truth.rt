@@ -10,9 +10,9 @@ ghost use Rattle.cover_model.specs.Narrowed.{enclosures};
 ghost use Rattle.ival.specs.RowViews.{rows_of};
 ghost use Rattle.ival.specs.SpaceViews.{space_of};
 ghost use Rattle.cover_data.specs.Margins.{AreMargins, loosenings_of};
-ghost use Rattle.cover_rule.specs.Serves.{HasRowsOf, sure_at_middle};
+ghost use Rattle.cover_rule.specs.Serves.{HasCentre, IsCentre, HasRowsOf, sure_at_middle};
 
-use crate::workspace::Workspace;
+use crate::workspace::{Centre, Workspace};
 use cover_data::{Margins, State};
 use hc4_fwd::fill;
 use ival::{Rows, Space};
@@ -66,6 +66,21 @@ pub fn midpoint_sure(
     sure(problem, rows, middle, delta, marks)
 }
 
+/// Makes the middle of the space and its enclosures known.
+pub fn find_centre(problem: &Problem, space: &Space, centre: &mut Centre)
+    requires space { length (space_of space.now) ≡ length problem.now.axes }
+    requires centre { HasCentre problem.now (space_of space.now) centre.old }
+    ensures centre { HasCentre problem.now (space_of space.now) centre.new }
+    ensures is { IsCentre problem.now (space_of space.now) centre.new }
+{
+    if centre.known {
+        return;
+    }
+    space.middle(&mut centre.middle);
+    fill(problem.graph(), &centre.middle, &mut centre.rows);
+    centre.known = true;
+}
+
 /// Whether the form surely holds at the middle of the state's space; it is tried only where that is not known.
 pub fn is_sure_at_middle(
     problem: &Problem,
@@ -83,12 +98,13 @@ pub fn is_sure_at_middle(
     if work.unsure {
         return false;
     }
-    let is_sure = midpoint_sure(
+    let _ = problem.axes();
+    find_centre(problem, state.space(), &mut work.centre);
+    let is_sure = sure(
         problem,
-        state.space(),
+        &work.centre.rows,
+        &work.centre.middle,
         margins.delta_bits,
-        &mut work.middle,
-        &mut work.scratch,
         &mut work.marks,
     );
     work.unsure = !is_sure;

@@ -1,11 +1,24 @@
 // Room for work on states.
 ghost use Rattle.std.specs.Prelude.{◌≡◌, ◌<◌, length, true, IfOk};
 ghost use Rattle.ival.specs.SpaceViews.{space_of};
+ghost use Rattle.cover_rule.specs.Serves.{HasCentreRoom};
 
+use combine::Room;
 use ival::{Domain, Rows, Space, Truths};
 use poly_graph::Problem;
 use std::alloc::{AllocError, Global};
 use truth3::Marks;
+
+/// The middle of a space, and the enclosures over it.
+#[derive(Drop)]
+pub struct Centre {
+    /// The middle of the present space, where it is known.
+    pub middle: Space,
+    /// The enclosures over the middle, where it is known.
+    pub rows: Rows,
+    /// Whether it is known.
+    pub known: bool,
+}
 
 /// Rows, marks and spaces for work on the states of one problem. Made once, it serves one patch after another.
 #[derive(Drop)]
@@ -19,7 +32,9 @@ pub struct Workspace {
     /// A copy of the present space, to be narrowed.
     pub spare: Space,
     /// The middle of the present space.
-    pub middle: Space,
+    pub centre: Centre,
+    /// Room for combinations of atoms.
+    pub room: Room,
     /// Of each atom whether narrowing by it is known to leave something of the present space.
     pub leaves: Vec<bool, Global>,
     /// Whether the form is known not to be sure at the middle of the present space.
@@ -37,6 +52,19 @@ fn room_for(alloc: Global, axes: usize) -> Result<Space, AllocError>
     Ok(space)
 }
 
+// Room for the middle of a space of the problem.
+fn room_for_centre(alloc: Global, problem: &Problem) -> Result<Centre, AllocError>
+    ensures { IfOk result (HasCentreRoom problem.now) }
+{
+    let middle = room_for(alloc, problem.axes().len())?;
+    let rows = Rows::new(alloc, problem.graph().len())?;
+    Ok(Centre {
+        middle,
+        rows,
+        known: false,
+    })
+}
+
 impl Workspace {
     ghost use Rattle.cover_rule.specs.Serves.{HasRoom};
 
@@ -50,14 +78,16 @@ impl Workspace {
         let scratch = Rows::new(alloc, nodes)?;
         let marks = Marks::new(alloc, problem)?;
         let spare = room_for(alloc, axes)?;
-        let middle = room_for(alloc, axes)?;
+        let centre = room_for_centre(alloc, problem)?;
+        let room = Room::new(alloc, problem)?;
         let leaves = vec![in alloc; false; problem.atoms().len()]?;
         Ok(Workspace {
             rows,
             scratch,
             marks,
             spare,
-            middle,
+            centre,
+            room,
             leaves,
             unsure: false,
         })
@@ -73,7 +103,9 @@ impl Workspace {
             && self.scratch.len() == nodes
             && self.marks.truths.len() == problem.forms().len()
             && self.spare.len() == axes
-            && self.middle.len() == axes
+            && self.centre.middle.len() == axes
+            && self.centre.rows.len() == nodes
+            && self.room.serves(problem)
             && self.leaves.len() == problem.atoms().len()
     }
 }

@@ -1,6 +1,6 @@
 -- What a line of a tree leaves of its state, as the picture follows it.
 use Rattle.std.specs.Prelude.{◌≡◌, List, Option, Some, None}
-use Rattle.cert_read.specs.CertLine.{CertLine, rule_line, void_at, void_no_at, stuck_at, by_lemma, false_here, open_here}
+use Rattle.cert_read.specs.CertLine.{CertLine, rule_line, void_at, void_no_at, void_combine_at, stuck_at, by_lemma, false_here, open_here}
 use Rattle.cert_model.specs.Due.{rule_of}
 use Rattle.poly_graph.specs.Problem.{Problem}
 use Rattle.cover_model.specs.State.{State, Loosenings}
@@ -39,6 +39,7 @@ rule_in p s lemmas S _ = None
 abbrev pub fate_of : CertLine → Option Fate
 fate_of (rule_line (void_at j)) = Some Void
 fate_of (rule_line (void_no_at j)) = Some Void
+fate_of (rule_line (void_combine_at ps)) = Some Void
 fate_of (rule_line false_here) = Some False
 fate_of (rule_line (by_lemma i)) = Some By
 fate_of (rule_line open_here) = Some Open

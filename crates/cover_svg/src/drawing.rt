@@ -8,7 +8,7 @@ use crate::lines::Lines;
 use crate::picture::Picture;
 use crate::step::{Left, step};
 use cert_read::{BoolSet, Line};
-use cover_rule::State;
+use cover_data::State;
 use ival::Space;
 use poly_graph::{Declared, Lits, Problem};
 use problem_build::read_problem;

@@ -1,6 +1,6 @@
 // The lines of a tree, each as a step on its state.
-ghost use Rattle.std.specs.Prelude.{◌≡◌, ◌<◌, ◌≤◌, List, length, false, true, Ok, Some, IfOk, IfSome, IsNone, MatchOption};
-ghost use Rattle.dyadic.specs.Rounding.{two_to_minus};
+ghost use Rattle.std.specs.Prelude.{◌≡◌, ◌<◌, ◌≤◌, ◌&&◌, ℕ, List, All, length, false, true, Ok, Some, IfOk, IfSome, IsNone, MatchOption};
+ghost use Rattle.dyadic.specs.Rounding.{Dyadic, two_to_minus};
 ghost use Rattle.interval_model.specs.Space.{strictly_inside, is_undecided, test_axis};
 ghost use Rattle.dyadic.specs.Views.{dyadic_of};
 ghost use Rattle.ival.specs.Narrows.{IsNarrowed};
@@ -8,18 +8,21 @@ ghost use Rattle.ival.specs.SpaceViews.{domain_of, space_of};
 ghost use Rattle.cover_model.specs.Narrowed.{narrowed_by};
 ghost use Rattle.poly_graph.specs.Problem.{Problem as WholeProblem, atom_at};
 ghost use Rattle.poly_graph.specs.ProblemViews.{problem_of};
-ghost use Rattle.cover_model.specs.Rules.{rule, pull, void, push, void_no, cut, flip, case};
+ghost use Rattle.cover_model.specs.Rules.{rule, pull, void, push, void_no, combine, void_combine, cut, flip, case, is_combination, are_combinable};
+ghost use Rattle.cover_model.specs.Combination.{combined};
+ghost use Rattle.cover_model.specs.Views.{multipliers_of};
 ghost use Rattle.cover_model.specs.OffRange.{off_range};
 ghost use Rattle.cover_model.specs.Space.{range};
 ghost use Rattle.cover_model.specs.State.{State as CoverState, Loosenings, in_yes, in_no, undecided, with_mark};
 ghost use Rattle.poly_graph.specs.Views.{kind_of};
 ghost use Rattle.poly_graph.specs.MarkViews.{mark_of};
-ghost use Rattle.cert_read.specs.CertLine.{rule_line, pull_at, void_at, push_at, void_no_at, case_at, cut_at, flip_at};
+ghost use Rattle.cert_read.specs.CertLine.{rule_line, pull_at, void_at, push_at, void_no_at, combine_at, void_combine_at, case_at, cut_at, flip_at};
 ghost use Rattle.cert_read.specs.Views.{line_of};
 ghost use Rattle.cover_svg.specs.Steps.{Follows, rule_in, EndsBy};
 
 use cert_read::Line;
-use cover_rule::State;
+use combine::{Room, combine};
+use cover_data::State;
 use dyadic::{Dy, Ext, at_most};
 use hc4_bwd::{narrow, narrow_off};
 use hc4_fwd::fill;
@@ -278,6 +281,112 @@ fn void_no(
     }
 }
 
+// Whether these atoms may be combined at the state, each with its multiplier.
+fn can_combine(problem: &Problem, state: &State, multipliers: &[(u32, Dy)]) -> bool
+    ensures may { let p = problem_of problem.now in let ms = multipliers_of multipliers.now in
+        length state.now.marks ≡ length problem.now.atoms →
+        result ≡ (is_combination ms && are_combinable p state.now ms) }
+    ensures marks { result ≡ true → length state.now.marks ≡ length problem.now.atoms }
+    ensures atoms { let ms = multipliers_of multipliers.now in
+        result ≡ true → All (λ (x : ℕ × Dyadic). x.0 < length problem.now.atoms) ms }
+{
+    state.lits().len() == problem.atoms().len()
+        && truth3::can_combine(problem, state.lits(), multipliers)
+}
+
+// The state narrowed by a combination of atoms, and what that did.
+fn narrowed_together(
+    alloc: Global,
+    problem: &Problem,
+    margin_bits: u32,
+    state: State,
+    multipliers: &[(u32, Dy)],
+) -> Result<(State, Narrowed), AllocError>
+    requires margin { margin_bits ≤ 60 }
+    requires marks { length state.marks ≡ length problem.now.atoms }
+    requires atoms { let ms = multipliers_of multipliers.now in
+        All (λ (x : ℕ × Dyadic). x.0 < length problem.now.atoms) ms }
+    ensures marks { IfOk result (λ r. r.0.marks ≡ state.marks) }
+    ensures space { let p = problem_of problem.now in let ms = multipliers_of multipliers.now in
+        let narrow = combined p (two_to_minus margin_bits) state.marks state.space ms in
+        IfOk result (λ r. IsNarrowed state.space r.0.space narrow r.1) }
+{
+    let graph = problem.graph();
+    let mut rows = Rows::new(alloc, graph.len())?;
+    let mut centre_rows = Rows::new(alloc, graph.len())?;
+    let mut room = Room::new(alloc, problem)?;
+    let mut centre = state.space().try_clone(alloc)?;
+    let (space, lits) = state.into_parts();
+    let mut space = space;
+    space.middle(&mut centre);
+    fill(graph, &space, &mut rows);
+    fill(graph, &centre, &mut centre_rows);
+    let did = combine(
+        problem,
+        margin_bits,
+        &lits,
+        multipliers,
+        &rows,
+        &centre,
+        &centre_rows,
+        &mut room,
+        &mut space,
+    );
+    Ok((State::new(space, lits), did))
+}
+
+// The state narrowed by a combination of marked atoms, which has to leave something.
+fn combine_marked(
+    alloc: Global,
+    problem: &Problem,
+    margin_bits: u32,
+    state: State,
+    multipliers: &[(u32, Dy)],
+) -> Result<Option<Left>, AllocError>
+    requires margin { margin_bits ≤ 60 }
+    ensures follows { let p = problem_of problem.now in let ms = multipliers_of multipliers.now in
+        IfOk result (λ o. (s : Loosenings) (lemmas : List CoverState) → s.margin_bits ≡ margin_bits →
+        length state.marks ≡ length problem.now.atoms →
+        Follows (rule p s lemmas state (combine ms)) o) }
+    ensures end { let ms = multipliers_of multipliers.now in
+        IfOk result (λ o. IfSome o (EndsBy state (rule_line (combine_at ms)))) }
+{
+    if !can_combine(problem, &state, multipliers) {
+        return Ok(None);
+    }
+    let (state, did) = narrowed_together(alloc, problem, margin_bits, state, multipliers)?;
+    match did {
+        Narrowed::Empty => Ok(None),
+        Narrowed::Same | Narrowed::Less => Ok(Some(Left::One(state))),
+    }
+}
+
+// The end at a state of which a combination of marked atoms leaves nothing.
+fn void_combine(
+    alloc: Global,
+    problem: &Problem,
+    margin_bits: u32,
+    state: State,
+    multipliers: &[(u32, Dy)],
+) -> Result<Option<Left>, AllocError>
+    requires margin { margin_bits ≤ 60 }
+    ensures follows { let p = problem_of problem.now in let ms = multipliers_of multipliers.now in
+        IfOk result (λ o. (s : Loosenings) (lemmas : List CoverState) → s.margin_bits ≡ margin_bits →
+        length state.marks ≡ length problem.now.atoms →
+        Follows (rule p s lemmas state (void_combine ms)) o) }
+    ensures end { let ms = multipliers_of multipliers.now in
+        IfOk result (λ o. IfSome o (EndsBy state (rule_line (void_combine_at ms)))) }
+{
+    if !can_combine(problem, &state, multipliers) {
+        return Ok(None);
+    }
+    let (state, did) = narrowed_together(alloc, problem, margin_bits, state, multipliers)?;
+    match did {
+        Narrowed::Empty => done(state, Fate::Void),
+        Narrowed::Same | Narrowed::Less => Ok(None),
+    }
+}
+
 // The state with atom j marked, which was not.
 fn mark(state: State, j: u32, mark: Mark) -> Option<Left>
     ensures none { IsNone result → undecided state j ≡ false }
@@ -363,6 +472,8 @@ pub fn step(
         Line::Void(j) => void(alloc, problem, margin_bits, state, *j),
         Line::Push(j) => push(alloc, problem, margin_bits, state, *j),
         Line::VoidNo(j) => void_no(alloc, problem, margin_bits, state, *j),
+        Line::Combine(pairs) => combine_marked(alloc, problem, margin_bits, state, pairs),
+        Line::VoidCombine(pairs) => void_combine(alloc, problem, margin_bits, state, pairs),
         Line::Unit(j) => Ok(mark(state, *j, Mark::Yes)),
         Line::Ban(j, _) => Ok(mark(state, *j, Mark::No)),
         Line::Case(j) => case(alloc, state, *j),

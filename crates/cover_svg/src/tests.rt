@@ -8,6 +8,22 @@ const SQUARE: &str = "(declare-const x Real)
 (assert (and (<= 0 x 1) (<= 0 y 1) (= x y)))
 (check-sat)";
 
+const SUMS: &str = "(declare-const x Real)
+(declare-const y Real)
+(assert (<= 0 x 1))
+(assert (<= 0 y 1))
+(assert (>= (+ x y) 1))
+(assert (>= (- x y) (/ 1 2)))
+(check-sat)";
+
+const APART: &str = "(declare-const x Real)
+(declare-const y Real)
+(assert (<= 0 x 1))
+(assert (<= 0 y 1))
+(assert (>= (+ x y) (/ 5 4)))
+(assert (>= (- x y) (/ 7 8)))
+(check-sat)";
+
 const LINE: &str = "(declare-const x Real)
 (assert (<= 0 x 1))
 (check-sat)";
@@ -19,7 +35,7 @@ const NOTHING: &str = "(declare-const x Real)
 
 // Whether the picture has these words, or the status where there is none.
 fn drawn(alloc: Global, script: &str, lines: &str, words: &str) -> Result<bool, u8> {
-    let Ok(cert) = format!(in alloc; "dpoly 1\nmargin 20\ndelta 10\nbound none\n{lines}\n") else {
+    let Ok(cert) = format!(in alloc; "dpoly 2\nmargin 20\ndelta 10\nbound none\n{lines}\n") else {
         return Err(6);
     };
     match draw(alloc, script.as_bytes(), cert.as_bytes()) {
@@ -42,6 +58,30 @@ fn draws_or_refuses(rt: HostRuntime) {
             "cover 0\ntree\nopen\nend",
             "<rect class='open' x='0' y='0' width='8192' height='8192'/>",
             Ok(true),
+        ),
+        (
+            SUMS,
+            "cover 0\ntree\nunit 4\nunit 5\ncomb 4 1b0 5 1b0\nopen\nend",
+            "<rect class='open' x='6143' y='0' width='2049' height='8192'/>",
+            Ok(true),
+        ),
+        (
+            SUMS,
+            "cover 0\ntree\nunit 4\nunit 5\nvoidcomb 4 1b0 5 1b0\nend",
+            "",
+            Err(1),
+        ),
+        (
+            APART,
+            "cover 0\ntree\nunit 4\nunit 5\nvoidcomb 4 1b0 5 1b0\nend",
+            "<rect class='void' x='0' y='0' width='8192' height='8192'/>",
+            Ok(true),
+        ),
+        (
+            APART,
+            "cover 0\ntree\nunit 4\nvoidcomb 4 1b0 5 1b0\nend",
+            "",
+            Err(1),
         ),
         (SQUARE, "point\nreal 1b-1\nbool true\nend", "", Err(1)),
         (SQUARE, "cover 0\ntree\nopen", "", Err(1)),

@@ -6,7 +6,7 @@ use Rattle.std.proofs.lemmas.Bool.Decides.{eqb_tells}
 use Rattle.desk.specs.declared.desk.Port.TheVariants.{CertIn}
 use Rattle.desk.specs.Sight.{Sight}
 use Rattle.words.specs.declared.asked.Options.{Options}
-use Rattle.words.specs.Words.{Solve, Check, Demo, Command, solve, check, demo}
+use Rattle.words.specs.Words.{Solve, Check, Upgrade, Demo, Command, solve, check, demo, upgrade}
 use Rattle.gen_script.specs.Demo.{demo_script}
 use Rattle.poly_graph.specs.Problem.{Problem}
 use Rattle.interval_model.specs.Space.{Space}
@@ -22,10 +22,10 @@ use Rattle.dpoly.specs.declared.status.Status.TheVariants.{Answered, CertRefused
 use Rattle.problem_build.specs.Reader.{commands_of, IsBuilt}
 use Rattle.dpoly.specs.Answer.{loosenings_of, IsAnswer}
 use Rattle.dpoly.specs.Course.{Course, behind, appended}
-use Rattle.dpoly.specs.Can.{CanSolve, CanCheck, CanDemo, CanBy, OfProblem, Can, verdict_course}
+use Rattle.dpoly.specs.Can.{CanSolve, CanCheck, CanUpgrade, CanUpgradeBy, CanDemo, CanBy, OfProblem, Can, verdict_course}
 use Rattle.dpoly.specs.Run.{Run, HasCourse, HasInput, IsShown}
 use Rattle.dpoly.proofs.Shown.{status_is_shown}
-use Rattle.dpoly.specs.Headline.{IsWritten, IsUnsat, IsTrueUnsat, UnsatIsTrue, IsDeltaSat, IsTrueDeltaSat, DeltaSatIsTrue, IsRefusedCert, IsTrueRefusal, RefusalIsTrue, delta_sat_word, confirmed_unsat_word, confirmed_delta_sat_word}
+use Rattle.dpoly.specs.Headline.{IsWritten, IsUnsat, IsTrueUnsat, UnsatIsTrue, IsDeltaSat, IsTrueDeltaSat, DeltaSatIsTrue, IsRefusedCert, IsTrueRefusal, RefusalIsTrue, IsUpgraded, IsTrueUpgrade, UpgradeIsTrue, delta_sat_word, confirmed_unsat_word, confirmed_delta_sat_word}
 
 -- ---- texts that differ
 
@@ -184,6 +184,7 @@ unsat-true : (command : Option Command) (script cert_in : List ℕ) (old new : S
 unsat-true None script cert_in old new shows = tt
 unsat-true (Some (solve words)) script cert_in old new shows = solve-unsat words script cert_in old new shows
 unsat-true (Some (check words)) script cert_in old new shows = check-unsat words script cert_in old new shows
+unsat-true (Some (upgrade words)) script cert_in old new shows = tt
 unsat-true (Some (demo words)) script cert_in old new shows = demo-unsat words script cert_in old new shows
 
 -- ---- delta-sat
@@ -230,6 +231,7 @@ delta-sat-true : (command : Option Command) (script cert_in : List ℕ) (old new
 delta-sat-true None script cert_in old new shows = tt
 delta-sat-true (Some (solve words)) script cert_in old new shows = solve-delta words script cert_in old new shows
 delta-sat-true (Some (check words)) script cert_in old new shows = check-delta words script cert_in old new shows
+delta-sat-true (Some (upgrade words)) script cert_in old new shows = tt
 delta-sat-true (Some (demo words)) script cert_in old new shows = tt
 
 -- ---- certificates that are refused
@@ -258,6 +260,23 @@ check-refused words script cert_in old new tail (Some f) can status wrote = absu
 check-refused words script cert_in old new tail None can status wrote =
     refused-by words script cert_in old new can.0 tail (verdict can.0 words.bound cert_in) can.1 refl can.2 status wrote
 
+-- of `upgrade`, which writes nothing then
+upgrade-refused-by : (words : Upgrade) (script cert_in : List ℕ) (old new : Sight) (p : Problem) (tail : Course) (v : Verdict) → IsBuilt words.bound script p → verdict p words.bound cert_in ≡ v → CanUpgradeBy v p words.bound words.out cert_in tail
+    → tail.status ≡ CertRefused → new.answer ≡ appended old.answer tail.answer → new.cert_out ≡ appended old.cert_out tail.cert → IsTrueRefusal (Some (upgrade words)) script cert_in old new
+upgrade-refused-by words script cert_in old new p tail (accepted s value) built e can status wrote none = absurd (answered-not tail.status (ap (λ (c : Course). c.status) can.1) status)
+upgrade-refused-by words script cert_in old new p tail (refused f n) built e can status wrote none = (
+  record { problem = p; built = built; fault = f; line = n; refuses = e; written = wrote ∙ ap (λ (c : Course). appended old.answer c.answer) can },
+  none ∙ ap (λ (c : Course). appended old.cert_out c.cert) can,
+)
+
+upgrade-refused : (words : Upgrade) (script cert_in : List ℕ) (old new : Sight) (tail : Course) (f : Option ScriptFault) → CanBy f (OfProblem words.bound script (λ p. CanUpgrade p words.bound words.cert words.out cert_in)) tail
+    → tail.status ≡ CertRefused → new.answer ≡ appended old.answer tail.answer → new.cert_out ≡ appended old.cert_out tail.cert → IsTrueRefusal (Some (upgrade words)) script cert_in old new
+upgrade-refused words script cert_in old new tail (Some f) can status wrote none = absurd (script-refused-not tail.status (ap (λ (c : Course). c.status) can) status)
+upgrade-refused words script cert_in old new tail None can status wrote none =
+    let is = can.2 in
+    upgrade-refused-by words script cert_in old new can.0 is.0 (verdict can.0 words.bound cert_in) can.1 refl is.1 (sym (ap (λ (c : Course). c.status) is.2) ∙ status)
+    (wrote ∙ ap (λ (c : Course). appended old.answer c.answer) is.2) (none ∙ ap (λ (c : Course). appended old.cert_out c.cert) is.2)
+
 refusal-true : (command : Option Command) (script cert_in : List ℕ) (old new : Sight) → IsShown command script cert_in old new CertRefused → IsTrueRefusal command script cert_in old new
 refusal-true None script cert_in old new shows = tt
 refusal-true (Some (solve words)) script cert_in old new shows = tt
@@ -266,6 +285,42 @@ refusal-true (Some (check words)) script cert_in old new (course, can, status, w
     let tail : Course = can.0 in
     check-refused words script cert_in old new tail (script_fault words.bound script) can.1 (sym (ap (λ (c : Course). c.status) can.2) ∙ status)
     (went.answer ∙ ap (λ (c : Course). appended old.answer c.answer) can.2)
+refusal-true (Some (upgrade words)) script cert_in old new (course, can, status, went) =
+    let tail : Course = can.0 in
+    upgrade-refused words script cert_in old new tail (script_fault words.bound script) can.1 (sym (ap (λ (c : Course). c.status) can.2) ∙ status)
+    (went.answer ∙ ap (λ (c : Course). appended old.answer c.answer) can.2) (went.cert ∙ ap (λ (c : Course). appended old.cert_out c.cert) can.2)
+
+-- ---- certificates that are written anew
+
+upgraded-by : (words : Upgrade) (script cert_in : List ℕ) (old new : Sight) (p : Problem) (tail : Course) (v : Verdict) → IsBuilt words.bound script p → verdict p words.bound cert_in ≡ v → CanUpgradeBy v p words.bound words.out cert_in tail
+    → tail.status ≡ Answered → new.cert_out ≡ appended old.cert_out tail.cert → IsUpgraded words.bound script cert_in old new
+upgraded-by words script cert_in old new p tail (accepted s value) built e can status wrote = record {
+  problem = p;
+  built = built;
+  loosenings = s;
+  value = value;
+  accepted = e;
+  written = wrote ∙ ap (λ (c : Course). appended old.cert_out c.cert) can.1;
+  again = can.0;
+}
+upgraded-by words script cert_in old new p tail (refused f n) built e can status wrote = absurd (certificate-refused-not tail.status (ap (λ (c : Course). c.status) can) status)
+
+upgraded-of : (words : Upgrade) (script cert_in : List ℕ) (old new : Sight) (p : Problem) (tail : Course) → IsBuilt words.bound script p → CanUpgrade p words.bound words.cert words.out cert_in tail
+    → tail.status ≡ Answered → new.cert_out ≡ appended old.cert_out tail.cert → IsUpgraded words.bound script cert_in old new
+upgraded-of words script cert_in old new p tail built can status wrote =
+    upgraded-by words script cert_in old new p can.0 (verdict p words.bound cert_in) built refl can.1 (sym (ap (λ (c : Course). c.status) can.2) ∙ status)
+    (wrote ∙ ap (λ (c : Course). appended old.cert_out c.cert) can.2)
+
+upgrade-true : (command : Option Command) (script cert_in : List ℕ) (old new : Sight) → IsShown command script cert_in old new Answered → IsTrueUpgrade command script cert_in old new
+upgrade-true None script cert_in old new shows = tt
+upgrade-true (Some (solve words)) script cert_in old new shows = tt
+upgrade-true (Some (check words)) script cert_in old new shows = tt
+upgrade-true (Some (demo words)) script cert_in old new shows = tt
+upgrade-true (Some (upgrade words)) script cert_in old new (course, can, status, went) =
+    let tail : Course = can.0 in
+    let status_is : tail.status ≡ Answered = sym (ap (λ (c : Course). c.status) can.2) ∙ status in
+    let on = goes-on words.bound script (λ p. CanUpgrade p words.bound words.cert words.out cert_in) (script_fault words.bound script) tail can.1 status_is in
+    upgraded-of words script cert_in old new on.p tail on.built on.can status_is (went.cert ∙ ap (λ (c : Course). appended old.cert_out c.cert) can.2)
 
 -- ---- of whole runs
 
@@ -281,3 +336,6 @@ delta_sat_is_true r course script cert_in tells e = delta-sat-true r.command scr
 
 pub refusal_is_true : (r : Run) → HasCourse r → RefusalIsTrue r
 refusal_is_true r course script cert_in tells e = refusal-true r.command script cert_in r.old r.new (shown-with r CertRefused course script cert_in tells e)
+
+pub upgrade_is_true : (r : Run) → HasCourse r → UpgradeIsTrue r
+upgrade_is_true r course script cert_in tells e = upgrade-true r.command script cert_in r.old r.new (shown-with r Answered course script cert_in tells e)

@@ -6,4 +6,5 @@ pub mod Running
 pub mod Shown
 pub mod Solving
 pub mod Told
+pub mod Upgrading
 pub mod Verdicts

@@ -1,5 +1,5 @@
 -- Scripts that are too long.
-use Rattle.std.proofs.Common.{◌≡◌, ◌≤◌, ◌<◌, ℕ, List, [], Bool, false, cond, Option, Some, None, length, ap, sym, ◌∙◌, arith, IfSome, nat_le}
+use Rattle.std.proofs.Common.{◌≡◌, ◌≤◌, ◌<◌, ℕ, List, [], Option, Some, None, length, ap, sym, ◌∙◌, arith, IfSome}
 use Rattle.std.specs.Prelude.{option_map}
 use Rattle.desk.specs.Sight.{Sight}
 use Rattle.script_fault.specs.declared.fault.ScriptFault.{ScriptFault}

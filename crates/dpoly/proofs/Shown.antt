@@ -2,7 +2,7 @@
 use Rattle.std.proofs.Common.{◌≡◌, inl, inr, ℕ, List, Option, Some, None, sym, subst, ◌∙◌}
 use Rattle.desk.specs.Sight.{Sight}
 use Rattle.words.specs.declared.asked.Options.{Options}
-use Rattle.words.specs.Words.{Command, solve, check, demo}
+use Rattle.words.specs.Words.{Command, solve, check, demo, upgrade}
 use Rattle.gen_script.specs.Demo.{demo_script}
 use Rattle.poly_graph.specs.Problem.{Problem}
 use Rattle.cert_model.specs.Accepted.{Verdict, accepted, refused, verdict}
@@ -11,7 +11,7 @@ use Rattle.script_faults.specs.Faults.{script_fault}
 use Rattle.dpoly.specs.declared.status.Status.{Status}
 use Rattle.dpoly.specs.declared.status.Status.TheVariants.{Answered, CertRefused, ScriptRefused, Usage, InFailed, OutFailed, NoMemory}
 use Rattle.dpoly.specs.Course.{Course, Went, Ends, at_its_end, out_failed, no_memory, RunEnds, on_course, in_failed, no_memory_yet}
-use Rattle.dpoly.specs.Can.{CanSolve, CanCheck, CanDemo, CanBy, OfProblem, Can, in_starts, verdict_course}
+use Rattle.dpoly.specs.Can.{CanSolve, CanCheck, CanUpgrade, CanUpgradeBy, CanDemo, CanBy, OfProblem, Can, in_starts, verdict_course}
 use Rattle.dpoly.specs.Run.{Run, HasCourse, IsShown, IsDue, run_of, StatusIsDue, StatusIsShown}
 
 -- a status that is told by an answer
@@ -37,6 +37,13 @@ said-verdict : (v : Verdict) → IsSaid (verdict_course v).status
 said-verdict (accepted s value) = tt
 said-verdict (refused f n) = tt
 
+said-upgrade-by : (v : Verdict) (p : Problem) (bound : Option ℕ) (out cert_in : List ℕ) (course : Course) → CanUpgradeBy v p bound out cert_in course → IsSaid course.status
+said-upgrade-by (accepted s value) p bound out cert_in course can = said-same course _ can.1 tt
+said-upgrade-by (refused f n) p bound out cert_in course can = said-same course _ can tt
+
+said-upgrade : (p : Problem) (bound : Option ℕ) (name out cert_in : List ℕ) (course : Course) → CanUpgrade p bound name out cert_in course → IsSaid course.status
+said-upgrade p bound name out cert_in course can = said-same course _ can.2 (said-upgrade-by (verdict p bound cert_in) p bound out cert_in can.0 can.1)
+
 said-by : (bound : Option ℕ) (script : List ℕ) (goes : Problem → Course → Type 0) → ((p : Problem) (course : Course) → goes p course → IsSaid course.status) →
     (f : Option ScriptFault) (course : Course) → CanBy f (OfProblem bound script goes) course → IsSaid course.status
 said-by bound script goes said (Some f) course can = said-same course _ can tt
@@ -49,6 +56,8 @@ said (Some (solve words)) script cert_in course can = said-same course _ can.2
     (said-by words.options.bound script (λ p. CanSolve p words.options words.cert) (λ p c h. said-solve p words.options words.cert c h) (script_fault words.options.bound script) can.0 can.1)
 said (Some (check words)) script cert_in course can = said-same course _ can.2
     (said-by words.bound script (λ p. CanCheck p words.bound words.cert cert_in) (λ p c h. said-same c _ h (said-verdict (verdict p words.bound cert_in))) (script_fault words.bound script) can.0 can.1)
+said (Some (upgrade words)) script cert_in course can = said-same course _ can.2
+    (said-by words.bound script (λ p. CanUpgrade p words.bound words.cert words.out cert_in) (λ p c h. said-upgrade p words.bound words.cert words.out cert_in c h) (script_fault words.bound script) can.0 can.1)
 said (Some (demo words)) script cert_in course can =
     said-by words.options.bound (demo_script words.seed words.size) (λ p. CanDemo p words.options words.cert (demo_script words.seed words.size))
     (λ p c h. said-demo p words.options words.cert (demo_script words.seed words.size) c h) (script_fault words.options.bound (demo_script words.seed words.size)) course can

@@ -1,5 +1,5 @@
 -- From a certificate on its port to the end of a run.
-use Rattle.std.proofs.Common.{◌≡◌, ◌⊎◌, ◌+◌, ◌<◌, ◌≤◌, ◌++◌, ℕ, List, [], ◌∷◌, Bool, Option, Some, None, Result, Ok, Err, IfSome, length, take, drop, refl, ap, sym, ◌∙◌, subst, inl, inr, arith, take-append-drop}
+use Rattle.std.proofs.Common.{◌≡◌, ◌<◌, ◌≤◌, ◌++◌, ℕ, List, [], ◌∷◌, Option, Some, None, Result, Ok, Err, IfSome, length, take, drop, refl, ap, sym, ◌∙◌, subst, inl, inr, arith, take-append-drop}
 use Rattle.std.specs.Option.{option_map}
 use Rattle.std.proofs.Math.ListN.{drop_of_length-le}
 use Rattle.std.proofs.lemmas.Option.{none-some}
@@ -17,7 +17,6 @@ use Rattle.cert_model.specs.AnswerText.{check_text, verdict_text}
 use Rattle.cert_check.specs.declared.checker.Verdict as told
 use Rattle.cert_check.specs.declared.checker.Verdict.TheVariants.{Unsat, Point, Left}
 use Rattle.cert_check.specs.declared.fault.CertFault.{CertFault}
-use Rattle.cert_check.specs.declared.fault.CertFault.TheVariants.{Memory}
 use Rattle.cert_check.specs.Courses.{IsVerdict}
 use Rattle.cert_check.specs.Faults.{stop_of}
 use Rattle.answer_text.specs.Stops.{stop_text}
@@ -25,8 +24,9 @@ use Rattle.cert_check.specs.declared.feed.Feed.{Feed}
 use Rattle.dpoly.specs.declared.status.Status.{Status}
 use Rattle.dpoly.specs.declared.status.Status.TheVariants.{Answered, CertRefused, InFailed, NoMemory}
 use Rattle.cert_check.specs.Feeding.{HasTaken, IsVerdictOrMemory}
-use Rattle.dpoly.specs.Check.{IsCourseOf}
-use Rattle.dpoly.specs.Course.{Start, Course, says, behind, appended, Quiet, Ends, RunEnds, on_course, in_failed, no_memory_yet}
+use Rattle.dpoly.specs.declared.check.Unconfirmed.TheVariants.{Failed}
+use Rattle.dpoly.specs.Check.{IsCourseOf, IsVerdictFor, IsVerdictOnPort}
+use Rattle.dpoly.specs.Course.{Course, says, behind, Ends, RunEnds, on_course, in_failed, no_memory_yet}
 use Rattle.dpoly.specs.Can.{CanCheck, verdict_course}
 use Rattle.dpoly.proofs.Ending.{appended-nil, run_behind, all_of, over, after_cert_in}
 
@@ -37,6 +37,13 @@ pub record CheckedSoFar (p : Parts) (bound : Option ℕ) (f : Feed) (old now : S
   pub bytes : List ℕ
   pub read : ReadSoFar CertIn bytes old now
   pub has : HasTaken p bound bytes f
+
+-- nothing is told of a certificate whose port failed
+pub check_fails : (p : Parts) (bound : Option ℕ) (old : Sight) → IsVerdictFor p bound old (Err Failed)
+check_fails p bound old = told old.cert_in where
+  told : (o : Option (List ℕ)) → IfSome o (λ (cert : List ℕ). IsVerdictOnPort (verdict (problem_of p) bound cert) (Err Failed))
+  told None = tt
+  told (Some cert) = tt
 
 pub check_start : (p : Parts) (bound : Option ℕ) (f : Feed) (d : Sight) → HasTaken p bound [] f → CheckedSoFar p bound f d d
 check_start p bound f d has = record { bytes = []; read = read_start CertIn d; has = has }

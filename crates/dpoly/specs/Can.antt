@@ -2,12 +2,13 @@
 use Rattle.std.specs.Prelude.{◌≡◌, ℕ, List, [], ◌∷◌, Option, Some, None, codes, length}
 use Rattle.desk.specs.declared.desk.Port.TheVariants.{Script, CertIn}
 use Rattle.words.specs.declared.asked.Options.{Options}
-use Rattle.words.specs.Words.{Command, solve, check, demo}
+use Rattle.words.specs.Words.{Command, solve, check, demo, upgrade}
 use Rattle.gen_script.specs.Demo.{demo_script}
 use Rattle.poly_graph.specs.Problem.{Problem}
 use Rattle.cert_model.specs.Due.{Value, left_open}
-use Rattle.cert_model.specs.Accepted.{Verdict, accepted, refused, verdict}
+use Rattle.cert_model.specs.Accepted.{Verdict, accepted, refused, verdict, IsAccepted}
 use Rattle.cert_model.specs.AnswerText.{solve_text, verdict_text, demo_text}
+use Rattle.cert_upgrade.specs.Upgraded.{upgraded, in_version_2}
 use Rattle.dpoly.specs.declared.status.Status.TheVariants.{Answered, CertRefused, ScriptRefused, Usage}
 use Rattle.script_fault.specs.declared.fault.ScriptFault.{ScriptFault}
 use Rattle.answer_text.specs.ScriptFaults.{fault_text}
@@ -32,6 +33,21 @@ verdict_course (refused fault line) = says CertRefused (verdict_text (refused fa
 -- `check`: the verdict of what CertIn held
 abbrev pub CanCheck : Problem → Option ℕ → List ℕ → List ℕ → Course → Type 0
 CanCheck p bound name cert_in course = course ≡ behind ((CertIn, name) ∷ []) (verdict_course (verdict p bound cert_in))
+
+abbrev pub upgraded_text : List ℕ
+upgraded_text = codes "upgraded\n"
+
+-- a certificate that is accepted is written in version 2, in which it is accepted with the same value; another is refused at
+-- its first fault, and none is written
+abbrev pub CanUpgradeBy : Verdict → Problem → Option ℕ → List ℕ → List ℕ → Course → Type 0
+CanUpgradeBy (accepted s value) p bound out cert_in course =
+    IsAccepted p bound (upgraded cert_in) (in_version_2 s) value × (course ≡ gives out (upgraded cert_in) upgraded_text)
+CanUpgradeBy (refused fault line) p bound out cert_in course = course ≡ verdict_course (refused fault line)
+
+-- `upgrade`: so by the verdict of what CertIn held
+abbrev pub CanUpgrade : Problem → Option ℕ → List ℕ → List ℕ → List ℕ → Course → Type 0
+CanUpgrade p bound name out cert_in course =
+    (tail : Course) × CanUpgradeBy (verdict p bound cert_in) p bound out cert_in tail × (course ≡ behind ((CertIn, name) ∷ []) tail)
 
 -- `demo`: any certificate that leaves nothing of the problem, with a line on the script
 abbrev pub CanDemo : Problem → Options → List ℕ → List ℕ → Course → Type 0
@@ -60,6 +76,9 @@ Can (Some (solve words)) script cert_in course =
 Can (Some (check words)) script cert_in course =
     CanFrom words.script (script_fault words.bound script)
     (OfProblem words.bound script (λ p. CanCheck p words.bound words.cert cert_in)) course
+Can (Some (upgrade words)) script cert_in course =
+    CanFrom words.script (script_fault words.bound script)
+    (OfProblem words.bound script (λ p. CanUpgrade p words.bound words.cert words.out cert_in)) course
 Can (Some (demo words)) script cert_in course =
     CanBy (script_fault words.options.bound (demo_script words.seed words.size))
     (OfProblem words.options.bound (demo_script words.seed words.size) (λ p. CanDemo p words.options words.cert (demo_script words.seed words.size))) course
@@ -69,4 +88,5 @@ abbrev pub in_starts : Option Command → List Start
 in_starts None = []
 in_starts (Some (solve words)) = (Script, words.script) ∷ []
 in_starts (Some (check words)) = (Script, words.script) ∷ (CertIn, words.cert) ∷ []
+in_starts (Some (upgrade words)) = (Script, words.script) ∷ (CertIn, words.cert) ∷ []
 in_starts (Some (demo words)) = []

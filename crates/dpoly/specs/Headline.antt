@@ -2,16 +2,17 @@
 use Rattle.std.specs.Prelude.{◌≡◌, ◌++◌, ℕ, List, [], Option, Some, None, IsSomeAnd, codes}
 use Rattle.desk.specs.Sight.{Sight}
 use Rattle.words.specs.declared.asked.Options.{Options}
-use Rattle.words.specs.Words.{Command, solve, check, demo}
+use Rattle.words.specs.Words.{Command, solve, check, demo, upgrade}
 use Rattle.gen_script.specs.Demo.{demo_script}
 use Rattle.dyadic.specs.Rounding.{exact}
 use Rattle.script_model.specs.Script.{Satisfies}
 use Rattle.poly_graph.specs.Problem.{Problem}
 use Rattle.interval_model.specs.Space.{Space}
 use Rattle.cover_model.specs.State.{Loosenings, margin_of, delta_of}
-use Rattle.cert_model.specs.Due.{CertFault, at_point, left_open, coordinates}
+use Rattle.cert_model.specs.Due.{CertFault, Value, at_point, left_open, coordinates}
 use Rattle.cert_model.specs.Accepted.{IsAccepted, refused, verdict}
 use Rattle.cert_model.specs.AnswerText.{text_line, unsat_text, delta_sat_text, check_text, verdict_text}
+use Rattle.cert_upgrade.specs.Upgraded.{upgraded, in_version_2}
 use Rattle.headline.specs.Laws.{HasNoPoint}
 use Rattle.headline.specs.Near.{IsNearDeclaredBox}
 use Rattle.problem_build.specs.Reader.{commands_of, IsBuilt}
@@ -52,6 +53,7 @@ IsTrueUnsat (Some (check words)) script cert_in old new =
     (rest : List ℕ) → IsWritten (confirmed_unsat_word ++ rest) old new →
     (s : Loosenings) × IsWritten (check_text s (left_open [])) old new × IsConfirmedUnsat words.bound script cert_in s
 IsTrueUnsat (Some (demo words)) script cert_in old new = IsUnsat words.options (demo_script words.seed words.size) old new
+IsTrueUnsat (Some (upgrade words)) script cert_in old new = Unit {0}
 IsTrueUnsat None script cert_in old new = Unit {0}
 
 -- The point satisfies the script, each atom loosened by delta, and lies within delta of the declared box.
@@ -92,10 +94,27 @@ pub record IsRefusedCert (bound : Option ℕ) (script cert_in : List ℕ) (old n
   pub refuses : verdict problem bound cert_in ≡ refused fault line
   pub written : new.answer ≡ appended old.answer (verdict_text (refused fault line))
 
--- A certificate that is refused has a fault.
+-- A certificate that is refused has a fault; `upgrade` writes none then.
 abbrev pub IsTrueRefusal : Option Command → List ℕ → List ℕ → Sight → Sight → Type 0
 IsTrueRefusal (Some (check words)) script cert_in old new = IsRefusedCert words.bound script cert_in old new
+IsTrueRefusal (Some (upgrade words)) script cert_in old new =
+    IsRefusedCert words.bound script cert_in old new × (new.cert_out ≡ appended old.cert_out [])
 IsTrueRefusal _ script cert_in old new = Unit {0}
+
+-- The certificate is accepted, and what was written is accepted in version 2 with the same value: the same lines behind the first.
+pub record IsUpgraded (bound : Option ℕ) (script cert_in : List ℕ) (old new : Sight) : Type 0 where
+  pub problem : Problem
+  pub built : IsBuilt bound script problem
+  pub loosenings : Loosenings
+  pub value : Value
+  pub accepted : IsAccepted problem bound cert_in loosenings value
+  pub written : new.cert_out ≡ appended old.cert_out (upgraded cert_in)
+  pub again : IsAccepted problem bound (upgraded cert_in) (in_version_2 loosenings) value
+
+-- `upgrade` answers where that is so.
+abbrev pub IsTrueUpgrade : Option Command → List ℕ → List ℕ → Sight → Sight → Type 0
+IsTrueUpgrade (Some (upgrade words)) script cert_in old new = IsUpgraded words.bound script cert_in old new
+IsTrueUpgrade _ script cert_in old new = Unit {0}
 
 -- ---- runs
 
@@ -110,3 +129,7 @@ DeltaSatIsTrue r = OnInput r (λ script cert_in. r.status ≡ Answered → IsTru
 -- where it refuses a certificate, that has the fault
 abbrev pub RefusalIsTrue : Run → Type 0
 RefusalIsTrue r = OnInput r (λ script cert_in. r.status ≡ CertRefused → IsTrueRefusal r.command script cert_in r.old r.new)
+
+-- where `upgrade` answers, the certificate is accepted, and so is what was written, in version 2 with the same value
+abbrev pub UpgradeIsTrue : Run → Type 0
+UpgradeIsTrue r = OnInput r (λ script cert_in. r.status ≡ Answered → IsTrueUpgrade r.command script cert_in r.old r.new)

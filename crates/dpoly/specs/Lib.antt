@@ -8,3 +8,4 @@ pub mod Run
 pub mod Script
 pub mod Search
 pub mod Statuses
+pub mod Upgrade

@@ -4,12 +4,13 @@ use Rattle.std.specs.Option.{option_map}
 use Rattle.std.specs.declared.alloc.Global.{Global}
 use Rattle.std.specs.declared.string.String.{String}
 use Rattle.desk.specs.Sight.{Sight, SideFailed}
-use Rattle.words.specs.Words.{Command, Solve, Check, Demo, command_of, solve, check, demo}
-use Rattle.words.specs.Seen.{seen, seen_solve, seen_check, seen_demo}
+use Rattle.words.specs.Words.{Command, Solve, Check, Demo, Upgrade, command_of, solve, check, demo, upgrade}
+use Rattle.words.specs.Seen.{seen, seen_solve, seen_check, seen_demo, seen_upgrade}
 use Rattle.words.specs.declared.asked.Asked.{Asked}
 use Rattle.words.specs.declared.asked.SolveWords.{SolveWords}
 use Rattle.words.specs.declared.asked.CheckWords.{CheckWords}
 use Rattle.words.specs.declared.asked.DemoWords.{DemoWords}
+use Rattle.words.specs.declared.asked.UpgradeWords.{UpgradeWords}
 use Rattle.dpoly.specs.declared.status.Status.{Status}
 use Rattle.dpoly.specs.declared.status.Status.TheVariants.{Answered, CertRefused, ScriptRefused, Usage, InFailed, OutFailed, NoMemory}
 use Rattle.script_faults.specs.Faults.{most_bytes}
@@ -43,19 +44,24 @@ solve_run words = run_of (Some (solve (seen_solve words)))
 abbrev pub check_run : CheckWords → Sight → Sight → Status → Run
 check_run words = run_of (Some (check (seen_check words)))
 
+abbrev pub upgrade_run : UpgradeWords → Sight → Sight → Status → Run
+upgrade_run words = run_of (Some (upgrade (seen_upgrade words)))
+
 abbrev pub demo_run : DemoWords → Sight → Sight → Status → Run
 demo_run words = run_of (Some (demo (seen_demo words)))
 
 abbrev pub asked_run : Asked → Sight → Sight → Status → Run
 asked_run words = run_of (Some (seen words))
 
-abbrev pub IsCheck : Option Command → Type 0
-IsCheck (Some (check words)) = Unit {0}
-IsCheck _ = ⊥
+abbrev pub ReadsCert : Option Command → Type 0
+ReadsCert (Some (check words)) = Unit {0}
+ReadsCert (Some (upgrade words)) = Unit {0}
+ReadsCert _ = ⊥
 
 abbrev pub ReadsScript : Option Command → Type 0
 ReadsScript (Some (solve words)) = Unit {0}
 ReadsScript (Some (check words)) = Unit {0}
+ReadsScript (Some (upgrade words)) = Unit {0}
 ReadsScript _ = ⊥
 
 -- ---- what holds whatever the desk tells
@@ -63,7 +69,7 @@ ReadsScript _ = ⊥
 -- what can cause a status
 abbrev pub IsCauseOf : Status → Run → Type 0
 IsCauseOf Answered r = IsSome r.command
-IsCauseOf CertRefused r = IsCheck r.command
+IsCauseOf CertRefused r = ReadsCert r.command
 IsCauseOf ScriptRefused r = IsSome r.command
 IsCauseOf Usage r = r.command ≡ None
 IsCauseOf InFailed r = ReadsScript r.command × SideFailed r.old.in_faults r.new.in_faults
@@ -80,6 +86,9 @@ SolveHasCause old new status = (words : Solve) → HasCause (run_of (Some (solve
 
 abbrev pub CheckHasCause : Sight → Sight → Status → Type 0
 CheckHasCause old new status = (words : Check) → HasCause (run_of (Some (check words)) old new status)
+
+abbrev pub UpgradeHasCause : Sight → Sight → Status → Type 0
+UpgradeHasCause old new status = (words : Upgrade) → HasCause (run_of (Some (upgrade words)) old new status)
 
 abbrev pub DemoHasCause : Sight → Sight → Status → Type 0
 DemoHasCause old new status = (words : Demo) → HasCause (run_of (Some (demo words)) old new status)
@@ -100,9 +109,9 @@ ScriptIsRead r =
 abbrev pub IsReadToEnd : Sight → Sight → Type 0
 IsReadToEnd old new = new.cert_in ≡ option_map (λ cert. []) old.cert_in
 
--- a confirmed certificate was read to its end
+-- a certificate that is confirmed, or written anew, was read to its end
 abbrev pub CertIsRead : Run → Type 0
-CertIsRead r = IsCheck r.command → r.status ≡ Answered → IsReadToEnd r.old r.new
+CertIsRead r = ReadsCert r.command → r.status ≡ Answered → IsReadToEnd r.old r.new
 
 -- ---- what holds of each script and certificate that the desk tells
 
@@ -110,6 +119,7 @@ CertIsRead r = IsCheck r.command → r.status ≡ Answered → IsReadToEnd r.old
 abbrev pub HasInput : Option Command → Sight → List ℕ → List ℕ → Type 0
 HasInput (Some (solve words)) d script cert_in = d.script ≡ Some script
 HasInput (Some (check words)) d script cert_in = (d.script ≡ Some script) × (d.cert_in ≡ Some cert_in)
+HasInput (Some (upgrade words)) d script cert_in = (d.script ≡ Some script) × (d.cert_in ≡ Some cert_in)
 HasInput _ d script cert_in = Unit {0}
 
 abbrev pub OnInput : Run → (List ℕ → List ℕ → Type 0) → Type 0

@@ -1,5 +1,5 @@
 -- What is answered of a script that has no problem, and of one that has.
-use Rattle.std.specs.Prelude.{◌≡◌, ◌≤◌, ℕ, List, [], ◌∷◌, Option, Some, None, IfSome, option_map, length}
+use Rattle.std.specs.Prelude.{◌≡◌, ◌≤◌, ℕ, List, [], ◌∷◌, Option, Some, IfSome, option_map, length}
 use Rattle.desk.specs.declared.desk.Port.TheVariants.{Script}
 use Rattle.desk.specs.Sight.{Sight, SideFailed}
 use Rattle.poly_graph.specs.Problem.{Problem}

@@ -1,7 +1,8 @@
 // `check`, from a problem to the verdict of a certificate.
 ghost use Rattle.std.specs.Prelude.{◌≡◌, Err, IfOk, Ok};
 ghost use Rattle.dpoly.specs.Check.{EndsOnCheck, EndsOnVerdict, IsConfirmation, IsReadFor, IsVerdictFor};
-ghost use Rattle.dpoly.specs.Run.{CheckHasCause, IsReadToEnd, SameIn};
+ghost use Rattle.dpoly.specs.Run.{CheckHasCause, IsReadToEnd, SameIn, UpgradeHasCause};
+ghost use Rattle.dpoly.specs.Upgrade.{EndsOnFault};
 
 use crate::ports::say;
 use crate::status::Status;
@@ -12,7 +13,7 @@ use poly_graph::Problem;
 use std::alloc::{AllocError, Global};
 
 // The most bytes of a certificate that are read at once.
-const ROOM: usize = 65_536;
+pub const ROOM: usize = 65_536;
 
 /// Why a certificate is not confirmed: its first fault, out of memory included, or its port failed.
 #[derive(Clone, Copy, Debug, PartialEq, Eq)]
@@ -77,9 +78,11 @@ fn confirm<D: Desk>(alloc: Global, desk: &mut D, verdict: Verdict) -> Status
     }
 }
 
-// Refuses a certificate for its first fault.
-fn refuse<D: Desk>(alloc: Global, desk: &mut D, fault: CertFault) -> Status
+/// Refuses a certificate for its first fault.
+pub fn refuse<D: Desk>(alloc: Global, desk: &mut D, fault: CertFault) -> Status
     ensures ends { EndsOnVerdict (Err fault) (D.sight desk.old) (D.sight desk.new) result }
+    ensures refuses { EndsOnFault fault (D.sight desk.old) (D.sight desk.new) result }
+    ensures upgrade { UpgradeHasCause (D.sight desk.old) (D.sight desk.new) result }
     ensures same { SameIn (D.sight desk.old) (D.sight desk.new) }
     ensures cause { CheckHasCause (D.sight desk.old) (D.sight desk.new) result }
     ensures refused { result ≡ Status.Answered → ⊥ }

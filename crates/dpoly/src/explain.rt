@@ -66,13 +66,35 @@ fn excerpt(alloc: Global, script: &[u8], at: Spot) -> Result<String, AllocError>
     Ok(text)
 }
 
-// The names of the script and of the certificate, as the words give them.
-fn names<'a>(alloc: Global, words: &'a [String]) -> (&'a str, &'a str) {
+/// The names of the script, and of the certificate that is read or written.
+#[derive(Clone, Copy, Debug, PartialEq, Eq)]
+struct Names<'a> {
+    script: &'a str,
+    cert_in: &'a str,
+    cert_out: &'a str,
+}
+
+// The names with one of a certificate alone.
+fn same_names<'a>(script: &'a str, cert: &'a str) -> Names<'a> {
+    Names {
+        script,
+        cert_in: cert,
+        cert_out: cert,
+    }
+}
+
+// The names that the words give.
+fn read_names<'a>(alloc: Global, words: &'a [String]) -> Names<'a> {
     match read_words(alloc, words) {
-        Ok(Asked::Solve(asked)) => (asked.script, asked.cert),
-        Ok(Asked::Check(asked)) => (asked.script, asked.cert),
-        Ok(Asked::Demo(asked)) => ("the demo's script", asked.cert),
-        Err(_) => ("-", "-"),
+        Ok(Asked::Solve(asked)) => same_names(asked.script, asked.cert),
+        Ok(Asked::Check(asked)) => same_names(asked.script, asked.cert),
+        Ok(Asked::Demo(asked)) => same_names("the demo's script", asked.cert),
+        Ok(Asked::Upgrade(asked)) => Names {
+            script: asked.script,
+            cert_in: asked.cert,
+            cert_out: asked.out,
+        },
+        Err(_) => same_names("-", "-"),
     }
 }
 
@@ -87,11 +109,11 @@ fn sink<'a>(name: &'a str) -> &'a str {
 }
 
 // Says which port failed, and why.
-fn explain_trouble(rt: &HostRuntime, script: &str, cert: &str, trouble: &Trouble) {
+fn explain_trouble(rt: &HostRuntime, names: &Names<'_>, trouble: &Trouble) {
     let name = match trouble.port {
-        Port::Script => source(script),
-        Port::CertIn => source(cert),
-        Port::CertOut => sink(cert),
+        Port::Script => source(names.script),
+        Port::CertIn => source(names.cert_in),
+        Port::CertOut => sink(names.cert_out),
         Port::Answer => "standard output",
     };
     let verb = match trouble.port {
@@ -128,7 +150,7 @@ fn explain_script(rt: &HostRuntime, alloc: Global, name: &str, desk: &FileDesk) 
 /// not be read or written; where the script, or the certificate, is refused.
 pub fn explain(rt: &HostRuntime, words: &[String], desk: &FileDesk, status: Status) {
     let alloc = rt.alloc();
-    let (script, cert) = names(alloc, words);
+    let called = read_names(alloc, words);
     match status {
         Status::Answered => {}
         Status::Usage => {
@@ -136,14 +158,14 @@ pub fn explain(rt: &HostRuntime, words: &[String], desk: &FileDesk, status: Stat
                 let _ = rt.eprint(text);
             }
         }
-        Status::ScriptRefused => explain_script(rt, alloc, script, desk),
+        Status::ScriptRefused => explain_script(rt, alloc, called.script, desk),
         Status::CertRefused => {
-            let name = source(cert);
+            let name = source(called.cert_in);
             let _ = eprint!(rt; "dpoly: {name}: {}", desk.answer());
         }
         Status::InFailed | Status::OutFailed => {
             if let Some(trouble) = desk.trouble() {
-                explain_trouble(rt, script, cert, trouble);
+                explain_trouble(rt, &called, trouble);
             }
         }
         Status::NoMemory => {

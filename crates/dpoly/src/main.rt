@@ -11,6 +11,7 @@ mod script;
 mod solve;
 mod status;
 mod top;
+mod upgrade;
 
 use explain::explain;
 use files::FileDesk;

@@ -33,6 +33,8 @@ fn refused_words_read_nothing(rt: HostRuntime) -> Result<(), Fail> {
         "dpoly solve s c --delta-bits 25",
         "dpoly solve s c --least-bits 61",
         "dpoly check - -",
+        "dpoly upgrade - - c",
+        "dpoly upgrade s c",
         "dpoly check s c --budget 1",
         "dpoly demo 1 10001 c",
         "dpoly --help",
@@ -67,7 +69,7 @@ fn scripts_are_refused(rt: HostRuntime) -> Result<(), Fail> {
             "script fault 4 NumberTooWide 2:14\n",
         ),
     ] {
-        for line in ["dpoly solve s c", "dpoly check s c"] {
+        for line in ["dpoly solve s c", "dpoly check s c", "dpoly upgrade s c d"] {
             let words = words_of(alloc, line)?;
             let mut desk = desk_of(alloc, script, 7)?;
             let status = run_top(&rt, alloc, &words, &mut desk, &NoGate);
@@ -87,6 +89,8 @@ const UNSAT_SCRIPT: &str =
     "(declare-const x Real)\n(assert (<= 0 x 1))\n(assert (= (* x x) (- 1)))\n(check-sat)";
 
 const UNSAT_CERT: &str = "dpoly 2\nmargin 20\ndelta 10\nbound none\ncover 0\ntree\nfalse\nend\n";
+
+const OLD_UNSAT_CERT: &str = "dpoly 1\nmargin 20\ndelta 10\nbound none\ncover 0\ntree\nfalse\nend";
 
 const POINT_SCRIPT: &str =
     "(declare-const x Real)\n(assert (<= 0 x 1))\n(assert (distinct x x))\n(check-sat)";
@@ -160,6 +164,10 @@ fn each_call_fails_once(rt: HostRuntime) -> Result<(), Fail> {
                 "",
                 "confirmed delta-sat\ndelta 1b-10\n",
             ),
+        ),
+        (
+            "dpoly upgrade s c d",
+            (UNSAT_SCRIPT, OLD_UNSAT_CERT, UNSAT_CERT, "upgraded\n"),
         ),
     ] {
         for port in [Port::Script, Port::CertIn, Port::CertOut, Port::Answer] {
@@ -264,6 +272,52 @@ fn the_certificate_stands_before_the_answer(rt: HostRuntime) -> Result<(), Fail>
 }
 
 // ---- certificates
+
+const GAP_SCRIPT: &str = "(declare-const x Real)\n(assert (<= 0 x 1))\n\
+    (assert (or (>= x (/ 3 4)) (<= x (/ 1 4))))\n(assert (= (* x x) (/ 1 4)))\n(check-sat)";
+
+const GAP_LINES: &str = "margin 20\ndelta 10\nbound none\ncover 1\nlemma 0\nreal 0 1b0\nyes 4\nno\n\
+    pull 4\nfalse\ntree\nunit 4\nby 0\n";
+
+// Certificates that are accepted, under either version, are written in version 2; of those that are refused nothing is.
+#[test]
+fn certificates_are_upgraded(rt: HostRuntime) -> Result<(), Fail> {
+    let alloc = rt.alloc();
+    for (first, last, status, text) in [
+        ("dpoly 1\n", "end\n", Status::Answered, "upgraded\n"),
+        ("dpoly 1\n", "end", Status::Answered, "upgraded\n"),
+        ("dpoly 2\n", "end\n", Status::Answered, "upgraded\n"),
+        (
+            "dpoly 1\n",
+            "",
+            Status::CertRefused,
+            "certificate fault 4 Missing line 15\n",
+        ),
+        (
+            "dpoly 3\n",
+            "end\n",
+            Status::CertRefused,
+            "certificate fault 1 BadHeader line 1\n",
+        ),
+    ] {
+        let words = words_of(alloc, "dpoly upgrade s c d")?;
+        let script = GAP_SCRIPT.as_bytes().to_vec(alloc)?;
+        let given = format!(in alloc; "{first}{GAP_LINES}{last}")?;
+        let mut desk = MemoryDesk::new(alloc, script, given.as_bytes().to_vec(alloc)?, 5);
+        let ended = run_top(&rt, alloc, &words, &mut desk, &NoGate);
+        assert_eq!(rt; ended, status, "at {first}{last}");
+        assert_eq!(rt; desk.written(Port::Answer), text.as_bytes());
+        if status == Status::Answered {
+            let wanted = format!(in alloc; "dpoly 2\n{GAP_LINES}end\n")?;
+            assert_eq!(rt; desk.written(Port::CertOut), wanted.as_bytes());
+            assert_eq!(rt; desk.starts().len(), 4);
+        } else {
+            assert_eq!(rt; desk.written(Port::CertOut), b"".as_slice());
+            assert_eq!(rt; desk.starts().len(), 3);
+        }
+    }
+    Ok(())
+}
 
 // A problem without axes, whose form is true.
 #[tactic(auto, using(poly_graph::proofs::Smallest::smallest))]

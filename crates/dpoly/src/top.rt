@@ -2,22 +2,23 @@
 ghost use Rattle.std.specs.Prelude.{◌≡◌, None};
 ghost use Rattle.words.specs.Words.{AreOptions, IsDemo, IsInRange};
 ghost use Rattle.words.specs.Seen.{seen, seen_demo};
-ghost use Rattle.dpoly.specs.Run.{asked_run, CertIsRead, check_run, command_in, demo_run, HasCause, HasCourse, run, SameIn, ScriptIsRead, solve_run, StatusIsDue, StatusIsShown};
+ghost use Rattle.dpoly.specs.Run.{asked_run, CertIsRead, check_run, command_in, demo_run, HasCause, HasCourse, run, SameIn, ScriptIsRead, solve_run, StatusIsDue, StatusIsShown, upgrade_run};
 ghost use Rattle.dpoly.specs.Script.{HaltEnds};
-ghost use Rattle.dpoly.specs.Headline.{DeltaSatIsTrue, RefusalIsTrue, UnsatIsTrue};
+ghost use Rattle.dpoly.specs.Headline.{DeltaSatIsTrue, RefusalIsTrue, UnsatIsTrue, UpgradeIsTrue};
 
 use crate::check::check_problem;
 use crate::ports::say;
 use crate::script::{Halt, fetch_problem, read_script};
 use crate::solve::{solve_demo, solve_problem};
 use crate::status::Status;
+use crate::upgrade::upgrade_problem;
 use desk::Desk;
 use gen_script::make;
 use solve_core::Gate;
 use std::alloc::Global;
 use std::sync::Wait;
 use std::thread::Threads;
-use words::{Asked, CheckWords, DemoWords, Refused, SolveWords, read_words};
+use words::{Asked, CheckWords, DemoWords, Refused, SolveWords, UpgradeWords, read_words};
 
 // Ends a run whose script has no problem.
 fn halt<D: Desk>(desk: &mut D, halt: Halt) -> Status
@@ -73,6 +74,25 @@ fn run_check<D: Desk>(alloc: Global, desk: &mut D, asked: CheckWords<'_>) -> Sta
     }
 }
 
+// Writes a certificate of a script in version 2.
+fn run_upgrade<D: Desk>(alloc: Global, desk: &mut D, asked: UpgradeWords<'_>) -> Status
+    ensures cause { HasCause (upgrade_run asked.entry (D.sight desk.old) (D.sight desk.new) result) }
+    ensures script { ScriptIsRead (upgrade_run asked.entry (D.sight desk.old) (D.sight desk.new) result) }
+    ensures cert { CertIsRead (upgrade_run asked.entry (D.sight desk.old) (D.sight desk.new) result) }
+    ensures course { HasCourse (upgrade_run asked.entry (D.sight desk.old) (D.sight desk.new) result) }
+{
+    let UpgradeWords {
+        script,
+        cert,
+        out,
+        bound,
+    } = asked;
+    match fetch_problem(alloc, desk, script, bound) {
+        Ok(problem) => upgrade_problem(alloc, desk, cert, out, &problem, bound),
+        Err(stop) => halt(desk, stop),
+    }
+}
+
 // Makes a script and solves it.
 fn run_demo<R: Threads + Wait + Sync, D: Desk, G: Gate + Sync>(
     rt: &R,
@@ -119,14 +139,16 @@ fn run_command<R: Threads + Wait + Sync, D: Desk, G: Gate + Sync>(
         Asked::Solve(asked) => run_solve(rt, alloc, desk, asked, gate),
         Asked::Check(asked) => run_check(alloc, desk, asked),
         Asked::Demo(asked) => run_demo(rt, alloc, desk, asked, gate),
+        Asked::Upgrade(asked) => run_upgrade(alloc, desk, asked),
     }
 }
 
 /// Runs the whole program: the words of its call, of which the first is its name, over the ports of a desk.
 ///
 /// `solve SCRIPT CERT` reads a script and writes a certificate of it, and then the answer. `check SCRIPT CERT` reads a
-/// script and a certificate, and answers whether the certificate is accepted, and what it shows. `demo SEED SIZE CERT`
-/// makes a script, solves it, and answers how large it was. The gate is told when work on a box begins and ends.
+/// script and a certificate, and answers whether the certificate is accepted, and what it shows. `upgrade SCRIPT CERT OUT`
+/// does so too, and writes a certificate that is accepted in version 2 of its format. `demo SEED SIZE CERT` makes a script,
+/// solves it, and answers how large it was. The gate is told when work on a box begins and ends.
 pub fn run_top<R: Threads + Wait + Sync, D: Desk, G: Gate + Sync>(
     rt: &R,
     alloc: Global,
@@ -135,7 +157,7 @@ pub fn run_top<R: Threads + Wait + Sync, D: Desk, G: Gate + Sync>(
     gate: &G,
 ) -> Status
     // Whatever the desk tells: a status has its cause, refused words read nothing, and a script, and a certificate that
-    // is confirmed, are read to their ends.
+    // is confirmed or written anew, are read to their ends.
     ensures cause { HasCause (run words.now (D.sight desk.old) (D.sight desk.new) result) }
     ensures unread { command_in words.now ≡ None → SameIn (D.sight desk.old) (D.sight desk.new) }
     ensures script { ScriptIsRead (run words.now (D.sight desk.old) (D.sight desk.new) result) }
@@ -146,10 +168,12 @@ pub fn run_top<R: Threads + Wait + Sync, D: Desk, G: Gate + Sync>(
     ensures shows { StatusIsShown (run words.now (D.sight desk.old) (D.sight desk.new) result) }
     ensures complete { StatusIsDue (run words.now (D.sight desk.old) (D.sight desk.new) result) }
 
-    // What is answered is true of the script, and a certificate that is refused has the fault that is answered.
+    // What is answered is true of the script, and a certificate that is refused has the fault that is answered. What is
+    // written anew is accepted with the value of the certificate that was read.
     ensures unsat { UnsatIsTrue (run words.now (D.sight desk.old) (D.sight desk.new) result) }
     ensures delta_sat { DeltaSatIsTrue (run words.now (D.sight desk.old) (D.sight desk.new) result) }
     ensures refused { RefusalIsTrue (run words.now (D.sight desk.old) (D.sight desk.new) result) }
+    ensures upgraded { UpgradeIsTrue (run words.now (D.sight desk.old) (D.sight desk.new) result) }
 {
     match read_words(alloc, words) {
         Ok(asked) => run_command(rt, alloc, desk, asked, gate),

@@ -1,29 +1,43 @@
 -- Accepted certificates and their scripts.
-use Rattle.std.proofs.Common.{◌≡◌, inl, inr, ℕ, suc, List, [], ◌∷◌, map, Option, Some, None, IsTrue}
-use Rattle.dyadic.specs.Fraction.{Fraction, IsFraction, at_most, sum_of, negated, difference_of}
+use Rattle.std.proofs.Common.{◌≡◌, inl, inr, arith, ℕ, suc, ◌*◌, ◌+◌, ◌≤◌, ◌^◌, ◌-◌, List, [], ◌∷◌, map, Option, Some, None, IsTrue, pos}
+use Rattle.dyadic.specs.Fraction.{Fraction, IsFraction, zero_fraction, at_most, sum_of, negated, difference_of}
 use Rattle.dyadic.specs.Point.{Sort, real_sort, bool_sort, Coordinate, at_fraction, at_bool, IsPoint}
 use Rattle.dyadic.specs.Rounding.{Dyadic, exact}
-use Rattle.dyadic.proofs.Equal.{through, total}
+use Rattle.dyadic.proofs.Equal.{le_holds, through, total}
+use Rattle.dyadic.proofs.Ring.{natural, times, below}
 use Rattle.interval_model.proofs.EndsSums.{sum_mono, sum_is_good, negated_is_good}
 use Rattle.script_model.specs.Script.{Command, Constant, constants_of, sort_of_constant, Satisfies}
 use Rattle.script_model.specs.Declared.{DeclaredInterval, declared_interval}
+use Rattle.script_model.proofs.Exactly.{exact_loosened}
 use Rattle.script_forms.specs.ProblemOf.{IsEnd, IsDeclaredBy, AreAxes, IsProblemOf}
 use Rattle.script_forms.proofs.Box.{box_declared, problem_means}
 use Rattle.interval_model.specs.Space.{Space}
-use Rattle.poly_graph.specs.Problem.{Problem, IsProblem, Axis, Declared, real_between, any_bool, sort_of, sorts_of_axes}
+use Rattle.poly_graph.specs.Problem.{Problem, IsProblem, Axis, Declared, real_between, any_bool, sort_of, sorts_of_axes, sorts_of_problem}
 use Rattle.cover_model.specs.State.{Loosenings, margin_of, delta_of}
 use Rattle.cert_model.specs.Due.{at_point, left_open, coordinates}
 use Rattle.cert_model.specs.Accepted.{IsAccepted}
 use Rattle.cert_model.specs.Derived.{IsNear, AreNear}
 use Rattle.cert_model.proofs.Means.{empty_cover_means, point_means}
 use Rattle.headline.specs.Near.{IfNotFarBelow, IfNotFarAbove, IsNearDeclared, IsNearBox, IsNearDeclaredBox}
-use Rattle.headline.specs.Laws.{HasNoPoint}
+use Rattle.headline.specs.Laws.{HasNoPoint, HasNoExactPoint}
 
 pub unsat_is : (bound : Option ℕ) (script : List Command) (p : Problem) → IsProblem p → IsProblemOf bound script p → (bytes : List ℕ) (s : Loosenings) →
     IsAccepted p bound bytes s (left_open []) → HasNoPoint bound script (exact (margin_of s))
 unsat_is bound script p g t bytes s e point b m =
     let i = (box_declared bound script p t point).0 b in
     empty_cover_means p g bound bytes s e point i.0 i.1 ((problem_means bound script p t (exact (margin_of s)) point i.0).1 m)
+
+-- ---- the script as SMT-LIB has it
+
+not-negative : (n d : ℕ) → IsTrue (at_most zero_fraction (record { num = pos n; den = d }))
+unfolding at_most
+not-negative n d = le_holds _ _ (below (times (natural 0) (natural d)) (times (natural n) (natural 1)) (omega arith))
+
+pub unsat_is_exact : (bound : Option ℕ) (script : List Command) (p : Problem) → IsProblem p → IsProblemOf bound script p → (bytes : List ℕ) (s : Loosenings) →
+    IsAccepted p bound bytes s (left_open []) → HasNoExactPoint bound script
+unsat_is_exact bound script p g t bytes s e point b h =
+    unsat_is bound script p g t bytes s e point b
+    (exact_loosened (sorts_of_problem p) point ((box_declared bound script p t point).0 b).0 (exact (margin_of s)) (not-negative (2 ^ (120 - s.margin_bits)) (2 ^ 120)) script h)
 
 -- ---- the declared box, widened
 

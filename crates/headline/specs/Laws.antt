@@ -4,6 +4,7 @@ use Rattle.dyadic.specs.Fraction.{Fraction}
 use Rattle.dyadic.specs.Point.{Coordinate}
 use Rattle.dyadic.specs.Rounding.{exact}
 use Rattle.script_model.specs.Script.{Command, Satisfies}
+use Rattle.script_model.specs.Exact.{SatisfiesExactly}
 use Rattle.script_model.specs.Declared.{InDeclaredBox}
 use Rattle.script_forms.specs.ProblemOf.{IsProblemOf}
 use Rattle.poly_graph.specs.Problem.{Problem, IsProblem}
@@ -22,6 +23,16 @@ HasNoPoint bound script m = (point : List Coordinate) → InDeclaredBox bound sc
 abbrev pub UnsatMeans : Type 0
 UnsatMeans = (bound : Option ℕ) (script : List Command) (p : Problem) → IsProblem p → IsProblemOf bound script p → (bytes : List ℕ) (s : Loosenings) →
     IsAccepted p bound bytes s (left_open []) → HasNoPoint bound script (exact (margin_of s))
+
+-- no point of the declared box satisfies the script as SMT-LIB has it
+abbrev pub HasNoExactPoint : Option ℕ → List Command → Type 0
+HasNoExactPoint bound script = (point : List Coordinate) → InDeclaredBox bound script point → SatisfiesExactly point script → ⊥
+
+-- Such a script has no point as SMT-LIB has it either: unsat is the solver's word for what SMT-LIB calls so, on rational
+-- points of the declared box.
+abbrev pub UnsatIsExact : Type 0
+UnsatIsExact = (bound : Option ℕ) (script : List Command) (p : Problem) → IsProblem p → IsProblemOf bound script p → (bytes : List ℕ) (s : Loosenings) →
+    IsAccepted p bound bytes s (left_open []) → HasNoExactPoint bound script
 
 -- Where they are accepted as a point, that point satisfies the script, each atom loosened by the delta of the header, and
 -- lies within delta of the script's declared box.

@@ -3,12 +3,18 @@
 //! No code runs here: each function is a law about definitions, and its contract is the law.
 #![tactic(auto)]
 
-ghost use Rattle.headline.specs.Laws.{UnsatMeans, DeltaSatMeans};
+ghost use Rattle.headline.specs.Laws.{UnsatMeans, UnsatIsExact, DeltaSatMeans};
 
 /// A cover that leaves nothing: no point of the declared box satisfies the script at the margin.
 #[tactic(auto, using(crate::proofs::Headline::unsat_is))]
 pub fn unsat_means()
     ensures { UnsatMeans }
+{}
+
+/// A cover that leaves nothing: no point of the declared box satisfies the script as SMT-LIB has it (SMT-LIB 2.6,
+/// theories Core and Reals).
+pub fn unsat_is_exact()
+    ensures { UnsatIsExact }
 {}
 
 /// A point: it satisfies the script at delta, and lies within delta of the declared box (delta-satisfiability of Gao,

@@ -23,7 +23,10 @@ use Rattle.std.specs.Borrow.{Bor}
 use Rattle.smt_script.specs.declared.command.Parameter as code_parameter
 use Rattle.term_build.specs.declared.stop.Stop.{Stop}
 use Rattle.value_build.specs.Making.{Making, Grows, Steps}
-use Rattle.value_build.specs.Values.{IsValue, AreValues}
+use Rattle.value_build.specs.Values.{IsArm, is_choice, IsValue, AreValues}
+use Rattle.term_build.specs.Built.{Made}
+use Rattle.term_build.specs.Sketch.{Drawn}
+use Rattle.term_build.specs.declared.sketch.Arm.TheVariants as arm
 use Rattle.value_build.specs.declared.value.Value.{Value}
 use Rattle.value_build.specs.declared.value.Value.TheVariants as values
 use Rattle.value_build.proofs.Growth.{value_stays}
@@ -42,15 +45,20 @@ use Rattle.problem_build.proofs.Turns.{turns_same, reaches_same, reaches_then}
 
 -- ---- values are not refused
 
+choice-first : (n : Made) (ds : List Drawn) (u : Unfolded) (k : ℕ) (us : List Unfolded) → IsArm n ds u (arm.Choice k) → first_fault (u ∷ us) ≡ first_fault us
+choice-first n ds _ k us (is_choice e w i j) = refl
+
 pub values_free : (m : Making) (us : List Unfolded) (bs : List Bounding) (vs : List Value) → AreValues m us bs vs → first_fault us ≡ None
 values_free m [] bs vs h = refl
 values_free m (u ∷ us) (b ∷ bs) (values.Real k ∷ vs) h = ap (λ x. first_fault (x ∷ us)) h.0.1 ∙ values_free m us bs vs h.1
+values_free m (u ∷ us) (b ∷ bs) (values.Choice k ∷ vs) h = choice-first m.made m.drawn u k us h.0.0 ∙ values_free m us bs vs h.1
 values_free m (u ∷ us) (b ∷ bs) (values.Bool p n ∷ vs) h = ap (λ x. first_fault (x ∷ us)) h.0.0.is ∙ values_free m us bs vs h.1
 values_free m (u ∷ us) [] vs h = elim h [ ]
 values_free m (u ∷ us) (b ∷ bs) [] h = elim h [ ]
 
 value-first : (m : Making) (u : Unfolded) (b : Bounding) (v : Value) (us : List Unfolded) → IsValue m u b v → first_fault (u ∷ us) ≡ first_fault us
 value-first m u b (values.Real k) us h = ap (λ x. first_fault (x ∷ us)) h.1
+value-first m u b (values.Choice k) us h = choice-first m.made m.drawn u k us h.0
 value-first m u b (values.Bool p n) us h = ap (λ x. first_fault (x ∷ us)) h.0.is
 
 pub locals_free : (m : Making) (ls : List Local) (ns : Names Work) (bs : Names Bounding) → AreLocals m ls ns bs → first_fault (map outcome_of (values_bound ns)) ≡ None

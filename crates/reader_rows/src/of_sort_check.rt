@@ -129,9 +129,10 @@ fn finds_the_first_fault(rt: HostRuntime) {
             left_out(1, 9),
         ),
         (
-            "(assert (< (ite true 1 2) 3))\n(check-sat)",
-            left_out(1, 12),
+            "(assert (< (ite true 1 false) 3))\n(check-sat)",
+            mismatch(1, 12),
         ),
+        ("(assert (ite true 1 2))\n(check-sat)", mismatch(1, 9)),
     ];
     for (text, expected) in rows {
         assert_eq!(rt; count(rt.alloc(), text.as_bytes()), expected, "{text}");

@@ -8,12 +8,12 @@ use Rattle.script_model.specs.Script.{Command, declare, define, claim, check, in
 use Rattle.script_model.specs.Declared.{numbered}
 use Rattle.script_model.proofs.Related.{Each, Alike, AlikeNames, Respects, meaning_alike, append_alike}
 use Rattle.poly_graph.specs.Form.{form_atoms}
-use Rattle.script_forms.specs.Terms.{Fault, ill_formed, Comparison, Unfolded, term, formula, refused, comparison_tree}
-use Rattle.script_forms.specs.Unfolded.{as_tree, checked, unless_refused, first_fault, takes, are_terms, are_formulas, unfolded_operation, at_most_two, at_least_two}
+use Rattle.script_forms.specs.Terms.{Fault, ill_formed, Comparison, Unfolded, term, formula, refused, either, comparison_tree}
+use Rattle.script_forms.specs.Unfolded.{as_tree, checked, unless_refused, first_fault, takes, are_terms, are_formulas, unfolded_operation, at_most_two, at_least_two, at_most_terms, at_least_terms, is_real_tree, picks_terms, choice_tree, choice_two}
 use Rattle.script_forms.specs.Atoms.{constant_tree, trees, fault_of, comparison_fault, or_next, comparisons_fault, tree_fault, trees_fault, unfolding_fault}
-use Rattle.sort_check.specs.Sorts.{Sorted, of_sort, ill, mismatched, SortFault, unknown_symbol, redeclared, sort_mismatch, real_choice, left_out_form, first_ill, or_first, is_real, is_bool, all_of, if_takes, operator_sort, is_taken, first_of_two, binding_sort, placed_call, because, sorting, same_sort, is_of, fit, signature, parameter_names, Finding, wants, then_on, new_name, taken_parameter, room_for, sort_fault_from, sort_fault}
+use Rattle.sort_check.specs.Sorts.{Sorted, of_sort, ill, mismatched, SortFault, unknown_symbol, redeclared, sort_mismatch, left_out_form, first_ill, or_first, is_real, is_bool, all_of, if_takes, operator_sort, is_taken, first_of_two, binding_sort, placed_call, because, sorting, same_sort, is_of, fit, signature, parameter_names, Finding, wants, then_on, new_name, taken_parameter, room_for, sort_fault_from, sort_fault}
 use Rattle.script_faults.specs.WellSorted.{IsSound, IfSound, IsClaim}
-use Rattle.script_faults.proofs.Shapes.{IsRealTree, IsFormula, sum_real, product_real, quotient_real, subtraction_real, comparison_real, implies_formula, xor_formula, choice_formula, not_formula, chain_formula, equality_formula, distinctness_formula}
+use Rattle.script_faults.proofs.Shapes.{IsRealTree, IsFormula, sum_real, product_real, quotient_real, subtraction_real, comparison_real, implies_formula, xor_formula, choice_formula, not_formula, chain_formula, equality_formula, distinctness_formula, compare_formula, picked_real, choice_tree_formula}
 
 -- the tree is of the sort, or has a fault that well-sorted expressions may meet
 abbrev pub HasSort : Sort → Unfolded → Type 0
@@ -47,6 +47,7 @@ first-sound [] [] h e (Some x) k = cc
 first-sound (of_sort s ∷ ss) (refused y ∷ us) h e (Some x) k = subst IfSound k (sound-of s y h.0)
 first-sound (of_sort s ∷ ss) (term t ∷ us) h e (Some x) k = first-sound ss us h.1 e (Some x) k
 first-sound (of_sort s ∷ ss) (formula f g ∷ us) h e (Some x) k = first-sound ss us h.1 e (Some x) k
+first-sound (of_sort s ∷ ss) (either c d a b ∷ us) h e (Some x) k = first-sound ss us h.1 e (Some x) k
 first-sound (ill at f ∷ ss) (u ∷ us) h e (Some x) k = cc
 first-sound (mismatched ∷ ss) (u ∷ us) h e (Some x) k = cc
 first-sound [] (u ∷ us) h e (Some x) k = elim h [ ]
@@ -78,10 +79,15 @@ both : (x y : Bool) → x && y ≡ true → (x ≡ true) × (y ≡ true)
 both true y h = (refl, h)
 both false y h = cc
 
+both-true : (x y : Bool) → x ≡ true → y ≡ true → x && y ≡ true
+both-true true y h k = k
+both-true false y h k = h
+
 bools : (ss : List Sorted) (us : List Unfolded) → Each Fits ss us → first_fault us ≡ None → all_of is_bool ss ≡ true → are_formulas us ≡ true
 bools [] [] h k e = refl
 bools (of_sort bool_sort ∷ ss) (formula f g ∷ us) h k e = bools ss us h.1 k e
 bools (of_sort bool_sort ∷ ss) (term t ∷ us) h k e = elim h.0 [ ]
+bools (of_sort bool_sort ∷ ss) (either c d a b ∷ us) h k e = elim h.0 [ ]
 bools (s ∷ ss) (refused x ∷ us) h k e = cc
 bools (of_sort real_sort ∷ ss) (u ∷ us) h k e = cc
 bools (ill at f ∷ ss) (u ∷ us) h k e = cc
@@ -93,6 +99,7 @@ reals : (ss : List Sorted) (us : List Unfolded) → Each Fits ss us → first_fa
 reals [] [] h k e = refl
 reals (of_sort real_sort ∷ ss) (term t ∷ us) h k e = reals ss us h.1 k e
 reals (of_sort real_sort ∷ ss) (formula f g ∷ us) h k e = elim h.0 [ ]
+reals (of_sort real_sort ∷ ss) (either c d a b ∷ us) h k e = both-true (is_real_tree a && is_real_tree b) (are_terms us) h.0 (reals ss us h.1 k e)
 reals (s ∷ ss) (refused x ∷ us) h k e = cc
 reals (of_sort bool_sort ∷ ss) (u ∷ us) h k e = cc
 reals (ill at f ∷ ss) (u ∷ us) h k e = cc
@@ -110,6 +117,7 @@ formula-claims : (u : Unfolded) → IsFormula u → IsClaim u
 formula-claims (formula f g) h = tt
 formula-claims (term t) h = elim h [ ]
 formula-claims (refused x) h = elim h [ ]
+formula-claims (either c d a b) h = elim h [ ]
 
 by-test : (at : Place) (b c : Bool) (s : Sort) (u x : Unfolded) → (b ≡ true → c ≡ true) → (b ≡ true → HasSort s u) → Fits (if_takes at b s) (cond c u x)
 by-test at false c s u x f g = tt
@@ -121,11 +129,11 @@ with-length true true y y' f e h = sym e ∙ h
 with-length true false y y' f e h = absurd (true≢false (sym (f refl)))
 with-length false x' y y' f e h = cc
 
-either : (x y x' y' : Bool) → (x ≡ true → x' ≡ true) → (y ≡ true → y' ≡ true) → x || y ≡ true → x' || y' ≡ true
-either true y true y' f g h = refl
-either true y false y' f g h = absurd (true≢false (sym (f refl)))
-either false y true y' f g h = refl
-either false y false y' f g h = g h
+either-of : (x y x' y' : Bool) → (x ≡ true → x' ≡ true) → (y ≡ true → y' ≡ true) → x || y ≡ true → x' || y' ≡ true
+either-of true y true y' f g h = refl
+either-of true y false y' f g h = absurd (true≢false (sym (f refl)))
+either-of false y true y' f g h = refl
+either-of false y false y' f g h = g h
 
 all-three : (x y z : Bool) → x && y && z ≡ true → x && (y && (z && true)) ≡ true
 all-three true true true h = refl
@@ -151,7 +159,7 @@ module _ (at : Place) (ss : List Sorted) (us : List Unfolded) (h : Each Fits ss 
       Fits (if_takes at ((all_of is_bool ss || all_of is_real ss) && n (length ss)) bool_sort) (cond (takes op us) (unfolded_operation at op us) (refused (ill_formed at)))
   on-either op n t f = by-test at ((all_of is_bool ss || all_of is_real ss) && n (length ss)) (takes op us) bool_sort (unfolded_operation at op us) (refused (ill_formed at))
       (λ e. t ∙ with-length (all_of is_bool ss || all_of is_real ss) (are_formulas us || are_terms us) (n (length ss)) (n (length us))
-      (either (all_of is_bool ss) (all_of is_real ss) (are_formulas us) (are_terms us) (bools ss us h k) (reals ss us h k)) (ap n (lengths ss us h)) e)
+      (either-of (all_of is_bool ss) (all_of is_real ss) (are_formulas us) (are_terms us) (bools ss us h k) (reals ss us h k)) (ap n (lengths ss us h)) e)
       (λ e. f)
 
   on-none : (op : Operator) → takes op us ≡ nat_eq (length us) 0 → IsClaim (unfolded_operation at op us) →
@@ -162,16 +170,69 @@ module _ (at : Place) (ss : List Sorted) (us : List Unfolded) (h : Each Fits ss 
 abbrev Tree : Place → Operator → List Unfolded → Unfolded
 Tree at op us = cond (takes op us) (unfolded_operation at op us) (refused (ill_formed at))
 
-choice-test : (at : Place) (x : Bool) (s : Sorted) (u : Unfolded) → Fits s u → Fits (cond x (ill at real_choice) s) u
-choice-test at true s u h = tt
-choice-test at false s u h = h
+-- where it takes them for one of two reasons
+takes-first : (x y : Bool) → x ≡ true → x || y ≡ true
+takes-first true y h = refl
+takes-first false y h = cc
+
+takes-second : (x y : Bool) → y ≡ true → x || y ≡ true
+takes-second true y h = refl
+takes-second false y h = h
+
+three-true : (x y z : Bool) → x && y && z ≡ true → (x ≡ true) × (y ≡ true) × (z ≡ true)
+three-true true true true h = (refl, refl, refl)
+three-true true true false h = cc
+three-true true false z h = cc
+three-true false y z h = cc
+
+pick-fits : (at : Place) (x : Bool) (s : Sorted) (us : List Unfolded) → (x ≡ true → picks_terms us ≡ true) → (x ≡ true → IsRealTree (choice_tree us)) → Fits s (Tree at choice us) →
+    Fits (cond x (of_sort real_sort) s) (Tree at choice us)
+pick-fits at true s us f g h = picked (takes choice us) (takes-second (are_formulas us && nat_eq (length us) 3) (picks_terms us) (f refl))
+  where
+    picked : (b : Bool) → b ≡ true → IsRealTree (cond b (choice_tree us) (refused (ill_formed at)))
+    picked true e = g refl
+    picked false e = cc
+pick-fits at false s us f g h = h
+
+is-formula : (s : Sorted) (u : Unfolded) (us : List Unfolded) → is_bool s ≡ true → Fits s u → first_fault (u ∷ us) ≡ None → are_formulas (u ∷ []) ≡ true
+is-formula s u us e h k = bools (s ∷ []) (u ∷ []) (h, tt) (alone-none u us k) (both-true (is_bool s) true e refl)
+  where
+    alone-none : (u : Unfolded) (us : List Unfolded) → first_fault (u ∷ us) ≡ None → first_fault (u ∷ []) ≡ None
+    alone-none (term t) us k = refl
+    alone-none (formula f g) us k = refl
+    alone-none (either c d a b) us k = refl
+    alone-none (refused x) us k = cc
+
+tail-none : (u : Unfolded) (us : List Unfolded) → first_fault (u ∷ us) ≡ None → first_fault us ≡ None
+tail-none (term t) us k = k
+tail-none (formula f g) us k = k
+tail-none (either c d a b) us k = k
+tail-none (refused x) us k = cc
+
+-- the arms of a Real `ite` are Real
+arms-picked : (c a b : Sorted) (us : List Unfolded) → Each Fits (c ∷ a ∷ b ∷ []) us → first_fault us ≡ None → is_bool c && is_real a && is_real b ≡ true →
+    (picks_terms us ≡ true) × IsRealTree (choice_tree us)
+arms-picked c a b (formula f g ∷ y ∷ z ∷ []) h k e =
+    let t = three-true (is_bool c) (is_real a) (is_real b) e in
+    let r = reals (a ∷ b ∷ []) (y ∷ z ∷ []) h.1 k (both-true (is_real a) (is_real b && true) t.1 (both-true (is_real b) true t.2 refl)) in
+    let s = both (is_real_tree y) (is_real_tree z && true) r in
+    (both-true (are_terms (y ∷ z ∷ [])) true r refl, picked_real (formula f g) y z s.0 (both (is_real_tree z) true s.1).0)
+arms-picked c a b (term t ∷ us) h k e = let i = is-formula c (term t) us (three-true (is_bool c) (is_real a) (is_real b) e).0 h.0 k in cc
+arms-picked c a b (refused x ∷ us) h k e = cc
+arms-picked c a b (either f g x y ∷ us) h k e = let i = is-formula c (either f g x y) us (three-true (is_bool c) (is_real a) (is_real b) e).0 h.0 k in cc
+arms-picked c a b [] h k e = elim h [ ]
+arms-picked c a b (formula f g ∷ []) h k e = elim h.1 [ ]
+arms-picked c a b (formula f g ∷ y ∷ []) h k e = elim h.1.1 [ ]
+arms-picked c a b (formula f g ∷ y ∷ z ∷ x ∷ us) h k e = elim h.1.1.1 [ ]
 
 choice-fits : (at : Place) (ss : List Sorted) (us : List Unfolded) → Each Fits ss us → first_fault us ≡ None → Fits (operator_sort at choice ss) (Tree at choice us)
-choice-fits at (c ∷ a ∷ b ∷ []) us h k = choice-test at (is_bool c && is_real a && is_real b) (if_takes at (is_bool c && is_bool a && is_bool b) bool_sort) (Tree at choice us)
+choice-fits at (c ∷ a ∷ b ∷ []) us h k = pick-fits at (is_bool c && is_real a && is_real b) (if_takes at (is_bool c && is_bool a && is_bool b) bool_sort) us
+    (λ e. (arms-picked c a b us h k e).0) (λ e. (arms-picked c a b us h k e).1)
     (by-test at (is_bool c && is_bool a && is_bool b) (takes choice us) bool_sort (unfolded_operation at choice us) (refused (ill_formed at))
-    (λ e. with-length true (are_formulas us) true (nat_eq (length us) 3) (λ z. bools (c ∷ a ∷ b ∷ []) us h k (all-three (is_bool c) (is_bool a) (is_bool b) e))
-    (ap (λ n. nat_eq n 3) (lengths (c ∷ a ∷ b ∷ []) us h)) refl)
-    (λ e. formula-claims _ (choice_formula us)))
+    (λ e. takes-first (are_formulas us && nat_eq (length us) 3) (picks_terms us)
+    (with-length true (are_formulas us) true (nat_eq (length us) 3) (λ z. bools (c ∷ a ∷ b ∷ []) us h k (all-three (is_bool c) (is_bool a) (is_bool b) e))
+    (ap (λ n. nat_eq n 3) (lengths (c ∷ a ∷ b ∷ []) us h)) refl))
+    (λ e. formula-claims _ (choice_tree_formula us (bools (c ∷ a ∷ b ∷ []) us h k (all-three (is_bool c) (is_bool a) (is_bool b) e)))))
 choice-fits at [] us h k = tt
 choice-fits at (c ∷ []) us h k = tt
 choice-fits at (c ∷ a ∷ []) us h k = tt
@@ -192,10 +253,10 @@ operator-fits at minus ss us h k = on-reals at ss us h k minus real_sort (λ n. 
 operator-fits at plus ss us h k = on-reals at ss us h k plus real_sort (λ n. nat_le 1 n) refl (λ e. sum_real at us e)
 operator-fits at times ss us h k = on-reals at ss us h k times real_sort (λ n. nat_le 1 n) refl (λ e. product_real at us e)
 operator-fits at divide ss us h k = on-reals at ss us h k divide real_sort (λ n. nat_le 2 n) refl (λ e. quotient_real at us e)
-operator-fits at at_most_op ss us h k = on-reals at ss us h k at_most_op bool_sort (λ n. nat_le 2 n) refl (λ e. formula-claims _ (chain_formula (at_most_two at) (λ u v. tt) us))
-operator-fits at below_op ss us h k = on-reals at ss us h k below_op bool_sort (λ n. nat_le 2 n) refl (λ e. formula-claims _ (chain_formula (at_most_two at) (λ u v. tt) us))
-operator-fits at at_least_op ss us h k = on-reals at ss us h k at_least_op bool_sort (λ n. nat_le 2 n) refl (λ e. formula-claims _ (chain_formula (at_least_two at) (λ u v. tt) us))
-operator-fits at above_op ss us h k = on-reals at ss us h k above_op bool_sort (λ n. nat_le 2 n) refl (λ e. formula-claims _ (chain_formula (at_least_two at) (λ u v. tt) us))
+operator-fits at at_most_op ss us h k = on-reals at ss us h k at_most_op bool_sort (λ n. nat_le 2 n) refl (λ e. formula-claims _ (chain_formula (at_most_two at) (compare_formula (at_most_terms at) (λ t u. tt)) us))
+operator-fits at below_op ss us h k = on-reals at ss us h k below_op bool_sort (λ n. nat_le 2 n) refl (λ e. formula-claims _ (chain_formula (at_most_two at) (compare_formula (at_most_terms at) (λ t u. tt)) us))
+operator-fits at at_least_op ss us h k = on-reals at ss us h k at_least_op bool_sort (λ n. nat_le 2 n) refl (λ e. formula-claims _ (chain_formula (at_least_two at) (compare_formula (at_least_terms at) (λ t u. tt)) us))
+operator-fits at above_op ss us h k = on-reals at ss us h k above_op bool_sort (λ n. nat_le 2 n) refl (λ e. formula-claims _ (chain_formula (at_least_two at) (compare_formula (at_least_terms at) (λ t u. tt)) us))
 
 -- ---- bindings, calls, and what has no meaning
 
@@ -355,6 +416,7 @@ tree-fault-sound : (u : Unfolded) → IsRealTree u → IfSound (fault_of u)
 tree-fault-sound (term t) h = tt
 tree-fault-sound (refused x) h = h
 tree-fault-sound (formula f g) h = tt
+tree-fault-sound (either c d a b) h = tt
 
 comparisons-sound : (cs : List Comparison) → IfSound (comparisons_fault cs)
 comparisons-sound [] = tt
@@ -364,6 +426,7 @@ claim-sound : (u : Unfolded) → IsClaim u → IfSound (tree_fault u)
 claim-sound (formula f g) h = comparisons-sound (form_atoms f)
 claim-sound (refused x) h = h
 claim-sound (term t) h = elim h [ ]
+claim-sound (either c d a b) h = elim h [ ]
 
 claims-sound : (us : List Unfolded) → AllByRecursion IsClaim us → IfSound (trees_fault us)
 claims-sound [] h = tt

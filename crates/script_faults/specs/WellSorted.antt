@@ -2,7 +2,7 @@
 use Rattle.std.specs.Prelude.{◌≡◌, List, Option, Some, None}
 use Rattle.std.specs.List.{AllByRecursion}
 use Rattle.script_model.specs.Script.{Command}
-use Rattle.script_forms.specs.Terms.{Fault, ill_formed, Unfolded, term, formula, refused}
+use Rattle.script_forms.specs.Terms.{Fault, ill_formed, Unfolded, term, formula, refused, either}
 use Rattle.script_forms.specs.Atoms.{trees, unfolding_fault}
 use Rattle.sort_check.specs.Sorts.{sort_fault}
 
@@ -20,6 +20,7 @@ abbrev pub IsClaim : Unfolded → Type 0
 IsClaim (formula p n) = Unit {0}
 IsClaim (refused x) = IsSound x
 IsClaim (term t) = ⊥
+IsClaim (either c d a b) = ⊥
 
 -- Each assertion of a well-sorted script unfolds to a formula or to a fault of a constant step or a division,
 -- and so does the whole script.

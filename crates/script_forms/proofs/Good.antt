@@ -2,7 +2,7 @@
 use Rattle.std.proofs.Common.{◌≡◌, ℕ, suc, zero, List, [], ◌∷◌, ◌++◌, map, Bool, true, false, cond, Option, Some, None, arith, length, ℤ, pos, negsuc, mul-pos, refl, subst, ◌∙◌, append_assoc, length-append}
 use native.Mathlib.Nat.{one-le-pow}
 use Rattle.std.specs.List.{AllByRecursion}
-use Rattle.dyadic.specs.Fraction.{Fraction, IsFraction, negated, sum_of, product_of, quotient_of, over, whole}
+use Rattle.dyadic.specs.Fraction.{Fraction, IsFraction, zero_fraction, negated, sum_of, product_of, quotient_of, over, whole}
 use Rattle.dyadic.specs.Point.{Sort, real_sort, bool_sort}
 use Rattle.script_model.specs.Sexp.{Place}
 use Rattle.script_model.specs.Reading.{literal_value, Operator, truth, falsehood, negation, conjunction, disjunction, implication, exclusive, equality, distinctness, choice, minus, plus, times, divide, at_most_op, below_op, at_least_op, above_op}
@@ -14,8 +14,8 @@ use Rattle.poly_graph.specs.Term.{Term, constant, multiply, square, Kind, le, ge
 use Rattle.poly_graph.specs.Form.{Form, Forms, yes_form, no_form, atom_is, bool_is, all_form, any_form, no_forms, more_forms, form_atoms, forms_atoms, form_map, forms_map}
 use Rattle.poly_graph.specs.Problem.{HasSort, IsTerm}
 use Rattle.dyadic.specs.Lowest.{sum_fits, product_fits}
-use Rattle.script_forms.specs.Terms.{Comparison, Unfolded, term, formula, refused, ill_formed, zero_divisor, Fault, comparison_tree, is_zero, same_term, negate_tree, add_tree, multiply_tree, subtract_tree, divide_tree, inverse_of, subtraction_tree, step, steps, all_steps, constant_or}
-use Rattle.script_forms.specs.Unfolded.{truth_of, negation_form, term_in, forms_of, two, compare, at_most_two, at_least_two, equal_two, and_of, or_of, not_of, xor_of, xor_from, xor_all, implies_of, choice_form, chain, not_first, different, checked, first_fault, unless_refused, takes, unfolded_operation, equality_form, distinctness_form, as_tree}
+use Rattle.script_forms.specs.Terms.{Comparison, Unfolded, term, formula, refused, ill_formed, zero_divisor, Fault, comparison_tree, is_zero, same_term, negate_tree, add_tree, multiply_tree, subtract_tree, divide_tree, inverse_of, subtraction_tree, step, steps, all_steps, constant_or, either, second_arm, arms, lift_tree, divisor_not_constant, hold_either, behind_first, quotient_tree}
+use Rattle.script_forms.specs.Unfolded.{truth_of, negation_form, term_in, forms_of, two, compare, at_most_two, at_least_two, equal_two, and_of, or_of, not_of, xor_of, xor_from, xor_all, implies_of, choice_form, chain, not_first, different, checked, first_fault, unless_refused, takes, unfolded_operation, equality_form, distinctness_form, as_tree, at_most_terms, at_least_terms, equal_terms, lift_form, compare_two, differ_two, choice_two, choice_tree}
 use Rattle.script_forms.specs.Atoms.{constant_tree, trees, whole_form, atoms_in_place, script_atoms, firsts, already, atom_of}
 use Rattle.script_forms.proofs.Lowest.{reduced_same}
 
@@ -33,6 +33,7 @@ module _ (sorts : List Sort) where
   IsGoodTree (term t) = IsGoodTerm t
   IsGoodTree (formula f g) = AreGood (form_atoms f) × AreGood (form_atoms g)
   IsGoodTree (refused x) = Unit {0}
+  IsGoodTree (either f g u v) = (AreGood (form_atoms f) × AreGood (form_atoms g)) × IsGoodTree u × IsGoodTree v
 
   abbrev pub EachGood : List Unfolded → Type 0
   EachGood [] = Unit {0}
@@ -46,11 +47,13 @@ module _ (sorts : List Sort) where
   good-truth (formula f g) h = h.0
   good-truth (term t) h = tt
   good-truth (refused x) h = tt
+  good-truth (either f g u v) h = tt
 
   good-negation : (u : Unfolded) → IsGoodTree u → AreGood (form_atoms (negation_form u))
   good-negation (formula f g) h = h.1
   good-negation (term t) h = tt
   good-negation (refused x) h = tt
+  good-negation (either f g u v) h = tt
 
   truths : (us : List Unfolded) → EachGood us → AreGood (forms_atoms (forms_of truth_of us))
   truths [] h = tt
@@ -183,12 +186,26 @@ module _ (sorts : List Sort) where
   abbrev GoodStep : (Term → Term → Unfolded) → Type 0
   GoodStep f = (t u : Term) → IsGoodTerm t → IsGoodTerm u → IsGoodTree (f t u)
 
+  second-good : (c d : Form Comparison) (u v : Unfolded) → AreGood (form_atoms c) × AreGood (form_atoms d) → IsGoodTree u → IsGoodTree v → IsGoodTree (second_arm c d u v)
+  second-good c d u (refused x) h k l = tt
+  second-good c d u (term t) h k l = (h, k, l)
+  second-good c d u (formula f g) h k l = (h, k, l)
+  second-good c d u (either f g x y) h k l = (h, k, l)
+
+  arms-good : (c d : Form Comparison) (u v : Unfolded) → AreGood (form_atoms c) × AreGood (form_atoms d) → IsGoodTree u → IsGoodTree v → IsGoodTree (arms c d u v)
+  arms-good c d (refused x) v h k l = tt
+  arms-good c d (term t) v h k l = second-good c d (term t) v h k l
+  arms-good c d (formula f g) v h k l = second-good c d (formula f g) v h k l
+  arms-good c d (either f g x y) v h k l = second-good c d (either f g x y) v h k l
+
+  lift-good : (f : Term → Unfolded) → ((t : Term) → IsGoodTerm t → IsGoodTree (f t)) → (u : Unfolded) → IsGoodTree u → IsGoodTree (lift_tree f u)
+  lift-good f g (term t) h = g t h
+  lift-good f g (formula p n) h = h
+  lift-good f g (refused x) h = tt
+  lift-good f g (either c d u v) h = arms-good c d (lift_tree f u) (lift_tree f v) h.0 (lift-good f g u h.1) (lift-good f g v h.2)
+
   step-good : (f : Term → Term → Unfolded) → GoodStep f → (u v : Unfolded) → IsGoodTree u → IsGoodTree v → IsGoodTree (step f u v)
-  step-good f g (refused x) v h k = tt
-  step-good f g (term t) (term u) h k = g t u h k
-  step-good f g (term t) (refused x) h k = tt
-  step-good f g (term t) (formula p n) h k = h
-  step-good f g (formula p n) v h k = h
+  step-good f g u v h k = lift-good (λ t. lift_tree (f t) v) (λ t i. lift-good (f t) (λ x j. g t x i j) v k) u h
 
   steps-good : (f : Term → Term → Unfolded) → GoodStep f → (u : Unfolded) (us : List Unfolded) → IsGoodTree u → EachGood us → IsGoodTree (steps f u us)
   steps-good f g u [] h k = h
@@ -200,10 +217,11 @@ module _ (sorts : List Sort) where
 
   subtraction-good : (at : Place) (us : List Unfolded) → EachGood us → IsGoodTree (subtraction_tree at us)
   subtraction-good at [] h = omega arith
-  subtraction-good at (term t ∷ []) h = negate-good t h.0
-  subtraction-good at (term t ∷ u ∷ us) h = steps-good (subtract_tree at) (subtract-good at) (term t) (u ∷ us) h.0 h.1
-  subtraction-good at (formula p n ∷ us) h = steps-good (subtract_tree at) (subtract-good at) (formula p n) us h.0 h.1
-  subtraction-good at (refused x ∷ us) h = steps-good (subtract_tree at) (subtract-good at) (refused x) us h.0 h.1
+  subtraction-good at (u ∷ []) h = lift-good (λ t. term (negate_tree t)) (λ t i. negate-good t i) u h.0
+  subtraction-good at (u ∷ v ∷ us) h = steps-good (subtract_tree at) (subtract-good at) u (v ∷ us) h.0 h.1
+
+  quotient-good : (at : Place) (us : List Unfolded) → EachGood us → IsGoodTree (quotient_tree at us)
+  quotient-good at us h = choose-good (hold_either (behind_first us)) (refused (divisor_not_constant at)) (all_steps (divide_tree at) us) tt (all-steps-good (divide_tree at) (divide-good at) us h)
 
   -- ---- comparisons
 
@@ -211,18 +229,28 @@ module _ (sorts : List Sort) where
   term-in-good (term t) h = h
   term-in-good (formula f g) h = omega arith
   term-in-good (refused x) h = omega arith
+  term-in-good (either f g u v) h = omega arith
 
-  compare-good : (at : Place) (kind : Kind) (u v : Unfolded) → IsGoodTree u → IsGoodTree v → AreGood (form_atoms (compare at kind u v))
-  compare-good at kind u v h k = ((term-in-good u h, term-in-good v k), tt)
+  form-good : (f : Term → Unfolded) → ((t : Term) → IsGoodTerm t → IsGoodTree (f t)) → (u : Unfolded) → IsGoodTree u → IsGoodTree (lift_form f u)
+  form-good f g (term t) h = g t h
+  form-good f g (formula p n) h = g (constant zero_fraction) (omega arith)
+  form-good f g (refused x) h = g (constant zero_fraction) (omega arith)
+  form-good f g (either c d u v) h = choice-good (formula c d ∷ lift_form f u ∷ lift_form f v ∷ []) (h.0, (form-good f g u h.1, (form-good f g v h.2, tt)))
+
+  two-terms-good : (f : Term → Term → Unfolded) → GoodStep f → (u v : Unfolded) → IsGoodTree u → IsGoodTree v → IsGoodTree (compare_two f u v)
+  two-terms-good f g u v h k = form-good (λ t. lift_form (f t) v) (λ t i. form-good (f t) (λ x j. g t x i j) v k) u h
 
   at-most-good : (at : Place) (u v : Unfolded) → IsGoodTree u → IsGoodTree v → IsGoodTree (at_most_two at u v)
-  at-most-good at u v h k = (compare-good at le u v h k, compare-good at ge u v h k)
+  at-most-good at u v h k = two-terms-good (at_most_terms at) (λ t x i j. (((i, j), tt), ((i, j), tt))) u v h k
 
   at-least-good : (at : Place) (u v : Unfolded) → IsGoodTree u → IsGoodTree v → IsGoodTree (at_least_two at u v)
-  at-least-good at u v h k = (compare-good at ge u v h k, compare-good at le u v h k)
+  at-least-good at u v h k = two-terms-good (at_least_terms at) (λ t x i j. (((i, j), tt), ((i, j), tt))) u v h k
 
   equal-good : (at : Place) (u v : Unfolded) → IsGoodTree u → IsGoodTree v → IsGoodTree (equal_two at u v)
-  equal-good at u v h k = (compare-good at eq u v h k, tt)
+  equal-good at u v h k = two-terms-good (equal_terms at) (λ t x i j. (((i, j), tt), tt)) u v h k
+
+  differ-good : (at : Place) (u v : Unfolded) → IsGoodTree u → IsGoodTree v → IsGoodTree (differ_two at u v)
+  differ-good at u v h k = not-good (equal_two at u v) (equal-good at u v h k)
 
   -- the tree of a comparison of good terms is good
   pub comparison-tree-good : (c : Comparison) → IsGoodComparison c → IsGoodTerm (term_in (comparison_tree c))
@@ -238,16 +266,34 @@ module _ (sorts : List Sort) where
   equality-good at (formula f g ∷ us) h = chain-of-good (λ a b. not_of (xor_of a b)) (λ u v k l. not-good (xor_of u v) (xor-good u v k l)) (formula f g ∷ us) h
   equality-good at [] h = chain-of-good (equal_two at) (equal-good at) [] h
   equality-good at (term t ∷ us) h = chain-of-good (equal_two at) (equal-good at) (term t ∷ us) h
+  equality-good at (either f g u v ∷ us) h = chain-of-good (equal_two at) (equal-good at) (either f g u v ∷ us) h
   equality-good at (refused x ∷ us) h = chain-of-good (equal_two at) (equal-good at) (refused x ∷ us) h
 
   different-good : (at : Place) (us : List Unfolded) → EachGood us → IsGoodTree (different (pairs (equal_two at) us))
   different-good at us h = (tt, truths (pairs (equal_two at) us) (pairs-good (equal_two at) (equal-good at) us h))
 
+  distinct-reals-good : (at : Place) (us : List Unfolded) → EachGood us → IsGoodTree (cond (hold_either us) (and_of (pairs (differ_two at) us)) (different (pairs (equal_two at) us)))
+  distinct-reals-good at us h = choose-good (hold_either us) (and_of (pairs (differ_two at) us)) (different (pairs (equal_two at) us))
+      (and-good (pairs (differ_two at) us) (pairs-good (differ_two at) (differ-good at) us h)) (different-good at us h)
+
   distinctness-good : (at : Place) (us : List Unfolded) → EachGood us → IsGoodTree (distinctness_form at us)
   distinctness-good at (formula f g ∷ us) h = and-good (pairs xor_of (formula f g ∷ us)) (pairs-good xor_of xor-good (formula f g ∷ us) h)
-  distinctness-good at [] h = different-good at [] h
-  distinctness-good at (term t ∷ us) h = different-good at (term t ∷ us) h
-  distinctness-good at (refused x ∷ us) h = different-good at (refused x ∷ us) h
+  distinctness-good at [] h = distinct-reals-good at [] h
+  distinctness-good at (term t ∷ us) h = distinct-reals-good at (term t ∷ us) h
+  distinctness-good at (refused x ∷ us) h = distinct-reals-good at (refused x ∷ us) h
+  distinctness-good at (either f g u v ∷ us) h = distinct-reals-good at (either f g u v ∷ us) h
+
+  pick-good : (c u v : Unfolded) → IsGoodTree c → IsGoodTree u → IsGoodTree v → IsGoodTree (choice_two c u v)
+  pick-good c (formula f g) v h k l = choice-good (c ∷ formula f g ∷ v ∷ []) (h, (k, (l, tt)))
+  pick-good c (term t) v h k l = ((good-truth c h, good-negation c h), k, l)
+  pick-good c (refused x) v h k l = ((good-truth c h, good-negation c h), k, l)
+  pick-good c (either f g x y) v h k l = ((good-truth c h, good-negation c h), k, l)
+
+  choice-tree-good : (us : List Unfolded) → EachGood us → IsGoodTree (choice_tree us)
+  choice-tree-good (c ∷ u ∷ v ∷ us) h = pick-good c u v h.0 h.1.0 h.1.1.0
+  choice-tree-good [] h = (tt, tt)
+  choice-tree-good (c ∷ []) h = (tt, tt)
+  choice-tree-good (c ∷ u ∷ []) h = (tt, tt)
 
   not-first-good : (us : List Unfolded) → EachGood us → IsGoodTree (not_first us)
   not-first-good [] h = (tt, tt)
@@ -263,11 +309,11 @@ module _ (sorts : List Sort) where
   operation-good at exclusive us h = xor-all-good us h
   operation-good at equality us h = equality-good at us h
   operation-good at distinctness us h = distinctness-good at us h
-  operation-good at choice us h = choice-good us h
+  operation-good at choice us h = choice-tree-good us h
   operation-good at minus us h = subtraction-good at us h
   operation-good at plus us h = all-steps-good (add_tree at) (add-good at) us h
   operation-good at times us h = all-steps-good (multiply_tree at) (multiply-good at) us h
-  operation-good at divide us h = all-steps-good (divide_tree at) (divide-good at) us h
+  operation-good at divide us h = quotient-good at us h
   operation-good at at_most_op us h = chain-of-good (at_most_two at) (at-most-good at) us h
   operation-good at below_op us h = chain-of-good (at_most_two at) (at-most-good at) us h
   operation-good at at_least_op us h = chain-of-good (at_least_two at) (at-least-good at) us h

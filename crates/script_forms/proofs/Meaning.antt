@@ -1,21 +1,22 @@
 -- The tree of an expression means what the expression means, at every point and loosening.
-use Rattle.std.proofs.Common.{◌≡◌, ℕ, List, [], ◌∷◌, ◌++◌, map, Bool, true, false, ◌&&◌, ◌||◌, cond, refl, ap, sym, ◌∙◌, length, nat_eq, arith}
+use Rattle.std.proofs.Common.{◌≡◌, ℕ, List, [], ◌∷◌, ◌++◌, map, Bool, true, false, ◌&&◌, ◌||◌, cond, refl, ap, sym, ◌∙◌, length, nat_eq, arith, true≢false, suc, eqb→eq}
+use Rattle.std.specs.Bool.{passes}
 use native.Mathlib.Nat.{one-le-pow}
-use Rattle.dyadic.specs.Fraction.{Fraction, IsFraction, sum_of, product_of, quotient_of, difference_of}
+use Rattle.dyadic.specs.Fraction.{Fraction, IsFraction, zero_fraction, negated, sum_of, product_of, quotient_of, difference_of}
 use Rattle.dyadic.specs.Point.{Coordinate}
 use Rattle.script_model.specs.Sexp.{Place}
 use Rattle.script_model.specs.Reading.{literal_value, Operator, truth, falsehood, negation, conjunction, disjunction, implication, exclusive, equality, distinctness, choice, minus, plus, times, divide, at_most_op, below_op, at_least_op, above_op}
-use Rattle.script_model.specs.Meaning.{Pair, Value, real, bool, fraction_of, pair_of, all_true, some_true, pos_of, neg_of, true_pair, not_pair, xor_pair, implies_pair, neighbours, pairs, from_left, first_and_rest, subtraction, equality_of, distinctness_of, choice_of, negation_of, operation, loosened, at_most_pair, at_least_pair, equal_pair, different_pair}
+use Rattle.script_model.specs.Meaning.{Pair, Value, real, bool, either as either_value, fraction_of, pair_of, lift_value, step_values, compare_values, differing_values, subtract_values, choice_of, all_true, some_true, pos_of, neg_of, all_pair, true_pair, not_pair, xor_pair, implies_pair, neighbours, pairs, from_left, first_and_rest, equality_of, distinctness_of, negation_of, operation, loosened, at_most_pair, at_least_pair, equal_pair}
 use Rattle.script_model.proofs.Related.{Each, Respects}
 use Rattle.poly_graph.specs.Term.{Term, constant, le, ge, eq}
 use Rattle.poly_graph.specs.Form.{Form, yes_form}
 use Rattle.dyadic.specs.Lowest.{reduced}
-use Rattle.script_forms.specs.Terms.{Comparison, Unfolded, term, formula, refused, ill_formed, Fault, subtraction_tree, subtract_tree, divide_tree, add_tree, multiply_tree}
-use Rattle.script_forms.specs.Unfolded.{not_of, xor_of, compare, equal_two, are_terms, are_formulas, at_least_long, takes, operation_tree, unfolded_operation, as_tree, equality_form, distinctness_form, not_first, xor_all, xor_from, implies_of, choice_form}
+use Rattle.script_forms.specs.Terms.{Comparison, Unfolded, term, formula, refused, either, is_either, hold_either, behind_first, quotient_tree, divisor_not_constant, negate_tree, lift_tree, all_steps, ill_formed, Fault, subtraction_tree, subtract_tree, divide_tree, add_tree, multiply_tree}
+use Rattle.script_forms.specs.Unfolded.{chain, not_of, xor_of, and_of, different, at_most_terms, at_least_terms, equal_terms, compare_two, equal_two, differ_two, choice_two, choice_tree, is_real_tree, picks_terms, are_terms, are_formulas, at_least_long, takes, operation_tree, unfolded_operation, as_tree, equality_form, distinctness_form, not_first, xor_all, xor_from, implies_of, choice_form}
 use Rattle.script_forms.proofs.Lowest.{reduced_same}
 use Rattle.script_forms.proofs.Forms.{Same, EachSame, and_same, or_same, not_same, implies_same, xor_same, choice_same, any_pos}
 use Rattle.script_forms.proofs.Quotient.{divide_constant}
-use Rattle.script_forms.proofs.Means.{Means, Num, Nums, no_nums, more_nums, nums, Sames, no_sames, more_sames, all_formulas, each_of, checked_means, chain_means, neighbours_sames, pairs_sames, at_most_compares, at_least_compares, equal_compares, sum_means, product_means, difference_means, negated_num, steps_means, all_steps_means, both_true}
+use Rattle.script_forms.proofs.Means.{Means, Num, Reals, no_reals, more_reals, reals, Sames, no_sames, more_sames, all_formulas, each_of, checked_means, chain_means, neighbours_sames, pairs_sames, same_first, compare_says, compare_formula, IsFormula, IsRealOr, real_or, lift_means, at_most_compares, at_least_compares, equal_compares, sum_means, product_means, difference_means, negated_num, steps_means, all_steps_means, add_real, subtract_real, multiply_real, divide_real, both_true}
 
 module _ (m : Fraction) (point : List Coordinate) where
   -- ---- each operator, at arguments that it takes
@@ -36,13 +37,21 @@ module _ (m : Fraction) (point : List Coordinate) where
       (are_formulas (u ∷ us) || are_terms (u ∷ us)) && at_least_long n (u ∷ us) ≡ true → are_formulas (u ∷ us) ≡ true
   formulas-first us u n e h = or-left (are_formulas (u ∷ us)) (are_terms (u ∷ us)) (both_true _ _ h).0 e
 
+  equal-reals : (at : Place) (vs : List Value) (us : List Unfolded) → Each (Means m point) vs us → are_terms us ≡ true →
+      Means m point (bool (all_pair (neighbours (compare_values (equal_pair m)) vs))) (chain (neighbours (equal_two at) us))
+  equal-reals at vs us h e = chain_means m point (neighbours_sames m point (equal_pair m) (equal_terms at) (equal_compares m point at) (λ t u. tt) (reals m point vs us h e))
+
   equality-means : (at : Place) (vs : List Value) (us : List Unfolded) → Each (Means m point) vs us → takes equality us ≡ true → Means m point (bool (equality_of m vs)) (equality_form at us)
   equality-means at (bool p ∷ vs) (formula f g ∷ us) h e =
       chain_means m point (bool-neighbours (all_formulas m point (bool p ∷ vs) (formula f g ∷ us) h (formulas-first us (formula f g) 2 refl e)))
-  equality-means at (real q ∷ vs) (term t ∷ us) h e =
-      chain_means m point (neighbours_sames m point (equal_pair m) (compare at eq) (λ a b. yes_form) (equal_compares m point at)
-      (nums m point (real q ∷ vs) (term t ∷ us) h (both_true (are_terms us) _ e).0))
+  equality-means at (real q ∷ vs) (term t ∷ us) h e = equal-reals at (real q ∷ vs) (term t ∷ us) h (both_true (are_terms us) _ e).0
+  equality-means at (either_value p v w ∷ vs) (either f g a b ∷ us) h e =
+      equal-reals at (either_value p v w ∷ vs) (either f g a b ∷ us) h (both_true (are_terms (either f g a b ∷ us)) _ e).0
   equality-means at (real q ∷ vs) (formula f g ∷ us) h e = elim h.0 [ ]
+  equality-means at (either_value p v w ∷ vs) (formula f g ∷ us) h e = elim h.0 [ ]
+  equality-means at (either_value p v w ∷ vs) (term t ∷ us) h e = elim h.0 [ ]
+  equality-means at (real q ∷ vs) (either f g a b ∷ us) h e = elim h.0 [ ]
+  equality-means at (bool p ∷ vs) (either f g a b ∷ us) h e = elim h.0 [ ]
   equality-means at (bool p ∷ vs) (term t ∷ us) h e = elim h.0 [ ]
   equality-means at (v ∷ vs) (refused x ∷ us) h e = cc
   equality-means at [] [] h e = cc
@@ -68,59 +77,170 @@ module _ (m : Fraction) (point : List Coordinate) where
   xor-pairs (p ∷ ps) [] h = elim h [ ]
 
   -- of the pairs of `distinct` every pos is true, and the neg is the pos of `=`
-  different-pos : (q : Fraction) (qs : List Fraction) (ps : List Pair) → all_true (map pos_of ps) ≡ true → all_true (map pos_of (map (different_pair m q) qs ++ ps)) ≡ true
-  different-pos q [] ps h = h
-  different-pos q (r ∷ qs) ps h = different-pos q qs ps h
+  abbrev IsPlain : Value → Type 0
+  IsPlain (real q) = Unit {0}
+  IsPlain v = ⊥
 
-  distinct-pos : (qs : List Fraction) → true ≡ all_true (map pos_of (pairs (different_pair m) qs))
-  distinct-pos [] = refl
-  distinct-pos (q ∷ qs) = sym (different-pos q qs (pairs (different_pair m) qs) (sym (distinct-pos qs)))
+  abbrev ArePlain : List Value → Type 0
+  ArePlain [] = Unit {0}
+  ArePlain (v ∷ vs) = IsPlain v × ArePlain vs
 
-  different-neg : (q : Fraction) (qs : List Fraction) (ps ps' : List Pair) → some_true (map pos_of ps) ≡ some_true (map neg_of ps') →
-      some_true (map pos_of (map (equal_pair m q) qs ++ ps)) ≡ some_true (map neg_of (map (different_pair m q) qs ++ ps'))
-  different-neg q [] ps ps' h = h
-  different-neg q (r ∷ qs) ps ps' h = ap (λ x. (equal_pair m q r).pos || x) (different-neg q qs ps ps' h)
+  plain-one : (v : Value) (u : Unfolded) → Means m point v u → is_either u ≡ false → is_real_tree u ≡ true → IsPlain v
+  plain-one (real q) u h e r = tt
+  plain-one (either_value p v w) (either c d a b) h e r = cc
+  plain-one (bool p) (formula f g) h e r = cc
+  plain-one v (refused x) h e r = cc
+  plain-one (either_value p v w) (term t) h e r = elim h [ ]
+  plain-one (either_value p v w) (formula f g) h e r = elim h [ ]
+  plain-one (bool p) (term t) h e r = elim h [ ]
+  plain-one (bool p) (either c d a b) h e r = elim h [ ]
 
-  distinct-neg : (qs : List Fraction) → some_true (map pos_of (pairs (equal_pair m) qs)) ≡ some_true (map neg_of (pairs (different_pair m) qs))
+  neither : (x y : Bool) → x || y ≡ false → (x ≡ false) × (y ≡ false)
+  neither false y h = (refl, h)
+  neither true y h = cc
+
+  plain : (vs : List Value) (us : List Unfolded) → Each (Means m point) vs us → are_terms us ≡ true → hold_either us ≡ false → ArePlain vs
+  plain [] [] h r e = tt
+  plain (v ∷ vs) (u ∷ us) h r e = let b = both_true (is_real_tree u) (are_terms us) r in let n = neither (is_either u) (hold_either us) e in (plain-one v u h.0 n.0 b.0, plain vs us h.1 b.1 n.1)
+  plain [] (u ∷ us) h r e = elim h [ ]
+  plain (v ∷ vs) [] h r e = elim h [ ]
+
+  different-pos : (v : Value) (vs : List Value) (ps : List Pair) → IsPlain v → ArePlain vs → all_true (map pos_of ps) ≡ true → all_true (map pos_of (map (differing_values m v) vs ++ ps)) ≡ true
+  different-pos v [] ps i j h = h
+  different-pos (real q) (real r ∷ vs) ps i j h = different-pos (real q) vs ps i j.1 h
+  different-pos (real q) (bool p ∷ vs) ps i j h = elim j.0 [ ]
+  different-pos (real q) (either_value p v w ∷ vs) ps i j h = elim j.0 [ ]
+  different-pos (bool p) (v ∷ vs) ps i j h = elim i [ ]
+  different-pos (either_value p v w) (x ∷ vs) ps i j h = elim i [ ]
+
+  distinct-pos : (vs : List Value) → ArePlain vs → true ≡ all_true (map pos_of (pairs (differing_values m) vs))
+  distinct-pos [] j = refl
+  distinct-pos (v ∷ vs) j = sym (different-pos v vs (pairs (differing_values m) vs) j.0 j.1 (sym (distinct-pos vs j.1)))
+
+  different-neg : (v : Value) (vs : List Value) (ps ps' : List Pair) → some_true (map pos_of ps) ≡ some_true (map neg_of ps') →
+      some_true (map pos_of (map (compare_values (equal_pair m) v) vs ++ ps)) ≡ some_true (map neg_of (map (differing_values m v) vs ++ ps'))
+  different-neg v [] ps ps' h = h
+  different-neg v (w ∷ vs) ps ps' h = ap (λ x. (compare_values (equal_pair m) v w).pos || x) (different-neg v vs ps ps' h)
+
+  distinct-neg : (vs : List Value) → some_true (map pos_of (pairs (compare_values (equal_pair m)) vs)) ≡ some_true (map neg_of (pairs (differing_values m) vs))
   distinct-neg [] = refl
-  distinct-neg (q ∷ qs) = different-neg q qs (pairs (equal_pair m) qs) (pairs (different_pair m) qs) (distinct-neg qs)
+  distinct-neg (v ∷ vs) = different-neg v vs (pairs (compare_values (equal_pair m)) vs) (pairs (differing_values m) vs) (distinct-neg vs)
+
+  not-formula : (u : Unfolded) → IsFormula m point (not_of u)
+  not-formula u = tt
+
+  differ-reals : (at : Place) (vs : List Value) (us : List Unfolded) → Each (Means m point) vs us → are_terms us ≡ true → (b : Bool) → hold_either us ≡ b →
+      Means m point (bool (all_pair (pairs (differing_values m) vs))) (cond b (and_of (pairs (differ_two at) us)) (different (pairs (equal_two at) us)))
+  differ-reals at vs us h r true e = and_same m point (pairs (differing_values m) vs) (pairs (differ_two at) us)
+      (each_of m point (pairs_sames m point (differing_values m) (differ_two at)
+      (λ v w t u i j k l. (not_same m point (compare_values (equal_pair m) v w) (equal_two at t u) (compare_says m point (equal_pair m) (equal_terms at) (equal_compares m point at) v w t u i j k l), tt))
+      (reals m point vs us h r)))
+  differ-reals at vs us h r false e = record {
+    pos = distinct-pos vs (plain vs us h r e);
+    neg = any_pos m point (pairs (compare_values (equal_pair m)) vs) (pairs (equal_two at) us)
+        (each_of m point (pairs_sames m point (compare_values (equal_pair m)) (equal_two at)
+        (λ v w t u i j k l. (compare_says m point (equal_pair m) (equal_terms at) (equal_compares m point at) v w t u i j k l, compare_formula m point (equal_terms at) (λ x y. tt) t u))
+        (reals m point vs us h r)))
+        ∙ distinct-neg vs;
+  }
 
   distinctness-means : (at : Place) (vs : List Value) (us : List Unfolded) → Each (Means m point) vs us → takes distinctness us ≡ true → Means m point (bool (distinctness_of m vs)) (distinctness_form at us)
   distinctness-means at (bool p ∷ vs) (formula f g ∷ us) h e =
       and_same m point (pairs xor_pair (map pair_of (bool p ∷ vs))) (pairs xor_of (formula f g ∷ us)) (xor-pairs (map pair_of (bool p ∷ vs)) (formula f g ∷ us)
       (each_of m point (all_formulas m point (bool p ∷ vs) (formula f g ∷ us) h (formulas-first us (formula f g) 2 refl e))))
-  distinctness-means at (real q ∷ vs) (term t ∷ us) h e = record {
-    pos = distinct-pos (map fraction_of (real q ∷ vs));
-    neg = any_pos m point (pairs (equal_pair m) (map fraction_of (real q ∷ vs))) (pairs (equal_two at) (term t ∷ us))
-        (each_of m point (pairs_sames m point (equal_pair m) (compare at eq) (λ a b. yes_form) (equal_compares m point at) (nums m point (real q ∷ vs) (term t ∷ us) h (both_true (are_terms us) _ e).0)))
-        ∙ distinct-neg (map fraction_of (real q ∷ vs));
-  }
+  distinctness-means at (real q ∷ vs) (term t ∷ us) h e = differ-reals at (real q ∷ vs) (term t ∷ us) h (both_true (are_terms us) _ e).0 (hold_either (term t ∷ us)) refl
+  distinctness-means at (either_value p v w ∷ vs) (either f g a b ∷ us) h e =
+      differ-reals at (either_value p v w ∷ vs) (either f g a b ∷ us) h (both_true (are_terms (either f g a b ∷ us)) _ e).0 true refl
   distinctness-means at (real q ∷ vs) (formula f g ∷ us) h e = elim h.0 [ ]
   distinctness-means at (bool p ∷ vs) (term t ∷ us) h e = elim h.0 [ ]
+  distinctness-means at (either_value p v w ∷ vs) (formula f g ∷ us) h e = elim h.0 [ ]
+  distinctness-means at (either_value p v w ∷ vs) (term t ∷ us) h e = elim h.0 [ ]
+  distinctness-means at (real q ∷ vs) (either f g a b ∷ us) h e = elim h.0 [ ]
+  distinctness-means at (bool p ∷ vs) (either f g a b ∷ us) h e = elim h.0 [ ]
   distinctness-means at (v ∷ vs) (refused x ∷ us) h e = cc
   distinctness-means at [] [] h e = cc
   distinctness-means at [] (u ∷ us) h e = elim h [ ]
   distinctness-means at (v ∷ vs) [] h e = elim h [ ]
 
-  minus-means : (at : Place) {qs : List Fraction} {us : List Unfolded} → Nums m point qs us → at_least_long 1 us ≡ true → Means m point (real (subtraction qs)) (subtraction_tree at us)
-  minus-means at no_nums e = cc
-  minus-means at (more_nums {q = q} {t = t} h no_nums) e = negated_num m point q t h
-  minus-means at (more_nums {q = q} {t = t} h (more_nums k r)) e = steps_means m point difference_of (subtract_tree at) (difference_means m point at) q (term t) h (more_nums k r)
+  minus-means : (at : Place) {vs : List Value} {us : List Unfolded} → Reals m point vs us → at_least_long 1 us ≡ true → Means m point (subtract_values vs) (subtraction_tree at us)
+  minus-means at no_reals e = cc
+  minus-means at (more_reals {v = v} {u = u} r h no_reals) e = lift_means m point (λ q. real (negated q)) (λ t. term (negate_tree t)) (λ q t n. negated_num m point q t n) v u (real_or m point u r) h
+  minus-means at (more_reals {v = v} {u = u} r h (more_reals s k rest)) e =
+      steps_means m point difference_of (subtract_tree at) (difference_means m point at) (subtract_real m point at) v u (real_or m point u r) h (more_reals s k rest)
 
   divide-means : (at : Place) (p q : Fraction) (t u : Term) → Num m point p t → Num m point q u → Means m point (real (quotient_of p q)) (divide_tree at t u)
   divide-means at p q t (constant c) h k = divide_constant m point at p q.num q.den t c.num c.den h k
   divide-means at p q t _ h k = tt
 
+  quotient-means : (at : Place) (b : Bool) {vs : List Value} {us : List Unfolded} → Reals m point vs us →
+      Means m point (first_and_rest (step_values quotient_of) (real zero_fraction) vs) (cond b (refused (divisor_not_constant at)) (all_steps (divide_tree at) us))
+  quotient-means at true h = tt
+  quotient-means at false h = all_steps_means m point quotient_of (divide_tree at) (divide-means at) (divide_real m point at) h
+
   negation-means : {ps : List Pair} {us : List Unfolded} → Sames m point ps us → nat_eq (length us) 1 ≡ true → Means m point (bool (negation_of ps)) (not_first us)
   negation-means (more_sames {p = p} {f = f} {g = g} h r) e = not_same m point p (formula f g) h
   negation-means no_sames e = cc
 
-  choice-means : {ps : List Pair} {us : List Unfolded} → Sames m point ps us → nat_eq (length us) 3 ≡ true → Means m point (bool (choice_of ps)) (choice_form us)
-  choice-means (more_sames {p = c} {f = f} {g = g} h (more_sames {p = a} {f = f'} {g = g'} k (more_sames {p = b} {f = f''} {g = g''} {us = us} l r))) e =
-      choice_same m point c a b (formula f g) (formula f' g') (formula f'' g'') h k l us
-  choice-means (more_sames h (more_sames k no_sames)) e = cc
-  choice-means (more_sames h no_sames) e = cc
-  choice-means no_sames e = cc
+  pick-means : (c a b : Value) (x y z : Unfolded) (vs : List Value) (us : List Unfolded) → Means m point c x → Means m point a y → Means m point b z → is_real_tree y ≡ true → is_real_tree z ≡ true →
+      (f g : Form Comparison) → x ≡ formula f g → Means m point (choice_of (c ∷ a ∷ b ∷ vs)) (choice_tree (x ∷ y ∷ z ∷ us))
+  pick-means (bool p) (real q) b (formula f g) (term t) z vs us h k l r s f' g' e = (h, k, l)
+  pick-means (bool p) (either_value o v w) b (formula f g) (either c d a' b') z vs us h k l r s f' g' e = (h, k, l)
+  pick-means (real q) a b (formula f g) y z vs us h k l r s f' g' e = elim h [ ]
+  pick-means (either_value o v w) a b (formula f g) y z vs us h k l r s f' g' e = elim h [ ]
+  pick-means c a b (term t) y z vs us h k l r s f' g' e = cc
+  pick-means c a b (refused x) y z vs us h k l r s f' g' e = cc
+  pick-means c a b (either c' d' a' b') y z vs us h k l r s f' g' e = cc
+  pick-means (bool p) a b (formula f g) (formula f' g') z vs us h k l r s f'' g'' e = cc
+  pick-means (bool p) a b (formula f g) (refused x) z vs us h k l r s f' g' e = cc
+  pick-means (bool p) (bool o) b (formula f g) (term t) z vs us h k l r s f' g' e = elim k [ ]
+  pick-means (bool p) (either_value o v w) b (formula f g) (term t) z vs us h k l r s f' g' e = elim k [ ]
+  pick-means (bool p) (real q) b (formula f g) (either c d a' b') z vs us h k l r s f' g' e = elim k [ ]
+  pick-means (bool p) (bool o) b (formula f g) (either c d a' b') z vs us h k l r s f' g' e = elim k [ ]
+
+  three-formulas : (vs : List Value) {ps : List Pair} {us : List Unfolded} → Sames m point ps us → ps ≡ map pair_of vs → Each (Means m point) vs us → nat_eq (length us) 3 ≡ true → Means m point (choice_of vs) (choice_tree us)
+  three-formulas (bool p ∷ bool q ∷ bool r ∷ []) (more_sames {f = f} {g = g} h (more_sames {f = f'} {g = g'} k (more_sames {f = f''} {g = g''} l no_sames))) i e n =
+      choice_same m point p q r (formula f g) (formula f' g') (formula f'' g'') e.0 e.1.0 e.1.1.0 []
+  three-formulas (v ∷ w ∷ x ∷ vs) (more_sames h (more_sames k (more_sames l (more_sames {us = us} o r)))) i e n = absurd (omega (arith, eqb→eq (suc (suc (suc (suc (length us))))) 3 (passes _ n)))
+  three-formulas vs (more_sames h (more_sames k no_sames)) i e n = cc
+  three-formulas vs (more_sames h no_sames) i e n = cc
+  three-formulas vs no_sames i e n = cc
+  three-formulas (real q ∷ vs) (more_sames h (more_sames k (more_sames l r))) i e n = elim e.0 [ ]
+  three-formulas (either_value o v w ∷ vs) (more_sames h (more_sames k (more_sames l r))) i e n = elim e.0 [ ]
+  three-formulas (x ∷ real q ∷ vs) (more_sames h (more_sames k (more_sames l r))) i e n = elim e.1.0 [ ]
+  three-formulas (x ∷ either_value o v w ∷ vs) (more_sames h (more_sames k (more_sames l r))) i e n = elim e.1.0 [ ]
+  three-formulas (x ∷ y ∷ real q ∷ vs) (more_sames h (more_sames k (more_sames l r))) i e n = elim e.1.1.0 [ ]
+  three-formulas (x ∷ y ∷ either_value o v w ∷ vs) (more_sames h (more_sames k (more_sames l r))) i e n = elim e.1.1.0 [ ]
+  three-formulas [] (more_sames h (more_sames k (more_sames l r))) i e n = elim e [ ]
+  three-formulas (x ∷ []) (more_sames h (more_sames k (more_sames l r))) i e n = elim e.1 [ ]
+  three-formulas (x ∷ y ∷ []) (more_sames h (more_sames k (more_sames l r))) i e n = elim e.1.1 [ ]
+  three-formulas (x ∷ y ∷ z ∷ v ∷ vs) (more_sames h (more_sames k (more_sames l no_sames))) i e n = elim e.1.1.1 [ ]
+
+  or-else : (x y : Bool) → x || y ≡ true → x ≡ false → y ≡ true
+  or-else true y h e = cc
+  or-else false y h e = h
+
+  choice-picked : (vs : List Value) (us : List Unfolded) → Each (Means m point) vs us → picks_terms us ≡ true → Means m point (choice_of vs) (choice_tree us)
+  choice-picked (c ∷ a ∷ b ∷ []) (formula f g ∷ y ∷ z ∷ []) h e =
+      let r = both_true (is_real_tree y) (is_real_tree z && true) (both_true (are_terms (y ∷ z ∷ [])) true e).0 in
+      pick-means c a b (formula f g) y z [] [] h.0 h.1.0 h.1.1.0 r.0 (both_true (is_real_tree z) true r.1).0 f g refl
+  choice-picked vs [] h e = cc
+  choice-picked vs (term t ∷ us) h e = cc
+  choice-picked vs (refused x ∷ us) h e = cc
+  choice-picked vs (either c d a b ∷ us) h e = cc
+  choice-picked vs (formula f g ∷ []) h e = cc
+  choice-picked vs (formula f g ∷ y ∷ []) h e = absurd (true≢false (sym ((both_true (are_terms (y ∷ [])) false e).1)))
+  choice-picked vs (formula f g ∷ y ∷ z ∷ x ∷ us) h e = absurd (omega (arith, eqb→eq (suc (suc (suc (length us)))) 2 (passes _ (both_true (are_terms (y ∷ z ∷ x ∷ us)) _ e).1)))
+  choice-picked [] (formula f g ∷ us) h e = elim h [ ]
+  choice-picked (c ∷ []) (formula f g ∷ y ∷ us) h e = elim h.1 [ ]
+  choice-picked (c ∷ a ∷ []) (formula f g ∷ y ∷ z ∷ us) h e = elim h.1.1 [ ]
+  choice-picked (c ∷ a ∷ b ∷ d ∷ vs) (formula f g ∷ y ∷ z ∷ []) h e = elim h.1.1.1 [ ]
+
+  choice-means : (vs : List Value) (us : List Unfolded) → Each (Means m point) vs us → takes choice us ≡ true → Means m point (choice_of vs) (choice_tree us)
+  choice-means vs us h e = go (are_formulas us && nat_eq (length us) 3) refl
+    where
+      go : (b : Bool) → are_formulas us && nat_eq (length us) 3 ≡ b → Means m point (choice_of vs) (choice_tree us)
+      go true k = let b = both_true (are_formulas us) _ k in three-formulas vs (all_formulas m point vs us h b.0) refl h b.1
+      go false k = choice-picked vs us h (or-else (are_formulas us && nat_eq (length us) 3) (picks_terms us) e k)
 
   implies-means : {ps : List Pair} {us : List Unfolded} → Sames m point ps us → Means m point (bool (implies_pair ps)) (implies_of us)
   implies-means no_sames = record { pos = refl; neg = refl }
@@ -147,15 +267,15 @@ module _ (m : Fraction) (point : List Coordinate) where
   apply-means at exclusive vs us h e = exclusive-means (all_formulas m point vs us h (both_true (are_formulas us) _ e).0)
   apply-means at equality vs us h e = equality-means at vs us h e
   apply-means at distinctness vs us h e = distinctness-means at vs us h e
-  apply-means at choice vs us h e = let b = both_true (are_formulas us) _ e in choice-means (all_formulas m point vs us h b.0) b.1
-  apply-means at minus vs us h e = let b = both_true (are_terms us) _ e in minus-means at (nums m point vs us h b.0) b.1
-  apply-means at plus vs us h e = all_steps_means m point sum_of (add_tree at) (sum_means m point at) (nums m point vs us h (both_true (are_terms us) _ e).0)
-  apply-means at times vs us h e = all_steps_means m point product_of (multiply_tree at) (product_means m point at) (nums m point vs us h (both_true (are_terms us) _ e).0)
-  apply-means at divide vs us h e = all_steps_means m point quotient_of (divide_tree at) (divide-means at) (nums m point vs us h (both_true (are_terms us) _ e).0)
-  apply-means at at_most_op vs us h e = chain_means m point (neighbours_sames m point (at_most_pair m) (compare at le) (compare at ge) (at_most_compares m point at) (nums m point vs us h (both_true (are_terms us) _ e).0))
-  apply-means at below_op vs us h e = chain_means m point (neighbours_sames m point (at_most_pair m) (compare at le) (compare at ge) (at_most_compares m point at) (nums m point vs us h (both_true (are_terms us) _ e).0))
-  apply-means at at_least_op vs us h e = chain_means m point (neighbours_sames m point (at_least_pair m) (compare at ge) (compare at le) (at_least_compares m point at) (nums m point vs us h (both_true (are_terms us) _ e).0))
-  apply-means at above_op vs us h e = chain_means m point (neighbours_sames m point (at_least_pair m) (compare at ge) (compare at le) (at_least_compares m point at) (nums m point vs us h (both_true (are_terms us) _ e).0))
+  apply-means at choice vs us h e = choice-means vs us h e
+  apply-means at minus vs us h e = let b = both_true (are_terms us) _ e in minus-means at (reals m point vs us h b.0) b.1
+  apply-means at plus vs us h e = all_steps_means m point sum_of (add_tree at) (sum_means m point at) (add_real m point at) (reals m point vs us h (both_true (are_terms us) _ e).0)
+  apply-means at times vs us h e = all_steps_means m point product_of (multiply_tree at) (product_means m point at) (multiply_real m point at) (reals m point vs us h (both_true (are_terms us) _ e).0)
+  apply-means at divide vs us h e = quotient-means at (hold_either (behind_first us)) (reals m point vs us h (both_true (are_terms us) _ e).0)
+  apply-means at at_most_op vs us h e = chain_means m point (neighbours_sames m point (at_most_pair m) (at_most_terms at) (at_most_compares m point at) (λ t u. tt) (reals m point vs us h (both_true (are_terms us) _ e).0))
+  apply-means at below_op vs us h e = chain_means m point (neighbours_sames m point (at_most_pair m) (at_most_terms at) (at_most_compares m point at) (λ t u. tt) (reals m point vs us h (both_true (are_terms us) _ e).0))
+  apply-means at at_least_op vs us h e = chain_means m point (neighbours_sames m point (at_least_pair m) (at_least_terms at) (at_least_compares m point at) (λ t u. tt) (reals m point vs us h (both_true (are_terms us) _ e).0))
+  apply-means at above_op vs us h e = chain_means m point (neighbours_sames m point (at_least_pair m) (at_least_terms at) (at_least_compares m point at) (λ t u. tt) (reals m point vs us h (both_true (are_terms us) _ e).0))
 
   literal-means : (q : Fraction) → IsFraction q → Means m point (real q) (term (constant (reduced q)))
   literal-means q f = let h = reduced_same q f in record { one = f; other = h.0; equal = h.1 }

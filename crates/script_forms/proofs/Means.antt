@@ -5,18 +5,18 @@ use borrow.Author.Differences.{up, down}
 use Rattle.dyadic.specs.Fraction.{Fraction, IsFraction, zero_fraction, negated, sum_of, product_of, difference_of}
 use Rattle.dyadic.specs.Point.{Coordinate}
 use Rattle.script_model.specs.Sexp.{Place}
-use Rattle.script_model.specs.Meaning.{Pair, Value, real, bool, fraction_of, pair_of, all_pair, neighbours, pairs, from_left, first_and_rest, at_most_pair, at_least_pair, equal_pair}
+use Rattle.script_model.specs.Meaning.{Pair, Value, real, bool, either as either_value, fraction_of, pair_of, all_pair, neighbours, pairs, from_left, first_and_rest, lift_value, step_values, lift_pair, compare_values, at_most_pair, at_least_pair, equal_pair}
 use Rattle.script_model.proofs.Related.{Each}
 use Rattle.poly_graph.specs.Term.{Term, constant, variable, negate, add, multiply, square, Kind, le, ge, eq, term_value, in_range, atom_holds}
 use Rattle.poly_graph.specs.Form.{Form, yes_form}
 use Rattle.dyadic.specs.Lowest.{sum_fits, product_fits}
-use Rattle.script_forms.specs.Terms.{same_fraction, same_sign, Comparison, Unfolded, term, formula, refused, Fault, constant_or, negate_tree, add_tree, multiply_tree, subtract_tree, same_term, is_zero, comparison_tree, step, steps, all_steps}
-use Rattle.script_forms.specs.Unfolded.{checked, first_fault, unless_refused, chain, compare, term_in, are_terms, are_formulas}
+use Rattle.script_forms.specs.Terms.{same_fraction, same_sign, Comparison, Unfolded, term, formula, refused, either, second_arm, arms, lift_tree, Fault, is_nought, inverse_of, divide_tree, zero_divisor, constant_or, negate_tree, add_tree, multiply_tree, subtract_tree, same_term, is_zero, comparison_tree, step, steps, all_steps}
+use Rattle.script_forms.specs.Unfolded.{checked, first_fault, unless_refused, chain, compare, at_most_terms, at_least_terms, equal_terms, lift_form, compare_two, choice_form, is_real_tree, term_in, are_terms, are_formulas}
 use Rattle.script_forms.specs.Atoms.{fault_of, comparison_fault, atom_of}
 use Rattle.dyadic.proofs.Equal.{◌≈◌, ≈_trans, ≈_refl, ≈_sym, sum_same, product_same, negated_same, at_most_same, at_least_same, cancel_equal}
 use Rattle.dyadic.proofs.Ring.{atom, natural, plus, times, minus, same, read}
 use Rattle.script_forms.proofs.Lowest.{reduced_same}
-use Rattle.script_forms.proofs.Forms.{Same, EachSame, and_same, comparison_holds}
+use Rattle.script_forms.proofs.Forms.{Same, EachSame, and_same, choice_same, comparison_holds}
 
 abs-equal : (m n : ℤ) → nat_abs m ≡ nat_abs n → same_sign m n ≡ true → m ≡ n
 abs-equal (pos m) (pos n) h e = ap pos h
@@ -92,8 +92,13 @@ module _ (m : Fraction) (point : List Coordinate) where
   Means v (refused x) = Unit {0}
   Means (real q) (term t) = Num q t
   Means (bool p) (formula f g) = Same m point p (formula f g)
+  Means (either_value p v w) (either f g t u) = Same m point p (formula f g) × Means v t × Means w u
   Means (real q) (formula f g) = ⊥
+  Means (real q) (either f g t u) = ⊥
   Means (bool p) (term t) = ⊥
+  Means (bool p) (either f g t u) = ⊥
+  Means (either_value p v w) (term t) = ⊥
+  Means (either_value p v w) (formula f g) = ⊥
 
   unless-means : (v : Value) (u : Unfolded) (o x : Option Fault) → o ≡ x → (o ≡ None → Means v u) → Means v (unless_refused x u)
   unless-means v u o None e f = f e
@@ -198,32 +203,99 @@ module _ (m : Fraction) (point : List Coordinate) where
       (sum_same (≈_sym h.equal) (negated_same (≈_sym k.equal)))
 
   -- the pair of a comparison is that of its forms
-  abbrev pub Compares : (Fraction → Fraction → Pair) → (Unfolded → Unfolded → Form Comparison) → (Unfolded → Unfolded → Form Comparison) → Type 0
-  Compares pair f g = (p q : Fraction) (t u : Term) → Num p t → Num q u → Same m point (pair p q) (formula (f (term t) (term u)) (g (term t) (term u)))
+  abbrev pub Compares : (Fraction → Fraction → Pair) → (Term → Term → Unfolded) → Type 0
+  Compares pair f = (p q : Fraction) (t u : Term) → Num p t → Num q u → Same m point (pair p q) (f t u)
 
-  pub at_most_compares : (at : Place) → Compares (at_most_pair m) (compare at le) (compare at ge)
+  pub at_most_compares : (at : Place) → Compares (at_most_pair m) (at_most_terms at)
   at_most_compares at p q t u h k = record { pos = compare-same le p q t u h k; neg = compare-same ge p q t u h k }
 
-  pub at_least_compares : (at : Place) → Compares (at_least_pair m) (compare at ge) (compare at le)
+  pub at_least_compares : (at : Place) → Compares (at_least_pair m) (at_least_terms at)
   at_least_compares at p q t u h k = record { pos = compare-same ge p q t u h k; neg = compare-same le p q t u h k }
 
-  pub equal_compares : (at : Place) → Compares (equal_pair m) (compare at eq) (λ a b. yes_form)
+  pub equal_compares : (at : Place) → Compares (equal_pair m) (equal_terms at)
   equal_compares at p q t u h k = record { pos = compare-same eq p q t u h k; neg = refl }
 
-  -- ---- lists of terms and of formulas
+  -- ---- Real `ite`
 
-  pub data Nums : List Fraction → List Unfolded → Type 0 where
-    no_nums : Nums [] []
-    more_nums : {q : Fraction} {t : Term} {qs : List Fraction} {us : List Unfolded} → Num q t → Nums qs us → Nums (q ∷ qs) (term t ∷ us)
+  second-means : (p : Pair) (c d : Form Comparison) (v w : Value) (a b : Unfolded) → Same m point p (formula c d) → Means v a → Means w b → Means (either_value p v w) (second_arm c d a b)
+  second-means p c d v w a (refused x) h k l = tt
+  second-means p c d v w a (term t) h k l = (h, k, l)
+  second-means p c d v w a (formula f g) h k l = (h, k, l)
+  second-means p c d v w a (either f g t u) h k l = (h, k, l)
 
-  pub nums : (vs : List Value) (us : List Unfolded) → Each Means vs us → are_terms us ≡ true → Nums (map fraction_of vs) us
-  nums [] [] h e = no_nums
-  nums (real q ∷ vs) (term t ∷ us) h e = more_nums h.0 (nums vs us h.1 e)
-  nums (bool p ∷ vs) (term t ∷ us) h e = elim h.0 [ ]
-  nums (v ∷ vs) (formula f g ∷ us) h e = cc
-  nums (v ∷ vs) (refused x ∷ us) h e = cc
-  nums [] (u ∷ us) h e = elim h [ ]
-  nums (v ∷ vs) [] h e = elim h [ ]
+  arms-mean : (p : Pair) (c d : Form Comparison) (v w : Value) (a b : Unfolded) → Same m point p (formula c d) → Means v a → Means w b → Means (either_value p v w) (arms c d a b)
+  arms-mean p c d v w (refused x) b h k l = tt
+  arms-mean p c d v w (term t) b h k l = second-means p c d v w (term t) b h k l
+  arms-mean p c d v w (formula f g) b h k l = second-means p c d v w (formula f g) b h k l
+  arms-mean p c d v w (either f g t u) b h k l = second-means p c d v w (either f g t u) b h k l
+
+  -- a Real tree, or a fault
+  abbrev pub IsRealOr : Unfolded → Type 0
+  IsRealOr (formula f g) = ⊥
+  IsRealOr (either c d a b) = IsRealOr a × IsRealOr b
+  IsRealOr u = Unit {0}
+
+  pub real_or : (u : Unfolded) → is_real_tree u ≡ true → IsRealOr u
+  real_or (term t) e = tt
+  real_or (either c d a b) e = let h = both_true (is_real_tree a) (is_real_tree b) e in (real_or a h.0, real_or b h.1)
+  real_or (formula f g) e = cc
+  real_or (refused x) e = cc
+
+  arms-real : (c d : Form Comparison) (a b : Unfolded) → IsRealOr a → IsRealOr b → IsRealOr (arms c d a b)
+  arms-real c d (refused x) b h k = tt
+  arms-real c d (term t) (refused x) h k = tt
+  arms-real c d (term t) (term u) h k = (h, k)
+  arms-real c d (term t) (either f g x y) h k = (h, k)
+  arms-real c d (either f g x y) (refused z) h k = tt
+  arms-real c d (either f g x y) (term u) h k = (h, k)
+  arms-real c d (either f g x y) (either f' g' x' y') h k = (h, k)
+  arms-real c d (formula f g) b h k = elim h [ ]
+  arms-real c d (term t) (formula f g) h k = elim k [ ]
+  arms-real c d (either f g x y) (formula f' g') h k = elim k [ ]
+
+  lift-real : (f : Term → Unfolded) → ((t : Term) → IsRealOr (f t)) → (u : Unfolded) → IsRealOr u → IsRealOr (lift_tree f u)
+  lift-real f g (term t) h = g t
+  lift-real f g (refused x) h = tt
+  lift-real f g (either c d a b) h = arms-real c d (lift_tree f a) (lift_tree f b) (lift-real f g a h.0) (lift-real f g b h.1)
+  lift-real f g (formula p n) h = elim h [ ]
+
+  pub lift_means : (k : Fraction → Value) (f : Term → Unfolded) → ((q : Fraction) (t : Term) → Num q t → Means (k q) (f t)) → (v : Value) (u : Unfolded) → IsRealOr u → Means v u → Means (lift_value k v) (lift_tree f u)
+  lift_means k f g (real q) (term t) r h = g q t h
+  lift_means k f g (either_value p v w) (either c d a b) r h = arms-mean p c d (lift_value k v) (lift_value k w) (lift_tree f a) (lift_tree f b) h.0 (lift_means k f g v a r.0 h.1) (lift_means k f g w b r.1 h.2)
+  lift_means k f g v (refused x) r h = tt
+  lift_means k f g v (formula f' g') r h = elim r [ ]
+  lift_means k f g (bool p) (term t) r h = elim h [ ]
+  lift_means k f g (either_value p v w) (term t) r h = elim h [ ]
+  lift_means k f g (bool p) (either c d a b) r h = elim h [ ]
+  lift_means k f g (real q) (either c d a b) r h = elim h [ ]
+
+  -- what is said of each arm
+  pub lift_says : (k : Fraction → Pair) (f : Term → Unfolded) → ((q : Fraction) (t : Term) → Num q t → Same m point (k q) (f t)) → (v : Value) (u : Unfolded) → is_real_tree u ≡ true → Means v u → Same m point (lift_pair k v) (lift_form f u)
+  lift_says k f g (real q) (term t) r h = g q t h
+  lift_says k f g (either_value p v w) (either c d a b) r h = let e = both_true (is_real_tree a) (is_real_tree b) r in
+      choice_same m point p (lift_pair k v) (lift_pair k w) (formula c d) (lift_form f a) (lift_form f b) h.0 (lift_says k f g v a e.0 h.1) (lift_says k f g w b e.1 h.2) []
+  lift_says k f g v (refused x) r h = cc
+  lift_says k f g v (formula f' g') r h = cc
+  lift_says k f g (bool p) (term t) r h = elim h [ ]
+  lift_says k f g (either_value p v w) (term t) r h = elim h [ ]
+  lift_says k f g (bool p) (either c d a b) r h = elim h [ ]
+  lift_says k f g (real q) (either c d a b) r h = elim h [ ]
+
+  pub compare_says : (pair : Fraction → Fraction → Pair) (f : Term → Term → Unfolded) → Compares pair f → (v w : Value) (u x : Unfolded) → is_real_tree u ≡ true → is_real_tree x ≡ true → Means v u → Means w x →
+      Same m point (compare_values pair v w) (compare_two f u x)
+  compare_says pair f c v w u x r s h k = lift_says (λ p. lift_pair (λ q. pair p q) w) (λ t. lift_form (f t) x) (λ p t n. lift_says (pair p) (f t) (λ q y l. c p q t y n l) w x s k) v u r h
+
+  -- ---- lists of Real trees and of formulas
+
+  pub data Reals : List Value → List Unfolded → Type 0 where
+    no_reals : Reals [] []
+    more_reals : {v : Value} {u : Unfolded} {vs : List Value} {us : List Unfolded} → is_real_tree u ≡ true → Means v u → Reals vs us → Reals (v ∷ vs) (u ∷ us)
+
+  pub reals : (vs : List Value) (us : List Unfolded) → Each Means vs us → are_terms us ≡ true → Reals vs us
+  reals [] [] h e = no_reals
+  reals (v ∷ vs) (u ∷ us) h e = let b = both_true (is_real_tree u) (are_terms us) e in more_reals b.0 h.0 (reals vs us h.1 b.1)
+  reals [] (u ∷ us) h e = elim h [ ]
+  reals (v ∷ vs) [] h e = elim h [ ]
 
   pub data Sames : List Pair → List Unfolded → Type 0 where
     no_sames : Sames [] []
@@ -233,6 +305,8 @@ module _ (m : Fraction) (point : List Coordinate) where
   all_formulas [] [] h e = no_sames
   all_formulas (bool p ∷ vs) (formula f g ∷ us) h e = more_sames h.0 (all_formulas vs us h.1 e)
   all_formulas (real q ∷ vs) (formula f g ∷ us) h e = elim h.0 [ ]
+  all_formulas (either_value p v w ∷ vs) (formula f g ∷ us) h e = elim h.0 [ ]
+  all_formulas (v ∷ vs) (either f g t u ∷ us) h e = cc
   all_formulas (v ∷ vs) (term t ∷ us) h e = cc
   all_formulas (v ∷ vs) (refused x ∷ us) h e = cc
   all_formulas [] (u ∷ us) h e = elim h [ ]
@@ -257,42 +331,101 @@ module _ (m : Fraction) (point : List Coordinate) where
   chain_means (more_sames {p = p} {f = f} {g = g} h (more_sames {p = q} {f = f'} {g = g'} {ps = ps} {us = us} k r)) =
       and_same m point (p ∷ q ∷ ps) (formula f g ∷ formula f' g' ∷ us) (each_of (more_sames h (more_sames k r)))
 
-  pub neighbours_sames : (pair : Fraction → Fraction → Pair) (f g : Unfolded → Unfolded → Form Comparison) → Compares pair f g →
-      {qs : List Fraction} {us : List Unfolded} → Nums qs us → Sames (neighbours pair qs) (neighbours (λ a b. formula (f a b) (g a b)) us)
-  neighbours_sames pair f g c no_nums = no_sames
-  neighbours_sames pair f g c (more_nums h no_nums) = no_sames
-  neighbours_sames pair f g c (more_nums {q = p} {t = t} h (more_nums {q = q} {t = u} k r)) = more_sames (c p q t u h k) (neighbours_sames pair f g c (more_nums k r))
+  abbrev pub IsFormula : Unfolded → Type 0
+  IsFormula (formula f g) = Unit {0}
+  IsFormula u = ⊥
 
-  with-each : (pair : Fraction → Fraction → Pair) (f g : Unfolded → Unfolded → Form Comparison) → Compares pair f g → (p : Fraction) (t : Term) → Num p t →
-      {qs : List Fraction} {us : List Unfolded} → Nums qs us → Sames (map (pair p) qs) (map (λ b. formula (f (term t) b) (g (term t) b)) us)
-  with-each pair f g c p t h no_nums = no_sames
-  with-each pair f g c p t h (more_nums {q = q} {t = u} k r) = more_sames (c p q t u h k) (with-each pair f g c p t h r)
+  pub same_first : (p : Pair) (u : Unfolded) → IsFormula u → Same m point p u → {ps : List Pair} {us : List Unfolded} → Sames ps us → Sames (p ∷ ps) (u ∷ us)
+  same_first p (formula f g) i h r = more_sames h r
+  same_first p (term t) i h r = elim i [ ]
+  same_first p (refused x) i h r = elim i [ ]
+  same_first p (either c d a b) i h r = elim i [ ]
 
-  pub pairs_sames : (pair : Fraction → Fraction → Pair) (f g : Unfolded → Unfolded → Form Comparison) → Compares pair f g →
-      {qs : List Fraction} {us : List Unfolded} → Nums qs us → Sames (pairs pair qs) (pairs (λ a b. formula (f a b) (g a b)) us)
-  pairs_sames pair f g c no_nums = no_sames
-  pairs_sames pair f g c (more_nums {q = q} {t = t} h r) = append-sames (with-each pair f g c q t h r) (pairs_sames pair f g c r)
+  lift-formula : (f : Term → Unfolded) → ((t : Term) → IsFormula (f t)) → (u : Unfolded) → IsFormula (lift_form f u)
+  lift-formula f g (term t) = g t
+  lift-formula f g (formula p n) = g (term_in (formula p n))
+  lift-formula f g (refused x) = g (term_in (refused x))
+  lift-formula f g (either c d a b) = tt
+
+  -- a comparison of two terms is a formula
+  abbrev pub AreFormulas : (Term → Term → Unfolded) → Type 0
+  AreFormulas f = (t u : Term) → IsFormula (f t u)
+
+  pub compare_formula : (f : Term → Term → Unfolded) → AreFormulas f → (u v : Unfolded) → IsFormula (compare_two f u v)
+  compare_formula f g u v = lift-formula (λ t. lift_form (f t) v) (λ t. lift-formula (f t) (g t) v) u
+
+  pub neighbours_sames : (pair : Fraction → Fraction → Pair) (f : Term → Term → Unfolded) → Compares pair f → AreFormulas f →
+      {vs : List Value} {us : List Unfolded} → Reals vs us → Sames (neighbours (compare_values pair) vs) (neighbours (compare_two f) us)
+  neighbours_sames pair f c g no_reals = no_sames
+  neighbours_sames pair f c g (more_reals r h no_reals) = no_sames
+  neighbours_sames pair f c g (more_reals {v = v} {u = t} r h (more_reals {v = w} {u = u} s k rest)) =
+      same_first (compare_values pair v w) (compare_two f t u) (compare_formula f g t u) (compare_says pair f c v w t u r s h k) (neighbours_sames pair f c g (more_reals s k rest))
+
+  with-each : (pair : Value → Value → Pair) (f : Unfolded → Unfolded → Unfolded) (v : Value) (t : Unfolded) →
+      ((w : Value) (u : Unfolded) → is_real_tree u ≡ true → Means w u → Same m point (pair v w) (f t u) × IsFormula (f t u)) →
+      {vs : List Value} {us : List Unfolded} → Reals vs us → Sames (map (pair v) vs) (map (f t) us)
+  with-each pair f v t g no_reals = no_sames
+  with-each pair f v t g (more_reals {v = w} {u = u} r h rest) = let k = g w u r h in same_first (pair v w) (f t u) k.1 k.0 (with-each pair f v t g rest)
+
+  -- f says of each two Real trees what the pair says of their values
+  abbrev pub SaysOfTwo : (Value → Value → Pair) → (Unfolded → Unfolded → Unfolded) → Type 0
+  SaysOfTwo pair f = (v w : Value) (t u : Unfolded) → is_real_tree t ≡ true → is_real_tree u ≡ true → Means v t → Means w u → Same m point (pair v w) (f t u) × IsFormula (f t u)
+
+  pub pairs_sames : (pair : Value → Value → Pair) (f : Unfolded → Unfolded → Unfolded) → SaysOfTwo pair f →
+      {vs : List Value} {us : List Unfolded} → Reals vs us → Sames (pairs pair vs) (pairs f us)
+  pairs_sames pair f g no_reals = no_sames
+  pairs_sames pair f g (more_reals {v = v} {u = t} r h rest) = append-sames (with-each pair f v t (λ w u s k. g v w t u r s h k) rest) (pairs_sames pair f g rest)
 
   -- ---- steps from left to right
 
   abbrev Steps : (Fraction → Fraction → Fraction) → (Term → Term → Unfolded) → Type 0
   Steps f g = (p q : Fraction) (t u : Term) → Num p t → Num q u → Means (real (f p q)) (g t u)
 
-  step-means : (f : Fraction → Fraction → Fraction) (g : Term → Term → Unfolded) → Steps f g → (p q : Fraction) (u : Unfolded) (t : Term) →
-      Means (real p) u → Num q t → Means (real (f p q)) (step g u (term t))
-  step-means f g s p q (term u) t h k = s p q u t h k
-  step-means f g s p q (refused x) t h k = tt
-  step-means f g s p q (formula a b) t h k = elim h [ ]
+  -- a step of two trees is a Real tree or a fault
+  abbrev pub RealSteps : (Term → Term → Unfolded) → Type 0
+  RealSteps g = (t u : Term) → IsRealOr (g t u)
 
-  pub steps_means : (f : Fraction → Fraction → Fraction) (g : Term → Term → Unfolded) → Steps f g → (p : Fraction) (u : Unfolded) → Means (real p) u →
-      {qs : List Fraction} {us : List Unfolded} → Nums qs us → Means (real (from_left f p qs)) (steps g u us)
-  steps_means f g s p u h no_nums = h
-  steps_means f g s p u h (more_nums {q = q} {t = t} k r) = steps_means f g s (f p q) (step g u (term t)) (step-means f g s p q u t h k) r
+  step-means : (f : Fraction → Fraction → Fraction) (g : Term → Term → Unfolded) → Steps f g → (v w : Value) (t u : Unfolded) → IsRealOr t → IsRealOr u →
+      Means v t → Means w u → Means (step_values f v w) (step g t u)
+  step-means f g s v w t u r r' h k = lift_means (λ p. lift_value (λ q. real (f p q)) w) (λ x. lift_tree (g x) u)
+      (λ p x n. lift_means (λ q. real (f p q)) (g x) (λ q y l. s p q x y n l) w u r' k) v t r h
 
-  pub all_steps_means : (f : Fraction → Fraction → Fraction) (g : Term → Term → Unfolded) → Steps f g →
-      {qs : List Fraction} {us : List Unfolded} → Nums qs us → Means (real (first_and_rest f zero_fraction qs)) (all_steps g us)
-  all_steps_means f g s no_nums = record { one = omega arith; other = omega arith; equal = ≈_refl zero_fraction }
-  all_steps_means f g s (more_nums {q = q} {t = t} h r) = steps_means f g s q (term t) h r
+  step-real : (g : Term → Term → Unfolded) → RealSteps g → (t u : Unfolded) → IsRealOr t → IsRealOr u → IsRealOr (step g t u)
+  step-real g s t u h k = lift-real (λ x. lift_tree (g x) u) (λ x. lift-real (g x) (s x) u k) t h
+
+  pub steps_means : (f : Fraction → Fraction → Fraction) (g : Term → Term → Unfolded) → Steps f g → RealSteps g → (v : Value) (u : Unfolded) → IsRealOr u → Means v u →
+      {vs : List Value} {us : List Unfolded} → Reals vs us → Means (from_left (step_values f) v vs) (steps g u us)
+  steps_means f g s r v u i h no_reals = h
+  steps_means f g s r v u i h (more_reals {v = w} {u = t} e k rest) =
+      steps_means f g s r (step_values f v w) (step g u t) (step-real g r u t i (real_or t e)) (step-means f g s v w u t i (real_or t e) h k) rest
+
+  pub all_steps_means : (f : Fraction → Fraction → Fraction) (g : Term → Term → Unfolded) → Steps f g → RealSteps g →
+      {vs : List Value} {us : List Unfolded} → Reals vs us → Means (first_and_rest (step_values f) (real zero_fraction) vs) (all_steps g us)
+  all_steps_means f g s r no_reals = record { one = omega arith; other = omega arith; equal = ≈_refl zero_fraction }
+  all_steps_means f g s r (more_reals {v = v} {u = t} e h rest) = steps_means f g s r v t (real_or t e) h rest
+
+  pub constant_real : (at : Place) (b : Bool) (q : Fraction) → IsRealOr (constant_or at b q)
+  constant_real at true q = tt
+  constant_real at false q = tt
+
+  pub add_real : (at : Place) → RealSteps (add_tree at)
+  add_real at (constant p) (constant q) = constant_real at (sum_fits p q) (sum_of p q)
+  add_real at _ _ = tt
+
+  pub subtract_real : (at : Place) → RealSteps (subtract_tree at)
+  subtract_real at t u = add_real at t (negate_tree u)
+
+  pub multiply_real : (at : Place) → RealSteps (multiply_tree at)
+  multiply_real at (constant p) (constant q) = constant_real at (product_fits p q) (product_of p q)
+  multiply_real at _ _ = tt
+
+  quotient-real : (b : Bool) (x : Fault) (u : Unfolded) → IsRealOr u → IsRealOr (cond b (refused x) u)
+  quotient-real true x u h = tt
+  quotient-real false x u h = h
+
+  pub divide_real : (at : Place) → RealSteps (divide_tree at)
+  divide_real at t (constant q) = quotient-real (is_nought q) (zero_divisor at) (multiply_tree at t (constant (inverse_of q))) (multiply_real at t (constant (inverse_of q)))
+  divide_real at t _ = tt
 
   -- ---- atoms
 
@@ -301,6 +434,7 @@ module _ (m : Fraction) (point : List Coordinate) where
   atom-same d kind (term t) f h e = sym (range_same kind d (term_value point t) h.one h.other h.equal)
   atom-same d kind (refused x) f h e = cc
   atom-same d kind (formula a b) f h e = elim h [ ]
+  atom-same d kind (either a b t u) f h e = elim h [ ]
 
   -- the atom of a comparison without a fault holds where the comparison does
   pub atom_of_holds : (c : Comparison) → IsFraction (term_value point c.left) → IsFraction (term_value point c.right) → comparison_fault c ≡ None →

@@ -7,7 +7,7 @@ use Rattle.script_model.specs.Sexp.{Place}
 use Rattle.poly_graph.specs.Term.{Term, constant}
 use Rattle.dyadic.specs.Point.{Coordinate}
 use Rattle.script_model.specs.Meaning.{real}
-use Rattle.script_forms.specs.Terms.{Unfolded, term, formula, refused, divide_tree, multiply_tree, zero_divisor}
+use Rattle.script_forms.specs.Terms.{Unfolded, term, formula, refused, either, divide_tree, multiply_tree, zero_divisor}
 use Rattle.dyadic.specs.Lowest.{reduced}
 use Rattle.dyadic.proofs.Equal.{◌≈◌, ≈_trans}
 use Rattle.dyadic.proofs.Ring.{atom, natural, minus, times, same, read}
@@ -19,6 +19,7 @@ module _ (m : Fraction) (point : List Coordinate) where
   along x y (term t) f e h = record { one = f; other = h.other; equal = ≈_trans h.one e h.equal }
   along x y (refused w) f e h = tt
   along x y (formula f g) i e h = elim h [ ]
+  along x y (either f g t u) i e h = elim h [ ]
 
   by-quotient : (at : Place) (p : Fraction) (t : Term) → Num m point p t → (x : Fraction) (c : ℕ) (z : ℤ) (n : ℕ) → IsFraction x → 0 < n →
       x ≈ product_of p (record { num = z; den = n }) →

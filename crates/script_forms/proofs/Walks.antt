@@ -1,19 +1,22 @@
 -- Where the walk over a script ends it met no fault of unfolding, and its atoms are those of the script.
-use Rattle.std.proofs.Common.{◌≡◌, ℕ, List, [], ◌∷◌, ◌++◌, map, length, Bool, true, false, cond, Option, Some, None, refl, ap, sym, ◌∙◌, append-nil, nat_lt, suc, ◌+◌}
+use Rattle.std.proofs.Common.{◌≡◌, ℕ, List, [], ◌∷◌, ◌++◌, map, length, Bool, true, false, ◌&&◌, cond, Option, Some, None, refl, ap, sym, ◌∙◌, append-nil, nat_lt, suc, ◌+◌}
 use Rattle.std.proofs.Math.Nat.{suc_inj, suc-ne-zero}
 use Rattle.script_model.specs.Sexp.{Place}
 use Rattle.script_model.specs.Reading.{Operator, truth, falsehood, negation, conjunction, disjunction, implication, exclusive, equality, distinctness, choice, minus, plus, times, divide, at_most_op, below_op, at_least_op, above_op, value, Names, Meanings, unknown}
-use Rattle.script_model.specs.Meaning.{neighbours}
+use Rattle.script_model.specs.Meaning.{neighbours, pairs}
+use Rattle.script_forms.proofs.Means.{both_true}
+use Rattle.dyadic.specs.Lowest.{sum_fits, product_fits}
+use Rattle.dyadic.specs.Fraction.{Fraction, sum_of, product_of}
 use Rattle.script_model.specs.Script.{Command, declare, define, claim, check, ineffective, claims, sorts_of, defined, Constant}
 use Rattle.script_model.specs.Declared.{numbered, BoundFault, bound_fault}
 use Rattle.dyadic.specs.Point.{Sort, real_sort, bool_sort}
 use Rattle.script_model.proofs.Related.{Each, Respects, claims_alike}
 use Rattle.poly_graph.specs.Term.{Term, constant, Atom}
 use Rattle.poly_graph.specs.Form.{Form, yes_form, no_form, atom_is, bool_is, all_form, any_form, Forms, no_forms, more_forms, form_atoms, forms_atoms, form_map, forms_map}
-use Rattle.script_forms.specs.Terms.{Fault, ill_formed, Comparison, Unfolded, term, formula, refused, is_zero, is_nought, add_tree, multiply_tree, divide_tree, subtract_tree, step, steps, all_steps, subtraction_tree}
-use Rattle.script_forms.specs.Unfolded.{as_tree, truth_of, takes, first_fault, unless_refused, checked, unfolded_operation, operation_tree, forms_of, chain, at_most_two, at_least_two, equal_two, not_of, xor_of, equality_form, distinctness_form, implies_of, xor_from, choice_form}
+use Rattle.script_forms.specs.Terms.{Fault, ill_formed, Comparison, Unfolded, term, formula, refused, is_zero, is_nought, add_tree, multiply_tree, divide_tree, subtract_tree, step, steps, all_steps, subtraction_tree, either, second_arm, arms, lift_tree, negate_tree, hold_either, behind_first, quotient_tree, divisor_not_constant, constant_or, inverse_of, zero_divisor}
+use Rattle.script_forms.specs.Unfolded.{as_tree, truth_of, takes, first_fault, unless_refused, checked, unfolded_operation, operation_tree, forms_of, chain, at_most_two, at_least_two, equal_two, not_of, xor_of, equality_form, distinctness_form, implies_of, xor_from, choice_form, is_real_tree, are_terms, at_most_terms, at_least_terms, equal_terms, lift_form, compare_two, differ_two, and_of, different, choice_two, choice_tree}
 use Rattle.script_forms.specs.Atoms.{fault_of, comparison_fault, or_next, comparisons_fault, tree_fault, trees_fault, unfolding_fault, trees, atom_of, firsts, already, constant_tree, script_atoms, number_in}
-use Rattle.script_forms.specs.Work.{Event, reached, made, asked, formed, met, Work, outcome_of, events_of, ending, subtract_events, divide_events, add_events, multiply_events, inverse_events, step_events, steps_events, all_events, subtraction_events, operation_events, unless_met, operator_events, as_work, comparison_events, form_events, forms_events, assertion_events}
+use Rattle.script_forms.specs.Work.{Event, reached, made, asked, formed, met, Work, outcome_of, events_of, ending, subtract_events, divide_events, add_events, multiply_events, inverse_events, step_events, steps_events, all_events, subtraction_events, operation_events, unless_met, operator_events, as_work, comparison_events, form_events, forms_events, assertion_events, lift_events, compare_events, together, quotient_events}
 use Rattle.script_forms.specs.Walk.{Stand, nothing_made, Walked, stands, stops, BuildingFault, unfolds_not, if_room, has_tree, with_tree, with_atom, has_form, with_form, larger, after_event, goes_on, after_events, constant_work, works, claim_places, after_assertions, after_root, walked, most_size, most_trees, most_atoms, most_forms, form_size, all_sizes, too_large, too_many_nodes, too_many_atoms, too_many_forms, lacks_bound, bound_beyond, fault_of_bounds, fault_or, building_fault}
 
 -- ---- what the events tell: the first fault that is met, and the atoms that are asked for
@@ -63,11 +66,13 @@ ending-met : (u : Unfolded) → first_met (ending u) ≡ fault_of u
 ending-met (term t) = refl
 ending-met (refused x) = refl
 ending-met (formula p n) = refl
+ending-met (either c d a b) = refl
 
 ending-quiet : (u : Unfolded) → asked_in (ending u) ≡ []
 ending-quiet (term t) = refl
 ending-quiet (refused x) = refl
 ending-quiet (formula p n) = refl
+ending-quiet (either c d a b) = refl
 
 -- a list of such works
 outcomes : (us : List Unfolded) (ws : List Work) → Each Tells us ws → map outcome_of ws ≡ us
@@ -80,6 +85,7 @@ first-step : (u : Unfolded) (us : List Unfolded) → first_fault (u ∷ us) ≡ 
 first-step (term t) us = refl
 first-step (formula p n) us = refl
 first-step (refused x) us = refl
+first-step (either c d a b) us = refl
 
 events-met : (us : List Unfolded) (ws : List Work) → Each Tells us ws → first_met (events_of ws) ≡ first_fault us
 events-met [] [] h = refl
@@ -136,71 +142,226 @@ divide-fits at t u = (
   asked-both (inverse_events u) (ending (divide_tree at t u)) ∙ ap (λ x. x ++ asked_in (ending (divide_tree at t u))) (inverses-quiet u) ∙ ending-quiet (divide_tree at t u),
 )
 
--- a step at two trees without a fault
-step-met : (f : Term → Term → Unfolded) (g : Term → Term → List Event) → Fits f g → (t u : Unfolded) → fault_of u ≡ None →
+-- ---- what is done with each arm of a Real `ite`
+
+arms-fault : (c d : Form Comparison) (a b : Unfolded) → or_next (fault_of a) (fault_of b) ≡ fault_of (arms c d a b)
+arms-fault c d (refused x) b = refl
+arms-fault c d (term t) (refused x) = refl
+arms-fault c d (term t) (term u) = refl
+arms-fault c d (term t) (formula p n) = refl
+arms-fault c d (term t) (either f g x y) = refl
+arms-fault c d (formula p n) (refused x) = refl
+arms-fault c d (formula p n) (term u) = refl
+arms-fault c d (formula p n) (formula p' n') = refl
+arms-fault c d (formula p n) (either f g x y) = refl
+arms-fault c d (either f g x y) (refused z) = refl
+arms-fault c d (either f g x y) (term u) = refl
+arms-fault c d (either f g x y) (formula p' n') = refl
+arms-fault c d (either f g x y) (either f' g' x' y') = refl
+
+lift-met : (f : Term → Unfolded) (g : Term → List Event) → ((t : Term) → first_met (g t) ≡ fault_of (f t)) → (u : Unfolded) → is_real_tree u ≡ true → first_met (lift_events g u) ≡ fault_of (lift_tree f u)
+lift-met f g h (term t) r = h t
+lift-met f g h (either c d a b) r = let e = both_true (is_real_tree a) (is_real_tree b) r in
+    met-both (lift_events g a) (lift_events g b) ∙ ap (λ x. or_next x (first_met (lift_events g b))) (lift-met f g h a e.0)
+    ∙ ap (or_next (fault_of (lift_tree f a))) (lift-met f g h b e.1) ∙ arms-fault c d (lift_tree f a) (lift_tree f b)
+lift-met f g h (formula p n) r = cc
+lift-met f g h (refused x) r = cc
+
+lift-quiet : (g : Term → List Event) → ((t : Term) → asked_in (g t) ≡ []) → (u : Unfolded) → asked_in (lift_events g u) ≡ []
+lift-quiet g h (term t) = h t
+lift-quiet g h (either c d a b) = asked-both (lift_events g a) (lift_events g b) ∙ ap (λ x. x ++ asked_in (lift_events g b)) (lift-quiet g h a) ∙ lift-quiet g h b
+lift-quiet g h (formula p n) = refl
+lift-quiet g h (refused x) = refl
+
+lift-silent : (g : Term → List Event) → ((t : Term) → first_met (g t) ≡ None) → (u : Unfolded) → first_met (lift_events g u) ≡ None
+lift-silent g h (term t) = h t
+lift-silent g h (either c d a b) = met-both (lift_events g a) (lift_events g b) ∙ ap (λ x. or_next x (first_met (lift_events g b))) (lift-silent g h a) ∙ lift-silent g h b
+lift-silent g h (formula p n) = refl
+lift-silent g h (refused x) = refl
+
+-- a Real tree, or a fault
+abbrev pub RealTop : Unfolded → Type 0
+RealTop (refused x) = Unit {0}
+RealTop u = is_real_tree u ≡ true
+
+both-real : (x y : Bool) → x ≡ true → y ≡ true → x && y ≡ true
+both-real true y h k = k
+both-real false y h k = h
+
+top-of : (u : Unfolded) → is_real_tree u ≡ true → RealTop u
+top-of (term t) r = r
+top-of (either c d a b) r = r
+top-of (formula p n) r = r
+top-of (refused x) r = cc
+
+arms-top : (c d : Form Comparison) (a b : Unfolded) → RealTop a → RealTop b → RealTop (arms c d a b)
+arms-top c d (refused x) b h k = tt
+arms-top c d (term t) (refused x) h k = tt
+arms-top c d (term t) (term u) h k = refl
+arms-top c d (term t) (either f g x y) h k = k
+arms-top c d (either f g x y) (refused z) h k = tt
+arms-top c d (either f g x y) (term u) h k = both-real (is_real_tree x && is_real_tree y) true h refl
+arms-top c d (either f g x y) (either f' g' x' y') h k = both-real (is_real_tree x && is_real_tree y) (is_real_tree x' && is_real_tree y') h k
+arms-top c d (formula p n) b h k = cc
+arms-top c d (term t) (formula p n) h k = cc
+arms-top c d (either f g x y) (formula p n) h k = cc
+
+lift-top : (f : Term → Unfolded) → ((t : Term) → RealTop (f t)) → (u : Unfolded) → RealTop u → RealTop (lift_tree f u)
+lift-top f h (term t) r = h t
+lift-top f h (refused x) r = tt
+lift-top f h (either c d a b) r = let e = both_true (is_real_tree a) (is_real_tree b) r in arms-top c d (lift_tree f a) (lift_tree f b) (lift-top f h a (top-of a e.0)) (lift-top f h b (top-of b e.1))
+lift-top f h (formula p n) r = cc
+
+-- a step of two trees is a Real tree or a fault
+abbrev pub RealSteps : (Term → Term → Unfolded) → Type 0
+RealSteps f = (t u : Term) → RealTop (f t u)
+
+constant-top : (at : Place) (b : Bool) (q : Fraction) → RealTop (constant_or at b q)
+constant-top at true q = refl
+constant-top at false q = tt
+
+add-top : (at : Place) → RealSteps (add_tree at)
+add-top at (constant p) (constant q) = constant-top at (sum_fits p q) (sum_of p q)
+add-top at _ _ = refl
+
+multiply-top : (at : Place) → RealSteps (multiply_tree at)
+multiply-top at (constant p) (constant q) = constant-top at (product_fits p q) (product_of p q)
+multiply-top at _ _ = refl
+
+quotient-top : (b : Bool) (x : Fault) (u : Unfolded) → RealTop u → RealTop (cond b (refused x) u)
+quotient-top true x u h = tt
+quotient-top false x u h = h
+
+divide-top : (at : Place) → RealSteps (divide_tree at)
+divide-top at t (constant q) = quotient-top (is_nought q) (zero_divisor at) (multiply_tree at t (constant (inverse_of q))) (multiply-top at t (constant (inverse_of q)))
+divide-top at t _ = tt
+
+real-none : (u : Unfolded) → is_real_tree u ≡ true → fault_of u ≡ None
+real-none (term t) r = refl
+real-none (either c d a b) r = refl
+real-none (formula p n) r = refl
+real-none (refused x) r = cc
+
+-- ---- a step at two trees
+
+step-met : (f : Term → Term → Unfolded) (g : Term → Term → List Event) → Fits f g → (t u : Unfolded) → RealTop t → is_real_tree u ≡ true →
     or_next (fault_of t) (first_met (step_events g t u)) ≡ fault_of (step f t u)
-step-met f g h (term t) (term u) e = (h t u).0
-step-met f g h (term t) (formula p n) e = refl
-step-met f g h (term t) (refused x) e = cc
-step-met f g h (formula p n) u e = refl
-step-met f g h (refused x) u e = refl
+step-met f g h (term t) u r s = lift-met (f t) (g t) (λ y. (h t y).0) u s
+step-met f g h (refused x) u r s = refl
+step-met f g h (either c d a b) u r s = lift-met (λ x. lift_tree (f x) u) (λ x. lift_events (g x) u) (λ x. lift-met (f x) (g x) (λ y. (h x y).0) u s) (either c d a b) r
+step-met f g h (formula p n) u r s = cc
+
+step-top : (f : Term → Term → Unfolded) → RealSteps f → (t u : Unfolded) → RealTop t → is_real_tree u ≡ true → RealTop (step f t u)
+step-top f h t u r s = lift-top (λ x. lift_tree (f x) u) (λ x. lift-top (f x) (h x) u (top-of u s)) t r
 
 step-quiet : (f : Term → Term → Unfolded) (g : Term → Term → List Event) → Fits f g → (t u : Unfolded) → asked_in (step_events g t u) ≡ []
-step-quiet f g h (term t) (term u) = (h t u).1
-step-quiet f g h (term t) (formula p n) = refl
-step-quiet f g h (term t) (refused x) = refl
-step-quiet f g h (formula p n) u = refl
-step-quiet f g h (refused x) u = refl
+step-quiet f g h t u = lift-quiet (λ x. lift_events (g x) u) (λ x. lift-quiet (g x) (λ y. (h x y).1) u) t
 
 head-none : (u : Unfolded) (us : List Unfolded) → first_fault (u ∷ us) ≡ None → fault_of u ≡ None
 head-none (term t) us e = refl
 head-none (formula p n) us e = refl
 head-none (refused x) us e = cc
+head-none (either c d a b) us e = refl
 
 tail-none : (u : Unfolded) (us : List Unfolded) → first_fault (u ∷ us) ≡ None → first_fault us ≡ None
 tail-none (term t) us e = e
 tail-none (formula p n) us e = e
 tail-none (refused x) us e = cc
+tail-none (either c d a b) us e = e
 
-steps-met : (f : Term → Term → Unfolded) (g : Term → Term → List Event) → Fits f g → (t : Unfolded) (us : List Unfolded) → first_fault us ≡ None →
+steps-met : (f : Term → Term → Unfolded) (g : Term → Term → List Event) → Fits f g → RealSteps f → (t : Unfolded) → RealTop t → (us : List Unfolded) → are_terms us ≡ true →
     or_next (fault_of t) (first_met (steps_events f g t us)) ≡ fault_of (steps f t us)
-steps-met f g h t [] e = or-none (fault_of t)
-steps-met f g h t (u ∷ us) e =
+steps-met f g h k t r [] e = or-none (fault_of t)
+steps-met f g h k t r (u ∷ us) e = let b = both_true (is_real_tree u) (are_terms us) e in
     ap (or_next (fault_of t)) (met-both (step_events g t u) (steps_events f g (step f t u) us))
     ∙ sym (or-assoc (fault_of t) (first_met (step_events g t u)) (first_met (steps_events f g (step f t u) us)))
-    ∙ ap (λ x. or_next x (first_met (steps_events f g (step f t u) us))) (step-met f g h t u (head-none u us e))
-    ∙ steps-met f g h (step f t u) us (tail-none u us e)
+    ∙ ap (λ x. or_next x (first_met (steps_events f g (step f t u) us))) (step-met f g h t u r b.0)
+    ∙ steps-met f g h k (step f t u) (step-top f k t u r b.0) us b.1
 
 steps-quiet : (f : Term → Term → Unfolded) (g : Term → Term → List Event) → Fits f g → (t : Unfolded) (us : List Unfolded) → asked_in (steps_events f g t us) ≡ []
 steps-quiet f g h t [] = refl
 steps-quiet f g h t (u ∷ us) = asked-both (step_events g t u) (steps_events f g (step f t u) us)
     ∙ ap (λ x. x ++ asked_in (steps_events f g (step f t u) us)) (step-quiet f g h t u) ∙ steps-quiet f g h (step f t u) us
 
-all-met : (f : Term → Term → Unfolded) (g : Term → Term → List Event) → Fits f g → (us : List Unfolded) → first_fault us ≡ None → first_met (all_events f g us) ≡ fault_of (all_steps f us)
-all-met f g h [] e = refl
-all-met f g h (t ∷ us) e = sym (ap (λ x. or_next x (first_met (steps_events f g t us))) (head-none t us e)) ∙ steps-met f g h t us (tail-none t us e)
+all-met : (f : Term → Term → Unfolded) (g : Term → Term → List Event) → Fits f g → RealSteps f → (us : List Unfolded) → are_terms us ≡ true → first_met (all_events f g us) ≡ fault_of (all_steps f us)
+all-met f g h k [] e = refl
+all-met f g h k (t ∷ us) e = let b = both_true (is_real_tree t) (are_terms us) e in
+    sym (ap (λ x. or_next x (first_met (steps_events f g t us))) (real-none t b.0)) ∙ steps-met f g h k t (top-of t b.0) us b.1
 
 all-quiet : (f : Term → Term → Unfolded) (g : Term → Term → List Event) → Fits f g → (us : List Unfolded) → asked_in (all_events f g us) ≡ []
 all-quiet f g h [] = refl
 all-quiet f g h (t ∷ us) = steps-quiet f g h t us
 
-subtraction-met : (at : Place) (us : List Unfolded) → first_fault us ≡ None → first_met (subtraction_events at us) ≡ fault_of (subtraction_tree at us)
+subtract-top : (at : Place) → RealSteps (subtract_tree at)
+subtract-top at t u = add-top at t (negate_tree u)
+
+subtraction-met : (at : Place) (us : List Unfolded) → are_terms us ≡ true → first_met (subtraction_events at us) ≡ fault_of (subtraction_tree at us)
 subtraction-met at [] e = refl
-subtraction-met at (term t ∷ []) e = refl
-subtraction-met at (formula p n ∷ []) e = refl
-subtraction-met at (refused x ∷ []) e = cc
-subtraction-met at (term t ∷ u ∷ us) e = all-met (subtract_tree at) (subtract_events at) (subtract-fits at) (term t ∷ u ∷ us) e
-subtraction-met at (formula p n ∷ u ∷ us) e = all-met (subtract_tree at) (subtract_events at) (subtract-fits at) (formula p n ∷ u ∷ us) e
-subtraction-met at (refused x ∷ u ∷ us) e = cc
+subtraction-met at (u ∷ []) e = lift-met (λ t. term (negate_tree t)) (λ t. made (negate_tree t) ∷ []) (λ t. refl) u (both_true (is_real_tree u) true e).0
+subtraction-met at (u ∷ v ∷ us) e = all-met (subtract_tree at) (subtract_events at) (subtract-fits at) (subtract-top at) (u ∷ v ∷ us) e
 
 subtraction-quiet : (at : Place) (us : List Unfolded) → asked_in (subtraction_events at us) ≡ []
 subtraction-quiet at [] = refl
-subtraction-quiet at (term t ∷ []) = refl
-subtraction-quiet at (formula p n ∷ []) = refl
-subtraction-quiet at (refused x ∷ []) = refl
-subtraction-quiet at (term t ∷ u ∷ us) = all-quiet (subtract_tree at) (subtract_events at) (subtract-fits at) (term t ∷ u ∷ us)
-subtraction-quiet at (formula p n ∷ u ∷ us) = all-quiet (subtract_tree at) (subtract_events at) (subtract-fits at) (formula p n ∷ u ∷ us)
-subtraction-quiet at (refused x ∷ u ∷ us) = all-quiet (subtract_tree at) (subtract_events at) (subtract-fits at) (refused x ∷ u ∷ us)
+subtraction-quiet at (u ∷ []) = lift-quiet (λ t. made (negate_tree t) ∷ []) (λ t. refl) u
+subtraction-quiet at (u ∷ v ∷ us) = all-quiet (subtract_tree at) (subtract_events at) (subtract-fits at) (u ∷ v ∷ us)
+
+divided-met : (at : Place) (b : Bool) (us : List Unfolded) → are_terms us ≡ true →
+    first_met (cond b (met (divisor_not_constant at) ∷ []) (all_events (divide_tree at) (divide_events at) us)) ≡ fault_of (cond b (refused (divisor_not_constant at)) (all_steps (divide_tree at) us))
+divided-met at true us e = refl
+divided-met at false us e = all-met (divide_tree at) (divide_events at) (divide-fits at) (divide-top at) us e
+
+divided-quiet : (at : Place) (b : Bool) (us : List Unfolded) → asked_in (cond b (met (divisor_not_constant at) ∷ []) (all_events (divide_tree at) (divide_events at) us)) ≡ []
+divided-quiet at true us = refl
+divided-quiet at false us = all-quiet (divide_tree at) (divide_events at) (divide-fits at) us
+
+-- ---- comparisons make no tree and meet no fault
+
+compare-silent : (u v : Unfolded) → first_met (compare_events u v) ≡ None
+compare-silent u v = lift-silent (λ t. lift_events (λ x. []) v) (λ t. lift-silent (λ x. []) (λ x. refl) v) u
+
+compare-quiet : (u v : Unfolded) → asked_in (compare_events u v) ≡ []
+compare-quiet u v = lift-quiet (λ t. lift_events (λ x. []) v) (λ t. lift-quiet (λ x. []) (λ x. refl) v) u
+
+join-silent : (xs ys : List Event) → first_met xs ≡ None → first_met ys ≡ None → first_met (xs ++ ys) ≡ None
+join-silent xs ys h k = met-both xs ys ∙ ap (λ x. or_next x (first_met ys)) h ∙ k
+
+join-quiet : (xs ys : List Event) → asked_in xs ≡ [] → asked_in ys ≡ [] → asked_in (xs ++ ys) ≡ []
+join-quiet xs ys h k = asked-both xs ys ∙ ap (λ x. x ++ asked_in ys) h ∙ k
+
+chain-silent : (us : List Unfolded) → first_met (together (neighbours compare_events us)) ≡ None
+chain-silent [] = refl
+chain-silent (u ∷ []) = refl
+chain-silent (u ∷ v ∷ us) = join-silent (compare_events u v) (together (neighbours compare_events (v ∷ us))) (compare-silent u v) (chain-silent (v ∷ us))
+
+chain-quiet : (us : List Unfolded) → asked_in (together (neighbours compare_events us)) ≡ []
+chain-quiet [] = refl
+chain-quiet (u ∷ []) = refl
+chain-quiet (u ∷ v ∷ us) = join-quiet (compare_events u v) (together (neighbours compare_events (v ∷ us))) (compare-quiet u v) (chain-quiet (v ∷ us))
+
+each-silent : (u : Unfolded) (us : List Unfolded) (ess : List (List Event)) → first_met (together ess) ≡ None → first_met (together (map (compare_events u) us ++ ess)) ≡ None
+each-silent u [] ess h = h
+each-silent u (v ∷ us) ess h = join-silent (compare_events u v) (together (map (compare_events u) us ++ ess)) (compare-silent u v) (each-silent u us ess h)
+
+each-quiet : (u : Unfolded) (us : List Unfolded) (ess : List (List Event)) → asked_in (together ess) ≡ [] → asked_in (together (map (compare_events u) us ++ ess)) ≡ []
+each-quiet u [] ess h = h
+each-quiet u (v ∷ us) ess h = join-quiet (compare_events u v) (together (map (compare_events u) us ++ ess)) (compare-quiet u v) (each-quiet u us ess h)
+
+pairs-silent : (us : List Unfolded) → first_met (together (pairs compare_events us)) ≡ None
+pairs-silent [] = refl
+pairs-silent (u ∷ us) = each-silent u us (pairs compare_events us) (pairs-silent us)
+
+pairs-quiet : (us : List Unfolded) → asked_in (together (pairs compare_events us)) ≡ []
+pairs-quiet [] = refl
+pairs-quiet (u ∷ us) = each-quiet u us (pairs compare_events us) (pairs-quiet us)
+
+form-sound : (f : Term → Unfolded) → ((t : Term) → fault_of (f t) ≡ None) → (u : Unfolded) → fault_of (lift_form f u) ≡ None
+form-sound f h (either c d a b) = refl
+form-sound f h (term t) = h t
+form-sound f h (formula p n) = h _
+form-sound f h (refused x) = h _
+
+compare-sound : (f : Term → Term → Unfolded) → ((t u : Term) → fault_of (f t u) ≡ None) → (u v : Unfolded) → fault_of (compare_two f u v) ≡ None
+compare-sound f h u v = form-sound (λ t. lift_form (f t) v) (λ t. form-sound (f t) (h t) v) u
 
 -- ---- operators of Bools make no tree and meet no fault
 
@@ -230,57 +391,75 @@ exclusive-sound at (u ∷ us) e = xor-sound u us (head-none u us e)
 equality-sound : (at : Place) (us : List Unfolded) → fault_of (equality_form at us) ≡ None
 equality-sound at [] = refl
 equality-sound at (formula p n ∷ us) = chain-sound (neighbours (λ a b. not_of (xor_of a b)) (formula p n ∷ us)) (neighbours-sound (λ a b. not_of (xor_of a b)) (λ a b. refl) (formula p n ∷ us))
-equality-sound at (term t ∷ us) = chain-sound (neighbours (equal_two at) (term t ∷ us)) (neighbours-sound (equal_two at) (λ a b. refl) (term t ∷ us))
-equality-sound at (refused x ∷ us) = chain-sound (neighbours (equal_two at) (refused x ∷ us)) (neighbours-sound (equal_two at) (λ a b. refl) (refused x ∷ us))
+equality-sound at (term t ∷ us) = chain-sound (neighbours (equal_two at) (term t ∷ us)) (neighbours-sound (equal_two at) (compare-sound (equal_terms at) (λ t u. refl)) (term t ∷ us))
+equality-sound at (either c d a b ∷ us) = chain-sound (neighbours (equal_two at) (either c d a b ∷ us)) (neighbours-sound (equal_two at) (compare-sound (equal_terms at) (λ t u. refl)) (either c d a b ∷ us))
+equality-sound at (refused x ∷ us) = chain-sound (neighbours (equal_two at) (refused x ∷ us)) (neighbours-sound (equal_two at) (compare-sound (equal_terms at) (λ t u. refl)) (refused x ∷ us))
+
+cond-sound : (b : Bool) (u v : Unfolded) → fault_of u ≡ None → fault_of v ≡ None → fault_of (cond b u v) ≡ None
+cond-sound true u v h k = h
+cond-sound false u v h k = k
 
 distinctness-sound : (at : Place) (us : List Unfolded) → fault_of (distinctness_form at us) ≡ None
 distinctness-sound at [] = refl
 distinctness-sound at (formula p n ∷ us) = refl
-distinctness-sound at (term t ∷ us) = refl
-distinctness-sound at (refused x ∷ us) = refl
+distinctness-sound at (term t ∷ us) = cond-sound (hold_either (term t ∷ us)) (and_of (pairs (differ_two at) (term t ∷ us))) (different (pairs (equal_two at) (term t ∷ us))) refl refl
+distinctness-sound at (refused x ∷ us) = cond-sound (hold_either (refused x ∷ us)) (and_of (pairs (differ_two at) (refused x ∷ us))) (different (pairs (equal_two at) (refused x ∷ us))) refl refl
+distinctness-sound at (either c d a b ∷ us) = refl
 
-choice-sound : (us : List Unfolded) → fault_of (choice_form us) ≡ None
+pick-sound : (c a b : Unfolded) → fault_of (choice_two c a b) ≡ None
+pick-sound c (formula p n) b = refl
+pick-sound c (term t) b = refl
+pick-sound c (refused x) b = refl
+pick-sound c (either f g x y) b = refl
+
+choice-sound : (us : List Unfolded) → fault_of (choice_tree us) ≡ None
 choice-sound [] = refl
 choice-sound (c ∷ []) = refl
 choice-sound (c ∷ a ∷ []) = refl
-choice-sound (c ∷ a ∷ b ∷ us) = refl
+choice-sound (c ∷ a ∷ b ∷ us) = pick-sound c a b
 
 negation-sound : (at : Place) (us : List Unfolded) → fault_of (unfolded_operation at negation us) ≡ None
 negation-sound at [] = refl
 negation-sound at (u ∷ us) = refl
 
-operation-met : (at : Place) (op : Operator) (us : List Unfolded) → first_fault us ≡ None → first_met (operation_events at op us) ≡ fault_of (unfolded_operation at op us)
-operation-met at truth us e = refl
-operation-met at falsehood us e = refl
-operation-met at negation us e = sym (negation-sound at us)
-operation-met at conjunction us e = refl
-operation-met at disjunction us e = refl
-operation-met at implication us e = sym (implies-sound us e)
-operation-met at exclusive us e = sym (exclusive-sound at us e)
-operation-met at equality us e = sym (equality-sound at us)
-operation-met at distinctness us e = sym (distinctness-sound at us)
-operation-met at choice us e = sym (choice-sound us)
-operation-met at minus us e = subtraction-met at us e
-operation-met at plus us e = all-met (add_tree at) (add_events at) (add-fits at) us e
-operation-met at times us e = all-met (multiply_tree at) (multiply_events at) (multiply-fits at) us e
-operation-met at divide us e = all-met (divide_tree at) (divide_events at) (divide-fits at) us e
-operation-met at at_most_op us e = sym (chain-sound (neighbours (at_most_two at) us) (neighbours-sound (at_most_two at) (λ a b. refl) us))
-operation-met at below_op us e = sym (chain-sound (neighbours (at_most_two at) us) (neighbours-sound (at_most_two at) (λ a b. refl) us))
-operation-met at at_least_op us e = sym (chain-sound (neighbours (at_least_two at) us) (neighbours-sound (at_least_two at) (λ a b. refl) us))
-operation-met at above_op us e = sym (chain-sound (neighbours (at_least_two at) us) (neighbours-sound (at_least_two at) (λ a b. refl) us))
+operation-met : (at : Place) (op : Operator) (us : List Unfolded) → first_fault us ≡ None → takes op us ≡ true → first_met (operation_events at op us) ≡ fault_of (unfolded_operation at op us)
+operation-met at truth us e t = refl
+operation-met at falsehood us e t = refl
+operation-met at negation us e t = sym (negation-sound at us)
+operation-met at conjunction us e t = refl
+operation-met at disjunction us e t = refl
+operation-met at implication us e t = sym (implies-sound us e)
+operation-met at exclusive us e t = sym (exclusive-sound at us e)
+operation-met at equality us e t = chain-silent us ∙ sym (equality-sound at us)
+operation-met at distinctness us e t = pairs-silent us ∙ sym (distinctness-sound at us)
+operation-met at choice us e t = sym (choice-sound us)
+operation-met at minus us e t = subtraction-met at us (both_true (are_terms us) _ t).0
+operation-met at plus us e t = all-met (add_tree at) (add_events at) (add-fits at) (add-top at) us (both_true (are_terms us) _ t).0
+operation-met at times us e t = all-met (multiply_tree at) (multiply_events at) (multiply-fits at) (multiply-top at) us (both_true (are_terms us) _ t).0
+operation-met at divide us e t = divided-met at (hold_either (behind_first us)) us (both_true (are_terms us) _ t).0
+operation-met at at_most_op us e t = chain-silent us ∙ sym (chain-sound (neighbours (at_most_two at) us) (neighbours-sound (at_most_two at) (compare-sound (at_most_terms at) (λ t u. refl)) us))
+operation-met at below_op us e t = chain-silent us ∙ sym (chain-sound (neighbours (at_most_two at) us) (neighbours-sound (at_most_two at) (compare-sound (at_most_terms at) (λ t u. refl)) us))
+operation-met at at_least_op us e t = chain-silent us ∙ sym (chain-sound (neighbours (at_least_two at) us) (neighbours-sound (at_least_two at) (compare-sound (at_least_terms at) (λ t u. refl)) us))
+operation-met at above_op us e t = chain-silent us ∙ sym (chain-sound (neighbours (at_least_two at) us) (neighbours-sound (at_least_two at) (compare-sound (at_least_terms at) (λ t u. refl)) us))
 
 operation-quiet : (at : Place) (op : Operator) (us : List Unfolded) → asked_in (operation_events at op us) ≡ []
 operation-quiet at minus us = subtraction-quiet at us
 operation-quiet at plus us = all-quiet (add_tree at) (add_events at) (add-fits at) us
 operation-quiet at times us = all-quiet (multiply_tree at) (multiply_events at) (multiply-fits at) us
-operation-quiet at divide us = all-quiet (divide_tree at) (divide_events at) (divide-fits at) us
+operation-quiet at divide us = divided-quiet at (hold_either (behind_first us)) us
+operation-quiet at equality us = chain-quiet us
+operation-quiet at distinctness us = pairs-quiet us
+operation-quiet at at_most_op us = chain-quiet us
+operation-quiet at below_op us = chain-quiet us
+operation-quiet at at_least_op us = chain-quiet us
+operation-quiet at above_op us = chain-quiet us
 operation-quiet at _ us = refl
 
-operator-met : (at : Place) (op : Operator) (us : List Unfolded) (x : Option Fault) → first_fault us ≡ x → (b : Bool) →
+operator-met : (at : Place) (op : Operator) (us : List Unfolded) (x : Option Fault) → first_fault us ≡ x → (b : Bool) → takes op us ≡ b →
     or_next x (first_met (unless_met x (cond b (operation_events at op us) (met (ill_formed at) ∷ [])))) ≡ fault_of (unless_refused x (cond b (unfolded_operation at op us) (refused (ill_formed at))))
-operator-met at op us (Some x) e b = refl
-operator-met at op us None e true = operation-met at op us e
-operator-met at op us None e false = refl
+operator-met at op us (Some x) e b t = refl
+operator-met at op us None e true t = operation-met at op us e t
+operator-met at op us None e false t = refl
 
 operator-quiet : (at : Place) (op : Operator) (us : List Unfolded) (x : Option Fault) (b : Bool) → asked_in (unless_met x (cond b (operation_events at op us) (met (ill_formed at) ∷ []))) ≡ []
 operator-quiet at op us (Some x) b = refl
@@ -291,7 +470,7 @@ apply-tells : (at : Place) (op : Operator) (us : List Unfolded) (ws : List Work)
 apply-tells at op us ws h = record {
   outcome = ap (operation_tree at op) (outcomes us ws h);
   fault = met-both (events_of ws) (operator_events at op (map outcome_of ws)) ∙ ap (λ x. or_next x (first_met (operator_events at op (map outcome_of ws)))) (events-met us ws h)
-      ∙ ap (λ vs. or_next (first_fault us) (first_met (operator_events at op vs))) (outcomes us ws h) ∙ operator-met at op us (first_fault us) refl (takes op us);
+      ∙ ap (λ vs. or_next (first_fault us) (first_met (operator_events at op vs))) (outcomes us ws h) ∙ operator-met at op us (first_fault us) refl (takes op us) refl;
   quiet = asked-both (events_of ws) (operator_events at op (map outcome_of ws)) ∙ ap (λ x. x ++ asked_in (operator_events at op (map outcome_of ws))) (events-quiet us ws h)
       ∙ operator-quiet at op (map outcome_of ws) (first_fault (map outcome_of ws)) (takes op (map outcome_of ws));
 }
@@ -364,6 +543,7 @@ mutual
 formula-met : (u : Unfolded) → or_next (fault_of u) (first_met (form_events (truth_of u))) ≡ tree_fault u
 formula-met (term t) = refl
 formula-met (formula p n) = form-met p
+formula-met (either c d a b) = refl
 formula-met (refused x) = refl
 
 assertion-met : (u : Unfolded) (w : Work) → Tells u w → first_met (assertion_events w) ≡ tree_fault u

@@ -3,14 +3,14 @@ use Rattle.std.proofs.Common.{◌≡◌, ℕ, suc, ◌+◌, List, [], ◌∷◌,
 use Rattle.std.specs.List.{AllByRecursion}
 use Rattle.dyadic.specs.Fraction.{Fraction}
 use Rattle.dyadic.specs.Point.{Sort, real_sort, bool_sort, Coordinate, at_fraction, at_bool, IsPoint}
-use Rattle.script_model.specs.Meaning.{Value, real, bool, pair_of, loosened, coordinate_value}
+use Rattle.script_model.specs.Meaning.{Value, real, bool, either as either_value, pair_of, loosened, coordinate_value}
 use Rattle.script_model.specs.Script.{Command, claims, Holds, Satisfies, sorts_of}
 use Rattle.script_model.specs.Declared.{numbered}
 use Rattle.script_model.proofs.Related.{Each, claims_alike}
 use Rattle.poly_graph.specs.Term.{coordinate}
 use Rattle.poly_graph.specs.Form.{form_atoms, forms_atoms}
 use Rattle.poly_graph.specs.Problem.{bool_holds}
-use Rattle.script_forms.specs.Terms.{Comparison, Unfolded, term, formula, refused, Fault}
+use Rattle.script_forms.specs.Terms.{Comparison, Unfolded, term, formula, refused, either, Fault}
 use Rattle.script_forms.specs.Unfolded.{as_tree, truth_of, forms_of}
 use Rattle.script_forms.specs.Atoms.{constant_tree, trees, whole_form, unfolding_fault, tree_fault, trees_fault, or_next, comparison_fault, comparisons_fault}
 use Rattle.dyadic.proofs.Equal.{≈_refl}
@@ -82,7 +82,12 @@ module _ (m : Fraction) (whole : List Coordinate) where
   all-or-none (bool p ∷ vs) (formula f g ∷ us) h e = with-first (holds m whole f) p.pos (all_hold m whole (forms_of truth_of us)) (AllByRecursion Holds (map pair_of vs)) h.0.pos
       (all-or-none vs us h.1 (no_fault (tree_fault (formula f g)) (trees_fault us) e).1)
   all-or-none (real q ∷ vs) (term t ∷ us) h e = ((λ x. absurd (true≢false (sym x))), (λ x. absurd (true≢false (sym x.0))))
+  all-or-none (either_value p v w ∷ vs) (either f g t u ∷ us) h e = ((λ x. absurd (true≢false (sym x))), (λ x. absurd (true≢false (sym x.0))))
   all-or-none (real q ∷ vs) (formula f g ∷ us) h e = elim h.0 [ ]
+  all-or-none (real q ∷ vs) (either f g t u ∷ us) h e = elim h.0 [ ]
+  all-or-none (bool p ∷ vs) (either f g t u ∷ us) h e = elim h.0 [ ]
+  all-or-none (either_value p v w ∷ vs) (term t ∷ us) h e = elim h.0 [ ]
+  all-or-none (either_value p v w ∷ vs) (formula f g ∷ us) h e = elim h.0 [ ]
   all-or-none (bool p ∷ vs) (term t ∷ us) h e = elim h.0 [ ]
   all-or-none (v ∷ vs) (refused x ∷ us) h e = cc
   all-or-none [] (u ∷ us) h e = elim h [ ]
@@ -109,6 +114,7 @@ each-has (c ∷ cs) h = let e = no_fault (comparison_fault c) (comparisons_fault
 
 tree-has : (u : Unfolded) → tree_fault u ≡ None → AllByRecursion HasTerm (form_atoms (truth_of u))
 tree-has (term t) h = tt
+tree-has (either f g t u) h = tt
 tree-has (formula f g) h = each-has (form_atoms f) h
 tree-has (refused x) h = cc
 

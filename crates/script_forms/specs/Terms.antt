@@ -1,5 +1,5 @@
 -- What an expression unfolds to, and the terms of Real expressions, built from the leaves up.
-use Rattle.std.specs.Prelude.{List, [], ◌∷◌, Bool, true, false, ◌&&◌, cond, nat_eq, ℤ, pos, negsuc, nat_abs}
+use Rattle.std.specs.Prelude.{List, [], ◌∷◌, Bool, true, false, ◌&&◌, ◌||◌, cond, nat_eq, ℤ, pos, negsuc, nat_abs}
 use Rattle.dyadic.specs.Fraction.{Fraction, zero_fraction, whole, negated, sum_of, product_of, quotient_of}
 use Rattle.script_model.specs.Sexp.{Place}
 use Rattle.poly_graph.specs.Term.{Term, constant, variable, negate, add, multiply, square, Kind}
@@ -24,6 +24,8 @@ pub data Unfolded : Type 0 where
   formula : Form Comparison → Form Comparison → Unfolded
   -- the first fault
   refused : Fault → Unfolded
+  -- of a Real `ite`: the forms of its condition's truth and of its negation, and what its arms unfold to
+  either : Form Comparison → Form Comparison → Unfolded → Unfolded → Unfolded
 
 -- ---- one and the same tree
 
@@ -78,13 +80,27 @@ abbrev pub divide_tree : Place → Term → Term → Unfolded
 divide_tree at t (constant q) = cond (is_nought q) (refused (zero_divisor at)) (multiply_tree at t (constant (inverse_of q)))
 divide_tree at t u = refused (divisor_not_constant at)
 
+-- ---- Real `ite`: what is done with it is done with each arm, the first one first, until a fault
+
+abbrev pub second_arm : Form Comparison → Form Comparison → Unfolded → Unfolded → Unfolded
+second_arm c d a (refused x) = refused x
+second_arm c d a b = either c d a b
+
+abbrev pub arms : Form Comparison → Form Comparison → Unfolded → Unfolded → Unfolded
+arms c d (refused x) b = refused x
+arms c d a b = second_arm c d a b
+
+abbrev pub lift_tree : (Term → Unfolded) → Unfolded → Unfolded
+lift_tree f (term t) = f t
+lift_tree f (formula p n) = formula p n
+lift_tree f (refused x) = refused x
+lift_tree f (either c d a b) = arms c d (lift_tree f a) (lift_tree f b)
+
 -- ---- the steps of several arguments from left to right, until a fault
 
+-- the arms of the first one first
 abbrev pub step : (Term → Term → Unfolded) → Unfolded → Unfolded → Unfolded
-step f (refused x) u = refused x
-step f (term t) (term u) = f t u
-step f (term t) (refused x) = refused x
-step f t u = t
+step f u v = lift_tree (λ t. lift_tree (f t) v) u
 
 abbrev pub steps : (Term → Term → Unfolded) → Unfolded → List Unfolded → Unfolded
 steps f t [] = t
@@ -97,8 +113,24 @@ all_steps f (t ∷ rest) = steps f t rest
 -- of one argument the opposite
 abbrev pub subtraction_tree : Place → List Unfolded → Unfolded
 subtraction_tree at [] = term (constant zero_fraction)
-subtraction_tree at (term t ∷ []) = term (negate_tree t)
-subtraction_tree at (t ∷ rest) = steps (subtract_tree at) t rest
+subtraction_tree at (u ∷ []) = lift_tree (λ t. term (negate_tree t)) u
+subtraction_tree at (u ∷ v ∷ rest) = steps (subtract_tree at) u (v ∷ rest)
+
+abbrev pub is_either : Unfolded → Bool
+is_either (either c d a b) = true
+is_either u = false
+
+abbrev pub hold_either : List Unfolded → Bool
+hold_either [] = false
+hold_either (u ∷ rest) = is_either u || hold_either rest
+
+abbrev pub behind_first : List Unfolded → List Unfolded
+behind_first [] = []
+behind_first (u ∷ rest) = rest
+
+-- a Real `ite` is no divisor
+abbrev pub quotient_tree : Place → List Unfolded → Unfolded
+quotient_tree at us = cond (hold_either (behind_first us)) (refused (divisor_not_constant at)) (all_steps (divide_tree at) us)
 
 -- ---- the term of a comparison, made when its form is asked for
 

@@ -7,7 +7,7 @@ use Rattle.script_model.specs.Meaning.{neighbours, pairs}
 use Rattle.poly_graph.specs.Term.{Term, constant, Kind, le, ge, eq}
 use Rattle.poly_graph.specs.Form.{Form, yes_form, no_form, atom_is, all_form, any_form, Forms, no_forms, more_forms}
 use Rattle.dyadic.specs.Lowest.{reduced}
-use Rattle.script_forms.specs.Terms.{Fault, ill_formed, Comparison, Unfolded, term, formula, refused, add_tree, multiply_tree, divide_tree, all_steps, subtraction_tree}
+use Rattle.script_forms.specs.Terms.{Fault, ill_formed, Comparison, Unfolded, term, formula, refused, either, add_tree, multiply_tree, all_steps, subtraction_tree, quotient_tree, hold_either}
 
 -- ---- parts
 
@@ -33,18 +33,18 @@ two f g = more_forms f (more_forms g no_forms)
 
 -- ---- comparisons of two terms, which stand in their forms
 
-abbrev pub compare : Place → Kind → Unfolded → Unfolded → Form Comparison
-compare at kind a b = atom_is (record { at = at; left = term_in a; right = term_in b; kind = kind })
+abbrev pub compare : Place → Kind → Term → Term → Form Comparison
+compare at kind t u = atom_is (record { at = at; left = t; right = u; kind = kind })
 
-abbrev pub at_most_two : Place → Unfolded → Unfolded → Unfolded
-at_most_two at a b = formula (compare at le a b) (compare at ge a b)
+abbrev pub at_most_terms : Place → Term → Term → Unfolded
+at_most_terms at t u = formula (compare at le t u) (compare at ge t u)
 
-abbrev pub at_least_two : Place → Unfolded → Unfolded → Unfolded
-at_least_two at a b = formula (compare at ge a b) (compare at le a b)
+abbrev pub at_least_terms : Place → Term → Term → Unfolded
+at_least_terms at t u = formula (compare at ge t u) (compare at le t u)
 
 -- that two terms differ says nothing where each atom is loosened
-abbrev pub equal_two : Place → Unfolded → Unfolded → Unfolded
-equal_two at a b = formula (compare at eq a b) yes_form
+abbrev pub equal_terms : Place → Term → Term → Unfolded
+equal_terms at t u = formula (compare at eq t u) yes_form
 
 -- ---- connectives, the parts of each form in the order in which they are made
 
@@ -86,6 +86,37 @@ choice_form (c ∷ a ∷ b ∷ _) = formula
     (any_form (two (all_form (two (truth_of c) (negation_form a))) (all_form (two (negation_form c) (negation_form b)))))
 choice_form _ = formula yes_form no_form
 
+-- ---- Real `ite`: what is said of it is the Bool `ite` of what is said of its arms
+
+abbrev pub lift_form : (Term → Unfolded) → Unfolded → Unfolded
+lift_form f (either c d a b) = choice_form (formula c d ∷ lift_form f a ∷ lift_form f b ∷ [])
+lift_form f u = f (term_in u)
+
+-- the first one is lifted first
+abbrev pub compare_two : (Term → Term → Unfolded) → Unfolded → Unfolded → Unfolded
+compare_two f u v = lift_form (λ t. lift_form (f t) v) u
+
+abbrev pub at_most_two : Place → Unfolded → Unfolded → Unfolded
+at_most_two at = compare_two (at_most_terms at)
+
+abbrev pub at_least_two : Place → Unfolded → Unfolded → Unfolded
+at_least_two at = compare_two (at_least_terms at)
+
+abbrev pub equal_two : Place → Unfolded → Unfolded → Unfolded
+equal_two at = compare_two (equal_terms at)
+
+abbrev pub differ_two : Place → Unfolded → Unfolded → Unfolded
+differ_two at u v = not_of (equal_two at u v)
+
+-- by the sort of its first arm
+abbrev pub choice_two : Unfolded → Unfolded → Unfolded → Unfolded
+choice_two c (formula p n) b = choice_form (c ∷ formula p n ∷ b ∷ [])
+choice_two c a b = either (truth_of c) (negation_form c) a b
+
+abbrev pub choice_tree : List Unfolded → Unfolded
+choice_tree (c ∷ a ∷ b ∷ _) = choice_two c a b
+choice_tree _ = formula yes_form no_form
+
 abbrev pub not_first : List Unfolded → Unfolded
 not_first [] = formula yes_form no_form
 not_first (u ∷ rest) = not_of u
@@ -100,13 +131,13 @@ abbrev pub equality_form : Place → List Unfolded → Unfolded
 equality_form at (formula p n ∷ rest) = chain (neighbours (λ a b. not_of (xor_of a b)) (formula p n ∷ rest))
 equality_form at us = chain (neighbours (equal_two at) us)
 
--- of Reals: that they differ is true, and its negation is that some pair is equal
+-- of Reals without an `ite`: that they differ is true, and its negation is that some pair is equal
 abbrev pub different : List Unfolded → Unfolded
 different us = formula yes_form (any_form (forms_of truth_of us))
 
 abbrev pub distinctness_form : Place → List Unfolded → Unfolded
 distinctness_form at (formula p n ∷ rest) = and_of (pairs xor_of (formula p n ∷ rest))
-distinctness_form at us = different (pairs (equal_two at) us)
+distinctness_form at us = cond (hold_either us) (and_of (pairs (differ_two at) us)) (different (pairs (equal_two at) us))
 
 -- an operator at arguments without a fault
 abbrev pub unfolded_operation : Place → Operator → List Unfolded → Unfolded
@@ -119,11 +150,11 @@ unfolded_operation at implication us = implies_of us
 unfolded_operation at exclusive us = xor_all us
 unfolded_operation at equality us = equality_form at us
 unfolded_operation at distinctness us = distinctness_form at us
-unfolded_operation at choice us = choice_form us
+unfolded_operation at choice us = choice_tree us
 unfolded_operation at minus us = subtraction_tree at us
 unfolded_operation at plus us = all_steps (add_tree at) us
 unfolded_operation at times us = all_steps (multiply_tree at) us
-unfolded_operation at divide us = all_steps (divide_tree at) us
+unfolded_operation at divide us = quotient_tree at us
 unfolded_operation at at_most_op us = chain (neighbours (at_most_two at) us)
 unfolded_operation at below_op us = chain (neighbours (at_most_two at) us)
 unfolded_operation at at_least_op us = chain (neighbours (at_least_two at) us)
@@ -131,10 +162,15 @@ unfolded_operation at above_op us = chain (neighbours (at_least_two at) us)
 
 -- ---- which arguments an operator takes
 
+-- a term, or a Real `ite` of such
+abbrev pub is_real_tree : Unfolded → Bool
+is_real_tree (term t) = true
+is_real_tree (either c d a b) = is_real_tree a && is_real_tree b
+is_real_tree u = false
+
 abbrev pub are_terms : List Unfolded → Bool
 are_terms [] = true
-are_terms (term t ∷ rest) = are_terms rest
-are_terms (_ ∷ rest) = false
+are_terms (u ∷ rest) = is_real_tree u && are_terms rest
 
 abbrev pub are_formulas : List Unfolded → Bool
 are_formulas [] = true
@@ -143,6 +179,11 @@ are_formulas (_ ∷ rest) = false
 
 abbrev pub at_least_long : ℕ → List Unfolded → Bool
 at_least_long n us = nat_le n (length us)
+
+-- a Real `ite`
+abbrev pub picks_terms : List Unfolded → Bool
+picks_terms (formula p n ∷ rest) = are_terms rest && nat_eq (length rest) 2
+picks_terms us = false
 
 abbrev pub takes : Operator → List Unfolded → Bool
 takes truth us = nat_eq (length us) 0
@@ -154,7 +195,7 @@ takes implication us = are_formulas us && at_least_long 2 us
 takes exclusive us = are_formulas us && at_least_long 2 us
 takes equality us = (are_formulas us || are_terms us) && at_least_long 2 us
 takes distinctness us = (are_formulas us || are_terms us) && at_least_long 2 us
-takes choice us = are_formulas us && nat_eq (length us) 3
+takes choice us = (are_formulas us && nat_eq (length us) 3) || picks_terms us
 takes minus us = are_terms us && at_least_long 1 us
 takes plus us = are_terms us && at_least_long 1 us
 takes times us = are_terms us && at_least_long 1 us

@@ -1,10 +1,11 @@
 -- What the builder does with an expression, in reading order: a meaning beside its unfolding.
 use Rattle.std.specs.Prelude.{List, [], ◌∷◌, ◌++◌, map, Option, Some, None, cond}
 use Rattle.script_model.specs.Sexp.{Place}
-use Rattle.script_model.specs.Reading.{Operator, minus, plus, times, divide, Meanings}
+use Rattle.script_model.specs.Reading.{Operator, equality, distinctness, minus, plus, times, divide, at_most_op, below_op, at_least_op, above_op, Meanings}
+use Rattle.script_model.specs.Meaning.{neighbours, pairs}
 use Rattle.poly_graph.specs.Term.{Term, constant, Atom}
 use Rattle.poly_graph.specs.Form.{Form, yes_form, no_form, atom_is, bool_is, all_form, any_form, Forms, no_forms, more_forms, forms_map}
-use Rattle.script_forms.specs.Terms.{Fault, ill_formed, Comparison, Unfolded, term, refused, is_nought, inverse_of, is_zero, negate_tree, add_tree, multiply_tree, divide_tree, subtract_tree, step}
+use Rattle.script_forms.specs.Terms.{Fault, ill_formed, divisor_not_constant, Comparison, Unfolded, term, refused, either, hold_either, behind_first, is_nought, inverse_of, is_zero, negate_tree, add_tree, multiply_tree, divide_tree, subtract_tree, step}
 use Rattle.script_forms.specs.Unfolded.{as_tree, truth_of, takes, first_fault}
 use Rattle.script_forms.specs.Atoms.{atom_of}
 
@@ -54,10 +55,15 @@ add_events at t u = ending (add_tree at t u)
 abbrev pub multiply_events : Place → Term → Term → List Event
 multiply_events at t u = ending (multiply_tree at t u)
 
+-- of what is done with each arm of a Real `ite`, which counts as one expression more
+abbrev pub lift_events : (Term → List Event) → Unfolded → List Event
+lift_events g (term t) = g t
+lift_events g (either c d a b) = reached ∷ lift_events g a ++ lift_events g b
+lift_events g u = []
+
 -- of a step that is taken
 abbrev pub step_events : (Term → Term → List Event) → Unfolded → Unfolded → List Event
-step_events g (term t) (term u) = g t u
-step_events g t u = []
+step_events g u v = lift_events (λ t. lift_events (g t) v) u
 
 -- of several arguments, from left to right
 abbrev pub steps_events : (Term → Term → Unfolded) → (Term → Term → List Event) → Unfolded → List Unfolded → List Event
@@ -69,15 +75,32 @@ all_events f g [] = []
 all_events f g (t ∷ rest) = steps_events f g t rest
 
 abbrev pub subtraction_events : Place → List Unfolded → List Event
-subtraction_events at (term t ∷ []) = made (negate_tree t) ∷ []
+subtraction_events at (u ∷ []) = lift_events (λ t. made (negate_tree t) ∷ []) u
 subtraction_events at us = all_events (subtract_tree at) (subtract_events at) us
+
+abbrev pub quotient_events : Place → List Unfolded → List Event
+quotient_events at us = cond (hold_either (behind_first us)) (met (divisor_not_constant at) ∷ []) (all_events (divide_tree at) (divide_events at) us)
+
+-- a comparison makes nothing yet; each Real `ite` that is lifted out of it counts
+abbrev pub compare_events : Unfolded → Unfolded → List Event
+compare_events u v = step_events (λ t x. []) u v
+
+abbrev pub together : List (List Event) → List Event
+together [] = []
+together (es ∷ rest) = es ++ together rest
 
 -- an operator at arguments without a fault: one of Bools makes nothing yet
 abbrev pub operation_events : Place → Operator → List Unfolded → List Event
 operation_events at minus us = subtraction_events at us
 operation_events at plus us = all_events (add_tree at) (add_events at) us
 operation_events at times us = all_events (multiply_tree at) (multiply_events at) us
-operation_events at divide us = all_events (divide_tree at) (divide_events at) us
+operation_events at divide us = quotient_events at us
+operation_events at equality us = together (neighbours compare_events us)
+operation_events at distinctness us = together (pairs compare_events us)
+operation_events at at_most_op us = together (neighbours compare_events us)
+operation_events at below_op us = together (neighbours compare_events us)
+operation_events at at_least_op us = together (neighbours compare_events us)
+operation_events at above_op us = together (neighbours compare_events us)
 operation_events at op us = []
 
 -- after a fault of the arguments nothing is done

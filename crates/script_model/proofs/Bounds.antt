@@ -4,10 +4,11 @@ use native.Mathlib.Nat.{one-le-pow}
 use Rattle.std.specs.List.{AllByRecursion}
 use Rattle.dyadic.specs.Fraction.{Fraction, IsFraction, zero_fraction, negated, sum_of, difference_of, product_of, quotient_of, over, at_most}
 use Rattle.dyadic.specs.Point.{Sort, real_sort, bool_sort}
-use Rattle.script_model.specs.Reading.{Operator, conjunction, equality, minus, plus, times, divide, at_most_op, below_op, at_least_op, above_op}
-use Rattle.script_model.specs.Meaning.{Value, fraction_of, operation, neighbours, from_left, first_and_rest, subtraction}
+use Rattle.script_model.specs.Reading.{Operator, conjunction, equality, choice, minus, plus, times, divide, at_most_op, below_op, at_least_op, above_op}
+use Rattle.script_model.specs.Meaning.{Pair, Value, real, bool, either, fraction_of, operation, neighbours, from_left, first_and_rest, lift_value, step_values, subtract_values}
+use Rattle.script_model.specs.Exact.{subtraction}
 use Rattle.script_model.specs.Script.{Command, sorts_of}
-use Rattle.script_model.specs.Declared.{Side, lower, upper, Bound, Bounding, known, constant_of, other, bounds, at_most_bounds, at_least_bounds, equal_bounds, concat, bounds_in, with_first, all_known, computed, alone, bounding_operation, bounding, constant_bounding, numbered, script_bounds, is_side, values_on, greatest, least, tightest_end, default_low, default_high, declared_interval}
+use Rattle.script_model.specs.Declared.{Side, lower, upper, Bound, Bounding, known, constant_of, other, bounds, at_most_bounds, at_least_bounds, equal_bounds, concat, bounds_in, with_first, all_known, computed, alone, bounding_operation, bounding, constant_bounding, numbered, script_bounds, is_side, values_on, greatest, least, tightest_end, default_low, default_high, declared_interval, arm_bounding, choice_bounding}
 use Rattle.script_model.proofs.Related.{Each, Respects, claims_alike, Nothing, said, silent}
 
 abbrev pub AreFractions : List Fraction → Type 0
@@ -56,49 +57,84 @@ chain-good f g (a ∷ b ∷ bs) h = join (f a b) (concat (neighbours f (b ∷ bs
 
 -- ---- values of constant expressions
 
-negated-is : (q : Fraction) → IsFraction q → IsFraction (negated q)
+pub negated_is : (q : Fraction) → IsFraction q → IsFraction (negated q)
 unfolding negated
-negated-is q h = h
+negated_is q h = h
 
-sum-is : (p q : Fraction) → IsFraction p → IsFraction q → IsFraction (sum_of p q)
+pub sum_is : (p q : Fraction) → IsFraction p → IsFraction q → IsFraction (sum_of p q)
 unfolding sum_of
-sum-is p q h k = mul-pos h k
+sum_is p q h k = mul-pos h k
 
-difference-is : (p q : Fraction) → IsFraction p → IsFraction q → IsFraction (difference_of p q)
-difference-is p q h k = sum-is p (negated q) h (negated-is q k)
+pub difference_is : (p q : Fraction) → IsFraction p → IsFraction q → IsFraction (difference_of p q)
+difference_is p q h k = sum_is p (negated q) h (negated_is q k)
 
-product-is : (p q : Fraction) → IsFraction p → IsFraction q → IsFraction (product_of p q)
+pub product_is : (p q : Fraction) → IsFraction p → IsFraction q → IsFraction (product_of p q)
 unfolding product_of
-product-is p q h k = mul-pos h k
+product_is p q h k = mul-pos h k
 
 over-is : (a : Fraction) (n : ℤ) (d : ℕ) → IsFraction a → IsFraction (over a n d)
 over-is a (pos zero) d h = omega arith
 over-is a (pos (suc n)) d h = mul-pos h (omega arith)
 over-is a (negsuc n) d h = mul-pos h (omega arith)
 
-quotient-is : (p q : Fraction) → IsFraction p → IsFraction q → IsFraction (quotient_of p q)
+pub quotient_is : (p q : Fraction) → IsFraction p → IsFraction q → IsFraction (quotient_of p q)
 unfolding quotient_of
-quotient-is p q h k = over-is p q.num q.den h
+quotient_is p q h k = over-is p q.num q.den h
 
-abbrev Keeps : (Fraction → Fraction → Fraction) → Type 0
+abbrev pub Keeps : (Fraction → Fraction → Fraction) → Type 0
 Keeps f = (p q : Fraction) → IsFraction p → IsFraction q → IsFraction (f p q)
 
 from-left-is : (f : Fraction → Fraction → Fraction) → Keeps f → (q : Fraction) (qs : List Fraction) → IsFraction q → AreFractions qs → IsFraction (from_left f q qs)
 from-left-is f g q [] h k = h
 from-left-is f g q (r ∷ qs) h k = from-left-is f g (f q r) qs (g q r h k.0) k.1
 
-first-and-rest-is : (f : Fraction → Fraction → Fraction) → Keeps f → (qs : List Fraction) → AreFractions qs → IsFraction (first_and_rest f zero_fraction qs)
-first-and-rest-is f g [] h = omega arith
-first-and-rest-is f g (q ∷ qs) h = from-left-is f g q qs h.0 h.1
+pub first_and_rest_is : (f : Fraction → Fraction → Fraction) → Keeps f → (qs : List Fraction) → AreFractions qs → IsFraction (first_and_rest f zero_fraction qs)
+first_and_rest_is f g [] h = omega arith
+first_and_rest_is f g (q ∷ qs) h = from-left-is f g q qs h.0 h.1
 
-subtraction-is : (qs : List Fraction) → AreFractions qs → IsFraction (subtraction qs)
-subtraction-is [] h = omega arith
-subtraction-is (q ∷ []) h = negated-is q h.0
-subtraction-is (q ∷ r ∷ qs) h = from-left-is difference_of difference-is (difference_of q r) qs (difference-is q r h.0 h.1.0) h.1.1
+pub subtraction_is : (qs : List Fraction) → AreFractions qs → IsFraction (subtraction qs)
+subtraction_is [] h = omega arith
+subtraction_is (q ∷ []) h = negated_is q h.0
+subtraction_is (q ∷ r ∷ qs) h = from-left-is difference_of difference_is (difference_of q r) qs (difference_is q r h.0 h.1.0) h.1.1
+
+-- all that a value may be are fractions
+abbrev pub IsGoodValue : Value → Type 0
+IsGoodValue (real q) = IsFraction q
+IsGoodValue (bool t) = Unit {0}
+IsGoodValue (either c a b) = IsGoodValue a × IsGoodValue b
+
+abbrev pub AreGoodValues : List Value → Type 0
+AreGoodValues vs = AllByRecursion IsGoodValue vs
+
+value-is : (v : Value) → IsGoodValue v → IsFraction (fraction_of v)
+value-is (real q) h = h
+value-is (bool t) h = omega arith
+value-is (either c a b) h = omega arith
+
+lift-good : (f : Fraction → Value) → ((q : Fraction) → IsFraction q → IsGoodValue (f q)) → (v : Value) → IsGoodValue v → IsGoodValue (lift_value f v)
+lift-good f g (either c a b) h = (lift-good f g a h.0, lift-good f g b h.1)
+lift-good f g (real q) h = g q h
+lift-good f g (bool t) h = g zero_fraction (omega arith)
+
+step-good : (f : Fraction → Fraction → Fraction) → Keeps f → (v w : Value) → IsGoodValue v → IsGoodValue w → IsGoodValue (step_values f v w)
+step-good f g v w h k = lift-good (λ p. lift_value (λ q. real (f p q)) w) (λ p i. lift-good (λ q. real (f p q)) (λ q j. g p q i j) w k) v h
+
+steps-good : (f : Fraction → Fraction → Fraction) → Keeps f → (v : Value) (vs : List Value) → IsGoodValue v → AreGoodValues vs → IsGoodValue (from_left (step_values f) v vs)
+steps-good f g v [] h k = h
+steps-good f g v (w ∷ vs) h k = steps-good f g (step_values f v w) vs (step-good f g v w h k.0) k.1
+
+all-steps-good : (f : Fraction → Fraction → Fraction) → Keeps f → (vs : List Value) → AreGoodValues vs → IsFraction (fraction_of (first_and_rest (step_values f) (real zero_fraction) vs))
+all-steps-good f g [] h = omega arith
+all-steps-good f g (v ∷ vs) h = value-is (from_left (step_values f) v vs) (steps-good f g v vs h.0 h.1)
+
+subtract-good : (vs : List Value) → AreGoodValues vs → IsFraction (fraction_of (subtract_values vs))
+subtract-good [] h = omega arith
+subtract-good (v ∷ []) h = value-is (lift_value (λ q. real (negated q)) v) (lift-good (λ q. real (negated q)) (λ q i. negated_is q i) v h.0)
+subtract-good (v ∷ w ∷ vs) h = value-is (from_left (step_values difference_of) v (w ∷ vs)) (steps-good difference_of difference_is v (w ∷ vs) h.0 h.1)
 
 abbrev IfKnown : Option (List Value) → Type 0
 IfKnown None = Unit {0}
-IfKnown (Some vs) = AreFractions (map fraction_of vs)
+IfKnown (Some vs) = AreGoodValues vs
 
 known-first : (q : Fraction) (o : Option (List Value)) → IsFraction q → IfKnown o → IfKnown (with_first q o)
 known-first q None h k = tt
@@ -109,14 +145,29 @@ all-known-is [] h = tt
 all-known-is (known q ∷ bs) h = known-first q (all_known bs) h.0 (all-known-is bs h.1)
 all-known-is (_ ∷ bs) h = tt
 
-computed-good : (op : Operator) → ((vs : List Value) → AreFractions (map fraction_of vs) → IsFraction (fraction_of (operation zero_fraction op vs))) → (o : Option (List Value)) → IfKnown o → IsGood (computed op o)
+abbrev Gives : Operator → Type 0
+Gives op = (vs : List Value) → AreGoodValues vs → IsFraction (fraction_of (operation zero_fraction op vs))
+
+computed-good : (op : Operator) → Gives op → (o : Option (List Value)) → IfKnown o → IsGood (computed op o)
 computed-good op g None h = tt
 computed-good op g (Some vs) h = g vs h
 
-alone-good : (op : Operator) → ((vs : List Value) → AreFractions (map fraction_of vs) → IsFraction (fraction_of (operation zero_fraction op vs))) → (bs : List Bounding) → EachGood bs → IsGood (alone op bs)
+alone-good : (op : Operator) → Gives op → (bs : List Bounding) → EachGood bs → IsGood (alone op bs)
 alone-good op g [] h = g [] tt
 alone-good op g (b ∷ []) h = h.0
 alone-good op g (b ∷ c ∷ bs) h = computed-good op g (all_known (b ∷ c ∷ bs)) (all-known-is (b ∷ c ∷ bs) h)
+
+arm-good : (b : Bounding) → IsGood (arm_bounding b)
+arm-good (bounds bs) = tt
+arm-good (known q) = tt
+arm-good (constant_of i) = tt
+arm-good other = tt
+
+choice-good : (bs : List Bounding) → IsGood (choice_bounding bs)
+choice-good [] = tt
+choice-good (c ∷ []) = tt
+choice-good (c ∷ a ∷ []) = tt
+choice-good (c ∷ a ∷ b ∷ rest) = arm-good a
 
 operation-good : (op : Operator) (bs : List Bounding) → EachGood bs → IsGood (bounding_operation op bs)
 operation-good conjunction bs h = concat-in-good bs h
@@ -125,10 +176,11 @@ operation-good below_op bs h = chain-good at_most_bounds at-most-good bs h
 operation-good at_least_op bs h = chain-good at_least_bounds at-least-good bs h
 operation-good above_op bs h = chain-good at_least_bounds at-least-good bs h
 operation-good equality bs h = chain-good equal_bounds equal-good bs h
-operation-good plus bs h = alone-good plus (λ vs k. first-and-rest-is sum_of sum-is (map fraction_of vs) k) bs h
-operation-good times bs h = alone-good times (λ vs k. first-and-rest-is product_of product-is (map fraction_of vs) k) bs h
-operation-good minus bs h = computed-good minus (λ vs k. subtraction-is (map fraction_of vs) k) (all_known bs) (all-known-is bs h)
-operation-good divide bs h = computed-good divide (λ vs k. first-and-rest-is quotient_of quotient-is (map fraction_of vs) k) (all_known bs) (all-known-is bs h)
+operation-good choice bs h = choice-good bs
+operation-good plus bs h = alone-good plus (all-steps-good sum_of sum_is) bs h
+operation-good times bs h = alone-good times (all-steps-good product_of product_is) bs h
+operation-good minus bs h = computed-good minus subtract-good (all_known bs) (all-known-is bs h)
+operation-good divide bs h = computed-good divide (all-steps-good quotient_of quotient_is) (all_known bs) (all-known-is bs h)
 operation-good op bs h = tt
 
 abbrev Good : Nothing → Bounding → Type 0

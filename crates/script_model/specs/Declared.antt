@@ -1,7 +1,7 @@
 -- The declared box: the bounds that the assertions give to the Real constants.
 use Rattle.std.specs.Prelude.{ℕ, suc, List, [], ◌∷◌, ◌++◌, map, Bool, true, false, not, Option, Some, None, nat_eq, cond, ◌&&◌, ◌||◌, ◌^◌, IsTrue, pos, neg_ℤ, nat_abs}
 use Rattle.dyadic.specs.Fraction.{Fraction, IsFraction, zero_fraction, at_most, whole}
-use Rattle.script_model.specs.Reading.{Operator, conjunction, equality, minus, plus, times, divide, at_most_op, below_op, at_least_op, above_op, Meanings}
+use Rattle.script_model.specs.Reading.{Operator, conjunction, equality, choice, minus, plus, times, divide, at_most_op, below_op, at_least_op, above_op, Meanings}
 use Rattle.dyadic.specs.Point.{Sort, real_sort, bool_sort, Coordinate, at_fraction, at_bool}
 use Rattle.dyadic.specs.Rounding.{Ext, finite, exact, down}
 use Rattle.script_model.specs.Meaning.{Value, real, fraction_of, operation, neighbours}
@@ -71,6 +71,15 @@ abbrev pub alone : Operator → List Bounding → Bounding
 alone op (b ∷ []) = b
 alone op bs = computed op (all_known bs)
 
+-- a Real `ite` is no constant expression
+abbrev pub arm_bounding : Bounding → Bounding
+arm_bounding (bounds bs) = bounds []
+arm_bounding _ = other
+
+abbrev pub choice_bounding : List Bounding → Bounding
+choice_bounding (c ∷ a ∷ b ∷ _) = arm_bounding a
+choice_bounding _ = bounds []
+
 -- bounds come from comparisons under conjunctions alone
 abbrev pub bounding_operation : Operator → List Bounding → Bounding
 bounding_operation conjunction bs = bounds (concat (map bounds_in bs))
@@ -79,6 +88,7 @@ bounding_operation below_op bs = bounds (concat (neighbours at_most_bounds bs))
 bounding_operation at_least_op bs = bounds (concat (neighbours at_least_bounds bs))
 bounding_operation above_op bs = bounds (concat (neighbours at_least_bounds bs))
 bounding_operation equality bs = bounds (concat (neighbours equal_bounds bs))
+bounding_operation choice bs = choice_bounding bs
 bounding_operation plus bs = alone plus bs
 bounding_operation times bs = alone times bs
 bounding_operation minus bs = computed minus (all_known bs)

@@ -1,4 +1,6 @@
 pub mod Declared
+pub mod Exact
+pub mod Laws
 pub mod Meaning
 pub mod Reading
 pub mod Script

@@ -14,15 +14,17 @@ pub record Pair : Type 0 where
 pub data Value : Type 0 where
   real : Fraction → Value
   bool : Pair → Value
+  -- a Real `ite`: what it stands for where its condition holds, and where the negation of its condition does
+  either : Pair → Value → Value → Value
 
 -- of a value of the other sort: no accepted script asks
 abbrev pub fraction_of : Value → Fraction
 fraction_of (real q) = q
-fraction_of (bool t) = zero_fraction
+fraction_of _ = zero_fraction
 
 abbrev pub pair_of : Value → Pair
 pair_of (bool t) = t
-pair_of (real q) = record { pos = false; neg = false }
+pair_of _ = record { pos = false; neg = false }
 
 -- ---- comparisons of a and b, loosened by m
 
@@ -46,9 +48,6 @@ at_least_pair m a b = record { pos = not_below m a b; neg = not_above m a b }
 
 abbrev pub equal_pair : Fraction → Fraction → Fraction → Pair
 equal_pair m a b = record { pos = near m a b; neg = true }
-
-abbrev pub different_pair : Fraction → Fraction → Fraction → Pair
-different_pair m a b = record { pos = true; neg = near m a b }
 
 -- ---- connectives
 
@@ -120,26 +119,52 @@ abbrev pub first_and_rest : {A : Type 0} → (A → A → A) → A → List A �
 first_and_rest f missing [] = missing
 first_and_rest f missing (a ∷ rest) = from_left f a rest
 
+-- ---- Real `ite`: what is said of it is said of each arm, under its condition
+
+-- what f makes of each arm
+abbrev pub lift_value : (Fraction → Value) → Value → Value
+lift_value f (either c a b) = either c (lift_value f a) (lift_value f b)
+lift_value f v = f (fraction_of v)
+
+-- a step of two values, the arms of the first one first
+abbrev pub step_values : (Fraction → Fraction → Fraction) → Value → Value → Value
+step_values f v w = lift_value (λ p. lift_value (λ q. real (f p q)) w) v
+
+-- what f says of a value is the Bool `ite` of what it says of the arms
+abbrev pub lift_pair : (Fraction → Pair) → Value → Pair
+lift_pair f (either c a b) = choice_pair c (lift_pair f a) (lift_pair f b)
+lift_pair f v = f (fraction_of v)
+
+-- a comparison of two values, the arms of the first one first
+abbrev pub compare_values : (Fraction → Fraction → Pair) → Value → Value → Pair
+compare_values f v w = lift_pair (λ p. lift_pair (λ q. f p q) w) v
+
+abbrev pub differing_values : Fraction → Value → Value → Pair
+differing_values m v w = not_pair (compare_values (equal_pair m) v w)
+
 -- of one argument the opposite
-abbrev pub subtraction : List Fraction → Fraction
-subtraction [] = zero_fraction
-subtraction (a ∷ []) = negated a
-subtraction (a ∷ b ∷ rest) = from_left difference_of (difference_of a b) rest
+abbrev pub subtract_values : List Value → Value
+subtract_values [] = real zero_fraction
+subtract_values (a ∷ []) = lift_value (λ q. real (negated q)) a
+subtract_values (a ∷ b ∷ rest) = from_left (step_values difference_of) a (b ∷ rest)
 
 -- = and distinct, by the sort of the first argument
 abbrev pub equality_of : Fraction → List Value → Pair
-equality_of m (real q ∷ rest) = all_pair (neighbours (equal_pair m) (map fraction_of (real q ∷ rest)))
 equality_of m (bool t ∷ rest) = all_pair (neighbours (λ a b. not_pair (xor_pair a b)) (map pair_of (bool t ∷ rest)))
-equality_of m [] = true_pair
+equality_of m args = all_pair (neighbours (compare_values (equal_pair m)) args)
 
 abbrev pub distinctness_of : Fraction → List Value → Pair
-distinctness_of m (real q ∷ rest) = all_pair (pairs (different_pair m) (map fraction_of (real q ∷ rest)))
 distinctness_of m (bool t ∷ rest) = all_pair (pairs xor_pair (map pair_of (bool t ∷ rest)))
-distinctness_of m [] = true_pair
+distinctness_of m args = all_pair (pairs (differing_values m) args)
 
-abbrev pub choice_of : List Pair → Pair
-choice_of (c ∷ a ∷ b ∷ _) = choice_pair c a b
-choice_of _ = true_pair
+-- `ite`, by the sort of its first arm
+abbrev pub choice_value : Pair → Value → Value → Value
+choice_value c (bool a) b = bool (choice_pair c a (pair_of b))
+choice_value c a b = either c a b
+
+abbrev pub choice_of : List Value → Value
+choice_of (c ∷ a ∷ b ∷ _) = choice_value (pair_of c) a b
+choice_of _ = bool true_pair
 
 abbrev pub negation_of : List Pair → Pair
 negation_of (a ∷ _) = not_pair a
@@ -156,15 +181,15 @@ operation m implication args = bool (implies_pair (map pair_of args))
 operation m exclusive args = bool (first_and_rest xor_pair true_pair (map pair_of args))
 operation m equality args = bool (equality_of m args)
 operation m distinctness args = bool (distinctness_of m args)
-operation m choice args = bool (choice_of (map pair_of args))
-operation m minus args = real (subtraction (map fraction_of args))
-operation m plus args = real (first_and_rest sum_of zero_fraction (map fraction_of args))
-operation m times args = real (first_and_rest product_of zero_fraction (map fraction_of args))
-operation m divide args = real (first_and_rest quotient_of zero_fraction (map fraction_of args))
-operation m at_most_op args = bool (all_pair (neighbours (at_most_pair m) (map fraction_of args)))
-operation m below_op args = bool (all_pair (neighbours (at_most_pair m) (map fraction_of args)))
-operation m at_least_op args = bool (all_pair (neighbours (at_least_pair m) (map fraction_of args)))
-operation m above_op args = bool (all_pair (neighbours (at_least_pair m) (map fraction_of args)))
+operation m choice args = choice_of args
+operation m minus args = subtract_values args
+operation m plus args = first_and_rest (step_values sum_of) (real zero_fraction) args
+operation m times args = first_and_rest (step_values product_of) (real zero_fraction) args
+operation m divide args = first_and_rest (step_values quotient_of) (real zero_fraction) args
+operation m at_most_op args = bool (all_pair (neighbours (compare_values (at_most_pair m)) args))
+operation m below_op args = bool (all_pair (neighbours (compare_values (at_most_pair m)) args))
+operation m at_least_op args = bool (all_pair (neighbours (compare_values (at_least_pair m)) args))
+operation m above_op args = bool (all_pair (neighbours (compare_values (at_least_pair m)) args))
 
 -- SMT-LIB 2.6, theories Core and Reals; each comparison is loosened by m (Gao, Avigad, Clarke 2012)
 abbrev pub loosened : Fraction → Meanings Value

@@ -1,7 +1,7 @@
 -- First faults of names and sorts, with their places.
 use Rattle.std.proofs.Common.{◌≡◌, codes, Some, None, refl}
 use Prim.Native.String.{String}
-use Rattle.sort_check.specs.Sorts.{unknown_symbol, redeclared, sort_mismatch, real_choice, left_out_form, Finding, sort_fault}
+use Rattle.sort_check.specs.Sorts.{unknown_symbol, redeclared, sort_mismatch, left_out_form, Finding, sort_fault}
 use Rattle.script_rows.proofs.Asked.{at, of_text}
 
 abbrev fault : String → Finding
@@ -94,7 +94,7 @@ empty_let = refl
 
 -- ---- a choice
 
-real_arms : fault "(declare-const x Real)\n(assert (= x (ite true 2 3)))" ≡ Some (at 2 14, real_choice)
+real_arms : fault "(declare-const x Real)\n(assert (= x (ite true 2 3)))" ≡ None
 real_arms = refl
 
 mixed_arms : fault "(declare-const x Real)\n(assert (= x (ite true 2 false)))" ≡ Some (at 2 14, sort_mismatch)

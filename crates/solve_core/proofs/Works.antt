@@ -5,7 +5,7 @@ use Rattle.poly_graph.specs.Problem.{Problem}
 use Rattle.poly_graph.specs.ProblemViews.{Parts, problem_of}
 use Rattle.interval_model.specs.Space.{Space, middle}
 use Rattle.cover_model.specs.State.{State, Loosenings, may, sure}
-use Rattle.cover_model.specs.Rules.{Line, pull, unit, ban, void, push, void_no, make_false, by, cut, flip, case, open_line, stuck}
+use Rattle.cover_model.specs.Rules.{Line, pull, unit, ban, void, push, void_no, combine, void_combine, make_false, by, cut, flip, case, open_line, stuck}
 use Rattle.cover_model.specs.Honest.{not_shown}
 use Rattle.cover_data.specs.declared.kept.KeptPatch.{KeptPatch}
 use Rattle.cover_data.specs.declared.step.End.{End}
@@ -52,6 +52,8 @@ closing-branch : (l : Line) → IsTrue (is_closing l) → IsTrue (is_branch l) �
 closing-branch (void j) h k = true≢false (sym k)
 closing-branch (void_no j) h k = true≢false (sym k)
 closing-branch (push j) h k = true≢false (sym h)
+closing-branch (combine ms) h k = true≢false (sym h)
+closing-branch (void_combine ms) h k = true≢false (sym k)
 closing-branch make_false h k = true≢false (sym k)
 closing-branch (by i) h k = true≢false (sym k)
 closing-branch (cut axis c) h k = true≢false (sym h)

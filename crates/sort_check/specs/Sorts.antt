@@ -9,8 +9,8 @@ use Rattle.script_model.specs.Script.{Command, declare, define, claim, Parameter
 pub data SortFault : Type 0 where
   unknown_symbol redeclared : List ℕ → SortFault
   sort_mismatch : SortFault
-  -- left out of the language: `ite` with Real arms, and a form that is not read
-  real_choice left_out_form : SortFault
+  -- a form that is left out of the language
+  left_out_form : SortFault
   too_many_axes : SortFault
 
 -- a sort, or the first fault
@@ -60,7 +60,7 @@ operator_sort at implication ss = if_takes at (all_of is_bool ss && long 2 ss) b
 operator_sort at exclusive ss = if_takes at (all_of is_bool ss && long 2 ss) bool_sort
 operator_sort at equality ss = if_takes at ((all_of is_bool ss || all_of is_real ss) && long 2 ss) bool_sort
 operator_sort at distinctness ss = if_takes at ((all_of is_bool ss || all_of is_real ss) && long 2 ss) bool_sort
-operator_sort at choice (c ∷ a ∷ b ∷ []) = cond (is_bool c && is_real a && is_real b) (ill at real_choice) (if_takes at (is_bool c && is_bool a && is_bool b) bool_sort)
+operator_sort at choice (c ∷ a ∷ b ∷ []) = cond (is_bool c && is_real a && is_real b) (of_sort real_sort) (if_takes at (is_bool c && is_bool a && is_bool b) bool_sort)
 operator_sort at choice ss = ill at sort_mismatch
 operator_sort at minus ss = if_takes at (all_of is_real ss && long 1 ss) real_sort
 operator_sort at plus ss = if_takes at (all_of is_real ss && long 1 ss) real_sort

@@ -9,14 +9,13 @@ use Rattle.script_fault.specs.declared.limit.Limit.TheVariants.{Axes}
 use Rattle.smt_sexp.specs.Reads.{fault_at}
 use Rattle.smt_script.specs.Views.{commands_in}
 use Rattle.smt_script.specs.declared.command.Script.{Script}
-use Rattle.sort_check.specs.Sorts.{SortFault, unknown_symbol, redeclared, sort_mismatch, real_choice, left_out_form, too_many_axes, Finding, sort_fault}
+use Rattle.sort_check.specs.Sorts.{SortFault, unknown_symbol, redeclared, sort_mismatch, left_out_form, too_many_axes, Finding, sort_fault}
 use Rattle.sort_check.specs.declared.typed.Typed.{Typed}
 
 abbrev pub sort_kind : SortFault → FaultKind
 sort_kind (unknown_symbol name) = UnknownSymbol name
 sort_kind sort_mismatch = SortMismatch
 sort_kind (redeclared name) = Redeclared name
-sort_kind real_choice = LeftOut
 sort_kind left_out_form = LeftOut
 sort_kind too_many_axes = TooMany Axes
 

@@ -6,7 +6,7 @@ use Rattle.std.specs.HashMap.{HashMap, get_by}
 use Rattle.script_model.specs.Reading.{Operator, truth, falsehood, negation, conjunction, disjunction, implication, exclusive, equality, distinctness, choice, minus, plus, times, divide, at_most_op, below_op, at_least_op, above_op, found, operators, Names, Named, value}
 use Rattle.script_model.specs.Sexp.{Place}
 use Rattle.script_model.specs.Script.{Parameter}
-use Rattle.sort_check.specs.Sorts.{SortFault, unknown_symbol, redeclared, sort_mismatch, real_choice, left_out_form, too_many_axes, Sorted, of_sort, ill, signature, parameter_names, operator_sort, fit, if_takes}
+use Rattle.sort_check.specs.Sorts.{SortFault, unknown_symbol, redeclared, sort_mismatch, left_out_form, too_many_axes, Sorted, of_sort, ill, signature, parameter_names, operator_sort, fit, if_takes}
 use Rattle.smt_sexp.specs.Views.{place_of}
 use Rattle.smt_script.specs.Views.{sort_of, parameter_of}
 use Rattle.smt_script.specs.declared.command.Sort as code_sort
@@ -26,7 +26,6 @@ abbrev pub fault_of : Fault → SortFault
 fault_of (faults.UnknownSymbol name) = unknown_symbol name.now
 fault_of (faults.Redeclared name) = redeclared name.now
 fault_of faults.SortMismatch = sort_mismatch
-fault_of faults.RealChoice = real_choice
 fault_of faults.LeftOut = left_out_form
 fault_of faults.TooManyAxes = too_many_axes
 

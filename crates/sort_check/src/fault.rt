@@ -26,7 +26,6 @@ pub(crate) fn owned(alloc: Global, stop: Stop<'_>) -> ReadError
             Err(_) => ReadError::Memory,
         },
         Fault::SortMismatch => ReadError::at(place, FaultKind::SortMismatch),
-        Fault::RealChoice => ReadError::at(place, FaultKind::LeftOut),
         Fault::LeftOut => ReadError::at(place, FaultKind::LeftOut),
         Fault::TooManyAxes => ReadError::at(place, FaultKind::TooMany(Limit::Axes)),
     }

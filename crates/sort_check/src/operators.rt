@@ -161,12 +161,12 @@ pub(crate) fn operator_sort<'a>(
     }
 }
 
-// The same of `ite`: Real arms are left out.
+// The same of `ite`, whose arms have one sort.
 fn choice_sort<'a>(place: Place, sorts: &[Sort]) -> Result<Sort, Stop<'a>>
     ensures { Says result (operator_sort (place_of place) choice (sorts_seen sorts.now)) }
 {
     match sorts {
-        [Sort::Bool, Sort::Real, Sort::Real] => Err(Stop::Fault(place, Fault::RealChoice)),
+        [Sort::Bool, Sort::Real, Sort::Real] => Ok(Sort::Real),
         [Sort::Bool, Sort::Bool, Sort::Bool] => Ok(Sort::Bool),
         _ => Err(Stop::Fault(place, Fault::SortMismatch)),
     }

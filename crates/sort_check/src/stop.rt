@@ -17,8 +17,6 @@ pub(crate) enum Fault<'a> {
     UnknownSymbol(&'a Name),
     Redeclared(&'a Name),
     SortMismatch,
-    /// `ite` with Real arms.
-    RealChoice,
     /// A form that is not read.
     LeftOut,
     TooManyAxes,

@@ -13,7 +13,7 @@ use Rattle.poly_graph.specs.Form.{Form, Forms, no_forms, more_forms, all_form, a
 use Rattle.script_forms.specs.Terms.{Comparison, Unfolded, formula}
 use Rattle.script_forms.specs.Unfolded.{truth_of, negation_form, forms_of, two, and_of, or_of, not_of, xor_of, implies_two, xor_from, xor_all, implies_of, different, chain, choice_form}
 use Rattle.term_build.specs.Built.{Made}
-use Rattle.term_build.specs.Sketch.{Drawn, yes_drawn, no_drawn, comparison_drawn, bool_drawn, all_drawn, any_drawn, drawn_after, drawn_in_order, drawn_at, drawn_children, drawn_form, comparison_of, IsDrawing, IsDrawn, IsSketch}
+use Rattle.term_build.specs.Sketch.{Drawn, yes_drawn, no_drawn, comparison_drawn, bool_drawn, all_drawn, any_drawn, choice_drawn, drawn_after, drawn_in_order, drawn_at, drawn_children, drawn_form, comparison_of, IsDrawing, IsDrawn, IsSketch}
 use Rattle.term_build.specs.Pairs.{Grown, DrawsForm, DrawsForms, Draws, DrawsEach, Sketches, Adds, NodeDraws, AddsPair, JoinsTwo, JoinsFour, Connects, ConnectsTwo, ConnectsChoice, ConnectsFrom, ImpliesFrom, IsRight, Left, IsLeft, same_of, Negates, ComparesTwo, compared, tree_at, Writes, WritesBool, constant_formula}
 use Rattle.term_build.specs.declared.connectives.Pair.{Pair}
 use Rattle.std.specs.declared.alloc.AllocError.{AllocError}
@@ -181,6 +181,7 @@ after-more yes_drawn a b l h = refl
 after-more no_drawn a b l h = refl
 after-more (comparison_drawn at i j kind) a b l h = refl
 after-more (bool_drawn axis v) a b l h = refl
+after-more (choice_drawn p x y) a b l h = refl
 
 node_more : (m : Made) (ts : List Term) (ds ds' : List Drawn) (d : Drawn) (f : Form Comparison) → Grown ds ds' → NodeDraws m ts ds d f → NodeDraws m ts ds' d f
 node_more m ts ds ds' d f g n = record {

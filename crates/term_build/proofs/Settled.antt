@@ -3,7 +3,7 @@ use Rattle.std.proofs.Common.{◌≡◌, ℕ, suc, ◌+◌, List, [], ◌∷◌,
 use Rattle.script_model.specs.Sexp.{Place}
 use Rattle.poly_graph.specs.Term.{Term, Atom}
 use Rattle.poly_graph.specs.Form.{Form, Forms, yes_form, no_form, atom_is, bool_is, all_form, any_form, no_forms, more_forms, form_atoms, forms_atoms, form_map, forms_map}
-use Rattle.script_forms.specs.Terms.{Comparison, same_term, is_zero, term, refused, formula, Unfolded, subtract_tree, negate_tree}
+use Rattle.script_forms.specs.Terms.{Comparison, same_term, is_zero, term, refused, formula, Unfolded, subtract_tree, negate_tree, either}
 use Rattle.script_forms.specs.Atoms.{already, same_atom, number_in, atom_of}
 use Rattle.script_forms.specs.Work.{Event, reached, made, asked, formed, met, ending, comparison_events, form_events, forms_events}
 use Rattle.script_forms.specs.Walk.{Stand, Walked, stands, stops, if_room, BuildingFault, make_form, with_tree, with_atom, with_form, larger, has_tree, has_form, same_form, after_event, after_events, goes_on, most_trees, most_atoms, most_forms, all_sizes, form_size, too_many_nodes, too_many_atoms, too_many_forms}
@@ -217,6 +217,7 @@ done-ending : (claim : Place) (s s' : Stand) (u : Unfolded) → after_events cla
 done-ending claim s s' (term t) e = let h = first claim s s' (made t) [] e in (done-made claim s s' t (h.1 ∙ h.2), tt)
 done-ending claim s s' (refused x) e = cc
 done-ending claim s s' (formula p n) e = tt
+done-ending claim s s' (either c d a b) e = tt
 
 done-comparison : (claim : Place) (s s' : Stand) (x : Term) (u : Unfolded) (b : Bool) → after_events claim s (cond b [] (made x ∷ ending u)) ≡ stands s' → AreSettled s' (cond b [] (made x ∷ ending u))
 done-comparison claim s s' x u true e = tt

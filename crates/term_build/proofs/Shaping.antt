@@ -15,7 +15,7 @@ use Rattle.script_forms.specs.Walk.{Stand, Walked, stands, after_events, make_fo
 use Rattle.term_build.specs.Built.{Made, stand_of}
 use Rattle.term_build.specs.Does.{Does, StopsAs, IsForm}
 use Rattle.term_build.specs.Settled.{Extends, FormSettled, FormsSettled, AreSettled, AtomsIn}
-use Rattle.term_build.specs.Sketch.{Drawn, yes_drawn, no_drawn, comparison_drawn, bool_drawn, all_drawn, any_drawn, drawn_after, drawn_in_order, drawn_at, drawn_children, drawn_form, comparison_of, IsDrawing, IsDrawn, IsSketch, IsFormOf, IsAtomForm}
+use Rattle.term_build.specs.Sketch.{Drawn, yes_drawn, no_drawn, comparison_drawn, bool_drawn, all_drawn, any_drawn, choice_drawn, drawn_after, drawn_in_order, drawn_at, drawn_children, drawn_form, comparison_of, IsDrawing, IsDrawn, IsSketch, IsFormOf, IsAtomForm}
 use Rattle.term_build.specs.Shapes.{NumberOf, AreFrames, AreNumbers, IsFrame, IsMemo, StaysSafe, IfDone, Completes, Finishes, Frame, frame_of, children, left_of, left_in, left_on, node_at, IsShaped, AreShaped, FramesShaped, Goes}
 use Rattle.dyadic.specs.Fraction.{zero_fraction}
 use Rattle.poly_graph.proofs.Graphs.{length_terms}
@@ -58,6 +58,7 @@ left-next fs f yes_drawn i c h = cc
 left-next fs f no_drawn i c h = cc
 left-next fs f (comparison_drawn at l r kind) i c h = cc
 left-next fs f (bool_drawn axis v) i c h = cc
+left-next fs f (choice_drawn p x y) i c h = cc
 
 -- all is left of a node that is begun
 left-begun : (ts : List Term) (fs : List (Form Comparison)) (f : Form Comparison) (d : Drawn) → f ≡ drawn_form ts fs d → left_of fs f d 0 ≡ form_events f
@@ -67,6 +68,7 @@ left-begun ts fs f yes_drawn e = refl
 left-begun ts fs f no_drawn e = refl
 left-begun ts fs f (comparison_drawn at l r kind) e = refl
 left-begun ts fs f (bool_drawn axis v) e = refl
+left-begun ts fs f (choice_drawn p x y) e = refl
 
 -- ---- frames
 
@@ -215,6 +217,7 @@ finished-by : (m0 m m1 : Made) (fs : List (Form Comparison)) (k : ℕ) (d : Draw
     AreShaped (stand_of m) fs (children d) js → slice_get (children d) (length js) ≡ None → Finishes m m1 d js r → Finished fs m m1 k (left_of fs (drawn_at fs k) d (length js)) r
 finished-by m0 m m1 fs k yes_drawn js r x is o h e done = subst (λ (es : List Event). Finished fs m m1 k es r) (sym (ap form_events is)) (joined-done fs m m1 k yes_form [] yes_form r is refl refl tt tt done)
 finished-by m0 m m1 fs k no_drawn js r x is o h e done = subst (λ (es : List Event). Finished fs m m1 k es r) (sym (ap form_events is)) (joined-done fs m m1 k no_form [] no_form r is refl refl tt tt done)
+finished-by m0 m m1 fs k (choice_drawn p x' y') js r x is o h e done = subst (λ (es : List Event). Finished fs m m1 k es r) (sym (ap form_events is)) (joined-done fs m m1 k no_form [] no_form r is refl refl tt tt done)
 finished-by m0 m m1 fs k (bool_drawn axis v) js r x is o h e done =
     subst (λ (es : List Event). Finished fs m m1 k es r) (sym (ap form_events is)) (joined-done fs m m1 k (bool_is axis v) [] (bool_is axis v) r is refl refl tt tt done)
 finished-by m0 m m1 fs k (comparison_drawn at l r' kind) js r x is o h e done =
@@ -310,6 +313,7 @@ child-below-of n yes_drawn i c h e = cc
 child-below-of n no_drawn i c h e = cc
 child-below-of n (comparison_drawn at l r kind) i c h e = cc
 child-below-of n (bool_drawn axis v) i c h e = cc
+child-below-of n (choice_drawn p x y) i c h e = cc
 
 pub child_below : (ds : List Drawn) (k : ℕ) (d : Drawn) (i c : ℕ) → IsTrue (drawn_in_order 0 ds) → slice_get ds k ≡ Some d → slice_get (children d) i ≡ Some c → c < k
 child_below ds k d i c o h e = let q : 0 + k ≡ k = omega arith in child-below-of k d i c (subst (λ (j : ℕ). IsTrue (drawn_after j d)) q (drawn-order-at 0 ds o k d h)) e
@@ -348,6 +352,7 @@ form-extends claim s s' g e = reach (make_form claim s g) e (form_reaches claim 
 pub finish_extends : (m m1 : Made) (d : Drawn) (js : List ℕ) (j : ℕ) → Finishes m m1 d js (Ok j) → Extends (stand_of m) (stand_of m1)
 finish_extends m m1 yes_drawn js j h = form-extends here (stand_of m) (stand_of m1) yes_form (h.0 here)
 finish_extends m m1 no_drawn js j h = form-extends here (stand_of m) (stand_of m1) no_form (h.0 here)
+finish_extends m m1 (choice_drawn p x y) js j h = form-extends here (stand_of m) (stand_of m1) no_form (h.0 here)
 finish_extends m m1 (comparison_drawn at l r kind) js j h = extends_to here (stand_of m) (stand_of m1) (form_events (atom_is (comparison_of (stand_of m).trees at l r kind))) (h.0 here)
 finish_extends m m1 (bool_drawn axis v) js j h = form-extends here (stand_of m) (stand_of m1) (bool_is axis v) (h.0 here)
 finish_extends m m1 (all_drawn ks) js j h = form-extends here (stand_of m) (stand_of m1) (all_form (picked (stand_of m).forms js)) (h.0 here)
@@ -359,6 +364,7 @@ there m j g h = omega (arith, get_below (stand_of m).forms j g h, length_forms m
 pub finish_there : (m m1 : Made) (d : Drawn) (js : List ℕ) (j : ℕ) → Finishes m m1 d js (Ok j) → j < length m1.forms
 finish_there m m1 yes_drawn js j h = there m1 j _ h.1
 finish_there m m1 no_drawn js j h = there m1 j _ h.1
+finish_there m m1 (choice_drawn p x y) js j h = there m1 j _ h.1
 finish_there m m1 (comparison_drawn at l r kind) js j h = there m1 j _ h.1
 finish_there m m1 (bool_drawn axis v) js j h = there m1 j _ h.1
 finish_there m m1 (all_drawn ks) js j h = there m1 j _ h.1
@@ -370,6 +376,7 @@ more-of xs ys e = omega (arith, ap (λ (l : List _). length l) e.1, length-appen
 drawn-stays : (m m1 : Made) (d : Drawn) → m1.sorts ≡ m.sorts → length m.nodes ≤ length m1.nodes → IsDrawn m d → IsDrawn m1 d
 drawn-stays m m1 yes_drawn e h k = tt
 drawn-stays m m1 no_drawn e h k = tt
+drawn-stays m m1 (choice_drawn p x y) e h k = tt
 drawn-stays m m1 (comparison_drawn at l r kind) e h k = (omega (arith, h, k.0), omega (arith, h, k.1))
 drawn-stays m m1 (bool_drawn axis v) e h k = subst (λ (s : List Sort). HasSort bool_sort s axis) (sym e) k
 drawn-stays m m1 (all_drawn ks) e h k = tt

@@ -10,8 +10,10 @@ use Rattle.poly_graph.specs.Problem.{HasSort}
 use Rattle.script_forms.specs.Terms.{Comparison, Unfolded, term, formula}
 use Rattle.script_forms.specs.Unfolded.{truth_of, negation_form, not_of, xor_of, xor_from, implies_of, choice_form, two, at_most_two, at_least_two, equal_two}
 use Rattle.term_build.specs.Built.{Made}
-use Rattle.term_build.specs.Sketch.{Drawn, drawn_after, drawn_at, drawn_form, IsDrawing, IsDrawn, IsSketch}
+use Rattle.term_build.specs.Sketch.{Drawn, choice_drawn, drawn_after, drawn_at, drawn_form, IsDrawing, IsDrawn, IsSketch}
 use Rattle.term_build.specs.declared.connectives.Pair.{Pair}
+use Rattle.term_build.specs.declared.sketch.Arm.{Arm}
+use Rattle.term_build.specs.declared.sketch.Arm.TheVariants.{Tree, Choice}
 use Rattle.std.specs.declared.alloc.AllocError.{AllocError}
 
 -- the later sketch begins with the earlier one
@@ -56,6 +58,12 @@ pub record Sketches {X : Type 0} (ds ds' : List Drawn) (m : Made) (P : X → Typ
 abbrev pub Adds : List Drawn → List Drawn → Drawn → Result ℕ AllocError → Type 0
 Adds ds ds' d (Ok k) = (ds' ≡ ds ++ (d ∷ [])) × (k ≡ length ds)
 Adds ds ds' d (Err e) = ds' ≡ ds
+
+-- the Real `ite` is at the end, unless memory is wanting
+abbrev pub AddsChoice : List Drawn → List Drawn → Pair → Arm → Arm → Result Arm AllocError → Type 0
+AddsChoice ds ds' p x y (Ok (Choice k)) = (ds' ≡ ds ++ (choice_drawn p x y ∷ [])) × (k ≡ length ds)
+AddsChoice ds ds' p x y (Ok (Tree k)) = ⊥
+AddsChoice ds ds' p x y (Err e) = Unit {0}
 
 -- the node may come next, and its form is f
 pub record NodeDraws (m : Made) (ts : List Term) (ds : List Drawn) (d : Drawn) (f : Form Comparison) : Type 0 where

@@ -15,7 +15,7 @@ use Rattle.term_build.specs.Does.{StopsAs, Does, IsForm}
 use Rattle.term_build.specs.declared.stop.Stop.{Stop}
 use Rattle.term_build.specs.declared.stop.Stop.TheVariants as stop
 use Rattle.term_build.specs.Steps.{Emits}
-use Rattle.term_build.specs.Sketch.{Drawn, yes_drawn, no_drawn, comparison_drawn, bool_drawn, all_drawn, any_drawn, drawn_at, drawn_children, comparison_of, IsAtomForm, IsFormOf, IsDrawing, IsSketch}
+use Rattle.term_build.specs.Sketch.{Drawn, yes_drawn, no_drawn, comparison_drawn, bool_drawn, all_drawn, any_drawn, choice_drawn, drawn_at, drawn_children, comparison_of, IsAtomForm, IsFormOf, IsDrawing, IsSketch}
 use Rattle.term_build.specs.Settled.{Extends, FormSettled}
 use Rattle.term_build.specs.declared.shape.Frame as code_frame
 use Rattle.term_build.specs.declared.sketch.Drawn as code
@@ -28,6 +28,7 @@ drawn_of (drawn.Compare at l r kind) = comparison_drawn (place_of at) l r (kind_
 drawn_of (drawn.BoolIs axis v) = bool_drawn axis v
 drawn_of (drawn.And ks) = all_drawn ks.items
 drawn_of (drawn.Or ks) = any_drawn ks.items
+drawn_of (drawn.Choice p x y) = choice_drawn p x y
 
 abbrev pub children : Drawn → List ℕ
 children (all_drawn ks) = ks
@@ -107,6 +108,7 @@ joined (bool_drawn axis v) js = bool_node axis v
 joined (all_drawn ks) js = all_node js
 joined (any_drawn ks) js = any_node js
 joined (comparison_drawn at l r kind) js = no_node
+joined (choice_drawn p x y) js = no_node
 
 -- the last step of a node: a comparison's events, or one node of the form
 abbrev pub Finishes : Made → Made → Drawn → List ℕ → Result ℕ Stop → Type 0

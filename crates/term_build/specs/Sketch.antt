@@ -1,5 +1,5 @@
 -- The forms of expressions before their atoms have numbers: nodes that are shared, their comparisons in place.
-use Rattle.std.specs.Prelude.{◌≡◌, Some, slice_get, ℕ, suc, ◌<◌, List, [], ◌∷◌, length, Bool, true, ◌&&◌, IsTrue, slice_index_or, nat_lt}
+use Rattle.std.specs.Prelude.{◌≡◌, Option, Some, None, slice_get, ℕ, suc, ◌<◌, List, [], ◌∷◌, length, Bool, true, ◌&&◌, IsTrue, slice_index_or, nat_lt}
 use Rattle.std.specs.List.{list_all}
 use Rattle.dyadic.specs.Fraction.{zero_fraction}
 use Rattle.dyadic.specs.Point.{bool_sort}
@@ -10,6 +10,8 @@ use Rattle.poly_graph.specs.Problem.{HasSort}
 use Rattle.script_forms.specs.Terms.{Comparison}
 use Rattle.script_forms.specs.Atoms.{number_in}
 use Rattle.term_build.specs.Built.{Made, stand_of}
+use Rattle.term_build.specs.declared.connectives.Pair.{Pair}
+use Rattle.term_build.specs.declared.sketch.Arm.{Arm}
 
 -- a node; a comparison names the nodes of its trees, and `all` and `any` their children, which have smaller numbers
 pub data Drawn : Type 0 where
@@ -17,6 +19,12 @@ pub data Drawn : Type 0 where
   comparison_drawn : Place → ℕ → ℕ → Kind → Drawn
   bool_drawn : ℕ → Bool → Drawn
   all_drawn any_drawn : List ℕ → Drawn
+  -- a Real `ite`, which is part of no form
+  choice_drawn : Pair → Arm → Arm → Drawn
+
+abbrev pub as_choice : Option Drawn → Option (Pair × Arm × Arm)
+as_choice (Some (choice_drawn p x y)) = Some (p, x, y)
+as_choice d = None
 
 abbrev pub drawn_after : ℕ → Drawn → Bool
 drawn_after n (all_drawn ks) = list_all (λ k. nat_lt k n) ks
@@ -43,6 +51,7 @@ drawn_form ts fs yes_drawn = yes_form
 drawn_form ts fs no_drawn = no_form
 drawn_form ts fs (comparison_drawn at l r kind) = atom_is (comparison_of ts at l r kind)
 drawn_form ts fs (bool_drawn axis v) = bool_is axis v
+drawn_form ts fs (choice_drawn p x y) = no_form
 drawn_form ts fs (all_drawn ks) = all_form (drawn_children fs ks)
 drawn_form ts fs (any_drawn ks) = any_form (drawn_children fs ks)
 

@@ -5,10 +5,10 @@ ghost use Rattle.script_forms.specs.Unfolded.{and_of, chain, different, implies_
 ghost use Rattle.poly_graph.specs.Views.{kind_of};
 ghost use Rattle.smt_sexp.specs.Views.{place_of};
 ghost use Rattle.term_build.specs.Shapes.{drawn_of};
-ghost use Rattle.term_build.specs.Pairs.{Adds, AddsPair, ComparesTwo, Connects, ConnectsChoice, ConnectsFrom, ConnectsTwo, ImpliesFrom, JoinsFour, JoinsTwo, Negates, Writes, WritesBool, constant_formula, same_of};
+ghost use Rattle.term_build.specs.Pairs.{Adds, AddsChoice, AddsPair, ComparesTwo, Connects, ConnectsChoice, ConnectsFrom, ConnectsTwo, ImpliesFrom, JoinsFour, JoinsTwo, Negates, Writes, WritesBool, constant_formula, same_of};
 ghost use Rattle.term_build.specs.declared.connectives.Pair as code_pair;
 
-use crate::sketch::Drawn;
+use crate::sketch::{Arm, Drawn};
 use poly_graph::Kind;
 use script_fault::Place;
 use std::alloc::{AllocError, Global};
@@ -29,6 +29,19 @@ fn add(sketch: &mut Vec<Drawn>, node: Drawn) -> Result<u32, AllocError>
     };
     sketch.push(node)?;
     Ok(k)
+}
+
+/// A Real `ite` of these arms, at the end of the sketch.
+pub fn choose_arms(
+    sketch: &mut Vec<Drawn>,
+    condition: Pair,
+    first: Arm,
+    second: Arm,
+) -> Result<Arm, AllocError>
+    ensures { AddsChoice (map drawn_of sketch.old.items) (map drawn_of sketch.new.items) condition first second result }
+{
+    let k = add(sketch, Drawn::Choice(condition, first, second))?;
+    Ok(Arm::Choice(k))
 }
 
 // Two nodes at the end of the sketch: that of a truth, and that of its negation.

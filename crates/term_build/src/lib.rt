@@ -13,7 +13,7 @@ mod steps;
 mod stop;
 
 pub use builder::Builder;
-pub use connectives::Pair;
+pub use connectives::{Pair, choose_arms};
 pub use shape::make_form;
-pub use sketch::Drawn;
+pub use sketch::{Arm, Drawn, choice_at};
 pub use stop::{Fault, Stop};

@@ -35,7 +35,7 @@ fn finish(builder: &mut Builder, node: &Drawn, numbers: Vec<u32>) -> Result<u32,
 {
     match node {
         Drawn::True => builder.form(FormNode::True),
-        Drawn::False => builder.form(FormNode::False),
+        Drawn::False | Drawn::Choice(_, _, _) => builder.form(FormNode::False),
         Drawn::Compare(at, left, right, kind) => builder.compare(*at, *left, *right, *kind),
         Drawn::BoolIs(axis, value) => builder.form(FormNode::BoolIs(*axis, *value)),
         Drawn::And(_) => builder.form(FormNode::And(numbers)),

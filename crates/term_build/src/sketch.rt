@@ -1,6 +1,18 @@
 // The forms of expressions before their atoms have numbers.
+ghost use Rattle.std.specs.Prelude.{◌≡◌, map, slice_get};
+ghost use Rattle.term_build.specs.Shapes.{drawn_of};
+ghost use Rattle.term_build.specs.Sketch.{as_choice};
+
+use crate::connectives::Pair;
 use poly_graph::Kind;
 use script_fault::Place;
+
+/// A Real expression: the node of its tree, or the node of the sketch that is its `ite`.
+#[derive(Clone, Copy, Debug, PartialEq, Eq)]
+pub enum Arm {
+    Tree(u32),
+    Choice(u32),
+}
 
 /// A node of the forms of expressions, with its comparisons in place. The numbers of `And` and `Or` are those of
 /// their children, which come before it.
@@ -14,4 +26,16 @@ pub enum Drawn {
     BoolIs(u32, bool),
     And(Vec<u32>),
     Or(Vec<u32>),
+    /// A Real `ite`: its condition and its arms. It is part of no form.
+    Choice(Pair, Arm, Arm),
+}
+
+/// The condition and the arms of the `ite` of this node.
+pub fn choice_at(sketch: &[Drawn], k: u32) -> Option<(Pair, Arm, Arm)>
+    ensures { result ≡ as_choice (slice_get (map drawn_of sketch.now) k) }
+{
+    match sketch.get(k as usize) {
+        Some(Drawn::Choice(condition, first, second)) => Some((*condition, *first, *second)),
+        _ => None,
+    }
 }

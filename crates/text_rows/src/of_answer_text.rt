@@ -275,6 +275,32 @@ fn failed_rules(rt: HostRuntime) -> Result<(), Fail> {
     )
 }
 
+// The texts of lines of combinations that fail.
+#[test]
+fn failed_combinations(rt: HostRuntime) -> Result<(), Fail> {
+    let alloc = rt.alloc();
+    let combine = CertFault::RuleFails {
+        rule: Rule::Combine,
+        line: 8,
+    };
+    assert_fault(
+        &rt,
+        alloc,
+        combine,
+        "certificate fault 3 RuleFails comb line 8\n",
+    )?;
+    let void = CertFault::RuleFails {
+        rule: Rule::VoidCombine,
+        line: 9,
+    };
+    assert_fault(
+        &rt,
+        alloc,
+        void,
+        "certificate fault 3 RuleFails voidcomb line 9\n",
+    )
+}
+
 // ---- the refusals of a script
 
 fn assert_refusal(

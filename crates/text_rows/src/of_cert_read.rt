@@ -43,6 +43,19 @@ fn tells_lines(rt: HostRuntime) -> Result<(), Fail> {
         ("void 6", Line::Void(6)),
         ("push 10", Line::Push(10)),
         ("voidno 11", Line::VoidNo(11)),
+        ("comb 3 1b0", Line::Combine(vec![in alloc; (3, dy("1b0"))]?)),
+        (
+            "comb 3 1b0 4 -3b-2",
+            Line::Combine(vec![in alloc; (3, dy("1b0")), (4, dy("-3b-2"))]?),
+        ),
+        (
+            "voidcomb 0 -1b0",
+            Line::VoidCombine(vec![in alloc; (0, dy("-1b0"))]?),
+        ),
+        (
+            "voidcomb 2 0 2 0",
+            Line::VoidCombine(vec![in alloc; (2, dy("0")); 2]?),
+        ),
         ("case 7", Line::Case(7)),
         ("stuck 8", Line::Stuck(8)),
         ("by 9", Line::By(9)),
@@ -75,6 +88,11 @@ fn tells_faults(rt: HostRuntime) {
         ("real 0 0 0", LineFault::BadLine),
         ("bool x", LineFault::BadLine),
         ("yes  1", LineFault::BadLine),
+        ("comb", LineFault::BadLine),
+        ("comb 3", LineFault::BadLine),
+        ("comb 3 1b0 4", LineFault::BadLine),
+        ("comb 3  1b0", LineFault::BadLine),
+        ("voidcomb", LineFault::BadLine),
         ("ÿ", LineFault::BadLine),
         ("Pull 4", LineFault::BadLine),
         ("pull 04", LineFault::BadNumber),
@@ -87,6 +105,9 @@ fn tells_faults(rt: HostRuntime) {
         ("real 0 1b123", LineFault::BadNumber),
         ("cut 1b0 1b0", LineFault::BadNumber),
         ("no 1 x", LineFault::BadNumber),
+        ("comb 3 2b0", LineFault::BadNumber),
+        ("comb 03 1b0", LineFault::BadNumber),
+        ("voidcomb 3 1b0 4 1b123", LineFault::BadNumber),
     ];
     for (text, expected) in rows {
         let told = first(rt.alloc(), text.as_bytes());

@@ -74,6 +74,10 @@ fn refused_forms(rt: HostRuntime) -> Result<(), Fail> {
         "dpoly check s c --workers 1",
         "dpoly demo 1 1 c --budget 5",
         "dpoly check - -",
+        "dpoly upgrade s c",
+        "dpoly upgrade s c d e",
+        "dpoly upgrade - - d",
+        "dpoly upgrade s c d --workers 1",
         "dpoly solve s c --delta-bits 20 --margin-bits 10",
         "dpoly solve s c --delta-bits 20 --margin-bits 20",
         "dpoly solve s c --delta-bits 25",
@@ -110,6 +114,7 @@ fn refused_numbers(rt: HostRuntime) -> Result<(), Fail> {
         "dpoly solve s c --workers ++1",
         "dpoly check s c --bound 0",
         "dpoly check s c --bound 4294967296",
+        "dpoly upgrade s c d --bound 0",
         "dpoly demo 1 0 c",
         "dpoly demo 1 10001 c",
         "dpoly demo -1 1 c",
@@ -196,7 +201,7 @@ fn solve_is_asked(rt: HostRuntime) -> Result<(), Fail> {
 }
 
 #[test]
-fn check_and_demo_are_asked(rt: HostRuntime) -> Result<(), Fail> {
+fn other_commands_are_asked(rt: HostRuntime) -> Result<(), Fail> {
     let alloc = rt.alloc();
     let piped = CheckWords {
         script: "-",
@@ -214,6 +219,19 @@ fn check_and_demo_are_asked(rt: HostRuntime) -> Result<(), Fail> {
             alloc,
             "any check s - --bound 4294967295",
             Asked::Check(bounded)
+        )?
+    );
+    let renewed = UpgradeWords {
+        script: "-",
+        cert: "c",
+        out: "-",
+        bound: Some(1),
+    };
+    assert!(rt;
+        asks(
+            alloc,
+            "dpoly upgrade - c - --bound 1",
+            Asked::Upgrade(renewed)
         )?
     );
     let first = DemoWords {

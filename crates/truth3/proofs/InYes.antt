@@ -1,14 +1,13 @@
 -- The conjuncts of a shared form, node by node.
-use Rattle.std.proofs.Common.{◌≡◌, ◌≢◌, ℕ, zero, suc, ◌+◌, ◌<◌, ◌≤◌, length, set, Some, arith, below_more, get_or-set_other, get_or-set_same, List, [], ◌∷◌, ◌++◌, Bool, true, false, ◌&&◌, refl, ap, ap₂, sym, ◌∙◌, IsTrue, nat_lt, ltb→lt}
+use Rattle.std.proofs.Common.{◌≡◌, ◌≢◌, ℕ, ◌+◌, ◌<◌, length, set, Some, arith, below_more, get_or-set_other, get_or-set_same, List, [], ◌∷◌, ◌++◌, Bool, true, false, ◌&&◌, refl, ap, ap₂, sym, ◌∙◌, IsTrue, nat_lt, ltb→lt}
 use Rattle.std.specs.List.{list_all}
 use Rattle.std.specs.Bool.{passes}
 use Rattle.std.specs.Prelude.{slice_get}
 use Rattle.dyadic.proofs.Equal.{both_true}
-use Rattle.poly_graph.specs.Form.{Form, Forms, no_forms, more_forms}
+use Rattle.poly_graph.specs.Form.{Form}
 use Rattle.poly_graph.specs.FormGraph.{FormNode, yes_node, no_node, atom_node, bool_node, all_node, any_node, form_comes_after, forms_in_order, form_at, picked, node_form, graph_forms}
 use Rattle.poly_graph.proofs.FormGraphs.{form_node_is_its_kind}
 use Rattle.cover_model.specs.State.{State, in_yes}
-use Rattle.poly_graph.specs.Marks.{Mark}
 use Rattle.cover_model.specs.Honest.{all_in_yes, conjuncts, conjuncts_of}
 use Rattle.truth3.specs.Truth.{is_true}
 use Rattle.truth3.specs.Conjuncts.{node_in_yes}

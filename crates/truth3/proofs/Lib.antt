@@ -1,5 +1,6 @@
 pub mod Axes
-pub mod InYes
+mod CombinableAtoms
 pub mod FormTruth
+pub mod InYes
+mod Ordered
 pub mod Roots
-mod Smallest

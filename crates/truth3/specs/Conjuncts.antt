@@ -1,5 +1,5 @@
 -- Whether the conjuncts of a form's node are marked yes, from those of its children.
-use Rattle.std.specs.Prelude.{ℕ, List, Bool, true}
+use Rattle.std.specs.Prelude.{List, Bool, true}
 use Rattle.std.specs.List.{list_all}
 use Rattle.poly_graph.specs.FormGraph.{FormNode, atom_node, all_node}
 use Rattle.poly_graph.specs.Marks.{Mark, is_yes, mark_at}

@@ -5,8 +5,7 @@ use Rattle.dyadic.specs.Rounding.{two_to_minus}
 use Rattle.interval_model.specs.Interval.{Interval}
 use Rattle.poly_graph.specs.FormGraph.{FormNode, yes_node, no_node, atom_node, bool_node, all_node, any_node}
 use Rattle.interval_model.specs.Space.{Space}
-use Rattle.cover_model.specs.State.{state_of, atom_enclosure, Loosenings, State, may, may_atom, sure_at, sure_within, domain_allows, domain_is}
-use Rattle.poly_graph.specs.Marks.{Mark}
+use Rattle.cover_model.specs.State.{atom_enclosure, Loosenings, State, may, may_atom, sure_at, sure_within, domain_allows, domain_is}
 use Rattle.poly_graph.specs.Problem.{atom_at}
 use Rattle.poly_graph.specs.ProblemViews.{Parts, problem_of}
 use Rattle.cover_model.specs.NodeEnclosure.{row}

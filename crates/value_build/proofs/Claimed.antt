@@ -12,11 +12,12 @@ use Rattle.script_forms.specs.Terms.{Comparison, Unfolded, term}
 use Rattle.script_forms.specs.Unfolded.{truth_of}
 use Rattle.script_forms.specs.Atoms.{atom_of}
 use Rattle.script_forms.specs.Work.{form_events}
-use Rattle.script_forms.specs.Walk.{make_form}
+use Rattle.script_forms.specs.Walk.{make_form, after_events}
 use Rattle.term_build.specs.Built.{Made, stand_of}
-use Rattle.term_build.specs.Does.{Does, IsForm}
+use Rattle.term_build.specs.Does.{Does, IsForm, StopsAs}
+use Rattle.term_build.specs.Settled.{FormSettled}
 use Rattle.term_build.specs.Shapes.{Shaping}
-use Rattle.term_build.specs.Sketch.{Drawn, yes_drawn, no_drawn, comparison_drawn, bool_drawn, all_drawn, any_drawn, drawn_after, drawn_in_order, drawn_at, drawn_children, drawn_form, IsDrawing, IsSketch, IsFormOf}
+use Rattle.term_build.specs.Sketch.{Drawn, yes_drawn, no_drawn, comparison_drawn, bool_drawn, all_drawn, any_drawn, choice_drawn, drawn_after, drawn_in_order, drawn_at, drawn_children, drawn_form, IsDrawing, IsSketch, IsFormOf}
 use Rattle.term_build.specs.Steps.{Emits}
 use Rattle.term_build.specs.Pairs.{DrawsForm}
 use Rattle.term_build.specs.declared.stop.Stop.{Stop}
@@ -26,7 +27,8 @@ use Rattle.term_build.proofs.Lists.{get_index, get_end, get_before, get_below, i
 use Rattle.term_build.proofs.Settled.{form_done}
 use Rattle.declared_box.specs.Same.{SameBounds}
 use Rattle.value_build.specs.Making.{Making, making}
-use Rattle.value_build.specs.Values.{Weighs, Lists, IsClaimed, Claims, IsKnown}
+use Rattle.term_build.specs.declared.sketch.Arm.TheVariants as arm
+use Rattle.value_build.specs.Values.{Weighs, IsArm, is_choice, Lists, IsClaimed, Claims, IsKnown}
 use Rattle.value_build.specs.Bounds.{AddsList}
 use Rattle.value_build.specs.Claiming.{IsFormMade, ClaimsBool, ClaimsReal}
 use Rattle.value_build.specs.declared.value.Value.{Value}
@@ -49,6 +51,7 @@ form-more ts fs gs yes_drawn n l h = refl
 form-more ts fs gs no_drawn n l h = refl
 form-more ts fs gs (comparison_drawn at i j kind) n l h = refl
 form-more ts fs gs (bool_drawn axis v) n l h = refl
+form-more ts fs gs (choice_drawn p x y) n l h = refl
 
 order-at : (n : ℕ) (ds : List Drawn) → IsTrue (drawn_in_order n ds) → (k : ℕ) (d : Drawn) → slice_get ds k ≡ Some d → IsTrue (drawn_after (n + k) d)
 order-at n [] h k d e = cc
@@ -156,6 +159,28 @@ claims_real m m' ds lists lists' old v k r e g w = subst (λ (x : Making). Claim
         claim = record {
           settled = w.1.0.settled;
           form = w.1.0.form;
+          bounds = subst (λ (xs : List Bound). Lists lists' c.1 xs) (sym n) w.1.2;
+        };
+      },
+    )
+
+pub claims_choice : (m m' : Made) (ds : List Drawn) (lists lists' : List (List Bound)) (old : Making) (v : Value) (k : ℕ) (r : Result (ℕ × ℕ) Stop) → making m ds lists ≡ old → v ≡ values.Choice k → ClaimsReal m m' lists lists' r → Claims old (making m' [] lists') v r
+claims_choice m m' ds lists lists' old v k r e g w = subst (λ (x : Making). Claims x (making m' [] lists') v r) e (subst (λ (y : Value). Claims (making m ds lists) (making m' [] lists') y r) (sym g)
+    (λ u b h. go u b (no-form u h.0) (ap bounds_in h.1) r w))
+  where
+    no-form : (u : Unfolded) → IsArm m ds u (arm.Choice k) → truth_of u ≡ no_form
+    no-form _ (is_choice i d x y) = refl
+
+    go : (u : Unfolded) (b : Bounding) → truth_of u ≡ no_form → bounds_in b ≡ [] → (r : Result (ℕ × ℕ) Stop) → ClaimsReal m m' lists lists' r → Emits m m' (form_events (truth_of u)) r (IsClaimed (making m ds lists) (making m' [] lists') u b)
+    go u b f n (Err x) w = λ claim. subst (λ (p : Form Comparison). StopsAs claim (after_events claim (stand_of m) (form_events p)) x) (sym f) (w claim)
+    go u b f n (Ok c) w = (
+      (λ claim. ap (λ p. after_events claim (stand_of m) (form_events p)) f ∙ w.0 claim),
+      record {
+        stand = w.1.0.stand;
+        lists = w.1.1;
+        claim = record {
+          settled = subst (λ (p : Form Comparison). FormSettled (stand_of m') p) (sym f) w.1.0.settled;
+          form = subst (λ (p : Form Comparison). IsFormOf m' (form_map atom_of p) c.0) (sym f) w.1.0.form;
           bounds = subst (λ (xs : List Bound). Lists lists' c.1 xs) (sym n) w.1.2;
         };
       },

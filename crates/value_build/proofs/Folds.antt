@@ -1,13 +1,13 @@
 -- The steps of an arithmetic operator, one after another.
-use Rattle.std.proofs.Common.{◌≡◌, ℕ, ◌<◌, List, [], ◌∷◌, length, true, false, true≢false, refl, ap, sym, ◌∙◌, subst, arith}
+use Rattle.std.proofs.Common.{◌≡◌, ℕ, ◌<◌, List, [], ◌∷◌, length, true, false, cond, true≢false, refl, ap, sym, ◌∙◌, subst, arith}
 use Rattle.std.specs.Prelude.{Result, Ok, Err, ◌==◌}
 use Rattle.dyadic.specs.Fraction.{zero_fraction}
 use Rattle.script_model.specs.Sexp.{Place}
 use Rattle.poly_graph.specs.Term.{Term, constant}
 use Rattle.poly_graph.proofs.Graphs.{length_terms}
-use Rattle.script_forms.specs.Terms.{term, steps, negate_tree}
+use Rattle.script_forms.specs.Terms.{term, refused, divisor_not_constant, divide_tree, steps, negate_tree}
 use Rattle.script_forms.specs.Unfolded.{unfolded_operation}
-use Rattle.script_forms.specs.Work.{Event, steps_events, operation_events, ending}
+use Rattle.script_forms.specs.Work.{Event, met, divide_events, steps_events, operation_events, ending}
 use Rattle.script_forms.specs.Walk.{after_events, goes_on}
 use Rattle.term_build.specs.Built.{Made, stand_of}
 use Rattle.term_build.specs.Does.{IsTree}
@@ -18,6 +18,7 @@ use Rattle.term_build.specs.declared.stop.Stop.{Stop}
 use Rattle.term_build.proofs.Emits.{events_both, stops_so, stopped_on, tree_is, tree_below, same_tree, more_nodes}
 use Rattle.term_build.proofs.Lists.{index_get}
 use Rattle.term_build.proofs.Settled.{extends_self, extends_on, extends_to}
+use Rattle.value_build.proofs.Plain.{plain_trees}
 use Rattle.value_build.specs.Arithmetic.{AreNodes, IsFolding, is_difference, operator_of_step, tree_of_step, events_of_step}
 use Rattle.value_build.specs.declared.arithmetic.Step.{Step}
 use Rattle.value_build.specs.declared.arithmetic.Step.TheVariants.{Add, Subtract, Multiply, Divide}
@@ -99,7 +100,9 @@ pub calculate_folds : (step : Step) (at : Place) (m m1 : Made) (k : ℕ) (ks : L
     Emits m m1 (operation_events at (operator_of_step step) (trees_at (stand_of m).trees (k ∷ ks))) r (IsTreeOf m1 (unfolded_operation at (operator_of_step step) (trees_at (stand_of m).trees (k ∷ ks))))
 calculate_folds Add at m m1 k ks r h e = e
 calculate_folds Multiply at m m1 k ks r h e = e
-calculate_folds Divide at m m1 k ks r h e = e
+calculate_folds Divide at m m1 k ks r h e = let ts = (stand_of m).trees in let f = divide_tree at in let g = divide_events at in
+    subst (λ b. Emits m m1 (cond b (met (divisor_not_constant at) ∷ []) (steps_events f g (tree_at ts k) (trees_at ts ks))) r (IsTreeOf m1 (cond b (refused (divisor_not_constant at)) (steps f (tree_at ts k) (trees_at ts ks)))))
+    (sym (plain_trees ts ks)) e
 calculate_folds Subtract at m m1 k [] r h e = absurd (h refl refl)
 calculate_folds Subtract at m m1 k (j ∷ ks) r h e = e
 

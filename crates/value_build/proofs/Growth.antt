@@ -1,16 +1,19 @@
 -- What stands stays where more is made.
-use Rattle.std.proofs.Common.{◌≡◌, ℕ, ◌+◌, ◌≤◌, List, [], ◌∷◌, ◌++◌, length, refl, ap, sym, ◌∙◌, subst, arith, append_assoc, append-nil, length-append}
-use Rattle.std.specs.Prelude.{Result, Ok, Err}
+use Rattle.std.proofs.Common.{◌≡◌, true, ◌&&◌, ℕ, suc, zero, Some, ◌+◌, ◌≤◌, List, [], ◌∷◌, ◌++◌, length, refl, ap, sym, ◌∙◌, subst, arith, append_assoc, append-nil, length-append}
+use Rattle.std.specs.Prelude.{Result, Ok, Err, slice_get}
 use Rattle.script_model.specs.Declared.{Bound, Bounding}
 use Rattle.poly_graph.specs.Term.{Term}
 use Rattle.poly_graph.specs.Form.{Form}
-use Rattle.script_forms.specs.Terms.{Comparison, Unfolded}
-use Rattle.script_forms.specs.Unfolded.{truth_of, negation_form}
+use Rattle.script_forms.specs.Terms.{Comparison, Unfolded, formula}
+use Rattle.script_forms.specs.Unfolded.{truth_of, negation_form, is_real_tree}
 use Rattle.script_forms.specs.Work.{Event, ending, made}
 use Rattle.script_forms.specs.Walk.{after_events}
 use Rattle.term_build.specs.Built.{Made, stand_of}
-use Rattle.term_build.specs.Sketch.{Drawn, yes_drawn, no_drawn, comparison_drawn, bool_drawn, all_drawn, any_drawn, IsDrawing, IsDrawn, IsSketch}
-use Rattle.term_build.specs.Pairs.{DrawsForm, Draws}
+use Rattle.term_build.specs.Sketch.{Drawn, yes_drawn, no_drawn, comparison_drawn, bool_drawn, all_drawn, any_drawn, choice_drawn, IsDrawing, IsDrawn, IsSketch}
+use Rattle.term_build.specs.Pairs.{DrawsForm, Draws, Grown}
+use Rattle.term_build.specs.Settled.{Extends}
+use Rattle.term_build.specs.declared.sketch.Arm.{Arm}
+use Rattle.term_build.specs.declared.sketch.Arm.TheVariants as arm
 use Rattle.term_build.specs.declared.connectives.Pair.{Pair}
 use Rattle.term_build.specs.declared.stop.Stop.{Stop}
 use Rattle.term_build.proofs.Emits.{emits_then, emits_stop, emits_more, tree_stays}
@@ -21,7 +24,7 @@ use Rattle.term_build.proofs.Trees.{has_at}
 use Rattle.declared_box.specs.Same.{SameBounds}
 use Rattle.declared_box.specs.Table.{list_at}
 use Rattle.value_build.specs.Making.{Making, MoreLists, Grows, Steps}
-use Rattle.value_build.specs.Values.{Lists, IsValue, AreValues, IsKnown, AreKnown}
+use Rattle.value_build.specs.Values.{Lists, IsArm, is_tree, is_choice, IsValue, AreValues, IsKnown, AreKnown}
 use Rattle.value_build.specs.declared.value.Value.{Value}
 use Rattle.value_build.specs.declared.value.Value.TheVariants as values
 
@@ -62,10 +65,32 @@ draws-trees ts us ds f k vs e h = record {
 pub pair_trees : (ts us : List Term) (ds : List Drawn) (u : Unfolded) (p : Pair) (vs : List Term) → us ≡ ts ++ vs → Draws ts ds u p → Draws us ds u p
 pair_trees ts us ds u p vs e h = record { yes = draws-trees ts us ds (truth_of u) p.truth vs e h.yes; no = draws-trees ts us ds (negation_form u) p.negation vs e h.no; is = h.is }
 
+-- ---- arms stay
+
+got-before : (ds more : List Drawn) (k : ℕ) (d : Drawn) → slice_get ds k ≡ Some d → slice_get (ds ++ more) k ≡ Some d
+got-before [] more k d h = cc
+got-before (x ∷ ds) more zero d h = h
+got-before (x ∷ ds) more (suc k) d h = got-before ds more k d h
+
+pub arm_stays : (m m' : Made) (ds ds' : List Drawn) (u : Unfolded) (x : Arm) → Extends (stand_of m) (stand_of m') → Grown ds ds' → IsArm m ds u x → IsArm m' ds' u x
+arm_stays m m' ds ds' _ _ e g (is_tree {t = t} {k = k} h) = is_tree (tree_stays m m' t k e.trees h)
+arm_stays m m' ds ds' _ _ e g (is_choice {c = c} {d = d} {u = u} {v = v} {p = p} {x = x} {y = y} {k = k} h w i j) =
+    is_choice (ap (λ l. slice_get l k) g.is ∙ got-before ds g.more k (choice_drawn p x y) h)
+    (pair_more (stand_of m').trees ds ds' (formula c d) p g (pair_trees (stand_of m).trees (stand_of m').trees ds (formula c d) p e.trees.0 e.trees.1 w))
+    (arm_stays m m' ds ds' u x e g i) (arm_stays m m' ds ds' v y e g j)
+
+pub arm_is_real : (m : Made) (ds : List Drawn) (u : Unfolded) (x : Arm) → IsArm m ds u x → is_real_tree u ≡ true
+arm_is_real m ds _ _ (is_tree h) = refl
+arm_is_real m ds _ _ (is_choice {u = u} {v = v} {x = x} {y = y} h w i j) = ap (λ b. b && is_real_tree v) (arm_is_real m ds u x i) ∙ arm_is_real m ds v y j
+
+choice-quiet : (m : Made) (ds : List Drawn) (u : Unfolded) (k : ℕ) → IsArm m ds u (arm.Choice k) → ending u ≡ []
+choice-quiet m ds _ k (is_choice h w i j) = refl
+
 -- ---- values stay
 
 pub value_stays : (old new : Making) (u : Unfolded) (b : Bounding) (v : Value) → Grows old new → IsValue old u b v → IsValue new u b v
 value_stays old new u b (values.Real k) g h = (h.0, h.1, tree_stays old.made new.made h.0 k g.stand.trees h.2, h.3)
+value_stays old new u b (values.Choice k) g h = (arm_stays old.made new.made old.drawn new.drawn u (arm.Choice k) g.stand g.drawn h.0, h.1)
 value_stays old new u b (values.Bool pair n) g h = (
   pair_more (stand_of new.made).trees old.drawn new.drawn u pair g.drawn (pair_trees (stand_of old.made).trees (stand_of new.made).trees old.drawn u pair g.stand.trees.0 g.stand.trees.1 h.0),
   (h.1.0, h.1.1, lists_stay old.bounds new.bounds n h.1.0 g.bounds h.1.2),
@@ -110,6 +135,7 @@ named_again m u b (values.Real k) h = (
   (λ claim. ap (λ x. after_events claim (stand_of m.made) (ending x)) h.1 ∙ settled_events claim (stand_of m.made) (made h.0 ∷ []) (has_at (stand_of m.made).trees k h.0 h.2, tt)),
   (grows_self m, h),
 )
+named_again m u b (values.Choice k) h = ((λ claim. ap (λ es. after_events claim (stand_of m.made) es) (choice-quiet m.made m.drawn u k h.0)), (grows_self m, h))
 named_again m u b (values.Bool pair n) h = (
   (λ claim. ap (λ x. after_events claim (stand_of m.made) (ending x)) h.0.is),
   (grows_self m, h),
@@ -122,6 +148,7 @@ drawn-stays m m' (comparison_drawn at l r kind) n s h = (omega (arith, n, h.0), 
 drawn-stays m m' (bool_drawn axis v) n s h = rw s h
 drawn-stays m m' yes_drawn n s h = tt
 drawn-stays m m' no_drawn n s h = tt
+drawn-stays m m' (choice_drawn p x y) n s h = tt
 drawn-stays m m' (all_drawn ks) n s h = tt
 drawn-stays m m' (any_drawn ks) n s h = tt
 

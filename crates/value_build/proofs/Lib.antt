@@ -7,3 +7,7 @@ pub mod Operating
 pub mod Leaf
 pub mod Claimed
 pub mod Powers
+pub mod Lifting
+pub mod Plain
+pub mod Arming
+pub mod Joining

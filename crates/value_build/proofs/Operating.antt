@@ -6,15 +6,15 @@ use Rattle.std.specs.List.{All}
 use Rattle.std.specs.declared.alloc.AllocError.{AllocError}
 use Rattle.script_model.specs.Sexp.{Place}
 use Rattle.script_model.specs.Reading.{Operator, truth, falsehood, negation, conjunction, disjunction, implication, exclusive, equality, distinctness, choice, minus, plus, times, divide, at_most_op, below_op, at_least_op, above_op}
-use Rattle.script_model.specs.Declared.{Bound, Bounding, bounds, bounds_in, concat, bounding_operation}
+use Rattle.script_model.specs.Declared.{Bound, Bounding, bounds, bounds_in, concat, arm_bounding, choice_bounding, bounding_operation}
 use Rattle.script_model.specs.Meaning.{neighbours, pairs}
 use Rattle.smt_sexp.specs.Views.{place_of}
 use Rattle.script_fault.specs.declared.place.Place as code_place
 use Rattle.poly_graph.specs.Term.{Term, eq}
 use Rattle.poly_graph.proofs.Graphs.{length_terms}
-use Rattle.script_forms.specs.Terms.{Unfolded, term, refused, ill_formed}
-use Rattle.script_forms.specs.Unfolded.{are_terms, are_formulas, at_least_long, takes, first_fault, unfolded_operation, operation_tree, chain, different, unless_refused, choice_form}
-use Rattle.script_forms.specs.Work.{operation_events, operator_events, unless_met, met}
+use Rattle.script_forms.specs.Terms.{Unfolded, term, either, refused, ill_formed}
+use Rattle.script_forms.specs.Unfolded.{are_terms, are_formulas, at_least_long, takes, first_fault, unfolded_operation, operation_tree, chain, different, unless_refused, choice_form, and_of, equal_two, differ_two, choice_two, choice_tree, picks_terms}
+use Rattle.script_forms.specs.Work.{compare_events, together, operation_events, operator_events, unless_met, met}
 use Rattle.term_build.specs.Built.{Made, stand_of}
 use Rattle.term_build.specs.Sketch.{Drawn, IsSketch}
 use Rattle.term_build.specs.Steps.{Emits, IsTreeOf}
@@ -30,19 +30,21 @@ use Rattle.declared_box.specs.Same.{SameBounds}
 use Rattle.declared_box.specs.Table.{list_at, all_of}
 use Rattle.declared_box.proofs.Same.{same_bounds_append}
 use Rattle.value_build.specs.Making.{Making, making, Grows, Steps}
-use Rattle.value_build.specs.Values.{Weighs, IsValue, AreValues, AreKnown, Operates}
+use Rattle.value_build.specs.Values.{Weighs, IsArm, is_choice, IsValue, AreValues, AreKnown, Operates}
 use Rattle.value_build.specs.Weights.{WeighsEach}
 use Rattle.value_build.specs.Arithmetic.{AreNodes, operator_of_step}
 use Rattle.value_build.specs.Bounds.{AddsList, chained_bounds}
 use Rattle.value_build.specs.Chains.{spread_over, AreTrees, ComparesEach, ConnectsEach, two_of}
-use Rattle.value_build.specs.Operators.{are_real, are_bool, node_number, pair_number, list_number, takes_of, RealsDo, RealsMake, bool_operation, bool_equality, given_bounds, ListsEach, BoolsDo}
+use Rattle.value_build.specs.Operators.{are_arms, are_picked, ArmsDo, are_real, are_bool, node_number, pair_number, list_number, takes_of, RealsDo, RealsMake, bool_operation, bool_equality, given_bounds, ListsEach, BoolsDo}
 use Rattle.value_build.specs.declared.arithmetic.Step.{Step}
 use Rattle.value_build.specs.declared.chains.Spread.{Spread}
 use Rattle.value_build.specs.declared.chains.Spread.TheVariants.{Next}
 use Rattle.value_build.specs.declared.value.Value.{Value}
 use Rattle.value_build.specs.declared.value.Value.TheVariants as values
 use Rattle.value_build.proofs.Folds.{emits_grows}
-use Rattle.value_build.proofs.Growth.{lists_self, sketch_stays}
+use Rattle.term_build.specs.declared.sketch.Arm.TheVariants as arm
+use Rattle.value_build.proofs.Plain.{plain_trees, plain_chain, plain_pairs, bools_chain_quiet, bools_pairs_quiet}
+use Rattle.value_build.proofs.Growth.{arm_is_real, lists_self, sketch_stays}
 use Rattle.value_build.proofs.Listing.{AreBools, bools_chain}
 use Rattle.value_build.proofs.Spreads.{spread_next}
 use Rattle.value_build.proofs.Weights.{arithmetic_weighs}
@@ -129,7 +131,14 @@ equality_reals at ts (k ∷ ks) = refl
 
 pub distinctness_reals : (at : Place) (ts : List Term) (ks : List ℕ) → unfolded_operation at distinctness (trees_at ts ks) ≡ different (pairs (compared eq at) (trees_at ts ks))
 distinctness_reals at ts [] = refl
-distinctness_reals at ts (k ∷ ks) = refl
+distinctness_reals at ts (k ∷ ks) = ap (λ b. cond b (and_of (pairs (differ_two at) (trees_at ts (k ∷ ks)))) (different (pairs (equal_two at) (trees_at ts (k ∷ ks))))) (plain_trees ts ks)
+
+pub chain_quiet : (m m' : Making) (at : Place) (op : Operator) (ts : List Term) (ks : List ℕ) (r : Result Value Stop) (P : Value → Type 0) → operation_events at op (trees_at ts ks) ≡ together (neighbours compare_events (trees_at ts ks)) →
+    Steps m m' [] r P → Steps m m' (operation_events at op (trees_at ts ks)) r P
+chain_quiet m m' at op ts ks r P e h = subst (λ es. Steps m m' es r P) (sym (e ∙ plain_chain ts ks)) h
+
+pub pairs_quiet : (m m' : Making) (at : Place) (ts : List Term) (ks : List ℕ) (r : Result Value Stop) (P : Value → Type 0) → Steps m m' [] r P → Steps m m' (operation_events at distinctness (trees_at ts ks)) r P
+pairs_quiet m m' at ts ks r P h = subst (λ es. Steps m m' es r P) (sym (plain_pairs ts ks)) h
 
 pub equal_done : (m m' : Making) (at : Place) (ts : List Term) (ks : List ℕ) (bs : List Bounding) (r : Result Value Stop) → Steps m m' [] r (IsValue m' (chain (neighbours (compared eq at) (trees_at ts ks))) (bounds (chained_bounds eq bs))) →
     Steps m m' [] r (IsValue m' (unfolded_operation at equality (trees_at ts ks)) (bounding_operation equality bs))
@@ -176,6 +185,22 @@ are_bools lists (n ∷ ns) (b ∷ bs) h = ((h.0.0, h.0.1), are_bools lists ns bs
 are_bools lists [] (b ∷ bs) h = elim h [ ]
 are_bools lists (n ∷ ns) [] h = elim h [ ]
 
+choice-bools : (ts : List Term) (ds : List Drawn) (us : List Unfolded) (ps : List Pair) → DrawsEach ts ds us ps → choice_tree us ≡ choice_form us
+choice-bools ts ds [] ps h = refl
+choice-bools ts ds (c ∷ []) ps h = refl
+choice-bools ts ds (c ∷ a ∷ []) ps h = refl
+choice-bools ts ds (c ∷ a ∷ b ∷ us) (p ∷ q ∷ ps) h = ap (λ x. choice_two c x b) h.1.0.is ∙ ap (λ x. choice_form (c ∷ x ∷ b ∷ us)) (sym h.1.0.is)
+choice-bools ts ds (c ∷ a ∷ b ∷ us) [] h = elim h [ ]
+choice-bools ts ds (c ∷ a ∷ b ∷ us) (p ∷ []) h = elim h.1 [ ]
+
+choice-bounds : (lists : List (List Bound)) (ns : List ℕ) (bs : List Bounding) → ListsEach lists ns bs → choice_bounding bs ≡ bounds []
+choice-bounds lists ns [] h = refl
+choice-bounds lists ns (c ∷ []) h = refl
+choice-bounds lists ns (c ∷ a ∷ []) h = refl
+choice-bounds lists (n ∷ n' ∷ ns) (c ∷ a ∷ b ∷ bs) h = ap arm_bounding h.1.0.1
+choice-bounds lists [] (c ∷ a ∷ b ∷ bs) h = elim h [ ]
+choice-bounds lists (n ∷ []) (c ∷ a ∷ b ∷ bs) h = elim h.1 [ ]
+
 pub record BoolFacts (op : Operator) (at : Place) (us : List Unfolded) (bs : List Bounding) (lists : List (List Bound)) (ns : List ℕ) : Type 0 where
   pub events : operation_events at op us ≡ []
   pub form : unfolded_operation at op us ≡ bool_operation op us
@@ -192,9 +217,9 @@ bool_facts conjunction at ts ds us ps bs lists ns h l t = record { events = refl
 bool_facts disjunction at ts ds us ps bs lists ns h l t = record { events = refl; form = refl; given = []; bounding = refl; same = tt }
 bool_facts implication at ts ds us ps bs lists ns h l t = record { events = refl; form = refl; given = []; bounding = refl; same = tt }
 bool_facts exclusive at ts ds us ps bs lists ns h l t = record { events = refl; form = refl; given = []; bounding = refl; same = tt }
-bool_facts equality at ts ds us ps bs lists ns h l t = record { events = refl; form = equality-bools at ts ds us ps h; given = []; bounding = ap (λ xs. bounds xs) (bools_chain bs (are_bools lists ns bs l)); same = tt }
-bool_facts distinctness at ts ds us ps bs lists ns h l t = record { events = refl; form = distinctness-bools at ts ds us ps h (right-true (are_formulas us || are_terms us) (at_least_long 2 us) t); given = []; bounding = refl; same = tt }
-bool_facts choice at ts ds us ps bs lists ns h l t = record { events = refl; form = refl; given = []; bounding = refl; same = tt }
+bool_facts equality at ts ds us ps bs lists ns h l t = record { events = bools_chain_quiet ts ds us ps h; form = equality-bools at ts ds us ps h; given = []; bounding = ap (λ xs. bounds xs) (bools_chain bs (are_bools lists ns bs l)); same = tt }
+bool_facts distinctness at ts ds us ps bs lists ns h l t = record { events = bools_pairs_quiet ts ds us ps h; form = distinctness-bools at ts ds us ps h (right-true (are_formulas us || are_terms us) (at_least_long 2 us) t); given = []; bounding = refl; same = tt }
+bool_facts choice at ts ds us ps bs lists ns h l t = record { events = refl; form = choice-bools ts ds us ps h; given = []; bounding = choice-bounds lists ns bs l; same = tt }
 bool_facts minus at ts ds us ps bs lists ns h l t = absurd (no-reals (at_least_long 1 us) ts ds us ps (λ e. ap (λ n. nat_le 1 n) e) h t)
 bool_facts plus at ts ds us ps bs lists ns h l t = absurd (no-reals (at_least_long 1 us) ts ds us ps (λ e. ap (λ n. nat_le 1 n) e) h t)
 bool_facts times at ts ds us ps bs lists ns h l t = absurd (no-reals (at_least_long 1 us) ts ds us ps (λ e. ap (λ n. nat_le 1 n) e) h t)
@@ -216,23 +241,35 @@ bools_done op m ds ds2 lists lists' ps ns p k s c a at us bs h l t =
 -- ---- values of one sort
 
 pub record Facts (us : List Unfolded) (vs : List Value) : Type 0 where
-  pub reals : are_terms us ≡ are_real vs
+  pub reals : are_terms us ≡ are_arms vs
   pub bools : are_formulas us ≡ are_bool vs
+  pub picked : picks_terms us ≡ are_picked vs
   pub count : length us ≡ length vs
   pub faultless : first_fault us ≡ None
 
+choice-facts : (m : Made) (ds : List Drawn) (u : Unfolded) (us : List Unfolded) (k : ℕ) (vs : List Value) → IsArm m ds u (arm.Choice k) → Facts us vs → Facts (u ∷ us) (values.Choice k ∷ vs)
+choice-facts m ds _ us k vs (is_choice {c = c} {d = d} {u = u} {v = v} {p = p} {x = x} {y = y} e w i j) r = record {
+  reals = ap (λ b. b && are_terms us) (arm_is_real m ds (either c d u v) (arm.Choice k) (is_choice e w i j)) ∙ r.reals;
+  bools = refl;
+  picked = refl;
+  count = ap suc r.count;
+  faultless = r.faultless;
+}
+
 pub facts : (m : Making) (us : List Unfolded) (bs : List Bounding) (vs : List Value) → AreValues m us bs vs → Facts us vs
-facts m [] [] [] h = record { reals = refl; bools = refl; count = refl; faultless = refl }
+facts m [] [] [] h = record { reals = refl; bools = refl; picked = refl; count = refl; faultless = refl }
 facts m (u ∷ us) (b ∷ bs) (values.Real k ∷ vs) h = let r = facts m us bs vs h.1 in
-    subst (λ (x : Unfolded). Facts (x ∷ us) (values.Real k ∷ vs)) (sym h.0.1) (record { reals = r.reals; bools = refl; count = ap suc r.count; faultless = r.faultless })
+    subst (λ (x : Unfolded). Facts (x ∷ us) (values.Real k ∷ vs)) (sym h.0.1) (record { reals = r.reals; bools = refl; picked = refl; count = ap suc r.count; faultless = r.faultless })
+facts m (u ∷ us) (b ∷ bs) (values.Choice k ∷ vs) h = choice-facts m.made m.drawn u us k vs h.0.0 (facts m us bs vs h.1)
 facts m (u ∷ us) (b ∷ bs) (values.Bool p n ∷ vs) h = let r = facts m us bs vs h.1 in
-    subst (λ (x : Unfolded). Facts (x ∷ us) (values.Bool p n ∷ vs)) (sym h.0.0.is) (record { reals = refl; bools = r.bools; count = ap suc r.count; faultless = r.faultless })
+    subst (λ (x : Unfolded). Facts (x ∷ us) (values.Bool p n ∷ vs)) (sym h.0.0.is)
+    (record { reals = refl; bools = r.bools; picked = ap₂ (λ x y. x && y) r.reals (ap (λ n. nat_eq n 2) r.count); count = ap suc r.count; faultless = r.faultless })
 facts m [] [] (v ∷ vs) h = elim h [ ]
 facts m [] (b ∷ bs) vs h = elim h [ ]
 facts m (u ∷ us) [] vs h = elim h [ ]
 facts m (u ∷ us) (b ∷ bs) [] h = elim h [ ]
 
-takes-is : (op : Operator) (us : List Unfolded) → takes op us ≡ takes_of op (are_terms us) (are_formulas us) (length us)
+takes-is : (op : Operator) (us : List Unfolded) → takes op us ≡ takes_of op (are_terms us) (are_formulas us) (picks_terms us) (length us)
 takes-is truth us = refl
 takes-is falsehood us = refl
 takes-is negation us = refl
@@ -252,10 +289,10 @@ takes-is below_op us = refl
 takes-is at_least_op us = refl
 takes-is above_op us = refl
 
-pub takes_seen : (m : Making) (op : Operator) (us : List Unfolded) (bs : List Bounding) (vs : List Value) (t : Bool) → t ≡ takes_of op (are_real vs) (are_bool vs) (length vs) → AreValues m us bs vs → takes op us ≡ t
-takes_seen m op us bs vs t e h = let f = facts m us bs vs h in takes-is op us ∙ ap₂ (λ r b. takes_of op r b (length us)) f.reals f.bools ∙ ap (λ n. takes_of op (are_real vs) (are_bool vs) n) f.count ∙ sym e
+pub takes_seen : (m : Making) (op : Operator) (us : List Unfolded) (bs : List Bounding) (vs : List Value) (t : Bool) → t ≡ takes_of op (are_arms vs) (are_bool vs) (are_picked vs) (length vs) → AreValues m us bs vs → takes op us ≡ t
+takes_seen m op us bs vs t e h = let f = facts m us bs vs h in takes-is op us ∙ ap₂ (λ r b. takes_of op r b (picks_terms us) (length us)) f.reals f.bools ∙ ap₂ (λ p n. takes_of op (are_arms vs) (are_bool vs) p n) f.picked f.count ∙ sym e
 
-pub operate_refused : (m : Making) (op : Operator) (at : code_place.Place) (vs : List Value) (us : List Unfolded) (bs : List Bounding) (P : Value → Type 0) → false ≡ takes_of op (are_real vs) (are_bool vs) (length vs) → AreValues m us bs vs →
+pub operate_refused : (m : Making) (op : Operator) (at : code_place.Place) (vs : List Value) (us : List Unfolded) (bs : List Bounding) (P : Value → Type 0) → false ≡ takes_of op (are_arms vs) (are_bool vs) (are_picked vs) (length vs) → AreValues m us bs vs →
     Steps m m (operator_events (place_of at) op us) (Err (stop.Fault at IllFormed)) P
 operate_refused m op at vs us bs P e h =
     let f = (facts m us bs vs h).faultless in let t = takes_seen m op us bs vs false e h in
@@ -279,6 +316,7 @@ pub bools_seen : (m : Made) (ds : List Drawn) (lists : List (List Bound)) (us : 
 bools_seen m ds lists [] [] [] h e = (tt, tt)
 bools_seen m ds lists (u ∷ us) (b ∷ bs) (values.Bool p n ∷ vs) h e = let r = bools_seen m ds lists us bs vs h.1 e in ((h.0.0, r.0), (h.0.1, r.1))
 bools_seen m ds lists (u ∷ us) (b ∷ bs) (values.Real k ∷ vs) h e = cc
+bools_seen m ds lists (u ∷ us) (b ∷ bs) (values.Choice k ∷ vs) h e = cc
 bools_seen m ds lists [] [] (v ∷ vs) h e = elim h [ ]
 bools_seen m ds lists [] (b ∷ bs) vs h e = elim h [ ]
 bools_seen m ds lists (u ∷ us) [] vs h e = elim h [ ]
@@ -295,44 +333,11 @@ reals_seen m ds lists (u ∷ us) (b ∷ bs) (values.Real k ∷ vs) h e =
       (tree_below m h.0.0 k h.0.2, r.2),
     )
 reals_seen m ds lists (u ∷ us) (b ∷ bs) (values.Bool p n ∷ vs) h e = cc
+reals_seen m ds lists (u ∷ us) (b ∷ bs) (values.Choice k ∷ vs) h e = cc
 reals_seen m ds lists [] [] (v ∷ vs) h e = elim h [ ]
 reals_seen m ds lists [] (b ∷ bs) vs h e = elim h [ ]
 reals_seen m ds lists (u ∷ us) [] vs h e = elim h [ ]
 reals_seen m ds lists (u ∷ us) (b ∷ bs) [] h e = elim h [ ]
-
-left-true : (x y : Bool) → x && y ≡ true → x ≡ true
-left-true true y h = refl
-left-true false y h = cc
-
-none-true : (n : ℕ) → (n ≡ 0 → ⊥) → nat_eq n 0 ≡ true → ⊥
-none-true n f h = f (eqb→eq n 0 (passes _ h))
-
-taken-reals : (op : Operator) (r : Bool) (n : ℕ) → (n ≡ 0 → ⊥) → takes_of op r false n ≡ true → r ≡ true
-taken-reals truth r n f t = absurd (none-true n f t)
-taken-reals falsehood r n f t = absurd (none-true n f t)
-taken-reals negation r n f t = cc
-taken-reals conjunction r n f t = cc
-taken-reals disjunction r n f t = cc
-taken-reals implication r n f t = cc
-taken-reals exclusive r n f t = cc
-taken-reals equality r n f t = left-true r (nat_le 2 n) t
-taken-reals distinctness r n f t = left-true r (nat_le 2 n) t
-taken-reals choice r n f t = cc
-taken-reals minus r n f t = left-true r (nat_le 1 n) t
-taken-reals plus r n f t = left-true r (nat_le 1 n) t
-taken-reals times r n f t = left-true r (nat_le 1 n) t
-taken-reals divide r n f t = left-true r (nat_le 2 n) t
-taken-reals at_most_op r n f t = left-true r (nat_le 2 n) t
-taken-reals below_op r n f t = left-true r (nat_le 2 n) t
-taken-reals at_least_op r n f t = left-true r (nat_le 2 n) t
-taken-reals above_op r n f t = left-true r (nat_le 2 n) t
-
-some-values : (vs : List Value) → are_bool vs ≡ false → length vs ≡ 0 → ⊥
-some-values [] e n = cc
-some-values (v ∷ vs) e n = absurd (omega (arith, n))
-
-pub reals_taken : (op : Operator) (vs : List Value) → are_bool vs ≡ false → takes_of op (are_real vs) (are_bool vs) (length vs) ≡ true → are_real vs ≡ true
-reals_taken op vs e t = taken-reals op (are_real vs) (length vs) (some-values vs e) (ap (λ b. takes_of op (are_real vs) b (length vs)) (sym e) ∙ t)
 
 pub choice_three : (ds ds2 : List Drawn) (o p q : Pair) (rest : List Pair) (r : Result Pair AllocError) → ConnectsChoice ds ds2 o p q r → Connects choice_form ds ds2 (o ∷ p ∷ q ∷ rest) r
 choice_three ds ds2 o p q rest r w = λ m ts us s d. go m ts us s d
@@ -356,20 +361,25 @@ lists_below lists [] (b ∷ bs) h = elim h [ ]
 lists_below lists (n ∷ ns) [] h = elim h [ ]
 
 pub operate_bools : (m : Made) (ds ds' : List Drawn) (lists lists' : List (List Bound)) (op : Operator) (at : Place) (vs : List Value) (ps : List Pair) (ns : List ℕ) (r : Result Value Stop) → ps ≡ map pair_number vs → ns ≡ map list_number vs → are_bool vs ≡ true →
-    true ≡ takes_of op (are_real vs) (are_bool vs) (length vs) → BoolsDo m ds ds' lists lists' op ps ns r → Operates (making m ds lists) (making m ds' lists') at op vs r
+    true ≡ takes_of op (are_arms vs) (are_bool vs) (are_picked vs) (length vs) → BoolsDo m ds ds' lists lists' op ps ns r → Operates (making m ds lists) (making m ds' lists') at op vs r
 operate_bools m ds ds' lists lists' op at vs ps ns r e f b t w = λ us bs h.
     let s = bools_seen m ds lists us bs vs h b in let k = takes_seen (making m ds lists) op us bs vs true t h in
     operate_taken (making m ds lists) (making m ds' lists') op at us bs vs r k h
     (w at us bs (subst (λ (qs : List Pair). DrawsEach (stand_of m).trees ds us qs) (sym e) s.0) (subst (λ (js : List ℕ). ListsEach lists js bs) (sym f) s.1) k)
 
-pub operate_reals : (m m' : Made) (ds ds' : List Drawn) (lists lists' : List (List Bound)) (op : Operator) (at : Place) (vs : List Value) (ks : List ℕ) (r : Result Value Stop) → ks ≡ map node_number vs → are_bool vs ≡ false →
-    true ≡ takes_of op (are_real vs) (are_bool vs) (length vs) → RealsDo (making m ds lists) (making m' ds' lists') at op ks r → Operates (making m ds lists) (making m' ds' lists') at op vs r
+pub operate_reals : (m m' : Made) (ds ds' : List Drawn) (lists lists' : List (List Bound)) (op : Operator) (at : Place) (vs : List Value) (ks : List ℕ) (r : Result Value Stop) → ks ≡ map node_number vs → are_real vs ≡ true →
+    true ≡ takes_of op (are_arms vs) (are_bool vs) (are_picked vs) (length vs) → RealsDo (making m ds lists) (making m' ds' lists') at op ks r → Operates (making m ds lists) (making m' ds' lists') at op vs r
 operate_reals m m' ds ds' lists lists' op at vs ks r e b t w = λ us bs h.
-    let s = reals_seen m ds lists us bs vs h (reals_taken op vs b (sym t)) in let k = takes_seen (making m ds lists) op us bs vs true t h in
+    let s = reals_seen m ds lists us bs vs h b in let k = takes_seen (making m ds lists) op us bs vs true t h in
     let us-is : us ≡ trees_at (stand_of m).trees ks = s.0 ∙ ap (λ js. trees_at (stand_of m).trees js) (sym e) in
     operate_taken (making m ds lists) (making m' ds' lists') op at us bs vs r k h
     (subst (λ (xs : List Unfolded). Steps (making m ds lists) (making m' ds' lists') (operation_events at op xs) r (IsValue (making m' ds' lists') (unfolded_operation at op xs) (bounding_operation op bs))) (sym us-is)
     (w bs (subst (λ (js : List ℕ). WeighsEach (stand_of m).trees js bs) (sym e) s.1) (sym (ap (takes op) us-is) ∙ k)))
 
-pub nodes_there : (m : Made) (ds : List Drawn) (lists : List (List Bound)) (op : Operator) (vs : List Value) (ks : List ℕ) → AreKnown (making m ds lists) vs → ks ≡ map node_number vs → are_bool vs ≡ false → true ≡ takes_of op (are_real vs) (are_bool vs) (length vs) → AreNodes m ks
-nodes_there m ds lists op vs ks h e b t = subst (λ (js : List ℕ). AreNodes m js) (sym e) (reals_seen m ds lists h.0 h.1 vs h.2 (reals_taken op vs b (sym t))).2
+pub nodes_there : (m : Made) (ds : List Drawn) (lists : List (List Bound)) (vs : List Value) (ks : List ℕ) → AreKnown (making m ds lists) vs → ks ≡ map node_number vs → are_real vs ≡ true → AreNodes m ks
+nodes_there m ds lists vs ks h e b = subst (λ (js : List ℕ). AreNodes m js) (sym e) (reals_seen m ds lists h.0 h.1 vs h.2 b).2
+
+pub operate_arms : (m m' : Made) (ds ds' : List Drawn) (lists lists' : List (List Bound)) (op : Operator) (at : Place) (vs : List Value) (r : Result Value Stop) → true ≡ takes_of op (are_arms vs) (are_bool vs) (are_picked vs) (length vs) →
+    ArmsDo m m' ds ds' lists lists' at op vs r → Operates (making m ds lists) (making m' ds' lists') at op vs r
+operate_arms m m' ds ds' lists lists' op at vs r t w = λ us bs h. let k = takes_seen (making m ds lists) op us bs vs true t h in
+    operate_taken (making m ds lists) (making m' ds' lists') op at us bs vs r k h (w us bs h k)

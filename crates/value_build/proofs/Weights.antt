@@ -2,16 +2,16 @@
 -- arguments are constants.
 use Rattle.std.proofs.Common.{◌≡◌, ℕ, List, [], ◌∷◌, Bool, true, false, cond, Option, Some, None, refl, ap, sym, ◌∙◌, subst, arith, ◌⊎◌, inl, inr, IsTrue, ℤ, ◌≤ℤ◌}
 use borrow.Author.Differences.{ints}
-use Rattle.dyadic.specs.Fraction.{Fraction, IsFraction, zero_fraction, negated, sum_of, product_of, at_most}
+use Rattle.dyadic.specs.Fraction.{Fraction, IsFraction, zero_fraction, negated, sum_of, difference_of, product_of, quotient_of, at_most}
 use Rattle.dyadic.specs.Lowest.{reduced, sum_fits, product_fits}
 use Rattle.dyadic.proofs.Equal.{◌≈◌, at_most_same, at_least_same, total, holds_le}
 use Rattle.script_model.specs.Sexp.{Place}
 use Rattle.script_model.specs.Reading.{Operator, minus, plus, times, divide}
-use Rattle.script_model.specs.Meaning.{Value, real, fraction_of, operation}
-use Rattle.script_model.specs.Declared.{Bounding, known, other, with_first, all_known, computed, alone, bounding_operation}
+use Rattle.script_model.specs.Meaning.{Value, real, bool, either as either_value, fraction_of, from_left, first_and_rest, step_values, subtract_values, operation}
+use Rattle.script_model.specs.Declared.{Bounding, known, constant_of, other, bounds, with_first, all_known, computed, alone, bounding_operation}
 use Rattle.script_model.proofs.Related.{Each}
 use Rattle.poly_graph.specs.Term.{Term, constant, variable, negate, add, multiply, square}
-use Rattle.script_forms.specs.Terms.{Fault, Unfolded, term, refused, constant_or, number_too_wide, ill_formed, add_tree, multiply_tree, subtract_tree, divide_tree, negate_tree, is_nought, inverse_of, zero_divisor, divisor_not_constant, same_term, steps}
+use Rattle.script_forms.specs.Terms.{Fault, Unfolded, term, refused, divisor_not_constant, constant_or, number_too_wide, ill_formed, add_tree, multiply_tree, subtract_tree, divide_tree, negate_tree, is_nought, inverse_of, zero_divisor, divisor_not_constant, same_term, steps}
 use Rattle.script_forms.specs.Unfolded.{first_fault, takes, unless_refused, operation_tree, unfolded_operation}
 use Rattle.script_forms.proofs.Means.{Means}
 use Rattle.script_forms.proofs.Meaning.{respects}
@@ -20,6 +20,7 @@ use Rattle.term_build.specs.Pairs.{tree_at, trees_at}
 use Rattle.term_build.proofs.Emits.{add_is, multiply_is}
 use Rattle.declared_box.specs.Same.{SameNumber}
 use Rattle.value_build.specs.Values.{Weighs}
+use Rattle.value_build.proofs.Plain.{plain_trees}
 use Rattle.value_build.specs.Weights.{term_at, WeighsEach}
 use Rattle.value_build.specs.Arithmetic.{operator_of_step, tree_of_step}
 use Rattle.value_build.specs.declared.arithmetic.Step.{Step}
@@ -312,11 +313,51 @@ value-of v c h = (fraction_of v, refl, is_same (fraction_of v) c h.one h.other h
 real-of : (v : Value) (u : Unfolded) (q : Fraction) → v ≡ real q → Means zero_fraction [] v u → Means zero_fraction [] (real (fraction_of v)) u
 real-of v u q e h = subst (λ (w : Value). Means zero_fraction [] (real (fraction_of w)) u) (sym e) (subst (λ (w : Value). Means zero_fraction [] w u) e h)
 
-is-real : (s : Step) (qs : List Value) → (q : Fraction) × (operation zero_fraction (operator_of_step s) qs ≡ real q)
-is-real Add qs = (fraction_of (operation zero_fraction plus qs), refl)
-is-real Subtract qs = (fraction_of (operation zero_fraction minus qs), refl)
-is-real Multiply qs = (fraction_of (operation zero_fraction times qs), refl)
-is-real Divide qs = (fraction_of (operation zero_fraction divide qs), refl)
+-- values of constants
+abbrev AreReal : List Value → Type 0
+AreReal [] = Unit {0}
+AreReal (real q ∷ vs) = AreReal vs
+AreReal (v ∷ vs) = ⊥
+
+abbrev IfReal : Option (List Value) → Type 0
+IfReal None = Unit {0}
+IfReal (Some vs) = AreReal vs
+
+real-first : (q : Fraction) (o : Option (List Value)) → IfReal o → IfReal (with_first q o)
+real-first q None h = tt
+real-first q (Some vs) h = h
+
+all-real : (bs : List Bounding) → IfReal (all_known bs)
+all-real [] = tt
+all-real (known q ∷ bs) = real-first q (all_known bs) (all-real bs)
+all-real (constant_of i ∷ bs) = tt
+all-real (other ∷ bs) = tt
+all-real (bounds xs ∷ bs) = tt
+
+real-steps : (f : Fraction → Fraction → Fraction) (q : Fraction) (vs : List Value) → AreReal vs → (r : Fraction) × (from_left (step_values f) (real q) vs ≡ real r)
+real-steps f q [] h = (q, refl)
+real-steps f q (real p ∷ vs) h = real-steps f (f q p) vs h
+real-steps f q (bool t ∷ vs) h = elim h [ ]
+real-steps f q (either_value c v w ∷ vs) h = elim h [ ]
+
+real-all : (f : Fraction → Fraction → Fraction) (vs : List Value) → AreReal vs → (r : Fraction) × (first_and_rest (step_values f) (real zero_fraction) vs ≡ real r)
+real-all f [] h = (zero_fraction, refl)
+real-all f (real q ∷ vs) h = real-steps f q vs h
+real-all f (bool t ∷ vs) h = elim h [ ]
+real-all f (either_value c v w ∷ vs) h = elim h [ ]
+
+real-difference : (vs : List Value) → AreReal vs → (r : Fraction) × (subtract_values vs ≡ real r)
+real-difference [] h = (zero_fraction, refl)
+real-difference (real q ∷ []) h = (negated q, refl)
+real-difference (real q ∷ v ∷ vs) h = real-steps difference_of q (v ∷ vs) h
+real-difference (bool t ∷ vs) h = elim h [ ]
+real-difference (either_value c v w ∷ vs) h = elim h [ ]
+
+is-real : (s : Step) (qs : List Value) → AreReal qs → (q : Fraction) × (operation zero_fraction (operator_of_step s) qs ≡ real q)
+is-real Add qs h = real-all sum_of qs h
+is-real Subtract qs h = real-difference qs h
+is-real Multiply qs h = real-all product_of qs h
+is-real Divide qs h = real-all quotient_of qs h
 
 -- the number of constants that were folded
 folded : (s : Step) (at : Place) (ts : List Term) (ks : List ℕ) (bs : List Bounding) (qs : List Value) (r : Term) (c : Fraction) → WeighsEach ts ks bs → all_known bs ≡ Some qs → takes (operator_of_step s) (trees_at ts ks) ≡ true →
@@ -325,8 +366,9 @@ folded s at ts ks bs qs r c h a t e d =
     let op = operator_of_step s in let v = operation zero_fraction op qs in
     let m = (respects zero_fraction []).apply at op qs (trees_at ts ks) (means-each ts ks bs qs h a) in
     let u : operation_tree at op (trees_at ts ks) ≡ term (constant c) = operation_is at op (trees_at ts ks) (no_fault ts ks) t ∙ e ∙ ap (λ (x : Term). term x) d in
+    let n = is-real s qs (subst IfReal a (all-real bs)) in
     subst (λ (x : Term). Weighs x (known (fraction_of v))) (sym d)
-    (value-of v c (real-of v (term (constant c)) (is-real s qs).0 (is-real s qs).1 (subst (λ (w : Unfolded). Means zero_fraction [] v w) u m)))
+    (value-of v c (real-of v (term (constant c)) n.0 n.1 (subst (λ (w : Unfolded). Means zero_fraction [] v w) u m)))
 
 -- of two trees and more
 several : (s : Step) (at : Place) (ts : List Term) (k j : ℕ) (ks : List ℕ) (bs : List Bounding) (r : Term) → WeighsEach ts (k ∷ j ∷ ks) bs → takes (operator_of_step s) (trees_at ts (k ∷ j ∷ ks)) ≡ true →
@@ -365,7 +407,7 @@ arithmetic_weighs Divide at ts (k ∷ []) bs r h t e = cc
 arithmetic_weighs Add at ts (k ∷ j ∷ ks) (b ∷ b' ∷ bs) r h t e = several Add at ts k j ks (b ∷ b' ∷ bs) r h t refl e (all_known (b ∷ b' ∷ bs)) refl
 arithmetic_weighs Subtract at ts (k ∷ j ∷ ks) (b ∷ b' ∷ bs) r h t e = several Subtract at ts k j ks (b ∷ b' ∷ bs) r h t refl e (all_known (b ∷ b' ∷ bs)) refl
 arithmetic_weighs Multiply at ts (k ∷ j ∷ ks) (b ∷ b' ∷ bs) r h t e = several Multiply at ts k j ks (b ∷ b' ∷ bs) r h t refl e (all_known (b ∷ b' ∷ bs)) refl
-arithmetic_weighs Divide at ts (k ∷ j ∷ ks) (b ∷ b' ∷ bs) r h t e = several Divide at ts k j ks (b ∷ b' ∷ bs) r h t refl e (all_known (b ∷ b' ∷ bs)) refl
+arithmetic_weighs Divide at ts (k ∷ j ∷ ks) (b ∷ b' ∷ bs) r h t e = several Divide at ts k j ks (b ∷ b' ∷ bs) r h t (ap (λ x. cond x (refused (divisor_not_constant at)) (steps (divide_tree at) (tree_at ts k) (trees_at ts (j ∷ ks)))) (plain_trees ts (j ∷ ks))) e (all_known (b ∷ b' ∷ bs)) refl
 arithmetic_weighs s at ts (k ∷ []) [] r h t e = elim h [ ]
 arithmetic_weighs s at ts (k ∷ []) (b ∷ b' ∷ bs) r h t e = elim h.1 [ ]
 arithmetic_weighs s at ts (k ∷ j ∷ ks) [] r h t e = elim h [ ]

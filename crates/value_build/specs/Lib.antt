@@ -7,3 +7,4 @@ pub mod Bounds
 pub mod Operators
 pub mod Leaves
 pub mod Claiming
+pub mod Arms

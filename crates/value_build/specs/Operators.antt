@@ -1,5 +1,5 @@
 -- What operators make of values, sort by sort.
-use Rattle.std.specs.Prelude.{◌≡◌, ℕ, List, [], ◌∷◌, Bool, true, false, ◌&&◌, ◌||◌, nat_eq, nat_le, Result}
+use Rattle.std.specs.Prelude.{◌≡◌, ℕ, List, [], ◌∷◌, length, Bool, true, false, ◌&&◌, ◌||◌, nat_eq, nat_le, Result}
 use Rattle.script_model.specs.Sexp.{Place}
 use Rattle.script_model.specs.Reading.{Operator, truth, falsehood, negation, conjunction, disjunction, implication, exclusive, equality, distinctness, choice, minus, plus, times}
 use Rattle.script_model.specs.Declared.{Bound, Bounding, bounds, bounding_operation}
@@ -16,7 +16,7 @@ use Rattle.term_build.specs.declared.connectives.Pair.{Pair}
 use Rattle.term_build.specs.declared.stop.Stop.{Stop}
 use Rattle.declared_box.specs.Table.{all_of}
 use Rattle.value_build.specs.Making.{Making, making, Steps}
-use Rattle.value_build.specs.Values.{IsValue, Lists}
+use Rattle.value_build.specs.Values.{IsValue, AreValues, Lists}
 use Rattle.value_build.specs.Weights.{WeighsEach}
 use Rattle.value_build.specs.Bounds.{chained_bounds}
 use Rattle.value_build.specs.declared.value.Value.{Value}
@@ -27,41 +27,52 @@ use Rattle.value_build.specs.declared.value.Value.TheVariants as values
 abbrev pub are_real : List Value → Bool
 are_real [] = true
 are_real (values.Real k ∷ vs) = are_real vs
-are_real (values.Bool p n ∷ vs) = false
+are_real (v ∷ vs) = false
 
 abbrev pub are_bool : List Value → Bool
 are_bool [] = true
 are_bool (values.Bool p n ∷ vs) = are_bool vs
-are_bool (values.Real k ∷ vs) = false
+are_bool (v ∷ vs) = false
 
 abbrev pub node_number : Value → ℕ
 node_number (values.Real k) = k
-node_number (values.Bool p n) = 0
+node_number v = 0
 
 abbrev pub pair_number : Value → Pair
-pair_number (values.Real k) = record { truth = 0; negation = 0 }
 pair_number (values.Bool p n) = p
+pair_number v = record { truth = 0; negation = 0 }
 
 abbrev pub list_number : Value → ℕ
-list_number (values.Real k) = 0
 list_number (values.Bool p n) = n
+list_number v = 0
 
--- whether the operator takes so many arguments, all of which are Real or Bool
-abbrev pub takes_of : Operator → Bool → Bool → ℕ → Bool
-takes_of truth reals bools n = nat_eq n 0
-takes_of falsehood reals bools n = nat_eq n 0
-takes_of negation reals bools n = bools && nat_eq n 1
-takes_of conjunction reals bools n = bools && nat_le 1 n
-takes_of disjunction reals bools n = bools && nat_le 1 n
-takes_of implication reals bools n = bools && nat_le 2 n
-takes_of exclusive reals bools n = bools && nat_le 2 n
-takes_of equality reals bools n = (bools || reals) && nat_le 2 n
-takes_of distinctness reals bools n = (bools || reals) && nat_le 2 n
-takes_of choice reals bools n = bools && nat_eq n 3
-takes_of minus reals bools n = reals && nat_le 1 n
-takes_of plus reals bools n = reals && nat_le 1 n
-takes_of times reals bools n = reals && nat_le 1 n
-takes_of op reals bools n = reals && nat_le 2 n
+-- trees and Real `ite`s
+abbrev pub are_arms : List Value → Bool
+are_arms [] = true
+are_arms (values.Bool p n ∷ vs) = false
+are_arms (v ∷ vs) = are_arms vs
+
+-- the arguments of a Real `ite`
+abbrev pub are_picked : List Value → Bool
+are_picked (values.Bool p n ∷ vs) = are_arms vs && nat_eq (length vs) 2
+are_picked vs = false
+
+-- whether the operator takes so many arguments, all of which are Real or Bool, or are those of a Real `ite`
+abbrev pub takes_of : Operator → Bool → Bool → Bool → ℕ → Bool
+takes_of truth reals bools picked n = nat_eq n 0
+takes_of falsehood reals bools picked n = nat_eq n 0
+takes_of negation reals bools picked n = bools && nat_eq n 1
+takes_of conjunction reals bools picked n = bools && nat_le 1 n
+takes_of disjunction reals bools picked n = bools && nat_le 1 n
+takes_of implication reals bools picked n = bools && nat_le 2 n
+takes_of exclusive reals bools picked n = bools && nat_le 2 n
+takes_of equality reals bools picked n = (bools || reals) && nat_le 2 n
+takes_of distinctness reals bools picked n = (bools || reals) && nat_le 2 n
+takes_of choice reals bools picked n = (bools && nat_eq n 3) || picked
+takes_of minus reals bools picked n = reals && nat_le 1 n
+takes_of plus reals bools picked n = reals && nat_le 1 n
+takes_of times reals bools picked n = reals && nat_le 1 n
+takes_of op reals bools picked n = reals && nat_le 2 n
 
 -- ---- Real arguments
 
@@ -124,3 +135,9 @@ ListsEach lists _ _ = ⊥
 abbrev pub BoolsDo : Made → List Drawn → List Drawn → List (List Bound) → List (List Bound) → Operator → List Pair → List ℕ → Result Value Stop → Type 0
 BoolsDo m ds ds' lists lists' op ps ns r = (at : Place) (us : List Unfolded) (bs : List Bounding) → DrawsEach (stand_of m).trees ds us ps → ListsEach lists ns bs → takes op us ≡ true →
     Steps (making m ds lists) (making m ds' lists') (operation_events at op us) r (IsValue (making m ds' lists') (unfolded_operation at op us) (bounding_operation op bs))
+
+-- ---- Real arguments that hold an `ite`, or the arguments of one
+
+abbrev pub ArmsDo : Made → Made → List Drawn → List Drawn → List (List Bound) → List (List Bound) → Place → Operator → List Value → Result Value Stop → Type 0
+ArmsDo m m' ds ds' lists lists' at op vs r = (us : List Unfolded) (bs : List Bounding) → AreValues (making m ds lists) us bs vs → takes op us ≡ true →
+    Steps (making m ds lists) (making m' ds' lists') (operation_events at op us) r (IsValue (making m' ds' lists') (unfolded_operation at op us) (bounding_operation op bs))

@@ -1,22 +1,25 @@
 -- What values stand for: the unfolding of an expression, and what it is to the declared box.
-use Rattle.std.specs.Prelude.{◌≡◌, ℕ, ◌<◌, List, [], ◌∷◌, length, Result}
+use Rattle.std.specs.Prelude.{◌≡◌, ℕ, ◌<◌, List, [], ◌∷◌, length, Some, Result, slice_get}
 use Rattle.dyadic.specs.Fraction.{Fraction}
 use Rattle.dyadic.specs.Point.{Sort}
 use Rattle.script_model.specs.Declared.{Bound, Bounding, known, constant_of, other, bounds, bounds_in, constant_bounding, bounding_operation}
 use Rattle.poly_graph.specs.Term.{Term, constant, variable}
-use Rattle.poly_graph.specs.Form.{form_map}
+use Rattle.poly_graph.specs.Form.{Form, form_map}
 use Rattle.poly_graph.specs.Problem.{HasSort}
-use Rattle.script_forms.specs.Terms.{Unfolded, term}
+use Rattle.script_forms.specs.Terms.{Comparison, Unfolded, term, formula, either}
 use Rattle.script_forms.specs.Unfolded.{truth_of, operation_tree}
 use Rattle.script_model.specs.Sexp.{Place}
 use Rattle.script_model.specs.Reading.{Operator}
 use Rattle.script_forms.specs.Atoms.{atom_of, constant_tree}
 use Rattle.script_forms.specs.Work.{ending, form_events, operator_events}
-use Rattle.term_build.specs.Built.{stand_of}
+use Rattle.term_build.specs.Built.{Made, stand_of}
+use Rattle.term_build.specs.declared.connectives.Pair.{Pair}
+use Rattle.term_build.specs.declared.sketch.Arm.{Arm}
+use Rattle.term_build.specs.declared.sketch.Arm.TheVariants as arm
 use Rattle.term_build.specs.Does.{IsTree}
 use Rattle.term_build.specs.Pairs.{Draws}
 use Rattle.term_build.specs.Settled.{Extends, FormSettled}
-use Rattle.term_build.specs.Sketch.{IsFormOf}
+use Rattle.term_build.specs.Sketch.{Drawn, choice_drawn, IsFormOf}
 use Rattle.term_build.specs.Steps.{Emits}
 use Rattle.term_build.specs.declared.stop.Stop.{Stop}
 use Rattle.declared_box.specs.Same.{SameNumber, SameBounds}
@@ -35,9 +38,17 @@ Weighs t b = b ≡ other
 abbrev pub Lists : List (List Bound) → ℕ → List Bound → Type 0
 Lists lists n bs = (n < length lists) × SameBounds (list_at lists n) bs
 
+module _ (m : Made) (ds : List Drawn) where
+  -- the arm stands for a Real expression that unfolds so
+  pub data IsArm : Unfolded → Arm → Type 0 where
+    is_tree : {t : Term} {k : ℕ} → IsTree m t k → IsArm (term t) (arm.Tree k)
+    is_choice : {c d : Form Comparison} {u v : Unfolded} {p : Pair} {x y : Arm} {k : ℕ} → slice_get ds k ≡ Some (choice_drawn p x y) → Draws (stand_of m).trees ds (formula c d) p →
+        IsArm u x → IsArm v y → IsArm (either c d u v) (arm.Choice k)
+
 -- the value stands for an expression that unfolds so, with these bounds
 abbrev pub IsValue : Making → Unfolded → Bounding → Value → Type 0
 IsValue m u b (values.Real k) = (t : Term) × (u ≡ term t) × IsTree m.made t k × Weighs t b
+IsValue m u b (values.Choice k) = IsArm m.made m.drawn u (arm.Choice k) × (b ≡ other)
 IsValue m u b (values.Bool pair n) = Draws (stand_of m.made).trees m.drawn u pair × ((bs : List Bound) × (b ≡ bounds bs) × Lists m.bounds n bs)
 
 abbrev pub AreValues : Making → List Unfolded → List Bounding → List Value → Type 0

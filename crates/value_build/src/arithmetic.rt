@@ -21,8 +21,14 @@ pub(crate) enum Step {
     Divide,
 }
 
-// One step of two trees.
-fn apply(builder: &mut Builder, at: Place, step: Step, a: u32, b: u32) -> Result<u32, Stop>
+/// One step of two trees.
+pub(crate) fn apply(
+    builder: &mut Builder,
+    at: Place,
+    step: Step,
+    a: u32,
+    b: u32,
+) -> Result<u32, Stop>
     requires first { a < length builder.old.nodes }
     requires second { b < length builder.old.nodes }
     ensures does { let t = tree_of builder.old a in let u = tree_of builder.old b in Emits builder.old builder.new (events_of_step step (place_of at) t u) result (IsTreeOf builder.new (tree_of_step step (place_of at) t u)) }
@@ -53,8 +59,8 @@ fn fold(builder: &mut Builder, at: Place, step: Step, first: u32, rest: &[u32]) 
     Ok(so_far)
 }
 
-// Whether the step is that of differences.
-fn is_difference(step: Step) -> bool
+/// Whether the step is that of differences.
+pub(crate) fn is_difference(step: Step) -> bool
     ensures { result ≡ is_difference step }
 {
     matches!(step, Step::Subtract)

@@ -18,8 +18,8 @@ pub(crate) enum Spread {
     Later,
 }
 
-// Those of the later arguments that belong with an earlier one.
-fn others_of<T: Copy>(spread: Spread, later: &[T]) -> &[T]
+/// Those of the later arguments that belong with an earlier one.
+pub(crate) fn others_of<T: Copy>(spread: Spread, later: &[T]) -> &[T]
     ensures { result.now ≡ others_of spread later.now }
 {
     match spread {

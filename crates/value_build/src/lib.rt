@@ -2,10 +2,12 @@
 #![tactic(auto)]
 
 mod arithmetic;
+mod arms;
 mod bounds;
 mod chains;
 mod claim;
 mod leaves;
+mod lift;
 mod literal;
 mod maker;
 mod operate;

@@ -155,6 +155,11 @@ impl Maker {
                 give_up(&mut self.sketch);
                 claim_real(alloc, &mut self.builder, &mut self.bounds)
             }
+            Value::Choice(node) => {
+                let _ = node;
+                give_up(&mut self.sketch);
+                claim_real(alloc, &mut self.builder, &mut self.bounds)
+            }
         }
     }
 }

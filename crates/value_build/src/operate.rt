@@ -1,5 +1,5 @@
 // Operators at values.
-ghost use Rattle.std.specs.Prelude.{◌≡◌, ℕ, ◌<◌, [], length, map, IfOk};
+ghost use Rattle.std.specs.Prelude.{◌≡◌, ℕ, ◌<◌, true, false, [], length, map, IfOk};
 ghost use Rattle.std.specs.List.{All};
 ghost use Rattle.poly_graph.specs.Views.{kind_of};
 ghost use Rattle.script_forms.specs.Unfolded.{choice_form, not_first};
@@ -9,12 +9,14 @@ ghost use Rattle.term_build.specs.Pairs.{Connects};
 ghost use Rattle.term_build.specs.Shapes.{drawn_of};
 ghost use Rattle.term_build.specs.Sketch.{IsSketch};
 ghost use Rattle.value_build.specs.Arithmetic.{AreNodes, operator_of_step};
+ghost use Rattle.value_build.specs.Arms.{AreSomeValues, ArmsMake, Joins, PicksOf, SaysAll, only_of};
 ghost use Rattle.value_build.specs.Bounds.{AddsList};
 ghost use Rattle.value_build.specs.Making.{making};
-ghost use Rattle.value_build.specs.Operators.{ArePairs, BoolsDo, ComparesAll, DiffersAll, RealsDo, RealsMake, are_bool, are_real, bool_distinctness, bool_equality, bool_operation, given_bounds, list_number, node_number, pair_number, takes_of};
+ghost use Rattle.value_build.specs.Operators.{ArePairs, ArmsDo, BoolsDo, ComparesAll, DiffersAll, RealsDo, RealsMake, are_arms, are_bool, are_picked, are_real, bool_distinctness, bool_equality, bool_operation, given_bounds, list_number, node_number, pair_number, takes_of};
 ghost use Rattle.value_build.specs.Values.{AreKnown, Operates};
 
 use crate::arithmetic::{Step, calculate};
+use crate::arms::{calculate_values, link_each, pick};
 use crate::bounds::chain_bounds;
 use crate::chains::{Spread, compare_each, connect_each};
 use crate::value::Value;
@@ -23,7 +25,7 @@ use poly_graph::Kind;
 use script_fault::Place;
 use sort_check::Operator;
 use std::alloc::{AllocError, Global};
-use term_build::{Builder, Drawn, Fault, Pair, Stop};
+use term_build::{Arm, Builder, Drawn, Fault, Pair, Stop};
 
 /// The sketch is given up, as where the builder stopped.
 pub(crate) fn give_up(sketch: &mut Vec<Drawn>)
@@ -41,9 +43,23 @@ pub(crate) fn no_bounds(alloc: Global, bounds: &mut BoundTable) -> Result<u32, A
 
 // ---- values of one sort
 
-// Whether all are Real.
+// Whether all are trees.
 fn are_real(values: &[Value]) -> bool
     ensures { result ≡ are_real values.now }
+{
+    let mut left = values;
+    while let Some((value, later)) = left.split_first() {
+        if let Value::Bool(_, _) | Value::Choice(_) = value {
+            return false;
+        }
+        left = later;
+    }
+    true
+}
+
+// Whether all are trees and Real `ite`s.
+fn are_arms(values: &[Value]) -> bool
+    ensures { result ≡ are_arms values.now }
 {
     let mut left = values;
     while let Some((value, later)) = left.split_first() {
@@ -55,13 +71,23 @@ fn are_real(values: &[Value]) -> bool
     true
 }
 
+// Whether they are the arguments of a Real `ite`.
+fn are_picked(values: &[Value]) -> bool
+    ensures { result ≡ are_picked values.now }
+{
+    match values {
+        [Value::Bool(_, _), arms @ ..] => are_arms(arms) && arms.len() == 2,
+        _ => false,
+    }
+}
+
 // Whether all are Bool.
 fn are_bool(values: &[Value]) -> bool
     ensures { result ≡ are_bool values.now }
 {
     let mut left = values;
     while let Some((value, later)) = left.split_first() {
-        if let Value::Real(_) = value {
+        if let Value::Real(_) | Value::Choice(_) = value {
             return false;
         }
         left = later;
@@ -75,7 +101,7 @@ fn node_number(value: Value) -> u32
 {
     match value {
         Value::Real(k) => k,
-        Value::Bool(_, _) => 0,
+        Value::Bool(_, _) | Value::Choice(_) => 0,
     }
 }
 
@@ -84,7 +110,7 @@ fn pair_number(value: Value) -> Pair
     ensures { result ≡ pair_number value }
 {
     match value {
-        Value::Real(_) => Pair {
+        Value::Real(_) | Value::Choice(_) => Pair {
             truth: 0,
             negation: 0,
         },
@@ -97,7 +123,7 @@ fn list_number(value: Value) -> u32
     ensures { result ≡ list_number value }
 {
     match value {
-        Value::Real(_) => 0,
+        Value::Real(_) | Value::Choice(_) => 0,
         Value::Bool(_, list) => list,
     }
 }
@@ -141,9 +167,9 @@ fn list_numbers(alloc: Global, values: &[Value]) -> Result<Vec<u32>, AllocError>
     Ok(made)
 }
 
-// Whether the operator takes so many arguments, all of which are Real or Bool.
-fn takes(operator: Operator, reals: bool, bools: bool, count: usize) -> bool
-    ensures { result ≡ takes_of (operator_of operator) reals bools count }
+// Whether the operator takes so many arguments, all of which are Real or Bool, or are those of a Real `ite`.
+fn takes(operator: Operator, reals: bool, bools: bool, picked: bool, count: usize) -> bool
+    ensures { result ≡ takes_of (operator_of operator) reals bools picked count }
 {
     match operator {
         Operator::True | Operator::False => count == 0,
@@ -151,7 +177,7 @@ fn takes(operator: Operator, reals: bool, bools: bool, count: usize) -> bool
         Operator::And | Operator::Or => bools && 1 <= count,
         Operator::Implies | Operator::Xor => bools && 2 <= count,
         Operator::Equal | Operator::Distinct => (bools || reals) && 2 <= count,
-        Operator::Choice => bools && count == 3,
+        Operator::Choice => (bools && count == 3) || picked,
         Operator::Minus | Operator::Plus | Operator::Times => reals && 1 <= count,
         Operator::Divide
         | Operator::AtMost
@@ -251,12 +277,10 @@ fn on_reals(
         Operator::Plus => arithmetic(builder, sketch, at, Step::Add, nodes),
         Operator::Times => arithmetic(builder, sketch, at, Step::Multiply, nodes),
         Operator::Divide => arithmetic(builder, sketch, at, Step::Divide, nodes),
-        Operator::AtMost | Operator::Below => {
-            compare(alloc, builder, sketch, bounds, at, nodes, Kind::Le)
-        }
-        Operator::AtLeast | Operator::Above => {
-            compare(alloc, builder, sketch, bounds, at, nodes, Kind::Ge)
-        }
+        Operator::AtMost => compare(alloc, builder, sketch, bounds, at, nodes, Kind::Le),
+        Operator::Below => compare(alloc, builder, sketch, bounds, at, nodes, Kind::Le),
+        Operator::AtLeast => compare(alloc, builder, sketch, bounds, at, nodes, Kind::Ge),
+        Operator::Above => compare(alloc, builder, sketch, bounds, at, nodes, Kind::Ge),
         Operator::Equal => compare(alloc, builder, sketch, bounds, at, nodes, Kind::Eq),
         Operator::Distinct => differ(alloc, builder, sketch, bounds, at, nodes),
         _ => Err(Stop::Memory),
@@ -370,6 +394,232 @@ fn on_bools(
     Ok(Value::Bool(pair, list))
 }
 
+// ---- Real arguments that hold an `ite`
+
+// The only link of a chain.
+fn only_of(spread: Spread, links: &[Value]) -> Option<Value>
+    ensures { result ≡ only_of spread links.now }
+{
+    match (spread, links) {
+        (Spread::Next, [only]) => Some(*only),
+        _ => None,
+    }
+}
+
+// What several links say together: all of them, or the only one of a chain.
+fn join_links(
+    alloc: Global,
+    builder: &Builder,
+    sketch: &mut Vec<Drawn>,
+    bounds: &mut BoundTable,
+    spread: Spread,
+    links: &[Value],
+) -> Result<Value, Stop>
+    requires known { AreKnown (making builder.now (map drawn_of sketch.old.items) bounds.old) links.now }
+    requires sketched { IsSketch builder.now (map drawn_of sketch.old.items) }
+    ensures does { Joins builder.now (map drawn_of sketch.old.items) (map drawn_of sketch.new.items) bounds.old bounds.new spread links.now result }
+    ensures sketched { IsSketch builder.now (map drawn_of sketch.new.items) }
+{
+    if links.is_empty() {
+        return Err(Stop::Memory);
+    }
+    if !are_bool(links) {
+        return Err(Stop::Memory);
+    }
+    if let Some(value) = only_of(spread, links) {
+        return Ok(value);
+    }
+    let pairs = pair_numbers(alloc, links)?;
+    let lists = list_numbers(alloc, links)?;
+    on_bools(alloc, builder, sketch, bounds, Operator::And, &pairs, lists)
+}
+
+// Comparisons of each two values that belong together.
+fn compare_values(
+    alloc: Global,
+    builder: &mut Builder,
+    sketch: &mut Vec<Drawn>,
+    bounds: &mut BoundTable,
+    at: Place,
+    kind: Kind,
+    spread: Spread,
+    values: &[Value],
+) -> Result<Value, Stop>
+    requires values { AreSomeValues builder.old (map drawn_of sketch.old.items) values.now }
+    requires arms { are_arms values.now ≡ true }
+    requires sketched { IsSketch builder.old (map drawn_of sketch.old.items) }
+    ensures does { SaysAll builder.old (map drawn_of sketch.old.items) bounds.old builder.new (map drawn_of sketch.new.items) bounds.new spread (kind_of kind) (place_of at) values.now result }
+    ensures sketched { IsSketch builder.new (map drawn_of sketch.new.items) }
+    ensures sorts { builder.new.sorts ≡ builder.old.sorts }
+{
+    let mut links = Vec::new(alloc);
+    match link_each(
+        alloc, builder, sketch, bounds, at, kind, spread, values, &mut links,
+    ) {
+        Ok(()) => join_links(alloc, builder, sketch, bounds, spread, links.as_slice()),
+        Err(stop) => {
+            give_up(sketch);
+            Err(stop)
+        }
+    }
+}
+
+// A sum, a difference, a product or a quotient.
+fn calculate_arms(
+    builder: &mut Builder,
+    sketch: &mut Vec<Drawn>,
+    at: Place,
+    step: Step,
+    values: &[Value],
+) -> Result<Value, Stop>
+    requires values { AreSomeValues builder.old (map drawn_of sketch.old.items) values.now }
+    requires arms { are_arms values.now ≡ true }
+    requires sketched { IsSketch builder.old (map drawn_of sketch.old.items) }
+    ensures does { ArmsMake builder.old (map drawn_of sketch.old.items) builder.new (map drawn_of sketch.new.items) (place_of at) (operator_of_step step) values.now result }
+    ensures sketched { IsSketch builder.new (map drawn_of sketch.new.items) }
+    ensures sorts { builder.new.sorts ≡ builder.old.sorts }
+{
+    let Some((first, rest)) = values.split_first() else {
+        return Err(Stop::Memory);
+    };
+    if builder.len() == 0 {
+        return Err(Stop::Memory);
+    }
+    match calculate_values(builder, sketch, at, step, *first, rest) {
+        Ok(Arm::Choice(k)) => Ok(Value::Choice(k)),
+        Ok(Arm::Tree(_)) => {
+            give_up(sketch);
+            Err(Stop::Memory)
+        }
+        Err(stop) => {
+            give_up(sketch);
+            Err(stop)
+        }
+    }
+}
+
+// `ite` at Real arms.
+fn pick_arm(sketch: &mut Vec<Drawn>, values: &[Value]) -> Result<Value, Stop>
+    ensures { PicksOf (map drawn_of sketch.old.items) (map drawn_of sketch.new.items) values.now result }
+{
+    let [condition, first, second] = values else {
+        give_up(sketch);
+        return Err(Stop::Memory);
+    };
+    match pick(sketch, *condition, *first, *second) {
+        Ok(value) => Ok(value),
+        Err(_) => {
+            give_up(sketch);
+            Err(Stop::Memory)
+        }
+    }
+}
+
+// An operator at Real arguments that hold an `ite`, or `ite` at Real arms.
+fn on_arms(
+    alloc: Global,
+    builder: &mut Builder,
+    sketch: &mut Vec<Drawn>,
+    bounds: &mut BoundTable,
+    at: Place,
+    operator: Operator,
+    values: &[Value],
+) -> Result<Value, Stop>
+    requires known { AreKnown (making builder.old (map drawn_of sketch.old.items) bounds.old) values.now }
+    requires sketched { IsSketch builder.old (map drawn_of sketch.old.items) }
+    requires held { are_real values.now ≡ false }
+    requires apart { are_bool values.now ≡ false }
+    ensures does { ArmsDo builder.old builder.new (map drawn_of sketch.old.items) (map drawn_of sketch.new.items) bounds.old bounds.new (place_of at) (operator_of operator) values.now result }
+    ensures sketched { IsSketch builder.new (map drawn_of sketch.new.items) }
+    ensures sorts { builder.new.sorts ≡ builder.old.sorts }
+{
+    if let Operator::Choice = operator {
+        return pick_arm(sketch, values);
+    }
+    if !are_arms(values) {
+        return Err(Stop::Memory);
+    }
+    match operator {
+        Operator::Minus => calculate_arms(builder, sketch, at, Step::Subtract, values),
+        Operator::Plus => calculate_arms(builder, sketch, at, Step::Add, values),
+        Operator::Times => calculate_arms(builder, sketch, at, Step::Multiply, values),
+        Operator::Divide => calculate_arms(builder, sketch, at, Step::Divide, values),
+        Operator::AtMost => {
+            compare_values(
+                alloc,
+                builder,
+                sketch,
+                bounds,
+                at,
+                Kind::Le,
+                Spread::Next,
+                values,
+            )
+        }
+        Operator::Below => {
+            compare_values(
+                alloc,
+                builder,
+                sketch,
+                bounds,
+                at,
+                Kind::Le,
+                Spread::Next,
+                values,
+            )
+        }
+        Operator::AtLeast => {
+            compare_values(
+                alloc,
+                builder,
+                sketch,
+                bounds,
+                at,
+                Kind::Ge,
+                Spread::Next,
+                values,
+            )
+        }
+        Operator::Above => {
+            compare_values(
+                alloc,
+                builder,
+                sketch,
+                bounds,
+                at,
+                Kind::Ge,
+                Spread::Next,
+                values,
+            )
+        }
+        Operator::Equal => {
+            compare_values(
+                alloc,
+                builder,
+                sketch,
+                bounds,
+                at,
+                Kind::Eq,
+                Spread::Next,
+                values,
+            )
+        }
+        Operator::Distinct => {
+            compare_values(
+                alloc,
+                builder,
+                sketch,
+                bounds,
+                at,
+                Kind::Eq,
+                Spread::Later,
+                values,
+            )
+        }
+        _ => Err(Stop::Memory),
+    }
+}
+
 /// An operator at values.
 pub(crate) fn operate(
     alloc: Global,
@@ -387,7 +637,8 @@ pub(crate) fn operate(
     ensures sorts { builder.new.sorts ≡ builder.old.sorts }
 {
     let bools = are_bool(values);
-    if !takes(operator, are_real(values), bools, values.len()) {
+    let picked = are_picked(values);
+    if !takes(operator, are_arms(values), bools, picked, values.len()) {
         return Err(Stop::Fault(at, Fault::IllFormed));
     }
     if bools {
@@ -395,6 +646,9 @@ pub(crate) fn operate(
         let lists = list_numbers(alloc, values)?;
         return on_bools(alloc, builder, sketch, bounds, operator, &pairs, lists);
     }
-    let nodes = node_numbers(alloc, values)?;
-    on_reals(alloc, builder, sketch, bounds, at, operator, &nodes)
+    if are_real(values) {
+        let nodes = node_numbers(alloc, values)?;
+        return on_reals(alloc, builder, sketch, bounds, at, operator, &nodes);
+    }
+    on_arms(alloc, builder, sketch, bounds, at, operator, values)
 }

@@ -8,7 +8,7 @@ use Rattle.clap.specs.Words.{Row, Text, fault_of, first_of, one_of, subcommand_o
 use Rattle.clap.specs.Walk.{is_empty}
 use Rattle.words.specs.declared.asked.Options.{Options}
 use Rattle.words.specs.Program.{program}
-use Rattle.words.specs.Words.{Command, Solve, Check, Demo, solve, check, demo, AreOptions, IsBound, IsDemo, IsInRange, is_number, number_of, number_in, long_number_in, within, ordered, parted, usual, options_of, solve_of, check_of, demo_of, chosen, command_of}
+use Rattle.words.specs.Words.{Command, Solve, Check, Demo, Upgrade, solve, check, demo, upgrade, AreOptions, IsBound, IsDemo, IsInRange, is_number, number_of, number_in, long_number_in, within, ordered, parted, parted_upgrade, usual, options_of, solve_of, check_of, demo_of, upgrade_of, chosen, command_of}
 use Rattle.words.proofs.Numbers.{and_first, and_second, true_less}
 
 -- a chain that gives a value gave one before
@@ -111,6 +111,23 @@ check_in_range rows asked h = by_parts (first_of (codes "script") rows) (first_o
       let is = parted_is (record { script = script; cert = cert; bound = number_in 1 4294967295 (codes "bound") rows }) asked h in
       is_bound asked.bound rows (ap (λ (c : Check). c.bound) is)
 
+parted_upgrade_is : (c v : Upgrade) → parted_upgrade c ≡ Some v → c ≡ v
+parted_upgrade_is c v h = by_test (bytes_eq c.script (codes "-") && bytes_eq c.cert (codes "-")) h where
+  by_test : (b : Bool) → ◌≡◌ {A = Option Upgrade} (if b then None else Some c) (Some v) → c ≡ v
+  by_test true e = cc
+  by_test false e = cc
+
+upgrade_in_range : (rows : List Row) (asked : Upgrade) → upgrade_of rows ≡ Some asked → IsBound asked.bound
+upgrade_in_range rows asked h = by_parts (first_of (codes "script") rows) (first_of (codes "cert") rows) (first_of (codes "out") rows) h where
+  by_parts : (script cert out : Option Text) → option_and_then (λ script. option_and_then (λ cert. option_and_then (λ out.
+      parted_upgrade (record { script = script; cert = cert; out = out; bound = number_in 1 4294967295 (codes "bound") rows })) out) cert) script ≡ Some asked → IsBound asked.bound
+  by_parts None cert out h = cc
+  by_parts (Some script) None out h = cc
+  by_parts (Some script) (Some cert) None h = cc
+  by_parts (Some script) (Some cert) (Some out) h =
+      let is = parted_upgrade_is (record { script = script; cert = cert; out = out; bound = number_in 1 4294967295 (codes "bound") rows }) asked h in
+      is_bound asked.bound rows (ap (λ (c : Upgrade). c.bound) is)
+
 usual_are_options : (workers : ℕ) → Between 1 64 workers → AreOptions (usual workers)
 usual_are_options workers w = record {
   delta_least = omega arith;
@@ -160,24 +177,35 @@ taken_demo : (f : Demo → Command) (o : Option Demo) (c : Command) → option_m
 taken_demo f None c h = cc
 taken_demo f (Some x) c h = record { value = x; was = refl; gives = h }
 
+taken_upgrade : (f : Upgrade → Command) (o : Option Upgrade) (c : Command) → option_map f o ≡ Some c → Chained (λ x. Some (f x)) o c
+taken_upgrade f None c h = cc
+taken_upgrade f (Some x) c h = record { value = x; was = refl; gives = h }
+
 -- What is chosen is in its range.
 pub chosen_in_range : (entered : Text × List Row) (c : Command) → chosen entered ≡ Some c → IsInRange c
 chosen_in_range entered c h = first (bytes_eq entered.0 (codes "solve")) h where
   some_is : (d : Command) → ◌≡◌ {A = Option Command} (Some d) (Some c) → IsInRange d → IsInRange c
   some_is d e r = let is : d ≡ c = cc in subst IsInRange is r
 
-  third : (b : Bool) → ◌≡◌ {A = Option Command} (if b then option_map (λ asked. demo asked) (demo_of entered.1) else None) (Some c) → IsInRange c
+  fourth : (b : Bool) → ◌≡◌ {A = Option Command} (if b then option_map (λ asked. upgrade asked) (upgrade_of entered.1) else None) (Some c) → IsInRange c
+  fourth true e = let t = taken_upgrade (λ asked. upgrade asked) (upgrade_of entered.1) c e in some_is (upgrade t.value) t.gives (upgrade_in_range entered.1 t.value t.was)
+  fourth false e = cc
+
+  third : (b : Bool) → ◌≡◌ {A = Option Command} (if b then option_map (λ asked. demo asked) (demo_of entered.1)
+      else (if bytes_eq entered.0 (codes "upgrade") then option_map (λ asked. upgrade asked) (upgrade_of entered.1) else None)) (Some c) → IsInRange c
   third true e = let t = taken_demo (λ asked. demo asked) (demo_of entered.1) c e in some_is (demo t.value) t.gives (demo_in_range entered.1 t.value t.was)
-  third false e = cc
+  third false e = fourth (bytes_eq entered.0 (codes "upgrade")) e
 
   second : (b : Bool) → ◌≡◌ {A = Option Command} (if b then option_map (λ asked. check asked) (check_of entered.1)
-      else (if bytes_eq entered.0 (codes "demo") then option_map (λ asked. demo asked) (demo_of entered.1) else None)) (Some c) → IsInRange c
+      else (if bytes_eq entered.0 (codes "demo") then option_map (λ asked. demo asked) (demo_of entered.1)
+      else (if bytes_eq entered.0 (codes "upgrade") then option_map (λ asked. upgrade asked) (upgrade_of entered.1) else None))) (Some c) → IsInRange c
   second true e = let t = taken_check (λ asked. check asked) (check_of entered.1) c e in some_is (check t.value) t.gives (check_in_range entered.1 t.value t.was)
   second false e = third (bytes_eq entered.0 (codes "demo")) e
 
   first : (b : Bool) → ◌≡◌ {A = Option Command} (if b then option_map (λ asked. solve asked) (solve_of entered.1)
       else (if bytes_eq entered.0 (codes "check") then option_map (λ asked. check asked) (check_of entered.1)
-      else (if bytes_eq entered.0 (codes "demo") then option_map (λ asked. demo asked) (demo_of entered.1) else None))) (Some c) → IsInRange c
+      else (if bytes_eq entered.0 (codes "demo") then option_map (λ asked. demo asked) (demo_of entered.1)
+      else (if bytes_eq entered.0 (codes "upgrade") then option_map (λ asked. upgrade asked) (upgrade_of entered.1) else None)))) (Some c) → IsInRange c
   first true e = let t = taken (λ asked. solve asked) (solve_of entered.1) c e in some_is (solve t.value) t.gives (solve_in_range entered.1 t.value t.was)
   first false e = second (bytes_eq entered.0 (codes "check")) e
 

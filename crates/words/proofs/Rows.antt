@@ -2,7 +2,7 @@
 use Rattle.std.proofs.Common.{◌≡◌, refl, [], ◌∷◌, Some, None, codes}
 use Rattle.clap.proofs.OnLiterals.{clap_on_literals}
 use Rattle.words.specs.Program.{program}
-use Rattle.words.specs.Words.{number_of, usual, command_of, solve, check, demo}
+use Rattle.words.specs.Words.{number_of, usual, command_of, solve, check, demo, upgrade}
 
 -- the usual options
 usual_solve : command_of (codes "dpoly" ∷ codes "solve" ∷ codes "s" ∷ codes "c" ∷ []) ≡ Some (solve (record { script = codes "s"; cert = codes "c"; options = usual 1 }))
@@ -116,3 +116,12 @@ size_of_zero = refl
 size_above : command_of (codes "dpoly" ∷ codes "demo" ∷ codes "1" ∷ codes "10001" ∷ codes "c" ∷ []) ≡ None
 unfolding program clap_on_literals number_of
 size_above = refl
+
+-- an upgrade
+upgrade_of_files : command_of (codes "dpoly" ∷ codes "upgrade" ∷ codes "s" ∷ codes "c" ∷ codes "d" ∷ codes "--bound" ∷ codes "8" ∷ []) ≡ Some (upgrade (record { script = codes "s"; cert = codes "c"; out = codes "d"; bound = Some 8 }))
+unfolding program clap_on_literals number_of
+upgrade_of_files = refl
+
+upgrade_of_one_stream : command_of (codes "dpoly" ∷ codes "upgrade" ∷ codes "-" ∷ codes "-" ∷ codes "d" ∷ []) ≡ None
+unfolding program clap_on_literals number_of
+upgrade_of_one_stream = refl

@@ -49,6 +49,11 @@ abbrev pub check_app : App
 check_app = with_rule (with_rule (with_rule (new_app (codes "check"))
     (word_rule (codes "script"))) (word_rule (codes "cert"))) bound_rule
 
+-- `upgrade SCRIPT CERT OUT` and its option
+abbrev pub upgrade_app : App
+upgrade_app = with_rule (with_rule (with_rule (with_rule (new_app (codes "upgrade"))
+    (word_rule (codes "script"))) (word_rule (codes "cert"))) (word_rule (codes "out"))) bound_rule
+
 -- `demo SEED SIZE CERT` and its option
 abbrev pub demo_app : App
 demo_app = with_rule (with_rule (with_rule (with_rule (new_app (codes "demo"))
@@ -60,4 +65,4 @@ new_program = record (new_app (codes "dpoly")) { top = record (new_app (codes "d
 
 -- the whole command
 unfoldable pub program : App
-program = with_subcommand (with_subcommand (with_subcommand new_program solve_app.top) check_app.top) demo_app.top
+program = with_subcommand (with_subcommand (with_subcommand (with_subcommand new_program solve_app.top) check_app.top) demo_app.top) upgrade_app.top

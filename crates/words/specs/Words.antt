@@ -83,6 +83,23 @@ check_of rows =
     parted (record { script = script; cert = cert; bound = number_in 1 4294967295 (codes "bound") rows }))
     (first_of (codes "cert") rows)) (first_of (codes "script") rows)
 
+-- what `upgrade` is asked for: the script, the certificate that is read, and the one that is written
+pub record Upgrade : Type 0 where
+  pub script : Text
+  pub cert : Text
+  pub out : Text
+  pub bound : Option ℕ
+
+-- not both from standard input
+abbrev pub parted_upgrade : Upgrade → Option Upgrade
+parted_upgrade asked = if bytes_eq asked.script (codes "-") && bytes_eq asked.cert (codes "-") then None else Some asked
+
+abbrev pub upgrade_of : List Row → Option Upgrade
+upgrade_of rows =
+    option_and_then (λ script. option_and_then (λ cert. option_and_then (λ out.
+    parted_upgrade (record { script = script; cert = cert; out = out; bound = number_in 1 4294967295 (codes "bound") rows }))
+    (first_of (codes "out") rows)) (first_of (codes "cert") rows)) (first_of (codes "script") rows)
+
 -- what `demo` is asked for
 pub record Demo : Type 0 where
   pub seed : ℕ
@@ -101,13 +118,15 @@ pub data Command : Type 0 where
   solve : Solve → Command
   check : Check → Command
   demo : Demo → Command
+  upgrade : Upgrade → Command
 
 -- what the subcommand and what was found for it ask for
 abbrev pub chosen : Text × List Row → Option Command
 chosen entered =
     if bytes_eq entered.0 (codes "solve") then option_map (λ asked. solve asked) (solve_of entered.1)
     else (if bytes_eq entered.0 (codes "check") then option_map (λ asked. check asked) (check_of entered.1)
-    else (if bytes_eq entered.0 (codes "demo") then option_map (λ asked. demo asked) (demo_of entered.1) else None))
+    else (if bytes_eq entered.0 (codes "demo") then option_map (λ asked. demo asked) (demo_of entered.1)
+    else (if bytes_eq entered.0 (codes "upgrade") then option_map (λ asked. upgrade asked) (upgrade_of entered.1) else None)))
 
 -- What words ask for; none where they are refused, for whatever cause but want of memory.
 abbrev pub command_of : List Text → Option Command
@@ -141,3 +160,4 @@ abbrev pub IsInRange : Command → Type 0
 IsInRange (solve asked) = AreOptions asked.options
 IsInRange (check asked) = IsBound asked.bound
 IsInRange (demo asked) = IsDemo asked
+IsInRange (upgrade asked) = IsBound asked.bound

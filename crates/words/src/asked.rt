@@ -45,12 +45,24 @@ pub struct DemoWords<'a> {
     pub options: Options,
 }
 
+/// What `upgrade` is asked for: the names of the script, of the certificate that is read, and of the one that is
+/// written.
+#[derive(Clone, Copy, Debug, PartialEq, Eq)]
+pub struct UpgradeWords<'a> {
+    pub script: &'a str,
+    pub cert: &'a str,
+    pub out: &'a str,
+    /// The size up to which a constant without a bound of its own is looked at, where one is given; from 1.
+    pub bound: Option<u32>,
+}
+
 /// What the words ask for. A name `-` stands for standard input or output.
 #[derive(Clone, Copy, Debug, PartialEq, Eq)]
 pub enum Asked<'a> {
     Solve(SolveWords<'a>),
     Check(CheckWords<'a>),
     Demo(DemoWords<'a>),
+    Upgrade(UpgradeWords<'a>),
 }
 
 // The options where none is given but the number of workers.

@@ -6,6 +6,6 @@ mod program;
 mod read;
 mod usage;
 
-pub use asked::{Asked, CheckWords, DemoWords, Options, SolveWords};
+pub use asked::{Asked, CheckWords, DemoWords, Options, SolveWords, UpgradeWords};
 pub use read::{Refused, read_words};
 pub use usage::usage_text;

@@ -1,7 +1,7 @@
 ghost use Rattle.std.specs.Prelude.{◌≡◌, IfOk, false};
 ghost use Rattle.clap.specs.Words.{rule_of, app_of, new_app};
 ghost use Rattle.clap.specs.declared.builder.command.Command.TheViews.{out-Command as fields_of};
-ghost use Rattle.words.specs.Program.{delta_rule, margin_rule, least_rule, budget_rule, bound_rule, workers_rule, word_rule, seed_rule, size_rule, solve_app, check_app, demo_app, program};
+ghost use Rattle.words.specs.Program.{delta_rule, margin_rule, least_rule, budget_rule, bound_rule, workers_rule, word_rule, seed_rule, size_rule, solve_app, check_app, demo_app, upgrade_app, program};
 
 use clap::{Arg, Command, value_parser};
 use std::alloc::{AllocError, Global};
@@ -164,6 +164,24 @@ fn demo_command<'a>(alloc: Global) -> Result<Command<'a>, AllocError>
     )
 }
 
+fn upgrade_command<'a>(alloc: Global) -> Result<Command<'a>, AllocError>
+    ensures app { IfOk result (λ c. app_of c ≡ upgrade_app) }
+    ensures local { IfOk result (λ c. (fields_of c).has_globals ≡ false) }
+{
+    Ok(
+        described(
+            alloc,
+            "upgrade",
+            "Checks a certificate of a script, and writes it in the newest format",
+            "Example: dpoly upgrade braking.smt2 braking.cert braking.new.cert",
+        )
+        .arg(word(alloc, "script"))?
+        .arg(word(alloc, "cert"))?
+        .arg(word(alloc, "out"))?
+        .arg(bound_option(alloc))?,
+    )
+}
+
 // The program's command, as the definitions have it.
 pub fn program_command<'a>(alloc: Global) -> Result<Command<'a>, AllocError>
     ensures app { IfOk result (λ c. app_of c ≡ program) }
@@ -179,6 +197,7 @@ pub fn program_command<'a>(alloc: Global) -> Result<Command<'a>, AllocError>
         .subcommand_required(true)
         .subcommand(solve_command(alloc)?)?
         .subcommand(check_command(alloc)?)?
-        .subcommand(demo_command(alloc)?)?,
+        .subcommand(demo_command(alloc)?)?
+        .subcommand(upgrade_command(alloc)?)?,
     )
 }

@@ -1,10 +1,13 @@
-ghost use Rattle.std.specs.Prelude.{◌≡◌, ◌≢◌, [], IfOk, IsErrOf, None, Some, map, option_and_then, option_map, string_bytes};
+ghost use Rattle.std.specs.Prelude.{◌≡◌, ◌≢◌, ◌&&◌, [], IfOk, IsErrOf, None, Some, codes, map, option_and_then, option_map, string_bytes};
+ghost use Rattle.std.specs.Str.{bytes_eq};
 ghost use Rattle.clap.specs.Words.{fault_of, first_of, found_of, kind_of, one_of, rows_of, subcommand_of, subcommand_rows_of};
 ghost use Rattle.words.specs.Program.{program};
-ghost use Rattle.words.specs.Words.{check_of, chosen, command_of, demo_of, long_number_in, number_in, number_of, options_of, IsInRange, solve_of};
-ghost use Rattle.words.specs.Seen.{seen, seen_check, seen_demo, seen_solve};
+ghost use Rattle.words.specs.Words.{check_of, chosen, command_of, demo_of, long_number_in, number_in, number_of, options_of, IsInRange, solve_of, upgrade_of};
+ghost use Rattle.words.specs.Seen.{seen, seen_check, seen_demo, seen_solve, seen_upgrade};
 
-use crate::asked::{Asked, CheckWords, DemoWords, Options, SolveWords, usual_options};
+use crate::asked::{
+    Asked, CheckWords, DemoWords, Options, SolveWords, UpgradeWords, usual_options,
+};
 use crate::program::program_command;
 use clap::error::ErrorKind;
 use clap::{ArgMatches, Error};
@@ -111,13 +114,20 @@ fn solve_words<'a>(matches: &ArgMatches<'a>) -> Option<SolveWords<'a>>
     })
 }
 
+// Whether the script and the certificate both come from standard input.
+fn are_both_piped(script: &str, cert: &str) -> bool
+    ensures { result ≡ (bytes_eq script.now (codes "-") && bytes_eq cert.now (codes "-")) }
+{
+    script == "-" && cert == "-"
+}
+
 fn check_words<'a>(matches: &ArgMatches<'a>) -> Option<CheckWords<'a>>
     ensures { option_map seen_check result ≡ check_of (rows_of (found_of matches.now)) }
 {
     let script = text(matches, "script")?;
     let cert = text(matches, "cert")?;
     let bound = number(matches, "bound", 1, 4294967295);
-    if script == "-" && cert == "-" {
+    if are_both_piped(script, cert) {
         return None;
     }
     Some(CheckWords {
@@ -142,6 +152,24 @@ fn demo_words<'a>(matches: &ArgMatches<'a>) -> Option<DemoWords<'a>>
     })
 }
 
+fn upgrade_words<'a>(matches: &ArgMatches<'a>) -> Option<UpgradeWords<'a>>
+    ensures { option_map seen_upgrade result ≡ upgrade_of (rows_of (found_of matches.now)) }
+{
+    let script = text(matches, "script")?;
+    let cert = text(matches, "cert")?;
+    let out = text(matches, "out")?;
+    let bound = number(matches, "bound", 1, 4294967295);
+    if are_both_piped(script, cert) {
+        return None;
+    }
+    Some(UpgradeWords {
+        script,
+        cert,
+        out,
+        bound,
+    })
+}
+
 // What the subcommand of this name asks for.
 fn choose<'a>(name: &str, matches: &ArgMatches<'a>) -> Option<Asked<'a>>
     ensures { option_map seen result ≡ chosen (name.now, rows_of (found_of matches.now)) }
@@ -152,6 +180,8 @@ fn choose<'a>(name: &str, matches: &ArgMatches<'a>) -> Option<Asked<'a>>
         Some(Asked::Check(check_words(matches)?))
     } else if name == "demo" {
         Some(Asked::Demo(demo_words(matches)?))
+    } else if name == "upgrade" {
+        Some(Asked::Upgrade(upgrade_words(matches)?))
     } else {
         None
     }

@@ -22,7 +22,7 @@ fn asks_version(words: &[String]) -> bool {
 // Why words that the parser takes are refused all the same.
 fn second_refusal(matches: &ArgMatches<'_>) -> &'static str {
     match matches.subcommand() {
-        Some(("check", _)) => ONE_INPUT,
+        Some(("check", _)) | Some(("upgrade", _)) => ONE_INPUT,
         _ => NOT_BELOW,
     }
 }

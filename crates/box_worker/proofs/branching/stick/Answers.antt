@@ -1,4 +1,4 @@
-use Rattle.std.proofs.Common.{◌≡◌, ◌∙◌, ap, sym, subst, arith, false, true, length, ℕ, IsTrue}
+use Rattle.std.proofs.Common.{◌≡◌, ◌∙◌, ap, sym, subst, arith, false, true, length, ℕ}
 use Rattle.std.proofs.lemmas.List.{length-map}
 use Rattle.poly_graph.specs.ProblemViews.{Parts, problem_of}
 use Rattle.poly_graph.specs.Problem.{IsProblem}

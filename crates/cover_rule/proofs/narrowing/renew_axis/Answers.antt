@@ -1,4 +1,4 @@
-use Rattle.std.proofs.Common.{◌≡◌, ◌∙◌, List, false, ap, sym, subst, refl, set, get_or}
+use Rattle.std.proofs.Common.{◌≡◌, ◌∙◌, List, false, true≢false, ap, sym, subst, refl, set, get_or}
 use Rattle.std.proofs.lemmas.List.{set-get_or}
 use Rattle.interval_model.specs.Space.{Space, axis_interval}
 use Rattle.poly_graph.specs.Term.{Node}
@@ -42,7 +42,8 @@ returns-clause-work c =
       rows = rows;
       scratch = w.scratch;
       truths = w.truths;
-      middle = w.middle;
+      centre = record { room = record { middle = w.centre.room.middle; rows = w.centre.room.rows }; known = λ h. absurd (true≢false (sym h)) };
+      room = w.room;
       leaves = c.drop_reached.ensures.count ∙ w.leaves;
       known = still_known p m was now marks c.args.work.now.leaves.items c.drop_reached.new.leaves.items c.args.work.now.unsure false apart (λ j l h. (c.drop_reached.ensures.kept j h, c.drop_reached.ensures.unmarked j l h)) refl w.known;
     }

@@ -1,11 +1,14 @@
 use Rattle.std.proofs.Common.{◌<◌, Ok, Err, length, arith}
 use Rattle.std.proofs.lemmas.Grind.{common_steps}
 use Rattle.desk.proofs.Reading.{read_step, read_some, read_fails}
-use Rattle.dpoly.proofs.Verdicts.{check_start, check_step, check_end, check_whole, check_fault}
+use Rattle.dpoly.proofs.Verdicts.{check_fails, check_start, check_step, check_end, check_whole, check_fault}
 use Rattle.dpoly.proofs.check.read_verdict.Goals as goal
 
 pub loop-n-init : goal.loop-n-init
 loop-n-init g c = check_start _ _ _ _ c.in-Ok.ensures
+
+pub returns-in-Err-read-clause-told : goal.returns-in-Err-read-clause-told
+returns-in-Err-read-clause-told g c = check_fails c.args.problem.now c.args.bound (g.D.Desk.sight c.args.desk.now)
 
 pub returns-in-Err-read-clause-leaves : goal.returns-in-Err-read-clause-leaves
 returns-in-Err-read-clause-leaves g c = read_fails _ _ _ _ _ c.loop-n.invariant.read c.in-Err-read.ensures.failed

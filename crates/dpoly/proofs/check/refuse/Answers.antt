@@ -1,7 +1,11 @@
 use Rattle.dpoly.specs.declared.status.Status.TheVariants.{CertRefused}
 use Rattle.dpoly.proofs.Verdicts.{shown_fault, concluded}
+use Rattle.dpoly.proofs.Upgrading.{refusal_of}
 use Rattle.dpoly.proofs.check.refuse.Goals as goal
 
 pub returns-in-Ok-clause-ends : goal.returns-in-Ok-clause-ends
 returns-in-Ok-clause-ends g c v h =
     concluded v CertRefused c.in-Ok.text.items c.deref.result.now _ _ _ (shown_fault c.args.fault c.in-Ok.text.items c.in-Ok.ensures v h) c.deref.ensures.value c.say.ensures.ends
+
+pub returns-in-Ok-clause-refuses : goal.returns-in-Ok-clause-refuses
+returns-in-Ok-clause-refuses g c = refusal_of c.args.fault c.in-Ok.text.items c.deref.result.now _ _ _ c.in-Ok.ensures c.deref.ensures.value c.say.ensures.ends

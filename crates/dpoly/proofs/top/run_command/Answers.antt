@@ -15,3 +15,7 @@ returns-in-Check-clause-course g c =
 pub returns-in-Demo-clause-course : goal.returns-in-Demo-clause-course
 returns-in-Demo-clause-course g c =
     subst (λ (a : Asked). HasCourse (run_of (Some (seen a)) (g.D.Desk.sight c.args.desk.now) (g.D.Desk.sight c.run_demo.new.desk) c.run_demo.result)) (sym c.in-Demo.is) c.run_demo.ensures.course
+
+pub returns-in-Upgrade-clause-course : goal.returns-in-Upgrade-clause-course
+returns-in-Upgrade-clause-course g c =
+    subst (λ (a : Asked). HasCourse (run_of (Some (seen a)) (g.D.Desk.sight c.args.desk.now) (g.D.Desk.sight c.run_upgrade.new.desk) c.run_upgrade.result)) (sym c.in-Upgrade.is) c.run_upgrade.ensures.course

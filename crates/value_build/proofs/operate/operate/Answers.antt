@@ -1,4 +1,4 @@
-use Rattle.std.proofs.Common.{map, sym, ap₂, subst, ◌∙◌, List, ℕ, length, ◌<◌}
+use Rattle.std.proofs.Common.{map, sym, ap, ap₂, subst, ◌∙◌, List, ℕ, length, ◌<◌}
 use Rattle.std.specs.List.{All}
 use Rattle.smt_sexp.specs.Views.{place_of}
 use Rattle.sort_check.specs.Views.{operator_of}
@@ -7,14 +7,14 @@ use Rattle.term_build.specs.Pairs.{DrawsEach}
 use Rattle.term_build.specs.Shapes.{drawn_of}
 use Rattle.term_build.specs.declared.connectives.Pair.{Pair}
 use Rattle.value_build.specs.Making.{making}
-use Rattle.value_build.specs.Operators.{takes_of}
+use Rattle.value_build.specs.Operators.{takes_of, are_arms, are_bool}
 use Rattle.value_build.specs.declared.value.Value.{Value}
-use Rattle.value_build.proofs.Operating.{operate_refused, operate_bools, operate_reals, bools_seen, lists_below, nodes_there}
+use Rattle.value_build.proofs.Operating.{operate_refused, operate_bools, operate_reals, operate_arms, bools_seen, lists_below, nodes_there}
 use Rattle.value_build.proofs.operate.operate.Goals as goal
 
 pub returns-then-not-takes-clause-does : goal.returns-then-not-takes-clause-does
 returns-then-not-takes-clause-does c = λ us bs h. operate_refused (making c.args.builder.now (map drawn_of c.args.sketch.now.items) c.args.bounds.now) (operator_of c.args.operator) c.args.at c.args.values.now us bs (λ (v : Value). Unit {0})
-    (sym c.if-not-takes.true ∙ c.takes.ensures ∙ ap₂ (λ r b. takes_of (operator_of c.args.operator) r b (length c.args.values.now)) c.are_real.ensures c.are_bool-bools.ensures) h
+    (sym c.if-not-takes.true ∙ c.takes.ensures ∙ ap₂ (λ r b. takes_of (operator_of c.args.operator) r b c.are_picked-picked.result (length c.args.values.now)) c.are_arms.ensures c.are_bool-bools.ensures ∙ ap (λ p. takes_of (operator_of c.args.operator) (are_arms c.args.values.now) (are_bool c.args.values.now) p (length c.args.values.now)) c.are_picked-picked.ensures) h
 
 pub on_bools-requires-clause-lists : goal.on_bools-requires-clause-lists
 on_bools-requires-clause-lists c = subst (λ (ns : List ℕ). All (λ (k : ℕ). k < length c.args.bounds.now) ns) (sym c.in_ok-lists.ensures)
@@ -30,13 +30,16 @@ on_bools-requires-clause-drawn c = (
 pub returns-then-bools-clause-does : goal.returns-then-bools-clause-does
 returns-then-bools-clause-does c = operate_bools c.args.builder.now (map drawn_of c.args.sketch.now.items) (map drawn_of c.on_bools.new.sketch.items) c.args.bounds.now c.on_bools.new.bounds (operator_of c.args.operator) (place_of c.args.at) c.args.values.now c.deref.result.now c.in_ok-lists.lists.items c.on_bools.result
     (c.deref.ensures.value ∙ c.in_ok-pairs.ensures) c.in_ok-lists.ensures (sym c.are_bool-bools.ensures ∙ c.if-bools.true)
-    (sym c.if-not-takes.false ∙ c.takes.ensures ∙ ap₂ (λ r b. takes_of (operator_of c.args.operator) r b (length c.args.values.now)) c.are_real.ensures c.are_bool-bools.ensures) c.on_bools.ensures.does
+    (sym c.if-not-takes.false ∙ c.takes.ensures ∙ ap₂ (λ r b. takes_of (operator_of c.args.operator) r b c.are_picked-picked.result (length c.args.values.now)) c.are_arms.ensures c.are_bool-bools.ensures ∙ ap (λ p. takes_of (operator_of c.args.operator) (are_arms c.args.values.now) (are_bool c.args.values.now) p (length c.args.values.now)) c.are_picked-picked.ensures) c.on_bools.ensures.does
 
 pub on_reals-requires-clause-nodes : goal.on_reals-requires-clause-nodes
-on_reals-requires-clause-nodes c = nodes_there c.args.builder.now (map drawn_of c.args.sketch.now.items) c.args.bounds.now (operator_of c.args.operator) c.args.values.now c.deref-2.result.now c.requires.known (c.deref-2.ensures.value ∙ c.in_ok-nodes.ensures) (sym c.are_bool-bools.ensures ∙ c.if-bools.false)
-    (sym c.if-not-takes.false ∙ c.takes.ensures ∙ ap₂ (λ r b. takes_of (operator_of c.args.operator) r b (length c.args.values.now)) c.are_real.ensures c.are_bool-bools.ensures)
+on_reals-requires-clause-nodes c = nodes_there c.args.builder.now (map drawn_of c.args.sketch.now.items) c.args.bounds.now c.args.values.now c.deref-then-are_real.result.now c.requires.known (c.deref-then-are_real.ensures.value ∙ c.in_ok-nodes.ensures) (sym c.are_real.ensures ∙ c.if-are_real.true)
+
+pub returns-then-are_real-clause-does : goal.returns-then-are_real-clause-does
+returns-then-are_real-clause-does c = operate_reals c.args.builder.now c.on_reals.new.builder (map drawn_of c.args.sketch.now.items) (map drawn_of c.on_reals.new.sketch.items) c.args.bounds.now c.on_reals.new.bounds (operator_of c.args.operator) (place_of c.args.at) c.args.values.now c.deref-then-are_real.result.now c.on_reals.result
+    (c.deref-then-are_real.ensures.value ∙ c.in_ok-nodes.ensures) (sym c.are_real.ensures ∙ c.if-are_real.true)
+    (sym c.if-not-takes.false ∙ c.takes.ensures ∙ ap₂ (λ r b. takes_of (operator_of c.args.operator) r b c.are_picked-picked.result (length c.args.values.now)) c.are_arms.ensures c.are_bool-bools.ensures ∙ ap (λ p. takes_of (operator_of c.args.operator) (are_arms c.args.values.now) (are_bool c.args.values.now) p (length c.args.values.now)) c.are_picked-picked.ensures) c.on_reals.ensures.does
 
 pub returns-clause-does : goal.returns-clause-does
-returns-clause-does c = operate_reals c.args.builder.now c.on_reals.new.builder (map drawn_of c.args.sketch.now.items) (map drawn_of c.on_reals.new.sketch.items) c.args.bounds.now c.on_reals.new.bounds (operator_of c.args.operator) (place_of c.args.at) c.args.values.now c.deref-2.result.now c.on_reals.result
-    (c.deref-2.ensures.value ∙ c.in_ok-nodes.ensures) (sym c.are_bool-bools.ensures ∙ c.if-bools.false)
-    (sym c.if-not-takes.false ∙ c.takes.ensures ∙ ap₂ (λ r b. takes_of (operator_of c.args.operator) r b (length c.args.values.now)) c.are_real.ensures c.are_bool-bools.ensures) c.on_reals.ensures.does
+returns-clause-does c = operate_arms c.args.builder.now c.on_arms.new.builder (map drawn_of c.args.sketch.now.items) (map drawn_of c.on_arms.new.sketch.items) c.args.bounds.now c.on_arms.new.bounds (operator_of c.args.operator) (place_of c.args.at) c.args.values.now c.on_arms.result
+    (sym c.if-not-takes.false ∙ c.takes.ensures ∙ ap₂ (λ r b. takes_of (operator_of c.args.operator) r b c.are_picked-picked.result (length c.args.values.now)) c.are_arms.ensures c.are_bool-bools.ensures ∙ ap (λ p. takes_of (operator_of c.args.operator) (are_arms c.args.values.now) (are_bool c.args.values.now) p (length c.args.values.now)) c.are_picked-picked.ensures) c.on_arms.ensures.does

@@ -9,9 +9,11 @@ unfolding program
 returns-clause-app c =
     let first : app_of c.subcommand_required.result ≡ new_program =
     ap app_of_fields c.subcommand_required.ensures ∙ ap (λ (a : App). record a { top = record a.top { subcommand_required = true } }) c.described.ensures.app in
-    c.in_ok-subcommand-3.ensures.shape c.in_ok-demo_command.ensures.local
+    c.in_ok-subcommand-4.ensures.shape c.in_ok-upgrade_command.ensures.local
+    ∙ ap₂ with_subcommand (c.in_ok-subcommand-3.ensures.shape c.in_ok-demo_command.ensures.local
     ∙ ap₂ with_subcommand (c.in_ok-subcommand-2.ensures.shape c.in_ok-check_command.ensures.local
     ∙ ap₂ with_subcommand (c.in_ok-subcommand.ensures.shape c.in_ok-solve_command.ensures.local
     ∙ ap₂ with_subcommand first (ap (λ (a : App). a.top) c.in_ok-solve_command.ensures.app))
     (ap (λ (a : App). a.top) c.in_ok-check_command.ensures.app))
-    (ap (λ (a : App). a.top) c.in_ok-demo_command.ensures.app)
+    (ap (λ (a : App). a.top) c.in_ok-demo_command.ensures.app))
+    (ap (λ (a : App). a.top) c.in_ok-upgrade_command.ensures.app)

@@ -36,6 +36,7 @@ returns-clause-serves c = record {
   };
   judged = c.renew.ensures;
   scratch = c.requires.scratch;
+  centre = c.requires.centre;
   truths = c.requires.truths;
   few = c.requires.few;
 }

@@ -1,4 +1,4 @@
-use Rattle.std.proofs.Common.{◌∙◌, List, ap, ap₂, sym, subst, length, vec_len}
+use Rattle.std.proofs.Common.{◌∙◌, List, ap, ap₂, sym, subst, length, vec_len, true≢false}
 use Rattle.interval_model.specs.Space.{Space}
 use Rattle.poly_graph.specs.Term.{Node}
 use Rattle.poly_graph.specs.ProblemViews.{problem_of}
@@ -11,6 +11,7 @@ use Rattle.ival.specs.declared.space.Space.{Space as CodeSpace}
 use Rattle.ival.specs.RowViews.{rows_of}
 use Rattle.ival.specs.SpaceViews.{space_of}
 use Rattle.truth3.specs.declared.marks.Marks.{Marks}
+use Rattle.combine.specs.Rooms.{FitsRoom}
 use Rattle.cover_rule.proofs.Axes.{fits_length}
 use Rattle.cover_rule.proofs.Knowns.{nothing_known}
 use Rattle.cover_rule.proofs.RunSteps.{run_begins}
@@ -33,7 +34,14 @@ invariant_of-result c =
           rows = ap rows_of c.forget.ensures.rows ∙ c.fill.ensures.rows ∙ ap₂ (λ (s : Space) (ns : List Node). enclosures s ns) (c.space-space.ensures ∙ back) c.graph.ensures.graph;
           scratch = ap (λ (r : Rows). length (rows_of r)) c.forget.ensures.scratch ∙ c.requires.room.scratch;
           truths = ap (λ (k : Marks). vec_len k.truths) c.forget.ensures.marks ∙ c.requires.room.truths;
-          middle = ap (λ (r : CodeSpace). length (space_of r)) c.forget.ensures.middle ∙ c.requires.room.middle;
+          centre = record {
+            room = record {
+              middle = ap (λ (r : CodeSpace). length (space_of r)) c.forget.ensures.middle ∙ c.requires.room.centre.middle;
+              rows = ap (λ (r : Rows). length (rows_of r)) c.forget.ensures.centre_rows ∙ c.requires.room.centre.rows;
+            };
+            known = λ h. absurd (true≢false (sym h ∙ c.forget.ensures.centre));
+          };
+          room = subst (FitsRoom p.nodes) (sym c.forget.ensures.room) c.requires.room.room;
           leaves = c.forget.ensures.leaves ∙ c.requires.room.leaves;
           known = nothing_known p m c.nothing_done-kept.result.reached.space c.forget.new.work.leaves.items c.forget.new.work.unsure c.forget.ensures.none c.forget.ensures.unsure;
         };

@@ -14,6 +14,7 @@ returns-clause-room c =
       scratch = h.ready.serves.scratch;
       truths = h.ready.serves.truths;
       spare = ap length h.ready.spare ∙ fits_length (problem_of i.problem.now).axes s h.run.sound.reached.axes;
-      middle = h.ready.serves.middle;
+      centre = h.ready.serves.centre.room;
+      room = h.ready.serves.room;
       leaves = h.ready.serves.leaves;
     })

@@ -1,8 +1,8 @@
-use Rattle.std.proofs.Common.{◌≡◌, None}
+use Rattle.std.proofs.Common.{◌≡◌, None, subst}
 use Rattle.cover_model.specs.Fits.{FitsAxes}
 use Rattle.cover_rule.specs.Models.{PatchModel}
 use Rattle.cover_rule.specs.Patch.{IsRunOf, narrowing_in, now_in, problem_in, space_or}
-use Rattle.cover_rule.specs.Refusals.{pull_refusal, pulled_by}
+use Rattle.cover_rule.specs.Refusals.{pull_refusal, pulled_by, PullStep}
 use Rattle.cover_rule.specs.Held.{patch_of}
 use Rattle.cover_rule.proofs.Helds.{run_after, on_ok, held_with, run_pulled}
 use Rattle.cover_rule.proofs.patch.Patch.pull.Goals as goal
@@ -14,3 +14,8 @@ invariant_of-self c =
     held_with p i.margins k k' i.work c.pull.new.work h
     (run_after (pull_refusal P c.args.j) P (pulled_by P c.args.j) Q r (c.pull.ensures.answer) h.run (on_ok (FitsAxes (problem_in P).axes (space_or (now_in P).space (narrowing_in P c.args.j))) (pull_refusal P c.args.j ≡ None → IsRunOf (pulled_by P c.args.j)) r (λ f e. run_pulled P h.whole h.run c.args.j f e) c.pull.ensures.fits))
     (c.pull.ensures.ready)
+
+pub returns : goal.returns
+returns c =
+    let i = c.self.inside in
+    subst (λ (X : PatchModel). PullStep X c.args.j (patch_of i.problem.now i.margins c.pull.new.kept) c.pull.result) c.self.view_is c.pull.ensures.answer

@@ -1,9 +1,9 @@
-use Rattle.std.proofs.Common.{◌≡◌, ap, None}
+use Rattle.std.proofs.Common.{◌≡◌, ap, None, subst}
 use Rattle.cover_model.specs.State.{State}
 use Rattle.cover_model.specs.Rules.{void}
 use Rattle.cover_rule.specs.Patch.{IsRunOf}
 use Rattle.cover_rule.specs.Models.{PatchModel}
-use Rattle.cover_rule.specs.Refusals.{void_refusal, ended_with}
+use Rattle.cover_rule.specs.Refusals.{void_refusal, ended_with, VoidEnd}
 use Rattle.cover_rule.specs.Held.{patch_of}
 use Rattle.cover_rule.proofs.Helds.{run_after, any_ok, held_with, still_ready, run_voided}
 use Rattle.cover_rule.proofs.patch.Patch.void.Goals as goal
@@ -15,3 +15,8 @@ invariant_of-self c =
     held_with p i.margins k k' i.work c.void.new.work h
     (run_after (void_refusal P c.args.j) P (ended_with P (void c.args.j)) Q r (c.void.ensures.answer) h.run (any_ok (void_refusal P c.args.j ≡ None → IsRunOf (ended_with P (void c.args.j))) r (λ e. run_voided P h.whole h.run c.args.j e)))
     (still_ready p i.margins k k' c.void.new.work (ap (λ (S : State). S.space) c.void.ensures.reached) c.void.ensures.ready)
+
+pub returns : goal.returns
+returns c =
+    let i = c.self.inside in
+    subst (λ (X : PatchModel). VoidEnd X c.args.j (patch_of i.problem.now i.margins c.void.new.kept) c.void.result) c.self.view_is c.void.ensures.answer

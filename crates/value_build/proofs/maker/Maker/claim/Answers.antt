@@ -4,7 +4,7 @@ use Rattle.term_build.specs.Shapes.{drawn_of}
 use Rattle.term_build.specs.Sketch.{Drawn}
 use Rattle.value_build.specs.Making.{making}
 use Rattle.value_build.specs.Values.{Claims}
-use Rattle.value_build.proofs.Claimed.{claims_bool, claims_real, truth_below}
+use Rattle.value_build.proofs.Claimed.{claims_bool, claims_real, claims_choice, truth_below}
 use Rattle.value_build.proofs.maker.Maker.claim.Goals as goal
 
 pub claim_bool-requires-clause-truth : goal.claim_bool-requires-clause-truth
@@ -17,3 +17,7 @@ returns-in-Bool-clause-does c = subst (λ (ds : List Drawn). Claims c.args.self.
 pub returns-in-Real-clause-does : goal.returns-in-Real-clause-does
 returns-in-Real-clause-does c = subst (λ (ds : List Drawn). Claims c.args.self.now (making c.claim_real.new.builder ds c.claim_real.new.bounds) c.args.value c.claim_real.result) (sym c.give_up.ensures)
     (claims_real c.self.inside.builder c.claim_real.new.builder (map drawn_of c.self.inside.sketch.items) c.self.inside.bounds c.claim_real.new.bounds c.args.self.now c.args.value c.in-Real.node c.claim_real.result c.self.view_is c.in-Real.is c.claim_real.ensures.does)
+
+pub returns-in-Choice-clause-does : goal.returns-in-Choice-clause-does
+returns-in-Choice-clause-does c = subst (λ (ds : List Drawn). Claims c.args.self.now (making c.claim_real-in-Choice.new.builder ds c.claim_real-in-Choice.new.bounds) c.args.value c.claim_real-in-Choice.result) (sym c.give_up-in-Choice.ensures)
+    (claims_choice c.self.inside.builder c.claim_real-in-Choice.new.builder (map drawn_of c.self.inside.sketch.items) c.self.inside.bounds c.claim_real-in-Choice.new.bounds c.args.self.now c.args.value c.in-Choice.node c.claim_real-in-Choice.result c.self.view_is c.in-Choice.is c.claim_real-in-Choice.ensures.does)

@@ -1,0 +1,297 @@
+// Combinations of marked atoms at a state: each atom alone, and those that a linear programme chooses. Which ones are tried is
+// a heuristic that promises nothing; that each step is lawful is what the patch ensures.
+ghost use Rattle.std.specs.Prelude.{◌≡◌};
+ghost use Rattle.box_worker.specs.Attempts.{IsOpen};
+
+use crate::contraction::{Emptied, Scout};
+use crate::step::{self, Outcome};
+use cover_rule::{Lemma, Margins, Patch};
+use dyadic::{Dy, pow2};
+use poly_graph::Problem;
+use relaxation::{Refutation, Relaxation, Side, is_asking};
+use std::alloc::{AllocError, Global};
+
+/// At most so many boxes are left out before combinations of several atoms are tried again.
+const MOST_LEFT_OUT: u32 = 8;
+
+/// How long combinations of several atoms are left out: for 1, 2, 4 and then 8 boxes after one where they gave nothing.
+#[derive(Clone, Copy, PartialEq, Eq, Debug)]
+pub struct Patience {
+    left: u32,
+    last: u32,
+}
+
+impl Patience {
+    /// They are tried at once.
+    pub fn new() -> Patience {
+        Patience { left: 0, last: 0 }
+    }
+
+    // Whether they are tried at this box.
+    fn is_due(&mut self) -> bool {
+        if self.left > 0 {
+            self.left -= 1;
+            return false;
+        }
+        true
+    }
+
+    // Notes whether they gave something.
+    fn note(&mut self, has_gained: bool) {
+        self.last = if has_gained {
+            0
+        } else if self.last == 0 {
+            1
+        } else if self.last < MOST_LEFT_OUT {
+            self.last * 2
+        } else {
+            MOST_LEFT_OUT
+        };
+        self.left = self.last;
+    }
+}
+
+// Combines these atoms where they leave less; whether an axis fell by about a tenth, or nothing is left.
+fn combine(
+    problem: &Problem,
+    margins: &Margins,
+    lemmas: &[Lemma],
+    scout: &mut Scout,
+    patch: &mut Patch,
+    multipliers: Vec<(u32, Dy), Global>,
+) -> Result<bool, AllocError>
+    requires open { IsOpen problem.now margins.now lemmas.now patch.old.kept.first patch.old }
+    ensures { IsOpen problem.now margins.now lemmas.now patch.old.kept.first patch.new }
+{
+    match step::combine(patch, &multipliers)? {
+        Outcome::Void => {
+            scout.note_void(Emptied::Combination(multipliers));
+            Ok(true)
+        }
+        Outcome::Done => Ok(scout.note_space(patch.reached().space())),
+        Outcome::Idle | Outcome::Refused => Ok(false),
+    }
+}
+
+// Whether combining atom j alone may give something that narrowing by it did not.
+fn is_worth(problem: &Problem, margins: &Margins, scout: &Scout, patch: &Patch, j: usize) -> bool {
+    let lits = patch.reached().lits();
+    scout.may_repeat(j) && is_asking(problem, margins.margin_bits, lits, patch.rows(), j)
+}
+
+// Combines atom j alone, where that may give something.
+fn combine_alone(
+    alloc: Global,
+    problem: &Problem,
+    margins: &Margins,
+    lemmas: &[Lemma],
+    scout: &mut Scout,
+    patch: &mut Patch,
+    j: usize,
+) -> Result<(), AllocError>
+    requires open { IsOpen problem.now margins.now lemmas.now patch.old.kept.first patch.old }
+    ensures { IsOpen problem.now margins.now lemmas.now patch.old.kept.first patch.new }
+{
+    if !is_worth(problem, margins, scout, patch, j) {
+        return Ok(());
+    }
+    let Ok(atom) = u32::try_from(j) else {
+        return Ok(());
+    };
+    let mut multipliers = Vec::new(alloc);
+    multipliers.push((atom, pow2(0)))?;
+    combine(problem, margins, lemmas, scout, patch, multipliers)?;
+    Ok(())
+}
+
+/// Combines each marked atom alone in whose term an axis may repeat, until nothing is left.
+pub fn combine_all(
+    alloc: Global,
+    problem: &Problem,
+    margins: &Margins,
+    lemmas: &[Lemma],
+    scout: &mut Scout,
+    patch: &mut Patch,
+) -> Result<(), AllocError>
+    requires open { IsOpen problem.now margins.now lemmas.now patch.old.kept.first patch.old }
+    ensures { IsOpen problem.now margins.now lemmas.now patch.old.kept.first patch.new }
+{
+    for j in 0..problem.atoms().len() {
+        if !scout.is_void() {
+            combine_alone(alloc, problem, margins, lemmas, scout, patch, j)?;
+        }
+    }
+    Ok(())
+}
+
+// The linear relaxation of the state's marked atoms.
+fn relaxation_at(
+    alloc: Global,
+    problem: &Problem,
+    margins: &Margins,
+    patch: &mut Patch,
+) -> Result<Option<Relaxation>, AllocError>
+    ensures { patch.new ≡ patch.old }
+{
+    patch.find_centre();
+    let centre = patch.centre();
+    let state = patch.reached();
+    Relaxation::of(
+        alloc,
+        problem,
+        margins.margin_bits,
+        state.lits(),
+        state.space(),
+        patch.rows(),
+        &centre.middle,
+        &centre.rows,
+    )
+}
+
+// Narrows the axis at this end by the combination that the relaxation chooses, if that is worth while; whether it did.
+fn narrow_end(
+    alloc: Global,
+    problem: &Problem,
+    margins: &Margins,
+    lemmas: &[Lemma],
+    scout: &mut Scout,
+    patch: &mut Patch,
+    relaxation: &mut Relaxation,
+    axis: u32,
+    side: Side,
+) -> Result<bool, AllocError>
+    requires open { IsOpen problem.now margins.now lemmas.now patch.old.kept.first patch.old }
+    ensures { IsOpen problem.now margins.now lemmas.now patch.old.kept.first patch.new }
+{
+    if scout.is_void() {
+        return Ok(false);
+    }
+    let Some(multipliers) = relaxation.narrowing(alloc, axis, side)? else {
+        return Ok(false);
+    };
+    let has_gained = combine(problem, margins, lemmas, scout, patch, multipliers)?;
+    let space = patch.reached().space();
+    if (axis as usize) < space.len() {
+        relaxation.tighten(axis, space.get(axis as usize));
+    }
+    Ok(has_gained)
+}
+
+// Narrows the axis so at both ends; whether it fell by about a tenth, or nothing is left.
+fn narrow_axis(
+    alloc: Global,
+    problem: &Problem,
+    margins: &Margins,
+    lemmas: &[Lemma],
+    scout: &mut Scout,
+    patch: &mut Patch,
+    relaxation: &mut Relaxation,
+    axis: usize,
+) -> Result<bool, AllocError>
+    requires open { IsOpen problem.now margins.now lemmas.now patch.old.kept.first patch.old }
+    ensures { IsOpen problem.now margins.now lemmas.now patch.old.kept.first patch.new }
+{
+    let Ok(axis) = u32::try_from(axis) else {
+        return Ok(false);
+    };
+    let low = narrow_end(
+        alloc,
+        problem,
+        margins,
+        lemmas,
+        scout,
+        patch,
+        relaxation,
+        axis,
+        Side::Least,
+    )?;
+    let high = narrow_end(
+        alloc,
+        problem,
+        margins,
+        lemmas,
+        scout,
+        patch,
+        relaxation,
+        axis,
+        Side::Greatest,
+    )?;
+    Ok(low || high)
+}
+
+// Narrows all axes so; whether one fell by about a tenth, or nothing is left.
+fn narrow_axes(
+    alloc: Global,
+    problem: &Problem,
+    margins: &Margins,
+    lemmas: &[Lemma],
+    scout: &mut Scout,
+    patch: &mut Patch,
+    relaxation: &mut Relaxation,
+) -> Result<bool, AllocError>
+    requires open { IsOpen problem.now margins.now lemmas.now patch.old.kept.first patch.old }
+    ensures { IsOpen problem.now margins.now lemmas.now patch.old.kept.first patch.new }
+{
+    let mut has_gained = false;
+    for axis in 0..problem.axes().len() {
+        if narrow_axis(
+            alloc, problem, margins, lemmas, scout, patch, relaxation, axis,
+        )? {
+            has_gained = true;
+        }
+    }
+    Ok(has_gained)
+}
+
+// Combines what the relaxation chooses; whether an axis fell by about a tenth, or nothing is left.
+fn combine_chosen(
+    alloc: Global,
+    problem: &Problem,
+    margins: &Margins,
+    lemmas: &[Lemma],
+    scout: &mut Scout,
+    patch: &mut Patch,
+    relaxation: &mut Relaxation,
+) -> Result<bool, AllocError>
+    requires open { IsOpen problem.now margins.now lemmas.now patch.old.kept.first patch.old }
+    ensures { IsOpen problem.now margins.now lemmas.now patch.old.kept.first patch.new }
+{
+    match relaxation.refutation(alloc)? {
+        Refutation::Found(multipliers) => {
+            combine(problem, margins, lemmas, scout, patch, multipliers)
+        }
+        Refutation::None => narrow_axes(alloc, problem, margins, lemmas, scout, patch, relaxation),
+        Refutation::Unknown => Ok(false),
+    }
+}
+
+/// Combines several marked atoms, as their linear relaxation chooses, unless that gave nothing at the boxes before.
+pub fn relax(
+    alloc: Global,
+    problem: &Problem,
+    margins: &Margins,
+    lemmas: &[Lemma],
+    scout: &mut Scout,
+    patch: &mut Patch,
+) -> Result<(), AllocError>
+    requires open { IsOpen problem.now margins.now lemmas.now patch.old.kept.first patch.old }
+    ensures { IsOpen problem.now margins.now lemmas.now patch.old.kept.first patch.new }
+{
+    if !scout.patience().is_due() {
+        return Ok(());
+    }
+    let Some(mut relaxation) = relaxation_at(alloc, problem, margins, patch)? else {
+        return Ok(());
+    };
+    let has_gained = combine_chosen(
+        alloc,
+        problem,
+        margins,
+        lemmas,
+        scout,
+        patch,
+        &mut relaxation,
+    )?;
+    scout.patience().note(has_gained);
+    Ok(())
+}

@@ -1,0 +1,3 @@
+pub mod Breaks
+pub mod Raised
+pub mod Upgrades

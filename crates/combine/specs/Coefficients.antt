@@ -1,0 +1,21 @@
+-- The range of a part with these coefficients, and what is left to its variable.
+use Rattle.std.specs.Prelude.{Option, Some}
+use Rattle.interval_model.specs.Interval.{Interval}
+use Rattle.cover_model.specs.Combination.{completed, both_range, completed_left, both_left}
+use Rattle.ival.specs.declared.ends.Ival.{Ival}
+use Rattle.ival.specs.Views.{interval_of}
+use Rattle.ival.specs.Options.{option_of}
+
+-- of a linear and perhaps a quadratic coefficient, where the variable's difference to its centre lies in the third interval
+abbrev pub range_by : Ival → Option Ival → Ival → Interval
+range_by w q d = both_range (Some (interval_of w)) (option_of q) (interval_of d)
+
+abbrev pub completed_range : Ival → Ival → Ival → Interval
+completed_range w q d = completed (interval_of w) (interval_of q) (interval_of d)
+
+-- what is left to that difference, where the part lies in the first interval
+abbrev pub left_by : Ival → Ival → Option Ival → Ival → Interval
+left_by share w q d = both_left (interval_of share) (Some (interval_of w)) (option_of q) (interval_of d)
+
+abbrev pub left_by_completed : Ival → Ival → Ival → Ival → Interval
+left_by_completed share w q d = completed_left (interval_of share) (interval_of w) (interval_of q) (interval_of d)

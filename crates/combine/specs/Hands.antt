@@ -1,0 +1,60 @@
+-- What is handed to nodes, in rows that stand for adjoints.
+use Rattle.std.specs.Prelude.{◌≡◌, ℕ, List}
+use Rattle.dyadic.specs.declared.dy.Dy.{Dy}
+use Rattle.dyadic.specs.Rounding.{two_to_minus}
+use Rattle.dyadic.specs.Views.{dyadic_of}
+use Rattle.interval_model.specs.Interval.{Interval, interval_sum, interval_product}
+use Rattle.poly_graph.specs.declared.node.Node.{Node}
+use Rattle.poly_graph.specs.Marks.{Mark}
+use Rattle.poly_graph.specs.Problem.{atom_at}
+use Rattle.poly_graph.specs.ProblemViews.{Parts, problem_of}
+use Rattle.poly_graph.specs.Views.{node_of}
+use Rattle.cover_model.specs.NodeEnclosure.{row}
+use Rattle.cover_model.specs.Combination.{Adjoints, only, handed, handed_down, squares_down, root_adjoints, central_range, allowed_range, marked_range}
+use Rattle.cover_model.specs.Views.{multipliers_of}
+use Rattle.ival.specs.declared.ends.Ival.{Ival}
+use Rattle.ival.specs.declared.row_parts.Rows.{Rows}
+use Rattle.ival.specs.Options.{option_at}
+use Rattle.ival.specs.RowViews.{rows_of}
+use Rattle.ival.specs.Views.{interval_of}
+
+-- the rows stand for these adjoints
+abbrev pub StandsFor : Rows → Adjoints → Type 0
+StandsFor rows os = (k : ℕ) → option_at rows k ≡ os k
+
+-- node a has been handed one more coefficient, from the old rows to the new ones
+abbrev pub IsHanded : ℕ → Interval → Rows → Rows → Type 0
+IsHanded a i old new = StandsFor new (handed a i (option_at old))
+
+-- the children of a node with this coefficient have been handed theirs, where the first rows are the centre's
+abbrev pub IsHandedDown : Rows → Ival → Node → Rows → Rows → Type 0
+IsHandedDown centre_rows w n old new = StandsFor new (handed_down (rows_of centre_rows) (interval_of w) (node_of n) (option_at old))
+
+abbrev pub IsSquareHanded : Ival → Node → Rows → Rows → Type 0
+IsSquareHanded w n old new = StandsFor new (squares_down (interval_of w) (node_of n) (option_at old))
+
+-- ---- roots
+
+-- the root of atom j has been handed a multiplier
+abbrev pub IsRootHanded : Parts → ℕ → Dy → Rows → Rows → Type 0
+IsRootHanded p j m old new = IsHanded (atom_at (problem_of p) j).0 (only (dyadic_of m)) old new
+
+-- the range with that of the atom's term at the centre, times the multiplier
+abbrev pub central_with : Parts → Rows → ℕ → Dy → Ival → Interval
+central_with p centre_rows j m i = interval_sum (interval_of i) (interval_product (only (dyadic_of m)) (row (rows_of centre_rows) (atom_at (problem_of p) j).0))
+
+-- where the atom's value lies by its mark
+abbrev pub range_by_mark : Parts → ℕ → List Mark → ℕ → Interval
+range_by_mark p loosen marks = marked_range (problem_of p) (two_to_minus loosen) marks
+
+abbrev pub allowed_with : Parts → ℕ → List Mark → ℕ → Dy → Ival → Interval
+allowed_with p loosen marks j m i = interval_sum (interval_of i) (interval_product (only (dyadic_of m)) (range_by_mark p loosen marks j))
+
+abbrev pub adjoints_of : Parts → List (ℕ × Dy) → Adjoints
+adjoints_of p ms = root_adjoints (problem_of p) (multipliers_of ms)
+
+abbrev pub central_of : Parts → Rows → List (ℕ × Dy) → Interval
+central_of p centre_rows ms = central_range (problem_of p) (rows_of centre_rows) (multipliers_of ms)
+
+abbrev pub allowed_of : Parts → ℕ → List Mark → List (ℕ × Dy) → Interval
+allowed_of p loosen marks ms = allowed_range (range_by_mark p loosen marks) (multipliers_of ms)

@@ -1,0 +1,81 @@
+// What a visited node adds to an expansion.
+ghost use Rattle.std.specs.Prelude.{◌≡◌, ◌+◌, ◌<◌, ◌≤◌, length, IsTrue, List, Some, vec_len};
+ghost use Rattle.poly_graph.specs.Term.{comes_after, variable_node};
+ghost use Rattle.poly_graph.specs.Views.{node_of};
+ghost use Rattle.ival.specs.Views.{interval_of};
+ghost use Rattle.ival.specs.RowViews.{rows_of};
+ghost use Rattle.combine.specs.Combined.{IsMeasuredOver};
+ghost use Rattle.combine.specs.Visits.{difference_at, AddsSquare, AddsProduct, IsExpanded};
+ghost use Rattle.combine.specs.Parts.{needed_by};
+
+use crate::gathered::Gathered;
+use crate::ranges::difference;
+use ival::{Ival, Rows, Space};
+use poly_graph::Node;
+
+// By how much node k may differ from its value at the centre.
+fn off_centre(k: usize, rows: &Rows, centre_rows: &Rows) -> Ival
+    requires rows { k < length (rows_of rows.now) }
+    requires centre_rows { k < length (rows_of centre_rows.now) }
+    ensures { interval_of result ≡ difference_at rows.now centre_rows.now k }
+{
+    difference(rows.get(k), centre_rows.get(k))
+}
+
+// The rest with the square of node n's difference, if it has a coefficient.
+fn with_square(n: usize, square: Option<Ival>, rows: &Rows, centre_rows: &Rows, rest: Ival) -> Ival
+    requires rows { n < length (rows_of rows.now) }
+    requires centre_rows { n < length (rows_of centre_rows.now) }
+    ensures { AddsSquare rows.now centre_rows.now n square rest result }
+{
+    match square {
+        None => rest,
+        Some(square) => rest.add(square.mul(off_centre(n, rows, centre_rows).sq())),
+    }
+}
+
+// The rest with what is left over of a product.
+fn with_product(node: Node, linear: Ival, rows: &Rows, centre_rows: &Rows, rest: Ival) -> Ival
+    requires order { IsTrue (comes_after (length (rows_of rows.now)) (node_of node)) }
+    requires rows { length (rows_of centre_rows.now) ≡ length (rows_of rows.now) }
+    ensures { AddsProduct rows.now centre_rows.now linear node rest result }
+{
+    match node {
+        Node::Mul(a, b) => {
+            let first = off_centre(a as usize, rows, centre_rows);
+            let second = off_centre(b as usize, rows, centre_rows);
+            rest.add(linear.mul(first.mul(second)))
+        }
+        _ => rest,
+    }
+}
+
+/// Adds what node n with these coefficients adds: a variable its part, another node to the rest.
+pub fn expand(
+    node: Node,
+    n: usize,
+    linear: Ival,
+    square: Option<Ival>,
+    rows: &Rows,
+    centre_rows: &Rows,
+    space: &Space,
+    centre: &Space,
+    gathered: &mut Gathered,
+)
+    requires order { IsTrue (comes_after n (node_of node)) }
+    requires rows { n < length (rows_of rows.now) }
+    requires centre_rows { length (rows_of centre_rows.now) ≡ length (rows_of rows.now) }
+    requires room { needed_by (node_of node) ≤ gathered.old.first }
+    requires measured { IsMeasuredOver space.now centre.now gathered.old }
+    ensures expansion { IsExpanded rows.now centre_rows.now n linear square node gathered.old gathered.new }
+    ensures measured { IsMeasuredOver space.now centre.now gathered.new }
+    ensures first { gathered.new.first + needed_by (node_of node) ≡ gathered.old.first }
+    ensures room { vec_len gathered.new.parts ≡ vec_len gathered.old.parts }
+{
+    if let Node::Var(axis) = node {
+        gathered.push(axis, linear, square, space, centre);
+        return;
+    }
+    let rest = with_square(n, square, rows, centre_rows, gathered.rest);
+    gathered.rest = with_product(node, linear, rows, centre_rows, rest);
+}

@@ -1,0 +1,78 @@
+// Ranges of a part: of a linear and a quadratic coefficient.
+ghost use Rattle.std.specs.Prelude.{◌≡◌, Some};
+ghost use Rattle.dyadic.specs.Views.{dyadic_of};
+ghost use Rattle.interval_model.specs.Interval.{misses_nought};
+ghost use Rattle.cover_model.specs.Combination.{only, interval_difference, half_quotient};
+ghost use Rattle.ival.specs.Views.{interval_of};
+ghost use Rattle.combine.specs.Coefficients.{range_by, completed_range};
+
+use dyadic::{Dy, Ext, Sign, sign_of};
+use ival::{Ends, Ival};
+
+/// A number alone.
+pub fn only(value: Dy) -> Ival
+    ensures { interval_of result ≡ only (dyadic_of value) }
+{
+    Ival::Between(Ends {
+        low: Ext::Fin(value),
+        high: Ext::Fin(value),
+    })
+}
+
+/// The differences of a number of each.
+pub fn difference(a: Ival, b: Ival) -> Ival
+    ensures { interval_of result ≡ interval_difference (interval_of a) (interval_of b) }
+{
+    a.add(b.neg())
+}
+
+/// Whether 0 lies outside of the interval; not where it is empty.
+pub fn misses_nought(interval: Ival) -> bool
+    ensures { result ≡ misses_nought (interval_of interval) }
+{
+    match interval {
+        Ival::Empty => false,
+        Ival::Between(ends) => match (sign_of(ends.high), sign_of(ends.low)) {
+            (Sign::Below, _) => true,
+            (_, Sign::Above) => true,
+            _ => false,
+        },
+    }
+}
+
+/// Half the quotient of the coefficients.
+pub fn half_quotient(linear: Ival, square: Ival) -> Ival
+    ensures { interval_of result ≡ half_quotient (interval_of linear) (interval_of square) }
+{
+    linear.inv_mul(square.add(square))
+}
+
+// The range of both coefficients' part by its completed square.
+fn completed(linear: Ival, square: Ival, apart: Ival) -> Ival
+    ensures { interval_of result ≡ completed_range linear square apart }
+{
+    let half = half_quotient(linear, square);
+    square.mul(difference(apart.add(half).sq(), half.sq()))
+}
+
+// The range of a part with both coefficients.
+fn full_range(linear: Ival, square: Ival, apart: Ival) -> Ival
+    ensures { interval_of result ≡ range_by linear (Some square) apart }
+{
+    let plain = linear.mul(apart).add(square.mul(apart.sq()));
+    if misses_nought(square.add(square)) {
+        plain.meet(completed(linear, square, apart))
+    } else {
+        plain
+    }
+}
+
+/// The range of a variable's part, where the variable's difference to the centre lies in `apart`.
+pub fn part_range(linear: Ival, square: Option<Ival>, apart: Ival) -> Ival
+    ensures { interval_of result ≡ range_by linear square apart }
+{
+    match square {
+        None => linear.mul(apart),
+        Some(square) => full_range(linear, square, apart),
+    }
+}

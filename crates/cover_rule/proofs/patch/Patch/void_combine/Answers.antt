@@ -1,0 +1,23 @@
+use Rattle.std.proofs.Common.{◌≡◌, ap, subst, None}
+use Rattle.cover_model.specs.Views.{multipliers_of}
+use Rattle.cover_model.specs.State.{State}
+use Rattle.cover_model.specs.Rules.{void_combine}
+use Rattle.cover_rule.specs.Patch.{IsRunOf}
+use Rattle.cover_rule.specs.Models.{PatchModel}
+use Rattle.cover_rule.specs.Refusals.{void_combine_refusal, ended_with, VoidCombineEnd}
+use Rattle.cover_rule.specs.Held.{patch_of}
+use Rattle.cover_rule.proofs.Helds.{run_after, any_ok, held_with, still_ready, run_void_combined}
+use Rattle.cover_rule.proofs.patch.Patch.void_combine.Goals as goal
+
+pub invariant_of-self : goal.invariant_of-self
+invariant_of-self c =
+    let i = c.self.inside in let h = c.self.invariant in let p = i.problem.now in let k = i.kept in let k' = c.void_combine.new.kept in let r = c.void_combine.result in
+    let P : PatchModel = patch_of p i.margins k in let Q : PatchModel = patch_of p i.margins k' in
+    held_with p i.margins k k' i.work c.void_combine.new.work h
+    (run_after (void_combine_refusal P (multipliers_of c.args.multipliers.now)) P (ended_with P (void_combine (multipliers_of c.args.multipliers.now))) Q r (c.void_combine.ensures.answer) h.run (any_ok (void_combine_refusal P (multipliers_of c.args.multipliers.now) ≡ None → IsRunOf (ended_with P (void_combine (multipliers_of c.args.multipliers.now)))) r (λ e. run_void_combined P h.whole h.run (multipliers_of c.args.multipliers.now) e)))
+    (still_ready p i.margins k k' c.void_combine.new.work (ap (λ (S : State). S.space) c.void_combine.ensures.reached) c.void_combine.ensures.ready)
+
+pub returns : goal.returns
+returns c =
+    let i = c.self.inside in
+    subst (λ (X : PatchModel). VoidCombineEnd X (multipliers_of c.args.multipliers.now) (patch_of i.problem.now i.margins c.void_combine.new.kept) c.void_combine.result) c.self.view_is c.void_combine.ensures.answer

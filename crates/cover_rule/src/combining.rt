@@ -1,0 +1,97 @@
+// Combinations of marked atoms: which may be made, and what they leave of the space.
+ghost use Rattle.std.specs.Prelude.{◌≡◌, ◌<◌, ◌≤◌, IsTrue, length, not, true};
+ghost use Rattle.poly_graph.specs.ProblemViews.{problem_of};
+ghost use Rattle.cover_model.specs.Fits.{FitsProblem};
+ghost use Rattle.cover_model.specs.Honest.{is_some_space};
+ghost use Rattle.cover_model.specs.Rules.{can_combine, combining};
+ghost use Rattle.cover_model.specs.Views.{multipliers_of};
+ghost use Rattle.ival.specs.Narrows.{IsNarrowed};
+ghost use Rattle.ival.specs.SpaceViews.{space_of};
+ghost use Rattle.cover_data.specs.Margins.{AreMargins, loosenings_of};
+ghost use Rattle.cover_rule.specs.Serves.{HasRowsOf, IsReady};
+
+use crate::narrowing::copy_space;
+use crate::truth::find_centre;
+use crate::workspace::Workspace;
+use combine::combine;
+use cover_data::{Margins, State};
+use dyadic::Dy;
+use ival::Narrowed;
+use poly_graph::Problem;
+
+/// Whether these atoms may be combined at the state, each with its multiplier.
+pub fn can_combine(
+    problem: &Problem,
+    margins: &Margins,
+    state: &State,
+    multipliers: &[(u32, Dy)],
+) -> bool
+    requires state { FitsProblem (problem_of problem.now) state.now }
+    ensures may { let ms = multipliers_of multipliers.now in
+        result ≡ can_combine (problem_of problem.now) (loosenings_of margins.now) state.now ms }
+    ensures some { result ≡ true → 0 < length multipliers.now }
+    ensures few { result ≡ true → length multipliers.now ≤ 64 }
+{
+    truth3::can_combine(problem, state.lits(), multipliers)
+}
+
+/// Narrows the spare space, a copy of the state's, by a combination of atoms that may be made.
+pub fn combine_spare(
+    problem: &Problem,
+    margins: &Margins,
+    state: &State,
+    multipliers: &[(u32, Dy)],
+    work: &mut Workspace,
+) -> Narrowed
+    requires margins { AreMargins margins.now }
+    requires state { FitsProblem (problem_of problem.now) state.now }
+    requires may { let ms = multipliers_of multipliers.now in
+        IsTrue (can_combine (problem_of problem.now) (loosenings_of margins.now) state.now ms) }
+    requires work { IsReady problem.now margins.now state.now.space work.old }
+    ensures narrowed { let ms = multipliers_of multipliers.now in
+        let narrow = combining (problem_of problem.now) (loosenings_of margins.now) state.now ms in
+        IsNarrowed state.now.space (space_of work.new.spare) narrow result }
+    ensures work { HasRowsOf problem.now margins.now state.now.space work.new }
+{
+    let _ = problem.axes();
+    find_centre(problem, state.space(), &mut work.centre);
+    combine(
+        problem,
+        margins.margin_bits,
+        state.lits(),
+        multipliers,
+        &work.rows,
+        &work.centre.middle,
+        &work.centre.rows,
+        &mut work.room,
+        &mut work.spare,
+    )
+}
+
+/// Whether a combination of atoms that may be made leaves nothing.
+pub fn combining_leaves_nothing(
+    problem: &Problem,
+    margins: &Margins,
+    state: &State,
+    multipliers: &[(u32, Dy)],
+    work: &mut Workspace,
+) -> bool
+    requires margins { AreMargins margins.now }
+    requires state { FitsProblem (problem_of problem.now) state.now }
+    requires may { let ms = multipliers_of multipliers.now in
+        IsTrue (can_combine (problem_of problem.now) (loosenings_of margins.now) state.now ms) }
+    requires work { IsReady problem.now margins.now state.now.space work.old }
+    ensures empty { let ms = multipliers_of multipliers.now in
+        let narrow = combining (problem_of problem.now) (loosenings_of margins.now) state.now ms in
+        result ≡ not (is_some_space narrow) }
+    ensures work { IsReady problem.now margins.now state.now.space work.new }
+{
+    match combine_spare(problem, margins, state, multipliers, work) {
+        Narrowed::Empty => true,
+        Narrowed::Same => false,
+        Narrowed::Less => {
+            copy_space(state.space(), &mut work.spare);
+            false
+        }
+    }
+}

@@ -1,0 +1,104 @@
+// `upgrade`, from a problem to a certificate in version 2.
+ghost use Rattle.std.specs.Prelude.{◌≡◌, ◌++◌, ◌+◌, ◌<◌, ◌^◌, OnOk, length};
+ghost use Rattle.cert_check.specs.Feeding.{bytes_taken, IsFedPiece};
+ghost use Rattle.dpoly.specs.Run.{IsReadToEnd, SameIn, UpgradeHasCause};
+ghost use Rattle.dpoly.specs.Upgrade.{EndsOnUpgrade, EndsOnUpgraded, IsKeptFor, IsReadAsKept};
+
+use crate::check::{ROOM, Unconfirmed, refuse};
+use crate::ports::finish;
+use crate::status::Status;
+use cert_check::{CertFault, Feed};
+use cert_upgrade::upgrade;
+use desk::{Denied, Desk, Port};
+use poly_graph::Problem;
+use std::alloc::Global;
+
+// Feeds a piece, and keeps it.
+fn feed_and_keep(feed: &mut Feed, kept: &mut Vec<u8>, piece: &[u8]) -> Result<(), CertFault>
+    ensures goes { IsFedPiece feed.old piece.now feed.new result }
+    ensures kept { OnOk result (kept.new.items ≡ kept.old.items ++ piece.now) }
+    ensures more { OnOk result (bytes_taken feed.new ≡ bytes_taken feed.old + length piece.now) }
+    ensures fits { bytes_taken feed.new < 2 ^ 64 }
+{
+    match feed.piece(piece) {
+        Ok(()) => {}
+        Err(fault) => return Err(fault),
+    }
+    match kept.extend_from_slice(piece) {
+        Ok(()) => Ok(()),
+        Err(_) => Err(CertFault::Memory),
+    }
+}
+
+// The certificate on its port, whole, where it is accepted; it is read up to its first fault.
+fn read_kept<D: Desk>(
+    alloc: Global,
+    desk: &mut D,
+    problem: &Problem,
+    bound: Option<u32>,
+) -> Result<Vec<u8>, Unconfirmed>
+    ensures told { IsKeptFor problem.now bound (D.sight desk.old) result }
+    ensures leaves { IsReadAsKept result (D.sight desk.old) (D.sight desk.new) }
+{
+    let mut feed = match Feed::new(alloc, problem, bound) {
+        Ok(feed) => feed,
+        Err(_) => return Err(Unconfirmed::Fault(CertFault::Memory)),
+    };
+    let mut kept = Vec::new(alloc);
+    let mut buffer = [0u8; ROOM];
+    loop {
+        let n = match desk.read(Port::CertIn, &mut buffer) {
+            Ok(n) => n,
+            Err(_) => return Err(Unconfirmed::Failed),
+        };
+        if n == 0 {
+            match feed.end() {
+                Ok(_) => return Ok(kept),
+                Err(fault) => return Err(Unconfirmed::Fault(fault)),
+            }
+        }
+        match feed_and_keep(&mut feed, &mut kept, &buffer[..n]) {
+            Ok(()) => {}
+            Err(fault) => return Err(Unconfirmed::Fault(fault)),
+        }
+    }
+}
+
+// Writes an accepted certificate in version 2, and says so.
+fn write_upgraded<D: Desk>(alloc: Global, desk: &mut D, name: &str, kept: &[u8]) -> Status
+    ensures ends { EndsOnUpgraded name.now kept.now (D.sight desk.old) (D.sight desk.new) result }
+    ensures same { SameIn (D.sight desk.old) (D.sight desk.new) }
+    ensures cause { UpgradeHasCause (D.sight desk.old) (D.sight desk.new) result }
+{
+    match upgrade(alloc, kept) {
+        Ok(text) => finish(desk, name, &text, b"upgraded\n"),
+        Err(_) => Status::NoMemory,
+    }
+}
+
+/// Checks the certificate on its port for a problem, and keeps it; where it is accepted, writes it in version 2 under a
+/// name.
+pub fn upgrade_problem<D: Desk>(
+    alloc: Global,
+    desk: &mut D,
+    cert: &str,
+    out: &str,
+    problem: &Problem,
+    bound: Option<u32>,
+) -> Status
+    ensures ends { EndsOnUpgrade problem.now bound cert.now out.now (D.sight desk.old) (D.sight desk.new) result }
+    ensures cause { UpgradeHasCause (D.sight desk.old) (D.sight desk.new) result }
+    ensures script { (D.sight desk.new).script ≡ (D.sight desk.old).script }
+    ensures read { result ≡ Status.Answered → IsReadToEnd (D.sight desk.old) (D.sight desk.new) }
+{
+    match desk.start(Port::CertIn, cert) {
+        Ok(()) => {}
+        Err(Denied::Failed) => return Status::InFailed,
+        Err(Denied::Memory) => return Status::NoMemory,
+    }
+    match read_kept(alloc, desk, problem, bound) {
+        Ok(kept) => write_upgraded(alloc, desk, out, &kept),
+        Err(Unconfirmed::Fault(fault)) => refuse(alloc, desk, fault),
+        Err(Unconfirmed::Failed) => Status::InFailed,
+    }
+}

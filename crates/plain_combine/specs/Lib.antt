@@ -1,0 +1,5 @@
+pub mod Calls
+pub mod Parts
+pub mod Passes
+pub mod Rest
+pub mod Suits

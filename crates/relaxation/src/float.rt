@@ -1,0 +1,152 @@
+// Numbers of the grid as floats, and back.
+ghost use Rattle.std.specs.Prelude.{◌<◌, ◌≤ℤ◌, neg_ℤ, pos};
+
+use dyadic::{Dy, Ext, add_down, pow2};
+use ival::Ival;
+use std::num::{f64_from_bits_with_nan, f64_to_bits_with_nan, nearest_u64_to_f64};
+
+/// The interval from one float to another.
+#[derive(Clone, Copy, PartialEq, Debug)]
+pub struct Span {
+    pub low: f64,
+    pub high: f64,
+}
+
+impl Span {
+    /// The middle, or 0 where an end is infinite.
+    pub fn middle(self) -> f64 {
+        let middle = 0.5 * (self.low + self.high);
+        if middle > -1e300 && middle < 1e300 {
+            middle
+        } else {
+            0.0
+        }
+    }
+
+    /// The interval moved down by a number.
+    pub fn less(self, by: f64) -> Span {
+        Span {
+            low: self.low - by,
+            high: self.high - by,
+        }
+    }
+
+    /// Its products with another one's numbers.
+    pub fn times(self, other: Span) -> Span {
+        let first = self.low * other.low;
+        let second = self.low * other.high;
+        let third = self.high * other.low;
+        let fourth = self.high * other.high;
+        Span {
+            low: lesser(lesser(first, second), lesser(third, fourth)),
+            high: greater(greater(first, second), greater(third, fourth)),
+        }
+    }
+
+    /// The squares of its numbers.
+    pub fn squared(self) -> Span {
+        let first = self.low * self.low;
+        let second = self.high * self.high;
+        let low = if self.low <= 0.0 && self.high >= 0.0 {
+            0.0
+        } else {
+            lesser(first, second)
+        };
+        Span {
+            low,
+            high: greater(first, second),
+        }
+    }
+
+    /// Whether both ends are of moderate size.
+    pub fn is_moderate(self) -> bool {
+        self.low > -1e15 && self.high < 1e15 && self.low <= self.high
+    }
+}
+
+// The lesser of two numbers.
+fn lesser(a: f64, b: f64) -> f64 {
+    if b < a { b } else { a }
+}
+
+// The greater of two numbers.
+fn greater(a: f64, b: f64) -> f64 {
+    if b > a { b } else { a }
+}
+
+/// A float near to the number.
+pub fn approximate(number: Dy) -> f64 {
+    let size = number.size;
+    let shift = if size.shift > 250 { 250 } else { size.shift };
+    // 2 to the power of shift - 120, by its exponent's bits
+    let unit = f64_from_bits_with_nan(u64::from(shift + 903) << 52);
+    let value = nearest_u64_to_f64(size.odd) * unit;
+    if number.negative { -value } else { value }
+}
+
+// A float near to the end; of an infinity, that infinity.
+fn approximate_end(end: Ext) -> f64 {
+    match end {
+        Ext::NegInf => -1.0 / 0.0,
+        Ext::Fin(number) => approximate(number),
+        Ext::PosInf => 1.0 / 0.0,
+    }
+}
+
+/// The interval in floats; of the empty one, one of numbers that are none.
+pub fn span_of_interval(interval: Ival) -> Span {
+    match interval {
+        Ival::Empty => Span {
+            low: 0.0 / 0.0,
+            high: 0.0 / 0.0,
+        },
+        Ival::Between(ends) => Span {
+            low: approximate_end(ends.low),
+            high: approximate_end(ends.high),
+        },
+    }
+}
+
+// The sum of two numbers, or the first where it is too great.
+fn sum(a: Dy, b: Dy) -> Dy {
+    match add_down(Ext::Fin(a), Ext::Fin(b)) {
+        Ext::Fin(sum) => sum,
+        _ => a,
+    }
+}
+
+// Adds the power of 2 of one of 8 bits, where the bit is 1. The highest bit has number 0.
+fn with_bit(total: Dy, bits: u64, k: u32, exponent: i32) -> Dy
+    requires place { k < 8 }
+    requires low { neg_ℤ (pos 100) ≤ℤ exponent }
+    requires high { exponent ≤ℤ pos 57 }
+{
+    if (bits >> (7 - k)) & 1 == 1 {
+        sum(total, pow2(exponent - k as i32))
+    } else {
+        total
+    }
+}
+
+// The sum of the powers of 2 that the 8 bits name: of the highest, which is 1, this one.
+fn with_bits(bits: u64, exponent: i32) -> Dy
+    requires low { neg_ℤ (pos 100) ≤ℤ exponent }
+    requires high { exponent ≤ℤ pos 57 }
+{
+    let mut total = pow2(exponent);
+    for k in 1..8 {
+        total = with_bit(total, bits, k, exponent);
+    }
+    total
+}
+
+/// The number of 8 bits next to the float towards 0; none of one that is 0, no number, or far too small or great.
+pub fn multiplier(x: f64) -> Option<Dy> {
+    let bits = f64_to_bits_with_nan(x);
+    let exponent = ((bits >> 52) & 2047) as i32 - 1023;
+    if exponent < -100 || exponent > 50 {
+        return None;
+    }
+    let size = with_bits(128 | ((bits >> 45) & 127), exponent);
+    Some(if x < 0.0 { size.neg() } else { size })
+}

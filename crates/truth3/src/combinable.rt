@@ -1,0 +1,101 @@
+// Whether atoms may be combined at a state.
+ghost use Rattle.std.specs.Prelude.{◌≡◌, ◌&&◌, ◌||◌, ◌+◌, ◌<◌, drop, length, nat_lt};
+ghost use Rattle.interval_model.specs.Space.{Space as Domains};
+ghost use Rattle.interval_model.specs.Interval.{misses_nought};
+ghost use Rattle.dyadic.specs.Views.{dyadic_of};
+ghost use Rattle.poly_graph.specs.ProblemViews.{problem_of};
+ghost use Rattle.cover_model.specs.Combination.{only};
+ghost use Rattle.cover_model.specs.State.{state_of, in_yes};
+ghost use Rattle.cover_model.specs.Rules.{are_ordered, is_combination, are_combinable, in_no_one_sided};
+ghost use Rattle.cover_model.specs.Views.{multipliers_of};
+
+use cover_model::is_one_sided;
+use dyadic::Dy;
+use poly_graph::{Lits, Mark, Problem};
+
+// The most atoms of a combination.
+const MOST_PAIRS: usize = 64;
+
+// Whether the number is another one than 0.
+fn is_other_than_nought(by: Dy) -> bool
+    ensures { result ≡ misses_nought (only (dyadic_of by)) }
+{
+    !by.is_zero()
+}
+
+// Whether the multiplier in this place is not 0, and the atom's number is below the next one's.
+#[tactic(auto, using(crate::proofs::Ordered::nought_here, crate::proofs::Ordered::before_next, crate::proofs::Ordered::last_here))]
+fn is_in_order(multipliers: &[(u32, Dy)], k: usize) -> bool
+    requires { k < length multipliers.now }
+    ensures { are_ordered (multipliers_of (drop k multipliers.now)) ≡ (result && are_ordered (multipliers_of (drop (k + 1) multipliers.now))) }
+{
+    let (j, by) = multipliers[k];
+    if !is_other_than_nought(by) {
+        return false;
+    }
+    if k + 1 < multipliers.len() {
+        return j < multipliers[k + 1].0;
+    }
+    true
+}
+
+// Whether each atom's number is below the next one's, and no multiplier is 0.
+#[tactic(auto, using(crate::proofs::Ordered::none_left))]
+fn are_ordered(multipliers: &[(u32, Dy)]) -> bool
+    ensures { result ≡ are_ordered (multipliers_of multipliers.now) }
+{
+    for k in 0..multipliers.len() {
+        if !is_in_order(multipliers, k) {
+            return false;
+        }
+    }
+    true
+}
+
+// Whether these are from 1 to 64 pairs in order.
+fn is_combination(multipliers: &[(u32, Dy)]) -> bool
+    ensures { result ≡ is_combination (multipliers_of multipliers.now) }
+{
+    let count = multipliers.len();
+    0 < count && count <= MOST_PAIRS && are_ordered(multipliers)
+}
+
+// Whether the atom is there, and is marked yes, or is marked no and an inequality.
+fn is_combinable(problem: &Problem, lits: &Lits, j: u32) -> bool
+    requires { length lits.now ≡ length problem.now.atoms }
+    ensures { (space : Domains) → let S = state_of space lits.now in
+        result ≡ (nat_lt j (length problem.now.atoms) && (in_yes S j || in_no_one_sided (problem_of problem.now) S j)) }
+{
+    let atoms = problem.atoms();
+    if j as usize >= atoms.len() {
+        return false;
+    }
+    match lits.mark(j) {
+        Mark::Yes => true,
+        Mark::No => is_one_sided(atoms[j as usize].kind),
+        Mark::Neither => false,
+    }
+}
+
+// Whether each of the atoms may be combined.
+fn are_combinable(problem: &Problem, lits: &Lits, multipliers: &[(u32, Dy)]) -> bool
+    requires { length lits.now ≡ length problem.now.atoms }
+    ensures { (space : Domains) →
+        result ≡ are_combinable (problem_of problem.now) (state_of space lits.now) (multipliers_of multipliers.now) }
+{
+    for pair in multipliers {
+        if !is_combinable(problem, lits, pair.0) {
+            return false;
+        }
+    }
+    true
+}
+
+/// Whether these atoms with their multipliers may be combined at a state with these marks.
+pub fn can_combine(problem: &Problem, lits: &Lits, multipliers: &[(u32, Dy)]) -> bool
+    requires { length lits.now ≡ length problem.now.atoms }
+    ensures { (space : Domains) → let ms = multipliers_of multipliers.now in
+        result ≡ (is_combination ms && are_combinable (problem_of problem.now) (state_of space lits.now) ms) }
+{
+    is_combination(multipliers) && are_combinable(problem, lits, multipliers)
+}

@@ -1,0 +1,48 @@
+use Rattle.std.proofs.Common.{map, ◌≡◌, sym, subst, ap, ◌∙◌, arith, ◌<◌, ℕ, length, List, [], Some, slice_get}
+use Rattle.std.specs.Prelude.{Result, Ok, Err}
+use Rattle.smt_sexp.specs.Views.{place_of}
+use Rattle.script_forms.specs.Terms.{Unfolded, lift_tree}
+use Rattle.script_forms.specs.Unfolded.{lift_form, compare_two}
+use Rattle.script_forms.specs.Work.{lift_events, step_events, compare_events}
+use Rattle.poly_graph.specs.Term.{Term}
+use Rattle.poly_graph.specs.Views.{kind_of}
+use Rattle.term_build.specs.Built.{stand_of}
+use Rattle.term_build.specs.Pairs.{compared}
+use Rattle.term_build.specs.Shapes.{drawn_of}
+use Rattle.term_build.specs.Sketch.{as_choice}
+use Rattle.term_build.specs.Steps.{tree_of}
+use Rattle.term_build.specs.declared.connectives.Pair.{Pair}
+use Rattle.term_build.specs.declared.sketch.Arm.{Arm}
+use Rattle.term_build.specs.declared.sketch.Arm.TheVariants as arm
+use Rattle.term_build.specs.declared.stop.Stop.{Stop}
+use Rattle.term_build.proofs.Emits.{err_is, tree_below}
+use Rattle.value_build.specs.Arithmetic.{tree_of_step, events_of_step}
+use Rattle.value_build.specs.Arms.{Lifts, LiftsOne, Says, SaysOne, events_of_leaf, tree_of_leaf, terms_of}
+use Rattle.value_build.specs.Values.{IsArm}
+use Rattle.value_build.proofs.Lifting.{parts, tree_parts, leaf_done, said_done, two_of_tree, said_of_tree, compared_is, lift_stopped, lift_first, lift_second, lift_done, say_stopped, say_first, say_second, say_done, behind_reach, behind_lift, behind_say, behind_arm, behind_tree, behind_below}
+use Rattle.value_build.proofs.lift.+compare_one.Goals as goal
+
+pub returns-in-Tree-clause-does : goal.returns-in-Tree-clause-does
+returns-in-Tree-clause-does t c = λ u h. said_done c.args.builder.now (map drawn_of c.args.sketch.now.items) (map drawn_of c.compare_two.new.sketch.items) (kind_of c.args.kind) (place_of c.args.at) u c.args.first c.in-Tree.second c.in_ok-compare_two-in-Tree.field-0 c.requires.sketched c.requires.first (subst (λ (z : Arm). IsArm c.args.builder.now (map drawn_of c.args.sketch.now.items) (u) z) c.in-Tree.is (h)) c.in_ok-compare_two-in-Tree.ensures
+
+pub returns-in_err-reach-clause-does : goal.returns-in_err-reach-clause-does
+returns-in_err-reach-clause-does t c = λ u h. let w = parts c.args.builder.now (map drawn_of c.args.sketch.now.items) (u) c.in-Choice.k c.in-Some-choice_at.condition c.in-Some-choice_at.one c.in-Some-choice_at.other (c.in-Some-choice_at.ensures ∙ ap (λ l. as_choice (slice_get (map drawn_of l) c.in-Choice.k)) c.deref.ensures.value) (subst (λ (z : Arm). IsArm c.args.builder.now (map drawn_of c.args.sketch.now.items) (u) z) c.in-Choice.is (h)) in
+    subst (λ (r : Result Pair Stop). Says c.args.builder.now (map drawn_of c.args.sketch.now.items) c.reach.new.self (map drawn_of c.args.sketch.now.items) (lift_events (λ (z : Term). []) u) (lift_form (terms_of (kind_of c.args.kind) (place_of c.args.at) (tree_of c.args.builder.now c.args.first)) u) r) (sym (err_is c.from_residual-in_err-reach.result c.in_err-reach.field-0.0 c.from_residual-in_err-reach.ensures)) (say_stopped (terms_of (kind_of c.args.kind) (place_of c.args.at) (tree_of c.args.builder.now c.args.first)) (λ (z : Term). []) c.args.builder.now c.reach.new.self (map drawn_of c.args.sketch.now.items) u c.in-Some-choice_at.condition c.in-Some-choice_at.one c.in-Some-choice_at.other w (map drawn_of c.args.sketch.now.items) c.in_err-reach.field-0.0 c.in_err-reach.ensures.does)
+
+pub compare_one-requires : goal.compare_one-requires
+compare_one-requires t c = let h = c.requires.known.1 in let u = c.requires.known.0 in let w = parts c.args.builder.now (map drawn_of c.args.sketch.now.items) (u) c.in-Choice.k c.in-Some-choice_at.condition c.in-Some-choice_at.one c.in-Some-choice_at.other (c.in-Some-choice_at.ensures ∙ ap (λ l. as_choice (slice_get (map drawn_of l) c.in-Choice.k)) c.deref.ensures.value) (subst (λ (z : Arm). IsArm c.args.builder.now (map drawn_of c.args.sketch.now.items) (u) z) c.in-Choice.is (h)) in let b0 = behind_reach c.args.builder.now c.reach.new.self (map drawn_of c.args.sketch.now.items) c.in_ok-reach.ensures.does c.in_ok-reach.ensures.sorts c.requires.sketched in (omega (arith, c.decreases, c.checked_sub.ensures, c.in-Some.ensures), (behind_below c.args.builder.now c.reach.new.self (map drawn_of c.args.sketch.now.items) (map drawn_of c.args.sketch.now.items) c.args.first b0 c.requires.first, ((w.a, behind_arm c.args.builder.now c.reach.new.self (map drawn_of c.args.sketch.now.items) (map drawn_of c.args.sketch.now.items) w.a c.in-Some-choice_at.one b0 w.one), b0.sketch)))
+
+pub returns-in_err-one-clause-does : goal.returns-in_err-one-clause-does
+returns-in_err-one-clause-does t c = λ u h. let w = parts c.args.builder.now (map drawn_of c.args.sketch.now.items) (u) c.in-Choice.k c.in-Some-choice_at.condition c.in-Some-choice_at.one c.in-Some-choice_at.other (c.in-Some-choice_at.ensures ∙ ap (λ l. as_choice (slice_get (map drawn_of l) c.in-Choice.k)) c.deref.ensures.value) (subst (λ (z : Arm). IsArm c.args.builder.now (map drawn_of c.args.sketch.now.items) (u) z) c.in-Choice.is (h)) in let b0 = behind_reach c.args.builder.now c.reach.new.self (map drawn_of c.args.sketch.now.items) c.in_ok-reach.ensures.does c.in_ok-reach.ensures.sorts c.requires.sketched in
+    subst (λ (r : Result Pair Stop). Says c.args.builder.now (map drawn_of c.args.sketch.now.items) c.compare_one.new.builder (map drawn_of c.compare_one.new.sketch.items) (lift_events (λ (z : Term). []) u) (lift_form (terms_of (kind_of c.args.kind) (place_of c.args.at) (tree_of c.args.builder.now c.args.first)) u) r) (sym (err_is c.from_residual-in_err-one.result c.in_err-one.field-0.0 c.from_residual-in_err-one.ensures)) (say_first (terms_of (kind_of c.args.kind) (place_of c.args.at) (tree_of c.args.builder.now c.args.first)) (λ (z : Term). []) c.args.builder.now c.reach.new.self (map drawn_of c.args.sketch.now.items) u c.in-Some-choice_at.condition c.in-Some-choice_at.one c.in-Some-choice_at.other w c.compare_one.new.builder (map drawn_of c.compare_one.new.sketch.items) c.in_err-one.field-0.0 c.in_ok-reach.ensures.does (subst (λ (z : Term). SaysOne c.reach.new.self (map drawn_of c.args.sketch.now.items) c.compare_one.new.builder (map drawn_of c.compare_one.new.sketch.items) (kind_of c.args.kind) (place_of c.args.at) z c.in-Some-choice_at.one (Err c.in_err-one.field-0.0)) (behind_tree c.args.builder.now c.reach.new.self (map drawn_of c.args.sketch.now.items) (map drawn_of c.args.sketch.now.items) c.args.first b0 c.requires.first) c.in_err-one.ensures.does w.a (behind_arm c.args.builder.now c.reach.new.self (map drawn_of c.args.sketch.now.items) (map drawn_of c.args.sketch.now.items) w.a c.in-Some-choice_at.one b0 w.one)))
+
+pub compare_one-requires-2 : goal.compare_one-requires-2
+compare_one-requires-2 t c = let h = c.requires.known.1 in let u = c.requires.known.0 in let w = parts c.args.builder.now (map drawn_of c.args.sketch.now.items) (u) c.in-Choice.k c.in-Some-choice_at.condition c.in-Some-choice_at.one c.in-Some-choice_at.other (c.in-Some-choice_at.ensures ∙ ap (λ l. as_choice (slice_get (map drawn_of l) c.in-Choice.k)) c.deref.ensures.value) (subst (λ (z : Arm). IsArm c.args.builder.now (map drawn_of c.args.sketch.now.items) (u) z) c.in-Choice.is (h)) in let b0 = behind_reach c.args.builder.now c.reach.new.self (map drawn_of c.args.sketch.now.items) c.in_ok-reach.ensures.does c.in_ok-reach.ensures.sorts c.requires.sketched in let i = (subst (λ (z : Term). SaysOne c.reach.new.self (map drawn_of c.args.sketch.now.items) c.compare_one.new.builder (map drawn_of c.compare_one.new.sketch.items) (kind_of c.args.kind) (place_of c.args.at) z c.in-Some-choice_at.one (Ok c.in_ok-one.one)) (behind_tree c.args.builder.now c.reach.new.self (map drawn_of c.args.sketch.now.items) (map drawn_of c.args.sketch.now.items) c.args.first b0 c.requires.first) c.in_ok-one.ensures.does w.a (behind_arm c.args.builder.now c.reach.new.self (map drawn_of c.args.sketch.now.items) (map drawn_of c.args.sketch.now.items) w.a c.in-Some-choice_at.one b0 w.one)) in let b1 = behind_say c.args.builder.now c.reach.new.self c.compare_one.new.builder (map drawn_of c.args.sketch.now.items) (map drawn_of c.compare_one.new.sketch.items) (lift_events (λ (z : Term). []) w.a) (lift_form (terms_of (kind_of c.args.kind) (place_of c.args.at) (tree_of c.args.builder.now c.args.first)) w.a) c.in_ok-one.one c.in_ok-reach.ensures.does i in (omega (arith, c.decreases, c.checked_sub.ensures, c.in-Some.ensures), (behind_below c.args.builder.now c.compare_one.new.builder (map drawn_of c.args.sketch.now.items) (map drawn_of c.compare_one.new.sketch.items) c.args.first b1 c.requires.first, ((w.b, behind_arm c.args.builder.now c.compare_one.new.builder (map drawn_of c.args.sketch.now.items) (map drawn_of c.compare_one.new.sketch.items) w.b c.in-Some-choice_at.other b1 w.other), b1.sketch)))
+
+pub returns-in_err-other-clause-does : goal.returns-in_err-other-clause-does
+returns-in_err-other-clause-does t c = λ u h. let w = parts c.args.builder.now (map drawn_of c.args.sketch.now.items) (u) c.in-Choice.k c.in-Some-choice_at.condition c.in-Some-choice_at.one c.in-Some-choice_at.other (c.in-Some-choice_at.ensures ∙ ap (λ l. as_choice (slice_get (map drawn_of l) c.in-Choice.k)) c.deref.ensures.value) (subst (λ (z : Arm). IsArm c.args.builder.now (map drawn_of c.args.sketch.now.items) (u) z) c.in-Choice.is (h)) in let b0 = behind_reach c.args.builder.now c.reach.new.self (map drawn_of c.args.sketch.now.items) c.in_ok-reach.ensures.does c.in_ok-reach.ensures.sorts c.requires.sketched in let i = (subst (λ (z : Term). SaysOne c.reach.new.self (map drawn_of c.args.sketch.now.items) c.compare_one.new.builder (map drawn_of c.compare_one.new.sketch.items) (kind_of c.args.kind) (place_of c.args.at) z c.in-Some-choice_at.one (Ok c.in_ok-one.one)) (behind_tree c.args.builder.now c.reach.new.self (map drawn_of c.args.sketch.now.items) (map drawn_of c.args.sketch.now.items) c.args.first b0 c.requires.first) c.in_ok-one.ensures.does w.a (behind_arm c.args.builder.now c.reach.new.self (map drawn_of c.args.sketch.now.items) (map drawn_of c.args.sketch.now.items) w.a c.in-Some-choice_at.one b0 w.one)) in let b1 = behind_say c.args.builder.now c.reach.new.self c.compare_one.new.builder (map drawn_of c.args.sketch.now.items) (map drawn_of c.compare_one.new.sketch.items) (lift_events (λ (z : Term). []) w.a) (lift_form (terms_of (kind_of c.args.kind) (place_of c.args.at) (tree_of c.args.builder.now c.args.first)) w.a) c.in_ok-one.one c.in_ok-reach.ensures.does i in
+    subst (λ (r : Result Pair Stop). Says c.args.builder.now (map drawn_of c.args.sketch.now.items) c.compare_one-2.new.builder (map drawn_of c.compare_one-2.new.sketch.items) (lift_events (λ (z : Term). []) u) (lift_form (terms_of (kind_of c.args.kind) (place_of c.args.at) (tree_of c.args.builder.now c.args.first)) u) r) (sym (err_is c.from_residual-in_err-other.result c.in_err-other.field-0.0 c.from_residual-in_err-other.ensures)) (say_second (terms_of (kind_of c.args.kind) (place_of c.args.at) (tree_of c.args.builder.now c.args.first)) (λ (z : Term). []) c.args.builder.now c.reach.new.self (map drawn_of c.args.sketch.now.items) u c.in-Some-choice_at.condition c.in-Some-choice_at.one c.in-Some-choice_at.other w c.compare_one.new.builder c.compare_one-2.new.builder (map drawn_of c.compare_one.new.sketch.items) (map drawn_of c.compare_one-2.new.sketch.items) c.in_err-other.field-0.0 c.in_ok-one.one c.in_ok-reach.ensures.does i (subst (λ (z : Term). SaysOne c.compare_one.new.builder (map drawn_of c.compare_one.new.sketch.items) c.compare_one-2.new.builder (map drawn_of c.compare_one-2.new.sketch.items) (kind_of c.args.kind) (place_of c.args.at) z c.in-Some-choice_at.other (Err c.in_err-other.field-0.0)) (behind_tree c.args.builder.now c.compare_one.new.builder (map drawn_of c.args.sketch.now.items) (map drawn_of c.compare_one.new.sketch.items) c.args.first b1 c.requires.first) c.in_err-other.ensures.does w.b (behind_arm c.args.builder.now c.compare_one.new.builder (map drawn_of c.args.sketch.now.items) (map drawn_of c.compare_one.new.sketch.items) w.b c.in-Some-choice_at.other b1 w.other)))
+
+pub returns-clause-does : goal.returns-clause-does
+returns-clause-does t c = λ u h. let w = parts c.args.builder.now (map drawn_of c.args.sketch.now.items) (u) c.in-Choice.k c.in-Some-choice_at.condition c.in-Some-choice_at.one c.in-Some-choice_at.other (c.in-Some-choice_at.ensures ∙ ap (λ l. as_choice (slice_get (map drawn_of l) c.in-Choice.k)) c.deref.ensures.value) (subst (λ (z : Arm). IsArm c.args.builder.now (map drawn_of c.args.sketch.now.items) (u) z) c.in-Choice.is (h)) in let b0 = behind_reach c.args.builder.now c.reach.new.self (map drawn_of c.args.sketch.now.items) c.in_ok-reach.ensures.does c.in_ok-reach.ensures.sorts c.requires.sketched in let i = (subst (λ (z : Term). SaysOne c.reach.new.self (map drawn_of c.args.sketch.now.items) c.compare_one.new.builder (map drawn_of c.compare_one.new.sketch.items) (kind_of c.args.kind) (place_of c.args.at) z c.in-Some-choice_at.one (Ok c.in_ok-one.one)) (behind_tree c.args.builder.now c.reach.new.self (map drawn_of c.args.sketch.now.items) (map drawn_of c.args.sketch.now.items) c.args.first b0 c.requires.first) c.in_ok-one.ensures.does w.a (behind_arm c.args.builder.now c.reach.new.self (map drawn_of c.args.sketch.now.items) (map drawn_of c.args.sketch.now.items) w.a c.in-Some-choice_at.one b0 w.one)) in let b1 = behind_say c.args.builder.now c.reach.new.self c.compare_one.new.builder (map drawn_of c.args.sketch.now.items) (map drawn_of c.compare_one.new.sketch.items) (lift_events (λ (z : Term). []) w.a) (lift_form (terms_of (kind_of c.args.kind) (place_of c.args.at) (tree_of c.args.builder.now c.args.first)) w.a) c.in_ok-one.one c.in_ok-reach.ensures.does i in
+    say_done (terms_of (kind_of c.args.kind) (place_of c.args.at) (tree_of c.args.builder.now c.args.first)) (λ (z : Term). []) c.args.builder.now c.reach.new.self (map drawn_of c.args.sketch.now.items) u c.in-Some-choice_at.condition c.in-Some-choice_at.one c.in-Some-choice_at.other w c.compare_one.new.builder c.compare_one-2.new.builder (map drawn_of c.compare_one.new.sketch.items) (map drawn_of c.compare_one-2.new.sketch.items) (map drawn_of c.choose.new.sketch.items) c.in_ok-one.one c.in_ok-other.other c.in_ok-choose.field-0 c.in_ok-reach.ensures.does i (subst (λ (z : Term). SaysOne c.compare_one.new.builder (map drawn_of c.compare_one.new.sketch.items) c.compare_one-2.new.builder (map drawn_of c.compare_one-2.new.sketch.items) (kind_of c.args.kind) (place_of c.args.at) z c.in-Some-choice_at.other (Ok c.in_ok-other.other)) (behind_tree c.args.builder.now c.compare_one.new.builder (map drawn_of c.args.sketch.now.items) (map drawn_of c.compare_one.new.sketch.items) c.args.first b1 c.requires.first) c.in_ok-other.ensures.does w.b (behind_arm c.args.builder.now c.compare_one.new.builder (map drawn_of c.args.sketch.now.items) (map drawn_of c.compare_one.new.sketch.items) w.b c.in-Some-choice_at.other b1 w.other)) c.in_ok-choose.ensures

@@ -1,0 +1,44 @@
+use Rattle.std.proofs.Common.{map, ◌≡◌, sym, subst, ap, ◌∙◌, arith, ◌<◌, ℕ, length, List, [], ◌∷◌, ◌++◌, true, false, true≢false, Some}
+use Rattle.std.specs.Prelude.{Result, Ok, Err}
+use Rattle.smt_sexp.specs.Views.{place_of}
+use Rattle.poly_graph.specs.Views.{kind_of}
+use Rattle.term_build.specs.Built.{stand_of}
+use Rattle.term_build.specs.Shapes.{drawn_of}
+use Rattle.term_build.specs.Steps.{tree_of}
+use Rattle.term_build.specs.declared.connectives.Pair.{Pair}
+use Rattle.term_build.specs.declared.sketch.Arm.{Arm}
+use Rattle.term_build.specs.declared.stop.Stop.{Stop}
+use Rattle.term_build.proofs.Emits.{err_is}
+use Rattle.value_build.specs.Arms.{arm_of, IsSomeArm, IsSomeValue, AreSomeValues, SaysTwo, arm_bounds, Links, LinksWith, LinksEach}
+use Rattle.value_build.specs.Bounds.{AddsList}
+use Rattle.value_build.specs.Chains.{others_of}
+use Rattle.value_build.specs.Making.{making}
+use Rattle.value_build.specs.Operators.{are_arms}
+use Rattle.value_build.specs.Values.{AreKnown}
+use Rattle.value_build.specs.declared.chains.Spread.{Spread}
+use Rattle.value_build.specs.declared.chains.Spread.TheVariants.{Next, Later}
+use Rattle.value_build.specs.declared.value.Value.{Value}
+use Rattle.value_build.proofs.Folds.{nil_of}
+use Rattle.value_build.proofs.Arming.{arms_head, arms_tail, arms_two, arms_skip, some_arm, first_value, later_values, values_stood, value_stood, link_stop, link_next, link_later, said_below, with_none, with_on, with_stop, link_known, with_known, each_none, each_on, each_stop, others_some, others_arms}
+use Rattle.value_build.specs.Arithmetic.{operator_of_step}
+use Rattle.value_build.specs.Arms.{ArmsMake, Calculates}
+use Rattle.value_build.specs.declared.value.Value.TheVariants as values
+use Rattle.value_build.proofs.Joining.{arms_made, arms_stopped, arms_sketch}
+use Rattle.value_build.proofs.operate.calculate_arms.Goals as goal
+
+pub calculate_values-requires-clause-known : goal.calculate_values-requires-clause-known
+calculate_values-requires-clause-known c = let k = subst (λ (xs : List Value). AreSomeValues c.args.builder.now (map drawn_of c.args.sketch.now.items) xs) c.in-Some.ensures.cases.0 c.requires.values in first_value c.args.builder.now (map drawn_of c.args.sketch.now.items) c.in-Some.first.now c.in-Some.rest.now k
+
+pub calculate_values-requires-clause-rest : goal.calculate_values-requires-clause-rest
+calculate_values-requires-clause-rest c = let k = subst (λ (xs : List Value). AreSomeValues c.args.builder.now (map drawn_of c.args.sketch.now.items) xs) c.in-Some.ensures.cases.0 c.requires.values in later_values c.args.builder.now (map drawn_of c.args.sketch.now.items) c.in-Some.first.now c.in-Some.rest.now k
+
+pub returns-in-Ok-Choice-clause-does : goal.returns-in-Ok-Choice-clause-does
+returns-in-Ok-Choice-clause-does c = subst (λ (vs : List Value). ArmsMake c.args.builder.now (map drawn_of c.args.sketch.now.items) c.calculate_values.new.builder (map drawn_of c.calculate_values.new.sketch.items) (place_of c.args.at) (operator_of_step c.args.step) vs (Ok (values.Choice c.in-Ok-Choice.k))) (sym c.in-Some.ensures.cases.0)
+    (arms_made c.args.builder.now c.calculate_values.new.builder (map drawn_of c.args.sketch.now.items) (map drawn_of c.calculate_values.new.sketch.items) (place_of c.args.at) c.args.step c.in-Some.first.now c.in-Some.rest.now c.in-Ok-Choice.k (subst (λ (a : Arm). Calculates c.args.builder.now (map drawn_of c.args.sketch.now.items) c.calculate_values.new.builder (map drawn_of c.calculate_values.new.sketch.items) (place_of c.args.at) c.args.step c.in-Some.first.now c.in-Some.rest.now (Ok a)) c.in-Ok-Choice.field-0-is c.in-Ok-Choice.ensures.does))
+
+pub returns-in-Ok-Choice-clause-sketched : goal.returns-in-Ok-Choice-clause-sketched
+returns-in-Ok-Choice-clause-sketched c = let k = subst (λ (xs : List Value). AreSomeValues c.args.builder.now (map drawn_of c.args.sketch.now.items) xs) c.in-Some.ensures.cases.0 c.requires.values in arms_sketch c.args.builder.now c.calculate_values.new.builder (map drawn_of c.args.sketch.now.items) (map drawn_of c.calculate_values.new.sketch.items) (place_of c.args.at) c.args.step c.in-Some.first.now c.in-Some.rest.now c.in-Ok-Choice.k (subst (λ (a : Arm). Calculates c.args.builder.now (map drawn_of c.args.sketch.now.items) c.calculate_values.new.builder (map drawn_of c.calculate_values.new.sketch.items) (place_of c.args.at) c.args.step c.in-Some.first.now c.in-Some.rest.now (Ok a)) c.in-Ok-Choice.field-0-is c.in-Ok-Choice.ensures.does) k
+
+pub returns-in-Err-clause-does : goal.returns-in-Err-clause-does
+returns-in-Err-clause-does c = subst (λ (vs : List Value). ArmsMake c.args.builder.now (map drawn_of c.args.sketch.now.items) c.calculate_values.new.builder (map drawn_of c.give_up-in-Err.new.sketch.items) (place_of c.args.at) (operator_of_step c.args.step) vs (Err c.in-Err.stop)) (sym c.in-Some.ensures.cases.0)
+    (arms_stopped c.args.builder.now c.calculate_values.new.builder (map drawn_of c.args.sketch.now.items) (map drawn_of c.calculate_values.new.sketch.items) (map drawn_of c.give_up-in-Err.new.sketch.items) (place_of c.args.at) c.args.step c.in-Some.first.now c.in-Some.rest.now c.in-Err.stop c.in-Err.ensures.does)

@@ -1,0 +1,266 @@
+// Operators at Real values that hold an `ite`, and `ite` at Real arms.
+ghost use Rattle.std.specs.Prelude.{◌≡◌, ℕ, ◌<◌, true, [], ◌∷◌, length, map};
+ghost use Rattle.poly_graph.specs.Views.{kind_of};
+ghost use Rattle.smt_sexp.specs.Views.{place_of};
+ghost use Rattle.term_build.specs.Built.{stand_of};
+ghost use Rattle.term_build.specs.Shapes.{drawn_of};
+ghost use Rattle.term_build.specs.Sketch.{IsSketch};
+ghost use Rattle.term_build.specs.declared.sketch.Arm.TheVariants as arm;
+ghost use Rattle.value_build.specs.Arithmetic.{is_difference};
+ghost use Rattle.value_build.specs.Arms.{AreSomeValues, Calculates, Folds, IsSomeArm, IsSomeValue, Links, LinksEach, LinksWith, Picks, arm_bounds, arm_of, hold_choice, is_quotient};
+ghost use Rattle.value_build.specs.Bounds.{AddsList};
+ghost use Rattle.value_build.specs.Making.{making};
+ghost use Rattle.value_build.specs.Operators.{are_arms};
+ghost use Rattle.value_build.specs.Values.{AreKnown};
+
+use crate::arithmetic::{Step, is_difference};
+use crate::bounds::chain_bounds;
+use crate::chains::{Spread, others_of};
+use crate::lift::{Leaf, MOST_DEPTH, compare_arms, lift_one, lift_two};
+use crate::operate::no_bounds;
+use crate::value::Value;
+use declared_box::BoundTable;
+use poly_graph::Kind;
+use script_fault::Place;
+use std::alloc::{AllocError, Global};
+use term_build::{Arm, Builder, Drawn, Fault, Stop, choose_arms};
+
+// How many values an operator may have of which one holds an `ite`; for more, which take the stack one after the other,
+// the answer is that memory has run out.
+const MOST_VALUES: usize = 10_000;
+
+// A Real value as an arm.
+fn arm_of(value: Value) -> Arm
+    ensures { result ≡ arm_of value }
+{
+    match value {
+        Value::Real(k) => Arm::Tree(k),
+        Value::Choice(k) => Arm::Choice(k),
+        Value::Bool(_, _) => Arm::Tree(0),
+    }
+}
+
+// ---- arithmetic
+
+// What the steps make, from the left, of an arm and these values.
+fn fold_values(
+    builder: &mut Builder,
+    sketch: &mut Vec<Drawn>,
+    at: Place,
+    step: Step,
+    so_far: Arm,
+    rest: &[Value],
+) -> Result<Arm, Stop>
+    requires known { IsSomeArm builder.old (map drawn_of sketch.old.items) so_far }
+    requires rest { AreSomeValues builder.old (map drawn_of sketch.old.items) rest.now }
+    requires arms { are_arms rest.now ≡ true }
+    requires sketched { IsSketch builder.old (map drawn_of sketch.old.items) }
+    ensures does { Folds builder.old (map drawn_of sketch.old.items) builder.new (map drawn_of sketch.new.items) (place_of at) step so_far rest.now result }
+    ensures sorts { builder.new.sorts ≡ builder.old.sorts }
+{
+    let Some((next, later)) = rest.split_first() else {
+        return Ok(so_far);
+    };
+    let made = lift_two(builder, sketch, at, step, so_far, arm_of(*next), MOST_DEPTH)?;
+    fold_values(builder, sketch, at, step, made, later)
+}
+
+// Whether one of them holds an `ite`.
+fn hold_choice(values: &[Value]) -> bool
+    ensures { result ≡ hold_choice values.now }
+{
+    let mut left = values;
+    while let Some((value, later)) = left.split_first() {
+        if let Value::Choice(_) = value {
+            return true;
+        }
+        left = later;
+    }
+    false
+}
+
+// Whether the step is that of quotients.
+fn is_quotient(step: Step) -> bool
+    ensures { result ≡ is_quotient step }
+{
+    matches!(step, Step::Divide)
+}
+
+/// What an arithmetic operator makes of a first value and others.
+pub(crate) fn calculate_values(
+    builder: &mut Builder,
+    sketch: &mut Vec<Drawn>,
+    at: Place,
+    step: Step,
+    first: Value,
+    rest: &[Value],
+) -> Result<Arm, Stop>
+    requires known { IsSomeValue builder.old (map drawn_of sketch.old.items) first }
+    requires rest { AreSomeValues builder.old (map drawn_of sketch.old.items) rest.now }
+    requires arms { are_arms (first ∷ rest.now) ≡ true }
+    requires some { 0 < length builder.old.nodes }
+    requires sketched { IsSketch builder.old (map drawn_of sketch.old.items) }
+    ensures does { Calculates builder.old (map drawn_of sketch.old.items) builder.new (map drawn_of sketch.new.items) (place_of at) step first rest.now result }
+    ensures sorts { builder.new.sorts ≡ builder.old.sorts }
+{
+    if is_difference(step) && rest.is_empty() {
+        return lift_one(
+            builder,
+            sketch,
+            at,
+            Leaf::Opposite,
+            0,
+            arm_of(first),
+            MOST_DEPTH,
+        );
+    }
+    if is_quotient(step) && hold_choice(rest) {
+        return Err(Stop::Fault(at, Fault::DivisorNotConstant));
+    }
+    if rest.len() > MOST_VALUES {
+        return Err(Stop::Memory);
+    }
+    fold_values(builder, sketch, at, step, arm_of(first), rest)
+}
+
+// ---- comparisons
+
+// The bounds of a comparison of two arms, as a list of its own: of trees alone there are any.
+fn pair_bounds(
+    alloc: Global,
+    builder: &Builder,
+    bounds: &mut BoundTable,
+    kind: Kind,
+    first: Arm,
+    second: Arm,
+) -> Result<u32, AllocError>
+    requires first { (k : ℕ) → first ≡ arm.Tree k → k < length builder.now.nodes }
+    requires second { (k : ℕ) → second ≡ arm.Tree k → k < length builder.now.nodes }
+    ensures { AddsList bounds.old bounds.new (arm_bounds (kind_of kind) (stand_of builder.now).trees first second) result }
+{
+    match (first, second) {
+        (Arm::Tree(i), Arm::Tree(j)) => chain_bounds(alloc, builder, bounds, &[i, j], kind),
+        _ => no_bounds(alloc, bounds),
+    }
+}
+
+// What two values that belong together say: that they compare so, or that they differ.
+fn link(
+    alloc: Global,
+    builder: &mut Builder,
+    sketch: &mut Vec<Drawn>,
+    bounds: &mut BoundTable,
+    at: Place,
+    kind: Kind,
+    spread: Spread,
+    first: Value,
+    second: Value,
+) -> Result<Value, Stop>
+    requires first { IsSomeValue builder.old (map drawn_of sketch.old.items) first }
+    requires second { IsSomeValue builder.old (map drawn_of sketch.old.items) second }
+    requires arms { are_arms (first ∷ second ∷ []) ≡ true }
+    requires sketched { IsSketch builder.old (map drawn_of sketch.old.items) }
+    ensures does { Links builder.old (map drawn_of sketch.old.items) bounds.old builder.new (map drawn_of sketch.new.items) bounds.new spread (kind_of kind) (place_of at) first second result }
+    ensures sorts { builder.new.sorts ≡ builder.old.sorts }
+{
+    let one = arm_of(first);
+    let other = arm_of(second);
+    let pair = compare_arms(alloc, builder, sketch, at, kind, one, other, MOST_DEPTH)?;
+    match spread {
+        Spread::Next => {
+            let list = pair_bounds(alloc, builder, bounds, kind, one, other)?;
+            Ok(Value::Bool(pair, list))
+        }
+        Spread::Later => {
+            let list = no_bounds(alloc, bounds)?;
+            Ok(Value::Bool(pair.not(), list))
+        }
+    }
+}
+
+// The same of a first value and each of others, after what was linked.
+fn link_with(
+    alloc: Global,
+    builder: &mut Builder,
+    sketch: &mut Vec<Drawn>,
+    bounds: &mut BoundTable,
+    at: Place,
+    kind: Kind,
+    spread: Spread,
+    first: Value,
+    others: &[Value],
+    links: &mut Vec<Value>,
+) -> Result<(), Stop>
+    requires first { IsSomeValue builder.old (map drawn_of sketch.old.items) first }
+    requires others { AreSomeValues builder.old (map drawn_of sketch.old.items) others.now }
+    requires links { AreKnown (making builder.old (map drawn_of sketch.old.items) bounds.old) links.old.items }
+    requires arms { are_arms (first ∷ others.now) ≡ true }
+    requires sketched { IsSketch builder.old (map drawn_of sketch.old.items) }
+    ensures does { LinksWith builder.old (map drawn_of sketch.old.items) bounds.old builder.new (map drawn_of sketch.new.items) bounds.new spread (kind_of kind) (place_of at) first others.now links.old.items links.new.items result }
+    ensures sorts { builder.new.sorts ≡ builder.old.sorts }
+{
+    let Some((other, later)) = others.split_first() else {
+        return Ok(());
+    };
+    let made = link(
+        alloc, builder, sketch, bounds, at, kind, spread, first, *other,
+    )?;
+    links.push(made)?;
+    link_with(
+        alloc, builder, sketch, bounds, at, kind, spread, first, later, links,
+    )
+}
+
+/// The same of each two values that belong together.
+pub(crate) fn link_each(
+    alloc: Global,
+    builder: &mut Builder,
+    sketch: &mut Vec<Drawn>,
+    bounds: &mut BoundTable,
+    at: Place,
+    kind: Kind,
+    spread: Spread,
+    values: &[Value],
+    links: &mut Vec<Value>,
+) -> Result<(), Stop>
+    requires values { AreSomeValues builder.old (map drawn_of sketch.old.items) values.now }
+    requires links { AreKnown (making builder.old (map drawn_of sketch.old.items) bounds.old) links.old.items }
+    requires arms { are_arms values.now ≡ true }
+    requires sketched { IsSketch builder.old (map drawn_of sketch.old.items) }
+    ensures does { LinksEach builder.old (map drawn_of sketch.old.items) bounds.old builder.new (map drawn_of sketch.new.items) bounds.new spread (kind_of kind) (place_of at) values.now links.old.items links.new.items result }
+    ensures sorts { builder.new.sorts ≡ builder.old.sorts }
+{
+    if values.len() > MOST_VALUES {
+        return Err(Stop::Memory);
+    }
+    let Some((first, later)) = values.split_first() else {
+        return Ok(());
+    };
+    let others = others_of(spread, later);
+    link_with(
+        alloc, builder, sketch, bounds, at, kind, spread, *first, others, links,
+    )?;
+    link_each(
+        alloc, builder, sketch, bounds, at, kind, spread, later, links,
+    )
+}
+
+// ---- `ite` at Real arms
+
+/// The Real `ite` of a condition and two values.
+pub(crate) fn pick(
+    sketch: &mut Vec<Drawn>,
+    condition: Value,
+    first: Value,
+    second: Value,
+) -> Result<Value, Stop>
+    ensures { Picks (map drawn_of sketch.old.items) (map drawn_of sketch.new.items) condition first second result }
+{
+    let Value::Bool(pair, _) = condition else {
+        return Err(Stop::Memory);
+    };
+    match choose_arms(sketch, pair, arm_of(first), arm_of(second)) {
+        Ok(Arm::Choice(k)) => Ok(Value::Choice(k)),
+        _ => Err(Stop::Memory),
+    }
+}
