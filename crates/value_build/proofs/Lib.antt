@@ -11,3 +11,5 @@ pub mod Lifting
 pub mod Plain
 pub mod Arming
 pub mod Joining
+pub mod Taken
+pub mod Loops

@@ -1,5 +1,5 @@
 -- What is done with each arm of a Real value, one after the other.
-use Rattle.std.proofs.Common.{◌≡◌, ℕ, suc, zero, ◌<◌, ◌≤◌, List, [], ◌∷◌, ◌++◌, length, Some, refl, ap, sym, ◌∙◌, subst, arith, length-append}
+use Rattle.std.proofs.Common.{◌≡◌, ℕ, suc, zero, ◌<◌, ◌≤◌, List, [], ◌∷◌, ◌++◌, length, Some, refl, ap, sym, ◌∙◌, subst, arith, length-append, None}
 use Rattle.std.specs.Prelude.{slice_get, Result, Ok, Err}
 use Rattle.std.specs.declared.alloc.AllocError.{AllocError}
 use Rattle.script_model.specs.Sexp.{Place}
@@ -62,6 +62,10 @@ parts m ds _ k p x y h (is_choice {c = c} {d = d} {u = a} {v = b} {p = p'} {x = 
 
 pub tree_parts : (m : Made) (ds : List Drawn) (u : Unfolded) (k : ℕ) → IsArm m ds u (arm.Tree k) → (t : Term) × (u ≡ term t) × IsTree m t k
 tree_parts m ds _ k (is_tree {t = t} h) = (t, refl, h)
+
+-- an arm that is an `ite` stands in the sketch
+pub choice_there : (m : Made) (ds : List Drawn) (u : Unfolded) (k : ℕ) → IsArm m ds u (arm.Choice k) → None ≡ as_choice (slice_get ds k) → ⊥
+choice_there m ds _ k (is_choice e w i j) n = let z = n ∙ ap as_choice e in cc
 
 -- ---- one after the other
 

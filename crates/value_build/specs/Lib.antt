@@ -8,3 +8,4 @@ pub mod Operators
 pub mod Leaves
 pub mod Claiming
 pub mod Arms
+pub mod Loops

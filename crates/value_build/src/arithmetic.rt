@@ -81,7 +81,7 @@ pub(crate) fn calculate(
     ensures sorts { builder.new.sorts ≡ builder.old.sorts }
 {
     let Some((first, rest)) = nodes.split_first() else {
-        return Err(Stop::Memory);
+        unreachable!()
     };
     if is_difference(step) && rest.is_empty() {
         return builder.negate(*first);

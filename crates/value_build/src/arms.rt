@@ -10,7 +10,7 @@ ghost use Rattle.value_build.specs.Arithmetic.{is_difference};
 ghost use Rattle.value_build.specs.Arms.{AreSomeValues, Calculates, Folds, IsSomeArm, IsSomeValue, Links, LinksEach, LinksWith, Picks, arm_bounds, arm_of, hold_choice, is_quotient};
 ghost use Rattle.value_build.specs.Bounds.{AddsList};
 ghost use Rattle.value_build.specs.Making.{making};
-ghost use Rattle.value_build.specs.Operators.{are_arms};
+ghost use Rattle.value_build.specs.Operators.{are_arms, are_bool};
 ghost use Rattle.value_build.specs.Values.{AreKnown};
 
 use crate::arithmetic::{Step, is_difference};
@@ -24,10 +24,6 @@ use poly_graph::Kind;
 use script_fault::Place;
 use std::alloc::{AllocError, Global};
 use term_build::{Arm, Builder, Drawn, Fault, Stop, choose_arms};
-
-// How many values an operator may have of which one holds an `ite`; for more, which take the stack one after the other,
-// the answer is that memory has run out.
-const MOST_VALUES: usize = 10_000;
 
 // A Real value as an arm.
 fn arm_of(value: Value) -> Arm
@@ -48,21 +44,23 @@ fn fold_values(
     sketch: &mut Vec<Drawn>,
     at: Place,
     step: Step,
-    so_far: Arm,
+    first: Arm,
     rest: &[Value],
 ) -> Result<Arm, Stop>
-    requires known { IsSomeArm builder.old (map drawn_of sketch.old.items) so_far }
+    requires known { IsSomeArm builder.old (map drawn_of sketch.old.items) first }
     requires rest { AreSomeValues builder.old (map drawn_of sketch.old.items) rest.now }
     requires arms { are_arms rest.now ≡ true }
     requires sketched { IsSketch builder.old (map drawn_of sketch.old.items) }
-    ensures does { Folds builder.old (map drawn_of sketch.old.items) builder.new (map drawn_of sketch.new.items) (place_of at) step so_far rest.now result }
+    ensures does { Folds builder.old (map drawn_of sketch.old.items) builder.new (map drawn_of sketch.new.items) (place_of at) step first rest.now result }
     ensures sorts { builder.new.sorts ≡ builder.old.sorts }
 {
-    let Some((next, later)) = rest.split_first() else {
-        return Ok(so_far);
-    };
-    let made = lift_two(builder, sketch, at, step, so_far, arm_of(*next), MOST_DEPTH)?;
-    fold_values(builder, sketch, at, step, made, later)
+    let mut so_far = first;
+    let mut left = rest;
+    while let Some((next, later)) = left.split_first() {
+        so_far = lift_two(builder, sketch, at, step, so_far, arm_of(*next), MOST_DEPTH)?;
+        left = later;
+    }
+    Ok(so_far)
 }
 
 // Whether one of them holds an `ite`.
@@ -98,7 +96,6 @@ pub(crate) fn calculate_values(
     requires known { IsSomeValue builder.old (map drawn_of sketch.old.items) first }
     requires rest { AreSomeValues builder.old (map drawn_of sketch.old.items) rest.now }
     requires arms { are_arms (first ∷ rest.now) ≡ true }
-    requires some { 0 < length builder.old.nodes }
     requires sketched { IsSketch builder.old (map drawn_of sketch.old.items) }
     ensures does { Calculates builder.old (map drawn_of sketch.old.items) builder.new (map drawn_of sketch.new.items) (place_of at) step first rest.now result }
     ensures sorts { builder.new.sorts ≡ builder.old.sorts }
@@ -116,9 +113,6 @@ pub(crate) fn calculate_values(
     }
     if is_quotient(step) && hold_choice(rest) {
         return Err(Stop::Fault(at, Fault::DivisorNotConstant));
-    }
-    if rest.len() > MOST_VALUES {
-        return Err(Stop::Memory);
     }
     fold_values(builder, sketch, at, step, arm_of(first), rest)
 }
@@ -199,16 +193,15 @@ fn link_with(
     ensures does { LinksWith builder.old (map drawn_of sketch.old.items) bounds.old builder.new (map drawn_of sketch.new.items) bounds.new spread (kind_of kind) (place_of at) first others.now links.old.items links.new.items result }
     ensures sorts { builder.new.sorts ≡ builder.old.sorts }
 {
-    let Some((other, later)) = others.split_first() else {
-        return Ok(());
-    };
-    let made = link(
-        alloc, builder, sketch, bounds, at, kind, spread, first, *other,
-    )?;
-    links.push(made)?;
-    link_with(
-        alloc, builder, sketch, bounds, at, kind, spread, first, later, links,
-    )
+    let mut left = others;
+    while let Some((other, later)) = left.split_first() {
+        let made = link(
+            alloc, builder, sketch, bounds, at, kind, spread, first, *other,
+        )?;
+        links.push(made)?;
+        left = later;
+    }
+    Ok(())
 }
 
 /// The same of each two values that belong together.
@@ -230,19 +223,15 @@ pub(crate) fn link_each(
     ensures does { LinksEach builder.old (map drawn_of sketch.old.items) bounds.old builder.new (map drawn_of sketch.new.items) bounds.new spread (kind_of kind) (place_of at) values.now links.old.items links.new.items result }
     ensures sorts { builder.new.sorts ≡ builder.old.sorts }
 {
-    if values.len() > MOST_VALUES {
-        return Err(Stop::Memory);
+    let mut left = values;
+    while let Some((first, later)) = left.split_first() {
+        let others = others_of(spread, later);
+        link_with(
+            alloc, builder, sketch, bounds, at, kind, spread, *first, others, links,
+        )?;
+        left = later;
     }
-    let Some((first, later)) = values.split_first() else {
-        return Ok(());
-    };
-    let others = others_of(spread, later);
-    link_with(
-        alloc, builder, sketch, bounds, at, kind, spread, *first, others, links,
-    )?;
-    link_each(
-        alloc, builder, sketch, bounds, at, kind, spread, later, links,
-    )
+    Ok(())
 }
 
 // ---- `ite` at Real arms
@@ -254,13 +243,15 @@ pub(crate) fn pick(
     first: Value,
     second: Value,
 ) -> Result<Value, Stop>
+    requires { are_bool (condition ∷ []) ≡ true }
     ensures { Picks (map drawn_of sketch.old.items) (map drawn_of sketch.new.items) condition first second result }
 {
     let Value::Bool(pair, _) = condition else {
-        return Err(Stop::Memory);
+        unreachable!()
     };
     match choose_arms(sketch, pair, arm_of(first), arm_of(second)) {
         Ok(Arm::Choice(k)) => Ok(Value::Choice(k)),
-        _ => Err(Stop::Memory),
+        Ok(Arm::Tree(_)) => unreachable!(),
+        Err(_) => Err(Stop::Memory),
     }
 }

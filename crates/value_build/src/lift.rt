@@ -85,7 +85,7 @@ pub(crate) fn lift_one(
         Arm::Choice(k) => k,
     };
     let Some((condition, one, other)) = choice_at(sketch, k) else {
-        return Err(Stop::Memory);
+        unreachable!()
     };
     builder.reach()?;
     let one = lift_one(builder, sketch, at, leaf, first, one, left)?;
@@ -127,7 +127,7 @@ pub(crate) fn lift_two(
         Arm::Choice(k) => k,
     };
     let Some((condition, one, other)) = choice_at(sketch, k) else {
-        return Err(Stop::Memory);
+        unreachable!()
     };
     builder.reach()?;
     let one = lift_two(builder, sketch, at, step, one, second, left)?;
@@ -162,7 +162,7 @@ pub(crate) fn compare_one(
         Arm::Choice(k) => k,
     };
     let Some((condition, one, other)) = choice_at(sketch, k) else {
-        return Err(Stop::Memory);
+        unreachable!()
     };
     builder.reach()?;
     let one = compare_one(alloc, builder, sketch, at, kind, first, one, left)?;
@@ -197,7 +197,7 @@ pub(crate) fn compare_arms(
         Arm::Choice(k) => k,
     };
     let Some((condition, one, other)) = choice_at(sketch, k) else {
-        return Err(Stop::Memory);
+        unreachable!()
     };
     builder.reach()?;
     let one = compare_arms(alloc, builder, sketch, at, kind, one, second, left)?;

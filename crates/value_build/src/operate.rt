@@ -266,6 +266,7 @@ fn on_reals(
     nodes: &[u32],
 ) -> Result<Value, Stop>
     requires some { 0 < length nodes.now }
+    requires takes { takes_of (operator_of operator) true false false (length nodes.now) ≡ true }
     requires nodes { AreNodes builder.old nodes.now }
     requires sketched { IsSketch builder.old (map drawn_of sketch.old.items) }
     ensures does { RealsDo (making builder.old (map drawn_of sketch.old.items) bounds.old) (making builder.new (map drawn_of sketch.new.items) bounds.new) (place_of at) (operator_of operator) nodes.now result }
@@ -283,7 +284,7 @@ fn on_reals(
         Operator::Above => compare(alloc, builder, sketch, bounds, at, nodes, Kind::Ge),
         Operator::Equal => compare(alloc, builder, sketch, bounds, at, nodes, Kind::Eq),
         Operator::Distinct => differ(alloc, builder, sketch, bounds, at, nodes),
-        _ => Err(Stop::Memory),
+        _ => unreachable!(),
     }
 }
 
@@ -307,27 +308,29 @@ fn distinct(alloc: Global, sketch: &mut Vec<Drawn>, pairs: &[Pair]) -> Result<Pa
 
 // The negation of the first.
 fn negation(sketch: &mut Vec<Drawn>, pairs: &[Pair]) -> Result<Pair, AllocError>
+    requires { 0 < length pairs.now }
     ensures { Connects not_first (map drawn_of sketch.old.items) (map drawn_of sketch.new.items) pairs.now result }
 {
     let _ = sketch.len();
     let Some((first, _)) = pairs.split_first() else {
-        return Err(AllocError);
+        unreachable!()
     };
     Ok(first.not())
 }
 
 // The second where the first holds, else the third.
 fn choice(alloc: Global, sketch: &mut Vec<Drawn>, pairs: &[Pair]) -> Result<Pair, AllocError>
+    requires { length pairs.now ≡ 3 }
     ensures { Connects choice_form (map drawn_of sketch.old.items) (map drawn_of sketch.new.items) pairs.now result }
 {
     let Some((condition, arms)) = pairs.split_first() else {
-        return Err(AllocError);
+        unreachable!()
     };
     let Some((first, rest)) = arms.split_first() else {
-        return Err(AllocError);
+        unreachable!()
     };
     let Some((second, _)) = rest.split_first() else {
-        return Err(AllocError);
+        unreachable!()
     };
     Pair::choose(alloc, sketch, *condition, *first, *second)
 }
@@ -339,6 +342,7 @@ fn connect(
     operator: Operator,
     pairs: &[Pair],
 ) -> Result<Pair, AllocError>
+    requires { takes_of (operator_of operator) false true false (length pairs.now) ≡ true }
     ensures { Connects (bool_operation (operator_of operator)) (map drawn_of sketch.old.items) (map drawn_of sketch.new.items) pairs.now result }
 {
     match operator {
@@ -352,7 +356,7 @@ fn connect(
         Operator::Equal => equal(alloc, sketch, pairs),
         Operator::Distinct => distinct(alloc, sketch, pairs),
         Operator::Choice => choice(alloc, sketch, pairs),
-        _ => Err(AllocError),
+        _ => unreachable!(),
     }
 }
 
@@ -382,6 +386,7 @@ fn on_bools(
     pairs: &[Pair],
     lists: Vec<u32>,
 ) -> Result<Value, Stop>
+    requires takes { takes_of (operator_of operator) false true false (length pairs.now) ≡ true }
     requires lists { All (λ (k : ℕ). k < length bounds.old) lists.items }
     requires drawn { ArePairs builder.now (map drawn_of sketch.old.items) pairs.now }
     requires sketched { IsSketch builder.now (map drawn_of sketch.old.items) }
@@ -415,17 +420,13 @@ fn join_links(
     spread: Spread,
     links: &[Value],
 ) -> Result<Value, Stop>
+    requires some { 0 < length links.now }
+    requires bools { are_bool links.now ≡ true }
     requires known { AreKnown (making builder.now (map drawn_of sketch.old.items) bounds.old) links.now }
     requires sketched { IsSketch builder.now (map drawn_of sketch.old.items) }
     ensures does { Joins builder.now (map drawn_of sketch.old.items) (map drawn_of sketch.new.items) bounds.old bounds.new spread links.now result }
     ensures sketched { IsSketch builder.now (map drawn_of sketch.new.items) }
 {
-    if links.is_empty() {
-        return Err(Stop::Memory);
-    }
-    if !are_bool(links) {
-        return Err(Stop::Memory);
-    }
     if let Some(value) = only_of(spread, links) {
         return Ok(value);
     }
@@ -445,6 +446,7 @@ fn compare_values(
     spread: Spread,
     values: &[Value],
 ) -> Result<Value, Stop>
+    requires several { 1 < length values.now }
     requires values { AreSomeValues builder.old (map drawn_of sketch.old.items) values.now }
     requires arms { are_arms values.now ≡ true }
     requires sketched { IsSketch builder.old (map drawn_of sketch.old.items) }
@@ -474,23 +476,18 @@ fn calculate_arms(
 ) -> Result<Value, Stop>
     requires values { AreSomeValues builder.old (map drawn_of sketch.old.items) values.now }
     requires arms { are_arms values.now ≡ true }
+    requires held { are_real values.now ≡ false }
     requires sketched { IsSketch builder.old (map drawn_of sketch.old.items) }
     ensures does { ArmsMake builder.old (map drawn_of sketch.old.items) builder.new (map drawn_of sketch.new.items) (place_of at) (operator_of_step step) values.now result }
     ensures sketched { IsSketch builder.new (map drawn_of sketch.new.items) }
     ensures sorts { builder.new.sorts ≡ builder.old.sorts }
 {
     let Some((first, rest)) = values.split_first() else {
-        return Err(Stop::Memory);
+        unreachable!()
     };
-    if builder.len() == 0 {
-        return Err(Stop::Memory);
-    }
     match calculate_values(builder, sketch, at, step, *first, rest) {
         Ok(Arm::Choice(k)) => Ok(Value::Choice(k)),
-        Ok(Arm::Tree(_)) => {
-            give_up(sketch);
-            Err(Stop::Memory)
-        }
+        Ok(Arm::Tree(_)) => unreachable!(),
         Err(stop) => {
             give_up(sketch);
             Err(stop)
@@ -500,11 +497,11 @@ fn calculate_arms(
 
 // `ite` at Real arms.
 fn pick_arm(sketch: &mut Vec<Drawn>, values: &[Value]) -> Result<Value, Stop>
+    requires { are_picked values.now ≡ true }
     ensures { PicksOf (map drawn_of sketch.old.items) (map drawn_of sketch.new.items) values.now result }
 {
     let [condition, first, second] = values else {
-        give_up(sketch);
-        return Err(Stop::Memory);
+        unreachable!()
     };
     match pick(sketch, *condition, *first, *second) {
         Ok(value) => Ok(value),
@@ -515,8 +512,8 @@ fn pick_arm(sketch: &mut Vec<Drawn>, values: &[Value]) -> Result<Value, Stop>
     }
 }
 
-// An operator at Real arguments that hold an `ite`, or `ite` at Real arms.
-fn on_arms(
+// An operator at Real arguments that hold an `ite`.
+fn over_arms(
     alloc: Global,
     builder: &mut Builder,
     sketch: &mut Vec<Drawn>,
@@ -527,18 +524,13 @@ fn on_arms(
 ) -> Result<Value, Stop>
     requires known { AreKnown (making builder.old (map drawn_of sketch.old.items) bounds.old) values.now }
     requires sketched { IsSketch builder.old (map drawn_of sketch.old.items) }
+    requires arms { are_arms values.now ≡ true }
     requires held { are_real values.now ≡ false }
-    requires apart { are_bool values.now ≡ false }
+    requires takes { takes_of (operator_of operator) true false false (length values.now) ≡ true }
     ensures does { ArmsDo builder.old builder.new (map drawn_of sketch.old.items) (map drawn_of sketch.new.items) bounds.old bounds.new (place_of at) (operator_of operator) values.now result }
     ensures sketched { IsSketch builder.new (map drawn_of sketch.new.items) }
     ensures sorts { builder.new.sorts ≡ builder.old.sorts }
 {
-    if let Operator::Choice = operator {
-        return pick_arm(sketch, values);
-    }
-    if !are_arms(values) {
-        return Err(Stop::Memory);
-    }
     match operator {
         Operator::Minus => calculate_arms(builder, sketch, at, Step::Subtract, values),
         Operator::Plus => calculate_arms(builder, sketch, at, Step::Add, values),
@@ -616,8 +608,33 @@ fn on_arms(
                 values,
             )
         }
-        _ => Err(Stop::Memory),
+        _ => unreachable!(),
     }
+}
+
+// An operator at Real arguments that hold an `ite`, or `ite` at Real arms.
+fn on_arms(
+    alloc: Global,
+    builder: &mut Builder,
+    sketch: &mut Vec<Drawn>,
+    bounds: &mut BoundTable,
+    at: Place,
+    operator: Operator,
+    values: &[Value],
+) -> Result<Value, Stop>
+    requires known { AreKnown (making builder.old (map drawn_of sketch.old.items) bounds.old) values.now }
+    requires sketched { IsSketch builder.old (map drawn_of sketch.old.items) }
+    requires held { are_real values.now ≡ false }
+    requires apart { are_bool values.now ≡ false }
+    requires takes { takes_of (operator_of operator) (are_arms values.now) false (are_picked values.now) (length values.now) ≡ true }
+    ensures does { ArmsDo builder.old builder.new (map drawn_of sketch.old.items) (map drawn_of sketch.new.items) bounds.old bounds.new (place_of at) (operator_of operator) values.now result }
+    ensures sketched { IsSketch builder.new (map drawn_of sketch.new.items) }
+    ensures sorts { builder.new.sorts ≡ builder.old.sorts }
+{
+    if let Operator::Choice = operator {
+        return pick_arm(sketch, values);
+    }
+    over_arms(alloc, builder, sketch, bounds, at, operator, values)
 }
 
 /// An operator at values.

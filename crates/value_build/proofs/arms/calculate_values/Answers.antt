@@ -15,8 +15,14 @@ use Rattle.value_build.specs.declared.value.Value.{Value}
 use Rattle.value_build.proofs.Folds.{nil_of, not_empty}
 use Rattle.value_build.specs.declared.lift.Leaf.TheVariants as leaf
 use Rattle.value_build.proofs.Arming.{arms_head, some_arm, opposite_calculates, quotient_stops, folds_calculate}
+use Rattle.value_build.proofs.Taken.{arm_stands}
 use Rattle.value_build.proofs.arms.calculate_values.Goals as goal
 use Rattle.value_build.proofs.arms.calculate_values.Goals.{else-is_difference-via-then-is_difference+else-is_empty, else-is_difference-via-else-is_difference, else-is_quotient-via-then-is_quotient+else-hold_choice, else-is_quotient-via-else-is_quotient}
+
+pub lift_one-requires-clause-first : goal.lift_one-requires-clause-first
+lift_one-requires-clause-first c =
+    let k = some_arm c.args.builder.now (map drawn_of c.args.sketch.now.items) c.args.first (arms_head c.args.first c.args.rest.now c.requires.arms) c.requires.known in
+    arm_stands c.args.builder.now (map drawn_of c.args.sketch.now.items) k.0 (arm_of c.args.first) k.1
 
 pub lift_one-requires-clause-known : goal.lift_one-requires-clause-known
 lift_one-requires-clause-known c = subst (λ (a : Arm). IsSomeArm c.args.builder.now (map drawn_of c.args.sketch.now.items) a) (sym c.arm_of.ensures) (some_arm c.args.builder.now (map drawn_of c.args.sketch.now.items) c.args.first (arms_head c.args.first c.args.rest.now c.requires.arms) c.requires.known)

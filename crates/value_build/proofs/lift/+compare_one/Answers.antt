@@ -19,8 +19,12 @@ use Rattle.term_build.proofs.Emits.{err_is, tree_below}
 use Rattle.value_build.specs.Arithmetic.{tree_of_step, events_of_step}
 use Rattle.value_build.specs.Arms.{Lifts, LiftsOne, Says, SaysOne, events_of_leaf, tree_of_leaf, terms_of}
 use Rattle.value_build.specs.Values.{IsArm}
-use Rattle.value_build.proofs.Lifting.{parts, tree_parts, leaf_done, said_done, two_of_tree, said_of_tree, compared_is, lift_stopped, lift_first, lift_second, lift_done, say_stopped, say_first, say_second, say_done, behind_reach, behind_lift, behind_say, behind_arm, behind_tree, behind_below}
+use Rattle.value_build.proofs.Lifting.{choice_there, parts, tree_parts, leaf_done, said_done, two_of_tree, said_of_tree, compared_is, lift_stopped, lift_first, lift_second, lift_done, say_stopped, say_first, say_second, say_done, behind_reach, behind_lift, behind_say, behind_arm, behind_tree, behind_below}
 use Rattle.value_build.proofs.lift.+compare_one.Goals as goal
+
+pub unreachable-requires : goal.unreachable-requires
+unreachable-requires t c = choice_there c.args.builder.now (map drawn_of c.args.sketch.now.items) c.requires.known.0 c.in-Choice.k (subst (λ (z : Arm). IsArm c.args.builder.now (map drawn_of c.args.sketch.now.items) c.requires.known.0 z) c.in-Choice.is c.requires.known.1)
+    (c.in_default-choice_at.ensures ∙ ap (λ l. as_choice (slice_get (map drawn_of l) c.in-Choice.k)) c.deref.ensures.value)
 
 pub returns-in-Tree-clause-does : goal.returns-in-Tree-clause-does
 returns-in-Tree-clause-does t c = λ u h. said_done c.args.builder.now (map drawn_of c.args.sketch.now.items) (map drawn_of c.compare_two.new.sketch.items) (kind_of c.args.kind) (place_of c.args.at) u c.args.first c.in-Tree.second c.in_ok-compare_two-in-Tree.field-0 c.requires.sketched c.requires.first (subst (λ (z : Arm). IsArm c.args.builder.now (map drawn_of c.args.sketch.now.items) (u) z) c.in-Tree.is (h)) c.in_ok-compare_two-in-Tree.ensures

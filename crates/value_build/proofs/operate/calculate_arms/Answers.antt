@@ -23,8 +23,20 @@ use Rattle.value_build.proofs.Arming.{arms_head, arms_tail, arms_two, arms_skip,
 use Rattle.value_build.specs.Arithmetic.{operator_of_step}
 use Rattle.value_build.specs.Arms.{ArmsMake, Calculates}
 use Rattle.value_build.specs.declared.value.Value.TheVariants as values
-use Rattle.value_build.proofs.Joining.{arms_made, arms_stopped, arms_sketch}
+use Rattle.value_build.specs.Arms.{hold_choice}
+use Rattle.value_build.proofs.Joining.{arms_made, arms_stopped, arms_sketch, holds}
+use Rattle.value_build.proofs.Taken.{some_held, calculates_no_tree}
 use Rattle.value_build.proofs.operate.calculate_arms.Goals as goal
+
+pub unreachable-requires : goal.unreachable-requires
+unreachable-requires c = some_held c.args.values.now c.requires.held (nil_of c.args.values.now c.in_default.ensures.cases)
+
+pub unreachable-requires-in-Ok-Tree : goal.unreachable-requires-in-Ok-Tree
+unreachable-requires-in-Ok-Tree c =
+    let k = subst (λ (xs : List Value). AreSomeValues c.args.builder.now (map drawn_of c.args.sketch.now.items) xs) c.in-Some.ensures.cases.0 c.requires.values in
+    let h = subst (λ (xs : List Value). hold_choice xs ≡ true) c.in-Some.ensures.cases.0 (holds c.args.values.now c.requires.held c.requires.arms) in
+    calculates_no_tree c.args.builder.now c.calculate_values.new.builder (map drawn_of c.args.sketch.now.items) (map drawn_of c.calculate_values.new.sketch.items) (place_of c.args.at) c.args.step c.in-Some.first.now c.in-Some.rest.now _
+    (subst (λ (a : Arm). Calculates c.args.builder.now (map drawn_of c.args.sketch.now.items) c.calculate_values.new.builder (map drawn_of c.calculate_values.new.sketch.items) (place_of c.args.at) c.args.step c.in-Some.first.now c.in-Some.rest.now (Ok a)) c.in-Ok-Tree.field-0-is c.in-Ok-Tree.ensures.does) k h
 
 pub calculate_values-requires-clause-known : goal.calculate_values-requires-clause-known
 calculate_values-requires-clause-known c = let k = subst (λ (xs : List Value). AreSomeValues c.args.builder.now (map drawn_of c.args.sketch.now.items) xs) c.in-Some.ensures.cases.0 c.requires.values in first_value c.args.builder.now (map drawn_of c.args.sketch.now.items) c.in-Some.first.now c.in-Some.rest.now k
@@ -40,5 +52,5 @@ pub returns-in-Ok-Choice-clause-sketched : goal.returns-in-Ok-Choice-clause-sket
 returns-in-Ok-Choice-clause-sketched c = let k = subst (λ (xs : List Value). AreSomeValues c.args.builder.now (map drawn_of c.args.sketch.now.items) xs) c.in-Some.ensures.cases.0 c.requires.values in arms_sketch c.args.builder.now c.calculate_values.new.builder (map drawn_of c.args.sketch.now.items) (map drawn_of c.calculate_values.new.sketch.items) (place_of c.args.at) c.args.step c.in-Some.first.now c.in-Some.rest.now c.in-Ok-Choice.k (subst (λ (a : Arm). Calculates c.args.builder.now (map drawn_of c.args.sketch.now.items) c.calculate_values.new.builder (map drawn_of c.calculate_values.new.sketch.items) (place_of c.args.at) c.args.step c.in-Some.first.now c.in-Some.rest.now (Ok a)) c.in-Ok-Choice.field-0-is c.in-Ok-Choice.ensures.does) k
 
 pub returns-in-Err-clause-does : goal.returns-in-Err-clause-does
-returns-in-Err-clause-does c = subst (λ (vs : List Value). ArmsMake c.args.builder.now (map drawn_of c.args.sketch.now.items) c.calculate_values.new.builder (map drawn_of c.give_up-in-Err.new.sketch.items) (place_of c.args.at) (operator_of_step c.args.step) vs (Err c.in-Err.stop)) (sym c.in-Some.ensures.cases.0)
-    (arms_stopped c.args.builder.now c.calculate_values.new.builder (map drawn_of c.args.sketch.now.items) (map drawn_of c.calculate_values.new.sketch.items) (map drawn_of c.give_up-in-Err.new.sketch.items) (place_of c.args.at) c.args.step c.in-Some.first.now c.in-Some.rest.now c.in-Err.stop c.in-Err.ensures.does)
+returns-in-Err-clause-does c = subst (λ (vs : List Value). ArmsMake c.args.builder.now (map drawn_of c.args.sketch.now.items) c.calculate_values.new.builder (map drawn_of c.give_up.new.sketch.items) (place_of c.args.at) (operator_of_step c.args.step) vs (Err c.in-Err.stop)) (sym c.in-Some.ensures.cases.0)
+    (arms_stopped c.args.builder.now c.calculate_values.new.builder (map drawn_of c.args.sketch.now.items) (map drawn_of c.calculate_values.new.sketch.items) (map drawn_of c.give_up.new.sketch.items) (place_of c.args.at) c.args.step c.in-Some.first.now c.in-Some.rest.now c.in-Err.stop c.in-Err.ensures.does)

@@ -13,7 +13,7 @@ use Rattle.value_build.specs.Arms.{arm_of, IsSomeArm, IsSomeValue, AreSomeValues
 use Rattle.value_build.specs.Bounds.{AddsList}
 use Rattle.value_build.specs.Chains.{others_of}
 use Rattle.value_build.specs.Making.{making}
-use Rattle.value_build.specs.Operators.{are_arms}
+use Rattle.value_build.specs.Operators.{are_arms, are_bool}
 use Rattle.value_build.specs.Values.{AreKnown}
 use Rattle.value_build.specs.declared.chains.Spread.{Spread}
 use Rattle.value_build.specs.declared.chains.Spread.TheVariants.{Next, Later}
@@ -23,10 +23,17 @@ use Rattle.value_build.proofs.Arming.{arms_head, arms_tail, arms_two, arms_skip,
 use Rattle.value_build.specs.Arms.{Joins}
 use Rattle.value_build.proofs.Joining.{says_all, says_stop}
 use Rattle.value_build.proofs.Arming.{each_known}
+use Rattle.value_build.proofs.Taken.{links_made}
 use Rattle.value_build.proofs.operate.compare_values.Goals as goal
 
 pub link_each-requires-clause-links : goal.link_each-requires-clause-links
 link_each-requires-clause-links c = subst (λ (ls : List Value). AreKnown (making c.args.builder.now (map drawn_of c.args.sketch.now.items) c.args.bounds.now) ls) (sym c.new-links.ensures.items) ([], [], tt)
+
+pub join_links-requires-clause-some : goal.join_links-requires-clause-some
+join_links-requires-clause-some c = subst (λ (ls : List Value). 0 < length ls) (sym c.as_slice.ensures.value) (links_made c.args.builder.now c.link_each.new.builder (map drawn_of c.args.sketch.now.items) (map drawn_of c.link_each.new.sketch.items) c.args.bounds.now c.link_each.new.bounds c.args.spread (kind_of c.args.kind) (place_of c.args.at) c.args.values.now c.link_each.new.links.items (subst (λ (ls : List Value). LinksEach {X = Unit {0}} c.args.builder.now (map drawn_of c.args.sketch.now.items) c.args.bounds.now c.link_each.new.builder (map drawn_of c.link_each.new.sketch.items) c.link_each.new.bounds c.args.spread (kind_of c.args.kind) (place_of c.args.at) c.args.values.now ls c.link_each.new.links.items (Ok tt)) c.new-links.ensures.items c.in-Ok.ensures.does) c.requires.arms c.requires.values c.requires.several).1
+
+pub join_links-requires-clause-bools : goal.join_links-requires-clause-bools
+join_links-requires-clause-bools c = subst (λ (ls : List Value). are_bool ls ≡ true) (sym c.as_slice.ensures.value) (links_made c.args.builder.now c.link_each.new.builder (map drawn_of c.args.sketch.now.items) (map drawn_of c.link_each.new.sketch.items) c.args.bounds.now c.link_each.new.bounds c.args.spread (kind_of c.args.kind) (place_of c.args.at) c.args.values.now c.link_each.new.links.items (subst (λ (ls : List Value). LinksEach {X = Unit {0}} c.args.builder.now (map drawn_of c.args.sketch.now.items) c.args.bounds.now c.link_each.new.builder (map drawn_of c.link_each.new.sketch.items) c.link_each.new.bounds c.args.spread (kind_of c.args.kind) (place_of c.args.at) c.args.values.now ls c.link_each.new.links.items (Ok tt)) c.new-links.ensures.items c.in-Ok.ensures.does) c.requires.arms c.requires.values c.requires.several).0
 
 pub join_links-requires-clause-known : goal.join_links-requires-clause-known
 join_links-requires-clause-known c = subst (λ (ls : List Value). AreKnown (making c.link_each.new.builder (map drawn_of c.link_each.new.sketch.items) c.link_each.new.bounds) ls) (sym c.as_slice.ensures.value)

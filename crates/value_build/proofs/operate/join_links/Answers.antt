@@ -1,4 +1,4 @@
-use Rattle.std.proofs.Common.{map, ◌≡◌, sym, subst, ap, ◌∙◌, arith, ◌<◌, ℕ, length, List, [], ◌∷◌, ◌++◌, true, false, true≢false, Some}
+use Rattle.std.proofs.Common.{map, ◌≡◌, sym, subst, ap, ◌∙◌, arith, ◌<◌, ℕ, length, List, [], ◌∷◌, ◌++◌, true, false, true≢false, Some, nat_le}
 use Rattle.std.specs.Prelude.{Result, Ok, Err}
 use Rattle.smt_sexp.specs.Views.{place_of}
 use Rattle.poly_graph.specs.Views.{kind_of}
@@ -25,23 +25,27 @@ use Rattle.term_build.specs.Pairs.{DrawsEach}
 use Rattle.value_build.specs.Arms.{only_of}
 use Rattle.value_build.proofs.Operating.{bools_seen, lists_below}
 use Rattle.value_build.proofs.Joining.{joins_one, joins_all}
+use Rattle.value_build.proofs.Taken.{some_pairs}
 use Rattle.value_build.proofs.operate.join_links.Goals as goal
+
+pub on_bools-requires-clause-takes : goal.on_bools-requires-clause-takes
+on_bools-requires-clause-takes c = subst (λ (ps : List Pair). nat_le 1 (length ps) ≡ true) (sym (c.deref.ensures.value ∙ c.in_ok-pairs.ensures)) (some_pairs c.args.links.now c.requires.some)
 
 pub on_bools-requires-clause-lists : goal.on_bools-requires-clause-lists
 on_bools-requires-clause-lists c = subst (λ (ns : List ℕ). All (λ (k : ℕ). k < length c.args.bounds.now) ns) (sym c.in_ok-lists.ensures)
-    (lists_below c.args.bounds.now _ c.requires.known.1 (bools_seen c.args.builder.now (map drawn_of c.args.sketch.now.items) c.args.bounds.now c.requires.known.0 c.requires.known.1 c.args.links.now c.requires.known.2 (sym c.are_bool.ensures ∙ c.if-not-are_bool.false)).1)
+    (lists_below c.args.bounds.now _ c.requires.known.1 (bools_seen c.args.builder.now (map drawn_of c.args.sketch.now.items) c.args.bounds.now c.requires.known.0 c.requires.known.1 c.args.links.now c.requires.known.2 c.requires.bools).1)
 
 pub on_bools-requires-clause-drawn : goal.on_bools-requires-clause-drawn
 on_bools-requires-clause-drawn c = (
   c.requires.known.0,
   subst (λ (ps : List Pair). DrawsEach (stand_of c.args.builder.now).trees (map drawn_of c.args.sketch.now.items) c.requires.known.0 ps) (sym (c.deref.ensures.value ∙ c.in_ok-pairs.ensures))
-      (bools_seen c.args.builder.now (map drawn_of c.args.sketch.now.items) c.args.bounds.now c.requires.known.0 c.requires.known.1 c.args.links.now c.requires.known.2 (sym c.are_bool.ensures ∙ c.if-not-are_bool.false)).0,
+      (bools_seen c.args.builder.now (map drawn_of c.args.sketch.now.items) c.args.bounds.now c.requires.known.0 c.requires.known.1 c.args.links.now c.requires.known.2 c.requires.bools).0,
 )
 
 pub returns-in-Some-clause-does : goal.returns-in-Some-clause-does
-returns-in-Some-clause-does c = joins_one c.args.builder.now (map drawn_of c.args.sketch.now.items) c.args.bounds.now c.args.spread c.args.links.now c.in-Some.value c.in-Some.ensures (sym c.are_bool.ensures ∙ c.if-not-are_bool.false)
+returns-in-Some-clause-does c = joins_one c.args.builder.now (map drawn_of c.args.sketch.now.items) c.args.bounds.now c.args.spread c.args.links.now c.in-Some.value c.in-Some.ensures c.requires.bools
 
 pub returns-clause-does : goal.returns-clause-does
 returns-clause-does c = joins_all c.args.builder.now (map drawn_of c.args.sketch.now.items) (map drawn_of c.on_bools.new.sketch.items) c.args.bounds.now c.on_bools.new.bounds c.args.spread c.args.links.now c.deref.result.now c.in_ok-lists.lists.items c.on_bools.result
-    (c.deref.ensures.value ∙ c.in_ok-pairs.ensures) c.in_ok-lists.ensures c.in_default.ensures (sym c.are_bool.ensures ∙ c.if-not-are_bool.false)
-    (λ n. not_empty c.args.links.now c.if-is_empty.ensures (nil_of c.args.links.now n)) c.on_bools.ensures.does
+    (c.deref.ensures.value ∙ c.in_ok-pairs.ensures) c.in_ok-lists.ensures c.in_default.ensures c.requires.bools
+    (λ n. omega (arith, n, c.requires.some)) c.on_bools.ensures.does

@@ -20,43 +20,27 @@ use Rattle.value_build.specs.declared.chains.Spread.TheVariants.{Next, Later}
 use Rattle.value_build.specs.declared.value.Value.{Value}
 use Rattle.value_build.proofs.Folds.{nil_of}
 use Rattle.value_build.proofs.Arming.{arms_head, arms_tail, arms_two, arms_skip, some_arm, first_value, later_values, values_stood, value_stood, link_stop, link_next, link_later, said_below, with_none, with_on, with_stop, link_known, with_known, each_none, each_on, each_stop, others_some, others_arms}
-use Rattle.poly_graph.specs.Term.{le, ge, eq}
-use Rattle.value_build.specs.declared.arithmetic.Step.TheVariants.{Add, Subtract, Multiply, Divide}
-use Rattle.value_build.proofs.Joining.{arithmetic_arms, equal_arms, differ_arms, chain_says, picked_arms, picks_sketch}
+use Rattle.value_build.proofs.Joining.{picked_arms, picks_sketch}
+use Rattle.sort_check.specs.Views.{operator_of}
+use Rattle.value_build.specs.Operators.{are_picked, takes_of}
+use Rattle.value_build.proofs.Taken.{not_choice, some_apart, taken_reals}
 use Rattle.value_build.proofs.operate.on_arms.Goals as goal
+
+pub pick_arm-requires : goal.pick_arm-requires
+pick_arm-requires c = subst (λ (o : _). takes_of (operator_of o) (are_arms c.args.values.now) false (are_picked c.args.values.now) (length c.args.values.now) ≡ true) c.in-Choice.is c.requires.takes
+
+pub over_arms-requires-clause-arms : goal.over_arms-requires-clause-arms
+over_arms-requires-clause-arms c =
+    let vs = c.args.values.now in
+    (taken_reals (operator_of c.args.operator) (are_arms vs) (are_picked vs) (length vs) (some_apart vs c.requires.apart) (λ e. absurd (not_choice c.args.operator c.in_default.not-Choice e)) c.requires.takes).0
+
+pub over_arms-requires-clause-takes : goal.over_arms-requires-clause-takes
+over_arms-requires-clause-takes c =
+    let vs = c.args.values.now in
+    (taken_reals (operator_of c.args.operator) (are_arms vs) (are_picked vs) (length vs) (some_apart vs c.requires.apart) (λ e. absurd (not_choice c.args.operator c.in_default.not-Choice e)) c.requires.takes).1
 
 pub returns-in-Choice-clause-does : goal.returns-in-Choice-clause-does
 returns-in-Choice-clause-does c = rw c.in-Choice.is (picked_arms c.args.builder.now (map drawn_of c.args.sketch.now.items) (map drawn_of c.pick_arm.new.sketch.items) c.args.bounds.now (place_of c.args.at) c.args.values.now c.pick_arm.result c.requires.apart c.pick_arm.ensures)
 
 pub returns-in-Choice-clause-sketched : goal.returns-in-Choice-clause-sketched
 returns-in-Choice-clause-sketched c = picks_sketch c.args.builder.now (map drawn_of c.args.sketch.now.items) (map drawn_of c.pick_arm.new.sketch.items) c.args.values.now c.pick_arm.result c.requires.sketched c.pick_arm.ensures
-
-pub returns-in-Minus : goal.returns-in-Minus
-returns-in-Minus c = record { does = rw c.in-Minus.is (arithmetic_arms c.args.builder.now c.calculate_arms.new.builder (map drawn_of c.args.sketch.now.items) (map drawn_of c.calculate_arms.new.sketch.items) c.args.bounds.now (place_of c.args.at) Subtract c.args.values.now c.calculate_arms.result (sym c.are_arms.ensures ∙ c.if-not-are_arms.false) c.requires.held c.calculate_arms.ensures.does); sketched = c.calculate_arms.ensures.sketched; sorts = c.calculate_arms.ensures.sorts }
-
-pub returns-in-Plus : goal.returns-in-Plus
-returns-in-Plus c = record { does = rw c.in-Plus.is (arithmetic_arms c.args.builder.now c.calculate_arms-in-Plus.new.builder (map drawn_of c.args.sketch.now.items) (map drawn_of c.calculate_arms-in-Plus.new.sketch.items) c.args.bounds.now (place_of c.args.at) Add c.args.values.now c.calculate_arms-in-Plus.result (sym c.are_arms.ensures ∙ c.if-not-are_arms.false) c.requires.held c.calculate_arms-in-Plus.ensures.does); sketched = c.calculate_arms-in-Plus.ensures.sketched; sorts = c.calculate_arms-in-Plus.ensures.sorts }
-
-pub returns-in-Times : goal.returns-in-Times
-returns-in-Times c = record { does = rw c.in-Times.is (arithmetic_arms c.args.builder.now c.calculate_arms-in-Times.new.builder (map drawn_of c.args.sketch.now.items) (map drawn_of c.calculate_arms-in-Times.new.sketch.items) c.args.bounds.now (place_of c.args.at) Multiply c.args.values.now c.calculate_arms-in-Times.result (sym c.are_arms.ensures ∙ c.if-not-are_arms.false) c.requires.held c.calculate_arms-in-Times.ensures.does); sketched = c.calculate_arms-in-Times.ensures.sketched; sorts = c.calculate_arms-in-Times.ensures.sorts }
-
-pub returns-in-Divide : goal.returns-in-Divide
-returns-in-Divide c = record { does = rw c.in-Divide.is (arithmetic_arms c.args.builder.now c.calculate_arms-in-Divide.new.builder (map drawn_of c.args.sketch.now.items) (map drawn_of c.calculate_arms-in-Divide.new.sketch.items) c.args.bounds.now (place_of c.args.at) Divide c.args.values.now c.calculate_arms-in-Divide.result (sym c.are_arms.ensures ∙ c.if-not-are_arms.false) c.requires.held c.calculate_arms-in-Divide.ensures.does); sketched = c.calculate_arms-in-Divide.ensures.sketched; sorts = c.calculate_arms-in-Divide.ensures.sorts }
-
-pub returns-in-AtMost : goal.returns-in-AtMost
-returns-in-AtMost c = record { does = rw c.in-AtMost.is (λ us bs h t. chain_says c.args.builder.now c.compare_values.new.builder (map drawn_of c.args.sketch.now.items) (map drawn_of c.compare_values.new.sketch.items) c.args.bounds.now c.compare_values.new.bounds le (place_of c.args.at) c.args.values.now c.compare_values.result c.compare_values.ensures.does us bs h); sketched = c.compare_values.ensures.sketched; sorts = c.compare_values.ensures.sorts }
-
-pub returns-in-Below : goal.returns-in-Below
-returns-in-Below c = record { does = rw c.in-Below.is (λ us bs h t. chain_says c.args.builder.now c.compare_values-in-Below.new.builder (map drawn_of c.args.sketch.now.items) (map drawn_of c.compare_values-in-Below.new.sketch.items) c.args.bounds.now c.compare_values-in-Below.new.bounds le (place_of c.args.at) c.args.values.now c.compare_values-in-Below.result c.compare_values-in-Below.ensures.does us bs h); sketched = c.compare_values-in-Below.ensures.sketched; sorts = c.compare_values-in-Below.ensures.sorts }
-
-pub returns-in-AtLeast : goal.returns-in-AtLeast
-returns-in-AtLeast c = record { does = rw c.in-AtLeast.is (λ us bs h t. chain_says c.args.builder.now c.compare_values-in-AtLeast.new.builder (map drawn_of c.args.sketch.now.items) (map drawn_of c.compare_values-in-AtLeast.new.sketch.items) c.args.bounds.now c.compare_values-in-AtLeast.new.bounds ge (place_of c.args.at) c.args.values.now c.compare_values-in-AtLeast.result c.compare_values-in-AtLeast.ensures.does us bs h); sketched = c.compare_values-in-AtLeast.ensures.sketched; sorts = c.compare_values-in-AtLeast.ensures.sorts }
-
-pub returns-in-Above : goal.returns-in-Above
-returns-in-Above c = record { does = rw c.in-Above.is (λ us bs h t. chain_says c.args.builder.now c.compare_values-in-Above.new.builder (map drawn_of c.args.sketch.now.items) (map drawn_of c.compare_values-in-Above.new.sketch.items) c.args.bounds.now c.compare_values-in-Above.new.bounds ge (place_of c.args.at) c.args.values.now c.compare_values-in-Above.result c.compare_values-in-Above.ensures.does us bs h); sketched = c.compare_values-in-Above.ensures.sketched; sorts = c.compare_values-in-Above.ensures.sorts }
-
-pub returns-in-Equal : goal.returns-in-Equal
-returns-in-Equal c = record { does = rw c.in-Equal.is (equal_arms c.args.builder.now c.compare_values-in-Equal.new.builder (map drawn_of c.args.sketch.now.items) (map drawn_of c.compare_values-in-Equal.new.sketch.items) c.args.bounds.now c.compare_values-in-Equal.new.bounds (place_of c.args.at) c.args.values.now c.compare_values-in-Equal.result (sym c.are_arms.ensures ∙ c.if-not-are_arms.false) c.compare_values-in-Equal.ensures.does); sketched = c.compare_values-in-Equal.ensures.sketched; sorts = c.compare_values-in-Equal.ensures.sorts }
-
-pub returns-in-Distinct : goal.returns-in-Distinct
-returns-in-Distinct c = record { does = rw c.in-Distinct.is (differ_arms c.args.builder.now c.compare_values-in-Distinct.new.builder (map drawn_of c.args.sketch.now.items) (map drawn_of c.compare_values-in-Distinct.new.sketch.items) c.args.bounds.now c.compare_values-in-Distinct.new.bounds (place_of c.args.at) c.args.values.now c.compare_values-in-Distinct.result (sym c.are_arms.ensures ∙ c.if-not-are_arms.false) c.requires.held c.compare_values-in-Distinct.ensures.does); sketched = c.compare_values-in-Distinct.ensures.sketched; sorts = c.compare_values-in-Distinct.ensures.sorts }

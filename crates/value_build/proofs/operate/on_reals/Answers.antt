@@ -1,4 +1,4 @@
-use Rattle.std.proofs.Common.{map}
+use Rattle.std.proofs.Common.{map, length}
 use Rattle.smt_sexp.specs.Views.{place_of}
 use Rattle.term_build.specs.Built.{stand_of}
 use Rattle.term_build.specs.Shapes.{drawn_of}
@@ -10,7 +10,11 @@ use Rattle.term_build.specs.Pairs.{trees_at}
 use Rattle.value_build.specs.Values.{IsValue}
 use Rattle.value_build.proofs.Operating.{equal_done, differ_done, chain_quiet, pairs_quiet}
 use Rattle.value_build.specs.Making.{making}
+use Rattle.value_build.proofs.Taken.{none_real}
 use Rattle.value_build.proofs.operate.on_reals.Goals as goal
+
+pub unreachable-requires : goal.unreachable-requires
+unreachable-requires c = let d = c.in_default in none_real c.args.operator (length c.args.nodes.now) c.requires.some c.requires.takes d.not-Minus d.not-Plus d.not-Times d.not-Divide d.not-AtMost d.not-Below d.not-AtLeast d.not-Above d.not-Equal d.not-Distinct
 
 pub returns-in-Minus-clause-does : goal.returns-in-Minus-clause-does
 returns-in-Minus-clause-does c = rw c.in-Minus.is (c.arithmetic.ensures.does c.args.bounds.now)

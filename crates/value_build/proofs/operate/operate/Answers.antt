@@ -1,4 +1,4 @@
-use Rattle.std.proofs.Common.{map, sym, ap, ap₂, subst, ◌∙◌, List, ℕ, length, ◌<◌}
+use Rattle.std.proofs.Common.{map, ◌≡◌, sym, ap, ap₂, subst, ◌∙◌, List, ℕ, length, ◌<◌, Bool, true, false}
 use Rattle.std.specs.List.{All}
 use Rattle.smt_sexp.specs.Views.{place_of}
 use Rattle.sort_check.specs.Views.{operator_of}
@@ -7,14 +7,26 @@ use Rattle.term_build.specs.Pairs.{DrawsEach}
 use Rattle.term_build.specs.Shapes.{drawn_of}
 use Rattle.term_build.specs.declared.connectives.Pair.{Pair}
 use Rattle.value_build.specs.Making.{making}
-use Rattle.value_build.specs.Operators.{takes_of, are_arms, are_bool}
+use Rattle.value_build.specs.Operators.{takes_of, are_arms, are_bool, are_picked}
 use Rattle.value_build.specs.declared.value.Value.{Value}
 use Rattle.value_build.proofs.Operating.{operate_refused, operate_bools, operate_reals, operate_arms, bools_seen, lists_below, nodes_there}
+use Rattle.value_build.proofs.Taken.{reals_take, bools_take}
 use Rattle.value_build.proofs.operate.operate.Goals as goal
 
 pub returns-then-not-takes-clause-does : goal.returns-then-not-takes-clause-does
 returns-then-not-takes-clause-does c = λ us bs h. operate_refused (making c.args.builder.now (map drawn_of c.args.sketch.now.items) c.args.bounds.now) (operator_of c.args.operator) c.args.at c.args.values.now us bs (λ (v : Value). Unit {0})
     (sym c.if-not-takes.true ∙ c.takes.ensures ∙ ap₂ (λ r b. takes_of (operator_of c.args.operator) r b c.are_picked-picked.result (length c.args.values.now)) c.are_arms.ensures c.are_bool-bools.ensures ∙ ap (λ p. takes_of (operator_of c.args.operator) (are_arms c.args.values.now) (are_bool c.args.values.now) p (length c.args.values.now)) c.are_picked-picked.ensures) h
+
+pub on_bools-requires-clause-takes : goal.on_bools-requires-clause-takes
+on_bools-requires-clause-takes c = subst (λ (ps : List Pair). takes_of (operator_of c.args.operator) false true false (length ps) ≡ true) (sym (c.deref.ensures.value ∙ c.in_ok-pairs.ensures))
+    (bools_take (operator_of c.args.operator) c.args.values.now (sym c.are_bool-bools.ensures ∙ c.if-bools.true) (sym (sym c.if-not-takes.false ∙ c.takes.ensures ∙ ap₂ (λ r b. takes_of (operator_of c.args.operator) r b c.are_picked-picked.result (length c.args.values.now)) c.are_arms.ensures c.are_bool-bools.ensures ∙ ap (λ p. takes_of (operator_of c.args.operator) (are_arms c.args.values.now) (are_bool c.args.values.now) p (length c.args.values.now)) c.are_picked-picked.ensures)))
+
+pub on_reals-requires-clause-takes : goal.on_reals-requires-clause-takes
+on_reals-requires-clause-takes c = subst (λ (ks : List ℕ). takes_of (operator_of c.args.operator) true false false (length ks) ≡ true) (sym (c.deref-then-are_real.ensures.value ∙ c.in_ok-nodes.ensures))
+    (reals_take (operator_of c.args.operator) c.args.values.now (sym c.are_real.ensures ∙ c.if-are_real.true) (sym c.are_bool-bools.ensures ∙ c.if-bools.false) (sym (sym c.if-not-takes.false ∙ c.takes.ensures ∙ ap₂ (λ r b. takes_of (operator_of c.args.operator) r b c.are_picked-picked.result (length c.args.values.now)) c.are_arms.ensures c.are_bool-bools.ensures ∙ ap (λ p. takes_of (operator_of c.args.operator) (are_arms c.args.values.now) (are_bool c.args.values.now) p (length c.args.values.now)) c.are_picked-picked.ensures)))
+
+pub on_arms-requires-clause-takes : goal.on_arms-requires-clause-takes
+on_arms-requires-clause-takes c = subst (λ (b : Bool). takes_of (operator_of c.args.operator) (are_arms c.args.values.now) b (are_picked c.args.values.now) (length c.args.values.now) ≡ true) (sym c.are_bool-bools.ensures ∙ c.if-bools.false) (sym (sym c.if-not-takes.false ∙ c.takes.ensures ∙ ap₂ (λ r b. takes_of (operator_of c.args.operator) r b c.are_picked-picked.result (length c.args.values.now)) c.are_arms.ensures c.are_bool-bools.ensures ∙ ap (λ p. takes_of (operator_of c.args.operator) (are_arms c.args.values.now) (are_bool c.args.values.now) p (length c.args.values.now)) c.are_picked-picked.ensures))
 
 pub on_bools-requires-clause-lists : goal.on_bools-requires-clause-lists
 on_bools-requires-clause-lists c = subst (λ (ns : List ℕ). All (λ (k : ℕ). k < length c.args.bounds.now) ns) (sym c.in_ok-lists.ensures)
