@@ -1,5 +1,5 @@
 // The columns of the nonlinear nodes: for each product and each square under the atoms a variable, with its bounds.
-use crate::float::{Span, span_of_interval};
+use floats::{Span, span_of_interval, value_at};
 use ival::Rows;
 use poly_graph::{Graph, Node};
 use std::alloc::{AllocError, Global};
@@ -23,12 +23,6 @@ pub fn values(alloc: Global, centre_rows: &Rows) -> Result<Vec<f64, Global>, All
         values.push(span_at(centre_rows, n).middle())?;
     }
     Ok(values)
-}
-
-/// The value at the centre of a node, or 0 where there is none.
-pub fn value_at(values: &[f64], n: u32) -> f64 {
-    let n = n as usize;
-    if n < values.len() { values[n] } else { 0.0 }
 }
 
 // Marks a node.

@@ -8,9 +8,7 @@
 #![tactic(auto)]
 
 mod columns;
-mod float;
 mod relaxed;
-mod sweep;
 
 pub use linear_program::Side;
 pub use relaxed::{Refutation, Relaxation, Weights, is_asking};

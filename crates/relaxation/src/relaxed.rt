@@ -1,8 +1,7 @@
 // The linear programme of a box's marked atoms.
 use crate::columns::{Columns, columns_after, span_at, under, values};
-use crate::float::{Span, approximate, multiplier};
-use crate::sweep::coefficients;
 use dyadic::{Dy, two_to_minus};
+use floats::{Span, approximate, at, coefficients, multiplier, span_of_domain};
 use ival::{Domain, Rows, Space};
 use linear_program::{Feasibility, LinearProgram, Optimum, Side};
 use poly_graph::{Atom, Kind, Lits, Mark, Problem};
@@ -133,21 +132,7 @@ fn rows_of(
 
 // The number in the middle of a domain.
 fn middle_of(domain: Domain) -> f64 {
-    domain_span(domain).middle()
-}
-
-// The interval of a domain; of a Bool it is 0.
-fn domain_span(domain: Domain) -> Span {
-    match domain {
-        Domain::Real(range) => Span {
-            low: approximate(range.low),
-            high: approximate(range.high),
-        },
-        Domain::Bool(_) => Span {
-            low: 0.0,
-            high: 0.0,
-        },
-    }
+    span_of_domain(domain).middle()
 }
 
 // The numbers of the centre, by axis.
@@ -159,11 +144,6 @@ fn centre_of(alloc: Global, centre: &Space) -> Result<Vec<f64, Global>, AllocErr
     Ok(numbers)
 }
 
-// The number at a place, or 0 where there is none.
-fn number_at(xs: &[f64], i: usize) -> f64 {
-    if i < xs.len() { xs[i] } else { 0.0 }
-}
-
 // By how much each axis may differ from the centre.
 fn differences(
     alloc: Global,
@@ -172,7 +152,7 @@ fn differences(
 ) -> Result<Vec<Span, Global>, AllocError> {
     let mut spans = Vec::new(alloc);
     for axis in 0..space.len() {
-        let span = domain_span(space.get(axis)).less(number_at(centre, axis));
+        let span = span_of_domain(space.get(axis)).less(at(centre, axis));
         spans.push(span)?;
     }
     Ok(spans)
@@ -234,7 +214,7 @@ fn coefficient_rows(
 // The value of a root at the centre.
 fn root_value(roots: &[u32], values: &[f64], r: usize) -> f64 {
     if r < roots.len() {
-        number_at(values, roots[r] as usize)
+        at(values, roots[r] as usize)
     } else {
         0.0
     }
@@ -315,7 +295,7 @@ fn weights(
     }
     let mut weights = Vec::new(alloc);
     for r in 0..atoms.len() {
-        if let Some(by) = multiplier(number_at(&by_row, r)) {
+        if let Some(by) = multiplier(at(&by_row, r)) {
             weights.push((atoms[r], by))?;
         }
     }
@@ -397,7 +377,7 @@ impl Relaxation {
     /// Takes over what is left of the axis.
     pub fn tighten(&mut self, axis: u32, domain: Domain) {
         let axis = axis as usize;
-        let span = domain_span(domain).less(number_at(&self.centre, axis));
+        let span = span_of_domain(domain).less(at(&self.centre, axis));
         if axis < self.sides.len() {
             self.sides[axis] = span;
         }

@@ -1,8 +1,8 @@
 // Numbers of the grid as floats, and back.
-ghost use Rattle.std.specs.Prelude.{◌<◌, ◌≤ℤ◌, neg_ℤ, pos};
+ghost use Rattle.std.specs.Prelude.{◌≤◌, ◌^◌, ◌≤ℤ◌, neg_ℤ, pos};
 
-use dyadic::{Dy, Ext, add_down, pow2};
-use ival::Ival;
+use dyadic::{Dy, Ext, Frac, down_frac, mul_down, pow2};
+use ival::{Domain, Ival};
 use std::num::{f64_from_bits_with_nan, f64_to_bits_with_nan, nearest_u64_to_f64};
 
 /// The interval from one float to another.
@@ -107,46 +107,69 @@ pub fn span_of_interval(interval: Ival) -> Span {
     }
 }
 
-// The sum of two numbers, or the first where it is too great.
-fn sum(a: Dy, b: Dy) -> Dy {
-    match add_down(Ext::Fin(a), Ext::Fin(b)) {
-        Ext::Fin(sum) => sum,
-        _ => a,
+/// The interval of a domain; of a Bool it is 0.
+pub fn span_of_domain(domain: Domain) -> Span {
+    match domain {
+        Domain::Real(range) => Span {
+            low: approximate(range.low),
+            high: approximate(range.high),
+        },
+        Domain::Bool(_) => Span {
+            low: 0.0,
+            high: 0.0,
+        },
     }
 }
 
-// Adds the power of 2 of one of 8 bits, where the bit is 1. The highest bit has number 0.
-fn with_bit(total: Dy, bits: u64, k: u32, exponent: i32) -> Dy
-    requires place { k < 8 }
-    requires low { neg_ℤ (pos 100) ≤ℤ exponent }
-    requires high { exponent ≤ℤ pos 57 }
+/// A float near to the fraction.
+pub fn near_fraction(fraction: Frac) -> f64 {
+    approximate_end(down_frac(fraction))
+}
+
+// So many times 2 to the power of the exponent, rounded down, with this sign; none where it is too great.
+fn scaled(negative: bool, whole: u64, exponent: i32) -> Option<Dy>
+    requires few { whole ≤ 2 ^ 53 }
+    requires low { neg_ℤ (pos 120) ≤ℤ exponent }
+    requires high { exponent ≤ℤ pos 60 }
 {
-    if (bits >> (7 - k)) & 1 == 1 {
-        sum(total, pow2(exponent - k as i32))
-    } else {
-        total
+    let size = down_frac(Frac::new(i128::from(whole), 1));
+    match mul_down(size, Ext::Fin(pow2(exponent))) {
+        Ext::Fin(number) => Some(if negative { number.neg() } else { number }),
+        _ => None,
     }
 }
 
-// The sum of the powers of 2 that the 8 bits name: of the highest, which is 1, this one.
-fn with_bits(bits: u64, exponent: i32) -> Dy
-    requires low { neg_ℤ (pos 100) ≤ℤ exponent }
-    requires high { exponent ≤ℤ pos 57 }
+// The exponent of a float's last bit.
+fn exponent_of(bits: u64) -> i32 {
+    ((bits >> 52) & 2047) as i32 - 1075
+}
+
+// The whole number that a float's bits name, times 2 to the power of its exponent.
+fn whole_of(bits: u64) -> u64
+    ensures { result ≤ 2 ^ 53 }
 {
-    let mut total = pow2(exponent);
-    for k in 1..8 {
-        total = with_bit(total, bits, k, exponent);
+    (1 << 52) + bits % (1 << 52)
+}
+
+/// The number that the float is, or 0 where it is far too small; none of one that is no number, or far too great.
+pub fn number(x: f64) -> Option<Dy> {
+    let bits = f64_to_bits_with_nan(x);
+    let exponent = exponent_of(bits);
+    if exponent < -120 {
+        return Some(Dy::ZERO);
     }
-    total
+    if exponent > 8 {
+        return None;
+    }
+    scaled(x < 0.0, whole_of(bits), exponent)
 }
 
 /// The number of 8 bits next to the float towards 0; none of one that is 0, no number, or far too small or great.
 pub fn multiplier(x: f64) -> Option<Dy> {
     let bits = f64_to_bits_with_nan(x);
-    let exponent = ((bits >> 52) & 2047) as i32 - 1023;
-    if exponent < -100 || exponent > 50 {
+    let exponent = exponent_of(bits);
+    if exponent < -152 || exponent > -2 {
         return None;
     }
-    let size = with_bits(128 | ((bits >> 45) & 127), exponent);
-    Some(if x < 0.0 { size.neg() } else { size })
+    scaled(x < 0.0, whole_of(bits) >> 45, exponent + 45)
 }

@@ -1,22 +1,15 @@
 // The coefficients of an atom's term at the centre, by one sweep down over its nodes.
-use crate::columns::value_at;
+use crate::lists::{add, at};
 use poly_graph::{Graph, Node};
 
-// The entry at a place, or 0 where there is none.
-fn entry(xs: &[f64], n: usize) -> f64 {
-    if n < xs.len() { xs[n] } else { 0.0 }
-}
-
-// Adds to the entry, where there is one.
-fn add(xs: &mut [f64], n: usize, x: f64) {
-    if n < xs.len() {
-        xs[n] += x;
-    }
+/// The value of a node, or 0 where there is none.
+pub fn value_at(values: &[f64], n: u32) -> f64 {
+    at(values, n as usize)
 }
 
 // Takes the entry away.
 fn take(xs: &mut [f64], n: usize) -> f64 {
-    let x = entry(xs, n);
+    let x = at(xs, n);
     if n < xs.len() {
         xs[n] = 0.0;
     }

@@ -1,0 +1,229 @@
+// Descent along the term of one atom, held within the box: a quasi-Newton method.
+use crate::bounds::Bounds;
+use crate::matrix::{Matrix, add_entry, add_to_row, image, product, zeros};
+use crate::moves::{gradient, moved};
+use floats::{at, set};
+use std::alloc::{AllocError, Global};
+
+/// At most so many steps are taken.
+const MOST_STEPS: u32 = 80;
+
+/// At most so many lengths of a step are tried.
+const MOST_LENGTHS: u32 = 25;
+
+/// A slope above minus this counts as none.
+const FLATTEST: f64 = 1e-14;
+
+// A point, the height of the term there, with its sign where it has to rise, and the slopes along the axes.
+#[derive(Drop)]
+struct Foot {
+    x: Vec<f64, Global>,
+    height: f64,
+    slopes: Vec<f64, Global>,
+}
+
+// The way that a step goes, and how the height changes along it.
+#[derive(Drop)]
+struct Way {
+    along: Vec<f64, Global>,
+    slope: f64,
+}
+
+/// The term of one atom, which is to fall, or to rise where that is said.
+#[derive(Clone, Copy)]
+pub struct Slide<'a> {
+    pub bounds: &'a Bounds<'a>,
+    pub atom: usize,
+    pub rises: bool,
+}
+
+// What a step does.
+enum Step {
+    To(Foot),
+    Ends,
+}
+
+// Takes the negative of each entry.
+fn negate(xs: &mut [f64]) {
+    for x in xs.iter_mut() {
+        *x = -*x;
+    }
+}
+
+impl<'a> Slide<'a> {
+    // Stands at a point.
+    fn foot(&self, alloc: Global, x: Vec<f64, Global>) -> Result<Foot, AllocError> {
+        let values = self.bounds.values(alloc, &x)?;
+        let value = self.bounds.term_value(&values, self.atom);
+        let mut slopes = gradient(alloc, self.bounds, &values, self.atom)?;
+        if self.rises {
+            negate(&mut slopes);
+        }
+        let height = if self.rises { -value } else { value };
+        Ok(Foot { x, height, slopes })
+    }
+
+    // The slopes along the axes that can move downwards.
+    fn free_slopes(&self, alloc: Global, foot: &Foot) -> Result<Vec<f64, Global>, AllocError> {
+        let mut free = vec![in alloc; 0.0; foot.slopes.len()]?;
+        for axis in 0..free.len() {
+            let slope = at(&foot.slopes, axis);
+            if !self.bounds.is_at_end(axis, at(&foot.x, axis), slope < 0.0) {
+                free[axis] = slope;
+            }
+        }
+        Ok(free)
+    }
+
+    // The way downwards, by the inverse of the curvature.
+    fn way(
+        &self,
+        alloc: Global,
+        foot: &Foot,
+        inverse: &[Vec<f64, Global>],
+    ) -> Result<Way, AllocError> {
+        let free = self.free_slopes(alloc, foot)?;
+        let mut along = image(alloc, inverse, &free)?;
+        for axis in 0..along.len() {
+            along[axis] = if at(&free, axis) == 0.0 {
+                0.0
+            } else {
+                -along[axis]
+            };
+        }
+        let slope = product(&along, &free);
+        Ok(Way { along, slope })
+    }
+
+    // The first length at which the height falls enough; none where none is found.
+    fn search_along(
+        &self,
+        alloc: Global,
+        foot: &Foot,
+        way: &Way,
+        first: f64,
+    ) -> Result<Option<Foot>, AllocError> {
+        let mut by = first;
+        for _ in 0..MOST_LENGTHS {
+            let x = moved(alloc, self.bounds, &foot.x, by, &way.along)?;
+            let next = self.foot(alloc, x)?;
+            if next.height <= foot.height + 1e-4 * by * way.slope {
+                return Ok(Some(next));
+            }
+            by *= 0.4;
+        }
+        Ok(None)
+    }
+
+    // The first length that is tried: less at first, and none past the box.
+    fn first_length(&self, way: &Way, turn: u32) -> f64 {
+        let mut wide = 0.0;
+        for axis in 0..way.along.len() {
+            let side = self.bounds.side(axis);
+            wide += (side.high - side.low) * (side.high - side.low);
+        }
+        let far = (wide / product(&way.along, &way.along)).sqrt();
+        let most = if turn == 0 { 0.1 * far } else { far };
+        if most < 1.0 { most } else { 1.0 }
+    }
+
+    // One step downwards.
+    fn step(
+        &self,
+        alloc: Global,
+        foot: &Foot,
+        inverse: &[Vec<f64, Global>],
+        turn: u32,
+    ) -> Result<Step, AllocError> {
+        let way = self.way(alloc, foot, inverse)?;
+        if !(way.slope < -FLATTEST) {
+            return Ok(Step::Ends);
+        }
+        let first = self.first_length(&way, turn);
+        match self.search_along(alloc, foot, &way, first)? {
+            Some(next) => Ok(Step::To(next)),
+            None => Ok(Step::Ends),
+        }
+    }
+
+    /// Goes down from a point until half of delta is met; where it ends then.
+    pub fn go(
+        &self,
+        alloc: Global,
+        x: Vec<f64, Global>,
+    ) -> Result<Option<Vec<f64, Global>>, AllocError> {
+        let mut inverse = identity(alloc, x.len(), 1.0)?;
+        let mut foot = self.foot(alloc, x)?;
+        for turn in 0..MOST_STEPS {
+            if foot.height <= 0.5 * self.bounds.delta {
+                return Ok(Some(foot.x));
+            }
+            match self.step(alloc, &foot, &inverse, turn)? {
+                Step::Ends => return Ok(None),
+                Step::To(next) => {
+                    inverse = learn(alloc, inverse, &foot, &next, turn)?;
+                    foot = next;
+                }
+            }
+        }
+        Ok(None)
+    }
+}
+
+// So many times the identity.
+fn identity(alloc: Global, count: usize, by: f64) -> Result<Matrix, AllocError> {
+    let mut rows = zeros(alloc, count)?;
+    for i in 0..count {
+        add_entry(&mut rows, i, i, by);
+    }
+    Ok(rows)
+}
+
+// The differences of entries.
+fn differences(alloc: Global, xs: &[f64], ys: &[f64]) -> Result<Vec<f64, Global>, AllocError> {
+    let mut differences = vec![in alloc; 0.0; xs.len()]?;
+    for i in 0..xs.len() {
+        set(&mut differences, i, xs[i] - at(ys, i));
+    }
+    Ok(differences)
+}
+
+// Takes what a step tells of the curvature into its inverse.
+fn learn(
+    alloc: Global,
+    inverse: Matrix,
+    old: &Foot,
+    new: &Foot,
+    turn: u32,
+) -> Result<Matrix, AllocError> {
+    let went = differences(alloc, &new.x, &old.x)?;
+    let bent = differences(alloc, &new.slopes, &old.slopes)?;
+    let both = product(&went, &bent);
+    if !(both > FLATTEST) {
+        return Ok(inverse);
+    }
+    let mut inverse = if turn == 0 {
+        identity(alloc, went.len(), both / product(&bent, &bent))?
+    } else {
+        inverse
+    };
+    update(alloc, &mut inverse, &went, &bent, both)?;
+    Ok(inverse)
+}
+
+// The update of the inverse by the way that a step went, and by how the slopes changed.
+fn update(
+    alloc: Global,
+    inverse: &mut [Vec<f64, Global>],
+    went: &[f64],
+    bent: &[f64],
+    both: f64,
+) -> Result<(), AllocError> {
+    let seen = image(alloc, inverse, bent)?;
+    let by = (1.0 + product(bent, &seen) / both) / both;
+    for i in 0..went.len() {
+        add_to_row(inverse, i, by * went[i] - at(&seen, i) / both, went);
+        add_to_row(inverse, i, -(went[i] / both), &seen);
+    }
+    Ok(())
+}
