@@ -124,7 +124,22 @@ pub fn combine_all(
     Ok(())
 }
 
-// The linear relaxation of the state's marked atoms.
+// Whether two or more marked atoms have enclosures that do not lie where the marks ask for.
+fn are_several_asking(problem: &Problem, margins: &Margins, patch: &Patch) -> bool {
+    let lits = patch.reached().lits();
+    let mut is_one_asking = false;
+    for j in 0..problem.atoms().len() {
+        if is_asking(problem, margins.margin_bits, lits, patch.rows(), j) {
+            if is_one_asking {
+                return true;
+            }
+            is_one_asking = true;
+        }
+    }
+    false
+}
+
+// The linear relaxation of the state's marked atoms; none where fewer than two ask for something.
 fn relaxation_at(
     alloc: Global,
     problem: &Problem,
@@ -133,6 +148,9 @@ fn relaxation_at(
 ) -> Result<Option<Relaxation>, AllocError>
     ensures { patch.new ≡ patch.old }
 {
+    if !are_several_asking(problem, margins, patch) {
+        return Ok(None);
+    }
     patch.find_centre();
     let centre = patch.centre();
     let state = patch.reached();
