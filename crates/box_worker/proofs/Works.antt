@@ -1,10 +1,10 @@
 -- What work comes to.
-use Rattle.std.proofs.Common.{◌≡◌, inl, inr, ℕ, zero, suc, List, [], ◌∷◌, Bool, true, false, cond, not, ◌&&◌, IsTrue, Option, Some, None, refl, sym, ◌∙◌, subst, arith, true≢false}
+use Rattle.std.proofs.Common.{◌≡◌, ◌⊎◌, inl, inr, ℕ, zero, suc, List, [], ◌∷◌, Bool, true, false, cond, not, ◌&&◌, IsTrue, Option, Some, None, refl, sym, ◌∙◌, subst, arith, true≢false}
 use Rattle.std.specs.Prelude.{Contains, Result, Ok, Err, IfOk}
 use Rattle.std.specs.declared.alloc.AllocError.{AllocError}
 use Rattle.dyadic.proofs.Equal.{both_true}
 use Rattle.poly_graph.specs.ProblemViews.{Parts, problem_of}
-use Rattle.interval_model.specs.Space.{Space, middle}
+use Rattle.interval_model.specs.Space.{Space, middle, space_within}
 use Rattle.cover_model.specs.State.{State, covers, may, sure}
 use Rattle.cover_model.specs.Honest.{not_shown}
 use Rattle.cover_model.specs.Rules.{Line, pull, unit, ban, void, push, void_no, combine, void_combine, make_false, by, cut, flip, case, open_line, stuck}
@@ -26,7 +26,7 @@ use Rattle.box_worker.specs.declared.worked.Worked.{Worked}
 use Rattle.box_worker.specs.declared.worked.Worked.TheVariants.{Patch, Closed, Point}
 use Rattle.box_worker.specs.Attempts.{AreAmong}
 use Rattle.box_worker.specs.Ended.{first_covering, leaves_some, is_left, AtOnce}
-use Rattle.box_worker.specs.Worked.{margins_of, IsRunFrom, IsLearned, IsWork, IsClosedBy, IsPointAt, IsLeftOpen, AnswersAtOnce, WorkOf, teaches_nothing}
+use Rattle.box_worker.specs.Worked.{margins_of, IsRunFrom, IsLearned, IsMiddleFrom, IsWork, IsClosedBy, IsPointAt, IsLeftOpen, AnswersAtOnce, IsEndPoint, WorkOf, teaches_nothing}
 
 -- ---- the first lemma that covers
 
@@ -59,11 +59,11 @@ one-among lemmas L h (suc k) d l = absurd (omega arith)
 run-from : (lemmas : List LemmaModel) (Q : PatchModel) (k : KeptModel) → k ≡ Q.kept → AreAmong lemmas Q.kept.quoted → IsRun (problem_in Q) Q.margins Q.kept → IsRunFrom (problem_in Q) Q.margins lemmas Q.kept.first k
 run-from lemmas Q k e among run = subst (IsRunFrom (problem_in Q) Q.margins lemmas Q.kept.first) (sym e) (record { first = refl; run = run; among = among })
 
-work-of : (lemmas : List LemmaModel) (Q : PatchModel) (w : Worked) → AreAmong lemmas Q.kept.quoted → WorkOf Q w → IsWork (problem_in Q) Q.margins lemmas Q.kept.first w
-work-of lemmas Q (Patch k) among h = (run-from lemmas Q (kept_of k) h.0 among h.1, subst (λ (x : KeptModel). IsTrue (is_left x.end)) (sym h.0) h.2)
-work-of lemmas Q (Closed k None) among h =
+work-of : (lemmas : List LemmaModel) (Q : PatchModel) (e : Ended) (w : Worked) → AreAmong lemmas Q.kept.quoted → WorkOf Q e w → IsWork (problem_in Q) Q.margins lemmas Q.kept.first w
+work-of lemmas Q e (Patch k) among h = (run-from lemmas Q (kept_of k) h.0 among h.1, subst (λ (x : KeptModel). IsTrue (is_left x.end)) (sym h.0) h.2)
+work-of lemmas Q e (Closed k None) among h =
     (run-from lemmas Q (kept_of k) h.0.0 among h.1, subst IsClosed (sym h.0.0) h.2, subst (λ (x : KeptModel). teaches_nothing x ≡ true) (sym h.0.0) h.0.1)
-work-of lemmas Q (Closed k (Some c)) among h = (
+work-of lemmas Q e (Closed k (Some c)) among h = (
   run-from lemmas Q (kept_of k) h.0.0 among h.1,
   subst IsClosed (sym h.0.0) h.2,
   (
@@ -71,19 +71,19 @@ work-of lemmas Q (Closed k (Some c)) among h = (
     subst (IsLearned (problem_in Q) Q.margins lemmas Q.kept.first) (sym h.0.2) (record { run = h.1; among = among; closed = h.2; wide = covers_itself Q.kept.first }),
   ),
 )
-work-of lemmas Q (Point x) among h = record {
-  steps = Q.kept;
-  run = record { first = refl; run = h.1; among = among };
-  open_end = h.0;
-  middle_is = h.2;
-  shown = h.3;
-}
+work-of lemmas Q e (Point x) among h = record { place = place e h.2; shown = h.3 }
+  where
+    place : (e : Ended) → IsEndPoint Q e x → IsMiddleFrom (problem_in Q) Q.margins lemmas Q.kept.first x ⊎ IsTrue (space_within x Q.kept.first.space)
+    place (ended.Shown y) k = inl (record { steps = Q.kept; run = record { first = refl; run = h.1; among = among }; open_end = h.0; middle_is = k })
+    place (ended.Found y) k = inr k
+    place ended.Closed k = absurd k
+    place ended.Parted k = absurd k
 
-pub work_is : (q : Parts) (m : Margins) (lemmas : List LemmaModel) (S : State) (Q : PatchModel) (w : Worked) → Q.problem ≡ q → Q.margins ≡ m → Q.kept.first ≡ S → AreAmong lemmas Q.kept.quoted → WorkOf Q w → IsWork (problem_of q) m lemmas S w
-work_is q m lemmas S Q w e f g among h =
+pub work_is : (q : Parts) (m : Margins) (lemmas : List LemmaModel) (S : State) (Q : PatchModel) (e : Ended) (w : Worked) → Q.problem ≡ q → Q.margins ≡ m → Q.kept.first ≡ S → AreAmong lemmas Q.kept.quoted → WorkOf Q e w → IsWork (problem_of q) m lemmas S w
+work_is q m lemmas S Q z w e f g among h =
     subst (λ (T : State). IsWork (problem_of q) m lemmas T w) g
     (subst (λ (x : Margins). IsWork (problem_of q) x lemmas Q.kept.first w) f
-    (subst (λ (r : Parts). IsWork (problem_of r) Q.margins lemmas Q.kept.first w) e (work-of lemmas Q w among h)))
+    (subst (λ (r : Parts). IsWork (problem_of r) Q.margins lemmas Q.kept.first w) e (work-of lemmas Q z w among h)))
 
 -- ---- answers at once
 
@@ -164,35 +164,36 @@ module _ (q : Parts) (m : Margins) (lemmas : List LemmaModel) (S : State) where
       no-lemma L e = cc
 
   -- a patch that has ended by such a line is told as closed
-  told : (Q : PatchModel) (w : Worked) → IsClosed Q.kept → teaches_nothing Q.kept ≡ true → WorkOf Q w → IsClosedBy Q.kept w
-  told Q (Patch k) c t h = not-left Q.kept.end c h.2
-  told Q (Closed k None) c t h = (h.0.0, refl)
-  told Q (Closed k (Some x)) c t h = absurd (true≢false (sym t ∙ h.0.1))
-  told Q (Point x) c t h = let k = subst (λ (o : Option Line). IsTrue (closes o)) h.0 c in true≢false (sym k)
+  told : (Q : PatchModel) (e : Ended) (w : Worked) → IsClosed Q.kept → teaches_nothing Q.kept ≡ true → WorkOf Q e w → IsClosedBy Q.kept w
+  told Q e (Patch k) c t h = not-left Q.kept.end c h.2
+  told Q e (Closed k None) c t h = (h.0.0, refl)
+  told Q e (Closed k (Some x)) c t h = absurd (true≢false (sym t ∙ h.0.1))
+  told Q e (Point x) c t h = let k = subst (λ (o : Option Line). IsTrue (closes o)) h.0 c in true≢false (sym k)
 
-  at_once_false : (w : Worked) → can ≡ false → WorkOf (ended_with (begun q m S) make_false) w → Answers w
-  at_once_false w e h = answers w (λ a. told (ended_with (begun q m S) make_false) w refl refl h) (λ a b. absurd (true≢false (sym a ∙ e)))
+  at_once_false : (w : Worked) → can ≡ false → WorkOf (ended_with (begun q m S) make_false) ended.Closed w → Answers w
+  at_once_false w e h = answers w (λ a. told (ended_with (begun q m S) make_false) ended.Closed w refl refl h) (λ a b. absurd (true≢false (sym a ∙ e)))
       (λ a L b. absurd (shown-may a e))
 
-  at_once_covered : (w : Worked) (L : LemmaModel) → not_shown (problem_of q) (loosenings_of m) S ≡ true → first_covering lemmas S ≡ Some L → WorkOf (covered_by (begun q m S) L) w → Answers w
+  at_once_covered : (w : Worked) (L : LemmaModel) → not_shown (problem_of q) (loosenings_of m) S ≡ true → first_covering lemmas S ≡ Some L → WorkOf (covered_by (begun q m S) L) ended.Closed w → Answers w
   at_once_covered w L n e h = answers w (λ a. absurd (shown-may n a)) (λ a b. absurd (shown-sure n b))
-      (λ a M b. subst (λ (X : LemmaModel). IsClosedBy (covered (run_at S) X) w) (some-same L M e b) (told (covered_by (begun q m S) L) w refl refl h))
+      (λ a M b. subst (λ (X : LemmaModel). IsClosedBy (covered (run_at S) X) w) (some-same L M e b) (told (covered_by (begun q m S) L) ended.Closed w refl refl h))
 
-  at_once_shown : (w : Worked) (x : Space) → can ≡ true → x ≡ middle S.space → IsShownAt (problem_of q) (loosenings_of m) x → WorkOf (begun q m S) w → Answers w
+  at_once_shown : (w : Worked) (x : Space) → can ≡ true → x ≡ middle S.space → IsShownAt (problem_of q) (loosenings_of m) x → WorkOf (begun q m S) (ended.Shown x) w → Answers w
   at_once_shown w x c e shown h = answers w (λ a. absurd (true≢false (sym c ∙ a))) (λ a b. point w h)
       (λ a L b. absurd (shown-sure a (subst (λ (y : Space). IsTrue (sure (problem_of q) (loosenings_of m) y)) e shown.surely)))
     where
-      point : (w : Worked) → WorkOf (begun q m S) w → IsPointAt (middle S.space) w
+      point : (w : Worked) → WorkOf (begun q m S) (ended.Shown x) w → IsPointAt (middle S.space) w
       point (Patch k) h = true≢false (sym h.2)
       point (Closed k c) h = true≢false (sym h.2)
       point (Point y) h = h.2
 
-  pub at_once_is : (Q : PatchModel) (e : Ended) (w : Worked) → AtOnce lemmas (begun q m S) Q (Some e) → WorkOf Q w → Answers w × IsWork (problem_of q) m lemmas S w
-  at_once_is Q ended.Closed w (inl a) h = let k = subst (λ (X : PatchModel). WorkOf X w) a.1 h in (at_once_false w a.0 k, work-of lemmas (ended_with (begun q m S) make_false) w (none-among lemmas) k)
-  at_once_is Q ended.Closed w (inr a) h = let k = subst (λ (X : PatchModel). WorkOf X w) a.3 h in
-      (at_once_covered w a.0 a.1 a.2 k, work-of lemmas (covered_by (begun q m S) a.0) w (one-among lemmas a.0 (covering_is lemmas S a.0 a.2).0) k)
+  pub at_once_is : (Q : PatchModel) (e : Ended) (w : Worked) → AtOnce lemmas (begun q m S) Q (Some e) → WorkOf Q e w → Answers w × IsWork (problem_of q) m lemmas S w
+  at_once_is Q ended.Closed w (inl a) h = let k = subst (λ (X : PatchModel). WorkOf X ended.Closed w) a.1 h in (at_once_false w a.0 k, work-of lemmas (ended_with (begun q m S) make_false) ended.Closed w (none-among lemmas) k)
+  at_once_is Q ended.Closed w (inr a) h = let k = subst (λ (X : PatchModel). WorkOf X ended.Closed w) a.3 h in
+      (at_once_covered w a.0 a.1 a.2 k, work-of lemmas (covered_by (begun q m S) a.0) ended.Closed w (one-among lemmas a.0 (covering_is lemmas S a.0 a.2).0) k)
   at_once_is Q ended.Parted w a h = absurd a
-  at_once_is Q (ended.Shown x) w a h = let k = subst (λ (X : PatchModel). WorkOf X w) a.0 h in (at_once_shown w x a.1 a.2 a.3 k, work-of lemmas (begun q m S) w (none-among lemmas) k)
+  at_once_is Q (ended.Found x) w a h = absurd a
+  at_once_is Q (ended.Shown x) w a h = let k = subst (λ (X : PatchModel). WorkOf X (ended.Shown x) w) a.0 h in (at_once_shown w x a.1 a.2 a.3 k, work-of lemmas (begun q m S) (ended.Shown x) w (none-among lemmas) k)
 
 pub if_ok_then : (A B : Worked → Type 0) (r : Result Worked AllocError) → ((w : Worked) → A w → B w) → IfOk r A → IfOk r B
 if_ok_then A B (Ok w) f h = f w h

@@ -2,7 +2,7 @@
 use Rattle.std.specs.Prelude.{◌≡◌, List, Bool, true, false, Option, Some, None, IsTrue, find, ◌⊎◌}
 use Rattle.poly_graph.specs.ProblemViews.{problem_of}
 use Rattle.cover_model.specs.State.{State, covers, may}
-use Rattle.interval_model.specs.Space.{middle}
+use Rattle.interval_model.specs.Space.{Space, middle, space_within}
 use Rattle.cover_model.specs.Honest.{not_shown}
 use Rattle.cover_model.specs.Rules.{Line, make_false, cut, flip, case, stuck}
 use Rattle.cover_model.specs.Fits.{IsShownAt}
@@ -13,7 +13,7 @@ use Rattle.cover_rule.specs.Patch.{problem_in, loosenings_in, now_in}
 use Rattle.cover_rule.specs.Refusals.{ended_with, covered_by}
 use Rattle.cover_data.specs.Runs.{IsClosed}
 use Rattle.box_worker.specs.declared.ended.Ended.{Ended}
-use Rattle.box_worker.specs.declared.ended.Ended.TheVariants.{Closed, Parted, Shown}
+use Rattle.box_worker.specs.declared.ended.Ended.TheVariants.{Closed, Parted, Shown, Found}
 
 -- the first lemma that covers the state
 abbrev pub first_covering : List LemmaModel → State → Option LemmaModel
@@ -31,11 +31,16 @@ abbrev pub is_left : Option Line → Bool
 is_left None = false
 is_left (Some l) = leaves_some l
 
+-- a point of the box that the patch began at, where the form is sure
+abbrev pub IsFoundIn : PatchModel → Space → Type 0
+IsFoundIn P x = IsTrue (space_within x P.kept.first.space) × IsShownAt (problem_of P.problem) (loosenings_of P.margins) x
+
 -- what stands when a patch has come to its end
 abbrev pub HasEnded : PatchModel → Ended → Type 0
 HasEnded Q Closed = IsClosed Q.kept
 HasEnded Q Parted = IsTrue (is_left Q.kept.end)
 HasEnded Q (Shown x) = (Q.kept.end ≡ None) × (x ≡ middle Q.kept.reached.space) × IsShownAt (problem_of Q.problem) (loosenings_of Q.margins) x
+HasEnded Q (Found x) = (Q.kept.end ≡ None) × IsFoundIn Q x
 
 -- a patch that has just begun ends before any step: it can't hold, it is sure at the middle, or the first lemma that covers the state closes it
 abbrev pub AtOnce : List LemmaModel → PatchModel → PatchModel → Option Ended → Type 0
@@ -43,4 +48,5 @@ AtOnce lemmas P Q None = (Q ≡ P) × (not_shown (problem_in P) (loosenings_in P
 AtOnce lemmas P Q (Some Closed) = ((may (problem_in P) (loosenings_in P) (now_in P) ≡ false) × (Q ≡ ended_with P make_false)) ⊎
     ((L : LemmaModel) × (not_shown (problem_in P) (loosenings_in P) (now_in P) ≡ true) × (first_covering lemmas (now_in P) ≡ Some L) × (Q ≡ covered_by P L))
 AtOnce lemmas P Q (Some Parted) = ⊥
+AtOnce lemmas P Q (Some (Found x)) = ⊥
 AtOnce lemmas P Q (Some (Shown x)) = (Q ≡ P) × (may (problem_in P) (loosenings_in P) (now_in P) ≡ true) × (x ≡ middle (now_in P).space) × IsShownAt (problem_in P) (loosenings_in P) x

@@ -1,8 +1,8 @@
 -- What work on a state comes to.
-use Rattle.std.specs.Prelude.{◌≡◌, List, [], ◌∷◌, Bool, true, false, ◌&&◌, ◌||◌, All, Option, Some, None, IsTrue}
+use Rattle.std.specs.Prelude.{◌≡◌, List, [], ◌∷◌, Bool, true, false, ◌&&◌, ◌||◌, ◌⊎◌, All, Option, Some, None, IsTrue}
 use Rattle.poly_graph.specs.Problem.{Problem}
 use Rattle.poly_graph.specs.ProblemViews.{Parts, problem_of}
-use Rattle.interval_model.specs.Space.{Space, middle}
+use Rattle.interval_model.specs.Space.{Space, middle, space_within}
 use Rattle.cover_model.specs.State.{State, Loosenings, IsLemma, covers, may, sure}
 use Rattle.cover_model.specs.Honest.{not_shown}
 use Rattle.cover_model.specs.Rules.{Line, make_false, by}
@@ -19,6 +19,8 @@ use Rattle.cover_data.specs.Runs.{IsRun, IsClosed}
 use Rattle.cover_data.specs.Views.{kept_of}
 use Rattle.box_worker.specs.Attempts.{AreAmong}
 use Rattle.box_worker.specs.Ended.{first_covering, is_left}
+use Rattle.box_worker.specs.declared.ended.Ended.{Ended}
+use Rattle.box_worker.specs.declared.ended.Ended.TheVariants.{Shown, Found}
 use Rattle.box_worker.specs.declared.worked.Worked.{Worked}
 use Rattle.box_worker.specs.declared.worked.Worked.TheVariants.{Patch, Closed, Point}
 
@@ -72,13 +74,17 @@ pub record IsMiddleFrom (p : Problem) (m : Margins) (lemmas : List LemmaModel) (
   pub run : IsRunFrom p m lemmas S steps
   pub open_end : steps.end ≡ None
   pub middle_is : x ≡ middle steps.reached.space
+
+-- such a middle, or a point within the box of the state; the form is sure there
+pub record IsPointFrom (p : Problem) (m : Margins) (lemmas : List LemmaModel) (S : State) (x : Space) : Type 0 where
+  pub place : IsMiddleFrom p m lemmas S x ⊎ IsTrue (space_within x S.space)
   pub shown : IsShownAt p (loosenings_of m) x
 
 -- each answer is of this kind
 abbrev pub IsWork : Problem → Margins → List LemmaModel → State → Worked → Type 0
 IsWork p m lemmas S (Patch k) = IsRunFrom p m lemmas S (kept_of k) × IsTrue (is_left (kept_of k).end)
 IsWork p m lemmas S (Closed k c) = IsRunFrom p m lemmas S (kept_of k) × IsClosed (kept_of k) × Teaches p m lemmas S (kept_of k) c
-IsWork p m lemmas S (Point x) = IsMiddleFrom p m lemmas S x
+IsWork p m lemmas S (Point x) = IsPointFrom p m lemmas S x
 
 -- the state was closed by this run, of which there is nothing to learn
 abbrev pub IsClosedBy : KeptModel → Worked → Type 0
@@ -126,8 +132,14 @@ IsClosedWork k (Closed k' None) = (kept_of k' ≡ k) × (teaches_nothing k ≡ t
 IsClosedWork k (Closed k' (Some c)) = (kept_of k' ≡ k) × (teaches_nothing k ≡ false) × (c ≡ k) × IsClosed c
 IsClosedWork k (Point x) = ⊥
 
--- what the work has come to by a patch
-abbrev pub WorkOf : PatchModel → Worked → Type 0
-WorkOf P (Patch k) = (kept_of k ≡ P.kept) × IsRun (problem_of P.problem) P.margins P.kept × IsTrue (is_left P.kept.end)
-WorkOf P (Closed k c) = IsClosedWork P.kept (Closed k c) × IsRun (problem_of P.problem) P.margins P.kept × IsClosed P.kept
-WorkOf P (Point x) = (P.kept.end ≡ None) × IsRun (problem_of P.problem) P.margins P.kept × (x ≡ middle P.kept.reached.space) × IsShownAt (problem_of P.problem) (loosenings_of P.margins) x
+-- the point by which a patch has ended so: the middle of the state that it has reached, or one within the box that it began at
+abbrev pub IsEndPoint : PatchModel → Ended → Space → Type 0
+IsEndPoint P (Shown y) x = x ≡ middle P.kept.reached.space
+IsEndPoint P (Found y) x = IsTrue (space_within x P.kept.first.space)
+IsEndPoint P e x = ⊥
+
+-- what the work has come to by a patch that has ended so
+abbrev pub WorkOf : PatchModel → Ended → Worked → Type 0
+WorkOf P e (Patch k) = (kept_of k ≡ P.kept) × IsRun (problem_of P.problem) P.margins P.kept × IsTrue (is_left P.kept.end)
+WorkOf P e (Closed k c) = IsClosedWork P.kept (Closed k c) × IsRun (problem_of P.problem) P.margins P.kept × IsClosed P.kept
+WorkOf P e (Point x) = (P.kept.end ≡ None) × IsRun (problem_of P.problem) P.margins P.kept × IsEndPoint P e x × IsShownAt (problem_of P.problem) (loosenings_of P.margins) x

@@ -10,4 +10,6 @@ pub enum Ended {
     Parted,
     /// It has not ended, and the form is sure at the middle of the state that it has reached.
     Shown(Point),
+    /// It has not ended, and the form is sure at this point of the box that it began at.
+    Found(Point),
 }

@@ -12,6 +12,7 @@ mod contraction;
 mod ended;
 mod facts;
 mod fallen;
+mod found;
 mod learn;
 mod needs;
 mod preconditions;

@@ -7,11 +7,18 @@ use cover_rule::Workspace;
 use poly_graph::Problem;
 use std::alloc::{AllocError, Global};
 
+/// In so many boxes at first a point is searched in each.
+const FIRST_SEARCHES: u32 = 8;
+
+/// Then in one of so many.
+const SEARCH_PERIOD: u32 = 16;
+
 /// Room for the work on the boxes of one problem. It is made at the first box, and used for one after the other.
 #[derive(Drop)]
 pub struct Room {
     pub work: Option<Workspace>,
     pub scout: Option<Scout>,
+    boxes: u32,
 }
 
 impl Room {
@@ -20,7 +27,16 @@ impl Room {
         Room {
             work: None,
             scout: None,
+            boxes: 0,
         }
+    }
+
+    /// Counts a box that is about to be split, and tells whether a point is to be searched in it: in each of the first ones,
+    /// then in some of them.
+    pub fn is_search_due(&mut self) -> bool {
+        let seen = self.boxes;
+        self.boxes = seen.wrapping_add(1);
+        seen < FIRST_SEARCHES || seen % SEARCH_PERIOD == 0
     }
 }
 

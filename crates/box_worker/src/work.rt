@@ -18,6 +18,7 @@ use crate::branching::part;
 use crate::contraction::{Emptied, scout_at, take_steps};
 use crate::ended::Ended;
 use crate::facts::{problem_is_whole, run_is_lawful};
+use crate::found::found_point;
 use crate::learn::{copy, teaches_nothing};
 use crate::preconditions::{close_at, mark_conjuncts, void_any};
 use crate::room::{Room, take_work};
@@ -94,10 +95,11 @@ fn at_once(
     }
 }
 
-// Does what is left to do at a state, and splits it where it is then still open. By the atom or combination that is given
-// nothing may be left.
+// Does what is left to do at a state, and splits it where it is then still open and no point is found in it. By the atom or
+// combination that is given nothing may be left.
 fn finish(
     alloc: Global,
+    room: &mut Room,
     problem: &Problem,
     margins: &Margins,
     void: &Option<Emptied>,
@@ -118,6 +120,9 @@ fn finish(
     mark_conjuncts(alloc, problem, patch)?;
     if attempt::make_false(patch)? {
         return Ok(Ended::Closed);
+    }
+    if let Some(found) = found_point(alloc, room, problem, margins, patch)? {
+        return Ok(Ended::Found(found));
     }
     if split(alloc, problem, margins, patch)? {
         return Ok(Ended::Parted);
@@ -152,7 +157,7 @@ fn closed(alloc: Global, kept: KeptPatch) -> Result<Worked, AllocError>
 // What the work has come to, where the patch has come to its end. Its room is kept.
 fn worked(alloc: Global, room: &mut Room, ended: Ended, patch: Patch) -> Result<Worked, AllocError>
     requires { HasEnded patch ended }
-    ensures { IfOk result (WorkOf patch.entry) }
+    ensures { IfOk result (WorkOf patch.entry ended) }
 {
     let (kept, work) = patch.into_kept();
     room.work = Some(work);
@@ -160,6 +165,7 @@ fn worked(alloc: Global, room: &mut Room, ended: Ended, patch: Patch) -> Result<
         Ended::Closed => closed(alloc, kept),
         Ended::Parted => Ok(Worked::Patch(kept)),
         Ended::Shown(point) => Ok(Worked::Point(point)),
+        Ended::Found(point) => Ok(Worked::Point(point)),
     }
 }
 
@@ -188,7 +194,8 @@ fn contract(
 /// Works on the box of a state that lies within the root space, by lawful and honest lines: until it is closed,
 /// until a point is found in it, or else until it is split or found stuck. Where the form cannot hold at the state
 /// it is closed by that alone; else a point is its middle, where the form is sure there; else it is closed by the
-/// first of the lemmas that covers it. No other lemmas are quoted. The room is made for the problem where it is not yet.
+/// first of the lemmas that covers it. No other lemmas are quoted. Any other point is the middle of a state that steps
+/// reach, or lies within the box. The room is made for the problem where it is not yet.
 pub fn work_in(
     alloc: Global,
     room: &mut Room,
@@ -212,7 +219,7 @@ pub fn work_in(
         return worked(alloc, room, ended, patch);
     }
     let void = contract(alloc, room, problem, &margins, lemmas, &mut patch)?;
-    let ended = finish(alloc, problem, &margins, &void, &mut patch)?;
+    let ended = finish(alloc, room, problem, &margins, &void, &mut patch)?;
     worked(alloc, room, ended, patch)
 }
 

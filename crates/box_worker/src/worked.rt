@@ -9,6 +9,6 @@ pub enum Worked {
     /// A run that closed the state, and what may be learned of it: nothing where it is the one line `false` or
     /// ends by a lemma.
     Closed(KeptPatch, Option<ClosedPatch>),
-    /// The middle of a state that steps reach, where the form is sure.
+    /// The middle of a state that steps reach, or a point within the box, where the form is sure.
     Point(Point),
 }
