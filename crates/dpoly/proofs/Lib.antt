@@ -1,10 +1,3 @@
-pub mod Ending
-pub mod Faulty
-pub mod Headline
-pub mod Reading
-pub mod Running
-pub mod Shown
 pub mod Solving
 pub mod Told
 pub mod Upgrading
-pub mod Verdicts

@@ -5,10 +5,10 @@ use Rattle.words.specs.declared.asked.Options.{Options}
 use Rattle.poly_graph.specs.Problem.{Problem}
 use Rattle.cert_model.specs.Due.{Value, left_open}
 use Rattle.cert_model.specs.AnswerText.{solve_text, demo_text}
-use Rattle.dpoly.specs.declared.status.Status.{Status}
-use Rattle.dpoly.specs.Answer.{loosenings_of, IsAnswer}
-use Rattle.dpoly.specs.Course.{gives, Ends, RunEnds, on_course}
-use Rattle.dpoly.specs.Can.{CanSolve, CanDemo}
+use Rattle.check_run.specs.declared.status.Status.{Status}
+use Rattle.check_run.specs.Answer.{loosenings_of, IsAnswer}
+use Rattle.check_run.specs.Course.{gives, Ends, RunEnds, on_course}
+use Rattle.check_run.specs.Can.{CanSolve, CanDemo}
 
 -- what is written is the certificate, and then a text
 written : (name cert cert' text text' : List ℕ) (old new : Sight) (status : Status) → cert ≡ cert' → text ≡ text' → Ends (gives name cert text) old new status → Ends (gives name cert' text') old new status

@@ -29,8 +29,9 @@ use Rattle.cover_book.specs.Keeps.{IsBook, IsCrossed, IsCovered}
 use Rattle.cert_text.specs.Means.{IsTreeText, IsCrossedText, IsCertificateOf}
 use Rattle.cert_text.specs.Stuck.{stuck_at, IsFirstStuck}
 use Rattle.cert_text.proofs.Leftovers.{left_tells_of_nodes}
-use Rattle.dpoly.specs.Answer.{loosenings_of, IsAnswer}
-use Rattle.dpoly.specs.Search.{search_options, IsWithin, IsLeftBy, SaysLeft}
+use Rattle.check_run.specs.Answer.{loosenings_of, IsAnswer}
+use Rattle.check_run.specs.Script.{IsWithin}
+use Rattle.dpoly.specs.Search.{search_options, IsLeftBy, SaysLeft}
 
 -- ---- the condition of a search
 

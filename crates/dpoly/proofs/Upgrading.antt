@@ -1,6 +1,5 @@
 -- From a certificate on its port to the same in version 2.
-use Rattle.std.proofs.Common.{◌≡◌, ◌<◌, ◌≤◌, ◌++◌, ℕ, List, [], ◌∷◌, Option, Some, Ok, Err, IfSome, length, take, refl, ap, sym, ◌∙◌, subst, inl, inr}
-use Rattle.std.proofs.lemmas.Option.{none-some}
+use Rattle.std.proofs.Common.{◌≡◌, ◌<◌, ◌≤◌, ◌++◌, ℕ, List, [], ◌∷◌, Option, Some, Ok, Err, IfSome, length, take, refl, ap, sym, ◌∙◌, subst}
 use Rattle.desk.specs.declared.desk.Port.TheVariants.{CertIn}
 use Rattle.desk.specs.Sight.{Sight, Reads, with_start}
 use Rattle.desk.specs.Texts.{ReadsSome}
@@ -11,19 +10,17 @@ use Rattle.cert_model.specs.Accepted.{Verdict, accepted, refused, verdict, most_
 use Rattle.cert_check.specs.declared.checker.Verdict as told
 use Rattle.cert_check.specs.declared.fault.CertFault.{CertFault}
 use Rattle.cert_check.specs.Courses.{IsVerdict}
-use Rattle.cert_check.specs.Faults.{stop_of}
 use Rattle.cert_check.specs.declared.feed.Feed.{Feed}
 use Rattle.cert_check.specs.Feeding.{HasTaken, IsVerdictOrMemory}
-use Rattle.answer_text.specs.Stops.{stop_text}
 use Rattle.cert_upgrade.specs.Upgraded.{upgraded}
 use Rattle.cert_upgrade.proofs.Upgrades.{upgraded_is_accepted}
-use Rattle.dpoly.specs.declared.status.Status.{Status}
-use Rattle.dpoly.specs.declared.status.Status.TheVariants.{CertRefused}
-use Rattle.dpoly.specs.Course.{Course, says, gives, Ends, RunEnds, on_course}
-use Rattle.dpoly.specs.Can.{CanUpgrade, CanUpgradeBy, upgraded_text, verdict_course}
-use Rattle.dpoly.specs.Upgrade.{IsConfirmed, IsRefused, IsKept, IsUpgradeOf, IsRefusalOf}
-use Rattle.dpoly.proofs.Ending.{run_behind, over, after_cert_in}
-use Rattle.dpoly.proofs.Verdicts.{CheckedSoFar, shown_fault}
+use Rattle.check_run.specs.declared.status.Status.{Status}
+use Rattle.check_run.specs.Course.{Course, gives, Ends, RunEnds, on_course}
+use Rattle.check_run.specs.Can.{CanUpgrade, CanUpgradeBy, upgraded_text, verdict_course}
+use Rattle.check_run.specs.Check.{IsRefused, IsRefusalOf}
+use Rattle.dpoly.specs.Upgrade.{IsConfirmed, IsKept, IsUpgradeOf}
+use Rattle.check_run.proofs.Ending.{run_behind, over, after_cert_in}
+use Rattle.check_run.proofs.Verdicts.{CheckedSoFar}
 
 -- ---- the port, read by pieces and kept
 
@@ -60,19 +57,6 @@ module _ (p : Parts) (bound : Option ℕ) (f : Feed) (kept : List ℕ) (n : ℕ)
         same = sym so_far.kept_are ∙ e;
         confirmed = confirmed (verdict (problem_of p) bound held) w (subst (λ (bs : List ℕ). IsVerdict (verdict (problem_of p) bound bs) (Ok w)) e (tells p bound so_far.checked.bytes so_far.checked.has));
       })
-
--- ---- a fault
-
-refused-only : (fault : CertFault) (text : List ℕ) (v : Verdict) → stop_text (stop_of fault) ≡ Some text → IsVerdictOrMemory v (Err fault) → IsRefused v
-refused-only fault text (accepted s value) e (inl m) = absurd (none-some text (sym (ap (λ (f : CertFault). stop_text (stop_of f)) m) ∙ e))
-refused-only fault text (accepted s value) e (inr h) = absurd h
-refused-only fault text (refused f n) e h = tt
-
--- its text is told by an answer that refuses
-pub refusal_of : (fault : CertFault) (text bytes : List ℕ) (old new : Sight) (result : Status) → stop_text (stop_of fault) ≡ Some text → bytes ≡ text → Ends (says CertRefused bytes) old new result →
-    RunEnds (IsRefusalOf fault) [] old new result
-refusal_of fault text bytes old new result e same ends =
-    on_course (says CertRefused text) (λ v h. (refused-only fault text v e h, sym (shown_fault fault text e v h))) (subst (λ (t : List ℕ). Ends (says CertRefused t) old new result) same ends)
 
 -- ---- the certificate that is written
 

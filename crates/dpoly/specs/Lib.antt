@@ -1,11 +1,2 @@
-pub mod Answer
-pub mod Can
-pub mod Check
-pub mod Course
-pub mod Headline
-pub mod Parts
-pub mod Run
-pub mod Script
 pub mod Search
-pub mod Statuses
 pub mod Upgrade

@@ -1,7 +1,6 @@
--- What a search is asked for, and what is told of the book that it left.
-use Rattle.std.specs.Prelude.{◌≡◌, ◌≢◌, ◌≤◌, ℕ, List, [], length}
+-- What a search is asked for, and what is answered of the book that it left.
+use Rattle.std.specs.Prelude.{◌≡◌, ◌≢◌, ℕ, List, []}
 use Rattle.words.specs.declared.asked.Options.{Options}
-use Rattle.poly_graph.specs.ProblemViews.{Parts}
 use Rattle.poly_graph.specs.Problem.{Problem}
 use Rattle.cover_model.specs.Derivation.{Tree}
 use Rattle.cert_model.specs.Due.{Standing, Value, left_open}
@@ -14,7 +13,7 @@ use Rattle.cover_book.specs.Laws.{IsTreeOfBook}
 use Rattle.cover_book.specs.Verdict.{verdict_of}
 use Rattle.solve_core.specs.Left.{LeavesDue}
 use Rattle.dpoly.specs.declared.answers.Told.{Told}
-use Rattle.dpoly.specs.Answer.{loosenings_of, IsAnswer}
+use Rattle.check_run.specs.Answer.{loosenings_of, IsAnswer}
 
 -- the words' options, as a search takes them
 abbrev pub search_options : Options → cover.Options
@@ -26,11 +25,6 @@ search_options options = record {
   workers = options.workers;
   bound = options.bound;
 }
-
--- as many axes and atoms as a search takes at most
-pub record IsWithin (p : Parts) : Type 0 where
-  pub axes : length p.axes ≤ 1024
-  pub atoms : length p.atoms ≤ 65536
 
 -- a search with these options left the book
 pub record IsLeftBy (options : Options) (b : BookModel) : Type 0 where

@@ -11,28 +11,24 @@ use Rattle.cert_model.specs.Accepted.{Verdict, accepted, refused, verdict, most_
 use Rattle.cert_check.specs.declared.fault.CertFault.{CertFault}
 use Rattle.cert_check.specs.Feeding.{IsVerdictOrMemory}
 use Rattle.cert_upgrade.specs.Upgraded.{upgraded}
-use Rattle.dpoly.specs.declared.check.Unconfirmed.{Unconfirmed}
-use Rattle.dpoly.specs.declared.check.Unconfirmed.TheVariants.{Fault, Failed}
-use Rattle.dpoly.specs.declared.status.Status.{Status}
-use Rattle.dpoly.specs.Course.{Course, RunEnds, gives}
-use Rattle.dpoly.specs.Can.{CanUpgrade, upgraded_text, verdict_course}
-use Rattle.dpoly.specs.Run.{IsReadToEnd}
+use Rattle.check_run.specs.declared.check.Unconfirmed.{Unconfirmed}
+use Rattle.check_run.specs.declared.check.Unconfirmed.TheVariants.{Fault, Failed}
+use Rattle.check_run.specs.declared.status.Status.{Status}
+use Rattle.check_run.specs.Course.{Course, RunEnds, gives}
+use Rattle.check_run.specs.Can.{CanUpgrade, upgraded_text}
+use Rattle.check_run.specs.Run.{IsReadToEnd}
 
 -- accepted, with whatever value
 abbrev pub IsConfirmed : Verdict → Type 0
 IsConfirmed (accepted s value) = Unit {0}
 IsConfirmed (refused fault line) = ⊥
 
-abbrev pub IsRefused : Verdict → Type 0
-IsRefused (accepted s value) = ⊥
-IsRefused (refused fault line) = Unit {0}
-
 -- these bytes are the certificate, which is accepted
 pub record IsKept (p : Problem) (bound : Option ℕ) (kept cert : List ℕ) : Type 0 where
   pub same : kept ≡ cert
   pub confirmed : IsConfirmed (verdict p bound cert)
 
--- the certificate that the port tells, for this problem and bound: kept where it is accepted, else its fault
+-- the certificate that the port holds, for this problem and bound: kept where it is accepted, else its fault
 abbrev pub IsKeptFor : Parts → Option ℕ → Sight → Result (Vec ℕ Global) Unconfirmed → Type 0
 IsKeptFor p bound old (Ok kept) = IfSome old.cert_in (IsKept (problem_of p) bound kept.items)
 IsKeptFor p bound old (Err (Fault f)) = IfSome old.cert_in (λ cert. IsVerdictOrMemory (verdict (problem_of p) bound cert) (Err f))
@@ -53,15 +49,7 @@ pub record IsUpgradeOf (name kept : List ℕ) (course : Course) : Type 0 where
 abbrev pub EndsOnUpgraded : List ℕ → List ℕ → Sight → Sight → Status → Type 0
 EndsOnUpgraded name kept old new status = RunEnds (IsUpgradeOf name kept) [] old new status
 
--- the course of any verdict with this fault, which refuses
-abbrev pub IsRefusalOf : CertFault → Course → Type 0
-IsRefusalOf fault course = (v : Verdict) → IsVerdictOrMemory v (Err fault) → IsRefused v × (course ≡ verdict_course v)
-
--- the run ends on it
-abbrev pub EndsOnFault : CertFault → Sight → Sight → Status → Type 0
-EndsOnFault fault old new status = RunEnds (IsRefusalOf fault) [] old new status
-
--- a run ends behind its problem, where the port tells a certificate
+-- a run ends behind its problem, where the port shows a certificate
 abbrev pub EndsOnUpgrade : Parts → Option ℕ → List ℕ → List ℕ → Sight → Sight → Status → Type 0
 EndsOnUpgrade p bound name out old new status =
     IfSome old.cert_in (λ cert. RunEnds (CanUpgrade (problem_of p) bound name out cert) ((CertIn, name) ∷ []) old new status)

@@ -5,7 +5,7 @@ ghost use Rattle.cert_model.specs.Due.{left_open};
 ghost use Rattle.cover_book.specs.Model.{problem_in};
 ghost use Rattle.cover_book.specs.Verdict.{verdict_of};
 ghost use Rattle.cover_book.specs.declared.verdict.BookVerdict.TheVariants as verdict;
-ghost use Rattle.dpoly.specs.Answer.{IsAnswer};
+ghost use Rattle.check_run.specs.Answer.{IsAnswer};
 ghost use Rattle.dpoly.specs.Search.{search_options as options_of, IsLeftBy, IsTold, SaysLeft};
 
 use cert_text::{first_stuck, write_cover, write_point};

@@ -4,15 +4,15 @@ ghost use Rattle.words.specs.Words.{AreOptions};
 ghost use Rattle.poly_graph.specs.ProblemViews.{problem_of};
 ghost use Rattle.cert_model.specs.AnswerText.{demo_text};
 ghost use Rattle.cert_model.specs.Due.{left_open};
-ghost use Rattle.dpoly.specs.Answer.{IsAnswer};
-ghost use Rattle.dpoly.specs.Course.{RunEnds};
-ghost use Rattle.dpoly.specs.Can.{CanSolve, CanDemo};
-ghost use Rattle.dpoly.specs.Run.{DemoHasCause, SameIn, SolveHasCause};
-ghost use Rattle.dpoly.specs.Search.{IsLeftBy, IsTold, IsWithin};
+ghost use Rattle.check_run.specs.Answer.{IsAnswer};
+ghost use Rattle.check_run.specs.Course.{RunEnds};
+ghost use Rattle.check_run.specs.Can.{CanSolve, CanDemo};
+ghost use Rattle.check_run.specs.Run.{DemoHasCause, SameIn, SolveHasCause};
+ghost use Rattle.check_run.specs.Script.{IsWithin};
+ghost use Rattle.dpoly.specs.Search.{IsLeftBy, IsTold};
 
 use crate::answers::{Told, search_options, tell, whole_cover};
-use crate::ports::finish;
-use crate::status::Status;
+use check_run::{Status, finish};
 use cover_book::{Book, BookVerdict};
 use desk::Desk;
 use poly_graph::Problem;
@@ -99,7 +99,7 @@ pub fn solve_problem<R: Threads + Wait + Sync, D: Desk, G: Gate + Sync>(
     }
 }
 
-/// Solves the problem of a script of so many bytes, and tells how large they are.
+/// Solves the problem of a script of so many bytes, and answers how large they are.
 pub fn solve_demo<R: Threads + Wait + Sync, D: Desk, G: Gate + Sync>(
     rt: &R,
     alloc: Global,

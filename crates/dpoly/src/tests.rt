@@ -1,5 +1,5 @@
 use super::*;
-use check::check_problem;
+use check_run::check_problem;
 use desk::{Desk, Fault, MemoryDesk, Port};
 use poly_graph::{FormGraph, FormNode, Graph, NoNode, Problem};
 use std::alloc::{AllocError, Global};
@@ -97,7 +97,7 @@ const POINT_SCRIPT: &str =
 
 const POINT_CERT: &str = "dpoly 2\nmargin 20\ndelta 10\nbound none\npoint\nreal 1b-1\nend\n";
 
-// Runs a line in which the call of a port with this number fails, and tells whether a call did. What stands on the out
+// Runs a line in which the call of a port with this number fails, and answers whether a call did. What stands on the out
 // ports is then a prefix of what a whole run writes, and nothing of the answer before the certificate is whole.
 fn fails_at<R: Threads + Wait + Abort + Alloc<A = Global> + Sync>(
     rt: &R,

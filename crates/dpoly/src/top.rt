@@ -2,35 +2,20 @@
 ghost use Rattle.std.specs.Prelude.{◌≡◌, None};
 ghost use Rattle.words.specs.Words.{AreOptions, IsDemo, IsInRange};
 ghost use Rattle.words.specs.Seen.{seen, seen_demo};
-ghost use Rattle.dpoly.specs.Run.{asked_run, CertIsRead, check_run, command_in, demo_run, HasCause, HasCourse, run, SameIn, ScriptIsRead, solve_run, StatusIsDue, StatusIsShown, upgrade_run};
-ghost use Rattle.dpoly.specs.Script.{HaltEnds};
-ghost use Rattle.dpoly.specs.Headline.{DeltaSatIsTrue, RefusalIsTrue, UnsatIsTrue, UpgradeIsTrue};
+ghost use Rattle.check_run.specs.Run.{asked_run, CertIsRead, command_in, demo_run, HasCause, HasCourse, run, SameIn, ScriptIsRead, solve_run, StatusIsDue, StatusIsShown, upgrade_run};
+ghost use Rattle.check_run.specs.Headline.{DeltaSatIsTrue, RefusalIsTrue, UnsatIsTrue, UpgradeIsTrue};
 
-use crate::check::check_problem;
-use crate::ports::say;
-use crate::script::{Halt, fetch_problem, read_script};
 use crate::solve::{solve_demo, solve_problem};
-use crate::status::Status;
 use crate::upgrade::upgrade_problem;
+use check_run::{Status, end_halted, fetch_problem, read_script, run_check, say};
 use desk::Desk;
 use gen_script::make;
+use problem_build::Reader;
 use solve_core::Gate;
 use std::alloc::Global;
 use std::sync::Wait;
 use std::thread::Threads;
-use words::{Asked, CheckWords, DemoWords, Refused, SolveWords, UpgradeWords, read_words};
-
-// Ends a run whose script has no problem.
-fn halt<D: Desk>(desk: &mut D, halt: Halt) -> Status
-    ensures ends { HaltEnds halt (D.sight desk.old) (D.sight desk.new) result }
-    ensures same { SameIn (D.sight desk.old) (D.sight desk.new) }
-{
-    match halt {
-        Halt::Refused(text) => say(desk, Status::ScriptRefused, &text),
-        Halt::Failed => Status::InFailed,
-        Halt::Memory => Status::NoMemory,
-    }
-}
+use words::{Asked, DemoWords, Refused, SolveWords, UpgradeWords, read_words};
 
 // Solves a script: its certificate, and then the answer.
 fn run_solve<R: Threads + Wait + Sync, D: Desk, G: Gate + Sync>(
@@ -50,27 +35,9 @@ fn run_solve<R: Threads + Wait + Sync, D: Desk, G: Gate + Sync>(
         cert,
         options,
     } = asked;
-    match fetch_problem(alloc, desk, script, options.bound) {
+    match fetch_problem(&Reader, alloc, desk, script, options.bound) {
         Ok(problem) => solve_problem(rt, alloc, desk, cert, &problem, options, gate),
-        Err(stop) => halt(desk, stop),
-    }
-}
-
-// Checks a certificate of a script.
-fn run_check<D: Desk>(alloc: Global, desk: &mut D, asked: CheckWords<'_>) -> Status
-    ensures cause { HasCause (check_run asked.entry (D.sight desk.old) (D.sight desk.new) result) }
-    ensures script { ScriptIsRead (check_run asked.entry (D.sight desk.old) (D.sight desk.new) result) }
-    ensures cert { CertIsRead (check_run asked.entry (D.sight desk.old) (D.sight desk.new) result) }
-    ensures course { HasCourse (check_run asked.entry (D.sight desk.old) (D.sight desk.new) result) }
-{
-    let CheckWords {
-        script,
-        cert,
-        bound,
-    } = asked;
-    match fetch_problem(alloc, desk, script, bound) {
-        Ok(problem) => check_problem(alloc, desk, cert, &problem, bound),
-        Err(stop) => halt(desk, stop),
+        Err(stop) => end_halted(desk, stop),
     }
 }
 
@@ -87,9 +54,9 @@ fn run_upgrade<D: Desk>(alloc: Global, desk: &mut D, asked: UpgradeWords<'_>) ->
         out,
         bound,
     } = asked;
-    match fetch_problem(alloc, desk, script, bound) {
+    match fetch_problem(&Reader, alloc, desk, script, bound) {
         Ok(problem) => upgrade_problem(alloc, desk, cert, out, &problem, bound),
-        Err(stop) => halt(desk, stop),
+        Err(stop) => end_halted(desk, stop),
     }
 }
 
@@ -115,9 +82,9 @@ fn run_demo<R: Threads + Wait + Sync, D: Desk, G: Gate + Sync>(
     let Ok(script) = make(alloc, seed, size) else {
         return Status::NoMemory;
     };
-    match read_script(alloc, &script, options.bound) {
+    match read_script(&Reader, alloc, &script, options.bound) {
         Ok(problem) => solve_demo(rt, alloc, desk, cert, &script, &problem, options, gate),
-        Err(stop) => halt(desk, stop),
+        Err(stop) => end_halted(desk, stop),
     }
 }
 
@@ -137,7 +104,7 @@ fn run_command<R: Threads + Wait + Sync, D: Desk, G: Gate + Sync>(
 {
     match asked {
         Asked::Solve(asked) => run_solve(rt, alloc, desk, asked, gate),
-        Asked::Check(asked) => run_check(alloc, desk, asked),
+        Asked::Check(asked) => run_check(&Reader, alloc, desk, asked),
         Asked::Demo(asked) => run_demo(rt, alloc, desk, asked, gate),
         Asked::Upgrade(asked) => run_upgrade(alloc, desk, asked),
     }
@@ -148,7 +115,7 @@ fn run_command<R: Threads + Wait + Sync, D: Desk, G: Gate + Sync>(
 /// `solve SCRIPT CERT` reads a script and writes a certificate of it, and then the answer. `check SCRIPT CERT` reads a
 /// script and a certificate, and answers whether the certificate is accepted, and what it shows. `upgrade SCRIPT CERT OUT`
 /// does so too, and writes a certificate that is accepted in version 2 of its format. `demo SEED SIZE CERT` makes a script,
-/// solves it, and answers how large it was. The gate is told when work on a box begins and ends.
+/// solves it, and answers how large it was. The gate is called when work on a box begins and ends.
 pub fn run_top<R: Threads + Wait + Sync, D: Desk, G: Gate + Sync>(
     rt: &R,
     alloc: Global,
@@ -156,20 +123,20 @@ pub fn run_top<R: Threads + Wait + Sync, D: Desk, G: Gate + Sync>(
     desk: &mut D,
     gate: &G,
 ) -> Status
-    // Whatever the desk tells: a status has its cause, refused words read nothing, and a script, and a certificate that
-    // is confirmed or written anew, are read to their ends.
+    // Whatever the desk shows: a status has its cause, refused words read nothing, and a script, and a certificate that
+    // is confirmed or written again, are read to their ends.
     ensures cause { HasCause (run words.now (D.sight desk.old) (D.sight desk.new) result) }
     ensures unread { command_in words.now ≡ None → SameIn (D.sight desk.old) (D.sight desk.new) }
     ensures script { ScriptIsRead (run words.now (D.sight desk.old) (D.sight desk.new) result) }
     ensures cert { CertIsRead (run words.now (D.sight desk.old) (D.sight desk.new) result) }
 
-    // Of what the desk tells: each status shows what its row says, and where neither side fails it is the one that is
+    // Of what the desk shows: each status shows what its row says, and where neither side fails it is the one that is
     // due, or there was no memory.
     ensures shows { StatusIsShown (run words.now (D.sight desk.old) (D.sight desk.new) result) }
     ensures complete { StatusIsDue (run words.now (D.sight desk.old) (D.sight desk.new) result) }
 
     // What is answered is true of the script, and a certificate that is refused has the fault that is answered. What is
-    // written anew is accepted with the value of the certificate that was read.
+    // written again is accepted with the value of the certificate that was read.
     ensures unsat { UnsatIsTrue (run words.now (D.sight desk.old) (D.sight desk.new) result) }
     ensures delta_sat { DeltaSatIsTrue (run words.now (D.sight desk.old) (D.sight desk.new) result) }
     ensures refused { RefusalIsTrue (run words.now (D.sight desk.old) (D.sight desk.new) result) }

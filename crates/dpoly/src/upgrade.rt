@@ -1,14 +1,12 @@
 // `upgrade`, from a problem to a certificate in version 2.
 ghost use Rattle.std.specs.Prelude.{◌≡◌, ◌++◌, ◌+◌, ◌<◌, ◌^◌, OnOk, length};
 ghost use Rattle.cert_check.specs.Feeding.{bytes_taken, IsFedPiece};
-ghost use Rattle.dpoly.specs.Run.{IsReadToEnd, SameIn, UpgradeHasCause};
+ghost use Rattle.check_run.specs.Run.{IsReadToEnd, SameIn, UpgradeHasCause};
 ghost use Rattle.dpoly.specs.Upgrade.{EndsOnUpgrade, EndsOnUpgraded, IsKeptFor, IsReadAsKept};
 
-use crate::check::{ROOM, Unconfirmed, refuse};
-use crate::ports::finish;
-use crate::status::Status;
 use cert_check::{CertFault, Feed};
 use cert_upgrade::upgrade;
+use check_run::{ROOM, Status, Unconfirmed, finish, refuse};
 use desk::{Denied, Desk, Port};
 use poly_graph::Problem;
 use std::alloc::Global;

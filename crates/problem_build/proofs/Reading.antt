@@ -1,7 +1,6 @@
 -- The first fault of a script, by the phase that met it, and the problem of a script without one.
-use Rattle.std.proofs.Common.{◌≡◌, ◌≤◌, ◌<◌, ◌+◌, ◌∷◌, [], ℕ, suc, List, Bool, true, false, cond, nat_le, nat_lt, Option, Some, None, length, refl, ap, sym, ◌∙◌, subst, arith}
+use Rattle.std.proofs.Common.{◌≡◌, ◌≤◌, ◌<◌, ◌+◌, ◌∷◌, [], ℕ, suc, List, Bool, true, false, cond, nat_lt, Option, Some, None, length, refl, ap, sym, ◌∙◌, subst, arith}
 use Rattle.std.proofs.lemmas.Bool.{le-leb, ltb-true}
-use Rattle.std.proofs.lemmas.Bool.Decides.{leb_tells}
 use Rattle.script_model.specs.Sexp.{Sexp, Place}
 use Rattle.script_model.specs.Reading.{Names, value}
 use Rattle.script_model.specs.Script.{Command, declare, define, claim, check, ineffective, Constant, constants_of}
@@ -25,19 +24,8 @@ use Rattle.poly_graph.specs.ProblemViews.{Parts, problem_of, IsWhole}
 use Rattle.problem_build.specs.Told.{IsBuildingError, IsLean}
 use Rattle.script_faults.specs.Faults.{script_fault, in_text, in_commands, in_sorts, in_building, most_bytes}
 use Rattle.script_faults.proofs.Parts.{text_first, commands_first, sorts_first}
-use Rattle.problem_build.specs.Reader as reader
-use Rattle.problem_build.specs.Reader.{HasProblem, too_many_bytes, or_none}
-
--- ---- a script that is too long
-
-long-by : (b : Bool) (x : Option ScriptFault) → b ≡ false → cond b x (Some too_many_bytes) ≡ Some too_many_bytes
-long-by b x e = ap (λ (t : Bool). cond t x (Some too_many_bytes)) e
-
-not-within : (n m : ℕ) → m < n → nat_le n m ≡ false
-not-within n m above = grind (arith, leb_tells)
-
-pub long_fault : (bound : Option ℕ) (script : List ℕ) → most_bytes < length script → script_fault bound script ≡ Some too_many_bytes
-long_fault bound script long = long-by (nat_le (length script) most_bytes) (in_text bound (read script)) (not-within (length script) most_bytes long)
+use Rattle.script_faults.specs.Reader as reader
+use Rattle.script_faults.specs.Reader.{HasProblem, too_many_bytes, or_none}
 
 -- ---- a fault of one phase
 

@@ -1,6 +1,5 @@
 pub mod Laws
 pub mod Names
-pub mod Reader
 pub mod Reads
 pub mod Roots
 pub mod Standing

@@ -19,7 +19,7 @@ mod top;
 mod walk;
 
 pub use assembly::{assemble, root_form};
-pub use reader::read_problem;
+pub use reader::{Reader, read_problem};
 pub use script::build;
 
 /// A well-sorted script meets no expression without a sort when it is built.

@@ -3,11 +3,12 @@ ghost use Rattle.std.specs.Prelude.{MatchResult};
 ghost use Rattle.poly_graph.specs.ProblemViews.{problem_of};
 ghost use Rattle.script_fault.specs.Answers.{IsFaultOrMemory};
 ghost use Rattle.script_faults.specs.Faults.{script_fault};
-ghost use Rattle.problem_build.specs.Reader.{HasProblem};
+ghost use Rattle.script_faults.specs.Reader.{HasProblem};
 
 use crate::build;
 use poly_graph::Problem;
 use script_fault::{FaultKind, Limit, MOST_BYTES, Place, ReadError};
+use script_faults::ScriptReader;
 use smt_script::commands;
 use smt_sexp::read;
 use sort_check::check;
@@ -34,4 +35,19 @@ pub fn read_problem(alloc: Global, bytes: &[u8], bound: Option<u32>) -> Result<P
     // Its type keeps that it is whole.
     let _ = problem.axes();
     Ok(problem)
+}
+
+/// The reader of scripts: `read_problem`.
+#[derive(Clone, Copy, Debug, PartialEq, Eq)]
+pub struct Reader;
+
+impl ScriptReader for Reader {
+    fn read_script(
+        &self,
+        alloc: Global,
+        bytes: &[u8],
+        bound: Option<u32>,
+    ) -> Result<Problem, ReadError> {
+        read_problem(alloc, bytes, bound)
+    }
 }

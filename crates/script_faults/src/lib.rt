@@ -1,10 +1,15 @@
 //! The first fault of a script's bytes, and what a script without one is.
 //!
-//! No code runs here: each function is a law about the definitions in `specs/`, and its contract is the law.
+//! No code runs here: each function is a law about the definitions in `specs/`, and its contract is the law. The trait
+//! `ScriptReader` says what a reader of scripts answers; `problem_build` implements it.
 #![tactic(auto)]
 
 ghost use Rattle.script_faults.specs.Laws.{FaultlessIsAccepted};
 ghost use Rattle.script_faults.specs.WellSorted.{SortedUnfolds};
+
+mod reader;
+
+pub use reader::ScriptReader;
 
 /// Bytes without a fault are the text of a script without one.
 #[tactic(auto, using(crate::proofs::Accepted::faultless_accepted))]

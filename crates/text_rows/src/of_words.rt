@@ -50,6 +50,16 @@ fn solves(alloc: Global, line: &str, options: Options) -> Result<bool, AllocErro
     )
 }
 
+// Whether a line asks the checker for this, or is refused for usage where nothing is given.
+fn checks(alloc: Global, line: &str, asked: Option<CheckWords<'_>>) -> Result<bool, AllocError> {
+    let words = words_of(alloc, line)?;
+    match (read_checker_words(alloc, &words), asked) {
+        (Ok(found), Some(asked)) => Ok(found == asked),
+        (Err(Refused::Usage), None) => Ok(true),
+        _ => Ok(false),
+    }
+}
+
 #[test]
 fn refused_forms(rt: HostRuntime) -> Result<(), Fail> {
     let alloc = rt.alloc();
@@ -254,5 +264,36 @@ fn other_commands_are_asked(rt: HostRuntime) -> Result<(), Fail> {
             Asked::Demo(last)
         )?
     );
+    Ok(())
+}
+
+#[test]
+fn the_checker_is_asked(rt: HostRuntime) -> Result<(), Fail> {
+    let alloc = rt.alloc();
+    let plain = CheckWords {
+        script: "s",
+        cert: "-",
+        bound: None,
+    };
+    assert!(rt; checks(alloc, "dpoly-check s -", Some(plain))?);
+    let bounded = CheckWords {
+        script: "check",
+        cert: "c",
+        bound: Some(4294967295),
+    };
+    assert!(rt; checks(alloc, "any --bound=4294967295 check c", Some(bounded))?);
+    let lines: &[&str] = &[
+        "dpoly-check",
+        "dpoly-check s",
+        "dpoly-check check s c",
+        "dpoly-check - -",
+        "dpoly-check s c --bound 0",
+        "dpoly-check s c --workers 1",
+        "dpoly-check --help",
+        "dpoly-check --version",
+    ];
+    for line in lines {
+        assert!(rt; checks(alloc, line, None)?);
+    }
     Ok(())
 }

@@ -1,8 +1,8 @@
 -- What some words ask for, by computation.
 use Rattle.std.proofs.Common.{◌≡◌, refl, [], ◌∷◌, Some, None, codes}
 use Rattle.clap.proofs.OnLiterals.{clap_on_literals}
-use Rattle.words.specs.Program.{program}
-use Rattle.words.specs.Words.{number_of, usual, command_of, solve, check, demo, upgrade}
+use Rattle.words.specs.Program.{checker, program}
+use Rattle.words.specs.Words.{number_of, usual, checker_of, command_of, solve, check, demo, upgrade}
 
 -- the usual options
 usual_solve : command_of (codes "dpoly" ∷ codes "solve" ∷ codes "s" ∷ codes "c" ∷ []) ≡ Some (solve (record { script = codes "s"; cert = codes "c"; options = usual 1 }))
@@ -95,6 +95,23 @@ check_of_files = refl
 check_of_one_stream : command_of (codes "dpoly" ∷ codes "check" ∷ codes "-" ∷ codes "-" ∷ []) ≡ None
 unfolding program clap_on_literals number_of
 check_of_one_stream = refl
+
+-- the checker's own words
+checker_of_files : checker_of (codes "dpoly-check" ∷ codes "s" ∷ codes "c" ∷ codes "--bound" ∷ codes "8" ∷ []) ≡ Some (record { script = codes "s"; cert = codes "c"; bound = Some 8 })
+unfolding checker clap_on_literals number_of
+checker_of_files = refl
+
+checker_of_one_stream : checker_of (codes "dpoly-check" ∷ codes "-" ∷ codes "-" ∷ []) ≡ None
+unfolding checker clap_on_literals number_of
+checker_of_one_stream = refl
+
+checker_without_certificate : checker_of (codes "dpoly-check" ∷ codes "s" ∷ []) ≡ None
+unfolding checker clap_on_literals number_of
+checker_without_certificate = refl
+
+checker_with_subcommand : checker_of (codes "dpoly-check" ∷ codes "check" ∷ codes "s" ∷ codes "c" ∷ []) ≡ None
+unfolding checker clap_on_literals number_of
+checker_with_subcommand = refl
 
 -- a demo
 first_demo : command_of (codes "dpoly" ∷ codes "demo" ∷ codes "0" ∷ codes "1" ∷ codes "-" ∷ []) ≡ Some (demo (record { seed = 0; size = 1; cert = codes "-"; options = usual 1 }))

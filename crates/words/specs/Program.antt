@@ -49,6 +49,11 @@ abbrev pub check_app : App
 check_app = with_rule (with_rule (with_rule (new_app (codes "check"))
     (word_rule (codes "script"))) (word_rule (codes "cert"))) bound_rule
 
+-- the checker's own command, `dpoly-check SCRIPT CERT` and its option
+unfoldable pub checker : App
+checker = with_rule (with_rule (with_rule (new_app (codes "dpoly-check"))
+    (word_rule (codes "script"))) (word_rule (codes "cert"))) bound_rule
+
 -- `upgrade SCRIPT CERT OUT` and its option
 abbrev pub upgrade_app : App
 upgrade_app = with_rule (with_rule (with_rule (with_rule (new_app (codes "upgrade"))

@@ -5,9 +5,9 @@ use Rattle.std.specs.List.{list_all}
 use Rattle.std.specs.Char.{digit_value}
 use Rattle.std.specs.Str.Parse.{without_leading_plus, digits_value}
 use Rattle.clap.specs.Walk.{is_empty}
-use Rattle.clap.specs.Words.{Row, Text, fault_of, first_of, one_of, subcommand_of}
+use Rattle.clap.specs.Words.{Row, Text, fault_of, first_of, matches_of, one_of, subcommand_of}
 use Rattle.words.specs.declared.asked.Options.{Options}
-use Rattle.words.specs.Program.{program}
+use Rattle.words.specs.Program.{checker, program}
 
 -- A text writes a number of so many bits in decimal digits, at least one; a plus sign may stand before them.
 abbrev pub is_number : ℕ → Text → Bool
@@ -128,9 +128,13 @@ chosen entered =
     else (if bytes_eq entered.0 (codes "demo") then option_map (λ asked. demo asked) (demo_of entered.1)
     else (if bytes_eq entered.0 (codes "upgrade") then option_map (λ asked. upgrade asked) (upgrade_of entered.1) else None)))
 
--- What words ask for; none where they are refused, for whatever cause but want of memory.
+-- What words ask for; none where they are refused, for whatever cause but that memory ran out.
 abbrev pub command_of : List Text → Option Command
 command_of words = if is_empty (fault_of program words) then option_and_then chosen (subcommand_of program words) else None
+
+-- What the words of the checker's call ask for, in the same way.
+abbrev pub checker_of : List Text → Option Check
+checker_of words = if is_empty (fault_of checker words) then check_of (matches_of checker words) else None
 
 -- the size up to which constants without a bound are looked at is one, where one is given
 abbrev pub IsBound : Option ℕ → Type 0

@@ -1,4 +1,4 @@
-//! What the words of a call ask the program for.
+//! What the words of a call ask the program for, or the checker.
 #![tactic(auto)]
 
 mod asked;
@@ -7,5 +7,5 @@ mod read;
 mod usage;
 
 pub use asked::{Asked, CheckWords, DemoWords, Options, SolveWords, UpgradeWords};
-pub use read::{Refused, read_words};
-pub use usage::usage_text;
+pub use read::{Refused, read_checker_words, read_words};
+pub use usage::{checker_usage_text, usage_text};

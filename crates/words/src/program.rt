@@ -1,7 +1,7 @@
 ghost use Rattle.std.specs.Prelude.{◌≡◌, IfOk, false};
 ghost use Rattle.clap.specs.Words.{rule_of, app_of, new_app};
 ghost use Rattle.clap.specs.declared.builder.command.Command.TheViews.{out-Command as fields_of};
-ghost use Rattle.words.specs.Program.{delta_rule, margin_rule, least_rule, budget_rule, bound_rule, workers_rule, word_rule, seed_rule, size_rule, solve_app, check_app, demo_app, upgrade_app, program};
+ghost use Rattle.words.specs.Program.{delta_rule, margin_rule, least_rule, budget_rule, bound_rule, workers_rule, word_rule, seed_rule, size_rule, solve_app, check_app, demo_app, upgrade_app, checker, program};
 
 use clap::{Arg, Command, value_parser};
 use std::alloc::{AllocError, Global};
@@ -178,6 +178,24 @@ fn upgrade_command<'a>(alloc: Global) -> Result<Command<'a>, AllocError>
         .arg(word(alloc, "script"))?
         .arg(word(alloc, "cert"))?
         .arg(word(alloc, "out"))?
+        .arg(bound_option(alloc))?,
+    )
+}
+
+// The checker's command, as the definitions have it.
+pub fn checker_command<'a>(alloc: Global) -> Result<Command<'a>, AllocError>
+    ensures app { IfOk result (λ c. app_of c ≡ checker) }
+    ensures local { IfOk result (λ c. (fields_of c).has_globals ≡ false) }
+{
+    Ok(
+        described(
+            alloc,
+            "dpoly-check",
+            "Checks a certificate of a script of bounded polynomial constraints",
+            "A file named - is standard input. Example: dpoly-check braking.smt2 braking.cert",
+        )
+        .arg(word(alloc, "script"))?
+        .arg(word(alloc, "cert"))?
         .arg(bound_option(alloc))?,
     )
 }

@@ -1,14 +1,14 @@
 ghost use Rattle.std.specs.Prelude.{◌≡◌, ◌≢◌, ◌&&◌, [], IfOk, IsErrOf, None, Some, codes, map, option_and_then, option_map, string_bytes};
 ghost use Rattle.std.specs.Str.{bytes_eq};
-ghost use Rattle.clap.specs.Words.{fault_of, first_of, found_of, kind_of, one_of, rows_of, subcommand_of, subcommand_rows_of};
-ghost use Rattle.words.specs.Program.{program};
-ghost use Rattle.words.specs.Words.{check_of, chosen, command_of, demo_of, long_number_in, number_in, number_of, options_of, IsInRange, solve_of, upgrade_of};
+ghost use Rattle.clap.specs.Words.{fault_of, first_of, found_of, kind_of, matches_of, one_of, rows_of, subcommand_of, subcommand_rows_of};
+ghost use Rattle.words.specs.Program.{checker, program};
+ghost use Rattle.words.specs.Words.{check_of, checker_of, chosen, command_of, demo_of, long_number_in, number_in, number_of, options_of, IsInRange, solve_of, upgrade_of};
 ghost use Rattle.words.specs.Seen.{seen, seen_check, seen_demo, seen_solve, seen_upgrade};
 
 use crate::asked::{
     Asked, CheckWords, DemoWords, Options, SolveWords, UpgradeWords, usual_options,
 };
-use crate::program::program_command;
+use crate::program::{checker_command, program_command};
 use clap::error::ErrorKind;
 use clap::{ArgMatches, Error};
 use std::alloc::Global;
@@ -35,7 +35,22 @@ fn parse<'a>(alloc: Global, words: &'a [String]) -> Result<ArgMatches<'a>, Refus
     }
 }
 
-// Want of memory is a refusal of its own.
+// What the parser makes of the words of the checker's call.
+fn parse_checker<'a>(alloc: Global, words: &'a [String]) -> Result<ArgMatches<'a>, Refused>
+    ensures ok { IfOk result (λ m. (fault_of checker (map string_bytes words.entry.now) ≡ [])
+        × (rows_of (found_of m) ≡ matches_of checker (map string_bytes words.entry.now))) }
+    ensures usage { IsErrOf result Refused.Usage → fault_of checker (map string_bytes words.entry.now) ≢ [] }
+{
+    let Ok(command) = checker_command(alloc) else {
+        return Err(Refused::Memory);
+    };
+    match command.try_get_matches_from(words) {
+        Ok(matches) => Ok(matches),
+        Err(error) => Err(refusal(&error)),
+    }
+}
+
+// Words are refused apart where there was no memory to read them.
 fn refusal(error: &Error) -> Refused
     ensures usage { result ≡ Refused.Usage → kind_of error.now ≢ ErrorKind.OutOfMemory }
 {
@@ -189,8 +204,8 @@ fn choose<'a>(name: &str, matches: &ArgMatches<'a>) -> Option<Asked<'a>>
 
 /// Reads the words of a call; the first of them is the program's name.
 ///
-/// Refused for usage exactly where `command_of` has nothing, `--help` and the like included; want of memory is told
-/// apart from that.
+/// Refused for usage exactly where `command_of` has nothing, `--help` and the like included. Out of memory is a refusal of
+/// its own.
 pub fn read_words<'a>(alloc: Global, words: &'a [String]) -> Result<Asked<'a>, Refused>
     ensures ok { IfOk result (λ asked. command_of (map string_bytes words.entry.now) ≡ Some (seen asked)) }
     ensures range { IfOk result (λ asked. IsInRange (seen asked)) }
@@ -204,6 +219,24 @@ pub fn read_words<'a>(alloc: Global, words: &'a [String]) -> Result<Asked<'a>, R
         return Err(Refused::Usage);
     };
     match choose(name, inner) {
+        Some(asked) => Ok(asked),
+        None => Err(Refused::Usage),
+    }
+}
+
+/// Reads the words of a call of the checker; the first of them is its name.
+///
+/// Refused for usage exactly where `checker_of` has nothing, `--help` and the like included. Out of memory is a refusal of
+/// its own.
+pub fn read_checker_words<'a>(alloc: Global, words: &'a [String]) -> Result<CheckWords<'a>, Refused>
+    ensures ok { IfOk result (λ asked. checker_of (map string_bytes words.entry.now) ≡ Some (seen_check asked)) }
+    ensures usage { IsErrOf result Refused.Usage → checker_of (map string_bytes words.entry.now) ≡ None }
+{
+    let matches = match parse_checker(alloc, words) {
+        Ok(matches) => matches,
+        Err(refused) => return Err(refused),
+    };
+    match check_words(&matches) {
         Some(asked) => Ok(asked),
         None => Err(Refused::Usage),
     }

@@ -1,9 +1,11 @@
-// What to tell a user whose words are refused.
-use crate::program::program_command;
+// What to say to a user whose words are refused.
+use crate::program::{checker_command, program_command};
 use clap::ArgMatches;
 use std::alloc::{AllocError, Global};
 
 const VERSION: &str = "dpoly 2\n";
+
+const CHECKER_VERSION: &str = "dpoly-check 2\n";
 
 const NOT_BELOW: &str =
     "error: the number after '--delta-bits' must be below the one after '--margin-bits'\n";
@@ -36,6 +38,18 @@ pub fn usage_text(alloc: Global, words: &[String]) -> Result<String, AllocError>
     let command = program_command(alloc)?;
     match command.try_get_matches_from(words) {
         Ok(matches) => second_refusal(&matches).to_string(alloc),
+        Err(error) => format!(in alloc; "{error}"),
+    }
+}
+
+/// The text to show for words that `read_checker_words` refuses, likewise.
+pub fn checker_usage_text(alloc: Global, words: &[String]) -> Result<String, AllocError> {
+    if asks_version(words) {
+        return CHECKER_VERSION.to_string(alloc);
+    }
+    let command = checker_command(alloc)?;
+    match command.try_get_matches_from(words) {
+        Ok(_) => ONE_INPUT.to_string(alloc),
         Err(error) => format!(in alloc; "{error}"),
     }
 }

@@ -1,7 +1,7 @@
 use Rattle.std.proofs.Common.{Some, subst, sym}
 use Rattle.words.specs.declared.asked.Asked.{Asked}
 use Rattle.words.specs.Seen.{seen}
-use Rattle.dpoly.specs.Run.{HasCourse, run_of}
+use Rattle.check_run.specs.Run.{HasCourse, run_of}
 use Rattle.dpoly.proofs.top.run_command.Goals as goal
 
 pub returns-in-Solve-clause-course : goal.returns-in-Solve-clause-course

@@ -1,10 +1,10 @@
 use Rattle.std.proofs.Common.{ℕ, List, [], subst, ◌∙◌}
 use Rattle.words.specs.Seen.{seen_demo}
 use Rattle.poly_graph.specs.ProblemViews.{problem_of}
-use Rattle.dpoly.specs.Course.{RunEnds}
-use Rattle.dpoly.specs.Can.{CanDemo}
-use Rattle.problem_build.specs.Reader.{HasProblem}
-use Rattle.dpoly.proofs.Running.{demo_problem, demo_halted}
+use Rattle.check_run.specs.Course.{RunEnds}
+use Rattle.check_run.specs.Can.{CanDemo}
+use Rattle.script_faults.specs.Reader.{HasProblem}
+use Rattle.check_run.proofs.Running.{demo_problem, demo_halted}
 use Rattle.dpoly.proofs.top.run_demo.Goals as goal
 
 pub returns-in-Ok-read_script-clause-course : goal.returns-in-Ok-read_script-clause-course
@@ -17,4 +17,4 @@ returns-in-Ok-read_script-clause-course g c script cert_in tells =
 
 pub returns-clause-course : goal.returns-clause-course
 returns-clause-course g c script cert_in tells =
-    demo_halted (seen_demo c.args.asked) c.deref.result.now c.in-Err.stop _ _ _ c.in-Err.ensures.script (c.deref.ensures.value ∙ c.in-Ok.ensures) c.halt.ensures.ends script cert_in
+    demo_halted (seen_demo c.args.asked) c.deref.result.now c.in-Err.stop _ _ _ c.in-Err.ensures.script (c.deref.ensures.value ∙ c.in-Ok.ensures) c.end_halted.ensures.ends script cert_in

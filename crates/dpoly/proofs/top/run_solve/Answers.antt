@@ -1,7 +1,7 @@
 use Rattle.std.proofs.Common.{[]}
 use Rattle.poly_graph.specs.ProblemViews.{problem_of}
-use Rattle.dpoly.specs.Can.{CanSolve}
-use Rattle.dpoly.proofs.Running.{run_problem, run_halted}
+use Rattle.check_run.specs.Can.{CanSolve}
+use Rattle.check_run.proofs.Running.{run_problem, run_halted}
 use Rattle.dpoly.proofs.top.run_solve.Goals as goal
 
 pub returns-in-Ok-clause-course : goal.returns-in-Ok-clause-course
@@ -12,4 +12,4 @@ returns-in-Ok-clause-course g c script cert_in tells =
 pub returns-in-Err-clause-course : goal.returns-in-Err-clause-course
 returns-in-Err-clause-course g c script cert_in tells =
     run_halted c.args.asked.options.bound c.args.asked.script.now script (λ p. CanSolve p c.args.asked.options c.args.asked.cert.now) [] _ _ _ _
-    c.in-Err.stop c.in-Err.ensures.script tells c.halt.ensures.ends
+    c.in-Err.stop c.in-Err.ensures.script tells c.end_halted.ensures.ends

@@ -1,11 +1,11 @@
 use Rattle.std.proofs.Common.{◌≡◌, ap, Err, ℕ, List, Option, None, refl, subst, sym}
 use Rattle.words.specs.Words.{Command}
-use Rattle.dpoly.specs.Course.{says, on_course}
-use Rattle.dpoly.specs.Can.{usage_text}
-use Rattle.dpoly.specs.Run.{command_in, HasCourse, run_of}
-use Rattle.dpoly.specs.declared.status.Status.TheVariants.{Usage}
-use Rattle.dpoly.proofs.Shown.{status_is_due, status_is_shown}
-use Rattle.dpoly.proofs.Headline.{unsat_is_true, delta_sat_is_true, refusal_is_true, upgrade_is_true}
+use Rattle.check_run.specs.Course.{says, on_course}
+use Rattle.check_run.specs.Can.{usage_text}
+use Rattle.check_run.specs.Run.{command_in, HasCourse, run_of}
+use Rattle.check_run.specs.declared.status.Status.TheVariants.{Usage}
+use Rattle.check_run.proofs.Shown.{status_is_due, status_is_shown}
+use Rattle.check_run.proofs.Headline.{unsat_is_true, delta_sat_is_true, refusal_is_true, upgrade_is_true}
 use Rattle.dpoly.proofs.top.run_top.Goals as goal
 
 pub returns-in-Ok-clause-shows : goal.returns-in-Ok-clause-shows

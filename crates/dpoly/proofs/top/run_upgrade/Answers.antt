@@ -3,10 +3,10 @@ use Rattle.desk.specs.declared.desk.Port.TheVariants.{CertIn}
 use Rattle.words.specs.Words.{upgrade}
 use Rattle.words.specs.Seen.{seen_upgrade}
 use Rattle.poly_graph.specs.ProblemViews.{problem_of}
-use Rattle.dpoly.specs.Course.{RunEnds}
-use Rattle.dpoly.specs.Can.{CanUpgrade}
-use Rattle.dpoly.specs.Script.{script_start}
-use Rattle.dpoly.proofs.Running.{cause_behind, run_problem, run_halted, told}
+use Rattle.check_run.specs.Course.{RunEnds}
+use Rattle.check_run.specs.Can.{CanUpgrade}
+use Rattle.check_run.specs.Script.{script_start}
+use Rattle.check_run.proofs.Running.{cause_behind, run_problem, run_halted, told}
 use Rattle.dpoly.proofs.top.run_upgrade.Goals as goal
 
 pub returns-in-Ok-clause-course : goal.returns-in-Ok-clause-course
@@ -19,7 +19,7 @@ returns-in-Ok-clause-course g c script cert_in tells =
 pub returns-in-Err-clause-course : goal.returns-in-Err-clause-course
 returns-in-Err-clause-course g c script cert_in tells =
     run_halted c.args.asked.bound c.args.asked.script.now script (λ p. CanUpgrade p c.args.asked.bound c.args.asked.cert.now c.args.asked.out.now cert_in) ((CertIn, c.args.asked.cert.now) ∷ []) _ _ _ _
-    c.in-Err.stop c.in-Err.ensures.script tells.0 c.halt.ensures.ends
+    c.in-Err.stop c.in-Err.ensures.script tells.0 c.end_halted.ensures.ends
 
 pub returns-in-Ok-clause-cause : goal.returns-in-Ok-clause-cause
 returns-in-Ok-clause-cause g c =

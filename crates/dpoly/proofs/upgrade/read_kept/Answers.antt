@@ -1,7 +1,7 @@
 use Rattle.std.proofs.Common.{◌<◌, Err, length, arith}
 use Rattle.std.proofs.lemmas.Grind.{common_steps}
 use Rattle.desk.proofs.Reading.{read_step, read_some, read_fails}
-use Rattle.dpoly.proofs.Verdicts.{check_end, check_whole, check_fault}
+use Rattle.check_run.proofs.Verdicts.{check_end, check_whole, check_fault}
 use Rattle.dpoly.proofs.Upgrading.{kept_start, kept_step, kept_end}
 use Rattle.dpoly.proofs.upgrade.read_kept.Goals as goal
 

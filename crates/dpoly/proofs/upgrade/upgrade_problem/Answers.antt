@@ -2,11 +2,11 @@ use Rattle.std.proofs.Common.{ℕ, List, [], ◌∷◌, Some, Err, subst}
 use Rattle.desk.specs.declared.desk.Port.TheVariants.{CertIn}
 use Rattle.words.specs.Words.{upgrade}
 use Rattle.poly_graph.specs.ProblemViews.{problem_of}
-use Rattle.dpoly.specs.declared.check.Unconfirmed.{Unconfirmed}
-use Rattle.dpoly.specs.Course.{RunEnds}
+use Rattle.check_run.specs.declared.check.Unconfirmed.{Unconfirmed}
+use Rattle.check_run.specs.Course.{RunEnds}
 use Rattle.dpoly.specs.Upgrade.{IsKeptFor, IsReadAsKept, IsUpgradeOf}
-use Rattle.dpoly.proofs.Ending.{after_cert_in}
-use Rattle.dpoly.proofs.Running.{cause_behind}
+use Rattle.check_run.proofs.Ending.{after_cert_in}
+use Rattle.check_run.proofs.Running.{cause_behind}
 use Rattle.dpoly.proofs.Upgrading.{upgraded_ends, refused_ends}
 use Rattle.dpoly.proofs.upgrade.upgrade_problem.Goals as goal
 

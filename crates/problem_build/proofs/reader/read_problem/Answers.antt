@@ -2,7 +2,8 @@ use Rattle.std.proofs.Common.{◌≤◌, length, arith}
 use Rattle.std.proofs.lemmas.Result.{err_from_is_err_and}
 use Rattle.script_faults.specs.Faults.{most_bytes}
 use Rattle.smt_sexp.specs.Arena.{rest_of, listed}
-use Rattle.problem_build.proofs.Reading.{long_fault, text_refused, commands_refused, sorts_refused, building_refused, problem_had}
+use Rattle.script_faults.proofs.Long.{long_fault}
+use Rattle.problem_build.proofs.Reading.{text_refused, commands_refused, sorts_refused, building_refused, problem_had}
 use Rattle.problem_build.proofs.reader.read_problem.Goals as goal
 
 pub returns-then-bytes-gt-MOST_BYTES : goal.returns-then-bytes-gt-MOST_BYTES

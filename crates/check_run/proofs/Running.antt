@@ -1,0 +1,126 @@
+-- A run from its script on.
+use Rattle.std.proofs.Common.{◌≡◌, ◌≤◌, ℕ, List, [], ◌∷◌, Option, Some, None, length, refl, ap, sym, subst, ◌∙◌, min, IfSome, rules}
+use Rattle.std.specs.Prelude.{option_map}
+use Rattle.desk.specs.declared.desk.Port.TheVariants.{Script}
+use Rattle.desk.specs.Sight.{Sight, SideFailed}
+use Rattle.words.specs.Words.{Demo, Command, demo}
+use Rattle.gen_script.specs.Demo.{demo_script}
+use Rattle.poly_graph.specs.Problem.{Problem}
+use Rattle.script_fault.specs.declared.fault.ScriptFault.{ScriptFault}
+use Rattle.answer_text.specs.ScriptFaults.{fault_text}
+use Rattle.script_faults.specs.Faults.{most_bytes, script_fault}
+use Rattle.check_run.specs.declared.status.Status.{Status}
+use Rattle.check_run.specs.declared.status.Status.TheVariants.{Answered, CertRefused, ScriptRefused, Usage, InFailed, OutFailed, NoMemory}
+use Rattle.check_run.specs.declared.script.Halt.{Halt}
+use Rattle.check_run.specs.declared.script.Halt.TheVariants as halt
+use Rattle.check_run.specs.Course.{Start, Course, says, behind, appended, Quiet, Ends, at_its_end, out_failed, no_memory, RunEnds, on_course, in_failed, no_memory_yet}
+use Rattle.check_run.specs.Can.{CanDemo, CanBy, CanFrom, OfProblem, Can}
+use Rattle.check_run.specs.Run.{HasCause, ReadsScript, ScriptIsRead, run_of}
+use Rattle.check_run.specs.Parts.{After}
+use Rattle.script_faults.specs.Reader.{HasProblem}
+use Rattle.check_run.specs.Script.{HasFaultText, Refuses, script_start, Fetches, Halts, HaltEnds}
+use Rattle.check_run.proofs.Ending.{appended-nil, take_first, ends_behind, run_behind, widen}
+
+-- ---- what a course is behind its script
+
+by_problem : (bound : Option ℕ) (script : List ℕ) (p : Problem) (goes : Problem → Course → Type 0) → HasProblem bound p script → (course : Course) → goes p course →
+    CanBy (script_fault bound script) (OfProblem bound script goes) course
+by_problem bound script p goes has course can =
+    let P : Option ScriptFault → Type 0 = λ f. CanBy f (OfProblem bound script goes) course in
+    subst P (sym has.clean) (p, has.built, can)
+
+by_text : (f : Option ScriptFault) (text : List ℕ) (goes : Course → Type 0) → option_map fault_text f ≡ Some text → CanBy f goes (says ScriptRefused text)
+by_text None text goes e = cc
+by_text (Some f) text goes e = let same : text ≡ fault_text f = cc in ap (λ t. says ScriptRefused t) same
+
+-- what is told of what a port held
+pub told : (P : List ℕ → Type 0) (o : Option (List ℕ)) (script : List ℕ) → o ≡ Some script → IfSome o P → P script
+told P o script e h = let Q : Option (List ℕ) → Type 0 = λ x. IfSome x P in subst Q e h
+
+-- ---- the ends of a run behind its script
+
+module _ (bound : Option ℕ) (name script : List ℕ) (goes : Problem → Course → Type 0) (ins : List Start) (old mid new : Sight) (status : Status) where
+  pub run_problem : (p : Problem) → Fetches bound name p old mid → old.script ≡ Some script → RunEnds (goes p) ins mid new status →
+      RunEnds (CanFrom name (script_fault bound script) (OfProblem bound script goes)) ((Script, name) ∷ ins) old new status
+  run_problem p fetched e ends =
+      let has = told (HasProblem bound p) old.script script e fetched.has in
+      run_behind (goes p) (CanFrom name (script_fault bound script) (OfProblem bound script goes)) (Script, name) ins old mid new status fetched.after
+      (λ tail can. (tail, by_problem bound script p goes has tail can, refl)) ends
+
+  quiet_more : Quiet (script_start name) old new → Quiet ((Script, name) ∷ ins) old new
+  quiet_more quiet = record {
+    starts_made = min quiet.starts_made 1;
+    starts_are = quiet.starts_are ∙ ap (λ l. appended old.starts l) (take_first quiet.starts_made ((Script, name) ∷ []) ins);
+    cert = quiet.cert;
+    answer = quiet.answer;
+  }
+
+  pub run_halted : (h : Halt) → Halts bound name h old mid → old.script ≡ Some script → HaltEnds h mid new status →
+      RunEnds (CanFrom name (script_fault bound script) (OfProblem bound script goes)) ((Script, name) ∷ ins) old new status
+  run_halted (halt.Refused text) fetched e ends =
+      let has = told (λ s. HasFaultText (script_fault bound s) text.items) old.script script e fetched.has in
+      on_course (behind (script_start name) (says ScriptRefused text.items))
+      (says ScriptRefused text.items, by_text (script_fault bound script) text.items (OfProblem bound script goes) has, refl)
+      (ends_behind (script_start name) (says ScriptRefused text.items) old mid new status fetched.after ends)
+  run_halted halt.Failed halted e ends =
+      let S : Sight → Type 0 = λ d. SideFailed old.in_faults d.in_faults in let Q : Sight → Type 0 = λ d. Quiet (script_start name) old d in
+      in_failed ends.0 (λ x. cc) (subst S (sym ends.1) halted.0) (quiet_more (subst Q (sym ends.1) halted.1))
+  run_halted halt.Memory halted e ends =
+      let Q : Sight → Type 0 = λ d. Quiet (script_start name) old d in no_memory_yet ends.0 (quiet_more (subst Q (sym ends.1) halted))
+
+-- ---- the ends of a demonstration
+
+pub demo_problem : (words : Demo) (bytes : List ℕ) (p : Problem) (old new : Sight) (status : Status) → HasProblem words.options.bound p bytes → bytes ≡ demo_script words.seed words.size →
+    RunEnds (CanDemo p words.options words.cert bytes) [] old new status → (script cert_in : List ℕ) → RunEnds (Can (Some (demo words)) script cert_in) [] old new status
+demo_problem words bytes p old new status has made ends script cert_in =
+    let made_by : List ℕ = demo_script words.seed words.size in
+    let H : List ℕ → Type 0 = λ b. HasProblem words.options.bound p b in
+    let R : List ℕ → Type 0 = λ b. RunEnds (CanDemo p words.options words.cert b) [] old new status in
+    widen (CanDemo p words.options words.cert made_by) (Can (Some (demo words)) script cert_in) [] old new status
+    (λ course can. by_problem words.options.bound made_by p (λ q. CanDemo q words.options words.cert made_by) (subst H made has) course can) (subst R made ends)
+
+pub demo_halted : (words : Demo) (bytes : List ℕ) (h : Halt) (old new : Sight) (status : Status) → Refuses words.options.bound bytes h → bytes ≡ demo_script words.seed words.size →
+    HaltEnds h old new status → (script cert_in : List ℕ) → RunEnds (Can (Some (demo words)) script cert_in) [] old new status
+demo_halted words bytes (halt.Refused text) old new status refuses made ends script cert_in =
+    let H : List ℕ → Type 0 = λ b. HasFaultText (script_fault words.options.bound b) text.items in
+    on_course (says ScriptRefused text.items) (by_text (script_fault words.options.bound (demo_script words.seed words.size)) text.items _ (subst H made refuses)) ends
+demo_halted words bytes halt.Failed old new status refuses made ends script cert_in = absurd refuses
+demo_halted words bytes halt.Memory old new status refuses made ends script cert_in =
+    let Q : Sight → Type 0 = λ d. Quiet [] old d in
+    no_memory_yet ends.0 (subst Q (sym ends.1) (record { starts_made = 0; starts_are = sym (appended-nil old.starts); cert = refl; answer = refl }))
+
+-- ---- causes
+
+pub cause_behind : (command : Option Command) (starts : List Start) (old mid new : Sight) (status : Status) → After starts old mid → HasCause (run_of command mid new status) → HasCause (run_of command old new status)
+cause_behind command starts old mid new Answered after h = h
+cause_behind command starts old mid new CertRefused after h = h
+cause_behind command starts old mid new ScriptRefused after h = h
+cause_behind command starts old mid new Usage after h = h
+cause_behind command starts old mid new InFailed after h = let P : ℕ → Type 0 = λ n. SideFailed n new.in_faults in (h.0, subst P after.in_faults h.1)
+cause_behind command starts old mid new OutFailed after h = let P : ℕ → Type 0 = λ n. SideFailed n new.out_faults in subst P after.out_faults h
+cause_behind command starts old mid new NoMemory after h = h
+
+-- of an answer that refuses a script
+cause_refused : (command : Command) (text : List ℕ) (old new : Sight) (status : Status) → Ends (says ScriptRefused text) old new status → HasCause (run_of (Some command) old new status)
+cause_refused command text old new status (at_its_end is went) = let P : Status → Type 0 = λ s. HasCause (run_of (Some command) old new s) in let here : P ScriptRefused = search rules in subst P (sym is) here
+cause_refused command text old new status (out_failed is side stopped) = let P : Status → Type 0 = λ s. HasCause (run_of (Some command) old new s) in subst P (sym is) side
+cause_refused command text old new status (no_memory is stopped) = let P : Status → Type 0 = λ s. HasCause (run_of (Some command) old new s) in let here : P NoMemory = tt in subst P (sym is) here
+
+pub cause_halted : (command : Command) (bound : Option ℕ) (name : List ℕ) (h : Halt) (old mid new : Sight) (status : Status) → ReadsScript (Some command) → Halts bound name h old mid → HaltEnds h mid new status →
+    HasCause (run_of (Some command) old new status)
+cause_halted command bound name (halt.Refused text) old mid new status reads halted ends =
+    cause_behind (Some command) (script_start name) old mid new status halted.after (cause_refused command text.items mid new status ends)
+cause_halted command bound name halt.Failed old mid new status reads halted ends =
+    let S : Sight → Type 0 = λ d. SideFailed old.in_faults d.in_faults in let P : Status → Type 0 = λ s. HasCause (run_of (Some command) old new s) in
+    subst P (sym ends.0) (reads, subst S (sym ends.1) halted.0)
+cause_halted command bound name halt.Memory old mid new status reads halted ends = let P : Status → Type 0 = λ s. HasCause (run_of (Some command) old new s) in let here : P NoMemory = tt in subst P (sym ends.0) here
+
+-- ---- that the script was read
+
+pub read_fetched : (command : Option Command) (bound : Option ℕ) (name : List ℕ) (p : Problem) (old mid new : Sight) (status : Status) → Fetches bound name p old mid → new.script ≡ mid.script → ScriptIsRead (run_of command old new status)
+read_fetched command bound name p old mid new status fetched same reads script e short failed memory = same ∙ told (λ s. mid.script ≡ Some []) old.script script e fetched.read
+
+pub read_halted : (command : Option Command) (bound : Option ℕ) (name : List ℕ) (h : Halt) (old mid new : Sight) (status : Status) → Halts bound name h old mid → HaltEnds h mid new status → new.script ≡ mid.script → ScriptIsRead (run_of command old new status)
+read_halted command bound name (halt.Refused text) old mid new status halted ends same reads script e short failed memory = same ∙ told (λ s. length s ≤ most_bytes → mid.script ≡ Some []) old.script script e halted.read short
+read_halted command bound name halt.Failed old mid new status halted ends same reads script e short failed memory = absurd (failed ends.0)
+read_halted command bound name halt.Memory old mid new status halted ends same reads script e short failed memory = absurd (memory ends.0)

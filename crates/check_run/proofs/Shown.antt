@@ -1,0 +1,98 @@
+-- What each status shows, of a run that ends on one of its courses.
+use Rattle.std.proofs.Common.{◌≡◌, inl, inr, ℕ, List, Option, Some, None, sym, subst, ◌∙◌}
+use Rattle.desk.specs.Sight.{Sight}
+use Rattle.words.specs.declared.asked.Options.{Options}
+use Rattle.words.specs.Words.{Command, solve, check, demo, upgrade}
+use Rattle.gen_script.specs.Demo.{demo_script}
+use Rattle.poly_graph.specs.Problem.{Problem}
+use Rattle.cert_model.specs.Accepted.{Verdict, accepted, refused, verdict}
+use Rattle.script_fault.specs.declared.fault.ScriptFault.{ScriptFault}
+use Rattle.script_faults.specs.Faults.{script_fault}
+use Rattle.check_run.specs.declared.status.Status.{Status}
+use Rattle.check_run.specs.declared.status.Status.TheVariants.{Answered, CertRefused, ScriptRefused, Usage, InFailed, OutFailed, NoMemory}
+use Rattle.check_run.specs.Course.{Course, Went, Ends, at_its_end, out_failed, no_memory, RunEnds, on_course, in_failed, no_memory_yet}
+use Rattle.check_run.specs.Can.{CanSolve, CanCheck, CanUpgrade, CanUpgradeBy, CanDemo, CanBy, OfProblem, Can, in_starts, verdict_course}
+use Rattle.check_run.specs.Run.{Run, HasCourse, IsShown, IsDue, run_of, StatusIsDue, StatusIsShown}
+
+-- a status that is told by an answer
+abbrev IsSaid : Status → Type 0
+IsSaid Answered = Unit {0}
+IsSaid CertRefused = Unit {0}
+IsSaid ScriptRefused = Unit {0}
+IsSaid Usage = Unit {0}
+IsSaid InFailed = ⊥
+IsSaid OutFailed = ⊥
+IsSaid NoMemory = ⊥
+
+said-same : (a b : Course) → a ≡ b → IsSaid b.status → IsSaid a.status
+said-same a b e h = let P : Course → Type 0 = λ c. IsSaid c.status in subst P (sym e) h
+
+said-solve : (p : Problem) (o : Options) (name : List ℕ) (course : Course) → CanSolve p o name course → IsSaid course.status
+said-solve p o name course can = said-same course _ can.3 tt
+
+said-demo : (p : Problem) (o : Options) (name bytes : List ℕ) (course : Course) → CanDemo p o name bytes course → IsSaid course.status
+said-demo p o name bytes course can = said-same course _ can.2 tt
+
+said-verdict : (v : Verdict) → IsSaid (verdict_course v).status
+said-verdict (accepted s value) = tt
+said-verdict (refused f n) = tt
+
+said-upgrade-by : (v : Verdict) (p : Problem) (bound : Option ℕ) (out cert_in : List ℕ) (course : Course) → CanUpgradeBy v p bound out cert_in course → IsSaid course.status
+said-upgrade-by (accepted s value) p bound out cert_in course can = said-same course _ can.1 tt
+said-upgrade-by (refused f n) p bound out cert_in course can = said-same course _ can tt
+
+said-upgrade : (p : Problem) (bound : Option ℕ) (name out cert_in : List ℕ) (course : Course) → CanUpgrade p bound name out cert_in course → IsSaid course.status
+said-upgrade p bound name out cert_in course can = said-same course _ can.2 (said-upgrade-by (verdict p bound cert_in) p bound out cert_in can.0 can.1)
+
+said-by : (bound : Option ℕ) (script : List ℕ) (goes : Problem → Course → Type 0) → ((p : Problem) (course : Course) → goes p course → IsSaid course.status) →
+    (f : Option ScriptFault) (course : Course) → CanBy f (OfProblem bound script goes) course → IsSaid course.status
+said-by bound script goes said (Some f) course can = said-same course _ can tt
+said-by bound script goes said None course can = said can.0 course can.2
+
+-- each course of a run ends in a status that is told
+said : (command : Option Command) (script cert_in : List ℕ) (course : Course) → Can command script cert_in course → IsSaid course.status
+said None script cert_in course can = said-same course _ can tt
+said (Some (solve words)) script cert_in course can = said-same course _ can.2
+    (said-by words.options.bound script (λ p. CanSolve p words.options words.cert) (λ p c h. said-solve p words.options words.cert c h) (script_fault words.options.bound script) can.0 can.1)
+said (Some (check words)) script cert_in course can = said-same course _ can.2
+    (said-by words.bound script (λ p. CanCheck p words.bound words.cert cert_in) (λ p c h. said-same c _ h (said-verdict (verdict p words.bound cert_in))) (script_fault words.bound script) can.0 can.1)
+said (Some (upgrade words)) script cert_in course can = said-same course _ can.2
+    (said-by words.bound script (λ p. CanUpgrade p words.bound words.cert words.out cert_in) (λ p c h. said-upgrade p words.bound words.cert words.out cert_in c h) (script_fault words.bound script) can.0 can.1)
+said (Some (demo words)) script cert_in course can =
+    said-by words.options.bound (demo_script words.seed words.size) (λ p. CanDemo p words.options words.cert (demo_script words.seed words.size))
+    (λ p c h. said-demo p words.options words.cert (demo_script words.seed words.size) c h) (script_fault words.options.bound (demo_script words.seed words.size)) course can
+
+module _ (command : Option Command) (script cert_in : List ℕ) (old new : Sight) where
+  at-end : (status : Status) (course : Course) → Can command script cert_in course → IsSaid course.status → status ≡ course.status → Went course old new → IsShown command script cert_in old new status
+  at-end Answered course can is e went = (course, can, sym e, went)
+  at-end CertRefused course can is e went = (course, can, sym e, went)
+  at-end ScriptRefused course can is e went = (course, can, sym e, went)
+  at-end Usage course can is e went = (course, can, sym e, went)
+  at-end InFailed course can is e went = absurd (subst IsSaid (sym e) is)
+  at-end OutFailed course can is e went = absurd (subst IsSaid (sym e) is)
+  at-end NoMemory course can is e went = absurd (subst IsSaid (sym e) is)
+
+  shows-ends : (course : Course) (status : Status) → Can command script cert_in course → Ends course old new status → IsShown command script cert_in old new status
+  shows-ends course status can (at_its_end e went) = at-end status course can (said command script cert_in course can) e went
+  shows-ends course status can (out_failed e side stopped) = let P : Status → Type 0 = λ s. IsShown command script cert_in old new s in let here : P OutFailed = (side, course, can, stopped) in subst P (sym e) here
+  shows-ends course status can (no_memory e stopped) = let P : Status → Type 0 = λ s. IsShown command script cert_in old new s in let here : P NoMemory = inr (course, can, stopped) in subst P (sym e) here
+
+  shows-run : (status : Status) → RunEnds (Can command script cert_in) (in_starts command) old new status → IsShown command script cert_in old new status
+  shows-run status (on_course course can ends) = shows-ends course status can ends
+  shows-run status (in_failed e any side quiet) = let P : Status → Type 0 = λ s. IsShown command script cert_in old new s in let here : P InFailed = (any, side, quiet) in subst P (sym e) here
+  shows-run status (no_memory_yet e quiet) = let P : Status → Type 0 = λ s. IsShown command script cert_in old new s in let here : P NoMemory = inl quiet in subst P (sym e) here
+
+  due-run : (status : Status) → RunEnds (Can command script cert_in) (in_starts command) old new status → IsDue (run_of command old new status) script cert_in
+  due-run status (on_course course can (at_its_end e went)) due all ins outs = inl (e ∙ all course can)
+  due-run status (on_course course can (out_failed e side stopped)) due all ins outs = absurd (outs side)
+  due-run status (on_course course can (no_memory e stopped)) due all ins outs = inr e
+  due-run status (in_failed e any side quiet) due all ins outs = absurd (ins side)
+  due-run status (no_memory_yet e quiet) due all ins outs = inr e
+
+-- ---- of whole runs
+
+pub status_is_shown : (r : Run) → HasCourse r → StatusIsShown r
+status_is_shown r course script cert_in tells = shows-run r.command script cert_in r.old r.new r.status (course script cert_in tells)
+
+pub status_is_due : (r : Run) → HasCourse r → StatusIsDue r
+status_is_due r course script cert_in tells = due-run r.command script cert_in r.old r.new r.status (course script cert_in tells)

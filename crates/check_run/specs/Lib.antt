@@ -1,0 +1,9 @@
+pub mod Answer
+pub mod Can
+pub mod Check
+pub mod Course
+pub mod Headline
+pub mod Parts
+pub mod Run
+pub mod Script
+pub mod Statuses

@@ -1,0 +1,70 @@
+-- What is answered of a script that has no problem, and of one that has.
+use Rattle.std.specs.Prelude.{◌≡◌, ◌≤◌, ℕ, List, [], ◌∷◌, Option, Some, IfSome, option_map, length}
+use Rattle.desk.specs.declared.desk.Port.TheVariants.{Script}
+use Rattle.desk.specs.Sight.{Sight, SideFailed}
+use Rattle.poly_graph.specs.Problem.{Problem}
+use Rattle.poly_graph.specs.ProblemViews.{Parts}
+use Rattle.check_run.specs.declared.script.Halt.{Halt}
+use Rattle.check_run.specs.declared.script.Halt.TheVariants as halt
+use Rattle.script_fault.specs.declared.fault.ScriptFault.{ScriptFault}
+use Rattle.answer_text.specs.ScriptFaults.{fault_text}
+use Rattle.script_faults.specs.Faults.{most_bytes, script_fault}
+use Rattle.script_faults.specs.Reader.{HasProblem, too_many_bytes}
+use Rattle.check_run.specs.declared.status.Status.{Status}
+use Rattle.check_run.specs.declared.status.Status.TheVariants.{ScriptRefused, InFailed, NoMemory}
+use Rattle.check_run.specs.Course.{Start, Quiet, says, Ends}
+use Rattle.check_run.specs.Parts.{After}
+
+-- as many axes and atoms as a search takes at most
+pub record IsWithin (p : Parts) : Type 0 where
+  pub axes : length p.axes ≤ 1024
+  pub atoms : length p.atoms ≤ 65536
+
+-- the fault is one with this text
+abbrev pub HasFaultText : Option ScriptFault → List ℕ → Type 0
+HasFaultText fault text = option_map fault_text fault ≡ Some text
+
+-- why bytes have no problem: their first fault, by its text, or out of memory, since no port fails
+abbrev pub IsTold : Option ScriptFault → Halt → Type 0
+IsTold fault (halt.Refused text) = HasFaultText fault text.items
+IsTold fault halt.Failed = ⊥
+IsTold fault halt.Memory = Unit {0}
+
+abbrev pub Refuses : Option ℕ → List ℕ → Halt → Type 0
+Refuses bound script h = IsTold (script_fault bound script) h
+
+-- a refusal with this text
+abbrev pub HasText : List ℕ → Halt → Type 0
+HasText text (halt.Refused said) = said.items ≡ text
+HasText text halt.Failed = ⊥
+HasText text halt.Memory = Unit {0}
+
+abbrev pub script_start : List ℕ → List Start
+script_start name = (Script, name) ∷ []
+
+-- a script was read from its port, to its end
+pub record Fetches (bound : Option ℕ) (name : List ℕ) (p : Problem) (old new : Sight) : Type 0 where
+  pub after : After (script_start name) old new
+  pub read : IfSome old.script (λ script. new.script ≡ Some [])
+  pub has : IfSome old.script (HasProblem bound p)
+
+-- it was read, to its end where it is not too long, and has a fault
+pub record FetchesFault (bound : Option ℕ) (name text : List ℕ) (old new : Sight) : Type 0 where
+  pub after : After (script_start name) old new
+  pub read : IfSome old.script (λ script. length script ≤ most_bytes → new.script ≡ Some [])
+  pub has : IfSome old.script (λ script. HasFaultText (script_fault bound script) text)
+
+abbrev pub Halts : Option ℕ → List ℕ → Halt → Sight → Sight → Type 0
+Halts bound name (halt.Refused text) old new = FetchesFault bound name text.items old new
+Halts bound name halt.Failed old new = SideFailed old.in_faults new.in_faults × Quiet (script_start name) old new
+Halts bound name halt.Memory old new = Quiet (script_start name) old new
+
+-- the refusal of a script with too many bytes
+abbrev pub IsTooLong : Halt → Type 0
+IsTooLong h = HasText (fault_text too_many_bytes) h
+
+-- the end of a run that halts
+abbrev pub HaltEnds : Halt → Sight → Sight → Status → Type 0
+HaltEnds (halt.Refused text) old new status = Ends (says ScriptRefused text.items) old new status
+HaltEnds halt.Failed old new status = (status ≡ InFailed) × (new ≡ old)
+HaltEnds halt.Memory old new status = (status ≡ NoMemory) × (new ≡ old)

@@ -1,6 +1,0 @@
-use Rattle.dpoly.specs.declared.status.Status.TheVariants.{Answered}
-use Rattle.dpoly.proofs.Verdicts.{concluded}
-use Rattle.dpoly.proofs.check.confirm.Goals as goal
-
-pub returns-in-Ok-clause-ends : goal.returns-in-Ok-clause-ends
-returns-in-Ok-clause-ends g c v h = concluded v Answered c.in-Ok.text.items c.deref.result.now _ _ _ (c.in-Ok.ensures v h) c.deref.ensures.value c.say.ensures.ends

@@ -1,4 +1,0 @@
-use Rattle.dpoly.proofs.script.read_script.Goals as goal
-
-pub returns-in-Ok-clause-within : goal.returns-in-Ok-clause-within
-returns-in-Ok-clause-within c = record { axes = c.in-Ok.ensures.built.axes; atoms = c.in-Ok.ensures.built.atoms }

@@ -1,0 +1,36 @@
+use Rattle.std.proofs.Common.{◌≡◌, ap, Err, ℕ, List, Option, None, refl, subst, sym}
+use Rattle.std.specs.Option.{option_map}
+use Rattle.words.specs.Words.{Command, check}
+use Rattle.check_run.specs.Course.{says, on_course}
+use Rattle.check_run.specs.Can.{usage_text}
+use Rattle.check_run.specs.Run.{HasCause, HasCourse, ScriptIsRead, CertIsRead, run_of}
+use Rattle.check_run.specs.declared.status.Status.TheVariants.{Usage}
+use Rattle.check_run.proofs.Shown.{status_is_due, status_is_shown}
+use Rattle.check_run.proofs.Headline.{unsat_is_true, delta_sat_is_true, refusal_is_true}
+use Rattle.dpoly_check.specs.Checker.{command_in}
+use Rattle.dpoly_check.proofs.top.run_top.Goals as goal
+
+pub returns-in-Ok-clause-shows : goal.returns-in-Ok-clause-shows
+returns-in-Ok-clause-shows g c =
+    status_is_shown _ (subst (λ (o : Option Command). HasCourse (run_of o (g.D.Desk.sight c.args.desk.now) (g.D.Desk.sight c.run_check.new.desk) c.run_check.result)) (sym (ap (option_map (λ asked. check asked)) c.in-Ok.ensures.ok)) c.run_check.ensures.course)
+
+pub returns-in-Ok-clause-complete : goal.returns-in-Ok-clause-complete
+returns-in-Ok-clause-complete g c =
+    status_is_due _ (subst (λ (o : Option Command). HasCourse (run_of o (g.D.Desk.sight c.args.desk.now) (g.D.Desk.sight c.run_check.new.desk) c.run_check.result)) (sym (ap (option_map (λ asked. check asked)) c.in-Ok.ensures.ok)) c.run_check.ensures.course)
+
+pub returns-in-Ok-clause-unsat : goal.returns-in-Ok-clause-unsat
+returns-in-Ok-clause-unsat g c =
+    unsat_is_true _ (subst (λ (o : Option Command). HasCourse (run_of o (g.D.Desk.sight c.args.desk.now) (g.D.Desk.sight c.run_check.new.desk) c.run_check.result)) (sym (ap (option_map (λ asked. check asked)) c.in-Ok.ensures.ok)) c.run_check.ensures.course)
+
+pub returns-in-Ok-clause-delta_sat : goal.returns-in-Ok-clause-delta_sat
+returns-in-Ok-clause-delta_sat g c =
+    delta_sat_is_true _ (subst (λ (o : Option Command). HasCourse (run_of o (g.D.Desk.sight c.args.desk.now) (g.D.Desk.sight c.run_check.new.desk) c.run_check.result)) (sym (ap (option_map (λ asked. check asked)) c.in-Ok.ensures.ok)) c.run_check.ensures.course)
+
+pub returns-in-Ok-clause-refused : goal.returns-in-Ok-clause-refused
+returns-in-Ok-clause-refused g c =
+    refusal_is_true _ (subst (λ (o : Option Command). HasCourse (run_of o (g.D.Desk.sight c.args.desk.now) (g.D.Desk.sight c.run_check.new.desk) c.run_check.result)) (sym (ap (option_map (λ asked. check asked)) c.in-Ok.ensures.ok)) c.run_check.ensures.course)
+
+pub returns-in-Err-Usage-clause-complete : goal.returns-in-Err-Usage-clause-complete
+returns-in-Err-Usage-clause-complete g c =
+    let refused : command_in c.args.words.now ≡ None = ap (option_map (λ asked. check asked)) (c.in-Err-Usage.ensures.usage (ap (λ e. Err e) c.in-Err-Usage.field-0-is)) in
+    status_is_due _ (subst (λ (o : Option Command). HasCourse (run_of o (g.D.Desk.sight c.args.desk.now) (g.D.Desk.sight c.say.new.desk) c.say.result)) (sym refused) (λ (script cert_in : List ℕ) tells. on_course (says Usage usage_text) refl c.say.ensures.ends))

@@ -1,0 +1,17 @@
+//! The edge to real files and to people.
+//!
+//! `FileDesk` is the desk over files and standard streams, `words_of` the words of a call. `Messages` is what standard error
+//! says of a run without an answer, and `Ticker` says when a line of progress is due. No clause says what a file holds, or
+//! what standard error shows.
+#![tactic(auto)]
+
+mod files;
+mod messages;
+mod reading;
+mod ticker;
+mod words;
+
+pub use files::{FileDesk, Trouble};
+pub use messages::Messages;
+pub use ticker::Ticker;
+pub use words::words_of;

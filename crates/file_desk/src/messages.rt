@@ -1,0 +1,147 @@
+// What standard error says of a run that gave no answer: for people to read, and promised by no clause.
+ghost use Rattle.std.specs.Prelude.{◌<◌};
+
+use crate::files::FileDesk;
+use desk::Port;
+use std::alloc::{AllocError, Global};
+use std::fs;
+
+/// At most so many bytes of a script's line are shown.
+const WINDOW: usize = 100;
+
+/// Where a script is refused: the line and the column, in bytes, both from 1.
+#[derive(Clone, Copy, Debug, PartialEq, Eq)]
+struct Spot {
+    line: usize,
+    column: usize,
+}
+
+// The place with which the text of a script's fault ends, if it is one within the script.
+fn spot_in(text: &str) -> Option<Spot> {
+    let (_, place) = text.trim_end().rsplit_once(' ')?;
+    let (line, column) = place.split_once(':')?;
+    match (line.parse::<usize>(), column.parse::<usize>()) {
+        (Ok(line), Ok(column)) if line > 0 && column > 0 => Some(Spot { line, column }),
+        _ => None,
+    }
+}
+
+// The line of the script with this number, from 1.
+fn line_at(script: &[u8], number: usize) -> Option<&[u8]>
+    requires { 0 < number }
+{
+    script.split(|byte| *byte == b'\n').nth(number - 1)
+}
+
+// What stands for a byte of a script, so that each takes one column.
+fn plain(byte: u8) -> char {
+    match byte {
+        b' '..=b'~' => byte as char,
+        b'\t' => ' ',
+        _ => '?',
+    }
+}
+
+// The line of the script at the place, and a caret under the place; a long line is cut.
+fn excerpt(alloc: Global, script: &[u8], at: Spot) -> Result<String, AllocError> {
+    let mut text = String::new(alloc);
+    if at.line == 0 || at.column == 0 {
+        return Ok(text);
+    }
+    let Some(line) = line_at(script, at.line) else {
+        return Ok(text);
+    };
+    let first = at.column.saturating_sub(WINDOW / 2);
+    text.push_str("  ")?;
+    for byte in line.iter().skip(first).take(WINDOW) {
+        text.push(plain(*byte))?;
+    }
+    text.push_str("\n  ")?;
+    for _ in first + 1..at.column {
+        text.push(' ')?;
+    }
+    text.push_str("^\n")?;
+    Ok(text)
+}
+
+/// What standard error says of a run of a program: the program's name, and those of the script and of the certificate that
+/// is read or written.
+#[derive(Clone, Copy, Debug, PartialEq, Eq)]
+pub struct Messages<'a> {
+    pub program: &'a str,
+    pub script: &'a str,
+    pub cert_in: &'a str,
+    pub cert_out: &'a str,
+}
+
+// What a file that is read is called.
+fn source<'a>(name: &'a str) -> &'a str {
+    if name == "-" { "standard input" } else { name }
+}
+
+// What a file that is written is called.
+fn sink<'a>(name: &'a str) -> &'a str {
+    if name == "-" { "standard output" } else { name }
+}
+
+impl<'a> Messages<'a> {
+    // What a port is called.
+    fn port_name(&self, port: Port) -> &'a str {
+        match port {
+            Port::Script => source(self.script),
+            Port::CertIn => source(self.cert_in),
+            Port::CertOut => sink(self.cert_out),
+            Port::Answer => "standard output",
+        }
+    }
+
+    /// Says which port failed, and why.
+    pub fn port_failed(&self, rt: &HostRuntime, desk: &FileDesk) {
+        let Some(trouble) = desk.trouble() else {
+            return;
+        };
+        let (program, name) = (self.program, self.port_name(trouble.port));
+        let verb = match trouble.port {
+            Port::Script | Port::CertIn => "read",
+            Port::CertOut | Port::Answer => "write",
+        };
+        let _ = match &trouble.error {
+            Some(error) => eprintln!(rt; "{program}: cannot {verb} {name}: {error}"),
+            None => eprintln!(rt; "{program}: cannot {verb} {name}: nothing more was taken"),
+        };
+    }
+
+    /// Says which script is refused, for what, and shows its line.
+    pub fn script_refused(&self, rt: &HostRuntime, desk: &FileDesk) {
+        let text = desk.answer();
+        let (program, name) = (self.program, source(self.script));
+        let _ = eprint!(rt; "{program}: {name}: {text}");
+        let Some(at) = spot_in(text) else {
+            return;
+        };
+        let alloc = rt.alloc();
+        let shown = if self.script == "-" {
+            excerpt(alloc, desk.piped_script(), at)
+        } else {
+            match fs::read(rt, self.script) {
+                Ok(script) => excerpt(alloc, &script, at),
+                Err(_) => return,
+            }
+        };
+        if let Ok(shown) = shown {
+            let _ = rt.eprint(shown);
+        }
+    }
+
+    /// Says which certificate is refused, and for what.
+    pub fn cert_refused(&self, rt: &HostRuntime, desk: &FileDesk) {
+        let (program, name) = (self.program, source(self.cert_in));
+        let _ = eprint!(rt; "{program}: {name}: {}", desk.answer());
+    }
+
+    /// Says that there was no memory.
+    pub fn no_memory(&self, rt: &HostRuntime) {
+        let program = self.program;
+        let _ = eprintln!(rt; "{program}: out of memory");
+    }
+}
