@@ -5,4 +5,5 @@ pub mod Inside
 pub mod Open
 pub mod Parts
 pub mod Small
+pub mod Widening
 pub mod Works

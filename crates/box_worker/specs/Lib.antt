@@ -1,3 +1,4 @@
 pub mod Attempts
 pub mod Ended
+pub mod Widened
 pub mod Worked

@@ -348,7 +348,8 @@ pub fn any_unmarked(state: &State) -> bool {
     false
 }
 
-// Where an atom is not marked yet, looks at the state and marks those that the form needs.
+// Where an atom is not marked yet, marks those that lemmas exclude, looks at the state and marks those that the form
+// needs.
 fn look_again(
     alloc: Global,
     problem: &Problem,
@@ -358,12 +359,14 @@ fn look_again(
     patch: &mut Patch,
 ) -> Result<(), AllocError>
     requires bits { AreMargins margins.now }
+    requires lemmas { AreLemmasFor (problem_of problem.now) (loosenings_of margins.now) lemmas.now }
     requires open { IsOpen problem.now margins.now lemmas.now patch.old.kept.first patch.old }
     ensures { IsOpen problem.now margins.now lemmas.now patch.old.kept.first patch.new }
 {
     if !any_unmarked(patch.reached()) {
         return Ok(());
     }
+    ban_all(problem, margins, lemmas, patch)?;
     let needs = see(alloc, problem, margins, patch)?;
     if !is_set(&needs.may, problem.root() as usize) {
         return Ok(());
@@ -382,6 +385,7 @@ fn go_on(
 ) -> Result<bool, AllocError>
     requires numbered { IsNumbered problem.now }
     requires bits { AreMargins margins.now }
+    requires lemmas { AreLemmasFor (problem_of problem.now) (loosenings_of margins.now) lemmas.now }
     requires open { IsOpen problem.now margins.now lemmas.now patch.old.kept.first patch.old }
     ensures { IsOpen problem.now margins.now lemmas.now patch.old.kept.first patch.new }
 {
@@ -407,6 +411,7 @@ fn go_on_while_due(
 ) -> Result<(), AllocError>
     requires numbered { IsNumbered problem.now }
     requires bits { AreMargins margins.now }
+    requires lemmas { AreLemmasFor (problem_of problem.now) (loosenings_of margins.now) lemmas.now }
     requires open { IsOpen problem.now margins.now lemmas.now patch.old.kept.first patch.old }
     ensures { IsOpen problem.now margins.now lemmas.now patch.old.kept.first patch.new }
 {
@@ -449,6 +454,7 @@ fn combine_while_due(
 ) -> Result<(), AllocError>
     requires numbered { IsNumbered problem.now }
     requires bits { AreMargins margins.now }
+    requires lemmas { AreLemmasFor (problem_of problem.now) (loosenings_of margins.now) lemmas.now }
     requires open { IsOpen problem.now margins.now lemmas.now patch.old.kept.first patch.old }
     ensures { IsOpen problem.now margins.now lemmas.now patch.old.kept.first patch.new }
 {
@@ -478,7 +484,6 @@ pub fn take_steps(
     requires open { IsOpen problem.now margins.now lemmas.now patch.old.kept.first patch.old }
     ensures { IsOpen problem.now margins.now lemmas.now patch.old.kept.first patch.new }
 {
-    ban_all(problem, margins, lemmas, patch)?;
     look_again(alloc, problem, margins, lemmas, scout, patch)?;
     go_on_while_due(alloc, problem, margins, lemmas, scout, patch)?;
     combine_while_due(alloc, problem, margins, lemmas, scout, patch)?;

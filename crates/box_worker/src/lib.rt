@@ -19,9 +19,11 @@ mod preconditions;
 mod room;
 mod split;
 mod step;
+mod widen;
 mod work;
 mod worked;
 
 pub use room::Room;
+pub use widen::widened;
 pub use work::{work_in, work_on};
 pub use worked::Worked;

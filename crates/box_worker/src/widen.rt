@@ -1,0 +1,212 @@
+// Lemmas that are wider than the box whose run shows them. Which runs are repeated is a heuristic that promises nothing;
+// that a lemma holds is what the patch ensures.
+ghost use Rattle.std.specs.Prelude.{◌≡◌, [], IfOk, IfSome, length};
+ghost use Rattle.cover_model.specs.Fits.{FitsProblem};
+ghost use Rattle.cover_model.specs.Root.{root_space};
+ghost use Rattle.cover_data.specs.Margins.{AreMargins};
+ghost use Rattle.cover_rule.specs.Serves.{IsNumbered};
+ghost use Rattle.poly_graph.specs.ProblemViews.{problem_of};
+ghost use Rattle.box_worker.specs.Attempts.{Continues, IsOpen};
+ghost use Rattle.box_worker.specs.Widened.{IsShownFromRoot};
+ghost use Rattle.box_worker.specs.Worked.{margins_of};
+
+use crate::facts::run_is_lawful;
+use crate::room::{Room, take_work};
+use crate::{attempt, step};
+use cover_data::{ClosedPatch, Combination, End, KeptPatch, Step};
+use cover_rule::{Margins, Options, Patch, State};
+use poly_graph::{Lits, Problem};
+use std::alloc::{AllocError, Global};
+use truth3::{Root, root_space};
+
+/// A run of more steps is not repeated.
+const MOST_STEPS: usize = 64;
+
+// Marks atom j as the state marks it, where there is such an atom.
+fn copy_mark(from: &State, j: u32, into: &mut Lits)
+    ensures { length into.new ≡ length into.old }
+{
+    let marks = from.lits();
+    if (j as usize) < marks.len() && (j as usize) < into.len() {
+        into.set(j, marks.mark(j));
+    }
+}
+
+// Marks the atoms of a combination as the state marks them.
+fn copy_marks(from: &State, combination: &Combination, into: &mut Lits)
+    ensures { length into.new ≡ length into.old }
+{
+    for pair in &combination.pairs {
+        copy_mark(from, pair.0, into);
+    }
+}
+
+// Marks the atoms by which a step narrows as the state marks them.
+fn copy_marks_of_step(from: &State, step: &Step, into: &mut Lits)
+    ensures { length into.new ≡ length into.old }
+{
+    match step {
+        Step::Pull(j) => copy_mark(from, *j, into),
+        Step::Push(j) => copy_mark(from, *j, into),
+        Step::Combine(combination) => copy_marks(from, combination, into),
+        Step::Unit(_) => {}
+        Step::Ban(_, _) => {}
+    }
+}
+
+// Marks the atoms by which an end leaves nothing as the state marks them.
+fn copy_marks_of_end(from: &State, end: &Option<End>, into: &mut Lits)
+    ensures { length into.new ≡ length into.old }
+{
+    match end {
+        Some(End::Void(j)) => copy_mark(from, *j, into),
+        Some(End::VoidNo(j)) => copy_mark(from, *j, into),
+        Some(End::VoidCombine(combination)) => copy_marks(from, combination, into),
+        _ => {}
+    }
+}
+
+// The marks of the atoms by which a run narrows, as the state that it reaches has them.
+fn marks_in_use(alloc: Global, problem: &Problem, run: &KeptPatch) -> Result<Lits, AllocError>
+    ensures { IfOk result (λ l. length l ≡ length problem.now.atoms) }
+{
+    let mut marks = Lits::new(alloc, problem.atoms().len())?;
+    for step in &run.steps {
+        copy_marks_of_step(&run.reached, step, &mut marks);
+    }
+    copy_marks_of_end(&run.reached, &run.end, &mut marks);
+    Ok(marks)
+}
+
+// The state of the root space with these marks, unless the root space is empty.
+fn root_with(alloc: Global, problem: &Problem, marks: Lits) -> Result<Option<State>, AllocError>
+    requires { length marks ≡ length problem.now.atoms }
+    ensures fits { IfOk result (λ o. IfSome o (FitsProblem (problem_of problem.now))) }
+    ensures root { IfOk result (λ o. IfSome o (λ s. s.space ≡ root_space (problem_of problem.now))) }
+{
+    match root_space(alloc, problem)? {
+        Root::Empty(_) => Ok(None),
+        Root::Space(space) => Ok(Some(State::new(space, marks))),
+    }
+}
+
+// Takes a step by which a run narrows once more.
+fn repeat_step(
+    problem: &Problem,
+    margins: &Margins,
+    step: &Step,
+    patch: &mut Patch,
+) -> Result<(), AllocError>
+    requires { IsOpen problem.now margins.now [] patch.old.kept.first patch.old }
+    ensures { IsOpen problem.now margins.now [] patch.old.kept.first patch.new }
+{
+    let _ = margins;
+    let count = problem.atoms().len();
+    match step {
+        Step::Pull(j) => {
+            if (*j as usize) < count {
+                step::pull(patch, *j)?;
+            }
+        }
+        Step::Push(j) => {
+            if (*j as usize) < count {
+                step::push(patch, *j)?;
+            }
+        }
+        Step::Combine(combination) => {
+            step::combine(patch, &combination.pairs)?;
+        }
+        Step::Unit(_) => {}
+        Step::Ban(_, _) => {}
+    }
+    Ok(())
+}
+
+// Takes the steps by which a run narrows once more.
+fn repeat_steps(
+    problem: &Problem,
+    margins: &Margins,
+    steps: &[Step],
+    patch: &mut Patch,
+) -> Result<(), AllocError>
+    requires { IsOpen problem.now margins.now [] patch.old.kept.first patch.old }
+    ensures { IsOpen problem.now margins.now [] patch.old.kept.first patch.new }
+{
+    for step in steps {
+        repeat_step(problem, margins, step, patch)?;
+    }
+    Ok(())
+}
+
+// Ends the patch as a run ended, where nothing is left by the same atom or combination.
+fn repeat_end(problem: &Problem, end: &Option<End>, patch: &mut Patch) -> Result<(), AllocError>
+    requires { patch.old.problem ≡ problem.now }
+    ensures { IfOk result (λ u. Continues patch.old patch.new) }
+{
+    let count = problem.atoms().len();
+    match end {
+        Some(End::Void(j)) => {
+            if (*j as usize) < count {
+                attempt::void(patch, *j)?;
+            }
+        }
+        Some(End::VoidNo(j)) => {
+            if (*j as usize) < count {
+                attempt::void_no(patch, *j)?;
+            }
+        }
+        Some(End::VoidCombine(combination)) => {
+            attempt::void_combine(patch, &combination.pairs)?;
+        }
+        _ => {}
+    }
+    Ok(())
+}
+
+// Whether a run ended by an atom or a combination that leaves nothing, after few enough steps.
+fn is_worth(run: &KeptPatch) -> bool {
+    let leaves_nothing = matches!(
+        run.end,
+        Some(End::Void(_)) | Some(End::VoidNo(_)) | Some(End::VoidCombine(_))
+    );
+    leaves_nothing && run.steps.len() <= MOST_STEPS
+}
+
+/// What a closed run shows of the whole root space: it is repeated there with the marks alone of the atoms by which it
+/// narrows. None where that does not leave nothing, as it mostly does not. What it gives is a lemma for each box where
+/// these marks stand together, which the box that was closed need not be.
+///
+/// # Errors
+///
+/// Memory ran out.
+pub fn widened(
+    alloc: Global,
+    room: &mut Room,
+    problem: &Problem,
+    options: &Options,
+    run: &KeptPatch,
+) -> Result<Option<ClosedPatch>, AllocError>
+    requires numbered { IsNumbered problem.now }
+    requires margins { AreMargins (margins_of options.now) }
+    ensures { IfOk result (λ o. IfSome o (IsShownFromRoot problem.now (margins_of options.now))) }
+{
+    if !is_worth(run) {
+        return Ok(None);
+    }
+    let marks = marks_in_use(alloc, problem, run)?;
+    let Some(state) = root_with(alloc, problem, marks)? else {
+        return Ok(None);
+    };
+    let margins = options.margins();
+    let work = take_work(alloc, problem, room)?;
+    let mut patch = Patch::begin_in(alloc, work, problem, &margins, state)?;
+    repeat_steps(problem, &margins, &run.steps, &mut patch)?;
+    repeat_end(problem, &run.end, &mut patch)?;
+    run_is_lawful(&patch);
+    let (kept, work) = patch.into_kept();
+    room.work = Some(work);
+    match kept.closed() {
+        Ok(closed) => Ok(Some(closed)),
+        Err(_) => Ok(None),
+    }
+}
