@@ -4,6 +4,6 @@ pub mod Going
 pub mod Inside
 pub mod Open
 pub mod Parts
+pub mod Repeated
 pub mod Small
-pub mod Widening
 pub mod Works

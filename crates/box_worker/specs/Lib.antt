@@ -1,4 +1,4 @@
 pub mod Attempts
 pub mod Ended
-pub mod Widened
+pub mod Learned
 pub mod Worked

@@ -14,16 +14,16 @@ mod facts;
 mod fallen;
 mod found;
 mod learn;
+mod lessons;
 mod needs;
 mod preconditions;
 mod room;
 mod split;
 mod step;
-mod widen;
 mod work;
 mod worked;
 
+pub use lessons::lesson;
 pub use room::Room;
-pub use widen::widened;
 pub use work::{work_in, work_on};
 pub use worked::Worked;

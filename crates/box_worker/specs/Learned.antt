@@ -1,5 +1,5 @@
--- What a closed run shows of the whole root space.
-use Rattle.std.specs.Prelude.{◌≡◌, []}
+-- What is learned of a closed run.
+use Rattle.std.specs.Prelude.{◌≡◌, ◌⊎◌, [], Option, Some}
 use Rattle.poly_graph.specs.ProblemViews.{Parts, problem_of}
 use Rattle.cover_model.specs.Root.{root_space}
 use Rattle.cover_data.specs.declared.margins.Margins.{Margins}
@@ -12,3 +12,7 @@ pub record IsShownFromRoot (q : Parts) (m : Margins) (k : KeptModel) : Type 0 wh
   pub closed : IsClosed k
   pub root : k.first.space ≡ root_space (problem_of q)
   pub quoted : k.quoted ≡ []
+
+-- such a run, or the run itself
+abbrev pub IsLesson : Parts → Margins → Option KeptModel → KeptModel → Type 0
+IsLesson q m own k = IsShownFromRoot q m k ⊎ (own ≡ Some k)

@@ -7,9 +7,9 @@ use Rattle.cover_data.specs.Runs.{IsClosed}
 use Rattle.poly_graph.specs.ProblemViews.{problem_of}
 use Rattle.box_worker.specs.Attempts.{IsOpen}
 use Rattle.box_worker.specs.Worked.{margins_of}
-use Rattle.box_worker.proofs.Widening.{is_shown}
+use Rattle.box_worker.proofs.Repeated.{is_shown}
 use Rattle.box_worker.proofs.Works.{margins_are}
-use Rattle.box_worker.proofs.widen.widened.Goals as goal
+use Rattle.box_worker.proofs.lessons.widened.Goals as goal
 
 pub returns-in-Ok : goal.returns-in-Ok
 returns-in-Ok c =

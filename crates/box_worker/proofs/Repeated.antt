@@ -9,7 +9,7 @@ use Rattle.cover_rule.specs.Models.{PatchModel}
 use Rattle.cover_rule.specs.Patch.{problem_in}
 use Rattle.poly_graph.specs.ProblemViews.{Parts, problem_of}
 use Rattle.box_worker.specs.Attempts.{AreAmong, Continues, IsOpen}
-use Rattle.box_worker.specs.Widened.{IsShownFromRoot}
+use Rattle.box_worker.specs.Learned.{IsShownFromRoot}
 
 none-quoted : (xs : List LemmaModel) → AreAmong [] xs → xs ≡ []
 none-quoted [] h = refl

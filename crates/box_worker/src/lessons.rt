@@ -7,7 +7,7 @@ ghost use Rattle.cover_data.specs.Margins.{AreMargins};
 ghost use Rattle.cover_rule.specs.Serves.{IsNumbered};
 ghost use Rattle.poly_graph.specs.ProblemViews.{problem_of};
 ghost use Rattle.box_worker.specs.Attempts.{Continues, IsOpen};
-ghost use Rattle.box_worker.specs.Widened.{IsShownFromRoot};
+ghost use Rattle.box_worker.specs.Learned.{IsLesson, IsShownFromRoot};
 ghost use Rattle.box_worker.specs.Worked.{margins_of};
 
 use crate::facts::run_is_lawful;
@@ -172,14 +172,9 @@ fn is_worth(run: &KeptPatch) -> bool {
     leaves_nothing && run.steps.len() <= MOST_STEPS
 }
 
-/// What a closed run shows of the whole root space: it is repeated there with the marks alone of the atoms by which it
-/// narrows. None where that does not leave nothing, as it mostly does not. What it gives is a lemma for each box where
-/// these marks stand together, which the box that was closed need not be.
-///
-/// # Errors
-///
-/// Memory ran out.
-pub fn widened(
+// What a closed run shows of the whole root space: it is repeated there with the marks alone of the atoms by which it
+// narrows. None where that does not leave nothing.
+fn widened(
     alloc: Global,
     room: &mut Room,
     problem: &Problem,
@@ -208,5 +203,47 @@ pub fn widened(
     match kept.closed() {
         Ok(closed) => Ok(Some(closed)),
         Err(_) => Ok(None),
+    }
+}
+
+// Whether a run begins at the whole root space.
+fn begins_at_root(alloc: Global, problem: &Problem, run: &KeptPatch) -> Result<bool, AllocError> {
+    let space = run.first.space();
+    match root_space(alloc, problem)? {
+        Root::Empty(_) => Ok(false),
+        Root::Space(root) => Ok(root.len() == space.len() && root.within(space)),
+    }
+}
+
+/// What is to be learned of a closed run, of which `own` is a copy: a lemma that holds in each box where some atoms are
+/// marked together. It is the run repeated at the whole root space with the marks alone of the atoms by which it narrows,
+/// where that leaves nothing, else the copy where it begins at the root space. A lemma of a smaller space is none to be
+/// learned: the boxes of a cover do not overlap, so it would not be quoted.
+///
+/// # Errors
+///
+/// Memory ran out.
+pub fn lesson(
+    alloc: Global,
+    room: &mut Room,
+    problem: &Problem,
+    options: &Options,
+    run: &KeptPatch,
+    own: Option<ClosedPatch>,
+) -> Result<Option<ClosedPatch>, AllocError>
+    requires numbered { IsNumbered problem.now }
+    requires margins { AreMargins (margins_of options.now) }
+    ensures { IfOk result (λ o. IfSome o (IsLesson problem.now (margins_of options.now) own)) }
+{
+    if let Some(shown) = widened(alloc, room, problem, options, run)? {
+        return Ok(Some(shown));
+    }
+    let Some(closed) = own else {
+        return Ok(None);
+    };
+    if begins_at_root(alloc, problem, closed.kept())? {
+        Ok(Some(closed))
+    } else {
+        Ok(None)
     }
 }

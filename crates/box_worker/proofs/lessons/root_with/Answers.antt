@@ -8,7 +8,7 @@ use Rattle.ival.specs.SpaceViews.{space_of}
 use Rattle.poly_graph.specs.Problem.{first_crossed}
 use Rattle.poly_graph.specs.ProblemViews.{problem_of}
 use Rattle.truth3.specs.Roots.{IsRoot}
-use Rattle.box_worker.proofs.widen.root_with.Goals as goal
+use Rattle.box_worker.proofs.lessons.root_with.Goals as goal
 
 pub returns-in-Space-clause-fits : goal.returns-in-Space-clause-fits
 returns-in-Space-clause-fits c =
