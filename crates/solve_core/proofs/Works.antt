@@ -1,6 +1,7 @@
 -- What the work on a node comes to may be kept by the book.
-use Rattle.std.proofs.Common.{◌≡◌, ℕ, List, Bool, true, false, not, ◌&&◌, Option, Some, None, IsTrue, refl, ap, sym, ◌∙◌, subst, true≢false}
-use Rattle.std.specs.Prelude.{IsSome}
+use Rattle.std.proofs.Common.{◌≡◌, inl, inr, ℕ, List, [], Bool, true, false, not, ◌&&◌, Option, Some, None, IsTrue, refl, ap, sym, ◌∙◌, subst, true≢false}
+use Rattle.std.specs.Prelude.{IsSome, slice_get}
+use Rattle.std.proofs.lemmas.List.Elements.{All-nil}
 use Rattle.poly_graph.specs.Problem.{Problem}
 use Rattle.poly_graph.specs.ProblemViews.{Parts, problem_of}
 use Rattle.interval_model.specs.Space.{Space, middle}
@@ -14,18 +15,22 @@ use Rattle.cover_data.specs.declared.margins.Options.{Options}
 use Rattle.cover_data.specs.Margins.{loosenings_of}
 use Rattle.cover_data.specs.Models.{LemmaModel, KeptModel}
 use Rattle.cover_data.specs.Views.{kept_of, end_of}
-use Rattle.cover_data.specs.Runs.{IsRun, is_closing, closes}
+use Rattle.cover_data.specs.Runs.{AreKept, IsRun, is_closing, closes}
 use Rattle.cover_book.specs.Model.{BookModel, problem_in, margins_of, loosenings_in, lemma_states_in}
 use Rattle.cover_book.specs.Steps.{is_branch, ends_in_branch}
 use Rattle.box_worker.specs.declared.worked.Worked.{Worked}
 use Rattle.box_worker.specs.declared.worked.Worked.TheVariants.{Patch, Closed, Point}
 use Rattle.box_worker.specs.Ended.{is_left}
+use Rattle.box_worker.specs.Learned.{IsLesson, IsShownFromRoot}
 use Rattle.box_worker.specs.Worked.{AnswersAtOnce, IsRunFrom, IsLearned, IsWork}
 use Rattle.solve_core.specs.declared.search.Search.{Search}
 use Rattle.solve_core.specs.Search.{IsSearch, IsAt, CanFind, CanCommit, CanLearn}
 use Rattle.solve_core.specs.Reaches.{Reaches}
 use Rattle.solve_core.proofs.Reached.{reaches_same}
 use Rattle.solve_core.proofs.Waits.{kept_among, kept_still, carried, Same}
+
+none-quoted : (states : List State) → AreKept states []
+none-quoted states = All-nil (λ (l : LemmaModel). slice_get states l.id ≡ Some l.state)
 
 -- what work on a state has come to
 pub record HasWork (p : Problem) (m : Margins) (lemmas : List LemmaModel) (S : State) (w : Worked) : Type 0 where
@@ -111,3 +116,18 @@ module _ (s : Search) (n : ℕ) (S : State) (at : IsAt s n S) (w : Worked) (h : 
         closed = i.closed;
         quoted = kept_still s.book s'.book k.quoted l (kept_among (lemma_states_in s.book) s.lemmas.items k.quoted at.search.kept i.among);
       }
+
+  from-root : (k : KeptModel) → IsShownFromRoot s.book.problem (margins_of s.book.options) k → (s' : Search) → IsSearch s' s'.waiting.items → Reaches s.book s'.book → CanLearn s' k
+  from-root k x s' g r =
+      let same : Same s.book s'.book = reaches_same r in record {
+        search = g;
+        run = carried (λ p o. IsRun (problem_of p) (margins_of o) k) s.book s'.book same x.run;
+        closed = x.closed;
+        quoted = subst (AreKept (lemma_states_in s'.book)) (sym x.quoted) (none-quoted (lemma_states_in s'.book));
+      }
+
+  pub learned_can : (P : KeptPatch) (own : Option KeptModel) (k : KeptModel) → w ≡ Closed P own → IsLesson s.book.problem (margins_of s.book.options) own k → (s' : Search) → IsSearch s' s'.waiting.items → Reaches s.book s'.book → s'.book.lemmas ≡ s.book.lemmas → CanLearn s' k
+  learned_can P own k e l s' g r m = elim l [
+    | inl x ↦ from-root k x s' g r
+    | inr f ↦ lesson_can P own k e f s' g r m
+  ]

@@ -2,10 +2,12 @@
 ghost use Rattle.std.specs.Prelude.{◌≡◌, ◌≢◌, ◌∷◌, [], ◌++◌, ◌≤◌, ℕ, drop, OnOk, IfOk, IfSome, IsNone, None};
 ghost use Rattle.cover_data.specs.Views.{kept_of};
 ghost use Rattle.cover_book.specs.Verdict.{live_numbers_after};
+ghost use Rattle.box_worker.specs.Learned.{IsLesson};
+ghost use Rattle.box_worker.specs.Worked.{margins_of};
 ghost use Rattle.solve_core.specs.Reaches.{Reaches};
 ghost use Rattle.solve_core.specs.Search.{IsSearch, CanFind, CanCommit, CanLearn, CanHand, IsOver, work_left};
 
-use box_worker::{Room, Worked, work_in};
+use box_worker::{Room, Worked, lesson, work_in};
 use cover_book::{Book, BookRefusal, Kids};
 use cover_data::{ClosedPatch, KeptPatch, Lemma, Point};
 use poly_graph::{FormNode, Problem};
@@ -137,22 +139,36 @@ impl Search {
         Ok(())
     }
 
-    // Keeps the first state of the closed patch as a lemma where lemmas are learned, unless the book has as many as it
-    // may have.
+    // Keeps the first state of the closed patch as a lemma, unless the book has as many as it may have.
     fn learn(&mut self, alloc: Global, closed: ClosedPatch) -> Result<(), AllocError>
         requires { CanLearn self.old closed }
         ensures search { OnOk result (IsSearch self.new self.new.waiting.items) }
         ensures left { OnOk result (work_left self.new ≤ work_left self.old) }
         ensures reached { Reaches self.old.book self.new.book }
     {
-        if !self.learns {
-            return Ok(());
-        }
         let state = closed.kept().first.try_clone(alloc)?;
         match self.book.learn(closed) {
             Ok(id) => self.hand(Lemma::new(id, state)),
             Err(refusal) => unless_memory(refusal),
         }
+    }
+
+    // What is to be learned of a closed run and its copy, where lemmas are learned.
+    fn lesson(
+        &self,
+        alloc: Global,
+        room: &mut Room,
+        run: &KeptPatch,
+        own: Option<ClosedPatch>,
+    ) -> Result<Option<ClosedPatch>, AllocError>
+        ensures { let b = self.now.book in
+            IfOk result (λ o. IfSome o (IsLesson b.problem (margins_of b.options) own)) }
+    {
+        if !self.learns {
+            return Ok(None);
+        }
+        let book = &self.book;
+        lesson(alloc, room, book.problem(), book.options(), run, own)
     }
 
     /// Works on a node that is not among those that wait, in this room, and has the book keep what comes of it.
@@ -177,7 +193,8 @@ impl Search {
         )? {
             Worked::Point(point) => self.keep_point(node, point),
             Worked::Patch(patch) => self.commit(node, patch),
-            Worked::Closed(patch, lesson) => {
+            Worked::Closed(patch, own) => {
+                let lesson = self.lesson(alloc, room, &patch, own)?;
                 self.commit(node, patch)?;
                 match lesson {
                     Some(closed) => self.learn(alloc, closed),

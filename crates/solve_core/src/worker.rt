@@ -1,5 +1,5 @@
 // One of the workers that search on a shared book.
-ghost use Rattle.std.specs.Prelude.{◌≡◌, ◌∷◌, [], false};
+ghost use Rattle.std.specs.Prelude.{◌≡◌, ◌∷◌, [], IfSome, false};
 ghost use Rattle.steal_pool.specs.Account.{has_left};
 ghost use Rattle.book_lock.specs.Shared.{IsOnePartSeatOf, first_of};
 ghost use Rattle.cover_book.specs.Model.{problem_in, loosenings_in};
@@ -119,15 +119,12 @@ impl Worker {
         }
     }
 
-    // Keeps the first state of the closed patch as a lemma where lemmas are learned. Whether the worker goes on.
+    // Keeps the first state of the closed patch as a lemma. Whether the worker goes on.
     fn learn<R: Wait>(&mut self, rt: &R, alloc: Global, task: &Task, closed: ClosedPatch) -> bool
         requires worker { IsWorkerOf task.now.shared.now self.old }
         requires meets { MayBeCalled (first_of task.now.shared.now) (Learn closed) }
         ensures { IsWorkerOf task.now.shared.now self.new }
     {
-        if !task.learns {
-            return true;
-        }
         let Ok(state) = closed.kept().first.try_clone(alloc) else {
             return false;
         };
@@ -146,11 +143,41 @@ impl Worker {
         let _ = task.shared.found(rt, &mut self.seat, node, point);
     }
 
+    // Has the book keep the patch that closed the node, and what is to be learned of it and its copy. Whether the worker
+    // goes on.
+    fn close<R: Wait>(
+        &mut self,
+        rt: &R,
+        alloc: Global,
+        room: &mut Room,
+        task: &Task,
+        node: u32,
+        patch: KeptPatch,
+        own: Option<ClosedPatch>,
+    ) -> bool
+        requires worker { IsWorkerOf task.now.shared.now self.old }
+        requires meets { MayBeCalled (first_of task.now.shared.now) (Commit node patch) }
+        requires own { IfSome own (λ k. MayBeCalled (first_of task.now.shared.now) (Learn k)) }
+        ensures { IsWorkerOf task.now.shared.now self.new }
+    {
+        let Ok(lesson) = task.lesson(alloc, room, &patch, own) else {
+            return false;
+        };
+        if !self.commit(rt, task, node, patch) {
+            return false;
+        }
+        match lesson {
+            Some(closed) => self.learn(rt, alloc, task, closed),
+            None => true,
+        }
+    }
+
     // Has the book keep what came of the work on the node. Whether the worker goes on.
     fn settle<R: Wait>(
         &mut self,
         rt: &R,
         alloc: Global,
+        room: &mut Room,
         task: &Task,
         node: u32,
         worked: Worked,
@@ -165,15 +192,7 @@ impl Worker {
                 false
             }
             Worked::Patch(patch) => self.commit(rt, task, node, patch),
-            Worked::Closed(patch, lesson) => {
-                if !self.commit(rt, task, node, patch) {
-                    return false;
-                }
-                match lesson {
-                    Some(closed) => self.learn(rt, alloc, task, closed),
-                    None => true,
-                }
-            }
+            Worked::Closed(patch, own) => self.close(rt, alloc, room, task, node, patch, own),
         }
     }
 
@@ -194,7 +213,7 @@ impl Worker {
             Err(refusal) => return goes_on(&refusal),
         };
         match work_in(alloc, room, task.problem, task.options, state, &self.lemmas) {
-            Ok(worked) => self.settle(rt, alloc, task, node, worked),
+            Ok(worked) => self.settle(rt, alloc, room, task, node, worked),
             Err(_) => false,
         }
     }

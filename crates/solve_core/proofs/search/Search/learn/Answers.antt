@@ -7,9 +7,6 @@ use Rattle.solve_core.proofs.Reached.{same_reaches}
 use Rattle.solve_core.proofs.Visits.{can_hand, learn_reaches}
 use Rattle.solve_core.proofs.search.Search.learn.Goals as goal
 
-pub returns-then-not-self-clause-reached : goal.returns-then-not-self-clause-reached
-returns-then-not-self-clause-reached c = stays
-
 pub returns-in_err-state-clause-reached : goal.returns-in_err-state-clause-reached
 returns-in_err-state-clause-reached c = stays
 
