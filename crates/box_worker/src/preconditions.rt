@@ -85,8 +85,8 @@ fn void_at(problem: &Problem, by: &Option<Emptied>, patch: &mut Patch) -> Result
     }
 }
 
-/// Ends the patch where the form cannot hold, or by this atom or combination, where there is such a one that leaves
-/// nothing.
+/// Ends the patch by this atom or combination, where there is such a one that leaves nothing, or else where the form
+/// cannot hold.
 pub fn close_at(
     problem: &Problem,
     by: &Option<Emptied>,
@@ -97,8 +97,8 @@ pub fn close_at(
     ensures closed { IfOk result (λ b. b ≡ true → IsClosed patch.new.kept) }
     ensures same { IfOk result (λ b. b ≡ false → patch.new ≡ patch.old) }
 {
-    if attempt::make_false(patch)? {
+    if void_at(problem, by, patch)? {
         return Ok(true);
     }
-    void_at(problem, by, patch)
+    attempt::make_false(patch)
 }
