@@ -1,9 +1,9 @@
 -- Axes that are set one after the other, and the rows that serve.
-use Rattle.std.proofs.Common.{◌≡◌, ◌≢◌, ℕ, zero, suc, ◌+◌, ◌<◌, List, [], ◌∷◌, length, get_or, set, add-one, Bool, refl, ap, ◌∙◌, arith}
+use Rattle.std.proofs.Common.{◌≡◌, ℕ, zero, suc, ◌+◌, ◌<◌, List, [], ◌∷◌, length, get_or, set, add-one, Bool, refl, ap, ◌∙◌, arith}
 use Rattle.std.proofs.lemmas.List.{get_or-map, length-map}
 use Rattle.dyadic.specs.Fraction.{zero_fraction}
 use Rattle.interval_model.specs.Interval.{Interval, nothing}
-use Rattle.interval_model.specs.Space.{Domain, Space, axis_interval, test_axis}
+use Rattle.interval_model.specs.Space.{Domain, Space, test_axis}
 use Rattle.poly_graph.specs.Term.{constant, graph_terms}
 use Rattle.cover_model.specs.Space.{enclosure}
 use Rattle.poly_graph.specs.Problem.{Axis, atom_at, no_place}
@@ -40,14 +40,6 @@ length_blend zero xs ys = refl
 length_blend (suc i) (x ∷ xs) (y ∷ ys) = let k = length_blend i xs ys in omega (arith, k)
 length_blend (suc i) [] ys = refl
 length_blend (suc i) (x ∷ xs) [] = refl
-
--- a change of one axis leaves the others
-pub same_but : (axis : ℕ) (d : Domain) (space : Space) (k : ℕ) → k ≢ axis → axis_interval space k ≡ axis_interval (set space axis d) k
-same_but axis d [] k h = refl
-same_but zero d (e ∷ space) zero h = absurd (h refl)
-same_but zero d (e ∷ space) (suc k) h = refl
-same_but (suc axis) d (e ∷ space) zero h = refl
-same_but (suc axis) d (e ∷ space) (suc k) h = same_but axis d space k (λ f. h (ap suc f))
 
 pub fits_length : (axes : List Axis) (space : Space) → FitsAxes axes space → length space ≡ length axes
 fits_length [] [] h = refl

@@ -29,9 +29,10 @@ pub record IsCentre (p : Parts) (space : Space) (c : Centre) : Type 0 where
   pub place : space_of c.middle ≡ middle space
   pub filled : rows_of c.rows ≡ enclosures (middle space) p.nodes
 
--- where it is known, it is that of the space
+-- where it is filled, its rows are the enclosures over its middle; where it is known, it is that of the space
 pub record HasCentre (p : Parts) (space : Space) (c : Centre) : Type 0 where
   pub room : HasCentreRoom p c
+  pub filled : c.filled ≡ true → rows_of c.rows ≡ enclosures (space_of c.middle) p.nodes
   pub known : c.known ≡ true → IsCentre p space c
 
 -- room for the problem

@@ -1,5 +1,5 @@
 // Narrowing, and rows that follow it.
-ghost use Rattle.std.specs.Prelude.{◌≡◌, ◌≢◌, ℕ, ◌<◌, ◌^◌, not, true, false, length, vec_len, slice_set, slice_index_or, IsTrue};
+ghost use Rattle.std.specs.Prelude.{◌≡◌, ◌≢◌, ℕ, ◌<◌, not, true, false, length, vec_len, slice_set, slice_index_or, IsTrue};
 ghost use Rattle.poly_graph.specs.ProblemViews.{problem_of};
 ghost use Rattle.poly_graph.specs.Problem.{atom_at};
 ghost use Rattle.cover_model.specs.Fits.{FitsProblem};
@@ -16,7 +16,7 @@ use crate::workspace::Workspace;
 use cover_data::{Margins, State};
 use cover_model::is_one_sided;
 use hc4_bwd::{narrow, narrow_off};
-use hc4_fwd::refill;
+use hc4_fwd::follow;
 use ival::{Domain, Narrowed, Rows, Space};
 use poly_graph::Problem;
 use std::alloc::Global;
@@ -58,11 +58,13 @@ pub fn forget(work: &mut Workspace)
     ensures spare { work.new.spare ≡ work.old.spare }
     ensures middle { work.new.centre.middle ≡ work.old.centre.middle }
     ensures centre_rows { work.new.centre.rows ≡ work.old.centre.rows }
+    ensures filled { work.new.centre.filled ≡ false }
     ensures centre { work.new.centre.known ≡ false }
     ensures room { work.new.room ≡ work.old.room }
 {
     clear(&mut work.leaves);
     work.unsure = false;
+    work.centre.filled = false;
     work.centre.known = false;
 }
 
@@ -89,46 +91,49 @@ fn drop_reached(problem: &Problem, rows: &Rows, leaves: &mut Vec<bool, Global>)
     }
 }
 
-// Leaves a domain to the axis, and renews the rows where that is a change: then nothing more is known of atoms from
-// which the axis is reached, nor of the middle.
-fn renew_axis(
-    problem: &Problem,
-    margins: &Margins,
-    axis: usize,
-    domain: Domain,
-    state: &mut State,
-    work: &mut Workspace,
-)
-    requires axis { axis < length state.old.space }
-    requires small { axis < 2 ^ 32 }
-    requires work { HasRowsOf problem.now margins.now state.old.space work.old }
+// Leaves a domain to the axis, and tells whether that is a change.
+fn set_axis(axis: usize, domain: Domain, state: &mut State) -> bool
+    requires { axis < length state.old.space }
     ensures state { state.new ≡ with_space state.old (slice_set state.old.space axis (domain_of domain)) }
-    ensures work { HasRowsOf problem.now margins.now state.new.space work.new }
-    ensures spare { work.new.spare ≡ work.old.spare }
+    ensures same { result ≡ false → state.new ≡ state.old }
 {
     if is_same(state.space().get(axis), domain) {
-        return;
+        return false;
     }
     state.set_axis(axis, domain);
-    refill(problem.graph(), state.space(), axis as u32, &mut work.rows);
-    drop_reached(problem, &work.rows, &mut work.leaves);
-    work.unsure = false;
-    work.centre.known = false;
+    true
 }
 
-/// Takes over the spare space, and renews the rows of the axes that differ.
+// Leaves to each axis what the space leaves to it, and tells whether that is a change.
+fn set_axes(space: &Space, state: &mut State) -> bool
+    requires { length (space_of space.now) ≡ length state.old.space }
+    ensures state { state.new ≡ with_space state.old (space_of space.now) }
+    ensures same { result ≡ false → state.new ≡ state.old }
+{
+    let mut is_changed = false;
+    for axis in 0..space.len() {
+        if set_axis(axis, space.get(axis), state) {
+            is_changed = true;
+        }
+    }
+    is_changed
+}
+
+/// Takes over the spare space, and renews the rows where that is a change: then nothing more is known of atoms from
+/// which a changed axis is reached, nor of the middle.
 pub fn adopt_spare(problem: &Problem, margins: &Margins, state: &mut State, work: &mut Workspace)
-    requires numbered { IsNumbered problem.now }
-    requires state { FitsProblem (problem_of problem.now) state.old }
     requires work { HasRowsOf problem.now margins.now state.old.space work.old }
     requires spare { length (space_of work.old.spare) ≡ length state.old.space }
     ensures state { state.new ≡ with_space state.old (space_of work.old.spare) }
     ensures work { IsReady problem.now margins.now state.new.space work.new }
 {
-    for axis in 0..work.spare.len() {
-        let domain = work.spare.get(axis);
-        renew_axis(problem, margins, axis, domain, state, work);
+    if !set_axes(&work.spare, state) {
+        return;
     }
+    follow(problem.graph(), state.space(), &mut work.rows);
+    drop_reached(problem, &work.rows, &mut work.leaves);
+    work.unsure = false;
+    work.centre.known = false;
 }
 
 // Narrows the spare space, a copy of the state's, by atom j.

@@ -14,7 +14,7 @@ ghost use Rattle.cover_rule.specs.Serves.{HasCentre, IsCentre, HasRowsOf, sure_a
 
 use crate::workspace::{Centre, Workspace};
 use cover_data::{Margins, State};
-use hc4_fwd::fill;
+use hc4_fwd::{fill, follow};
 use ival::{Rows, Space};
 use poly_graph::Problem;
 use truth3::{Marks, may, sure};
@@ -66,7 +66,8 @@ pub fn midpoint_sure(
     sure(problem, rows, middle, delta, marks)
 }
 
-/// Makes the middle of the space and its enclosures known.
+/// Makes the middle of the space and its enclosures known; they follow those over an earlier middle, where there are
+/// some.
 pub fn find_centre(problem: &Problem, space: &Space, centre: &mut Centre)
     requires space { length (space_of space.now) ≡ length problem.now.axes }
     requires centre { HasCentre problem.now (space_of space.now) centre.old }
@@ -77,7 +78,12 @@ pub fn find_centre(problem: &Problem, space: &Space, centre: &mut Centre)
         return;
     }
     space.middle(&mut centre.middle);
-    fill(problem.graph(), &centre.middle, &mut centre.rows);
+    if centre.filled {
+        follow(problem.graph(), &centre.middle, &mut centre.rows);
+    } else {
+        fill(problem.graph(), &centre.middle, &mut centre.rows);
+    }
+    centre.filled = true;
     centre.known = true;
 }
 

@@ -12,10 +12,12 @@ use truth3::Marks;
 /// The middle of a space, and the enclosures over it.
 #[derive(Drop)]
 pub struct Centre {
-    /// The middle of the present space, where it is known.
+    /// The middle of the present space, where it is known, or else perhaps that of an earlier one.
     pub middle: Space,
-    /// The enclosures over the middle, where it is known.
+    /// The enclosures over it, where it is filled.
     pub rows: Rows,
+    /// Whether the rows are the enclosures over it.
+    pub filled: bool,
     /// Whether it is known.
     pub known: bool,
 }
@@ -61,6 +63,7 @@ fn room_for_centre(alloc: Global, problem: &Problem) -> Result<Centre, AllocErro
     Ok(Centre {
         middle,
         rows,
+        filled: false,
         known: false,
     })
 }

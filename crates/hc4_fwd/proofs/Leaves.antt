@@ -1,11 +1,11 @@
 -- Narrowing by a node from which a changed axis is not reached leaves something where it did before.
-use Rattle.std.proofs.Common.{◌≡◌, ℕ, zero, suc, ◌+◌, List, [], ◌∷◌, get_or, Option, Some, None, Bool, true, false, not, cond, ◌||◌, nat_eq, eqb-true, refl, ap, ap₂, sym, subst, ◌∙◌, arith, true≢false, IsTrue}
+use Rattle.std.proofs.Common.{◌≡◌, ℕ, zero, suc, ◌+◌, List, [], ◌∷◌, get_or, Option, Some, None, Bool, true, false, not, cond, ◌||◌, nat_eq, eqb-true, refl, ap, ap₂, sym, subst, ◌∙◌, arith}
 use Rattle.std.proofs.lemmas.Bool.{eq-eqb}
 use Rattle.std.specs.Prelude.{slice_get}
-use Rattle.interval_model.specs.Interval.{Interval, nothing, met, inverse_sum, inverse_product, inverse_square}
+use Rattle.interval_model.specs.Interval.{Interval, met, inverse_sum, inverse_product, inverse_square}
 use Rattle.interval_model.specs.Space.{Space}
 use Rattle.poly_graph.specs.Term.{Node, constant_node, variable_node, negate_node, add_node, multiply_node, square_node, has_child}
-use Rattle.cover_model.specs.Narrowed.{if_child, left_by, with_parent, from_parent, from_parents, own, narrowed_from, narrowed, some_empty, narrowed_space, narrowed_by, enclosures}
+use Rattle.cover_model.specs.Narrowed.{if_child, left_by, with_parent, from_parents, own, narrowed_from, narrowed, some_empty, narrowed_by, enclosures}
 use Rattle.cover_model.specs.NodeEnclosure.{row}
 use Rattle.cover_model.specs.Honest.{is_some_space}
 use Rattle.ival.specs.RowViews.{is_marked}

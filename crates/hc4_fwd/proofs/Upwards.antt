@@ -7,7 +7,7 @@ use Rattle.std.specs.Bool.{passes}
 use Rattle.interval_model.specs.Interval.{Interval, nothing, interval_negated, interval_sum, interval_product, interval_square}
 use Rattle.dyadic.proofs.Equal.{both_true}
 use Rattle.poly_graph.specs.Term.{Node, constant_node, variable_node, negate_node, add_node, multiply_node, square_node, comes_after, in_order, has_child}
-use Rattle.interval_model.specs.Space.{Space}
+use Rattle.interval_model.specs.Space.{Space, axis_interval}
 use Rattle.cover_model.specs.Narrowed.{enclosures}
 use Rattle.poly_graph.specs.Parents.{parents_from}
 use Rattle.cover_model.specs.NodeEnclosure.{row, node_enclosure}
@@ -57,16 +57,16 @@ pub or-cases : (t u : Bool) → (t || u) ≡ true → (t ≡ false → u ≡ tru
 or-cases true u h e = cc
 or-cases false u h e = h
 
-same-children : (axis : ℕ) (was space : Space) (es es' : List Interval) (n : Node) → SameBut axis was space → n ≢ variable_node axis → ((c : ℕ) → has_child c n ≡ true → row es c ≡ row es' c) →
+pub same_children : (was space : Space) (es es' : List Interval) (n : Node) → ((a : ℕ) → n ≡ variable_node a → axis_interval was a ≡ axis_interval space a) → ((c : ℕ) → has_child c n ≡ true → row es c ≡ row es' c) →
     node_enclosure was es n ≡ node_enclosure space es' n
-same-children axis was space es es' (constant_node q) b v f = refl
-same-children axis was space es es' (variable_node a) b v f = b a (λ e. v (ap variable_node e))
-same-children axis was space es es' (negate_node a) b v f = ap interval_negated (f a (eq-eqb a a refl))
-same-children axis was space es es' (add_node a c) b v f =
+same_children was space es es' (constant_node q) v f = refl
+same_children was space es es' (variable_node a) v f = v a refl
+same_children was space es es' (negate_node a) v f = ap interval_negated (f a (eq-eqb a a refl))
+same_children was space es es' (add_node a c) v f =
     ap₂ interval_sum (f a (ap (λ (t : Bool). t || nat_eq c a) (eq-eqb a a refl))) (f c (or-right (nat_eq a c) (nat_eq c c) (eq-eqb c c refl)))
-same-children axis was space es es' (multiply_node a c) b v f =
+same_children was space es es' (multiply_node a c) v f =
     ap₂ interval_product (f a (ap (λ (t : Bool). t || nat_eq c a) (eq-eqb a a refl))) (f c (or-right (nat_eq a c) (nat_eq c c) (eq-eqb c c refl)))
-same-children axis was space es es' (square_node a) b v f = ap interval_square (f a (eq-eqb a a refl))
+same_children was space es es' (square_node a) v f = ap interval_square (f a (eq-eqb a a refl))
 
 below : (a c k : ℕ) → nat_eq a c ≡ true → IsTrue (nat_lt a k) → c < k
 below a c k h o = let e = eqb-true a c h in let l = ltb→lt a k (passes _ o) in omega (arith, e, l)
@@ -133,7 +133,7 @@ module _ (axis : ℕ) (nodes : List Node) (ordered : IsTrue (in_order 0 nodes)) 
     | inr not_more ↦
         let p = some_node nodes k (omega arith) in let kept = f k p.0 a c p.1 in
         sym (next_row was nodes ordered (enclosures was nodes) k p.0 p.1 (λ i h. refl))
-        ∙ same-children axis was space (enclosures was nodes) (enclosures space nodes) p.0 others kept.0
+        ∙ same_children was space (enclosures was nodes) (enclosures space nodes) p.0 (λ a e. others a (λ x. kept.0 (e ∙ ap variable_node x)))
         (λ i h. let low : i < k = child-below i k p.0 (comes_at nodes ordered k p.0 p.1) h in elim (cases_lt i n) [
           | inl early ↦ kept.1 i early h
           | inr late ↦ unreached n q l f d i late (omega arith) (omega arith)

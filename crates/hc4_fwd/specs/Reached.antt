@@ -1,19 +1,24 @@
--- From which nodes an axis is reached, and rows that are right but for one axis.
-use Rattle.std.specs.Prelude.{◌≡◌, ◌≢◌, ℕ, List, Bool, false, ◌||◌, nat_eq}
+-- From which nodes a changed axis is reached, and rows that are right but for some axes.
+use Rattle.std.specs.Prelude.{◌≡◌, ◌≢◌, ℕ, List, true, false}
 use Rattle.interval_model.specs.Interval.{Interval}
-use Rattle.poly_graph.specs.Term.{Node, constant_node, variable_node, negate_node, add_node, multiply_node, square_node}
+use Rattle.poly_graph.specs.Term.{Node, variable_node, has_child}
 use Rattle.interval_model.specs.Space.{Space, axis_interval}
 use Rattle.cover_model.specs.Narrowed.{enclosures}
-use Rattle.ival.specs.RowViews.{is_marked}
+use Rattle.cover_model.specs.NodeEnclosure.{row}
+use Rattle.ival.specs.declared.row_parts.Rows.{Rows}
+use Rattle.ival.specs.declared.space.Space.{Space as CodeSpace}
+use Rattle.ival.specs.RowViews.{rows_of, marks_of, is_marked}
+use Rattle.ival.specs.SpaceViews.{space_of}
 
--- the node is the axis, or has a marked child
-abbrev pub is_reached : ℕ → List Bool → Node → Bool
-is_reached axis marks (constant_node q) = false
-is_reached axis marks (variable_node a) = nat_eq a axis
-is_reached axis marks (negate_node a) = is_marked marks a
-is_reached axis marks (add_node a b) = is_marked marks a || is_marked marks b
-is_reached axis marks (multiply_node a b) = is_marked marks a || is_marked marks b
-is_reached axis marks (square_node a) = is_marked marks a
+-- if node n, which is p, is a variable, its row has the numbers that are left to its axis; no child of it is marked
+pub record IsCalm (space : CodeSpace) (rows : Rows) (n : ℕ) (p : Node) : Type 0 where
+  pub axis : (a : ℕ) → p ≡ variable_node a → axis_interval (space_of space) a ≡ row (rows_of rows) n
+  pub children : (c : ℕ) → has_child c p ≡ true → is_marked (marks_of rows) c ≡ false
+
+-- the rows are the enclosures over some space
+pub record AreEnclosures (nodes : List Node) (es : List Interval) : Type 0 where
+  pub was : Space
+  pub filled : es ≡ enclosures was nodes
 
 -- the same is left to every other axis
 abbrev pub SameBut : ℕ → Space → Space → Type 0

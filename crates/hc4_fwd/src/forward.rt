@@ -3,7 +3,7 @@ ghost use Rattle.std.specs.Prelude.{◌≡◌, length};
 ghost use Rattle.cover_model.specs.Narrowed.{enclosures};
 ghost use Rattle.ival.specs.RowViews.{rows_of, marks_of};
 ghost use Rattle.ival.specs.SpaceViews.{space_of};
-ghost use Rattle.hc4_fwd.specs.Reached.{FilledBut};
+ghost use Rattle.hc4_fwd.specs.Reached.{AreEnclosures};
 ghost use Rattle.hc4_fwd.specs.Apart.{IsApart};
 
 use crate::node_interval::node_interval;
@@ -24,18 +24,18 @@ pub fn fill(graph: &Graph, space: &Space, rows: &mut Rows)
     }
 }
 
-/// Puts the enclosure of each node's term over the space into its row, where the rows were the enclosures
-/// over a space that differs at most at this axis: the rows of nodes from which the axis is not reached stay.
-/// Afterwards those have no mark.
-pub fn refill(graph: &Graph, space: &Space, axis: u32, rows: &mut Rows)
-    requires { FilledBut axis graph.now (space_of space.now) (rows_of rows.old) }
+/// Puts the enclosure of each node's term over the space into its row, where the rows were the enclosures over another
+/// space, in one pass: the rows of nodes from which no axis is reached whose numbers changed stay. Afterwards those
+/// have no mark.
+pub fn follow(graph: &Graph, space: &Space, rows: &mut Rows)
+    requires rows { AreEnclosures graph.now (rows_of rows.old) }
     ensures rows { rows_of rows.new ≡ enclosures (space_of space.now) graph.now }
     ensures apart { IsApart graph.now (rows_of rows.old) (rows_of rows.new) (marks_of rows.new) }
 {
     rows.clear_marks();
     for place in 0..graph.len() {
         let node = graph.node(place as u32);
-        if is_reached(node, axis, rows) {
+        if is_reached(node, place, space, rows) {
             renew(node, place, space, rows);
         }
     }

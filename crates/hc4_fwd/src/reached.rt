@@ -1,23 +1,24 @@
-// Nodes from which an axis is reached.
-ghost use Rattle.std.specs.Prelude.{◌≡◌, length, slice_set, true, IsTrue, ◌<◌};
+// Nodes from which a changed axis is reached.
+ghost use Rattle.std.specs.Prelude.{◌≡◌, length, slice_set, true, false, IsTrue, ◌<◌};
 ghost use Rattle.poly_graph.specs.Term.{comes_after};
 ghost use Rattle.poly_graph.specs.Views.{node_of};
 ghost use Rattle.ival.specs.RowViews.{rows_of, marks_of};
-ghost use Rattle.hc4_fwd.specs.Reached.{is_reached};
+ghost use Rattle.hc4_fwd.specs.Reached.{IsCalm};
 ghost use Rattle.hc4_fwd.specs.Renewed.{renewed};
 
 use crate::node_interval::node_interval;
 use ival::{Rows, Space};
 use poly_graph::Node;
 
-/// Whether the node is the axis or has a marked child.
-pub fn is_reached(node: Node, axis: u32, rows: &Rows) -> bool
-    requires { IsTrue (comes_after (length (rows_of rows.now)) (node_of node)) }
-    ensures { result ≡ is_reached axis (marks_of rows.now) (node_of node) }
+/// Whether node n is a variable to whose axis other numbers are left than its row has, or has a marked child.
+pub fn is_reached(node: Node, n: usize, space: &Space, rows: &Rows) -> bool
+    requires order { IsTrue (comes_after (length (rows_of rows.now)) (node_of node)) }
+    requires place { n < length (rows_of rows.now) }
+    ensures { result ≡ false → IsCalm space.now rows.now n (node_of node) }
 {
     match node {
         Node::Const(_) => false,
-        Node::Var(a) => a == axis,
+        Node::Var(axis) => space.interval(axis) != rows.get(n),
         Node::Neg(a) | Node::Sq(a) => rows.marked(a as usize),
         Node::Add(a, b) | Node::Mul(a, b) => rows.marked(a as usize) || rows.marked(b as usize),
     }

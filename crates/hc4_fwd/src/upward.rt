@@ -35,7 +35,8 @@ fn refill_on_blank<L: Ledger>(
     refill_counted(graph, space, axis, above, rows, &mut steps);
 }
 
-/// As `refill`, by way of what stands above what: no node is looked at from which the axis is not reached.
+/// As `follow` where one axis changed, by way of what stands above what: no node is looked at from which the axis is
+/// not reached.
 pub fn refill_by(graph: &Graph, space: &Space, axis: u32, above: &Above, rows: &mut Rows)
     requires axis { axis < length above.now.variables.items }
     requires above { IsAbove graph.now above.now }

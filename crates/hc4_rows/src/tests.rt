@@ -1,7 +1,7 @@
 // Small graphs on which both ways of the passes agree, and ends that were computed by hand.
 use dyadic::{Dy, Ext, Frac, add_up, at_most, down_frac, mul_up, pow2};
 use hc4_bwd::{narrow, narrow_off};
-use hc4_fwd::{Above, fill, refill, refill_by};
+use hc4_fwd::{Above, fill, follow, refill_by};
 use ival::{Domain, Narrowed, Range, Rows, Space};
 use plain_eval::{enclose, narrow_off_plain, narrow_plain};
 use poly_graph::{Atom, Graph, Kind, Node, is_after};
@@ -277,11 +277,31 @@ fn refilled_alike(
     fill(graph, space, &mut rows);
     fill(graph, space, &mut others);
     space.set(0, domain);
-    refill(graph, space, 0, &mut rows);
+    follow(graph, space, &mut rows);
     refill_by(graph, space, 0, &above, &mut others);
     let mut fresh = Rows::new(alloc, count)?;
     fill(graph, space, &mut fresh);
     Ok(same_rows(&rows, &fresh) && same_rows(&others, &fresh))
+}
+
+// Whether rows follow a space of which both axes were given another domain.
+fn followed_alike(
+    alloc: Global,
+    graph: &Graph,
+    space: &mut Space,
+    domain: Domain,
+) -> Result<bool, AllocError> {
+    if space.len() < 2 {
+        return Ok(false);
+    }
+    let mut rows = Rows::new(alloc, graph.len())?;
+    let mut fresh = Rows::new(alloc, graph.len())?;
+    fill(graph, space, &mut rows);
+    space.set(0, domain);
+    space.set(1, domain);
+    follow(graph, space, &mut rows);
+    fill(graph, space, &mut fresh);
+    Ok(same_rows(&rows, &fresh))
 }
 
 #[test]
@@ -292,6 +312,8 @@ fn rows_are_renewed_upwards(rt: HostRuntime) -> Result<(), Fail> {
         let graph = sample(alloc, number)?;
         let mut space = square(alloc, pow2(0).neg(), pow2(1))?;
         assert!(rt; refilled_alike(alloc, &graph, &mut space, Domain::Real(range))?);
+        let mut space = square(alloc, pow2(0).neg(), pow2(1))?;
+        assert!(rt; followed_alike(alloc, &graph, &mut space, Domain::Real(range))?);
     }
     Ok(())
 }

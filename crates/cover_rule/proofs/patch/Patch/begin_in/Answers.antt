@@ -39,6 +39,7 @@ invariant_of-result c =
               middle = ap (λ (r : CodeSpace). length (space_of r)) c.forget.ensures.middle ∙ c.requires.room.centre.middle;
               rows = ap (λ (r : Rows). length (rows_of r)) c.forget.ensures.centre_rows ∙ c.requires.room.centre.rows;
             };
+            filled = λ h. absurd (true≢false (sym h ∙ c.forget.ensures.filled));
             known = λ h. absurd (true≢false (sym h ∙ c.forget.ensures.centre));
           };
           room = subst (FitsRoom p.nodes) (sym c.forget.ensures.room) c.requires.room.room;

@@ -1,4 +1,4 @@
-use Rattle.std.proofs.Common.{◌≡◌, ℕ, List, ◌+◌, ◌<◌, ◌≤◌, ◌∙◌, length, arith, ap, sym, subst, refl}
+use Rattle.std.proofs.Common.{ℕ, List, ◌+◌, ◌<◌, ◌≤◌, ◌∙◌, length, arith, ap, sym, subst, refl}
 use Rattle.interval_model.specs.Interval.{Interval}
 use Rattle.cover_model.specs.NodeEnclosure.{row}
 use Rattle.ival.specs.declared.row_parts.Rows.{Rows}
@@ -8,20 +8,20 @@ use Rattle.ival.proofs.MarkWords.{length_marks}
 use Rattle.ival.specs.RowViews.{rows_of, marks_of}
 use Rattle.ival.specs.SpaceViews.{space_of}
 use Rattle.hc4_fwd.proofs.Reaches.{Renewed, passed_by, renewed_at}
-use Rattle.hc4_fwd.proofs.forward.refill.Goals as goal
-use Rattle.hc4_fwd.proofs.forward.refill.Goals.{then-is_reached, else-is_reached}
+use Rattle.hc4_fwd.proofs.forward.follow.Goals as goal
+use Rattle.hc4_fwd.proofs.forward.follow.Goals.{then-is_reached, else-is_reached}
 
 pub loop-place-init : goal.loop-place-init
 loop-place-init c = record {
-  count = ap length (c.clear_marks.ensures.rows ∙ c.requires.filled) ∙ length_enclosures c.requires.was c.args.graph.now;
+  count = ap length (c.clear_marks.ensures.rows ∙ c.requires.rows.filled) ∙ length_enclosures c.requires.rows.was c.args.graph.now;
   filled = λ k h. absurd (omega arith);
   stays = λ k h m. absurd (omega arith);
   ahead = λ k h. refl;
   down = λ k p h f m c t. absurd (omega arith);
 }
 
-pub is_reached-requires : goal.is_reached-requires
-is_reached-requires c =
+pub is_reached-requires-clause-order : goal.is_reached-requires-clause-order
+is_reached-requires-clause-order c =
     let n = c.loop-place.place in
     let inside : n ≤ length (rows_of c.loop-place.rows) = omega (arith, c.loop-place-test.true, c.loop-place.invariant.count, c.len-place-end.ensures.len) in
     comes_later n (length (rows_of c.loop-place.rows)) (node_of c.node-node.result) inside (comes_at c.args.graph.now c.len-place-end.ensures.graph.ordered n (node_of c.node-node.result) c.node-node.ensures)
@@ -43,8 +43,8 @@ loop-place-preserved c =
       | then-is_reached w ↦ subst P (sym w.rows-is)
           (renewed_at nodes space start n es (rows_of w.renew.new.rows) marks (marks_of w.renew.new.rows) node c.len-place-end.ensures.graph.ordered c.node-node.ensures inside inside-marks w.renew.ensures.rows w.renew.ensures.marks c.loop-place.invariant)
       | else-is_reached w ↦ subst P (sym w.rows-is)
-          (passed_by c.args.axis nodes c.requires.was space start n es marks node c.len-place-end.ensures.graph.ordered c.node-node.ensures (c.clear_marks.ensures.rows ∙ c.requires.filled) c.requires.others
-          (sym w.if-is_reached.ensures) c.loop-place.invariant)
+          (let calm = w.if-is_reached.ensures refl in
+          passed_by nodes c.requires.rows.was space start n es marks node c.len-place-end.ensures.graph.ordered c.node-node.ensures (c.clear_marks.ensures.rows ∙ c.requires.rows.filled) calm.axis calm.children c.loop-place.invariant)
     ]
 
 pub returns-clause-rows : goal.returns-clause-rows
