@@ -60,10 +60,12 @@ pub fn forget(work: &mut Workspace)
     ensures centre_rows { work.new.centre.rows ≡ work.old.centre.rows }
     ensures centre { work.new.centre.known ≡ false }
     ensures room { work.new.room ≡ work.old.room }
+    ensures voiding { work.new.voiding.known ≡ false }
 {
     clear(&mut work.leaves);
     work.unsure = false;
     work.centre.known = false;
+    work.voiding.known = false;
 }
 
 // Whether the row of atom j's term is marked.
@@ -90,7 +92,7 @@ fn drop_reached(problem: &Problem, rows: &Rows, leaves: &mut Vec<bool, Global>)
 }
 
 // Leaves a domain to the axis, and renews the rows where that is a change: then nothing more is known of atoms from
-// which the axis is reached, nor of the middle.
+// which the axis is reached, nor of the middle, nor of a combination.
 fn renew_axis(
     problem: &Problem,
     margins: &Margins,
@@ -114,6 +116,7 @@ fn renew_axis(
     drop_reached(problem, &work.rows, &mut work.leaves);
     work.unsure = false;
     work.centre.known = false;
+    work.voiding.known = false;
 }
 
 /// Takes over the spare space, and renews the rows of the axes that differ.
