@@ -1,10 +1,11 @@
 // The range of a multiple of a number and one of its square, and what it leaves to the number.
-ghost use Rattle.std.specs.Prelude.{◌≡◌, Some};
+ghost use Rattle.std.specs.Prelude.{◌≡◌, Some, true};
 ghost use Rattle.dyadic.specs.Views.{dyadic_of};
 ghost use Rattle.interval_model.specs.Interval.{misses_nought};
 ghost use Rattle.cover_model.specs.Combination.{only, interval_difference, half_quotient, completed, root_left, completed_left, both_range, both_left};
 ghost use Rattle.ival.specs.Views.{interval_of};
 ghost use Rattle.ival.specs.Options.{option_of};
+ghost use Rattle.plain_combine.specs.Rest.{IsSingle};
 
 use dyadic::{Dy, Ext, Sign, sign_of};
 use ival::{Ends, Ival};
@@ -18,6 +19,19 @@ pub fn only(number: Dy) -> Ival
         low: end,
         high: end,
     })
+}
+
+/// Whether it is one number.
+pub fn is_single(interval: Ival) -> bool
+    ensures { result ≡ true → IsSingle (interval_of interval) }
+{
+    let Ival::Between(ends) = interval else {
+        return false;
+    };
+    match (ends.low, ends.high) {
+        (Ext::Fin(low), Ext::Fin(high)) => low == high,
+        _ => false,
+    }
 }
 
 /// The numbers of the first less those of the second.
