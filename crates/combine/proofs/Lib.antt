@@ -6,3 +6,4 @@ pub mod Sweeping
 pub mod Tightening
 pub mod Constants
 pub mod Noughts
+pub mod Ones

@@ -10,7 +10,7 @@ ghost use Rattle.combine.specs.Visits.{difference_at, IsFixed, IsExact, AddsSqua
 ghost use Rattle.combine.specs.Parts.{needed_by};
 
 use crate::gathered::Gathered;
-use crate::ranges::{difference, is_number};
+use crate::ranges::{difference, is_number, times};
 use ival::{Ival, Rows, Space};
 use poly_graph::Node;
 
@@ -85,7 +85,7 @@ fn with_product(node: Node, linear: Ival, rows: &Rows, centre_rows: &Rows, rest:
             }
             let first = off_centre(a, rows, centre_rows);
             let second = off_centre(b, rows, centre_rows);
-            rest.add(linear.mul(first.mul(second)))
+            rest.add(times(linear, first.mul(second)))
         }
         _ => rest,
     }

@@ -7,6 +7,7 @@ ghost use Rattle.ival.specs.RowViews.{rows_of};
 ghost use Rattle.interval_model.specs.Interval.{interval_product};
 ghost use Rattle.combine.specs.Hands.{IsHanded, IsHandedUnless, IsHandedDown, IsSquareHanded, is_constant_at};
 
+use crate::ranges::times;
 use ival::{Ival, Rows};
 use poly_graph::{Graph, Node};
 
@@ -58,7 +59,7 @@ fn hand_factor(graph: &Graph, a: u32, linear: Ival, other: Ival, into: &mut Rows
     ensures count { length (rows_of into.new) ≡ length graph.now }
 {
     if !is_constant(graph, a) {
-        hand(a, linear.mul(other), into);
+        hand(a, times(linear, other), into);
     }
 }
 
@@ -83,7 +84,7 @@ pub fn hand_down(graph: &Graph, node: Node, linear: Ival, centre_rows: &Rows, ad
             hand_factor(graph, b, linear, centre_rows.get(a as usize), adjoints);
         }
         Node::Sq(a) => {
-            let coefficient = linear.mul(centre_rows.get(a as usize));
+            let coefficient = times(linear, centre_rows.get(a as usize));
             hand(a, coefficient, adjoints);
             hand(a, coefficient, adjoints);
         }
