@@ -6,3 +6,4 @@ pub mod Passing
 pub mod Sweeping
 pub mod Constants
 pub mod Noughts
+pub mod Ones

@@ -9,6 +9,7 @@ ghost use Rattle.ival.specs.RowViews.{rows_of};
 ghost use Rattle.ival.specs.Options.{option_at, option_of};
 ghost use Rattle.plain_combine.specs.Giving.{constant_at, given_unless, given_down};
 
+use crate::quadratic::multiple;
 use ival::{Ival, Rows};
 use poly_graph::{Graph, Node};
 
@@ -87,7 +88,7 @@ fn give_factor(graph: &Graph, node: u32, coefficient: Ival, other: Ival, linear:
     if is_constant(graph, node) {
         return;
     }
-    give(node, coefficient.mul(other), linear);
+    give(node, multiple(coefficient, other), linear);
 }
 
 /// Gives to the children what a node with this coefficient has for them, where the rows are the enclosures at the centre;
@@ -119,7 +120,7 @@ pub fn give_children(
             give_factor(graph, b, coefficient, centre_rows.get(a as usize), linear);
         }
         Node::Sq(a) => {
-            let half = coefficient.mul(centre_rows.get(a as usize));
+            let half = multiple(coefficient, centre_rows.get(a as usize));
             give(a, half, linear);
             give(a, half, linear);
         }

@@ -12,7 +12,7 @@ ghost use Rattle.interval_model.specs.Interval.{is_nothing};
 ghost use Rattle.plain_combine.specs.Rest.{IsStill, IsNothingOver, with_node, with_product, with_square};
 
 use crate::give::{entry, give_children, give_square};
-use crate::quadratic::{is_single, less};
+use crate::quadratic::{is_single, less, multiple};
 use crate::room::Coefficients;
 use ival::{Ival, Rows};
 use poly_graph::{Graph, Node};
@@ -76,7 +76,7 @@ fn add_product(a: u32, b: u32, linear: Ival, rows: &Rows, centre_rows: &Rows, re
     }
     let first = off_centre(a, rows, centre_rows);
     let second = off_centre(b, rows, centre_rows);
-    rest.add(linear.mul(first.mul(second)))
+    rest.add(multiple(linear, first.mul(second)))
 }
 
 // The square of node n's difference, times its coefficient, added to the rest.
