@@ -4,3 +4,6 @@ pub mod Keeping
 pub mod Pairs
 pub mod Sweeping
 pub mod Tightening
+pub mod Constants
+pub mod Noughts
+pub mod Ones

@@ -9,6 +9,8 @@ use Rattle.poly_graph.specs.declared.node.Node.TheVariants.{Const, Var, Neg, Add
 use Rattle.poly_graph.specs.Views.{node_of}
 use Rattle.cover_model.specs.NodeEnclosure.{row}
 use Rattle.cover_model.specs.Combination.{Adjoints, joined, handed, handed_down, squares_down, Expansion, squared_rest, product_rest, expanded, next_adjoints, next_squares, next_expansion, swept}
+use Rattle.combine.specs.Hands.{is_constant_at, handed_unless, handed_on}
+use Rattle.combine.proofs.Constants.{handed_on_alike, swept_alike}
 use Rattle.combine.specs.Parts.{needed_by, needed_at, needed_below}
 
 -- ---- a node that is no variable
@@ -59,10 +61,11 @@ module _ (nodes : List Node) (es cs : List Interval) where
       ∙ skipped d (q + d) q os qs e refl (λ k a b. f k a (omega arith)) (λ k a b. g k a (omega arith))
 
   pub visited : (n : ℕ) (w : Interval) (node : Node) (os qs os' qs' : Adjoints) (e e' : Expansion) → os n ≡ Some w → slice_get nodes n ≡ Some node →
-      ((k : ℕ) → os' k ≡ handed_down cs w node os k) → ((k : ℕ) → qs' k ≡ squares_down w node qs k) → e' ≡ expanded es cs n (Some w) (qs n) node e →
+      ((k : ℕ) → os' k ≡ handed_on nodes cs w node os k) → ((k : ℕ) → qs' k ≡ squares_down w node qs k) → e' ≡ expanded es cs n (Some w) (qs n) node e →
       swept nodes es cs (suc n) os qs e ≡ swept nodes es cs n os' qs' e'
   visited n w node os qs os' qs' e e' f g a b c =
       ap₂ (λ (o : Option Interval) (m : Option Node). swept nodes es cs n (next_adjoints cs o m os) (next_squares o m qs) (next_expansion es cs n o (qs n) m e)) f g
+      ∙ swept_alike nodes es cs n (handed_down cs w node os) (handed_on nodes cs w node os) (squares_down w node qs) (expanded es cs n (Some w) (qs n) node e) (handed_on_alike nodes cs w node os)
       ∙ ap₂ (λ (x y : Adjoints). swept nodes es cs n x y (expanded es cs n (Some w) (qs n) node e)) (sym (fun_ext a)) (sym (fun_ext b))
       ∙ ap (λ (x : Expansion). swept nodes es cs n os' qs' x) (sym c)
 
@@ -82,15 +85,22 @@ both-none a i w os qs k f h = go (nat_eq k a) h
     go true e = cc
     go false e = f e
 
-pub squares_under : (cs : List Interval) (w : Interval) (n : Node) (os qs : Adjoints) → ((k : ℕ) → os k ≡ None → qs k ≡ None) →
-    (k : ℕ) → handed_down cs w n os k ≡ None → squares_down w n qs k ≡ None
-squares_under cs w (constant_node q) os qs f k h = f k h
-squares_under cs w (variable_node a) os qs f k h = f k h
-squares_under cs w (negate_node a) os qs f k h = f k (handed-none a (interval_negated w) os k h)
-squares_under cs w (add_node a b) os qs f k h = f k (handed-none a w os k (handed-none b w (handed a w os) k h))
-squares_under cs w (multiply_node a b) os qs f k h =
-    f k (handed-none a (interval_product w (row cs b)) os k (handed-none b (interval_product w (row cs a)) (handed a (interval_product w (row cs b)) os) k h))
-squares_under cs w (square_node a) os qs f k h =
+unless-none : (t : Bool) (a : ℕ) (i : Interval) (os : Adjoints) (k : ℕ) → handed_unless t a i os k ≡ None → os k ≡ None
+unless-none true a i os k h = h
+unless-none false a i os k h = handed-none a i os k h
+
+pub squares_under : (nodes : List Node) (cs : List Interval) (w : Interval) (n : Node) (os qs : Adjoints) → ((k : ℕ) → os k ≡ None → qs k ≡ None) →
+    (k : ℕ) → handed_on nodes cs w n os k ≡ None → squares_down w n qs k ≡ None
+squares_under nodes cs w (constant_node q) os qs f k h = f k h
+squares_under nodes cs w (variable_node a) os qs f k h = f k h
+squares_under nodes cs w (negate_node a) os qs f k h = f k (handed-none a (interval_negated w) os k h)
+squares_under nodes cs w (add_node a b) os qs f k h =
+    let s = is_constant_at nodes a in let t = is_constant_at nodes b in
+    f k (unless-none s a w os k (unless-none t b w (handed_unless s a w os) k h))
+squares_under nodes cs w (multiply_node a b) os qs f k h =
+    let s = is_constant_at nodes a in let t = is_constant_at nodes b in let i = interval_product w (row cs b) in
+    f k (unless-none s a i os k (unless-none t b (interval_product w (row cs a)) (handed_unless s a i os) k h))
+squares_under nodes cs w (square_node a) os qs f k h =
     let i = interval_product w (row cs a) in both-none a i w os qs k (f k) (handed-none a i (handed a i os) k h)
 
 -- ---- the room that parts need

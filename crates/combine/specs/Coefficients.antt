@@ -1,10 +1,18 @@
 -- The range of a part with these coefficients, and what is left to its variable.
-use Rattle.std.specs.Prelude.{Option, Some}
+use Rattle.std.specs.Prelude.{◌≡◌, ◌^◌, Option, Some, pos}
+use Rattle.dyadic.specs.Rounding.{Dyadic}
 use Rattle.interval_model.specs.Interval.{Interval}
-use Rattle.cover_model.specs.Combination.{completed, both_range, completed_left, both_left}
+use Rattle.cover_model.specs.Combination.{only, completed, both_range, completed_left, both_left}
 use Rattle.ival.specs.declared.ends.Ival.{Ival}
 use Rattle.ival.specs.Views.{interval_of}
 use Rattle.ival.specs.Options.{option_of}
+
+-- it is a number alone
+abbrev pub IsNumber : Interval → Type 0
+IsNumber i = (d : Dyadic) × (i ≡ only d)
+
+abbrev pub one_alone : Interval
+one_alone = only (record { units = pos (2 ^ 120) })
 
 -- of a linear and perhaps a quadratic coefficient, where the variable's difference to its centre lies in the third interval
 abbrev pub range_by : Ival → Option Ival → Ival → Interval

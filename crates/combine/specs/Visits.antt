@@ -1,10 +1,10 @@
 -- What a visited node adds to an expansion.
 use Rattle.std.specs.Prelude.{◌≡◌, ℕ, List, length, Option, Some}
-use Rattle.interval_model.specs.Interval.{Interval}
+use Rattle.interval_model.specs.Interval.{Interval, interval_product}
 use Rattle.poly_graph.specs.declared.node.Node.{Node}
 use Rattle.poly_graph.specs.Term
 use Rattle.poly_graph.specs.Views.{node_of}
-use Rattle.cover_model.specs.Combination.{Part, Expansion, with_part, off_centre, squared_rest, product_rest, expanded, swept}
+use Rattle.cover_model.specs.Combination.{Part, nought_alone, Expansion, with_part, off_centre, squared_rest, product_rest, expanded, swept}
 use Rattle.ival.specs.declared.ends.Ival.{Ival}
 use Rattle.ival.specs.declared.row_parts.Rows.{Rows}
 use Rattle.ival.specs.Options.{option_at, option_of}
@@ -15,6 +15,14 @@ use Rattle.combine.specs.Parts.{expansion_of, expansion_with}
 
 abbrev pub difference_at : Rows → Rows → ℕ → Interval
 difference_at rows centre_rows k = off_centre (rows_of rows) (rows_of centre_rows) k
+
+-- node k has one value, at the centre too
+abbrev pub IsFixed : Rows → Rows → ℕ → Type 0
+IsFixed rows centre_rows k = difference_at rows centre_rows k ≡ nought_alone
+
+-- nothing is left over of the product of nodes a and b with this coefficient
+abbrev pub IsExact : Rows → Rows → Ival → ℕ → ℕ → Type 0
+IsExact rows centre_rows w a b = interval_product (interval_of w) (interval_product (difference_at rows centre_rows a) (difference_at rows centre_rows b)) ≡ nought_alone
 
 -- from the old rest to the new one, whatever the parts are
 abbrev pub AddsSquare : Rows → Rows → ℕ → Option Ival → Ival → Ival → Type 0

@@ -1,15 +1,16 @@
 // What a visited node adds to an expansion.
-ghost use Rattle.std.specs.Prelude.{◌≡◌, ◌+◌, ◌<◌, ◌≤◌, length, IsTrue, List, Some, vec_len};
+ghost use Rattle.std.specs.Prelude.{◌≡◌, ◌+◌, ◌<◌, ◌≤◌, length, IsTrue, List, Some, true, false, vec_len};
 ghost use Rattle.poly_graph.specs.Term.{comes_after, variable_node};
 ghost use Rattle.poly_graph.specs.Views.{node_of};
 ghost use Rattle.ival.specs.Views.{interval_of};
 ghost use Rattle.ival.specs.RowViews.{rows_of};
 ghost use Rattle.combine.specs.Combined.{IsMeasuredOver};
-ghost use Rattle.combine.specs.Visits.{difference_at, AddsSquare, AddsProduct, IsExpanded};
+ghost use Rattle.interval_model.specs.Interval.{is_nothing};
+ghost use Rattle.combine.specs.Visits.{difference_at, IsFixed, IsExact, AddsSquare, AddsProduct, IsExpanded};
 ghost use Rattle.combine.specs.Parts.{needed_by};
 
 use crate::gathered::Gathered;
-use crate::ranges::difference;
+use crate::ranges::{difference, is_number, times};
 use ival::{Ival, Rows, Space};
 use poly_graph::Node;
 
@@ -34,6 +35,41 @@ fn with_square(n: usize, square: Option<Ival>, rows: &Rows, centre_rows: &Rows, 
     }
 }
 
+// Whether node k has one value, at the centre too.
+fn is_fixed(k: usize, rows: &Rows, centre_rows: &Rows) -> bool
+    requires rows { k < length (rows_of rows.now) }
+    requires centre_rows { k < length (rows_of centre_rows.now) }
+    ensures { result ≡ true → IsFixed rows.now centre_rows.now k }
+{
+    let own = rows.get(k);
+    is_number(own) && own == centre_rows.get(k)
+}
+
+// Whether node k has values, at the centre too.
+fn has_values(k: usize, rows: &Rows, centre_rows: &Rows) -> bool
+    requires rows { k < length (rows_of rows.now) }
+    requires centre_rows { k < length (rows_of centre_rows.now) }
+    ensures { result ≡ true → is_nothing (difference_at rows.now centre_rows.now k) ≡ false }
+{
+    !rows.get(k).is_empty() && !centre_rows.get(k).is_empty()
+}
+
+// Whether nothing is left over of a product with this coefficient, since a factor is fixed.
+fn is_exact(a: usize, b: usize, linear: Ival, rows: &Rows, centre_rows: &Rows) -> bool
+    requires first { a < length (rows_of rows.now) }
+    requires second { b < length (rows_of rows.now) }
+    requires rows { length (rows_of centre_rows.now) ≡ length (rows_of rows.now) }
+    ensures { result ≡ true → IsExact rows.now centre_rows.now linear a b }
+{
+    if linear.is_empty() {
+        return false;
+    }
+    if is_fixed(a, rows, centre_rows) {
+        return has_values(b, rows, centre_rows);
+    }
+    is_fixed(b, rows, centre_rows) && has_values(a, rows, centre_rows)
+}
+
 // The rest with what is left over of a product.
 fn with_product(node: Node, linear: Ival, rows: &Rows, centre_rows: &Rows, rest: Ival) -> Ival
     requires order { IsTrue (comes_after (length (rows_of rows.now)) (node_of node)) }
@@ -42,9 +78,14 @@ fn with_product(node: Node, linear: Ival, rows: &Rows, centre_rows: &Rows, rest:
 {
     match node {
         Node::Mul(a, b) => {
-            let first = off_centre(a as usize, rows, centre_rows);
-            let second = off_centre(b as usize, rows, centre_rows);
-            rest.add(linear.mul(first.mul(second)))
+            let a = a as usize;
+            let b = b as usize;
+            if is_exact(a, b, linear, rows, centre_rows) {
+                return rest;
+            }
+            let first = off_centre(a, rows, centre_rows);
+            let second = off_centre(b, rows, centre_rows);
+            rest.add(times(linear, first.mul(second)))
         }
         _ => rest,
     }

@@ -1,12 +1,12 @@
 // Ranges of a part: of a linear and a quadratic coefficient.
-ghost use Rattle.std.specs.Prelude.{◌≡◌, Some};
+ghost use Rattle.std.specs.Prelude.{◌≡◌, Some, true};
 ghost use Rattle.dyadic.specs.Views.{dyadic_of};
-ghost use Rattle.interval_model.specs.Interval.{misses_nought};
+ghost use Rattle.interval_model.specs.Interval.{misses_nought, interval_product};
 ghost use Rattle.cover_model.specs.Combination.{only, interval_difference, half_quotient};
 ghost use Rattle.ival.specs.Views.{interval_of};
-ghost use Rattle.combine.specs.Coefficients.{range_by, completed_range};
+ghost use Rattle.combine.specs.Coefficients.{IsNumber, one_alone, range_by, completed_range};
 
-use dyadic::{Dy, Ext, Sign, sign_of};
+use dyadic::{Dy, Ext, Sign, pow2, sign_of};
 use ival::{Ends, Ival};
 
 /// A number alone.
@@ -24,6 +24,44 @@ pub fn difference(a: Ival, b: Ival) -> Ival
     ensures { interval_of result ≡ interval_difference (interval_of a) (interval_of b) }
 {
     a.add(b.neg())
+}
+
+/// Whether it is a number alone.
+pub fn is_number(interval: Ival) -> bool
+    ensures { result ≡ true → IsNumber (interval_of interval) }
+{
+    match interval {
+        Ival::Empty => false,
+        Ival::Between(ends) => match (ends.low, ends.high) {
+            (Ext::Fin(low), Ext::Fin(high)) => low == high,
+            _ => false,
+        },
+    }
+}
+
+// Whether it is 1 alone.
+fn is_one(interval: Ival) -> bool
+    ensures { result ≡ true → interval_of interval ≡ one_alone }
+{
+    let one = pow2(0);
+    match interval {
+        Ival::Empty => false,
+        Ival::Between(ends) => match (ends.low, ends.high) {
+            (Ext::Fin(low), Ext::Fin(high)) => low == one && high == one,
+            _ => false,
+        },
+    }
+}
+
+/// The product with a coefficient, which is often 1.
+pub fn times(coefficient: Ival, other: Ival) -> Ival
+    ensures { interval_of result ≡ interval_product (interval_of coefficient) (interval_of other) }
+{
+    if is_one(coefficient) {
+        other
+    } else {
+        coefficient.mul(other)
+    }
 }
 
 /// Whether 0 lies outside of the interval; not where it is empty.

@@ -55,7 +55,7 @@ pub fn sweep(
         let linear = adjoints.get(n);
         let square = standing(squares, n);
         let node = graph.node(n as u32);
-        hand_down(node, linear, centre_rows, adjoints);
+        hand_down(graph, node, linear, centre_rows, adjoints);
         hand_square(node, linear, squares);
         expand(
             node,

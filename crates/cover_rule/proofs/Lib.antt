@@ -6,4 +6,5 @@ pub mod Narrowings
 pub mod Points
 pub mod RunSteps
 pub mod Sides
+pub mod Voids
 pub mod Widest

@@ -13,6 +13,7 @@ use Rattle.ival.specs.SpaceViews.{space_of}
 use Rattle.combine.specs.Rooms.{FitsRoom}
 use Rattle.cover_rule.specs.declared.workspace.Centre.{Centre}
 use Rattle.cover_rule.specs.declared.workspace.Workspace.{Workspace}
+use Rattle.cover_rule.specs.Pairs.{HasVoiding}
 
 -- axes and atoms have numbers of 32 bits
 pub record IsNumbered (p : Parts) : Type 0 where
@@ -67,6 +68,7 @@ pub record HasRowsOf (p : Parts) (m : Margins) (space : Space) (w : Workspace) :
   pub room : FitsRoom p.nodes w.room
   pub leaves : vec_len w.leaves ≡ length p.atoms
   pub known : IsKnown p m space w.leaves.items w.unsure
+  pub voiding : HasVoiding p m space w.voiding
 
 -- and a spare copy of the space
 pub record IsReady (p : Parts) (m : Margins) (space : Space) (w : Workspace) : Type 0 where

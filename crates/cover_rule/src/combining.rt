@@ -35,8 +35,8 @@ pub fn can_combine(
     truth3::can_combine(problem, state.lits(), multipliers)
 }
 
-/// Narrows the spare space, a copy of the state's, by a combination of atoms that may be made.
-pub fn combine_spare(
+// Narrows the spare space, a copy of the state's, by a combination of atoms that may be made.
+fn narrow_combined(
     problem: &Problem,
     margins: &Margins,
     state: &State,
@@ -68,7 +68,31 @@ pub fn combine_spare(
     )
 }
 
-/// Whether a combination of atoms that may be made leaves nothing.
+/// Narrows the spare space, a copy of the state's, by a combination of atoms that may be made, and notes where that
+/// leaves nothing.
+pub fn combine_spare(
+    problem: &Problem,
+    margins: &Margins,
+    state: &State,
+    multipliers: &[(u32, Dy)],
+    work: &mut Workspace,
+) -> Narrowed
+    requires margins { AreMargins margins.now }
+    requires state { FitsProblem (problem_of problem.now) state.now }
+    requires may { let ms = multipliers_of multipliers.now in
+        IsTrue (can_combine (problem_of problem.now) (loosenings_of margins.now) state.now ms) }
+    requires work { IsReady problem.now margins.now state.now.space work.old }
+    ensures narrowed { let ms = multipliers_of multipliers.now in
+        let narrow = combining (problem_of problem.now) (loosenings_of margins.now) state.now ms in
+        IsNarrowed state.now.space (space_of work.new.spare) narrow result }
+    ensures work { HasRowsOf problem.now margins.now state.now.space work.new }
+{
+    let narrowed = narrow_combined(problem, margins, state, multipliers, work);
+    work.voiding.note(narrowed, state.lits(), multipliers);
+    narrowed
+}
+
+/// Whether a combination of atoms that may be made leaves nothing; it is tried only where that is not known.
 pub fn combining_leaves_nothing(
     problem: &Problem,
     margins: &Margins,
@@ -86,6 +110,9 @@ pub fn combining_leaves_nothing(
         result ≡ not (is_some_space narrow) }
     ensures work { IsReady problem.now margins.now state.now.space work.new }
 {
+    if work.voiding.knows(state.lits(), multipliers) {
+        return true;
+    }
     match combine_spare(problem, margins, state, multipliers, work) {
         Narrowed::Empty => true,
         Narrowed::Same => false,

@@ -16,6 +16,7 @@ mod small;
 mod steps;
 mod stuck;
 mod truth;
+mod voiding;
 mod workspace;
 
 pub use cover_data::{

@@ -61,11 +61,13 @@ pub fn forget(work: &mut Workspace)
     ensures filled { work.new.centre.filled ≡ false }
     ensures centre { work.new.centre.known ≡ false }
     ensures room { work.new.room ≡ work.old.room }
+    ensures voiding { work.new.voiding.known ≡ false }
 {
     clear(&mut work.leaves);
     work.unsure = false;
     work.centre.filled = false;
     work.centre.known = false;
+    work.voiding.known = false;
 }
 
 // Whether the row of atom j's term is marked.
@@ -120,7 +122,7 @@ fn set_axes(space: &Space, state: &mut State) -> bool
 }
 
 /// Takes over the spare space, and renews the rows where that is a change: then nothing more is known of atoms from
-/// which a changed axis is reached, nor of the middle.
+/// which a changed axis is reached, nor of the middle, nor of a combination.
 pub fn adopt_spare(problem: &Problem, margins: &Margins, state: &mut State, work: &mut Workspace)
     requires work { HasRowsOf problem.now margins.now state.old.space work.old }
     requires spare { length (space_of work.old.spare) ≡ length state.old.space }
@@ -134,6 +136,7 @@ pub fn adopt_spare(problem: &Problem, margins: &Margins, state: &mut State, work
     drop_reached(problem, &work.rows, &mut work.leaves);
     work.unsure = false;
     work.centre.known = false;
+    work.voiding.known = false;
 }
 
 // Narrows the spare space, a copy of the state's, by atom j.

@@ -3,6 +3,7 @@ ghost use Rattle.std.specs.Prelude.{◌≡◌, ◌<◌, length, true, IfOk};
 ghost use Rattle.ival.specs.SpaceViews.{space_of};
 ghost use Rattle.cover_rule.specs.Serves.{HasCentreRoom};
 
+use crate::voiding::Voiding;
 use combine::Room;
 use ival::{Domain, Rows, Space, Truths};
 use poly_graph::Problem;
@@ -41,6 +42,8 @@ pub struct Workspace {
     pub leaves: Vec<bool, Global>,
     /// Whether the form is known not to be sure at the middle of the present space.
     pub unsure: bool,
+    /// A combination that is known to leave nothing of the present space.
+    pub voiding: Voiding,
 }
 
 // A space of so many axes, for others to be put in.
@@ -93,6 +96,7 @@ impl Workspace {
             room,
             leaves,
             unsure: false,
+            voiding: Voiding::new(alloc),
         })
     }
 

@@ -4,3 +4,6 @@ pub mod Giving
 pub mod PassedAxes
 pub mod Passing
 pub mod Sweeping
+pub mod Constants
+pub mod Noughts
+pub mod Ones

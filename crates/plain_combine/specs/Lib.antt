@@ -1,4 +1,5 @@
 pub mod Calls
+pub mod Giving
 pub mod Parts
 pub mod Passes
 pub mod Rest

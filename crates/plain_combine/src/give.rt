@@ -2,13 +2,16 @@
 ghost use Rattle.std.specs.Prelude.{◌≡◌, ◌<◌, length, IsTrue};
 ghost use Rattle.poly_graph.specs.Term.{comes_after};
 ghost use Rattle.poly_graph.specs.Views.{node_of};
-ghost use Rattle.cover_model.specs.Combination.{joined, handed, handed_down, squares_down};
+ghost use Rattle.interval_model.specs.Interval.{interval_product};
+ghost use Rattle.cover_model.specs.Combination.{joined, handed, squares_down};
 ghost use Rattle.ival.specs.Views.{interval_of};
 ghost use Rattle.ival.specs.RowViews.{rows_of};
 ghost use Rattle.ival.specs.Options.{option_at, option_of};
+ghost use Rattle.plain_combine.specs.Giving.{constant_at, given_unless, given_down};
 
+use crate::quadratic::multiple;
 use ival::{Ival, Rows};
-use poly_graph::Node;
+use poly_graph::{Graph, Node};
 
 /// What stands in this place, if it is marked.
 pub fn entry(rows: &Rows, place: usize) -> Option<Ival>
@@ -44,27 +47,80 @@ pub fn give(node: u32, more: Ival, rows: &mut Rows)
     rows.mark(place);
 }
 
-/// Gives to the children what a node with this coefficient has for them, where the rows are the enclosures at the centre.
-pub fn give_children(node: Node, coefficient: Ival, centre_rows: &Rows, linear: &mut Rows)
-    requires order { IsTrue (comes_after (length (rows_of linear.old)) (node_of node)) }
-    requires rows { length (rows_of centre_rows.now) ≡ length (rows_of linear.old) }
-    ensures all { option_at linear.new ≡ handed_down (rows_of centre_rows.now) (interval_of coefficient) (node_of node) (option_at linear.old) }
-    ensures count { length (rows_of linear.new) ≡ length (rows_of linear.old) }
+// Whether the node is a constant.
+fn is_constant(graph: &Graph, node: u32) -> bool
+    requires { node < length graph.now }
+    ensures { result ≡ constant_at graph.now node }
+{
+    match graph.node(node) {
+        Node::Const(_) => true,
+        Node::Var(_) => false,
+        Node::Neg(_) => false,
+        Node::Add(_, _) => false,
+        Node::Mul(_, _) => false,
+        Node::Sq(_) => false,
+    }
+}
+
+// Gives the coefficient of a sum to a node of it, unless that is a constant.
+fn give_part(graph: &Graph, node: u32, more: Ival, linear: &mut Rows)
+    requires node { node < length graph.now }
+    requires rows { length (rows_of linear.old) ≡ length graph.now }
+    ensures all { let without = constant_at graph.now node in
+        option_at linear.new ≡ given_unless without node (interval_of more) (option_at linear.old) }
+    ensures count { length (rows_of linear.new) ≡ length graph.now }
+{
+    if is_constant(graph, node) {
+        return;
+    }
+    give(node, more, linear);
+}
+
+// Gives the coefficient of a product, times the other factor, to a node of it, unless that is a constant.
+fn give_factor(graph: &Graph, node: u32, coefficient: Ival, other: Ival, linear: &mut Rows)
+    requires node { node < length graph.now }
+    requires rows { length (rows_of linear.old) ≡ length graph.now }
+    ensures all { let without = constant_at graph.now node in
+        let more = interval_product (interval_of coefficient) (interval_of other) in
+        option_at linear.new ≡ given_unless without node more (option_at linear.old) }
+    ensures count { length (rows_of linear.new) ≡ length graph.now }
+{
+    if is_constant(graph, node) {
+        return;
+    }
+    give(node, multiple(coefficient, other), linear);
+}
+
+/// Gives to the children what a node with this coefficient has for them, where the rows are the enclosures at the centre;
+/// nothing to a constant that is added or multiplied.
+pub fn give_children(
+    graph: &Graph,
+    node: Node,
+    coefficient: Ival,
+    centre_rows: &Rows,
+    linear: &mut Rows,
+)
+    requires order { IsTrue (comes_after (length graph.now) (node_of node)) }
+    requires rows { length (rows_of centre_rows.now) ≡ length graph.now }
+    requires linear { length (rows_of linear.old) ≡ length graph.now }
+    ensures all { let cs = rows_of centre_rows.now in let w = interval_of coefficient in
+        option_at linear.new ≡ given_down graph.now cs w (node_of node) (option_at linear.old) }
+    ensures count { length (rows_of linear.new) ≡ length graph.now }
 {
     match node {
         Node::Const(_) => {}
         Node::Var(_) => {}
         Node::Neg(a) => give(a, coefficient.neg(), linear),
         Node::Add(a, b) => {
-            give(a, coefficient, linear);
-            give(b, coefficient, linear);
+            give_part(graph, a, coefficient, linear);
+            give_part(graph, b, coefficient, linear);
         }
         Node::Mul(a, b) => {
-            give(a, coefficient.mul(centre_rows.get(b as usize)), linear);
-            give(b, coefficient.mul(centre_rows.get(a as usize)), linear);
+            give_factor(graph, a, coefficient, centre_rows.get(b as usize), linear);
+            give_factor(graph, b, coefficient, centre_rows.get(a as usize), linear);
         }
         Node::Sq(a) => {
-            let half = coefficient.mul(centre_rows.get(a as usize));
+            let half = multiple(coefficient, centre_rows.get(a as usize));
             give(a, half, linear);
             give(a, half, linear);
         }

@@ -1,12 +1,13 @@
 // The range of a multiple of a number and one of its square, and what it leaves to the number.
-ghost use Rattle.std.specs.Prelude.{◌≡◌, Some};
+ghost use Rattle.std.specs.Prelude.{◌≡◌, Some, true};
 ghost use Rattle.dyadic.specs.Views.{dyadic_of};
-ghost use Rattle.interval_model.specs.Interval.{misses_nought};
+ghost use Rattle.interval_model.specs.Interval.{misses_nought, interval_product};
 ghost use Rattle.cover_model.specs.Combination.{only, interval_difference, half_quotient, completed, root_left, completed_left, both_range, both_left};
 ghost use Rattle.ival.specs.Views.{interval_of};
 ghost use Rattle.ival.specs.Options.{option_of};
+ghost use Rattle.plain_combine.specs.Rest.{IsSingle, only_one};
 
-use dyadic::{Dy, Ext, Sign, sign_of};
+use dyadic::{Dy, Ext, Sign, pow2, sign_of};
 use ival::{Ends, Ival};
 
 /// The number alone.
@@ -18,6 +19,43 @@ pub fn only(number: Dy) -> Ival
         low: end,
         high: end,
     })
+}
+
+/// Whether it is one number.
+pub fn is_single(interval: Ival) -> bool
+    ensures { result ≡ true → IsSingle (interval_of interval) }
+{
+    let Ival::Between(ends) = interval else {
+        return false;
+    };
+    match (ends.low, ends.high) {
+        (Ext::Fin(low), Ext::Fin(high)) => low == high,
+        _ => false,
+    }
+}
+
+// Whether it is the number 1.
+fn is_one(interval: Ival) -> bool
+    ensures { result ≡ true → interval_of interval ≡ only_one }
+{
+    let Ival::Between(ends) = interval else {
+        return false;
+    };
+    let one = pow2(0);
+    match (ends.low, ends.high) {
+        (Ext::Fin(low), Ext::Fin(high)) => low == one && high == one,
+        _ => false,
+    }
+}
+
+/// The coefficient's multiple; that by 1 is the interval itself.
+pub fn multiple(coefficient: Ival, interval: Ival) -> Ival
+    ensures { interval_of result ≡ interval_product (interval_of coefficient) (interval_of interval) }
+{
+    if is_one(coefficient) {
+        return interval;
+    }
+    coefficient.mul(interval)
 }
 
 /// The numbers of the first less those of the second.

@@ -1,5 +1,5 @@
 // The sweep from the highest root down.
-ghost use Rattle.std.specs.Prelude.{◌≡◌, ◌<◌, length, IsTrue};
+ghost use Rattle.std.specs.Prelude.{◌≡◌, ◌<◌, length, IsTrue, true, false};
 ghost use Rattle.poly_graph.specs.Term.{comes_after};
 ghost use Rattle.poly_graph.specs.Views.{node_of};
 ghost use Rattle.cover_model.specs.Combination.{off_centre};
@@ -8,10 +8,11 @@ ghost use Rattle.ival.specs.RowViews.{rows_of};
 ghost use Rattle.ival.specs.Options.{option_of};
 ghost use Rattle.plain_combine.specs.Calls.{IsSwept};
 ghost use Rattle.plain_combine.specs.Suits.{AreFor, AreUnder};
-ghost use Rattle.plain_combine.specs.Rest.{with_node, with_product, with_square};
+ghost use Rattle.interval_model.specs.Interval.{is_nothing};
+ghost use Rattle.plain_combine.specs.Rest.{IsStill, IsNothingOver, with_node, with_product, with_square};
 
 use crate::give::{entry, give_children, give_square};
-use crate::quadratic::less;
+use crate::quadratic::{is_single, less, multiple};
 use crate::room::Coefficients;
 use ival::{Ival, Rows};
 use poly_graph::{Graph, Node};
@@ -25,6 +26,42 @@ fn off_centre(n: usize, rows: &Rows, centre_rows: &Rows) -> Ival
     less(rows.get(n), centre_rows.get(n))
 }
 
+// Whether node n has one value, at the centre too.
+fn is_still(n: usize, rows: &Rows, centre_rows: &Rows) -> bool
+    requires rows { n < length (rows_of rows.now) }
+    requires centre_rows { n < length (rows_of centre_rows.now) }
+    ensures { result ≡ true → IsStill (rows_of rows.now) (rows_of centre_rows.now) n }
+{
+    let interval = rows.get(n);
+    is_single(interval) && interval == centre_rows.get(n)
+}
+
+// Whether node n has a value, at the centre too.
+fn is_somewhere(n: usize, rows: &Rows, centre_rows: &Rows) -> bool
+    requires rows { n < length (rows_of rows.now) }
+    requires centre_rows { n < length (rows_of centre_rows.now) }
+    ensures { result ≡ true → is_nothing (off_centre (rows_of rows.now) (rows_of centre_rows.now) n) ≡ false }
+{
+    !rows.get(n).is_empty() && !centre_rows.get(n).is_empty()
+}
+
+// Whether a product has a factor of one value, so that nothing is left over of it.
+fn is_multiple(a: usize, b: usize, linear: Ival, rows: &Rows, centre_rows: &Rows) -> bool
+    requires first { a < length (rows_of rows.now) }
+    requires second { b < length (rows_of rows.now) }
+    requires rows { length (rows_of centre_rows.now) ≡ length (rows_of rows.now) }
+    ensures { let w = interval_of linear in
+        result ≡ true → IsNothingOver (rows_of rows.now) (rows_of centre_rows.now) a b w }
+{
+    if linear.is_empty() {
+        return false;
+    }
+    if is_still(a, rows, centre_rows) {
+        return is_somewhere(b, rows, centre_rows);
+    }
+    is_still(b, rows, centre_rows) && is_somewhere(a, rows, centre_rows)
+}
+
 // What is left over of a product, times the product's coefficient, added to the rest.
 fn add_product(a: u32, b: u32, linear: Ival, rows: &Rows, centre_rows: &Rows, rest: Ival) -> Ival
     requires first { a < length (rows_of rows.now) }
@@ -32,9 +69,14 @@ fn add_product(a: u32, b: u32, linear: Ival, rows: &Rows, centre_rows: &Rows, re
     requires rows { length (rows_of centre_rows.now) ≡ length (rows_of rows.now) }
     ensures { interval_of result ≡ with_product (rows_of rows.now) (rows_of centre_rows.now) a b (interval_of linear) (interval_of rest) }
 {
-    let first = off_centre(a as usize, rows, centre_rows);
-    let second = off_centre(b as usize, rows, centre_rows);
-    rest.add(linear.mul(first.mul(second)))
+    let a = a as usize;
+    let b = b as usize;
+    if is_multiple(a, b, linear, rows, centre_rows) {
+        return rest;
+    }
+    let first = off_centre(a, rows, centre_rows);
+    let second = off_centre(b, rows, centre_rows);
+    rest.add(multiple(linear, first.mul(second)))
 }
 
 // The square of node n's difference, times its coefficient, added to the rest.
@@ -99,7 +141,7 @@ pub fn sweep(
         let linear = coefficients.linear.get(n);
         let square = entry(&coefficients.square, n);
         rest = with_node(node, n, linear, square, rows, centre_rows, rest);
-        give_children(node, linear, centre_rows, &mut coefficients.linear);
+        give_children(graph, node, linear, centre_rows, &mut coefficients.linear);
         give_square(node, linear, &mut coefficients.square);
         place = n;
     }

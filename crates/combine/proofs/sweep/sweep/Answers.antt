@@ -14,7 +14,7 @@ use Rattle.combine.proofs.sweep.sweep.Goals as goal
 pub hand_down-requires-clause-order : goal.hand_down-requires-clause-order
 hand_down-requires-clause-order c =
     let n = c.in-Some.n in
-    comes_later n (length (rows_of c.loop-n.adjoints)) (node_of c.node-node.result) (omega (arith, c.in-Some.ensures.below, c.loop-n.invariant.inside, c.loop-n.invariant.adjoints))
+    comes_later n (length c.args.graph.now) (node_of c.node-node.result) (omega (arith, c.in-Some.ensures.below, c.loop-n.invariant.inside))
     (comes_at c.args.graph.now c.len-2.ensures.graph.ordered n (node_of c.node-node.result) c.node-node.ensures)
 
 pub hand_square-requires : goal.hand_square-requires
@@ -41,9 +41,9 @@ loop-n-preserved c =
     let here : option_at adjoints n ≡ Some w = has_option adjoints n next.marked ∙ ap (λ (i : Interval). Some i) (sym c.get-linear.ensures) in
     record {
       inside = omega (arith, before.inside, next.below);
-      adjoints = c.hand_down.ensures.count ∙ before.adjoints;
+      adjoints = c.hand_down.ensures.count;
       squares = c.hand_square.ensures.count ∙ before.squares;
-      under = λ k h. c.hand_square.ensures.all k ∙ squares_under cs w node (option_at adjoints) (option_at squares) before.under k (sym (c.hand_down.ensures.all k) ∙ h);
+      under = λ k h. c.hand_square.ensures.all k ∙ squares_under nodes cs w node (option_at adjoints) (option_at squares) before.under k (sym (c.hand_down.ensures.all k) ∙ h);
       needed = omega (arith, before.needed, c.expand.ensures.first, needed_here nodes n p node next.below c.node-node.ensures);
       measured = c.expand.ensures.measured;
       room = c.expand.ensures.room ∙ before.room;

@@ -32,6 +32,7 @@ returns-clause-work c =
         room = w.room;
         leaves = c.drop_reached.ensures.count ∙ w.leaves;
         known = still_known p m was now marks c.args.work.now.leaves.items c.drop_reached.new.leaves.items c.args.work.now.unsure false apart (λ j l h. (c.drop_reached.ensures.kept j h, c.drop_reached.ensures.unmarked j l h)) refl w.known;
+        voiding = record { empty = λ h. absurd (true≢false (sym h)) };
       };
       spare = sym (ap (λ (S : State). S.space) c.set_axes.ensures.state);
     }

@@ -15,4 +15,5 @@ returns-clause-work c =
       leaves = c.note.ensures.count ∙ w.leaves;
       known = noted c.args.problem.now c.args.margins.now c.args.state.now (space_of old.spare) c.narrow_by-narrowed.result c.args.j old.leaves.items c.note.new.leaves.items old.unsure c.narrow_by-narrowed.ensures.narrowed
           c.note.ensures.none c.note.ensures.some w.known;
+      voiding = w.voiding;
     }

@@ -17,7 +17,7 @@ with_node-rest-requires-clause-order c = comes_at c.args.graph.now c.len-2.ensur
 pub give_children-requires-clause-order : goal.give_children-requires-clause-order
 give_children-requires-clause-order c =
     let n = c.in-Some.n in let before = c.loop-n.invariant in
-    comes_later n (length (rows_of c.loop-n.coefficients.linear)) (node_of c.node-node.result) (omega (arith, c.in-Some.ensures.below, before.inside, before.count.linear))
+    comes_later n (length c.args.graph.now) (node_of c.node-node.result) (omega (arith, c.in-Some.ensures.below, before.inside))
     (comes_at c.args.graph.now c.len-2.ensures.graph.ordered n (node_of c.node-node.result) c.node-node.ensures)
 
 pub give_square-requires : goal.give_square-requires
@@ -39,8 +39,8 @@ loop-n-preserved c =
     let here : os n ≡ Some w = has_option linear n next.marked ∙ ap (λ (i : Interval). Some i) (sym c.get-linear.ensures) in
     record {
       inside = omega (arith, before.inside, next.below);
-      count = record { linear = c.give_children.ensures.count ∙ before.count.linear; square = c.give_square.ensures.count ∙ before.count.square };
-      under = λ k h. ap (λ (f : Adjoints). f k) c.give_square.ensures.all ∙ squares_under cs w node os qs before.under k (sym (ap (λ (f : Adjoints). f k) c.give_children.ensures.all) ∙ h);
+      count = record { linear = c.give_children.ensures.count; square = c.give_square.ensures.count ∙ before.count.square };
+      under = λ k h. ap (λ (f : Adjoints). f k) c.give_square.ensures.all ∙ squares_under nodes cs w node os qs before.under k (sym (ap (λ (f : Adjoints). f k) c.give_children.ensures.all) ∙ h);
       same = before.same
           ∙ sweep_skipped nodes es cs p (suc n) os qs rest (omega (arith, next.below)) before.inside before.under none
           ∙ sweep_next nodes es cs n w rest (interval_of c.with_node-rest.result) (option_of c.entry-square.result) node os qs (option_at c.give_children.new.linear) (option_at c.give_square.new.square)

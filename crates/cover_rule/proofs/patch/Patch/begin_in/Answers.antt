@@ -14,6 +14,7 @@ use Rattle.truth3.specs.declared.marks.Marks.{Marks}
 use Rattle.combine.specs.Rooms.{FitsRoom}
 use Rattle.cover_rule.proofs.Axes.{fits_length}
 use Rattle.cover_rule.proofs.Knowns.{nothing_known}
+use Rattle.cover_rule.proofs.Voids.{nothing_noted}
 use Rattle.cover_rule.proofs.RunSteps.{run_begins}
 use Rattle.cover_rule.proofs.patch.Patch.begin_in.Goals as goal
 
@@ -45,6 +46,7 @@ invariant_of-result c =
           room = subst (FitsRoom p.nodes) (sym c.forget.ensures.room) c.requires.room.room;
           leaves = c.forget.ensures.leaves ∙ c.requires.room.leaves;
           known = nothing_known p m c.nothing_done-kept.result.reached.space c.forget.new.work.leaves.items c.forget.new.work.unsure c.forget.ensures.none c.forget.ensures.unsure;
+          voiding = nothing_noted p m c.nothing_done-kept.result.reached.space c.forget.new.work.voiding c.forget.ensures.voiding;
         };
         spare = ap space_of c.forget.ensures.spare ∙ c.copy_space.ensures ∙ c.space-space.ensures ∙ back;
       };

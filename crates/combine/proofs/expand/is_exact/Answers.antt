@@ -1,0 +1,17 @@
+use Rattle.std.proofs.Common.{sym, ◌∙◌}
+use Rattle.ival.specs.Views.{interval_of}
+use Rattle.combine.specs.Visits.{difference_at}
+use Rattle.combine.proofs.Noughts.{exact_first, exact_second}
+use Rattle.combine.proofs.expand.is_exact.Goals as goal
+
+pub returns-then-is_fixed : goal.returns-then-is_fixed
+returns-then-is_fixed c h =
+    let rows = c.args.rows.now in let centre_rows = c.args.centre_rows.now in
+    exact_first (interval_of c.args.linear) (difference_at rows centre_rows c.args.a) (difference_at rows centre_rows c.args.b) (sym c.is_empty.ensures ∙ c.if-is_empty.false)
+    (c.is_fixed.ensures c.if-is_fixed.true) (c.has_values.ensures h)
+
+pub returns-then-is_fixed-2 : goal.returns-then-is_fixed-2
+returns-then-is_fixed-2 c h =
+    let rows = c.args.rows.now in let centre_rows = c.args.centre_rows.now in
+    exact_second (interval_of c.args.linear) (difference_at rows centre_rows c.args.a) (difference_at rows centre_rows c.args.b) (sym c.is_empty.ensures ∙ c.if-is_empty.false)
+    (c.is_fixed-2.ensures c.if-is_fixed-2.true) (c.has_values-then-is_fixed-2.ensures h)
