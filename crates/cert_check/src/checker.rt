@@ -46,8 +46,8 @@ pub enum Stage {
 
 /// Goes through the lines of a certificate once. It keeps the lemmas, the state in work and those that wait behind it.
 ///
-/// After a fault, want of memory included, every later call answers the same fault. A certificate of more than 2^64 - 2
-/// lines or states that stay, which has more bytes than a certificate may have, counts as want of memory.
+/// After a fault, running out of memory included, every later call answers the same fault. More than 2^64 - 2 lines or
+/// states that stay, which have more bytes than a certificate may have, are answered as out of memory.
 #[derive(Drop)]
 pub struct Checker {
     alloc: Global,
