@@ -13,6 +13,7 @@ pub mod Pairs
 pub mod Results
 pub mod Rows
 pub mod RuleFits
+pub mod Stays
 pub mod Taking
 pub mod Tiny
 pub mod Told

@@ -13,5 +13,6 @@ pub mod Lists
 pub mod Serving
 pub mod Stages
 pub mod States
+pub mod Stays
 pub mod Steps
 pub mod Waiting

@@ -1,5 +1,5 @@
 -- Rows and truth values for a problem.
-use Rattle.std.specs.Prelude.{◌≡◌, ◌<◌, ◌^◌, length, vec_len}
+use Rattle.std.specs.Prelude.{◌≡◌, length, vec_len}
 use Rattle.poly_graph.specs.ProblemViews.{Parts}
 use Rattle.ival.specs.SpaceViews.{space_of}
 use Rattle.ival.specs.RowViews.{rows_of}
@@ -16,7 +16,7 @@ pub record IsCentre (p : Parts) (c : Centre) : Type 0 where
   pub rows : AreEnclosures p.nodes (rows_of c.rows)
   pub room : Suits p.nodes c.room
 
--- the rows are the enclosures over some space, each atom is judged by its row, and the problem has no more atoms than lines can name
+-- the rows are the enclosures over some space, and each atom is judged by its row
 pub record Serves (p : Parts) (t : Tools) : Type 0 where
   pub upward : IsUpward p.nodes t.upward
   pub rows : AreEnclosures p.nodes (rows_of t.rows)
@@ -24,4 +24,3 @@ pub record Serves (p : Parts) (t : Tools) : Type 0 where
   pub scratch : length (rows_of t.scratch) ≡ length p.nodes
   pub centre : IsCentre p t.centre
   pub truths : vec_len t.marks.truths ≡ length p.forms
-  pub few : length p.atoms < 2 ^ 32

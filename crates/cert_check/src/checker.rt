@@ -1,5 +1,5 @@
 // The checker.
-ghost use Rattle.std.specs.Prelude.{◌≡◌, ◌<◌, ◌-◌, ◌^◌, [], ◌∷◌, Some, Err, map, IfOk, OnOk};
+ghost use Rattle.std.specs.Prelude.{◌≡◌, ℕ, ◌<◌, ◌≤◌, ◌-◌, ◌^◌, [], ◌∷◌, Some, Err, map, IfOk, OnOk};
 ghost use Rattle.cert_read.specs.CertLine.{line as FormLine, Parsed, parsed};
 ghost use Rattle.cert_read.specs.Reading.{lines_ahead};
 ghost use Rattle.cert_read.specs.Told.{IsFault};
@@ -12,6 +12,7 @@ ghost use Rattle.cert_check.specs.States.{loosenings_of};
 ghost use Rattle.cert_check.specs.Dues.{due_of, IsSound, value_of};
 ghost use Rattle.cert_check.specs.Serving.{Serves};
 ghost use Rattle.cert_check.specs.Stages.{IsFaultAfter, IsOneMore, IsSoundStage, IsStageAfter};
+ghost use Rattle.cert_check.specs.Stays.{StaysWithin, stays_in};
 ghost use Rattle.cert_check.specs.Courses.{Answers, AreLinesTaken, Finishes, in_work, IsCutOff, IsFedOn, states_in_work, Takes, verdict_of};
 
 use crate::due::{Due, Value};
@@ -46,8 +47,8 @@ pub enum Stage {
 
 /// Goes through the lines of a certificate once. It keeps the lemmas, the state in work and those that wait behind it.
 ///
-/// After a fault, want of memory included, every later call answers the same fault. A certificate of more than 2^64 - 2
-/// lines or states that stay, which has more bytes than a certificate may have, counts as want of memory.
+/// After a fault, running out of memory included, every later call answers the same fault. More than 2^64 - 2 lines,
+/// which have more bytes than a certificate may have, are answered as out of memory.
 #[derive(Drop)]
 pub struct Checker {
     alloc: Global,
@@ -131,8 +132,10 @@ fn stage_of_due(
     requires serves { Serves problem.now tools.old }
     requires sound { IsSound problem.now due }
     requires few { lines < 2 ^ 64 - 1 }
+    requires stays { stays_in due ≤ lines }
     ensures course { IsStageAfter problem.now bound (InWork due) lines (line_of line.now) result }
     ensures sound { IsSoundStage problem.now result }
+    ensures stays { (n : ℕ) → IsOneMore lines n → StaysWithin n result }
     ensures serves { Serves problem.now tools.new }
 {
     if lines >= MOST_LINES {
@@ -158,8 +161,10 @@ fn stage_after(
     requires serves { Serves problem.now tools.old }
     requires sound { IsSoundStage problem.now stage }
     requires few { lines < 2 ^ 64 - 1 }
+    requires stays { StaysWithin lines stage }
     ensures course { IsStageAfter problem.now bound stage lines (line_of line.now) result }
     ensures sound { IsSoundStage problem.now result }
+    ensures stays { (n : ℕ) → IsOneMore lines n → StaysWithin n result }
     ensures serves { Serves problem.now tools.new }
 {
     match stage {

@@ -81,7 +81,6 @@ pub fn make_false(problem: &Problem, tools: &mut Tools, s: Loosenings, state: St
 
 /// Closed, where the lemma covers the state.
 pub fn by(problem: &Problem, lemmas: &[State], state: State, i: u32) -> Option<Left>
-    requires few { length problem.now.atoms < 4294967296 }
     requires lemmas { All (λ L. Fits problem.now (state_of L)) lemmas.now }
     requires fits { Fits problem.now (state_of state) }
     ensures { (s : StateLoosenings) → IsLeftBy (by i) problem.now s lemmas.now state result }

@@ -102,7 +102,6 @@ pub fn unit(
 
 /// Whether the lemma of this number covers the state.
 pub fn lemma_covers(problem: &Problem, lemmas: &[State], i: u32, state: &State) -> bool
-    requires few { length problem.now.atoms < 4294967296 }
     requires lemmas { All (λ L. Fits problem.now (state_of L)) lemmas.now }
     requires fits { Fits problem.now (state_of state.now) }
     ensures { result ≡ lemma_covers (map state_of lemmas.now) i (state_of state.now) }
@@ -115,7 +114,6 @@ pub fn lemma_covers(problem: &Problem, lemmas: &[State], i: u32, state: &State) 
 /// The atom marked no, where the lemma covers the state with the atom marked yes.
 #[tactic(auto, using(crate::proofs::OneMark::ban_one))]
 pub fn ban(problem: &Problem, lemmas: &[State], state: State, j: u32, i: u32) -> Option<Left>
-    requires few { length problem.now.atoms < 4294967296 }
     requires lemmas { All (λ L. Fits problem.now (state_of L)) lemmas.now }
     requires fits { Fits problem.now (state_of state) }
     requires atom { j < length problem.now.atoms }

@@ -1,8 +1,9 @@
 // What comes of a line.
-ghost use Rattle.std.specs.Prelude.{IfOk};
+ghost use Rattle.std.specs.Prelude.{◌<◌, ◌-◌, ◌^◌, IfOk};
 ghost use Rattle.cert_read.specs.Views.{line_of};
 ghost use Rattle.cert_check.specs.Serving.{Serves};
 ghost use Rattle.cert_check.specs.Dues.{due_of, IsNextAt, IsSound};
+ghost use Rattle.cert_check.specs.Stays.{stays_in};
 
 use crate::due::Due;
 use crate::header::{bound_line, delta_line, kind_line, margin_line, version_line};
@@ -26,6 +27,7 @@ pub fn next(
 ) -> Result<Due, Refusal>
     requires serves { Serves problem.now tools.old }
     requires sound { IsSound problem.now due }
+    requires room { stays_in due < 2 ^ 64 - 1 }
     ensures comes { IsNextAt problem.now bound (due_of problem.now due) (line_of line.now) result }
     ensures sound { IfOk result (IsSound problem.now) }
     ensures serves { Serves problem.now tools.new }

@@ -1,5 +1,5 @@
 // States of trees.
-ghost use Rattle.std.specs.Prelude.{◌≡◌, ◌<◌, ◌^◌, length, IfOk};
+ghost use Rattle.std.specs.Prelude.{◌≡◌, ◌<◌, length, map, IfOk};
 ghost use Rattle.cover_model.specs.State.{covers, in_yes, in_no, undecided};
 ghost use Rattle.poly_graph.specs.Marks.{marks_within, mark_within};
 ghost use Rattle.poly_graph.specs.MarkViews.{mark_of};
@@ -37,15 +37,20 @@ fn mark_within(inner: Mark, outer: Mark) -> bool
 }
 
 // Whether each yes and each no is one of the others.
-fn marks_within(inner: &Lits, outer: &Lits) -> bool
-    requires few { length inner.now < 2 ^ 32 }
-    requires same { length inner.now ≡ length outer.now }
-    ensures { result ≡ marks_within inner.now outer.now }
+fn marks_within(inner: &[Mark], outer: &[Mark]) -> bool
+    ensures { result ≡ marks_within (map mark_of inner.now) (map mark_of outer.now) }
 {
-    for j in 0..inner.len() {
-        if !mark_within(inner.mark(j as u32), outer.mark(j as u32)) {
+    let mut left = inner;
+    let mut right = outer;
+    while let [mark, marks @ ..] = left {
+        let [other, others @ ..] = right else {
+            return false;
+        };
+        if !mark_within(*mark, *other) {
             return false;
         }
+        left = marks;
+        right = others;
     }
     true
 }
@@ -100,10 +105,9 @@ impl State {
     /// Whether this state covers another one of the same problem.
     pub fn covers(&self, other: &State) -> bool
         requires axes { length (state_of self.now).space ≡ length (state_of other.now).space }
-        requires few { length self.now.lits < 2 ^ 32 }
         requires atoms { length self.now.lits ≡ length other.now.lits }
         ensures { result ≡ covers (state_of self.now) (state_of other.now) }
     {
-        other.space.within(&self.space) && marks_within(&self.lits, &other.lits)
+        other.space.within(&self.space) && marks_within(self.lits.marks(), other.lits.marks())
     }
 }

@@ -74,13 +74,10 @@ fn first_rows(alloc: Global, graph: &Graph) -> Result<Rows, AllocError>
 }
 
 impl Tools {
-    /// Those that serve the problem. Of more atoms than lines can name there are none.
+    /// Those that serve the problem.
     pub fn new(alloc: Global, problem: &Problem) -> Result<Tools, AllocError>
         ensures { IfOk result (Serves problem.now) }
     {
-        if problem.atoms().len() > u32::MAX as usize {
-            return Err(AllocError);
-        }
         let graph = problem.graph();
         let upward = Upward::new(alloc, graph)?;
         let rows = first_rows(alloc, graph)?;

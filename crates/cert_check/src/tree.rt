@@ -1,5 +1,5 @@
 // The lines of trees.
-ghost use Rattle.std.specs.Prelude.{◌≡◌, ◌++◌, IfOk, IfSome, Some};
+ghost use Rattle.std.specs.Prelude.{◌≡◌, ◌<◌, ◌-◌, ◌^◌, ◌++◌, IfOk, IfSome, Some};
 ghost use Rattle.cert_read.specs.Views.{line_of};
 ghost use Rattle.cert_model.specs.Due.{CertFault as Fault, Standing, RuleFails};
 ghost use Rattle.poly_graph.specs.ProblemViews.{Parts};
@@ -57,20 +57,16 @@ fn leave(pending: Vec<State>, left: Left) -> Result<Option<Tree>, AllocError>
     }
 }
 
-// The number of states that stayed, with this one where it does. One that is past 2^64 - 1 finds no place.
-fn count_stays(stayed: u64, left: &Left) -> Result<u64, AllocError>
-    ensures { IfOk result (λ n. n ≡ counted_stays stayed (left_of left.now)) }
+// The number of states that stayed, with this one where it does.
+fn count_stays(stayed: u64, left: &Left) -> u64
+    requires { stayed < 2 ^ 64 - 1 }
+    ensures { result ≡ counted_stays stayed (left_of left.now) }
 {
     match left {
-        Left::Stays => {
-            if stayed == u64::MAX {
-                return Err(AllocError);
-            }
-            Ok(stayed + 1)
-        }
-        Left::Closed => Ok(stayed),
-        Left::One(_) => Ok(stayed),
-        Left::Two(_, _) => Ok(stayed),
+        Left::Stays => stayed + 1,
+        Left::Closed => stayed,
+        Left::One(_) => stayed,
+        Left::Two(_, _) => stayed,
     }
 }
 
@@ -89,10 +85,11 @@ fn is_stays(left: &Left) -> bool
 // What is due in the main tree after a rule of which this is left.
 #[tactic(auto, using(crate::proofs::Waits::main_done, crate::proofs::Waits::main_on))]
 fn main_left(cover: Cover, pending: Vec<State>, stayed: u64, left: Left) -> Result<Due, Refusal>
+    requires { stayed < 2 ^ 64 - 1 }
     ensures comes { (p : Parts) (f : Fault) (x : Standing) → IsOutcome p result (after_main_rule cover pending.items stayed (left_of left) f x) }
     ensures sound { IsSoundBehind cover.lemmas.items pending.items left result }
 {
-    let stayed = count_stays(stayed, &left)?;
+    let stayed = count_stays(stayed, &left);
     match leave(pending, left)? {
         None => Ok(Due::End(cover.loosenings, stayed)),
         Some(tree) => Ok(Due::Tree(cover, tree, stayed)),
@@ -136,6 +133,7 @@ fn main_rule(
 ) -> Result<Due, Refusal>
     requires serves { Serves problem.now tools.old }
     requires sound { IsSound problem.now (TreeDue cover tree stayed) }
+    requires room { stayed < 2 ^ 64 - 1 }
     ensures comes { IsNext problem.now (TreeDue cover tree stayed) (line_of_step step.entry) result }
     ensures sound { IfOk result (IsSound problem.now) }
     ensures serves { Serves problem.now tools.new }
@@ -230,6 +228,7 @@ pub fn tree_line(
 ) -> Result<Due, Refusal>
     requires serves { Serves problem.now tools.old }
     requires sound { IsSound problem.now (TreeDue cover tree stayed) }
+    requires room { stayed < 2 ^ 64 - 1 }
     ensures comes { IsNext problem.now (TreeDue cover tree stayed) (line_of line.now) result }
     ensures sound { IfOk result (IsSound problem.now) }
     ensures serves { Serves problem.now tools.new }

@@ -1,5 +1,6 @@
 pub mod ByForm
 pub mod Faults
+pub mod Few
 pub mod Finishing
 pub mod Lookups
 pub mod Parts

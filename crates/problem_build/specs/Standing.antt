@@ -1,7 +1,6 @@
 -- How a walk over the commands of a script stands.
 use Rattle.std.specs.Prelude.{◌≡◌, ℕ, List, [], ◌∷◌, ◌++◌, map, length, None, Result, Ok, Err, Vec}
 use Rattle.dyadic.specs.Point.{Sort}
-use Rattle.script_model.specs.Sexp.{Place}
 use Rattle.script_model.specs.Script.{Command, claims, sorts_of}
 use Rattle.script_model.specs.Declared.{Bounding, bounding, constant_bounding, numbered}
 use Rattle.script_forms.specs.Terms.{Unfolded}
@@ -11,7 +10,6 @@ use Rattle.smt_sexp.specs.declared.sexps.Sexps as arena
 use Rattle.sort_check.specs.Sorts.{sort_fault}
 use Rattle.script_faults.specs.WellSorted.{IsSound}
 use Rattle.term_build.specs.Built.{stand_of}
-use Rattle.term_build.specs.Does.{StopsAs}
 use Rattle.term_build.specs.Settled.{Extends}
 use Rattle.term_build.specs.Steps.{Emits}
 use Rattle.term_build.specs.declared.stop.Stop.{Stop}

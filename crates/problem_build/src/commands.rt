@@ -56,14 +56,11 @@ fn step<'p, 'a>(
 {
     match command {
         Command::Declare(_, name, sort) => {
-            let Some(next) = axis.checked_add(1) else {
-                return Err(ReadError::Memory);
-            };
             top.push(Top {
                 name: *name,
                 known: Known::Constant(axis, *sort),
             })?;
-            Ok(next)
+            Ok(axis + 1)
         }
         Command::Define(_, name, parameters, _, body) => {
             top.push(Top {

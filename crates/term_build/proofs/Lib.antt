@@ -4,6 +4,7 @@ pub mod Makes
 pub mod Emits
 pub mod Settled
 pub mod Shaping
+pub mod Turns
 pub mod Forms
 pub mod Atoms
 pub mod Compares

@@ -1,6 +1,6 @@
 -- Sketches that grow, and what their nodes draw.
 use Rattle.std.proofs.Common.{◌≡◌, ℕ, suc, zero, ◌+◌, ◌<◌, ◌≤◌, List, [], ◌∷◌, ◌++◌, map, length, Some, refl, ap, ap₂, sym, ◌∙◌, subst, arith, slice_index_or, append_assoc, append-nil, drop, length-append, ◌⊎◌, inl, inr, IsTrue, Bool, T, true, false, nat_lt, lt→ltb, ltb→lt}
-use Rattle.std.specs.Prelude.{slice_get, Result, Ok, Err, IfOk, IsErr, IsErrAnd}
+use Rattle.std.specs.Prelude.{slice_get, Result, Ok, Err, IfOk, IsErr}
 use Rattle.std.specs.Bool.{passes}
 use Rattle.std.specs.List.{list_all}
 use Rattle.dyadic.proofs.Equal.{both_true, both_pass}
@@ -13,11 +13,11 @@ use Rattle.poly_graph.specs.Form.{Form, Forms, no_forms, more_forms, all_form, a
 use Rattle.script_forms.specs.Terms.{Comparison, Unfolded, formula}
 use Rattle.script_forms.specs.Unfolded.{truth_of, negation_form, forms_of, two, and_of, or_of, not_of, xor_of, implies_two, xor_from, xor_all, implies_of, different, chain, choice_form}
 use Rattle.term_build.specs.Built.{Made}
-use Rattle.term_build.specs.Sketch.{Drawn, yes_drawn, no_drawn, comparison_drawn, bool_drawn, all_drawn, any_drawn, choice_drawn, drawn_after, drawn_in_order, drawn_at, drawn_children, drawn_form, comparison_of, IsDrawing, IsDrawn, IsSketch}
-use Rattle.term_build.specs.Pairs.{Grown, DrawsForm, DrawsForms, Draws, DrawsEach, Sketches, Adds, NodeDraws, AddsPair, JoinsTwo, JoinsFour, Connects, ConnectsTwo, ConnectsChoice, ConnectsFrom, ImpliesFrom, IsRight, Left, IsLeft, same_of, Negates, ComparesTwo, compared, tree_at, Writes, WritesBool, constant_formula}
+use Rattle.term_build.specs.Sketch.{Drawn, yes_drawn, no_drawn, comparison_drawn, bool_drawn, all_drawn, any_drawn, choice_drawn, drawn_after, drawn_in_order, drawn_children, drawn_form, comparison_of, IsDrawing, IsDrawn, IsSketch}
+use Rattle.term_build.specs.Pairs.{Grown, DrawsForm, DrawsForms, Draws, DrawsEach, Sketches, Adds, NodeDraws, AddsPair, JoinsTwo, JoinsFour, Connects, ConnectsTwo, ConnectsChoice, ConnectsFrom, ImpliesFrom, IsRight, Left, IsLeft, same_of, ComparesTwo, Writes, WritesBool, constant_formula}
 use Rattle.term_build.specs.declared.connectives.Pair.{Pair}
 use Rattle.std.specs.declared.alloc.AllocError.{AllocError}
-use Rattle.term_build.proofs.Lists.{get_end, index_before}
+use Rattle.term_build.proofs.Lists.{index_before}
 
 -- ---- growth
 

@@ -16,7 +16,7 @@ use Rattle.term_build.specs.Built.{Made, stand_of}
 use Rattle.term_build.specs.Does.{Does, StopsAs, IsForm}
 use Rattle.term_build.specs.Settled.{Extends, FormSettled, FormsSettled, AreSettled, AtomsIn}
 use Rattle.term_build.specs.Sketch.{Drawn, yes_drawn, no_drawn, comparison_drawn, bool_drawn, all_drawn, any_drawn, choice_drawn, drawn_after, drawn_in_order, drawn_at, drawn_children, drawn_form, comparison_of, IsDrawing, IsDrawn, IsSketch, IsFormOf, IsAtomForm}
-use Rattle.term_build.specs.Shapes.{NumberOf, AreFrames, AreNumbers, IsFrame, IsMemo, StaysSafe, IfDone, Completes, Finishes, Frame, frame_of, children, left_of, left_in, left_on, node_at, IsShaped, AreShaped, FramesShaped, Goes}
+use Rattle.term_build.specs.Shapes.{AreFrames, AreNumbers, IsFrame, IsMemo, StaysSafe, IfDone, Completes, Finishes, Frame, frame_of, children, left_of, left_in, left_on, node_at, IsShaped, AreShaped, FramesShaped, Goes}
 use Rattle.dyadic.specs.Fraction.{zero_fraction}
 use Rattle.poly_graph.proofs.Graphs.{length_terms}
 use Rattle.term_build.specs.Steps.{Emits}
@@ -519,7 +519,6 @@ pub goes_first : (m : Made) (fs : List (Form Comparison)) (ds : List Drawn) (mem
 goes_first m fs ds memo items n root stack before f drawing below e h s b node numbers = subst (λ (xs : List Frame). Goes (stand_of m) (form_events (drawn_at fs root)) fs ds m memo xs) (sym (root-alone stack before f root s b node numbers))
     (begun m fs ds memo root drawing below (λ k j p. begun-with n k j (sym (ap (λ xs. slice_get xs k) (e ∙ h)) ∙ p)))
 
-pub goes_last : (m m1 : Made) (fs : List (Form Comparison)) (ds : List Drawn) (memo all : List (Option ℕ)) (root : ℕ) (r : Result ℕ Stop) → Goes (stand_of m) (form_events (drawn_at fs root)) fs ds m1 memo [] → all ≡ memo → NumberOf all root r →
-    Emits m m1 (form_events (drawn_at fs root)) r (IsFormOf m1 (form_map atom_of (drawn_at fs root)))
-goes_last m m1 fs ds memo all root (Ok j) g e h = ended m m1 fs ds memo root j g (ap (λ xs. slice_get xs root) (sym e) ∙ h)
-goes_last m m1 fs ds memo all root (Err x) g e h = λ claim. subst (λ (y : Stop). StopsAs claim (after_events claim (stand_of m) (form_events (drawn_at fs root))) y) (sym h) tt
+pub goes_last : (m m1 : Made) (fs : List (Form Comparison)) (ds : List Drawn) (memo all : List (Option ℕ)) (root j : ℕ) → Goes (stand_of m) (form_events (drawn_at fs root)) fs ds m1 memo [] → all ≡ memo → slice_get all root ≡ Some (Some j) →
+    Emits m m1 (form_events (drawn_at fs root)) (Ok j) (IsFormOf m1 (form_map atom_of (drawn_at fs root)))
+goes_last m m1 fs ds memo all root j g e h = ended m m1 fs ds memo root j g (ap (λ xs. slice_get xs root) (sym e) ∙ h)

@@ -6,7 +6,7 @@ use Rattle.poly_graph.specs.Term.{Term, Atom}
 use Rattle.poly_graph.specs.Form.{Form}
 use Rattle.script_forms.specs.Atoms.{already, number_in}
 use Rattle.script_forms.specs.Terms as terms
-use Rattle.script_forms.specs.Walk.{Stand, Walked, stands, stops, BuildingFault, unfolds_not, too_large, too_many_nodes, too_many_atoms, too_many_forms}
+use Rattle.script_forms.specs.Walk.{Stand, Walked, stands, stops, unfolds_not, too_large, too_many_nodes, too_many_atoms, too_many_forms}
 use Rattle.poly_graph.specs.declared.refused.NoNode.{NoNode}
 use Rattle.poly_graph.specs.declared.refused.NoNode.TheVariants as none
 use Rattle.poly_graph.specs.declared.refused.Limit.TheVariants as limit

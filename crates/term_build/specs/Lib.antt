@@ -5,3 +5,4 @@ pub mod Shapes
 pub mod Pairs
 pub mod Sketch
 pub mod Steps
+pub mod Turns

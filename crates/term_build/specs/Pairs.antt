@@ -3,12 +3,12 @@ use Rattle.std.specs.Prelude.{◌≡◌, ℕ, ◌<◌, ◌≤◌, List, [], ◌�
 use Rattle.script_model.specs.Sexp.{Place}
 use Rattle.dyadic.specs.Fraction.{zero_fraction}
 use Rattle.poly_graph.specs.Term.{Term, constant, Kind, le, ge, eq}
-use Rattle.poly_graph.specs.Form.{Form, Forms, no_forms, more_forms, all_form, any_form, yes_form, no_form, bool_is}
+use Rattle.poly_graph.specs.Form.{Form, Forms, no_forms, more_forms, all_form, any_form, yes_form, no_form}
 use Rattle.script_forms.specs.Atoms.{constant_tree}
 use Rattle.dyadic.specs.Point.{bool_sort}
 use Rattle.poly_graph.specs.Problem.{HasSort}
 use Rattle.script_forms.specs.Terms.{Comparison, Unfolded, term, formula}
-use Rattle.script_forms.specs.Unfolded.{truth_of, negation_form, not_of, xor_of, xor_from, implies_of, choice_form, two, at_most_two, at_least_two, equal_two}
+use Rattle.script_forms.specs.Unfolded.{truth_of, negation_form, not_of, xor_of, implies_of, choice_form, two, at_most_two, at_least_two, equal_two}
 use Rattle.term_build.specs.Built.{Made}
 use Rattle.term_build.specs.Sketch.{Drawn, choice_drawn, drawn_after, drawn_at, drawn_form, IsDrawing, IsDrawn, IsSketch}
 use Rattle.term_build.specs.declared.connectives.Pair.{Pair}

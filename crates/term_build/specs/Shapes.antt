@@ -13,7 +13,6 @@ use Rattle.script_forms.specs.Walk.{Stand, after_events, make_form}
 use Rattle.term_build.specs.Built.{Made, stand_of}
 use Rattle.term_build.specs.Does.{StopsAs, Does, IsForm}
 use Rattle.term_build.specs.declared.stop.Stop.{Stop}
-use Rattle.term_build.specs.declared.stop.Stop.TheVariants as stop
 use Rattle.term_build.specs.Steps.{Emits}
 use Rattle.term_build.specs.Sketch.{Drawn, yes_drawn, no_drawn, comparison_drawn, bool_drawn, all_drawn, any_drawn, choice_drawn, drawn_at, drawn_children, comparison_of, IsAtomForm, IsFormOf, IsDrawing, IsSketch}
 use Rattle.term_build.specs.Settled.{Extends, FormSettled}
@@ -146,11 +145,6 @@ abbrev pub IfDone : {X : Type 0} → Result X Stop → Type 0 → Type 0
 IfDone (Ok x) P = P
 IfDone (Err e) P = Unit {0}
 
--- the number in the memo, or want of memory
-abbrev pub NumberOf : List (Option ℕ) → ℕ → Result ℕ Stop → Type 0
-NumberOf memo k (Ok j) = slice_get memo k ≡ Some (Some j)
-NumberOf memo k (Err e) = e ≡ stop.Memory
-
 -- the builder does what the form of this node asks for
 abbrev pub Shaping : Made → Made → List Drawn → ℕ → Result ℕ Stop → Type 0
 Shaping old new ds root r = (fs : List (Form Comparison)) → IsDrawing (stand_of old).trees ds fs → Emits old new (form_events (drawn_at fs root)) r (IsFormOf new (form_map atom_of (drawn_at fs root)))
@@ -159,16 +153,3 @@ Shaping old new ds root r = (fs : List (Form Comparison)) → IsDrawing (stand_o
 abbrev pub Draining : {X : Type 0} → List Drawn → Made → Made → List (Option ℕ) → List (Option ℕ) → List Frame → List Frame → Result X Stop → Type 0
 Draining ds old new memo memo' stack stack' r = (m0 : Made) (es : List Event) (fs : List (Form Comparison)) → IsDrawing (stand_of m0).trees ds fs → IsSketch m0 ds →
     Goes (stand_of m0) es fs ds old memo stack → Steps (stand_of m0) es fs ds new memo' stack' r
-
--- the same of a stack that goes on
-abbrev pub Drains : List Drawn → Made → Made → List (Option ℕ) → List (Option ℕ) → List Frame → List Frame → Type 0
-Drains ds old new memo memo' stack stack' = (m0 : Made) (es : List Event) (fs : List (Form Comparison)) → IsDrawing (stand_of m0).trees ds fs → IsSketch m0 ds →
-    Goes (stand_of m0) es fs ds old memo stack → Goes (stand_of m0) es fs ds new memo' stack'
-
--- what holds while a stack is drained
-pub record IsDraining (ds : List Drawn) (old new : Made) (memo memo' : List (Option ℕ)) (stack stack' : List Frame) : Type 0 where
-  pub sketched : IsSketch new ds
-  pub kept : IsMemo ds new memo'
-  pub framed : AreFrames ds new stack'
-  pub drains : Drains ds old new memo memo' stack stack'
-  pub sorts : new.sorts ≡ old.sorts

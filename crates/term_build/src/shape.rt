@@ -1,7 +1,8 @@
 // Forms are made from their sketch: each node once, its children before it, over a stack of its own.
-ghost use Rattle.std.specs.Prelude.{◌≡◌, ◌<◌, ◌^◌, [], length, map, replicate, slice_get, IfOk, None};
+ghost use Rattle.std.specs.Prelude.{◌≡◌, ℕ, ◌<◌, ◌^◌, [], ◌∷◌, ◌++◌, length, map, replicate, slice_get, IfOk, None, Some};
 ghost use Rattle.term_build.specs.Sketch.{IsDrawn, IsSketch};
-ghost use Rattle.term_build.specs.Shapes.{AreFrames, AreNumbers, Completing, Stepping, StaysSafe, IfDone, NumberOf, Draining, Shaping, Finishes, IsFrame, IsMemo, children, drawn_of, frame_of, node_at};
+ghost use Rattle.term_build.specs.Shapes.{AreFrames, AreNumbers, Completing, Stepping, StaysSafe, IfDone, Draining, Shaping, Finishes, IsFrame, IsMemo, children, drawn_of, frame_of, node_at};
+ghost use Rattle.term_build.specs.Turns.{AreStacked, IsMadeIn, IsNumbered, IsRooted, IsTurn};
 
 use crate::builder::Builder;
 use crate::sketch::Drawn;
@@ -56,6 +57,7 @@ fn complete(
     requires done { slice_get (children (node_at (map drawn_of sketch.now) frame.node)) (length frame.numbers.items) ≡ None }
     ensures does { Completing (map drawn_of sketch.now) builder.old builder.new memo.old memo.new (frame_of frame) result }
     ensures safe { IfDone result (StaysSafe (map drawn_of sketch.now) builder.old builder.new memo.new) }
+    ensures made { IfDone result (IsMadeIn memo.old memo.new frame.node) }
     ensures sorts { builder.new.sorts ≡ builder.old.sorts }
 {
     let Frame { node, numbers } = frame;
@@ -77,9 +79,11 @@ fn step(
     requires sketched { IsSketch builder.old (map drawn_of sketch.now) }
     requires framed { IsFrame (map drawn_of sketch.now) builder.old (frame_of frame) }
     requires kept { IsMemo (map drawn_of sketch.now) builder.old memo.old }
+    requires nested { AreStacked (map drawn_of sketch.now) memo.old (map frame_of stack.old.items ++ (frame_of frame ∷ [])) }
     ensures does { Stepping (map drawn_of sketch.now) builder.old builder.new memo.old memo.new stack.old.items stack.new.items (frame_of frame) result }
     ensures safe { IfDone result (StaysSafe (map drawn_of sketch.now) builder.old builder.new memo.new) }
     ensures frames { AreFrames (map drawn_of sketch.now) builder.old (map frame_of stack.old.items) → IfDone result (AreFrames (map drawn_of sketch.now) builder.new (map frame_of stack.new.items)) }
+    ensures turn { IfDone result (IsTurn (map drawn_of sketch.now) memo.old memo.new (map frame_of stack.old.items ++ (frame_of frame ∷ [])) (map frame_of stack.new.items)) }
     ensures sorts { builder.new.sorts ≡ builder.old.sorts }
 {
     let Some(child) = child_at(&sketch[frame.node as usize], frame.numbers.len()) else {
@@ -109,16 +113,15 @@ fn drain(
     requires sketched { IsSketch builder.old (map drawn_of sketch.now) }
     requires kept { IsMemo (map drawn_of sketch.now) builder.old memo.old }
     requires framed { AreFrames (map drawn_of sketch.now) builder.old (map frame_of stack.old.items) }
+    requires nested { AreStacked (map drawn_of sketch.now) memo.old (map frame_of stack.old.items) }
     ensures does { Draining (map drawn_of sketch.now) builder.old builder.new memo.old memo.new (map frame_of stack.old.items) [] result }
+    ensures rooted { (root : ℕ) → IsRooted memo.old root (map frame_of stack.old.items) → IfDone result (IsNumbered memo.new root) }
     ensures sorts { builder.new.sorts ≡ builder.old.sorts }
 {
-    for _ in 0..u64::MAX {
-        let Some(frame) = stack.pop() else {
-            return Ok(());
-        };
+    while let Some(frame) = stack.pop() {
         step(alloc, builder, sketch, memo, stack, frame)?;
     }
-    Err(Stop::Memory)
+    Ok(())
 }
 
 // No node is made yet.
@@ -129,13 +132,13 @@ fn none_made(alloc: Global, n: usize) -> Result<Vec<Option<u32>>, AllocError>
 }
 
 // The number of a node that is made.
-fn number_of(memo: &[Option<u32>], k: u32) -> Result<u32, Stop>
-    requires { k < length memo.now }
-    ensures { NumberOf memo.now k result }
+fn number_of(memo: &[Option<u32>], k: u32) -> u32
+    requires { IsNumbered memo.now k }
+    ensures { slice_get memo.now k ≡ Some (Some result) }
 {
     match memo[k as usize] {
-        Some(number) => Ok(number),
-        None => Err(Stop::Memory),
+        Some(number) => number,
+        None => unreachable!(),
     }
 }
 
@@ -159,5 +162,5 @@ pub fn make_form(
         numbers: Vec::new(alloc),
     })?;
     drain(alloc, builder, sketch, &mut memo, &mut stack)?;
-    number_of(&memo, root)
+    Ok(number_of(&memo, root))
 }

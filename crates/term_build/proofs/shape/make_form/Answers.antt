@@ -1,4 +1,4 @@
-use Rattle.std.proofs.Common.{ℕ, map, Result, subst, sym, refl, arith, length}
+use Rattle.std.proofs.Common.{ℕ, map, List, Option, Result, subst, sym, refl, arith, length}
 use Rattle.std.proofs.lemmas.List.{length-map}
 use Rattle.script_forms.specs.Atoms.{atom_of}
 use Rattle.script_forms.specs.Work.{form_events}
@@ -9,6 +9,8 @@ use Rattle.term_build.specs.Shapes.{drawn_of}
 use Rattle.term_build.specs.declared.stop.Stop.{Stop}
 use Rattle.term_build.proofs.Emits.{err_is}
 use Rattle.term_build.proofs.Shaping.{memo_begun, goes_first, goes_last, written_back}
+use Rattle.term_build.proofs.Turns.{stacked_first, rooted_first}
+use Rattle.term_build.specs.Turns.{IsNumbered}
 use Rattle.term_build.proofs.shape.make_form.Goals as goal
 
 pub drain-requires-clause-kept : goal.drain-requires-clause-kept
@@ -28,3 +30,13 @@ returns-clause-does c = λ fs drawing. let ds = map drawn_of c.args.sketch.now i
     (goes_first c.args.builder.now fs ds c.deref_mut.result.now c.in_ok-memo.memo.items (length c.args.sketch.now) c.args.root c.push.new.self.items c.new-stack.result.items _ drawing
     (omega (arith, c.requires.rooted, length-map c.args.sketch.now drawn_of)) c.deref_mut.ensures.value c.in_ok-memo.ensures c.in_ok-push.ensures.items c.new-stack.ensures.items refl c.new.ensures.items))
     (written_back c.deref.result.now c.drain.new.memo _ _ c.deref.ensures.value (omega (arith, c.deref_mut.ensures.len, c.drain.auto.memo))) c.number_of.ensures
+
+pub drain-requires-clause-nested : goal.drain-requires-clause-nested
+drain-requires-clause-nested c = let ds = map drawn_of c.args.sketch.now in
+    stacked_first ds c.deref_mut.result.now c.in_ok-memo.memo.items (length c.args.sketch.now) c.args.root c.push.new.self.items c.new-stack.result.items _
+    c.deref_mut.ensures.value c.in_ok-memo.ensures (sym (length-map c.args.sketch.now drawn_of)) (omega (arith, c.requires.rooted, length-map c.args.sketch.now drawn_of)) c.in_ok-push.ensures.items c.new-stack.ensures.items refl
+
+pub number_of-requires : goal.number_of-requires
+number_of-requires c =
+    subst (λ (xs : List (Option ℕ)). IsNumbered xs c.args.root) (sym (written_back c.deref.result.now c.drain.new.memo _ _ c.deref.ensures.value (omega (arith, c.deref_mut.ensures.len, c.drain.auto.memo))))
+    (c.in_ok-drain.ensures.rooted c.args.root (rooted_first c.deref_mut.result.now c.args.root c.push.new.self.items c.new-stack.result.items _ c.in_ok-push.ensures.items c.new-stack.ensures.items refl))

@@ -21,3 +21,11 @@ returns c =
           (c.stage_after.ensures.course n c.one_more-self-inside.ensures.more);
       answers = c.answer.ensures;
     })
+
+pub invariant_of-self : goal.invariant_of-self
+invariant_of-self c = record {
+  serves = c.stage_after.ensures.serves;
+  stage = c.stage_after.ensures.sound;
+  stays = c.stage_after.ensures.stays c.one_more-self-inside.result c.one_more-self-inside.ensures.more;
+  few = c.one_more-self-inside.ensures.few;
+}

@@ -38,5 +38,4 @@ returns-clause-serves c = record {
   scratch = c.requires.scratch;
   centre = c.requires.centre;
   truths = c.requires.truths;
-  few = c.requires.few;
 }

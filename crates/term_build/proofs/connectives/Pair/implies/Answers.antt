@@ -1,4 +1,4 @@
-use Rattle.std.proofs.Common.{map, List, subst, sym, length, ℕ, [], ◌∷◌, ◌≡◌}
+use Rattle.std.proofs.Common.{map, List, subst, sym}
 use Rattle.script_forms.specs.Unfolded.{implies_of}
 use Rattle.term_build.specs.Shapes.{drawn_of}
 use Rattle.term_build.specs.Pairs.{Connects}

@@ -1,0 +1,19 @@
+-- How many states stayed open or stuck.
+use Rattle.std.specs.Prelude.{ℕ, ◌≤◌}
+use Rattle.cert_check.specs.declared.checker.Stage.{Stage}
+use Rattle.cert_check.specs.declared.checker.Stage.TheVariants.{InWork, Stopped}
+use Rattle.cert_check.specs.declared.due.Due.{Due}
+use Rattle.cert_check.specs.declared.due.Due.TheVariants as due
+use Rattle.cert_check.specs.declared.due.Value.TheVariants as kept
+
+-- where this is due
+abbrev pub stays_in : Due → ℕ
+stays_in (due.Tree c t n) = n
+stays_in (due.End s n) = n
+stays_in (due.Nothing s (kept.Left n)) = n
+stays_in d = 0
+
+-- at most one for each of so many lines
+abbrev pub StaysWithin : ℕ → Stage → Type 0
+StaysWithin lines (InWork d) = stays_in d ≤ lines
+StaysWithin lines (Stopped f) = Unit {0}
