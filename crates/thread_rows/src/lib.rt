@@ -5,3 +5,7 @@
 mod of_book_lock;
 #[cfg(test)]
 mod of_steal_pool;
+#[cfg(test)]
+mod one_seat;
+#[cfg(test)]
+mod swapped;

@@ -1,68 +1,18 @@
-// Threads that learn lemmas in one book. The problem has no axes and a form that is false.
-ghost use Rattle.std.specs.Prelude.{◌≡◌, ◌≤◌, ◌<◌, All, IfOk, IfSome, []};
-ghost use Rattle.poly_graph.specs.ProblemViews.{problem_of};
-ghost use Rattle.cover_data.specs.Margins.{AreMargins};
-ghost use Rattle.cover_data.specs.Runs.{IsClosed, IsRun};
+// Threads that learn the middle of the square in one book.
+ghost use Rattle.std.specs.Prelude.{◌≤◌, ◌<◌, All};
 ghost use Rattle.book_lock.specs.Shared.{IsOnePartSeatOf, first_of};
 ghost use Rattle.thread_rows.specs.TriedBookLock.{IsTried};
 
+use crate::swapped::{OPTIONS, Place, closing, is_at, problem};
 use book_lock::{BookSeat, SharedBook};
 use cover_book::Book;
-use cover_data::{ClosedPatch, Margins, Options, State};
-use cover_rule::Patch;
-use ival::Space;
-use poly_graph::{FormGraph, FormNode, Graph, Lits, NoNode, Problem};
+use cover_data::Margins;
+use poly_graph::Problem;
 use std::alloc::Global;
 use std::sync::Wait;
 use std::sync::atomic::{AtomicU64, Ordering};
 use std::test::Fail;
 use std::thread::{Threads, for_each_mut};
-
-#[tactic(auto, using(crate::proofs::TriedBookLock::smallest))]
-fn problem(alloc: Global) -> Result<Problem, NoNode>
-    ensures axes { IfOk result (λ p. p.axes ≡ []) }
-    ensures atoms { IfOk result (λ p. p.atoms ≡ []) }
-{
-    let mut forms = FormGraph::new(alloc);
-    let root = forms.intern(FormNode::False)?;
-    let graph = Graph::new(alloc);
-    Ok(Problem::new(Vec::new(alloc), graph, Vec::new(alloc), forms, root))
-}
-
-const OPTIONS: Options = Options {
-    delta_bits: 10,
-    margin_bits: 20,
-    least_bits: 20,
-    budget: 1,
-    workers: 1,
-    bound: None,
-};
-
-// A patch that closes the problem's one state.
-#[tactic(auto, using(crate::proofs::TriedBookLock::is_run_for))]
-fn closing(alloc: Global, problem: &Problem, margins: &Margins) -> Option<ClosedPatch>
-    requires axes { problem.now.axes ≡ [] }
-    requires atoms { problem.now.atoms ≡ [] }
-    requires margins { AreMargins margins.now }
-    ensures run { IfSome result (λ k. IsRun (problem_of problem.now) margins.now k) }
-    ensures closed { IfSome result (λ k. IsClosed k) }
-{
-    let space = Space::with_capacity(alloc, 0).ok()?;
-    let lits = Lits::new(alloc, 0).ok()?;
-    let state = State::new(space, lits);
-    let Ok(mut patch) = Patch::begin(alloc, problem, margins, state) else {
-        return None;
-    };
-    match patch.make_false() {
-        Ok(()) => {}
-        Err(_) => return None,
-    }
-    let _ = patch.reached();
-    match patch.closed() {
-        Ok(closed) => Some(closed),
-        Err(_) => None,
-    }
-}
 
 // Learns so many lemmas.
 fn learn_each<R: Wait>(
@@ -116,7 +66,9 @@ fn learned<R: Threads + Wait + Sync>(
 ) -> Result<Book, Fail>
     requires { (0 < threads) × (threads ≤ 100) }
 {
-    let problem = problem(alloc)?;
+    let Some(problem) = problem(alloc) else {
+        return Err(Fail::from("no problem"));
+    };
     let margins = OPTIONS.margins();
     let book = Book::new(alloc, problem.try_clone(alloc)?, OPTIONS)?;
     let Ok((shared, mut lead)) = SharedBook::share(alloc, book, threads + 1) else {
@@ -195,7 +147,9 @@ fn learned_by_two<R: Threads + Wait + Sync>(
     alloc: Global,
     sum: &AtomicU64,
 ) -> Result<Book, Fail> {
-    let problem = problem(alloc)?;
+    let Some(problem) = problem(alloc) else {
+        return Err(Fail::from("no problem"));
+    };
     let margins = OPTIONS.margins();
     let book = Book::new(alloc, problem.try_clone(alloc)?, OPTIONS)?;
     let Ok((shared, mut lead)) = SharedBook::share(alloc, book, 3) else {
@@ -215,12 +169,26 @@ fn learned_by_two<R: Threads + Wait + Sync>(
     Ok(shared.close(lead))
 }
 
+// Whether the book has two lemmas, both of the middle.
+fn has_middle_twice(alloc: Global, book: &Book) -> bool {
+    match book.lemmas_from(0) {
+        Ok(lemmas) => match lemmas.as_slice() {
+            [first, second] => {
+                is_at(alloc, book.problem(), first.state(), Place::Middle)
+                    && is_at(alloc, book.problem(), second.state(), Place::Middle)
+            }
+            _ => false,
+        },
+        Err(_) => false,
+    }
+}
+
 // The numbers are 0 and 1, in some order.
 #[test]
 fn lemmas_of_two_threads_have_numbers_of_their_own(rt: HostRuntime) -> Result<(), Fail> {
     let sum = AtomicU64::new(0);
     let book = learned_by_two(&rt, rt.alloc(), &sum)?;
-    assert_eq!(rt; book.lemmas().len(), 2);
+    assert!(rt; has_middle_twice(rt.alloc(), &book));
     assert_eq!(rt; sum.load(Ordering::SeqCst), 201);
     Ok(())
 }

@@ -1,0 +1,199 @@
+// The problem of the books that are shared here: x * y - y * x = 1/8 over a square. Its states and its patches.
+ghost use Rattle.std.specs.Prelude.{◌≡◌, IfSome, IsSome, IsTrue};
+ghost use Rattle.cover_model.specs.Fits.{FitsProblem};
+ghost use Rattle.poly_graph.specs.ProblemViews.{problem_of};
+ghost use Rattle.cover_data.specs.Margins.{AreMargins};
+ghost use Rattle.cover_data.specs.Runs.{IsClosed, IsRun};
+ghost use Rattle.cover_data.specs.Views.{kept_of};
+ghost use Rattle.thread_rows.specs.TriedBookLock.{IsSmall};
+
+use cover_data::{ClosedPatch, KeptPatch, Margins, Options, State};
+use cover_rule::Patch;
+use dyadic::{Dy, two_to_minus};
+use ival::{Domain, Range, Space};
+use poly_graph::{Lits, Mark, Problem};
+use problem_build::build;
+use smt_script::commands;
+use smt_sexp::read;
+use sort_check::check;
+use std::alloc::Global;
+use truth3::{Root, root_space};
+
+const SCRIPT: &str = "(declare-const x Real)
+(declare-const y Real)
+(assert (<= (- (/ 1 2)) x (/ 1 2)))
+(assert (<= (- (/ 1 2)) y (/ 1 2)))
+(assert (= (- (* x y) (* y x)) (/ 1 8)))
+(check-sat)";
+
+// The bounds have the atoms 0 to 3, the equation 4.
+pub(crate) const ATOMS: u32 = 5;
+
+// The problem of the script.
+pub(crate) fn problem(alloc: Global) -> Option<Problem>
+    ensures { IfSome result (λ p. IsSmall p) }
+{
+    let bytes = SCRIPT.as_bytes();
+    if bytes.len() > 67_108_864 {
+        return None;
+    }
+    let sexps = read(alloc, bytes).ok()?;
+    let script = commands(alloc, &sexps).ok()?;
+    let typed = check(alloc, script).ok()?;
+    let problem = build(alloc, typed, None).ok()?;
+    if problem.axes().len() > 1_024 || problem.atoms().len() > 65_536 {
+        return None;
+    }
+    Some(problem)
+}
+
+// A budget of one branch.
+pub(crate) const OPTIONS: Options = Options {
+    delta_bits: 10,
+    margin_bits: 20,
+    least_bits: 20,
+    budget: 1,
+    workers: 1,
+    bound: None,
+};
+
+// ---- states
+
+// A box of the square: the square itself with no atom marked, its lower and its upper half by x with each atom marked
+// yes, and its middle with no atom marked.
+#[derive(Clone, Copy)]
+pub(crate) enum Place {
+    Root,
+    Lower,
+    Upper,
+    Middle,
+}
+
+// The numbers that are left to x, then those that are left to y.
+fn sides(place: Place) -> Option<(Range, Range)> {
+    let half = two_to_minus(1);
+    let side = Range::between(half.neg(), half)?;
+    match place {
+        Place::Root => Some((side, side)),
+        Place::Lower => Some((Range::between(half.neg(), Dy::ZERO)?, side)),
+        Place::Upper => Some((Range::between(Dy::ZERO, half)?, side)),
+        Place::Middle => {
+            let point = Range::between(Dy::ZERO, Dy::ZERO)?;
+            Some((point, point))
+        }
+    }
+}
+
+// Marks each atom yes.
+fn mark_all(lits: &mut Lits) {
+    for j in 0..ATOMS {
+        if (j as usize) < lits.len() {
+            lits.set(j, Mark::Yes);
+        }
+    }
+}
+
+// Whether the state is one of the problem, within the declared box.
+fn lies_within(alloc: Global, problem: &Problem, state: &State) -> bool
+    ensures { IsTrue result → FitsProblem (problem_of problem.now) state.now }
+{
+    let Ok(Root::Space(root)) = root_space(alloc, problem) else {
+        return false;
+    };
+    let space = state.space();
+    if space.len() != root.len() || state.lits().len() != problem.atoms().len() {
+        return false;
+    }
+    space.within(&root)
+}
+
+// The state of the place.
+pub(crate) fn state_at(alloc: Global, problem: &Problem, place: Place) -> Option<State>
+    ensures { IfSome result (λ s. FitsProblem (problem_of problem.now) s) }
+{
+    let (x, y) = sides(place)?;
+    let mut axes = Vec::new(alloc);
+    axes.push(Domain::Real(x)).ok()?;
+    axes.push(Domain::Real(y)).ok()?;
+    let mut lits = Lits::new(alloc, ATOMS as usize).ok()?;
+    if matches!(place, Place::Lower | Place::Upper) {
+        mark_all(&mut lits);
+    }
+    let state = State::new(Space { axes }, lits);
+    if lies_within(alloc, problem, &state) {
+        Some(state)
+    } else {
+        None
+    }
+}
+
+// Whether this is the state of the place.
+pub(crate) fn is_at(alloc: Global, problem: &Problem, state: &State, place: Place) -> bool {
+    match state_at(alloc, problem, place) {
+        Some(expected) => expected.is_same(state),
+        None => false,
+    }
+}
+
+// ---- patches
+
+// Cuts the state that the patch has reached; whether it did.
+fn ends_in_cut(patch: &mut Patch) -> bool
+    ensures problem { patch.new.problem ≡ patch.old.problem }
+    ensures margins { patch.new.margins ≡ patch.old.margins }
+{
+    patch.cut().is_ok()
+}
+
+// The patch that marks so many atoms in the state and then cuts it.
+pub(crate) fn cutting(
+    alloc: Global,
+    problem: &Problem,
+    margins: &Margins,
+    state: State,
+    atoms: u32,
+) -> Option<KeptPatch>
+    requires problem { IsSmall problem.now }
+    requires margins { AreMargins margins.now }
+    requires state { FitsProblem (problem_of problem.now) state }
+    ensures run { IfSome result (λ k. IsRun (problem_of problem.now) margins.now (kept_of k)) }
+    ensures ended { IfSome result (λ k. IsSome k.end) }
+{
+    let count = problem.atoms().len();
+    let Ok(mut patch) = Patch::begin(alloc, problem, margins, state) else {
+        return None;
+    };
+    for j in 0..atoms {
+        if (j as usize) >= count || patch.unit(j).is_err() {
+            return None;
+        }
+    }
+    if !ends_in_cut(&mut patch) {
+        return None;
+    }
+    let (kept, _) = patch.into_kept();
+    if kept.end.is_some() { Some(kept) } else { None }
+}
+
+// The patch that closes the middle.
+#[tactic(auto, using(crate::proofs::TriedBookLock::is_run_for))]
+pub(crate) fn closing(alloc: Global, problem: &Problem, margins: &Margins) -> Option<ClosedPatch>
+    requires problem { IsSmall problem.now }
+    requires margins { AreMargins margins.now }
+    ensures run { IfSome result (λ k. IsRun (problem_of problem.now) margins.now k) }
+    ensures closed { IfSome result (λ k. IsClosed k) }
+{
+    let state = state_at(alloc, problem, Place::Middle)?;
+    let Ok(mut patch) = Patch::begin(alloc, problem, margins, state) else {
+        return None;
+    };
+    match patch.make_false() {
+        Ok(()) => {}
+        Err(_) => return None,
+    }
+    let _ = patch.reached();
+    match patch.closed() {
+        Ok(closed) => Some(closed),
+        Err(_) => None,
+    }
+}
