@@ -4,7 +4,7 @@ ghost use Rattle.cover_model.specs.Combination.{root_left};
 ghost use Rattle.ival.specs.Views.{interval_of};
 ghost use Rattle.combine.specs.Coefficients.{left_by, left_by_completed};
 
-use crate::ranges::{difference, half_quotient, misses_nought};
+use crate::ranges::{difference, misses_nought};
 use ival::Ival;
 
 // What a square that lies in `square` leaves to its operand, which lies in `own`.
@@ -15,11 +15,10 @@ fn root_left(own: Ival, square: Ival) -> Ival
 }
 
 // What a part with both coefficients, which lies in `share`, leaves to the difference, by its
-// completed square.
-fn completed_left(share: Ival, linear: Ival, square: Ival, apart: Ival) -> Ival
-    ensures { interval_of result ≡ left_by_completed share linear square apart }
+// completed square, by half the quotient of the coefficients.
+fn completed_left(share: Ival, square: Ival, half: Ival, apart: Ival) -> Ival
+    ensures { interval_of result ≡ left_by_completed share square half apart }
 {
-    let half = half_quotient(linear, square);
     let moved = share.inv_mul(square).add(half.sq());
     difference(root_left(apart.add(half), moved), half)
 }
@@ -29,8 +28,9 @@ fn full_left(share: Ival, linear: Ival, square: Ival, apart: Ival) -> Ival
     ensures { interval_of result ≡ left_by share linear (Some square) apart }
 {
     let plain = difference(share, square.mul(apart.sq())).inv_mul(linear);
-    if misses_nought(square.add(square)) {
-        plain.meet(completed_left(share, linear, square, apart))
+    let double = square.add(square);
+    if misses_nought(double) {
+        plain.meet(completed_left(share, square, linear.inv_mul(double), apart))
     } else {
         plain
     }

@@ -2,7 +2,7 @@
 ghost use Rattle.std.specs.Prelude.{◌≡◌, Some, true};
 ghost use Rattle.dyadic.specs.Views.{dyadic_of};
 ghost use Rattle.interval_model.specs.Interval.{misses_nought, interval_product};
-ghost use Rattle.cover_model.specs.Combination.{only, interval_difference, half_quotient};
+ghost use Rattle.cover_model.specs.Combination.{only, interval_difference};
 ghost use Rattle.ival.specs.Views.{interval_of};
 ghost use Rattle.combine.specs.Coefficients.{IsNumber, one_alone, range_by, completed_range};
 
@@ -78,18 +78,10 @@ pub fn misses_nought(interval: Ival) -> bool
     }
 }
 
-/// Half the quotient of the coefficients.
-pub fn half_quotient(linear: Ival, square: Ival) -> Ival
-    ensures { interval_of result ≡ half_quotient (interval_of linear) (interval_of square) }
+// The range of both coefficients' part by its completed square, by half the quotient of the coefficients.
+fn completed(square: Ival, half: Ival, apart: Ival) -> Ival
+    ensures { interval_of result ≡ completed_range square half apart }
 {
-    linear.inv_mul(square.add(square))
-}
-
-// The range of both coefficients' part by its completed square.
-fn completed(linear: Ival, square: Ival, apart: Ival) -> Ival
-    ensures { interval_of result ≡ completed_range linear square apart }
-{
-    let half = half_quotient(linear, square);
     square.mul(difference(apart.add(half).sq(), half.sq()))
 }
 
@@ -98,8 +90,9 @@ fn full_range(linear: Ival, square: Ival, apart: Ival) -> Ival
     ensures { interval_of result ≡ range_by linear (Some square) apart }
 {
     let plain = linear.mul(apart).add(square.mul(apart.sq()));
-    if misses_nought(square.add(square)) {
-        plain.meet(completed(linear, square, apart))
+    let double = square.add(square);
+    if misses_nought(double) {
+        plain.meet(completed(square, linear.inv_mul(double), apart))
     } else {
         plain
     }
