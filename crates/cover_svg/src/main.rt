@@ -12,13 +12,19 @@ mod step;
 use drawing::draw;
 use fault::Fault;
 use std::alloc::Global;
+use std::io::ErrorKind;
 use std::process::ExitCode;
 use std::{env, fs};
 
 // The picture of the files that the words name.
 fn drawn(rt: &HostRuntime, alloc: Global) -> Result<String, Fault> {
-    let Ok(args) = env::args(rt) else {
-        return Err(Fault::Memory);
+    let args = match env::args(rt) {
+        Ok(args) => args,
+        Err(error) => match error.kind() {
+            ErrorKind::OutOfMemory => return Err(Fault::Memory),
+            // One of them is not UTF-8.
+            _ => return Err(Fault::Usage),
+        },
     };
     let words = args.collect::<Vec<String>>(alloc)?;
     let [_, script, cert] = words.as_slice() else {
