@@ -4,7 +4,7 @@ use Rattle.poly_graph.specs.ProblemViews.{Parts}
 use Rattle.cert_model.specs.Due.{version_due}
 use Rattle.cert_model.specs.Accepted.{Course, reached}
 
--- where the lines so far led; nowhere after want of memory
+-- where the lines so far led; nowhere after memory ran out
 pub record Checked : Type 0 where
   pub problem : Parts
   pub bound : Option ℕ

@@ -40,12 +40,12 @@ abbrev pub IsUnderWay : Option Course → Type 0
 IsUnderWay (Some (reached d n)) = Unit {0}
 IsUnderWay c = ⊥
 
--- the fault where the course stopped, or want of memory
+-- the fault where the course stopped, or out of memory
 abbrev pub Answers : Option Course → Result (Unit {0}) CertFault → Type 0
 Answers c (Ok _) = IsUnderWay c
 Answers c (Err f) = c ≡ stop_of f
 
--- lines are taken, in order, and answered; want of memory may come at any
+-- lines are taken, in order, and answered; out of memory may come at any
 pub record Takes (old : Checked) (ls : List Parsed) (new : Checked) (r : Result (Unit {0}) CertFault) : Type 0 where
   pub problem : new.problem ≡ old.problem
   pub bound : new.bound ≡ old.bound

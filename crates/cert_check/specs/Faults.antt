@@ -31,7 +31,7 @@ rule_word word.Stuck = stuck_word
 rule_word word.Combine = combine_word
 rule_word word.VoidCombine = void_combine_word
 
--- where a certificate stops with the fault; nowhere for want of memory
+-- where a certificate stops with the fault; nowhere for out of memory
 abbrev pub stop_of : CertFault → Option Course
 stop_of (numbered.BadHeader n) = Some (stopped due.BadHeader n)
 stop_of (numbered.BadNumber n) = Some (stopped due.BadNumber n)
@@ -64,7 +64,7 @@ refusal_of unread.BadNumber = BadNumber
 refusal_of unread.LineTooLong = LineTooLong
 refusal_of unread.Memory = Memory
 
--- the line has this fault; of want of memory nothing is said
+-- the line has this fault; of out of memory nothing is said
 abbrev pub Refuses : Refusal → Next → Type 0
 Refuses BadHeader x = x ≡ faulty due.BadHeader
 Refuses BadNumber x = x ≡ faulty due.BadNumber

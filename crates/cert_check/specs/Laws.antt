@@ -8,7 +8,7 @@ use Rattle.cert_check.specs.declared.fault.CertFault.TheVariants.{Memory}
 use Rattle.cert_check.specs.Checked.{Checked}
 use Rattle.cert_check.specs.Courses.{Answers, Finishes, IsAt, IsCutOff, IsVerdict}
 
--- Where the input ends, what is answered is the verdict of its bytes, or want of memory.
+-- Where the input ends, what is answered is the verdict of its bytes, or out of memory.
 abbrev pub VerdictIsTold : Type 0
 VerdictIsTold = (c : Checked) (bytes : List ℕ) (r : Result told.Verdict CertFault) → length bytes ≤ most_bytes → IsAt c bytes true →
     Finishes c.course r → (r ≡ Err Memory) ⊎ IsVerdict (verdict (problem_of c.problem) c.bound bytes) r

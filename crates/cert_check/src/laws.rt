@@ -3,7 +3,7 @@
 //! No code runs here: each function is a law about the definitions in `specs/`, and its contract is the law.
 ghost use Rattle.cert_check.specs.Laws.{FaultIsTold, TooLongIsTold, VerdictIsTold};
 
-/// Where the input ends, what is answered is the verdict of its bytes, or want of memory.
+/// Where the input ends, what is answered is the verdict of its bytes, or out of memory.
 #[tactic(auto, using(crate::proofs::Told::verdict_is_told))]
 pub fn verdict_is_told()
     ensures { VerdictIsTold }
@@ -15,7 +15,7 @@ pub fn fault_is_told()
     ensures { FaultIsTold }
 {}
 
-/// Where more bytes follow than a certificate may have, the fault is told without reading them.
+/// Where more bytes follow than a certificate may have, the fault is answered without reading them.
 #[tactic(auto, using(crate::proofs::Told::too_long_is_told))]
 pub fn too_long_is_told()
     ensures { TooLongIsTold }

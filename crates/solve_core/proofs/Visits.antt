@@ -95,7 +95,7 @@ module _ (s : Search) (n : ℕ) (P : KeptPatch) (h : CanCommit s n P) where
   commit_refusals (PointKept x) r = absurd (no-point s.book x h.at.no_point r.3)
   commit_refusals Memory r = inl refl
 
-  -- so a commit that is refused for another cause than want of memory leaves all as it was
+  -- so a commit that is refused for another cause than out of memory leaves all as it was
   pub refused_after : (s' : Search) (e : BookRefusal) → IsCommitRefusal s.book n (kept_of P) e → (e ≡ Memory → ⊥) → s'.book ≡ s.book → s'.waiting.items ≡ s.waiting.items → s'.lemmas.items ≡ s.lemmas.items → IsSearch s' s'.waiting.items
   refused_after s' e r m b f g = elim (commit_refusals e r) [
     | inl k ↦ absurd (m k)
