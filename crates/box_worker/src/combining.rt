@@ -11,46 +11,6 @@ use poly_graph::Problem;
 use relaxation::{Refutation, Relaxation, Side, is_asking};
 use std::alloc::{AllocError, Global};
 
-/// At most so many boxes are left out before combinations of several atoms are tried again.
-const MOST_LEFT_OUT: u32 = 8;
-
-/// How long combinations of several atoms are left out: for 1, 2, 4 and then 8 boxes after one where they gave nothing.
-#[derive(Clone, Copy, PartialEq, Eq, Debug)]
-pub struct Patience {
-    left: u32,
-    last: u32,
-}
-
-impl Patience {
-    /// They are tried at once.
-    pub fn new() -> Patience {
-        Patience { left: 0, last: 0 }
-    }
-
-    // Whether they are tried at this box.
-    fn is_due(&mut self) -> bool {
-        if self.left > 0 {
-            self.left -= 1;
-            return false;
-        }
-        true
-    }
-
-    // Notes whether they gave something.
-    fn note(&mut self, has_gained: bool) {
-        self.last = if has_gained {
-            0
-        } else if self.last == 0 {
-            1
-        } else if self.last < MOST_LEFT_OUT {
-            self.last * 2
-        } else {
-            MOST_LEFT_OUT
-        };
-        self.left = self.last;
-    }
-}
-
 // Combines these atoms where they leave less; whether an axis fell by about a tenth, or nothing is left.
 fn combine(
     problem: &Problem,

@@ -7,9 +7,10 @@ ghost use Rattle.box_worker.specs.Worked.{AreLemmasFor};
 ghost use Rattle.cover_rule.specs.Serves.{IsNumbered};
 ghost use Rattle.box_worker.specs.Attempts.{IsOpen};
 
-use crate::combining::{Patience, combine_all, relax};
+use crate::combining::{combine_all, relax};
 use crate::fallen::{atom_masks, repeating_atoms, take_over};
 use crate::needs::{Needs, is_set, look};
+use crate::patience::Patience;
 use crate::step::{self, Outcome};
 use cover_rule::{Lemma, Margins, Patch, State};
 use dyadic::Dy;

@@ -217,7 +217,8 @@ fn begins_at_root(alloc: Global, problem: &Problem, run: &KeptPatch) -> Result<b
 
 /// What is to be learned of a closed run, of which `own` is a copy: a lemma that holds in each box where some atoms are
 /// marked together. It is the run repeated at the whole root space with the marks alone of the atoms by which it narrows,
-/// where that leaves nothing, else the copy where it begins at the root space. A lemma of a smaller space is none to be
+/// where that leaves nothing, else the copy where it begins at the root space. Runs are not repeated for 1, 2, 4 and then 8
+/// boxes after one that showed nothing so. A lemma of a smaller space is none to be
 /// learned: the boxes of a cover do not overlap, so it would not be quoted.
 ///
 /// # Errors
@@ -235,8 +236,12 @@ pub fn lesson(
     requires margins { AreMargins (margins_of options.now) }
     ensures { IfOk result (λ o. IfSome o (IsLesson problem.now (margins_of options.now) own)) }
 {
-    if let Some(shown) = widened(alloc, room, problem, options, run)? {
-        return Ok(Some(shown));
+    if room.lessons.is_due() {
+        let shown = widened(alloc, room, problem, options, run)?;
+        room.lessons.note(shown.is_some());
+        if shown.is_some() {
+            return Ok(shown);
+        }
     }
     let Some(closed) = own else {
         return Ok(None);

@@ -3,6 +3,7 @@ ghost use Rattle.std.specs.Prelude.{IfOk};
 ghost use Rattle.cover_rule.specs.Serves.{HasRoom};
 
 use crate::contraction::Scout;
+use crate::patience::Patience;
 use cover_rule::Workspace;
 use poly_graph::Problem;
 use std::alloc::{AllocError, Global};
@@ -18,6 +19,8 @@ const SEARCH_PERIOD: u32 = 16;
 pub struct Room {
     pub work: Option<Workspace>,
     pub scout: Option<Scout>,
+    /// How long closed runs are not repeated at the root space.
+    pub lessons: Patience,
     boxes: u32,
 }
 
@@ -27,6 +30,7 @@ impl Room {
         Room {
             work: None,
             scout: None,
+            lessons: Patience::new(),
             boxes: 0,
         }
     }
