@@ -217,9 +217,9 @@ fn begins_at_root(alloc: Global, problem: &Problem, run: &KeptPatch) -> Result<b
 
 /// What is to be learned of a closed run, of which `own` is a copy: a lemma that holds in each box where some atoms are
 /// marked together. It is the run repeated at the whole root space with the marks alone of the atoms by which it narrows,
-/// where that leaves nothing, else the copy where it begins at the root space. Runs are not repeated for 1, 2, 4 and then 8
-/// boxes after one that showed nothing so. A lemma of a smaller space is none to be
-/// learned: the boxes of a cover do not overlap, so it would not be quoted.
+/// where that leaves nothing, else the copy where it begins at the root space. Runs are not repeated for 1, 2, 4 and then
+/// 8 boxes after one that showed nothing so. A lemma of a smaller space is none to be learned: the boxes of a cover do
+/// not overlap, so it would not be quoted. What is repeated is a choice: that nothing is learned is ruled out by no clause.
 ///
 /// # Errors
 ///

@@ -1,6 +1,7 @@
 //! The forward pass of HC4 (Benhamou, Goualard, Granvilliers, Puget 1999), for the search: `fill` puts the enclosures
-//! of all terms of a shared graph over a space into rows, `follow` renews them after axes changed, `refill_by` after one.
-//! It narrows nothing. The checker has arithmetic of its own (`plain_eval`): the two may read alike in definitions only.
+//! of all terms of a shared graph over a space into rows, `follow` renews them after axes changed, `refill` and
+//! `refill_by` after one. It narrows nothing. The checker has arithmetic of its own (`plain_eval`): the two may read alike
+//! in definitions only.
 #![tactic(auto)]
 
 mod above;
@@ -14,6 +15,6 @@ mod upward;
 
 pub use above::Above;
 pub use counted::refill_counted;
-pub use forward::{fill, follow};
+pub use forward::{fill, follow, refill};
 pub use steps::Steps;
 pub use upward::refill_by;

@@ -65,7 +65,7 @@ fn moved_row(graph: &Graph, space: &mut Space, domain: Domain, rows: &mut Rows) 
     }
     fill(graph, space, rows);
     space.set(1, domain);
-    follow(graph, space, rows);
+    refill(graph, space, 1, rows);
     Some(rows.get(graph.len() - 1))
 }
 

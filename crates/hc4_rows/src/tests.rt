@@ -1,7 +1,7 @@
 // Small graphs on which both ways of the passes agree, and ends that were computed by hand.
 use dyadic::{Dy, Ext, Frac, add_up, at_most, down_frac, mul_up, pow2};
 use hc4_bwd::{narrow, narrow_off};
-use hc4_fwd::{Above, fill, follow, refill_by};
+use hc4_fwd::{Above, fill, follow, refill, refill_by};
 use ival::{Domain, Narrowed, Range, Rows, Space};
 use plain_eval::{enclose, narrow_off_plain, narrow_plain};
 use poly_graph::{Atom, Graph, Kind, Node, is_after};
@@ -277,7 +277,7 @@ fn refilled_alike(
     fill(graph, space, &mut rows);
     fill(graph, space, &mut others);
     space.set(0, domain);
-    follow(graph, space, &mut rows);
+    refill(graph, space, 0, &mut rows);
     refill_by(graph, space, 0, &above, &mut others);
     let mut fresh = Rows::new(alloc, count)?;
     fill(graph, space, &mut fresh);

@@ -160,15 +160,14 @@ impl Worker {
         requires own { IfSome own (λ k. MayBeCalled (first_of task.now.shared.now) (Learn k)) }
         ensures { IsWorkerOf task.now.shared.now self.new }
     {
-        let Ok(lesson) = task.lesson(alloc, room, &patch, own) else {
-            return false;
-        };
+        let lesson = task.lesson(alloc, room, &patch, own);
         if !self.commit(rt, task, node, patch) {
             return false;
         }
         match lesson {
-            Some(closed) => self.learn(rt, alloc, task, closed),
-            None => true,
+            Ok(Some(closed)) => self.learn(rt, alloc, task, closed),
+            Ok(None) => true,
+            Err(_) => false,
         }
     }
 

@@ -5,8 +5,12 @@ use Rattle.hc4_fwd.specs.Reached.{SameBut}
 use Rattle.hc4_fwd.proofs.Reaches.{set_same_but}
 use Rattle.hc4_rows.proofs.tests.refilled_alike.Goals as goal
 
-pub follow-requires : goal.follow-requires
-follow-requires c = record { rows = record { was = space_of c.args.space.now; filled = c.fill.ensures.rows } }
+pub refill-requires : goal.refill-requires
+refill-requires c = let was = space_of c.args.space.now in record {
+  was = was;
+  filled = c.fill.ensures.rows;
+  others = subst (λ (s : Space). SameBut 0 was s) (sym c.set.ensures.axes) (set_same_but 0 (domain_of c.args.domain) was);
+}
 
 pub refill_by-requires-clause-rows : goal.refill_by-requires-clause-rows
 refill_by-requires-clause-rows c = let was = space_of c.args.space.now in record {
