@@ -28,4 +28,5 @@ pub mod Run
 pub mod Shown
 pub mod Sound
 pub mod Stuck
+pub mod Unnarrowed
 pub mod Within

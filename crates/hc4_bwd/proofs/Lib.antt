@@ -1,4 +1,3 @@
 pub mod Pushes
 pub mod Sweeping
 pub mod Skipped
-pub mod Unnarrowed

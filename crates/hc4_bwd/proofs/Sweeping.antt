@@ -12,11 +12,11 @@ use Rattle.cover_model.proofs.NarrowedAt.{length_narrowed, narrowed_at, parents_
 use Rattle.ival.specs.declared.row_parts.Rows.{Rows}
 use Rattle.ival.specs.Options.{option_at}
 use Rattle.ival.proofs.Optional.{drop_all}
-use Rattle.ival.proofs.Meets.{met_comm, met_assoc}
+use Rattle.ival.proofs.Meets.{met_comm, met_assoc, met_inside}
 use Rattle.hc4_bwd.specs.Pushed.{pushed, IsPassed, kept_by}
 use Rattle.hc4_bwd.specs.Sweeps.{StandsFor, HasVariables}
 use Rattle.hc4_bwd.proofs.Pushes.{pushed_own, kept_none}
-use Rattle.hc4_bwd.proofs.Unnarrowed.{enclosed_at, left_whole, child_left}
+use Rattle.cover_model.proofs.Unnarrowed.{enclosed_at, left_whole, child_left}
 
 pub some_node : (nodes : List Node) (k : ℕ) → k < length nodes → (n : Node) × (slice_get nodes k ≡ Some n)
 some_node [] k h = absurd (omega arith)
@@ -188,7 +188,8 @@ module _ (space : Space) (nodes : List Node) (es : List Interval) (root : ℕ) (
   unnarrowed k s p i o x e same n h =
       let at : i ≡ node_enclosure space es p = same ∙ enclosed k p e in
       skipped-stands es s (has_child s p) (left_by es s p i) o x
-      (subst (λ (j : Interval). met (row es s) (left_by es s p j) ≡ row es s) (sym at) (left_whole space es proper s p (λ z. n (at ∙ z))))
+      (subst (λ (j : Interval). met (row es s) (left_by es s p j) ≡ row es s) (sym at)
+      (met_inside (row es s) (left_by es s p (node_enclosure space es p)) (proper s) (left_whole space es proper s p (λ z. n (at ∙ z)))))
       (λ c. child_left space es proper s p c (λ z. n (at ∙ z))) h
 
   -- a node in whose place nothing stands

@@ -1,16 +1,17 @@
 -- What holds of each interval, domain and space of the code.
-use Rattle.std.proofs.Common.{ℕ, zero, suc, List, [], ◌∷◌, map, IsTrue, refl}
+use Rattle.std.proofs.Common.{ℕ, zero, suc, List, [], ◌∷◌, map, get_or, IsTrue, refl}
 use Rattle.ival.specs.declared.ends.Ival.{Ival}
 use Rattle.ival.specs.declared.ends.Ival.TheVariants.{Empty, Between}
 use Rattle.ival.specs.declared.domain.Truths.TheVariants.{False, True, Either}
 use Rattle.ival.specs.declared.domain.Domain.{Domain}
 use Rattle.ival.specs.declared.domain.Domain.TheVariants.{Real, Bool}
+use Rattle.ival.specs.declared.row_parts.Rows.{Rows}
 use Rattle.ival.specs.declared.space.Space.{Space}
 use Rattle.dyadic.specs.declared.dy.Dy.{Dy}
 use Rattle.dyadic.specs.declared.dy.Ext.{Ext}
 use Rattle.dyadic.specs.declared.dy.Ext.TheVariants.{NegInf, Fin, PosInf}
 use Rattle.dyadic.specs.Rounding.{IsOnGrid}
-use Rattle.interval_model.specs.Interval.{IsProper}
+use Rattle.interval_model.specs.Interval.{IsProper, nothing}
 use Rattle.interval_model.specs.Space.{axis_interval, is_upright, is_upright_domain}
 use Rattle.dyadic.specs.Views.{dyadic_of, ext_of}
 use Rattle.dyadic.proofs.Equal.{both_pass}
@@ -18,6 +19,7 @@ use Rattle.dyadic.proofs.Floors
 use Rattle.dyadic.proofs.Rounds.{IsExtOnGrid}
 use Rattle.interval_model.proofs.InversesSquares.{IsKept}
 use Rattle.ival.specs.Views.{interval_of}
+use Rattle.ival.specs.RowViews.{rows_of}
 use Rattle.ival.specs.SpaceViews.{domain_of, space_of}
 use Rattle.ival.proofs.Proper.{proper_of}
 
@@ -61,3 +63,11 @@ list-kept (d ∷ ds) (suc axis) = list-kept ds axis
 
 pub space_kept : (s : Space) (axis : ℕ) → IsKept (axis_interval (space_of s) axis)
 space_kept s axis = list-kept s.axes.items axis
+
+list-proper : (is : List Ival) (k : ℕ) → IsProper (get_or (map interval_of is) k nothing)
+list-proper [] k = tt
+list-proper (i ∷ is) zero = interval_proper i
+list-proper (i ∷ is) (suc k) = list-proper is k
+
+pub rows_proper : (r : Rows) (k : ℕ) → IsProper (get_or (rows_of r) k nothing)
+rows_proper r k = list-proper r.intervals.items k

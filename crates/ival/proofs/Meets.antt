@@ -2,11 +2,11 @@
 use Rattle.std.proofs.Common.{◌≡◌, Bool, true, false, cond, IsTrue, refl, ap, ap₂, sym, ◌∙◌, subst, arith, ℤ, true≢false}
 use Rattle.std.proofs.lemmas.Int.{ints}
 use Rattle.dyadic.specs.Rounding.{Dyadic, Ext, below_all, finite, above_all, ext_at_most}
-use Rattle.interval_model.specs.Interval.{Interval, nothing, between, everything, met, within}
+use Rattle.interval_model.specs.Interval.{Interval, nothing, between, everything, IsProper, met, within}
 use Rattle.dyadic.specs.End.{lesser_ext, greater_ext}
 use Rattle.dyadic.proofs.Rounds.{exact_read}
 use Rattle.dyadic.proofs.Equal.{both_true}
-use Rattle.interval_model.proofs.Isotone.{within_refl, within_trans, within_everything, met_within_first, met_within_second, met_isotone}
+use Rattle.interval_model.proofs.Isotone.{within_refl, within_trans, within_everything, met_within_first, met_within_second, met_isotone, within_met}
 
 pub equal_numbers : (a b : Dyadic) → IsTrue (ext_at_most (finite a) (finite b)) → IsTrue (ext_at_most (finite b) (finite a)) → a ≡ b
 equal_numbers a b h k = let p = exact_read a b h in let q = exact_read b a k in let e : a.units ≡ b.units = omega (arith, ints, p, q) in ap (λ (z : ℤ). record { units = z }) e
@@ -71,3 +71,7 @@ met_assoc i j k =
 pub met_everything : (i j : Interval) → met (met i j) everything ≡ met i j
 met_everything i j = within_both (met (met i j) everything) (met i j) (met_within_first (met i j) everything)
     (within-met i j (met i j) everything (within_refl (met i j)) (within_everything (met i j)))
+
+-- what lies within another is what both have
+pub met_inside : (i j : Interval) → IsProper i → IsTrue (within i j) → met i j ≡ i
+met_inside i j p h = within_both (met i j) i (met_within_first i j) (within_met i i j p (within_refl i) h)

@@ -3,18 +3,20 @@ use Rattle.std.proofs.Common.{◌≡◌, ◌≢◌, ℕ, zero, suc, ◌+◌, ◌
 use Rattle.std.proofs.lemmas.Bool.{cases_eq, cases_lt}
 use Rattle.std.proofs.lemmas.List.{get_or_past, ext_get_or}
 use Rattle.std.specs.Prelude.{slice_get}
-use Rattle.interval_model.specs.Interval.{Interval, nothing, between, met, is_nothing}
+use Rattle.interval_model.specs.Interval.{Interval, nothing, between, IsProper, met, is_nothing}
+use Rattle.interval_model.specs.Space.{Space}
 use Rattle.poly_graph.specs.Term.{Node, comes_after, has_child, in_order}
-use Rattle.cover_model.specs.Narrowed.{left_by, with_parent, from_parents, own, narrowed, some_empty}
+use Rattle.cover_model.specs.Narrowed.{enclosures, left_by, with_parent, from_parents, own, narrowed, some_empty}
 use Rattle.cover_model.specs.NodeEnclosure.{row}
 use Rattle.cover_model.proofs.NarrowedAt.{length_narrowed, narrowed_at, parents_step}
 use Rattle.cover_model.proofs.NodeEnclosures.{comes_at}
+use Rattle.cover_model.proofs.Unnarrowed.{enclosed_at}
 use Rattle.ival.specs.declared.row_parts.Rows.{Rows}
 use Rattle.ival.specs.RowViews.{rows_of}
 use Rattle.ival.specs.Options.{option_at, options_of}
 use Rattle.ival.proofs.Optional.{drop_all, length_options}
-use Rattle.plain_eval.specs.Leaving.{left_more, left_more_by}
-use Rattle.plain_eval.proofs.Leaves.{more_own, no_child}
+use Rattle.plain_eval.specs.Leaving.{left_more, left_more_by, left_all, left_all_by, IsLeftBy}
+use Rattle.plain_eval.proofs.Leaves.{more_own, all_is_left, no_child}
 
 pub some_node : (nodes : List Node) (k : ℕ) → k < length nodes → (n : Node) × (slice_get nodes k ≡ Some n)
 some_node [] k h = absurd (omega arith)
@@ -120,6 +122,18 @@ module _ (nodes : List Node) (es : List Interval) (root : ℕ) (range : Interval
     ];
     above = λ k h. others k (λ x. omega arith) ∙ sym (above-root r k (omega arith));
   }
+
+  -- what a node below p leaves, whatever way it is left
+  pub left_by_node : (space : Space) → IsTrue (in_order 0 nodes) → es ≡ enclosures space nodes → ((k : ℕ) → IsProper (row es k)) → (p n : ℕ) (scratch : Rows) (node : Node) (i : Interval) → Swept p scratch → n < p →
+      slice_get nodes n ≡ Some node → (s : ℕ) (new : Option Interval) → IsLeftBy es n s node i (option_at scratch s) new → new ≡ left_more_by es s node i (option_at scratch s)
+  left_by_node space ordered filled proper p n scratch node i w l e s new (inl h) = h
+  left_by_node space ordered filled proper p n scratch node i w l e s new (inr h) = h.2 ∙ elim (cases_lt s p) [
+    | inl low ↦ subst (λ (o : Option Interval). left_all_by es s node o ≡ left_more_by es s node i o) (sym (w.below s low))
+        (all_is_left space es proper s node i (cond (nat_eq s root) (Some range) (left_from p s)) (h.0 ∙ enclosed_at space nodes es ordered filled n node e) h.1)
+    | inr high ↦ let o : Option Interval = option_at scratch s in
+        let none = no_child n s node (comes_at nodes ordered n node e) (omega (arith, l, high)) in
+        ap (λ (t : Bool). cond t (left_all es s o) o) none ∙ sym (ap (λ (t : Bool). cond t (left_more es s (left_by es s node i) o) o) none)
+  ]
 
   -- the next node that has an interval, below p
   quiet-between : (p n : ℕ) (scratch : Rows) → root < length nodes → Swept p scratch → n < p → ((k : ℕ) → n < k → k < p → option_at scratch k ≡ None) → (k : ℕ) → n < k → k < p → final k ≡ None

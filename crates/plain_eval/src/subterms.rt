@@ -4,6 +4,7 @@ ghost use Rattle.cover_model.specs.Narrowed.{narrowed};
 ghost use Rattle.ival.specs.Views.{interval_of};
 ghost use Rattle.ival.specs.RowViews.{rows_of};
 ghost use Rattle.ival.specs.Options.{options_of};
+ghost use Rattle.plain_eval.specs.Rows.{AreEnclosures};
 
 use crate::left::{leave, leave_to_children};
 use ival::{Ival, Rows};
@@ -16,6 +17,7 @@ use poly_graph::Graph;
 pub fn narrow_rows(graph: &Graph, root: u32, range: Ival, rows: &Rows, scratch: &mut Rows)
     requires root { root < length graph.now }
     requires rows { length (rows_of rows.now) ≡ length graph.now }
+    requires enclosures { AreEnclosures graph.now (rows_of rows.now) }
     requires scratch { length (rows_of scratch.old) ≡ length graph.now }
     ensures options { options_of scratch.new ≡ narrowed graph.now (rows_of rows.now) root (interval_of range) }
     ensures count { length (rows_of scratch.new) ≡ length graph.now }
@@ -25,7 +27,8 @@ pub fn narrow_rows(graph: &Graph, root: u32, range: Ival, rows: &Rows, scratch: 
     leave(rows, root, range, scratch);
     let mut place = root as usize + 1;
     while let Some(n) = scratch.next_marked_below(place) {
-        leave_to_children(graph.node(n as u32), scratch.get(n), rows, scratch);
+        let node = graph.node(n as u32);
+        leave_to_children(node, n, scratch.get(n), rows, scratch);
         place = n;
     }
 }

@@ -14,7 +14,21 @@ const MOST_LENGTHS: u32 = 25;
 /// A slope above minus this counts as none.
 const FLATTEST: f64 = 1e-14;
 
-// A point, the height of the term there, with its sign where it has to rise, and the slopes along the axes.
+/// So many turns are taken before the curvature counts as known.
+const TURNS_TO_LEARN: u32 = 4;
+
+/// A step ends the descent where it would take less than this share of what is left, by its slope.
+const LEAST_SHARE: f64 = 0.01;
+
+// A point, with the values of all terms and the height of the one that falls, or of its negative where it rises.
+#[derive(Drop)]
+struct Place {
+    x: Vec<f64, Global>,
+    values: Vec<f64, Global>,
+    height: f64,
+}
+
+// A point, the height of the term there, and the slopes along the axes.
 #[derive(Drop)]
 struct Foot {
     x: Vec<f64, Global>,
@@ -51,16 +65,25 @@ fn negate(xs: &mut [f64]) {
 }
 
 impl<'a> Slide<'a> {
-    // Stands at a point.
-    fn foot(&self, alloc: Global, x: Vec<f64, Global>) -> Result<Foot, AllocError> {
+    // Looks at a point.
+    fn place(&self, alloc: Global, x: Vec<f64, Global>) -> Result<Place, AllocError> {
         let values = self.bounds.values(alloc, &x)?;
         let value = self.bounds.term_value(&values, self.atom);
-        let mut slopes = gradient(alloc, self.bounds, &values, self.atom)?;
+        let height = if self.rises { -value } else { value };
+        Ok(Place { x, values, height })
+    }
+
+    // Stands at a point.
+    fn foot(&self, alloc: Global, place: Place) -> Result<Foot, AllocError> {
+        let mut slopes = gradient(alloc, self.bounds, &place.values, self.atom)?;
         if self.rises {
             negate(&mut slopes);
         }
-        let height = if self.rises { -value } else { value };
-        Ok(Foot { x, height, slopes })
+        Ok(Foot {
+            x: place.x,
+            height: place.height,
+            slopes,
+        })
     }
 
     // The slopes along the axes that can move downwards.
@@ -106,9 +129,9 @@ impl<'a> Slide<'a> {
         let mut by = first;
         for _ in 0..MOST_LENGTHS {
             let x = moved(alloc, self.bounds, &foot.x, by, &way.along)?;
-            let next = self.foot(alloc, x)?;
+            let next = self.place(alloc, x)?;
             if next.height <= foot.height + 1e-4 * by * way.slope {
-                return Ok(Some(next));
+                return Ok(Some(self.foot(alloc, next)?));
             }
             by *= 0.4;
         }
@@ -127,6 +150,17 @@ impl<'a> Slide<'a> {
         if most < 1.0 { most } else { 1.0 }
     }
 
+    // Whether a step along the way is of no use: nothing falls along it, or far too little once the curvature is known.
+    fn is_lost(&self, foot: &Foot, way: &Way, turn: u32) -> bool {
+        let left = foot.height - 0.5 * self.bounds.delta;
+        let least = if turn < TURNS_TO_LEARN {
+            FLATTEST
+        } else {
+            LEAST_SHARE * left
+        };
+        !(way.slope < -least)
+    }
+
     // One step downwards.
     fn step(
         &self,
@@ -136,7 +170,7 @@ impl<'a> Slide<'a> {
         turn: u32,
     ) -> Result<Step, AllocError> {
         let way = self.way(alloc, foot, inverse)?;
-        if !(way.slope < -FLATTEST) {
+        if self.is_lost(foot, &way, turn) {
             return Ok(Step::Ends);
         }
         let first = self.first_length(&way, turn);
@@ -153,7 +187,8 @@ impl<'a> Slide<'a> {
         x: Vec<f64, Global>,
     ) -> Result<Option<Vec<f64, Global>>, AllocError> {
         let mut inverse = identity(alloc, x.len(), 1.0)?;
-        let mut foot = self.foot(alloc, x)?;
+        let first = self.place(alloc, x)?;
+        let mut foot = self.foot(alloc, first)?;
         for turn in 0..MOST_STEPS {
             if foot.height <= 0.5 * self.bounds.delta {
                 return Ok(Some(foot.x));

@@ -11,7 +11,7 @@ use Rattle.ival.specs.SpaceViews.{space_of}
 use Rattle.ival.specs.Options.{options_of, option_at}
 use Rattle.ival.proofs.Optional.{length_options}
 use Rattle.hc4_bwd.proofs.Skipped.{axes_stand}
-use Rattle.hc4_bwd.proofs.Unnarrowed.{variable_row}
+use Rattle.cover_model.proofs.Unnarrowed.{variable_row}
 use Rattle.hc4_bwd.specs.Sweeps.{StandsFor}
 use Rattle.hc4_bwd.proofs.narrowing.narrow_by.Goals as goal
 

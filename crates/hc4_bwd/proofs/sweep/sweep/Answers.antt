@@ -9,7 +9,7 @@ use Rattle.ival.specs.Options.{option_at}
 use Rattle.ival.proofs.Optional.{no_option, has_option}
 use Rattle.hc4_bwd.specs.Pushed.{pushed}
 use Rattle.hc4_bwd.proofs.Sweeping.{start, found, swept_next, swept_all, empty_at, is_empty}
-use Rattle.hc4_bwd.proofs.Unnarrowed.{rows_proper}
+use Rattle.ival.proofs.Facts.{rows_proper}
 use Rattle.hc4_bwd.proofs.sweep.sweep.Goals as goal
 
 pub loop-n-init : goal.loop-n-init

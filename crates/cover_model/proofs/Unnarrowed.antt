@@ -1,32 +1,15 @@
 -- A node whose narrowed interval is its enclosure leaves its children as they are.
-use Rattle.std.proofs.Common.{◌≡◌, ◌⊎◌, inl, inr, ℕ, zero, suc, List, [], ◌∷◌, map, get_or, Some, Bool, IsTrue, true, false, ◌||◌, nat_eq, eqb-true, refl, ap, sym, subst, ◌∙◌, true≢false}
+use Rattle.std.proofs.Common.{◌≡◌, ◌⊎◌, inl, inr, ℕ, List, Some, Bool, IsTrue, true, false, ◌||◌, nat_eq, eqb-true, ap, sym, subst, ◌∙◌, true≢false, refl}
+use Rattle.std.specs.Prelude.{slice_get}
 use Rattle.dyadic.specs.Fraction.{Fraction, IsFraction}
-use Rattle.interval_model.specs.Interval.{Interval, nothing, between, IsProper, met, within, interval_negated, interval_sum, interval_product, interval_square, inverse_sum, inverse_product, inverse_square}
+use Rattle.interval_model.specs.Interval.{Interval, nothing, between, IsProper, within, interval_negated, interval_sum, interval_product, interval_square, inverse_sum, inverse_product, inverse_square}
 use Rattle.interval_model.specs.Space.{Space, axis_interval}
 use Rattle.interval_model.proofs.Holds.{Holds, everything_holds, met_holds}
-use Rattle.interval_model.proofs.Isotone.{within_refl, met_within_first, within_met}
 use Rattle.interval_model.proofs.Unnarrowed.{holds_within, member_in, negated_left, sum_left_first, sum_left_second, product_left_first, product_left_second, square_left}
-use Rattle.ival.specs.declared.ends.Ival.{Ival}
-use Rattle.ival.specs.declared.row_parts.Rows.{Rows}
-use Rattle.ival.specs.Views.{interval_of}
-use Rattle.ival.specs.RowViews.{rows_of}
-use Rattle.ival.proofs.Facts.{interval_proper}
-use Rattle.ival.proofs.Meets.{within_both}
 use Rattle.poly_graph.specs.Term.{Node, constant_node, variable_node, negate_node, add_node, multiply_node, square_node, has_child, in_order}
 use Rattle.cover_model.specs.Narrowed.{if_child, left_by, enclosures}
 use Rattle.cover_model.specs.NodeEnclosure.{row, node_enclosure}
 use Rattle.cover_model.proofs.NodeEnclosures.{next_row}
-use Rattle.std.specs.Prelude.{slice_get}
-
--- ---- intervals of the code are proper
-
-items-proper : (is : List Ival) (k : ℕ) → IsProper (get_or (map interval_of is) k nothing)
-items-proper [] k = tt
-items-proper (i ∷ is) zero = interval_proper i
-items-proper (i ∷ is) (suc k) = items-proper is k
-
-pub rows_proper : (r : Rows) (k : ℕ) → IsProper (row (rows_of r) k)
-rows_proper r k = items-proper r.intervals.items k
 
 -- ---- rows that are the enclosures over a space
 
@@ -76,10 +59,6 @@ if-child : (t : Bool) (i : Interval) (v : Fraction) → (t ≡ true → Holds i 
 if-child true i v h = h refl
 if-child false i v h = everything_holds v
 
--- what lies within another is what both have
-met-inside : (i j : Interval) → IsProper i → IsTrue (within i j) → met i j ≡ i
-met-inside i j p h = within_both (met i j) i (met_within_first i j) (within_met i i j p (within_refl i) h)
-
 module _ (space : Space) (es : List Interval) (proper : (k : ℕ) → IsProper (row es k)) where
   moved : (a s : ℕ) (v : Fraction) → nat_eq a s ≡ true → Holds (row es s) v → Holds (row es a) v
   moved a s v e h = subst (λ (k : ℕ). Holds (row es k) v) (sym (eqb-true a s e)) h
@@ -103,8 +82,8 @@ module _ (space : Space) (es : List Interval) (proper : (k : ℕ) → IsProper (
       (λ e. subst (λ (k : ℕ). Holds (inverse_square (row es s) (interval_square (row es k))) v) (sym (eqb-true a s e)) (square_left (row es s) v f h))
 
   -- what is left to a child is no less than its enclosure
-  pub left_whole : (s : ℕ) (p : Node) → (node_enclosure space es p ≡ nothing → ⊥) → met (row es s) (left_by es s p (node_enclosure space es p)) ≡ row es s
-  left_whole s p n = met-inside (row es s) (left_by es s p (node_enclosure space es p)) (proper s) (holds_within (row es s) (left_by es s p (node_enclosure space es p)) (proper s) (λ v f h. left-holds s p v n f h))
+  pub left_whole : (s : ℕ) (p : Node) → (node_enclosure space es p ≡ nothing → ⊥) → IsTrue (within (row es s) (left_by es s p (node_enclosure space es p)))
+  left_whole s p n = holds_within (row es s) (left_by es s p (node_enclosure space es p)) (proper s) (λ v f h. left-holds s p v n f h)
 
   -- and the child is not empty
   pub child_left : (s : ℕ) (p : Node) → has_child s p ≡ true → (node_enclosure space es p ≡ nothing → ⊥) → row es s ≡ nothing → ⊥

@@ -8,7 +8,7 @@ use Rattle.ival.specs.RowViews.{rows_of}
 use Rattle.ival.specs.Options.{option_at}
 use Rattle.plain_eval.specs.Leaving.{left_more, left_more_by}
 use Rattle.plain_eval.proofs.Leaves.{one_child, two_children}
-use Rattle.plain_eval.proofs.left.leave_to_children.Goals as goal
+use Rattle.plain_eval.proofs.left.leave_inverses.Goals as goal
 
 pub returns-in-Add-clause-all : goal.returns-in-Add-clause-all
 returns-in-Add-clause-all c s =
