@@ -2,16 +2,16 @@
 use Rattle.std.proofs.Common.{◌≡◌, ◌≢◌, ℕ, zero, suc, ◌+◌, ◌-◌, ◌<◌, ◌≤◌, List, [], ◌∷◌, length, set, Option, Some, None, inl, inr, refl, ap, ap₂, sym, ◌∙◌, arith, get_or-set_same, get_or-set_other}
 use Rattle.std.specs.Prelude.{slice_get}
 use Rattle.std.proofs.lemmas.Bool.{cases_lt}
-use Rattle.interval_model.specs.Interval.{Interval, nothing}
+use Rattle.interval_model.specs.Interval.{Interval, nothing, interval_sum}
 use Rattle.interval_model.specs.Space.{Space}
 use Rattle.poly_graph.specs.Term.{Node}
-use Rattle.cover_model.specs.Combination.{Part, parts_range, nought_alone}
+use Rattle.cover_model.specs.Combination.{Part, part_range, parts_range, nought_alone}
 use Rattle.cover_model.specs.NodeEnclosure.{row}
 use Rattle.ival.specs.declared.row_parts.Rows.{Rows}
 use Rattle.ival.specs.Options.{option_at}
 use Rattle.ival.proofs.Optional.{drop_all}
 use Rattle.plain_combine.specs.Passes.{IsPut}
-use Rattle.plain_combine.specs.Parts.{Setting, part_at, part_in, part_in_setting, before_parts, parts_from, parts_on, range_on, before_sum, behind_sum, range_before, left_to_part, left_at}
+use Rattle.plain_combine.specs.Parts.{Setting, part_at, part_in, part_in_setting, before_parts, parts_from, parts_on, range_on, before_sum, behind_sum, behind_range, range_before, left_to_part, left_at}
 use Rattle.plain_combine.proofs.Sweeping.{no_part_in, parts_next, parts_skipped, some_node}
 
 one-more : (space centre : Space) (o : Option Part) (parts : List Part) → parts_range space centre (before_parts o parts) ≡ before_sum space centre o (parts_range space centre parts)
@@ -76,6 +76,31 @@ behind_all s u p es none before k x h = elim (cases_lt k p) [
   | inl low ↦ absurd (let t = no_part s u k (none k low) in let f : None ≡ Some x = sym t ∙ h in cc)
   | inr high ↦ before k x high h
 ]
+
+pub range_put : (s : Setting) → ((k : ℕ) → s.linear k ≡ None → s.square k ≡ None) → (n p : ℕ) (es es' : List Interval) → ((k : ℕ) → n < k → k < p → s.linear k ≡ None) →
+    ((x : Part) → part_in_setting s n ≡ Some x → row es' n ≡ part_range s.space s.centre x) → ((k : ℕ) → k ≢ n → row es' k ≡ row es k) →
+    ((k : ℕ) (x : Part) → p ≤ k → part_in_setting s k ≡ Some x → row es k ≡ part_range s.space s.centre x) →
+    (k : ℕ) (x : Part) → n ≤ k → part_in_setting s k ≡ Some x → row es' k ≡ part_range s.space s.centre x
+range_put s u n p es es' none here others before k x a h =
+    elim (cases_lt n k) [
+      | inl more ↦ elim (cases_lt k p) [
+        | inl low ↦ absurd (let t = no_part s u k (none k more low) in let f : None ≡ Some x = sym t ∙ h in cc)
+        | inr high ↦ others k (λ e. omega (arith, more, e)) ∙ before k x high h
+      ]
+      | inr not_more ↦ let same : k ≡ n = omega arith in ap (row es') same ∙ here x (ap (part_in_setting s) (sym same) ∙ h)
+    ]
+
+pub ranges_all : (s : Setting) → ((k : ℕ) → s.linear k ≡ None → s.square k ≡ None) → (p : ℕ) (es : List Interval) → ((k : ℕ) → k < p → s.linear k ≡ None) →
+    ((k : ℕ) (x : Part) → p ≤ k → part_in_setting s k ≡ Some x → row es k ≡ part_range s.space s.centre x) → (k : ℕ) (x : Part) → part_in_setting s k ≡ Some x → row es k ≡ part_range s.space s.centre x
+ranges_all s u p es none before k x h = elim (cases_lt k p) [
+  | inl low ↦ absurd (let t = no_part s u k (none k low) in let f : None ≡ Some x = sym t ∙ h in cc)
+  | inr high ↦ before k x high h
+]
+
+-- a part whose range stands in its row, behind a sum
+pub behind_row : (s : Setting) (o : Option Part) (r i : Interval) → ((x : Part) → o ≡ Some x → r ≡ part_range s.space s.centre x) → behind_range o r i ≡ behind_sum s.space s.centre o i
+behind_row s None r i f = refl
+behind_row s (Some x) r i f = ap (interval_sum i) (f x refl)
 
 pub past : (nodes : List Node) (k : ℕ) → length nodes ≤ k → slice_get nodes k ≡ None
 past [] k h = refl

@@ -65,6 +65,11 @@ abbrev pub behind_sum : Space → Space → Option Part → Interval → Interva
 behind_sum space centre None i = i
 behind_sum space centre (Some x) i = interval_sum i (part_range space centre x)
 
+-- the same, where the part has this range
+abbrev pub behind_range : Option Part → Interval → Interval → Interval
+behind_range None r i = i
+behind_range (Some x) r i = interval_sum i r
+
 abbrev pub part_in_setting : Setting → ℕ → Option Part
 part_in_setting s k = part_of_node s.nodes s.linear s.square k
 

@@ -1,7 +1,7 @@
 -- What the passes over the parts leave in their rows.
 use Rattle.std.specs.Prelude.{◌≡◌, ◌≢◌, ◌<◌, ℕ, List, Bool, true, false, Option, Some, length, suc}
 use Rattle.interval_model.specs.Interval.{Interval, nothing}
-use Rattle.cover_model.specs.Combination.{Part}
+use Rattle.cover_model.specs.Combination.{Part, part_range}
 use Rattle.cover_model.specs.NodeEnclosure.{row}
 use Rattle.ival.specs.declared.row_parts.Rows.{Rows}
 use Rattle.ival.specs.RowViews.{rows_of}
@@ -11,6 +11,10 @@ use Rattle.plain_combine.specs.Parts.{Setting, part_in_setting, range_on, left_a
 -- the row of each node with a part has the range of the parts behind it
 abbrev pub AreBehind : Setting → List Interval → Type 0
 AreBehind s rows = (k : ℕ) (x : Part) → part_in_setting s k ≡ Some x → row rows k ≡ range_on s (suc k)
+
+-- the row of each node with a part has the part's range
+abbrev pub HaveRanges : Setting → List Interval → Type 0
+HaveRanges s rows = (k : ℕ) (x : Part) → part_in_setting s k ≡ Some x → row rows k ≡ part_range s.space s.centre x
 
 -- each node with a part has what is left to it, which is something
 pub record AreLeft (s : Setting) (allowed rest : Interval) (r : Rows) : Type 0 where

@@ -13,6 +13,7 @@ pub record AreFor (nodes : List Node) (c : Coefficients) : Type 0 where
 
 pub record Suits (nodes : List Node) (r : Room) : Type 0 where
   pub coefficients : AreFor nodes r.coefficients
+  pub ranges : length (rows_of r.ranges) ≡ length nodes
   pub left : length (rows_of r.left) ≡ length nodes
 
 -- no square has a coefficient whose difference has none

@@ -42,6 +42,7 @@ pub fn combine_plain(
 {
     let graph = problem.graph();
     let coefficients = &mut room.coefficients;
+    let ranges = &mut room.ranges;
     let left = &mut room.left;
     let (central, allowed) = start(
         problem,
@@ -54,11 +55,20 @@ pub fn combine_plain(
     coefficients.square.clear_marks();
     left.clear_marks();
     let rest = sweep(graph, rows, centre_rows, central, coefficients);
-    let sum = sum_parts(graph, coefficients, space, centre, left);
+    let sum = sum_parts(graph, coefficients, space, centre, ranges, left);
     if rest.add(sum).meet(allowed).is_empty() {
         return Narrowed::Empty;
     }
-    if !leave(graph, coefficients, space, centre, allowed, rest, left) {
+    if !leave(
+        graph,
+        coefficients,
+        space,
+        centre,
+        allowed,
+        rest,
+        ranges,
+        left,
+    ) {
         return Narrowed::Empty;
     }
     if set_axes(graph, left, space) {

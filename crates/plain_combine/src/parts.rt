@@ -1,12 +1,14 @@
 // The parts of variables, one after the other: their ranges, and what is left to each.
-ghost use Rattle.std.specs.Prelude.{◌≡◌, ◌<◌, ℕ, None, length, false};
+ghost use Rattle.std.specs.Prelude.{◌≡◌, ◌≢◌, ◌<◌, ℕ, None, Some, length, false};
+ghost use Rattle.cover_model.specs.Combination as model;
+ghost use Rattle.cover_model.specs.Combination.{part_range};
 ghost use Rattle.cover_model.specs.NodeEnclosure.{row};
 ghost use Rattle.ival.specs.Views.{interval_of};
 ghost use Rattle.ival.specs.RowViews.{rows_of, marks_of, is_marked};
 ghost use Rattle.ival.specs.Options.{option_at};
 ghost use Rattle.ival.specs.SpaceViews.{space_of};
-ghost use Rattle.plain_combine.specs.Parts.{before_sum, behind_sum, left_to_part, option_part, range_on, setting};
-ghost use Rattle.plain_combine.specs.Passes.{AreBehind, IsLeft, IsPutUnlessEmpty};
+ghost use Rattle.plain_combine.specs.Parts.{before_sum, behind_range, left_to_part, option_part, range_on, setting};
+ghost use Rattle.plain_combine.specs.Passes.{AreBehind, HaveRanges, IsLeft, IsPutUnlessEmpty};
 ghost use Rattle.plain_combine.specs.Suits.{AreFor, AreUnder};
 
 use crate::part::{Part, part_at};
@@ -16,40 +18,59 @@ use dyadic::Dy;
 use ival::{Ival, Rows, Space};
 use poly_graph::Graph;
 
-// A sum with the part's range before it, if there is a part.
-fn before(part: Option<Part>, space: &Space, centre: &Space, sum: Ival) -> Ival
-    ensures { interval_of result ≡ before_sum (space_of space.now) (space_of centre.now) (option_part part) (interval_of sum) }
+// A sum with the part's range before it, if there is a part; the range is put into its row.
+fn before(
+    part: Option<Part>,
+    place: usize,
+    space: &Space,
+    centre: &Space,
+    sum: Ival,
+    ranges: &mut Rows,
+) -> Ival
+    requires place { place < length (rows_of ranges.old) }
+    ensures sum { let with = before_sum (space_of space.now) (space_of centre.now) (option_part part) in
+        interval_of result ≡ with (interval_of sum) }
+    ensures range { (x : model.Part) → option_part part ≡ Some x →
+        row (rows_of ranges.new) place ≡ part_range (space_of space.now) (space_of centre.now) x }
+    ensures others { (k : ℕ) → k ≢ place → row (rows_of ranges.new) k ≡ row (rows_of ranges.old) k }
+    ensures count { length (rows_of ranges.new) ≡ length (rows_of ranges.old) }
+{
+    let Some(part) = part else {
+        return sum;
+    };
+    let range = part.range(space, centre);
+    ranges.set(place, range);
+    range.add(sum)
+}
+
+// A sum with this range behind it, if there is a part.
+fn behind(part: Option<Part>, range: Ival, sum: Ival) -> Ival
+    ensures { interval_of result ≡ behind_range (option_part part) (interval_of range) (interval_of sum) }
 {
     match part {
-        Some(part) => part.range(space, centre).add(sum),
+        Some(_) => sum.add(range),
         None => sum,
     }
 }
 
-// A sum with the part's range behind it, if there is a part.
-fn behind(part: Option<Part>, space: &Space, centre: &Space, sum: Ival) -> Ival
-    ensures { interval_of result ≡ behind_sum (space_of space.now) (space_of centre.now) (option_part part) (interval_of sum) }
-{
-    match part {
-        Some(part) => sum.add(part.range(space, centre)),
-        None => sum,
-    }
-}
-
-/// The range of all parts. Into the row of each node with a part it puts the range of those behind it.
+/// The range of all parts. Into the rows of each node with a part it puts the part's range, and that of the parts behind it.
 pub fn sum_parts(
     graph: &Graph,
     coefficients: &Coefficients,
     space: &Space,
     centre: &Space,
+    ranges: &mut Rows,
     left: &mut Rows,
 ) -> Ival
     requires count { AreFor graph.now coefficients.now }
     requires under { AreUnder coefficients.now }
+    requires ranges { length (rows_of ranges.old) ≡ length graph.now }
     requires left { length (rows_of left.old) ≡ length graph.now }
     ensures sum { interval_of result ≡ range_on (setting graph.now coefficients.now space.now centre.now) 0 }
+    ensures ranges { HaveRanges (setting graph.now coefficients.now space.now centre.now) (rows_of ranges.new) }
     ensures behind { AreBehind (setting graph.now coefficients.now space.now centre.now) (rows_of left.new) }
     ensures marks { marks_of left.new ≡ marks_of left.old }
+    ensures ranges_count { length (rows_of ranges.new) ≡ length graph.now }
     ensures count { length (rows_of left.new) ≡ length graph.now }
 {
     prove_eq!(coefficients.linear.len(), graph.len());
@@ -57,7 +78,8 @@ pub fn sum_parts(
     let mut place = graph.len();
     while let Some(n) = coefficients.linear.next_marked_below(place) {
         left.set(n, sum);
-        sum = before(part_at(n, graph, coefficients), space, centre, sum);
+        let part = part_at(n, graph, coefficients);
+        sum = before(part, n, space, centre, sum, ranges);
         place = n;
     }
     sum
@@ -93,7 +115,7 @@ fn leave_to(
 }
 
 /// Puts into the row of each node with a part what is left to it, with a mark, and tells whether that is something for
-/// each. The rows are those of [`sum_parts`], and the rest has this range.
+/// each. The ranges and rows are those of [`sum_parts`], and the rest has this range.
 pub fn leave(
     graph: &Graph,
     coefficients: &Coefficients,
@@ -101,11 +123,14 @@ pub fn leave(
     centre: &Space,
     allowed: Ival,
     rest: Ival,
+    ranges: &Rows,
     left: &mut Rows,
 ) -> bool
     requires count { AreFor graph.now coefficients.now }
     requires under { AreUnder coefficients.now }
     requires left { length (rows_of left.old) ≡ length graph.now }
+    requires ranges_count { length (rows_of ranges.now) ≡ length graph.now }
+    requires ranges { HaveRanges (setting graph.now coefficients.now space.now centre.now) (rows_of ranges.now) }
     requires behind { AreBehind (setting graph.now coefficients.now space.now centre.now) (rows_of left.old) }
     requires none { (k : ℕ) → is_marked (marks_of left.old) k ≡ false }
     ensures left { IsLeft (setting graph.now coefficients.now space.now centre.now) (interval_of allowed) (interval_of rest) left.new result }
@@ -122,7 +147,7 @@ pub fn leave(
         if !leave_to(part, place, space, centre, allowed, sum, left) {
             return false;
         }
-        sum = behind(part, space, centre, sum);
+        sum = behind(part, ranges.get(place), sum);
         match coefficients.linear.next_marked_above(place) {
             Some(n) => place = n,
             None => return true,

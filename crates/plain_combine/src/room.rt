@@ -17,6 +17,9 @@ pub struct Coefficients {
 #[derive(Drop)]
 pub struct Room {
     pub coefficients: Coefficients,
+    /// The ranges of the parts of variables.
+    pub ranges: Rows,
+    /// What is left to the variables.
     pub left: Rows,
 }
 
@@ -28,9 +31,11 @@ impl Room {
         let count = graph.len();
         let linear = Rows::new(alloc, count)?;
         let square = Rows::new(alloc, count)?;
+        let ranges = Rows::new(alloc, count)?;
         let left = Rows::new(alloc, count)?;
         Ok(Room {
             coefficients: Coefficients { linear, square },
+            ranges,
             left,
         })
     }

@@ -1,4 +1,4 @@
-use Rattle.std.proofs.Common.{◌≡◌, ◌≢◌, ℕ, ◌<◌, ◌≤◌, suc, length, Some, None, inl, inr, refl, ap, sym, ◌∙◌, subst, arith, true, false}
+use Rattle.std.proofs.Common.{◌≡◌, ◌≢◌, ℕ, ◌<◌, ◌≤◌, suc, length, Some, None, inl, inr, refl, ap, ap₂, sym, ◌∙◌, subst, arith, true, false}
 use Rattle.std.specs.Prelude.{Option}
 use Rattle.std.proofs.lemmas.Bool.{cases_lt}
 use Rattle.std.proofs.lemmas.List.{get_or_past}
@@ -11,9 +11,9 @@ use Rattle.ival.specs.RowViews.{rows_of, marks_of, is_marked}
 use Rattle.ival.specs.Options.{option_at}
 use Rattle.ival.proofs.MarkWords.{length_marks}
 use Rattle.ival.proofs.Optional.{no_option}
-use Rattle.plain_combine.specs.Parts.{setting, behind_sum, left_at, option_part, part_in_setting, range_before, range_on}
+use Rattle.plain_combine.specs.Parts.{setting, behind_sum, behind_range, left_at, option_part, part_in_setting, range_before, range_on}
 use Rattle.plain_combine.specs.Passes.{IsPut}
-use Rattle.plain_combine.proofs.Passing.{before_skipped, left_past, left_same, put_each, put_full}
+use Rattle.plain_combine.proofs.Passing.{before_skipped, behind_row, left_past, left_same, put_each, put_full}
 use Rattle.plain_combine.proofs.parts.leave.Goals as goal
 
 marked-inside : (r : Rows) (n count : ℕ) → length (rows_of r) ≡ count → is_marked (marks_of r) n ≡ true → n < count
@@ -71,7 +71,8 @@ loop-allowed-preserved c =
       inside = marked-inside linear n (length c.args.graph.now) c.requires.count.linear next.marked;
       count = c.leave_to.ensures.count ∙ before.count;
       sum = c.behind-sum.ensures
-          ∙ ap (λ (o : Option Part). behind_sum s.space s.centre o (interval_of c.loop-allowed.sum)) c.part_at-part.ensures
+          ∙ ap₂ (λ (o : Option Part) (r : Interval). behind_range o r (interval_of c.loop-allowed.sum)) c.part_at-part.ensures c.get.ensures
+          ∙ behind_row s (part_in_setting s p) (row (rows_of c.args.ranges.now) p) (interval_of c.loop-allowed.sum) (λ x e. c.requires.ranges p x e)
           ∙ ap (λ (i : Interval). behind_sum s.space s.centre (part_in_setting s p) i) before.sum
           ∙ sym (before_skipped s rest c.requires.under n (suc p) more (λ k a b. none k (omega (arith, a)) b));
       each = λ k h. put_each s allowed rest c.requires.under old new p put.0 before.each before.ahead k (λ a. none k a h);

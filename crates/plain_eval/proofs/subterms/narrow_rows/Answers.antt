@@ -34,8 +34,8 @@ loop-n-preserved c =
     let nodes = c.args.graph.now in let es = rows_of c.args.rows.now in let node = node_of c.node-node.result in let i = interval_of c.get.result in
     let ordered = c.len-2.ensures.graph.ordered in let new = c.leave_to_children.new.scratch in
     let all : (s : ℕ) → option_at new s ≡ left_more_by es s node i (option_at scratch s) = λ s.
-        left_by_node nodes es c.args.root (interval_of c.args.range) c.requires.enclosures.space ordered c.requires.enclosures.filled (rows_proper c.args.rows.now) c.loop-n.place n scratch node i
-        c.loop-n.invariant.swept next.below c.node-node.ensures s (option_at new s) (c.leave_to_children.ensures.all s) in
+    left_by_node nodes es c.args.root (interval_of c.args.range) c.requires.enclosures.space ordered c.requires.enclosures.filled (rows_proper c.args.rows.now) c.loop-n.place n scratch node i
+    c.loop-n.invariant.swept next.below c.node-node.ensures s (option_at new s) (c.leave_to_children.ensures.all s) in
     record {
       count = c.leave_to_children.ensures.count ∙ c.loop-n.invariant.count;
       swept = swept_next c.args.graph.now (rows_of c.args.rows.now) c.args.root (interval_of c.args.range) c.len-2.ensures.graph.ordered c.loop-n.place n scratch c.leave_to_children.new.scratch
