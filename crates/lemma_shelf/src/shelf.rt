@@ -77,10 +77,13 @@ impl<J: Subject> Shelf<J> {
     pub fn at(&self, token: &Token<J>) -> (u32, &Lemma)
         requires { Shows self.now.items token.now.pushed }
         ensures id { result.0 ≡ token.now.pushed.value.id }
-        ensures lemma { result.1.now ≡ token.now.pushed.value }
+        ensures posted { result.1.now ≡ token.now.pushed.value }
+        ensures lemma { IsLemmaOf J.problem J.margins result.1.now }
     {
-        let lemma = self.items.value(&token.pushed);
-        (lemma.id(), lemma)
+        match self.items.get_seen(token.pushed.index(), &token.pushed) {
+            Some(lemma) => (lemma.id(), lemma),
+            None => unreachable!(),
+        }
     }
 
     /// The next lemma of a walk, with its number, and the walk goes on after it. None where the walk finds no more; it
