@@ -1,5 +1,6 @@
 // Propagation: what clauses derive one literal after another.
 ghost use Rattle.std.specs.Prelude.{◌≡◌, ◌+◌, IfOk, IsTrue};
+ghost use Rattle.std.specs.Result.{IsOk};
 ghost use Rattle.clause_search.specs.Table.{is_true, open_count};
 ghost use Rattle.clause_search.specs.Found.{UnitAmong};
 
@@ -36,16 +37,13 @@ impl Trail {
     }
 
     /// Derives literals by clauses that leave one literal alone, up to the first atom that comes onto the
-    /// trail, a conflict, or nothing more to derive. Nogoods derive nothing.
-    ///
-    /// # Errors
-    ///
-    /// Memory ran out; what was derived before stays on the trail.
+    /// trail, a conflict, or nothing more to derive. Nogoods derive nothing. It takes no memory, so it never fails.
     pub fn propagate(&mut self, cnf: &Cnf) -> Result<Prop, AllocError>
         requires { IsTrailOf cnf.now self.old }
         ensures made { IsTrailOf cnf.now self.new }
         ensures grows { Grows self.old self.new }
         ensures says { IfOk result (Says cnf.now self.old self.new) }
+        ensures answers { IsOk result }
     {
         if self.failed {
             return Ok(Prop::Conflict);

@@ -27,7 +27,7 @@ pub struct Trail {
 }
 
 impl Trail {
-    ghost use Rattle.clause_search.specs.Trail.{IsTrailOf, CanAssume, AssumesAlso, SameNogoods, HasNogoodMore, SameLiterals, IsEmpty, nogoods_of, stands_on, was_assumed};
+    ghost use Rattle.clause_search.specs.Trail.{IsTrailOf, CanAssume, AssumesAlso, SameNogoods, HasNogoodMore, SameLiterals, IsEmpty, nogoods_of, stands_on, undecided_on, was_assumed};
     ghost use Rattle.clause_search.specs.Answers.{IsPick};
 
     /// An empty trail over these clauses, without nogoods.
@@ -114,6 +114,13 @@ impl Trail {
         ensures { result ≡ stands_on self.now literal }
     {
         self.values.is_true(literal)
+    }
+
+    /// Whether neither the variable nor its opposite is on the trail.
+    pub fn is_undecided(&self, variable: Variable) -> bool
+        ensures { result ≡ undecided_on self.now variable }
+    {
+        self.values.is_open(variable)
     }
 
     /// Whether the literal was assumed.

@@ -22,8 +22,8 @@ fn is_bool_axis(axes: &[Axis], axis: u32) -> bool
     }
 }
 
-// The variable of node k: what it names, if the problem has that, or the node's helper.
-fn variable_at(problem: &Problem, k: u32) -> Variable
+/// The variable of node k: what it names, if the problem has that, or the node's helper.
+pub fn variable_at(problem: &Problem, k: u32) -> Variable
     requires { k < length problem.now.forms }
     ensures { result ≡ variable_at problem.now k }
 {

@@ -8,6 +8,6 @@ mod cnf;
 mod literal;
 mod made;
 
-pub use build::clauses;
+pub use build::{clauses, variable_at};
 pub use cnf::Cnf;
 pub use literal::{Literal, Variable};
