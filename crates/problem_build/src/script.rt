@@ -8,6 +8,7 @@ ghost use Rattle.smt_sexp.specs.declared.sexps.Sexps as arena;
 ghost use Rattle.sort_check.specs.Sorts.{sort_fault};
 ghost use Rattle.declared_box.specs.Axes.{constant_of};
 ghost use Rattle.problem_build.specs.Standing.{IsDone};
+ghost use Rattle.script_faults.specs.Reader.{IsInWalkOrder};
 ghost use Rattle.problem_build.specs.Told.{Builds, IsLean};
 
 use crate::assembly::{assemble, root_form};
@@ -96,6 +97,7 @@ fn finish(
     requires sorted { sort_fault (commands_in script.now) ≡ None }
     ensures builds { Builds bound (commands_in script.now) result }
     ensures lean { IfOk result (λ p. IsLean p) }
+    ensures order { IfOk result (λ p. IsInWalkOrder (commands_in script.now) p.nodes) }
 {
     let commands = script.commands.as_slice();
     let constants = constants(alloc, commands)?;
@@ -118,6 +120,7 @@ fn finish(
 pub fn build(alloc: Global, typed: Typed<'_>, bound: Option<u32>) -> Result<Problem, ReadError>
     ensures builds { Builds bound (commands_in typed.entry.script) result }
     ensures lean { IfOk result (λ p. IsLean p) }
+    ensures order { IfOk result (λ p. IsInWalkOrder (commands_in typed.entry.script) p.nodes) }
 {
     let script = &typed.script;
     let sorts = sorts(alloc, script.commands.as_slice())?;

@@ -67,3 +67,8 @@ returns-in_err-axes-clause-builds c =
     let answers = subst (λ (cs : List Constant). box.IsBoundsError c.in_err-axes.field-0.0 (bound_fault_from (declared_interval c.args.bound script) 0 cs)) constants_are (c.in_err-axes.ensures.answers (script_bounds script) same) in
     let p = err_from_is_err_and c.from_residual-in_err-axes.result c.from_residual-in_err-axes.ensures.1 in
     rw (p.1, p.2) (finishing.bounds_refuse script c.args.maker c.args.made.now c.requires.done c.root_form.new.builder c.in-Ok.root roots c.args.bound c.in_err-axes.field-0.0 answers)
+
+pub returns-clause-order : goal.returns-clause-numbered
+returns-clause-order c =
+    let roots = finishing.roots_as c.args.maker.made c.into_parts-builder.result.0 c.root_form.new.builder (map (λ p. p.0) c.args.made.now) c.in_ok-forms.forms.items (Ok c.in-Ok.root) c.into_parts-builder.ensures.builder c.in_ok-forms.ensures c.in-Ok.ensures.does in
+    finishing.ordered_so (commands_in c.args.script.now) c.args.maker c.args.made.now c.requires.done c.root_form.new.builder c.in-Ok.root roots c.assemble.result.nodes (ap (λ (p : Parts). p.nodes) c.assemble.ensures.parts)
