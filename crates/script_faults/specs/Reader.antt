@@ -1,7 +1,8 @@
 -- What is read of a script's bytes.
-use Rattle.std.specs.Prelude.{◌≡◌, ℕ, ◌≤◌, length, List, [], Option, Some, None}
+use Rattle.std.specs.Prelude.{◌≡◌, ℕ, ◌≤◌, length, List, [], All, Option, Some, None, nat_abs}
+use Rattle.std.specs.Int.{IsGcd}
 use Rattle.poly_graph.specs.AtomTable.{most_atoms}
-use Rattle.poly_graph.specs.Problem.{Problem, IsProblem}
+use Rattle.poly_graph.specs.Problem.{Axis, Declared, real_between, any_bool, Problem, IsProblem}
 use Rattle.poly_graph.specs.Shared.{IsGraph}
 use Rattle.poly_graph.specs.Term.{Term, Node, graph_terms}
 use Rattle.script_model.specs.Script.{Command}
@@ -28,13 +29,20 @@ trees_made (stops at x) = []
 abbrev pub IsInWalkOrder : List Command → List Node → Type 0
 IsInWalkOrder script nodes = graph_terms nodes ≡ trees_made (walked script)
 
--- p is the problem of a script without fault, where the words give this bound
+-- the ends are in lowest terms
+abbrev pub AreLowest : Declared → Type 0
+AreLowest (real_between l h) = IsGcd (nat_abs l.num) l.den 1 × IsGcd (nat_abs h.num) h.den 1
+AreLowest any_bool = Unit {0}
+
+-- p is the problem of a script without fault, where the words give this bound; there is no other
 pub record IsBuilt (bound : Option ℕ) (text : List ℕ) (p : Problem) : Type 0 where
   pub whole : IsProblem p
   pub problem : IsProblemOf bound (commands_of text) p
-  -- each node of its terms stands once, and it is within the reader's limits
+  pub ends : All (λ (a : Axis). AreLowest a.declared) p.axes
+  -- each node of its terms stands once
   pub nodes : IsGraph p.nodes
   pub order : IsInWalkOrder (commands_of text) p.nodes
+  -- it is within the reader's limits
   pub axes : length p.axes ≤ 1024
   pub atoms : length p.atoms ≤ most_atoms
 

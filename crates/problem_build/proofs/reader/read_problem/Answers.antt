@@ -31,4 +31,4 @@ pub returns : goal.returns
 returns c =
     let read = c.in_ok-sexps.ensures in
     problem_had c.args.bound c.args.bytes.now (listed (rest_of c.in_ok-sexps.sexps 0)) c.in_ok-script.script c.in_ok-typed.typed.script c.in_ok-problem.problem read.few
-    read.text c.in_ok-script.ensures.1 c.in_ok-typed.ensures.0 c.in_ok-typed.ensures.1 c.axes.ensures.whole c.in_ok-problem.ensures.lean c.in_ok-problem.ensures.order c.in_ok-problem.ensures.builds
+    read.text c.in_ok-script.ensures.1 c.in_ok-typed.ensures.0 c.in_ok-typed.ensures.1 c.axes.ensures.whole c.in_ok-problem.ensures.lean c.in_ok-problem.ensures.order c.in_ok-problem.ensures.ends c.in_ok-problem.ensures.builds
