@@ -97,7 +97,7 @@ axes-one : (box : ℕ → DeclaredInterval) (axis : ℕ) (cs : List Constant) (x
 axes-one box axis [] [] [] f h k u v = refl
 axes-one box axis (c ∷ cs) (x ∷ xs) (y ∷ ys) f h k u v =
     let one : x ≡ y = ap₂ (λ (n : List ℕ) (d : Declared). record { name = n; declared = d }) (h.0 ∙ sym k.0)
-        (declared-one c.sort (box axis) x.declared y.declared (f axis) h.1 k.1 (all_head IsLowestAxis x xs u) (all_head IsLowestAxis y ys v)) in
+    (declared-one c.sort (box axis) x.declared y.declared (f axis) h.1 k.1 (all_head IsLowestAxis x xs u) (all_head IsLowestAxis y ys v)) in
     ap₂ (λ (z : Axis) (zs : List Axis). z ∷ zs) one (axes-one box (suc axis) cs xs ys f h.2 k.2 (all_tail IsLowestAxis x xs u) (all_tail IsLowestAxis y ys v))
 axes-one box axis [] (x ∷ xs) ys f h k u v = absurd h
 axes-one box axis [] [] (y ∷ ys) f h k u v = absurd k
