@@ -13,6 +13,8 @@ mod of_combine;
 #[cfg(test)]
 mod of_cover_data;
 #[cfg(test)]
+mod of_gate;
+#[cfg(test)]
 mod of_solve_core;
 #[cfg(test)]
 mod patches;

@@ -21,9 +21,6 @@ use std::test::Fail;
 // The problem of a script's text.
 pub(crate) fn problem(alloc: Global, text: &str) -> Option<Problem> {
     let bytes = text.as_bytes();
-    if bytes.len() > 67_108_864 {
-        return None;
-    }
     let sexps = read(alloc, bytes).ok()?;
     let script = commands(alloc, &sexps).ok()?;
     let typed = check(alloc, script).ok()?;

@@ -12,9 +12,6 @@ use truth3::{Root, root_space};
 // The problem of a script's text.
 fn problem(alloc: Global, text: &str) -> Option<Problem> {
     let bytes = text.as_bytes();
-    if bytes.len() > 67_108_864 {
-        return None;
-    }
     let sexps = read(alloc, bytes).ok()?;
     let script = commands(alloc, &sexps).ok()?;
     let typed = check(alloc, script).ok()?;

@@ -16,7 +16,7 @@ use Rattle.smt_script.specs.declared.command.Sort as code_sort
 use Rattle.smt_script.specs.declared.command.Command as code_command
 use Rattle.smt_script.specs.declared.command.Command.TheVariants as commands
 use Rattle.script_model.proofs.Related.{Each}
-use Rattle.poly_graph.specs.Term.{Atom}
+use Rattle.poly_graph.specs.Term.{Atom, Node, graph_terms}
 use Rattle.poly_graph.specs.Form.{Form, Forms, form_map, forms_map, all_form}
 use Rattle.poly_graph.specs.FormGraph.{graph_forms}
 use Rattle.poly_graph.specs.Problem.{Axis}
@@ -48,6 +48,7 @@ use Rattle.script_fault.specs.declared.fault.ReadError.{ReadError}
 use Rattle.script_fault.specs.declared.fault.ReadError.TheVariants as errors
 use Rattle.declared_box.specs.Axes.{bounds_fault, IsBoundsError}
 use Rattle.script_faults.specs.Faults.{in_building}
+use Rattle.script_faults.specs.Reader.{IsInWalkOrder, trees_made}
 use Rattle.problem_build.proofs.Parts.{parts_problem}
 
 -- ---- forms and lists
@@ -168,10 +169,16 @@ module _ (script : List Command) (m : Making) (made : List (ℕ × ℕ)) (h : Is
         (subst (λ (f : Form Atom). IsFormOf m1 f root) (whole_forms script) rooted.1) bounded declared in
         (p.1, p.0)
 
+    pub walked_all : walked script ≡ stands (stand_of m1)
+    walked_all = walked_root ∙ ap (λ f. make_form (last_place nowhere (claim_places script)) (stand_of m.made) (form_map (number_in (stand_of m.made).atoms) f)) (sym (whole_forms script)) ∙ rooted.0 (last_place nowhere (claim_places script))
+
+    -- the walk makes the trees of the builder's nodes
+    pub ordered_so : (nodes : List Node) → nodes ≡ m1.nodes → IsInWalkOrder script nodes
+    ordered_so nodes same = ap graph_terms same ∙ sym (ap trees_made walked_all)
+
     pub bounds_refuse : (bound : Option ℕ) (f : ReadError) → IsBoundsError f (bound_fault bound script) → IsBuildingError f (building_fault bound script)
     bounds_refuse bound f r = subst (λ (x : Option (Place × BuildingFault)). IsBuildingError f x)
-        (sym (ap (λ w. fault_or w (fault_of_bounds (bound_fault bound script)))
-        (walked_root ∙ ap (λ g. make_form (last_place nowhere (claim_places script)) (stand_of m.made) (form_map (number_in (stand_of m.made).atoms) g)) (sym (whole_forms script)) ∙ rooted.0 (last_place nowhere (claim_places script))))) (bounds-error f (bound_fault bound script) r)
+        (sym (ap (λ w. fault_or w (fault_of_bounds (bound_fault bound script))) walked_all)) (bounds-error f (bound_fault bound script) r)
 
 pub roots_as : (m m' m1 : Made) (ks ks' : List ℕ) (r : Result ℕ Stop) → m' ≡ m → ks' ≡ ks → Roots m' m1 ks' r → Roots m m1 ks r
 roots_as m m' m1 ks ks' r e f h = subst (λ (x : Made). Roots x m1 ks r) e (subst (λ (x : List ℕ). Roots m' m1 x r) f h)

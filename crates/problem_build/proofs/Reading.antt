@@ -1,5 +1,6 @@
 -- The first fault of a script, by the phase that met it, and the problem of a script without one.
 use Rattle.std.proofs.Common.{◌≡◌, ◌≤◌, ◌∷◌, [], ℕ, suc, List, Bool, cond, Option, Some, None, length, refl, ap, sym, ◌∙◌, subst}
+use Rattle.std.specs.Prelude.{All}
 use Rattle.std.proofs.lemmas.Bool.{le-leb}
 use Rattle.script_model.specs.Sexp.{Sexp}
 use Rattle.script_model.specs.Script.{Command, Constant, constants_of}
@@ -9,7 +10,7 @@ use Rattle.script_fault.specs.declared.fault.ReadError.{ReadError}
 use Rattle.script_fault.specs.declared.fault.ReadError.TheVariants.{Fault, Memory}
 use Rattle.script_fault.specs.declared.fault.ScriptFault.{ScriptFault}
 use Rattle.smt_sexp.specs.Lexicon.{TextRead, whole, read}
-use Rattle.smt_sexp.specs.Reads.{text_fault}
+use Rattle.smt_sexp.specs.Reads.{bytes_fault}
 use Rattle.smt_script.specs.Commands.{CommandsRead, commands, commands_of, accepted, of_read}
 use Rattle.smt_script.specs.Told.{commands_fault}
 use Rattle.smt_script.specs.Views.{commands_in}
@@ -23,9 +24,9 @@ use Rattle.poly_graph.specs.ProblemViews.{Parts, problem_of, IsWhole}
 use Rattle.problem_build.specs.Told.{IsBuildingError, IsLean}
 use Rattle.problem_build.proofs.Few.{few_constants}
 use Rattle.script_faults.specs.Faults.{script_fault, in_text, in_commands, in_sorts, in_building, most_bytes}
-use Rattle.script_faults.proofs.Parts.{text_first, commands_first, sorts_first}
+use Rattle.script_faults.proofs.Parts.{bytes_first, commands_first, sorts_first}
 use Rattle.script_faults.specs.Reader as reader
-use Rattle.script_faults.specs.Reader.{HasProblem, too_many_bytes, or_none}
+use Rattle.script_faults.specs.Reader.{AreLowest, HasProblem, IsInWalkOrder, too_many_bytes, or_none}
 
 -- ---- a fault of one phase
 
@@ -33,12 +34,12 @@ lifted : (e : ReadError) (o p : Option ScriptFault) → ((x : ScriptFault) → o
 lifted (Fault f) o p g h = g f h
 lifted Memory o p g h = tt
 
+pub bytes_refused : (bound : Option ℕ) (bytes : List ℕ) (e : ReadError) → IsFaultOrMemory e (bytes_fault bytes) → IsFaultOrMemory e (script_fault bound bytes)
+bytes_refused bound bytes e h = lifted e (bytes_fault bytes) (script_fault bound bytes) (bytes_first bound bytes) h
+
 module _ (bound : Option ℕ) (text : List ℕ) (few : length text ≤ most_bytes) (e : ReadError) where
   in-bytes : script_fault bound text ≡ in_text bound (read text)
   in-bytes = ap (λ (b : Bool). cond b (in_text bound (read text)) (Some too_many_bytes)) (le-leb (length text) most_bytes few)
-
-  pub text_refused : IsFaultOrMemory e (text_fault (read text)) → IsFaultOrMemory e (script_fault bound text)
-  text_refused h = lifted e (text_fault (read text)) (script_fault bound text) (λ x t. in-bytes ∙ text_first bound (read text) x t) h
 
   module _ (es : List Sexp) (whole_is : read text ≡ whole es) where
     pub commands_refused : IsFaultOrMemory e (commands_fault (commands_of es)) → IsFaultOrMemory e (script_fault bound text)
@@ -71,8 +72,8 @@ axes-length box axis [] (a ∷ axes) h = absurd h
 axes-length box axis (c ∷ constants) [] h = absurd h
 
 pub problem_had : (bound : Option ℕ) (text : List ℕ) (es : List Sexp) (script typed : Script) (p : Parts) → length text ≤ most_bytes → read text ≡ whole es → commands_of es ≡ commands (commands_in script) → typed ≡ script
-    → sort_fault (commands_in script) ≡ None → IsWhole p → IsLean p → (building_fault bound (commands_in typed) ≡ None) × IsProblemOf bound (commands_in typed) (problem_of p) → HasProblem bound (problem_of p) text
-problem_had bound text es script typed p few e e' same s w l b =
+    → sort_fault (commands_in script) ≡ None → IsWhole p → IsLean p → IsInWalkOrder (commands_in typed) p.nodes → All (λ (a : Axis). AreLowest a.declared) p.axes → (building_fault bound (commands_in typed) ≡ None) × IsProblemOf bound (commands_in typed) (problem_of p) → HasProblem bound (problem_of p) text
+problem_had bound text es script typed p few e e' same s w l n g b =
     let cs : List Command = commands_in script in
     let B : Script → Type 0 = λ t. (building_fault bound (commands_in t) ≡ None) × IsProblemOf bound (commands_in t) (problem_of p) in
     let built : B script = subst B same b in
@@ -81,7 +82,9 @@ problem_had bound text es script typed p few e e' same s w l b =
       built = record {
         whole = w.problem;
         problem = subst (λ (c : List Command). IsProblemOf bound c (problem_of p)) (sym (commands-are text es cs e e')) built.1;
+        ends = g;
         nodes = l.nodes;
+        order = subst (λ (c : List Command). IsInWalkOrder c p.nodes) (ap commands_in same ∙ sym (commands-are text es cs e e')) n;
         axes = subst (λ (n : ℕ). n ≤ 1024) (sym (axes-length (declared_interval bound cs) 0 (constants_of cs) p.axes built.1.axes)) (few_constants cs s);
         atoms = l.atoms;
       };

@@ -3,12 +3,13 @@ use Rattle.std.specs.Prelude.{◌≡◌, ℕ, List, Option, Some, None}
 use Rattle.script_model.specs.Sexp.{Place}
 use Rattle.script_model.specs.Script.{Command, constants_of}
 use Rattle.script_model.specs.Declared.{bound_fault, declared_interval}
-use Rattle.poly_graph.specs.Problem.{Axis}
+use Rattle.poly_graph.specs.Problem.{Axis, Problem}
 use Rattle.poly_graph.specs.ProblemViews.{Parts, problem_of}
 use Rattle.script_forms.specs.Terms.{ill_formed}
 use Rattle.script_forms.specs.Atoms.{atoms_in_place}
 use Rattle.script_forms.specs.ProblemOf.{AreAxes, IsProblemOf}
 use Rattle.script_forms.specs.Walk.{stands, nothing_made, claim_places, works, after_assertions, after_root, unfolds_not, building_fault}
+use Rattle.script_faults.specs.Reader.{IsBuilt}
 use Rattle.sort_check.specs.Sorts.{sort_fault}
 use Rattle.term_build.specs.Built.{Made, stand_of, IsMade}
 use Rattle.term_build.specs.Sketch.{IsFormOf}
@@ -27,3 +28,7 @@ abbrev pub PartsAreProblem : Type 0
 PartsAreProblem = (bound : Option ℕ) (script : List Command) (m m1 : Made) (axes : List Axis) (root : ℕ) → IsMade m1 →
     after_assertions nothing_made (claim_places script) (works script) ≡ stands (stand_of m) → after_root script (stand_of m) ≡ stands (stand_of m1) → IsFormOf m1 (atoms_in_place script) root →
     bound_fault bound script ≡ None → AreAxes (declared_interval bound script) 0 (constants_of script) axes → IsProblemOf bound script (problem_of (parts_made m1 axes root)) × (building_fault bound script ≡ None)
+
+-- A script has one problem.
+abbrev pub BuiltIsOne : Type 0
+BuiltIsOne = (bound : Option ℕ) (text : List ℕ) (p q : Problem) → IsBuilt bound text p → IsBuilt bound text q → p ≡ q

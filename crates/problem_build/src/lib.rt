@@ -4,7 +4,7 @@
 //! so for a script whose sorts are checked. The crate reads no file, prints no fault, and simplifies no form.
 #![tactic(auto)]
 
-ghost use Rattle.problem_build.specs.Laws.{SortedIsSound, PartsAreProblem};
+ghost use Rattle.problem_build.specs.Laws.{SortedIsSound, PartsAreProblem, BuiltIsOne};
 
 mod assembly;
 mod commands;
@@ -31,4 +31,10 @@ pub fn sorted_is_sound()
 /// The parts that a whole walk over a script made, with axes that are declared so, are the script's problem.
 pub fn parts_are_problem()
     ensures { PartsAreProblem }
+{}
+
+/// A script has one problem, so what is said of a problem of the script is said of the one that is built.
+#[tactic(auto, using(crate::proofs::One::built_one))]
+pub fn built_is_one()
+    ensures { BuiltIsOne }
 {}

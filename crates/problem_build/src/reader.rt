@@ -7,7 +7,7 @@ ghost use Rattle.script_faults.specs.Reader.{HasProblem};
 
 use crate::build;
 use poly_graph::Problem;
-use script_fault::{FaultKind, Limit, MOST_BYTES, Place, ReadError};
+use script_fault::ReadError;
 use script_faults::ScriptReader;
 use smt_script::commands;
 use smt_sexp::read;
@@ -24,10 +24,6 @@ pub fn read_problem(alloc: Global, bytes: &[u8], bound: Option<u32>) -> Result<P
         (λ p. HasProblem bound (problem_of p) bytes.now)
         (λ e. IsFaultOrMemory e (script_fault bound bytes.now)) }
 {
-    if bytes.len() > MOST_BYTES {
-        let nowhere = Place { line: 0, column: 0 };
-        return Err(ReadError::at(nowhere, FaultKind::TooMany(Limit::Bytes)));
-    }
     let sexps = read(alloc, bytes)?;
     let script = commands(alloc, &sexps)?;
     let typed = check(alloc, script)?;

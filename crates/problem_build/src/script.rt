@@ -1,5 +1,5 @@
 // The problem of a well-sorted script.
-ghost use Rattle.std.specs.Prelude.{◌≡◌, IfOk, None, map};
+ghost use Rattle.std.specs.Prelude.{◌≡◌, All, IfOk, None, map};
 ghost use Rattle.script_model.specs.Script.{constants_of, sorts_of};
 ghost use Rattle.script_forms.specs.Walk.{claim_places, last_place, nowhere};
 ghost use Rattle.smt_script.specs.Views.{command_of, commands_in, sort_of};
@@ -8,6 +8,7 @@ ghost use Rattle.smt_sexp.specs.declared.sexps.Sexps as arena;
 ghost use Rattle.sort_check.specs.Sorts.{sort_fault};
 ghost use Rattle.declared_box.specs.Axes.{constant_of};
 ghost use Rattle.problem_build.specs.Standing.{IsDone};
+ghost use Rattle.script_faults.specs.Reader.{AreLowest, IsInWalkOrder};
 ghost use Rattle.problem_build.specs.Told.{Builds, IsLean};
 
 use crate::assembly::{assemble, root_form};
@@ -96,6 +97,8 @@ fn finish(
     requires sorted { sort_fault (commands_in script.now) ≡ None }
     ensures builds { Builds bound (commands_in script.now) result }
     ensures lean { IfOk result (λ p. IsLean p) }
+    ensures order { IfOk result (λ p. IsInWalkOrder (commands_in script.now) p.nodes) }
+    ensures ends { IfOk result (λ p. All (λ a. AreLowest a.declared) p.axes) }
 {
     let commands = script.commands.as_slice();
     let constants = constants(alloc, commands)?;
@@ -118,6 +121,8 @@ fn finish(
 pub fn build(alloc: Global, typed: Typed<'_>, bound: Option<u32>) -> Result<Problem, ReadError>
     ensures builds { Builds bound (commands_in typed.entry.script) result }
     ensures lean { IfOk result (λ p. IsLean p) }
+    ensures order { IfOk result (λ p. IsInWalkOrder (commands_in typed.entry.script) p.nodes) }
+    ensures ends { IfOk result (λ p. All (λ a. AreLowest a.declared) p.axes) }
 {
     let script = &typed.script;
     let sorts = sorts(alloc, script.commands.as_slice())?;

@@ -1,5 +1,5 @@
 use problem_build::*;
-use script_fault::{FaultKind, MOST_BYTES, Place, ReadError};
+use script_fault::{FaultKind, Place, ReadError};
 use smt_script::commands;
 use smt_sexp::read;
 use sort_check::check;
@@ -36,9 +36,6 @@ fn refusal_of(error: &ReadError) -> Refused {
 
 // The counts of a script's problem, or its first fault.
 fn counts(alloc: Global, text: &[u8], bound: Option<u32>) -> Result<Counts, Refused> {
-    if text.len() > MOST_BYTES {
-        return Err(Refused::Other);
-    }
     let Ok(sexps) = read(alloc, text) else {
         return Err(Refused::Other);
     };

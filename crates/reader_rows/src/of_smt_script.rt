@@ -1,4 +1,4 @@
-use script_fault::{FaultKind, MOST_BYTES, Place, ReadError};
+use script_fault::{FaultKind, Place, ReadError};
 use smt_script::*;
 use smt_sexp::read;
 use std::alloc::Global;
@@ -29,9 +29,6 @@ fn refusal_of(error: &ReadError) -> Refused {
 
 // How many commands a script has, or its first fault.
 fn count(alloc: Global, text: &[u8]) -> Result<usize, Refused> {
-    if text.len() > MOST_BYTES {
-        return Err(Refused::Other);
-    }
     let Ok(sexps) = read(alloc, text) else {
         return Err(Refused::Other);
     };

@@ -11,6 +11,7 @@ enum Refused {
     Unbalanced(u32, u32),
     TooWide(u32, u32),
     TooDeep(u32, u32),
+    TooLong(u32, u32),
     Other,
 }
 
@@ -25,15 +26,13 @@ fn refusal_of(error: &ReadError) -> Refused {
         FaultKind::Unbalanced => Refused::Unbalanced(line, column),
         FaultKind::NumberTooWide => Refused::TooWide(line, column),
         FaultKind::TooMany(Limit::Depth) => Refused::TooDeep(line, column),
+        FaultKind::TooMany(Limit::Bytes) => Refused::TooLong(line, column),
         _ => Refused::Other,
     }
 }
 
 // How many places a text has, or its first fault.
 fn places(alloc: Global, text: &[u8]) -> Result<usize, Refused> {
-    if text.len() > MOST_BYTES {
-        return Err(Refused::Other);
-    }
     match read(alloc, text) {
         Ok(sexps) => Ok(sexps.len()),
         Err(error) => Err(refusal_of(&error)),
@@ -108,6 +107,16 @@ fn counts_depth(rt: HostRuntime) -> Result<(), Fail> {
     assert_eq!(rt; places(alloc, &deepest), unbalanced(1, 256));
     let deeper = vec![in alloc; b'('; 257]?;
     assert_eq!(rt; places(alloc, &deeper), Err(Refused::TooDeep(1, 257)));
+    Ok(())
+}
+
+#[test]
+fn counts_bytes(rt: HostRuntime) -> Result<(), Fail> {
+    let alloc = rt.alloc();
+    let longest = vec![in alloc; b';'; MOST_BYTES]?;
+    assert_eq!(rt; places(alloc, &longest), Ok(0));
+    let longer = vec![in alloc; b'('; MOST_BYTES + 1]?;
+    assert_eq!(rt; places(alloc, &longer), Err(Refused::TooLong(0, 0)));
     Ok(())
 }
 

@@ -1,4 +1,4 @@
-use script_fault::{FaultKind, MOST_BYTES, Place, ReadError};
+use script_fault::{FaultKind, Place, ReadError};
 use smt_script::commands;
 use smt_sexp::read;
 use sort_check::*;
@@ -16,9 +16,6 @@ enum Refused {
 
 // How many commands a script has, or its first fault.
 fn count(alloc: Global, text: &[u8]) -> Result<usize, Refused> {
-    if text.len() > MOST_BYTES {
-        return Err(Refused::Other);
-    }
     let Ok(sexps) = read(alloc, text) else {
         return Err(Refused::Other);
     };

@@ -1,18 +1,25 @@
 -- The first fault of one part is that of the script.
-use Rattle.std.proofs.Common.{◌≡◌, ℕ, List, Option, Some, None, refl}
+use Rattle.std.proofs.Common.{◌≡◌, ℕ, List, Bool, true, false, cond, nat_le, length, Option, Some, None}
 use Rattle.script_model.specs.Script.{Command}
 use Rattle.script_fault.specs.declared.fault.ScriptFault.{ScriptFault}
-use Rattle.smt_sexp.specs.Lexicon.{TextRead, whole, faulty}
-use Rattle.smt_sexp.specs.Reads.{text_fault}
+use Rattle.smt_sexp.specs.Lexicon.{TextRead, whole, faulty, read}
+use Rattle.smt_sexp.specs.Reads.{bytes_fault, most_bytes, text_fault, too_many_bytes}
 use Rattle.smt_script.specs.Commands.{CommandsRead, commands, command_fault}
 use Rattle.smt_script.specs.Told.{commands_fault}
 use Rattle.sort_check.specs.Sorts.{Finding}
 use Rattle.sort_check.specs.Told.{finding_fault}
-use Rattle.script_faults.specs.Faults.{in_text, in_commands, in_sorts}
+use Rattle.script_faults.specs.Faults.{in_text, in_commands, in_sorts, script_fault}
 
 pub text_first : (bound : Option ℕ) (r : TextRead) (x : ScriptFault) → text_fault r ≡ Some x → in_text bound r ≡ Some x
 text_first bound (faulty at f) x e = e
 text_first bound (whole es) x e = cc
+
+bytes-by : (bound : Option ℕ) (r : TextRead) (b : Bool) (x : ScriptFault) → cond b (text_fault r) (Some too_many_bytes) ≡ Some x → cond b (in_text bound r) (Some too_many_bytes) ≡ Some x
+bytes-by bound r true x e = text_first bound r x e
+bytes-by bound r false x e = e
+
+pub bytes_first : (bound : Option ℕ) (bytes : List ℕ) (x : ScriptFault) → bytes_fault bytes ≡ Some x → script_fault bound bytes ≡ Some x
+bytes_first bound bytes x e = bytes-by bound (read bytes) (nat_le (length bytes) most_bytes) x e
 
 pub commands_first : (bound : Option ℕ) (r : CommandsRead) (x : ScriptFault) → commands_fault r ≡ Some x → in_commands bound r ≡ Some x
 commands_first bound (command_fault at f) x e = e

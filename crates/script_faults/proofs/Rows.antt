@@ -1,5 +1,5 @@
 -- Worked examples: scripts with their first faults.
-use Rattle.std.proofs.Common.{◌≡◌, ℕ, List, [], ◌++◌, Option, Some, None, codes, refl}
+use Rattle.std.proofs.Common.{◌≡◌, ℕ, List, [], ◌++◌, Some, None, codes, refl}
 use Rattle.script_model.specs.Sexp.{Place}
 use Rattle.script_fault.specs.declared.fault.FaultKind.TheVariants.{Unbalanced, NumberTooWide, UnknownSymbol, DivisorNotConstant, ZeroDivisor, NoBound, BoundTooWide, NoCheck, LeftOut}
 use Rattle.smt_sexp.specs.Reads.{fault_at}

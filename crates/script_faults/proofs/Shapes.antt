@@ -1,13 +1,13 @@
 -- An operator at arguments that it takes gives a tree of its sort.
-use Rattle.std.proofs.Common.{◌≡◌, List, [], ◌∷◌, Bool, true, false, ◌&&◌, cond, refl, length, nat_eq}
+use Rattle.std.proofs.Common.{◌≡◌, List, [], ◌∷◌, Bool, true, false, ◌&&◌, cond, refl}
 use Rattle.dyadic.specs.Fraction.{Fraction}
 use Rattle.script_model.specs.Sexp.{Place}
 use Rattle.script_model.specs.Meaning.{neighbours, pairs}
 use Rattle.script_forms.proofs.Means.{both_true}
 use Rattle.poly_graph.specs.Term.{Term, constant}
 use Rattle.poly_graph.specs.Form.{Form}
-use Rattle.script_forms.specs.Terms.{zero_divisor, Comparison, Unfolded, term, formula, refused, constant_or, add_tree, multiply_tree, subtract_tree, divide_tree, step, steps, all_steps, subtraction_tree, comparison_tree, is_zero, is_nought, negate_tree, inverse_of, either, second_arm, arms, lift_tree, hold_either, behind_first, quotient_tree, divisor_not_constant}
-use Rattle.script_forms.specs.Unfolded.{implies_of, xor_of, xor_from, xor_all, choice_form, not_of, not_first, chain, equal_two, equality_form, distinctness_form, are_terms, are_formulas, is_real_tree, picks_terms, choice_two, choice_tree, lift_form, compare_two, equal_terms, differ_two, and_of, different}
+use Rattle.script_forms.specs.Terms.{zero_divisor, Comparison, Unfolded, term, formula, refused, constant_or, add_tree, multiply_tree, subtract_tree, divide_tree, step, steps, all_steps, subtraction_tree, comparison_tree, is_zero, is_nought, negate_tree, inverse_of, either, arms, lift_tree, hold_either, behind_first, quotient_tree, divisor_not_constant}
+use Rattle.script_forms.specs.Unfolded.{implies_of, xor_of, xor_from, xor_all, choice_form, not_of, not_first, chain, equal_two, equality_form, distinctness_form, are_terms, are_formulas, is_real_tree, choice_two, choice_tree, lift_form, compare_two, equal_terms, differ_two, and_of, different}
 use Rattle.script_faults.specs.WellSorted.{IsSound}
 
 -- of a Real expression, and of a Bool one

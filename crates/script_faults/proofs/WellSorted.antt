@@ -9,11 +9,11 @@ use Rattle.script_model.specs.Declared.{numbered}
 use Rattle.script_model.proofs.Related.{Each, Alike, AlikeNames, Respects, meaning_alike, append_alike}
 use Rattle.poly_graph.specs.Form.{form_atoms}
 use Rattle.script_forms.specs.Terms.{Fault, ill_formed, Comparison, Unfolded, term, formula, refused, either, comparison_tree}
-use Rattle.script_forms.specs.Unfolded.{as_tree, checked, unless_refused, first_fault, takes, are_terms, are_formulas, unfolded_operation, at_most_two, at_least_two, at_most_terms, at_least_terms, is_real_tree, picks_terms, choice_tree, choice_two}
+use Rattle.script_forms.specs.Unfolded.{as_tree, checked, unless_refused, first_fault, takes, are_terms, are_formulas, unfolded_operation, at_most_two, at_least_two, at_most_terms, at_least_terms, is_real_tree, picks_terms, choice_tree}
 use Rattle.script_forms.specs.Atoms.{constant_tree, trees, fault_of, comparison_fault, or_next, comparisons_fault, tree_fault, trees_fault, unfolding_fault}
 use Rattle.sort_check.specs.Sorts.{Sorted, of_sort, ill, mismatched, SortFault, unknown_symbol, redeclared, sort_mismatch, left_out_form, first_ill, or_first, is_real, is_bool, all_of, if_takes, operator_sort, is_taken, first_of_two, binding_sort, placed_call, because, sorting, same_sort, is_of, fit, signature, parameter_names, Finding, wants, then_on, new_name, taken_parameter, room_for, sort_fault_from, sort_fault}
 use Rattle.script_faults.specs.WellSorted.{IsSound, IfSound, IsClaim}
-use Rattle.script_faults.proofs.Shapes.{IsRealTree, IsFormula, sum_real, product_real, quotient_real, subtraction_real, comparison_real, implies_formula, xor_formula, choice_formula, not_formula, chain_formula, equality_formula, distinctness_formula, compare_formula, picked_real, choice_tree_formula}
+use Rattle.script_faults.proofs.Shapes.{IsRealTree, IsFormula, sum_real, product_real, quotient_real, subtraction_real, comparison_real, implies_formula, xor_formula, not_formula, chain_formula, equality_formula, distinctness_formula, compare_formula, picked_real, choice_tree_formula}
 
 -- the tree is of the sort, or has a fault that well-sorted expressions may meet
 abbrev pub HasSort : Sort → Unfolded → Type 0

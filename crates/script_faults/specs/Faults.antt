@@ -6,10 +6,11 @@ use Rattle.script_model.specs.Script.{Command}
 use Rattle.script_fault.specs.declared.fault.FaultKind.{FaultKind}
 use Rattle.script_fault.specs.declared.fault.FaultKind.TheVariants.{NumberTooWide, SortMismatch, DivisorNotConstant, ZeroDivisor, NoBound, BoundTooWide, TooMany}
 use Rattle.script_fault.specs.declared.fault.ScriptFault.{ScriptFault}
-use Rattle.script_fault.specs.declared.limit.Limit.TheVariants.{Bytes, Size, Nodes, Atoms, Forms}
+use Rattle.script_fault.specs.declared.limit.Limit.TheVariants.{Size, Nodes, Atoms, Forms}
 use Rattle.smt_sexp.specs.Lexicon.{TextRead, whole, faulty, read}
-use Rattle.smt_sexp.specs.Reads.{fault_at, text_kind}
-use Rattle.smt_script.specs.Commands.{CommandsRead, commands, command_fault, commands_of, nowhere}
+use Rattle.smt_sexp.specs.Reads.{fault_at, text_kind, too_many_bytes}
+pub use Rattle.smt_sexp.specs.Reads.{most_bytes}
+use Rattle.smt_script.specs.Commands.{CommandsRead, commands, command_fault, commands_of}
 use Rattle.smt_script.specs.Told.{command_kind}
 use Rattle.sort_check.specs.Sorts.{Finding, sort_fault}
 use Rattle.sort_check.specs.Told.{sort_kind}
@@ -54,9 +55,6 @@ abbrev pub in_text : Option ℕ → TextRead → Option ScriptFault
 in_text bound (faulty at x) = Some (fault_at at (text_kind x))
 in_text bound (whole es) = in_commands bound (commands_of es)
 
-abbrev pub most_bytes : ℕ
-most_bytes = 67108864
-
 -- the first fault of a script, where the words give this bound
 abbrev pub script_fault : Option ℕ → List ℕ → Option ScriptFault
-script_fault bound text = cond (nat_le (length text) most_bytes) (in_text bound (read text)) (Some (fault_at nowhere (TooMany Bytes)))
+script_fault bound text = cond (nat_le (length text) most_bytes) (in_text bound (read text)) (Some too_many_bytes)

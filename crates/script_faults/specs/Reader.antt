@@ -1,15 +1,15 @@
 -- What is read of a script's bytes.
-use Rattle.std.specs.Prelude.{◌≡◌, ℕ, ◌≤◌, length, List, [], Option, Some, None}
+use Rattle.std.specs.Prelude.{◌≡◌, ℕ, ◌≤◌, length, List, [], All, Option, Some, None, nat_abs}
+use Rattle.std.specs.Int.{IsGcd}
 use Rattle.poly_graph.specs.AtomTable.{most_atoms}
-use Rattle.poly_graph.specs.Problem.{Problem, IsProblem}
+use Rattle.poly_graph.specs.Problem.{Axis, Declared, real_between, any_bool, Problem, IsProblem}
 use Rattle.poly_graph.specs.Shared.{IsGraph}
+use Rattle.poly_graph.specs.Term.{Term, Node, graph_terms}
 use Rattle.script_model.specs.Script.{Command}
-use Rattle.script_fault.specs.declared.fault.FaultKind.TheVariants.{TooMany}
-use Rattle.script_fault.specs.declared.fault.ScriptFault.{ScriptFault}
-use Rattle.script_fault.specs.declared.limit.Limit.TheVariants.{Bytes}
-use Rattle.smt_sexp.specs.Reads.{fault_at}
-use Rattle.smt_script.specs.Commands.{script_of, nowhere}
+pub use Rattle.smt_sexp.specs.Reads.{too_many_bytes}
+use Rattle.smt_script.specs.Commands.{script_of}
 use Rattle.script_forms.specs.ProblemOf.{IsProblemOf}
+use Rattle.script_forms.specs.Walk.{Walked, stands, stops, walked}
 use Rattle.script_faults.specs.Faults.{script_fault}
 
 abbrev pub or_none : Option (List Command) → List Command
@@ -20,12 +20,29 @@ or_none None = []
 abbrev pub commands_of : List ℕ → List Command
 commands_of text = or_none (script_of text)
 
--- p is the problem of a script without fault, where the words give this bound
+-- the trees that a walk makes, each once, in the order in which it makes them
+abbrev pub trees_made : Walked → List Term
+trees_made (stands s) = s.trees
+trees_made (stops at x) = []
+
+-- these nodes are the trees that the builder's walk over the script makes, in its order
+abbrev pub IsInWalkOrder : List Command → List Node → Type 0
+IsInWalkOrder script nodes = graph_terms nodes ≡ trees_made (walked script)
+
+-- the ends are in lowest terms
+abbrev pub AreLowest : Declared → Type 0
+AreLowest (real_between l h) = IsGcd (nat_abs l.num) l.den 1 × IsGcd (nat_abs h.num) h.den 1
+AreLowest any_bool = Unit {0}
+
+-- p is the problem of a script without fault, where the words give this bound; there is no other
 pub record IsBuilt (bound : Option ℕ) (text : List ℕ) (p : Problem) : Type 0 where
   pub whole : IsProblem p
   pub problem : IsProblemOf bound (commands_of text) p
-  -- each node of its terms stands once, and it is within the reader's limits
+  pub ends : All (λ (a : Axis). AreLowest a.declared) p.axes
+  -- each node of its terms stands once
   pub nodes : IsGraph p.nodes
+  pub order : IsInWalkOrder (commands_of text) p.nodes
+  -- it is within the reader's limits
   pub axes : length p.axes ≤ 1024
   pub atoms : length p.atoms ≤ most_atoms
 
@@ -33,7 +50,3 @@ pub record IsBuilt (bound : Option ℕ) (text : List ℕ) (p : Problem) : Type 0
 pub record HasProblem (bound : Option ℕ) (p : Problem) (script : List ℕ) : Type 0 where
   pub clean : script_fault bound script ≡ None
   pub built : IsBuilt bound script p
-
--- the fault of a script that is too long
-abbrev pub too_many_bytes : ScriptFault
-too_many_bytes = fault_at nowhere (TooMany Bytes)

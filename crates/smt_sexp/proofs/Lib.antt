@@ -3,5 +3,6 @@ pub mod Fronts
 pub mod Lex
 pub mod Numbers
 pub mod Runs
+pub mod Sizes
 pub mod Steps
 pub mod Strings

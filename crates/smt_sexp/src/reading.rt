@@ -1,23 +1,40 @@
 // The expressions of a text, or its first fault (SMT-LIB 2.6, sections 3.1 and 3.2).
-ghost use Rattle.std.specs.Prelude.{◌≡◌, ℕ, ◌+◌, ◌^◌, ◌<◌, ◌≤◌, List, OnOk, IfErr, IfOk, drop, length, take, vec_len};
+ghost use Rattle.std.specs.Prelude.{◌≡◌, ℕ, ◌+◌, ◌^◌, ◌<◌, ◌≤◌, List, MatchResult, OnOk, IfErr, IfOk, drop, length, take, vec_len};
 ghost use Rattle.script_model.specs.Sexp as sexp;
 ghost use Rattle.smt_sexp.specs.Building.{Stands};
 ghost use Rattle.smt_sexp.specs.Found.{Finds, front_of};
 ghost use Rattle.smt_sexp.specs.Lexicon.{TextRead, Unclosed, place_after, read};
 ghost use Rattle.script_fault.specs.Answers.{IsFaultOrMemory};
-ghost use Rattle.smt_sexp.specs.Reads.{Reads, text_fault};
+ghost use Rattle.smt_sexp.specs.Reads.{HasExpressions, Reads, bytes_fault, most_bytes, text_fault};
 ghost use Rattle.smt_sexp.specs.Step.{GoesOn, IsRead, IsReading};
 ghost use Rattle.smt_sexp.specs.Views.{place_of};
 
 use crate::Sexps;
 use crate::building::Building;
 use crate::tokens::{Found, Piece, front};
-use script_fault::{FaultKind, Limit, MOST_DEPTH, Place, ReadError};
+use script_fault::{FaultKind, Limit, MOST_BYTES, MOST_DEPTH, Place, ReadError};
 use std::alloc::Global;
 
-/// All expressions of a text up to a top-level `(exit)`, or its first fault.
+/// All expressions of a text up to a top-level `(exit)`.
+///
+/// # Errors
+///
+/// That there are more than `MOST_BYTES` bytes, at 0:0, else the first fault of the text.
 pub fn read(alloc: Global, bytes: &[u8]) -> Result<Sexps, ReadError>
-    requires { length bytes.now ≤ 67108864 }
+    ensures { MatchResult result
+        (λ s. HasExpressions bytes.now s)
+        (λ e. IsFaultOrMemory e (bytes_fault bytes.now)) }
+{
+    if bytes.len() > MOST_BYTES {
+        let nowhere = Place { line: 0, column: 0 };
+        return Err(ReadError::at(nowhere, FaultKind::TooMany(Limit::Bytes)));
+    }
+    read_text(alloc, bytes)
+}
+
+// The same of bytes that are not too many.
+fn read_text(alloc: Global, bytes: &[u8]) -> Result<Sexps, ReadError>
+    requires { length bytes.now ≤ most_bytes }
     ensures { Reads result (read bytes.now) }
 {
     let mut building = Building::new(alloc);

@@ -1,5 +1,5 @@
 -- Trees of a shared graph to which nodes are added.
-use Rattle.std.proofs.Common.{◌≡◌, ℕ, suc, zero, ◌+◌, ◌<◌, List, [], ◌∷◌, ◌++◌, map, length, Bool, true, false, cond, IsTrue, Some, refl, ap, ap₂, sym, ◌∙◌, subst, arith, nat_lt, ltb→lt}
+use Rattle.std.proofs.Common.{◌≡◌, ℕ, suc, zero, ◌+◌, ◌<◌, ◌≤◌, List, [], ◌∷◌, ◌++◌, map, length, Bool, true, false, cond, IsTrue, Some, refl, ap, ap₂, sym, ◌∙◌, subst, arith, nat_lt, ltb→lt}
 use Rattle.std.specs.Prelude.{slice_get, All}
 use Rattle.std.specs.Bool.{passes}
 use Rattle.dyadic.proofs.Equal.{both_true}
@@ -49,16 +49,16 @@ is_at (u ∷ ts) t h = is-at-step u ts t (same_term t u) refl h (is_at ts t)
 -- ---- a new node is a new tree
 
 -- nodes of one tree, the children of both being nodes of the graph, are one
-same-node : (ns : List Node) → IsGraph ns → (j : ℕ) (m n : Node) → j < length ns → IsTrue (comes_after j m) → IsTrue (comes_after (length ns) n) → node_term (graph_terms ns) m ≡ node_term (graph_terms ns) n → m ≡ n
-same-node ns g j (constant_node p) (constant_node q) b o l h = ap constant_node cc
-same-node ns g j (variable_node x) (variable_node y) b o l h = ap variable_node cc
-same-node ns g j (negate_node x) (negate_node y) b o l h = ap negate_node (one_number ns g x y (omega (arith, ltb→lt x j (passes _ o))) (ltb→lt y (length ns) (passes _ l)) cc)
-same-node ns g j (add_node x y) (add_node z w) b o l h = let e = both_true (nat_lt x j) (nat_lt y j) o in let f = both_true (nat_lt z (length ns)) (nat_lt w (length ns)) l in
-    ap₂ add_node (one_number ns g x z (omega (arith, ltb→lt x j (passes _ e.0))) (ltb→lt z (length ns) (passes _ f.0)) cc) (one_number ns g y w (omega (arith, ltb→lt y j (passes _ e.1))) (ltb→lt w (length ns) (passes _ f.1)) cc)
-same-node ns g j (multiply_node x y) (multiply_node z w) b o l h = let e = both_true (nat_lt x j) (nat_lt y j) o in let f = both_true (nat_lt z (length ns)) (nat_lt w (length ns)) l in
-    ap₂ multiply_node (one_number ns g x z (omega (arith, ltb→lt x j (passes _ e.0))) (ltb→lt z (length ns) (passes _ f.0)) cc) (one_number ns g y w (omega (arith, ltb→lt y j (passes _ e.1))) (ltb→lt w (length ns) (passes _ f.1)) cc)
-same-node ns g j (square_node x) (square_node y) b o l h = ap square_node (one_number ns g x y (omega (arith, ltb→lt x j (passes _ o))) (ltb→lt y (length ns) (passes _ l)) cc)
-same-node ns g j _ _ b o l h = cc
+pub same_node : (ns : List Node) → IsGraph ns → (j k : ℕ) (m n : Node) → j ≤ length ns → k ≤ length ns → IsTrue (comes_after j m) → IsTrue (comes_after k n) → node_term (graph_terms ns) m ≡ node_term (graph_terms ns) n → m ≡ n
+same_node ns g j k (constant_node p) (constant_node q) b c o l h = ap constant_node cc
+same_node ns g j k (variable_node x) (variable_node y) b c o l h = ap variable_node cc
+same_node ns g j k (negate_node x) (negate_node y) b c o l h = ap negate_node (one_number ns g x y (omega (arith, ltb→lt x j (passes _ o))) (omega (arith, ltb→lt y k (passes _ l))) cc)
+same_node ns g j k (add_node x y) (add_node z w) b c o l h = let e = both_true (nat_lt x j) (nat_lt y j) o in let f = both_true (nat_lt z k) (nat_lt w k) l in
+    ap₂ add_node (one_number ns g x z (omega (arith, ltb→lt x j (passes _ e.0))) (omega (arith, ltb→lt z k (passes _ f.0))) cc) (one_number ns g y w (omega (arith, ltb→lt y j (passes _ e.1))) (omega (arith, ltb→lt w k (passes _ f.1))) cc)
+same_node ns g j k (multiply_node x y) (multiply_node z w) b c o l h = let e = both_true (nat_lt x j) (nat_lt y j) o in let f = both_true (nat_lt z k) (nat_lt w k) l in
+    ap₂ multiply_node (one_number ns g x z (omega (arith, ltb→lt x j (passes _ e.0))) (omega (arith, ltb→lt z k (passes _ f.0))) cc) (one_number ns g y w (omega (arith, ltb→lt y j (passes _ e.1))) (omega (arith, ltb→lt w k (passes _ f.1))) cc)
+same_node ns g j k (square_node x) (square_node y) b c o l h = ap square_node (one_number ns g x y (omega (arith, ltb→lt x j (passes _ o))) (omega (arith, ltb→lt y k (passes _ l))) cc)
+same_node ns g j k _ _ b c o l h = cc
 
 new-by : (ns : List Node) → IsGraph ns → (n : Node) → IsTrue (comes_after (length ns) n) → IsNew ns n → (b : Bool) → has_tree (node_term (graph_terms ns) n) (graph_terms ns) ≡ b → b ≡ false
 new-by ns g n o f false h = refl
@@ -69,7 +69,7 @@ new-by ns g n o f true h =
     let after = (in_order_at 0 ns g.ordered r.0 m.0 m.1).0 in
     let here : 0 + r.0 ≡ r.0 = omega arith in
     let t : Some (node_term (graph_terms ns) m.0) ≡ Some (node_term (graph_terms ns) n) = sym (tree_at ns g r.0 m.0 m.1) ∙ r.1 in
-    absurd (f r.0 (m.1 ∙ ap (λ x. Some x) (same-node ns g r.0 m.0 n below (subst (λ (i : ℕ). IsTrue (comes_after i m.0)) here after) o (some_term _ _ t))))
+    absurd (f r.0 (m.1 ∙ ap (λ x. Some x) (same_node ns g r.0 (length ns) m.0 n (omega arith) (omega arith) (subst (λ (i : ℕ). IsTrue (comes_after i m.0)) here after) o (some_term _ _ t))))
   where
     some_term : (x y : Term) → Some x ≡ Some y → x ≡ y
     some_term x y e = cc

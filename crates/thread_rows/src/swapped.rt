@@ -34,9 +34,6 @@ pub(crate) fn problem(alloc: Global) -> Option<Problem>
     ensures { IfSome result (λ p. IsSmall p) }
 {
     let bytes = SCRIPT.as_bytes();
-    if bytes.len() > 67_108_864 {
-        return None;
-    }
     let sexps = read(alloc, bytes).ok()?;
     let script = commands(alloc, &sexps).ok()?;
     let typed = check(alloc, script).ok()?;

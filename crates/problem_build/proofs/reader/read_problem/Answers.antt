@@ -1,41 +1,34 @@
-use Rattle.std.proofs.Common.{◌≤◌, length, arith}
 use Rattle.std.proofs.lemmas.Result.{err_from_is_err_and}
-use Rattle.script_faults.specs.Faults.{most_bytes}
 use Rattle.smt_sexp.specs.Arena.{rest_of, listed}
-use Rattle.script_faults.proofs.Long.{long_fault}
-use Rattle.problem_build.proofs.Reading.{text_refused, commands_refused, sorts_refused, building_refused, problem_had}
+use Rattle.problem_build.proofs.Reading.{bytes_refused, commands_refused, sorts_refused, building_refused, problem_had}
 use Rattle.problem_build.proofs.reader.read_problem.Goals as goal
-
-pub returns-then-bytes-gt-MOST_BYTES : goal.returns-then-bytes-gt-MOST_BYTES
-returns-then-bytes-gt-MOST_BYTES c = rw c.at.ensures (long_fault c.args.bound c.args.bytes.now (omega arith))
 
 pub returns-in_err-sexps : goal.returns-in_err-sexps
 returns-in_err-sexps c =
-    let few : length c.args.bytes.now ≤ most_bytes = omega arith in
     let p = err_from_is_err_and c.from_residual.result c.from_residual.ensures.1 in
-    rw (p.1, p.2) (text_refused c.args.bound c.args.bytes.now few c.in_err-sexps.field-0.0 c.in_err-sexps.ensures)
+    rw (p.1, p.2) (bytes_refused c.args.bound c.args.bytes.now c.in_err-sexps.field-0.0 c.in_err-sexps.ensures)
 
 pub returns-in_err-script : goal.returns-in_err-script
 returns-in_err-script c =
-    let few : length c.args.bytes.now ≤ most_bytes = omega arith in
+    let read = c.in_ok-sexps.ensures in
     let p = err_from_is_err_and c.from_residual-in_err-script.result c.from_residual-in_err-script.ensures.1 in
-    rw (p.1, p.2) (commands_refused c.args.bound c.args.bytes.now few c.in_err-script.field-0.0 (listed (rest_of c.in_ok-sexps.sexps 0)) c.in_ok-sexps.ensures c.in_err-script.ensures)
+    rw (p.1, p.2) (commands_refused c.args.bound c.args.bytes.now read.few c.in_err-script.field-0.0 (listed (rest_of c.in_ok-sexps.sexps 0)) read.text c.in_err-script.ensures)
 
 pub returns-in_err-typed : goal.returns-in_err-typed
 returns-in_err-typed c =
-    let few : length c.args.bytes.now ≤ most_bytes = omega arith in
+    let read = c.in_ok-sexps.ensures in
     let p = err_from_is_err_and c.from_residual-in_err-typed.result c.from_residual-in_err-typed.ensures.1 in
-    rw (p.1, p.2) (sorts_refused c.args.bound c.args.bytes.now few c.in_err-typed.field-0.0 (listed (rest_of c.in_ok-sexps.sexps 0)) c.in_ok-sexps.ensures c.in_ok-script.script c.in_ok-script.ensures.1 c.in_err-typed.ensures)
+    rw (p.1, p.2) (sorts_refused c.args.bound c.args.bytes.now read.few c.in_err-typed.field-0.0 (listed (rest_of c.in_ok-sexps.sexps 0)) read.text c.in_ok-script.script c.in_ok-script.ensures.1 c.in_err-typed.ensures)
 
 pub returns-in_err-problem : goal.returns-in_err-problem
 returns-in_err-problem c =
-    let few : length c.args.bytes.now ≤ most_bytes = omega arith in
+    let read = c.in_ok-sexps.ensures in
     let p = err_from_is_err_and c.from_residual-in_err-problem.result c.from_residual-in_err-problem.ensures.1 in
-    rw (p.1, p.2) (building_refused c.args.bound c.args.bytes.now few c.in_err-problem.field-0.0 (listed (rest_of c.in_ok-sexps.sexps 0)) c.in_ok-sexps.ensures c.in_ok-script.script c.in_ok-script.ensures.1
+    rw (p.1, p.2) (building_refused c.args.bound c.args.bytes.now read.few c.in_err-problem.field-0.0 (listed (rest_of c.in_ok-sexps.sexps 0)) read.text c.in_ok-script.script c.in_ok-script.ensures.1
     c.in_ok-typed.typed.script c.in_ok-typed.ensures.0 c.in_ok-typed.ensures.1 c.in_err-problem.ensures.builds)
 
 pub returns : goal.returns
 returns c =
-    let few : length c.args.bytes.now ≤ most_bytes = omega arith in
-    problem_had c.args.bound c.args.bytes.now (listed (rest_of c.in_ok-sexps.sexps 0)) c.in_ok-script.script c.in_ok-typed.typed.script c.in_ok-problem.problem few
-    c.in_ok-sexps.ensures c.in_ok-script.ensures.1 c.in_ok-typed.ensures.0 c.in_ok-typed.ensures.1 c.axes.ensures.whole c.in_ok-problem.ensures.lean c.in_ok-problem.ensures.builds
+    let read = c.in_ok-sexps.ensures in
+    problem_had c.args.bound c.args.bytes.now (listed (rest_of c.in_ok-sexps.sexps 0)) c.in_ok-script.script c.in_ok-typed.typed.script c.in_ok-problem.problem read.few
+    read.text c.in_ok-script.ensures.1 c.in_ok-typed.ensures.0 c.in_ok-typed.ensures.1 c.axes.ensures.whole c.in_ok-problem.ensures.lean c.in_ok-problem.ensures.order c.in_ok-problem.ensures.ends c.in_ok-problem.ensures.builds

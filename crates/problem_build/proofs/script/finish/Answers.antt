@@ -1,8 +1,9 @@
 use Rattle.std.proofs.Common.{◌≡◌, ℕ, List, length, map, ap, sym, ◌∙◌, subst}
-use Rattle.std.specs.Prelude.{None, Ok, Err}
+use Rattle.std.specs.Prelude.{All, None, Ok, Err}
 use Rattle.std.proofs.lemmas.Result.{err_from_is_err_and}
 use Rattle.script_model.specs.Script.{Constant, constants_of, sort_of_constant}
 use Rattle.script_model.specs.Declared.{Bound, bound_fault_from, declared_interval, script_bounds}
+use Rattle.poly_graph.specs.Problem.{Axis}
 use Rattle.poly_graph.specs.ProblemViews.{Parts, axis_of, problem_of}
 use Rattle.script_forms.specs.ProblemOf.{AreAxes, IsProblemOf}
 use Rattle.script_forms.specs.Walk.{walked, building_fault, claim_places, last_place, nowhere}
@@ -14,7 +15,9 @@ use Rattle.declared_box.specs.Same.{SameBounds}
 use Rattle.declared_box.specs.Table.{all_of, AreBefore}
 use Rattle.declared_box.specs.Axes as box
 use Rattle.declared_box.specs.Axes.{constant_of}
+use Rattle.script_faults.specs.Reader.{AreLowest}
 use Rattle.problem_build.proofs.Finishing as finishing
+use Rattle.problem_build.proofs.One.{ends_are_lowest}
 use Rattle.problem_build.proofs.script.finish.Goals as goal
 
 pub root_form-requires : goal.root_form-requires
@@ -67,3 +70,11 @@ returns-in_err-axes-clause-builds c =
     let answers = subst (λ (cs : List Constant). box.IsBoundsError c.in_err-axes.field-0.0 (bound_fault_from (declared_interval c.args.bound script) 0 cs)) constants_are (c.in_err-axes.ensures.answers (script_bounds script) same) in
     let p = err_from_is_err_and c.from_residual-in_err-axes.result c.from_residual-in_err-axes.ensures.1 in
     rw (p.1, p.2) (finishing.bounds_refuse script c.args.maker c.args.made.now c.requires.done c.root_form.new.builder c.in-Ok.root roots c.args.bound c.in_err-axes.field-0.0 answers)
+
+pub returns-clause-order : goal.returns-clause-order
+returns-clause-order c =
+    let roots = finishing.roots_as c.args.maker.made c.into_parts-builder.result.0 c.root_form.new.builder (map (λ p. p.0) c.args.made.now) c.in_ok-forms.forms.items (Ok c.in-Ok.root) c.into_parts-builder.ensures.builder c.in_ok-forms.ensures c.in-Ok.ensures.does in
+    finishing.ordered_so (commands_in c.args.script.now) c.args.maker c.args.made.now c.requires.done c.root_form.new.builder c.in-Ok.root roots c.assemble.result.nodes (ap (λ (p : Parts). p.nodes) c.assemble.ensures.parts)
+
+pub returns-clause-ends : goal.returns-clause-ends
+returns-clause-ends c = subst (λ (axes : List Axis). All (λ (a : Axis). AreLowest a.declared) axes) (sym (ap (λ (p : Parts). p.axes) c.assemble.ensures.parts)) (ends_are_lowest c.in_ok-axes.axes.items)

@@ -3,7 +3,7 @@ use Rattle.std.specs.Vec.{vec_len}
 use Rattle.smt_sexp.specs.Lexicon.{read}
 use Rattle.smt_sexp.specs.Step.{IsReading}
 use Rattle.smt_sexp.specs.Views.{place_of}
-use Rattle.smt_sexp.proofs.reading.read.Given as goal
+use Rattle.smt_sexp.proofs.reading.read_text.Given as goal
 
 abbrev pub invariant-loop-at : goal.invariant-loop-at
 invariant-loop-at l = record {
