@@ -29,7 +29,7 @@ Appends old new ls r = OnOk r (HasAppended old.items ls new.items)
 
 -- the numbers of the atoms that are marked yes, or of those marked no, as text
 abbrev pub marked_numbers : Bool → List Mark → List ℕ
-marked_numbers yes marks = listed (numbers_from (is_marked yes) 0 (map mark_of marks))
+marked_numbers wanted marks = listed (numbers_from (is_marked wanted) 0 (map mark_of marks))
 
 -- the lines of the version, the margin, the delta and the bound
 abbrev pub header_of : Options → List CertLine

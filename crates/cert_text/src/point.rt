@@ -3,6 +3,7 @@ ghost use Rattle.std.specs.Prelude.{◌≡◌, IfOk};
 ghost use Rattle.cert_text.specs.Calls.{IsTextOfPoint, text_of_point};
 
 use crate::append::append_plain;
+use crate::facts::fits_certificate;
 use crate::keyword::Plain;
 use crate::parts::{append_header, append_point};
 use cover_data::{Options, Point};
@@ -25,7 +26,6 @@ pub fn write_point(
     append_plain(&mut text, Plain::Point)?;
     append_point(&mut text, point.space())?;
     append_plain(&mut text, Plain::End)?;
-    // The call shows that what lies in memory is no longer than a certificate may be.
-    let _length = text.len();
+    fits_certificate(&text);
     Ok(text)
 }
