@@ -3,6 +3,7 @@ ghost use Rattle.std.specs.Prelude.{IfOk};
 ghost use Rattle.cert_text.specs.Means.{IsCertificateOf};
 
 use crate::append::{append_counted, append_plain};
+use crate::facts::fits_certificate;
 use crate::keyword::{Counted, Plain};
 use crate::parts::{append_header, append_lemmas};
 use crate::walk::append_cover;
@@ -24,7 +25,6 @@ pub fn write_cover(alloc: Global, book: &Book) -> Result<Vec<u8>, AllocError>
     append_plain(&mut text, Plain::Tree)?;
     append_cover(&mut text, alloc, book.nodes())?;
     append_plain(&mut text, Plain::End)?;
-    // What lies in memory is no longer than a certificate may be.
-    let _length = text.len();
+    fits_certificate(&text);
     Ok(text)
 }

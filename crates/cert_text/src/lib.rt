@@ -6,6 +6,7 @@
 
 mod append;
 mod cover;
+mod facts;
 mod keyword;
 pub mod laws;
 mod parts;

@@ -1,37 +1,21 @@
 -- Whether an end is too wide does not depend on how its number is spelled, and one that is not is a bound of problems.
-use Rattle.std.proofs.Common.{◌≡◌, ℕ, suc, ◌*◌, ◌^◌, ◌<◌, Bool, true, false, not, ◌&&◌, inl, inr, IsTrue, refl, ap, ap₂, sym, ◌∙◌, arith, mul-pos, ℤ, pos, negsuc, neg_ℤ, ◌*ℤ◌, ◌≤ℤ◌, ◌<ℤ◌, nat_abs}
+use Rattle.std.proofs.Common.{◌≡◌, ◌^◌, ◌<◌, Bool, true, false, not, ◌&&◌, inl, inr, IsTrue, refl, ap, ap₂, sym, ◌∙◌, arith, ℤ, pos, negsuc, neg_ℤ, ◌≤ℤ◌, ◌<ℤ◌, nat_abs}
 use borrow.Author.Differences.{ints}
 use lib.Signed.{lt_z, lt_z_yes}
 use Rattle.std.specs.Bool.{passes}
 use Rattle.dyadic.specs.Fraction.{Fraction, IsFraction, whole, at_most, negated}
 use Rattle.dyadic.specs.Rounding.{exact, Ext, below_all, finite, above_all, IsDown, IsUp, down, up, ext_at_most}
-use Rattle.dyadic.proofs.Equal.{◌≈◌, through, holds_le, at_most_same, same_test}
-use Rattle.dyadic.proofs.Ring.{natural, minus, read}
+use Rattle.dyadic.proofs.Equal.{through, at_most_same, same_test}
 use Rattle.dyadic.proofs.Rounds.{down_is, up_is, down_from}
 use Rattle.script_model.specs.Declared.{is_exactly, is_kept, is_far, too_wide_end}
 use Rattle.poly_graph.specs.Problem.{size_of, IsKeptFraction, IsBound}
+use Rattle.script_forms.proofs.Kept.{same_number, same_size}
 use Rattle.declared_box.specs.Same.{SameNumber}
 
 -- ---- the size
 
-le-antisymmetric : (a b : ℤ) → a ≤ℤ b → b ≤ℤ a → a ≡ b
-le-antisymmetric a b h k = grind (arith, ints, h, k)
-
-same-number : (p q : Fraction) → IsTrue (at_most p q) → IsTrue (at_most q p) → p ≈ q
-unfolding at_most
-same-number p q h k = record { same = le-antisymmetric _ _ (holds_le _ _ h) (holds_le _ _ k) }
-
-same-size-at : (a c : ℤ) (b d : ℕ) → 0 < b → 0 < d → a *ℤ pos d ≡ c *ℤ pos b → nat_abs a * d ≡ nat_abs c * b
-same-size-at (pos a) (pos c) b d f g h = omega (arith, read (natural (a * d)) (natural (c * b)) h)
-same-size-at (negsuc a) (negsuc c) b d f g h = omega (arith, read (minus (natural (suc a * d))) (minus (natural (suc c * b))) h)
-same-size-at (pos a) (negsuc c) b d f g h = absurd (omega (arith, mul-pos {m = suc c} {n = b} (omega arith) f, read (natural (a * d)) (minus (natural (suc c * b))) h))
-same-size-at (negsuc a) (pos c) b d f g h = absurd (omega (arith, mul-pos {m = suc a} {n = d} (omega arith) g, read (minus (natural (suc a * d))) (natural (c * b)) h))
-
-same-size : (p q : Fraction) → IsFraction p → IsFraction q → p ≈ q → size_of p ≈ size_of q
-same-size p q f g h = record { same = ap pos (same-size-at p.num q.num p.den q.den f g h.same) }
-
 far-same : (p q : Fraction) → SameNumber p q → is_far p ≡ is_far q
-far-same p q h = ap not (at_most_same (whole (pos (2 ^ 32))) h.first h.second (same-size p q h.first h.second (same-number p q h.below h.above)))
+far-same p q h = ap not (at_most_same (whole (pos (2 ^ 32))) h.first h.second (same_size p q h.first h.second (same_number p q h.below h.above)))
 
 -- the size of a fraction below 0 is its opposite
 below-nought : (n : ℤ) → n <ℤ pos 0 → neg_ℤ n ≡ pos (nat_abs n)

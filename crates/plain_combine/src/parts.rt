@@ -1,14 +1,10 @@
 // The parts of variables, one after the other: their ranges, and what is left to each.
-ghost use Rattle.std.specs.Prelude.{◌≡◌, ◌≢◌, ◌<◌, ℕ, None, Some, length, false};
-ghost use Rattle.cover_model.specs.Combination as model;
-ghost use Rattle.cover_model.specs.Combination.{part_range};
+ghost use Rattle.std.specs.Prelude.{◌≡◌, ◌≢◌, ◌<◌, ℕ, None, length, false};
 ghost use Rattle.cover_model.specs.NodeEnclosure.{row};
 ghost use Rattle.ival.specs.Views.{interval_of};
 ghost use Rattle.ival.specs.RowViews.{rows_of, marks_of, is_marked};
 ghost use Rattle.ival.specs.Options.{option_at};
-ghost use Rattle.ival.specs.SpaceViews.{space_of};
-ghost use Rattle.plain_combine.specs.Parts.{before_sum, behind_range, left_to_part, option_part, range_on, setting};
-ghost use Rattle.plain_combine.specs.Passes.{AreBehind, HaveRanges, IsLeft, IsPutUnlessEmpty};
+ghost use Rattle.plain_combine.specs.Calls.{HasRange, HaveBehind, HaveRangesOver, Leaves, PutsLeft, range_of_parts, sum_before, sum_behind};
 ghost use Rattle.plain_combine.specs.Suits.{AreFor, AreUnder};
 
 use crate::part::{Part, part_at};
@@ -28,10 +24,8 @@ fn before(
     ranges: &mut Rows,
 ) -> Ival
     requires place { place < length (rows_of ranges.old) }
-    ensures sum { let with = before_sum (space_of space.now) (space_of centre.now) (option_part part) in
-        interval_of result ≡ with (interval_of sum) }
-    ensures range { (x : model.Part) → option_part part ≡ Some x →
-        row (rows_of ranges.new) place ≡ part_range (space_of space.now) (space_of centre.now) x }
+    ensures sum { interval_of result ≡ sum_before space.now centre.now part sum }
+    ensures range { HasRange space.now centre.now part (row (rows_of ranges.new) place) }
     ensures others { (k : ℕ) → k ≢ place → row (rows_of ranges.new) k ≡ row (rows_of ranges.old) k }
     ensures count { length (rows_of ranges.new) ≡ length (rows_of ranges.old) }
 {
@@ -45,7 +39,7 @@ fn before(
 
 // A sum with this range behind it, if there is a part.
 fn behind(part: Option<Part>, range: Ival, sum: Ival) -> Ival
-    ensures { interval_of result ≡ behind_range (option_part part) (interval_of range) (interval_of sum) }
+    ensures { interval_of result ≡ sum_behind part range sum }
 {
     match part {
         Some(_) => sum.add(range),
@@ -66,9 +60,9 @@ pub fn sum_parts(
     requires under { AreUnder coefficients.now }
     requires ranges { length (rows_of ranges.old) ≡ length graph.now }
     requires left { length (rows_of left.old) ≡ length graph.now }
-    ensures sum { interval_of result ≡ range_on (setting graph.now coefficients.now space.now centre.now) 0 }
-    ensures ranges { HaveRanges (setting graph.now coefficients.now space.now centre.now) (rows_of ranges.new) }
-    ensures behind { AreBehind (setting graph.now coefficients.now space.now centre.now) (rows_of left.new) }
+    ensures sum { interval_of result ≡ range_of_parts graph.now coefficients.now space.now centre.now }
+    ensures ranges { HaveRangesOver graph.now coefficients.now space.now centre.now ranges.new }
+    ensures behind { HaveBehind graph.now coefficients.now space.now centre.now left.new }
     ensures marks { marks_of left.new ≡ marks_of left.old }
     ensures ranges_count { length (rows_of ranges.new) ≡ length graph.now }
     ensures count { length (rows_of left.new) ≡ length graph.now }
@@ -98,7 +92,7 @@ fn leave_to(
 ) -> bool
     requires place { place < length (rows_of left.old) }
     requires none { option_at left.old place ≡ None }
-    ensures put { IsPutUnlessEmpty place (left_to_part (space_of space.now) (space_of centre.now) (interval_of allowed) (interval_of before) (row (rows_of left.old) place) (option_part part)) left.old left.new result }
+    ensures put { PutsLeft part place space.now centre.now allowed before left.old left.new result }
     ensures count { length (rows_of left.new) ≡ length (rows_of left.old) }
 {
     let Some(part) = part else {
@@ -130,10 +124,10 @@ pub fn leave(
     requires under { AreUnder coefficients.now }
     requires left { length (rows_of left.old) ≡ length graph.now }
     requires ranges_count { length (rows_of ranges.now) ≡ length graph.now }
-    requires ranges { HaveRanges (setting graph.now coefficients.now space.now centre.now) (rows_of ranges.now) }
-    requires behind { AreBehind (setting graph.now coefficients.now space.now centre.now) (rows_of left.old) }
+    requires ranges { HaveRangesOver graph.now coefficients.now space.now centre.now ranges.now }
+    requires behind { HaveBehind graph.now coefficients.now space.now centre.now left.old }
     requires none { (k : ℕ) → is_marked (marks_of left.old) k ≡ false }
-    ensures left { IsLeft (setting graph.now coefficients.now space.now centre.now) (interval_of allowed) (interval_of rest) left.new result }
+    ensures left { Leaves graph.now coefficients.now space.now centre.now allowed rest left.new result }
     ensures count { length (rows_of left.new) ≡ length graph.now }
 {
     prove_eq!(coefficients.linear.len(), graph.len());

@@ -19,9 +19,9 @@ use Rattle.script_forms.specs.ProblemOf.{IsEnd, IsDeclaredBy, AreAxes, IsProblem
 le-antisymmetric : (a b : ℤ) → a ≤ℤ b → b ≤ℤ a → a ≡ b
 le-antisymmetric a b h k = grind (arith, ints, h, k)
 
-same-number : (p q : Fraction) → IsTrue (at_most p q) → IsTrue (at_most q p) → p ≈ q
+pub same_number : (p q : Fraction) → IsTrue (at_most p q) → IsTrue (at_most q p) → p ≈ q
 unfolding at_most
-same-number p q h k = record { same = le-antisymmetric _ _ (holds_le _ _ h) (holds_le _ _ k) }
+same_number p q h k = record { same = le-antisymmetric _ _ (holds_le _ _ h) (holds_le _ _ k) }
 
 same-size-at : (a c : ℤ) (b d : ℕ) → 0 < b → 0 < d → a *ℤ pos d ≡ c *ℤ pos b → nat_abs a * d ≡ nat_abs c * b
 same-size-at (pos a) (pos c) b d f g h = omega (arith, read (natural (a * d)) (natural (c * b)) h)
@@ -29,8 +29,8 @@ same-size-at (negsuc a) (negsuc c) b d f g h = omega (arith, read (minus (natura
 same-size-at (pos a) (negsuc c) b d f g h = absurd (omega (arith, mul-pos {m = suc c} {n = b} (omega arith) f, read (natural (a * d)) (minus (natural (suc c * b))) h))
 same-size-at (negsuc a) (pos c) b d f g h = absurd (omega (arith, mul-pos {m = suc a} {n = d} (omega arith) g, read (minus (natural (suc a * d))) (natural (c * b)) h))
 
-same-size : (p q : Fraction) → IsFraction p → IsFraction q → p ≈ q → size_of p ≈ size_of q
-same-size p q f g h = record { same = ap pos (same-size-at p.num q.num p.den q.den f g h.same) }
+pub same_size : (p q : Fraction) → IsFraction p → IsFraction q → p ≈ q → size_of p ≈ size_of q
+same_size p q f g h = record { same = ap pos (same-size-at p.num q.num p.den q.den f g h.same) }
 
 -- ---- one end
 
@@ -46,7 +46,7 @@ not-far false h = cc
 
 end-bound : (q l : Fraction) (kept far : Bool) → is_kept q ≡ kept → is_far q ≡ far → not kept && far ≡ false → IsFraction q → IsEnd (Some q) l → IsBound l
 end-bound q l true far x y e f h = (h.0, inl (kept-end q l (down q) f h.0 h.1 h.2 (down_is q f) x))
-end-bound q l false false x y e f h = (h.0, inr (sym (at_most_same (whole (pos (2 ^ 32))) f h.0 (same-size q l f h.0 (same-number q l h.1 h.2))) ∙ not-far _ y))
+end-bound q l false false x y e f h = (h.0, inr (sym (at_most_same (whole (pos (2 ^ 32))) f h.0 (same_size q l f h.0 (same_number q l h.1 h.2))) ∙ not-far _ y))
 end-bound q l false true x y e f h = cc
 
 neither : (x y : Bool) (f : BoundFault) → cond (x || y) (Some f) None ≡ None → (x ≡ false) × (y ≡ false)

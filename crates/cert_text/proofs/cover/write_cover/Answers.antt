@@ -15,7 +15,7 @@ append_cover-requires c = crossing_counts c.args.book.now c.nodes.ensures.book (
 pub returns : goal.returns
 returns c =
     let text : List ℕ = c.append_plain-2.new.text.items in
-    let short : length text ≤ most_bytes = omega (arith, c.len-length.ensures) in
+    let short : length text ≤ most_bytes = c.fits_certificate.ensures in
     certificate c.args.book.now c.nodes.ensures.book c.append_plain.new.text.items c.append_cover.new.text.items text
     (written_round c.args.book.now c.options.result.now c.lemmas-lemmas.result.now (length c.lemmas-lemmas.result.now) c.new-text.result.items c.append_header.new.text.items c.append_counted.new.text.items c.append_lemmas.new.text.items
     c.append_plain.new.text.items c.append_cover.new.text.items text c.new-text.ensures.items c.options.ensures.options c.lemmas-lemmas.ensures.lemmas refl

@@ -18,5 +18,5 @@ returns-clause-accepted c = λ m h.
     let all : HasAppended [] (point_lines (loosenings_of (margins_of c.args.options.now)) c.args.options.now.bound c.args.point.now) c.append_plain-2.new.text.items =
     point_written (loosenings_of (margins_of c.args.options.now)) c.args.options.now.bound c.args.point.now (space_of c.space.result.now) _ _ _ _ c.append_plain-2.new.text.items
     c.new-text.ensures.items c.space.ensures c.in_ok-append_header.ensures c.in_ok-append_plain.ensures c.in_ok-append_point.ensures c.in_ok-append_plain-2.ensures in
-    let short : length c.append_plain-2.new.text.items ≤ most_bytes = omega (arith, c.len-length.ensures) in
+    let short : length c.append_plain-2.new.text.items ≤ most_bytes = c.fits_certificate.ensures in
     point_means (problem_of c.args.problem.now) (margins_of c.args.options.now) c.args.options.now.bound c.args.point.now c.append_plain-2.new.text.items all short m h
