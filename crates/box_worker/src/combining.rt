@@ -11,6 +11,9 @@ use poly_graph::Problem;
 use relaxation::{Refutation, Relaxation, Side, is_asking};
 use std::alloc::{AllocError, Global};
 
+/// After so many axes in a row that did not fall by about a tenth no more are narrowed.
+const MOST_IDLE_AXES: u32 = 3;
+
 // Combines these atoms where they leave less; whether an axis fell by about a tenth, or nothing is left.
 fn combine(
     problem: &Problem,
@@ -211,11 +214,18 @@ fn narrow_axes(
     ensures { IsOpen problem.now margins.now lemmas.now patch.old.kept.first patch.new }
 {
     let mut has_gained = false;
+    let mut idle = 0;
     for axis in 0..problem.axes().len() {
+        if idle >= MOST_IDLE_AXES {
+            return Ok(has_gained);
+        }
         if narrow_axis(
             alloc, problem, margins, lemmas, scout, patch, relaxation, axis,
         )? {
             has_gained = true;
+            idle = 0;
+        } else {
+            idle += 1;
         }
     }
     Ok(has_gained)
