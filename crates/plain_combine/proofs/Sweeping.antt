@@ -8,8 +8,8 @@ use Rattle.poly_graph.specs.Term.{Node, constant_node, variable_node, negate_nod
 use Rattle.cover_model.specs.NodeEnclosure.{row}
 use Rattle.cover_model.specs.Combination.{Adjoints, joined, handed, handed_down, squares_down, Part, Expansion, expanded, next_adjoints, next_squares, next_expansion, swept}
 use Rattle.cover_model.proofs.NarrowedAt.{drop_here}
-use Rattle.plain_combine.specs.Giving.{constant_at, given_unless, given_down}
-use Rattle.plain_combine.proofs.Constants.{given_down_alike, swept_alike}
+use Rattle.cover_model.specs.CombinationConstants.{is_constant_at, handed_unless, handed_on}
+use Rattle.cover_model.proofs.CombinationConstants.{handed_on_alike, swept_alike}
 use Rattle.plain_combine.specs.Parts.{part_at, part_in, before_parts, parts_from, parts_on, expansion_on}
 use Rattle.plain_combine.specs.Rest.{expansion_with, with_node}
 
@@ -96,20 +96,20 @@ apart k a n h l = go (nat_eq k a) refl
 handed-off : (k a n : ℕ) (i : Interval) (os : Adjoints) → IsTrue (nat_lt a n) → n ≤ k → handed a i os k ≡ os k
 handed-off k a n i os h l = ap (λ (t : Bool). cond t (Some (joined (os k) i)) (os k)) (apart k a n h l)
 
-unless-off : (t : Bool) (k a n : ℕ) (i : Interval) (os : Adjoints) → IsTrue (nat_lt a n) → n ≤ k → given_unless t a i os k ≡ os k
+unless-off : (t : Bool) (k a n : ℕ) (i : Interval) (os : Adjoints) → IsTrue (nat_lt a n) → n ≤ k → handed_unless t a i os k ≡ os k
 unless-off true k a n i os h l = refl
 unless-off false k a n i os h l = handed-off k a n i os h l
 
-down-off : (nodes : List Node) (cs : List Interval) (w : Interval) (m : Node) (os : Adjoints) (n k : ℕ) → IsTrue (comes_after n m) → n ≤ k → given_down nodes cs w m os k ≡ os k
+down-off : (nodes : List Node) (cs : List Interval) (w : Interval) (m : Node) (os : Adjoints) (n k : ℕ) → IsTrue (comes_after n m) → n ≤ k → handed_on nodes cs w m os k ≡ os k
 down-off nodes cs w (constant_node q) os n k h l = refl
 down-off nodes cs w (variable_node a) os n k h l = refl
 down-off nodes cs w (negate_node a) os n k h l = handed-off k a n (interval_negated w) os h l
 down-off nodes cs w (add_node a b) os n k h l =
-    let e = both_true (nat_lt a n) (nat_lt b n) h in let s = constant_at nodes a in
-    unless-off (constant_at nodes b) k b n w (given_unless s a w os) e.1 l ∙ unless-off s k a n w os e.0 l
+    let e = both_true (nat_lt a n) (nat_lt b n) h in let s = is_constant_at nodes a in
+    unless-off (is_constant_at nodes b) k b n w (handed_unless s a w os) e.1 l ∙ unless-off s k a n w os e.0 l
 down-off nodes cs w (multiply_node a b) os n k h l =
-    let e = both_true (nat_lt a n) (nat_lt b n) h in let s = constant_at nodes a in let i = interval_product w (row cs b) in
-    unless-off (constant_at nodes b) k b n (interval_product w (row cs a)) (given_unless s a i os) e.1 l ∙ unless-off s k a n i os e.0 l
+    let e = both_true (nat_lt a n) (nat_lt b n) h in let s = is_constant_at nodes a in let i = interval_product w (row cs b) in
+    unless-off (is_constant_at nodes b) k b n (interval_product w (row cs a)) (handed_unless s a i os) e.1 l ∙ unless-off s k a n i os e.0 l
 down-off nodes cs w (square_node a) os n k h l = let i = interval_product w (row cs a) in handed-off k a n i (handed a i os) h l ∙ handed-off k a n i os h l
 
 squares-off : (w : Interval) (m : Node) (qs : Adjoints) (n k : ℕ) → IsTrue (comes_after n m) → n ≤ k → squares_down w m qs k ≡ qs k
@@ -146,7 +146,7 @@ module _ (nodes : List Node) (es cs : List Interval) where
 
   -- at node n
   pub sweep_next : (n : ℕ) (w rest rest' : Interval) (q : Option Interval) (m : Node) (os qs os' qs' : Adjoints) → slice_get nodes n ≡ Some m → IsTrue (comes_after n m) → os n ≡ Some w → qs n ≡ q →
-      os' ≡ given_down nodes cs w m os → qs' ≡ squares_down w m qs → rest' ≡ with_node es cs n w q m rest →
+      os' ≡ handed_on nodes cs w m os → qs' ≡ squares_down w m qs → rest' ≡ with_node es cs n w q m rest →
       swept nodes es cs (suc n) os qs (expansion_on nodes os qs (suc n) rest) ≡ swept nodes es cs n os' qs' (expansion_on nodes os' qs' n rest')
   sweep_next n w rest rest' q m os qs os' qs' h c f g a b r =
       let parts = parts_on nodes os qs (suc n) in
@@ -158,7 +158,7 @@ module _ (nodes : List Node) (es cs : List Interval) where
       ∙ ap (before_parts (part_at m (Some w) q)) (parts-alike (drop (suc n) nodes) os qs os' qs' (suc n) (λ k l. on k (omega arith)) (λ k l. on' k (omega arith))) in
       ap₂ (λ (o : Option Interval) (x : Option Node). swept nodes es cs n (next_adjoints cs o x os) (next_squares o x qs) (next_expansion es cs n o (qs n) x (expansion_with parts rest))) f h
       ∙ ap (λ (s : Option Interval). swept nodes es cs n (handed_down cs w m os) (squares_down w m qs) (expanded es cs n (Some w) s m (expansion_with parts rest))) g
-      ∙ swept_alike nodes es cs n (handed_down cs w m os) (given_down nodes cs w m os) (squares_down w m qs) (expanded es cs n (Some w) q m (expansion_with parts rest)) (given_down_alike nodes cs w m os)
+      ∙ swept_alike nodes es cs n (handed_down cs w m os) (handed_on nodes cs w m os) (squares_down w m qs) (expanded es cs n (Some w) q m (expansion_with parts rest)) (handed_on_alike nodes cs w m os)
       ∙ ap₂ (λ (x y : Adjoints). swept nodes es cs n x y (expanded es cs n (Some w) q m (expansion_with parts rest))) (sym a) (sym b)
       ∙ ap (λ (x : Expansion). swept nodes es cs n os' qs' x) (expanded-is es cs n w q m parts rest)
       ∙ ap₂ (λ (xs : List Part) (i : Interval). swept nodes es cs n os' qs' (expansion_with xs i)) (sym same) (sym r)

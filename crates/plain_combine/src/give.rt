@@ -7,7 +7,7 @@ ghost use Rattle.cover_model.specs.Combination.{joined, handed, squares_down};
 ghost use Rattle.ival.specs.Views.{interval_of};
 ghost use Rattle.ival.specs.RowViews.{rows_of};
 ghost use Rattle.ival.specs.Options.{option_at, option_of};
-ghost use Rattle.plain_combine.specs.Giving.{constant_at, given_unless, given_down};
+ghost use Rattle.cover_model.specs.CombinationConstants.{is_constant_at, handed_unless, handed_on};
 
 use crate::quadratic::multiple;
 use ival::{Ival, Rows};
@@ -50,7 +50,7 @@ pub fn give(node: u32, more: Ival, rows: &mut Rows)
 // Whether the node is a constant.
 fn is_constant(graph: &Graph, node: u32) -> bool
     requires { node < length graph.now }
-    ensures { result ≡ constant_at graph.now node }
+    ensures { result ≡ is_constant_at graph.now node }
 {
     match graph.node(node) {
         Node::Const(_) => true,
@@ -66,8 +66,8 @@ fn is_constant(graph: &Graph, node: u32) -> bool
 fn give_part(graph: &Graph, node: u32, more: Ival, linear: &mut Rows)
     requires node { node < length graph.now }
     requires rows { length (rows_of linear.old) ≡ length graph.now }
-    ensures all { let without = constant_at graph.now node in
-        option_at linear.new ≡ given_unless without node (interval_of more) (option_at linear.old) }
+    ensures all { let without = is_constant_at graph.now node in
+        option_at linear.new ≡ handed_unless without node (interval_of more) (option_at linear.old) }
     ensures count { length (rows_of linear.new) ≡ length graph.now }
 {
     if is_constant(graph, node) {
@@ -80,9 +80,9 @@ fn give_part(graph: &Graph, node: u32, more: Ival, linear: &mut Rows)
 fn give_factor(graph: &Graph, node: u32, coefficient: Ival, other: Ival, linear: &mut Rows)
     requires node { node < length graph.now }
     requires rows { length (rows_of linear.old) ≡ length graph.now }
-    ensures all { let without = constant_at graph.now node in
+    ensures all { let without = is_constant_at graph.now node in
         let more = interval_product (interval_of coefficient) (interval_of other) in
-        option_at linear.new ≡ given_unless without node more (option_at linear.old) }
+        option_at linear.new ≡ handed_unless without node more (option_at linear.old) }
     ensures count { length (rows_of linear.new) ≡ length graph.now }
 {
     if is_constant(graph, node) {
@@ -104,7 +104,7 @@ pub fn give_children(
     requires rows { length (rows_of centre_rows.now) ≡ length graph.now }
     requires linear { length (rows_of linear.old) ≡ length graph.now }
     ensures all { let cs = rows_of centre_rows.now in let w = interval_of coefficient in
-        option_at linear.new ≡ given_down graph.now cs w (node_of node) (option_at linear.old) }
+        option_at linear.new ≡ handed_on graph.now cs w (node_of node) (option_at linear.old) }
     ensures count { length (rows_of linear.new) ≡ length graph.now }
 {
     match node {

@@ -5,7 +5,8 @@ ghost use Rattle.interval_model.specs.Interval.{misses_nought, interval_product}
 ghost use Rattle.cover_model.specs.Combination.{only, interval_difference, half_quotient, completed, root_left, completed_left, both_range, both_left};
 ghost use Rattle.ival.specs.Views.{interval_of};
 ghost use Rattle.ival.specs.Options.{option_of};
-ghost use Rattle.plain_combine.specs.Rest.{IsSingle, only_one};
+ghost use Rattle.cover_model.specs.CombinationConstants.{one_alone};
+ghost use Rattle.plain_combine.specs.Rest.{IsSingle};
 
 use dyadic::{Dy, Ext, Sign, pow2, sign_of};
 use ival::{Ends, Ival};
@@ -36,7 +37,7 @@ pub fn is_single(interval: Ival) -> bool
 
 // Whether it is the number 1.
 fn is_one(interval: Ival) -> bool
-    ensures { result ≡ true → interval_of interval ≡ only_one }
+    ensures { result ≡ true → interval_of interval ≡ one_alone }
 {
     let Ival::Between(ends) = interval else {
         return false;
