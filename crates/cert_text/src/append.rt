@@ -1,13 +1,13 @@
 // Lines that are appended to a text.
-ghost use Rattle.std.specs.Prelude.{◌≡◌, ◌<◌, ◌≤◌, ◌^◌, ◌++◌, ◌∷◌, [], OnOk, decimal, length, map};
+ghost use Rattle.std.specs.Prelude.{◌≡◌, ◌<◌, ◌≤◌, ◌++◌, ◌∷◌, [], OnOk, decimal, length, map};
 ghost use Rattle.dyadic.specs.NumberText.{number_spelling};
 ghost use Rattle.dyadic.specs.Views.{dyadic_of};
 ghost use Rattle.poly_graph.specs.MarkViews.{mark_of};
-ghost use Rattle.poly_graph.specs.Marks.{numbers_from};
 ghost use Rattle.cert_read.specs.CertLine.{ban_by, cut_at, real_interval, real_value, rule_line};
-ghost use Rattle.cert_read.specs.LineText.{IsCount, IsSpelledNumber, spaced};
+ghost use Rattle.cert_read.specs.LineText.{IsCount, IsSpelledNumber};
 ghost use Rattle.cover_model.specs.Views.{multipliers_of};
-ghost use Rattle.cert_text.specs.Lines.{HasAppended, HasPairs, counted_line, is_marked, listed, marks_line, marks_word, most_atoms, paired_line, plain_line};
+ghost use Rattle.cert_text.specs.Calls.{Appends, combination_line, marked_numbers};
+ghost use Rattle.cert_text.specs.Lines.{HasPairs, counted_line, is_marked, marks_line, marks_word, most_atoms, plain_line};
 
 use crate::keyword::{Counted, Paired, Plain, counted_bytes, paired_bytes, plain_bytes};
 use cover_data::Combination;
@@ -43,7 +43,7 @@ fn append_break(text: &mut Vec<u8>) -> Result<(), AllocError>
 
 /// Appends a line without a number.
 pub(crate) fn append_plain(text: &mut Vec<u8>, line: Plain) -> Result<(), AllocError>
-    ensures { OnOk result (HasAppended text.old.items (plain_line line ∷ []) text.new.items) }
+    ensures { Appends text.old text.new (plain_line line ∷ []) result }
 {
     text.extend_from_slice(plain_bytes(line).as_bytes())?;
     append_break(text)
@@ -61,7 +61,7 @@ fn append_word_and_count(text: &mut Vec<u8>, word: &str, n: u32) -> Result<(), A
 
 /// Appends a line with one plain number.
 pub(crate) fn append_counted(text: &mut Vec<u8>, word: Counted, n: u32) -> Result<(), AllocError>
-    ensures { OnOk result (HasAppended text.old.items (counted_line word n ∷ []) text.new.items) }
+    ensures { Appends text.old text.new (counted_line word n ∷ []) result }
 {
     append_word_and_count(text, counted_bytes(word), n)?;
     append_break(text)
@@ -69,7 +69,7 @@ pub(crate) fn append_counted(text: &mut Vec<u8>, word: Counted, n: u32) -> Resul
 
 /// Appends the line that a lemma bans an atom.
 pub(crate) fn append_ban(text: &mut Vec<u8>, atom: u32, lemma: u32) -> Result<(), AllocError>
-    ensures { OnOk result (HasAppended text.old.items (rule_line (ban_by atom lemma) ∷ []) text.new.items) }
+    ensures { Appends text.old text.new (rule_line (ban_by atom lemma) ∷ []) result }
 {
     append_word_and_count(text, "ban", atom)?;
     append_word_and_count(text, "", lemma)?;
@@ -78,7 +78,7 @@ pub(crate) fn append_ban(text: &mut Vec<u8>, atom: u32, lemma: u32) -> Result<()
 
 /// Appends the line that an axis is cut at a number.
 pub(crate) fn append_cut(text: &mut Vec<u8>, axis: u32, at: Dy) -> Result<(), AllocError>
-    ensures { OnOk result (HasAppended text.old.items (rule_line (cut_at axis (dyadic_of at)) ∷ []) text.new.items) }
+    ensures { Appends text.old text.new (rule_line (cut_at axis (dyadic_of at)) ∷ []) result }
 {
     append_word_and_count(text, "cut", axis)?;
     text.extend_from_slice(b" ")?;
@@ -88,7 +88,7 @@ pub(crate) fn append_cut(text: &mut Vec<u8>, axis: u32, at: Dy) -> Result<(), Al
 
 /// Appends the line of a Real value.
 pub(crate) fn append_value(text: &mut Vec<u8>, value: Dy) -> Result<(), AllocError>
-    ensures { OnOk result (HasAppended text.old.items (real_value (dyadic_of value) ∷ []) text.new.items) }
+    ensures { Appends text.old text.new (real_value (dyadic_of value) ∷ []) result }
 {
     text.extend_from_slice(b"real ")?;
     append_number(text, value)?;
@@ -97,7 +97,7 @@ pub(crate) fn append_value(text: &mut Vec<u8>, value: Dy) -> Result<(), AllocErr
 
 /// Appends the line of an interval.
 pub(crate) fn append_interval(text: &mut Vec<u8>, low: Dy, high: Dy) -> Result<(), AllocError>
-    ensures { OnOk result (HasAppended text.old.items (real_interval (dyadic_of low) (dyadic_of high) ∷ []) text.new.items) }
+    ensures { Appends text.old text.new (real_interval (dyadic_of low) (dyadic_of high) ∷ []) result }
 {
     text.extend_from_slice(b"real ")?;
     append_number(text, low)?;
@@ -131,8 +131,7 @@ pub(crate) fn append_combination(
     word: Paired,
     combination: &Combination,
 ) -> Result<(), AllocError>
-    ensures { let ps = multipliers_of combination.now.pairs.items in
-        OnOk result (HasAppended text.old.items (paired_line word ps ∷ []) text.new.items) }
+    ensures { Appends text.old text.new (combination_line word combination.now ∷ []) result }
 {
     text.extend_from_slice(paired_bytes(word).as_bytes())?;
     append_pairs(text, &combination.pairs)?;
@@ -159,7 +158,7 @@ fn marks_bytes(yes: bool) -> &'static str
 // The numbers of the atoms that are marked so.
 fn append_numbers(text: &mut Vec<u8>, marks: &[Mark], yes: bool) -> Result<(), AllocError>
     requires { length marks.now ≤ most_atoms }
-    ensures { OnOk result (text.new.items ≡ text.old.items ++ listed (numbers_from (is_marked yes) 0 (map mark_of marks.now))) }
+    ensures { OnOk result (text.new.items ≡ text.old.items ++ marked_numbers yes marks.now) }
 {
     for j in 0..marks.len() {
         if is_marked(marks[j], yes) {
@@ -172,7 +171,7 @@ fn append_numbers(text: &mut Vec<u8>, marks: &[Mark], yes: bool) -> Result<(), A
 /// Appends the line of the atoms that are marked yes, or of those marked no.
 pub(crate) fn append_marks(text: &mut Vec<u8>, marks: &[Mark], yes: bool) -> Result<(), AllocError>
     requires { length marks.now ≤ most_atoms }
-    ensures { OnOk result (HasAppended text.old.items (marks_line yes (map mark_of marks.now) ∷ []) text.new.items) }
+    ensures { Appends text.old text.new (marks_line yes (map mark_of marks.now) ∷ []) result }
 {
     text.extend_from_slice(marks_bytes(yes).as_bytes())?;
     append_numbers(text, marks, yes)?;

@@ -1,5 +1,5 @@
 // The lines of a certificate that have no number, and the first words of those that have one plain number or pairs.
-ghost use Rattle.std.specs.Prelude.{◌≡◌, ◌≤◌, length};
+ghost use Rattle.std.specs.Prelude.{◌≡◌};
 ghost use Rattle.cert_text.specs.Lines.{counted_word, paired_word, plain_text};
 
 /// A line without a number.

@@ -1,18 +1,15 @@
 // The parts of a certificate.
-ghost use Rattle.std.specs.Prelude.{◌≡◌, ◌≤◌, ◌∷◌, [], OnOk, length, map};
+ghost use Rattle.std.specs.Prelude.{◌≤◌, ◌∷◌, [], length, map};
 ghost use Rattle.std.specs.List.{AllByRecursion};
-ghost use Rattle.cover_model.specs.State.{Loosenings};
 ghost use Rattle.ival.specs.SpaceViews.{domain_of, space_of};
-ghost use Rattle.cover_data.specs.Margins.{loosenings_of};
 ghost use Rattle.cover_data.specs.Views.{step_line, end_line};
-ghost use Rattle.cover_book.specs.Model.{margins_of};
 ghost use Rattle.cover_book.specs.Steps.{most_lemmas};
 ghost use Rattle.cover_book.specs.Tree.{lemma_tree};
 ghost use Rattle.cover_book.specs.Views.{learned_of};
 ghost use Rattle.cert_read.specs.CertLine.{rule_line};
 ghost use Rattle.cert_model.specs.Written.{domain_line, lemma_lines, line_of, point_line, rule_lines};
-ghost use Rattle.cert_text.specs.Lines.{HasAppended};
-ghost use Rattle.cert_text.specs.Parts.{HasFewMarks, header_lines, kept_lines, learned_lines};
+ghost use Rattle.cert_text.specs.Calls.{Appends, header_of};
+ghost use Rattle.cert_text.specs.Parts.{HasFewMarks, kept_lines, learned_lines};
 
 use crate::append::{
     append_ban, append_combination, append_counted, append_cut, append_interval, append_marks,
@@ -29,7 +26,7 @@ const VERSION: u32 = 2;
 
 /// Appends the version, the margin, the delta and the bound.
 pub(crate) fn append_header(text: &mut Vec<u8>, options: &Options) -> Result<(), AllocError>
-    ensures { OnOk result (HasAppended text.old.items (header_lines (loosenings_of (margins_of options.now)) options.now.bound) text.new.items) }
+    ensures { Appends text.old text.new (header_of options.now) result }
 {
     append_counted(text, Counted::Version, VERSION)?;
     append_counted(text, Counted::Margin, options.margin_bits)?;
@@ -42,7 +39,7 @@ pub(crate) fn append_header(text: &mut Vec<u8>, options: &Options) -> Result<(),
 
 // What is left to an axis.
 fn append_domain(text: &mut Vec<u8>, domain: Domain) -> Result<(), AllocError>
-    ensures { OnOk result (HasAppended text.old.items (domain_line (domain_of domain) ∷ []) text.new.items) }
+    ensures { Appends text.old text.new (domain_line (domain_of domain) ∷ []) result }
 {
     match domain {
         Domain::Real(range) => append_interval(text, range.low, range.high),
@@ -54,7 +51,7 @@ fn append_domain(text: &mut Vec<u8>, domain: Domain) -> Result<(), AllocError>
 
 // The one value that is left to an axis.
 fn append_coordinate(text: &mut Vec<u8>, domain: Domain) -> Result<(), AllocError>
-    ensures { OnOk result (HasAppended text.old.items (point_line (domain_of domain) ∷ []) text.new.items) }
+    ensures { Appends text.old text.new (point_line (domain_of domain) ∷ []) result }
 {
     match domain {
         Domain::Real(range) => append_value(text, range.low),
@@ -65,7 +62,7 @@ fn append_coordinate(text: &mut Vec<u8>, domain: Domain) -> Result<(), AllocErro
 
 /// Appends a line for each axis of a lemma's space.
 pub(crate) fn append_space(text: &mut Vec<u8>, space: &Space) -> Result<(), AllocError>
-    ensures { OnOk result (HasAppended text.old.items (map domain_line (space_of space.now)) text.new.items) }
+    ensures { Appends text.old text.new (map domain_line (space_of space.now)) result }
 {
     for domain in &space.axes {
         append_domain(text, *domain)?;
@@ -75,7 +72,7 @@ pub(crate) fn append_space(text: &mut Vec<u8>, space: &Space) -> Result<(), Allo
 
 /// Appends a line for each coordinate of a point.
 pub(crate) fn append_point(text: &mut Vec<u8>, point: &Space) -> Result<(), AllocError>
-    ensures { OnOk result (HasAppended text.old.items (map point_line (space_of point.now)) text.new.items) }
+    ensures { Appends text.old text.new (map point_line (space_of point.now)) result }
 {
     for domain in &point.axes {
         append_coordinate(text, *domain)?;
@@ -84,7 +81,7 @@ pub(crate) fn append_point(text: &mut Vec<u8>, point: &Space) -> Result<(), Allo
 }
 
 fn append_step(text: &mut Vec<u8>, step: &Step) -> Result<(), AllocError>
-    ensures { OnOk result (HasAppended text.old.items (rule_line (line_of (step_line step.now)) ∷ []) text.new.items) }
+    ensures { Appends text.old text.new (rule_line (line_of (step_line step.now)) ∷ []) result }
 {
     match step {
         Step::Pull(atom) => append_counted(text, Counted::Pull, *atom),
@@ -96,7 +93,7 @@ fn append_step(text: &mut Vec<u8>, step: &Step) -> Result<(), AllocError>
 }
 
 fn append_end(text: &mut Vec<u8>, end: &End) -> Result<(), AllocError>
-    ensures { OnOk result (HasAppended text.old.items (rule_line (line_of (end_line end.now)) ∷ []) text.new.items) }
+    ensures { Appends text.old text.new (rule_line (line_of (end_line end.now)) ∷ []) result }
 {
     match end {
         End::Void(atom) => append_counted(text, Counted::Void, *atom),
@@ -113,7 +110,7 @@ fn append_end(text: &mut Vec<u8>, end: &End) -> Result<(), AllocError>
 
 /// Appends the steps and the end of a patch.
 pub(crate) fn append_lines(text: &mut Vec<u8>, lines: &Lines) -> Result<(), AllocError>
-    ensures { OnOk result (HasAppended text.old.items (rule_lines (kept_lines lines.now)) text.new.items) }
+    ensures { Appends text.old text.new (rule_lines (kept_lines lines.now)) result }
 {
     for step in &lines.steps {
         append_step(text, step)?;
@@ -124,7 +121,7 @@ pub(crate) fn append_lines(text: &mut Vec<u8>, lines: &Lines) -> Result<(), Allo
 // A lemma: its number, its state and its tree.
 fn append_lemma(text: &mut Vec<u8>, id: u32, lemma: &Learned) -> Result<(), AllocError>
     requires { HasFewMarks lemma.now }
-    ensures { OnOk result (HasAppended text.old.items (lemma_lines id (lemma_tree (learned_of lemma.now))) text.new.items) }
+    ensures { Appends text.old text.new (lemma_lines id (lemma_tree (learned_of lemma.now))) result }
 {
     let marks = lemma.state.lits().marks();
     append_counted(text, Counted::Lemma, id)?;
@@ -138,7 +135,7 @@ fn append_lemma(text: &mut Vec<u8>, id: u32, lemma: &Learned) -> Result<(), Allo
 pub(crate) fn append_lemmas(text: &mut Vec<u8>, lemmas: &[Learned]) -> Result<(), AllocError>
     requires few { length lemmas.now ≤ most_lemmas }
     requires marks { AllByRecursion HasFewMarks lemmas.now }
-    ensures { OnOk result (HasAppended text.old.items (learned_lines lemmas.now) text.new.items) }
+    ensures { Appends text.old text.new (learned_lines lemmas.now) result }
 {
     for id in 0..lemmas.len() {
         append_lemma(text, id as u32, &lemmas[id])?;

@@ -1,9 +1,6 @@
 // The certificate of a point.
 ghost use Rattle.std.specs.Prelude.{◌≡◌, IfOk};
-ghost use Rattle.poly_graph.specs.ProblemViews.{problem_of};
-ghost use Rattle.cover_data.specs.Margins.{margins_of, loosenings_of};
-ghost use Rattle.cert_model.specs.Laws.{point_text};
-ghost use Rattle.cert_text.specs.Means.{IsPointCertificate};
+ghost use Rattle.cert_text.specs.Calls.{IsTextOfPoint, text_of_point};
 
 use crate::append::append_plain;
 use crate::keyword::Plain;
@@ -20,10 +17,8 @@ pub fn write_point(
     options: &Options,
     point: &Point,
 ) -> Result<Vec<u8>, AllocError>
-    ensures text { let s = loosenings_of (margins_of options.now) in
-        IfOk result (λ text. text.items ≡ point_text s options.now.bound point.now) }
-    ensures accepted { let p = problem_of problem.now in
-        IfOk result (λ text. IsPointCertificate p options.now point.now text.items) }
+    ensures text { IfOk result (λ text. text.items ≡ text_of_point options.now point.now) }
+    ensures accepted { IfOk result (IsTextOfPoint problem.now options.now point.now) }
 {
     let mut text = Vec::new(alloc);
     append_header(&mut text, options)?;

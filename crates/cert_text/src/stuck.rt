@@ -1,9 +1,8 @@
 // The first stuck box of a book.
-ghost use Rattle.std.specs.Prelude.{◌≡◌, IfOk, MatchOption, None, false, map};
+ghost use Rattle.std.specs.Prelude.{◌≡◌, IfOk, MatchOption, None, false};
 ghost use Rattle.cover_book.specs.Verdict.{has_stuck};
-ghost use Rattle.cover_book.specs.Views.{node_of};
-ghost use Rattle.cert_text.specs.Parts.{node_left};
-ghost use Rattle.cert_text.specs.Stuck.{HasNoStuckState, IsFirstStuckState, IsFirstStuck, IsStuckNode, first_stuck};
+ghost use Rattle.cert_text.specs.Calls.{HasNoStuckBox, IsFirstStuckOf, IsNotStuck, IsStuckAt};
+ghost use Rattle.cert_text.specs.Stuck.{IsFirstStuck, first_stuck};
 
 use crate::walk::{push_kids, take_next};
 use cover_book::{Book, Node};
@@ -21,9 +20,7 @@ pub struct StuckBox<'a> {
 
 // The box in which a node is stuck.
 fn stuck_box(node: &Node) -> Option<StuckBox<'_>>
-    ensures { let n = node_of node.now in
-        let none = first_stuck (node_left n) ≡ None in
-        MatchOption result none (λ x. IsStuckNode n x.atom x.state.now) }
+    ensures { MatchOption result (IsNotStuck node.now) (λ x. IsStuckAt node.now x.atom x.state.now) }
 {
     match node {
         Node::Stuck(lines, state) => match lines.end {
@@ -39,9 +36,9 @@ fn first_stuck_node<'a>(
     alloc: Global,
     nodes: &'a [Node],
 ) -> Result<Option<StuckBox<'a>>, AllocError>
-    ensures { let ns = map node_of nodes.now in
-        let none = HasNoStuckState ns in
-        IfOk result (λ found. MatchOption found none (λ x. IsFirstStuckState ns x.atom x.state.now)) }
+    ensures { IfOk result (λ found. MatchOption found
+        (HasNoStuckBox nodes.now)
+        (λ x. IsFirstStuckOf nodes.now x.atom x.state.now)) }
 {
     let mut waiting = Vec::new(alloc);
     waiting.push(0)?;

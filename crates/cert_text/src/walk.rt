@@ -1,9 +1,8 @@
 // The walk over the tree of a book.
-ghost use Rattle.std.specs.Prelude.{◌≡◌, ℕ, ◌++◌, ◌∷◌, [], MatchOption, OnOk, map};
-ghost use Rattle.cover_book.specs.Model.{crossed_node};
+ghost use Rattle.std.specs.Prelude.{◌≡◌, ◌++◌, MatchOption, OnOk, map};
 ghost use Rattle.cover_book.specs.Views.{node_of};
-ghost use Rattle.cert_text.specs.Lines.{HasAppended};
-ghost use Rattle.cert_text.specs.Parts.{HasAppendedCover, HasAppendedTree, IsCountedCrossing, HasNothingNext, IsNextTaken, kids, node_lines};
+ghost use Rattle.cert_text.specs.Calls.{Appends, IsCrossedAt, IsNotCrossed, IsTaken, NoneWaits};
+ghost use Rattle.cert_text.specs.Parts.{HasAppendedCover, HasAppendedTree, IsCountedCrossing, kids, node_lines};
 
 use crate::append::{append_counted, append_plain};
 use crate::keyword::{Counted, Plain};
@@ -13,7 +12,7 @@ use std::alloc::{AllocError, Global};
 
 // The lines of a node of a tree.
 fn append_node(text: &mut Vec<u8>, node: &Node) -> Result<(), AllocError>
-    ensures { OnOk result (HasAppended text.old.items (node_lines (node_of node.now)) text.new.items) }
+    ensures { Appends text.old text.new (node_lines (node_of node.now)) result }
 {
     match node {
         Node::Live(_) => append_plain(text, Plain::Open),
@@ -26,9 +25,9 @@ fn append_node(text: &mut Vec<u8>, node: &Node) -> Result<(), AllocError>
 
 // Takes the last node of those that wait.
 pub(crate) fn take_next<'a>(waiting: &mut Vec<u64>, nodes: &'a [Node]) -> Option<&'a Node>
-    ensures { let ns = map node_of nodes.now in
-        let none = HasNothingNext ns waiting.old.items in
-        MatchOption result none (λ n. IsNextTaken ns waiting.old.items waiting.new.items (node_of n.now)) }
+    ensures { MatchOption result
+        (NoneWaits nodes.now waiting.old)
+        (λ n. IsTaken nodes.now waiting.old waiting.new n.now) }
 {
     match waiting.pop() {
         None => None,
@@ -70,9 +69,7 @@ fn append_tree(text: &mut Vec<u8>, alloc: Global, nodes: &[Node]) -> Result<(), 
 
 // The axis whose bounds cross, where a node alone says so.
 fn crossed_axis(nodes: &[Node]) -> Option<usize>
-    ensures { let ns = map node_of nodes.now in
-        let none = (i : ℕ) → ns ≡ crossed_node i ∷ [] → ⊥ in
-        MatchOption result none (λ i. ns ≡ crossed_node i ∷ []) }
+    ensures { MatchOption result (IsNotCrossed nodes.now) (IsCrossedAt nodes.now) }
 {
     if nodes.len() != 1 {
         return None;

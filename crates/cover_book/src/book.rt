@@ -1,16 +1,14 @@
 // The book of a cover.
-ghost use Rattle.std.specs.Prelude.{◌≡◌, ◌↔◌, ◌<◌, ◌^◌, IfOk, IfSome, MatchOption, MatchResult, IsTrue, length, map, slice_get};
+ghost use Rattle.std.specs.Prelude.{◌≡◌, ◌↔◌, ◌<◌, ◌^◌, IfOk, IfSome, MatchOption, MatchResult, IsTrue, length, map};
 ghost use Rattle.std.specs.List.{list_any};
 ghost use Rattle.cover_data.specs.Views.{kept_of, end_of};
+ghost use Rattle.cover_book.specs.Calls.{IsOpeningOf, KeepsLemma, StoresLemma, StoresPatch, TestsCommit, TestsQuoted};
 ghost use Rattle.cover_book.specs.Limits.{IsWithinLimits};
-ghost use Rattle.poly_graph.specs.Problem.{first_crossed};
-ghost use Rattle.poly_graph.specs.ProblemViews.{problem_of};
-ghost use Rattle.cover_model.specs.State.{root_state};
-ghost use Rattle.cover_book.specs.Model.{opening, first_node, lemma_states_in};
+ghost use Rattle.cover_book.specs.Model.{opening};
 ghost use Rattle.cover_book.specs.Verdict.{verdict_of, is_live, is_stuck, live_after};
 ghost use Rattle.cover_book.specs.Views.{learned_of, node_of};
 ghost use Rattle.cover_book.specs.Keeps.{IsBook};
-ghost use Rattle.cover_book.specs.Steps.{BookStep, QuotesKnownLemmas, IsQuotedRefusal, IsPointKeptRefusal, IsCommitRefusal, MayCommit, MayBeCalled, CommitStep, LemmaStep, IsOutOfMemory, ResultStep, most_lemmas, ends_in_branch};
+ghost use Rattle.cover_book.specs.Steps.{BookStep, QuotesKnownLemmas, IsPointKeptRefusal, MayCommit, MayBeCalled, ResultStep, most_lemmas, ends_in_branch};
 ghost use Rattle.cover_book.specs.declared.calls.Call.TheVariants as call;
 ghost use Rattle.cover_book.specs.declared.calls.Reply.TheVariants as reply;
 
@@ -57,8 +55,7 @@ impl Model for Book {
 
 // The node that a book opens with.
 fn opening_node(alloc: Global, problem: &Problem) -> Result<Node, AllocError>
-    ensures { let p = problem_of problem.now in
-        IfOk result (λ n. node_of n ≡ first_node (first_crossed p) (root_state p)) }
+    ensures { IfOk result (IsOpeningOf problem.now) }
 {
     match root_space(alloc, problem)? {
         Root::Empty(axis) => Ok(Node::Crossed(axis)),
@@ -198,7 +195,7 @@ impl Book {
 
     // Whether the book keeps this lemma under its number.
     fn knows(&self, lemma: &Lemma) -> bool
-        ensures { IsTrue result ↔ (slice_get (lemma_states_in self.now) lemma.now.id ≡ Some lemma.now.state) }
+        ensures { IsTrue result ↔ KeepsLemma self.now lemma.now }
     {
         match self.lemmas.get(lemma.id() as usize) {
             Some(kept) => kept.state.is_same(lemma.state()),
@@ -208,8 +205,7 @@ impl Book {
 
     // Refuses lemmas of which one is not kept under its number.
     fn test_quoted(&self, quoted: &[Lemma]) -> Result<(), BookRefusal>
-        ensures { let known = QuotesKnownLemmas self.now quoted.now in
-            MatchResult result (λ _. known) (λ e. IsQuotedRefusal self.now quoted.now e) }
+        ensures { TestsQuoted self.now quoted.now result }
     {
         for lemma in quoted {
             if !self.knows(lemma) {
@@ -234,8 +230,7 @@ impl Book {
 
     // Refuses a patch for this node.
     fn test_commit(&self, node: u32, patch: &KeptPatch) -> Result<(), BookRefusal>
-        ensures { let k = kept_of patch.now in
-            MatchResult result (λ _. MayCommit self.now node k) (λ e. IsCommitRefusal self.now node k e) }
+        ensures { TestsCommit self.now node patch.now result }
     {
         let state = match self.nodes.get(node as usize) {
             Some(Node::Live(state)) => state,
@@ -258,8 +253,7 @@ impl Book {
     fn store(&mut self, node: u32, patch: KeptPatch) -> Result<Kids, BookRefusal>
         requires meets { MayBeCalled self.old (call.Commit node patch) }
         requires passes { MayCommit self.old node (kept_of patch) }
-        ensures { let k = kept_of patch in
-            MatchResult result (λ c. CommitStep self.old node k c self.new) (λ e. IsOutOfMemory self.old self.new e) }
+        ensures { StoresPatch self.old node patch self.new result }
     {
         on_grid(&patch.reached);
         let place = node as usize;
@@ -304,7 +298,7 @@ impl Book {
         }
     }
 
-    /// CommitStep an ended patch to the node in whose state it begins. Refused, in this order: a node that is not live, a
+    /// Commits an ended patch to the node in whose state it begins. Refused, in this order: a node that is not live, a
     /// patch that begins elsewhere, a quoted lemma that is not the one kept under its number, a branch where the budget
     /// is used up, anything where a point is kept. A refused patch changes nothing.
     pub fn commit(&mut self, node: u32, patch: KeptPatch) -> Result<Kids, BookRefusal>
@@ -320,8 +314,7 @@ impl Book {
         requires meets { MayBeCalled self.old (call.Learn (kept_of patch)) }
         requires known { QuotesKnownLemmas self.old (kept_of patch).quoted }
         requires room { length self.old.lemmas < most_lemmas }
-        ensures { let k = kept_of patch in
-            MatchResult result (λ i. LemmaStep self.old k i self.new) (λ e. IsOutOfMemory self.old self.new e) }
+        ensures { StoresLemma self.old patch self.new result }
     {
         on_grid(&patch.first);
         on_grid(&patch.reached);

@@ -1,18 +1,19 @@
-// Numbers of a state.
+// Facts that states and points keep. A proof here sees them only as what a call ensures, so each is shown by a call that
+// does nothing else.
 ghost use Rattle.cover_model.specs.Space.{IsGridSpace};
 
 use cover_data::{Point, State};
 
-/// The ends of a state's axes are numbers that are kept.
+/// Shows that the ends of a state's axes are numbers that are kept.
 pub fn on_grid(state: &State)
     ensures { IsGridSpace state.now.space }
 {
-    let _space = state.space();
+    state.space();
 }
 
-/// So are a point's coordinates.
+/// Shows that a point's coordinates are numbers that are kept.
 pub fn point_on_grid(point: &Point)
     ensures { IsGridSpace point.now }
 {
-    let _space = point.space();
+    point.space();
 }

@@ -9,6 +9,7 @@ pub mod CombinationNoughts
 pub mod CombinationOnes
 pub mod CombinationReached
 pub mod CombinationRows
+pub mod CombinationSkipped
 pub mod CombinationSquares
 pub mod CombinationSweep
 pub mod CombinationTightened

@@ -1,24 +1,16 @@
 // The lines of a tree, each as a step on its state.
-ghost use Rattle.std.specs.Prelude.{◌≡◌, ◌<◌, ◌≤◌, ◌&&◌, ℕ, List, All, length, false, true, Ok, Some, IfOk, IfSome, IsNone, MatchOption};
-ghost use Rattle.dyadic.specs.Rounding.{Dyadic, two_to_minus};
+ghost use Rattle.std.specs.Prelude.{◌≡◌, ◌<◌, ◌≤◌, ◌&&◌, length, false, true, Ok, Some, IfOk, IfSome, IsNone, MatchOption};
 ghost use Rattle.interval_model.specs.Space.{strictly_inside, is_undecided, test_axis};
 ghost use Rattle.dyadic.specs.Views.{dyadic_of};
-ghost use Rattle.ival.specs.Narrows.{IsNarrowed};
 ghost use Rattle.ival.specs.SpaceViews.{domain_of, space_of};
-ghost use Rattle.cover_model.specs.Narrowed.{narrowed_by};
-ghost use Rattle.poly_graph.specs.Problem.{Problem as WholeProblem, atom_at};
-ghost use Rattle.poly_graph.specs.ProblemViews.{problem_of};
-ghost use Rattle.cover_model.specs.Rules.{rule, pull, void, push, void_no, combine, void_combine, cut, flip, case, is_combination, are_combinable};
-ghost use Rattle.cover_model.specs.Combination.{combined};
+ghost use Rattle.cover_model.specs.Rules.{pull, void, push, void_no, combine, void_combine, cut, flip, case};
 ghost use Rattle.cover_model.specs.Views.{multipliers_of};
-ghost use Rattle.cover_model.specs.OffRange.{off_range};
 ghost use Rattle.cover_model.specs.Space.{range};
-ghost use Rattle.cover_model.specs.State.{State as CoverState, Loosenings, in_yes, in_no, undecided, with_mark};
-ghost use Rattle.poly_graph.specs.Views.{kind_of};
+ghost use Rattle.cover_model.specs.State.{in_yes, in_no, undecided, with_mark};
 ghost use Rattle.poly_graph.specs.MarkViews.{mark_of};
 ghost use Rattle.cert_read.specs.CertLine.{rule_line, pull_at, void_at, push_at, void_no_at, combine_at, void_combine_at, case_at, cut_at, flip_at};
 ghost use Rattle.cert_read.specs.Views.{line_of};
-ghost use Rattle.cover_svg.specs.Steps.{Follows, rule_in, EndsBy};
+ghost use Rattle.cover_svg.specs.Calls.{AreOfAtoms, CombinesTo, EndsWith, FollowsAnywhere, FollowsLine, FollowsRule, IsAtomAt, NarrowsTo, SaysMayCombine, atom_off_range, atom_range, combined_by, voided_by};
 
 use cert_read::Line;
 use combine::{Room, combine};
@@ -118,7 +110,7 @@ fn can_flip(space: &Space, axis: u32) -> bool
 
 // The atom of this number; none where there is no such atom.
 fn atom_of(problem: &Problem, j: u32) -> Option<Atom>
-    ensures { MatchOption result (length problem.now.atoms ≤ j) (λ atom. (atom.term < length problem.now.nodes) × ((atom.term, kind_of atom.kind) ≡ atom_at (problem_of problem.now) j)) }
+    ensures { MatchOption result (length problem.now.atoms ≤ j) (IsAtomAt problem.now j) }
 {
     let j = j as usize;
     let atoms = problem.atoms();
@@ -140,7 +132,7 @@ fn narrowed(
     requires margin { margin_bits ≤ 60 }
     requires atom { atom.now.term < length problem.now.nodes }
     ensures marks { IfOk result (λ r. r.0.marks ≡ state.marks) }
-    ensures space { IfOk result (λ r. IsNarrowed state.space r.0.space (narrowed_by problem.now.nodes atom.now.term (range (two_to_minus margin_bits) (kind_of atom.now.kind)) state.space) r.1) }
+    ensures space { NarrowsTo problem.now atom.now (atom_range margin_bits atom.now) state result }
 {
     let graph = problem.graph();
     let mut rows = Rows::new(alloc, graph.len())?;
@@ -163,7 +155,7 @@ fn narrowed_off(
     requires margin { margin_bits ≤ 60 }
     requires atom { atom.now.term < length problem.now.nodes }
     ensures marks { IfOk result (λ r. r.0.marks ≡ state.marks) }
-    ensures space { IfOk result (λ r. IsNarrowed state.space r.0.space (narrowed_by problem.now.nodes atom.now.term (off_range (two_to_minus margin_bits) (kind_of atom.now.kind)) state.space) r.1) }
+    ensures space { NarrowsTo problem.now atom.now (atom_off_range margin_bits atom.now) state result }
 {
     let graph = problem.graph();
     let mut rows = Rows::new(alloc, graph.len())?;
@@ -184,9 +176,8 @@ fn pull(
     j: u32,
 ) -> Result<Option<Left>, AllocError>
     requires margin { margin_bits ≤ 60 }
-    ensures follows { IfOk result (λ o. (s : Loosenings) (lemmas : List CoverState) → s.margin_bits ≡ margin_bits → length state.marks ≡ length problem.now.atoms →
-        Follows (rule (problem_of problem.now) s lemmas state (pull j)) o) }
-    ensures end { IfOk result (λ o. IfSome o (EndsBy state (rule_line (pull_at j)))) }
+    ensures follows { FollowsRule problem.now margin_bits state (pull j) result }
+    ensures end { EndsWith state (rule_line (pull_at j)) result }
 {
     if !is_yes(&state, j) {
         return Ok(None);
@@ -211,9 +202,8 @@ fn void(
     j: u32,
 ) -> Result<Option<Left>, AllocError>
     requires margin { margin_bits ≤ 60 }
-    ensures follows { IfOk result (λ o. (s : Loosenings) (lemmas : List CoverState) → s.margin_bits ≡ margin_bits → length state.marks ≡ length problem.now.atoms →
-        Follows (rule (problem_of problem.now) s lemmas state (void j)) o) }
-    ensures end { IfOk result (λ o. IfSome o (EndsBy state (rule_line (void_at j)))) }
+    ensures follows { FollowsRule problem.now margin_bits state (void j) result }
+    ensures end { EndsWith state (rule_line (void_at j)) result }
 {
     if !is_yes(&state, j) {
         return Ok(None);
@@ -238,9 +228,8 @@ fn push(
     j: u32,
 ) -> Result<Option<Left>, AllocError>
     requires margin { margin_bits ≤ 60 }
-    ensures follows { IfOk result (λ o. (s : Loosenings) (lemmas : List CoverState) → s.margin_bits ≡ margin_bits → length state.marks ≡ length problem.now.atoms →
-        Follows (rule (problem_of problem.now) s lemmas state (push j)) o) }
-    ensures end { IfOk result (λ o. IfSome o (EndsBy state (rule_line (push_at j)))) }
+    ensures follows { FollowsRule problem.now margin_bits state (push j) result }
+    ensures end { EndsWith state (rule_line (push_at j)) result }
 {
     if !is_no(&state, j) {
         return Ok(None);
@@ -264,9 +253,8 @@ fn void_no(
     j: u32,
 ) -> Result<Option<Left>, AllocError>
     requires margin { margin_bits ≤ 60 }
-    ensures follows { IfOk result (λ o. (s : Loosenings) (lemmas : List CoverState) → s.margin_bits ≡ margin_bits → length state.marks ≡ length problem.now.atoms →
-        Follows (rule (problem_of problem.now) s lemmas state (void_no j)) o) }
-    ensures end { IfOk result (λ o. IfSome o (EndsBy state (rule_line (void_no_at j)))) }
+    ensures follows { FollowsRule problem.now margin_bits state (void_no j) result }
+    ensures end { EndsWith state (rule_line (void_no_at j)) result }
 {
     if !is_no(&state, j) {
         return Ok(None);
@@ -283,12 +271,9 @@ fn void_no(
 
 // Whether these atoms may be combined at the state, each with its multiplier.
 fn can_combine(problem: &Problem, state: &State, multipliers: &[(u32, Dy)]) -> bool
-    ensures may { let p = problem_of problem.now in let ms = multipliers_of multipliers.now in
-        length state.now.marks ≡ length problem.now.atoms →
-        result ≡ (is_combination ms && are_combinable p state.now ms) }
+    ensures may { SaysMayCombine problem.now state.now multipliers.now result }
     ensures marks { result ≡ true → length state.now.marks ≡ length problem.now.atoms }
-    ensures atoms { let ms = multipliers_of multipliers.now in
-        result ≡ true → All (λ (x : ℕ × Dyadic). x.0 < length problem.now.atoms) ms }
+    ensures atoms { result ≡ true → AreOfAtoms problem.now multipliers.now }
 {
     state.lits().len() == problem.atoms().len()
         && truth3::can_combine(problem, state.lits(), multipliers)
@@ -304,12 +289,9 @@ fn narrowed_together(
 ) -> Result<(State, Narrowed), AllocError>
     requires margin { margin_bits ≤ 60 }
     requires marks { length state.marks ≡ length problem.now.atoms }
-    requires atoms { let ms = multipliers_of multipliers.now in
-        All (λ (x : ℕ × Dyadic). x.0 < length problem.now.atoms) ms }
+    requires atoms { AreOfAtoms problem.now multipliers.now }
     ensures marks { IfOk result (λ r. r.0.marks ≡ state.marks) }
-    ensures space { let p = problem_of problem.now in let ms = multipliers_of multipliers.now in
-        let narrow = combined p (two_to_minus margin_bits) state.marks state.space ms in
-        IfOk result (λ r. IsNarrowed state.space r.0.space narrow r.1) }
+    ensures space { CombinesTo problem.now margin_bits multipliers.now state result }
 {
     let graph = problem.graph();
     let mut rows = Rows::new(alloc, graph.len())?;
@@ -344,12 +326,8 @@ fn combine_marked(
     multipliers: &[(u32, Dy)],
 ) -> Result<Option<Left>, AllocError>
     requires margin { margin_bits ≤ 60 }
-    ensures follows { let p = problem_of problem.now in let ms = multipliers_of multipliers.now in
-        IfOk result (λ o. (s : Loosenings) (lemmas : List CoverState) → s.margin_bits ≡ margin_bits →
-        length state.marks ≡ length problem.now.atoms →
-        Follows (rule p s lemmas state (combine ms)) o) }
-    ensures end { let ms = multipliers_of multipliers.now in
-        IfOk result (λ o. IfSome o (EndsBy state (rule_line (combine_at ms)))) }
+    ensures follows { FollowsRule problem.now margin_bits state (combined_by multipliers.now) result }
+    ensures end { EndsWith state (rule_line (combine_at (multipliers_of multipliers.now))) result }
 {
     if !can_combine(problem, &state, multipliers) {
         return Ok(None);
@@ -370,12 +348,8 @@ fn void_combine(
     multipliers: &[(u32, Dy)],
 ) -> Result<Option<Left>, AllocError>
     requires margin { margin_bits ≤ 60 }
-    ensures follows { let p = problem_of problem.now in let ms = multipliers_of multipliers.now in
-        IfOk result (λ o. (s : Loosenings) (lemmas : List CoverState) → s.margin_bits ≡ margin_bits →
-        length state.marks ≡ length problem.now.atoms →
-        Follows (rule p s lemmas state (void_combine ms)) o) }
-    ensures end { let ms = multipliers_of multipliers.now in
-        IfOk result (λ o. IfSome o (EndsBy state (rule_line (void_combine_at ms)))) }
+    ensures follows { FollowsRule problem.now margin_bits state (voided_by multipliers.now) result }
+    ensures end { EndsWith state (rule_line (void_combine_at (multipliers_of multipliers.now))) result }
 {
     if !can_combine(problem, &state, multipliers) {
         return Ok(None);
@@ -402,8 +376,8 @@ fn mark(state: State, j: u32, mark: Mark) -> Option<Left>
 
 // The state with atom j, which has no mark, marked yes, then no.
 fn case(alloc: Global, state: State, j: u32) -> Result<Option<Left>, AllocError>
-    ensures follows { IfOk result (λ o. (p : WholeProblem) (s : Loosenings) (lemmas : List CoverState) → Follows (rule p s lemmas state (case j)) o) }
-    ensures end { IfOk result (λ o. IfSome o (EndsBy state (rule_line (case_at j)))) }
+    ensures follows { FollowsAnywhere state (case j) result }
+    ensures end { EndsWith state (rule_line (case_at j)) result }
 {
     if !is_unmarked(&state, j) {
         return Ok(None);
@@ -417,8 +391,8 @@ fn case(alloc: Global, state: State, j: u32) -> Result<Option<Left>, AllocError>
 
 // The parts below and above a place strictly within a Real axis.
 fn cut(alloc: Global, state: State, axis: u32, at: Dy) -> Result<Option<Left>, AllocError>
-    ensures follows { IfOk result (λ o. (p : WholeProblem) (s : Loosenings) (lemmas : List CoverState) → Follows (rule p s lemmas state (cut axis (dyadic_of at))) o) }
-    ensures end { IfOk result (λ o. IfSome o (EndsBy state (rule_line (cut_at axis (dyadic_of at))))) }
+    ensures follows { FollowsAnywhere state (cut axis (dyadic_of at)) result }
+    ensures end { EndsWith state (rule_line (cut_at axis (dyadic_of at))) result }
 {
     if !can_cut(state.space(), axis, at) {
         return Ok(None);
@@ -432,8 +406,8 @@ fn cut(alloc: Global, state: State, axis: u32, at: Dy) -> Result<Option<Left>, A
 
 // An undecided Bool axis at false, then at true.
 fn flip(alloc: Global, state: State, axis: u32) -> Result<Option<Left>, AllocError>
-    ensures follows { IfOk result (λ o. (p : WholeProblem) (s : Loosenings) (lemmas : List CoverState) → Follows (rule p s lemmas state (flip axis)) o) }
-    ensures end { IfOk result (λ o. IfSome o (EndsBy state (rule_line (flip_at axis)))) }
+    ensures follows { FollowsAnywhere state (flip axis) result }
+    ensures end { EndsWith state (rule_line (flip_at axis)) result }
 {
     if !can_flip(state.space(), axis) {
         return Ok(None);
@@ -463,9 +437,8 @@ pub fn step(
     line: &Line,
 ) -> Result<Option<Left>, AllocError>
     requires margin { margin_bits ≤ 60 }
-    ensures follows { IfOk result (λ o. (s : Loosenings) (lemmas : List CoverState) → s.margin_bits ≡ margin_bits → length state.marks ≡ length problem.now.atoms →
-        Follows (rule_in (problem_of problem.now) s lemmas state (line_of line.now)) o) }
-    ensures end { IfOk result (λ o. IfSome o (EndsBy state (line_of line.now))) }
+    ensures follows { FollowsLine problem.now margin_bits state (line_of line.now) result }
+    ensures end { EndsWith state (line_of line.now) result }
 {
     match line {
         Line::Pull(j) => pull(alloc, problem, margin_bits, state, *j),

@@ -5,3 +5,4 @@ pub mod Same
 pub mod Sweep
 pub mod Table
 pub mod Views
+pub mod Calls

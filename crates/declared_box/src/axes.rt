@@ -1,16 +1,12 @@
 // The axes of a script's declared constants.
-ghost use Rattle.std.specs.Prelude.{◌≡◌, ◌<◌, List, length, map, All, IfOk, Some};
+ghost use Rattle.std.specs.Prelude.{◌<◌, length, IfOk, Some};
 ghost use Rattle.dyadic.specs.Point.{real_sort};
-ghost use Rattle.script_model.specs.Script.{sort_of_constant};
-ghost use Rattle.script_model.specs.Declared.{Bound};
 ghost use Rattle.poly_graph.specs.Problem as problem;
-ghost use Rattle.poly_graph.specs.Problem.{IsDeclared, sorts_of_axes};
-ghost use Rattle.poly_graph.specs.ProblemViews.{axis_of};
 ghost use Rattle.smt_script.specs.Views.{sort_of};
-ghost use Rattle.declared_box.specs.Table.{all_of, AreBefore};
-ghost use Rattle.declared_box.specs.Same.{SameBounds};
+ghost use Rattle.declared_box.specs.Calls.{AnswersBy, AreDeclared, HaveSortsOf};
+ghost use Rattle.declared_box.specs.Table.{AreBefore};
 ghost use Rattle.declared_box.specs.Views.{interval_of};
-ghost use Rattle.declared_box.specs.Axes.{constant_of, Declares, IsAxisOf, IsBoundsError, Answers, fault_of};
+ghost use Rattle.declared_box.specs.Axes.{constant_of, Declares, IsAxisOf, IsBoundsError, fault_of};
 
 use crate::interval::Interval;
 use crate::kept::is_too_wide;
@@ -103,9 +99,9 @@ pub fn declare(
     constants: &[Constant],
 ) -> Result<Vec<Axis>, ReadError>
     requires { AreBefore (length table.now) roots.now }
-    ensures answers { (bs : List Bound) → SameBounds (all_of table.now roots.now) bs → Answers bound bs (map constant_of constants.now) result }
-    ensures bounds { IfOk result (λ axes. All (λ (a : problem.Axis). IsDeclared a.declared) (map axis_of axes.items)) }
-    ensures sorts { IfOk result (λ axes. sorts_of_axes (map axis_of axes.items) ≡ map sort_of_constant (map constant_of constants.now)) }
+    ensures answers { AnswersBy table.now roots.now bound constants.now result }
+    ensures bounds { IfOk result AreDeclared }
+    ensures sorts { IfOk result (HaveSortsOf constants.now) }
 {
     let intervals = tightest(alloc, table, roots, constants.len())?;
     let mut axes = Vec::new(alloc);

@@ -2,6 +2,7 @@
 ghost use Rattle.std.specs.Prelude.{◌≡◌, pos};
 ghost use Rattle.dyadic.specs.Fraction.{whole};
 ghost use Rattle.dyadic.specs.Views.{fraction_of_frac};
+ghost use Rattle.declared_box.specs.Calls.{tightened_by};
 ghost use Rattle.declared_box.specs.Interval.{no_interval, is_as_tight, tighter, tightened, ended};
 ghost use Rattle.declared_box.specs.Views.{side_of, end_of, interval_of};
 
@@ -64,7 +65,7 @@ impl Interval {
 
     /// The ends with one more bound on this side.
     pub fn tightened(self, side: Side, value: Frac) -> Self
-        ensures { interval_of result ≡ tightened (side_of side) (fraction_of_frac value) (interval_of self) }
+        ensures { interval_of result ≡ tightened_by side value self }
     {
         match side {
             Side::Lower => Interval {

@@ -1,10 +1,10 @@
 // The tightest ends of each axis.
 ghost use Rattle.std.specs.Prelude.{◌≡◌, ◌<◌, length, map, replicate, false, IfOk};
-ghost use Rattle.declared_box.specs.Table.{all_of, AreBefore, ComesAfter};
-ghost use Rattle.declared_box.specs.Interval.{no_interval, AreTightest};
-ghost use Rattle.declared_box.specs.Sweep.{marked_all, marks_after, tightened_at, intervals_after};
-ghost use Rattle.dyadic.specs.Views.{fraction_of_frac};
-ghost use Rattle.declared_box.specs.Views.{side_of, node_of, interval_of};
+ghost use Rattle.declared_box.specs.Calls.{AreTightestBy, intervals_of, tightened_after, tightened_on};
+ghost use Rattle.declared_box.specs.Table.{AreBefore, ComesAfter};
+ghost use Rattle.declared_box.specs.Interval.{no_interval};
+ghost use Rattle.declared_box.specs.Sweep.{marked_all, marks_after};
+ghost use Rattle.declared_box.specs.Views.{node_of, interval_of};
 
 use crate::interval::Interval;
 use crate::table::{BoundNode, BoundTable, Side};
@@ -23,7 +23,7 @@ fn mark_all(marks: &mut [bool], parts: &[u32])
 
 // Adds a bound to the ends of its axis, if there is such an axis.
 fn tighten(intervals: &mut [Interval], axis: u32, side: Side, value: Frac)
-    ensures { map interval_of intervals.new ≡ tightened_at axis (side_of side) (fraction_of_frac value) (map interval_of intervals.old) }
+    ensures { intervals_of intervals.new ≡ tightened_on axis side value intervals.old }
 {
     let axis = axis as usize;
     if axis < intervals.len() {
@@ -35,7 +35,7 @@ fn tighten(intervals: &mut [Interval], axis: u32, side: Side, value: Frac)
 fn visit(node: &BoundNode, marks: &mut [bool], intervals: &mut [Interval])
     requires { ComesAfter (length marks.old) (node_of node.now) }
     ensures marks { marks.new ≡ marks_after (node_of node.now) marks.old }
-    ensures intervals { map interval_of intervals.new ≡ intervals_after (node_of node.now) (map interval_of intervals.old) }
+    ensures intervals { intervals_of intervals.new ≡ tightened_after node.now intervals.old }
 {
     match node {
         BoundNode::One(axis, side, value) => tighten(intervals, *axis, *side, *value),
@@ -73,7 +73,7 @@ pub fn tightest(
     axes: usize,
 ) -> Result<Vec<Interval>, AllocError>
     requires { AreBefore (length table.now) roots.now }
-    ensures { IfOk result (λ intervals. AreTightest (all_of table.now roots.now) axes (map interval_of intervals.items)) }
+    ensures { IfOk result (AreTightestBy table.now roots.now axes) }
 {
     let nodes = table.nodes();
     let mut marks = marks_at(alloc, nodes.len(), roots)?;

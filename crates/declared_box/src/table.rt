@@ -1,10 +1,9 @@
 // The bounds of Bool expressions, where expressions share parts.
-ghost use Rattle.std.specs.Prelude.{◌≡◌, ℕ, ◌<◌, [], ◌∷◌, ◌++◌, length, map, MatchResult};
+ghost use Rattle.std.specs.Prelude.{◌≡◌, ℕ, ◌<◌, [], length, map};
 ghost use Rattle.std.specs.List.{All};
-ghost use Rattle.dyadic.specs.Views.{fraction_of_frac};
-ghost use Rattle.script_model.specs.Declared.{one_side};
-ghost use Rattle.declared_box.specs.Table.{all_of, bound_lists, AreInOrder, IsAdded};
-ghost use Rattle.declared_box.specs.Views.{node_of, side_of};
+ghost use Rattle.declared_box.specs.Calls.{AddsList, AddsNode, bound_on};
+ghost use Rattle.declared_box.specs.Table.{all_of, bound_lists, AreInOrder};
+ghost use Rattle.declared_box.specs.Views.{node_of};
 
 use dyadic::Frac;
 use std::alloc::{AllocError, Global};
@@ -47,7 +46,7 @@ impl Model for BoundTable {
 
 // Adds a node at the end, with its number.
 fn add(nodes: &mut Vec<BoundNode>, node: BoundNode) -> Result<u32, AllocError>
-    ensures { MatchResult result (λ k. (k ≡ length nodes.old.items) × (nodes.new.items ≡ nodes.old.items ++ (node ∷ []))) (λ _. nodes.new.items ≡ nodes.old.items) }
+    ensures { AddsNode nodes.old nodes.new node result }
 {
     let Ok(number) = u32::try_from(nodes.len()) else {
         return Err(AllocError);
@@ -72,7 +71,7 @@ impl BoundTable {
     ///
     /// Where memory, or the numbers of 32 bits, run out; nothing is added then.
     pub fn one(&mut self, axis: u32, side: Side, value: Frac) -> Result<u32, AllocError>
-        ensures { MatchResult result (IsAdded self.old self.new (one_side (side_of side) axis (fraction_of_frac value))) (λ _. self.new ≡ self.old) }
+        ensures { AddsList self.old self.new (bound_on axis side value) result }
     {
         add(&mut self.nodes, BoundNode::One(axis, side, value))
     }
@@ -84,7 +83,7 @@ impl BoundTable {
     /// Where memory, or the numbers of 32 bits, run out; nothing is added then.
     pub fn all(&mut self, parts: Vec<u32>) -> Result<u32, AllocError>
         requires { All (λ (k : ℕ). k < length self.old) parts.items }
-        ensures { MatchResult result (IsAdded self.old self.new (all_of self.old parts.items)) (λ _. self.new ≡ self.old) }
+        ensures { AddsList self.old self.new (all_of self.old parts.items) result }
     {
         add(&mut self.nodes, BoundNode::All(parts))
     }

@@ -10,6 +10,7 @@ use Rattle.cover_model.specs.Combination.{Adjoints, joined, handed, handed_down,
 use Rattle.cover_model.proofs.NarrowedAt.{drop_here}
 use Rattle.cover_model.specs.CombinationConstants.{is_constant_at, handed_unless, handed_on}
 use Rattle.cover_model.proofs.CombinationConstants.{handed_on_alike, swept_alike}
+use Rattle.cover_model.proofs.CombinationSkipped.{skipped}
 use Rattle.plain_combine.specs.Parts.{part_at, part_in, before_parts, parts_from, parts_on, expansion_on}
 use Rattle.plain_combine.specs.Rest.{expansion_with, with_node}
 
@@ -26,18 +27,6 @@ no-part (square_node a) = refl
 pub no_part_in : (m : Option Node) → part_in m None None ≡ None
 no_part_in None = refl
 no_part_in (Some n) = no-part n
-
-nothing-added : (es cs : List Interval) (k : ℕ) (n : Node) (e : Expansion) → expanded es cs k None None n e ≡ e
-nothing-added es cs k (constant_node q) e = refl
-nothing-added es cs k (variable_node a) e = refl
-nothing-added es cs k (negate_node a) e = refl
-nothing-added es cs k (add_node a b) e = refl
-nothing-added es cs k (multiply_node a b) e = refl
-nothing-added es cs k (square_node a) e = refl
-
-nothing-next : (es cs : List Interval) (k : ℕ) (m : Option Node) (e : Expansion) → next_expansion es cs k None None m e ≡ e
-nothing-next es cs k None e = refl
-nothing-next es cs k (Some n) e = nothing-added es cs k n e
 
 -- ---- a node with coefficients: its part before the others, and its rest
 
@@ -123,25 +112,12 @@ squares-off w (square_node a) qs n k h l = handed-off k a n w qs h l
 -- ---- the sweep
 
 module _ (nodes : List Node) (es cs : List Interval) where
-  silent : (p : ℕ) (os qs : Adjoints) (e : Expansion) → os p ≡ None → qs p ≡ None → swept nodes es cs (suc p) os qs e ≡ swept nodes es cs p os qs e
-  silent p os qs e f g =
-      ap₂ (λ (o q : Option Interval). swept nodes es cs p (next_adjoints cs o (slice_get nodes p) os) (next_squares o (slice_get nodes p) qs) (next_expansion es cs p o q (slice_get nodes p) e)) f g
-      ∙ ap (λ (x : Expansion). swept nodes es cs p os qs x) (nothing-next es cs p (slice_get nodes p) e)
-
-  skipped : (d p q : ℕ) (os qs : Adjoints) (e : Expansion) → q + d ≡ p → ((k : ℕ) → q ≤ k → k < p → os k ≡ None) → ((k : ℕ) → q ≤ k → k < p → qs k ≡ None) →
-      swept nodes es cs p os qs e ≡ swept nodes es cs q os qs e
-  skipped zero p q os qs e h f g = let same : p ≡ q = omega arith in ap (λ (x : ℕ). swept nodes es cs x os qs e) same
-  skipped (suc d) p q os qs e h f g =
-      let same : p ≡ suc (q + d) = omega arith in
-      ap (λ (x : ℕ). swept nodes es cs x os qs e) same ∙ silent (q + d) os qs e (f (q + d) (omega arith) (omega arith)) (g (q + d) (omega arith) (omega arith))
-      ∙ skipped d (q + d) q os qs e refl (λ k a b. f k a (omega arith)) (λ k a b. g k a (omega arith))
-
   -- from place p to place q, between which no node has a coefficient
   pub sweep_skipped : (p q : ℕ) (os qs : Adjoints) (rest : Interval) → q ≤ p → p ≤ length nodes → ((k : ℕ) → os k ≡ None → qs k ≡ None) → ((k : ℕ) → q ≤ k → k < p → os k ≡ None) →
       swept nodes es cs p os qs (expansion_on nodes os qs p rest) ≡ swept nodes es cs q os qs (expansion_on nodes os qs q rest)
   sweep_skipped p q os qs rest l m u f =
       let d : (d : ℕ) × (q + d ≡ p) = (p - q, omega arith) in
-      skipped d.0 p q os qs (expansion_on nodes os qs p rest) d.1 f (λ k a b. u k (f k a b))
+      skipped nodes es cs d.0 p q os qs (expansion_on nodes os qs p rest) d.1 f (λ k a b. u k (f k a b))
       ∙ ap (λ (xs : List Part). swept nodes es cs q os qs (expansion_with xs rest)) (sym (parts_skipped nodes os qs d.0 p q d.1 m f (λ k a b. u k (f k a b))))
 
   -- at node n

@@ -1,12 +1,11 @@
 // What is left to variables, as what is left of a space.
 ghost use Rattle.std.specs.Prelude.{◌≡◌, ◌≢◌, true, false, length, Some};
-ghost use Rattle.cover_model.specs.AxisStep.{axis_step};
 ghost use Rattle.cover_model.specs.Narrowed.{set_axis, with_axes};
-ghost use Rattle.poly_graph.specs.Views.{node_of};
 ghost use Rattle.ival.specs.Views.{interval_of};
 ghost use Rattle.ival.specs.RowViews.{rows_of};
 ghost use Rattle.ival.specs.Options.{options_of};
 ghost use Rattle.ival.specs.SpaceViews.{space_of};
+ghost use Rattle.plain_combine.specs.Calls.{with_variable};
 
 use ival::{Ival, Rows, Space};
 use poly_graph::{Graph, Node};
@@ -29,7 +28,7 @@ fn set_axis(axis: u32, interval: Ival, space: &mut Space) -> bool
 
 // Leaves to the axis of a node that is a variable what is left to the node, and tells whether that is a change.
 fn set_variable(node: Node, interval: Ival, space: &mut Space) -> bool
-    ensures axes { space_of space.new ≡ axis_step (node_of node) (Some (interval_of interval)) (space_of space.old) }
+    ensures axes { space_of space.new ≡ with_variable node interval space.old }
     ensures same { result ≡ false → space_of space.new ≡ space_of space.old }
     ensures less { result ≡ true → space_of space.new ≢ space_of space.old }
 {

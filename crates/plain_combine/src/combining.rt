@@ -4,7 +4,7 @@ ghost use Rattle.interval_model.specs.Space.{middle};
 ghost use Rattle.cover_model.specs.Narrowed.{enclosures};
 ghost use Rattle.ival.specs.RowViews.{rows_of};
 ghost use Rattle.ival.specs.SpaceViews.{space_of};
-ghost use Rattle.plain_combine.specs.Calls.{IsCombined};
+ghost use Rattle.plain_combine.specs.Calls.{AreEnclosures, IsCombined};
 ghost use Rattle.plain_combine.specs.Suits.{Suits};
 
 use crate::axes::set_axes;
@@ -35,7 +35,7 @@ pub fn combine_plain(
     requires lits { length lits.now ≡ length problem.now.atoms }
     requires rows { rows_of rows.now ≡ enclosures (space_of space.old) problem.now.nodes }
     requires centre { space_of centre.now ≡ middle (space_of space.old) }
-    requires centre_rows { rows_of centre_rows.now ≡ enclosures (space_of centre.now) problem.now.nodes }
+    requires centre_rows { AreEnclosures problem.now.nodes centre.now centre_rows.now }
     requires room { Suits problem.now.nodes room.old }
     ensures narrowed { IsCombined problem.now loosen lits.now multipliers.now space.old space.new result }
     ensures room { Suits problem.now.nodes room.new }

@@ -2,12 +2,12 @@
 ghost use Rattle.std.specs.Prelude.{◌≡◌, ◌<◌, length, IsTrue};
 ghost use Rattle.poly_graph.specs.Term.{comes_after};
 ghost use Rattle.poly_graph.specs.Views.{node_of};
-ghost use Rattle.interval_model.specs.Interval.{interval_product};
-ghost use Rattle.cover_model.specs.Combination.{joined, handed, squares_down};
+ghost use Rattle.cover_model.specs.Combination.{joined, handed};
+ghost use Rattle.cover_model.specs.CombinationConstants.{is_constant_at};
 ghost use Rattle.ival.specs.Views.{interval_of};
 ghost use Rattle.ival.specs.RowViews.{rows_of};
 ghost use Rattle.ival.specs.Options.{option_at, option_of};
-ghost use Rattle.cover_model.specs.CombinationConstants.{is_constant_at, handed_unless, handed_on};
+ghost use Rattle.plain_combine.specs.Calls.{given, given_factor, given_part, given_square};
 
 use crate::quadratic::multiple;
 use ival::{Ival, Rows};
@@ -50,7 +50,7 @@ pub fn give(node: u32, more: Ival, rows: &mut Rows)
 // Whether the node is a constant.
 fn is_constant(graph: &Graph, node: u32) -> bool
     requires { node < length graph.now }
-    ensures { result ≡ is_constant_at graph.now node }
+    ensures { result ≡ is_is_constant_at graph.now node }
 {
     match graph.node(node) {
         Node::Const(_) => true,
@@ -66,8 +66,7 @@ fn is_constant(graph: &Graph, node: u32) -> bool
 fn give_part(graph: &Graph, node: u32, more: Ival, linear: &mut Rows)
     requires node { node < length graph.now }
     requires rows { length (rows_of linear.old) ≡ length graph.now }
-    ensures all { let without = is_constant_at graph.now node in
-        option_at linear.new ≡ handed_unless without node (interval_of more) (option_at linear.old) }
+    ensures all { option_at linear.new ≡ given_part graph.now node more linear.old }
     ensures count { length (rows_of linear.new) ≡ length graph.now }
 {
     if is_constant(graph, node) {
@@ -80,9 +79,7 @@ fn give_part(graph: &Graph, node: u32, more: Ival, linear: &mut Rows)
 fn give_factor(graph: &Graph, node: u32, coefficient: Ival, other: Ival, linear: &mut Rows)
     requires node { node < length graph.now }
     requires rows { length (rows_of linear.old) ≡ length graph.now }
-    ensures all { let without = is_constant_at graph.now node in
-        let more = interval_product (interval_of coefficient) (interval_of other) in
-        option_at linear.new ≡ handed_unless without node more (option_at linear.old) }
+    ensures all { option_at linear.new ≡ given_factor graph.now node coefficient other linear.old }
     ensures count { length (rows_of linear.new) ≡ length graph.now }
 {
     if is_constant(graph, node) {
@@ -103,8 +100,7 @@ pub fn give_children(
     requires order { IsTrue (comes_after (length graph.now) (node_of node)) }
     requires rows { length (rows_of centre_rows.now) ≡ length graph.now }
     requires linear { length (rows_of linear.old) ≡ length graph.now }
-    ensures all { let cs = rows_of centre_rows.now in let w = interval_of coefficient in
-        option_at linear.new ≡ handed_on graph.now cs w (node_of node) (option_at linear.old) }
+    ensures all { option_at linear.new ≡ given graph.now node coefficient centre_rows.now linear.old }
     ensures count { length (rows_of linear.new) ≡ length graph.now }
 {
     match node {
@@ -130,7 +126,7 @@ pub fn give_children(
 /// Gives to the child of a square the square's coefficient, for the square of the child's difference.
 pub fn give_square(node: Node, coefficient: Ival, square: &mut Rows)
     requires order { IsTrue (comes_after (length (rows_of square.old)) (node_of node)) }
-    ensures all { option_at square.new ≡ squares_down (interval_of coefficient) (node_of node) (option_at square.old) }
+    ensures all { option_at square.new ≡ given_square node coefficient square.old }
     ensures count { length (rows_of square.new) ≡ length (rows_of square.old) }
 {
     match node {

@@ -1,10 +1,9 @@
 // The parts of variables.
 ghost use Rattle.std.specs.Prelude.{◌≡◌, ◌<◌, length};
-ghost use Rattle.cover_model.specs.Combination.{apart_range, left_to, part_range};
+ghost use Rattle.cover_model.specs.Combination.{apart_range};
 ghost use Rattle.ival.specs.Views.{interval_of};
-ghost use Rattle.ival.specs.Options.{option_at};
 ghost use Rattle.ival.specs.SpaceViews.{space_of};
-ghost use Rattle.plain_combine.specs.Parts.{option_part, part_of, part_of_node};
+ghost use Rattle.plain_combine.specs.Calls.{IsPartOfNode, part_left_of, part_range_of};
 ghost use Rattle.plain_combine.specs.Suits.{AreFor, AreUnder};
 
 use crate::give::entry;
@@ -31,14 +30,14 @@ fn apart(axis: u32, space: &Space, centre: &Space) -> Ival
 impl Part {
     /// The range of the part.
     pub fn range(self, space: &Space, centre: &Space) -> Ival
-        ensures { interval_of result ≡ part_range (space_of space.now) (space_of centre.now) (part_of self) }
+        ensures { interval_of result ≡ part_range_of space.now centre.now self }
     {
         range(self.linear, self.square, apart(self.axis, space, centre))
     }
 
     /// What is left to the variable, where the others have this range.
     pub fn left(self, allowed: Ival, others: Ival, space: &Space, centre: &Space) -> Ival
-        ensures { interval_of result ≡ left_to (space_of space.now) (space_of centre.now) (interval_of allowed) (interval_of others) (part_of self) }
+        ensures { interval_of result ≡ part_left_of space.now centre.now allowed others self }
     {
         let apart = apart(self.axis, space, centre);
         let moved = left(less(allowed, others), self.linear, self.square, apart);
@@ -53,7 +52,7 @@ pub fn part_at(n: usize, graph: &Graph, coefficients: &Coefficients) -> Option<P
     requires node { n < length graph.now }
     requires count { AreFor graph.now coefficients.now }
     requires under { AreUnder coefficients.now }
-    ensures { option_part result ≡ part_of_node graph.now (option_at coefficients.now.linear) (option_at coefficients.now.square) n }
+    ensures { IsPartOfNode graph.now coefficients.now n result }
 {
     prove!(n < graph.len());
     let Node::Var(axis) = graph.node(n as u32) else {

@@ -1,12 +1,9 @@
 // The parts of variables, one after the other: their ranges, and what is left to each.
 ghost use Rattle.std.specs.Prelude.{◌≡◌, ◌<◌, ℕ, None, length, false};
-ghost use Rattle.cover_model.specs.NodeEnclosure.{row};
 ghost use Rattle.ival.specs.Views.{interval_of};
 ghost use Rattle.ival.specs.RowViews.{rows_of, marks_of, is_marked};
 ghost use Rattle.ival.specs.Options.{option_at};
-ghost use Rattle.ival.specs.SpaceViews.{space_of};
-ghost use Rattle.plain_combine.specs.Parts.{before_sum, behind_sum, left_to_part, option_part, range_on, setting};
-ghost use Rattle.plain_combine.specs.Passes.{AreBehind, IsLeft, IsPutUnlessEmpty};
+ghost use Rattle.plain_combine.specs.Calls.{HaveBehind, Leaves, PutsLeft, range_of_parts, sum_before, sum_behind};
 ghost use Rattle.plain_combine.specs.Suits.{AreFor, AreUnder};
 
 use crate::part::{Part, part_at};
@@ -18,7 +15,7 @@ use poly_graph::Graph;
 
 // A sum with the part's range before it, if there is a part.
 fn before(part: Option<Part>, space: &Space, centre: &Space, sum: Ival) -> Ival
-    ensures { interval_of result ≡ before_sum (space_of space.now) (space_of centre.now) (option_part part) (interval_of sum) }
+    ensures { interval_of result ≡ sum_before space.now centre.now part sum }
 {
     match part {
         Some(part) => part.range(space, centre).add(sum),
@@ -28,7 +25,7 @@ fn before(part: Option<Part>, space: &Space, centre: &Space, sum: Ival) -> Ival
 
 // A sum with the part's range behind it, if there is a part.
 fn behind(part: Option<Part>, space: &Space, centre: &Space, sum: Ival) -> Ival
-    ensures { interval_of result ≡ behind_sum (space_of space.now) (space_of centre.now) (option_part part) (interval_of sum) }
+    ensures { interval_of result ≡ sum_behind space.now centre.now part sum }
 {
     match part {
         Some(part) => sum.add(part.range(space, centre)),
@@ -47,8 +44,8 @@ pub fn sum_parts(
     requires count { AreFor graph.now coefficients.now }
     requires under { AreUnder coefficients.now }
     requires left { length (rows_of left.old) ≡ length graph.now }
-    ensures sum { interval_of result ≡ range_on (setting graph.now coefficients.now space.now centre.now) 0 }
-    ensures behind { AreBehind (setting graph.now coefficients.now space.now centre.now) (rows_of left.new) }
+    ensures sum { interval_of result ≡ range_of_parts graph.now coefficients.now space.now centre.now }
+    ensures behind { HaveBehind graph.now coefficients.now space.now centre.now left.new }
     ensures marks { marks_of left.new ≡ marks_of left.old }
     ensures count { length (rows_of left.new) ≡ length graph.now }
 {
@@ -76,7 +73,7 @@ fn leave_to(
 ) -> bool
     requires place { place < length (rows_of left.old) }
     requires none { option_at left.old place ≡ None }
-    ensures put { IsPutUnlessEmpty place (left_to_part (space_of space.now) (space_of centre.now) (interval_of allowed) (interval_of before) (row (rows_of left.old) place) (option_part part)) left.old left.new result }
+    ensures put { PutsLeft part place space.now centre.now allowed before left.old left.new result }
     ensures count { length (rows_of left.new) ≡ length (rows_of left.old) }
 {
     let Some(part) = part else {
@@ -106,9 +103,9 @@ pub fn leave(
     requires count { AreFor graph.now coefficients.now }
     requires under { AreUnder coefficients.now }
     requires left { length (rows_of left.old) ≡ length graph.now }
-    requires behind { AreBehind (setting graph.now coefficients.now space.now centre.now) (rows_of left.old) }
+    requires behind { HaveBehind graph.now coefficients.now space.now centre.now left.old }
     requires none { (k : ℕ) → is_marked (marks_of left.old) k ≡ false }
-    ensures left { IsLeft (setting graph.now coefficients.now space.now centre.now) (interval_of allowed) (interval_of rest) left.new result }
+    ensures left { Leaves graph.now coefficients.now space.now centre.now allowed rest left.new result }
     ensures count { length (rows_of left.new) ≡ length graph.now }
 {
     prove_eq!(coefficients.linear.len(), graph.len());

@@ -3,9 +3,9 @@ ghost use Rattle.std.specs.Prelude.{◌≡◌, Some, true};
 ghost use Rattle.dyadic.specs.Views.{dyadic_of};
 ghost use Rattle.interval_model.specs.Interval.{misses_nought, interval_product};
 ghost use Rattle.cover_model.specs.Combination.{only, interval_difference, half_quotient, completed, root_left, completed_left, both_range, both_left};
-ghost use Rattle.ival.specs.Views.{interval_of};
-ghost use Rattle.ival.specs.Options.{option_of};
 ghost use Rattle.cover_model.specs.CombinationConstants.{one_alone};
+ghost use Rattle.ival.specs.Views.{interval_of};
+ghost use Rattle.plain_combine.specs.Calls.{both_left_of, both_range_of, completed_left_of, completed_of, sum_left_of, sum_range_of};
 ghost use Rattle.plain_combine.specs.Rest.{IsSingle};
 
 use dyadic::{Dy, Ext, Sign, pow2, sign_of};
@@ -89,7 +89,7 @@ fn half_quotient(linear: Ival, square: Ival) -> Ival
 
 // The range of both multiples, by the completed square.
 fn completed(linear: Ival, square: Ival, number: Ival) -> Ival
-    ensures { interval_of result ≡ completed (interval_of linear) (interval_of square) (interval_of number) }
+    ensures { interval_of result ≡ completed_of linear square number }
 {
     let half = half_quotient(linear, square);
     let moved = number.add(half).sq();
@@ -106,7 +106,7 @@ fn root_left(own: Ival, square: Ival) -> Ival
 
 // What both multiples, whose sum lies in `share`, leave to the number by the completed square.
 fn completed_left(share: Ival, linear: Ival, square: Ival, number: Ival) -> Ival
-    ensures { interval_of result ≡ completed_left (interval_of share) (interval_of linear) (interval_of square) (interval_of number) }
+    ensures { interval_of result ≡ completed_left_of share linear square number }
 {
     let half = half_quotient(linear, square);
     let moved = share.inv_mul(square).add(half.sq());
@@ -115,7 +115,7 @@ fn completed_left(share: Ival, linear: Ival, square: Ival, number: Ival) -> Ival
 
 // The range of both multiples.
 fn both_range(linear: Ival, square: Ival, number: Ival) -> Ival
-    ensures { interval_of result ≡ both_range (Some (interval_of linear)) (Some (interval_of square)) (interval_of number) }
+    ensures { interval_of result ≡ both_range_of linear square number }
 {
     let sum = linear.mul(number).add(square.mul(number.sq()));
     if misses_nought(square.add(square)) {
@@ -126,7 +126,7 @@ fn both_range(linear: Ival, square: Ival, number: Ival) -> Ival
 
 // What both multiples, whose sum lies in `share`, leave to the number.
 fn both_left(share: Ival, linear: Ival, square: Ival, number: Ival) -> Ival
-    ensures { interval_of result ≡ both_left (interval_of share) (Some (interval_of linear)) (Some (interval_of square)) (interval_of number) }
+    ensures { interval_of result ≡ both_left_of share linear square number }
 {
     let left = less(share, square.mul(number.sq())).inv_mul(linear);
     if misses_nought(square.add(square)) {
@@ -137,7 +137,7 @@ fn both_left(share: Ival, linear: Ival, square: Ival, number: Ival) -> Ival
 
 /// The range of a multiple of the number and, if there is one, of a multiple of its square.
 pub fn range(linear: Ival, square: Option<Ival>, number: Ival) -> Ival
-    ensures { interval_of result ≡ both_range (Some (interval_of linear)) (option_of square) (interval_of number) }
+    ensures { interval_of result ≡ sum_range_of linear square number }
 {
     match square {
         Some(square) => both_range(linear, square, number),
@@ -147,7 +147,7 @@ pub fn range(linear: Ival, square: Option<Ival>, number: Ival) -> Ival
 
 /// What such a sum, which lies in `share`, leaves to the number.
 pub fn left(share: Ival, linear: Ival, square: Option<Ival>, number: Ival) -> Ival
-    ensures { interval_of result ≡ both_left (interval_of share) (Some (interval_of linear)) (option_of square) (interval_of number) }
+    ensures { interval_of result ≡ sum_left_of share linear square number }
 {
     match square {
         Some(square) => both_left(share, linear, square, number),

@@ -1,8 +1,7 @@
 // Where a sweep begins: the coefficients of the roots, the combination's range at the centre, and what is allowed to it.
 ghost use Rattle.std.specs.Prelude.{◌≡◌, ◌<◌, ◌≤◌, All, length};
 ghost use Rattle.dyadic.specs.Rounding.{two_to_minus};
-ghost use Rattle.cover_model.specs.Combination.{central_range, marked_range, root_adjoints};
-ghost use Rattle.cover_model.specs.Views.{multipliers_of};
+ghost use Rattle.cover_model.specs.Combination.{marked_range};
 ghost use Rattle.cover_model.specs.OffRange.{off_range};
 ghost use Rattle.cover_model.specs.Space.{range};
 ghost use Rattle.poly_graph.specs.ProblemViews.{problem_of};
@@ -11,7 +10,7 @@ ghost use Rattle.poly_graph.specs.Views.{atom_of, kind_of};
 ghost use Rattle.ival.specs.Views.{interval_of};
 ghost use Rattle.ival.specs.RowViews.{rows_of};
 ghost use Rattle.ival.specs.Options.{option_at};
-ghost use Rattle.plain_combine.specs.Calls.{allowed_by};
+ghost use Rattle.plain_combine.specs.Calls.{adjoints_of, allowed_by, central_of, range_by_mark};
 
 use crate::give::give;
 use crate::quadratic::only;
@@ -53,7 +52,7 @@ fn marked_range(problem: &Problem, loosen: u32, lits: &Lits, j: u32) -> Ival
     requires loosen { loosen ≤ 120 }
     requires atom { j < length problem.now.atoms }
     requires lits { length lits.now ≡ length problem.now.atoms }
-    ensures { interval_of result ≡ marked_range (problem_of problem.now) (two_to_minus loosen) lits.now j }
+    ensures { interval_of result ≡ range_by_mark problem.now loosen lits.now j }
 {
     let kind = atom_at(problem, j).kind;
     match lits.mark(j) {
@@ -78,8 +77,8 @@ pub fn start(
     requires lits { length lits.now ≡ length problem.now.atoms }
     requires centre_rows { length (rows_of centre_rows.now) ≡ length problem.now.nodes }
     requires linear { length (rows_of linear.old) ≡ length problem.now.nodes }
-    ensures roots { option_at linear.new ≡ root_adjoints (problem_of problem.now) (multipliers_of multipliers.now) }
-    ensures central { interval_of result.0 ≡ central_range (problem_of problem.now) (rows_of centre_rows.now) (multipliers_of multipliers.now) }
+    ensures roots { option_at linear.new ≡ adjoints_of problem.now multipliers.now }
+    ensures central { interval_of result.0 ≡ central_of problem.now centre_rows.now multipliers.now }
     ensures allowed { interval_of result.1 ≡ allowed_by problem.now loosen lits.now multipliers.now }
     ensures count { length (rows_of linear.new) ≡ length problem.now.nodes }
 {

@@ -5,11 +5,9 @@ ghost use Rattle.poly_graph.specs.Views.{node_of};
 ghost use Rattle.cover_model.specs.Combination.{off_centre};
 ghost use Rattle.ival.specs.Views.{interval_of};
 ghost use Rattle.ival.specs.RowViews.{rows_of};
-ghost use Rattle.ival.specs.Options.{option_of};
-ghost use Rattle.plain_combine.specs.Calls.{IsSwept};
+ghost use Rattle.plain_combine.specs.Calls.{IsExact, IsSomewhere, Sweeps, rest_with_node, rest_with_product, rest_with_square};
 ghost use Rattle.plain_combine.specs.Suits.{AreFor, AreUnder};
-ghost use Rattle.interval_model.specs.Interval.{is_nothing};
-ghost use Rattle.plain_combine.specs.Rest.{IsStill, IsNothingOver, with_node, with_product, with_square};
+ghost use Rattle.plain_combine.specs.Rest.{IsStill, with_node};
 
 use crate::give::{entry, give_children, give_square};
 use crate::quadratic::{is_single, less, multiple};
@@ -40,7 +38,7 @@ fn is_still(n: usize, rows: &Rows, centre_rows: &Rows) -> bool
 fn is_somewhere(n: usize, rows: &Rows, centre_rows: &Rows) -> bool
     requires rows { n < length (rows_of rows.now) }
     requires centre_rows { n < length (rows_of centre_rows.now) }
-    ensures { result ≡ true → is_nothing (off_centre (rows_of rows.now) (rows_of centre_rows.now) n) ≡ false }
+    ensures { result ≡ true → IsSomewhere rows.now centre_rows.now n }
 {
     !rows.get(n).is_empty() && !centre_rows.get(n).is_empty()
 }
@@ -50,8 +48,7 @@ fn is_multiple(a: usize, b: usize, linear: Ival, rows: &Rows, centre_rows: &Rows
     requires first { a < length (rows_of rows.now) }
     requires second { b < length (rows_of rows.now) }
     requires rows { length (rows_of centre_rows.now) ≡ length (rows_of rows.now) }
-    ensures { let w = interval_of linear in
-        result ≡ true → IsNothingOver (rows_of rows.now) (rows_of centre_rows.now) a b w }
+    ensures { result ≡ true → IsExact rows.now centre_rows.now a b linear }
 {
     if linear.is_empty() {
         return false;
@@ -67,7 +64,7 @@ fn add_product(a: u32, b: u32, linear: Ival, rows: &Rows, centre_rows: &Rows, re
     requires first { a < length (rows_of rows.now) }
     requires second { b < length (rows_of rows.now) }
     requires rows { length (rows_of centre_rows.now) ≡ length (rows_of rows.now) }
-    ensures { interval_of result ≡ with_product (rows_of rows.now) (rows_of centre_rows.now) a b (interval_of linear) (interval_of rest) }
+    ensures { interval_of result ≡ rest_with_product rows.now centre_rows.now a b linear rest }
 {
     let a = a as usize;
     let b = b as usize;
@@ -83,7 +80,7 @@ fn add_product(a: u32, b: u32, linear: Ival, rows: &Rows, centre_rows: &Rows, re
 fn add_square(n: usize, square: Option<Ival>, rows: &Rows, centre_rows: &Rows, rest: Ival) -> Ival
     requires rows { n < length (rows_of rows.now) }
     requires centre_rows { n < length (rows_of centre_rows.now) }
-    ensures { interval_of result ≡ with_square (rows_of rows.now) (rows_of centre_rows.now) n (option_of square) (interval_of rest) }
+    ensures { interval_of result ≡ rest_with_square rows.now centre_rows.now n square rest }
 {
     let Some(square) = square else {
         return rest;
@@ -104,7 +101,7 @@ fn with_node(
     requires order { IsTrue (comes_after n (node_of node)) }
     requires node { n < length (rows_of rows.now) }
     requires rows { length (rows_of centre_rows.now) ≡ length (rows_of rows.now) }
-    ensures { interval_of result ≡ with_node (rows_of rows.now) (rows_of centre_rows.now) n (interval_of linear) (option_of square) (node_of node) (interval_of rest) }
+    ensures { interval_of result ≡ rest_with_node rows.now centre_rows.now n linear square node rest }
 {
     match node {
         Node::Var(_) => rest,
@@ -129,7 +126,7 @@ pub fn sweep(
     requires centre_rows { length (rows_of centre_rows.now) ≡ length graph.now }
     requires count { AreFor graph.now coefficients.old }
     requires under { AreUnder coefficients.old }
-    ensures expansion { IsSwept graph.now (rows_of rows.now) (rows_of centre_rows.now) (interval_of rest) coefficients.old coefficients.new (interval_of result) }
+    ensures expansion { Sweeps graph.now rows.now centre_rows.now rest coefficients.old coefficients.new result }
     ensures count { AreFor graph.now coefficients.new }
     ensures under { AreUnder coefficients.new }
 {

@@ -1,5 +1,4 @@
 // Commands of a script, over its expressions.
-ghost use Rattle.std.specs.Prelude.{◌≡◌};
 
 use script_fault::{Name, Place};
 use smt_sexp::Sexps;

@@ -2,14 +2,12 @@
 ghost use Rattle.std.specs.Prelude.{◌≡◌, ◌&&◌, not};
 ghost use Rattle.script_model.specs.Sexp as sexp;
 ghost use Rattle.smt_sexp.specs.Arena.{listed, rest_of};
-ghost use Rattle.smt_sexp.specs.Views.{place_of};
+ghost use Rattle.smt_script.specs.Calls.{GivesAfterAny, GivesByWord, GivesGroup, GivesLogic, assertion_said, constant_said, definition_said, function_said, said_alone};
 ghost use Rattle.smt_script.specs.Commands as defined;
-ghost use Rattle.smt_script.specs.Commands.{by_word, commands_of, may_follow, one_command, says};
-ghost use Rattle.smt_script.specs.Forms.{as_any, as_symbol};
-ghost use Rattle.smt_script.specs.Shapes.{asserts_term, at_last, declares_function_name, declares_name, defines_name, sets_name};
-ghost use Rattle.smt_script.specs.Told.{Gives, Reads, with_set};
-ghost use Rattle.smt_script.specs.Run.{GivesNext, Steps, after_word, before_of};
-ghost use Rattle.smt_script.specs.Views.{command_of, word_of};
+ghost use Rattle.smt_script.specs.Commands.{by_word, commands_of, may_follow};
+ghost use Rattle.smt_script.specs.Told.{Reads};
+ghost use Rattle.smt_script.specs.Run.{Steps, after_word, before_of};
+ghost use Rattle.smt_script.specs.Views.{word_of};
 
 use crate::forms::{any, ends, group, symbol};
 use crate::lists::{Arguments, Parameters, arguments_from, parameters_from, sort_form};
@@ -80,7 +78,7 @@ fn command(
     place: Place,
     inside: usize,
 ) -> Result<(Before, Command<'_>), ReadError>
-    ensures { GivesNext sexps.now (place_of place) result (one_command (before_of before) (sexp.group (place_of place) (rest_of sexps.now inside))) }
+    ensures { GivesGroup sexps.now before place inside result }
 {
     let Some((_, name, at)) = symbol(sexps, inside) else {
         return Err(bad_command(place));
@@ -132,8 +130,7 @@ fn by_word(
     place: Place,
     at: usize,
 ) -> Result<Command<'_>, ReadError>
-    ensures { (b : defined.Before) → b.logic ≡ is_set →
-        Gives sexps.now (after_word (word_of word) b) (place_of place) result (by_word b (place_of place) (word_of word) (rest_of sexps.now at)) }
+    ensures { GivesByWord sexps.now is_set word place at result }
 {
     match word {
         Word::SetsLogic => set_logic(sexps, is_set, place, at),
@@ -156,7 +153,7 @@ fn alone<'a>(
     at: usize,
     command: Command<'a>,
 ) -> Result<Command<'a>, ReadError>
-    ensures { (b : defined.Before) → Gives sexps.now b (place_of place) result (at_last (rest_of sexps.now at) (says b (command_of sexps.now command.entry))) }
+    ensures { GivesAfterAny sexps.now place (said_alone sexps.now at command.entry) result }
 {
     if ends(sexps, at) {
         Ok(command)
@@ -184,8 +181,7 @@ fn set_logic<'a>(
     place: Place,
     at: usize,
 ) -> Result<Command<'a>, ReadError>
-    ensures { (b : defined.Before) → b.logic ≡ is_set →
-        Gives sexps.now (with_set b) (place_of place) result (sets_name b (place_of place) (as_symbol (rest_of sexps.now at))) }
+    ensures { GivesLogic sexps.now is_set place at result }
 {
     let Some((_, name, at)) = symbol(sexps, at) else {
         return Err(bad_command(place));
@@ -204,7 +200,7 @@ fn set_logic<'a>(
 
 // A name and a sort.
 fn declare_const(sexps: &Sexps, place: Place, at: usize) -> Result<Command<'_>, ReadError>
-    ensures { (b : defined.Before) → Gives sexps.now b (place_of place) result (declares_name b (place_of place) (as_symbol (rest_of sexps.now at))) }
+    ensures { GivesAfterAny sexps.now place (constant_said sexps.now place at) result }
 {
     let Some((_, name, at)) = symbol(sexps, at) else {
         return Err(bad_command(place));
@@ -224,7 +220,7 @@ fn declare_const(sexps: &Sexps, place: Place, at: usize) -> Result<Command<'_>, 
 
 // A name, arguments and a sort: an argument is left out.
 fn declare_fun(sexps: &Sexps, place: Place, at: usize) -> Result<Command<'_>, ReadError>
-    ensures { (b : defined.Before) → Gives sexps.now b (place_of place) result (declares_function_name b (place_of place) (as_symbol (rest_of sexps.now at))) }
+    ensures { GivesAfterAny sexps.now place (function_said sexps.now place at) result }
 {
     let Some((_, name, at)) = symbol(sexps, at) else {
         return Err(bad_command(place));
@@ -254,7 +250,7 @@ fn define_fun(
     place: Place,
     at: usize,
 ) -> Result<Command<'_>, ReadError>
-    ensures { (b : defined.Before) → Gives sexps.now b (place_of place) result (defines_name b (place_of place) (as_symbol (rest_of sexps.now at))) }
+    ensures { GivesAfterAny sexps.now place (definition_said sexps.now place at) result }
 {
     let Some((_, name, at)) = symbol(sexps, at) else {
         return Err(bad_command(place));
@@ -285,7 +281,7 @@ fn define_fun(
 
 // A term.
 fn assert_term(sexps: &Sexps, place: Place, body: usize) -> Result<Command<'_>, ReadError>
-    ensures { (b : defined.Before) → Gives sexps.now b (place_of place) result (asserts_term b (place_of place) (as_any (rest_of sexps.now body))) }
+    ensures { GivesAfterAny sexps.now place (assertion_said sexps.now place body) result }
 {
     let Some(at) = any(sexps, body) else {
         return Err(bad_command(place));

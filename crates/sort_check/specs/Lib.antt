@@ -1,3 +1,4 @@
+pub mod Calls
 pub mod Forms
 pub mod Sorts
 pub mod Steps

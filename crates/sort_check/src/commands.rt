@@ -1,13 +1,14 @@
 // The sorts and names of commands, one after the other.
 ghost use Rattle.std.specs.Prelude.{◌≡◌, ◌≤◌, [], map};
 ghost use Rattle.script_model.specs.Sexp as sexp;
-ghost use Rattle.script_model.specs.Reading.{Names, meaning};
-ghost use Rattle.smt_script.specs.Views.{command_of, commands_in, parameter_of, sort_of};
+ghost use Rattle.script_model.specs.Reading.{Names};
+ghost use Rattle.smt_script.specs.Views.{command_of, commands_in, parameter_of};
 ghost use Rattle.smt_sexp.specs.Arena.{expression_at};
 ghost use Rattle.smt_sexp.specs.Views.{place_of};
-ghost use Rattle.sort_check.specs.Sorts.{Sorted, known, new_name, sort_fault, sorting, taken_parameter, wants};
-ghost use Rattle.sort_check.specs.Views.{Knows, around};
-ghost use Rattle.sort_check.specs.Steps.{FindsFault, Steps};
+ghost use Rattle.sort_check.specs.Calls.{FindsAmong, FindsWithin, StepsFrom, wanted_sort};
+ghost use Rattle.sort_check.specs.Sorts.{Sorted, known, new_name, sort_fault, taken_parameter};
+ghost use Rattle.sort_check.specs.Views.{Knows};
+ghost use Rattle.sort_check.specs.Steps.{FindsFault};
 
 use crate::expressions::expression;
 use crate::names::{Known, is_operator, is_same, is_taken};
@@ -41,7 +42,7 @@ fn step<'p, 'a>(
     command: &'p Command<'a>,
 ) -> Result<usize, Stop<'a>>
     requires { count ≤ 1024 }
-    ensures { (names : Names Sorted) → Knows top.old names → Steps top.new count names (command_of sexps.now command.now) result }
+    ensures { StepsFrom top.old top.new count (command_of sexps.now command.now) result }
 {
     match command {
         Command::Declare(place, name, sort) => {
@@ -77,7 +78,7 @@ fn is_new<'p, 'a>(
     place: Place,
     name: &'a Name,
 ) -> Result<(), Stop<'a>>
-    ensures { (names : Names Sorted) → Knows top.now names → FindsFault result (new_name (place_of place) name.now names) }
+    ensures { FindsAmong top.now (new_name (place_of place) name.now) result }
 {
     if is_known(top, name) {
         Err(Stop::Fault(place, Fault::Redeclared(name)))
@@ -120,8 +121,7 @@ fn wanted<'p, 'a>(
     at: usize,
     sort: Sort,
 ) -> Result<(), Stop<'a>>
-    ensures { (names : Names Sorted) → Knows top.now names →
-        FindsFault result (wants (sexp.place_of (expression_at sexps.now at)) (sort_of sort) (meaning sorting (around locals.now names) (expression_at sexps.now at))) }
+    ensures { FindsWithin top.now locals.now (wanted_sort sexps.now at sort) result }
 {
     let found = expression(alloc, sexps, top, locals, at)?;
     if is_same(sort, found) {

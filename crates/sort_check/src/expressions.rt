@@ -1,11 +1,10 @@
 // The sorts of expressions: the head first, then the arguments from left to right, then the expression itself.
 ghost use Rattle.std.specs.Prelude.{◌≡◌, true, Err, is_some};
-ghost use Rattle.script_model.specs.Reading.{Names, application, bound_names, found, group_meaning, leaf_meaning, meaning, meanings, name_meaning, operators};
-ghost use Rattle.smt_sexp.specs.Arena.{expression_at, rest_of};
-ghost use Rattle.smt_sexp.specs.Views.{leaf_of, place_of};
-ghost use Rattle.sort_check.specs.Sorts.{Sorted, sorting};
-ghost use Rattle.sort_check.specs.Forms.{Binds, Lists, let_at};
-ghost use Rattle.sort_check.specs.Views.{Knows, Says, around, bare_sort, head_sort, sorts_seen};
+ghost use Rattle.script_model.specs.Reading.{bound_names, operators};
+ghost use Rattle.smt_sexp.specs.Arena.{rest_of};
+ghost use Rattle.smt_sexp.specs.Views.{place_of};
+ghost use Rattle.sort_check.specs.Calls.{BindsNames, ListsSorts, SaysSort, sort_of_call, sort_of_expression, sort_of_group, sort_of_leaf, sort_of_let, sort_of_name, sorts_of_arguments};
+ghost use Rattle.sort_check.specs.Views.{Says, bare_sort, head_sort, sorts_seen};
 
 use crate::forms::{behind, binding, ends, let_form};
 use crate::names::{Head, Known, fits, head_of, is_taken};
@@ -26,7 +25,7 @@ pub(crate) fn expression<'p, 'a>(
     locals: &[Parameter<'a>],
     at: usize,
 ) -> Result<Sort, Stop<'a>>
-    ensures { (names : Names Sorted) → Knows top.now names → Says result (meaning sorting (around locals.now names) (expression_at sexps.now at)) }
+    ensures { SaysSort top.now locals.now (sort_of_expression sexps.now at) result }
 {
     match sexps.look(at) {
         Seen::End => mismatch(Place { line: 0, column: 0 }),
@@ -45,8 +44,7 @@ fn group<'p, 'a>(
     place: Place,
     inside: usize,
 ) -> Result<Sort, Stop<'a>>
-    ensures { (names : Names Sorted) → Knows top.now names →
-        Says result (group_meaning sorting (around locals.now names) (place_of place) (rest_of sexps.now inside)) }
+    ensures { SaysSort top.now locals.now (sort_of_group sexps.now place inside) result }
 {
     match sexps.look(inside) {
         Seen::Leaf(_, Leaf::Symbol(name), args) => {
@@ -78,8 +76,7 @@ fn applied<'p, 'a>(
     name: &'a Name,
     args: usize,
 ) -> Result<Sort, Stop<'a>>
-    ensures { (names : Names Sorted) → Knows top.now names →
-        Says result (application sorting (around locals.now names) (place_of place) name.now (found name.now operators) (meanings sorting (around locals.now names) (rest_of sexps.now args))) }
+    ensures { SaysSort top.now locals.now (sort_of_call sexps.now place name.now args) result }
 {
     let Some(head) = head_of(top, locals, name) else {
         return unknown(place, name);
@@ -100,7 +97,7 @@ fn arguments<'p, 'a>(
     locals: &[Parameter<'a>],
     start: usize,
 ) -> Result<Vec<Sort>, Stop<'a>>
-    ensures { (names : Names Sorted) → Knows top.now names → Lists result (meanings sorting (around locals.now names) (rest_of sexps.now start)) }
+    ensures { ListsSorts top.now locals.now (sorts_of_arguments sexps.now start) result }
 {
     let mut sorts = Vec::new(alloc);
     let mut at = start;
@@ -122,8 +119,7 @@ fn let_sort<'p, 'a>(
     place: Place,
     at: usize,
 ) -> Result<Sort, Stop<'a>>
-    ensures { (names : Names Sorted) → Knows top.now names →
-        Says result (let_at (around locals.now names) (place_of place) (rest_of sexps.now at)) }
+    ensures { SaysSort top.now locals.now (sort_of_let sexps.now place at) result }
 {
     let Some((inside, body)) = let_form(sexps, at) else {
         return mismatch(place);
@@ -143,7 +139,7 @@ fn bindings<'p, 'a>(
     start: usize,
 ) -> Result<Vec<Parameter<'a>>, Stop<'a>>
     requires { is_some (bound_names (rest_of sexps.now start)) ≡ true }
-    ensures { (names : Names Sorted) → Knows top.now names → Binds result (around locals.now names) (rest_of sexps.now start) }
+    ensures { BindsNames top.now locals.now sexps.now start result }
 {
     let mut bound: Vec<Parameter<'a>> = Vec::new(alloc);
     let mut at = start;
@@ -172,7 +168,7 @@ fn leaf_sort<'p, 'a>(
     place: Place,
     leaf: &'a Leaf,
 ) -> Result<Sort, Stop<'a>>
-    ensures { (names : Names Sorted) → Knows top.now names → Says result (leaf_meaning sorting (around locals.now names) (place_of place) (leaf_of leaf.now)) }
+    ensures { SaysSort top.now locals.now (sort_of_leaf place leaf.now) result }
 {
     match leaf {
         Leaf::Numeral(_) => Ok(Sort::Real),
@@ -191,7 +187,7 @@ fn alone<'p, 'a>(
     place: Place,
     name: &'a Name,
 ) -> Result<Sort, Stop<'a>>
-    ensures { (names : Names Sorted) → Knows top.now names → Says result (name_meaning sorting (around locals.now names) (place_of place) name.now (found name.now operators)) }
+    ensures { SaysSort top.now locals.now (sort_of_name place name.now) result }
 {
     let Some(head) = head_of(top, locals, name) else {
         return unknown(place, name);

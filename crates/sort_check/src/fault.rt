@@ -1,9 +1,6 @@
 // The first fault of a script's names and sorts, with names of its own.
 ghost use Rattle.std.specs.Prelude.{Err};
-ghost use Rattle.script_fault.specs.Answers.{IsFaultOrMemory};
-ghost use Rattle.sort_check.specs.Sorts.{Finding};
-ghost use Rattle.sort_check.specs.Steps.{FindsFault};
-ghost use Rattle.sort_check.specs.Told.{finding_fault};
+ghost use Rattle.sort_check.specs.Calls.{IsOwned};
 
 use crate::stop::{Fault, Stop};
 use script_fault::{FaultKind, Limit, Name, ReadError};
@@ -11,7 +8,7 @@ use std::alloc::Global;
 
 /// What stops a check, with a name of its own. Until here a name is borrowed, so that no step of a check copies one.
 pub(crate) fn owned(alloc: Global, stop: Stop<'_>) -> ReadError
-    ensures { (found : Finding) → FindsFault (Err stop.entry) found → IsFaultOrMemory result (finding_fault found) }
+    ensures { IsOwned stop.entry result }
 {
     let Stop::Fault(place, fault) = stop else {
         return ReadError::Memory;

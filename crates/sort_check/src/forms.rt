@@ -1,5 +1,5 @@
 // The forms of expressions: their ends, and the bindings of a `let`.
-ghost use Rattle.std.specs.Prelude.{◌≡◌, ◌<◌, ◌≤◌, Option, is_some};
+ghost use Rattle.std.specs.Prelude.{◌≡◌, ◌<◌, Option, is_some};
 ghost use Rattle.script_model.specs.Reading.{bound_names};
 ghost use Rattle.smt_sexp.specs.Arena.{rest_of};
 ghost use Rattle.smt_script.specs.Forms.{FindsAny, is_end};

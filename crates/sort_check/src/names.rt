@@ -1,9 +1,10 @@
 // What names stand for: those of the top by their bytes, and the nearest of `let` and of parameters before them.
-ghost use Rattle.std.specs.Prelude.{◌≡◌, ◌++◌, [], map, option_map};
-ghost use Rattle.script_model.specs.Reading.{found, operators, Names};
+ghost use Rattle.std.specs.Prelude.{◌≡◌, [], map};
+ghost use Rattle.script_model.specs.Reading.{found, operators};
 ghost use Rattle.smt_script.specs.Views.{parameter_of, sort_of};
-ghost use Rattle.sort_check.specs.Sorts.{Sorted, fit, is_operator, is_taken, name_in, same_sort};
-ghost use Rattle.sort_check.specs.Views.{Heads, Knows, around, named_of, names_back, names_of, sorts_seen};
+ghost use Rattle.sort_check.specs.Calls.{LooksUp, LooksUpHead};
+ghost use Rattle.sort_check.specs.Sorts.{fit, is_operator, is_taken, name_in, same_sort};
+ghost use Rattle.sort_check.specs.Views.{names_back, names_of, sorts_seen};
 
 use crate::operators::{Operator, operator_named};
 use script_fault::Name;
@@ -30,7 +31,7 @@ fn lookup<'p, 'a>(
     locals: &[Parameter<'a>],
     name: &Name,
 ) -> Option<Known<'p, 'a>>
-    ensures { (names : Names Sorted) → Knows top.now names → option_map named_of result ≡ found name.now (around locals.now names) }
+    ensures { LooksUp top.now locals.now name.now result }
 {
     let mut rest = locals;
     while let [local, later @ ..] = rest {
@@ -48,7 +49,7 @@ pub(crate) fn head_of<'p, 'a>(
     locals: &[Parameter<'a>],
     name: &Name,
 ) -> Option<Head<'p, 'a>>
-    ensures { (names : Names Sorted) → Knows top.now names → Heads result name.now (around locals.now names) }
+    ensures { LooksUpHead top.now locals.now name.now result }
 {
     if let Some(operator) = operator_named(name.as_slice()) {
         return Some(Head::Operator(operator));

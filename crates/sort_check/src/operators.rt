@@ -1,6 +1,7 @@
 // The operators of Core and Reals, and their sorts (SMT-LIB 2.6, theories Core and Reals).
 ghost use Rattle.std.specs.Prelude.{◌≡◌, option_map};
 ghost use Rattle.script_model.specs.Reading.{choice, found, operators};
+ghost use Rattle.sort_check.specs.Calls.{sort_of_operator};
 ghost use Rattle.sort_check.specs.Sorts.{all_of, is_bool, is_real, operator_sort};
 ghost use Rattle.sort_check.specs.Views.{Says, operator_of, later_operators, sorts_seen};
 ghost use Rattle.smt_sexp.specs.Views.{place_of};
@@ -134,7 +135,7 @@ pub(crate) fn operator_sort<'a>(
     operator: Operator,
     sorts: &[Sort],
 ) -> Result<Sort, Stop<'a>>
-    ensures { Says result (operator_sort (place_of place) (operator_of operator) (sorts_seen sorts.now)) }
+    ensures { Says result (sort_of_operator place operator sorts.now) }
 {
     let bools = all_bool(sorts);
     let reals = all_real(sorts);

@@ -1,4 +1,5 @@
 pub mod Built
+pub mod Calls
 pub mod Does
 pub mod Settled
 pub mod Shapes

@@ -2,18 +2,18 @@
 ghost use Rattle.std.specs.Prelude.{◌≡◌, ◌^◌, ◌<◌, length, map, IsTrue, option_map};
 ghost use Rattle.dyadic.specs.Views.{fraction_of_frac};
 ghost use Rattle.term_build.specs.Steps.{as_constant, as_variable, both_of, constants, node_constant, node_variable, tree_of, two_fractions};
-ghost use Rattle.poly_graph.specs.Term.{comes_after, graph_terms, node_term};
-ghost use Rattle.poly_graph.specs.FormGraph.{form_comes_after, graph_forms, node_form};
+ghost use Rattle.poly_graph.specs.Term.{comes_after};
+ghost use Rattle.poly_graph.specs.FormGraph.{form_comes_after};
 ghost use Rattle.poly_graph.specs.FormViews.{form_node_of};
 ghost use Rattle.poly_graph.specs.Problem.{HasSort, IsNode};
-ghost use Rattle.poly_graph.specs.Views.{atom_of, kind_of, node_of};
+ghost use Rattle.poly_graph.specs.Views.{atom_of, node_of};
 ghost use Rattle.smt_script.specs.Views.{sort_of};
 ghost use Rattle.script_forms.specs.Terms.{same_term};
 ghost use Rattle.script_forms.specs.Work.{reached};
-ghost use Rattle.script_forms.specs.Walk.{after_event, ask_atom, make_form, make_tree};
-ghost use Rattle.term_build.specs.Built.{IsFormNode, IsMade, begun, full_atom};
-ghost use Rattle.term_build.specs.Does.{Does, IsAtom, IsForm, IsTree};
+ghost use Rattle.term_build.specs.Built.{IsFormNode, IsMade, begun};
+ghost use Rattle.term_build.specs.Calls.{AsksAtom, DoesEvent, MakesForm, MakesNode, fraction_in};
 
+use crate::facts::{atoms_are_apart, forms_are_shared, graph_is_shared};
 use crate::stop::{Stop, limited};
 use dyadic::Frac;
 use poly_graph::{Atom, AtomTable, FormGraph, FormNode, Graph, Kind, Node};
@@ -66,7 +66,7 @@ fn axis_of(node: Node) -> Option<u32>
 
 // Two, where both are there.
 fn both(p: Option<Frac>, q: Option<Frac>) -> Option<(Frac, Frac)>
-    ensures { option_map two_fractions result ≡ both_of (option_map fraction_of_frac p) (option_map fraction_of_frac q) }
+    ensures { option_map two_fractions result ≡ both_of (fraction_in p) (fraction_in q) }
 {
     match (p, q) {
         (Some(p), Some(q)) => Some((p, q)),
@@ -80,11 +80,11 @@ impl Builder {
         ensures { result ≡ begun (map sort_of sorts.items) }
     {
         let graph = Graph::new(alloc);
-        let _ = graph.len();
+        graph_is_shared(&graph);
         let atoms = AtomTable::new(alloc);
-        let _ = atoms.atoms();
+        atoms_are_apart(&atoms);
         let forms = FormGraph::new(alloc);
-        let _ = forms.len();
+        forms_are_shared(&forms);
         Builder {
             sorts,
             size: 0,
@@ -107,7 +107,7 @@ impl Builder {
     /// One more expression is reached.
     #[tactic(auto, unfolding(crate::specs::Does::IsBeyond))]
     pub fn reach(&mut self) -> Result<(), Stop>
-        ensures does { Does self.old self.new (λ claim s. after_event claim s reached) result (λ _. Unit {0}) }
+        ensures does { DoesEvent self.old self.new reached result (λ _. Unit {0}) }
         ensures sorts { self.new.sorts ≡ self.old.sorts }
     {
         if self.size >= MOST_SIZE {
@@ -121,22 +121,22 @@ impl Builder {
     pub fn make(&mut self, node: Node) -> Result<u32, Stop>
         requires after { IsTrue (comes_after (length self.old.nodes) (node_of node)) }
         requires fits { IsNode self.old.sorts (node_of node) }
-        ensures does { let t = node_term (graph_terms self.old.nodes) (node_of node) in Does self.old self.new (λ claim s. make_tree claim s t) result (IsTree self.new t) }
+        ensures does { MakesNode self.old self.new (node_of node) result }
         ensures sorts { self.new.sorts ≡ self.old.sorts }
     {
         let made = self.graph.intern(node);
-        let _ = self.graph.len();
+        graph_is_shared(&self.graph);
         limited(made)
     }
 
     /// The number of the atom of this term's node and this kind.
     pub fn ask(&mut self, term: u32, kind: Kind) -> Result<u32, Stop>
         requires { term < length self.old.nodes }
-        ensures does { let a = full_atom (graph_terms self.old.nodes) (term, kind_of kind) in Does self.old self.new (λ claim s. ask_atom claim s a) result (IsAtom self.new a) }
+        ensures does { AsksAtom self.old self.new term kind result }
         ensures sorts { self.new.sorts ≡ self.old.sorts }
     {
         let made = self.atoms.intern(Atom { term, kind });
-        let _ = self.atoms.atoms();
+        atoms_are_apart(&self.atoms);
         limited(made)
     }
 
@@ -144,11 +144,11 @@ impl Builder {
     pub fn form(&mut self, node: FormNode) -> Result<u32, Stop>
         requires after { IsTrue (form_comes_after (length self.old.forms) (form_node_of node)) }
         requires fits { IsFormNode self.old.sorts (length self.old.atoms) (form_node_of node) }
-        ensures does { let f = node_form (graph_forms self.old.forms) (form_node_of node) in Does self.old self.new (λ claim s. make_form claim s f) result (IsForm self.new f) }
+        ensures does { MakesForm self.old self.new (form_node_of node) result }
         ensures sorts { self.new.sorts ≡ self.old.sorts }
     {
         let made = self.forms.intern(node);
-        let _ = self.forms.len();
+        forms_are_shared(&self.forms);
         limited(made)
     }
 
@@ -198,7 +198,7 @@ impl Builder {
         requires second { b < length self.now.nodes }
         ensures { result ≡ same_term (tree_of self.now a) (tree_of self.now b) }
     {
-        let _ = &self.graph;
+        graph_is_shared(&self.graph);
         a == b
     }
 }

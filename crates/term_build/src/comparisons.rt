@@ -1,14 +1,8 @@
 // Comparisons: their terms and atoms are made when their form is asked for.
-ghost use Rattle.std.specs.Prelude.{◌≡◌, ◌<◌, [], ◌∷◌, ◌++◌, length};
-ghost use Rattle.poly_graph.specs.Form.{atom_is};
-ghost use Rattle.poly_graph.specs.Views.{kind_of};
-ghost use Rattle.smt_sexp.specs.Views.{place_of};
-ghost use Rattle.script_forms.specs.Atoms.{atom_of};
-ghost use Rattle.script_forms.specs.Terms.{comparison_tree, is_zero};
-ghost use Rattle.script_forms.specs.Work.{asked, comparison_events, form_events, formed};
-ghost use Rattle.term_build.specs.Built.{full_atom, stand_of};
-ghost use Rattle.term_build.specs.Sketch.{IsAtomForm, comparison_of};
-ghost use Rattle.term_build.specs.Steps.{Emits, IsTreeOf, tree_of};
+ghost use Rattle.std.specs.Prelude.{◌≡◌, ◌<◌, length};
+ghost use Rattle.script_forms.specs.Terms.{is_zero};
+ghost use Rattle.term_build.specs.Calls.{MakesAtomForm, MakesFormOf, MakesTermOf, asked_atom, comparison_at};
+ghost use Rattle.term_build.specs.Steps.{tree_of};
 
 use crate::builder::Builder;
 use crate::stop::Stop;
@@ -31,10 +25,9 @@ impl Builder {
     fn comparison_term(&mut self, at: Place, left: u32, right: u32, kind: Kind) -> Result<u32, Stop>
         requires first { left < length self.old.nodes }
         requires second { right < length self.old.nodes }
-        ensures does { let c = comparison_of (stand_of self.old).trees (place_of at) left right (kind_of kind) in Emits self.old self.new (comparison_events c) result (IsTreeOf self.new (comparison_tree c)) }
+        ensures does { MakesTermOf self.old self.new (comparison_at self.old at left right kind) result }
         ensures sorts { self.new.sorts ≡ self.old.sorts }
     {
-        let _ = kind;
         if self.is_zero(right) {
             return Ok(left);
         }
@@ -44,7 +37,7 @@ impl Builder {
     // The form of an atom whose term's node this is.
     fn atom_form(&mut self, term: u32, kind: Kind) -> Result<u32, Stop>
         requires { term < length self.old.nodes }
-        ensures does { let a = full_atom (stand_of self.old).trees (term, kind_of kind) in Emits self.old self.new (asked a ∷ formed (atom_is a) ∷ []) result (IsAtomForm self.new a) }
+        ensures does { MakesAtomForm self.old self.new (asked_atom self.old term kind) result }
         ensures sorts { self.new.sorts ≡ self.old.sorts }
     {
         let atom = self.ask(term, kind)?;
@@ -55,7 +48,7 @@ impl Builder {
     pub fn compare(&mut self, at: Place, left: u32, right: u32, kind: Kind) -> Result<u32, Stop>
         requires first { left < length self.old.nodes }
         requires second { right < length self.old.nodes }
-        ensures does { let c = comparison_of (stand_of self.old).trees (place_of at) left right (kind_of kind) in Emits self.old self.new (form_events (atom_is c)) result (IsAtomForm self.new (atom_of c)) }
+        ensures does { MakesFormOf self.old self.new (comparison_at self.old at left right kind) result }
         ensures sorts { self.new.sorts ≡ self.old.sorts }
     {
         let term = self.comparison_term(at, left, right, kind)?;

@@ -2,10 +2,9 @@
 ghost use Rattle.std.specs.Prelude.{◌≡◌, IfOk, map};
 ghost use Rattle.poly_graph.specs.Form.{all_form, any_form};
 ghost use Rattle.script_forms.specs.Unfolded.{and_of, chain, different, implies_of, implies_two, or_of, xor_all, xor_from, xor_of};
-ghost use Rattle.poly_graph.specs.Views.{kind_of};
-ghost use Rattle.smt_sexp.specs.Views.{place_of};
+ghost use Rattle.term_build.specs.Calls.{Compares, drawn};
 ghost use Rattle.term_build.specs.Shapes.{drawn_of};
-ghost use Rattle.term_build.specs.Pairs.{Adds, AddsChoice, AddsPair, ComparesTwo, Connects, ConnectsChoice, ConnectsFrom, ConnectsTwo, ImpliesFrom, JoinsFour, JoinsTwo, Negates, Writes, WritesBool, constant_formula, same_of};
+ghost use Rattle.term_build.specs.Pairs.{Adds, AddsChoice, AddsPair, Connects, ConnectsChoice, ConnectsFrom, ConnectsTwo, ImpliesFrom, JoinsFour, JoinsTwo, Negates, Writes, WritesBool, constant_formula, same_of};
 ghost use Rattle.term_build.specs.declared.connectives.Pair as code_pair;
 
 use crate::sketch::{Arm, Drawn};
@@ -22,7 +21,7 @@ pub struct Pair {
 
 // A node at the end of the sketch: its number.
 fn add(sketch: &mut Vec<Drawn>, node: Drawn) -> Result<u32, AllocError>
-    ensures { Adds (map drawn_of sketch.old.items) (map drawn_of sketch.new.items) (drawn_of node) result }
+    ensures { Adds (drawn sketch.old) (drawn sketch.new) (drawn_of node) result }
 {
     let Ok(k) = u32::try_from(sketch.len()) else {
         return Err(AllocError);
@@ -38,7 +37,7 @@ pub fn choose_arms(
     first: Arm,
     second: Arm,
 ) -> Result<Arm, AllocError>
-    ensures { AddsChoice (map drawn_of sketch.old.items) (map drawn_of sketch.new.items) condition first second result }
+    ensures { AddsChoice (drawn sketch.old) (drawn sketch.new) condition first second result }
 {
     let k = add(sketch, Drawn::Choice(condition, first, second))?;
     Ok(Arm::Choice(k))
@@ -46,7 +45,7 @@ pub fn choose_arms(
 
 // Two nodes at the end of the sketch: that of a truth, and that of its negation.
 fn add_pair(sketch: &mut Vec<Drawn>, yes: Drawn, no: Drawn) -> Result<Pair, AllocError>
-    ensures { AddsPair (map drawn_of sketch.old.items) (map drawn_of sketch.new.items) (drawn_of yes) (drawn_of no) result }
+    ensures { AddsPair (drawn sketch.old) (drawn sketch.new) (drawn_of yes) (drawn_of no) result }
 {
     let truth = add(sketch, yes)?;
     let negation = add(sketch, no)?;
@@ -55,7 +54,7 @@ fn add_pair(sketch: &mut Vec<Drawn>, yes: Drawn, no: Drawn) -> Result<Pair, Allo
 
 // That both nodes hold.
 fn both(alloc: Global, sketch: &mut Vec<Drawn>, a: u32, b: u32) -> Result<u32, AllocError>
-    ensures { JoinsTwo all_form (map drawn_of sketch.old.items) (map drawn_of sketch.new.items) a b result }
+    ensures { JoinsTwo all_form (drawn sketch.old) (drawn sketch.new) a b result }
 {
     let children = vec![in alloc; a, b]?;
     add(sketch, Drawn::And(children))
@@ -63,7 +62,7 @@ fn both(alloc: Global, sketch: &mut Vec<Drawn>, a: u32, b: u32) -> Result<u32, A
 
 // That one of two nodes holds.
 fn either(alloc: Global, sketch: &mut Vec<Drawn>, a: u32, b: u32) -> Result<u32, AllocError>
-    ensures { JoinsTwo any_form (map drawn_of sketch.old.items) (map drawn_of sketch.new.items) a b result }
+    ensures { JoinsTwo any_form (drawn sketch.old) (drawn sketch.new) a b result }
 {
     let children = vec![in alloc; a, b]?;
     add(sketch, Drawn::Or(children))
@@ -76,7 +75,7 @@ fn four(
     a: (u32, u32),
     b: (u32, u32),
 ) -> Result<u32, AllocError>
-    ensures { JoinsFour (map drawn_of sketch.old.items) (map drawn_of sketch.new.items) a.0 a.1 b.0 b.1 result }
+    ensures { JoinsFour (drawn sketch.old) (drawn sketch.new) a.0 a.1 b.0 b.1 result }
 {
     let first = both(alloc, sketch, a.0, a.1)?;
     let second = both(alloc, sketch, b.0, b.1)?;
@@ -111,7 +110,7 @@ impl Pair {
 
     /// That all of these hold.
     pub fn all(alloc: Global, sketch: &mut Vec<Drawn>, pairs: &[Pair]) -> Result<Pair, AllocError>
-        ensures { Connects and_of (map drawn_of sketch.old.items) (map drawn_of sketch.new.items) pairs.now result }
+        ensures { Connects and_of (drawn sketch.old) (drawn sketch.new) pairs.now result }
     {
         let truths = truths(alloc, pairs)?;
         let negations = negations(alloc, pairs)?;
@@ -120,7 +119,7 @@ impl Pair {
 
     /// That one of these holds.
     pub fn any(alloc: Global, sketch: &mut Vec<Drawn>, pairs: &[Pair]) -> Result<Pair, AllocError>
-        ensures { Connects or_of (map drawn_of sketch.old.items) (map drawn_of sketch.new.items) pairs.now result }
+        ensures { Connects or_of (drawn sketch.old) (drawn sketch.new) pairs.now result }
     {
         let truths = truths(alloc, pairs)?;
         let negations = negations(alloc, pairs)?;
@@ -129,7 +128,7 @@ impl Pair {
 
     /// The constant.
     pub fn constant(sketch: &mut Vec<Drawn>, value: bool) -> Result<Pair, AllocError>
-        ensures { Writes (constant_formula value) (map drawn_of sketch.old.items) (map drawn_of sketch.new.items) result }
+        ensures { Writes (constant_formula value) (drawn sketch.old) (drawn sketch.new) result }
     {
         if value {
             add_pair(sketch, Drawn::True, Drawn::False)
@@ -140,7 +139,7 @@ impl Pair {
 
     /// The value of a Bool constant, whose axis this is.
     pub fn bool_is(sketch: &mut Vec<Drawn>, axis: u32) -> Result<Pair, AllocError>
-        ensures { WritesBool axis (map drawn_of sketch.old.items) (map drawn_of sketch.new.items) result }
+        ensures { WritesBool axis (drawn sketch.old) (drawn sketch.new) result }
     {
         add_pair(
             sketch,
@@ -157,7 +156,7 @@ impl Pair {
         right: u32,
         kind: Kind,
     ) -> Result<Pair, AllocError>
-        ensures { ComparesTwo (kind_of kind) (place_of at) (map drawn_of sketch.old.items) (map drawn_of sketch.new.items) left right result }
+        ensures { Compares kind at (drawn sketch.old) (drawn sketch.new) left right result }
     {
         match kind {
             Kind::Le => add_pair(
@@ -185,7 +184,7 @@ impl Pair {
         first: Pair,
         second: Pair,
     ) -> Result<Pair, AllocError>
-        ensures { ConnectsTwo implies_two (map drawn_of sketch.old.items) (map drawn_of sketch.new.items) first second result }
+        ensures { ConnectsTwo implies_two (drawn sketch.old) (drawn sketch.new) first second result }
     {
         let yes = vec![in alloc; first.negation, second.truth]?;
         let no = vec![in alloc; first.truth, second.negation]?;
@@ -200,7 +199,7 @@ impl Pair {
         first: Pair,
         second: Pair,
     ) -> Result<Pair, AllocError>
-        ensures { ConnectsChoice (map drawn_of sketch.old.items) (map drawn_of sketch.new.items) condition first second result }
+        ensures { ConnectsChoice (drawn sketch.old) (drawn sketch.new) condition first second result }
     {
         let truth = four(
             alloc,
@@ -224,14 +223,14 @@ impl Pair {
         first: Pair,
         second: Pair,
     ) -> Result<Pair, AllocError>
-        ensures { ConnectsTwo xor_of (map drawn_of sketch.old.items) (map drawn_of sketch.new.items) first second result }
+        ensures { ConnectsTwo xor_of (drawn sketch.old) (drawn sketch.new) first second result }
     {
         Pair::choose(alloc, sketch, first, second.not(), second)
     }
 
     /// That each link of a chain holds; one alone is its own.
     pub fn chain(alloc: Global, sketch: &mut Vec<Drawn>, pairs: &[Pair]) -> Result<Pair, AllocError>
-        ensures { Connects chain (map drawn_of sketch.old.items) (map drawn_of sketch.new.items) pairs.now result }
+        ensures { Connects chain (drawn sketch.old) (drawn sketch.new) pairs.now result }
     {
         if pairs.len() == 1 {
             return Ok(pairs[0]);
@@ -246,7 +245,7 @@ impl Pair {
         first: Pair,
         second: Pair,
     ) -> Result<Pair, AllocError>
-        ensures { ConnectsTwo same_of (map drawn_of sketch.old.items) (map drawn_of sketch.new.items) first second result }
+        ensures { ConnectsTwo same_of (drawn sketch.old) (drawn sketch.new) first second result }
     {
         let apart = Pair::exclusive_two(alloc, sketch, first, second)?;
         Ok(apart.not())
@@ -258,7 +257,7 @@ impl Pair {
         sketch: &mut Vec<Drawn>,
         pairs: &[Pair],
     ) -> Result<Pair, AllocError>
-        ensures { Connects different (map drawn_of sketch.old.items) (map drawn_of sketch.new.items) pairs.now result }
+        ensures { Connects different (drawn sketch.old) (drawn sketch.new) pairs.now result }
     {
         let equal = truths(alloc, pairs)?;
         add_pair(sketch, Drawn::True, Drawn::Or(equal))
@@ -270,7 +269,7 @@ impl Pair {
         sketch: &mut Vec<Drawn>,
         pairs: &[Pair],
     ) -> Result<Pair, AllocError>
-        ensures { Connects implies_of (map drawn_of sketch.old.items) (map drawn_of sketch.new.items) pairs.now result }
+        ensures { Connects implies_of (drawn sketch.old) (drawn sketch.new) pairs.now result }
     {
         let Some((last, before)) = pairs.split_last() else {
             return Pair::constant(sketch, true);
@@ -284,7 +283,7 @@ impl Pair {
         sketch: &mut Vec<Drawn>,
         pairs: &[Pair],
     ) -> Result<Pair, AllocError>
-        ensures { Connects xor_all (map drawn_of sketch.old.items) (map drawn_of sketch.new.items) pairs.now result }
+        ensures { Connects xor_all (drawn sketch.old) (drawn sketch.new) pairs.now result }
     {
         let Some((first, rest)) = pairs.split_first() else {
             return Pair::constant(sketch, true);
@@ -300,7 +299,7 @@ fn exclusive_from(
     first: Pair,
     rest: &[Pair],
 ) -> Result<Pair, AllocError>
-    ensures { ConnectsFrom xor_from (map drawn_of sketch.old.items) (map drawn_of sketch.new.items) first rest.now result }
+    ensures { ConnectsFrom xor_from (drawn sketch.old) (drawn sketch.new) first rest.now result }
 {
     let mut so_far = first;
     for pair in rest {
@@ -316,7 +315,7 @@ fn implies_from(
     before: &[Pair],
     last: Pair,
 ) -> Result<Pair, AllocError>
-    ensures { ImpliesFrom (map drawn_of sketch.old.items) (map drawn_of sketch.new.items) last before.now result }
+    ensures { ImpliesFrom (drawn sketch.old) (drawn sketch.new) last before.now result }
 {
     let mut so_far = last;
     for i in 0..before.len() {

@@ -7,6 +7,7 @@
 mod builder;
 mod comparisons;
 mod connectives;
+mod facts;
 mod shape;
 mod sketch;
 mod steps;

@@ -1,8 +1,9 @@
 // Forms are made from their sketch: each node once, its children before it, over a stack of its own.
-ghost use Rattle.std.specs.Prelude.{◌≡◌, ℕ, ◌<◌, ◌^◌, [], ◌∷◌, ◌++◌, length, map, replicate, slice_get, IfOk, None, Some};
+ghost use Rattle.std.specs.Prelude.{◌≡◌, ◌<◌, ◌^◌, length, map, replicate, slice_get, IfOk, None, Some};
+ghost use Rattle.term_build.specs.Calls.{CompletesFrame, DrainsStack, GoesOn, IsComplete, KeepsFrames, KeepsSafe, NumbersRoot, TakesTurn, frames, frames_under};
 ghost use Rattle.term_build.specs.Sketch.{IsDrawn, IsSketch};
-ghost use Rattle.term_build.specs.Shapes.{AreFrames, AreNumbers, Completing, Stepping, StaysSafe, IfDone, Draining, Shaping, Finishes, IsFrame, IsMemo, children, drawn_of, frame_of, node_at};
-ghost use Rattle.term_build.specs.Turns.{AreStacked, IsMadeIn, IsNumbered, IsRooted, IsTurn};
+ghost use Rattle.term_build.specs.Shapes.{AreFrames, AreNumbers, Shaping, Finishes, IfDone, IsFrame, IsMemo, children, drawn_of, frame_of};
+ghost use Rattle.term_build.specs.Turns.{AreStacked, IsMadeIn, IsNumbered};
 
 use crate::builder::Builder;
 use crate::sketch::Drawn;
@@ -54,9 +55,9 @@ fn complete(
     requires sketched { IsSketch builder.old (map drawn_of sketch.now) }
     requires framed { IsFrame (map drawn_of sketch.now) builder.old (frame_of frame) }
     requires kept { IsMemo (map drawn_of sketch.now) builder.old memo.old }
-    requires done { slice_get (children (node_at (map drawn_of sketch.now) frame.node)) (length frame.numbers.items) ≡ None }
-    ensures does { Completing (map drawn_of sketch.now) builder.old builder.new memo.old memo.new (frame_of frame) result }
-    ensures safe { IfDone result (StaysSafe (map drawn_of sketch.now) builder.old builder.new memo.new) }
+    requires done { IsComplete (map drawn_of sketch.now) (frame_of frame) }
+    ensures does { CompletesFrame sketch.now builder.old builder.new memo.old memo.new frame result }
+    ensures safe { KeepsSafe sketch.now builder.old builder.new memo.new result }
     ensures made { IfDone result (IsMadeIn memo.old memo.new frame.node) }
     ensures sorts { builder.new.sorts ≡ builder.old.sorts }
 {
@@ -79,11 +80,11 @@ fn step(
     requires sketched { IsSketch builder.old (map drawn_of sketch.now) }
     requires framed { IsFrame (map drawn_of sketch.now) builder.old (frame_of frame) }
     requires kept { IsMemo (map drawn_of sketch.now) builder.old memo.old }
-    requires nested { AreStacked (map drawn_of sketch.now) memo.old (map frame_of stack.old.items ++ (frame_of frame ∷ [])) }
-    ensures does { Stepping (map drawn_of sketch.now) builder.old builder.new memo.old memo.new stack.old.items stack.new.items (frame_of frame) result }
-    ensures safe { IfDone result (StaysSafe (map drawn_of sketch.now) builder.old builder.new memo.new) }
-    ensures frames { AreFrames (map drawn_of sketch.now) builder.old (map frame_of stack.old.items) → IfDone result (AreFrames (map drawn_of sketch.now) builder.new (map frame_of stack.new.items)) }
-    ensures turn { IfDone result (IsTurn (map drawn_of sketch.now) memo.old memo.new (map frame_of stack.old.items ++ (frame_of frame ∷ [])) (map frame_of stack.new.items)) }
+    requires nested { AreStacked (map drawn_of sketch.now) memo.old (frames_under stack.old frame) }
+    ensures does { GoesOn sketch.now builder.old builder.new memo.old memo.new stack.old stack.new frame result }
+    ensures safe { KeepsSafe sketch.now builder.old builder.new memo.new result }
+    ensures frames { KeepsFrames sketch.now builder.old builder.new stack.old stack.new result }
+    ensures turn { TakesTurn sketch.now memo.old memo.new stack.old stack.new frame result }
     ensures sorts { builder.new.sorts ≡ builder.old.sorts }
 {
     let Some(child) = child_at(&sketch[frame.node as usize], frame.numbers.len()) else {
@@ -112,10 +113,10 @@ fn drain(
 ) -> Result<(), Stop>
     requires sketched { IsSketch builder.old (map drawn_of sketch.now) }
     requires kept { IsMemo (map drawn_of sketch.now) builder.old memo.old }
-    requires framed { AreFrames (map drawn_of sketch.now) builder.old (map frame_of stack.old.items) }
-    requires nested { AreStacked (map drawn_of sketch.now) memo.old (map frame_of stack.old.items) }
-    ensures does { Draining (map drawn_of sketch.now) builder.old builder.new memo.old memo.new (map frame_of stack.old.items) [] result }
-    ensures rooted { (root : ℕ) → IsRooted memo.old root (map frame_of stack.old.items) → IfDone result (IsNumbered memo.new root) }
+    requires framed { AreFrames (map drawn_of sketch.now) builder.old (frames stack.old) }
+    requires nested { AreStacked (map drawn_of sketch.now) memo.old (frames stack.old) }
+    ensures does { DrainsStack sketch.now builder.old builder.new memo.old memo.new stack.old result }
+    ensures rooted { NumbersRoot memo.old memo.new stack.old result }
     ensures sorts { builder.new.sorts ≡ builder.old.sorts }
 {
     while let Some(frame) = stack.pop() {

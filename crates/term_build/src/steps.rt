@@ -1,14 +1,12 @@
 // The steps of terms: constants are folded to one, and every tree on the way is made.
-ghost use Rattle.std.specs.Prelude.{◌≡◌, ◌<◌, ◌^◌, length, Bool, None, Some, cond, option_map};
-ghost use Rattle.dyadic.specs.Fraction.{Fraction};
+ghost use Rattle.std.specs.Prelude.{◌≡◌, ◌<◌, ◌^◌, length, None, cond};
 ghost use Rattle.dyadic.specs.Views.{fraction_of_frac};
 ghost use Rattle.poly_graph.specs.Term.{multiply_node, square_node};
 ghost use Rattle.poly_graph.specs.Views.{node_of};
-ghost use Rattle.smt_sexp.specs.Views.{place_of};
-ghost use Rattle.script_forms.specs.Terms.{add_tree, constant_or, divide_tree, inverse_of, is_nought, multiply_tree, negate_tree, subtract_tree, term};
-ghost use Rattle.script_forms.specs.Work.{add_events, divide_events, ending, multiply_events, subtract_events};
-ghost use Rattle.term_build.specs.Does.{Does};
-ghost use Rattle.term_build.specs.Steps.{Emits, Folds, constants, IsTreeOf, tree_of};
+ghost use Rattle.script_forms.specs.Terms.{add_tree, divide_tree, multiply_tree, negate_tree, subtract_tree, term};
+ghost use Rattle.script_forms.specs.Work.{add_events, divide_events, multiply_events, subtract_events};
+ghost use Rattle.term_build.specs.Calls.{Computes, Ends, EndsFolded, fraction_in, inverse_unless_nought};
+ghost use Rattle.term_build.specs.Steps.{constants, tree_of};
 
 use crate::builder::Builder;
 use crate::stop::{Fault, Stop};
@@ -26,7 +24,7 @@ fn product_node(a: u32, b: u32, same: bool) -> Node
 impl Builder {
     // The constant that a step of constants gave, or its fault.
     fn fold(&mut self, at: Place, folded: Result<Frac, TooWide>) -> Result<u32, Stop>
-        ensures does { (fits : Bool) (q : Fraction) → Folds folded fits q → Emits self.old self.new (ending (constant_or (place_of at) fits q)) result (IsTreeOf self.new (constant_or (place_of at) fits q)) }
+        ensures does { EndsFolded self.old self.new at folded result }
         ensures sorts { self.new.sorts ≡ self.old.sorts }
     {
         match folded {
@@ -38,7 +36,7 @@ impl Builder {
     /// The opposite of a tree.
     pub fn negate(&mut self, a: u32) -> Result<u32, Stop>
         requires { a < length self.old.nodes }
-        ensures does { let u = term (negate_tree (tree_of self.old a)) in Emits self.old self.new (ending u) result (IsTreeOf self.new u) }
+        ensures does { Ends self.old self.new (term (negate_tree (tree_of self.old a))) result }
         ensures sorts { self.new.sorts ≡ self.old.sorts }
     {
         match self.constant_at(a) {
@@ -51,7 +49,7 @@ impl Builder {
     pub fn add(&mut self, at: Place, a: u32, b: u32) -> Result<u32, Stop>
         requires first { a < length self.old.nodes }
         requires second { b < length self.old.nodes }
-        ensures does { Emits self.old self.new (add_events (place_of at) (tree_of self.old a) (tree_of self.old b)) result (IsTreeOf self.new (add_tree (place_of at) (tree_of self.old a) (tree_of self.old b))) }
+        ensures does { Computes add_events add_tree self.old self.new at a b result }
         ensures sorts { self.new.sorts ≡ self.old.sorts }
     {
         match self.constants(a, b) {
@@ -64,7 +62,7 @@ impl Builder {
     pub fn subtract(&mut self, at: Place, a: u32, b: u32) -> Result<u32, Stop>
         requires first { a < length self.old.nodes }
         requires second { b < length self.old.nodes }
-        ensures does { Emits self.old self.new (subtract_events (place_of at) (tree_of self.old a) (tree_of self.old b)) result (IsTreeOf self.new (subtract_tree (place_of at) (tree_of self.old a) (tree_of self.old b))) }
+        ensures does { Computes subtract_events subtract_tree self.old self.new at a b result }
         ensures sorts { self.new.sorts ≡ self.old.sorts }
     {
         let opposite = self.negate(b)?;
@@ -75,7 +73,7 @@ impl Builder {
     pub fn multiply(&mut self, at: Place, a: u32, b: u32) -> Result<u32, Stop>
         requires first { a < length self.old.nodes }
         requires second { b < length self.old.nodes }
-        ensures does { Emits self.old self.new (multiply_events (place_of at) (tree_of self.old a) (tree_of self.old b)) result (IsTreeOf self.new (multiply_tree (place_of at) (tree_of self.old a) (tree_of self.old b))) }
+        ensures does { Computes multiply_events multiply_tree self.old self.new at a b result }
         ensures sorts { self.new.sorts ≡ self.old.sorts }
     {
         match self.constants(a, b) {
@@ -89,7 +87,7 @@ impl Builder {
         requires first { a < length self.old.nodes }
         requires second { b < length self.old.nodes }
         requires apart { None ≡ constants (tree_of self.old a) (tree_of self.old b) }
-        ensures does { Emits self.old self.new (multiply_events (place_of at) (tree_of self.old a) (tree_of self.old b)) result (IsTreeOf self.new (multiply_tree (place_of at) (tree_of self.old a) (tree_of self.old b))) }
+        ensures does { Computes multiply_events multiply_tree self.old self.new at a b result }
         ensures sorts { self.new.sorts ≡ self.old.sorts }
     {
         let factors = product_node(a, b, self.is_same(a, b));
@@ -101,7 +99,7 @@ impl Builder {
     pub fn divide(&mut self, at: Place, a: u32, b: u32) -> Result<u32, Stop>
         requires first { a < length self.old.nodes }
         requires second { b < length self.old.nodes }
-        ensures does { Emits self.old self.new (divide_events (place_of at) (tree_of self.old a) (tree_of self.old b)) result (IsTreeOf self.new (divide_tree (place_of at) (tree_of self.old a) (tree_of self.old b))) }
+        ensures does { Computes divide_events divide_tree self.old self.new at a b result }
         ensures sorts { self.new.sorts ≡ self.old.sorts }
     {
         let Some(q) = self.constant_at(b) else {
@@ -117,7 +115,7 @@ impl Builder {
 
 // The inverse of a fraction that is not 0.
 fn inverse(q: Frac) -> Option<Frac>
-    ensures { option_map fraction_of_frac result ≡ cond (is_nought (fraction_of_frac q)) None (Some (inverse_of (fraction_of_frac q))) }
+    ensures { fraction_in result ≡ inverse_unless_nought (fraction_of_frac q) }
 {
     if q.n == 0 {
         return None;

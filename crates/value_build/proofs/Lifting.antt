@@ -1,33 +1,31 @@
 -- What is done with each arm of a Real value, one after the other.
-use Rattle.std.proofs.Common.{◌≡◌, ℕ, suc, zero, ◌<◌, ◌≤◌, List, [], ◌∷◌, ◌++◌, length, Some, refl, ap, sym, ◌∙◌, subst, arith, length-append, None}
+use Rattle.std.proofs.Common.{◌≡◌, ℕ, ◌<◌, List, [], ◌∷◌, ◌++◌, length, Some, refl, ap, sym, ◌∙◌, subst, arith, None}
 use Rattle.std.specs.Prelude.{slice_get, Result, Ok, Err}
-use Rattle.std.specs.declared.alloc.AllocError.{AllocError}
 use Rattle.script_model.specs.Sexp.{Place}
 use Rattle.poly_graph.specs.Term.{Term, Kind, le, ge, eq}
 use Rattle.poly_graph.specs.Form.{Form}
-use Rattle.script_forms.specs.Terms.{Comparison, Unfolded, term, formula, refused, either, arms, second_arm, lift_tree, step}
-use Rattle.script_forms.specs.Unfolded.{lift_form, choice_form, compare_two, at_most_terms, at_least_terms, equal_terms}
+use Rattle.script_forms.specs.Terms.{Comparison, Unfolded, term, formula, either, arms, lift_tree, step}
+use Rattle.script_forms.specs.Unfolded.{lift_form, compare_two}
 use Rattle.script_forms.specs.Work.{Event, reached, lift_events, step_events, compare_events}
 use Rattle.script_forms.specs.Walk.{after_event}
 use Rattle.term_build.specs.Built.{Made, stand_of}
 use Rattle.term_build.specs.Does.{Does, IsTree}
 use Rattle.term_build.specs.Settled.{Extends}
 use Rattle.term_build.specs.Sketch.{Drawn, choice_drawn, as_choice, IsSketch}
-use Rattle.term_build.specs.Pairs.{Grown, Draws, Sketches, AddsChoice, ConnectsChoice, ComparesTwo, compared, tree_at}
-use Rattle.term_build.specs.Steps.{Emits, IsTreeOf, tree_of}
+use Rattle.term_build.specs.Pairs.{Grown, Draws, AddsChoice, ConnectsChoice, ComparesTwo, compared}
+use Rattle.term_build.specs.Steps.{Emits, tree_of}
 use Rattle.term_build.specs.declared.connectives.Pair.{Pair}
 use Rattle.term_build.specs.declared.sketch.Arm.{Arm}
 use Rattle.term_build.specs.declared.sketch.Arm.TheVariants as arm
 use Rattle.term_build.specs.declared.stop.Stop.{Stop}
-use Rattle.term_build.proofs.Emits.{emits_then, emits_stop, tree_stays, tree_is, tree_below, same_tree, more_nodes}
+use Rattle.term_build.proofs.Emits.{emits_then, emits_stop, tree_is, tree_below, same_tree, more_nodes}
 use Rattle.term_build.proofs.Pairs.{grown_self, grown_both, pair_more, sketch_end}
 use Rattle.term_build.proofs.Settled.{extends_self, extends_on}
 use Rattle.poly_graph.proofs.Graphs.{length_terms}
 use Rattle.value_build.specs.Arithmetic.{tree_of_step, events_of_step}
-use Rattle.value_build.specs.Arms.{IsSomeArm, IsTreeArm, IsLifted, Lifts, LiftsOne, LiftsTwo, IsSaid, Says, SaysOne, SaysTwo, terms_of, tree_of_leaf, events_of_leaf}
+use Rattle.value_build.specs.Arms.{IsTreeArm, IsLifted, Lifts, IsSaid, Says, terms_of}
 use Rattle.value_build.specs.Values.{IsArm, is_tree, is_choice}
 use Rattle.value_build.specs.declared.arithmetic.Step.{Step}
-use Rattle.value_build.specs.declared.lift.Leaf.{Leaf}
 use Rattle.value_build.proofs.Folds.{emits_grows}
 use Rattle.value_build.proofs.Growth.{pair_trees, sketch_stays, arm_stays}
 use Rattle.value_build.proofs.Leaf.{reach_emits}

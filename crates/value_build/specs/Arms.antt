@@ -22,7 +22,7 @@ use Rattle.value_build.specs.Weights.{weights}
 use Rattle.value_build.specs.Chains.{spread_over}
 use Rattle.value_build.specs.declared.chains.Spread.{Spread}
 use Rattle.value_build.specs.declared.chains.Spread.TheVariants.{Next, Later}
-use Rattle.value_build.specs.Making.{Making, making, Steps}
+use Rattle.value_build.specs.Making.{making, Steps}
 use Rattle.value_build.specs.Values.{IsArm, IsValue, AreValues}
 use Rattle.value_build.specs.declared.arithmetic.Step.{Step}
 use Rattle.value_build.specs.declared.arithmetic.Step.TheVariants.{Divide}

@@ -9,3 +9,4 @@ pub mod Leaves
 pub mod Claiming
 pub mod Arms
 pub mod Loops
+pub mod Calls

@@ -1,13 +1,7 @@
 // Sums, differences, products and quotients of several trees.
-ghost use Rattle.std.specs.Prelude.{◌≡◌, ◌<◌, ◌∷◌, length};
-ghost use Rattle.smt_sexp.specs.Views.{place_of};
-ghost use Rattle.script_forms.specs.Terms.{steps};
-ghost use Rattle.script_forms.specs.Unfolded.{unfolded_operation};
-ghost use Rattle.script_forms.specs.Work.{operation_events, steps_events};
-ghost use Rattle.term_build.specs.Built.{stand_of};
-ghost use Rattle.term_build.specs.Pairs.{tree_at, trees_at};
-ghost use Rattle.term_build.specs.Steps.{Emits, IsTreeOf, tree_of};
-ghost use Rattle.value_build.specs.Arithmetic.{AreNodes, events_of_step, is_difference, operator_of_step, tree_of_step};
+ghost use Rattle.std.specs.Prelude.{◌≡◌, ◌<◌, length};
+ghost use Rattle.value_build.specs.Arithmetic.{AreNodes, is_difference};
+ghost use Rattle.value_build.specs.Calls.{CalculatesTrees, ComputesStep, FoldsTrees};
 
 use script_fault::Place;
 use term_build::{Builder, Stop};
@@ -31,7 +25,7 @@ pub(crate) fn apply(
 ) -> Result<u32, Stop>
     requires first { a < length builder.old.nodes }
     requires second { b < length builder.old.nodes }
-    ensures does { let t = tree_of builder.old a in let u = tree_of builder.old b in Emits builder.old builder.new (events_of_step step (place_of at) t u) result (IsTreeOf builder.new (tree_of_step step (place_of at) t u)) }
+    ensures does { ComputesStep step builder.old builder.new at a b result }
     ensures sorts { builder.new.sorts ≡ builder.old.sorts }
 {
     match step {
@@ -46,8 +40,7 @@ pub(crate) fn apply(
 fn fold(builder: &mut Builder, at: Place, step: Step, first: u32, rest: &[u32]) -> Result<u32, Stop>
     requires first { first < length builder.old.nodes }
     requires rest { AreNodes builder.old rest.now }
-    ensures does { let ts = (stand_of builder.old).trees in let f = tree_of_step step (place_of at) in let g = events_of_step step (place_of at) in
-        Emits builder.old builder.new (steps_events f g (tree_at ts first) (trees_at ts rest.now)) result (IsTreeOf builder.new (steps f (tree_at ts first) (trees_at ts rest.now))) }
+    ensures does { FoldsTrees step builder.old builder.new at first rest.now result }
     ensures sorts { builder.new.sorts ≡ builder.old.sorts }
 {
     let mut so_far = first;
@@ -76,8 +69,7 @@ pub(crate) fn calculate(
 ) -> Result<u32, Stop>
     requires some { 0 < length nodes.now }
     requires nodes { AreNodes builder.old nodes.now }
-    ensures does { let us = trees_at (stand_of builder.old).trees nodes.now in let op = operator_of_step step in
-        Emits builder.old builder.new (operation_events (place_of at) op us) result (IsTreeOf builder.new (unfolded_operation (place_of at) op us)) }
+    ensures does { CalculatesTrees step builder.old builder.new at nodes.now result }
     ensures sorts { builder.new.sorts ≡ builder.old.sorts }
 {
     let Some((first, rest)) = nodes.split_first() else {

@@ -1,14 +1,12 @@
 // Operators at Real values that hold an `ite`, and `ite` at Real arms.
-ghost use Rattle.std.specs.Prelude.{◌≡◌, ℕ, ◌<◌, true, [], ◌∷◌, length, map};
-ghost use Rattle.poly_graph.specs.Views.{kind_of};
-ghost use Rattle.smt_sexp.specs.Views.{place_of};
-ghost use Rattle.term_build.specs.Built.{stand_of};
-ghost use Rattle.term_build.specs.Shapes.{drawn_of};
+ghost use Rattle.std.specs.Prelude.{◌≡◌, ℕ, ◌<◌, true, [], ◌∷◌, length};
+ghost use Rattle.term_build.specs.Calls.{drawn};
 ghost use Rattle.term_build.specs.Sketch.{IsSketch};
 ghost use Rattle.term_build.specs.declared.sketch.Arm.TheVariants as arm;
 ghost use Rattle.value_build.specs.Arithmetic.{is_difference};
-ghost use Rattle.value_build.specs.Arms.{AreSomeValues, Calculates, Folds, IsSomeArm, IsSomeValue, Links, LinksEach, LinksWith, Picks, arm_bounds, arm_of, hold_choice, is_quotient};
+ghost use Rattle.value_build.specs.Arms.{AreSomeValues, IsSomeArm, IsSomeValue, Picks, arm_of, hold_choice, is_quotient};
 ghost use Rattle.value_build.specs.Bounds.{AddsList};
+ghost use Rattle.value_build.specs.Calls.{FoldsIn, LinksOthers, LinksTwo, LinksValues, Yields, bounds_between};
 ghost use Rattle.value_build.specs.Making.{making};
 ghost use Rattle.value_build.specs.Operators.{are_arms, are_bool};
 ghost use Rattle.value_build.specs.Values.{AreKnown};
@@ -47,11 +45,11 @@ fn fold_values(
     first: Arm,
     rest: &[Value],
 ) -> Result<Arm, Stop>
-    requires known { IsSomeArm builder.old (map drawn_of sketch.old.items) first }
-    requires rest { AreSomeValues builder.old (map drawn_of sketch.old.items) rest.now }
+    requires known { IsSomeArm builder.old (drawn sketch.old) first }
+    requires rest { AreSomeValues builder.old (drawn sketch.old) rest.now }
     requires arms { are_arms rest.now ≡ true }
-    requires sketched { IsSketch builder.old (map drawn_of sketch.old.items) }
-    ensures does { Folds builder.old (map drawn_of sketch.old.items) builder.new (map drawn_of sketch.new.items) (place_of at) step first rest.now result }
+    requires sketched { IsSketch builder.old (drawn sketch.old) }
+    ensures does { FoldsIn builder.old sketch.old builder.new sketch.new at step first rest.now result }
     ensures sorts { builder.new.sorts ≡ builder.old.sorts }
 {
     let mut so_far = first;
@@ -93,11 +91,11 @@ pub(crate) fn calculate_values(
     first: Value,
     rest: &[Value],
 ) -> Result<Arm, Stop>
-    requires known { IsSomeValue builder.old (map drawn_of sketch.old.items) first }
-    requires rest { AreSomeValues builder.old (map drawn_of sketch.old.items) rest.now }
+    requires known { IsSomeValue builder.old (drawn sketch.old) first }
+    requires rest { AreSomeValues builder.old (drawn sketch.old) rest.now }
     requires arms { are_arms (first ∷ rest.now) ≡ true }
-    requires sketched { IsSketch builder.old (map drawn_of sketch.old.items) }
-    ensures does { Calculates builder.old (map drawn_of sketch.old.items) builder.new (map drawn_of sketch.new.items) (place_of at) step first rest.now result }
+    requires sketched { IsSketch builder.old (drawn sketch.old) }
+    ensures does { Yields builder.old sketch.old builder.new sketch.new at step first rest.now result }
     ensures sorts { builder.new.sorts ≡ builder.old.sorts }
 {
     if is_difference(step) && rest.is_empty() {
@@ -130,7 +128,7 @@ fn pair_bounds(
 ) -> Result<u32, AllocError>
     requires first { (k : ℕ) → first ≡ arm.Tree k → k < length builder.now.nodes }
     requires second { (k : ℕ) → second ≡ arm.Tree k → k < length builder.now.nodes }
-    ensures { AddsList bounds.old bounds.new (arm_bounds (kind_of kind) (stand_of builder.now).trees first second) result }
+    ensures { AddsList bounds.old bounds.new (bounds_between builder.now kind first second) result }
 {
     match (first, second) {
         (Arm::Tree(i), Arm::Tree(j)) => chain_bounds(alloc, builder, bounds, &[i, j], kind),
@@ -150,11 +148,11 @@ fn link(
     first: Value,
     second: Value,
 ) -> Result<Value, Stop>
-    requires first { IsSomeValue builder.old (map drawn_of sketch.old.items) first }
-    requires second { IsSomeValue builder.old (map drawn_of sketch.old.items) second }
+    requires first { IsSomeValue builder.old (drawn sketch.old) first }
+    requires second { IsSomeValue builder.old (drawn sketch.old) second }
     requires arms { are_arms (first ∷ second ∷ []) ≡ true }
-    requires sketched { IsSketch builder.old (map drawn_of sketch.old.items) }
-    ensures does { Links builder.old (map drawn_of sketch.old.items) bounds.old builder.new (map drawn_of sketch.new.items) bounds.new spread (kind_of kind) (place_of at) first second result }
+    requires sketched { IsSketch builder.old (drawn sketch.old) }
+    ensures does { LinksTwo builder.old sketch.old bounds.old builder.new sketch.new bounds.new spread kind at first second result }
     ensures sorts { builder.new.sorts ≡ builder.old.sorts }
 {
     let one = arm_of(first);
@@ -185,12 +183,12 @@ fn link_with(
     others: &[Value],
     links: &mut Vec<Value>,
 ) -> Result<(), Stop>
-    requires first { IsSomeValue builder.old (map drawn_of sketch.old.items) first }
-    requires others { AreSomeValues builder.old (map drawn_of sketch.old.items) others.now }
-    requires links { AreKnown (making builder.old (map drawn_of sketch.old.items) bounds.old) links.old.items }
+    requires first { IsSomeValue builder.old (drawn sketch.old) first }
+    requires others { AreSomeValues builder.old (drawn sketch.old) others.now }
+    requires links { AreKnown (making builder.old (drawn sketch.old) bounds.old) links.old.items }
     requires arms { are_arms (first ∷ others.now) ≡ true }
-    requires sketched { IsSketch builder.old (map drawn_of sketch.old.items) }
-    ensures does { LinksWith builder.old (map drawn_of sketch.old.items) bounds.old builder.new (map drawn_of sketch.new.items) bounds.new spread (kind_of kind) (place_of at) first others.now links.old.items links.new.items result }
+    requires sketched { IsSketch builder.old (drawn sketch.old) }
+    ensures does { LinksOthers builder.old sketch.old bounds.old builder.new sketch.new bounds.new spread kind at first others.now links.old links.new result }
     ensures sorts { builder.new.sorts ≡ builder.old.sorts }
 {
     let mut left = others;
@@ -216,11 +214,11 @@ pub(crate) fn link_each(
     values: &[Value],
     links: &mut Vec<Value>,
 ) -> Result<(), Stop>
-    requires values { AreSomeValues builder.old (map drawn_of sketch.old.items) values.now }
-    requires links { AreKnown (making builder.old (map drawn_of sketch.old.items) bounds.old) links.old.items }
+    requires values { AreSomeValues builder.old (drawn sketch.old) values.now }
+    requires links { AreKnown (making builder.old (drawn sketch.old) bounds.old) links.old.items }
     requires arms { are_arms values.now ≡ true }
-    requires sketched { IsSketch builder.old (map drawn_of sketch.old.items) }
-    ensures does { LinksEach builder.old (map drawn_of sketch.old.items) bounds.old builder.new (map drawn_of sketch.new.items) bounds.new spread (kind_of kind) (place_of at) values.now links.old.items links.new.items result }
+    requires sketched { IsSketch builder.old (drawn sketch.old) }
+    ensures does { LinksValues builder.old sketch.old bounds.old builder.new sketch.new bounds.new spread kind at values.now links.old links.new result }
     ensures sorts { builder.new.sorts ≡ builder.old.sorts }
 {
     let mut left = values;
@@ -244,7 +242,7 @@ pub(crate) fn pick(
     second: Value,
 ) -> Result<Value, Stop>
     requires { are_bool (condition ∷ []) ≡ true }
-    ensures { Picks (map drawn_of sketch.old.items) (map drawn_of sketch.new.items) condition first second result }
+    ensures { Picks (drawn sketch.old) (drawn sketch.new) condition first second result }
 {
     let Value::Bool(pair, _) = condition else {
         unreachable!()

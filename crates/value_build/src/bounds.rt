@@ -1,14 +1,10 @@
 // The bounds that comparisons give.
 ghost use Rattle.std.specs.Prelude.{◌≡◌, ◌<◌, length};
-ghost use Rattle.poly_graph.specs.Views.{kind_of};
-ghost use Rattle.script_model.specs.Declared.{at_most_bounds, one_side};
-ghost use Rattle.dyadic.specs.Views.{fraction_of_frac};
-ghost use Rattle.declared_box.specs.Views.{side_of};
-ghost use Rattle.term_build.specs.Built.{stand_of};
 ghost use Rattle.term_build.specs.Steps.{tree_of};
 ghost use Rattle.value_build.specs.Arithmetic.{AreNodes};
-ghost use Rattle.value_build.specs.Bounds.{AddsBounds, AddsList, bounds_of_kind, chained_bounds, first_bounds, weight_of};
-ghost use Rattle.value_build.specs.Weights.{weight, weights};
+ghost use Rattle.value_build.specs.Bounds.{AddsList, weight_of};
+ghost use Rattle.value_build.specs.Calls.{AddsPart, bound_of, bounds_along, bounds_at_most, bounds_of, bounds_with};
+ghost use Rattle.value_build.specs.Weights.{weight};
 
 use declared_box::{BoundTable, Side};
 use dyadic::Frac;
@@ -46,7 +42,7 @@ fn add_one(
     value: Frac,
     parts: &mut Vec<u32>,
 ) -> Result<(), AllocError>
-    ensures { AddsBounds bounds.old bounds.new parts.old.items parts.new.items (one_side (side_of side) axis (fraction_of_frac value)) result }
+    ensures { AddsPart bounds.old bounds.new parts.old parts.new (bound_of side axis value) result }
 {
     let number = bounds.one(axis, side, value)?;
     parts.push(number)?;
@@ -60,7 +56,7 @@ fn add_at_most(
     b: Weight,
     parts: &mut Vec<u32>,
 ) -> Result<(), AllocError>
-    ensures { AddsBounds bounds.old bounds.new parts.old.items parts.new.items (at_most_bounds (weight_of a) (weight_of b)) result }
+    ensures { AddsPart bounds.old bounds.new parts.old parts.new (bounds_at_most a b) result }
 {
     match (a, b) {
         (Weight::Axis(axis), Weight::Known(q)) => add_one(bounds, axis, Side::Upper, q, parts),
@@ -77,7 +73,7 @@ fn add_bounds(
     kind: Kind,
     parts: &mut Vec<u32>,
 ) -> Result<(), AllocError>
-    ensures { AddsBounds bounds.old bounds.new parts.old.items parts.new.items (bounds_of_kind (kind_of kind) (weight_of a) (weight_of b)) result }
+    ensures { AddsPart bounds.old bounds.new parts.old parts.new (bounds_of kind a b) result }
 {
     match kind {
         Kind::Le => add_at_most(bounds, a, b, parts),
@@ -100,7 +96,7 @@ fn add_first(
 ) -> Result<(), AllocError>
     requires first { first < length builder.now.nodes }
     requires later { AreNodes builder.now later.now }
-    ensures { AddsBounds bounds.old bounds.new parts.old.items parts.new.items (first_bounds (kind_of kind) (stand_of builder.now).trees first later.now) result }
+    ensures { AddsPart bounds.old bounds.new parts.old parts.new (bounds_with builder.now kind first later.now) result }
 {
     let Some((next, _)) = later.split_first() else {
         return Ok(());
@@ -119,7 +115,7 @@ pub(crate) fn chain_bounds(
     kind: Kind,
 ) -> Result<u32, AllocError>
     requires { AreNodes builder.now nodes.now }
-    ensures { AddsList bounds.old bounds.new (chained_bounds (kind_of kind) (weights (stand_of builder.now).trees nodes.now)) result }
+    ensures { AddsList bounds.old bounds.new (bounds_along builder.now kind nodes.now) result }
 {
     let mut parts = Vec::new(alloc);
     let mut left = nodes;

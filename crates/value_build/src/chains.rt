@@ -1,10 +1,9 @@
 // The forms of comparisons of several trees, and of several Bool expressions that are equal or differ.
-ghost use Rattle.std.specs.Prelude.{◌≡◌, map};
-ghost use Rattle.poly_graph.specs.Views.{kind_of};
-ghost use Rattle.smt_sexp.specs.Views.{place_of};
-ghost use Rattle.term_build.specs.Pairs.{ConnectsTwo, compared};
-ghost use Rattle.term_build.specs.Shapes.{drawn_of};
-ghost use Rattle.value_build.specs.Chains.{AddsComparisons, AddsConnected, ComparesEach, ConnectsEach, others_of, two_of};
+ghost use Rattle.std.specs.Prelude.{◌≡◌};
+ghost use Rattle.term_build.specs.Calls.{drawn};
+ghost use Rattle.term_build.specs.Pairs.{ConnectsTwo};
+ghost use Rattle.value_build.specs.Calls.{ComparesSpread, ComparesWith, ConnectsSpread, ConnectsWith};
+ghost use Rattle.value_build.specs.Chains.{others_of, two_of};
 
 use poly_graph::Kind;
 use script_fault::Place;
@@ -37,7 +36,7 @@ fn compare_with(
     kind: Kind,
     made: &mut Vec<Pair>,
 ) -> Result<(), AllocError>
-    ensures { AddsComparisons (compared (kind_of kind) (place_of at)) (map drawn_of sketch.old.items) (map drawn_of sketch.new.items) first others.now made.old.items made.new.items result }
+    ensures { ComparesWith kind at sketch.old sketch.new first others.now made.old made.new result }
 {
     let mut left = others;
     while let Some((other, later)) = left.split_first() {
@@ -57,7 +56,7 @@ pub(crate) fn compare_each(
     kind: Kind,
     spread: Spread,
 ) -> Result<Vec<Pair>, AllocError>
-    ensures { ComparesEach (λ ps. ps.items) spread (compared (kind_of kind) (place_of at)) (map drawn_of sketch.old.items) (map drawn_of sketch.new.items) nodes.now result }
+    ensures { ComparesSpread spread kind at sketch.old sketch.new nodes.now result }
 {
     let mut made = Vec::new(alloc);
     let mut left = nodes;
@@ -83,7 +82,7 @@ fn connect_two(
     first: Pair,
     second: Pair,
 ) -> Result<Pair, AllocError>
-    ensures { ConnectsTwo (two_of spread) (map drawn_of sketch.old.items) (map drawn_of sketch.new.items) first second result }
+    ensures { ConnectsTwo (two_of spread) (drawn sketch.old) (drawn sketch.new) first second result }
 {
     match spread {
         Spread::Next => Pair::same_two(alloc, sketch, first, second),
@@ -100,7 +99,7 @@ fn connect_with(
     others: &[Pair],
     made: &mut Vec<Pair>,
 ) -> Result<(), AllocError>
-    ensures { AddsConnected (two_of spread) (map drawn_of sketch.old.items) (map drawn_of sketch.new.items) first others.now made.old.items made.new.items result }
+    ensures { ConnectsWith spread sketch.old sketch.new first others.now made.old made.new result }
 {
     let mut left = others;
     while let Some((other, later)) = left.split_first() {
@@ -119,7 +118,7 @@ pub(crate) fn connect_each(
     spread: Spread,
     pairs: &[Pair],
 ) -> Result<Vec<Pair>, AllocError>
-    ensures { ConnectsEach (λ ps. ps.items) spread (two_of spread) (map drawn_of sketch.old.items) (map drawn_of sketch.new.items) pairs.now result }
+    ensures { ConnectsSpread spread sketch.old sketch.new pairs.now result }
 {
     let mut made = Vec::new(alloc);
     let mut left = pairs;

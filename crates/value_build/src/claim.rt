@@ -1,6 +1,6 @@
 // The forms of assertions.
-ghost use Rattle.std.specs.Prelude.{◌≡◌, ◌<◌, [], length, map};
-ghost use Rattle.term_build.specs.Shapes.{drawn_of};
+ghost use Rattle.std.specs.Prelude.{◌≡◌, ◌<◌, [], length};
+ghost use Rattle.term_build.specs.Calls.{drawn};
 ghost use Rattle.term_build.specs.Sketch.{IsSketch};
 ghost use Rattle.value_build.specs.Claiming.{ClaimsBool, ClaimsReal};
 
@@ -18,10 +18,10 @@ pub(crate) fn claim_bool(
     truth: u32,
     list: u32,
 ) -> Result<(u32, u32), Stop>
-    requires sketched { IsSketch builder.old (map drawn_of sketch.old.items) }
+    requires sketched { IsSketch builder.old (drawn sketch.old) }
     requires truth { truth < length sketch.old.items }
-    ensures does { ClaimsBool builder.old builder.new (map drawn_of sketch.old.items) truth list result }
-    ensures empty { map drawn_of sketch.new.items ≡ [] }
+    ensures does { ClaimsBool builder.old builder.new (drawn sketch.old) truth list result }
+    ensures empty { drawn sketch.new ≡ [] }
     ensures sorts { builder.new.sorts ≡ builder.old.sorts }
 {
     let made = make_form(alloc, builder, sketch, truth);

@@ -1,12 +1,11 @@
 // The values of literals and declared constants.
-ghost use Rattle.std.specs.Prelude.{◌≡◌, map};
+ghost use Rattle.std.specs.Prelude.{◌≡◌};
 ghost use Rattle.dyadic.specs.Point.{bool_sort, real_sort};
-ghost use Rattle.dyadic.specs.Views.{fraction_of_frac};
 ghost use Rattle.poly_graph.specs.Problem.{HasSort};
-ghost use Rattle.poly_graph.specs.Term.{constant, variable};
-ghost use Rattle.term_build.specs.Shapes.{drawn_of};
+ghost use Rattle.poly_graph.specs.Term.{variable};
+ghost use Rattle.term_build.specs.Calls.{drawn};
 ghost use Rattle.term_build.specs.Sketch.{IsSketch};
-ghost use Rattle.value_build.specs.Leaves.{MakesSwitch, MakesTree};
+ghost use Rattle.value_build.specs.Calls.{MakesLeaf, Switches, number_term};
 
 use crate::operate::{give_up, no_bounds};
 use crate::value::Value;
@@ -22,9 +21,9 @@ pub(crate) fn number(
     sketch: &mut Vec<Drawn>,
     number: Frac,
 ) -> Result<Value, Stop>
-    requires sketched { IsSketch builder.old (map drawn_of sketch.old.items) }
-    ensures does { MakesTree builder.old (map drawn_of sketch.old.items) builder.new (map drawn_of sketch.new.items) (constant (fraction_of_frac number)) result }
-    ensures sketched { IsSketch builder.new (map drawn_of sketch.new.items) }
+    requires sketched { IsSketch builder.old (drawn sketch.old) }
+    ensures does { MakesLeaf builder.old sketch.old builder.new sketch.new (number_term number) result }
+    ensures sketched { IsSketch builder.new (drawn sketch.new) }
     ensures sorts { builder.new.sorts ≡ builder.old.sorts }
 {
     match builder.make(Node::Const(number)) {
@@ -39,9 +38,9 @@ pub(crate) fn number(
 /// A Real constant of the script.
 pub(crate) fn real(builder: &mut Builder, sketch: &mut Vec<Drawn>, axis: u32) -> Result<Value, Stop>
     requires sort { HasSort real_sort builder.old.sorts axis }
-    requires sketched { IsSketch builder.old (map drawn_of sketch.old.items) }
-    ensures does { MakesTree builder.old (map drawn_of sketch.old.items) builder.new (map drawn_of sketch.new.items) (variable axis) result }
-    ensures sketched { IsSketch builder.new (map drawn_of sketch.new.items) }
+    requires sketched { IsSketch builder.old (drawn sketch.old) }
+    ensures does { MakesLeaf builder.old sketch.old builder.new sketch.new (variable axis) result }
+    ensures sketched { IsSketch builder.new (drawn sketch.new) }
     ensures sorts { builder.new.sorts ≡ builder.old.sorts }
 {
     match builder.make(Node::Var(axis)) {
@@ -62,11 +61,10 @@ pub(crate) fn switch(
     axis: u32,
 ) -> Result<Value, Stop>
     requires sort { HasSort bool_sort builder.now.sorts axis }
-    requires sketched { IsSketch builder.now (map drawn_of sketch.old.items) }
-    ensures does { MakesSwitch builder.now (map drawn_of sketch.old.items) (map drawn_of sketch.new.items) bounds.old bounds.new axis result }
-    ensures sketched { IsSketch builder.now (map drawn_of sketch.new.items) }
+    requires sketched { IsSketch builder.now (drawn sketch.old) }
+    ensures does { Switches builder.now sketch.old sketch.new bounds.old bounds.new axis result }
+    ensures sketched { IsSketch builder.now (drawn sketch.new) }
 {
-    let _ = builder.len();
     let pair = Pair::bool_is(sketch, axis)?;
     let list = no_bounds(alloc, bounds)?;
     Ok(Value::Bool(pair, list))

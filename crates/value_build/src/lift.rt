@@ -1,11 +1,9 @@
 // What is done with Real values that hold an `ite`: it is done with each arm, over the sketch.
-ghost use Rattle.std.specs.Prelude.{◌≡◌, ◌<◌, length, map};
-ghost use Rattle.poly_graph.specs.Views.{kind_of};
-ghost use Rattle.smt_sexp.specs.Views.{place_of};
-ghost use Rattle.term_build.specs.Shapes.{drawn_of};
+ghost use Rattle.std.specs.Prelude.{◌≡◌, ◌<◌, length};
+ghost use Rattle.term_build.specs.Calls.{drawn};
 ghost use Rattle.term_build.specs.Sketch.{IsSketch};
-ghost use Rattle.term_build.specs.Steps.{Emits, IsTreeOf, tree_of};
-ghost use Rattle.value_build.specs.Arms.{IsSomeArm, IsTreeArm, LiftsOne, LiftsTwo, SaysOne, SaysTwo, events_of_leaf, tree_of_leaf};
+ghost use Rattle.value_build.specs.Arms.{IsSomeArm};
+ghost use Rattle.value_build.specs.Calls.{ComputesLeaf, LiftsArm, LiftsArms, MakesArm, SaysArm, SaysArms};
 
 use crate::arithmetic::{Step, apply};
 use poly_graph::Kind;
@@ -33,7 +31,7 @@ fn apply_leaf(
 ) -> Result<u32, Stop>
     requires first { first < length builder.old.nodes }
     requires second { second < length builder.old.nodes }
-    ensures does { let t = tree_of builder.old first in let u = tree_of builder.old second in Emits builder.old builder.new (events_of_leaf leaf (place_of at) t u) result (IsTreeOf builder.new (tree_of_leaf leaf (place_of at) t u)) }
+    ensures does { ComputesLeaf leaf builder.old builder.new at first second result }
     ensures sorts { builder.new.sorts ≡ builder.old.sorts }
 {
     match leaf {
@@ -52,7 +50,7 @@ fn lift_leaf(
 ) -> Result<Arm, Stop>
     requires first { first < length builder.old.nodes }
     requires second { second < length builder.old.nodes }
-    ensures does { let t = tree_of builder.old first in let u = tree_of builder.old second in Emits builder.old builder.new (events_of_leaf leaf (place_of at) t u) result (IsTreeArm builder.new (tree_of_leaf leaf (place_of at) t u)) }
+    ensures does { MakesArm leaf builder.old builder.new at first second result }
     ensures sorts { builder.new.sorts ≡ builder.old.sorts }
 {
     match apply_leaf(builder, at, leaf, first, second) {
@@ -72,9 +70,9 @@ pub(crate) fn lift_one(
     depth: u32,
 ) -> Result<Arm, Stop>
     requires first { first < length builder.old.nodes }
-    requires known { IsSomeArm builder.old (map drawn_of sketch.old.items) arm }
-    requires sketched { IsSketch builder.old (map drawn_of sketch.old.items) }
-    ensures does { LiftsOne builder.old (map drawn_of sketch.old.items) builder.new (map drawn_of sketch.new.items) (place_of at) leaf (tree_of builder.old first) arm result }
+    requires known { IsSomeArm builder.old (drawn sketch.old) arm }
+    requires sketched { IsSketch builder.old (drawn sketch.old) }
+    ensures does { LiftsArm builder.old sketch.old builder.new sketch.new at leaf first arm result }
     ensures sorts { builder.new.sorts ≡ builder.old.sorts }
 {
     let Some(left) = depth.checked_sub(1) else {
@@ -103,10 +101,10 @@ pub(crate) fn lift_two(
     second: Arm,
     depth: u32,
 ) -> Result<Arm, Stop>
-    requires known { IsSomeArm builder.old (map drawn_of sketch.old.items) arm }
-    requires second { IsSomeArm builder.old (map drawn_of sketch.old.items) second }
-    requires sketched { IsSketch builder.old (map drawn_of sketch.old.items) }
-    ensures does { LiftsTwo builder.old (map drawn_of sketch.old.items) builder.new (map drawn_of sketch.new.items) (place_of at) step arm second result }
+    requires known { IsSomeArm builder.old (drawn sketch.old) arm }
+    requires second { IsSomeArm builder.old (drawn sketch.old) second }
+    requires sketched { IsSketch builder.old (drawn sketch.old) }
+    ensures does { LiftsArms builder.old sketch.old builder.new sketch.new at step arm second result }
     ensures sorts { builder.new.sorts ≡ builder.old.sorts }
 {
     let Some(left) = depth.checked_sub(1) else {
@@ -147,9 +145,9 @@ pub(crate) fn compare_one(
     depth: u32,
 ) -> Result<Pair, Stop>
     requires first { first < length builder.old.nodes }
-    requires known { IsSomeArm builder.old (map drawn_of sketch.old.items) arm }
-    requires sketched { IsSketch builder.old (map drawn_of sketch.old.items) }
-    ensures does { SaysOne builder.old (map drawn_of sketch.old.items) builder.new (map drawn_of sketch.new.items) (kind_of kind) (place_of at) (tree_of builder.old first) arm result }
+    requires known { IsSomeArm builder.old (drawn sketch.old) arm }
+    requires sketched { IsSketch builder.old (drawn sketch.old) }
+    ensures does { SaysArm builder.old sketch.old builder.new sketch.new kind at first arm result }
     ensures sorts { builder.new.sorts ≡ builder.old.sorts }
 {
     let Some(left) = depth.checked_sub(1) else {
@@ -181,10 +179,10 @@ pub(crate) fn compare_arms(
     second: Arm,
     depth: u32,
 ) -> Result<Pair, Stop>
-    requires known { IsSomeArm builder.old (map drawn_of sketch.old.items) arm }
-    requires second { IsSomeArm builder.old (map drawn_of sketch.old.items) second }
-    requires sketched { IsSketch builder.old (map drawn_of sketch.old.items) }
-    ensures does { SaysTwo builder.old (map drawn_of sketch.old.items) builder.new (map drawn_of sketch.new.items) (kind_of kind) (place_of at) arm second result }
+    requires known { IsSomeArm builder.old (drawn sketch.old) arm }
+    requires second { IsSomeArm builder.old (drawn sketch.old) second }
+    requires sketched { IsSketch builder.old (drawn sketch.old) }
+    ensures does { SaysArms builder.old sketch.old builder.new sketch.new kind at arm second result }
     ensures sorts { builder.new.sorts ≡ builder.old.sorts }
 {
     let Some(left) = depth.checked_sub(1) else {

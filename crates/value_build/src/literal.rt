@@ -1,9 +1,7 @@
 // The numbers of literals.
 ghost use Rattle.std.specs.Prelude.{◌≡◌, ◌^◌, ◌≤◌, IfSome};
 ghost use Rattle.std.specs.Str.Parse.{digits_value_after};
-ghost use Rattle.dyadic.specs.Lowest.{reduced};
-ghost use Rattle.dyadic.specs.Views.{fraction_of_frac};
-ghost use Rattle.script_model.specs.Reading.{literal_value};
+ghost use Rattle.value_build.specs.Calls.{IsLiteral};
 
 use dyadic::Frac;
 
@@ -39,7 +37,7 @@ fn power_of_ten(n: usize) -> u128
 
 /// The number of a literal of these digits, and those after its point, where it is kept.
 pub(crate) fn literal_number(digits: &[u8], decimals: &[u8]) -> Option<Frac>
-    ensures { IfSome result (λ q. fraction_of_frac q ≡ reduced (literal_value digits.now decimals.now)) }
+    ensures { IfSome result (IsLiteral digits.now decimals.now) }
 {
     if decimals.len() > 36 {
         return None;

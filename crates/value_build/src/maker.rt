@@ -1,16 +1,13 @@
 // The maker: a builder, the sketch of the forms of the assertion in work, and the table of bounds.
 ghost use Rattle.std.specs.Prelude.{◌≡◌, ◌<◌, [], ◌∷◌, length, map};
-ghost use Rattle.dyadic.specs.Lowest.{reduced};
 ghost use Rattle.poly_graph.specs.Term.{constant};
-ghost use Rattle.script_model.specs.Declared.{known};
-ghost use Rattle.script_model.specs.Reading.{literal_value};
-ghost use Rattle.script_forms.specs.Terms.{term};
-ghost use Rattle.script_forms.specs.Work.{ending, reached};
+ghost use Rattle.script_forms.specs.Work.{reached};
 ghost use Rattle.smt_script.specs.Views.{sort_of};
 ghost use Rattle.smt_sexp.specs.Views.{place_of};
 ghost use Rattle.sort_check.specs.Views.{operator_of};
+ghost use Rattle.value_build.specs.Calls.{MakesLiteral};
 ghost use Rattle.value_build.specs.Making.{Steps, beginning};
-ghost use Rattle.value_build.specs.Values.{AreKnown, Claims, IsKnown, IsValue, Names, Operates};
+ghost use Rattle.value_build.specs.Values.{AreKnown, Claims, IsKnown, Names, Operates};
 
 use crate::claim::{claim_bool, claim_real};
 use crate::leaves::{number, real, switch};
@@ -83,7 +80,7 @@ impl Maker {
 
     /// A literal of these digits, and those after its point. A number beyond 10^36 is not kept: `Stop::Memory`.
     pub fn literal(&mut self, digits: &[u8], decimals: &[u8]) -> Result<Value, Stop>
-        ensures does { let q = literal_value digits.now decimals.now in let u = term (constant (reduced q)) in Steps self.old self.new (ending u) result (IsValue self.new u (known q)) }
+        ensures does { MakesLiteral self.old self.new digits.now decimals.now result }
         ensures sorts { self.new.made.sorts ≡ self.old.made.sorts }
     {
         let Some(q) = literal_number(digits, decimals) else {
@@ -151,12 +148,10 @@ impl Maker {
                 list,
             ),
             Value::Real(node) => {
-                let _ = node;
                 give_up(&mut self.sketch);
                 claim_real(alloc, &mut self.builder, &mut self.bounds)
             }
             Value::Choice(node) => {
-                let _ = node;
                 give_up(&mut self.sketch);
                 claim_real(alloc, &mut self.builder, &mut self.bounds)
             }

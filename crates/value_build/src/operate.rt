@@ -1,19 +1,18 @@
 // Operators at values.
 ghost use Rattle.std.specs.Prelude.{◌≡◌, ℕ, ◌<◌, true, false, [], length, map, IfOk};
 ghost use Rattle.std.specs.List.{All};
-ghost use Rattle.poly_graph.specs.Views.{kind_of};
 ghost use Rattle.script_forms.specs.Unfolded.{choice_form, not_first};
-ghost use Rattle.smt_sexp.specs.Views.{place_of};
 ghost use Rattle.sort_check.specs.Views.{operator_of};
+ghost use Rattle.term_build.specs.Calls.{drawn};
 ghost use Rattle.term_build.specs.Pairs.{Connects};
-ghost use Rattle.term_build.specs.Shapes.{drawn_of};
 ghost use Rattle.term_build.specs.Sketch.{IsSketch};
-ghost use Rattle.value_build.specs.Arithmetic.{AreNodes, operator_of_step};
-ghost use Rattle.value_build.specs.Arms.{AreSomeValues, ArmsMake, Joins, PicksOf, SaysAll, only_of};
+ghost use Rattle.value_build.specs.Arithmetic.{AreNodes};
+ghost use Rattle.value_build.specs.Arms.{AreSomeValues, PicksOf, only_of};
 ghost use Rattle.value_build.specs.Bounds.{AddsList};
+ghost use Rattle.value_build.specs.Calls.{Applies, Chains, ComparesValues, Differ, JoinsLinks, OverArms, PairsDo, TreesDo, TreesMake, ValuesMake, bounds_given, operation_of, takes_arms};
 ghost use Rattle.value_build.specs.Making.{making};
-ghost use Rattle.value_build.specs.Operators.{ArePairs, ArmsDo, BoolsDo, ComparesAll, DiffersAll, RealsDo, RealsMake, are_arms, are_bool, are_picked, are_real, bool_distinctness, bool_equality, bool_operation, given_bounds, list_number, node_number, pair_number, takes_of};
-ghost use Rattle.value_build.specs.Values.{AreKnown, Operates};
+ghost use Rattle.value_build.specs.Operators.{ArePairs, are_arms, are_bool, are_picked, are_real, bool_distinctness, bool_equality, list_number, node_number, pair_number, takes_of};
+ghost use Rattle.value_build.specs.Values.{AreKnown};
 
 use crate::arithmetic::{Step, calculate};
 use crate::arms::{calculate_values, link_each, pick};
@@ -29,7 +28,7 @@ use term_build::{Arm, Builder, Drawn, Fault, Pair, Stop};
 
 /// The sketch is given up, as where the builder stopped.
 pub(crate) fn give_up(sketch: &mut Vec<Drawn>)
-    ensures { map drawn_of sketch.new.items ≡ [] }
+    ensures { drawn sketch.new ≡ [] }
 {
     sketch.clear();
 }
@@ -199,9 +198,9 @@ fn arithmetic(
 ) -> Result<Value, Stop>
     requires some { 0 < length nodes.now }
     requires nodes { AreNodes builder.old nodes.now }
-    requires sketched { IsSketch builder.old (map drawn_of sketch.old.items) }
-    ensures does { RealsMake builder.old (map drawn_of sketch.old.items) builder.new (map drawn_of sketch.new.items) (place_of at) (operator_of_step step) nodes.now result }
-    ensures sketched { IsSketch builder.new (map drawn_of sketch.new.items) }
+    requires sketched { IsSketch builder.old (drawn sketch.old) }
+    ensures does { TreesMake builder.old sketch.old builder.new sketch.new at step nodes.now result }
+    ensures sketched { IsSketch builder.new (drawn sketch.new) }
     ensures sorts { builder.new.sorts ≡ builder.old.sorts }
 {
     match calculate(builder, at, step, nodes) {
@@ -224,9 +223,9 @@ fn compare(
     kind: Kind,
 ) -> Result<Value, Stop>
     requires nodes { AreNodes builder.now nodes.now }
-    requires sketched { IsSketch builder.now (map drawn_of sketch.old.items) }
-    ensures does { ComparesAll builder.now (map drawn_of sketch.old.items) (map drawn_of sketch.new.items) bounds.old bounds.new (kind_of kind) (place_of at) nodes.now result }
-    ensures sketched { IsSketch builder.now (map drawn_of sketch.new.items) }
+    requires sketched { IsSketch builder.now (drawn sketch.old) }
+    ensures does { Chains builder.now sketch.old sketch.new bounds.old bounds.new kind at nodes.now result }
+    ensures sketched { IsSketch builder.now (drawn sketch.new) }
 {
     let links = compare_each(alloc, sketch, at, nodes, kind, Spread::Next)?;
     let pair = Pair::chain(alloc, sketch, &links)?;
@@ -244,11 +243,10 @@ fn differ(
     nodes: &[u32],
 ) -> Result<Value, Stop>
     requires nodes { AreNodes builder.now nodes.now }
-    requires sketched { IsSketch builder.now (map drawn_of sketch.old.items) }
-    ensures does { DiffersAll builder.now (map drawn_of sketch.old.items) (map drawn_of sketch.new.items) bounds.old bounds.new (place_of at) nodes.now result }
-    ensures sketched { IsSketch builder.now (map drawn_of sketch.new.items) }
+    requires sketched { IsSketch builder.now (drawn sketch.old) }
+    ensures does { Differ builder.now sketch.old sketch.new bounds.old bounds.new at nodes.now result }
+    ensures sketched { IsSketch builder.now (drawn sketch.new) }
 {
-    let _ = builder.len();
     let links = compare_each(alloc, sketch, at, nodes, Kind::Eq, Spread::Later)?;
     let pair = Pair::different(alloc, sketch, &links)?;
     let list = no_bounds(alloc, bounds)?;
@@ -268,9 +266,9 @@ fn on_reals(
     requires some { 0 < length nodes.now }
     requires takes { takes_of (operator_of operator) true false false (length nodes.now) ≡ true }
     requires nodes { AreNodes builder.old nodes.now }
-    requires sketched { IsSketch builder.old (map drawn_of sketch.old.items) }
-    ensures does { RealsDo (making builder.old (map drawn_of sketch.old.items) bounds.old) (making builder.new (map drawn_of sketch.new.items) bounds.new) (place_of at) (operator_of operator) nodes.now result }
-    ensures sketched { IsSketch builder.new (map drawn_of sketch.new.items) }
+    requires sketched { IsSketch builder.old (drawn sketch.old) }
+    ensures does { TreesDo builder.old sketch.old bounds.old builder.new sketch.new bounds.new at operator nodes.now result }
+    ensures sketched { IsSketch builder.new (drawn sketch.new) }
     ensures sorts { builder.new.sorts ≡ builder.old.sorts }
 {
     match operator {
@@ -292,7 +290,7 @@ fn on_reals(
 
 // That Bool expressions are equal, each to the next.
 fn equal(alloc: Global, sketch: &mut Vec<Drawn>, pairs: &[Pair]) -> Result<Pair, AllocError>
-    ensures { Connects bool_equality (map drawn_of sketch.old.items) (map drawn_of sketch.new.items) pairs.now result }
+    ensures { Connects bool_equality (drawn sketch.old) (drawn sketch.new) pairs.now result }
 {
     let links = connect_each(alloc, sketch, Spread::Next, pairs)?;
     Pair::chain(alloc, sketch, &links)
@@ -300,7 +298,7 @@ fn equal(alloc: Global, sketch: &mut Vec<Drawn>, pairs: &[Pair]) -> Result<Pair,
 
 // That Bool expressions differ, each from every other.
 fn distinct(alloc: Global, sketch: &mut Vec<Drawn>, pairs: &[Pair]) -> Result<Pair, AllocError>
-    ensures { Connects bool_distinctness (map drawn_of sketch.old.items) (map drawn_of sketch.new.items) pairs.now result }
+    ensures { Connects bool_distinctness (drawn sketch.old) (drawn sketch.new) pairs.now result }
 {
     let links = connect_each(alloc, sketch, Spread::Later, pairs)?;
     Pair::all(alloc, sketch, &links)
@@ -309,9 +307,8 @@ fn distinct(alloc: Global, sketch: &mut Vec<Drawn>, pairs: &[Pair]) -> Result<Pa
 // The negation of the first.
 fn negation(sketch: &mut Vec<Drawn>, pairs: &[Pair]) -> Result<Pair, AllocError>
     requires { 0 < length pairs.now }
-    ensures { Connects not_first (map drawn_of sketch.old.items) (map drawn_of sketch.new.items) pairs.now result }
+    ensures { Connects not_first (drawn sketch.old) (drawn sketch.new) pairs.now result }
 {
-    let _ = sketch.len();
     let Some((first, _)) = pairs.split_first() else {
         unreachable!()
     };
@@ -321,7 +318,7 @@ fn negation(sketch: &mut Vec<Drawn>, pairs: &[Pair]) -> Result<Pair, AllocError>
 // The second where the first holds, else the third.
 fn choice(alloc: Global, sketch: &mut Vec<Drawn>, pairs: &[Pair]) -> Result<Pair, AllocError>
     requires { length pairs.now ≡ 3 }
-    ensures { Connects choice_form (map drawn_of sketch.old.items) (map drawn_of sketch.new.items) pairs.now result }
+    ensures { Connects choice_form (drawn sketch.old) (drawn sketch.new) pairs.now result }
 {
     let Some((condition, arms)) = pairs.split_first() else {
         unreachable!()
@@ -343,7 +340,7 @@ fn connect(
     pairs: &[Pair],
 ) -> Result<Pair, AllocError>
     requires { takes_of (operator_of operator) false true false (length pairs.now) ≡ true }
-    ensures { Connects (bool_operation (operator_of operator)) (map drawn_of sketch.old.items) (map drawn_of sketch.new.items) pairs.now result }
+    ensures { Connects (operation_of operator) (drawn sketch.old) (drawn sketch.new) pairs.now result }
 {
     match operator {
         Operator::True => Pair::constant(sketch, true),
@@ -368,7 +365,7 @@ fn connect_bounds(
     lists: Vec<u32>,
 ) -> Result<u32, AllocError>
     requires { All (λ (k : ℕ). k < length bounds.old) lists.items }
-    ensures { AddsList bounds.old bounds.new (given_bounds (operator_of operator) bounds.old lists.items) result }
+    ensures { AddsList bounds.old bounds.new (bounds_given operator bounds.old lists) result }
 {
     match operator {
         Operator::And => bounds.all(lists),
@@ -388,12 +385,11 @@ fn on_bools(
 ) -> Result<Value, Stop>
     requires takes { takes_of (operator_of operator) false true false (length pairs.now) ≡ true }
     requires lists { All (λ (k : ℕ). k < length bounds.old) lists.items }
-    requires drawn { ArePairs builder.now (map drawn_of sketch.old.items) pairs.now }
-    requires sketched { IsSketch builder.now (map drawn_of sketch.old.items) }
-    ensures does { BoolsDo builder.now (map drawn_of sketch.old.items) (map drawn_of sketch.new.items) bounds.old bounds.new (operator_of operator) pairs.now lists.items result }
-    ensures sketched { IsSketch builder.now (map drawn_of sketch.new.items) }
+    requires drawn { ArePairs builder.now (drawn sketch.old) pairs.now }
+    requires sketched { IsSketch builder.now (drawn sketch.old) }
+    ensures does { PairsDo builder.now sketch.old sketch.new bounds.old bounds.new operator pairs.now lists result }
+    ensures sketched { IsSketch builder.now (drawn sketch.new) }
 {
-    let _ = builder.len();
     let pair = connect(alloc, sketch, operator, pairs)?;
     let list = connect_bounds(alloc, bounds, operator, lists)?;
     Ok(Value::Bool(pair, list))
@@ -422,10 +418,10 @@ fn join_links(
 ) -> Result<Value, Stop>
     requires some { 0 < length links.now }
     requires bools { are_bool links.now ≡ true }
-    requires known { AreKnown (making builder.now (map drawn_of sketch.old.items) bounds.old) links.now }
-    requires sketched { IsSketch builder.now (map drawn_of sketch.old.items) }
-    ensures does { Joins builder.now (map drawn_of sketch.old.items) (map drawn_of sketch.new.items) bounds.old bounds.new spread links.now result }
-    ensures sketched { IsSketch builder.now (map drawn_of sketch.new.items) }
+    requires known { AreKnown (making builder.now (drawn sketch.old) bounds.old) links.now }
+    requires sketched { IsSketch builder.now (drawn sketch.old) }
+    ensures does { JoinsLinks builder.now sketch.old sketch.new bounds.old bounds.new spread links.now result }
+    ensures sketched { IsSketch builder.now (drawn sketch.new) }
 {
     if let Some(value) = only_of(spread, links) {
         return Ok(value);
@@ -447,11 +443,11 @@ fn compare_values(
     values: &[Value],
 ) -> Result<Value, Stop>
     requires several { 1 < length values.now }
-    requires values { AreSomeValues builder.old (map drawn_of sketch.old.items) values.now }
+    requires values { AreSomeValues builder.old (drawn sketch.old) values.now }
     requires arms { are_arms values.now ≡ true }
-    requires sketched { IsSketch builder.old (map drawn_of sketch.old.items) }
-    ensures does { SaysAll builder.old (map drawn_of sketch.old.items) bounds.old builder.new (map drawn_of sketch.new.items) bounds.new spread (kind_of kind) (place_of at) values.now result }
-    ensures sketched { IsSketch builder.new (map drawn_of sketch.new.items) }
+    requires sketched { IsSketch builder.old (drawn sketch.old) }
+    ensures does { ComparesValues builder.old sketch.old bounds.old builder.new sketch.new bounds.new spread kind at values.now result }
+    ensures sketched { IsSketch builder.new (drawn sketch.new) }
     ensures sorts { builder.new.sorts ≡ builder.old.sorts }
 {
     let mut links = Vec::new(alloc);
@@ -474,12 +470,12 @@ fn calculate_arms(
     step: Step,
     values: &[Value],
 ) -> Result<Value, Stop>
-    requires values { AreSomeValues builder.old (map drawn_of sketch.old.items) values.now }
+    requires values { AreSomeValues builder.old (drawn sketch.old) values.now }
     requires arms { are_arms values.now ≡ true }
     requires held { are_real values.now ≡ false }
-    requires sketched { IsSketch builder.old (map drawn_of sketch.old.items) }
-    ensures does { ArmsMake builder.old (map drawn_of sketch.old.items) builder.new (map drawn_of sketch.new.items) (place_of at) (operator_of_step step) values.now result }
-    ensures sketched { IsSketch builder.new (map drawn_of sketch.new.items) }
+    requires sketched { IsSketch builder.old (drawn sketch.old) }
+    ensures does { ValuesMake builder.old sketch.old builder.new sketch.new at step values.now result }
+    ensures sketched { IsSketch builder.new (drawn sketch.new) }
     ensures sorts { builder.new.sorts ≡ builder.old.sorts }
 {
     let Some((first, rest)) = values.split_first() else {
@@ -498,7 +494,7 @@ fn calculate_arms(
 // `ite` at Real arms.
 fn pick_arm(sketch: &mut Vec<Drawn>, values: &[Value]) -> Result<Value, Stop>
     requires { are_picked values.now ≡ true }
-    ensures { PicksOf (map drawn_of sketch.old.items) (map drawn_of sketch.new.items) values.now result }
+    ensures { PicksOf (drawn sketch.old) (drawn sketch.new) values.now result }
 {
     let [condition, first, second] = values else {
         unreachable!()
@@ -522,13 +518,13 @@ fn over_arms(
     operator: Operator,
     values: &[Value],
 ) -> Result<Value, Stop>
-    requires known { AreKnown (making builder.old (map drawn_of sketch.old.items) bounds.old) values.now }
-    requires sketched { IsSketch builder.old (map drawn_of sketch.old.items) }
+    requires known { AreKnown (making builder.old (drawn sketch.old) bounds.old) values.now }
+    requires sketched { IsSketch builder.old (drawn sketch.old) }
     requires arms { are_arms values.now ≡ true }
     requires held { are_real values.now ≡ false }
     requires takes { takes_of (operator_of operator) true false false (length values.now) ≡ true }
-    ensures does { ArmsDo builder.old builder.new (map drawn_of sketch.old.items) (map drawn_of sketch.new.items) bounds.old bounds.new (place_of at) (operator_of operator) values.now result }
-    ensures sketched { IsSketch builder.new (map drawn_of sketch.new.items) }
+    ensures does { OverArms builder.old sketch.old bounds.old builder.new sketch.new bounds.new at operator values.now result }
+    ensures sketched { IsSketch builder.new (drawn sketch.new) }
     ensures sorts { builder.new.sorts ≡ builder.old.sorts }
 {
     match operator {
@@ -622,13 +618,13 @@ fn on_arms(
     operator: Operator,
     values: &[Value],
 ) -> Result<Value, Stop>
-    requires known { AreKnown (making builder.old (map drawn_of sketch.old.items) bounds.old) values.now }
-    requires sketched { IsSketch builder.old (map drawn_of sketch.old.items) }
+    requires known { AreKnown (making builder.old (drawn sketch.old) bounds.old) values.now }
+    requires sketched { IsSketch builder.old (drawn sketch.old) }
     requires held { are_real values.now ≡ false }
     requires apart { are_bool values.now ≡ false }
-    requires takes { takes_of (operator_of operator) (are_arms values.now) false (are_picked values.now) (length values.now) ≡ true }
-    ensures does { ArmsDo builder.old builder.new (map drawn_of sketch.old.items) (map drawn_of sketch.new.items) bounds.old bounds.new (place_of at) (operator_of operator) values.now result }
-    ensures sketched { IsSketch builder.new (map drawn_of sketch.new.items) }
+    requires takes { takes_arms operator values.now ≡ true }
+    ensures does { OverArms builder.old sketch.old bounds.old builder.new sketch.new bounds.new at operator values.now result }
+    ensures sketched { IsSketch builder.new (drawn sketch.new) }
     ensures sorts { builder.new.sorts ≡ builder.old.sorts }
 {
     if let Operator::Choice = operator {
@@ -647,10 +643,10 @@ pub(crate) fn operate(
     operator: Operator,
     values: &[Value],
 ) -> Result<Value, Stop>
-    requires known { AreKnown (making builder.old (map drawn_of sketch.old.items) bounds.old) values.now }
-    requires sketched { IsSketch builder.old (map drawn_of sketch.old.items) }
-    ensures does { Operates (making builder.old (map drawn_of sketch.old.items) bounds.old) (making builder.new (map drawn_of sketch.new.items) bounds.new) (place_of at) (operator_of operator) values.now result }
-    ensures sketched { IsSketch builder.new (map drawn_of sketch.new.items) }
+    requires known { AreKnown (making builder.old (drawn sketch.old) bounds.old) values.now }
+    requires sketched { IsSketch builder.old (drawn sketch.old) }
+    ensures does { Applies builder.old sketch.old bounds.old builder.new sketch.new bounds.new at operator values.now result }
+    ensures sketched { IsSketch builder.new (drawn sketch.new) }
     ensures sorts { builder.new.sorts ≡ builder.old.sorts }
 {
     let bools = are_bool(values);

@@ -1,4 +1,10 @@
 -- The words as the code holds them.
+use Rattle.std.specs.Prelude.{◌≡◌, List, [], map, string_bytes}
+use Rattle.std.specs.declared.alloc.Global.{Global}
+use Rattle.std.specs.declared.string.String.{String}
+use Rattle.clap.specs.Words.{Text, fault_of, found_of, matches_of, rows_of, subcommand_of, subcommand_rows_of}
+use Rattle.clap.specs.declared.parser.matches.ArgMatches.{ArgMatches}
+use Rattle.words.specs.Program.{checker, program}
 use Rattle.words.specs.declared.asked.SolveWords.{SolveWords}
 use Rattle.words.specs.declared.asked.CheckWords.{CheckWords}
 use Rattle.words.specs.declared.asked.DemoWords.{DemoWords}
@@ -25,3 +31,15 @@ seen (Solve asked) = solve (seen_solve asked)
 seen (Check asked) = check (seen_check asked)
 seen (Demo asked) = demo (seen_demo asked)
 seen (Upgrade asked) = upgrade (seen_upgrade asked)
+
+-- the bytes of each word
+abbrev pub texts_of : List (String Global) → List Text
+texts_of words = map string_bytes words
+
+-- the parser finds no fault in the words, and these matches
+abbrev pub AreMatchesOf : List (String Global) → ArgMatches → Type 0
+AreMatchesOf words m = (fault_of program (texts_of words) ≡ []) × (subcommand_rows_of m ≡ subcommand_of program (texts_of words))
+
+-- the same of the words of the checker's call
+abbrev pub AreCheckerMatchesOf : List (String Global) → ArgMatches → Type 0
+AreCheckerMatchesOf words m = (fault_of checker (texts_of words) ≡ []) × (rows_of (found_of m) ≡ matches_of checker (texts_of words))

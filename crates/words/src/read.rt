@@ -1,9 +1,9 @@
-ghost use Rattle.std.specs.Prelude.{◌≡◌, ◌≢◌, ◌&&◌, [], IfOk, IsErrOf, None, Some, codes, map, option_and_then, option_map, string_bytes};
+ghost use Rattle.std.specs.Prelude.{◌≡◌, ◌≢◌, ◌&&◌, [], IfOk, IsErrOf, None, Some, codes, option_and_then, option_map};
 ghost use Rattle.std.specs.Str.{bytes_eq};
-ghost use Rattle.clap.specs.Words.{fault_of, first_of, found_of, kind_of, matches_of, one_of, rows_of, subcommand_of, subcommand_rows_of};
+ghost use Rattle.clap.specs.Words.{fault_of, first_of, found_of, kind_of, one_of, rows_of};
 ghost use Rattle.words.specs.Program.{checker, program};
 ghost use Rattle.words.specs.Words.{check_of, checker_of, chosen, command_of, demo_of, long_number_in, number_in, number_of, options_of, IsInRange, solve_of, upgrade_of};
-ghost use Rattle.words.specs.Seen.{seen, seen_check, seen_demo, seen_solve, seen_upgrade};
+ghost use Rattle.words.specs.Seen.{AreCheckerMatchesOf, AreMatchesOf, seen, seen_check, seen_demo, seen_solve, seen_upgrade, texts_of};
 
 use crate::asked::{
     Asked, CheckWords, DemoWords, Options, SolveWords, UpgradeWords, usual_options,
@@ -22,9 +22,8 @@ pub enum Refused {
 
 // What the parser makes of the words.
 fn parse<'a>(alloc: Global, words: &'a [String]) -> Result<ArgMatches<'a>, Refused>
-    ensures ok { IfOk result (λ m. (fault_of program (map string_bytes words.entry.now) ≡ [])
-        × (subcommand_rows_of m ≡ subcommand_of program (map string_bytes words.entry.now))) }
-    ensures usage { IsErrOf result Refused.Usage → fault_of program (map string_bytes words.entry.now) ≢ [] }
+    ensures ok { IfOk result (AreMatchesOf words.entry.now) }
+    ensures usage { IsErrOf result Refused.Usage → fault_of program (texts_of words.entry.now) ≢ [] }
 {
     let Ok(command) = program_command(alloc) else {
         return Err(Refused::Memory);
@@ -37,9 +36,8 @@ fn parse<'a>(alloc: Global, words: &'a [String]) -> Result<ArgMatches<'a>, Refus
 
 // What the parser makes of the words of the checker's call.
 fn parse_checker<'a>(alloc: Global, words: &'a [String]) -> Result<ArgMatches<'a>, Refused>
-    ensures ok { IfOk result (λ m. (fault_of checker (map string_bytes words.entry.now) ≡ [])
-        × (rows_of (found_of m) ≡ matches_of checker (map string_bytes words.entry.now))) }
-    ensures usage { IsErrOf result Refused.Usage → fault_of checker (map string_bytes words.entry.now) ≢ [] }
+    ensures ok { IfOk result (AreCheckerMatchesOf words.entry.now) }
+    ensures usage { IsErrOf result Refused.Usage → fault_of checker (texts_of words.entry.now) ≢ [] }
 {
     let Ok(command) = checker_command(alloc) else {
         return Err(Refused::Memory);
@@ -207,9 +205,9 @@ fn choose<'a>(name: &str, matches: &ArgMatches<'a>) -> Option<Asked<'a>>
 /// Refused for usage exactly where `command_of` has nothing, `--help` and the like included. Out of memory is a refusal of
 /// its own.
 pub fn read_words<'a>(alloc: Global, words: &'a [String]) -> Result<Asked<'a>, Refused>
-    ensures ok { IfOk result (λ asked. command_of (map string_bytes words.entry.now) ≡ Some (seen asked)) }
+    ensures ok { IfOk result (λ asked. command_of (texts_of words.entry.now) ≡ Some (seen asked)) }
     ensures range { IfOk result (λ asked. IsInRange (seen asked)) }
-    ensures usage { IsErrOf result Refused.Usage → command_of (map string_bytes words.entry.now) ≡ None }
+    ensures usage { IsErrOf result Refused.Usage → command_of (texts_of words.entry.now) ≡ None }
 {
     let matches = match parse(alloc, words) {
         Ok(matches) => matches,
@@ -229,8 +227,8 @@ pub fn read_words<'a>(alloc: Global, words: &'a [String]) -> Result<Asked<'a>, R
 /// Refused for usage exactly where `checker_of` has nothing, `--help` and the like included. Out of memory is a refusal of
 /// its own.
 pub fn read_checker_words<'a>(alloc: Global, words: &'a [String]) -> Result<CheckWords<'a>, Refused>
-    ensures ok { IfOk result (λ asked. checker_of (map string_bytes words.entry.now) ≡ Some (seen_check asked)) }
-    ensures usage { IsErrOf result Refused.Usage → checker_of (map string_bytes words.entry.now) ≡ None }
+    ensures ok { IfOk result (λ asks. checker_of (texts_of words.entry.now) ≡ Some (seen_check asks)) }
+    ensures usage { IsErrOf result Refused.Usage → checker_of (texts_of words.entry.now) ≡ None }
 {
     let matches = match parse_checker(alloc, words) {
         Ok(matches) => matches,

@@ -4,4 +4,4 @@ use Rattle.cover_book.proofs.Grids.{domains_kept}
 use Rattle.cover_book.proofs.grid.point_on_grid.Goals as goal
 
 pub returns : goal.returns
-returns c = subst IsGridSpace c.space-space.ensures (domains_kept c.space-space.result.now.axes.items)
+returns c = subst IsGridSpace c.space.ensures (domains_kept c.space.result.now.axes.items)

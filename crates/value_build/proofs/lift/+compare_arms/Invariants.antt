@@ -1,4 +1,3 @@
-use Rattle.std.proofs.Common.{ℕ}
 use Rattle.value_build.proofs.lift.+compare_arms.Given as goal
 
 abbrev pub decreases-compare_arms : goal.decreases-compare_arms

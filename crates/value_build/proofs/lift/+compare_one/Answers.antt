@@ -1,25 +1,20 @@
-use Rattle.std.proofs.Common.{map, ◌≡◌, sym, subst, ap, ◌∙◌, arith, ◌<◌, ℕ, length, List, [], Some, slice_get}
+use Rattle.std.proofs.Common.{map, sym, subst, ap, ◌∙◌, arith, [], slice_get}
 use Rattle.std.specs.Prelude.{Result, Ok, Err}
 use Rattle.smt_sexp.specs.Views.{place_of}
-use Rattle.script_forms.specs.Terms.{Unfolded, lift_tree}
-use Rattle.script_forms.specs.Unfolded.{lift_form, compare_two}
-use Rattle.script_forms.specs.Work.{lift_events, step_events, compare_events}
+use Rattle.script_forms.specs.Unfolded.{lift_form}
+use Rattle.script_forms.specs.Work.{lift_events}
 use Rattle.poly_graph.specs.Term.{Term}
 use Rattle.poly_graph.specs.Views.{kind_of}
-use Rattle.term_build.specs.Built.{stand_of}
-use Rattle.term_build.specs.Pairs.{compared}
 use Rattle.term_build.specs.Shapes.{drawn_of}
 use Rattle.term_build.specs.Sketch.{as_choice}
 use Rattle.term_build.specs.Steps.{tree_of}
 use Rattle.term_build.specs.declared.connectives.Pair.{Pair}
 use Rattle.term_build.specs.declared.sketch.Arm.{Arm}
-use Rattle.term_build.specs.declared.sketch.Arm.TheVariants as arm
 use Rattle.term_build.specs.declared.stop.Stop.{Stop}
-use Rattle.term_build.proofs.Emits.{err_is, tree_below}
-use Rattle.value_build.specs.Arithmetic.{tree_of_step, events_of_step}
-use Rattle.value_build.specs.Arms.{Lifts, LiftsOne, Says, SaysOne, events_of_leaf, tree_of_leaf, terms_of}
+use Rattle.term_build.proofs.Emits.{err_is}
+use Rattle.value_build.specs.Arms.{Says, SaysOne, terms_of}
 use Rattle.value_build.specs.Values.{IsArm}
-use Rattle.value_build.proofs.Lifting.{choice_there, parts, tree_parts, leaf_done, said_done, two_of_tree, said_of_tree, compared_is, lift_stopped, lift_first, lift_second, lift_done, say_stopped, say_first, say_second, say_done, behind_reach, behind_lift, behind_say, behind_arm, behind_tree, behind_below}
+use Rattle.value_build.proofs.Lifting.{choice_there, parts, said_done, say_stopped, say_first, say_second, say_done, behind_reach, behind_say, behind_arm, behind_tree, behind_below}
 use Rattle.value_build.proofs.lift.+compare_one.Goals as goal
 
 pub unreachable-requires : goal.unreachable-requires

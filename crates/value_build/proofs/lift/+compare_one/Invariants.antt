@@ -1,4 +1,3 @@
-use Rattle.std.proofs.Common.{ℕ}
 use Rattle.value_build.proofs.lift.+compare_one.Given as goal
 
 abbrev pub decreases-compare_one : goal.decreases-compare_one
