@@ -1,5 +1,5 @@
 -- What the calls answer, in values of the code.
-use Rattle.std.specs.Prelude.{◌≡◌, ℕ, List, [], Bool, true, false, Option, Some, length}
+use Rattle.std.specs.Prelude.{◌≡◌, ℕ, List, [], Bool, false, Option, Some, length}
 use Rattle.dyadic.specs.declared.dy.Dy.{Dy}
 use Rattle.dyadic.specs.Rounding.{two_to_minus}
 use Rattle.interval_model.specs.Interval.{Interval, interval_product, is_nothing}

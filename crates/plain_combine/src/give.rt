@@ -50,7 +50,7 @@ pub fn give(node: u32, more: Ival, rows: &mut Rows)
 // Whether the node is a constant.
 fn is_constant(graph: &Graph, node: u32) -> bool
     requires { node < length graph.now }
-    ensures { result ≡ is_is_constant_at graph.now node }
+    ensures { result ≡ is_constant_at graph.now node }
 {
     match graph.node(node) {
         Node::Const(_) => true,
