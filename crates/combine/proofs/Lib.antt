@@ -4,6 +4,3 @@ pub mod Keeping
 pub mod Pairs
 pub mod Sweeping
 pub mod Tightening
-pub mod Constants
-pub mod Noughts
-pub mod Ones

@@ -1,16 +1,15 @@
 -- The sweep, node by node: nodes without an adjoint are passed over.
-use Rattle.std.proofs.Common.{◌≡◌, ℕ, zero, suc, ◌+◌, ◌-◌, ◌<◌, ◌≤◌, List, Bool, true, false, cond, Option, Some, None, nat_eq, refl, ap, ap₂, sym, ◌∙◌, arith}
+use Rattle.std.proofs.Common.{◌≡◌, ℕ, zero, suc, ◌+◌, ◌-◌, ◌<◌, ◌≤◌, List, Option, Some, refl, ap, ap₂, sym, ◌∙◌, arith}
 use mathlib.Core.Path.{fun_ext}
 use Rattle.std.specs.Prelude.{slice_get}
-use Rattle.interval_model.specs.Interval.{Interval, interval_negated, interval_product}
-use Rattle.poly_graph.specs.Term.{Node, constant_node, variable_node, negate_node, add_node, multiply_node, square_node}
+use Rattle.interval_model.specs.Interval.{Interval}
+use Rattle.poly_graph.specs.Term.{Node}
 use Rattle.poly_graph.specs.declared.node.Node as code
 use Rattle.poly_graph.specs.declared.node.Node.TheVariants.{Const, Var, Neg, Add, Mul, Sq}
 use Rattle.poly_graph.specs.Views.{node_of}
-use Rattle.cover_model.specs.NodeEnclosure.{row}
-use Rattle.cover_model.specs.Combination.{Adjoints, joined, handed, handed_down, squares_down, Expansion, squared_rest, product_rest, expanded, next_adjoints, next_squares, next_expansion, swept}
-use Rattle.combine.specs.Hands.{is_constant_at, handed_unless, handed_on}
-use Rattle.combine.proofs.Constants.{handed_on_alike, swept_alike}
+use Rattle.cover_model.specs.Combination.{Adjoints, handed_down, squares_down, Expansion, squared_rest, product_rest, expanded, next_adjoints, next_squares, next_expansion, swept}
+use Rattle.cover_model.specs.CombinationConstants.{handed_on}
+use Rattle.cover_model.proofs.CombinationConstants.{handed_on_alike, swept_alike}
 use Rattle.combine.specs.Parts.{needed_by, needed_at, needed_below}
 
 -- ---- a node that is no variable
@@ -32,34 +31,7 @@ needed_other (Add a b) f = refl
 needed_other (Mul a b) f = refl
 needed_other (Sq a) f = refl
 
--- ---- what a node without coefficients adds
-
-nothing-added : (es cs : List Interval) (k : ℕ) (n : Node) (e : Expansion) → expanded es cs k None None n e ≡ e
-nothing-added es cs k (constant_node q) e = refl
-nothing-added es cs k (variable_node a) e = refl
-nothing-added es cs k (negate_node a) e = refl
-nothing-added es cs k (add_node a b) e = refl
-nothing-added es cs k (multiply_node a b) e = refl
-nothing-added es cs k (square_node a) e = refl
-
-nothing-next : (es cs : List Interval) (k : ℕ) (m : Option Node) (e : Expansion) → next_expansion es cs k None None m e ≡ e
-nothing-next es cs k None e = refl
-nothing-next es cs k (Some n) e = nothing-added es cs k n e
-
 module _ (nodes : List Node) (es cs : List Interval) where
-  silent : (p : ℕ) (os qs : Adjoints) (e : Expansion) → os p ≡ None → qs p ≡ None → swept nodes es cs (suc p) os qs e ≡ swept nodes es cs p os qs e
-  silent p os qs e f g =
-      ap₂ (λ (o q : Option Interval). swept nodes es cs p (next_adjoints cs o (slice_get nodes p) os) (next_squares o (slice_get nodes p) qs) (next_expansion es cs p o q (slice_get nodes p) e)) f g
-      ∙ ap (λ (x : Expansion). swept nodes es cs p os qs x) (nothing-next es cs p (slice_get nodes p) e)
-
-  pub skipped : (d p q : ℕ) (os qs : Adjoints) (e : Expansion) → q + d ≡ p → ((k : ℕ) → q ≤ k → k < p → os k ≡ None) → ((k : ℕ) → q ≤ k → k < p → qs k ≡ None) →
-      swept nodes es cs p os qs e ≡ swept nodes es cs q os qs e
-  skipped zero p q os qs e h f g = let same : p ≡ q = omega arith in ap (λ (x : ℕ). swept nodes es cs x os qs e) same
-  skipped (suc d) p q os qs e h f g =
-      let same : p ≡ suc (q + d) = omega arith in
-      ap (λ (x : ℕ). swept nodes es cs x os qs e) same ∙ silent (q + d) os qs e (f (q + d) (omega arith) (omega arith)) (g (q + d) (omega arith) (omega arith))
-      ∙ skipped d (q + d) q os qs e refl (λ k a b. f k a (omega arith)) (λ k a b. g k a (omega arith))
-
   pub visited : (n : ℕ) (w : Interval) (node : Node) (os qs os' qs' : Adjoints) (e e' : Expansion) → os n ≡ Some w → slice_get nodes n ≡ Some node →
       ((k : ℕ) → os' k ≡ handed_on nodes cs w node os k) → ((k : ℕ) → qs' k ≡ squares_down w node qs k) → e' ≡ expanded es cs n (Some w) (qs n) node e →
       swept nodes es cs (suc n) os qs e ≡ swept nodes es cs n os' qs' e'
@@ -68,40 +40,6 @@ module _ (nodes : List Node) (es cs : List Interval) where
       ∙ swept_alike nodes es cs n (handed_down cs w node os) (handed_on nodes cs w node os) (squares_down w node qs) (expanded es cs n (Some w) (qs n) node e) (handed_on_alike nodes cs w node os)
       ∙ ap₂ (λ (x y : Adjoints). swept nodes es cs n x y (expanded es cs n (Some w) (qs n) node e)) (sym (fun_ext a)) (sym (fun_ext b))
       ∙ ap (λ (x : Expansion). swept nodes es cs n os' qs' x) (sym c)
-
--- ---- squares stand only where adjoints do
-
-handed-none : (a : ℕ) (i : Interval) (os : Adjoints) (k : ℕ) → handed a i os k ≡ None → os k ≡ None
-handed-none a i os k h = go (nat_eq k a) h
-  where
-    go : (t : Bool) → cond t (Some (joined (os k) i)) (os k) ≡ None → os k ≡ None
-    go true e = cc
-    go false e = e
-
-both-none : (a : ℕ) (i w : Interval) (os qs : Adjoints) (k : ℕ) → (os k ≡ None → qs k ≡ None) → handed a i os k ≡ None → handed a w qs k ≡ None
-both-none a i w os qs k f h = go (nat_eq k a) h
-  where
-    go : (t : Bool) → cond t (Some (joined (os k) i)) (os k) ≡ None → cond t (Some (joined (qs k) w)) (qs k) ≡ None
-    go true e = cc
-    go false e = f e
-
-unless-none : (t : Bool) (a : ℕ) (i : Interval) (os : Adjoints) (k : ℕ) → handed_unless t a i os k ≡ None → os k ≡ None
-unless-none true a i os k h = h
-unless-none false a i os k h = handed-none a i os k h
-
-pub squares_under : (nodes : List Node) (cs : List Interval) (w : Interval) (n : Node) (os qs : Adjoints) → ((k : ℕ) → os k ≡ None → qs k ≡ None) →
-    (k : ℕ) → handed_on nodes cs w n os k ≡ None → squares_down w n qs k ≡ None
-squares_under nodes cs w (constant_node q) os qs f k h = f k h
-squares_under nodes cs w (variable_node a) os qs f k h = f k h
-squares_under nodes cs w (negate_node a) os qs f k h = f k (handed-none a (interval_negated w) os k h)
-squares_under nodes cs w (add_node a b) os qs f k h =
-    let s = is_constant_at nodes a in let t = is_constant_at nodes b in
-    f k (unless-none s a w os k (unless-none t b w (handed_unless s a w os) k h))
-squares_under nodes cs w (multiply_node a b) os qs f k h =
-    let s = is_constant_at nodes a in let t = is_constant_at nodes b in let i = interval_product w (row cs b) in
-    f k (unless-none s a i os k (unless-none t b (interval_product w (row cs a)) (handed_unless s a i os) k h))
-squares_under nodes cs w (square_node a) os qs f k h =
-    let i = interval_product w (row cs a) in both-none a i w os qs k (f k) (handed-none a i (handed a i os) k h)
 
 -- ---- the room that parts need
 

@@ -1,5 +1,5 @@
 -- The range of a part with these coefficients, and what is left to its variable.
-use Rattle.std.specs.Prelude.{◌≡◌, ◌^◌, Option, Some, pos}
+use Rattle.std.specs.Prelude.{◌≡◌, Option, Some}
 use Rattle.dyadic.specs.Rounding.{Dyadic}
 use Rattle.interval_model.specs.Interval.{Interval, interval_sum, interval_product, interval_square, inverse_product}
 use Rattle.cover_model.specs.Combination.{only, interval_difference, root_left, both_range, both_left}
@@ -10,9 +10,6 @@ use Rattle.ival.specs.Options.{option_of}
 -- it is a number alone
 abbrev pub IsNumber : Interval → Type 0
 IsNumber i = (d : Dyadic) × (i ≡ only d)
-
-abbrev pub one_alone : Interval
-one_alone = only (record { units = pos (2 ^ 120) })
 
 -- of a linear and perhaps a quadratic coefficient, where the variable's difference to its centre lies in the third interval
 abbrev pub range_by : Ival → Option Ival → Ival → Interval

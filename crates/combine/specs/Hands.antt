@@ -1,5 +1,5 @@
 -- What is handed to nodes, in rows that stand for adjoints.
-use Rattle.std.specs.Prelude.{◌≡◌, ℕ, List, Bool, true, false, Option, Some, slice_get}
+use Rattle.std.specs.Prelude.{◌≡◌, ℕ, List}
 use Rattle.dyadic.specs.declared.dy.Dy.{Dy}
 use Rattle.dyadic.specs.Rounding.{two_to_minus}
 use Rattle.dyadic.specs.Views.{dyadic_of}
@@ -8,11 +8,11 @@ use Rattle.poly_graph.specs.declared.node.Node.{Node}
 use Rattle.poly_graph.specs.Marks.{Mark}
 use Rattle.poly_graph.specs.Problem.{atom_at}
 use Rattle.poly_graph.specs.Term
-use Rattle.poly_graph.specs.Term.{constant_node, add_node, multiply_node}
 use Rattle.poly_graph.specs.ProblemViews.{Parts, problem_of}
 use Rattle.poly_graph.specs.Views.{node_of}
 use Rattle.cover_model.specs.NodeEnclosure.{row}
-use Rattle.cover_model.specs.Combination.{Adjoints, only, handed, handed_down, squares_down, root_adjoints, central_range, allowed_range, marked_range}
+use Rattle.cover_model.specs.Combination.{Adjoints, only, handed, squares_down, root_adjoints, central_range, allowed_range, marked_range}
+use Rattle.cover_model.specs.CombinationConstants.{is_constant_at, handed_unless, handed_on}
 use Rattle.cover_model.specs.Views.{multipliers_of}
 use Rattle.ival.specs.declared.ends.Ival.{Ival}
 use Rattle.ival.specs.declared.row_parts.Rows.{Rows}
@@ -27,25 +27,6 @@ StandsFor rows os = (k : ℕ) → option_at rows k ≡ os k
 -- node a has been handed one more coefficient, from the old rows to the new ones
 abbrev pub IsHanded : ℕ → Interval → Rows → Rows → Type 0
 IsHanded a i old new = StandsFor new (handed a i (option_at old))
-
-abbrev pub is_constant : Option Term.Node → Bool
-is_constant (Some (constant_node q)) = true
-is_constant _ = false
-
-abbrev pub is_constant_at : List Term.Node → ℕ → Bool
-is_constant_at nodes k = is_constant (slice_get nodes k)
-
-abbrev pub handed_unless : Bool → ℕ → Interval → Adjoints → Adjoints
-handed_unless true a i os = os
-handed_unless false a i os = handed a i os
-
--- what a node hands to its children, where a constant that is added or multiplied is handed nothing: no expansion depends on
--- the adjoint of a constant
-abbrev pub handed_on : List Term.Node → List Interval → Interval → Term.Node → Adjoints → Adjoints
-handed_on nodes cs w (add_node a b) os = handed_unless (is_constant_at nodes b) b w (handed_unless (is_constant_at nodes a) a w os)
-handed_on nodes cs w (multiply_node a b) os =
-    handed_unless (is_constant_at nodes b) b (interval_product w (row cs a)) (handed_unless (is_constant_at nodes a) a (interval_product w (row cs b)) os)
-handed_on nodes cs w n os = handed_down cs w n os
 
 -- node a has been handed this coefficient, unless it is a constant
 abbrev pub IsHandedUnless : List Term.Node → ℕ → Interval → Rows → Rows → Type 0

@@ -5,7 +5,8 @@ ghost use Rattle.poly_graph.specs.Views.{node_of};
 ghost use Rattle.ival.specs.Views.{interval_of};
 ghost use Rattle.ival.specs.RowViews.{rows_of};
 ghost use Rattle.interval_model.specs.Interval.{interval_product};
-ghost use Rattle.combine.specs.Hands.{IsHanded, IsHandedUnless, IsHandedDown, IsSquareHanded, is_constant_at};
+ghost use Rattle.cover_model.specs.CombinationConstants.{is_constant_at};
+ghost use Rattle.combine.specs.Hands.{IsHanded, IsHandedUnless, IsHandedDown, IsSquareHanded};
 
 use crate::ranges::times;
 use ival::{Ival, Rows};

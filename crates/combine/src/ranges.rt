@@ -4,7 +4,8 @@ ghost use Rattle.dyadic.specs.Views.{dyadic_of};
 ghost use Rattle.interval_model.specs.Interval.{misses_nought, interval_product};
 ghost use Rattle.cover_model.specs.Combination.{only, interval_difference};
 ghost use Rattle.ival.specs.Views.{interval_of};
-ghost use Rattle.combine.specs.Coefficients.{IsNumber, one_alone, range_by, completed_range};
+ghost use Rattle.cover_model.specs.CombinationConstants.{one_alone};
+ghost use Rattle.combine.specs.Coefficients.{IsNumber, range_by, completed_range};
 
 use dyadic::{Dy, Ext, Sign, pow2, sign_of};
 use ival::{Ends, Ival};

@@ -1,11 +1,16 @@
 pub mod Axes
 pub mod CombinationCompleted
+pub mod CombinationConstants
 pub mod CombinationFractions
 pub mod CombinationKeeps
 pub mod CombinationListed
 pub mod CombinationMarked
+pub mod CombinationNoughts
+pub mod CombinationOnes
 pub mod CombinationReached
 pub mod CombinationRows
+pub mod CombinationSkipped
+pub mod CombinationSquares
 pub mod CombinationSweep
 pub mod CombinationTightened
 pub mod CombinationWithin

@@ -1,5 +1,6 @@
 pub mod AxisStep
 pub mod Combination
+pub mod CombinationConstants
 pub mod CombinationLists
 pub mod Derivation
 pub mod Fits

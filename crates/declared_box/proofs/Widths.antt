@@ -1,5 +1,5 @@
 -- Whether an end is too wide does not depend on how its number is spelled, and one that is not is a bound of problems.
-use Rattle.std.proofs.Common.{◌≡◌, ◌^◌, ◌<◌, Bool, true, false, not, ◌&&◌, inl, inr, IsTrue, refl, ap, ap₂, sym, ◌∙◌, arith, ℤ, pos, negsuc, neg_ℤ, ◌≤ℤ◌, ◌<ℤ◌, nat_abs}
+use Rattle.std.proofs.Common.{◌≡◌, ◌^◌, Bool, true, false, not, ◌&&◌, inl, inr, IsTrue, refl, ap, ap₂, sym, ◌∙◌, arith, ℤ, pos, negsuc, neg_ℤ, ◌≤ℤ◌, ◌<ℤ◌, nat_abs}
 use borrow.Author.Differences.{ints}
 use lib.Signed.{lt_z, lt_z_yes}
 use Rattle.std.specs.Bool.{passes}

@@ -4,6 +4,3 @@ pub mod Giving
 pub mod PassedAxes
 pub mod Passing
 pub mod Sweeping
-pub mod Constants
-pub mod Noughts
-pub mod Ones

@@ -8,8 +8,9 @@ use Rattle.poly_graph.specs.Term.{Node, constant_node, variable_node, negate_nod
 use Rattle.cover_model.specs.NodeEnclosure.{row}
 use Rattle.cover_model.specs.Combination.{Adjoints, joined, handed, handed_down, squares_down, Part, Expansion, expanded, next_adjoints, next_squares, next_expansion, swept}
 use Rattle.cover_model.proofs.NarrowedAt.{drop_here}
-use Rattle.plain_combine.specs.Giving.{constant_at, given_unless, given_down}
-use Rattle.plain_combine.proofs.Constants.{given_down_alike, swept_alike}
+use Rattle.cover_model.specs.CombinationConstants.{is_constant_at, handed_unless, handed_on}
+use Rattle.cover_model.proofs.CombinationConstants.{handed_on_alike, swept_alike}
+use Rattle.cover_model.proofs.CombinationSkipped.{skipped}
 use Rattle.plain_combine.specs.Parts.{part_at, part_in, before_parts, parts_from, parts_on, expansion_on}
 use Rattle.plain_combine.specs.Rest.{expansion_with, with_node}
 
@@ -26,18 +27,6 @@ no-part (square_node a) = refl
 pub no_part_in : (m : Option Node) → part_in m None None ≡ None
 no_part_in None = refl
 no_part_in (Some n) = no-part n
-
-nothing-added : (es cs : List Interval) (k : ℕ) (n : Node) (e : Expansion) → expanded es cs k None None n e ≡ e
-nothing-added es cs k (constant_node q) e = refl
-nothing-added es cs k (variable_node a) e = refl
-nothing-added es cs k (negate_node a) e = refl
-nothing-added es cs k (add_node a b) e = refl
-nothing-added es cs k (multiply_node a b) e = refl
-nothing-added es cs k (square_node a) e = refl
-
-nothing-next : (es cs : List Interval) (k : ℕ) (m : Option Node) (e : Expansion) → next_expansion es cs k None None m e ≡ e
-nothing-next es cs k None e = refl
-nothing-next es cs k (Some n) e = nothing-added es cs k n e
 
 -- ---- a node with coefficients: its part before the others, and its rest
 
@@ -96,20 +85,20 @@ apart k a n h l = go (nat_eq k a) refl
 handed-off : (k a n : ℕ) (i : Interval) (os : Adjoints) → IsTrue (nat_lt a n) → n ≤ k → handed a i os k ≡ os k
 handed-off k a n i os h l = ap (λ (t : Bool). cond t (Some (joined (os k) i)) (os k)) (apart k a n h l)
 
-unless-off : (t : Bool) (k a n : ℕ) (i : Interval) (os : Adjoints) → IsTrue (nat_lt a n) → n ≤ k → given_unless t a i os k ≡ os k
+unless-off : (t : Bool) (k a n : ℕ) (i : Interval) (os : Adjoints) → IsTrue (nat_lt a n) → n ≤ k → handed_unless t a i os k ≡ os k
 unless-off true k a n i os h l = refl
 unless-off false k a n i os h l = handed-off k a n i os h l
 
-down-off : (nodes : List Node) (cs : List Interval) (w : Interval) (m : Node) (os : Adjoints) (n k : ℕ) → IsTrue (comes_after n m) → n ≤ k → given_down nodes cs w m os k ≡ os k
+down-off : (nodes : List Node) (cs : List Interval) (w : Interval) (m : Node) (os : Adjoints) (n k : ℕ) → IsTrue (comes_after n m) → n ≤ k → handed_on nodes cs w m os k ≡ os k
 down-off nodes cs w (constant_node q) os n k h l = refl
 down-off nodes cs w (variable_node a) os n k h l = refl
 down-off nodes cs w (negate_node a) os n k h l = handed-off k a n (interval_negated w) os h l
 down-off nodes cs w (add_node a b) os n k h l =
-    let e = both_true (nat_lt a n) (nat_lt b n) h in let s = constant_at nodes a in
-    unless-off (constant_at nodes b) k b n w (given_unless s a w os) e.1 l ∙ unless-off s k a n w os e.0 l
+    let e = both_true (nat_lt a n) (nat_lt b n) h in let s = is_constant_at nodes a in
+    unless-off (is_constant_at nodes b) k b n w (handed_unless s a w os) e.1 l ∙ unless-off s k a n w os e.0 l
 down-off nodes cs w (multiply_node a b) os n k h l =
-    let e = both_true (nat_lt a n) (nat_lt b n) h in let s = constant_at nodes a in let i = interval_product w (row cs b) in
-    unless-off (constant_at nodes b) k b n (interval_product w (row cs a)) (given_unless s a i os) e.1 l ∙ unless-off s k a n i os e.0 l
+    let e = both_true (nat_lt a n) (nat_lt b n) h in let s = is_constant_at nodes a in let i = interval_product w (row cs b) in
+    unless-off (is_constant_at nodes b) k b n (interval_product w (row cs a)) (handed_unless s a i os) e.1 l ∙ unless-off s k a n i os e.0 l
 down-off nodes cs w (square_node a) os n k h l = let i = interval_product w (row cs a) in handed-off k a n i (handed a i os) h l ∙ handed-off k a n i os h l
 
 squares-off : (w : Interval) (m : Node) (qs : Adjoints) (n k : ℕ) → IsTrue (comes_after n m) → n ≤ k → squares_down w m qs k ≡ qs k
@@ -123,30 +112,17 @@ squares-off w (square_node a) qs n k h l = handed-off k a n w qs h l
 -- ---- the sweep
 
 module _ (nodes : List Node) (es cs : List Interval) where
-  silent : (p : ℕ) (os qs : Adjoints) (e : Expansion) → os p ≡ None → qs p ≡ None → swept nodes es cs (suc p) os qs e ≡ swept nodes es cs p os qs e
-  silent p os qs e f g =
-      ap₂ (λ (o q : Option Interval). swept nodes es cs p (next_adjoints cs o (slice_get nodes p) os) (next_squares o (slice_get nodes p) qs) (next_expansion es cs p o q (slice_get nodes p) e)) f g
-      ∙ ap (λ (x : Expansion). swept nodes es cs p os qs x) (nothing-next es cs p (slice_get nodes p) e)
-
-  skipped : (d p q : ℕ) (os qs : Adjoints) (e : Expansion) → q + d ≡ p → ((k : ℕ) → q ≤ k → k < p → os k ≡ None) → ((k : ℕ) → q ≤ k → k < p → qs k ≡ None) →
-      swept nodes es cs p os qs e ≡ swept nodes es cs q os qs e
-  skipped zero p q os qs e h f g = let same : p ≡ q = omega arith in ap (λ (x : ℕ). swept nodes es cs x os qs e) same
-  skipped (suc d) p q os qs e h f g =
-      let same : p ≡ suc (q + d) = omega arith in
-      ap (λ (x : ℕ). swept nodes es cs x os qs e) same ∙ silent (q + d) os qs e (f (q + d) (omega arith) (omega arith)) (g (q + d) (omega arith) (omega arith))
-      ∙ skipped d (q + d) q os qs e refl (λ k a b. f k a (omega arith)) (λ k a b. g k a (omega arith))
-
   -- from place p to place q, between which no node has a coefficient
   pub sweep_skipped : (p q : ℕ) (os qs : Adjoints) (rest : Interval) → q ≤ p → p ≤ length nodes → ((k : ℕ) → os k ≡ None → qs k ≡ None) → ((k : ℕ) → q ≤ k → k < p → os k ≡ None) →
       swept nodes es cs p os qs (expansion_on nodes os qs p rest) ≡ swept nodes es cs q os qs (expansion_on nodes os qs q rest)
   sweep_skipped p q os qs rest l m u f =
       let d : (d : ℕ) × (q + d ≡ p) = (p - q, omega arith) in
-      skipped d.0 p q os qs (expansion_on nodes os qs p rest) d.1 f (λ k a b. u k (f k a b))
+      skipped nodes es cs d.0 p q os qs (expansion_on nodes os qs p rest) d.1 f (λ k a b. u k (f k a b))
       ∙ ap (λ (xs : List Part). swept nodes es cs q os qs (expansion_with xs rest)) (sym (parts_skipped nodes os qs d.0 p q d.1 m f (λ k a b. u k (f k a b))))
 
   -- at node n
   pub sweep_next : (n : ℕ) (w rest rest' : Interval) (q : Option Interval) (m : Node) (os qs os' qs' : Adjoints) → slice_get nodes n ≡ Some m → IsTrue (comes_after n m) → os n ≡ Some w → qs n ≡ q →
-      os' ≡ given_down nodes cs w m os → qs' ≡ squares_down w m qs → rest' ≡ with_node es cs n w q m rest →
+      os' ≡ handed_on nodes cs w m os → qs' ≡ squares_down w m qs → rest' ≡ with_node es cs n w q m rest →
       swept nodes es cs (suc n) os qs (expansion_on nodes os qs (suc n) rest) ≡ swept nodes es cs n os' qs' (expansion_on nodes os' qs' n rest')
   sweep_next n w rest rest' q m os qs os' qs' h c f g a b r =
       let parts = parts_on nodes os qs (suc n) in
@@ -158,7 +134,7 @@ module _ (nodes : List Node) (es cs : List Interval) where
       ∙ ap (before_parts (part_at m (Some w) q)) (parts-alike (drop (suc n) nodes) os qs os' qs' (suc n) (λ k l. on k (omega arith)) (λ k l. on' k (omega arith))) in
       ap₂ (λ (o : Option Interval) (x : Option Node). swept nodes es cs n (next_adjoints cs o x os) (next_squares o x qs) (next_expansion es cs n o (qs n) x (expansion_with parts rest))) f h
       ∙ ap (λ (s : Option Interval). swept nodes es cs n (handed_down cs w m os) (squares_down w m qs) (expanded es cs n (Some w) s m (expansion_with parts rest))) g
-      ∙ swept_alike nodes es cs n (handed_down cs w m os) (given_down nodes cs w m os) (squares_down w m qs) (expanded es cs n (Some w) q m (expansion_with parts rest)) (given_down_alike nodes cs w m os)
+      ∙ swept_alike nodes es cs n (handed_down cs w m os) (handed_on nodes cs w m os) (squares_down w m qs) (expanded es cs n (Some w) q m (expansion_with parts rest)) (handed_on_alike nodes cs w m os)
       ∙ ap₂ (λ (x y : Adjoints). swept nodes es cs n x y (expanded es cs n (Some w) q m (expansion_with parts rest))) (sym a) (sym b)
       ∙ ap (λ (x : Expansion). swept nodes es cs n os' qs' x) (expanded-is es cs n w q m parts rest)
       ∙ ap₂ (λ (xs : List Part) (i : Interval). swept nodes es cs n os' qs' (expansion_with xs i)) (sym same) (sym r)

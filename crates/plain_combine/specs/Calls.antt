@@ -1,5 +1,5 @@
 -- What the calls answer, in values of the code.
-use Rattle.std.specs.Prelude.{◌≡◌, ℕ, List, [], Bool, true, false, Option, Some, length}
+use Rattle.std.specs.Prelude.{◌≡◌, ℕ, List, [], Bool, false, Option, Some, length}
 use Rattle.dyadic.specs.declared.dy.Dy.{Dy}
 use Rattle.dyadic.specs.Rounding.{two_to_minus}
 use Rattle.interval_model.specs.Interval.{Interval, interval_product, is_nothing}
@@ -12,6 +12,7 @@ use Rattle.poly_graph.specs.declared.node.Node as code_node
 use Rattle.cover_model.specs.AxisStep.{axis_step}
 use Rattle.cover_model.specs.Combination as model_part
 use Rattle.cover_model.specs.Combination.{Adjoints, allowed_range, both_left, both_range, central_range, combined, completed, completed_left, left_to, marked_range, off_centre, part_range, root_adjoints, squares_down, swept}
+use Rattle.cover_model.specs.CombinationConstants.{handed_on, handed_unless, is_constant_at}
 use Rattle.cover_model.specs.Narrowed.{enclosures}
 use Rattle.cover_model.specs.NodeEnclosure.{row}
 use Rattle.cover_model.specs.Views.{multipliers_of}
@@ -24,7 +25,6 @@ use Rattle.ival.specs.Options.{option_at, option_of}
 use Rattle.ival.specs.RowViews.{rows_of}
 use Rattle.ival.specs.SpaceViews.{space_of}
 use Rattle.ival.specs.Views.{interval_of}
-use Rattle.plain_combine.specs.Giving.{constant_at, given_down, given_unless}
 use Rattle.plain_combine.specs.Parts.{before_sum, behind_range, expansion_on, left_to_part, option_part, part_of, part_of_node, range_on, setting}
 use Rattle.plain_combine.specs.Passes.{AreBehind, HaveRanges, IsLeft, IsPutUnlessEmpty}
 use Rattle.plain_combine.specs.Rest.{IsNothingOver, expansion_with, with_node, with_product, with_square}
@@ -72,14 +72,14 @@ allowed_by p loosen marks ms = allowed_range (marked_range (problem_of p) (two_t
 
 -- of a sum, to a node of it
 abbrev pub given_part : List Node → ℕ → Ival → Rows → Adjoints
-given_part nodes k more linear = given_unless (constant_at nodes k) k (interval_of more) (option_at linear)
+given_part nodes k more linear = handed_unless (is_constant_at nodes k) k (interval_of more) (option_at linear)
 
 -- of a product, to a node of it, where the other factor is this
 abbrev pub given_factor : List Node → ℕ → Ival → Ival → Rows → Adjoints
-given_factor nodes k coefficient other linear = given_unless (constant_at nodes k) k (interval_product (interval_of coefficient) (interval_of other)) (option_at linear)
+given_factor nodes k coefficient other linear = handed_unless (is_constant_at nodes k) k (interval_product (interval_of coefficient) (interval_of other)) (option_at linear)
 
 abbrev pub given : List Node → code_node.Node → Ival → Rows → Rows → Adjoints
-given nodes n coefficient centre_rows linear = given_down nodes (rows_of centre_rows) (interval_of coefficient) (node_of n) (option_at linear)
+given nodes n coefficient centre_rows linear = handed_on nodes (rows_of centre_rows) (interval_of coefficient) (node_of n) (option_at linear)
 
 -- for the square of the child's difference
 abbrev pub given_square : code_node.Node → Ival → Rows → Adjoints

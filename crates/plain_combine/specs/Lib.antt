@@ -1,5 +1,4 @@
 pub mod Calls
-pub mod Giving
 pub mod Parts
 pub mod Passes
 pub mod Rest

@@ -1,5 +1,5 @@
 -- What a node adds to the rest of an expansion.
-use Rattle.std.specs.Prelude.{◌≡◌, ℕ, ◌^◌, List, Option, Some, None, pos}
+use Rattle.std.specs.Prelude.{◌≡◌, ℕ, List, Option, Some, None}
 use Rattle.dyadic.specs.Rounding.{Dyadic}
 use Rattle.interval_model.specs.Interval.{Interval, interval_sum, interval_product, interval_square}
 use Rattle.poly_graph.specs.Term.{Node, variable_node, multiply_node}
@@ -11,9 +11,6 @@ expansion_with parts rest = record { parts = parts; rest = rest }
 -- a number alone
 abbrev pub IsSingle : Interval → Type 0
 IsSingle i = (d : Dyadic) × (i ≡ only d)
-
-abbrev pub only_one : Interval
-only_one = only (record { units = pos (2 ^ 120) })
 
 -- with the square of node k's difference, times its coefficient
 abbrev pub with_square : List Interval → List Interval → ℕ → Option Interval → Interval → Interval

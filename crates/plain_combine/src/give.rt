@@ -3,11 +3,11 @@ ghost use Rattle.std.specs.Prelude.{◌≡◌, ◌<◌, length, IsTrue};
 ghost use Rattle.poly_graph.specs.Term.{comes_after};
 ghost use Rattle.poly_graph.specs.Views.{node_of};
 ghost use Rattle.cover_model.specs.Combination.{joined, handed};
+ghost use Rattle.cover_model.specs.CombinationConstants.{is_constant_at};
 ghost use Rattle.ival.specs.Views.{interval_of};
 ghost use Rattle.ival.specs.RowViews.{rows_of};
 ghost use Rattle.ival.specs.Options.{option_at, option_of};
 ghost use Rattle.plain_combine.specs.Calls.{given, given_factor, given_part, given_square};
-ghost use Rattle.plain_combine.specs.Giving.{constant_at};
 
 use crate::quadratic::multiple;
 use ival::{Ival, Rows};
@@ -50,7 +50,7 @@ pub fn give(node: u32, more: Ival, rows: &mut Rows)
 // Whether the node is a constant.
 fn is_constant(graph: &Graph, node: u32) -> bool
     requires { node < length graph.now }
-    ensures { result ≡ constant_at graph.now node }
+    ensures { result ≡ is_constant_at graph.now node }
 {
     match graph.node(node) {
         Node::Const(_) => true,

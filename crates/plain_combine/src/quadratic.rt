@@ -3,9 +3,10 @@ ghost use Rattle.std.specs.Prelude.{◌≡◌, Some, true};
 ghost use Rattle.dyadic.specs.Views.{dyadic_of};
 ghost use Rattle.interval_model.specs.Interval.{misses_nought, interval_product};
 ghost use Rattle.cover_model.specs.Combination.{only, interval_difference, half_quotient, completed, root_left, completed_left, both_range, both_left};
+ghost use Rattle.cover_model.specs.CombinationConstants.{one_alone};
 ghost use Rattle.ival.specs.Views.{interval_of};
 ghost use Rattle.plain_combine.specs.Calls.{both_left_of, both_range_of, completed_left_of, completed_of, sum_left_of, sum_range_of};
-ghost use Rattle.plain_combine.specs.Rest.{IsSingle, only_one};
+ghost use Rattle.plain_combine.specs.Rest.{IsSingle};
 
 use dyadic::{Dy, Ext, Sign, pow2, sign_of};
 use ival::{Ends, Ival};
@@ -36,7 +37,7 @@ pub fn is_single(interval: Ival) -> bool
 
 // Whether it is the number 1.
 fn is_one(interval: Ival) -> bool
-    ensures { result ≡ true → interval_of interval ≡ only_one }
+    ensures { result ≡ true → interval_of interval ≡ one_alone }
 {
     let Ival::Between(ends) = interval else {
         return false;

@@ -1,4 +1,5 @@
 // Where a sweep begins: the coefficients of the roots, the combination's range at the centre, and what is allowed to it.
+// The search has the same for itself (`combine`, roots): the checker shares no code with it.
 ghost use Rattle.std.specs.Prelude.{◌≡◌, ◌<◌, ◌≤◌, All, length};
 ghost use Rattle.dyadic.specs.Rounding.{two_to_minus};
 ghost use Rattle.cover_model.specs.Combination.{marked_range};

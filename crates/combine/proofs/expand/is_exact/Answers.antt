@@ -1,7 +1,7 @@
 use Rattle.std.proofs.Common.{sym, ◌∙◌}
 use Rattle.ival.specs.Views.{interval_of}
 use Rattle.combine.specs.Visits.{difference_at}
-use Rattle.combine.proofs.Noughts.{exact_first, exact_second}
+use Rattle.cover_model.proofs.CombinationNoughts.{exact_first, exact_second}
 use Rattle.combine.proofs.expand.is_exact.Goals as goal
 
 pub returns-then-is_fixed : goal.returns-then-is_fixed

@@ -7,7 +7,7 @@ use Rattle.ival.specs.Views.{interval_of}
 use Rattle.ival.specs.RowViews.{rows_of}
 use Rattle.ival.proofs.Facts.{interval_kept}
 use Rattle.combine.specs.Parts.{expansion_with}
-use Rattle.combine.proofs.Noughts.{sum_nought}
+use Rattle.cover_model.proofs.CombinationNoughts.{sum_nought}
 use Rattle.combine.proofs.expand.with_product.Goals as goal
 
 pub returns-then-is_exact : goal.returns-then-is_exact

@@ -2,7 +2,7 @@ use Rattle.std.proofs.Common.{ap, sym, ◌∙◌}
 use Rattle.interval_model.specs.Interval.{Interval, interval_product}
 use Rattle.ival.specs.Views.{interval_of}
 use Rattle.ival.proofs.Facts.{interval_kept, interval_proper}
-use Rattle.combine.proofs.Ones.{one_product}
+use Rattle.cover_model.proofs.CombinationOnes.{one_product}
 use Rattle.combine.proofs.ranges.times.Goals as goal
 
 pub returns-then-is_one : goal.returns-then-is_one

@@ -10,7 +10,7 @@ use Rattle.poly_graph.specs.ProblemViews.{problem_of}
 use Rattle.ival.specs.RowViews.{rows_of}
 use Rattle.ival.specs.Options.{option_at}
 use Rattle.ival.proofs.Optional.{no_option}
-use Rattle.combine.proofs.Handing.{handed_alike}
+use Rattle.cover_model.proofs.CombinationConstants.{handed_alike}
 use Rattle.combine.proofs.Pairs.{pair_here, pair_at, no_pairs, length_pairs}
 use Rattle.combine.proofs.roots.hand_roots.Goals as goal
 

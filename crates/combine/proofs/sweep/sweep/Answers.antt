@@ -1,6 +1,8 @@
 use Rattle.std.proofs.Common.{◌≡◌, ℕ, ◌<◌, ◌≤◌, ◌-◌, suc, length, Option, Some, None, ap, sym, ◌∙◌, arith}
 use Rattle.interval_model.specs.Interval.{Interval}
 use Rattle.cover_model.specs.Combination.{expanded}
+use Rattle.cover_model.proofs.CombinationSkipped.{skipped}
+use Rattle.cover_model.proofs.CombinationSquares.{squares_under}
 use Rattle.cover_model.proofs.NodeEnclosures.{comes_at, comes_later}
 use Rattle.poly_graph.specs.Views.{node_of}
 use Rattle.ival.specs.Views.{interval_of}
@@ -8,7 +10,7 @@ use Rattle.ival.specs.RowViews.{rows_of}
 use Rattle.ival.specs.Options.{option_at}
 use Rattle.ival.proofs.Optional.{no_option, has_option}
 use Rattle.combine.specs.Parts.{expansion_of}
-use Rattle.combine.proofs.Sweeping.{skipped, visited, squares_under, needed_here}
+use Rattle.combine.proofs.Sweeping.{visited, needed_here}
 use Rattle.combine.proofs.sweep.sweep.Goals as goal
 
 pub hand_down-requires-clause-order : goal.hand_down-requires-clause-order

@@ -2,7 +2,7 @@ use Rattle.std.proofs.Common.{ap, sym, ◌∙◌}
 use Rattle.interval_model.specs.Interval.{interval_sum}
 use Rattle.ival.specs.Views.{interval_of}
 use Rattle.ival.proofs.Facts.{interval_kept}
-use Rattle.plain_combine.proofs.Noughts.{sum_nought}
+use Rattle.cover_model.proofs.CombinationNoughts.{sum_nought}
 use Rattle.plain_combine.proofs.sweep.add_product.Goals as goal
 
 pub returns-then-is_multiple : goal.returns-then-is_multiple

@@ -2,7 +2,7 @@ use Rattle.std.proofs.Common.{sym, ◌∙◌}
 use Rattle.cover_model.specs.Combination.{off_centre}
 use Rattle.ival.specs.Views.{interval_of}
 use Rattle.ival.specs.RowViews.{rows_of}
-use Rattle.plain_combine.proofs.Noughts.{exact_first, exact_second}
+use Rattle.cover_model.proofs.CombinationNoughts.{exact_first, exact_second}
 use Rattle.plain_combine.proofs.sweep.is_multiple.Goals as goal
 
 pub returns-then-is_still : goal.returns-then-is_still

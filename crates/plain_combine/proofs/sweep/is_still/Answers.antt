@@ -2,7 +2,7 @@ use Rattle.std.proofs.Common.{◌≡◌, ap₂, sym, ◌∙◌}
 use Rattle.cover_model.specs.Combination.{interval_difference}
 use Rattle.ival.specs.Views.{interval_of}
 use Rattle.ival.proofs.Equality.{same_interval}
-use Rattle.plain_combine.proofs.Noughts.{point_difference}
+use Rattle.cover_model.proofs.CombinationNoughts.{point_difference}
 use Rattle.plain_combine.proofs.sweep.is_still.Goals as goal
 
 pub returns-then-is_single : goal.returns-then-is_single

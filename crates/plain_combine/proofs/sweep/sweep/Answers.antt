@@ -7,7 +7,7 @@ use Rattle.ival.specs.Views.{interval_of}
 use Rattle.ival.specs.RowViews.{rows_of}
 use Rattle.ival.specs.Options.{option_at, option_of}
 use Rattle.ival.proofs.Optional.{no_option, has_option}
-use Rattle.plain_combine.proofs.Giving.{squares_under}
+use Rattle.cover_model.proofs.CombinationSquares.{squares_under}
 use Rattle.plain_combine.proofs.Sweeping.{sweep_skipped, sweep_next}
 use Rattle.plain_combine.proofs.sweep.sweep.Goals as goal
 

@@ -5,8 +5,10 @@ use Rattle.interval_model.specs.Interval.{Interval, interval_negated, interval_p
 use Rattle.poly_graph.specs.Term.{Node, constant_node, variable_node, negate_node, add_node, multiply_node, square_node}
 use Rattle.cover_model.specs.NodeEnclosure.{row}
 use Rattle.cover_model.specs.Combination.{Adjoints, joined, handed, handed_down, Expansion, next_adjoints, next_squares, next_expansion, swept}
-use Rattle.combine.specs.Hands.{is_constant, is_constant_at, handed_unless, handed_on}
-use Rattle.combine.proofs.Handing.{handed_alike}
+use Rattle.cover_model.specs.CombinationConstants.{is_constant, is_constant_at, handed_unless, handed_on}
+
+pub handed_alike : (a : ℕ) (i : Interval) (os os' : Adjoints) (k : ℕ) → os k ≡ os' k → handed a i os k ≡ handed a i os' k
+handed_alike a i os os' k h = ap (λ (o : Option Interval). cond (nat_eq k a) (Some (joined o i)) o) h
 
 module _ (nodes : List Node) where
   -- the same adjoints, but for constants

@@ -11,7 +11,7 @@ use Rattle.interval_model.specs.Interval.{Interval, nothing, between, rounded, i
 use Rattle.interval_model.proofs.Ends.{◌⊑◌}
 use Rattle.interval_model.proofs.EndsProducts.{scale_up_second}
 use Rattle.interval_model.proofs.EndsSums.{good_ext}
-use Rattle.combine.specs.Coefficients.{one_alone}
+use Rattle.cover_model.specs.CombinationConstants.{one_alone}
 
 abbrev one : Dyadic
 one = record { units = pos (2 ^ 120) }
