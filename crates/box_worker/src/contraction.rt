@@ -9,13 +9,14 @@ ghost use Rattle.box_worker.specs.Attempts.{IsOpen};
 
 use crate::combining::{combine_all, relax};
 use crate::fallen::{atom_masks, repeating_atoms, take_over};
-use crate::needs::{Needs, is_set, look};
+use crate::guide::Guide;
+use crate::needs::{Needs, is_set, needs_at};
 use crate::patience::Patience;
 use crate::step::{self, Outcome};
 use cover_rule::{Lemma, Margins, Patch, State};
 use dyadic::Dy;
 use ival::Space;
-use poly_graph::{FormNode, Mark, Problem};
+use poly_graph::{Mark, Problem};
 use std::alloc::{AllocError, Global};
 
 /// At most so many times an atom is pulled at a state.
@@ -31,10 +32,12 @@ pub enum Emptied {
     Atom(u32),
     /// Atoms with their multipliers.
     Combination(Vec<(u32, Dy), Global>),
+    /// The form: it cannot hold with the marks and the enclosures of its atoms.
+    Form,
 }
 
 /// What guides the steps: which atoms are due, what they depend on, in which an axis may repeat, the space as it was, by
-/// what nothing is left, and how long combinations of several atoms are left out.
+/// what nothing is left, how long combinations of several atoms are left out, and what the form's clauses say.
 #[derive(Drop)]
 pub struct Scout {
     due: Vec<bool, Global>,
@@ -43,6 +46,10 @@ pub struct Scout {
     space: Space,
     void: Option<Emptied>,
     patience: Patience,
+    // none where the form is a conjunction alone
+    guide: Option<Guide>,
+    // how many nodes the form has
+    forms: usize,
 }
 
 impl Scout {
@@ -123,6 +130,8 @@ fn start(alloc: Global, problem: &Problem, patch: &Patch) -> Result<Scout, Alloc
         space,
         void: None,
         patience: Patience::new(),
+        guide: Guide::of(alloc, problem)?,
+        forms: problem.forms().len(),
     })
 }
 
@@ -153,7 +162,10 @@ pub fn scout_at(
         return start(alloc, problem, patch);
     };
     let space = patch.reached().space();
-    if scout.due.len() != problem.atoms().len() || scout.space.len() != space.len() {
+    if scout.due.len() != problem.atoms().len()
+        || scout.space.len() != space.len()
+        || scout.forms != problem.forms().len()
+    {
         return start(alloc, problem, patch);
     }
     make_all_due(&mut scout.due);
@@ -227,24 +239,34 @@ fn mark(
     Ok(())
 }
 
+// Whether atom j is to be marked: it is not marked, and the guide says that the form needs it.
+fn is_asked(state: &State, guide: &Option<Guide>, j: u32) -> bool {
+    let marks = state.lits().marks();
+    if j as usize >= marks.len() || !matches!(marks[j as usize], Mark::Neither) {
+        return false;
+    }
+    match guide {
+        Some(guide) => guide.needs_atom(j),
+        None => true,
+    }
+}
+
 // Marks the atoms yes that the form needs.
 fn mark_needed(
     problem: &Problem,
     margins: &Margins,
     lemmas: &[Lemma],
-    needs: &Needs,
     scout: &mut Scout,
     patch: &mut Patch,
 ) -> Result<(), AllocError>
+    requires numbered { IsNumbered problem.now }
     requires open { IsOpen problem.now margins.now lemmas.now patch.old.kept.first patch.old }
     ensures { IsOpen problem.now margins.now lemmas.now patch.old.kept.first patch.new }
 {
-    let forms = problem.forms();
-    for n in 0..forms.len() {
-        if is_set(&needs.needed, n) {
-            if let FormNode::AtomIs(j) = forms.node(n as u32) {
-                mark(problem, margins, lemmas, scout, patch, *j)?;
-            }
+    for j in 0..problem.atoms().len() {
+        let j = j as u32;
+        if is_asked(patch.reached(), &scout.guide, j) {
+            mark(problem, margins, lemmas, scout, patch, j)?;
         }
     }
     Ok(())
@@ -325,18 +347,52 @@ fn ban_all(
     Ok(())
 }
 
-/// Looks at the state that the patch has reached.
+// Looks at the state that the patch has reached, by the guide; whether the form may hold there.
+fn look(
+    alloc: Global,
+    problem: &Problem,
+    margins: &Margins,
+    scout: &mut Scout,
+    patch: &Patch,
+) -> Result<bool, AllocError>
+    requires problem { patch.now.problem ≡ problem.now }
+    requires margins { AreMargins margins.now }
+{
+    let _ = problem.axes();
+    match &mut scout.guide {
+        Some(guide) => guide.look(
+            alloc,
+            problem,
+            margins,
+            patch.rows(),
+            patch.reached(),
+            &scout.masks,
+        ),
+        None => Ok(true),
+    }
+}
+
+/// What is needed at the state that the patch has reached.
 pub fn see(
     alloc: Global,
     problem: &Problem,
     margins: &Margins,
+    scout: &mut Scout,
     patch: &Patch,
 ) -> Result<Needs, AllocError>
     requires problem { patch.now.problem ≡ problem.now }
     requires margins { AreMargins margins.now }
 {
+    look(alloc, problem, margins, scout, patch)?;
     let _ = problem.axes();
-    look(alloc, problem, margins, patch.rows(), patch.reached())
+    needs_at(
+        alloc,
+        problem,
+        margins,
+        patch.rows(),
+        patch.reached(),
+        &scout.guide,
+    )
 }
 
 /// Whether an atom is not marked.
@@ -359,6 +415,7 @@ fn look_again(
     scout: &mut Scout,
     patch: &mut Patch,
 ) -> Result<(), AllocError>
+    requires numbered { IsNumbered problem.now }
     requires bits { AreMargins margins.now }
     requires lemmas { AreLemmasFor (problem_of problem.now) (loosenings_of margins.now) lemmas.now }
     requires open { IsOpen problem.now margins.now lemmas.now patch.old.kept.first patch.old }
@@ -368,11 +425,11 @@ fn look_again(
         return Ok(());
     }
     ban_all(problem, margins, lemmas, patch)?;
-    let needs = see(alloc, problem, margins, patch)?;
-    if !is_set(&needs.may, problem.root() as usize) {
+    if !look(alloc, problem, margins, scout, patch)? {
+        scout.note_void(Emptied::Form);
         return Ok(());
     }
-    mark_needed(problem, margins, lemmas, &needs, scout, patch)
+    mark_needed(problem, margins, lemmas, scout, patch)
 }
 
 // Pulls what is due, and where nothing is left to pull looks again; whether something is due then.
@@ -398,7 +455,7 @@ fn go_on(
         return Ok(true);
     }
     look_again(alloc, problem, margins, lemmas, scout, patch)?;
-    Ok(any_due(&scout.due))
+    Ok(!scout.is_void() && any_due(&scout.due))
 }
 
 // Goes on while something is due, but no more than ten times.

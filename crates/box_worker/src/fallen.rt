@@ -51,6 +51,17 @@ pub fn take_over(old: &mut Space, new: &Space) -> u64 {
     fallen
 }
 
+/// By their bits the axes in which two spaces differ.
+pub fn changed_axes(old: &Space, new: &Space) -> u64 {
+    let mut changed = 0;
+    for axis in 0..new.len() {
+        if axis < old.len() && old.get(axis) != new.get(axis) {
+            changed |= bit_of((axis % 64) as u32);
+        }
+    }
+    changed
+}
+
 // The mask of a node, none where there is no such one.
 fn mask_at(masks: &[u64], n: u32) -> u64 {
     let n = n as usize;

@@ -8,11 +8,12 @@ ghost use Rattle.ival.specs.RowViews.{rows_of};
 ghost use Rattle.ival.specs.SpaceViews.{space_of};
 ghost use Rattle.truth3.specs.Truth.{HasRows};
 
+use crate::guide::Guide;
 use cover_rule::{Margins, State};
 use ival::{Domain, Rows, Space, Truths};
 use poly_graph::{FormNode, Problem};
 use std::alloc::{AllocError, Global};
-use truth3::{may_atom, sure_atom};
+use truth3::sure_atom;
 
 /// For each node of the form whether it may hold, whether nothing is left to do for it, and whether the form
 /// can't hold without it. They guide the work, and nothing rests on them.
@@ -28,10 +29,10 @@ pub fn is_set(flags: &[bool], n: usize) -> bool {
     n < flags.len() && flags[n]
 }
 
-// Sets the flag, where there is such a one.
-fn set(flags: &mut [bool], n: usize) {
+// Puts the flag in its place, where there is such a one.
+fn put(flags: &mut [bool], n: usize, flag: bool) {
     if n < flags.len() {
-        flags[n] = true;
+        flags[n] = flag;
     }
 }
 
@@ -64,115 +65,82 @@ pub fn count_set(flags: &[bool], numbers: &[u32]) -> u32 {
     count
 }
 
-// Whether the value is left to a Bool axis, and whether it is the only one.
-fn value(space: &Space, axis: usize, value: bool) -> (bool, bool) {
+// Whether the Bool axis has this value alone.
+fn is_value(space: &Space, axis: usize, value: bool) -> bool {
     if axis >= space.len() {
-        return (false, false);
+        return false;
     }
     match space.get(axis) {
-        Domain::Real(_) => (false, false),
-        Domain::Bool(Truths::Either) => (true, false),
-        Domain::Bool(Truths::True) => (value, value),
-        Domain::Bool(Truths::False) => (!value, !value),
+        Domain::Real(_) => false,
+        Domain::Bool(Truths::Either) => false,
+        Domain::Bool(Truths::True) => value,
+        Domain::Bool(Truths::False) => !value,
     }
 }
 
-// Whether the atom may hold, and whether nothing is left to do for it.
-fn atom(problem: &Problem, margins: &Margins, rows: &Rows, state: &State, j: u32) -> (bool, bool)
+// Whether nothing is left to do for atom j.
+fn is_atom_done(problem: &Problem, margins: &Margins, rows: &Rows, state: &State, j: u32) -> bool
     requires margins { AreMargins margins.now }
     requires state { FitsProblem (problem_of problem.now) state.now }
     requires rows { HasRows problem.now state.now.space (rows_of rows.now) }
 {
-    let space = state.space();
-    let lits = state.lits();
-    let may = may_atom(problem, rows, space, lits, margins.margin_bits, j);
-    let yes = (j as usize) < lits.len() && state.is_yes(j);
-    let done = yes || sure_atom(problem, rows, space, margins.delta_bits, j);
-    (may, may && done)
+    let yes = (j as usize) < state.lits().len() && state.is_yes(j);
+    yes || sure_atom(problem, rows, state.space(), margins.delta_bits, j)
 }
 
-/// Looks at the state, whose enclosures the rows hold: from the leaves of the form up, then from its root down.
-pub fn look(
+// Whether nothing is left to do for a node that may hold, by what is known of its children.
+fn is_done(
+    problem: &Problem,
+    margins: &Margins,
+    rows: &Rows,
+    state: &State,
+    done: &[bool],
+    node: &FormNode,
+) -> bool
+    requires margins { AreMargins margins.now }
+    requires state { FitsProblem (problem_of problem.now) state.now }
+    requires rows { HasRows problem.now state.now.space (rows_of rows.now) }
+{
+    match node {
+        FormNode::True => true,
+        FormNode::False => false,
+        FormNode::AtomIs(j) => is_atom_done(problem, margins, rows, state, *j),
+        FormNode::BoolIs(axis, v) => is_value(state.space(), *axis as usize, *v),
+        FormNode::And(children) => all_set(done, children),
+        FormNode::Or(children) => any_set(done, children),
+    }
+}
+
+/// What is needed at the state, whose enclosures the rows hold, by a guide that has looked at it. Without one the form
+/// is a conjunction alone, which needs each node.
+pub fn needs_at(
     alloc: Global,
     problem: &Problem,
     margins: &Margins,
     rows: &Rows,
     state: &State,
+    guide: &Option<Guide>,
 ) -> Result<Needs, AllocError>
     requires margins { AreMargins margins.now }
     requires state { FitsProblem (problem_of problem.now) state.now }
     requires rows { HasRows problem.now state.now.space (rows_of rows.now) }
 {
-    let (may, done) = upwards(alloc, problem, margins, rows, state)?;
-    let needed = downwards(alloc, problem, &may)?;
-    Ok(Needs { may, done, needed })
-}
-
-// Whether each node may hold, and whether nothing is left to do for it.
-fn upwards(
-    alloc: Global,
-    problem: &Problem,
-    margins: &Margins,
-    rows: &Rows,
-    state: &State,
-) -> Result<(Vec<bool, Global>, Vec<bool, Global>), AllocError>
-    requires margins { AreMargins margins.now }
-    requires state { FitsProblem (problem_of problem.now) state.now }
-    requires rows { HasRows problem.now state.now.space (rows_of rows.now) }
-{
-    let mut may = Vec::new(alloc);
-    let mut done = Vec::new(alloc);
     let forms = problem.forms();
+    let mut needs = Needs {
+        may: vec![in alloc; true; forms.len()]?,
+        done: vec![in alloc; false; forms.len()]?,
+        needed: vec![in alloc; true; forms.len()]?,
+    };
     for n in 0..forms.len() {
-        let (holds, is_done) = match forms.node(n as u32) {
-            FormNode::True => (true, true),
-            FormNode::False => (false, false),
-            FormNode::AtomIs(j) => atom(problem, margins, rows, state, *j),
-            FormNode::BoolIs(axis, v) => value(state.space(), *axis as usize, *v),
-            FormNode::And(children) => (all_set(&may, children), all_set(&done, children)),
-            FormNode::Or(children) => (any_set(&may, children), any_set(&done, children)),
-        };
-        may.push(holds)?;
-        done.push(is_done)?;
-    }
-    Ok((may, done))
-}
-
-// Sets each of these that may hold, if there is but one.
-fn set_only(needed: &mut [bool], may: &[bool], numbers: &[u32]) {
-    if count_set(may, numbers) != 1 {
-        return;
-    }
-    for k in numbers {
-        if is_set(may, *k as usize) {
-            set(needed, *k as usize);
+        if let Some(guide) = guide {
+            put(&mut needs.may, n, guide.may(problem, n as u32));
+            put(&mut needs.needed, n, guide.needs(problem, n as u32));
+        }
+        if is_set(&needs.may, n) {
+            let node = forms.node(n as u32);
+            let done = is_done(problem, margins, rows, state, &needs.done, node);
+            put(&mut needs.done, n, done);
         }
     }
-}
-
-fn set_all(needed: &mut [bool], numbers: &[u32]) {
-    for k in numbers {
-        set(needed, *k as usize);
-    }
-}
-
-// The nodes without which the form can't hold.
-fn downwards(
-    alloc: Global,
-    problem: &Problem,
-    may: &[bool],
-) -> Result<Vec<bool, Global>, AllocError> {
-    let forms = problem.forms();
-    let mut needed = vec![in alloc; false; forms.len()]?;
-    set(&mut needed, problem.root() as usize);
-    for n in (0..forms.len()).rev() {
-        if is_set(&needed, n) {
-            match forms.node(n as u32) {
-                FormNode::And(children) => set_all(&mut needed, children),
-                FormNode::Or(children) => set_only(&mut needed, may, children),
-                _ => {}
-            }
-        }
-    }
-    Ok(needed)
+    Ok(needs)
 }

@@ -81,7 +81,7 @@ fn void_at(problem: &Problem, by: &Option<Emptied>, patch: &mut Patch) -> Result
             }
         }
         Some(Emptied::Combination(multipliers)) => attempt::void_combine(patch, multipliers),
-        None => Ok(false),
+        Some(Emptied::Form) | None => Ok(false),
     }
 }
 

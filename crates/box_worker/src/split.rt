@@ -6,8 +6,9 @@ ghost use Rattle.box_worker.specs.Ended.{is_left};
 
 use crate::attempt;
 use crate::choice::{Choice, choose, is_open};
-use crate::contraction::see;
+use crate::contraction::{scout_at, see};
 use crate::needs::Needs;
+use crate::room::Room;
 use cover_rule::{Margins, Patch};
 use poly_graph::Problem;
 use std::alloc::{AllocError, Global};
@@ -60,6 +61,7 @@ fn part_by_form(
 /// needed disjunction.
 pub fn split(
     alloc: Global,
+    room: &mut Room,
     problem: &Problem,
     margins: &Margins,
     patch: &mut Patch,
@@ -73,7 +75,9 @@ pub fn split(
     if !is_open(patch.reached()) {
         return attempt::cut(patch);
     }
-    let needs = see(alloc, problem, margins, patch)?;
+    let mut scout = scout_at(alloc, problem, room.scout.take(), patch)?;
+    let needs = see(alloc, problem, margins, &mut scout, patch)?;
+    room.scout = Some(scout);
     if part_by_form(alloc, problem, &needs, 2, patch)? {
         return Ok(true);
     }

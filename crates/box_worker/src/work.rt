@@ -124,7 +124,7 @@ fn finish(
     if let Some(found) = found_point(alloc, room, problem, margins, patch)? {
         return Ok(Ended::Found(found));
     }
-    if split(alloc, problem, margins, patch)? {
+    if split(alloc, room, problem, margins, patch)? {
         return Ok(Ended::Parted);
     }
     if let Some(point) = middle_point(alloc, problem, margins, patch)? {

@@ -171,6 +171,8 @@ fn assumed_against_what_was_derived(rt: HostRuntime) -> Result<(), Fail> {
     assert_eq!(rt; forced, 0b10011);
     assert_eq!(rt; last, Prop::Rest);
     assert!(rt; trail.pick().is_some());
+    assert!(rt; trail.is_undecided(Variable::Atom(2)));
+    assert!(rt; !trail.is_undecided(Variable::Atom(4)));
     assume(&cnf, &mut trail, Variable::Atom(4), false);
     let (_, last) = run(&cnf, &mut trail)?;
     assert_eq!(rt; last, Prop::Conflict);

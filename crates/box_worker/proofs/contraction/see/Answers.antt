@@ -6,8 +6,8 @@ use Rattle.ival.specs.RowViews.{rows_of}
 use Rattle.cover_rule.proofs.Axes.{has_rows}
 use Rattle.box_worker.proofs.contraction.see.Goals as goal
 
-pub look-requires-clause-rows : goal.look-requires-clause-rows
-look-requires-clause-rows c =
+pub needs_at-requires-clause-rows : goal.needs_at-requires-clause-rows
+needs_at-requires-clause-rows c =
     let p = c.args.problem.now in let S = c.reached.result.now.space in
     has_rows p c.axes.ensures.whole S (rows_of c.rows.result.now)
     (c.rows.ensures ∙ ap (λ (q : Parts). enclosures c.args.patch.now.kept.reached.space q.nodes) c.requires.problem ∙ ap (λ (T : State). enclosures T.space p.nodes) (sym c.reached.ensures.state))
