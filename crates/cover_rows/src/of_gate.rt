@@ -154,8 +154,10 @@ fn ends_before_next(calls: &[Said], worker: u32) -> bool {
 }
 
 // After how many calls the work on a node begins.
-fn begin_of(calls: &[Said], node: u32) -> Option<usize> {
-    calls.iter().position(|call| call.node == node && !call.ends)
+fn begin_of(calls: &[Said], node: usize) -> Option<usize> {
+    calls
+        .iter()
+        .position(|call| call.node as usize == node && !call.ends)
 }
 
 // Whether both parts of each box of the book begin after the box.
@@ -163,9 +165,9 @@ fn parts_come_later(book: &Book, calls: &[Said]) -> bool {
     let nodes = book.nodes();
     for node in 0..nodes.len() {
         if let Node::Parted(_, lower) = &nodes[node] {
-            let whole = begin_of(calls, node as u32);
-            let upper = lower.saturating_add(1);
-            if begin_of(calls, *lower) <= whole || begin_of(calls, upper) <= whole {
+            let whole = begin_of(calls, node);
+            let lower = *lower as usize;
+            if begin_of(calls, lower) <= whole || begin_of(calls, lower + 1) <= whole {
                 return false;
             }
         }
@@ -177,13 +179,17 @@ fn parts_come_later(book: &Book, calls: &[Said]) -> bool {
 fn each_once(book: &Book, calls: &[Said]) -> bool {
     let count = book.nodes().len();
     for node in 0..count {
-        let begins = calls.iter().filter(|call| call.node as usize == node && !call.ends);
-        let ends = calls.iter().filter(|call| call.node as usize == node && call.ends);
+        let begins = calls
+            .iter()
+            .filter(|call| call.node as usize == node && !call.ends);
+        let ends = calls
+            .iter()
+            .filter(|call| call.node as usize == node && call.ends);
         if begins.count() != 1 || ends.count() != 1 {
             return false;
         }
     }
-    calls.len() == 2 * count
+    calls.len() / 2 == count && calls.len() % 2 == 0
 }
 
 #[test]
