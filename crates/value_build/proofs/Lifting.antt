@@ -125,17 +125,17 @@ behind_below m m' ds ds' k b h = omega (arith, h, more_nodes m m' b.stand.trees)
 -- ---- what is made of both arms
 
 -- arms of which neither is a fault
-arms-are : (m : Made) (ds : List Drawn) (c d : Form Comparison) (a b : Unfolded) (x y : Arm) → IsArm m ds a x → IsArm m ds b y → arms c d a b ≡ either c d a b
-arms-are m ds c d _ _ _ _ (is_tree h) (is_tree k) = refl
-arms-are m ds c d _ _ _ _ (is_tree h) (is_choice e w i j) = refl
-arms-are m ds c d _ _ _ _ (is_choice e w i j) (is_tree h) = refl
-arms-are m ds c d _ _ _ _ (is_choice e w i j) (is_choice e' w' i' j') = refl
+pub arms_are : (m : Made) (ds : List Drawn) (c d : Form Comparison) (a b : Unfolded) (x y : Arm) → IsArm m ds a x → IsArm m ds b y → arms c d a b ≡ either c d a b
+arms_are m ds c d _ _ _ _ (is_tree h) (is_tree k) = refl
+arms_are m ds c d _ _ _ _ (is_tree h) (is_choice e w i j) = refl
+arms_are m ds c d _ _ _ _ (is_choice e w i j) (is_tree h) = refl
+arms_are m ds c d _ _ _ _ (is_choice e w i j) (is_choice e' w' i' j') = refl
 
 at-end : (ds : List Drawn) (d : Drawn) → slice_get (ds ++ (d ∷ [])) (length ds) ≡ Some d
 at-end [] d = refl
 at-end (x ∷ ds) d = at-end ds d
 
-added : (m : Made) (ds ds' : List Drawn) (c d : Form Comparison) (a b : Unfolded) (p : Pair) (x y z : Arm) → AddsChoice ds ds' p x y (Ok z) → IsSketch m ds → Draws (stand_of m).trees ds (formula c d) p →
+pub added : (m : Made) (ds ds' : List Drawn) (c d : Form Comparison) (a b : Unfolded) (p : Pair) (x y z : Arm) → AddsChoice ds ds' p x y (Ok z) → IsSketch m ds → Draws (stand_of m).trees ds (formula c d) p →
     IsArm m ds a x → IsArm m ds b y → IsLifted m ds ds' (either c d a b) z
 added m ds ds' c d a b p x y (arm.Choice k) h s w i j =
     let g : Grown ds ds' = record { more = choice_drawn p x y ∷ []; is = h.0 } in record {
@@ -181,7 +181,7 @@ module _ (f : Term → Unfolded) (g : Term → List Event) (m m1 : Made) (ds : L
       let l = added m3 ds3 ds4 t.c t.d (lift_tree f t.a) (lift_tree f t.b) p x' y' z a j.1.sketch (draws-behind m m3 ds ds3 (formula t.c t.d) p whole grown3 t.drawn) first j.1.arm in
       subst (λ (w : Unfolded). Lifted m ds m3 ds4 w (Ok z)) (sym t.is)
       (joined (IsLifted m2 ds ds2 (lift_tree f t.a)) (IsLifted m3 ds2 ds3 (lift_tree f t.b)) (IsLifted m3 ds ds4 (lift_tree f (either t.c t.d t.a t.b))) m m1 m2 m3 (lift_events g t.a) (lift_events g t.b) x' y' z h i j
-      (subst (λ (w : Unfolded). IsLifted m3 ds ds4 w z) (sym (arms-are m3 ds3 t.c t.d (lift_tree f t.a) (lift_tree f t.b) x' y' first j.1.arm))
+      (subst (λ (w : Unfolded). IsLifted m3 ds ds4 w z) (sym (arms_are m3 ds3 t.c t.d (lift_tree f t.a) (lift_tree f t.b) x' y' first j.1.arm))
       (record { grown = grown_both ds ds3 ds4 grown3 l.grown; sketch = l.sketch; arm = l.arm })))
 
   pub say_stopped : (ds' : List Drawn) (e : Stop) → Reaches m m1 (Err e) → Said m ds m1 ds' u (Err e)
