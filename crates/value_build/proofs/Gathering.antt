@@ -5,14 +5,13 @@ use Rattle.std.specs.declared.alloc.AllocError.{AllocError}
 use Rattle.script_model.specs.Sexp.{Place}
 use Rattle.poly_graph.specs.Term.{Term, Kind, le, ge, eq}
 use Rattle.poly_graph.specs.Form.{Form}
-use Rattle.script_forms.specs.Terms.{Comparison, Unfolded, term, formula, arms, either, step}
+use Rattle.script_forms.specs.Terms.{Comparison, Unfolded, term, formula, arms, step}
 use Rattle.script_forms.specs.Unfolded.{choice_form, compare_two}
 use Rattle.script_forms.specs.Work.{step_events, compare_events}
 use Rattle.term_build.specs.Built.{Made, stand_of}
-use Rattle.term_build.specs.Does.{IsTree}
 use Rattle.term_build.specs.Sketch.{Drawn, IsSketch}
 use Rattle.term_build.specs.Pairs.{AddsChoice, ComparesTwo, compared, ConnectsChoice, Draws, DrawsEach, Grown}
-use Rattle.term_build.specs.Steps.{IsTreeOf, tree_of}
+use Rattle.term_build.specs.Steps.{tree_of}
 use Rattle.term_build.specs.declared.connectives.Pair.{Pair}
 use Rattle.term_build.specs.declared.sketch.Arm.{Arm}
 use Rattle.term_build.specs.declared.sketch.Arm.TheVariants as arm
@@ -20,9 +19,9 @@ use Rattle.poly_graph.proofs.Graphs.{length_terms}
 use Rattle.term_build.proofs.Emits.{tree_below, tree_is}
 use Rattle.term_build.proofs.Pairs.{grown_self, grown_both, pair_more}
 use Rattle.term_build.proofs.Settled.{extends_self}
-use Rattle.value_build.specs.Arms.{AreArms, IsLifted, IsSaid, IsSomeArm, Lifts, Says, terms_of, tree_of_leaf}
+use Rattle.value_build.specs.Arms.{AreArms, IsSaid, IsSomeArm, Lifts, Says, terms_of, tree_of_leaf}
 use Rattle.value_build.specs.Values.{IsArm, is_tree}
-use Rattle.value_build.specs.Meetings.{CanGatherArms, CanGatherPairs, CanJoinArms, CanJoinPairs, GathersArms, GathersPairs, HasArms, HasPairs, JoinsArms, JoinsPairs, Reads, Spread, choice_of, events_at}
+use Rattle.value_build.specs.Meetings.{CanGatherArms, CanGatherPairs, CanJoinArms, CanJoinPairs, GathersArms, GathersPairs, HasArms, HasPairs, JoinsArms, JoinsPairs, Reads, Spread, events_at}
 use Rattle.value_build.specs.declared.lift.Leaf.{Leaf}
 use Rattle.value_build.specs.declared.lift.Entry.{Entry}
 use Rattle.value_build.specs.declared.lift.Entry.TheVariants as entry
@@ -80,8 +79,7 @@ chosen m ds ds' p os made left x y z h e a =
     let tails : y ∷ left ≡ t.y ∷ t.left = rest-of x t.x (y ∷ left) (t.y ∷ t.left) same in
     let other : IsArm m ds t.b y = subst (λ (w : Arm). IsArm m ds t.b w) (sym (first-of y t.y left t.left tails)) t.other in
     let l = added m ds ds' t.c t.d t.a t.b p x y z a h.sketch t.drawn one other in
-    let rest : AreArms m ds t.more left = subst (λ (ws : List Arm). AreArms m ds t.more ws) (sym (rest-of y t.y left t.left tails)) t.rest in
-    (
+    let rest : AreArms m ds t.more left = subst (λ (ws : List Arm). AreArms m ds t.more ws) (sym (rest-of y t.y left t.left tails)) t.rest in (
       l.grown,
       l.sketch,
       subst (λ (ws : List Unfolded). AreArms m ds' ws (z ∷ left)) (sym (t.outcome ∙ ap (λ (w : Unfolded). w ∷ t.more) (arms_are m ds t.c t.d t.a t.b x y one other))) (l.arm, arms-stay m ds ds' t.more left l.grown rest),
@@ -95,12 +93,11 @@ chosen m ds ds' p os made left x y z h e a =
 
 pub made_there : (m : Made) (ds : List Drawn) (k : ℕ) (os : List Unfolded) (made : List Arm) → HasArms m ds (entry.Made k ∷ []) os made → Grown ds ds × IsSketch m ds × AreArms m ds os (arm.Tree k ∷ made)
 made_there m ds k os made h =
-    let r = h.reads in
-    (
+    let r = h.reads in (
       grown_self ds,
       h.sketch,
       subst (λ (ws : List Unfolded). AreArms m ds ws (arm.Tree k ∷ made)) (sym r.2)
-      (subst (λ (o : Unfolded). IsArm m ds o (arm.Tree k)) (sym r.3.1) (is_tree r.3.2), subst (λ (l : List Unfolded). AreArms m ds l made) (sym r.4) h.arms),
+          (subst (λ (o : Unfolded). IsArm m ds o (arm.Tree k)) (sym r.3.1) (is_tree r.3.2), subst (λ (l : List Unfolded). AreArms m ds l made) (sym r.4) h.arms),
     )
 
 pub no_trees : (m : Made) (ds : List Drawn) (i j : ℕ) (os : List Unfolded) (made : List Arm) → HasArms m ds (entry.Trees i j ∷ []) os made → ⊥
@@ -200,8 +197,7 @@ module _ (kind : Kind) (at : Place) where
       let one : Draws (stand_of m).trees ds t.a x = subst (λ (p : Pair). Draws (stand_of m).trees ds t.a p) (sym (first-of x t.x (y ∷ left) (t.y ∷ t.left) same)) t.one in
       let other : Draws (stand_of m).trees ds t.b y = subst (λ (p : Pair). Draws (stand_of m).trees ds t.b p) (sym (first-of y t.y left t.left tails)) t.other in
       let rest : DrawsEach (stand_of m).trees ds t.more left = subst (λ (ps : List Pair). DrawsEach (stand_of m).trees ds t.more ps) (sym (rest-of y t.y left t.left tails)) t.rest in
-      let l = w m (stand_of m).trees (formula t.c t.d) t.a t.b h.sketch t.drawn one other in
-      (
+      let l = w m (stand_of m).trees (formula t.c t.d) t.a t.b h.sketch t.drawn one other in (
         l.grown,
         l.sketch,
         subst (λ (ws : List Unfolded). DrawsEach (stand_of m).trees ds' ws (z ∷ left)) (sym t.outcome) (l.drawn, pairs-stay m ds ds' t.more left l.grown rest),
@@ -220,9 +216,8 @@ module _ (kind : Kind) (at : Place) where
       let n = length_terms m.nodes in
       let l = w m (stand_of m).trees h.sketch (omega (arith, tree_below m r.3.0 i r.3.2, n)) (omega (arith, tree_below m r.3.1 j r.3.3, n)) (omega (arith, n)) in
       let drawn : Draws (stand_of m).trees ds' r.0 z = subst (λ (o : Unfolded). Draws (stand_of m).trees ds' o z) (sym r.3.4)
-          (subst (λ (t : Term). Draws (stand_of m).trees ds' (terms_of kind at t r.3.1) z) (tree_is m r.3.0 i r.3.2)
-          (subst (λ (t : Term). Draws (stand_of m).trees ds' (terms_of kind at (tree_of m i) t) z) (tree_is m r.3.1 j r.3.3) (by-kind kind at (tree_of m i) (tree_of m j) z l.drawn))) in
-      (
+      (subst (λ (t : Term). Draws (stand_of m).trees ds' (terms_of kind at t r.3.1) z) (tree_is m r.3.0 i r.3.2)
+      (subst (λ (t : Term). Draws (stand_of m).trees ds' (terms_of kind at (tree_of m i) t) z) (tree_is m r.3.1 j r.3.3) (by-kind kind at (tree_of m i) (tree_of m j) z l.drawn))) in (
         l.grown,
         l.sketch,
         subst (λ (ws : List Unfolded). DrawsEach (stand_of m).trees ds' ws (z ∷ said)) (sym r.2) (drawn, pairs-stay m ds ds' r.1 said l.grown (subst (λ (ws : List Unfolded). DrawsEach (stand_of m).trees ds ws said) (sym r.4) h.pairs)),

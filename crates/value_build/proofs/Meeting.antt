@@ -1,6 +1,6 @@
 -- Two arms that meet, and what is left behind them.
 use Rattle.std.proofs.Common.{◌≡◌, ℕ, suc, ◌+◌, ◌*◌, ◌-◌, ◌<◌, ◌≤◌, List, [], ◌∷◌, ◌++◌, length, Bool, true, false, cond, Option, Some, None, refl, ap, sym, ◌∙◌, subst, arith, append_assoc, nat_lt}
-use Rattle.std.specs.Prelude.{slice_get, Result, Ok, Err}
+use Rattle.std.specs.Prelude.{slice_get, Ok, Err}
 use Rattle.std.proofs.lemmas.Bool.{ltb-true}
 use Rattle.script_model.specs.Sexp.{Place}
 use Rattle.poly_graph.specs.Term.{Term}
@@ -10,29 +10,27 @@ use Rattle.script_forms.specs.Terms.{Comparison, Unfolded, term, formula, either
 use Rattle.script_forms.specs.Work.{Event, reached, made, asked, formed, met, step_events}
 use Rattle.script_forms.specs.Walk.{Stand, Walked, stands, stops, BuildingFault, too_large, too_many_nodes, too_many_atoms, too_many_forms, if_room, has_tree, with_tree, with_atom, has_form, with_form, larger, after_event, goes_on, after_events, most_size, most_trees, most_atoms, most_forms, form_size, all_sizes, nowhere}
 use Rattle.term_build.specs.Built.{Made, stand_of}
-use Rattle.term_build.specs.Does.{Does, IsTree, StopsAs}
+use Rattle.term_build.specs.Does.{StopsAs}
 use Rattle.term_build.specs.Settled.{Extends}
-use Rattle.term_build.specs.Sketch.{Drawn, choice_drawn, as_choice, IsSketch}
-use Rattle.term_build.specs.Pairs.{Grown, Draws}
+use Rattle.term_build.specs.Sketch.{Drawn, as_choice}
+use Rattle.term_build.specs.Pairs.{Draws}
 use Rattle.term_build.specs.Steps.{Emits, IsTreeOf, tree_of}
 use Rattle.term_build.specs.declared.connectives.Pair.{Pair}
 use Rattle.term_build.specs.declared.sketch.Arm.{Arm}
 use Rattle.term_build.specs.declared.sketch.Arm.TheVariants as arm
 use Rattle.term_build.specs.declared.stop.Stop.{Stop}
-use Rattle.term_build.proofs.Emits.{emits_then, emits_stop, tree_is, tree_below}
-use Rattle.term_build.proofs.Pairs.{grown_self, pair_more}
-use Rattle.term_build.proofs.Settled.{extends_self}
+use Rattle.term_build.proofs.Emits.{emits_stop, tree_is, tree_below}
+use Rattle.term_build.proofs.Pairs.{grown_self}
 use Rattle.value_build.specs.Arms.{IsSomeArm, events_of_leaf, tree_of_leaf}
 use Rattle.value_build.specs.Values.{IsArm, is_tree, is_choice}
-use Rattle.value_build.specs.Meetings.{AreMet, IsRead, Looked, Looks, Reads, choice_of, events_at, events_met, outcome_of, outcomes_met, turns_left}
+use Rattle.value_build.specs.Meetings.{AreMet, Looked, choice_of, events_at, events_met, outcome_of, outcomes_met, turns_left}
 use Rattle.value_build.specs.declared.lift.Leaf.{Leaf}
 use Rattle.value_build.specs.declared.lift.Meeting.{Meeting}
-use Rattle.value_build.specs.declared.lift.Entry.{Entry}
 use Rattle.value_build.specs.declared.lift.Entry.TheVariants as entry
 use Rattle.value_build.proofs.Folds.{emits_grows}
 use Rattle.value_build.proofs.Growth.{pair_trees, arm_stays}
 use Rattle.value_build.proofs.Leaf.{reach_emits}
-use Rattle.value_build.proofs.Lifting.{ChoiceParts, parts, tree_parts}
+use Rattle.value_build.proofs.Lifting.{parts, tree_parts}
 
 -- ---- how many expressions are reached
 

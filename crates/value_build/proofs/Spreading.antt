@@ -1,25 +1,21 @@
 -- Meetings are looked at one after the other.
-use Rattle.std.proofs.Common.{◌≡◌, ℕ, List, [], ◌∷◌, ◌++◌, length, Option, Some, None, refl, ap, sym, ◌∙◌, subst, append_assoc, arith}
+use Rattle.std.proofs.Common.{◌≡◌, List, [], ◌∷◌, ◌++◌, length, Option, Some, None, refl, ap, sym, ◌∙◌, subst, append_assoc, arith}
 use Rattle.std.proofs.lemmas.List.{append-nil}
-use Rattle.std.specs.Prelude.{Result, Ok, Err}
+use Rattle.std.specs.Prelude.{Ok, Err}
 use Rattle.script_model.specs.Sexp.{Place}
 use Rattle.poly_graph.specs.Term.{Term}
-use Rattle.poly_graph.specs.Form.{Form}
-use Rattle.script_forms.specs.Terms.{Comparison, Unfolded, term, formula}
+use Rattle.script_forms.specs.Terms.{Unfolded, formula}
 use Rattle.script_forms.specs.Work.{Event, step_events}
 use Rattle.term_build.specs.Built.{Made, stand_of}
-use Rattle.term_build.specs.Does.{IsTree}
 use Rattle.term_build.specs.Settled.{Extends}
 use Rattle.term_build.specs.Sketch.{Drawn, IsSketch}
-use Rattle.term_build.specs.Pairs.{Draws}
-use Rattle.term_build.specs.Steps.{Emits, IsTreeOf}
-use Rattle.term_build.specs.declared.connectives.Pair.{Pair}
+use Rattle.term_build.specs.Steps.{Emits}
 use Rattle.term_build.specs.declared.sketch.Arm.{Arm}
 use Rattle.term_build.specs.declared.stop.Stop.{Stop}
 use Rattle.term_build.proofs.Emits.{emits_then, tree_stays, more_nodes}
 use Rattle.value_build.specs.Arms.{IsSomeArm}
 use Rattle.value_build.specs.Values.{IsArm}
-use Rattle.value_build.specs.Meetings.{AreMet, AreSomeMet, IsRead, Looked, Looks, Reads, Spread, Spreads, Spreading, IsSpreading, choice_of, events_at, events_met, outcome_of, outcomes_met}
+use Rattle.value_build.specs.Meetings.{AreMet, AreSomeMet, IsRead, Looked, Looks, Reads, Spread, Spreads, Spreading, IsSpreading, events_at, events_met, outcome_of, outcomes_met}
 use Rattle.value_build.specs.declared.lift.Leaf.{Leaf}
 use Rattle.value_build.specs.declared.lift.Meeting.{Meeting}
 use Rattle.value_build.specs.declared.lift.Entry.{Entry}

@@ -1,23 +1,17 @@
-use Rattle.std.proofs.Common.{◌≡◌, ℕ, List, map, ap, sym, subst, Some, None}
-use Rattle.std.specs.Prelude.{Result, Ok, Err}
-use Rattle.poly_graph.specs.Term.{Term}
+use Rattle.std.proofs.Common.{List, map, ap, sym, subst, None}
+use Rattle.std.specs.Prelude.{Result, Err}
 use Rattle.poly_graph.specs.Views.{kind_of}
 use Rattle.smt_sexp.specs.Views.{place_of}
-use Rattle.script_forms.specs.Terms.{Unfolded, term}
+use Rattle.script_forms.specs.Terms.{Unfolded}
 use Rattle.term_build.specs.Shapes.{drawn_of}
 use Rattle.term_build.specs.Sketch.{Drawn, IsSketch}
-use Rattle.term_build.specs.Steps.{tree_of}
 use Rattle.term_build.specs.declared.connectives.Pair.{Pair}
-use Rattle.term_build.specs.declared.sketch.Arm.{Arm}
-use Rattle.term_build.specs.declared.sketch.Arm.TheVariants as arm
 use Rattle.term_build.specs.declared.stop.Stop.{Stop}
 use Rattle.term_build.proofs.Emits.{err_is}
-use Rattle.value_build.specs.Arms.{IsSomeArm, Lifts, LiftsOne, LiftsTwo, SaysTwo}
-use Rattle.value_build.specs.Meetings.{CanGatherArms, CanGatherPairs, Spread, Spreads}
+use Rattle.value_build.specs.Arms.{SaysTwo}
+use Rattle.value_build.specs.Meetings.{Spread, Spreads}
 use Rattle.value_build.specs.Values.{IsArm}
-use Rattle.value_build.specs.declared.lift.Leaf.{Leaf}
-use Rattle.value_build.specs.declared.lift.Leaf.TheVariants as leaf
-use Rattle.value_build.proofs.Gathering.{arms_lifted, can_gather_arms, can_gather_pairs, pairs_said, tree_there}
+use Rattle.value_build.proofs.Gathering.{can_gather_pairs, pairs_said}
 use Rattle.value_build.proofs.lift.compare_arms.Goals as goal
 
 pub returns-in_err-entries-clause-does : goal.returns-in_err-entries-clause-does

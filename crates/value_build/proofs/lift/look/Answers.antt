@@ -1,10 +1,9 @@
-use Rattle.std.proofs.Common.{◌≡◌, ◌∷◌, Some, None, map, ℕ, List, ◌∙◌, ap, sym, subst, refl}
-use Rattle.std.specs.Prelude.{Option, Result, Ok, Err}
+use Rattle.std.proofs.Common.{◌∷◌, map, List, ◌∙◌, ap, sym, subst, refl}
+use Rattle.std.specs.Prelude.{Option, Result, Err}
 use Rattle.smt_sexp.specs.Views.{place_of}
 use Rattle.term_build.specs.Shapes.{drawn_of}
 use Rattle.term_build.specs.Steps.{IsTreeOf, tree_of}
 use Rattle.term_build.specs.declared.sketch.Arm.{Arm}
-use Rattle.term_build.specs.declared.sketch.Arm.TheVariants as arm
 use Rattle.term_build.specs.declared.stop.Stop.{Stop}
 use Rattle.term_build.proofs.Emits.{err_is}
 use Rattle.value_build.specs.Arms.{IsSomeArm, events_of_leaf, tree_of_leaf}
@@ -89,7 +88,7 @@ returns-in_ok-apply_leaf-in-Some-clause-does c = λ ps h.
     c.in_ok-apply_leaf-in-Some.ensures.does)
 
 pub returns-in_ok-apply_leaf-in-Some-clause-turns : goal.returns-in_ok-apply_leaf-in-Some-clause-turns
-returns-in_ok-apply_leaf-in-Some-clause-turns c = 
+returns-in_ok-apply_leaf-in-Some-clause-turns c =
     let t = tree_of c.args.builder.now c.in-Tree-Tree.i in
     let u = tree_of c.args.builder.now c.in-Tree-Tree.j in
     turns_made (IsTreeOf c.apply_leaf.new.builder (tree_of_leaf c.in-Some.leaf (place_of c.args.at) t u)) c.args.builder.now c.apply_leaf.new.builder (events_of_leaf c.in-Some.leaf (place_of c.args.at) t u) c.in_ok-apply_leaf-in-Some.field-0 c.args.meeting c.args.left.now.items c.in_ok-apply_leaf-in-Some.ensures.does

@@ -1,5 +1,5 @@
-use Rattle.std.proofs.Common.{◌≡◌, [], ◌∷◌, Some, None, map, ℕ, List, ◌∙◌, ap, sym, subst, refl, arith}
-use Rattle.std.specs.Prelude.{Option, Result, Ok, Err, Vec}
+use Rattle.std.proofs.Common.{◌∷◌, map, List, ◌∙◌, ap, sym, subst, arith}
+use Rattle.std.specs.Prelude.{Result, Vec}
 use Rattle.std.specs.Global.{Global}
 use Rattle.smt_sexp.specs.Views.{place_of}
 use Rattle.term_build.specs.Shapes.{drawn_of}

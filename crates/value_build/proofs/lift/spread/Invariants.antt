@@ -1,4 +1,4 @@
-use Rattle.std.proofs.Common.{ℕ, map}
+use Rattle.std.proofs.Common.{map}
 use Rattle.smt_sexp.specs.Views.{place_of}
 use Rattle.term_build.specs.Shapes.{drawn_of}
 use Rattle.value_build.specs.Meetings.{IsSpreading, turns_left}
