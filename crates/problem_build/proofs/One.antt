@@ -1,5 +1,5 @@
 -- A script has one problem.
-use Rattle.std.proofs.Common.{◌≡◌, ℕ, suc, zero, ◌+◌, ◌*◌, ◌/◌, ◌<◌, ◌≤◌, ℤ, pos, ◌*ℤ◌, ◌≤ℤ◌, List, [], ◌∷◌, map, length, IsTrue, Option, Some, None, refl, ap, ap₂, sym, ◌∙◌, subst, arith, slice_index_or}
+use Rattle.std.proofs.Common.{◌≡◌, ℕ, suc, ◌+◌, ◌*◌, ◌/◌, ◌<◌, ℤ, pos, ◌*ℤ◌, ◌≤ℤ◌, List, [], ◌∷◌, map, length, IsTrue, Option, Some, None, refl, ap, ap₂, sym, ◌∙◌, subst, arith, slice_index_or}
 use Rattle.std.specs.Prelude.{All, slice_get, nat_abs}
 use Rattle.std.specs.Int.{IsGcd}
 use Rattle.std.proofs.lemmas.Int.{ints, unsigned_abs-mul}
@@ -18,7 +18,7 @@ use Rattle.dyadic.proofs.Ring.{atom, natural, times, same, read}
 use Rattle.script_model.specs.Script.{Command, Constant, constants_of}
 use Rattle.script_model.specs.Declared.{DeclaredInterval, declared_interval}
 use Rattle.script_model.proofs.Bounds.{IfFraction, ends_are_fractions}
-use Rattle.poly_graph.specs.Term.{Term, constant, Node, constant_node, node_term, graph_terms, comes_after, Kind, Atom}
+use Rattle.poly_graph.specs.Term.{Term, constant, Node, constant_node, node_term, graph_terms, Kind, Atom}
 use Rattle.poly_graph.specs.Form.{Form}
 use Rattle.poly_graph.specs.Problem.{Axis, Declared, real_between, any_bool, Problem, atom_at, full_atom, no_place, IsProblem}
 use Rattle.poly_graph.specs.ProblemViews.{axis_of, declared_of}
