@@ -1,4 +1,4 @@
-use script_fault::{FaultKind, Limit, MOST_BYTES, Name, Place, ReadError};
+use script_fault::{FaultKind, Limit, Name, Place, ReadError};
 use smt_sexp::*;
 use std::alloc::{AllocError, Global};
 use std::test::Fail;
@@ -11,7 +11,6 @@ enum Refused {
     Unbalanced(u32, u32),
     TooWide(u32, u32),
     TooDeep(u32, u32),
-    TooLong(u32, u32),
     Other,
 }
 
@@ -26,7 +25,6 @@ fn refusal_of(error: &ReadError) -> Refused {
         FaultKind::Unbalanced => Refused::Unbalanced(line, column),
         FaultKind::NumberTooWide => Refused::TooWide(line, column),
         FaultKind::TooMany(Limit::Depth) => Refused::TooDeep(line, column),
-        FaultKind::TooMany(Limit::Bytes) => Refused::TooLong(line, column),
         _ => Refused::Other,
     }
 }
@@ -107,14 +105,6 @@ fn counts_depth(rt: HostRuntime) -> Result<(), Fail> {
     assert_eq!(rt; places(alloc, &deepest), unbalanced(1, 256));
     let deeper = vec![in alloc; b'('; 257]?;
     assert_eq!(rt; places(alloc, &deeper), Err(Refused::TooDeep(1, 257)));
-    Ok(())
-}
-
-#[test]
-fn counts_bytes(rt: HostRuntime) -> Result<(), Fail> {
-    let alloc = rt.alloc();
-    let longer = vec![in alloc; b'('; MOST_BYTES + 1]?;
-    assert_eq!(rt; places(alloc, &longer), Err(Refused::TooLong(0, 0)));
     Ok(())
 }
 
