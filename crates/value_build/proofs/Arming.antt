@@ -1,20 +1,18 @@
 -- Values that hold an `ite`: one step after the other, and what each two say.
-use Rattle.std.proofs.Common.{◌≡◌, ℕ, ◌<◌, List, [], ◌∷◌, ◌++◌, map, length, Bool, true, false, ◌&&◌, cond, true≢false, refl, ap, ap₂, sym, ◌∙◌, subst, arith, append-nil, append_assoc}
+use Rattle.std.proofs.Common.{◌≡◌, ℕ, ◌<◌, List, [], ◌∷◌, ◌++◌, map, length, true, false, cond, refl, ap, sym, ◌∙◌, subst, arith, append-nil, append_assoc}
 use Rattle.std.specs.Prelude.{Result, Ok, Err}
-use Rattle.std.specs.declared.alloc.AllocError.{AllocError}
 use Rattle.script_model.specs.Sexp.{Place}
 use Rattle.script_model.specs.Declared.{Bound, Bounding, known, constant_of, bounds, other}
 use Rattle.smt_sexp.specs.Views.{place_of}
 use Rattle.script_fault.specs.declared.place.Place as code_place
 use Rattle.poly_graph.specs.Term.{Term, Kind, le, ge, eq}
-use Rattle.poly_graph.specs.Form.{Form}
-use Rattle.script_forms.specs.Terms.{Comparison, Unfolded, term, formula, refused, either, divisor_not_constant, hold_either, negate_tree, divide_tree, step, steps, all_steps}
-use Rattle.script_forms.specs.Unfolded.{unfolded_operation, not_of}
+use Rattle.script_forms.specs.Terms.{Unfolded, refused, divisor_not_constant, hold_either, divide_tree, step, steps, all_steps}
+use Rattle.script_forms.specs.Unfolded.{unfolded_operation}
 use Rattle.script_forms.specs.Work.{Event, met, divide_events, step_events, steps_events, all_events, compare_events, together, operation_events}
 use Rattle.term_build.specs.Built.{Made, stand_of}
 use Rattle.term_build.specs.Settled.{Extends}
-use Rattle.term_build.specs.Sketch.{Drawn, choice_drawn, IsSketch}
-use Rattle.term_build.specs.Pairs.{Grown, Draws, Negates, compared}
+use Rattle.term_build.specs.Sketch.{Drawn, IsSketch}
+use Rattle.term_build.specs.Pairs.{Grown, Negates, compared}
 use Rattle.term_build.specs.Steps.{Emits}
 use Rattle.term_build.specs.declared.connectives.Pair.{Pair}
 use Rattle.term_build.specs.declared.sketch.Arm.{Arm}
@@ -25,14 +23,13 @@ use Rattle.term_build.specs.declared.stop.Fault.TheVariants.{DivisorNotConstant}
 use Rattle.term_build.proofs.Emits.{emits_then, emits_stop, emits_more, emits_fault, tree_below, tree_is, more_nodes}
 use Rattle.term_build.proofs.Pairs.{grown_self, grown_both}
 use Rattle.declared_box.specs.Same.{SameBounds}
-use Rattle.declared_box.specs.Table.{list_at}
 use Rattle.value_build.specs.Arithmetic.{is_difference, operator_of_step, tree_of_step, events_of_step}
 use Rattle.value_build.specs.Arms.{arm_of, IsSomeArm, IsLifted, Lifts, LiftsOne, LiftsTwo, IsSaid, Says, SaysTwo, AreSomeValues, IsSomeValue, hold_choice, is_quotient, Folds, Calculates, arm_bounds, linked, link_bounds, Links, LinksWith, LinksEach}
 use Rattle.value_build.specs.Bounds.{AddsList, bounds_of_kind, chained_bounds}
 use Rattle.value_build.specs.Chains.{others_of, spread_over}
 use Rattle.value_build.specs.Making.{Making, making, Grows, Steps, MoreLists}
 use Rattle.value_build.specs.Operators.{are_arms}
-use Rattle.value_build.specs.Values.{IsArm, is_tree, is_choice, IsValue, AreValues, AreKnown, Lists, Weighs}
+use Rattle.value_build.specs.Values.{IsArm, is_tree, is_choice, IsValue, AreValues, AreKnown, Weighs}
 use Rattle.value_build.specs.declared.arithmetic.Step.{Step}
 use Rattle.value_build.specs.declared.arithmetic.Step.TheVariants.{Add, Subtract, Multiply, Divide}
 use Rattle.value_build.specs.declared.chains.Spread.{Spread}
@@ -41,7 +38,7 @@ use Rattle.value_build.specs.declared.lift.Leaf.TheVariants as leaf
 use Rattle.value_build.specs.declared.value.Value.{Value}
 use Rattle.value_build.specs.declared.value.Value.TheVariants as values
 use Rattle.value_build.proofs.Folds.{emits_grows}
-use Rattle.value_build.proofs.Growth.{lists_self, value_stays, values_stay, grows_self, grows_on, steps_then, steps_stop, steps_more}
+use Rattle.value_build.proofs.Growth.{lists_self, value_stays, values_stay, grows_self, steps_then, steps_stop, steps_more}
 use Rattle.value_build.proofs.Lifting.{tree_parts}
 use Rattle.value_build.proofs.Listing.{chained_same}
 use Rattle.value_build.specs.Weights.{weights, term_at}

@@ -1,16 +1,16 @@
 -- Operators at values that hold an `ite`.
-use Rattle.std.proofs.Common.{◌≡◌, ℕ, suc, ◌<◌, List, [], ◌∷◌, ◌++◌, map, length, Bool, true, false, ◌&&◌, ◌||◌, cond, true≢false, Option, Some, None, refl, ap, ap₂, sym, ◌∙◌, subst, arith, append-nil, nat_le, nat_eq}
+use Rattle.std.proofs.Common.{◌≡◌, ℕ, suc, List, [], ◌∷◌, ◌++◌, map, length, Bool, true, false, ◌&&◌, ◌||◌, cond, Some, None, refl, ap, sym, ◌∙◌, subst, arith, append-nil, nat_le, nat_eq}
 use Rattle.std.proofs.lemmas.Bool.{le-leb}
 use Rattle.std.specs.Prelude.{Result, Ok, Err, slice_get}
 use Rattle.script_model.specs.Sexp.{Place}
-use Rattle.script_model.specs.Reading.{Operator, equality, distinctness, choice, minus, plus, times, divide, at_most_op, below_op, at_least_op, above_op, conjunction}
+use Rattle.script_model.specs.Reading.{Operator, equality, distinctness, choice, minus, plus, times, divide, conjunction}
 use Rattle.script_model.specs.Declared.{Bound, Bounding, known, constant_of, bounds, other, bounds_in, concat, all_known, with_first, bounding_operation, alone, computed, equal_bounds, arm_bounding, choice_bounding}
 use Rattle.script_model.specs.Meaning.{neighbours, pairs}
-use Rattle.poly_graph.specs.Term.{Kind, le, ge, eq, Term, constant, variable, negate, add, multiply, square}
+use Rattle.poly_graph.specs.Term.{Kind, eq, Term, constant, variable, negate, add, multiply, square}
 use Rattle.poly_graph.specs.Form.{Form}
 use Rattle.script_forms.specs.Terms.{Comparison, Unfolded, term, formula, refused, either, hold_either}
 use Rattle.script_forms.specs.Unfolded.{unfolded_operation, chain, and_of, different, equal_two, differ_two, takes, are_terms, are_formulas, picks_terms, choice_tree, truth_of, negation_form}
-use Rattle.script_forms.specs.Work.{Event, compare_events, together, operation_events}
+use Rattle.script_forms.specs.Work.{compare_events, together, operation_events}
 use Rattle.term_build.specs.Built.{Made, stand_of}
 use Rattle.term_build.specs.Does.{StopsAs}
 use Rattle.script_forms.specs.Walk.{after_events}
@@ -20,16 +20,13 @@ use Rattle.term_build.specs.Pairs.{Grown, Draws, DrawsEach, compared}
 use Rattle.term_build.specs.declared.connectives.Pair.{Pair}
 use Rattle.term_build.specs.declared.sketch.Arm.TheVariants as arm
 use Rattle.term_build.specs.declared.stop.Stop.{Stop}
-use Rattle.term_build.specs.declared.stop.Stop.TheVariants as stop
-use Rattle.term_build.proofs.Pairs.{grown_self, pair_more, sketch_end}
+use Rattle.term_build.proofs.Pairs.{pair_more, sketch_end}
 use Rattle.term_build.proofs.Settled.{extends_self}
-use Rattle.declared_box.specs.Same.{SameBounds}
-use Rattle.declared_box.specs.Table.{list_at}
 use Rattle.value_build.specs.Arithmetic.{operator_of_step}
-use Rattle.value_build.specs.Arms.{arm_of, IsLifted, Lifts, AreSomeValues, hold_choice, Calculates, linked, link_bounds, LinksEach, Picks, PicksOf, only_of, joined, Joins, SaysAll, ArmsMake}
+use Rattle.value_build.specs.Arms.{arm_of, IsLifted, AreSomeValues, hold_choice, Calculates, linked, link_bounds, LinksEach, PicksOf, only_of, joined, Joins, SaysAll, ArmsMake}
 use Rattle.value_build.specs.Bounds.{bounds_of_kind}
 use Rattle.value_build.specs.Chains.{spread_over}
-use Rattle.value_build.specs.Making.{Making, making, Grows, Steps}
+use Rattle.value_build.specs.Making.{Making, making, Steps}
 use Rattle.value_build.specs.Operators.{are_arms, are_picked, are_real, are_bool, pair_number, list_number, BoolsDo, ArmsDo, ListsEach}
 use Rattle.value_build.specs.Values.{IsArm, is_tree, is_choice, IsValue, AreValues, Lists, Weighs}
 use Rattle.value_build.specs.declared.arithmetic.Step.{Step}
@@ -39,8 +36,8 @@ use Rattle.value_build.specs.declared.chains.Spread.TheVariants.{Next, Later}
 use Rattle.value_build.specs.declared.value.Value.{Value}
 use Rattle.value_build.specs.declared.value.Value.TheVariants as values
 use Rattle.value_build.proofs.Folds.{emits_grows}
-use Rattle.value_build.proofs.Growth.{lists_self, grows_self, arm_stays, steps_then, steps_stop, steps_more}
-use Rattle.value_build.proofs.Operating.{Facts, facts, bools_seen}
+use Rattle.value_build.proofs.Growth.{lists_self, grows_self, arm_stays, steps_then, steps_more}
+use Rattle.value_build.proofs.Operating.{facts, bools_seen}
 use Rattle.value_build.proofs.Spreads.{spread_next, spread_later}
 use Rattle.value_build.proofs.Arming.{hold_is, value_arm, arms_head, arms_tail}
 

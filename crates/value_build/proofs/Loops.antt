@@ -1,6 +1,6 @@
 -- Loops over values of which some hold an `ite`: their beginning, one step more, their end.
 use Rattle.std.proofs.Common.{◌≡◌, List, [], ◌∷◌, ◌++◌, true, refl, ◌∙◌}
-use Rattle.std.specs.Prelude.{Result, Ok, Err}
+use Rattle.std.specs.Prelude.{Ok, Err}
 use Rattle.script_model.specs.Sexp.{Place}
 use Rattle.script_model.specs.Declared.{Bound}
 use Rattle.poly_graph.specs.Term.{Kind}

@@ -1,6 +1,5 @@
 -- What operators make of values.
-use Rattle.std.proofs.Common.{◌≡◌, ℕ, suc, zero, ◌<◌, ◌≤◌, List, [], ◌∷◌, map, length, Bool, true, false, ◌&&◌, ◌||◌, cond, true≢false, None, refl, ap, ap₂, sym, ◌∙◌, subst, arith, nat_le, nat_eq, eqb→eq}
-use Rattle.std.specs.Bool.{passes}
+use Rattle.std.proofs.Common.{◌≡◌, ℕ, suc, zero, ◌<◌, ◌≤◌, List, [], ◌∷◌, map, length, Bool, true, false, ◌&&◌, ◌||◌, cond, true≢false, None, refl, ap, ap₂, sym, ◌∙◌, subst, arith, nat_le, nat_eq}
 use Rattle.std.specs.Prelude.{Result, Ok, Err, IsErr}
 use Rattle.std.specs.List.{All}
 use Rattle.std.specs.declared.alloc.AllocError.{AllocError}

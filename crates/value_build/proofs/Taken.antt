@@ -1,5 +1,5 @@
 -- Which arguments an operator takes, by their sort, and what their links are.
-use Rattle.std.proofs.Common.{◌≡◌, ℕ, suc, ◌<◌, ◌≤◌, List, [], ◌∷◌, ◌++◌, map, length, Bool, true, false, ◌&&◌, ◌||◌, cond, true≢false, refl, ap, sym, ◌∙◌, subst, arith, nat_le, nat_eq, eqb→eq}
+use Rattle.std.proofs.Common.{◌≡◌, ℕ, suc, ◌<◌, List, [], ◌∷◌, ◌++◌, map, length, Bool, true, false, ◌&&◌, ◌||◌, cond, true≢false, refl, ap, sym, ◌∙◌, subst, arith, nat_le, nat_eq, eqb→eq}
 use Rattle.std.specs.Bool.{passes}
 use Rattle.std.proofs.lemmas.Bool.{leb-true, le-leb}
 use Rattle.std.proofs.lemmas.List.{length-map}
@@ -16,12 +16,10 @@ use Rattle.sort_check.specs.declared.operators.Operator as code_operator
 use Rattle.sort_check.specs.declared.operators.Operator.TheVariants as op
 use Rattle.term_build.specs.Built.{Made}
 use Rattle.term_build.specs.Sketch.{Drawn}
-use Rattle.term_build.specs.Pairs.{compared}
-use Rattle.term_build.specs.Steps.{tree_of}
 use Rattle.term_build.specs.declared.sketch.Arm.TheVariants as arm
 use Rattle.term_build.proofs.Emits.{tree_below}
 use Rattle.value_build.specs.Arithmetic.{operator_of_step, tree_of_step}
-use Rattle.value_build.specs.Arms.{arm_of, terms_of, linked, link_bounds, LinksEach, Calculates, AreSomeValues, hold_choice}
+use Rattle.value_build.specs.Arms.{terms_of, linked, link_bounds, LinksEach, Calculates, AreSomeValues, hold_choice}
 use Rattle.value_build.specs.Chains.{others_of, spread_over}
 use Rattle.value_build.specs.Making.{making}
 use Rattle.value_build.specs.Operators.{are_arms, are_bool, are_real, are_picked, takes_of, node_number, pair_number}
@@ -34,7 +32,7 @@ use Rattle.value_build.specs.declared.value.Value.{Value}
 use Rattle.value_build.specs.declared.value.Value.TheVariants as values
 use Rattle.value_build.proofs.Arming.{hold_is, relist_all}
 use Rattle.value_build.proofs.Lifting.{tree_parts, compared_is}
-use Rattle.value_build.proofs.Operating.{Facts, facts}
+use Rattle.value_build.proofs.Operating.{facts}
 
 -- ---- what operators take
 

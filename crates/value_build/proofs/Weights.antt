@@ -6,7 +6,7 @@ use Rattle.dyadic.specs.Fraction.{Fraction, IsFraction, zero_fraction, negated, 
 use Rattle.dyadic.specs.Lowest.{reduced, sum_fits, product_fits}
 use Rattle.dyadic.proofs.Equal.{◌≈◌, at_most_same, at_least_same, total, holds_le}
 use Rattle.script_model.specs.Sexp.{Place}
-use Rattle.script_model.specs.Reading.{Operator, minus, plus, times, divide}
+use Rattle.script_model.specs.Reading.{Operator, minus, plus, times}
 use Rattle.script_model.specs.Meaning.{Value, real, bool, either as either_value, fraction_of, from_left, first_and_rest, step_values, subtract_values, operation}
 use Rattle.script_model.specs.Declared.{Bounding, known, constant_of, other, bounds, with_first, all_known, computed, alone, bounding_operation}
 use Rattle.script_model.proofs.Related.{Each}

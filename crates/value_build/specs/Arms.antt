@@ -10,7 +10,7 @@ use Rattle.script_forms.specs.Work.{Event, made, lift_events, step_events, steps
 use Rattle.term_build.specs.Built.{Made, stand_of}
 use Rattle.term_build.specs.Sketch.{Drawn, choice_drawn, IsSketch}
 use Rattle.term_build.specs.Pairs.{Grown, Draws, compared}
-use Rattle.term_build.specs.Steps.{Emits, IsTreeOf}
+use Rattle.term_build.specs.Steps.{Emits}
 use Rattle.term_build.specs.declared.connectives.Pair.{Pair}
 use Rattle.term_build.specs.declared.sketch.Arm.{Arm}
 use Rattle.term_build.specs.declared.sketch.Arm.TheVariants as arm
@@ -22,7 +22,7 @@ use Rattle.value_build.specs.Weights.{weights}
 use Rattle.value_build.specs.Chains.{spread_over}
 use Rattle.value_build.specs.declared.chains.Spread.{Spread}
 use Rattle.value_build.specs.declared.chains.Spread.TheVariants.{Next, Later}
-use Rattle.value_build.specs.Making.{Making, making, Steps}
+use Rattle.value_build.specs.Making.{making, Steps}
 use Rattle.value_build.specs.Values.{IsArm, IsValue, AreValues}
 use Rattle.value_build.specs.declared.arithmetic.Step.{Step}
 use Rattle.value_build.specs.declared.arithmetic.Step.TheVariants.{Divide}
@@ -62,11 +62,6 @@ tree_of_leaf (leaf.Of s) at t u = tree_of_step s at t u
 abbrev pub events_of_leaf : Leaf → Place → Term → Term → List Event
 events_of_leaf leaf.Opposite at t u = made (negate_tree u) ∷ []
 events_of_leaf (leaf.Of s) at t u = events_of_step s at t u
-
--- the arm is the tree that this unfolded to
-abbrev pub IsTreeArm : Made → Unfolded → Arm → Type 0
-IsTreeArm m u (arm.Tree k) = IsTreeOf m u k
-IsTreeArm m u (arm.Choice k) = ⊥
 
 -- the sketch has grown and is one still, and the arm stands for this
 pub record IsLifted (m : Made) (ds ds' : List Drawn) (u : Unfolded) (x : Arm) : Type 0 where

@@ -1,16 +1,10 @@
-use Rattle.std.proofs.Common.{map, ◌≡◌, sym, subst, ap, ◌∙◌, arith, ◌<◌, ℕ, length, List, [], ◌∷◌, true, false, true≢false, Some, eqb→eq}
+use Rattle.std.proofs.Common.{map, sym, subst, ◌∙◌, List, true≢false, eqb→eq}
 use Rattle.std.specs.Bool.{passes}
-use Rattle.std.specs.Prelude.{Result, Ok, Err}
 use Rattle.smt_sexp.specs.Views.{place_of}
-use Rattle.poly_graph.specs.Views.{kind_of}
-use Rattle.term_build.specs.Built.{stand_of}
 use Rattle.term_build.specs.Shapes.{drawn_of}
 use Rattle.term_build.specs.Steps.{tree_of}
 use Rattle.term_build.specs.declared.sketch.Arm.{Arm}
-use Rattle.term_build.specs.declared.stop.Stop.{Stop}
-use Rattle.term_build.proofs.Emits.{err_is}
-use Rattle.value_build.specs.Arms.{arm_of, IsSomeArm, LiftsOne, LiftsTwo, Folds, Calculates, AreSomeValues, Links, LinksWith, LinksEach}
-use Rattle.value_build.specs.Operators.{are_arms}
+use Rattle.value_build.specs.Arms.{arm_of, IsSomeArm, LiftsOne, Folds, Calculates}
 use Rattle.value_build.specs.declared.value.Value.{Value}
 use Rattle.value_build.proofs.Folds.{nil_of, not_empty}
 use Rattle.value_build.specs.declared.lift.Leaf.TheVariants as leaf

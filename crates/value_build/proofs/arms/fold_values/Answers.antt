@@ -1,4 +1,4 @@
-use Rattle.std.proofs.Common.{map, sym, subst, List, ◌∷◌, Ok, Err, Result}
+use Rattle.std.proofs.Common.{map, sym, subst, List, Ok, Err, Result}
 use Rattle.smt_sexp.specs.Views.{place_of}
 use Rattle.term_build.specs.Shapes.{drawn_of}
 use Rattle.term_build.specs.declared.sketch.Arm.{Arm}

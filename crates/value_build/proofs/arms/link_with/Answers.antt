@@ -1,4 +1,4 @@
-use Rattle.std.proofs.Common.{map, ◌≡◌, sym, subst, List, ◌∷◌, true, Ok, Err, Result}
+use Rattle.std.proofs.Common.{map, sym, subst, List, Result}
 use Rattle.poly_graph.specs.Views.{kind_of}
 use Rattle.smt_sexp.specs.Views.{place_of}
 use Rattle.term_build.specs.Shapes.{drawn_of}

@@ -1,25 +1,13 @@
-use Rattle.std.proofs.Common.{map, ◌≡◌, sym, subst, ap, ◌∙◌, arith, ◌<◌, ℕ, length, List, [], ◌∷◌, ◌++◌, true, false, true≢false, Some}
-use Rattle.std.specs.Prelude.{Result, Ok, Err}
+use Rattle.std.proofs.Common.{map, ◌≡◌, sym, subst, ◌<◌, length, List, [], true}
+use Rattle.std.specs.Prelude.{Ok, Err}
 use Rattle.smt_sexp.specs.Views.{place_of}
 use Rattle.poly_graph.specs.Views.{kind_of}
-use Rattle.term_build.specs.Built.{stand_of}
 use Rattle.term_build.specs.Shapes.{drawn_of}
-use Rattle.term_build.specs.Steps.{tree_of}
-use Rattle.term_build.specs.declared.connectives.Pair.{Pair}
-use Rattle.term_build.specs.declared.sketch.Arm.{Arm}
-use Rattle.term_build.specs.declared.stop.Stop.{Stop}
-use Rattle.term_build.proofs.Emits.{err_is}
-use Rattle.value_build.specs.Arms.{arm_of, IsSomeArm, IsSomeValue, AreSomeValues, SaysTwo, arm_bounds, Links, LinksWith, LinksEach}
-use Rattle.value_build.specs.Bounds.{AddsList}
-use Rattle.value_build.specs.Chains.{others_of}
+use Rattle.value_build.specs.Arms.{LinksEach}
 use Rattle.value_build.specs.Making.{making}
-use Rattle.value_build.specs.Operators.{are_arms, are_bool}
+use Rattle.value_build.specs.Operators.{are_bool}
 use Rattle.value_build.specs.Values.{AreKnown}
-use Rattle.value_build.specs.declared.chains.Spread.{Spread}
-use Rattle.value_build.specs.declared.chains.Spread.TheVariants.{Next, Later}
 use Rattle.value_build.specs.declared.value.Value.{Value}
-use Rattle.value_build.proofs.Folds.{nil_of}
-use Rattle.value_build.proofs.Arming.{arms_head, arms_tail, arms_two, arms_skip, some_arm, first_value, later_values, values_stood, value_stood, link_stop, link_next, link_later, said_below, with_none, with_on, with_stop, link_known, with_known, each_none, each_on, each_stop, others_some, others_arms}
 use Rattle.value_build.specs.Arms.{Joins}
 use Rattle.value_build.proofs.Joining.{says_all, says_stop}
 use Rattle.value_build.proofs.Arming.{each_known}
