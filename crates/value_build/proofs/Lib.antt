@@ -8,6 +8,9 @@ pub mod Leaf
 pub mod Claimed
 pub mod Powers
 pub mod Lifting
+pub mod Meeting
+pub mod Spreading
+pub mod Gathering
 pub mod Plain
 pub mod Arming
 pub mod Joining

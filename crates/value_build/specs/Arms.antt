@@ -10,7 +10,7 @@ use Rattle.script_forms.specs.Work.{Event, made, lift_events, step_events, steps
 use Rattle.term_build.specs.Built.{Made, stand_of}
 use Rattle.term_build.specs.Sketch.{Drawn, choice_drawn, IsSketch}
 use Rattle.term_build.specs.Pairs.{Grown, Draws, compared}
-use Rattle.term_build.specs.Steps.{Emits, IsTreeOf}
+use Rattle.term_build.specs.Steps.{Emits}
 use Rattle.term_build.specs.declared.connectives.Pair.{Pair}
 use Rattle.term_build.specs.declared.sketch.Arm.{Arm}
 use Rattle.term_build.specs.declared.sketch.Arm.TheVariants as arm
@@ -62,11 +62,6 @@ tree_of_leaf (leaf.Of s) at t u = tree_of_step s at t u
 abbrev pub events_of_leaf : Leaf → Place → Term → Term → List Event
 events_of_leaf leaf.Opposite at t u = made (negate_tree u) ∷ []
 events_of_leaf (leaf.Of s) at t u = events_of_step s at t u
-
--- the arm is the tree that this unfolded to
-abbrev pub IsTreeArm : Made → Unfolded → Arm → Type 0
-IsTreeArm m u (arm.Tree k) = IsTreeOf m u k
-IsTreeArm m u (arm.Choice k) = ⊥
 
 -- the sketch has grown and is one still, and the arm stands for this
 pub record IsLifted (m : Made) (ds ds' : List Drawn) (u : Unfolded) (x : Arm) : Type 0 where

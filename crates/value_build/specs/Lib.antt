@@ -4,6 +4,7 @@ pub mod Arithmetic
 pub mod Weights
 pub mod Chains
 pub mod Bounds
+pub mod Meetings
 pub mod Operators
 pub mod Leaves
 pub mod Claiming

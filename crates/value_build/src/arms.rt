@@ -14,7 +14,7 @@ ghost use Rattle.value_build.specs.Values.{AreKnown};
 use crate::arithmetic::{Step, is_difference};
 use crate::bounds::chain_bounds;
 use crate::chains::{Spread, others_of};
-use crate::lift::{Leaf, MOST_DEPTH, compare_arms, lift_one, lift_two};
+use crate::lift::{Leaf, compare_arms, lift_one, lift_two};
 use crate::operate::no_bounds;
 use crate::value::Value;
 use declared_box::BoundTable;
@@ -55,7 +55,7 @@ fn fold_values(
     let mut so_far = first;
     let mut left = rest;
     while let Some((next, later)) = left.split_first() {
-        so_far = lift_two(builder, sketch, at, step, so_far, arm_of(*next), MOST_DEPTH)?;
+        so_far = lift_two(builder, sketch, at, step, so_far, arm_of(*next))?;
         left = later;
     }
     Ok(so_far)
@@ -99,15 +99,7 @@ pub(crate) fn calculate_values(
     ensures sorts { builder.new.sorts ≡ builder.old.sorts }
 {
     if is_difference(step) && rest.is_empty() {
-        return lift_one(
-            builder,
-            sketch,
-            at,
-            Leaf::Opposite,
-            0,
-            arm_of(first),
-            MOST_DEPTH,
-        );
+        return lift_one(builder, sketch, at, Leaf::Opposite, 0, arm_of(first));
     }
     if is_quotient(step) && hold_choice(rest) {
         return Err(Stop::Fault(at, Fault::DivisorNotConstant));
@@ -157,7 +149,7 @@ fn link(
 {
     let one = arm_of(first);
     let other = arm_of(second);
-    let pair = compare_arms(alloc, builder, sketch, at, kind, one, other, MOST_DEPTH)?;
+    let pair = compare_arms(alloc, builder, sketch, at, kind, one, other)?;
     match spread {
         Spread::Next => {
             let list = pair_bounds(alloc, builder, bounds, kind, one, other)?;
