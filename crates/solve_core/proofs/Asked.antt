@@ -1,5 +1,5 @@
 -- The lemmas that a book gives.
-use Rattle.std.proofs.Common.{◌≡◌, ℕ, zero, suc, ◌++◌, List, [], ◌∷◌, All, drop, map, Some, refl, ap, sym, ◌∙◌, subst}
+use Rattle.std.proofs.Common.{◌≡◌, ℕ, zero, suc, append-nil, ◌++◌, List, [], ◌∷◌, All, drop, map, Some, refl, ap, sym, ◌∙◌, subst}
 use Rattle.std.specs.Prelude.{slice_get}
 use Rattle.std.proofs.lemmas.List.Elements.{All-nil, All-cons, All-drop}
 use Rattle.poly_graph.specs.Problem.{Problem}
@@ -55,3 +55,6 @@ asks_on p m s seat seat' c r a own x = record { book = a.book; seat = part_stays
 
 pub appends_given : (p : Parts) (m : Margins) (old more new : List LemmaModel) → All (IsLemmaOf p m) more → new ≡ old ++ more → Appends p m old new
 appends_given p m old more new h e = record { more = more; items = e; lemmas = h }
+
+pub appends_nothing : (p : Parts) (m : Margins) (old new : List LemmaModel) → new ≡ old → Appends p m old new
+appends_nothing p m old new e = record { more = []; items = e ∙ sym (append-nil old); lemmas = All-nil (IsLemmaOf p m) }

@@ -5,5 +5,5 @@ abbrev pub invariant-loop : goal.invariant-loop
 invariant-loop g l = record {
   worker : IsWorkerOf l.task.shared.now l.self;
   source : g.S.LemmaSource.ready l.source;
-  alike : (x : g.S) → g.S.LemmaSource.alike x l.initial.source → g.S.LemmaSource.alike x l.source;
+  alike : (x : g.row.S.Denot) → g.S.LemmaSource.alike x l.initial.source → g.S.LemmaSource.alike x l.source;
 }
