@@ -7,7 +7,6 @@ use Rattle.poly_graph.specs.ProblemViews.{Parts}
 use Rattle.cover_model.specs.State.{State, Loosenings, IsLemma}
 use Rattle.cover_model.specs.Fits.{FitsProblem}
 use Rattle.cover_data.specs.declared.margins.Margins.{Margins}
-use Rattle.cover_data.specs.declared.margins.Options.{Options}
 use Rattle.cover_data.specs.Models.{LemmaModel}
 use Rattle.cert_model.specs.Written.{AreLemmaTrees}
 use Rattle.cover_book.specs.declared.calls.Call.{Call}
@@ -15,8 +14,8 @@ use Rattle.cover_book.specs.declared.calls.Call.TheVariants.{LemmasFrom}
 use Rattle.cover_book.specs.declared.calls.Reply.{Reply}
 use Rattle.cover_book.specs.declared.calls.Reply.TheVariants.{Lemmas}
 use Rattle.cover_book.specs.Keeps.{IsBook}
-use Rattle.cover_book.specs.Model.{BookModel, LearnedLemma, problem_in, margins_of, loosenings_in, lemma_states_in, numbered, numbered_from}
-use Rattle.cover_book.specs.Tree.{lemma_tree, lemma_trees}
+use Rattle.cover_book.specs.Model.{BookModel, LearnedLemma, problem_in, margins_of, loosenings_in, numbered, numbered_from}
+use Rattle.cover_book.specs.Tree.{lemma_tree}
 use Rattle.cover_book.proofs.Meaning.{lemmas_hold}
 use Rattle.book_lock.specs.declared.shared.SharedBook.{SharedBook}
 use Rattle.book_lock.specs.Shared.{BookSeat, first_of, IsSeatOf, IsReply}

@@ -1,4 +1,4 @@
-use Rattle.std.proofs.Common.{◌≡◌, ◌+◌, ◌*◌, suc, arith, vec_len}
+use Rattle.std.proofs.Common.{◌≡◌, ◌+◌, suc, arith, vec_len}
 use Rattle.book_lock.specs.Shared.{view}
 use Rattle.solve_core.specs.Members.{HasSeatsOf}
 use Rattle.solve_core.proofs.Together.{one_more_part, all_but_last}

@@ -1,6 +1,6 @@
 use Rattle.std.proofs.Common.{◌≡◌, ap, sym, ◌∙◌, subst}
 use Rattle.cover_data.specs.Margins.{margins_of}
-use Rattle.cover_data.specs.Models.{LemmaModel, KeptModel}
+use Rattle.cover_data.specs.Models.{KeptModel}
 use Rattle.book_lock.specs.Shared.{first_of}
 use Rattle.lemma_shelf.specs.Lemmas.{IsLemmaOf}
 use Rattle.solve_core.proofs.Together.{lemma_holds}

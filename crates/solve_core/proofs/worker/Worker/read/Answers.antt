@@ -1,6 +1,5 @@
 use Rattle.std.proofs.Common.{◌∙◌}
 use Rattle.cover_data.specs.Margins.{margins_of}
-use Rattle.cover_data.specs.declared.margins.Options.{Options}
 use Rattle.std.proofs.Common.{ap, sym}
 use Rattle.book_lock.specs.Shared.{first_of}
 use Rattle.solve_core.proofs.Together.{read_lemmas}
