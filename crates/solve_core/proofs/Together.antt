@@ -1,12 +1,13 @@
 -- Workers on a shared book.
-use Rattle.std.proofs.Common.{◌≡◌, inl, ℕ, suc, ◌+◌, ◌-◌, Bool, true, false, if◌then◌else◌, All, List, [], ◌∷◌, ◌++◌, drop, Some, None, Result, Ok, Err, IfOk, IsTrue, ap, sym, ◌∙◌, subst, arith}
+use Rattle.std.proofs.Common.{◌≡◌, inl, ℕ, suc, ◌+◌, ◌-◌, false, All, List, [], ◌∷◌, ◌++◌, drop, Some, None, Result, Ok, Err, IfOk, IsTrue, ap, sym, ◌∙◌, subst, arith}
 use Rattle.std.specs.List.{Contains}
-use Rattle.std.proofs.lemmas.List.Elements.{All-append, All-cons, All-contains, All-contains_itself, All-drop, All-nil, All-push, All-weaker, Contains-append_left, Contains-push}
+use Rattle.std.proofs.lemmas.List.Elements.{All-append, All-contains, All-contains_itself, All-drop, All-nil, All-push, All-weaker, Contains-append_left, Contains-push}
 use Rattle.poly_graph.specs.ProblemViews.{Parts, problem_of}
 use Rattle.interval_model.specs.Space.{space_within}
 use Rattle.cover_model.specs.Fits.{FitsProblem, IsShownAt}
 use Rattle.cover_model.specs.Root.{root_space}
 use Rattle.cover_model.specs.State.{State, IsLemma}
+use Rattle.cover_data.specs.declared.margins.Margins.{Margins}
 use Rattle.cover_data.specs.declared.margins.Options.{Options}
 use Rattle.cover_data.specs.Margins.{loosenings_of}
 use Rattle.cover_data.specs.Models.{LemmaModel, KeptModel}
@@ -30,10 +31,13 @@ use Rattle.book_lock.specs.declared.views.Entry.{Entry}
 use Rattle.book_lock.specs.Laws.{IsBookHistory}
 use Rattle.book_lock.specs.Shared.{BookSeat, view, first_of, IsSeatOf, IsOnePartSeatOf, IsReply, ResultReply, IsSplit, IsJoined}
 use Rattle.book_lock.proofs.Histories.{reply_is_of_book}
+use Rattle.lemma_shelf.specs.Lemmas.{IsLemmaOf, Appends}
 use Rattle.solve_core.specs.Reaches.{Reaches}
 use Rattle.steal_pool.specs.Account.{has_left}
 use Rattle.solve_core.specs.declared.worker.Worker.{Worker}
+use Rattle.solve_core.specs.declared.member.Member.{Member}
 use Rattle.solve_core.specs.Workers.{IsWorkerOf, MayBeKept}
+use Rattle.solve_core.specs.Members.{IsMemberOf, HasSeatsOf}
 use Rattle.solve_core.proofs.Reached.{one_call, reaches_through, same_reaches}
 use Rattle.solve_core.proofs.Works.{left_some, closed_some}
 
@@ -57,11 +61,19 @@ one_more_part s seat other seat' j h =
     let e : (view seat').parts ≡ (view seat).parts + (view other).parts = ap (λ v. v.parts) j.view_is in
     let f : (view other).parts ≡ 1 = h.1 in omega (arith, e, f)
 
+-- a new seat has one part
+pub new_seat : (s : SharedBook) (seat seat' new other : BookSeat) → IsSeatOf s new → IsSplit seat seat' new → other ≡ new → IsOnePartSeatOf s other
+new_seat s seat seat' new other own split e = subst (IsOnePartSeatOf s) (sym e) (own, ap (λ v. v.parts) split.new_view)
+
+-- a worker that may ask has its seats
+pub has_seats : (s : SharedBook) (m : Member) → IsMemberOf s m → HasSeatsOf s m
+has_seats s m h = record { worker = h.worker.seat; asker = h.asker.seat }
+
 -- a new seat makes a worker that has no lemmas yet
 pub new_worker : (s : SharedBook) (seat seat' new : BookSeat) (w : Worker) → IsBook (first_of s) → IsSeatOf s new → IsSplit seat seat' new → w.seat ≡ new → has_left w.hand ≡ false → w.lemmas.items ≡ [] → IsWorkerOf s w
 new_worker s seat seat' new w b own split e stays none = record {
   book = b;
-  seat = subst (IsOnePartSeatOf s) (sym e) (own, ap (λ v. v.parts) split.new_view);
+  seat = new_seat s seat seat' new w.seat own split e;
   stays = stays;
   lemmas = subst (AreLemmasFor (problem_in (first_of s)) (loosenings_in (first_of s))) (sym none) (All-nil (Holds (first_of s)));
 }
@@ -113,26 +125,26 @@ module _ (b : BookModel) (p : Parts) (o : Options) (e : b.problem ≡ p) (f : b.
 
 -- ---- lemmas
 
+-- what holds of the problem and the margins of a book holds of their names
+pub named : (b : BookModel) (p : Parts) (m : Margins) → p ≡ b.problem → m ≡ margins_of b.options → (F : Parts → Margins → Type 0) → F b.problem (margins_of b.options) → F p m
+named b p m e f F h = subst (λ (q : Parts). F q m) (sym e) (subst (λ (n : Margins). F b.problem n) (sym f) h)
+
+of-named : (b : BookModel) (p : Parts) (m : Margins) → p ≡ b.problem → m ≡ margins_of b.options → (F : Parts → Margins → Type 0) → F p m → F b.problem (margins_of b.options)
+of-named b p m e f F h = subst (λ (q : Parts). F q (margins_of b.options)) e (subst (λ (n : Margins). F p n) f h)
+
 -- what a closed run begins with is a lemma
-pub lemma_holds : (b : BookModel) (k : KeptModel) → MayBeCalled b (Learn k) → (i : ℕ) (S : State) → S ≡ k.first → AreLemmasFor (problem_in b) (loosenings_in b) (record { id = i; state = S } ∷ [])
-lemma_holds b k h i S e =
-    let L : LemmaModel = record { id = i; state = S } in
+pub lemma_holds : (b : BookModel) (p : Parts) (m : Margins) (k : KeptModel) → p ≡ b.problem → m ≡ margins_of b.options → MayBeCalled b (Learn k) → (i : ℕ) (S : State) → S ≡ k.first → IsLemmaOf p m (record { id = i; state = S })
+lemma_holds b p m k e f h i S q =
     let at : FitsProblem (problem_in b) k.first × IsLemma (problem_in b) (loosenings_in b) k.first = (h.0.sound.first, closed_is_lemma (problem_in b) (margins_of b.options) k h.0 h.1) in
-    All-cons (Holds b) L [] (subst (λ (T : State). FitsProblem (problem_in b) T × IsLemma (problem_in b) (loosenings_in b) T) (sym e) at) (All-nil (Holds b))
+    named b p m e f (λ x y. IsLemmaOf x y (record { id = i; state = S })) (subst (λ (T : State). FitsProblem (problem_in b) T × IsLemma (problem_in b) (loosenings_in b) T) (sym q) at)
 
--- a lemma more, some fewer at the front
-pub more_lemmas : (b : BookModel) (lemmas : List LemmaModel) (k : ℕ) (L : LemmaModel) → AreLemmasFor (problem_in b) (loosenings_in b) lemmas → AreLemmasFor (problem_in b) (loosenings_in b) (L ∷ []) →
-    AreLemmasFor (problem_in b) (loosenings_in b) (drop k lemmas ++ (L ∷ []))
-more_lemmas b lemmas k L h g = All-append (Holds b) (drop k lemmas) (L ∷ []) (All-drop (Holds b) k lemmas h) g
-
-pub fewer_lemmas : (b : BookModel) (lemmas : List LemmaModel) (k : ℕ) → AreLemmasFor (problem_in b) (loosenings_in b) lemmas → AreLemmasFor (problem_in b) (loosenings_in b) (drop k lemmas)
-fewer_lemmas b lemmas k h = All-drop (Holds b) k lemmas h
-
--- the same of a list to which one was added, if there was memory
-pub pushed_lemmas : (b : BookModel) (old made new : List LemmaModel) (k : ℕ) (L : LemmaModel) (ok : Bool) → made ≡ drop k old → new ≡ (if ok then made ++ (L ∷ []) else made) →
-    AreLemmasFor (problem_in b) (loosenings_in b) old → AreLemmasFor (problem_in b) (loosenings_in b) (L ∷ []) → AreLemmasFor (problem_in b) (loosenings_in b) new
-pushed_lemmas b old made new k L true e f h g = subst (AreLemmasFor (problem_in b) (loosenings_in b)) (sym (f ∙ ap (λ (xs : List LemmaModel). xs ++ (L ∷ [])) e)) (more_lemmas b old k L h g)
-pushed_lemmas b old made new k L false e f h g = subst (AreLemmasFor (problem_in b) (loosenings_in b)) (sym (f ∙ e)) (fewer_lemmas b old k h)
+-- lemmas that a source has given, of which the latest stay
+pub read_lemmas : (b : BookModel) (p : Parts) (m : Margins) (old given new : List LemmaModel) (k : ℕ) → p ≡ b.problem → m ≡ margins_of b.options → Appends p m old given → new ≡ drop k given →
+    AreLemmasFor (problem_in b) (loosenings_in b) old → AreLemmasFor (problem_in b) (loosenings_in b) new
+read_lemmas b p m old given new k e f a q h =
+    let more : All (Holds b) a.more = of-named b p m e f (λ x y. All (IsLemmaOf x y) a.more) a.lemmas in
+    let all : All (Holds b) given = subst (All (Holds b)) (sym a.items) (All-append (Holds b) old a.more h more) in
+    subst (All (Holds b)) (sym q) (All-drop (Holds b) k given all)
 
 -- ---- histories
 

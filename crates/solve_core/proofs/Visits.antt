@@ -154,14 +154,17 @@ module _ (s : Search) (k : KeptModel) (h : CanLearn s k) where
   pub learn_reaches : (i : ℕ) (b' : BookModel) → LemmaStep s.book k i b' → Reaches s.book b'
   learn_reaches i b' w = one_call s.book b' (Learn k) (Learned i) learn_meets w
 
--- a lemma more, some fewer at the front
-pub handed : (s : Search) (L : LemmaModel) → CanHand s L → (k : ℕ) (lemmas : List LemmaModel) → lemmas ≡ drop k s.lemmas.items ++ (L ∷ []) → IsUnderWay s.book s.waiting.items lemmas
-handed s L h k lemmas e = subst (IsUnderWay s.book s.waiting.items) (sym e) (record {
-  waits = h.search.waits;
-  kept = All-append (λ (m : LemmaModel). slice_get (lemma_states_in s.book) m.id ≡ Some m.state) (drop k s.lemmas.items) (L ∷ []) (All-drop (λ (m : LemmaModel). slice_get (lemma_states_in s.book) m.id ≡ Some m.state) k s.lemmas.items h.search.kept) h.kept;
-  usable = All-append (λ (m : LemmaModel). FitsProblem (problem_in s.book) m.state × IsLemma (problem_in s.book) (loosenings_in s.book) m.state) (drop k s.lemmas.items) (L ∷ [])
-      (All-drop (λ (m : LemmaModel). FitsProblem (problem_in s.book) m.state × IsLemma (problem_in s.book) (loosenings_in s.book) m.state) k s.lemmas.items h.search.usable) h.usable;
-})
+-- a lemma more, then some fewer at the front
+pub handed : (s : Search) (L : LemmaModel) → CanHand s L → (k : ℕ) (lemmas : List LemmaModel) → lemmas ≡ drop k (s.lemmas.items ++ (L ∷ [])) → IsUnderWay s.book s.waiting.items lemmas
+handed s L h k lemmas e =
+    let Kept : LemmaModel → Type 0 = λ (m : LemmaModel). slice_get (lemma_states_in s.book) m.id ≡ Some m.state in
+    let Usable : LemmaModel → Type 0 = λ (m : LemmaModel). FitsProblem (problem_in s.book) m.state × IsLemma (problem_in s.book) (loosenings_in s.book) m.state in
+    let all : List LemmaModel = s.lemmas.items ++ (L ∷ []) in
+    subst (IsUnderWay s.book s.waiting.items) (sym e) (record {
+      waits = h.search.waits;
+      kept = All-drop Kept k all (All-append Kept s.lemmas.items (L ∷ []) h.search.kept h.kept);
+      usable = All-drop Usable k all (All-append Usable s.lemmas.items (L ∷ []) h.search.usable h.usable);
+    })
 
 -- ---- a point
 

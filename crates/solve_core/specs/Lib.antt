@@ -2,3 +2,5 @@ pub mod Reaches
 pub mod Left
 pub mod Search
 pub mod Workers
+pub mod Askers
+pub mod Members

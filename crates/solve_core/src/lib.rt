@@ -4,7 +4,9 @@
 //! reads scripts nor writes certificates.
 #![tactic(auto)]
 
+mod asker;
 mod gate;
+mod member;
 mod run;
 mod search;
 mod task;

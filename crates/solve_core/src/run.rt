@@ -16,6 +16,7 @@ use cover_book::Book;
 use cover_data::Options;
 use poly_graph::Problem;
 use std::alloc::{AllocError, Global};
+use std::marker::Brand;
 use std::sync::Wait;
 use std::thread::Threads;
 
@@ -69,6 +70,6 @@ pub fn solve<R: Threads + Wait + Sync, G: Gate + Sync>(
     if workers < 2 {
         return finish(alloc, book, gate);
     }
-    let book = search_together(rt, alloc, book, problem, options, workers, gate);
+    let book = search_together::<Brand, R, G>(rt, alloc, book, problem, options, workers, gate);
     finish(alloc, book, gate)
 }

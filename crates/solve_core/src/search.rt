@@ -55,13 +55,12 @@ fn unless_memory(refusal: BookRefusal) -> Result<(), AllocError>
     }
 }
 
-/// Leaves out the oldest lemma where there are as many as may be handed on.
-pub fn make_room(lemmas: &mut Vec<Lemma>)
+/// Leaves out the oldest lemmas where there are more than may be handed on.
+pub fn keep_latest(lemmas: &mut Vec<Lemma>)
     ensures { (k : ℕ) × (lemmas.new.items ≡ drop k lemmas.old.items) }
 {
-    if lemmas.len() >= MOST_HANDED {
-        drop(lemmas.remove(0));
-    }
+    let extra = lemmas.len().saturating_sub(MOST_HANDED);
+    lemmas.drain(..extra);
 }
 
 impl Search {
@@ -134,8 +133,8 @@ impl Search {
         ensures book { self.new.book ≡ self.old.book }
         ensures waiting { self.new.waiting ≡ self.old.waiting }
     {
-        make_room(&mut self.lemmas);
         self.lemmas.push(lemma)?;
+        keep_latest(&mut self.lemmas);
         Ok(())
     }
 

@@ -1,40 +1,44 @@
 // Many workers on one book.
-ghost use Rattle.std.specs.Prelude.{◌≡◌, ◌+◌, ◌<◌, ◌≤◌, All, IfOk, IfErr, vec_len};
+ghost use Rattle.std.specs.Prelude.{◌≡◌, ◌+◌, ◌*◌, ◌<◌, ◌≤◌, All, IfOk, IfErr, vec_len};
 ghost use Rattle.steal_pool.specs.Pool.{AllStay};
 ghost use Rattle.cover_book.specs.Keeps.{IsBook};
+ghost use Rattle.cover_book.specs.Model.{margins_of};
 ghost use Rattle.book_lock.specs.Shared.{IsSeatOf, first_of, view};
 ghost use Rattle.solve_core.specs.Reaches.{Reaches};
-ghost use Rattle.solve_core.specs.Workers.{IsWorkerOf, HasSeatOf};
+ghost use Rattle.solve_core.specs.Members.{IsMemberOf, HasSeatsOf};
 
+use crate::asker::BookLemmas;
 use crate::gate::Gate;
+use crate::member::Member;
 use crate::search::has_choice;
 use crate::task::Task;
 use crate::worker::Worker;
 use book_lock::{BookSeat, SharedBook};
 use cover_book::Book;
 use cover_data::Options;
+use lemma_shelf::{Shelf, Subject};
 use poly_graph::Problem;
 use std::alloc::{AllocError, Global};
 use std::sync::Wait;
 use std::thread::{Threads, for_each_mut};
 use steal_pool::{Hand, Pool};
 
-// A worker for each hand, with a part of the seat. The one that is made last has number 0 and begins with the node.
-fn enlist(
+// A worker for each hand, with two parts of the seat. The one that is made last has number 0 and begins with the node.
+fn enlist<'a>(
     alloc: Global,
-    shared: &SharedBook,
+    shared: &'a SharedBook,
     lead: &mut BookSeat,
     hands: Vec<Hand>,
     node: u32,
-) -> Result<Vec<Worker>, AllocError>
+) -> Result<Vec<Member<'a>>, AllocError>
     requires few { vec_len hands ≤ 64 }
     requires stay { AllStay hands.items }
     requires book { IsBook (first_of shared.now) }
     requires own { IsSeatOf shared.now lead.old }
-    requires parts { vec_len hands < (view lead.old).parts }
+    requires parts { 2 * vec_len hands < (view lead.old).parts }
     ensures own { IsSeatOf shared.now lead.new }
-    ensures team { IfOk result (λ v. All (IsWorkerOf shared.now) v.items) }
-    ensures parts { IfOk result (λ v. (view lead.new).parts + vec_len v ≡ (view lead.old).parts) }
+    ensures team { IfOk result (λ v. All (IsMemberOf shared.now) v.items) }
+    ensures parts { IfOk result (λ v. (view lead.new).parts + 2 * vec_len v ≡ (view lead.old).parts) }
     ensures none { IfErr result (λ _. view lead.new ≡ view lead.old) }
 {
     let mut hands = hands;
@@ -45,34 +49,80 @@ fn enlist(
             let _ = hand.push(node);
         }
         let seat = shared.split_seat(lead);
-        team.push_reserved(Worker::new(alloc, hands.len() as u32, hand, seat));
+        let worker = Worker::new(alloc, hands.len() as u32, hand, seat);
+        let second = shared.split_seat(lead);
+        let asker = BookLemmas::new(shared, second);
+        team.push_reserved(Member { worker, asker });
     }
     Ok(team)
 }
 
-// Each worker works in a thread of its own, or in turn where no thread can be had.
-fn run_team<R: Threads + Wait + Sync, G: Gate + Sync>(
+// Each worker works in a thread of its own, or in turn where no thread can be had, with the lemmas of the shelf.
+fn run_with_shelf<J: Subject + Send + Sync, R: Threads + Wait + Sync, G: Gate + Sync>(
     rt: &R,
     alloc: Global,
-    task: &Task,
+    task: &Task<J>,
+    shelf: &Shelf<J>,
     gate: &G,
-    team: &mut [Worker],
+    team: &mut [Member],
 )
-    requires { All (IsWorkerOf task.now.shared.now) team.old }
-    ensures { All (HasSeatOf task.now.shared.now) team.new }
+    requires { All (IsMemberOf task.now.shared.now) team.old }
+    ensures { All (HasSeatsOf task.now.shared.now) team.new }
 {
-    for_each_mut(rt, team, 64, &|_, worker| worker.run(rt, alloc, task, gate));
+    for_each_mut(
+        rt,
+        team,
+        64,
+        &|_, member| member.read_shelf(rt, alloc, task, shelf, gate),
+    );
+}
+
+// The same with lemmas that each asks the book for.
+fn run_without_shelf<J: Subject + Send + Sync, R: Threads + Wait + Sync, G: Gate + Sync>(
+    rt: &R,
+    alloc: Global,
+    task: &Task<J>,
+    gate: &G,
+    team: &mut [Member],
+)
+    requires { All (IsMemberOf task.now.shared.now) team.old }
+    ensures { All (HasSeatsOf task.now.shared.now) team.new }
+{
+    for_each_mut(
+        rt,
+        team,
+        64,
+        &|_, member| member.ask_book(rt, alloc, task, gate),
+    );
+}
+
+// Has the team work. Where there was no memory for a shelf, each worker asks the book for lemmas.
+fn run_team<J: Subject + Send + Sync, R: Threads + Wait + Sync, G: Gate + Sync>(
+    rt: &R,
+    alloc: Global,
+    task: &Task<J>,
+    gate: &G,
+    team: &mut [Member],
+)
+    requires { All (IsMemberOf task.now.shared.now) team.old }
+    ensures { All (HasSeatsOf task.now.shared.now) team.new }
+{
+    match &task.shelf {
+        Some(shelf) => run_with_shelf(rt, alloc, task, shelf, gate, team),
+        None => run_without_shelf(rt, alloc, task, gate, team),
+    }
 }
 
 // Takes the seats of all workers back. The nodes that they kept to themselves are live in the book.
-fn dismiss(shared: &SharedBook, lead: &mut BookSeat, team: Vec<Worker>)
+fn dismiss(shared: &SharedBook, lead: &mut BookSeat, team: Vec<Member>)
     requires own { IsSeatOf shared.now lead.old }
-    requires team { All (HasSeatOf shared.now) team.items }
+    requires team { All (HasSeatsOf shared.now) team.items }
     ensures own { IsSeatOf shared.now lead.new }
-    ensures parts { (view lead.new).parts ≡ (view lead.old).parts + vec_len team }
+    ensures parts { (view lead.new).parts ≡ (view lead.old).parts + 2 * vec_len team.entry }
 {
     let mut team = team;
-    while let Some(worker) = team.pop() {
+    while let Some(member) = team.pop() {
+        let Member { worker, asker } = member;
         let Worker {
             number: _,
             hand: _,
@@ -80,14 +130,21 @@ fn dismiss(shared: &SharedBook, lead: &mut BookSeat, team: Vec<Worker>)
             waiting: _,
             lemmas: _,
         } = worker;
+        let BookLemmas {
+            shared: _,
+            seat: second,
+            from: _,
+        } = asker;
         shared.join_seat(lead, seat);
+        shared.join_seat(lead, second);
     }
 }
 
 /// Has so many workers search on the book side by side. What they leave live is for the caller to go on with: they
 /// stop where a point is kept, where all boxes that they know of are done or wait for want of a budget, and where
-/// memory runs out. Where there is no memory for them the book is as it was.
-pub fn search_together<R: Threads + Wait + Sync, G: Gate + Sync>(
+/// memory runs out. Where there is no memory for them the book is as it was. The subject is the problem at the margins of
+/// the options.
+pub fn search_together<J: Subject + Send + Sync, R: Threads + Wait + Sync, G: Gate + Sync>(
     rt: &R,
     alloc: Global,
     book: Book,
@@ -99,6 +156,8 @@ pub fn search_together<R: Threads + Wait + Sync, G: Gate + Sync>(
     requires workers { (1 ≤ workers) × (workers ≤ 64) }
     requires problem { book.problem ≡ problem.now }
     requires options { book.options ≡ options.now }
+    requires subject_problem { J.problem ≡ problem.now }
+    requires subject_margins { J.margins ≡ margins_of options.now }
     ensures { Reaches book result }
 {
     let Some(node) = book.live_after(0) else {
@@ -107,7 +166,7 @@ pub fn search_together<R: Threads + Wait + Sync, G: Gate + Sync>(
     let Ok(hands) = Pool::new(alloc, workers as usize) else {
         return book;
     };
-    let (shared, mut lead) = match SharedBook::share(alloc, book, workers + 1) {
+    let (shared, mut lead) = match SharedBook::share(alloc, book, 2 * workers + 1) {
         Ok(parts) => parts,
         Err(book) => return book,
     };
@@ -117,6 +176,7 @@ pub fn search_together<R: Threads + Wait + Sync, G: Gate + Sync>(
             problem,
             options,
             learns: has_choice(problem),
+            shelf: Shelf::<J>::new(alloc).ok(),
         };
         run_team(rt, alloc, &task, gate, team.as_mut_slice());
         dismiss(&shared, &mut lead, team);

@@ -1,26 +1,25 @@
 // One of the workers that search on a shared book.
-ghost use Rattle.std.specs.Prelude.{◌≡◌, ◌∷◌, [], IfSome, false};
+ghost use Rattle.std.specs.Prelude.{◌≡◌, [], IfSome, false};
 ghost use Rattle.steal_pool.specs.Account.{has_left};
 ghost use Rattle.book_lock.specs.Shared.{IsOnePartSeatOf, first_of};
-ghost use Rattle.cover_book.specs.Model.{problem_in, loosenings_in};
 ghost use Rattle.cover_book.specs.Steps.{MayBeCalled};
 ghost use Rattle.cover_book.specs.declared.calls.Call.TheVariants.{Commit, Learn, Find};
-ghost use Rattle.box_worker.specs.Worked.{AreLemmasFor};
 ghost use Rattle.solve_core.specs.Workers.{IsWorkerOf, MayBeKept};
 
 use crate::gate::Gate;
-use crate::search::make_room;
+use crate::search::keep_latest;
 use crate::task::Task;
 use book_lock::BookSeat;
 use box_worker::{Room, Worked, work_in};
 use cover_book::{BookRefusal, Kids};
 use cover_data::{ClosedPatch, KeptPatch, Lemma, Point};
+use lemma_shelf::{LemmaSource, Subject};
 use std::alloc::Global;
 use std::sync::Wait;
 use steal_pool::Hand;
 
 /// A hand of the pool of nodes that any worker may take, a seat at the book, the nodes that this worker keeps to
-/// itself, of which the last is the next, and the lemmas that it hands to the work on a box.
+/// itself, of which the last is the next, and the lemmas of all workers that it hands to the work on a box.
 #[derive(Drop)]
 pub struct Worker {
     pub number: u32,
@@ -92,7 +91,13 @@ impl Worker {
     }
 
     // Commits the patch to the node, whose parts wait then. Whether the worker goes on.
-    fn commit<R: Wait>(&mut self, rt: &R, task: &Task, node: u32, patch: KeptPatch) -> bool
+    fn commit<J: Subject, R: Wait>(
+        &mut self,
+        rt: &R,
+        task: &Task<J>,
+        node: u32,
+        patch: KeptPatch,
+    ) -> bool
         requires worker { IsWorkerOf task.now.shared.now self.old }
         requires meets { MayBeCalled (first_of task.now.shared.now) (Commit node patch) }
         ensures { IsWorkerOf task.now.shared.now self.new }
@@ -104,23 +109,14 @@ impl Worker {
         }
     }
 
-    // Hands the lemma to the work on later boxes. Whether there was memory.
-    fn remember(&mut self, task: &Task, lemma: Lemma) -> bool
-        requires worker { IsWorkerOf task.now.shared.now self.old }
-        requires usable { let b = first_of task.now.shared.now in
-            AreLemmasFor (problem_in b) (loosenings_in b) (lemma ∷ []) }
-        ensures { IsWorkerOf task.now.shared.now self.new }
-    {
-        let _ = task;
-        make_room(&mut self.lemmas);
-        match self.lemmas.push(lemma) {
-            Ok(()) => true,
-            Err(_) => false,
-        }
-    }
-
-    // Keeps the first state of the closed patch as a lemma. Whether the worker goes on.
-    fn learn<R: Wait>(&mut self, rt: &R, alloc: Global, task: &Task, closed: ClosedPatch) -> bool
+    // Keeps the first state of the closed patch as a lemma, and hands it to all workers. Whether the worker goes on.
+    fn learn<J: Subject, R: Wait>(
+        &mut self,
+        rt: &R,
+        alloc: Global,
+        task: &Task<J>,
+        closed: ClosedPatch,
+    ) -> bool
         requires worker { IsWorkerOf task.now.shared.now self.old }
         requires meets { MayBeCalled (first_of task.now.shared.now) (Learn closed) }
         ensures { IsWorkerOf task.now.shared.now self.new }
@@ -129,13 +125,16 @@ impl Worker {
             return false;
         };
         match task.shared.learn(rt, &mut self.seat, closed) {
-            Ok(id) => self.remember(task, Lemma::new(id, state)),
+            Ok(id) => {
+                task.post(rt, Lemma::new(id, state));
+                true
+            }
             Err(refusal) => goes_on(&refusal),
         }
     }
 
     // Keeps the point that was found at the node, with which the search is over.
-    fn find<R: Wait>(&mut self, rt: &R, task: &Task, node: u32, point: Point)
+    fn find<J: Subject, R: Wait>(&mut self, rt: &R, task: &Task<J>, node: u32, point: Point)
         requires worker { IsWorkerOf task.now.shared.now self.old }
         requires meets { MayBeCalled (first_of task.now.shared.now) (Find node point) }
         ensures { IsWorkerOf task.now.shared.now self.new }
@@ -145,12 +144,12 @@ impl Worker {
 
     // Has the book keep the patch that closed the node, and what is to be learned of it and its copy. Whether the worker
     // goes on.
-    fn close<R: Wait>(
+    fn close<J: Subject, R: Wait>(
         &mut self,
         rt: &R,
         alloc: Global,
         room: &mut Room,
-        task: &Task,
+        task: &Task<J>,
         node: u32,
         patch: KeptPatch,
         own: Option<ClosedPatch>,
@@ -172,12 +171,12 @@ impl Worker {
     }
 
     // Has the book keep what came of the work on the node. Whether the worker goes on.
-    fn settle<R: Wait>(
+    fn settle<J: Subject, R: Wait>(
         &mut self,
         rt: &R,
         alloc: Global,
         room: &mut Room,
-        task: &Task,
+        task: &Task<J>,
         node: u32,
         worked: Worked,
     ) -> bool
@@ -195,13 +194,35 @@ impl Worker {
         }
     }
 
+    // Takes in the lemmas that the source has more than before, where lemmas are learned; the latest ones stay. Where
+    // memory runs out there are fewer.
+    fn read<J: Subject, S: LemmaSource<J>, R: Wait>(
+        &mut self,
+        rt: &R,
+        alloc: Global,
+        task: &Task<J>,
+        source: &mut S,
+    )
+        requires worker { IsWorkerOf task.now.shared.now self.old }
+        requires source { S.ready source.old }
+        ensures worker { IsWorkerOf task.now.shared.now self.new }
+        ensures source { S.ready source.new }
+        ensures alike { (x : S) → S.alike x source.old → S.alike x source.new }
+    {
+        if !task.learns {
+            return;
+        }
+        let _ = source.more(rt, alloc, &mut self.lemmas);
+        keep_latest(&mut self.lemmas);
+    }
+
     // Works on a node in this room, and has the book keep what comes of it. Whether the worker goes on.
-    fn visit<R: Wait>(
+    fn visit<J: Subject, R: Wait>(
         &mut self,
         rt: &R,
         alloc: Global,
         room: &mut Room,
-        task: &Task,
+        task: &Task<J>,
         node: u32,
     ) -> bool
         requires { IsWorkerOf task.now.shared.now self.old }
@@ -217,11 +238,21 @@ impl Worker {
         }
     }
 
-    /// Works on node after node, until all hands rest, a point is kept or memory runs out. What this worker keeps to
-    /// itself then stays live in the book.
-    pub fn run<R: Wait, G: Gate>(&mut self, rt: &R, alloc: Global, task: &Task, gate: &G)
-        requires { IsWorkerOf task.now.shared.now self.old }
-        ensures { IsOnePartSeatOf task.now.shared.now self.new.seat }
+    /// Works on node after node, with the lemmas that the source gives, until all hands rest, a point is kept or memory
+    /// runs out. What this worker keeps to itself then stays live in the book.
+    pub fn run<J: Subject, S: LemmaSource<J>, R: Wait, G: Gate>(
+        &mut self,
+        rt: &R,
+        alloc: Global,
+        task: &Task<J>,
+        source: &mut S,
+        gate: &G,
+    )
+        requires worker { IsWorkerOf task.now.shared.now self.old }
+        requires source { S.ready source.old }
+        ensures seat { IsOnePartSeatOf task.now.shared.now self.new.seat }
+        ensures source { S.ready source.new }
+        ensures alike { (x : S) → S.alike x source.old → S.alike x source.new }
     {
         let mut room = Room::new();
         for _ in rt.forever() {
@@ -229,6 +260,7 @@ impl Worker {
                 return;
             };
             gate.began(self.number, node);
+            self.read(rt, alloc, task, source);
             let goes_on = self.visit(rt, alloc, &mut room, task, node);
             gate.ended(self.number, node);
             if !goes_on {

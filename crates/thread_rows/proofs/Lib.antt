@@ -1,1 +1,2 @@
 pub mod TriedBookLock
+pub mod TriedLemmaShelf

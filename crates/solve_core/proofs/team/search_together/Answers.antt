@@ -3,9 +3,9 @@ use Rattle.std.proofs.lemmas.List.Elements.{All-append, All-drop, All-take, All-
 use Rattle.cover_book.specs.Model.{BookModel}
 use Rattle.book_lock.specs.Shared.{first_of}
 use Rattle.solve_core.specs.Reaches.{Reaches, stays}
-use Rattle.solve_core.specs.Workers.{IsWorkerOf, HasSeatOf}
+use Rattle.solve_core.specs.Members.{IsMemberOf, HasSeatsOf}
 use Rattle.solve_core.proofs.Reached.{same_reaches}
-use Rattle.solve_core.proofs.Together.{history_reaches}
+use Rattle.solve_core.proofs.Together.{has_seats, history_reaches}
 use Rattle.solve_core.proofs.team.search_together.Goals as goal
 
 pub returns-in_default : goal.returns-in_default
@@ -22,8 +22,8 @@ dismiss-requires-clause-team g c =
     let s = c.in-Ok-share.parts.0 in
     let front = c.run_team.new.team in
     let items = c.in-Ok-enlist.team.items in
-    All-take (HasSeatOf s) c.in-Ok-enlist.team.len (front ++ drop (length front) items)
-    (All-append (HasSeatOf s) front (drop (length front) items) c.run_team.ensures (All-drop (HasSeatOf s) (length front) items (All-weaker (IsWorkerOf s) (HasSeatOf s) (λ w h. h.seat) items c.in-Ok-enlist.ensures.team)))
+    All-take (HasSeatsOf s) c.in-Ok-enlist.team.len (front ++ drop (length front) items)
+    (All-append (HasSeatsOf s) front (drop (length front) items) c.run_team.ensures (All-drop (HasSeatsOf s) (length front) items (All-weaker (IsMemberOf s) (HasSeatsOf s) (λ m h. has_seats s m h) items c.in-Ok-enlist.ensures.team)))
 
 pub returns : goal.returns
 returns g c =

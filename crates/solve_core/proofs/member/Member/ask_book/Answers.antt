@@ -1,0 +1,12 @@
+use Rattle.std.proofs.Common.{◌≡◌, refl, ◌∙◌, subst}
+use Rattle.book_lock.specs.declared.shared.SharedBook.{SharedBook}
+use Rattle.book_lock.specs.Shared.{IsOnePartSeatOf}
+use Rattle.solve_core.proofs.member.Member.ask_book.Goals as goal
+
+pub returns : goal.returns
+returns g c =
+    let a = c.run.new.source in
+    let e : a.shared.now ≡ c.args.task.now.shared.now = c.run.ensures.alike c.args.self.now.asker refl ∙ c.requires.asker.shared in record {
+      worker = c.run.ensures.seat;
+      asker = subst (λ (s : SharedBook). IsOnePartSeatOf s a.seat) e c.run.ensures.source.seat;
+    }
