@@ -100,9 +100,6 @@ pub record IsSaid (m : Made) (ds ds' : List Drawn) (u : Unfolded) (p : Pair) : T
 abbrev pub Says : Made → List Drawn → Made → List Drawn → List Event → Unfolded → Result Pair Stop → Type 0
 Says m ds m' ds' es u r = Emits m m' es r (IsSaid m' ds ds' u)
 
-abbrev pub SaysOne : Made → List Drawn → Made → List Drawn → Kind → Place → Term → Arm → Result Pair Stop → Type 0
-SaysOne m ds m' ds' kind at t x r = (u : Unfolded) → IsArm m ds u x → Says m ds m' ds' (lift_events (λ y. []) u) (lift_form (terms_of kind at t) u) r
-
 abbrev pub SaysTwo : Made → List Drawn → Made → List Drawn → Kind → Place → Arm → Arm → Result Pair Stop → Type 0
 SaysTwo m ds m' ds' kind at x y r = (u v : Unfolded) → IsArm m ds u x → IsArm m ds v y → Says m ds m' ds' (compare_events u v) (compared kind at u v) r
 

@@ -29,7 +29,7 @@ use Rattle.term_build.specs.declared.stop.Stop.{Stop}
 use Rattle.declared_box.specs.Views.{side_of}
 use Rattle.declared_box.specs.declared.table.Side.{Side}
 use Rattle.value_build.specs.Arithmetic.{events_of_step, operator_of_step, tree_of_step}
-use Rattle.value_build.specs.Arms.{ArmsMake, Calculates, Folds, IsTreeArm, Joins, LiftsOne, LiftsTwo, Links, LinksEach, LinksWith, SaysAll, SaysOne, SaysTwo, arm_bounds, events_of_leaf, tree_of_leaf}
+use Rattle.value_build.specs.Arms.{ArmsMake, Calculates, Folds, Joins, LiftsOne, LiftsTwo, Links, LinksEach, LinksWith, SaysAll, SaysTwo, arm_bounds, events_of_leaf, tree_of_leaf}
 use Rattle.value_build.specs.Bounds.{AddsBounds, bounds_of_kind, chained_bounds, first_bounds, weight_of}
 use Rattle.value_build.specs.Chains.{AddsComparisons, AddsConnected, ComparesEach, ConnectsEach, two_of}
 use Rattle.value_build.specs.Leaves.{MakesSwitch, MakesTree}
@@ -93,12 +93,6 @@ CalculatesTrees step old new at nodes r =
 
 abbrev pub ComputesLeaf : Leaf → Made → Made → Place → ℕ → ℕ → Result ℕ Stop → Type 0
 ComputesLeaf leaf old new at first second r = Computes (events_of_leaf leaf) (tree_of_leaf leaf) old new at first second r
-
--- the same, as an arm
-abbrev pub MakesArm : Leaf → Made → Made → Place → ℕ → ℕ → Result Arm Stop → Type 0
-MakesArm leaf old new at first second r =
-    let t = tree_of old first in let u = tree_of old second in
-    Emits old new (events_of_leaf leaf (place_of at) t u) r (IsTreeArm new (tree_of_leaf leaf (place_of at) t u))
 
 abbrev pub LiftsArm : Made → Sketch → Made → Sketch → Place → Leaf → ℕ → Arm → Result Arm Stop → Type 0
 LiftsArm m s m' s' at leaf first arm r = LiftsOne m (drawn s) m' (drawn s') (place_of at) leaf (tree_of m first) arm r
@@ -174,9 +168,6 @@ abbrev pub Differ : Made → Sketch → Sketch → BoundLists → BoundLists →
 Differ m s s' lists lists' at nodes r = DiffersAll m (drawn s) (drawn s') lists lists' (place_of at) nodes r
 
 -- ---- comparisons of arms
-
-abbrev pub SaysArm : Made → Sketch → Made → Sketch → Kind → Place → ℕ → Arm → Result Pair Stop → Type 0
-SaysArm m s m' s' kind at first arm r = SaysOne m (drawn s) m' (drawn s') (kind_of kind) (place_of at) (tree_of m first) arm r
 
 abbrev pub SaysArms : Made → Sketch → Made → Sketch → Kind → Place → Arm → Arm → Result Pair Stop → Type 0
 SaysArms m s m' s' kind at arm second r = SaysTwo m (drawn s) m' (drawn s') (kind_of kind) (place_of at) arm second r

@@ -8,9 +8,9 @@ ghost use Rattle.script_forms.specs.Work.{reached};
 ghost use Rattle.term_build.specs.Does.{Does};
 ghost use Rattle.term_build.specs.Shapes.{drawn_of};
 ghost use Rattle.term_build.specs.Sketch.{IsSketch, as_choice};
-ghost use Rattle.term_build.specs.Steps.{Emits, IsTreeOf, tree_of};
 ghost use Rattle.term_build.specs.declared.sketch.Arm.TheVariants as arm;
-ghost use Rattle.value_build.specs.Arms.{IsSomeArm, LiftsOne, LiftsTwo, SaysTwo, events_of_leaf, tree_of_leaf};
+ghost use Rattle.value_build.specs.Arms.{IsSomeArm};
+ghost use Rattle.value_build.specs.Calls.{ComputesLeaf, LiftsArm, LiftsArms, SaysArms};
 ghost use Rattle.value_build.specs.Meetings.{AreSomeMet, CanGatherArms, CanGatherPairs, CanJoinArms, CanJoinPairs, GathersArms, GathersPairs, JoinsArms, JoinsPairs, Looks, Spreads, turns_left};
 
 use crate::arithmetic::{Step, apply};
@@ -53,7 +53,7 @@ fn apply_leaf(
 ) -> Result<u32, Stop>
     requires first { first < length builder.old.nodes }
     requires second { second < length builder.old.nodes }
-    ensures does { let t = tree_of builder.old first in let u = tree_of builder.old second in Emits builder.old builder.new (events_of_leaf leaf (place_of at) t u) result (IsTreeOf builder.new (tree_of_leaf leaf (place_of at) t u)) }
+    ensures does { ComputesLeaf leaf builder.old builder.new at first second result }
     ensures sorts { builder.new.sorts ≡ builder.old.sorts }
 {
     match leaf {
@@ -248,7 +248,7 @@ pub(crate) fn lift_one(
     requires first { first < length builder.old.nodes }
     requires known { IsSomeArm builder.old (map drawn_of sketch.old.items) arm }
     requires sketched { IsSketch builder.old (map drawn_of sketch.old.items) }
-    ensures does { LiftsOne builder.old (map drawn_of sketch.old.items) builder.new (map drawn_of sketch.new.items) (place_of at) leaf (tree_of builder.old first) arm result }
+    ensures does { LiftsArm builder.old sketch.old builder.new sketch.new at leaf first arm result }
     ensures sorts { builder.new.sorts ≡ builder.old.sorts }
 {
     let alloc = *sketch.allocator();
@@ -276,7 +276,7 @@ pub(crate) fn lift_two(
     requires known { IsSomeArm builder.old (map drawn_of sketch.old.items) arm }
     requires second { IsSomeArm builder.old (map drawn_of sketch.old.items) second }
     requires sketched { IsSketch builder.old (map drawn_of sketch.old.items) }
-    ensures does { LiftsTwo builder.old (map drawn_of sketch.old.items) builder.new (map drawn_of sketch.new.items) (place_of at) step arm second result }
+    ensures does { LiftsArms builder.old sketch.old builder.new sketch.new at step arm second result }
     ensures sorts { builder.new.sorts ≡ builder.old.sorts }
 {
     let alloc = *sketch.allocator();
@@ -305,7 +305,7 @@ pub(crate) fn compare_arms(
     requires known { IsSomeArm builder.old (map drawn_of sketch.old.items) arm }
     requires second { IsSomeArm builder.old (map drawn_of sketch.old.items) second }
     requires sketched { IsSketch builder.old (map drawn_of sketch.old.items) }
-    ensures does { SaysTwo builder.old (map drawn_of sketch.old.items) builder.new (map drawn_of sketch.new.items) (kind_of kind) (place_of at) arm second result }
+    ensures does { SaysArms builder.old sketch.old builder.new sketch.new kind at arm second result }
     ensures sorts { builder.new.sorts ≡ builder.old.sorts }
 {
     let entries = spread(alloc, builder, sketch, at, None, arm, second)?;
