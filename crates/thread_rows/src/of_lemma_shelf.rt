@@ -46,7 +46,7 @@ fn post_apart<J: Subject + Send + Sync, R: Threads + Wait + Sync>(
     shelf: &Shelf<J>,
     lemma: Lemma,
 ) -> bool
-    requires { IsLemmaOf J.problem J.margins lemma }
+    requires lemma { IsLemmaOf J.problem J.margins lemma }
 {
     let (posted, _) = join(
         rt,
