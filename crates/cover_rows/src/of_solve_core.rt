@@ -228,7 +228,7 @@ fn a_lemma_of_another_worker_is_quoted(rt: HostRuntime) -> Result<(), Fail> {
     let book = searched(&rt, alloc, &problem, &gate).ok_or("no book")?;
     let lower = gate.lower_worker.load(Ordering::SeqCst);
     let upper = gate.upper_worker.load(Ordering::SeqCst);
-    assert_eq!(rt; lower + upper, 1);
+    assert_eq!(rt; lower.checked_add(upper), Some(1));
     let text = write_cover(alloc, &book)?;
     assert!(rt; has_line(text.as_slice(), b"ban 7 0"));
     assert_eq!(rt;
