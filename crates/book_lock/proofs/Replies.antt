@@ -49,7 +49,7 @@ lemma_replies b b' n (LiveState S) s x y = s
 lemma_replies b b' n (Lemmas v) s x y = x v refl
 lemma_replies b b' n (Refused e) s x y = y e refl
 
--- lemmas are refused for want of memory alone
+-- lemmas are refused where memory runs out, and nowhere else
 pub lemmas_refused : (b b' : BookModel) (n : ℕ) (e : BookRefusal) → BookStep b (LemmasFrom n) (Refused e) b' → e ≡ Memory
 lemmas_refused b b' n (NotOpen m) s = absurd s
 lemmas_refused b b' n (OtherState S) s = absurd s

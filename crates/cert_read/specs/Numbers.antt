@@ -15,13 +15,13 @@ abbrev pub IsMeasured : Result Dy LineFault → Option Dyadic → Type 0
 IsMeasured (Ok d) o = o ≡ Some (dy.dyadic_of d)
 IsMeasured (Err f) o = (f ≡ BadNumber) × (o ≡ None)
 
--- of some numbers, a fault is that one has none, or want of memory
+-- of some numbers, a fault is that one has none, or that memory ran out
 abbrev pub IsUncounted : {A : Type 0} → LineFault → Option A → Type 0
 IsUncounted BadNumber o = o ≡ None
 IsUncounted Memory o = Unit {0}
 IsUncounted f o = ⊥
 
--- atoms with their multipliers; a fault is that the words are no pairs, that a number is none, or want of memory
+-- atoms with their multipliers; a fault is that the words are no pairs, that a number is none, or that memory ran out
 abbrev pub ArePairs : Result (Vec (ℕ × Dy) Global) LineFault → List (List ℕ) → Type 0
 ArePairs (Ok v) ws = IsTrue (has_pairs ws) × (pairs_of ws ≡ Some (pair_list v.items))
 ArePairs (Err BadLine) ws = has_pairs ws ≡ false

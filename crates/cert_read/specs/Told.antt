@@ -7,7 +7,7 @@ use Rattle.cert_read.specs.declared.fault.LineFault.TheVariants.{BadLine, BadNum
 use Rattle.cert_read.specs.CertLine.{bool_value, Parsed, line, bad_line, bad_number, too_long}
 use Rattle.cert_read.specs.Views.{bool_word_of, line_of}
 
--- the fault is that of the line; want of memory is none of a line
+-- the fault is that of the line; out of memory says nothing of it
 abbrev pub IsFault : LineFault → Parsed → Type 0
 IsFault BadLine p = p ≡ bad_line
 IsFault BadNumber p = p ≡ bad_number

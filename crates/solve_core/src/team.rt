@@ -141,7 +141,7 @@ fn dismiss(shared: &SharedBook, lead: &mut BookSeat, team: Vec<Member>)
 }
 
 /// Has so many workers search on the book side by side. What they leave live is for the caller to go on with: they
-/// stop where a point is kept, where all boxes that they know of are done or wait for want of a budget, and where
+/// stop where a point is kept, where all boxes that they know of are done or wait because the budget is spent, and where
 /// memory runs out. Where there is no memory for them the book is as it was. The subject is the problem at the margins of
 /// the options.
 pub fn search_together<J: Subject + Send + Sync, R: Threads + Wait + Sync, G: Gate + Sync>(
