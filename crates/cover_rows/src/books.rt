@@ -8,13 +8,14 @@ ghost use Rattle.cover_data.specs.Runs.{IsRun};
 ghost use Rattle.cover_data.specs.Views.{kept_of};
 
 use crate::patches::{Answer, DONE, book_of, is_state, led, outside_lemma, state_of};
-use crate::points::is_space;
+use crate::points::{ANYWHERE, NO_ROOT, is_space, middle_of};
 use crate::single_rules::{LINES, PARABOLA};
-use crate::tests::{ANYWHERE, CIRCLE, LEMMA, NO_ROOT, OUTSIDE, SWAPPED, middle_of, verdict};
 use cert_check::Verdict;
 use cert_text::write_cover;
 use cover_book::{Book, BookRefusal, BookVerdict, Kids};
 use cover_rule::{KeptPatch, Lemma, Patch};
+use sample_problems::scripts::{CIRCLE, OUTSIDE, SWAPPED};
+use sample_problems::verdict;
 use std::alloc::Global;
 
 // ---- what a book answers
@@ -171,7 +172,7 @@ fn is_written(
     };
     book.verdict() == said
         && written.as_slice() == text.as_bytes()
-        && verdict(alloc, book.problem(), &written, 1000) == Ok(confirmed)
+        && verdict(alloc, book.problem(), &written) == Ok(confirmed)
 }
 
 // Whether the book answers so where the middle of one node's box is found at another node.
@@ -528,12 +529,26 @@ const RIGHT: Commit = Commit {
     reply: Ok(Kids::None),
 };
 
+const QUOTED_LEMMA: &str = "dpoly 2
+margin 20
+delta 10
+bound none
+cover 1
+lemma 0
+real 0 1b0
+yes 4
+no
+pull 4
+false
+tree
+unit 4
+by 0
+end
+";
+
 // Whether the root is closed by a lemma once it is learned, and no sooner.
 fn is_closed_by_lemma(alloc: Global) -> bool {
     let Some(mut book) = made(alloc, OUTSIDE, 20, 0, &[EARLY]) else {
-        return false;
-    };
-    let Ok(text) = format!(in alloc; "{LEMMA}pull 4\nfalse\ntree\nunit 4\nby 0\nend\n") else {
         return false;
     };
     let state = ["real 0 1b0", "yes 4"];
@@ -545,7 +560,7 @@ fn is_closed_by_lemma(alloc: Global) -> bool {
         0,
     ) && is_committed(alloc, &mut book, WRONG)
         && is_committed(alloc, &mut book, RIGHT)
-        && is_written(alloc, &book, BookVerdict::Unsat, &text, Verdict::Unsat(20))
+        && is_written(alloc, &book, BookVerdict::Unsat, QUOTED_LEMMA, Verdict::Unsat(20))
 }
 
 #[test]

@@ -3,7 +3,6 @@ ghost use Rattle.std.specs.Prelude.{◌<◌, length, All, IsTrue};
 
 use crate::patches::{is_state, line_of, state_of};
 use crate::single_rules::{EVEN, GREAT, LINES, PARABOLA};
-use crate::tests::problem;
 use cert_read::Line;
 use combine::combine;
 use cover_rule::State;
@@ -12,6 +11,7 @@ use hc4_fwd::fill;
 use ival::{Narrowed, Rows, Space};
 use plain_combine::combine_plain;
 use poly_graph::{Lits, Problem};
+use sample_problems::problem;
 use std::alloc::Global;
 
 // Whether the pairs name atoms of the problem.

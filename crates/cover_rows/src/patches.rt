@@ -1,18 +1,17 @@
 // Patches that are led by hand: what they answer to each line, and the states that they leave.
 ghost use Rattle.std.specs.Prelude.{◌≡◌, ◌<◌, ◌≤◌, length, IfOk, IfSome, IsTrue};
 ghost use Rattle.cover_model.specs.Fits.{FitsProblem};
-ghost use Rattle.poly_graph.specs.ProblemViews.{problem_of};
 ghost use Rattle.cover_model.specs.State.{IsLemma};
 ghost use Rattle.cover_book.specs.Model.{margins_of, problem_in, loosenings_in};
 
-use crate::tests::{CIRCLE, OUTSIDE, SWAPPED, options, problem};
 use cert_read::{BoolSet, Line, LineReader};
 use cover_book::Book;
 use cover_rule::{End, Lemma, Options, Patch, PatchRefusal, State, Step};
 use ival::{Domain, Range, Space, Truths};
-use poly_graph::{Lits, Mark, Problem};
+use poly_graph::{Lits, Mark};
+use sample_problems::scripts::{CIRCLE, OUTSIDE, SWAPPED};
+use sample_problems::{USUAL, lies_within, problem};
 use std::alloc::Global;
-use truth3::{Root, root_space};
 
 // ---- states by hand
 
@@ -67,22 +66,6 @@ pub(crate) fn is_state(alloc: Global, state: &State, lines: &[&str]) -> bool {
     }
 }
 
-// ---- states that are those of a problem
-
-// Whether the state is one of the problem, within the declared box.
-fn lies_within(alloc: Global, problem: &Problem, state: &State) -> bool
-    ensures { IsTrue result → FitsProblem (problem_of problem.now) state.now }
-{
-    let Ok(Root::Space(root)) = root_space(alloc, problem) else {
-        return false;
-    };
-    let space = state.space();
-    if space.len() != root.len() || state.lits().len() != problem.atoms().len() {
-        return false;
-    }
-    space.within(&root)
-}
-
 // ---- patches
 
 // What a patch answers.
@@ -118,12 +101,10 @@ pub(crate) fn book_of(alloc: Global, script: &str, least_bits: u32, budget: u32)
     requires budget { budget ≤ 100 }
 {
     let problem = problem(alloc, script)?;
-    if problem.axes().len() > 1_024 || problem.atoms().len() > 65_536 {
-        return None;
-    }
     let options = Options {
         least_bits,
-        ..options(budget)
+        budget,
+        ..USUAL
     };
     Book::new(alloc, problem, options).ok()
 }

@@ -1,15 +1,28 @@
 // Middles of opening boxes: where the form is sure there, and the points that they then are.
-ghost use Rattle.std.specs.Prelude.{◌≤◌};
+ghost use Rattle.std.specs.Prelude.{◌≤◌, IfOk, IfSome};
+ghost use Rattle.cover_book.specs.Model.{loosenings_in, problem_in};
+ghost use Rattle.cover_model.specs.Fits.{IsShownAt};
 
 use crate::patches::{book_of, is_state};
-use crate::single_rules::BOOL;
-use crate::tests::{ANYWHERE, CIRCLE, NO_ROOT, OUTSIDE, SWAPPED, middle_of};
 use cover_book::Book;
-use cover_rule::{State, midpoint_sure};
+use cover_rule::{MiddlePoint, Point, State, midpoint_sure};
 use ival::{Rows, Space};
 use poly_graph::Lits;
+use sample_problems::scripts::{BOOL, CIRCLE, OUTSIDE, SWAPPED};
 use std::alloc::Global;
 use truth3::Marks;
+
+// No number of the unit interval has the square -1.
+pub(crate) const NO_ROOT: &str = "(declare-const x Real)
+(assert (<= 0 x 1))
+(assert (= (* x x) (- 1)))
+(check-sat)";
+
+// No number differs from itself; up to delta each does.
+pub(crate) const ANYWHERE: &str = "(declare-const x Real)
+(assert (<= 0 x 1))
+(assert (distinct x x))
+(check-sat)";
 
 // Whether the form is sure at the middle of the opening box, loosened by 2 to the power of minus so many bits.
 fn is_sure(alloc: Global, book: &Book, bits: u32) -> Option<bool>
@@ -52,6 +65,25 @@ fn the_middle_is_sure_as_far_as_it_is_loosened(rt: HostRuntime) {
     assert!(rt; is_found(alloc, SWAPPED, 3, true));
     assert!(rt; is_found(alloc, SWAPPED, 4, false));
     assert!(rt; is_found(alloc, BOOL, 0, false));
+}
+
+// The point in the middle of a live node's box, where the form is sure there.
+pub(crate) fn middle_of(
+    alloc: Global,
+    book: &Book,
+    node: u32,
+) -> Result<Option<Point>, &'static str>
+    ensures { IfOk result (λ o. IfSome o (λ p. IsShownAt (problem_in book.now) (loosenings_in book.now) p)) }
+{
+    let Ok(state) = book.state_of(node) else {
+        return Err("no state");
+    };
+    let problem = book.problem();
+    let margins = book.options().margins();
+    match Point::of_middle(alloc, problem, &margins, state.space()) {
+        Ok(point) => Ok(point),
+        Err(_) => Err("no memory"),
+    }
 }
 
 // Whether this is the space that the lines say.

@@ -3,11 +3,11 @@ use crate::patches::{
     Case, DECIDED, DONE, ENDED, IS_VOID, NOT_COMBINABLE, NOT_FALSE, NOT_INSIDE, NOT_NO, NOT_YES,
     begun_at, book_of, closes, parts, reaches,
 };
-use crate::tests::{OUTSIDE, SWAPPED};
 use cover_book::Book;
 use cover_rule::{Patch, State};
 use dyadic::{Dy, pow2};
 use poly_graph::{Lits, Mark};
+use sample_problems::scripts::{BOOL, OUTSIDE, SWAPPED};
 use std::alloc::{AllocError, Global};
 
 // ---- x^2 = 1/4 and (x >= 3/4 or x <= 1/4): an atom that fails is not at most 1/4
@@ -303,10 +303,6 @@ fn up_to_sixty_four_atoms_are_combined(rt: HostRuntime) {
 }
 
 // ---- a Bool
-
-pub(crate) const BOOL: &str = "(declare-const b Bool)
-(assert b)
-(check-sat)";
 
 const FLIPPED: [(Case, &[&str], &[&str]); 1] = [(
     Case {

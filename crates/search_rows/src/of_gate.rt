@@ -1,10 +1,10 @@
 // What the search calls its gate with, and in which order.
 ghost use Rattle.std.specs.Prelude.{◌≤◌};
 
-use crate::tests::{CIRCLE, OUTSIDE, SWAPPED, problem as script_problem};
+use crate::searched::searched;
 use cover_book::{Book, BookVerdict, Node};
-use cover_data::Options;
-use solve_core::*;
+use sample_problems::scripts::{CIRCLE, OUTSIDE, SWAPPED};
+use solve_core::Gate;
 use std::alloc::{AllocError, Global};
 use std::sync::Wait;
 use std::sync::atomic::{AtomicBool, AtomicU32, AtomicU64, Ordering};
@@ -88,7 +88,7 @@ impl Gate for Diary {
 }
 
 // The book of a search by so many workers, and the calls that it made.
-fn searched<R: Threads + Wait + Sync>(
+fn watched<R: Threads + Wait + Sync>(
     rt: &R,
     alloc: Global,
     script: &str,
@@ -97,20 +97,8 @@ fn searched<R: Threads + Wait + Sync>(
 ) -> Result<(Book, Vec<Said>), Fail>
     requires { budget ≤ 65536 }
 {
-    let problem = script_problem(alloc, script).ok_or("no problem")?;
-    if problem.axes().len() > 1_024 || problem.atoms().len() > 65_536 {
-        return Err(Fail::from("no problem within the limits"));
-    }
-    let options = Options {
-        delta_bits: 10,
-        margin_bits: 20,
-        least_bits: 20,
-        budget,
-        workers,
-        bound: None,
-    };
     let diary = Diary::new(alloc, 10_000)?;
-    let book = solve(rt, alloc, &problem, &options, &diary)?;
+    let book = searched(rt, alloc, script, budget, workers, &diary)?;
     let calls = diary.calls(alloc)?.ok_or("too many calls")?;
     Ok((book, calls))
 }
@@ -198,7 +186,7 @@ fn one_worker_calls_the_gate_depth_first(rt: HostRuntime) -> Result<(), Fail> {
     let mut most = 0;
     for script in [SWAPPED, CIRCLE, OUTSIDE] {
         for workers in [0, 1] {
-            let (book, calls) = searched(&rt, alloc, script, 65_536, workers)?;
+            let (book, calls) = watched(&rt, alloc, script, 65_536, workers)?;
             assert_eq!(rt; book.verdict(), BookVerdict::Unsat, "{script}");
             assert!(rt; each_once(&book, &calls), "{script}");
             let expected = depth_first(alloc, &book)?;
@@ -215,7 +203,7 @@ fn one_worker_calls_the_gate_depth_first(rt: HostRuntime) -> Result<(), Fail> {
 fn a_spent_budget_leaves_the_order(rt: HostRuntime) -> Result<(), Fail> {
     let alloc = rt.alloc();
     for budget in [0, 1, 2] {
-        let (book, calls) = searched(&rt, alloc, SWAPPED, budget, 1)?;
+        let (book, calls) = watched(&rt, alloc, SWAPPED, budget, 1)?;
         assert_eq!(rt; book.verdict(), BookVerdict::UnknownBudget);
         let expected = depth_first(alloc, &book)?;
         assert_eq!(rt; calls.as_slice(), expected.as_slice());
@@ -228,7 +216,7 @@ fn workers_call_the_gate_in_pairs(rt: HostRuntime) -> Result<(), Fail> {
     let alloc = rt.alloc();
     for script in [SWAPPED, CIRCLE, OUTSIDE] {
         for workers in [2, 3] {
-            let (book, calls) = searched(&rt, alloc, script, 65_536, workers)?;
+            let (book, calls) = watched(&rt, alloc, script, 65_536, workers)?;
             assert_eq!(rt; book.verdict(), BookVerdict::Unsat, "{script}");
             assert!(rt; each_once(&book, &calls), "{script}");
             assert!(rt; parts_come_later(&book, &calls), "{script}");
