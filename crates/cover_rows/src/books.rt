@@ -264,25 +264,25 @@ open
 end
 ";
 
+// Whether the book has made one branch, of which both nodes are live.
+fn has_one_branch(book: &Book) -> bool {
+    book.branches() == 1
+        && book.live_after(0) == Some(1)
+        && book.live_after(2) == Some(2)
+        && book.live_after(3) == None
+}
+
 // Whether the branch is made once and no other, and a lemma is learned besides.
 fn is_branch(alloc: Global) -> bool {
     let Some(mut book) = made(alloc, SWAPPED, 20, 1, &BRANCH) else {
         return false;
     };
     let state = ["real 0 0", "real 0 0"];
+    let said = BookVerdict::UnknownBudget;
     learns(alloc, &mut book, &state, &[("false", DONE)], 0)
         && ends_in_lemma(alloc, &book, 0, &state)
-        && book.branches() == 1
-        && book.live_after(0) == Some(1)
-        && book.live_after(2) == Some(2)
-        && book.live_after(3) == None
-        && is_written(
-            alloc,
-            &book,
-            BookVerdict::UnknownBudget,
-            OPEN_BRANCH,
-            Verdict::Left(2),
-        )
+        && has_one_branch(&book)
+        && is_written(alloc, &book, said, OPEN_BRANCH, Verdict::Left(2))
 }
 
 #[test]
@@ -560,7 +560,13 @@ fn is_closed_by_lemma(alloc: Global) -> bool {
         0,
     ) && is_committed(alloc, &mut book, WRONG)
         && is_committed(alloc, &mut book, RIGHT)
-        && is_written(alloc, &book, BookVerdict::Unsat, QUOTED_LEMMA, Verdict::Unsat(20))
+        && is_written(
+            alloc,
+            &book,
+            BookVerdict::Unsat,
+            QUOTED_LEMMA,
+            Verdict::Unsat(20),
+        )
 }
 
 #[test]

@@ -7,11 +7,7 @@ mod books;
 #[cfg(test)]
 mod of_cert_check;
 #[cfg(test)]
-mod of_cert_text;
-#[cfg(test)]
 mod of_combine;
-#[cfg(test)]
-mod of_cover_data;
 #[cfg(test)]
 mod patches;
 #[cfg(test)]

@@ -43,17 +43,23 @@ fn mark_all(lits: &mut Lits, atoms: &[u32], mark: Mark) {
     }
 }
 
+// Adds what a line says of an axis or of marks.
+fn add(line: &Line, axes: &mut Vec<Domain>, lits: &mut Lits) -> Option<()> {
+    match line {
+        Line::Yes(atoms) => mark_all(lits, atoms, Mark::Yes),
+        Line::No(atoms) => mark_all(lits, atoms, Mark::No),
+        other => axes.push(domain_in(other)?).ok()?,
+    }
+    Some(())
+}
+
 // The state that these lines of a certificate say, of a problem with so many atoms.
 pub(crate) fn state_of(alloc: Global, atoms: usize, lines: &[&str]) -> Option<State> {
     let mut axes = Vec::new(alloc);
     let mut lits = Lits::new(alloc, atoms).ok()?;
     for text in lines {
         let line = line_of(alloc, text)?;
-        match &line {
-            Line::Yes(atoms) => mark_all(&mut lits, atoms, Mark::Yes),
-            Line::No(atoms) => mark_all(&mut lits, atoms, Mark::No),
-            other => axes.push(domain_in(other)?).ok()?,
-        }
+        add(&line, &mut axes, &mut lits)?;
     }
     Some(State::new(Space { axes }, lits))
 }
@@ -369,13 +375,28 @@ fn book_in(alloc: Global, case: Case) -> Option<Book> {
     book_of(alloc, case.script, case.least_bits, 0)
 }
 
+// Whether the case is closed in its book by the steps and the end that these lines say, where the lemma may be quoted.
+fn closes_in(
+    alloc: Global,
+    book: &Book,
+    lemma: Option<&Lemma>,
+    case: Case,
+    steps: &[&str],
+    line: &str,
+) -> bool
+    requires fits { IfSome lemma (λ l. FitsProblem (problem_in book.now) l.now.state) }
+    requires lemma { IfSome lemma (λ l. IsLemma (problem_in book.now) (loosenings_in book.now) l.now.state) }
+{
+    match patch_of(alloc, book, lemma, case) {
+        Some(patch) => is_closed_by(alloc, patch, steps, line),
+        None => false,
+    }
+}
+
 // Whether the case is closed by the steps and the end that these lines say.
 pub(crate) fn closes(alloc: Global, case: Case, steps: &[&str], line: &str) -> bool {
-    let Some(book) = book_in(alloc, case) else {
-        return false;
-    };
-    match patch_of(alloc, &book, None, case) {
-        Some(patch) => is_closed_by(alloc, patch, steps, line),
+    match book_in(alloc, case) {
+        Some(book) => closes_in(alloc, &book, None, case, steps, line),
         None => false,
     }
 }
@@ -661,22 +682,13 @@ pub(crate) fn outside_lemma(alloc: Global, book: &Book, id: u32) -> Option<Lemma
     lemma_of(alloc, book, patch, id)
 }
 
-// Whether the case is closed so, where a copy of that lemma may be quoted.
+// Whether the case is closed so, where that lemma may be quoted.
 fn closes_by_lemma(alloc: Global, case: Case, steps: &[&str], line: &str) -> bool {
     let Some(book) = book_in(alloc, case) else {
         return false;
     };
-    let Some(lemma) = outside_lemma(alloc, &book, 0) else {
-        return false;
-    };
-    let Ok(copy) = lemma.try_clone(alloc) else {
-        return false;
-    };
-    if copy.id() != lemma.id() || !is_state(alloc, copy.state(), &["real 0 1b0", "yes 4"]) {
-        return false;
-    }
-    match patch_of(alloc, &book, Some(&copy), case) {
-        Some(patch) => is_closed_by(alloc, patch, steps, line),
+    match outside_lemma(alloc, &book, 0) {
+        Some(lemma) => closes_in(alloc, &book, Some(&lemma), case, steps, line),
         None => false,
     }
 }

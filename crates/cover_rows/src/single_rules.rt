@@ -9,6 +9,7 @@ use dyadic::{Dy, pow2};
 use poly_graph::{Lits, Mark};
 use sample_problems::scripts::{BOOL, OUTSIDE, SWAPPED};
 use std::alloc::{AllocError, Global};
+use std::test::Fail;
 
 // ---- x^2 = 1/4 and (x >= 3/4 or x <= 1/4): an atom that fails is not at most 1/4
 
@@ -277,29 +278,35 @@ fn marked<'a>(alloc: Global, book: &'a Book) -> Option<Patch<'a>> {
     begun_at(alloc, book, State::new(space, lits))
 }
 
-// Whether the patch refuses to combine its first atoms, so many.
-fn is_refused(alloc: Global, patch: &mut Patch, count: u32) -> Option<bool> {
-    let pairs = first_atoms(alloc, count).ok()?;
-    let is_step_refused = patch.combine(&pairs) == NOT_COMBINABLE;
-    let is_end_refused = patch.void_combine(&pairs) == NOT_COMBINABLE;
-    Some(is_step_refused && is_end_refused)
+// Whether the patch refuses to combine its first atoms, so many, or does not, as said.
+fn refuses(alloc: Global, patch: &mut Patch, count: u32, expected: bool) -> bool {
+    match first_atoms(alloc, count) {
+        Ok(pairs) => {
+            (patch.combine(&pairs) == NOT_COMBINABLE) == expected
+                && (patch.void_combine(&pairs) == NOT_COMBINABLE) == expected
+        }
+        Err(_) => false,
+    }
 }
 
-// Whether from 1 to 64 of 65 atoms may be combined.
-fn are_counted(alloc: Global) -> Option<bool> {
-    let book = book_of(alloc, MANY, 20, 0)?;
-    let mut patch = marked(alloc, &book)?;
-    Some(
-        book.problem().atoms().len() == 65
-            && is_refused(alloc, &mut patch, 0)?
-            && is_refused(alloc, &mut patch, 65)?
-            && !is_refused(alloc, &mut patch, 64)?,
-    )
+// Whether from 1 to 64 of the book's 65 atoms may be combined.
+fn are_counted(alloc: Global, book: &Book) -> bool {
+    match marked(alloc, book) {
+        Some(mut patch) => {
+            book.problem().atoms().len() == 65
+                && refuses(alloc, &mut patch, 0, true)
+                && refuses(alloc, &mut patch, 65, true)
+                && refuses(alloc, &mut patch, 64, false)
+        }
+        None => false,
+    }
 }
 
 #[test]
-fn up_to_sixty_four_atoms_are_combined(rt: HostRuntime) {
-    assert!(rt; are_counted(rt.alloc()) == Some(true));
+fn up_to_sixty_four_atoms_are_combined(rt: HostRuntime) -> Result<(), Fail> {
+    let book = book_of(rt.alloc(), MANY, 20, 0).ok_or("no book")?;
+    assert!(rt; are_counted(rt.alloc(), &book));
+    Ok(())
 }
 
 // ---- a Bool
