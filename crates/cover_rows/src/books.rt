@@ -21,7 +21,6 @@ use std::alloc::Global;
 // ---- what a book answers
 
 // Why a book refuses: states and points are said by lines of a certificate.
-#[derive(Clone, Copy)]
 enum Refused {
     NotOpen(u32),
     Elsewhere(&'static [&'static str]),
@@ -31,16 +30,16 @@ enum Refused {
 }
 
 // Whether the book refuses for this cause.
-fn is_refused(alloc: Global, refusal: &BookRefusal, expected: Refused) -> bool {
+fn is_refused(alloc: Global, refusal: &BookRefusal, expected: &Refused) -> bool {
     match (refusal, expected) {
-        (BookRefusal::NotOpen(node), Refused::NotOpen(said)) => *node == said,
+        (BookRefusal::NotOpen(node), Refused::NotOpen(said)) => *node == *said,
         (BookRefusal::OtherState(state), Refused::Elsewhere(lines)) => {
             is_state(alloc, state, lines)
         }
         (BookRefusal::UnknownLemma(id, count), Refused::Unknown(said, known)) => {
-            *id == said && *count == known
+            *id == *said && *count == *known
         }
-        (BookRefusal::BudgetSpent(branches), Refused::Spent(said)) => *branches == said,
+        (BookRefusal::BudgetSpent(branches), Refused::Spent(said)) => *branches == *said,
         (BookRefusal::PointKept(point), Refused::Found(lines)) => {
             is_space(alloc, point.space(), lines)
         }
@@ -50,7 +49,6 @@ fn is_refused(alloc: Global, refusal: &BookRefusal, expected: Refused) -> bool {
 
 // A patch that is committed to a node: the number of the lemma that it may quote, the state in which it begins, its
 // lines with what they are answered, and what the book answers.
-#[derive(Clone, Copy)]
 struct Commit {
     node: u32,
     quotes: Option<u32>,
@@ -86,7 +84,7 @@ fn worked(
 }
 
 // The same of a commit, where a lemma may be quoted.
-fn kept(alloc: Global, book: &Book, commit: Commit) -> Option<KeptPatch>
+fn kept(alloc: Global, book: &Book, commit: &Commit) -> Option<KeptPatch>
     ensures { IfSome result (λ k. IsRun (problem_in book.now) (margins_of book.now.options) (kept_of k) × IsSome k.end) }
 {
     match commit.quotes {
@@ -99,13 +97,13 @@ fn kept(alloc: Global, book: &Book, commit: Commit) -> Option<KeptPatch>
 }
 
 // Whether the book answers the commit so.
-fn is_committed(alloc: Global, book: &mut Book, commit: Commit) -> bool {
+fn is_committed(alloc: Global, book: &mut Book, commit: &Commit) -> bool {
     let Some(patch) = kept(alloc, book, commit) else {
         return false;
     };
     let answer = book.commit(commit.node, patch);
-    match (&answer, commit.reply) {
-        (Ok(kids), Ok(said)) => *kids == said,
+    match (&answer, &commit.reply) {
+        (Ok(kids), Ok(said)) => *kids == *said,
         (Err(refusal), Err(said)) => is_refused(alloc, refusal, said),
         _ => false,
     }
@@ -124,7 +122,7 @@ fn made(
     }
     let mut book = book_of(alloc, script, least_bits, budget)?;
     for commit in commits {
-        if !is_committed(alloc, &mut book, *commit) {
+        if !is_committed(alloc, &mut book, commit) {
             return None;
         }
     }
@@ -181,7 +179,7 @@ fn is_found(
     book: &mut Book,
     of: u32,
     node: u32,
-    expected: Result<(), Refused>,
+    expected: &Result<(), Refused>,
 ) -> bool {
     let Ok(Some(point)) = middle_of(alloc, book, of) else {
         return false;
@@ -493,11 +491,11 @@ end
 fn combinations_are_written_and_confirmed(rt: HostRuntime) {
     let alloc = rt.alloc();
     for (script, commits, text) in [
-        (PARABOLA, REFUTED, REFUTED_PARABOLA),
-        (LINES, APART, REFUTED_LINES),
+        (PARABOLA, &REFUTED, REFUTED_PARABOLA),
+        (LINES, &APART, REFUTED_LINES),
     ] {
         let said = BookVerdict::Unsat;
-        assert!(rt; is_cover(alloc, script, 20, &commits, said, text, Verdict::Unsat(20)));
+        assert!(rt; is_cover(alloc, script, 20, commits, said, text, Verdict::Unsat(20)));
     }
 }
 
@@ -505,13 +503,13 @@ fn combinations_are_written_and_confirmed(rt: HostRuntime) {
 
 const QUOTED: [(&str, Answer); 2] = [("unit 4", DONE), ("by 0", DONE)];
 
-const EARLY: Commit = Commit {
+const EARLY: [Commit; 1] = [Commit {
     node: 0,
     quotes: Some(0),
     state: &["real 0 1b0"],
     lines: &QUOTED,
     reply: Err(Refused::Unknown(0, 0)),
-};
+}];
 
 const WRONG: Commit = Commit {
     node: 0,
@@ -548,7 +546,7 @@ end
 
 // Whether the root is closed by a lemma once it is learned, and no sooner.
 fn is_closed_by_lemma(alloc: Global) -> bool {
-    let Some(mut book) = made(alloc, OUTSIDE, 20, 0, &[EARLY]) else {
+    let Some(mut book) = made(alloc, OUTSIDE, 20, 0, &EARLY) else {
         return false;
     };
     let state = ["real 0 1b0", "yes 4"];
@@ -558,8 +556,8 @@ fn is_closed_by_lemma(alloc: Global) -> bool {
         &state,
         &[("pull 4", DONE), ("false", DONE)],
         0,
-    ) && is_committed(alloc, &mut book, WRONG)
-        && is_committed(alloc, &mut book, RIGHT)
+    ) && is_committed(alloc, &mut book, &WRONG)
+        && is_committed(alloc, &mut book, &RIGHT)
         && is_written(
             alloc,
             &book,
@@ -581,14 +579,14 @@ fn is_found_once(alloc: Global) -> bool {
     let Some(mut book) = made(alloc, ANYWHERE, 20, 0, &[]) else {
         return false;
     };
-    is_found(alloc, &mut book, 0, 1, Err(Refused::NotOpen(1)))
-        && is_found(alloc, &mut book, 0, 0, Ok(()))
+    is_found(alloc, &mut book, 0, 1, &Err(Refused::NotOpen(1)))
+        && is_found(alloc, &mut book, 0, 0, &Ok(()))
         && is_found(
             alloc,
             &mut book,
             0,
             0,
-            Err(Refused::Found(&["real 1b-1 1b-1"])),
+            &Err(Refused::Found(&["real 1b-1 1b-1"])),
         )
         && book.verdict() == BookVerdict::DeltaSat
 }
@@ -630,8 +628,8 @@ fn is_last(alloc: Global) -> bool {
     let Some(mut book) = made(alloc, QUARTER, 20, 1, &HALVES) else {
         return false;
     };
-    is_found(alloc, &mut book, 1, 1, Ok(()))
-        && is_committed(alloc, &mut book, LATE)
+    is_found(alloc, &mut book, 1, 1, &Ok(()))
+        && is_committed(alloc, &mut book, &LATE)
         && book.verdict() == BookVerdict::DeltaSat
 }
 

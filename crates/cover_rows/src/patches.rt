@@ -344,7 +344,6 @@ fn is_closed_by(alloc: Global, patch: Patch, steps: &[&str], line: &str) -> bool
 }
 
 // A patch for a script: the least width, the state in which it begins, and each line with what it answers.
-#[derive(Clone, Copy)]
 pub(crate) struct Case {
     pub script: &'static str,
     pub least_bits: u32,
@@ -357,7 +356,7 @@ fn patch_of<'a>(
     alloc: Global,
     book: &'a Book,
     lemma: Option<&Lemma>,
-    case: Case,
+    case: &Case,
 ) -> Option<Patch<'a>>
     requires fits { IfSome lemma (λ l. FitsProblem (problem_in book.now) l.now.state) }
     requires lemma { IfSome lemma (λ l. IsLemma (problem_in book.now) (loosenings_in book.now) l.now.state) }
@@ -368,7 +367,7 @@ fn patch_of<'a>(
 }
 
 // Its book.
-fn book_in(alloc: Global, case: Case) -> Option<Book> {
+fn book_in(alloc: Global, case: &Case) -> Option<Book> {
     if case.least_bits > 60 {
         return None;
     }
@@ -380,7 +379,7 @@ fn closes_in(
     alloc: Global,
     book: &Book,
     lemma: Option<&Lemma>,
-    case: Case,
+    case: &Case,
     steps: &[&str],
     line: &str,
 ) -> bool
@@ -394,7 +393,7 @@ fn closes_in(
 }
 
 // Whether the case is closed by the steps and the end that these lines say.
-pub(crate) fn closes(alloc: Global, case: Case, steps: &[&str], line: &str) -> bool {
+pub(crate) fn closes(alloc: Global, case: &Case, steps: &[&str], line: &str) -> bool {
     match book_in(alloc, case) {
         Some(book) => closes_in(alloc, &book, None, case, steps, line),
         None => false,
@@ -402,7 +401,7 @@ pub(crate) fn closes(alloc: Global, case: Case, steps: &[&str], line: &str) -> b
 }
 
 // Whether the case ends in a branch that leaves these two states.
-pub(crate) fn parts(alloc: Global, case: Case, lower: &[&str], upper: &[&str]) -> bool {
+pub(crate) fn parts(alloc: Global, case: &Case, lower: &[&str], upper: &[&str]) -> bool {
     let Some(book) = book_in(alloc, case) else {
         return false;
     };
@@ -413,7 +412,7 @@ pub(crate) fn parts(alloc: Global, case: Case, lower: &[&str], upper: &[&str]) -
 }
 
 // Whether the case does not close its state, and reaches this one.
-pub(crate) fn reaches(alloc: Global, case: Case, lines: &[&str]) -> bool {
+pub(crate) fn reaches(alloc: Global, case: &Case, lines: &[&str]) -> bool {
     let Some(book) = book_in(alloc, case) else {
         return false;
     };
@@ -463,7 +462,7 @@ const CUTS: [(Case, &[&str], &[&str]); 2] = [
 
 #[test]
 fn the_widest_axis_is_cut(rt: HostRuntime) {
-    for (case, lower, upper) in CUTS {
+    for (case, lower, upper) in &CUTS {
         assert!(rt; parts(rt.alloc(), case, lower, upper));
     }
 }
@@ -513,10 +512,10 @@ const CLOSED_PARTS: [(Case, &[&str], &str); 3] = [
 
 #[test]
 fn each_part_is_closed(rt: HostRuntime) {
-    for (case, state) in PULLED {
+    for (case, state) in &PULLED {
         assert!(rt; reaches(rt.alloc(), case, state));
     }
-    for (case, steps, end) in CLOSED_PARTS {
+    for (case, steps, end) in &CLOSED_PARTS {
         assert!(rt; closes(rt.alloc(), case, steps, end));
     }
 }
@@ -586,10 +585,10 @@ const SQUARE_STATES: [(Case, &[&str]); 2] = [
 
 #[test]
 fn what_no_atom_narrows_is_cut_or_stuck(rt: HostRuntime) {
-    for (case, lower, upper) in SQUARE_CUT {
+    for (case, lower, upper) in &SQUARE_CUT {
         assert!(rt; parts(rt.alloc(), case, lower, upper));
     }
-    for (case, state) in SQUARE_STATES {
+    for (case, state) in &SQUARE_STATES {
         assert!(rt; reaches(rt.alloc(), case, state));
     }
 }
@@ -658,13 +657,13 @@ const CHOICE_CLOSED: [(Case, &[&str], &str); 2] = [
 
 #[test]
 fn an_atom_of_a_choice_is_parted(rt: HostRuntime) {
-    for (case, lower, upper) in CHOICE_PARTS {
+    for (case, lower, upper) in &CHOICE_PARTS {
         assert!(rt; parts(rt.alloc(), case, lower, upper));
     }
-    for (case, state) in CHOICE_STATES {
+    for (case, state) in &CHOICE_STATES {
         assert!(rt; reaches(rt.alloc(), case, state));
     }
-    for (case, steps, end) in CHOICE_CLOSED {
+    for (case, steps, end) in &CHOICE_CLOSED {
         assert!(rt; closes(rt.alloc(), case, steps, end));
     }
 }
@@ -683,7 +682,7 @@ pub(crate) fn outside_lemma(alloc: Global, book: &Book, id: u32) -> Option<Lemma
 }
 
 // Whether the case is closed so, where that lemma may be quoted.
-fn closes_by_lemma(alloc: Global, case: Case, steps: &[&str], line: &str) -> bool {
+fn closes_by_lemma(alloc: Global, case: &Case, steps: &[&str], line: &str) -> bool {
     let Some(book) = book_in(alloc, case) else {
         return false;
     };
@@ -758,7 +757,7 @@ const BY_LEMMA: [(Case, &[&str], &str); 3] = [
 
 #[test]
 fn a_lemma_closes_and_a_refusal_changes_nothing(rt: HostRuntime) {
-    for (case, steps, end) in BY_LEMMA {
+    for (case, steps, end) in &BY_LEMMA {
         assert!(rt; closes_by_lemma(rt.alloc(), case, steps, end));
     }
 }

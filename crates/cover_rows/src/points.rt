@@ -66,9 +66,9 @@ const MIDDLES: [(&str, u32, bool); 9] = [
 
 #[test]
 fn the_middle_is_sure_as_far_as_it_is_loosened(rt: HostRuntime) {
-    for (script, bits, expected) in MIDDLES {
+    for (script, bits, expected) in &MIDDLES {
         assert!(rt;
-            is_found(rt.alloc(), script, bits, expected),
+            is_found(rt.alloc(), script, *bits, *expected),
             "{bits} {script}"
         );
     }

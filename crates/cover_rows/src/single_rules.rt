@@ -50,10 +50,10 @@ const CLOSED_BY_FAILURE: [(Case, &[&str], &str); 1] = [(
 
 #[test]
 fn atoms_that_fail_narrow_and_close(rt: HostRuntime) {
-    for (case, state) in PUSHED {
+    for (case, state) in &PUSHED {
         assert!(rt; reaches(rt.alloc(), case, state));
     }
-    for (case, steps, end) in CLOSED_BY_FAILURE {
+    for (case, steps, end) in &CLOSED_BY_FAILURE {
         assert!(rt; closes(rt.alloc(), case, steps, end));
     }
 }
@@ -173,7 +173,7 @@ const COMBINED: [(Case, &[&str]); 5] = [
 
 #[test]
 fn combinations_narrow(rt: HostRuntime) {
-    for (case, state) in COMBINED {
+    for (case, state) in &COMBINED {
         assert!(rt; reaches(rt.alloc(), case, state));
     }
 }
@@ -242,7 +242,7 @@ const CLOSED_BY_COMBINATIONS: [(Case, &[&str], &str); 5] = [
 
 #[test]
 fn combinations_close(rt: HostRuntime) {
-    for (case, steps, end) in CLOSED_BY_COMBINATIONS {
+    for (case, steps, end) in &CLOSED_BY_COMBINATIONS {
         assert!(rt; closes(rt.alloc(), case, steps, end));
     }
 }
@@ -349,13 +349,13 @@ const FALSE_CLOSED: [(Case, &[&str], &str); 1] = [(
 
 #[test]
 fn a_bool_is_flipped(rt: HostRuntime) {
-    for (case, lower, upper) in FLIPPED {
+    for (case, lower, upper) in &FLIPPED {
         assert!(rt; parts(rt.alloc(), case, lower, upper));
     }
-    for (case, state) in TRUE_STATE {
+    for (case, state) in &TRUE_STATE {
         assert!(rt; reaches(rt.alloc(), case, state));
     }
-    for (case, steps, end) in FALSE_CLOSED {
+    for (case, steps, end) in &FALSE_CLOSED {
         assert!(rt; closes(rt.alloc(), case, steps, end));
     }
 }

@@ -25,9 +25,9 @@ const ENDS: [(&str, u32, BookVerdict); 3] = [
 #[test]
 fn searches_end_with_their_verdicts(rt: HostRuntime) -> Result<(), Fail> {
     for workers in [0, 1, 2, 8, 64, 1000] {
-        for (script, budget, expected) in ENDS {
-            let book = searched(&rt, rt.alloc(), script, budget, workers, &NoGate)?;
-            assert_eq!(rt; book.verdict(), expected, "{workers} {script}");
+        for (script, budget, expected) in &ENDS {
+            let book = searched(&rt, rt.alloc(), script, *budget, workers, &NoGate)?;
+            assert_eq!(rt; book.verdict(), *expected, "{workers} {script}");
         }
     }
     Ok(())
