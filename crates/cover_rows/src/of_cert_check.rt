@@ -1,53 +1,41 @@
 // How many states the checker keeps after each line of a certificate.
-use cert_check::{CertFault, Checker};
+use cert_check::Checker;
 use cert_read::LineReader;
-use poly_graph::Problem;
 use sample_problems::problem;
 use sample_problems::scripts::CIRCLE;
-use std::alloc::Global;
 use std::test::Fail;
 
-const CIRCLE_COVER: &str = "dpoly 1
-margin 20
-delta 10
-bound none
-cover 0
-tree
-cut 0 1b0
-cut 1 1b0
-unit 5
-pull 5
-false
-unit 4
-pull 4
-false
-unit 4
-pull 4
-false
-end
-";
-
-// How many states of the tree are kept after each line.
-fn pending(alloc: Global, problem: &Problem, text: &[u8]) -> Result<Vec<usize>, CertFault> {
-    let mut checker = Checker::new(alloc, problem, None)?;
-    let mut reader = LineReader::new(alloc);
-    let mut counts = Vec::new(alloc);
-    for byte in text {
-        reader.feed(&[*byte])?;
-        checker.take(&mut reader)?;
-        if *byte == b'\n' && counts.push(checker.pending()).is_err() {
-            return Err(CertFault::Memory);
-        }
-    }
-    Ok(counts)
-}
+// The lines of a cover of two cuts, each with how many states are kept after it.
+const LINES: [(&str, usize); 18] = [
+    ("dpoly 1\n", 0),
+    ("margin 20\n", 0),
+    ("delta 10\n", 0),
+    ("bound none\n", 0),
+    ("cover 0\n", 0),
+    ("tree\n", 1),
+    ("cut 0 1b0\n", 2),
+    ("cut 1 1b0\n", 3),
+    ("unit 5\n", 3),
+    ("pull 5\n", 3),
+    ("false\n", 2),
+    ("unit 4\n", 2),
+    ("pull 4\n", 2),
+    ("false\n", 1),
+    ("unit 4\n", 1),
+    ("pull 4\n", 1),
+    ("false\n", 0),
+    ("end\n", 0),
+];
 
 #[test]
 fn the_states_of_a_tree_are_counted(rt: HostRuntime) -> Result<(), Fail> {
-    let alloc = rt.alloc();
-    let problem = problem(alloc, CIRCLE).ok_or("no problem")?;
-    let counts = pending(alloc, &problem, CIRCLE_COVER.as_bytes())?;
-    let expected = [0, 0, 0, 0, 0, 1, 2, 3, 3, 3, 2, 2, 2, 1, 1, 1, 0, 0];
-    assert_eq!(rt; counts.as_slice(), expected.as_slice());
+    let problem = problem(rt.alloc(), CIRCLE).ok_or("no problem")?;
+    let mut checker = Checker::new(rt.alloc(), &problem, None)?;
+    let mut reader = LineReader::new(rt.alloc());
+    for (line, count) in &LINES {
+        reader.feed(line.as_bytes())?;
+        checker.take(&mut reader)?;
+        assert_eq!(rt; checker.pending(), *count, "{line}");
+    }
     Ok(())
 }
