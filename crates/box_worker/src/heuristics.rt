@@ -8,6 +8,9 @@ const FIRST_SEARCHES: u32 = 8;
 /// Then in one of so many.
 const SEARCH_PERIOD: u32 = 16;
 
+/// Closed runs are not repeated for so many of them in a row at most.
+const LESSONS_LEFT_OUT: u32 = 32;
+
 /// What is kept from box to box for choices alone. It promises nothing.
 #[derive(Drop)]
 pub struct Heuristics {
@@ -22,7 +25,7 @@ impl Heuristics {
     pub fn new() -> Heuristics {
         Heuristics {
             scout: None,
-            lessons: Patience::new(),
+            lessons: Patience::new(LESSONS_LEFT_OUT),
             boxes: 0,
         }
     }
