@@ -8,19 +8,19 @@ ghost use Rattle.cover_data.specs.Runs.{IsRun};
 ghost use Rattle.cover_data.specs.Views.{kept_of};
 
 use crate::patches::{Answer, DONE, book_of, is_state, led, outside_lemma, state_of};
-use crate::points::is_space;
+use crate::points::{ANYWHERE, NO_ROOT, is_space, middle_of};
 use crate::single_rules::{LINES, PARABOLA};
-use crate::tests::{ANYWHERE, CIRCLE, LEMMA, NO_ROOT, OUTSIDE, SWAPPED, middle_of, verdict};
 use cert_check::Verdict;
 use cert_text::write_cover;
 use cover_book::{Book, BookRefusal, BookVerdict, Kids};
 use cover_rule::{KeptPatch, Lemma, Patch};
+use sample_problems::scripts::{CIRCLE, OUTSIDE, SWAPPED};
+use sample_problems::verdict;
 use std::alloc::Global;
 
 // ---- what a book answers
 
 // Why a book refuses: states and points are said by lines of a certificate.
-#[derive(Clone, Copy)]
 enum Refused {
     NotOpen(u32),
     Elsewhere(&'static [&'static str]),
@@ -30,16 +30,16 @@ enum Refused {
 }
 
 // Whether the book refuses for this cause.
-fn is_refused(alloc: Global, refusal: &BookRefusal, expected: Refused) -> bool {
+fn is_refused(alloc: Global, refusal: &BookRefusal, expected: &Refused) -> bool {
     match (refusal, expected) {
-        (BookRefusal::NotOpen(node), Refused::NotOpen(said)) => *node == said,
+        (BookRefusal::NotOpen(node), Refused::NotOpen(said)) => *node == *said,
         (BookRefusal::OtherState(state), Refused::Elsewhere(lines)) => {
             is_state(alloc, state, lines)
         }
         (BookRefusal::UnknownLemma(id, count), Refused::Unknown(said, known)) => {
-            *id == said && *count == known
+            *id == *said && *count == *known
         }
-        (BookRefusal::BudgetSpent(branches), Refused::Spent(said)) => *branches == said,
+        (BookRefusal::BudgetSpent(branches), Refused::Spent(said)) => *branches == *said,
         (BookRefusal::PointKept(point), Refused::Found(lines)) => {
             is_space(alloc, point.space(), lines)
         }
@@ -49,7 +49,6 @@ fn is_refused(alloc: Global, refusal: &BookRefusal, expected: Refused) -> bool {
 
 // A patch that is committed to a node: the number of the lemma that it may quote, the state in which it begins, its
 // lines with what they are answered, and what the book answers.
-#[derive(Clone, Copy)]
 struct Commit {
     node: u32,
     quotes: Option<u32>,
@@ -85,7 +84,7 @@ fn worked(
 }
 
 // The same of a commit, where a lemma may be quoted.
-fn kept(alloc: Global, book: &Book, commit: Commit) -> Option<KeptPatch>
+fn kept(alloc: Global, book: &Book, commit: &Commit) -> Option<KeptPatch>
     ensures { IfSome result (λ k. IsRun (problem_in book.now) (margins_of book.now.options) (kept_of k) × IsSome k.end) }
 {
     match commit.quotes {
@@ -98,13 +97,13 @@ fn kept(alloc: Global, book: &Book, commit: Commit) -> Option<KeptPatch>
 }
 
 // Whether the book answers the commit so.
-fn is_committed(alloc: Global, book: &mut Book, commit: Commit) -> bool {
+fn is_committed(alloc: Global, book: &mut Book, commit: &Commit) -> bool {
     let Some(patch) = kept(alloc, book, commit) else {
         return false;
     };
     let answer = book.commit(commit.node, patch);
-    match (&answer, commit.reply) {
-        (Ok(kids), Ok(said)) => *kids == said,
+    match (&answer, &commit.reply) {
+        (Ok(kids), Ok(said)) => *kids == *said,
         (Err(refusal), Err(said)) => is_refused(alloc, refusal, said),
         _ => false,
     }
@@ -123,7 +122,7 @@ fn made(
     }
     let mut book = book_of(alloc, script, least_bits, budget)?;
     for commit in commits {
-        if !is_committed(alloc, &mut book, *commit) {
+        if !is_committed(alloc, &mut book, commit) {
             return None;
         }
     }
@@ -171,7 +170,7 @@ fn is_written(
     };
     book.verdict() == said
         && written.as_slice() == text.as_bytes()
-        && verdict(alloc, book.problem(), &written, 1000) == Ok(confirmed)
+        && verdict(alloc, book.problem(), &written) == Ok(confirmed)
 }
 
 // Whether the book answers so where the middle of one node's box is found at another node.
@@ -180,7 +179,7 @@ fn is_found(
     book: &mut Book,
     of: u32,
     node: u32,
-    expected: Result<(), Refused>,
+    expected: &Result<(), Refused>,
 ) -> bool {
     let Ok(Some(point)) = middle_of(alloc, book, of) else {
         return false;
@@ -263,25 +262,25 @@ open
 end
 ";
 
+// Whether the book has made one branch, of which both nodes are live.
+fn has_one_branch(book: &Book) -> bool {
+    book.branches() == 1
+        && book.live_after(0) == Some(1)
+        && book.live_after(2) == Some(2)
+        && book.live_after(3) == None
+}
+
 // Whether the branch is made once and no other, and a lemma is learned besides.
 fn is_branch(alloc: Global) -> bool {
     let Some(mut book) = made(alloc, SWAPPED, 20, 1, &BRANCH) else {
         return false;
     };
     let state = ["real 0 0", "real 0 0"];
+    let said = BookVerdict::UnknownBudget;
     learns(alloc, &mut book, &state, &[("false", DONE)], 0)
         && ends_in_lemma(alloc, &book, 0, &state)
-        && book.branches() == 1
-        && book.live_after(0) == Some(1)
-        && book.live_after(2) == Some(2)
-        && book.live_after(3) == None
-        && is_written(
-            alloc,
-            &book,
-            BookVerdict::UnknownBudget,
-            OPEN_BRANCH,
-            Verdict::Left(2),
-        )
+        && has_one_branch(&book)
+        && is_written(alloc, &book, said, OPEN_BRANCH, Verdict::Left(2))
 }
 
 #[test]
@@ -492,11 +491,11 @@ end
 fn combinations_are_written_and_confirmed(rt: HostRuntime) {
     let alloc = rt.alloc();
     for (script, commits, text) in [
-        (PARABOLA, REFUTED, REFUTED_PARABOLA),
-        (LINES, APART, REFUTED_LINES),
+        (PARABOLA, &REFUTED, REFUTED_PARABOLA),
+        (LINES, &APART, REFUTED_LINES),
     ] {
         let said = BookVerdict::Unsat;
-        assert!(rt; is_cover(alloc, script, 20, &commits, said, text, Verdict::Unsat(20)));
+        assert!(rt; is_cover(alloc, script, 20, commits, said, text, Verdict::Unsat(20)));
     }
 }
 
@@ -504,13 +503,13 @@ fn combinations_are_written_and_confirmed(rt: HostRuntime) {
 
 const QUOTED: [(&str, Answer); 2] = [("unit 4", DONE), ("by 0", DONE)];
 
-const EARLY: Commit = Commit {
+const EARLY: [Commit; 1] = [Commit {
     node: 0,
     quotes: Some(0),
     state: &["real 0 1b0"],
     lines: &QUOTED,
     reply: Err(Refused::Unknown(0, 0)),
-};
+}];
 
 const WRONG: Commit = Commit {
     node: 0,
@@ -528,12 +527,26 @@ const RIGHT: Commit = Commit {
     reply: Ok(Kids::None),
 };
 
+const QUOTED_LEMMA: &str = "dpoly 2
+margin 20
+delta 10
+bound none
+cover 1
+lemma 0
+real 0 1b0
+yes 4
+no
+pull 4
+false
+tree
+unit 4
+by 0
+end
+";
+
 // Whether the root is closed by a lemma once it is learned, and no sooner.
 fn is_closed_by_lemma(alloc: Global) -> bool {
-    let Some(mut book) = made(alloc, OUTSIDE, 20, 0, &[EARLY]) else {
-        return false;
-    };
-    let Ok(text) = format!(in alloc; "{LEMMA}pull 4\nfalse\ntree\nunit 4\nby 0\nend\n") else {
+    let Some(mut book) = made(alloc, OUTSIDE, 20, 0, &EARLY) else {
         return false;
     };
     let state = ["real 0 1b0", "yes 4"];
@@ -543,9 +556,15 @@ fn is_closed_by_lemma(alloc: Global) -> bool {
         &state,
         &[("pull 4", DONE), ("false", DONE)],
         0,
-    ) && is_committed(alloc, &mut book, WRONG)
-        && is_committed(alloc, &mut book, RIGHT)
-        && is_written(alloc, &book, BookVerdict::Unsat, &text, Verdict::Unsat(20))
+    ) && is_committed(alloc, &mut book, &WRONG)
+        && is_committed(alloc, &mut book, &RIGHT)
+        && is_written(
+            alloc,
+            &book,
+            BookVerdict::Unsat,
+            QUOTED_LEMMA,
+            Verdict::Unsat(20),
+        )
 }
 
 #[test]
@@ -560,14 +579,14 @@ fn is_found_once(alloc: Global) -> bool {
     let Some(mut book) = made(alloc, ANYWHERE, 20, 0, &[]) else {
         return false;
     };
-    is_found(alloc, &mut book, 0, 1, Err(Refused::NotOpen(1)))
-        && is_found(alloc, &mut book, 0, 0, Ok(()))
+    is_found(alloc, &mut book, 0, 1, &Err(Refused::NotOpen(1)))
+        && is_found(alloc, &mut book, 0, 0, &Ok(()))
         && is_found(
             alloc,
             &mut book,
             0,
             0,
-            Err(Refused::Found(&["real 1b-1 1b-1"])),
+            &Err(Refused::Found(&["real 1b-1 1b-1"])),
         )
         && book.verdict() == BookVerdict::DeltaSat
 }
@@ -609,8 +628,8 @@ fn is_last(alloc: Global) -> bool {
     let Some(mut book) = made(alloc, QUARTER, 20, 1, &HALVES) else {
         return false;
     };
-    is_found(alloc, &mut book, 1, 1, Ok(()))
-        && is_committed(alloc, &mut book, LATE)
+    is_found(alloc, &mut book, 1, 1, &Ok(()))
+        && is_committed(alloc, &mut book, &LATE)
         && book.verdict() == BookVerdict::DeltaSat
 }
 

@@ -1,21 +1,13 @@
-//! Worked rows from the text of a script to the text of a certificate and back: the checker, the book and its patches,
-//! and points. Tests alone: the crate has no code that others call.
+//! Worked rows from the text of a script to the text of a certificate: patches and their refusals, combinations, points,
+//! books, and the states that the checker keeps. There are tests alone, nothing to call.
 #![tactic(auto)]
 
 #[cfg(test)]
 mod books;
 #[cfg(test)]
-mod of_box_worker;
-#[cfg(test)]
-mod of_cert_text;
+mod of_cert_check;
 #[cfg(test)]
 mod of_combine;
-#[cfg(test)]
-mod of_cover_data;
-#[cfg(test)]
-mod of_gate;
-#[cfg(test)]
-mod of_solve_core;
 #[cfg(test)]
 mod patches;
 #[cfg(test)]
@@ -24,5 +16,3 @@ mod points;
 mod shared;
 #[cfg(test)]
 mod single_rules;
-#[cfg(test)]
-mod tests;

@@ -1,9 +1,12 @@
 // Combinations of marked atoms by the search's sweep and by the checker's, which are to leave the same.
-ghost use Rattle.std.specs.Prelude.{◌<◌, length, All, IsTrue};
+ghost use Rattle.std.specs.Prelude.{◌≡◌, ◌<◌, length, All, IfSome, IsTrue};
+ghost use Rattle.interval_model.specs.Space.{middle};
+ghost use Rattle.ival.specs.SpaceViews.{space_of};
+ghost use Rattle.combine.specs.Combined.{EncloseOver};
 
-use crate::patches::{is_state, line_of, state_of};
+use crate::patches::{line_of, state_of};
+use crate::points::is_space;
 use crate::single_rules::{EVEN, GREAT, LINES, PARABOLA};
-use crate::tests::problem;
 use cert_read::Line;
 use combine::combine;
 use cover_rule::State;
@@ -11,7 +14,8 @@ use dyadic::Dy;
 use hc4_fwd::fill;
 use ival::{Narrowed, Rows, Space};
 use plain_combine::combine_plain;
-use poly_graph::{Lits, Problem};
+use poly_graph::Problem;
+use sample_problems::problem;
 use std::alloc::Global;
 
 // Whether the pairs name atoms of the problem.
@@ -26,117 +30,202 @@ fn are_atoms(problem: &Problem, pairs: &[(u32, Dy)]) -> bool
     true
 }
 
-// Whether the spaces have the same domains.
-fn is_same(space: &Space, other: &Space) -> bool {
-    if space.len() != other.len() {
-        return false;
-    }
-    space.within(other) && other.within(space)
+// The enclosures over a space, its middle, and the enclosures over that.
+#[derive(Drop)]
+struct Expansion {
+    rows: Rows,
+    centre: Space,
+    at_centre: Rows,
 }
 
-// What both ways leave of the space; no answer where they differ, or where there is no such atom.
-fn combined(
-    alloc: Global,
-    problem: &Problem,
-    lits: &Lits,
-    pairs: &[(u32, Dy)],
-    space: &mut Space,
-) -> Option<Narrowed> {
-    if lits.len() != problem.atoms().len() {
-        return None;
-    }
-    if !are_atoms(problem, pairs) {
-        return None;
-    }
+// The enclosures of the problem's terms over the space.
+fn rows_over(alloc: Global, problem: &Problem, space: &Space) -> Option<Rows>
+    ensures { IfSome result (EncloseOver problem.now space.now) }
+{
     let graph = problem.graph();
     let mut rows = Rows::new(alloc, graph.len()).ok()?;
     fill(graph, space, &mut rows);
+    Some(rows)
+}
+
+// The middle of the space.
+fn middle_of(alloc: Global, space: &Space) -> Option<Space>
+    ensures { IfSome result (λ c. space_of c ≡ middle (space_of space.now)) }
+{
     let mut centre = space.try_clone(alloc).ok()?;
     space.middle(&mut centre);
-    let mut at_centre = Rows::new(alloc, graph.len()).ok()?;
-    fill(graph, &centre, &mut at_centre);
-    let mut other = space.try_clone(alloc).ok()?;
-    let mut room = plain_combine::Room::new(alloc, graph).ok()?;
-    let plain = combine_plain(
-        problem, 20, lits, pairs, &rows, &centre, &at_centre, &mut room, &mut other,
-    );
+    Some(centre)
+}
+
+fn expand(alloc: Global, problem: &Problem, space: &Space) -> Option<Expansion>
+    ensures rows { IfSome result (λ e. EncloseOver problem.now space.now e.rows) }
+    ensures centre { IfSome result (λ e. space_of e.centre ≡ middle (space_of space.now)) }
+    ensures at_centre { IfSome result (λ e. EncloseOver problem.now e.centre e.at_centre) }
+{
+    let centre = middle_of(alloc, space)?;
+    let at_centre = rows_over(alloc, problem, &centre)?;
+    let rows = rows_over(alloc, problem, space)?;
+    Some(Expansion {
+        rows,
+        centre,
+        at_centre,
+    })
+}
+
+// What the search's sweep leaves of the space.
+fn by_search(
+    alloc: Global,
+    problem: &Problem,
+    state: &State,
+    pairs: &[(u32, Dy)],
+) -> Option<(Narrowed, Space)>
+    requires lits { length state.now.lits ≡ length problem.now.atoms }
+    requires pairs { All (λ x. x.0 < length problem.now.atoms) pairs.now }
+{
+    let mut space = state.space().try_clone(alloc).ok()?;
+    let at = expand(alloc, problem, &space)?;
     let mut room = combine::Room::new(alloc, problem).ok()?;
     let answer = combine(
-        problem, 20, lits, pairs, &rows, &centre, &at_centre, &mut room, space,
+        problem,
+        20,
+        state.lits(),
+        pairs,
+        &at.rows,
+        &at.centre,
+        &at.at_centre,
+        &mut room,
+        &mut space,
     );
-    if answer == plain && is_same(space, &other) {
-        Some(answer)
-    } else {
-        None
+    Some((answer, space))
+}
+
+// What the checker's own passes leave of it.
+fn by_checker(
+    alloc: Global,
+    problem: &Problem,
+    state: &State,
+    pairs: &[(u32, Dy)],
+) -> Option<(Narrowed, Space)>
+    requires lits { length state.now.lits ≡ length problem.now.atoms }
+    requires pairs { All (λ x. x.0 < length problem.now.atoms) pairs.now }
+{
+    let mut space = state.space().try_clone(alloc).ok()?;
+    let at = expand(alloc, problem, &space)?;
+    let mut room = plain_combine::Room::new(alloc, problem.graph()).ok()?;
+    let answer = combine_plain(
+        problem,
+        20,
+        state.lits(),
+        pairs,
+        &at.rows,
+        &at.centre,
+        &at.at_centre,
+        &mut room,
+        &mut space,
+    );
+    Some((answer, space))
+}
+
+// Whether a way answers so, and leaves this space.
+fn leaves(alloc: Global, told: Option<(Narrowed, Space)>, answer: Narrowed, left: &[&str]) -> bool {
+    match told {
+        Some((said, space)) => said == answer && is_space(alloc, &space, left),
+        None => false,
     }
 }
 
-// Whether both ways leave this of the state, by the combination that the line says, and answer so.
-fn leave(
+// Whether both ways answer so, and leave this of the state's space, by the combination that the line says.
+fn both_leave(
     alloc: Global,
-    script: &str,
-    state: &[&str],
+    problem: &Problem,
+    state: &State,
     line: &str,
     answer: Narrowed,
     left: &[&str],
-) -> Option<bool> {
-    let problem = problem(alloc, script)?;
-    let state = state_of(alloc, problem.atoms().len(), state)?;
-    let Line::Combine(pairs) = line_of(alloc, line)? else {
-        return None;
+) -> bool {
+    let Some(Line::Combine(pairs)) = line_of(alloc, line) else {
+        return false;
     };
-    let lits = state.lits().try_clone(alloc).ok()?;
-    let mut space = state.space().try_clone(alloc).ok()?;
-    let told = combined(alloc, &problem, &lits, &pairs, &mut space)?;
-    Some(told == answer && is_state(alloc, &State::new(space, lits), left))
+    if state.lits().len() != problem.atoms().len() || !are_atoms(problem, &pairs) {
+        return false;
+    }
+    leaves(
+        alloc,
+        by_search(alloc, problem, state, &pairs),
+        answer,
+        left,
+    ) && leaves(
+        alloc,
+        by_checker(alloc, problem, state, &pairs),
+        answer,
+        left,
+    )
 }
 
-const BOX: &[&str] = &["real 0 1b2", "real 0 1b2", "yes 4 5 6"];
+// The same for a script and lines of a state.
+fn are_left(alloc: Global, row: &Row) -> Option<bool> {
+    let problem = problem(alloc, row.script)?;
+    let state = state_of(alloc, problem.atoms().len(), row.state)?;
+    Some(both_leave(alloc, &problem, &state, row.line, row.answer, row.left))
+}
 
-const SQUARE: &[&str] = &["real 0 1b0", "real 0 1b0", "yes 4 5"];
+// A script, the state of its problem that lines say, a combination, and what both ways answer and leave of the space.
+struct Row {
+    script: &'static str,
+    state: &'static [&'static str],
+    line: &'static str,
+    answer: Narrowed,
+    left: &'static [&'static str],
+}
+
+const ROWS: [Row; 6] = [
+    Row {
+        script: LINES,
+        state: &["real 0 1b2", "real 0 1b2", "yes 4 5 6"],
+        line: "comb 4 1b0 5 1b0",
+        answer: Narrowed::Less,
+        left: &["real 2097151b-20 1b2", "real 0 1b2"],
+    },
+    Row {
+        script: LINES,
+        state: &["real 0 1b2", "real 0 1b2", "yes 4 5 6"],
+        line: "comb 4 1b0 5 1b0 6 -1b1",
+        answer: Narrowed::Empty,
+        left: &["real 0 1b2", "real 0 1b2"],
+    },
+    Row {
+        script: LINES,
+        state: &["real 0 1b2", "real 0 1b2", "yes 5", "no 4"],
+        line: "comb 4 1b0 5 -1b0",
+        answer: Narrowed::Less,
+        left: &["real 0 1b2", "real 0 1b0"],
+    },
+    Row {
+        script: PARABOLA,
+        state: &["real 0 1b0", "yes 2"],
+        line: "comb 2 1b0",
+        answer: Narrowed::Empty,
+        left: &["real 0 1b0"],
+    },
+    Row {
+        script: EVEN,
+        state: &["real 0 1b0", "real 0 1b0", "yes 4 5"],
+        line: "comb 4 1b0 5 -1b0",
+        answer: Narrowed::Less,
+        left: &["real 0 1b0", "real 524287b-20 524289b-20"],
+    },
+    Row {
+        script: GREAT,
+        state: &["real 0 1b32", "yes 2"],
+        line: "comb 2 -1b0",
+        answer: Narrowed::Same,
+        left: &["real 0 1b32"],
+    },
+];
 
 #[test]
 fn both_ways_leave_the_same(rt: HostRuntime) {
-    let rows: [(&str, &[&str], &str, Narrowed, &[&str]); 6] = [
-        (
-            LINES,
-            BOX,
-            "comb 4 1b0 5 1b0",
-            Narrowed::Less,
-            &["real 2097151b-20 1b2", "real 0 1b2", "yes 4 5 6"],
-        ),
-        (LINES, BOX, "comb 4 1b0 5 1b0 6 -1b1", Narrowed::Empty, BOX),
-        (
-            LINES,
-            &["real 0 1b2", "real 0 1b2", "yes 5", "no 4"],
-            "comb 4 1b0 5 -1b0",
-            Narrowed::Less,
-            &["real 0 1b2", "real 0 1b0", "yes 5", "no 4"],
-        ),
-        (
-            PARABOLA,
-            &["real 0 1b0", "yes 2"],
-            "comb 2 1b0",
-            Narrowed::Empty,
-            &["real 0 1b0", "yes 2"],
-        ),
-        (
-            EVEN,
-            SQUARE,
-            "comb 4 1b0 5 -1b0",
-            Narrowed::Less,
-            &["real 0 1b0", "real 524287b-20 524289b-20", "yes 4 5"],
-        ),
-        (
-            GREAT,
-            &["real 0 1b32", "yes 2"],
-            "comb 2 -1b0",
-            Narrowed::Same,
-            &["real 0 1b32", "yes 2"],
-        ),
-    ];
-    for (script, state, line, answer, left) in rows {
-        let is_so = leave(rt.alloc(), script, state, line, answer, left);
-        assert!(rt; is_so == Some(true), "{line}");
+    for row in &ROWS {
+        assert!(rt; are_left(rt.alloc(), row) == Some(true), "{}", row.line);
     }
 }

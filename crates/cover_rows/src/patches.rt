@@ -1,18 +1,17 @@
 // Patches that are led by hand: what they answer to each line, and the states that they leave.
 ghost use Rattle.std.specs.Prelude.{◌≡◌, ◌<◌, ◌≤◌, length, IfOk, IfSome, IsTrue};
 ghost use Rattle.cover_model.specs.Fits.{FitsProblem};
-ghost use Rattle.poly_graph.specs.ProblemViews.{problem_of};
 ghost use Rattle.cover_model.specs.State.{IsLemma};
 ghost use Rattle.cover_book.specs.Model.{margins_of, problem_in, loosenings_in};
 
-use crate::tests::{CIRCLE, OUTSIDE, SWAPPED, options, problem};
 use cert_read::{BoolSet, Line, LineReader};
 use cover_book::Book;
 use cover_rule::{End, Lemma, Options, Patch, PatchRefusal, State, Step};
 use ival::{Domain, Range, Space, Truths};
-use poly_graph::{Lits, Mark, Problem};
+use poly_graph::{Lits, Mark};
+use sample_problems::scripts::{CIRCLE, OUTSIDE, SWAPPED};
+use sample_problems::{USUAL, lies_within, problem};
 use std::alloc::Global;
-use truth3::{Root, root_space};
 
 // ---- states by hand
 
@@ -44,17 +43,23 @@ fn mark_all(lits: &mut Lits, atoms: &[u32], mark: Mark) {
     }
 }
 
+// Adds what a line says of an axis or of marks.
+fn add(line: &Line, axes: &mut Vec<Domain>, lits: &mut Lits) -> Option<()> {
+    match line {
+        Line::Yes(atoms) => mark_all(lits, atoms, Mark::Yes),
+        Line::No(atoms) => mark_all(lits, atoms, Mark::No),
+        other => axes.push(domain_in(other)?).ok()?,
+    }
+    Some(())
+}
+
 // The state that these lines of a certificate say, of a problem with so many atoms.
 pub(crate) fn state_of(alloc: Global, atoms: usize, lines: &[&str]) -> Option<State> {
     let mut axes = Vec::new(alloc);
     let mut lits = Lits::new(alloc, atoms).ok()?;
     for text in lines {
         let line = line_of(alloc, text)?;
-        match &line {
-            Line::Yes(atoms) => mark_all(&mut lits, atoms, Mark::Yes),
-            Line::No(atoms) => mark_all(&mut lits, atoms, Mark::No),
-            other => axes.push(domain_in(other)?).ok()?,
-        }
+        add(&line, &mut axes, &mut lits)?;
     }
     Some(State::new(Space { axes }, lits))
 }
@@ -65,22 +70,6 @@ pub(crate) fn is_state(alloc: Global, state: &State, lines: &[&str]) -> bool {
         Some(said) => said.is_same(state),
         None => false,
     }
-}
-
-// ---- states that are those of a problem
-
-// Whether the state is one of the problem, within the declared box.
-fn lies_within(alloc: Global, problem: &Problem, state: &State) -> bool
-    ensures { IsTrue result → FitsProblem (problem_of problem.now) state.now }
-{
-    let Ok(Root::Space(root)) = root_space(alloc, problem) else {
-        return false;
-    };
-    let space = state.space();
-    if space.len() != root.len() || state.lits().len() != problem.atoms().len() {
-        return false;
-    }
-    space.within(&root)
 }
 
 // ---- patches
@@ -118,12 +107,10 @@ pub(crate) fn book_of(alloc: Global, script: &str, least_bits: u32, budget: u32)
     requires budget { budget ≤ 100 }
 {
     let problem = problem(alloc, script)?;
-    if problem.axes().len() > 1_024 || problem.atoms().len() > 65_536 {
-        return None;
-    }
     let options = Options {
         least_bits,
-        ..options(budget)
+        budget,
+        ..USUAL
     };
     Book::new(alloc, problem, options).ok()
 }
@@ -357,7 +344,6 @@ fn is_closed_by(alloc: Global, patch: Patch, steps: &[&str], line: &str) -> bool
 }
 
 // A patch for a script: the least width, the state in which it begins, and each line with what it answers.
-#[derive(Clone, Copy)]
 pub(crate) struct Case {
     pub script: &'static str,
     pub least_bits: u32,
@@ -370,7 +356,7 @@ fn patch_of<'a>(
     alloc: Global,
     book: &'a Book,
     lemma: Option<&Lemma>,
-    case: Case,
+    case: &Case,
 ) -> Option<Patch<'a>>
     requires fits { IfSome lemma (λ l. FitsProblem (problem_in book.now) l.now.state) }
     requires lemma { IfSome lemma (λ l. IsLemma (problem_in book.now) (loosenings_in book.now) l.now.state) }
@@ -381,26 +367,41 @@ fn patch_of<'a>(
 }
 
 // Its book.
-fn book_in(alloc: Global, case: Case) -> Option<Book> {
+fn book_in(alloc: Global, case: &Case) -> Option<Book> {
     if case.least_bits > 60 {
         return None;
     }
     book_of(alloc, case.script, case.least_bits, 0)
 }
 
-// Whether the case is closed by the steps and the end that these lines say.
-pub(crate) fn closes(alloc: Global, case: Case, steps: &[&str], line: &str) -> bool {
-    let Some(book) = book_in(alloc, case) else {
-        return false;
-    };
-    match patch_of(alloc, &book, None, case) {
+// Whether the case is closed in its book by the steps and the end that these lines say, where the lemma may be quoted.
+fn closes_in(
+    alloc: Global,
+    book: &Book,
+    lemma: Option<&Lemma>,
+    case: &Case,
+    steps: &[&str],
+    line: &str,
+) -> bool
+    requires fits { IfSome lemma (λ l. FitsProblem (problem_in book.now) l.now.state) }
+    requires lemma { IfSome lemma (λ l. IsLemma (problem_in book.now) (loosenings_in book.now) l.now.state) }
+{
+    match patch_of(alloc, book, lemma, case) {
         Some(patch) => is_closed_by(alloc, patch, steps, line),
         None => false,
     }
 }
 
+// Whether the case is closed by the steps and the end that these lines say.
+pub(crate) fn closes(alloc: Global, case: &Case, steps: &[&str], line: &str) -> bool {
+    match book_in(alloc, case) {
+        Some(book) => closes_in(alloc, &book, None, case, steps, line),
+        None => false,
+    }
+}
+
 // Whether the case ends in a branch that leaves these two states.
-pub(crate) fn parts(alloc: Global, case: Case, lower: &[&str], upper: &[&str]) -> bool {
+pub(crate) fn parts(alloc: Global, case: &Case, lower: &[&str], upper: &[&str]) -> bool {
     let Some(book) = book_in(alloc, case) else {
         return false;
     };
@@ -411,7 +412,7 @@ pub(crate) fn parts(alloc: Global, case: Case, lower: &[&str], upper: &[&str]) -
 }
 
 // Whether the case does not close its state, and reaches this one.
-pub(crate) fn reaches(alloc: Global, case: Case, lines: &[&str]) -> bool {
+pub(crate) fn reaches(alloc: Global, case: &Case, lines: &[&str]) -> bool {
     let Some(book) = book_in(alloc, case) else {
         return false;
     };
@@ -461,7 +462,7 @@ const CUTS: [(Case, &[&str], &[&str]); 2] = [
 
 #[test]
 fn the_widest_axis_is_cut(rt: HostRuntime) {
-    for (case, lower, upper) in CUTS {
+    for (case, lower, upper) in &CUTS {
         assert!(rt; parts(rt.alloc(), case, lower, upper));
     }
 }
@@ -511,10 +512,10 @@ const CLOSED_PARTS: [(Case, &[&str], &str); 3] = [
 
 #[test]
 fn each_part_is_closed(rt: HostRuntime) {
-    for (case, state) in PULLED {
+    for (case, state) in &PULLED {
         assert!(rt; reaches(rt.alloc(), case, state));
     }
-    for (case, steps, end) in CLOSED_PARTS {
+    for (case, steps, end) in &CLOSED_PARTS {
         assert!(rt; closes(rt.alloc(), case, steps, end));
     }
 }
@@ -584,10 +585,10 @@ const SQUARE_STATES: [(Case, &[&str]); 2] = [
 
 #[test]
 fn what_no_atom_narrows_is_cut_or_stuck(rt: HostRuntime) {
-    for (case, lower, upper) in SQUARE_CUT {
+    for (case, lower, upper) in &SQUARE_CUT {
         assert!(rt; parts(rt.alloc(), case, lower, upper));
     }
-    for (case, state) in SQUARE_STATES {
+    for (case, state) in &SQUARE_STATES {
         assert!(rt; reaches(rt.alloc(), case, state));
     }
 }
@@ -656,13 +657,13 @@ const CHOICE_CLOSED: [(Case, &[&str], &str); 2] = [
 
 #[test]
 fn an_atom_of_a_choice_is_parted(rt: HostRuntime) {
-    for (case, lower, upper) in CHOICE_PARTS {
+    for (case, lower, upper) in &CHOICE_PARTS {
         assert!(rt; parts(rt.alloc(), case, lower, upper));
     }
-    for (case, state) in CHOICE_STATES {
+    for (case, state) in &CHOICE_STATES {
         assert!(rt; reaches(rt.alloc(), case, state));
     }
-    for (case, steps, end) in CHOICE_CLOSED {
+    for (case, steps, end) in &CHOICE_CLOSED {
         assert!(rt; closes(rt.alloc(), case, steps, end));
     }
 }
@@ -680,22 +681,13 @@ pub(crate) fn outside_lemma(alloc: Global, book: &Book, id: u32) -> Option<Lemma
     lemma_of(alloc, book, patch, id)
 }
 
-// Whether the case is closed so, where a copy of that lemma may be quoted.
-fn closes_by_lemma(alloc: Global, case: Case, steps: &[&str], line: &str) -> bool {
+// Whether the case is closed so, where that lemma may be quoted.
+fn closes_by_lemma(alloc: Global, case: &Case, steps: &[&str], line: &str) -> bool {
     let Some(book) = book_in(alloc, case) else {
         return false;
     };
-    let Some(lemma) = outside_lemma(alloc, &book, 0) else {
-        return false;
-    };
-    let Ok(copy) = lemma.try_clone(alloc) else {
-        return false;
-    };
-    if copy.id() != lemma.id() || !is_state(alloc, copy.state(), &["real 0 1b0", "yes 4"]) {
-        return false;
-    }
-    match patch_of(alloc, &book, Some(&copy), case) {
-        Some(patch) => is_closed_by(alloc, patch, steps, line),
+    match outside_lemma(alloc, &book, 0) {
+        Some(lemma) => closes_in(alloc, &book, Some(&lemma), case, steps, line),
         None => false,
     }
 }
@@ -765,7 +757,7 @@ const BY_LEMMA: [(Case, &[&str], &str); 3] = [
 
 #[test]
 fn a_lemma_closes_and_a_refusal_changes_nothing(rt: HostRuntime) {
-    for (case, steps, end) in BY_LEMMA {
+    for (case, steps, end) in &BY_LEMMA {
         assert!(rt; closes_by_lemma(rt.alloc(), case, steps, end));
     }
 }

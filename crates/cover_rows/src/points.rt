@@ -1,15 +1,28 @@
 // Middles of opening boxes: where the form is sure there, and the points that they then are.
-ghost use Rattle.std.specs.Prelude.{◌≤◌};
+ghost use Rattle.std.specs.Prelude.{◌≤◌, IfOk, IfSome};
+ghost use Rattle.cover_book.specs.Model.{loosenings_in, problem_in};
+ghost use Rattle.cover_model.specs.Fits.{IsShownAt};
 
 use crate::patches::{book_of, is_state};
-use crate::single_rules::BOOL;
-use crate::tests::{ANYWHERE, CIRCLE, NO_ROOT, OUTSIDE, SWAPPED, middle_of};
 use cover_book::Book;
-use cover_rule::{State, midpoint_sure};
+use cover_rule::{MiddlePoint, Point, State, midpoint_sure};
 use ival::{Rows, Space};
 use poly_graph::Lits;
+use sample_problems::scripts::{BOOL, CIRCLE, OUTSIDE, SWAPPED};
 use std::alloc::Global;
 use truth3::Marks;
+
+// No number of the unit interval has the square -1.
+pub(crate) const NO_ROOT: &str = "(declare-const x Real)
+(assert (<= 0 x 1))
+(assert (= (* x x) (- 1)))
+(check-sat)";
+
+// No number differs from itself; up to delta each does.
+pub(crate) const ANYWHERE: &str = "(declare-const x Real)
+(assert (<= 0 x 1))
+(assert (distinct x x))
+(check-sat)";
 
 // Whether the form is sure at the middle of the opening box, loosened by 2 to the power of minus so many bits.
 fn is_sure(alloc: Global, book: &Book, bits: u32) -> Option<bool>
@@ -31,27 +44,53 @@ fn is_sure(alloc: Global, book: &Book, bits: u32) -> Option<bool>
 }
 
 // Whether the form is found sure there, or not, as said.
-fn is_found(alloc: Global, script: &str, bits: u32, expected: bool) -> bool
-    requires { bits ≤ 120 }
-{
+fn is_found(alloc: Global, script: &str, bits: u32, expected: bool) -> bool {
     match book_of(alloc, script, 20, 0) {
-        Some(book) => is_sure(alloc, &book, bits) == Some(expected),
+        Some(book) => bits <= 120 && is_sure(alloc, &book, bits) == Some(expected),
         None => false,
     }
 }
 
+// Scripts, bits, and whether the form is sure at the middle.
+const MIDDLES: [(&str, u32, bool); 9] = [
+    (ANYWHERE, 10, true),
+    (NO_ROOT, 0, false),
+    (CIRCLE, 0, true),
+    (CIRCLE, 1, false),
+    (OUTSIDE, 2, true),
+    (OUTSIDE, 3, false),
+    (SWAPPED, 3, true),
+    (SWAPPED, 4, false),
+    (BOOL, 0, false),
+];
+
 #[test]
 fn the_middle_is_sure_as_far_as_it_is_loosened(rt: HostRuntime) {
-    let alloc = rt.alloc();
-    assert!(rt; is_found(alloc, ANYWHERE, 10, true));
-    assert!(rt; is_found(alloc, NO_ROOT, 0, false));
-    assert!(rt; is_found(alloc, CIRCLE, 0, true));
-    assert!(rt; is_found(alloc, CIRCLE, 1, false));
-    assert!(rt; is_found(alloc, OUTSIDE, 2, true));
-    assert!(rt; is_found(alloc, OUTSIDE, 3, false));
-    assert!(rt; is_found(alloc, SWAPPED, 3, true));
-    assert!(rt; is_found(alloc, SWAPPED, 4, false));
-    assert!(rt; is_found(alloc, BOOL, 0, false));
+    for (script, bits, expected) in &MIDDLES {
+        assert!(rt;
+            is_found(rt.alloc(), script, *bits, *expected),
+            "{bits} {script}"
+        );
+    }
+}
+
+// The point in the middle of a live node's box, where the form is sure there.
+pub(crate) fn middle_of(
+    alloc: Global,
+    book: &Book,
+    node: u32,
+) -> Result<Option<Point>, &'static str>
+    ensures { IfOk result (λ o. IfSome o (λ p. IsShownAt (problem_in book.now) (loosenings_in book.now) p)) }
+{
+    let Ok(state) = book.state_of(node) else {
+        return Err("no state");
+    };
+    let problem = book.problem();
+    let margins = book.options().margins();
+    match Point::of_middle(alloc, problem, &margins, state.space()) {
+        Ok(point) => Ok(point),
+        Err(_) => Err("no memory"),
+    }
 }
 
 // Whether this is the space that the lines say.
@@ -70,18 +109,23 @@ fn has_no_point(alloc: Global, script: &str) -> bool {
     }
 }
 
-// Whether the point in the middle of the script's opening box, and a copy of it, is that of these lines.
+// Whether a copy of the point is that of these lines.
+fn is_copied(alloc: Global, point: &Point, lines: &[&str]) -> bool {
+    match point.try_clone(alloc) {
+        Ok(copy) => is_space(alloc, copy.space(), lines),
+        Err(_) => false,
+    }
+}
+
+// Whether there is a point in the middle of the script's opening box, which is that of these lines.
 fn has_point(alloc: Global, script: &str, lines: &[&str]) -> bool {
     let Some(book) = book_of(alloc, script, 20, 0) else {
         return false;
     };
-    let Ok(Some(point)) = middle_of(alloc, &book, 0) else {
-        return false;
-    };
-    let Ok(copy) = point.try_clone(alloc) else {
-        return false;
-    };
-    is_space(alloc, point.space(), lines) && is_space(alloc, copy.space(), lines)
+    match middle_of(alloc, &book, 0) {
+        Ok(Some(point)) => is_copied(alloc, &point, lines),
+        _ => false,
+    }
 }
 
 #[test]

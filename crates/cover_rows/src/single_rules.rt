@@ -3,12 +3,13 @@ use crate::patches::{
     Case, DECIDED, DONE, ENDED, IS_VOID, NOT_COMBINABLE, NOT_FALSE, NOT_INSIDE, NOT_NO, NOT_YES,
     begun_at, book_of, closes, parts, reaches,
 };
-use crate::tests::{OUTSIDE, SWAPPED};
 use cover_book::Book;
 use cover_rule::{Patch, State};
 use dyadic::{Dy, pow2};
 use poly_graph::{Lits, Mark};
+use sample_problems::scripts::{BOOL, OUTSIDE, SWAPPED};
 use std::alloc::{AllocError, Global};
+use std::test::Fail;
 
 // ---- x^2 = 1/4 and (x >= 3/4 or x <= 1/4): an atom that fails is not at most 1/4
 
@@ -49,10 +50,10 @@ const CLOSED_BY_FAILURE: [(Case, &[&str], &str); 1] = [(
 
 #[test]
 fn atoms_that_fail_narrow_and_close(rt: HostRuntime) {
-    for (case, state) in PUSHED {
+    for (case, state) in &PUSHED {
         assert!(rt; reaches(rt.alloc(), case, state));
     }
-    for (case, steps, end) in CLOSED_BY_FAILURE {
+    for (case, steps, end) in &CLOSED_BY_FAILURE {
         assert!(rt; closes(rt.alloc(), case, steps, end));
     }
 }
@@ -172,7 +173,7 @@ const COMBINED: [(Case, &[&str]); 5] = [
 
 #[test]
 fn combinations_narrow(rt: HostRuntime) {
-    for (case, state) in COMBINED {
+    for (case, state) in &COMBINED {
         assert!(rt; reaches(rt.alloc(), case, state));
     }
 }
@@ -241,7 +242,7 @@ const CLOSED_BY_COMBINATIONS: [(Case, &[&str], &str); 5] = [
 
 #[test]
 fn combinations_close(rt: HostRuntime) {
-    for (case, steps, end) in CLOSED_BY_COMBINATIONS {
+    for (case, steps, end) in &CLOSED_BY_COMBINATIONS {
         assert!(rt; closes(rt.alloc(), case, steps, end));
     }
 }
@@ -277,36 +278,38 @@ fn marked<'a>(alloc: Global, book: &'a Book) -> Option<Patch<'a>> {
     begun_at(alloc, book, State::new(space, lits))
 }
 
-// Whether the patch refuses to combine its first atoms, so many.
-fn is_refused(alloc: Global, patch: &mut Patch, count: u32) -> Option<bool> {
-    let pairs = first_atoms(alloc, count).ok()?;
-    let is_step_refused = patch.combine(&pairs) == NOT_COMBINABLE;
-    let is_end_refused = patch.void_combine(&pairs) == NOT_COMBINABLE;
-    Some(is_step_refused && is_end_refused)
+// Whether the patch refuses to combine its first atoms, so many, or does not, as said.
+fn refuses(alloc: Global, patch: &mut Patch, count: u32, expected: bool) -> bool {
+    match first_atoms(alloc, count) {
+        Ok(pairs) => {
+            (patch.combine(&pairs) == NOT_COMBINABLE) == expected
+                && (patch.void_combine(&pairs) == NOT_COMBINABLE) == expected
+        }
+        Err(_) => false,
+    }
 }
 
-// Whether from 1 to 64 of 65 atoms may be combined.
-fn are_counted(alloc: Global) -> Option<bool> {
-    let book = book_of(alloc, MANY, 20, 0)?;
-    let mut patch = marked(alloc, &book)?;
-    Some(
-        book.problem().atoms().len() == 65
-            && is_refused(alloc, &mut patch, 0)?
-            && is_refused(alloc, &mut patch, 65)?
-            && !is_refused(alloc, &mut patch, 64)?,
-    )
+// Whether from 1 to 64 of the book's 65 atoms may be combined.
+fn are_counted(alloc: Global, book: &Book) -> bool {
+    match marked(alloc, book) {
+        Some(mut patch) => {
+            book.problem().atoms().len() == 65
+                && refuses(alloc, &mut patch, 0, true)
+                && refuses(alloc, &mut patch, 65, true)
+                && refuses(alloc, &mut patch, 64, false)
+        }
+        None => false,
+    }
 }
 
 #[test]
-fn up_to_sixty_four_atoms_are_combined(rt: HostRuntime) {
-    assert!(rt; are_counted(rt.alloc()) == Some(true));
+fn up_to_sixty_four_atoms_are_combined(rt: HostRuntime) -> Result<(), Fail> {
+    let book = book_of(rt.alloc(), MANY, 20, 0).ok_or("no book")?;
+    assert!(rt; are_counted(rt.alloc(), &book));
+    Ok(())
 }
 
 // ---- a Bool
-
-pub(crate) const BOOL: &str = "(declare-const b Bool)
-(assert b)
-(check-sat)";
 
 const FLIPPED: [(Case, &[&str], &[&str]); 1] = [(
     Case {
@@ -346,13 +349,13 @@ const FALSE_CLOSED: [(Case, &[&str], &str); 1] = [(
 
 #[test]
 fn a_bool_is_flipped(rt: HostRuntime) {
-    for (case, lower, upper) in FLIPPED {
+    for (case, lower, upper) in &FLIPPED {
         assert!(rt; parts(rt.alloc(), case, lower, upper));
     }
-    for (case, state) in TRUE_STATE {
+    for (case, state) in &TRUE_STATE {
         assert!(rt; reaches(rt.alloc(), case, state));
     }
-    for (case, steps, end) in FALSE_CLOSED {
+    for (case, steps, end) in &FALSE_CLOSED {
         assert!(rt; closes(rt.alloc(), case, steps, end));
     }
 }

@@ -1,22 +1,11 @@
 // Points that a local search finds from the middle of a script's box.
 use point_search::*;
-use poly_graph::{Lits, Problem};
-use problem_build::build;
-use smt_script::commands;
-use smt_sexp::read;
-use sort_check::check;
+use poly_graph::Lits;
+use sample_problems::problem;
+use sample_problems::scripts::BOOL;
 use std::alloc::Global;
 use std::test::Fail;
 use truth3::{Root, root_space};
-
-// The problem of a script's text.
-fn problem(alloc: Global, text: &str) -> Option<Problem> {
-    let bytes = text.as_bytes();
-    let sexps = read(alloc, bytes).ok()?;
-    let script = commands(alloc, &sexps).ok()?;
-    let typed = check(alloc, script).ok()?;
-    build(alloc, typed, None).ok()
-}
 
 // Whether a point is found in the whole box.
 fn finds(alloc: Global, text: &str) -> Option<bool> {
@@ -59,11 +48,6 @@ const NOWHERE: &str = "(declare-const x Real)
 (assert (<= (+ (* x x) (* y y)) (- 1)))
 (check-sat)";
 
-// A Bool alone, which is left to its box's split.
-const BOOL: &str = "(declare-const b Bool)
-(assert b)
-(check-sat)";
-
 #[test]
 fn a_corner_is_found(rt: HostRuntime) -> Result<(), Fail> {
     assert_eq!(rt; finds(rt.alloc(), VALLEY), Some(true));
@@ -79,6 +63,7 @@ fn the_cheaper_value_of_a_bool_is_taken(rt: HostRuntime) -> Result<(), Fail> {
 #[test]
 fn nothing_is_found_where_nothing_is(rt: HostRuntime) -> Result<(), Fail> {
     assert_eq!(rt; finds(rt.alloc(), NOWHERE), Some(false));
+    // A Bool alone is left to its box's split.
     assert_eq!(rt; finds(rt.alloc(), BOOL), Some(false));
     Ok(())
 }

@@ -80,11 +80,22 @@ fn unsat_tells_its_margin(rt: HostRuntime) -> Result<(), Fail> {
     Ok(())
 }
 
-fn assert_point(rt: &impl Abort, alloc: Global, value: &str, wanted: &str) -> Result<(), Fail> {
-    let one = problem(alloc, &["x"])?;
-    let point = space(alloc, &[real(value, value)?])?;
-    assert_text(rt, &delta_sat(alloc, &one, 10, &point)?, wanted);
+fn assert_delta_sat(
+    rt: &impl Abort,
+    alloc: Global,
+    names: &[&str],
+    domains: &[Domain],
+    delta_bits: u32,
+    wanted: &str,
+) -> Result<(), Fail> {
+    let problem = problem(alloc, names)?;
+    let point = space(alloc, domains)?;
+    assert_text(rt, &delta_sat(alloc, &problem, delta_bits, &point)?, wanted);
     Ok(())
+}
+
+fn assert_point(rt: &impl Abort, alloc: Global, value: &str, wanted: &str) -> Result<(), Fail> {
+    assert_delta_sat(rt, alloc, &["x"], &[real(value, value)?], 10, wanted)
 }
 
 #[test]
@@ -103,21 +114,19 @@ fn delta_sat_tells_its_point(rt: HostRuntime) -> Result<(), Fail> {
 
 #[test]
 fn delta_sat_tells_all_axes(rt: HostRuntime) -> Result<(), Fail> {
-    let alloc = rt.alloc();
-    let nothing = delta_sat(alloc, &problem(alloc, &[])?, 10, &space(alloc, &[])?)?;
-    assert_text(&rt, &nothing, "delta-sat\ndelta 1b-10\n");
-    let domains = [
-        Domain::Bool(Truths::True),
-        real("3b0", "3b0")?,
-        Domain::Bool(Truths::False),
-    ];
-    let three = problem(alloc, &["b", "not yet", "let"])?;
-    assert_text(
+    assert_delta_sat(&rt, rt.alloc(), &[], &[], 10, "delta-sat\ndelta 1b-10\n")?;
+    assert_delta_sat(
         &rt,
-        &delta_sat(alloc, &three, 30, &space(alloc, &domains)?)?,
+        rt.alloc(),
+        &["b", "not yet", "let"],
+        &[
+            Domain::Bool(Truths::True),
+            real("3b0", "3b0")?,
+            Domain::Bool(Truths::False),
+        ],
+        30,
         "delta-sat\ndelta 1b-30\nb true\n|not yet| 3b0\n|let| false\n",
-    );
-    Ok(())
+    )
 }
 
 #[test]
@@ -131,23 +140,36 @@ fn unknown_tells_its_budget(rt: HostRuntime) -> Result<(), Fail> {
     Ok(())
 }
 
+fn assert_box(
+    rt: &impl Abort,
+    alloc: Global,
+    domains: &[Domain],
+    atom: u32,
+    wanted: &str,
+) -> Result<(), Fail> {
+    let square = problem(alloc, &["x", "y"])?;
+    let left = space(alloc, domains)?;
+    assert_text(rt, &width(alloc, &square, &left, atom)?, wanted);
+    Ok(())
+}
+
 #[test]
 fn unknown_tells_its_box(rt: HostRuntime) -> Result<(), Fail> {
-    let alloc = rt.alloc();
-    let square = problem(alloc, &["x", "y"])?;
     let side = real("-1b-1", "1b-1")?;
-    assert_text(
+    assert_box(
         &rt,
-        &width(alloc, &square, &space(alloc, &[side, side])?, 4)?,
+        rt.alloc(),
+        &[side, side],
+        4,
         "unknown width\natom 4\nx -1b-1 1b-1\ny -1b-1 1b-1\n",
-    );
-    let mixed = space(alloc, &[Domain::Bool(Truths::False), real("0", "7b-3")?])?;
-    assert_text(
+    )?;
+    assert_box(
         &rt,
-        &width(alloc, &square, &mixed, 0)?,
+        rt.alloc(),
+        &[Domain::Bool(Truths::False), real("0", "7b-3")?],
+        0,
         "unknown width\natom 0\nx false\ny 0 7b-3\n",
-    );
-    Ok(())
+    )
 }
 
 #[test]
@@ -184,121 +206,79 @@ fn check_tells_what_it_confirms(rt: HostRuntime) -> Result<(), Fail> {
     Ok(())
 }
 
-fn assert_fault(
-    rt: &impl Abort,
-    alloc: Global,
-    fault: CertFault,
-    wanted: &str,
-) -> Result<(), Fail> {
-    assert_text(rt, &cert_fault(alloc, fault)?, wanted);
-    Ok(())
-}
+const CERT_FAULTS: [(CertFault, &str); 13] = [
+    (
+        CertFault::BadHeader { line: 3 },
+        "certificate fault 1 BadHeader line 3\n",
+    ),
+    (
+        CertFault::BadNumber { line: 2 },
+        "certificate fault 2 BadNumber line 2\n",
+    ),
+    (
+        CertFault::RuleFails {
+            rule: Rule::By,
+            line: 10,
+        },
+        "certificate fault 3 RuleFails by line 10\n",
+    ),
+    (
+        CertFault::RuleFails {
+            rule: Rule::Pull,
+            line: 7,
+        },
+        "certificate fault 3 RuleFails pull line 7\n",
+    ),
+    (
+        CertFault::RuleFails {
+            rule: Rule::Combine,
+            line: 8,
+        },
+        "certificate fault 3 RuleFails comb line 8\n",
+    ),
+    (
+        CertFault::RuleFails {
+            rule: Rule::VoidCombine,
+            line: 9,
+        },
+        "certificate fault 3 RuleFails voidcomb line 9\n",
+    ),
+    (
+        CertFault::Missing { line: 15 },
+        "certificate fault 4 Missing line 15\n",
+    ),
+    (
+        CertFault::Extra { line: 16 },
+        "certificate fault 5 Extra line 16\n",
+    ),
+    (
+        CertFault::WrongBound { line: 4 },
+        "certificate fault 6 WrongBound line 4\n",
+    ),
+    (
+        CertFault::NotShown { line: 7 },
+        "certificate fault 7 NotShown line 7\n",
+    ),
+    (
+        CertFault::BadLine { line: 1 },
+        "certificate fault 8 BadLine line 1\n",
+    ),
+    (
+        CertFault::LineTooLong { line: 1 },
+        "certificate fault 9 LineTooLong line 1\n",
+    ),
+    (
+        CertFault::TooLong { line: 0 },
+        "certificate fault 10 TooLong line 0\n",
+    ),
+];
 
 #[test]
 fn certificate_faults(rt: HostRuntime) -> Result<(), Fail> {
-    use CertFault as Fault;
-
-    let alloc = rt.alloc();
-    assert_fault(
-        &rt,
-        alloc,
-        Fault::BadHeader { line: 3 },
-        "certificate fault 1 BadHeader line 3\n",
-    )?;
-    assert_fault(
-        &rt,
-        alloc,
-        Fault::BadNumber { line: 2 },
-        "certificate fault 2 BadNumber line 2\n",
-    )?;
-    assert_fault(
-        &rt,
-        alloc,
-        Fault::Missing { line: 15 },
-        "certificate fault 4 Missing line 15\n",
-    )?;
-    assert_fault(
-        &rt,
-        alloc,
-        Fault::Extra { line: 16 },
-        "certificate fault 5 Extra line 16\n",
-    )?;
-    assert_fault(
-        &rt,
-        alloc,
-        Fault::WrongBound { line: 4 },
-        "certificate fault 6 WrongBound line 4\n",
-    )?;
-    assert_fault(
-        &rt,
-        alloc,
-        Fault::NotShown { line: 7 },
-        "certificate fault 7 NotShown line 7\n",
-    )?;
-    assert_fault(
-        &rt,
-        alloc,
-        Fault::BadLine { line: 1 },
-        "certificate fault 8 BadLine line 1\n",
-    )?;
-    assert_fault(
-        &rt,
-        alloc,
-        Fault::LineTooLong { line: 1 },
-        "certificate fault 9 LineTooLong line 1\n",
-    )?;
-    assert_fault(
-        &rt,
-        alloc,
-        Fault::TooLong { line: 0 },
-        "certificate fault 10 TooLong line 0\n",
-    )
-}
-
-#[test]
-fn failed_rules(rt: HostRuntime) -> Result<(), Fail> {
-    let alloc = rt.alloc();
-    let by = CertFault::RuleFails {
-        rule: Rule::By,
-        line: 10,
-    };
-    assert_fault(&rt, alloc, by, "certificate fault 3 RuleFails by line 10\n")?;
-    let pull = CertFault::RuleFails {
-        rule: Rule::Pull,
-        line: 7,
-    };
-    assert_fault(
-        &rt,
-        alloc,
-        pull,
-        "certificate fault 3 RuleFails pull line 7\n",
-    )
-}
-
-// The texts of lines of combinations that fail.
-#[test]
-fn failed_combinations(rt: HostRuntime) -> Result<(), Fail> {
-    let alloc = rt.alloc();
-    let combine = CertFault::RuleFails {
-        rule: Rule::Combine,
-        line: 8,
-    };
-    assert_fault(
-        &rt,
-        alloc,
-        combine,
-        "certificate fault 3 RuleFails comb line 8\n",
-    )?;
-    let void = CertFault::RuleFails {
-        rule: Rule::VoidCombine,
-        line: 9,
-    };
-    assert_fault(
-        &rt,
-        alloc,
-        void,
-        "certificate fault 3 RuleFails voidcomb line 9\n",
-    )
+    for (fault, wanted) in &CERT_FAULTS {
+        assert_text(&rt, &cert_fault(rt.alloc(), *fault)?, wanted);
+    }
+    Ok(())
 }
 
 // ---- the refusals of a script
@@ -458,67 +438,54 @@ fn script_faults_of_names(rt: HostRuntime) -> Result<(), Fail> {
     )
 }
 
+const LIMITS: [(Limit, Place, &str); 7] = [
+    (
+        Limit::Bytes,
+        Place { line: 0, column: 0 },
+        "script fault 13 TooMany Bytes 0:0\n",
+    ),
+    (
+        Limit::Depth,
+        Place {
+            line: 1,
+            column: 257,
+        },
+        "script fault 13 TooMany Depth 1:257\n",
+    ),
+    (
+        Limit::Axes,
+        Place { line: 9, column: 1 },
+        "script fault 13 TooMany Axes 9:1\n",
+    ),
+    (
+        Limit::Size,
+        Place { line: 9, column: 1 },
+        "script fault 13 TooMany Size 9:1\n",
+    ),
+    (
+        Limit::Nodes,
+        Place { line: 9, column: 1 },
+        "script fault 13 TooMany Nodes 9:1\n",
+    ),
+    (
+        Limit::Atoms,
+        Place { line: 9, column: 1 },
+        "script fault 13 TooMany Atoms 9:1\n",
+    ),
+    (
+        Limit::Forms,
+        Place { line: 9, column: 1 },
+        "script fault 13 TooMany Forms 9:1\n",
+    ),
+];
+
 #[test]
 fn script_faults_of_limits(rt: HostRuntime) -> Result<(), Fail> {
-    use FaultKind::TooMany;
-
-    let alloc = rt.alloc();
-    assert_refusal(
-        &rt,
-        alloc,
-        TooMany(Limit::Bytes),
-        0,
-        0,
-        "script fault 13 TooMany Bytes 0:0\n",
-    )?;
-    assert_refusal(
-        &rt,
-        alloc,
-        TooMany(Limit::Depth),
-        1,
-        257,
-        "script fault 13 TooMany Depth 1:257\n",
-    )?;
-    assert_refusal(
-        &rt,
-        alloc,
-        TooMany(Limit::Axes),
-        9,
-        1,
-        "script fault 13 TooMany Axes 9:1\n",
-    )?;
-    assert_refusal(
-        &rt,
-        alloc,
-        TooMany(Limit::Size),
-        9,
-        1,
-        "script fault 13 TooMany Size 9:1\n",
-    )?;
-    assert_refusal(
-        &rt,
-        alloc,
-        TooMany(Limit::Nodes),
-        9,
-        1,
-        "script fault 13 TooMany Nodes 9:1\n",
-    )?;
-    assert_refusal(
-        &rt,
-        alloc,
-        TooMany(Limit::Atoms),
-        9,
-        1,
-        "script fault 13 TooMany Atoms 9:1\n",
-    )?;
-    assert_refusal(
-        &rt,
-        alloc,
-        TooMany(Limit::Forms),
-        9,
-        1,
-        "script fault 13 TooMany Forms 9:1\n",
-    )
+    for (limit, at, wanted) in &LIMITS {
+        let kind = FaultKind::TooMany(*limit);
+        assert_refusal(&rt, rt.alloc(), kind, at.line, at.column, wanted)?;
+    }
+    Ok(())
 }
 
 // A name is written so in a fault that has one.
@@ -528,36 +495,31 @@ fn assert_name(rt: &impl Abort, alloc: Global, name: &str, written: &str) -> Res
     assert_refusal(rt, alloc, kind, 2, 3, &wanted)
 }
 
-#[test]
-fn simple_names_stand_alone(rt: HostRuntime) -> Result<(), Fail> {
-    assert_name(&rt, rt.alloc(), "x", "x")?;
-    assert_name(
-        &rt,
-        rt.alloc(),
-        "~!@$%^&*_-+=<>.?/Z9",
-        "~!@$%^&*_-+=<>.?/Z9",
-    )?;
-    assert_name(&rt, rt.alloc(), "_x", "_x")?;
-    assert_name(&rt, rt.alloc(), "lets", "lets")
-}
+// Names, and how they are written: simple ones alone, all others in bars, and reserved words too.
+const NAMES: [(&str, &str); 17] = [
+    ("x", "x"),
+    ("~!@$%^&*_-+=<>.?/Z9", "~!@$%^&*_-+=<>.?/Z9"),
+    ("_x", "_x"),
+    ("lets", "lets"),
+    ("", "||"),
+    ("1a", "|1a|"),
+    ("a b", "|a b|"),
+    ("a:b", "|a:b|"),
+    ("é", "|é|"),
+    ("!", "|!|"),
+    ("_", "|_|"),
+    ("as", "|as|"),
+    ("let", "|let|"),
+    ("exists", "|exists|"),
+    ("forall", "|forall|"),
+    ("match", "|match|"),
+    ("par", "|par|"),
+];
 
 #[test]
-fn other_names_stand_in_bars(rt: HostRuntime) -> Result<(), Fail> {
-    assert_name(&rt, rt.alloc(), "", "||")?;
-    assert_name(&rt, rt.alloc(), "1a", "|1a|")?;
-    assert_name(&rt, rt.alloc(), "a b", "|a b|")?;
-    assert_name(&rt, rt.alloc(), "a:b", "|a:b|")?;
-    assert_name(&rt, rt.alloc(), "é", "|é|")
-}
-
-#[test]
-fn reserved_words_stand_in_bars(rt: HostRuntime) -> Result<(), Fail> {
-    assert_name(&rt, rt.alloc(), "!", "|!|")?;
-    assert_name(&rt, rt.alloc(), "_", "|_|")?;
-    assert_name(&rt, rt.alloc(), "as", "|as|")?;
-    assert_name(&rt, rt.alloc(), "let", "|let|")?;
-    assert_name(&rt, rt.alloc(), "exists", "|exists|")?;
-    assert_name(&rt, rt.alloc(), "forall", "|forall|")?;
-    assert_name(&rt, rt.alloc(), "match", "|match|")?;
-    assert_name(&rt, rt.alloc(), "par", "|par|")
+fn names_stand_in_bars_where_they_are_not_simple(rt: HostRuntime) -> Result<(), Fail> {
+    for (name, written) in &NAMES {
+        assert_name(&rt, rt.alloc(), name, written)?;
+    }
+    Ok(())
 }

@@ -3,11 +3,13 @@ ghost use Rattle.std.specs.Prelude.{◌≤◌, ◌<◌, All};
 ghost use Rattle.book_lock.specs.Shared.{IsOnePartSeatOf, first_of};
 ghost use Rattle.thread_rows.specs.TriedBookLock.{IsTried};
 
-use crate::swapped::{OPTIONS, Place, closing, is_at, problem};
+use crate::swapped::{OPTIONS, Place, closing, is_at};
 use book_lock::{BookSeat, SharedBook};
 use cover_book::Book;
 use cover_data::Margins;
 use poly_graph::Problem;
+use sample_problems::problem;
+use sample_problems::scripts::SWAPPED;
 use std::alloc::Global;
 use std::sync::Wait;
 use std::sync::atomic::{AtomicU64, Ordering};
@@ -66,7 +68,7 @@ fn learned<R: Threads + Wait + Sync>(
 ) -> Result<Book, Fail>
     requires { (0 < threads) × (threads ≤ 100) }
 {
-    let Some(problem) = problem(alloc) else {
+    let Some(problem) = problem(alloc, SWAPPED) else {
         return Err(Fail::from("no problem"));
     };
     let margins = OPTIONS.margins();
@@ -147,7 +149,7 @@ fn learned_by_two<R: Threads + Wait + Sync>(
     alloc: Global,
     sum: &AtomicU64,
 ) -> Result<Book, Fail> {
-    let Some(problem) = problem(alloc) else {
+    let Some(problem) = problem(alloc, SWAPPED) else {
         return Err(Fail::from("no problem"));
     };
     let margins = OPTIONS.margins();

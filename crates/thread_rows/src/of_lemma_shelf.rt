@@ -2,12 +2,14 @@
 ghost use Rattle.std.specs.Prelude.{◌≡◌};
 ghost use Rattle.cover_data.specs.Margins.{AreMargins};
 ghost use Rattle.lemma_shelf.specs.Lemmas.{IsLemmaOf};
-ghost use Rattle.thread_rows.specs.TriedBookLock.{IsSmall};
+ghost use Rattle.sample_problems.specs.Small.{IsSmall};
 
-use crate::swapped::{OPTIONS, Place, closing, is_at, problem};
+use crate::swapped::{OPTIONS, Place, closing, is_at};
 use cover_data::{Lemma, Margins};
 use lemma_shelf::{LemmaSource, Mark, Shelf, ShelfReader, Subject, Token};
 use poly_graph::Problem;
+use sample_problems::problem;
+use sample_problems::scripts::SWAPPED;
 use std::alloc::Global;
 use std::marker::Brand;
 use std::sync::Wait;
@@ -119,7 +121,7 @@ fn posted_is_found<J: Subject + Send + Sync, R: Threads + Wait + Sync>(
 #[test]
 fn a_lemma_is_read_off_the_shelf(rt: HostRuntime) -> Result<(), Fail> {
     let alloc = rt.alloc();
-    let Some(problem) = problem(alloc) else {
+    let Some(problem) = problem(alloc, SWAPPED) else {
         return Err(Fail::from("no problem"));
     };
     let margins = OPTIONS.margins();

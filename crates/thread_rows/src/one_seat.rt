@@ -1,13 +1,16 @@
 // A shared book with one seat replies as a book of one thread does, and leaves the same book.
 ghost use Rattle.book_lock.specs.Shared.{IsOnePartSeatOf, first_of};
-ghost use Rattle.thread_rows.specs.TriedBookLock.{IsSmall, IsTried};
+ghost use Rattle.sample_problems.specs.Small.{IsSmall};
+ghost use Rattle.thread_rows.specs.TriedBookLock.{IsTried};
 
-use crate::swapped::{ATOMS, OPTIONS, Place, closing, cutting, is_at, problem, state_at};
+use crate::swapped::{ATOMS, OPTIONS, Place, closing, cutting, is_at, state_at};
 use book_lock::{BookSeat, SharedBook};
 use cover_book::{Book, BookRefusal, BookVerdict, Kids, Learned, Node};
 use cover_data::{End, Margins, Step};
 use dyadic::Dy;
 use poly_graph::Problem;
+use sample_problems::problem;
+use sample_problems::scripts::SWAPPED;
 use std::alloc::Global;
 use std::sync::Wait;
 use std::test::Fail;
@@ -216,7 +219,7 @@ fn is_middle(alloc: Global, problem: &Problem, lemmas: &[Learned]) -> bool {
 #[test]
 fn a_shared_book_replies_as_a_book(rt: HostRuntime) -> Result<(), Fail> {
     let alloc = rt.alloc();
-    let Some(problem) = problem(alloc) else {
+    let Some(problem) = problem(alloc, SWAPPED) else {
         return Err(Fail::from("no problem"));
     };
     let book = left_book(&rt, alloc, &problem)?;

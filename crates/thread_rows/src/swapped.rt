@@ -1,58 +1,25 @@
 // The problem of the books that are shared here: x * y - y * x = 1/8 over a square. Its states and its patches.
-ghost use Rattle.std.specs.Prelude.{◌≡◌, IfSome, IsSome, IsTrue};
+ghost use Rattle.std.specs.Prelude.{◌≡◌, IfSome, IsSome};
 ghost use Rattle.cover_model.specs.Fits.{FitsProblem};
 ghost use Rattle.poly_graph.specs.ProblemViews.{problem_of};
 ghost use Rattle.cover_data.specs.Margins.{AreMargins};
 ghost use Rattle.cover_data.specs.Runs.{IsClosed, IsRun};
 ghost use Rattle.cover_data.specs.Views.{kept_of};
-ghost use Rattle.thread_rows.specs.TriedBookLock.{IsSmall};
+ghost use Rattle.sample_problems.specs.Small.{IsSmall};
 
 use cover_data::{ClosedPatch, KeptPatch, Margins, Options, State};
 use cover_rule::Patch;
 use dyadic::{Dy, two_to_minus};
 use ival::{Domain, Range, Space};
 use poly_graph::{Lits, Mark, Problem};
-use problem_build::build;
-use smt_script::commands;
-use smt_sexp::read;
-use sort_check::check;
+use sample_problems::{USUAL, lies_within};
 use std::alloc::Global;
-use truth3::{Root, root_space};
-
-const SCRIPT: &str = "(declare-const x Real)
-(declare-const y Real)
-(assert (<= (- (/ 1 2)) x (/ 1 2)))
-(assert (<= (- (/ 1 2)) y (/ 1 2)))
-(assert (= (- (* x y) (* y x)) (/ 1 8)))
-(check-sat)";
 
 // The bounds have the atoms 0 to 3, the equation 4.
 pub(crate) const ATOMS: u32 = 5;
 
-// The problem of the script.
-pub(crate) fn problem(alloc: Global) -> Option<Problem>
-    ensures { IfSome result (λ p. IsSmall p) }
-{
-    let bytes = SCRIPT.as_bytes();
-    let sexps = read(alloc, bytes).ok()?;
-    let script = commands(alloc, &sexps).ok()?;
-    let typed = check(alloc, script).ok()?;
-    let problem = build(alloc, typed, None).ok()?;
-    if problem.axes().len() > 1_024 || problem.atoms().len() > 65_536 {
-        return None;
-    }
-    Some(problem)
-}
-
 // A budget of one branch.
-pub(crate) const OPTIONS: Options = Options {
-    delta_bits: 10,
-    margin_bits: 20,
-    least_bits: 20,
-    budget: 1,
-    workers: 1,
-    bound: None,
-};
+pub(crate) const OPTIONS: Options = Options { budget: 1, ..USUAL };
 
 // ---- states
 
@@ -88,20 +55,6 @@ fn mark_all(lits: &mut Lits) {
             lits.set(j, Mark::Yes);
         }
     }
-}
-
-// Whether the state is one of the problem, within the declared box.
-fn lies_within(alloc: Global, problem: &Problem, state: &State) -> bool
-    ensures { IsTrue result → FitsProblem (problem_of problem.now) state.now }
-{
-    let Ok(Root::Space(root)) = root_space(alloc, problem) else {
-        return false;
-    };
-    let space = state.space();
-    if space.len() != root.len() || state.lits().len() != problem.atoms().len() {
-        return false;
-    }
-    space.within(&root)
 }
 
 // The state of the place.

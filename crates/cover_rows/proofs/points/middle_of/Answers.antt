@@ -4,7 +4,7 @@ use Rattle.cover_model.specs.Root.{root_space}
 use Rattle.poly_graph.specs.ProblemViews.{Parts, problem_of}
 use Rattle.interval_model.specs.Space.{Space, space_within}
 use Rattle.cover_book.proofs.Meaning.{nodes_lie_within}
-use Rattle.cover_rows.proofs.tests.middle_of.Goals as goal
+use Rattle.cover_rows.proofs.points.middle_of.Goals as goal
 
 pub of_middle-requires-clause-space : goal.of_middle-requires-clause-space
 of_middle-requires-clause-space c =

@@ -9,7 +9,7 @@ use Rattle.poly_graph.specs.Views.{atom_of}
 use Rattle.ival.specs.SpaceViews.{space_of}
 use Rattle.truth3.specs.Roots.{IsRoot}
 use Rattle.cover_rule.proofs.Points.{fits_root}
-use Rattle.cover_rows.proofs.patches.lies_within.Goals as goal
+use Rattle.sample_problems.proofs.inside.lies_within.Goals as goal
 
 pub returns : goal.returns
 returns c = λ h.

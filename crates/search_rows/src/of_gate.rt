@@ -1,11 +1,12 @@
 // What the search calls its gate with, and in which order.
 ghost use Rattle.std.specs.Prelude.{◌≤◌};
 
-use crate::tests::{CIRCLE, OUTSIDE, SWAPPED, problem as script_problem};
+use crate::searched::searched;
 use cover_book::{Book, BookVerdict, Node};
-use cover_data::Options;
-use solve_core::*;
+use sample_problems::scripts::{CIRCLE, OUTSIDE, SWAPPED};
+use solve_core::Gate;
 use std::alloc::{AllocError, Global};
+use std::process::Abort;
 use std::sync::Wait;
 use std::sync::atomic::{AtomicBool, AtomicU32, AtomicU64, Ordering};
 use std::test::Fail;
@@ -88,7 +89,7 @@ impl Gate for Diary {
 }
 
 // The book of a search by so many workers, and the calls that it made.
-fn searched<R: Threads + Wait + Sync>(
+fn watched<R: Threads + Wait + Sync>(
     rt: &R,
     alloc: Global,
     script: &str,
@@ -97,27 +98,14 @@ fn searched<R: Threads + Wait + Sync>(
 ) -> Result<(Book, Vec<Said>), Fail>
     requires { budget ≤ 65536 }
 {
-    let problem = script_problem(alloc, script).ok_or("no problem")?;
-    if problem.axes().len() > 1_024 || problem.atoms().len() > 65_536 {
-        return Err(Fail::from("no problem within the limits"));
-    }
-    let options = Options {
-        delta_bits: 10,
-        margin_bits: 20,
-        least_bits: 20,
-        budget,
-        workers,
-        bound: None,
-    };
     let diary = Diary::new(alloc, 10_000)?;
-    let book = solve(rt, alloc, &problem, &options, &diary)?;
+    let book = searched(rt, alloc, script, budget, workers, &diary)?;
     let calls = diary.calls(alloc)?.ok_or("too many calls")?;
     Ok((book, calls))
 }
 
-// The calls of one worker that works on every node of the book, depth first, the lower part of a box before the upper.
-fn depth_first(alloc: Global, book: &Book) -> Result<Vec<Said>, Fail> {
-    let nodes = book.nodes();
+// The calls of one worker that works on each of the nodes, depth first, the lower part of a box before the upper.
+fn depth_first(alloc: Global, nodes: &[Node]) -> Result<Vec<Said>, Fail> {
     let mut calls = Vec::new(alloc);
     let mut waiting = Vec::new(alloc);
     waiting.push(0)?;
@@ -153,21 +141,22 @@ fn ends_before_next(calls: &[Said], worker: u32) -> bool {
     at_work.is_none()
 }
 
-// After how many calls the work on a node begins.
-fn begin_of(calls: &[Said], node: usize) -> Option<usize> {
+// After how many calls the work on a node begins or ends.
+fn place_of(calls: &[Said], node: usize, ends: bool) -> Option<usize> {
     calls
         .iter()
-        .position(|call| call.node as usize == node && !call.ends)
+        .position(|call| call.node as usize == node && call.ends == ends)
 }
 
 // Whether both parts of each box of the book begin after the box.
-fn parts_come_later(book: &Book, calls: &[Said]) -> bool {
-    let nodes = book.nodes();
+fn parts_come_later(nodes: &[Node], calls: &[Said]) -> bool {
     for node in 0..nodes.len() {
         if let Node::Parted(_, lower) = &nodes[node] {
-            let whole = begin_of(calls, node);
+            let whole = place_of(calls, node, false);
             let lower = *lower as usize;
-            if begin_of(calls, lower) <= whole || begin_of(calls, lower + 1) <= whole {
+            if place_of(calls, lower, false) <= whole
+                || place_of(calls, lower + 1, false) <= whole
+            {
                 return false;
             }
         }
@@ -175,35 +164,53 @@ fn parts_come_later(book: &Book, calls: &[Said]) -> bool {
     true
 }
 
-// Whether each node of the book begins and ends once.
-fn each_once(book: &Book, calls: &[Said]) -> bool {
-    let count = book.nodes().len();
+// Whether each of so many nodes begins and ends once: it does both, and there are no other calls.
+fn each_once(count: usize, calls: &[Said]) -> bool {
     for node in 0..count {
-        let begins = calls
-            .iter()
-            .filter(|call| call.node as usize == node && !call.ends);
-        let ends = calls
-            .iter()
-            .filter(|call| call.node as usize == node && call.ends);
-        if begins.count() != 1 || ends.count() != 1 {
+        if place_of(calls, node, false).is_none() || place_of(calls, node, true).is_none() {
             return false;
         }
     }
     calls.len() / 2 == count && calls.len() % 2 == 0
 }
 
+// Whether the calls of so many workers are those that the book has: each worker's in pairs, a box before its parts.
+fn are_pairs(book: &Book, calls: &[Said], workers: u32) -> bool {
+    for worker in 0..workers {
+        if !ends_before_next(calls, worker) {
+            return false;
+        }
+    }
+    let nodes = book.nodes();
+    each_once(nodes.len(), calls) && parts_come_later(nodes, calls)
+}
+
+// How many calls one worker's search makes, where they are depth first.
+fn count_depth_first<R: Threads + Wait + Abort + Sync>(
+    rt: &R,
+    alloc: Global,
+    script: &str,
+    budget: u32,
+    workers: u32,
+    verdict: BookVerdict,
+) -> Result<usize, Fail>
+    requires { budget ≤ 65536 }
+{
+    let (book, calls) = watched(rt, alloc, script, budget, workers)?;
+    assert_eq!(rt; book.verdict(), verdict, "{script}");
+    let expected = depth_first(alloc, book.nodes())?;
+    assert_eq!(rt; calls.as_slice(), expected.as_slice(), "{script}");
+    Ok(calls.len())
+}
+
 #[test]
 fn one_worker_calls_the_gate_depth_first(rt: HostRuntime) -> Result<(), Fail> {
-    let alloc = rt.alloc();
     let mut most = 0;
     for script in [SWAPPED, CIRCLE, OUTSIDE] {
         for workers in [0, 1] {
-            let (book, calls) = searched(&rt, alloc, script, 65_536, workers)?;
-            assert_eq!(rt; book.verdict(), BookVerdict::Unsat, "{script}");
-            assert!(rt; each_once(&book, &calls), "{script}");
-            let expected = depth_first(alloc, &book)?;
-            assert_eq!(rt; calls.as_slice(), expected.as_slice(), "{script}");
-            most = most.max(calls.len());
+            let unsat = BookVerdict::Unsat;
+            let count = count_depth_first(&rt, rt.alloc(), script, 65_536, workers, unsat)?;
+            most = most.max(count);
         }
     }
     assert!(rt; most >= 14);
@@ -213,28 +220,20 @@ fn one_worker_calls_the_gate_depth_first(rt: HostRuntime) -> Result<(), Fail> {
 // A box for whose branch there is no budget is worked on all the same.
 #[test]
 fn a_spent_budget_leaves_the_order(rt: HostRuntime) -> Result<(), Fail> {
-    let alloc = rt.alloc();
     for budget in [0, 1, 2] {
-        let (book, calls) = searched(&rt, alloc, SWAPPED, budget, 1)?;
-        assert_eq!(rt; book.verdict(), BookVerdict::UnknownBudget);
-        let expected = depth_first(alloc, &book)?;
-        assert_eq!(rt; calls.as_slice(), expected.as_slice());
+        let spent = BookVerdict::UnknownBudget;
+        count_depth_first(&rt, rt.alloc(), SWAPPED, budget, 1, spent)?;
     }
     Ok(())
 }
 
 #[test]
 fn workers_call_the_gate_in_pairs(rt: HostRuntime) -> Result<(), Fail> {
-    let alloc = rt.alloc();
     for script in [SWAPPED, CIRCLE, OUTSIDE] {
         for workers in [2, 3] {
-            let (book, calls) = searched(&rt, alloc, script, 65_536, workers)?;
+            let (book, calls) = watched(&rt, rt.alloc(), script, 65_536, workers)?;
             assert_eq!(rt; book.verdict(), BookVerdict::Unsat, "{script}");
-            assert!(rt; each_once(&book, &calls), "{script}");
-            assert!(rt; parts_come_later(&book, &calls), "{script}");
-            for worker in 0..workers {
-                assert!(rt; ends_before_next(&calls, worker), "{script}");
-            }
+            assert!(rt; are_pairs(&book, &calls, workers), "{script}");
         }
     }
     Ok(())

@@ -2,9 +2,10 @@
 ghost use Rattle.std.specs.Prelude.{◌≡◌, [], IfOk};
 
 use box_worker::*;
-use cover_rule::{Options, State};
+use cover_data::State;
 use ival::Space;
 use poly_graph::{FormGraph, FormNode, Graph, Lits, NoNode, Problem};
+use sample_problems::USUAL;
 use std::alloc::{AllocError, Global};
 use std::test::Fail;
 
@@ -30,17 +31,9 @@ fn work(alloc: Global, problem: &Problem) -> Result<Worked, AllocError>
     requires axes { problem.now.axes ≡ [] }
     requires atoms { problem.now.atoms ≡ [] }
 {
-    let options = Options {
-        delta_bits: 10,
-        margin_bits: 20,
-        least_bits: 20,
-        budget: 1,
-        workers: 1,
-        bound: None,
-    };
     let space = Space::with_capacity(alloc, 0)?;
     let lits = Lits::new(alloc, 0)?;
-    work_on(alloc, problem, &options, State::new(space, lits), &[])
+    work_on(alloc, problem, &USUAL, State::new(space, lits), &[])
 }
 
 #[test]
