@@ -1,8 +1,8 @@
 // How many states the checker keeps after each line of a certificate.
+use crate::made::problem;
 use cert_check::{CertFault, Checker};
 use cert_read::LineReader;
 use poly_graph::Problem;
-use sample_problems::problem;
 use sample_problems::scripts::CIRCLE;
 use std::alloc::Global;
 use std::test::Fail;
