@@ -1,5 +1,5 @@
 -- What work comes to.
-use Rattle.std.proofs.Common.{◌≡◌, ◌⊎◌, inl, inr, ℕ, zero, suc, List, [], ◌∷◌, Bool, true, false, cond, not, ◌&&◌, IsTrue, Option, Some, None, refl, sym, ◌∙◌, subst, arith, true≢false}
+use Rattle.std.proofs.Common.{◌≡◌, ◌⊎◌, inl, inr, ℕ, zero, suc, List, [], ◌∷◌, Bool, true, false, cond, not, ◌&&◌, IsTrue, Option, Some, None, refl, ap, sym, ◌∙◌, subst, arith, true≢false}
 use Rattle.std.specs.Prelude.{Contains, Result, Ok, Err, IfOk}
 use Rattle.std.specs.declared.alloc.AllocError.{AllocError}
 use Rattle.dyadic.proofs.Equal.{both_true}
@@ -116,6 +116,14 @@ is_begun P q m S e f g =
     subst (λ (k : KeptModel). P ≡ record { problem = q; margins = m; kept = k }) g
     (subst (λ (x : Margins). P ≡ record { problem = q; margins = x; kept = P.kept }) f
     (subst (λ (r : Parts). P ≡ record { problem = r; margins = P.margins; kept = P.kept }) e refl))
+
+-- a patch that has ended at once is of the same problem
+pub at_once_problem : (lemmas : List LemmaModel) (P Q : PatchModel) (e : Ended) → AtOnce lemmas P Q (Some e) → Q.problem ≡ P.problem
+at_once_problem lemmas P Q ended.Closed (inl a) = ap (λ (X : PatchModel). X.problem) a.1
+at_once_problem lemmas P Q ended.Closed (inr a) = ap (λ (X : PatchModel). X.problem) a.3
+at_once_problem lemmas P Q ended.Parted a = absurd a
+at_once_problem lemmas P Q (ended.Found x) a = absurd a
+at_once_problem lemmas P Q (ended.Shown x) a = ap (λ (X : PatchModel). X.problem) a.0
 
 pub margins_are : (m : Margins) (o : Options) → m.delta_bits ≡ o.delta_bits → m.margin_bits ≡ o.margin_bits → m.least_bits ≡ o.least_bits → m ≡ margins_of o
 margins_are m o e f g =

@@ -25,6 +25,9 @@ const MOST_ROUNDS: u32 = 10;
 /// At most so many rounds of combinations are made at a state.
 const MOST_COMBINING_ROUNDS: u32 = 2;
 
+// Combinations of several atoms are left out for so many boxes in a row at most.
+const MOST_LEFT_OUT: u32 = 8;
+
 /// By what nothing is left of a state.
 #[derive(Drop)]
 pub enum Emptied {
@@ -129,7 +132,7 @@ fn start(alloc: Global, problem: &Problem, patch: &Patch) -> Result<Scout, Alloc
         repeating,
         space,
         void: None,
-        patience: Patience::new(),
+        patience: Patience::new(MOST_LEFT_OUT),
         guide: Guide::of(alloc, problem)?,
         forms: problem.forms().len(),
     })

@@ -6,7 +6,7 @@ ghost use Rattle.interval_model.specs.Space.{space_within};
 ghost use Rattle.cover_data.specs.Margins.{AreMargins};
 ghost use Rattle.box_worker.specs.Ended.{IsFoundIn};
 
-use crate::room::Room;
+use crate::heuristics::Heuristics;
 use cover_rule::{Margins, MiddlePoint, Patch, Point};
 use ival::Space;
 use point_search::point_near_middle;
@@ -41,7 +41,7 @@ fn tried(
 /// not where the form is sure at the middle.
 pub fn found_point(
     alloc: Global,
-    room: &mut Room,
+    heuristics: &mut Heuristics,
     problem: &Problem,
     margins: &Margins,
     patch: &mut Patch,
@@ -53,7 +53,7 @@ pub fn found_point(
     ensures found { IfOk result (λ o. IfSome o (IsFoundIn patch.new)) }
     ensures same { patch.new ≡ patch.old }
 {
-    if patch.is_sure_at_middle() || !room.is_search_due() {
+    if patch.is_sure_at_middle() || !heuristics.is_search_due() {
         return Ok(None);
     }
     let state = patch.reached();

@@ -10,8 +10,7 @@ ghost use Rattle.box_worker.specs.Attempts.{Continues, IsOpen};
 ghost use Rattle.box_worker.specs.Learned.{IsLesson, IsShownFromRoot};
 ghost use Rattle.box_worker.specs.Worked.{margins_of};
 
-use crate::facts::run_is_lawful;
-use crate::room::{Room, take_work};
+use crate::room::Room;
 use crate::{attempt, step};
 use cover_data::{ClosedPatch, Combination, End, KeptPatch, Step};
 use cover_rule::{Margins, Options, Patch, State};
@@ -172,34 +171,32 @@ fn is_worth(run: &KeptPatch) -> bool {
     leaves_nothing && run.steps.len() <= MOST_STEPS
 }
 
-// What a closed run shows of the whole root space: it is repeated there with the marks alone of the atoms by which it
+// What a closed run of the room's problem shows of the whole root space: it is repeated there with the marks alone of the atoms by which it
 // narrows. None where that does not leave nothing.
 fn widened(
     alloc: Global,
     room: &mut Room,
-    problem: &Problem,
     options: &Options,
     run: &KeptPatch,
 ) -> Result<Option<ClosedPatch>, AllocError>
-    requires numbered { IsNumbered problem.now }
+    requires numbered { IsNumbered room.old }
     requires margins { AreMargins (margins_of options.now) }
-    ensures { IfOk result (λ o. IfSome o (IsShownFromRoot problem.now (margins_of options.now))) }
+    ensures shown { IfOk result (λ o. IfSome o (IsShownFromRoot room.old (margins_of options.now))) }
+    ensures room { room.new ≡ room.old }
 {
     if !is_worth(run) {
         return Ok(None);
     }
+    let problem = room.problem();
     let marks = marks_in_use(alloc, problem, run)?;
     let Some(state) = root_with(alloc, problem, marks)? else {
         return Ok(None);
     };
     let margins = options.margins();
-    let work = take_work(alloc, problem, room)?;
-    let mut patch = Patch::begin_in(alloc, work, problem, &margins, state)?;
+    let mut patch = room.begin(alloc, &margins, state)?;
     repeat_steps(problem, &margins, &run.steps, &mut patch)?;
     repeat_end(problem, &run.end, &mut patch)?;
-    run_is_lawful(&patch);
-    let (kept, work) = patch.into_kept();
-    room.work = Some(work);
+    let kept = room.end(patch);
     match kept.closed() {
         Ok(closed) => Ok(Some(closed)),
         Err(_) => Ok(None),
@@ -215,7 +212,7 @@ fn begins_at_root(alloc: Global, problem: &Problem, run: &KeptPatch) -> Result<b
     }
 }
 
-/// What is to be learned of a closed run, of which `own` is a copy: a lemma that holds in each box where some atoms are
+/// What is to be learned of a closed run of the room's problem, of which `own` is a copy: a lemma that holds in each box where some atoms are
 /// marked together. It is the run repeated at the whole root space with the marks alone of the atoms by which it narrows,
 /// where that leaves nothing, else the copy where it begins at the root space. Runs are not repeated for 1, 2, 4 and then
 /// 8 boxes after one that showed nothing so. A lemma of a smaller space is none to be learned: the boxes of a cover do
@@ -227,18 +224,18 @@ fn begins_at_root(alloc: Global, problem: &Problem, run: &KeptPatch) -> Result<b
 pub fn lesson(
     alloc: Global,
     room: &mut Room,
-    problem: &Problem,
     options: &Options,
     run: &KeptPatch,
     own: Option<ClosedPatch>,
 ) -> Result<Option<ClosedPatch>, AllocError>
-    requires numbered { IsNumbered problem.now }
+    requires numbered { IsNumbered room.old }
     requires margins { AreMargins (margins_of options.now) }
-    ensures { IfOk result (λ o. IfSome o (IsLesson problem.now (margins_of options.now) own)) }
+    ensures lesson { IfOk result (λ o. IfSome o (IsLesson room.old (margins_of options.now) own)) }
+    ensures room { room.new ≡ room.old }
 {
-    if room.lessons.is_due() {
-        let shown = widened(alloc, room, problem, options, run)?;
-        room.lessons.note(shown.is_some());
+    if room.heuristics.lessons.is_due() {
+        let shown = widened(alloc, room, options, run)?;
+        room.heuristics.lessons.note(shown.is_some());
         if shown.is_some() {
             return Ok(shown);
         }
@@ -246,7 +243,7 @@ pub fn lesson(
     let Some(closed) = own else {
         return Ok(None);
     };
-    if begins_at_root(alloc, problem, closed.kept())? {
+    if begins_at_root(alloc, room.problem(), closed.kept())? {
         Ok(Some(closed))
     } else {
         Ok(None)

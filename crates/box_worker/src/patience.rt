@@ -1,19 +1,21 @@
 // How long work is left out that gave nothing before: a heuristic that promises nothing.
 
-/// At most so many boxes are left out.
-const MOST_LEFT_OUT: u32 = 8;
-
-/// How long something is left out: for 1, 2, 4 and then 8 boxes after one where it gave nothing.
+/// How long something is left out: for 1, 2, 4 boxes and so on after one where it gave nothing, up to a greatest number.
 #[derive(Clone, Copy, PartialEq, Eq, Debug)]
 pub struct Patience {
+    most: u32,
     left: u32,
     last: u32,
 }
 
 impl Patience {
-    /// It is tried at once.
-    pub fn new() -> Patience {
-        Patience { left: 0, last: 0 }
+    /// It is tried at once, and then left out for so many boxes in a row at most.
+    pub fn new(most: u32) -> Patience {
+        Patience {
+            most,
+            left: 0,
+            last: 0,
+        }
     }
 
     /// Whether it is tried at this box.
@@ -31,10 +33,8 @@ impl Patience {
             0
         } else if self.last == 0 {
             1
-        } else if self.last < MOST_LEFT_OUT {
-            self.last * 2
         } else {
-            MOST_LEFT_OUT
+            self.last.saturating_mul(2).min(self.most)
         };
         self.left = self.last;
     }

@@ -1,57 +1,88 @@
 // Room for the work on boxes.
-ghost use Rattle.std.specs.Prelude.{IfOk};
-ghost use Rattle.cover_rule.specs.Serves.{HasRoom};
+ghost use Rattle.std.specs.Prelude.{◌≡◌, IfOk};
+ghost use Rattle.cover_model.specs.Fits.{FitsProblem};
+ghost use Rattle.poly_graph.specs.ProblemViews.{problem_of};
+ghost use Rattle.cover_data.specs.Margins.{AreMargins};
+ghost use Rattle.cover_data.specs.Views.{kept_of};
+ghost use Rattle.cover_rule.specs.Patch.{IsRunOf, run_at};
+ghost use Rattle.cover_rule.specs.Serves.{IsNumbered};
 
-use crate::contraction::Scout;
-use crate::patience::Patience;
-use cover_rule::Workspace;
+use crate::heuristics::Heuristics;
+use cover_rule::{KeptPatch, Margins, Patch, State, Workspace};
 use poly_graph::Problem;
 use std::alloc::{AllocError, Global};
+use std::marker::Model;
 
-/// In so many boxes at first a point is searched in each.
-const FIRST_SEARCHES: u32 = 8;
-
-/// Then in one of so many.
-const SEARCH_PERIOD: u32 = 16;
-
-/// Room for the work on the boxes of one problem. It is made at the first box, and used for one after the other.
+/// Room for the work on the boxes of a problem, which is what clauses see of it. The workspace of its patches is made at
+/// the first box, and goes from one to the next: it is filled for the problem.
 #[derive(Drop)]
-pub struct Room {
-    pub work: Option<Workspace>,
-    pub scout: Option<Scout>,
-    /// How long closed runs are not repeated at the root space.
-    pub lessons: Patience,
-    boxes: u32,
+pub struct Room<'a> {
+    problem: &'a Problem,
+    work: Option<Workspace>,
+    pub heuristics: Heuristics,
 }
 
-impl Room {
-    /// Nothing yet.
-    pub fn new() -> Room {
+impl<'a> Model for Room<'a> {
+    ghost use Rattle.std.specs.Prelude.{IfSome};
+    ghost use Rattle.poly_graph.specs.ProblemViews.{Parts};
+    ghost use Rattle.cover_rule.specs.Serves.{IsFilled};
+
+    ghost Value = { Parts };
+
+    ghost view = { λ r. r.problem.now };
+
+    ghost invariant = { λ r. IfSome r.work (IsFilled r.problem.now) };
+}
+
+impl<'a> Room<'a> {
+    /// Room for the boxes of the problem, with nothing in it yet.
+    pub fn new(problem: &'a Problem) -> Room<'a>
+        ensures { result ≡ problem.now }
+    {
         Room {
+            problem,
             work: None,
-            scout: None,
-            lessons: Patience::new(),
-            boxes: 0,
+            heuristics: Heuristics::new(),
         }
     }
 
-    /// Counts a box that is about to be split, and tells whether a point is to be searched in it: in each of the first ones,
-    /// then in some of them.
-    pub fn is_search_due(&mut self) -> bool {
-        let seen = self.boxes;
-        self.boxes = seen.wrapping_add(1);
-        seen < FIRST_SEARCHES || seen % SEARCH_PERIOD == 0
+    /// The problem.
+    pub fn problem(&self) -> &'a Problem
+        ensures { result.now ≡ self.now }
+    {
+        self.problem
     }
-}
 
-/// Takes the room for a patch out of there, or makes it where there is none for the problem.
-pub fn take_work(alloc: Global, problem: &Problem, room: &mut Room) -> Result<Workspace, AllocError>
-    ensures { IfOk result (HasRoom problem.now) }
-{
-    if let Some(work) = room.work.take() {
-        if work.has_room(problem) {
-            return Ok(work);
+    /// A patch at the state, with nothing done yet, in the workspace.
+    pub fn begin(
+        &mut self,
+        alloc: Global,
+        margins: &Margins,
+        state: State,
+    ) -> Result<Patch<'a>, AllocError>
+        requires numbered { IsNumbered self.old }
+        requires margins { AreMargins margins.now }
+        requires state { FitsProblem (problem_of self.old) state }
+        ensures problem { IfOk result (λ p. p.problem ≡ self.old) }
+        ensures margins { IfOk result (λ p. p.margins ≡ margins.now) }
+        ensures kept { IfOk result (λ p. p.kept ≡ run_at state) }
+        ensures same { self.new ≡ self.old }
+    {
+        match self.work.take() {
+            Some(work) => Patch::begin_in(alloc, work, self.problem, margins, state),
+            None => Patch::begin(alloc, self.problem, margins, state),
         }
     }
-    Workspace::new(alloc, problem)
+
+    /// What a patch for the problem has done; the workspace that it worked in is kept.
+    pub fn end(&mut self, patch: Patch) -> KeptPatch
+        requires { patch.problem ≡ self.old }
+        ensures kept { kept_of result ≡ patch.entry.kept }
+        ensures run { IsRunOf patch.entry }
+        ensures same { self.new ≡ self.old }
+    {
+        let (kept, work) = patch.into_kept();
+        self.work = Some(work);
+        kept
+    }
 }

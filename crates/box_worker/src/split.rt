@@ -7,8 +7,8 @@ ghost use Rattle.box_worker.specs.Ended.{is_left};
 use crate::attempt;
 use crate::choice::{Choice, choose, is_open};
 use crate::contraction::{scout_at, see};
+use crate::heuristics::Heuristics;
 use crate::needs::Needs;
-use crate::room::Room;
 use cover_rule::{Margins, Patch};
 use poly_graph::Problem;
 use std::alloc::{AllocError, Global};
@@ -61,7 +61,7 @@ fn part_by_form(
 /// needed disjunction.
 pub fn split(
     alloc: Global,
-    room: &mut Room,
+    heuristics: &mut Heuristics,
     problem: &Problem,
     margins: &Margins,
     patch: &mut Patch,
@@ -75,9 +75,9 @@ pub fn split(
     if !is_open(patch.reached()) {
         return attempt::cut(patch);
     }
-    let mut scout = scout_at(alloc, problem, room.scout.take(), patch)?;
+    let mut scout = scout_at(alloc, problem, heuristics.scout.take(), patch)?;
     let needs = see(alloc, problem, margins, &mut scout, patch)?;
-    room.scout = Some(scout);
+    heuristics.scout = Some(scout);
     if part_by_form(alloc, problem, &needs, 2, patch)? {
         return Ok(true);
     }

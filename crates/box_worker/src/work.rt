@@ -19,9 +19,10 @@ use crate::contraction::{Emptied, scout_at, take_steps};
 use crate::ended::Ended;
 use crate::facts::{problem_is_whole, run_is_lawful};
 use crate::found::found_point;
+use crate::heuristics::Heuristics;
 use crate::learn::{copy, teaches_nothing};
 use crate::preconditions::{close_at, mark_conjuncts, void_any};
-use crate::room::{Room, take_work};
+use crate::room::Room;
 use crate::split::split;
 use crate::worked::Worked;
 use cover_rule::{KeptPatch, Lemma, Margins, MiddlePoint, Options, Patch, Point, State};
@@ -99,7 +100,7 @@ fn at_once(
 // combination that is given nothing may be left.
 fn finish(
     alloc: Global,
-    room: &mut Room,
+    heuristics: &mut Heuristics,
     problem: &Problem,
     margins: &Margins,
     void: &Option<Emptied>,
@@ -121,10 +122,10 @@ fn finish(
     if attempt::make_false(patch)? {
         return Ok(Ended::Closed);
     }
-    if let Some(found) = found_point(alloc, room, problem, margins, patch)? {
+    if let Some(found) = found_point(alloc, heuristics, problem, margins, patch)? {
         return Ok(Ended::Found(found));
     }
-    if split(alloc, room, problem, margins, patch)? {
+    if split(alloc, heuristics, problem, margins, patch)? {
         return Ok(Ended::Parted);
     }
     if let Some(point) = middle_point(alloc, problem, margins, patch)? {
@@ -154,13 +155,14 @@ fn closed(alloc: Global, kept: KeptPatch) -> Result<Worked, AllocError>
     }
 }
 
-// What the work has come to, where the patch has come to its end. Its room is kept.
+// What the work has come to, where a patch for the room's problem has come to its end. Its workspace is kept.
 fn worked(alloc: Global, room: &mut Room, ended: Ended, patch: Patch) -> Result<Worked, AllocError>
-    requires { HasEnded patch ended }
-    ensures { IfOk result (WorkOf patch.entry ended) }
+    requires ended { HasEnded patch ended }
+    requires problem { patch.problem ≡ room.old }
+    ensures work { IfOk result (WorkOf patch.entry ended) }
+    ensures room { room.new ≡ room.old }
 {
-    let (kept, work) = patch.into_kept();
-    room.work = Some(work);
+    let kept = room.end(patch);
     match ended {
         Ended::Closed => closed(alloc, kept),
         Ended::Parted => Ok(Worked::Patch(kept)),
@@ -169,11 +171,11 @@ fn worked(alloc: Global, room: &mut Room, ended: Ended, patch: Patch) -> Result<
     }
 }
 
-// Contracts the state of a patch that has just begun, by the scout of the room; by what nothing is left, where that is
+// Contracts the state of a patch that has just begun, by the scout that is kept; by what nothing is left, where that is
 // met.
 fn contract(
     alloc: Global,
-    room: &mut Room,
+    heuristics: &mut Heuristics,
     problem: &Problem,
     margins: &Margins,
     lemmas: &[Lemma],
@@ -185,41 +187,42 @@ fn contract(
     requires open { IsOpen problem.now margins.now lemmas.now patch.old.kept.first patch.old }
     ensures { IsOpen problem.now margins.now lemmas.now patch.old.kept.first patch.new }
 {
-    let mut scout = scout_at(alloc, problem, room.scout.take(), patch)?;
+    let mut scout = scout_at(alloc, problem, heuristics.scout.take(), patch)?;
     let void = take_steps(alloc, problem, margins, lemmas, &mut scout, patch)?;
-    room.scout = Some(scout);
+    heuristics.scout = Some(scout);
     Ok(void)
 }
 
-/// Works on the box of a state that lies within the root space, by lawful and honest lines: until it is closed,
-/// until a point is found in it, or else until it is split or found stuck. Where the form cannot hold at the state
-/// it is closed by that alone; else a point is its middle, where the form is sure there; else it is closed by the
-/// first of the lemmas that covers it. No other lemmas are quoted. Any other point is the middle of a state that steps
-/// reach, or lies within the box. The room is made for the problem where it is not yet.
+/// Works on the box of a state of the room's problem that lies within the root space, by lawful and honest lines: until
+/// it is closed, until a point is found in it, or else until it is split or found stuck. Where the form cannot hold at
+/// the state it is closed by that alone; else a point is its middle, where the form is sure there; else it is closed by
+/// the first of the lemmas that covers it. No other lemmas are quoted. Any other point is the middle of a state that
+/// steps reach, or lies within the box.
 pub fn work_in(
     alloc: Global,
     room: &mut Room,
-    problem: &Problem,
     options: &Options,
     state: State,
     lemmas: &[Lemma],
 ) -> Result<Worked, AllocError>
-    requires numbered { IsNumbered problem.now }
+    requires numbered { IsNumbered room.old }
     requires margins { AreMargins (margins_of options.now) }
-    requires state { FitsProblem (problem_of problem.now) state }
-    requires root { IsTrue (space_within state.space (root_space (problem_of problem.now))) }
-    requires lemmas { AreLemmasAt problem.now options.now lemmas.now }
-    ensures at_once { IfOk result (AnswersAtOnceFor problem.now options.now lemmas.now state) }
-    ensures work { IfOk result (IsWorkFor problem.now options.now lemmas.now state) }
+    requires state { FitsProblem (problem_of room.old) state }
+    requires root { IsTrue (space_within state.space (root_space (problem_of room.old))) }
+    requires lemmas { AreLemmasAt room.old options.now lemmas.now }
+    ensures at_once { IfOk result (AnswersAtOnceFor room.old options.now lemmas.now state) }
+    ensures work { IfOk result (IsWorkFor room.old options.now lemmas.now state) }
+    ensures room { room.new ≡ room.old }
 {
     let margins = options.margins();
-    let work = take_work(alloc, problem, room)?;
-    let mut patch = Patch::begin_in(alloc, work, problem, &margins, state)?;
+    let problem = room.problem();
+    let mut patch = room.begin(alloc, &margins, state)?;
     if let Some(ended) = at_once(alloc, problem, &margins, lemmas, &mut patch)? {
         return worked(alloc, room, ended, patch);
     }
-    let void = contract(alloc, room, problem, &margins, lemmas, &mut patch)?;
-    let ended = finish(alloc, room, problem, &margins, &void, &mut patch)?;
+    let heuristics = &mut room.heuristics;
+    let void = contract(alloc, heuristics, problem, &margins, lemmas, &mut patch)?;
+    let ended = finish(alloc, heuristics, problem, &margins, &void, &mut patch)?;
     worked(alloc, room, ended, patch)
 }
 
@@ -239,6 +242,6 @@ pub fn work_on(
     ensures at_once { IfOk result (AnswersAtOnceFor problem.now options.now lemmas.now state) }
     ensures work { IfOk result (IsWorkFor problem.now options.now lemmas.now state) }
 {
-    let mut room = Room::new();
-    work_in(alloc, &mut room, problem, options, state, lemmas)
+    let mut room = Room::new(problem);
+    work_in(alloc, &mut room, options, state, lemmas)
 }

@@ -5,3 +5,5 @@
 mod of_clause_search;
 #[cfg(test)]
 mod of_cnf_build;
+#[cfg(test)]
+mod problems;

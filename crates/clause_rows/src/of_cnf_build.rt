@@ -1,101 +1,11 @@
-ghost use Rattle.std.specs.Prelude.{◌≡◌, ◌<◌, map, length, IfSome, IfOk, OnOk, OnErr, IsTrue};
-ghost use Rattle.dyadic.specs.Views.{fraction_of_frac};
-ghost use Rattle.poly_graph.specs.FormViews.{form_node_of};
-ghost use Rattle.poly_graph.specs.ProblemViews.{axis_of};
-ghost use Rattle.poly_graph.specs.Views.{atom_of};
-ghost use Rattle.clause_rows.specs.TriedCnfBuild.{nought, tried_nodes, tried_atoms, tried_axes, is_known, are_known};
+// The clauses of a form, under all assignments.
+ghost use Rattle.std.specs.Prelude.{◌<◌};
 
+use crate::problems::problem;
 use cnf_build::*;
-use dyadic::Frac;
-use poly_graph::{
-    Atom, Axis, Declared, FormGraph, FormNode, Graph, Kind, Node, Problem, is_form_after,
-};
+use poly_graph::FormNode;
 use std::alloc::{AllocError, Global};
 use std::test::Fail;
-
-// ---- problems of five atoms and two Bool axes
-
-fn axes(alloc: Global) -> Result<Vec<Axis>, AllocError>
-    ensures { IfOk result (λ v. map axis_of v.items ≡ tried_axes) }
-{
-    let mut axes = Vec::new(alloc);
-    axes.push(Axis {
-        name: Vec::new(alloc),
-        declared: Declared::Bool,
-    })?;
-    axes.push(Axis {
-        name: Vec::new(alloc),
-        declared: Declared::Bool,
-    })?;
-    Ok(axes)
-}
-
-fn atoms(alloc: Global) -> Result<Vec<Atom>, AllocError>
-    ensures { IfOk result (λ v. map atom_of v.items ≡ tried_atoms) }
-{
-    let atom = Atom {
-        term: 0,
-        kind: Kind::Le,
-    };
-    let mut atoms = Vec::new(alloc);
-    atoms.push(atom)?;
-    atoms.push(atom)?;
-    atoms.push(atom)?;
-    atoms.push(atom)?;
-    atoms.push(atom)?;
-    Ok(atoms)
-}
-
-fn number() -> Frac
-    ensures { fraction_of_frac result ≡ nought }
-{
-    Frac::new(0, 1)
-}
-
-fn graph(alloc: Global) -> Option<Graph>
-    ensures { IfSome result (λ g. g ≡ tried_nodes) }
-{
-    let mut graph = Graph::new(alloc);
-    match graph.intern(Node::Const(number())) {
-        Ok(_) => Some(graph),
-        Err(_) => None,
-    }
-}
-
-fn is_known(node: &FormNode) -> bool
-    ensures { result ≡ is_known (form_node_of node.now) }
-{
-    match node {
-        FormNode::AtomIs(j) => *j < 5,
-        FormNode::BoolIs(axis, _) => *axis < 2,
-        _ => true,
-    }
-}
-
-fn add(forms: &mut FormGraph, node: FormNode) -> Result<(), Fail>
-    requires { IsTrue (are_known forms.old) }
-    ensures ok { OnOk result (IsTrue (are_known forms.new)) }
-{
-    if !is_known(&node) || !is_form_after(&node, forms.len() as u32) {
-        return Err(Fail::from("no such node"));
-    }
-    forms.intern(node).map_err(|_| "no memory")?;
-    Ok(())
-}
-
-fn problem(alloc: Global, nodes: Vec<FormNode>, root: u32) -> Result<Problem, Fail> {
-    let mut forms = FormGraph::new(alloc);
-    for node in nodes {
-        add(&mut forms, node)?;
-    }
-    if root as usize >= forms.len() {
-        return Err(Fail::from("no such root"));
-    }
-    let Some(graph) = graph(alloc) else {
-        return Err(Fail::from("no memory"));
-    };
-    Ok(Problem::new(axes(alloc)?, graph, atoms(alloc)?, forms, root))
-}
 
 // ---- assignments: a bit for each atom, each Bool value and each helper
 

@@ -5,6 +5,8 @@
 #[cfg(test)]
 mod books;
 #[cfg(test)]
+mod made;
+#[cfg(test)]
 mod of_cert_check;
 #[cfg(test)]
 mod of_combine;

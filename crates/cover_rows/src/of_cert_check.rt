@@ -1,7 +1,7 @@
 // How many states the checker keeps after each line of a certificate.
+use crate::made::problem;
 use cert_check::Checker;
 use cert_read::LineReader;
-use sample_problems::problem;
 use sample_problems::scripts::CIRCLE;
 use std::test::Fail;
 

@@ -4,6 +4,7 @@ ghost use Rattle.interval_model.specs.Space.{middle};
 ghost use Rattle.ival.specs.SpaceViews.{space_of};
 ghost use Rattle.combine.specs.Combined.{EncloseOver};
 
+use crate::made::problem;
 use crate::patches::{line_of, state_of};
 use crate::points::is_space;
 use crate::single_rules::{EVEN, GREAT, LINES, PARABOLA};
@@ -15,7 +16,6 @@ use hc4_fwd::fill;
 use ival::{Narrowed, Rows, Space};
 use plain_combine::combine_plain;
 use poly_graph::Problem;
-use sample_problems::problem;
 use std::alloc::Global;
 
 // Whether the pairs name atoms of the problem.

@@ -4,13 +4,14 @@ ghost use Rattle.cover_model.specs.Fits.{FitsProblem};
 ghost use Rattle.cover_model.specs.State.{IsLemma};
 ghost use Rattle.cover_book.specs.Model.{margins_of, problem_in, loosenings_in};
 
+use crate::made::problem;
 use cert_read::{BoolSet, Line, LineReader};
 use cover_book::Book;
 use cover_rule::{End, Lemma, Options, Patch, PatchRefusal, State, Step};
 use ival::{Domain, Range, Space, Truths};
 use poly_graph::{Lits, Mark};
 use sample_problems::scripts::{CIRCLE, OUTSIDE, SWAPPED};
-use sample_problems::{USUAL, lies_within, problem};
+use sample_problems::{USUAL, lies_within};
 use std::alloc::Global;
 
 // ---- states by hand

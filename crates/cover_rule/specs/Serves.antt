@@ -20,28 +20,28 @@ pub record IsNumbered (p : Parts) : Type 0 where
   pub axes : length p.axes < 2 ^ 32
   pub atoms : length p.atoms < 2 ^ 32
 
--- room for the middle of a space of the problem
+-- room for the middle of a space of the problem; where it is filled, its rows are the enclosures over its middle
 pub record HasCentreRoom (p : Parts) (c : Centre) : Type 0 where
   pub middle : length (space_of c.middle) ≡ length p.axes
   pub rows : length (rows_of c.rows) ≡ length p.nodes
+  pub filled : c.filled ≡ true → rows_of c.rows ≡ enclosures (space_of c.middle) p.nodes
 
 -- the middle of the space, and the enclosures over it
 pub record IsCentre (p : Parts) (space : Space) (c : Centre) : Type 0 where
   pub place : space_of c.middle ≡ middle space
   pub filled : rows_of c.rows ≡ enclosures (middle space) p.nodes
 
--- where it is filled, its rows are the enclosures over its middle; where it is known, it is that of the space
+-- room for such a middle; where it is known, it is that of the space
 pub record HasCentre (p : Parts) (space : Space) (c : Centre) : Type 0 where
   pub room : HasCentreRoom p c
-  pub filled : c.filled ≡ true → rows_of c.rows ≡ enclosures (space_of c.middle) p.nodes
   pub known : c.known ≡ true → IsCentre p space c
 
--- room for the problem
-pub record HasRoom (p : Parts) (w : Workspace) : Type 0 where
-  pub rows : length (rows_of w.rows) ≡ length p.nodes
+-- room for the problem, whose rows are the enclosures over its spare space
+pub record IsFilled (p : Parts) (w : Workspace) : Type 0 where
+  pub spare : length (space_of w.spare) ≡ length p.axes
+  pub rows : rows_of w.rows ≡ enclosures (space_of w.spare) p.nodes
   pub scratch : length (rows_of w.scratch) ≡ length p.nodes
   pub truths : vec_len w.marks.truths ≡ length p.forms
-  pub spare : length (space_of w.spare) ≡ length p.axes
   pub centre : HasCentreRoom p w.centre
   pub room : FitsRoom p.nodes w.room
   pub leaves : vec_len w.leaves ≡ length p.atoms

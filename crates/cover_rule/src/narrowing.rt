@@ -47,7 +47,7 @@ fn clear(flags: &mut [bool])
     }
 }
 
-/// Takes it that nothing is known of the present space.
+/// Takes it that nothing is known of the present space, nor of its middle.
 pub fn forget(work: &mut Workspace)
     ensures leaves { vec_len work.new.leaves ≡ vec_len work.old.leaves }
     ensures none { (j : ℕ) → slice_index_or work.new.leaves.items j false ≡ false }
@@ -58,14 +58,13 @@ pub fn forget(work: &mut Workspace)
     ensures spare { work.new.spare ≡ work.old.spare }
     ensures middle { work.new.centre.middle ≡ work.old.centre.middle }
     ensures centre_rows { work.new.centre.rows ≡ work.old.centre.rows }
-    ensures filled { work.new.centre.filled ≡ false }
+    ensures filled { work.new.centre.filled ≡ work.old.centre.filled }
     ensures centre { work.new.centre.known ≡ false }
     ensures room { work.new.room ≡ work.old.room }
     ensures voiding { work.new.voiding.known ≡ false }
 {
     clear(&mut work.leaves);
     work.unsure = false;
-    work.centre.filled = false;
     work.centre.known = false;
     work.voiding.known = false;
 }

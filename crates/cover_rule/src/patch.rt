@@ -8,7 +8,7 @@ ghost use Rattle.ival.specs.RowViews.{rows_of};
 ghost use Rattle.ival.specs.SpaceViews.{space_of};
 ghost use Rattle.cover_data.specs.Margins.{AreMargins};
 ghost use Rattle.cover_data.specs.Runs.{IsClosed};
-ghost use Rattle.cover_rule.specs.Serves.{HasRoom, IsNumbered, sure_at_middle};
+ghost use Rattle.cover_rule.specs.Serves.{IsFilled, IsNumbered, sure_at_middle};
 ghost use Rattle.cover_rule.specs.Patch.{problem_in, run_at, IsRunOf, IsLemmaState, IsClosedRunOf, IsNotClosed};
 ghost use Rattle.cover_rule.specs.Refusals.{PullStep, PullIfLessStep, PushStep, PushIfLessStep, CombineStep, CombineIfLessStep, UnitStep, BanStep, VoidEnd, VoidNoEnd, VoidCombineEnd, FalseEnd, LemmaEnd, CutEnd, FlipEnd, CaseEnd, StuckEnd};
 ghost use Rattle.cover_data.specs.Views.{kept_of};
@@ -20,7 +20,7 @@ use crate::workspace::{Centre, Workspace};
 use crate::{branches, ends, steps};
 use cover_data::{ClosedPatch, KeptPatch, Lemma, Margins, State};
 use dyadic::Dy;
-use hc4_fwd::fill;
+use hc4_fwd::follow;
 use ival::Rows;
 use poly_graph::Problem;
 use std::alloc::{AllocError, Global};
@@ -64,7 +64,7 @@ fn nothing_done(alloc: Global, first: State, reached: State) -> KeptPatch
 }
 
 impl<'a> Patch<'a> {
-    /// A patch at the state, with nothing done yet, in room for the problem.
+    /// A patch at the state, with nothing done yet, in room for the problem, whose rows follow to the state's space.
     pub fn begin_in(
         alloc: Global,
         work: Workspace,
@@ -72,7 +72,7 @@ impl<'a> Patch<'a> {
         margins: &Margins,
         state: State,
     ) -> Result<Patch<'a>, AllocError>
-        requires room { HasRoom problem.now work }
+        requires filled { IsFilled problem.now work }
         requires numbered { IsNumbered problem.now }
         requires margins { AreMargins margins.now }
         requires state { FitsProblem (problem_of problem.now) state }
@@ -82,9 +82,8 @@ impl<'a> Patch<'a> {
     {
         let mut work = work;
         let first = state.try_clone(alloc)?;
-        let _ = problem.axes();
         let space = state.space();
-        fill(problem.graph(), space, &mut work.rows);
+        follow(problem.graph(), space, &mut work.rows);
         copy_space(space, &mut work.spare);
         forget(&mut work);
         let kept = nothing_done(alloc, first, state);
@@ -111,7 +110,7 @@ impl<'a> Patch<'a> {
         ensures margins { IfOk result (λ p. p.margins ≡ margins.now) }
         ensures kept { IfOk result (λ p. p.kept ≡ run_at state) }
     {
-        let work = Workspace::new(alloc, problem)?;
+        let work = Workspace::new(alloc, problem, state.space())?;
         Patch::begin_in(alloc, work, problem, margins, state)
     }
 
@@ -163,7 +162,7 @@ impl<'a> Patch<'a> {
     pub fn into_kept(self) -> (KeptPatch, Workspace)
         ensures kept { kept_of result.0 ≡ self.entry.kept }
         ensures run { IsRunOf self.entry }
-        ensures room { HasRoom self.entry.problem result.1 }
+        ensures filled { IsFilled self.entry.problem result.1 }
     {
         let Patch {
             alloc: _,

@@ -1,11 +1,14 @@
 // Room for work on states.
-ghost use Rattle.std.specs.Prelude.{◌≡◌, ◌<◌, length, true, IfOk};
+ghost use Rattle.std.specs.Prelude.{◌≡◌, length, vec_len, IfOk};
+ghost use Rattle.cover_model.specs.Narrowed.{enclosures};
+ghost use Rattle.ival.specs.RowViews.{rows_of};
 ghost use Rattle.ival.specs.SpaceViews.{space_of};
 ghost use Rattle.cover_rule.specs.Serves.{HasCentreRoom};
 
 use crate::voiding::Voiding;
 use combine::Room;
-use ival::{Domain, Rows, Space, Truths};
+use hc4_fwd::fill;
+use ival::{Rows, Space};
 use poly_graph::Problem;
 use std::alloc::{AllocError, Global};
 use truth3::Marks;
@@ -23,7 +26,8 @@ pub struct Centre {
     pub known: bool,
 }
 
-/// Rows, marks and spaces for work on the states of one problem. Made once, it serves one patch after another.
+/// Rows, marks and spaces for work on the states of one problem. Made once, it serves one patch after another: its rows
+/// follow from the space of one state to that of the next.
 #[derive(Drop)]
 pub struct Workspace {
     /// The enclosures over the space of the present state.
@@ -46,23 +50,37 @@ pub struct Workspace {
     pub voiding: Voiding,
 }
 
-// A space of so many axes, for others to be put in.
-fn room_for(alloc: Global, axes: usize) -> Result<Space, AllocError>
-    ensures { IfOk result (λ s. length (space_of s) ≡ axes) }
+// Rows for the problem's terms, which are not filled yet.
+fn empty_rows(alloc: Global, problem: &Problem) -> Result<Rows, AllocError>
+    ensures { IfOk result (λ r. length (rows_of r) ≡ length problem.now.nodes) }
 {
-    let mut space = Space::with_capacity(alloc, axes)?;
-    for _ in 0..axes {
-        space.push(Domain::Bool(Truths::Either));
-    }
-    Ok(space)
+    Rows::new(alloc, problem.graph().len())
 }
 
-// Room for the middle of a space of the problem.
-fn room_for_centre(alloc: Global, problem: &Problem) -> Result<Centre, AllocError>
+// The enclosures of the problem's terms over the space.
+fn rows_over(alloc: Global, problem: &Problem, space: &Space) -> Result<Rows, AllocError>
+    ensures { IfOk result (λ r. rows_of r ≡ enclosures (space_of space.now) problem.now.nodes) }
+{
+    let graph = problem.graph();
+    let mut rows = Rows::new(alloc, graph.len())?;
+    fill(graph, space, &mut rows);
+    Ok(rows)
+}
+
+// A flag for each atom, none of them set.
+fn no_flags(alloc: Global, problem: &Problem) -> Result<Vec<bool, Global>, AllocError>
+    ensures { IfOk result (λ v. vec_len v ≡ length problem.now.atoms) }
+{
+    Ok(vec![in alloc; false; problem.atoms().len()]?)
+}
+
+// Room for the middle of a space of the problem, which is not filled yet.
+fn room_for_centre(alloc: Global, problem: &Problem, space: &Space) -> Result<Centre, AllocError>
+    requires { length (space_of space.now) ≡ length problem.now.axes }
     ensures { IfOk result (HasCentreRoom problem.now) }
 {
-    let middle = room_for(alloc, problem.axes().len())?;
-    let rows = Rows::new(alloc, problem.graph().len())?;
+    let middle = space.try_clone(alloc)?;
+    let rows = empty_rows(alloc, problem)?;
     Ok(Centre {
         middle,
         rows,
@@ -72,21 +90,20 @@ fn room_for_centre(alloc: Global, problem: &Problem) -> Result<Centre, AllocErro
 }
 
 impl Workspace {
-    ghost use Rattle.cover_rule.specs.Serves.{HasRoom};
+    ghost use Rattle.cover_rule.specs.Serves.{IsFilled};
 
-    /// Room for the problem.
-    pub fn new(alloc: Global, problem: &Problem) -> Result<Workspace, AllocError>
-        ensures { IfOk result (HasRoom problem.now) }
+    /// Room for the problem, filled over a space of it.
+    pub fn new(alloc: Global, problem: &Problem, space: &Space) -> Result<Workspace, AllocError>
+        requires { length (space_of space.now) ≡ length problem.now.axes }
+        ensures { IfOk result (IsFilled problem.now) }
     {
-        let nodes = problem.graph().len();
-        let axes = problem.axes().len();
-        let rows = Rows::new(alloc, nodes)?;
-        let scratch = Rows::new(alloc, nodes)?;
+        let rows = rows_over(alloc, problem, space)?;
+        let scratch = empty_rows(alloc, problem)?;
         let marks = Marks::new(alloc, problem)?;
-        let spare = room_for(alloc, axes)?;
-        let centre = room_for_centre(alloc, problem)?;
+        let spare = space.try_clone(alloc)?;
+        let centre = room_for_centre(alloc, problem, space)?;
         let room = Room::new(alloc, problem)?;
-        let leaves = vec![in alloc; false; problem.atoms().len()]?;
+        let leaves = no_flags(alloc, problem)?;
         Ok(Workspace {
             rows,
             scratch,
@@ -98,21 +115,5 @@ impl Workspace {
             unsure: false,
             voiding: Voiding::new(alloc),
         })
-    }
-
-    /// Whether there is room for the problem.
-    pub fn has_room(&self, problem: &Problem) -> bool
-        ensures { result ≡ true → HasRoom problem.now self.now }
-    {
-        let nodes = problem.graph().len();
-        let axes = problem.axes().len();
-        self.rows.len() == nodes
-            && self.scratch.len() == nodes
-            && self.marks.truths.len() == problem.forms().len()
-            && self.spare.len() == axes
-            && self.centre.middle.len() == axes
-            && self.centre.rows.len() == nodes
-            && self.room.serves(problem)
-            && self.leaves.len() == problem.atoms().len()
     }
 }

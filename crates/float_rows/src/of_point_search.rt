@@ -1,7 +1,7 @@
 // Points that a local search finds from the middle of a script's box.
 use point_search::*;
 use poly_graph::Lits;
-use sample_problems::problem;
+use problem_build::read_problem;
 use sample_problems::scripts::BOOL;
 use std::alloc::Global;
 use std::test::Fail;
@@ -9,7 +9,7 @@ use truth3::{Root, root_space};
 
 // Whether a point is found in the whole box.
 fn finds(alloc: Global, text: &str) -> Option<bool> {
-    let problem = problem(alloc, text)?;
+    let problem = read_problem(alloc, text.as_bytes(), None).ok()?;
     let Root::Space(space) = root_space(alloc, &problem).ok()? else {
         return None;
     };

@@ -1,4 +1,4 @@
-//! Scripts, the problems that they make, and the verdicts of certificates on them: what several crates of rows try.
+//! Scripts, what is asked of their problems, and the verdicts of certificates on them: what several crates of rows try.
 //! Only those crates stand on it, and no program. That a problem may have a book is all that it promises of one.
 #![tactic(auto)]
 
@@ -7,4 +7,4 @@ mod made;
 pub mod scripts;
 
 pub use inside::lies_within;
-pub use made::{USUAL, problem, verdict};
+pub use made::{USUAL, small, verdict};

@@ -1,11 +1,10 @@
-// From a script to its problem, and from a certificate to its verdict.
+// What is asked of problems, and what a certificate says of them.
 ghost use Rattle.std.specs.Prelude.{IfSome};
 ghost use Rattle.sample_problems.specs.Small.{IsSmall};
 
 use cert_check::{CertFault, Feed, Verdict};
 use cover_data::Options;
 use poly_graph::Problem;
-use problem_build::read_problem;
 use std::alloc::Global;
 
 /// What a search is asked for where nothing else is said.
@@ -18,11 +17,10 @@ pub const USUAL: Options = Options {
     bound: None,
 };
 
-/// The problem of a script's text.
-pub fn problem(alloc: Global, text: &str) -> Option<Problem>
+/// The problem, if there may be a book of it.
+pub fn small(problem: Problem) -> Option<Problem>
     ensures { IfSome result (λ p. IsSmall p) }
 {
-    let problem = read_problem(alloc, text.as_bytes(), None).ok()?;
     if problem.axes().len() > 1_024 || problem.atoms().len() > 65_536 {
         return None;
     }

@@ -3,7 +3,8 @@ ghost use Rattle.std.specs.Prelude.{◌≤◌};
 
 use cover_book::Book;
 use cover_data::Options;
-use sample_problems::{USUAL, problem};
+use problem_build::read_problem;
+use sample_problems::{USUAL, small};
 use solve_core::{Gate, solve};
 use std::alloc::Global;
 use std::sync::Wait;
@@ -21,7 +22,10 @@ pub(crate) fn searched<R: Threads + Wait + Sync, G: Gate + Sync>(
 ) -> Result<Book, Fail>
     requires { budget ≤ 65536 }
 {
-    let problem = problem(alloc, script).ok_or("no problem")?;
+    let Ok(problem) = read_problem(alloc, script.as_bytes(), None) else {
+        return Err(Fail::from("no problem"));
+    };
+    let problem = small(problem).ok_or("a problem without a book")?;
     let options = Options {
         budget,
         workers,

@@ -5,7 +5,7 @@ use crate::asker::BookLemmas;
 use crate::gate::Gate;
 use crate::task::Task;
 use crate::worker::Worker;
-use lemma_shelf::{Shelf, ShelfReader, Subject};
+use lemma_shelf::{ShelfReader, Subject};
 use std::alloc::Global;
 use std::sync::Wait;
 
@@ -17,24 +17,8 @@ pub struct Member<'a> {
 }
 
 impl Member<'_> {
-    /// Works with the lemmas of the shelf.
-    pub fn read_shelf<J: Subject, R: Wait, G: Gate>(
-        &mut self,
-        rt: &R,
-        alloc: Global,
-        task: &Task<J>,
-        shelf: &Shelf<J>,
-        gate: &G,
-    )
-        requires { IsMemberOf task.now.shared.now self.old }
-        ensures { HasSeatsOf task.now.shared.now self.new }
-    {
-        let mut source = ShelfReader::new(shelf);
-        self.worker.run(rt, alloc, task, &mut source, gate);
-    }
-
-    /// Works with the lemmas that it asks the book for.
-    pub fn ask_book<J: Subject, R: Wait, G: Gate>(
+    /// Works with the lemmas of the shelf, or where there is none with those that it asks the book for.
+    pub fn work<J: Subject, R: Wait, G: Gate>(
         &mut self,
         rt: &R,
         alloc: Global,
@@ -44,6 +28,12 @@ impl Member<'_> {
         requires { IsMemberOf task.now.shared.now self.old }
         ensures { HasSeatsOf task.now.shared.now self.new }
     {
-        self.worker.run(rt, alloc, task, &mut self.asker, gate);
+        match &task.shelf {
+            Some(shelf) => {
+                let mut source = ShelfReader::new(shelf);
+                self.worker.run(rt, alloc, task, &mut source, gate);
+            }
+            None => self.worker.run(rt, alloc, task, &mut self.asker, gate),
+        }
     }
 }

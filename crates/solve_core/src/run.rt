@@ -23,15 +23,21 @@ use std::thread::Threads;
 // At most so many workers search side by side.
 const MOST_WORKERS: u32 = 64;
 
-// Goes on alone from a book, node by node, the lower part of a box before the upper one, until a point is kept, no node
+// Goes on alone from a book of the problem, node by node, the lower part of a box before the upper one, until a point is kept, no node
 // is live, or the budget is used up and nothing but a branch is left to be done at each live node.
-fn finish<G: Gate>(alloc: Global, book: Book, gate: &G) -> Result<Book, AllocError>
+fn finish<G: Gate>(
+    alloc: Global,
+    book: Book,
+    problem: &Problem,
+    gate: &G,
+) -> Result<Book, AllocError>
+    requires { book.problem ≡ problem.now }
     ensures reached { IfOk result (λ b. Reaches book b) }
     ensures verdict { IfOk result (λ b. verdict_of b ≢ verdict.NotYet) }
     ensures left { IfOk result (λ b. LeavesDue b) }
 {
     let mut search = Search::resume(alloc, book)?;
-    let mut room = Room::new();
+    let mut room = Room::new(problem);
     while let Some(node) = search.next() {
         gate.began(0, node);
         let done = search.visit(alloc, &mut room, node);
@@ -68,8 +74,8 @@ pub fn solve<R: Threads + Wait + Sync, G: Gate + Sync>(
     let book = Book::new(alloc, copy, *options)?;
     let workers = options.workers.min(MOST_WORKERS);
     if workers < 2 {
-        return finish(alloc, book, gate);
+        return finish(alloc, book, problem, gate);
     }
     let book = search_together::<Brand, R, G>(rt, alloc, book, problem, options, workers, gate);
-    finish(alloc, book, gate)
+    finish(alloc, book, problem, gate)
 }

@@ -160,36 +160,33 @@ impl Search {
         run: &KeptPatch,
         own: Option<ClosedPatch>,
     ) -> Result<Option<ClosedPatch>, AllocError>
-        ensures { let b = self.now.book in
+        requires { room.old ≡ self.now.book.problem }
+        ensures lesson { let b = self.now.book in
             IfOk result (λ o. IfSome o (IsLesson b.problem (margins_of b.options) own)) }
+        ensures room { room.new ≡ room.old }
     {
         if !self.learns {
             return Ok(None);
         }
-        let book = &self.book;
-        lesson(alloc, room, book.problem(), book.options(), run, own)
+        lesson(alloc, room, self.book.options(), run, own)
     }
 
-    /// Works on a node that is not among those that wait, in this room, and has the book keep what comes of it.
+    /// Works on a node that is not among those that wait, in room for the book's problem, and has the book keep what
+    /// comes of it.
     pub fn visit(&mut self, alloc: Global, room: &mut Room, node: u32) -> Result<(), AllocError>
         requires search { IsSearch self.old (self.old.waiting.items ++ (node ∷ [])) }
         requires no_point { self.old.book.point ≡ None }
+        requires room { room.old ≡ self.old.book.problem }
         ensures search { OnOk result (IsSearch self.new self.new.waiting.items) }
         ensures left { OnOk result (work_left self.new ≤ work_left self.old) }
         ensures reached { Reaches self.old.book self.new.book }
+        ensures room { room.new ≡ room.old }
     {
         let state = match self.book.state_of(node) {
             Ok(state) => state,
             Err(refusal) => return unless_memory(refusal),
         };
-        match work_in(
-            alloc,
-            room,
-            self.book.problem(),
-            self.book.options(),
-            state,
-            &self.lemmas,
-        )? {
+        match work_in(alloc, room, self.book.options(), state, &self.lemmas)? {
             Worked::Point(point) => self.keep_point(node, point),
             Worked::Patch(patch) => self.commit(node, patch),
             Worked::Closed(patch, own) => {

@@ -31,7 +31,7 @@ pub struct Task<'a, J: Subject> {
 }
 
 impl<J: Subject> Task<'_, J> {
-    /// What is to be learned of a closed run and its copy, where lemmas are learned.
+    /// What is to be learned of a closed run and its copy, where lemmas are learned, in room for the problem.
     pub fn lesson(
         &self,
         alloc: Global,
@@ -41,13 +41,15 @@ impl<J: Subject> Task<'_, J> {
     ) -> Result<Option<ClosedPatch>, AllocError>
         requires book { IsBook (first_of self.now.shared.now) }
         requires own { IfSome own (λ k. MayBeCalled (first_of self.now.shared.now) (Learn k)) }
-        ensures { let b = first_of self.now.shared.now in
+        requires room { room.old ≡ self.now.problem.now }
+        ensures lesson { let b = first_of self.now.shared.now in
             IfOk result (λ o. IfSome o (λ k. MayBeCalled b (Learn k))) }
+        ensures room { room.new ≡ room.old }
     {
         if !self.learns {
             return Ok(None);
         }
-        lesson(alloc, room, self.problem, self.options, run, own)
+        lesson(alloc, room, self.options, run, own)
     }
 
     /// Puts a lemma on the shelf, if there is one. Where memory runs out the other workers do without it.

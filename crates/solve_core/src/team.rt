@@ -57,46 +57,7 @@ fn enlist<'a>(
     Ok(team)
 }
 
-// Each worker works in a thread of its own, or in turn where no thread can be had, with the lemmas of the shelf.
-fn run_with_shelf<J: Subject + Send + Sync, R: Threads + Wait + Sync, G: Gate + Sync>(
-    rt: &R,
-    alloc: Global,
-    task: &Task<J>,
-    shelf: &Shelf<J>,
-    gate: &G,
-    team: &mut [Member],
-)
-    requires { All (IsMemberOf task.now.shared.now) team.old }
-    ensures { All (HasSeatsOf task.now.shared.now) team.new }
-{
-    for_each_mut(
-        rt,
-        team,
-        64,
-        &|_, member| member.read_shelf(rt, alloc, task, shelf, gate),
-    );
-}
-
-// The same with lemmas that each asks the book for.
-fn run_without_shelf<J: Subject + Send + Sync, R: Threads + Wait + Sync, G: Gate + Sync>(
-    rt: &R,
-    alloc: Global,
-    task: &Task<J>,
-    gate: &G,
-    team: &mut [Member],
-)
-    requires { All (IsMemberOf task.now.shared.now) team.old }
-    ensures { All (HasSeatsOf task.now.shared.now) team.new }
-{
-    for_each_mut(
-        rt,
-        team,
-        64,
-        &|_, member| member.ask_book(rt, alloc, task, gate),
-    );
-}
-
-// Has the team work. Where there was no memory for a shelf, each worker asks the book for lemmas.
+// Each worker works in a thread of its own, or in turn where no thread can be had.
 fn run_team<J: Subject + Send + Sync, R: Threads + Wait + Sync, G: Gate + Sync>(
     rt: &R,
     alloc: Global,
@@ -107,10 +68,7 @@ fn run_team<J: Subject + Send + Sync, R: Threads + Wait + Sync, G: Gate + Sync>(
     requires { All (IsMemberOf task.now.shared.now) team.old }
     ensures { All (HasSeatsOf task.now.shared.now) team.new }
 {
-    match &task.shelf {
-        Some(shelf) => run_with_shelf(rt, alloc, task, shelf, gate, team),
-        None => run_without_shelf(rt, alloc, task, gate, team),
-    }
+    for_each_mut(rt, team, 64, &|_, member| member.work(rt, alloc, task, gate));
 }
 
 // Takes the seats of all workers back. The nodes that they kept to themselves are live in the book.

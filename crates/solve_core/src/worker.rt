@@ -157,7 +157,9 @@ impl Worker {
         requires worker { IsWorkerOf task.now.shared.now self.old }
         requires meets { MayBeCalled (first_of task.now.shared.now) (Commit node patch) }
         requires own { IfSome own (λ k. MayBeCalled (first_of task.now.shared.now) (Learn k)) }
-        ensures { IsWorkerOf task.now.shared.now self.new }
+        requires room { room.old ≡ task.now.problem.now }
+        ensures worker { IsWorkerOf task.now.shared.now self.new }
+        ensures room { room.new ≡ room.old }
     {
         let lesson = task.lesson(alloc, room, &patch, own);
         if !self.commit(rt, task, node, patch) {
@@ -182,7 +184,9 @@ impl Worker {
     ) -> bool
         requires worker { IsWorkerOf task.now.shared.now self.old }
         requires work { MayBeKept (first_of task.now.shared.now) node worked }
-        ensures { IsWorkerOf task.now.shared.now self.new }
+        requires room { room.old ≡ task.now.problem.now }
+        ensures worker { IsWorkerOf task.now.shared.now self.new }
+        ensures room { room.new ≡ room.old }
     {
         match worked {
             Worked::Point(point) => {
@@ -216,7 +220,7 @@ impl Worker {
         keep_latest(&mut self.lemmas);
     }
 
-    // Works on a node in this room, and has the book keep what comes of it. Whether the worker goes on.
+    // Works on a node in room for the problem, and has the book keep what comes of it. Whether the worker goes on.
     fn visit<J: Subject, R: Wait>(
         &mut self,
         rt: &R,
@@ -225,14 +229,16 @@ impl Worker {
         task: &Task<J>,
         node: u32,
     ) -> bool
-        requires { IsWorkerOf task.now.shared.now self.old }
-        ensures { IsWorkerOf task.now.shared.now self.new }
+        requires worker { IsWorkerOf task.now.shared.now self.old }
+        requires room { room.old ≡ task.now.problem.now }
+        ensures worker { IsWorkerOf task.now.shared.now self.new }
+        ensures room { room.new ≡ room.old }
     {
         let state = match task.shared.state_of(rt, &mut self.seat, node) {
             Ok(state) => state,
             Err(refusal) => return goes_on(&refusal),
         };
-        match work_in(alloc, room, task.problem, task.options, state, &self.lemmas) {
+        match work_in(alloc, room, task.options, state, &self.lemmas) {
             Ok(worked) => self.settle(rt, alloc, room, task, node, worked),
             Err(_) => false,
         }
@@ -254,7 +260,7 @@ impl Worker {
         ensures source { S.ready source.new }
         ensures alike { (x : S) → S.alike x source.old → S.alike x source.new }
     {
-        let mut room = Room::new();
+        let mut room = Room::new(task.problem);
         for _ in rt.forever() {
             let Some(node) = self.next(rt) else {
                 return;

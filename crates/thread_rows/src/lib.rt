@@ -3,6 +3,8 @@
 #![tactic(auto)]
 
 #[cfg(test)]
+mod made;
+#[cfg(test)]
 mod of_book_lock;
 #[cfg(test)]
 mod of_lemma_shelf;

@@ -3,12 +3,12 @@ ghost use Rattle.std.specs.Prelude.{◌≤◌, ◌<◌, All};
 ghost use Rattle.book_lock.specs.Shared.{IsOnePartSeatOf, first_of};
 ghost use Rattle.thread_rows.specs.TriedBookLock.{IsTried};
 
+use crate::made::problem;
 use crate::swapped::{OPTIONS, Place, closing, is_at};
 use book_lock::{BookSeat, SharedBook};
 use cover_book::Book;
 use cover_data::Margins;
 use poly_graph::Problem;
-use sample_problems::problem;
 use sample_problems::scripts::SWAPPED;
 use std::alloc::Global;
 use std::sync::Wait;

@@ -4,11 +4,11 @@ ghost use Rattle.cover_data.specs.Margins.{AreMargins};
 ghost use Rattle.lemma_shelf.specs.Lemmas.{IsLemmaOf};
 ghost use Rattle.sample_problems.specs.Small.{IsSmall};
 
+use crate::made::problem;
 use crate::swapped::{OPTIONS, Place, closing, is_at};
 use cover_data::{Lemma, Margins};
 use lemma_shelf::{LemmaSource, Mark, Shelf, ShelfReader, Subject, Token};
 use poly_graph::Problem;
-use sample_problems::problem;
 use sample_problems::scripts::SWAPPED;
 use std::alloc::Global;
 use std::marker::Brand;

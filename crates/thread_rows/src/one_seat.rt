@@ -3,13 +3,13 @@ ghost use Rattle.book_lock.specs.Shared.{IsOnePartSeatOf, first_of};
 ghost use Rattle.sample_problems.specs.Small.{IsSmall};
 ghost use Rattle.thread_rows.specs.TriedBookLock.{IsTried};
 
+use crate::made::problem;
 use crate::swapped::{ATOMS, OPTIONS, Place, closing, cutting, is_at, state_at};
 use book_lock::{BookSeat, SharedBook};
 use cover_book::{Book, BookRefusal, BookVerdict, Kids, Learned, Node};
 use cover_data::{End, Margins, Step};
 use dyadic::Dy;
 use poly_graph::Problem;
-use sample_problems::problem;
 use sample_problems::scripts::SWAPPED;
 use std::alloc::Global;
 use std::sync::Wait;

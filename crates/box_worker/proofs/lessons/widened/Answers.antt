@@ -4,21 +4,23 @@ use Rattle.cover_model.specs.State.{State}
 use Rattle.cover_data.specs.declared.margins.Margins.{Margins}
 use Rattle.cover_data.specs.Models.{KeptModel}
 use Rattle.cover_data.specs.Runs.{IsClosed}
-use Rattle.poly_graph.specs.ProblemViews.{problem_of}
+use Rattle.poly_graph.specs.ProblemViews.{Parts, problem_of}
 use Rattle.box_worker.specs.Attempts.{IsOpen}
+use Rattle.box_worker.specs.Learned.{IsShownFromRoot}
 use Rattle.box_worker.specs.Worked.{margins_of}
 use Rattle.box_worker.proofs.Repeated.{is_shown}
 use Rattle.box_worker.proofs.Works.{margins_are}
 use Rattle.box_worker.proofs.lessons.widened.Goals as goal
 
-pub returns-in-Ok : goal.returns-in-Ok
-returns-in-Ok c =
-    let q = c.args.problem.now in let m = margins_of c.args.options.now in let S = c.in-Some.state in
+pub returns-in-Ok-clause-shown : goal.returns-in-Ok-clause-shown
+returns-in-Ok-clause-shown c =
+    let q = c.problem-problem.result.now in let m = margins_of c.args.options.now in let S = c.in-Some.state in
     let P = c.repeat_steps.new.patch in let Q = c.repeat_end.new.patch in
     let n = c.margins-margins.result in
     let e : n ≡ m = margins_are n c.args.options.now c.margins-margins.ensures.delta c.margins-margins.ensures.margin c.margins-margins.ensures.least in
     let first : c.in_ok-patch.patch.kept.first ≡ S = ap (λ (k : KeptModel). k.first) c.in_ok-patch.ensures.kept in
     let opened : IsOpen q m [] S P = subst (λ (x : Margins). IsOpen q x [] S P) e (subst (λ (T : State). IsOpen q n [] T P) first c.repeat_steps.ensures) in
     let root : S.space ≡ root_space (problem_of q) = subst (λ o. IfSome o (λ (T : State). T.space ≡ root_space (problem_of q))) c.in-Some.is c.in_ok-state.ensures.root in
-    let kept = c.into_kept-kept.ensures.kept in
-    is_shown q m S P Q c.in-Ok.closed opened c.in_ok-repeat_end.ensures c.run_is_lawful.ensures (c.in-Ok.ensures.0 ∙ kept) (subst IsClosed kept c.in-Ok.ensures.1) root
+    let kept = c.end-kept.ensures.kept in
+    subst (λ (r : Parts). IsShownFromRoot r m c.in-Ok.closed) c.problem-problem.ensures
+    (is_shown q m S P Q c.in-Ok.closed opened c.in_ok-repeat_end.ensures c.end-kept.ensures.run (c.in-Ok.ensures.0 ∙ kept) (subst IsClosed kept c.in-Ok.ensures.1) root)

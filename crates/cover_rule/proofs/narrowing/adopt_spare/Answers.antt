@@ -28,7 +28,7 @@ returns-clause-work c =
         rows = rows;
         scratch = w.scratch;
         truths = w.truths;
-        centre = record { room = record { middle = w.centre.room.middle; rows = w.centre.room.rows }; filled = w.centre.filled; known = λ h. absurd (true≢false (sym h)) };
+        centre = record { room = record { middle = w.centre.room.middle; rows = w.centre.room.rows; filled = w.centre.room.filled }; known = λ h. absurd (true≢false (sym h)) };
         room = w.room;
         leaves = c.drop_reached.ensures.count ∙ w.leaves;
         known = still_known p m was now marks c.args.work.now.leaves.items c.drop_reached.new.leaves.items c.args.work.now.unsure false apart (λ j l h. (c.drop_reached.ensures.kept j h, c.drop_reached.ensures.unmarked j l h)) refl w.known;

@@ -12,7 +12,7 @@ use Rattle.cover_rule.proofs.truth.find_centre.Goals.{then-centre-2, else-centre
 
 pub follow-requires : goal.follow-requires
 follow-requires c = let was = space_of c.args.centre.now.middle in record {
-  rows = record { was = was; filled = c.requires.centre.filled c.if-centre-2.true ∙ ap (enclosures was) (sym c.graph.ensures.graph) };
+  rows = record { was = was; filled = c.requires.centre.room.filled c.if-centre-2.true ∙ ap (enclosures was) (sym c.graph.ensures.graph) };
 }
 
 pub returns-clause-centre : goal.returns-clause-centre
@@ -29,7 +29,7 @@ returns-clause-centre c =
       room = record {
         middle = ap length is.place ∙ length-map (space_of c.args.space.now) middle_domain ∙ c.requires.space;
         rows = length_enclosures p s (rows_of new.rows) is.filled;
+        filled = λ h. is.filled ∙ ap (λ (t : Space). enclosures t p.nodes) (sym is.place);
       };
-      filled = λ h. is.filled ∙ ap (λ (t : Space). enclosures t p.nodes) (sym is.place);
       known = λ h. record { place = is.place; filled = is.filled };
     }

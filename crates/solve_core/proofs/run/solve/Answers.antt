@@ -7,6 +7,14 @@ use Rattle.solve_core.proofs.Reached.{reaches_same, reaches_through}
 use Rattle.solve_core.proofs.Together.{each_ok}
 use Rattle.solve_core.proofs.run.solve.Goals as goal
 
+pub finish-requires : goal.finish-requires
+finish-requires g c = ap (λ (b : BookModel). b.problem) c.in_ok-book.ensures ∙ c.in_ok-copy.ensures
+
+pub finish-requires-2 : goal.finish-requires-2
+finish-requires-2 g c =
+    let t : Reaches c.in_ok-book.book c.search_together-book.result = c.search_together-book.ensures in
+    (reaches_same t).0 ∙ ap (λ (b : BookModel). b.problem) c.in_ok-book.ensures ∙ c.in_ok-copy.ensures
+
 pub returns-then-workers-lt2-clause-problem : goal.returns-then-workers-lt2-clause-problem
 returns-then-workers-lt2-clause-problem g c =
     let o : c.in_ok-book.book ≡ opening c.in_ok-copy.copy c.args.options.now = c.in_ok-book.ensures in

@@ -19,32 +19,38 @@ use Rattle.cover_rule.proofs.RunSteps.{run_begins}
 use Rattle.cover_rule.proofs.patch.Patch.begin_in.Goals as goal
 
 pub copy_space-requires : goal.copy_space-requires
-copy_space-requires c = ap length c.space-space.ensures ∙ fits_length (problem_of c.args.problem.now).axes c.args.state.space c.requires.state.axes ∙ sym c.requires.room.spare
+copy_space-requires c = ap length c.space-space.ensures ∙ fits_length (problem_of c.args.problem.now).axes c.args.state.space c.requires.state.axes ∙ sym c.requires.filled.spare
+
+pub follow-requires : goal.follow-requires
+follow-requires c = let was = space_of c.args.work.spare in record {
+  rows = record { was = was; filled = c.requires.filled.rows ∙ ap (enclosures was) (sym c.graph.ensures.graph) };
+}
 
 pub invariant_of-result : goal.invariant_of-result
 invariant_of-result c =
     let p = c.args.problem.now in let m = c.args.margins.now in let S = c.args.state in
     let back = sym (ap (λ (T : State). T.space) c.nothing_done-kept.ensures.reached) in
     record {
-      whole = c.axes.ensures.whole;
+      whole = c.graph.ensures.whole;
       numbered = c.requires.numbered;
       margins = c.requires.margins;
       run = subst (λ (K : KeptModel). IsRun (problem_of p) m K) (sym c.nothing_done-kept.ensures.kept) (run_begins (problem_of p) m S c.requires.state);
       ready = record {
         serves = record {
-          rows = ap rows_of c.forget.ensures.rows ∙ c.fill.ensures.rows ∙ ap₂ (λ (s : Space) (ns : List Node). enclosures s ns) (c.space-space.ensures ∙ back) c.graph.ensures.graph;
-          scratch = ap (λ (r : Rows). length (rows_of r)) c.forget.ensures.scratch ∙ c.requires.room.scratch;
-          truths = ap (λ (k : Marks). vec_len k.truths) c.forget.ensures.marks ∙ c.requires.room.truths;
+          rows = ap rows_of c.forget.ensures.rows ∙ c.follow.ensures.rows ∙ ap₂ (λ (s : Space) (ns : List Node). enclosures s ns) (c.space-space.ensures ∙ back) c.graph.ensures.graph;
+          scratch = ap (λ (r : Rows). length (rows_of r)) c.forget.ensures.scratch ∙ c.requires.filled.scratch;
+          truths = ap (λ (k : Marks). vec_len k.truths) c.forget.ensures.marks ∙ c.requires.filled.truths;
           centre = record {
             room = record {
-              middle = ap (λ (r : CodeSpace). length (space_of r)) c.forget.ensures.middle ∙ c.requires.room.centre.middle;
-              rows = ap (λ (r : Rows). length (rows_of r)) c.forget.ensures.centre_rows ∙ c.requires.room.centre.rows;
+              middle = ap (λ (r : CodeSpace). length (space_of r)) c.forget.ensures.middle ∙ c.requires.filled.centre.middle;
+              rows = ap (λ (r : Rows). length (rows_of r)) c.forget.ensures.centre_rows ∙ c.requires.filled.centre.rows;
+              filled = λ h. ap rows_of c.forget.ensures.centre_rows ∙ c.requires.filled.centre.filled (sym c.forget.ensures.filled ∙ h)
+                  ∙ ap (λ (r : CodeSpace). enclosures (space_of r) p.nodes) (sym c.forget.ensures.middle);
             };
-            filled = λ h. absurd (true≢false (sym h ∙ c.forget.ensures.filled));
             known = λ h. absurd (true≢false (sym h ∙ c.forget.ensures.centre));
           };
-          room = subst (FitsRoom p.nodes) (sym c.forget.ensures.room) c.requires.room.room;
-          leaves = c.forget.ensures.leaves ∙ c.requires.room.leaves;
+          room = subst (FitsRoom p.nodes) (sym c.forget.ensures.room) c.requires.filled.room;
+          leaves = c.forget.ensures.leaves ∙ c.requires.filled.leaves;
           known = nothing_known p m c.nothing_done-kept.result.reached.space c.forget.new.work.leaves.items c.forget.new.work.unsure c.forget.ensures.none c.forget.ensures.unsure;
           voiding = nothing_noted p m c.nothing_done-kept.result.reached.space c.forget.new.work.voiding c.forget.ensures.voiding;
         };

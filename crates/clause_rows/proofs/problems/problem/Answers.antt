@@ -1,6 +1,6 @@
 use Rattle.std.proofs.Common.{◌∙◌, ◌<◌, length, arith}
 use Rattle.clause_rows.proofs.TriedCnfBuild.{whole_of}
-use Rattle.clause_rows.proofs.of_cnf_build.problem.Goals as goal
+use Rattle.clause_rows.proofs.problems.problem.Goals as goal
 
 pub new-requires : goal.new-requires
 new-requires c =

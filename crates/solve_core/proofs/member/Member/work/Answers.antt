@@ -1,7 +1,7 @@
 use Rattle.std.proofs.Common.{◌≡◌, refl, ◌∙◌, subst}
 use Rattle.book_lock.specs.declared.shared.SharedBook.{SharedBook}
 use Rattle.book_lock.specs.Shared.{IsOnePartSeatOf}
-use Rattle.solve_core.proofs.member.Member.ask_book.Goals as goal
+use Rattle.solve_core.proofs.member.Member.work.Goals as goal
 
 pub returns : goal.returns
 returns g c =
