@@ -68,7 +68,12 @@ fn run_team<J: Subject + Send + Sync, R: Threads + Wait + Sync, G: Gate + Sync>(
     requires { All (IsMemberOf task.now.shared.now) team.old }
     ensures { All (HasSeatsOf task.now.shared.now) team.new }
 {
-    for_each_mut(rt, team, 64, &|_, member| member.work(rt, alloc, task, gate));
+    for_each_mut(
+        rt,
+        team,
+        64,
+        &|_, member| member.work(rt, alloc, task, gate),
+    );
 }
 
 // Takes the seats of all workers back. The nodes that they kept to themselves are live in the book.
