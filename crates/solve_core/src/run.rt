@@ -23,8 +23,8 @@ use std::thread::Threads;
 // At most so many workers search side by side.
 const MOST_WORKERS: u32 = 64;
 
-// Goes on alone from a book of the problem, node by node, the lower part of a box before the upper one, until a point is kept, no node
-// is live, or the budget is used up and nothing but a branch is left to be done at each live node.
+// Goes on alone from a book of the problem, node by node, the lower part of a box before the upper one, until a point is
+// kept, no node is live, or the budget is used up and nothing but a branch is left to be done at each live node.
 fn finish<G: Gate>(
     alloc: Global,
     book: Book,
