@@ -79,7 +79,7 @@ fn by_search(
     state: &State,
     pairs: &[(u32, Dy)],
 ) -> Option<(Narrowed, Space)>
-    requires lits { length state.now.lits ≡ length problem.now.atoms }
+    requires marks { length state.now.marks ≡ length problem.now.atoms }
     requires pairs { All (λ x. x.0 < length problem.now.atoms) pairs.now }
 {
     let mut space = state.space().try_clone(alloc).ok()?;
@@ -106,7 +106,7 @@ fn by_checker(
     state: &State,
     pairs: &[(u32, Dy)],
 ) -> Option<(Narrowed, Space)>
-    requires lits { length state.now.lits ≡ length problem.now.atoms }
+    requires marks { length state.now.marks ≡ length problem.now.atoms }
     requires pairs { All (λ x. x.0 < length problem.now.atoms) pairs.now }
 {
     let mut space = state.space().try_clone(alloc).ok()?;
