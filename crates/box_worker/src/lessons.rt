@@ -171,8 +171,8 @@ fn is_worth(run: &KeptPatch) -> bool {
     leaves_nothing && run.steps.len() <= MOST_STEPS
 }
 
-// What a closed run of the room's problem shows of the whole root space: it is repeated there with the marks alone of the atoms by which it
-// narrows. None where that does not leave nothing.
+// What a closed run of the room's problem shows of the whole root space: it is repeated there with the marks alone of the
+// atoms by which it narrows. None where that does not leave nothing.
 fn widened(
     alloc: Global,
     room: &mut Room,
@@ -212,11 +212,12 @@ fn begins_at_root(alloc: Global, problem: &Problem, run: &KeptPatch) -> Result<b
     }
 }
 
-/// What is to be learned of a closed run of the room's problem, of which `own` is a copy: a lemma that holds in each box where some atoms are
-/// marked together. It is the run repeated at the whole root space with the marks alone of the atoms by which it narrows,
-/// where that leaves nothing, else the copy where it begins at the root space. Runs are not repeated for 1, 2, 4 and then
-/// 8 boxes after one that showed nothing so. A lemma of a smaller space is none to be learned: the boxes of a cover do
-/// not overlap, so it would not be quoted. What is repeated is a choice: that nothing is learned is ruled out by no clause.
+/// What is to be learned of a closed run of the room's problem, of which `own` is a copy: a lemma that holds in each box
+/// where some atoms are marked together. It is the run repeated at the whole root space with the marks alone of the atoms
+/// by which it narrows, where that leaves nothing, else the copy where it begins at the root space. Runs are not repeated
+/// for 1, 2, 4 boxes and so on, at most 32, after one that showed nothing so. A lemma of a smaller space is none to be
+/// learned: the boxes of a cover do not overlap, so it would not be quoted. What is repeated is a choice: that nothing is
+/// learned is ruled out by no clause.
 ///
 /// # Errors
 ///
