@@ -51,6 +51,3 @@ fn main(rt: HostRuntime) -> ExitCode {
     let _ = eprintln!(rt; "cover_svg: {fault}");
     ExitCode::from(status)
 }
-
-#[cfg(test)]
-mod tests;
