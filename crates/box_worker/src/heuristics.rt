@@ -11,12 +11,49 @@ const SEARCH_PERIOD: u32 = 16;
 /// Closed runs are not repeated for so many of them in a row at most.
 const LESSONS_LEFT_OUT: u32 = 32;
 
+/// So many lemmas are learned before a run quotes one, and after each that does.
+const LESSONS_A_QUOTE: u32 = 8;
+
+/// Which closed runs are repeated at the root space: some, as long as the lemmas that they show are quoted.
+#[derive(Clone, Copy, PartialEq, Eq, Debug)]
+pub struct Lessons {
+    patience: Patience,
+    left: u32,
+}
+
+impl Lessons {
+    /// A run is repeated at once.
+    pub fn new() -> Lessons {
+        Lessons {
+            patience: Patience::new(LESSONS_LEFT_OUT),
+            left: LESSONS_A_QUOTE,
+        }
+    }
+
+    /// Whether this run is repeated.
+    pub fn is_due(&mut self) -> bool {
+        self.left > 0 && self.patience.is_due()
+    }
+
+    /// Notes whether a run that was repeated showed a lemma.
+    pub fn note_lesson(&mut self, has_shown: bool) {
+        self.patience.note(has_shown);
+        if has_shown {
+            self.left = self.left.saturating_sub(1);
+        }
+    }
+
+    /// Notes that a run has quoted a lemma.
+    pub fn note_quote(&mut self) {
+        self.left = LESSONS_A_QUOTE;
+    }
+}
+
 /// What is kept from box to box for choices alone. It promises nothing.
 #[derive(Drop)]
 pub struct Heuristics {
     pub scout: Option<Scout>,
-    /// How long closed runs are not repeated at the root space.
-    pub lessons: Patience,
+    pub lessons: Lessons,
     boxes: u32,
 }
 
@@ -25,7 +62,7 @@ impl Heuristics {
     pub fn new() -> Heuristics {
         Heuristics {
             scout: None,
-            lessons: Patience::new(LESSONS_LEFT_OUT),
+            lessons: Lessons::new(),
             boxes: 0,
         }
     }

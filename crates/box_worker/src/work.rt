@@ -163,6 +163,9 @@ fn worked(alloc: Global, room: &mut Room, ended: Ended, patch: Patch) -> Result<
     ensures room { room.new ≡ room.old }
 {
     let kept = room.end(patch);
+    if !kept.quoted.is_empty() {
+        room.heuristics.lessons.note_quote();
+    }
     match ended {
         Ended::Closed => closed(alloc, kept),
         Ended::Parted => Ok(Worked::Patch(kept)),

@@ -67,14 +67,18 @@ fn cmp_units(a: Dy, b: Dy) -> Ordering
 
 // The order of two numbers.
 fn cmp_numbers(a: Dy, b: Dy) -> Ordering
-    ensures { result ≡ order_of (at_most (exact (dyadic_of a)) (exact (dyadic_of b))) (at_most (exact (dyadic_of b)) (exact (dyadic_of a))) }
+    ensures { result ≡
+        order_of
+        (at_most (exact (dyadic_of a)) (exact (dyadic_of b)))
+        (at_most (exact (dyadic_of b)) (exact (dyadic_of a))) }
 {
     cmp_units(a, b)
 }
 
 /// The order of numbers and infinities.
 pub fn cmp(a: Ext, b: Ext) -> Ordering
-    ensures { result ≡ order_of (ext_at_most (ext_of a) (ext_of b)) (ext_at_most (ext_of b) (ext_of a)) }
+    ensures { result ≡
+        order_of (ext_at_most (ext_of a) (ext_of b)) (ext_at_most (ext_of b) (ext_of a)) }
 {
     match (a, b) {
         (Ext::Fin(a), Ext::Fin(b)) => cmp_numbers(a, b),

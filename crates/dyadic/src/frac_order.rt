@@ -30,7 +30,8 @@ pub fn cmp_quotients(n: u128, d: u128, m: u128, e: u128) -> Ordering
 
 // The order of the sizes of two fractions.
 fn cmp_frac_sizes(a: Frac, b: Frac) -> Ordering
-    ensures { result ≡ nat_cmp (unsigned_abs a.n * unsigned_abs b.d) (unsigned_abs b.n * unsigned_abs a.d) }
+    ensures { result ≡
+        nat_cmp (unsigned_abs a.n * unsigned_abs b.d) (unsigned_abs b.n * unsigned_abs a.d) }
 {
     cmp_quotients(
         a.n.unsigned_abs(),
@@ -55,7 +56,10 @@ fn cmp_crossed(a: Frac, b: Frac) -> Ordering
 
 /// The order of two fractions.
 pub fn cmp_frac(a: Frac, b: Frac) -> Ordering
-    ensures { result ≡ order_of (at_most (fraction_of_frac a) (fraction_of_frac b)) (at_most (fraction_of_frac b) (fraction_of_frac a)) }
+    ensures { result ≡
+        order_of
+        (at_most (fraction_of_frac a) (fraction_of_frac b))
+        (at_most (fraction_of_frac b) (fraction_of_frac a)) }
 {
     cmp_crossed(a, b)
 }

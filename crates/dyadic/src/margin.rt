@@ -141,7 +141,8 @@ fn is_under(minus: bool, n: u128, d: u128, negative: bool, v: Size, bits: u32) -
 fn is_low(f: Frac, v: Dy, bits: u32) -> bool
     requires some { 1 ≤ bits }
     requires few { bits ≤ 60 }
-    ensures { result ≡ at_most (difference_of (fraction_of_frac f) (power_below bits)) (exact (dyadic_of v)) }
+    ensures { result ≡
+        at_most (difference_of (fraction_of_frac f) (power_below bits)) (exact (dyadic_of v)) }
 {
     is_under(has_minus(f), above(f), below(f), v.negative, v.size, bits)
 }
@@ -150,7 +151,8 @@ fn is_low(f: Frac, v: Dy, bits: u32) -> bool
 fn is_high(f: Frac, v: Dy, bits: u32) -> bool
     requires some { 1 ≤ bits }
     requires few { bits ≤ 60 }
-    ensures { result ≡ at_most (exact (dyadic_of v)) (sum_of (fraction_of_frac f) (power_below bits)) }
+    ensures { result ≡
+        at_most (exact (dyadic_of v)) (sum_of (fraction_of_frac f) (power_below bits)) }
 {
     is_under(!has_minus(f), above(f), below(f), !v.negative, v.size, bits)
 }

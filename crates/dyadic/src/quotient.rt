@@ -122,7 +122,8 @@ pub fn has_minus(f: Frac) -> bool
 // Bounds of the fraction's size.
 fn frac_bracket(f: Frac) -> Bracket
     ensures short { result.shift ≤ 1000 }
-    ensures tight { IsTight (unsigned_abs f.n * 2 ^ 120) (unsigned_abs f.d) result.low result.high result.shift }
+    ensures tight { IsTight (unsigned_abs f.n * 2 ^ 120) (unsigned_abs f.d)
+        result.low result.high result.shift }
 {
     quotient_bracket(f.n.unsigned_abs(), f.d.unsigned_abs(), UNIT_BITS)
 }

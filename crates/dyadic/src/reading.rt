@@ -31,7 +31,8 @@ fn is_digits(text: &[u8]) -> bool
 // The number that the digits write, if it is not above the limit.
 fn number_from(text: &[u8], limit: u64) -> Option<u64>
     requires { EachIndex text.now (λ k. IsInRange 48 57 (slice_index text.now k)) }
-    ensures { MatchOption result (limit < digits_value 10 text.now) (λ n. (n ≡ digits_value 10 text.now) × (n ≤ limit)) }
+    ensures { MatchOption result (limit < digits_value 10 text.now) (λ n.
+        (n ≡ digits_value 10 text.now) × (n ≤ limit)) }
 {
     let mut number = 0;
     for c in text {
@@ -135,7 +136,8 @@ pub fn number_of(negative: bool, digits: &[u8], below: bool, exponent: &[u8]) ->
     requires digits { IsDigits digits.now }
     requires exponent { IsDigits exponent.now }
     requires canonical { IsCanonical digits.now below exponent.now }
-    ensures { kept_answer result ≡ of_exponent negative (digits_value 10 digits.now) below (digits_value 10 exponent.now) }
+    ensures { kept_answer result ≡
+        of_exponent negative (digits_value 10 digits.now) below (digits_value 10 exponent.now) }
 {
     let Some(odd) = number_from(digits, 1 << 62) else {
         return None;

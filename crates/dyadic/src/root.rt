@@ -90,7 +90,8 @@ fn size_down(a: Size) -> Size
 
 // The root of a size, rounded up.
 fn size_up(a: Size) -> Size
-    ensures { units result ≡ size_above (root_above (units a * 2 ^ 120) (whole_root (units a * 2 ^ 120))) }
+    ensures { units result ≡
+        size_above (root_above (units a * 2 ^ 120) (whole_root (units a * 2 ^ 120))) }
 {
     let bracket = root_bracket(a);
     match round_up(bracket.high, bracket.shift) {

@@ -21,7 +21,8 @@ fn put(into: &mut [u8], at: usize, bytes: &[u8]) -> usize
 // Writes the number by its parts.
 fn write_parts(a: &Dy, into: &mut [u8; 64]) -> usize
     ensures short { result ≤ 64 }
-    ensures written { take result into.new ≡ spelling a.now.negative a.now.size.odd a.now.size.shift }
+    ensures written { take result into.new ≡
+        spelling a.now.negative a.now.size.odd a.now.size.shift }
 {
     if a.size.odd == 0 {
         return put(into, 0, b"0");

@@ -136,7 +136,10 @@ fn renewed_alike<L: Ledger>(
     domain: Domain,
     steps: &mut Steps<L>,
 ) -> Result<bool, AllocError>
-    ensures { (q : Fraction) → graph.now ≡ variable_node 0 ∷ square_node 0 ∷ variable_node 1 ∷ square_node 2 ∷ add_node 1 3 ∷ constant_node q ∷ add_node 4 5 ∷ [] → steps.new ≤ steps.old + 4 }
+    ensures { (q : Fraction) → graph.now ≡
+        variable_node 0 ∷ square_node 0 ∷ variable_node 1 ∷ square_node 2
+        ∷ add_node 1 3 ∷ constant_node q ∷ add_node 4 5 ∷ [] →
+        steps.new ≤ steps.old + 4 }
 {
     if space.len() < 2 {
         return Ok(false);

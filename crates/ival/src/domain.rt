@@ -17,7 +17,8 @@ pub struct Range {
 impl Range {
     /// From a number to another; none where the first is above the second.
     pub fn between(low: Dy, high: Dy) -> Option<Range>
-        ensures some { IsSome result ↔ IsTrue (at_most (exact (dyadic_of low)) (exact (dyadic_of high))) }
+        ensures some { IsSome result ↔
+            IsTrue (at_most (exact (dyadic_of low)) (exact (dyadic_of high))) }
         ensures ends { IfSome result (λ r. (r.low ≡ low) × (r.high ≡ high)) }
     {
         if at_most(Ext::Fin(low), Ext::Fin(high)) {

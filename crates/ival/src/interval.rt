@@ -121,7 +121,8 @@ impl Ival {
 
     /// From a number to a number; none where the interval is empty or unbounded.
     pub fn range(self) -> Option<Range>
-        ensures { MatchOption result (HasNoRange (interval_of self)) (λ r. interval_of self ≡ range_of r) }
+        ensures { MatchOption result (HasNoRange (interval_of self)) (λ r.
+            interval_of self ≡ range_of r) }
     {
         let Ival::Between(ends) = self else {
             return None;

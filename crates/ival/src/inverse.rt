@@ -37,7 +37,8 @@ fn divisor_side(divisor: Ends) -> Side
 fn least_quotient(a: Ends, first: Side, divisor: Ends, second: Side) -> Ext
     requires first { LiesOn first (end_of (ext_of a.low)) (end_of (ext_of a.high)) }
     requires second { MissesOn second (ext_of divisor.low) (ext_of divisor.high) }
-    ensures { ext_of result ≡ least_quotient (ext_of a.low) (ext_of a.high) (ext_of divisor.low) (ext_of divisor.high) }
+    ensures { ext_of result ≡
+        least_quotient (ext_of a.low) (ext_of a.high) (ext_of divisor.low) (ext_of divisor.high) }
 {
     let terms = least_factors(first, second, a.low, a.high, divisor.high, divisor.low);
     div_down(terms.0, terms.1)
@@ -47,7 +48,8 @@ fn least_quotient(a: Ends, first: Side, divisor: Ends, second: Side) -> Ext
 fn greatest_quotient(a: Ends, first: Side, divisor: Ends, second: Side) -> Ext
     requires first { LiesOn first (end_of (ext_of a.low)) (end_of (ext_of a.high)) }
     requires second { MissesOn second (ext_of divisor.low) (ext_of divisor.high) }
-    ensures { ext_of result ≡ greatest_quotient (ext_of a.low) (ext_of a.high) (ext_of divisor.low) (ext_of divisor.high) }
+    ensures { ext_of result ≡
+        greatest_quotient (ext_of a.low) (ext_of a.high) (ext_of divisor.low) (ext_of divisor.high) }
 {
     let terms = greatest_factors(first, second, a.low, a.high, divisor.high, divisor.low);
     div_up(terms.0, terms.1)
@@ -93,7 +95,8 @@ fn to_quotient(end: Ext, divisor: Ext) -> Ival
 // What a product without 0 leaves to an operand, where the other one holds 0.
 fn beside_nought(product: Ends, other: Ends) -> Ival
     requires { IsTrue (misses_nought (ends_of product)) }
-    ensures { interval_of result ≡ nought_inside (ends_of product) (ext_of other.low) (ext_of other.high) }
+    ensures { interval_of result ≡
+        nought_inside (ends_of product) (ext_of other.low) (ext_of other.high) }
 {
     let is_high = is_above(product.low);
     match (sign_of(other.low), sign_of(other.high)) {

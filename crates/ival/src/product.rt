@@ -67,7 +67,8 @@ pub fn greatest_factors(
 fn least(a: Ends, first: Side, b: Ends, second: Side) -> Ext
     requires first { LiesOn first (end_of (ext_of a.low)) (end_of (ext_of a.high)) }
     requires second { LiesOn second (end_of (ext_of b.low)) (end_of (ext_of b.high)) }
-    ensures { ext_of result ≡ least_product (ext_of a.low) (ext_of a.high) (ext_of b.low) (ext_of b.high) }
+    ensures { ext_of result ≡
+        least_product (ext_of a.low) (ext_of a.high) (ext_of b.low) (ext_of b.high) }
 {
     match (first, second) {
         (Side::Across, Side::Across) => lesser(mul_down(a.low, b.high), mul_down(a.high, b.low)),
@@ -82,7 +83,8 @@ fn least(a: Ends, first: Side, b: Ends, second: Side) -> Ext
 fn greatest(a: Ends, first: Side, b: Ends, second: Side) -> Ext
     requires first { LiesOn first (end_of (ext_of a.low)) (end_of (ext_of a.high)) }
     requires second { LiesOn second (end_of (ext_of b.low)) (end_of (ext_of b.high)) }
-    ensures { ext_of result ≡ greatest_product (ext_of a.low) (ext_of a.high) (ext_of b.low) (ext_of b.high) }
+    ensures { ext_of result ≡
+        greatest_product (ext_of a.low) (ext_of a.high) (ext_of b.low) (ext_of b.high) }
 {
     match (first, second) {
         (Side::Across, Side::Across) => greater(mul_up(a.low, b.low), mul_up(a.high, b.high)),

@@ -38,7 +38,8 @@ impl Rows {
     /// Puts the interval into this place.
     pub fn set(&mut self, place: usize, interval: Ival)
         requires { place < length (rows_of self.old) }
-        ensures rows { rows_of self.new ≡ slice_set (rows_of self.old) place (interval_of interval) }
+        ensures rows { rows_of self.new ≡
+            slice_set (rows_of self.old) place (interval_of interval) }
         ensures marks { marks_of self.new ≡ marks_of self.old }
     {
         self.intervals[place] = interval;
@@ -125,7 +126,8 @@ impl Rows {
     fn within(&self, at: usize, bit: u32) -> Option<usize>
         requires bit { bit < 64 }
         requires at { at ≤ length (rows_of self.now) / 64 }
-        ensures { MatchOption result (length (rows_of self.now) ≤ at * 64 + bit) (λ k. (k ≡ at * 64 + bit) × (k < length (rows_of self.now))) }
+        ensures { MatchOption result (length (rows_of self.now) ≤ at * 64 + bit) (λ k.
+            (k ≡ at * 64 + bit) × (k < length (rows_of self.now))) }
     {
         let len = self.intervals.len();
         let place = at * 64 + bit as usize;

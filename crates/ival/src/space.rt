@@ -97,7 +97,8 @@ impl Space {
     /// Leaves to a Real axis its numbers up to `cut`, which has to be one of them.
     pub fn keep_low(&mut self, axis: usize, cut: Dy)
         requires { IsTrue (test_axis (holds_number (dyadic_of cut)) axis (space_of self.old)) }
-        ensures axes { space_of self.new ≡ changed (lower_part (dyadic_of cut)) axis (space_of self.old) }
+        ensures axes { space_of self.new ≡
+            changed (lower_part (dyadic_of cut)) axis (space_of self.old) }
         ensures room { capacity_of self.new ≡ capacity_of self.old }
     {
         let domain = self.get(axis);
@@ -107,7 +108,8 @@ impl Space {
     /// Leaves to a Real axis its numbers from `cut` on, which has to be one of them.
     pub fn keep_high(&mut self, axis: usize, cut: Dy)
         requires { IsTrue (test_axis (holds_number (dyadic_of cut)) axis (space_of self.old)) }
-        ensures axes { space_of self.new ≡ changed (upper_part (dyadic_of cut)) axis (space_of self.old) }
+        ensures axes { space_of self.new ≡
+            changed (upper_part (dyadic_of cut)) axis (space_of self.old) }
         ensures room { capacity_of self.new ≡ capacity_of self.old }
     {
         let domain = self.get(axis);

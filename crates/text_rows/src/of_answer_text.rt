@@ -27,7 +27,8 @@ fn unit_interval() -> Declared
 }
 
 fn axes(alloc: Global, names: &[&str]) -> Result<Vec<Axis>, AllocError>
-    ensures { IfOk result (λ axes. All (λ a. declared_of a.declared ≡ from_nought_to_one) axes.items) }
+    ensures { IfOk result (λ axes.
+        All (λ a. declared_of a.declared ≡ from_nought_to_one) axes.items) }
 {
     let mut axes = Vec::new(alloc);
     for name in names {
