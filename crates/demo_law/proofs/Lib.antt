@@ -1,0 +1,6 @@
+mod Commands
+mod Faultless
+mod Numeral
+mod Room
+mod Text
+mod Walked
