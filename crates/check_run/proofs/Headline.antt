@@ -123,12 +123,8 @@ solve-unsat words script cert_in old new (course, can, status, went) wrote =
 
 demo-unsat : (words : Demo) (script cert_in : List ℕ) (old new : Sight) → IsShown (Some (demo words)) script cert_in old new Answered → IsTrueUnsat (Some (demo words)) script cert_in old new
 demo-unsat words script cert_in old new (course, can, status, went) =
-    let o : Options = words.options in
-    let made : List ℕ = demo_script words.seed words.size in
-    let on = goes-on o.bound made (λ p. CanDemo p o words.cert made) (script_fault o.bound made) course can status in
-    by on.p on.built on.can where
-      by : (p : Problem) → IsBuilt words.options.bound (demo_script words.seed words.size) p → CanDemo p words.options words.cert (demo_script words.seed words.size) course → IsUnsat words.options (demo_script words.seed words.size) old new
-      by p built so = unsat-so words.options (demo_script words.seed words.size) p old new so.0 built (went.cert ∙ ap (λ (c : Course). appended old.cert_out c.cert) so.2) so.1.accepted
+    let so = can.2 in
+    unsat-so words.options (demo_script words.seed words.size) can.0 old new so.0 can.1 (went.cert ∙ ap (λ (c : Course). appended old.cert_out c.cert) so.2) so.1.accepted
 
 -- ---- what is checked
 

@@ -77,17 +77,7 @@ demo_problem words bytes p old new status has made ends script cert_in =
     let H : List ℕ → Type 0 = λ b. HasProblem words.options.bound p b in
     let R : List ℕ → Type 0 = λ b. RunEnds (CanDemo p words.options words.cert b) [] old new status in
     widen (CanDemo p words.options words.cert made_by) (Can (Some (demo words)) script cert_in) [] old new status
-    (λ course can. by_problem words.options.bound made_by p (λ q. CanDemo q words.options words.cert made_by) (subst H made has) course can) (subst R made ends)
-
-pub demo_halted : (words : Demo) (bytes : List ℕ) (h : Halt) (old new : Sight) (status : Status) → Refuses words.options.bound bytes h → bytes ≡ demo_script words.seed words.size →
-    HaltEnds h old new status → (script cert_in : List ℕ) → RunEnds (Can (Some (demo words)) script cert_in) [] old new status
-demo_halted words bytes (halt.Refused text) old new status refuses made ends script cert_in =
-    let H : List ℕ → Type 0 = λ b. HasFaultText (script_fault words.options.bound b) text.items in
-    on_course (says ScriptRefused text.items) (by_text (script_fault words.options.bound (demo_script words.seed words.size)) text.items _ (subst H made refuses)) ends
-demo_halted words bytes halt.Failed old new status refuses made ends script cert_in = absurd refuses
-demo_halted words bytes halt.Memory old new status refuses made ends script cert_in =
-    let Q : Sight → Type 0 = λ d. Quiet [] old d in
-    no_memory_yet ends.0 (subst Q (sym ends.1) (record { starts_made = 0; starts_are = sym (appended-nil old.starts); cert = refl; answer = refl }))
+    (λ course can. (p, (subst H made has).built, can)) (subst R made ends)
 
 -- ---- causes
 
@@ -101,15 +91,15 @@ cause_behind command starts old mid new OutFailed after h = let P : ℕ → Type
 cause_behind command starts old mid new NoMemory after h = h
 
 -- of an answer that refuses a script
-cause_refused : (command : Command) (text : List ℕ) (old new : Sight) (status : Status) → Ends (says ScriptRefused text) old new status → HasCause (run_of (Some command) old new status)
-cause_refused command text old new status (at_its_end is went) = let P : Status → Type 0 = λ s. HasCause (run_of (Some command) old new s) in let here : P ScriptRefused = search rules in subst P (sym is) here
-cause_refused command text old new status (out_failed is side stopped) = let P : Status → Type 0 = λ s. HasCause (run_of (Some command) old new s) in subst P (sym is) side
-cause_refused command text old new status (no_memory is stopped) = let P : Status → Type 0 = λ s. HasCause (run_of (Some command) old new s) in let here : P NoMemory = tt in subst P (sym is) here
+cause_refused : (command : Command) (text : List ℕ) (old new : Sight) (status : Status) → ReadsScript (Some command) → Ends (says ScriptRefused text) old new status → HasCause (run_of (Some command) old new status)
+cause_refused command text old new status reads (at_its_end is went) = let P : Status → Type 0 = λ s. HasCause (run_of (Some command) old new s) in subst P (sym is) reads
+cause_refused command text old new status reads (out_failed is side stopped) = let P : Status → Type 0 = λ s. HasCause (run_of (Some command) old new s) in subst P (sym is) side
+cause_refused command text old new status reads (no_memory is stopped) = let P : Status → Type 0 = λ s. HasCause (run_of (Some command) old new s) in let here : P NoMemory = tt in subst P (sym is) here
 
 pub cause_halted : (command : Command) (bound : Option ℕ) (name : List ℕ) (h : Halt) (old mid new : Sight) (status : Status) → ReadsScript (Some command) → Halts bound name h old mid → HaltEnds h mid new status →
     HasCause (run_of (Some command) old new status)
 cause_halted command bound name (halt.Refused text) old mid new status reads halted ends =
-    cause_behind (Some command) (script_start name) old mid new status halted.after (cause_refused command text.items mid new status ends)
+    cause_behind (Some command) (script_start name) old mid new status halted.after (cause_refused command text.items mid new status reads ends)
 cause_halted command bound name halt.Failed old mid new status reads halted ends =
     let S : Sight → Type 0 = λ d. SideFailed old.in_faults d.in_faults in let P : Status → Type 0 = λ s. HasCause (run_of (Some command) old new s) in
     subst P (sym ends.0) (reads, subst S (sym ends.1) halted.0)

@@ -58,9 +58,7 @@ said (Some (check words)) script cert_in course can = said-same course _ can.2
     (said-by words.bound script (λ p. CanCheck p words.bound words.cert cert_in) (λ p c h. said-same c _ h (said-verdict (verdict p words.bound cert_in))) (script_fault words.bound script) can.0 can.1)
 said (Some (upgrade words)) script cert_in course can = said-same course _ can.2
     (said-by words.bound script (λ p. CanUpgrade p words.bound words.cert words.out cert_in) (λ p c h. said-upgrade p words.bound words.cert words.out cert_in c h) (script_fault words.bound script) can.0 can.1)
-said (Some (demo words)) script cert_in course can =
-    said-by words.options.bound (demo_script words.seed words.size) (λ p. CanDemo p words.options words.cert (demo_script words.seed words.size))
-    (λ p c h. said-demo p words.options words.cert (demo_script words.seed words.size) c h) (script_fault words.options.bound (demo_script words.seed words.size)) course can
+said (Some (demo words)) script cert_in course can = said-demo can.0 words.options words.cert (demo_script words.seed words.size) course can.2
 
 module _ (command : Option Command) (script cert_in : List ℕ) (old new : Sight) where
   at-end : (status : Status) (course : Course) → Can command script cert_in course → IsSaid course.status → status ≡ course.status → Went course old new → IsShown command script cert_in old new status

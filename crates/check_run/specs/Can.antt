@@ -49,7 +49,7 @@ abbrev pub CanUpgrade : Problem → Option ℕ → List ℕ → List ℕ → Lis
 CanUpgrade p bound name out cert_in course =
     (tail : Course) × CanUpgradeBy (verdict p bound cert_in) p bound out cert_in tail × (course ≡ behind ((CertIn, name) ∷ []) tail)
 
--- `demo`: any certificate that leaves nothing of the problem, with a line on the script
+-- `demo`: any certificate that leaves nothing of the problem, with a line on the script, which has no fault
 abbrev pub CanDemo : Problem → Options → List ℕ → List ℕ → Course → Type 0
 CanDemo p options name bytes course =
     (cert : List ℕ) × IsAnswer p options cert (left_open []) × (course ≡ gives name cert (demo_text (length bytes) (length p.atoms)))
@@ -80,8 +80,7 @@ Can (Some (upgrade words)) script cert_in course =
     CanFrom words.script (script_fault words.bound script)
     (OfProblem words.bound script (λ p. CanUpgrade p words.bound words.cert words.out cert_in)) course
 Can (Some (demo words)) script cert_in course =
-    CanBy (script_fault words.options.bound (demo_script words.seed words.size))
-    (OfProblem words.options.bound (demo_script words.seed words.size) (λ p. CanDemo p words.options words.cert (demo_script words.seed words.size))) course
+    OfProblem words.options.bound (demo_script words.seed words.size) (λ p. CanDemo p words.options words.cert (demo_script words.seed words.size)) course
 
 -- the starts of the in ports, in their order
 abbrev pub in_starts : Option Command → List Start

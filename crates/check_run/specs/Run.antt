@@ -70,7 +70,7 @@ ReadsScript _ = ⊥
 abbrev pub IsCauseOf : Status → Run → Type 0
 IsCauseOf Answered r = IsSome r.command
 IsCauseOf CertRefused r = ReadsCert r.command
-IsCauseOf ScriptRefused r = IsSome r.command
+IsCauseOf ScriptRefused r = ReadsScript r.command
 IsCauseOf Usage r = r.command ≡ None
 IsCauseOf InFailed r = ReadsScript r.command × SideFailed r.old.in_faults r.new.in_faults
 IsCauseOf OutFailed r = SideFailed r.old.out_faults r.new.out_faults

@@ -8,7 +8,7 @@ use Rattle.dyadic.specs.Point.{real_sort}
 use Rattle.script_model.specs.Sexp.{Place, Sexp, group}
 use Rattle.script_model.specs.Script.{Command, claims, constants_of, sorts_of, Constant, ineffective, declare, claim}
 use Rattle.script_model.specs.Reading.{Names, value, meaning}
-use Rattle.script_model.specs.Declared.{Bounding, Bound, bounding, bounds_in, concat, constant_bounding, bound_fault, script_bounds, numbered, BoundFault, bound_fault_from, tightest_end, greatest, least, values_on, lower, upper}
+use Rattle.script_model.specs.Declared.{Bounding, Bound, bounding, bounds_in, concat, constant_bounding, bound_fault, script_bounds, numbered, BoundFault, bound_fault_from, tightest_end, default_low, default_high, greatest, least, values_on, lower, upper}
 use Rattle.poly_graph.specs.Term.{Atom}
 use Rattle.poly_graph.specs.Form.{forms_map, form_map}
 use Rattle.script_forms.specs.Terms.{Unfolded}
@@ -111,7 +111,7 @@ short_stands p es s n k h r = stand_after p es s n k h.clear (record {
   atoms = omega (arith, r.atoms, h.asks);
 })
 
-module _ (seed size : ℕ) (small : size ≤ 10000) where
+module _ (bound : Option ℕ) (seed size : ℕ) (small : size ≤ 10000) where
   abbrev later : List Command
   later = atom_commands (place 6 1) seed size
 
@@ -152,16 +152,16 @@ module _ (seed size : ℕ) (small : size ≤ 10000) where
   -- the fault of the bounds, where these follow the first ones, and these constants the first ones
   abbrev faults_with : List Bound → List Constant → Option (Constant × BoundFault)
   faults_with bs cs = bound_fault_from (λ axis. record {
-    low = tightest_end greatest None (values_on lower axis (first_bounds bs));
-    high = tightest_end least None (values_on upper axis (first_bounds bs));
+    low = tightest_end greatest (default_low bound) (values_on lower axis (first_bounds bs));
+    high = tightest_end least (default_high bound) (values_on upper axis (first_bounds bs));
   }) 0 (record { at = place 2 1; name = codes "x"; sort = real_sort } ∷ record { at = place 3 1; name = codes "y"; sort = real_sort } ∷ cs)
 
-  bounds_stand : bound_fault None (demo_with later) ≡ None
+  bounds_stand : bound_fault bound (demo_with later) ≡ None
   unfolding at_most
   bounds_stand = ap₂ faults_with (no_bounds seed size (place 6 1) (numbered constant_bounding 2 (sorts_of later))) (no_constants seed size (place 6 1))
 
-  is_built : building_fault None (demo_with later) ≡ None
-  is_built = ap (λ (w : Walked). fault_or w (fault_of_bounds (bound_fault None (demo_with later)))) walk_stands.1 ∙ ap fault_of_bounds bounds_stand
+  is_built : building_fault bound (demo_with later) ≡ None
+  is_built = ap (λ (w : Walked). fault_or w (fault_of_bounds (bound_fault bound (demo_with later)))) walk_stands.1 ∙ ap fault_of_bounds bounds_stand
 
   -- ---- the text and the commands
 
@@ -177,10 +177,10 @@ module _ (seed size : ℕ) (small : size ≤ 10000) where
       (joined (place 3 1) (says open_script (declare (place 3 1) (codes "y") real_sort)) (joined (place 4 1) (says open_script (claim (place 4 1) (within 4 (codes "x"))))
       (joined (place 5 1) (says open_script (claim (place 5 1) (within 5 (codes "y")))) cs))))
 
-  is_read : in_text None (read (demo_script seed size)) ≡ None
-  is_read = ap (in_text None) (lines_read seed size (place 6 1) first_expressions)
-      ∙ ap (λ (cs : CommandsRead). in_commands None (first_joined cs)) (commands_are seed size (place 6 1))
-      ∙ ap (in_sorts None (demo_with later)) (sorts_fit seed size (place 6 1))
+  is_read : in_text bound (read (demo_script seed size)) ≡ None
+  is_read = ap (in_text bound) (lines_read seed size (place 6 1) first_expressions)
+      ∙ ap (λ (cs : CommandsRead). in_commands bound (first_joined cs)) (commands_are seed size (place 6 1))
+      ∙ ap (in_sorts bound (demo_with later)) (sorts_fit seed size (place 6 1))
       ∙ ap in_building is_built
 
 -- ---- the size
@@ -201,5 +201,5 @@ script_length : (seed size : ℕ) → size ≤ 10000 → length (demo_script see
 script_length seed size small = omega (arith, length-append (head ++ atom_lines seed size) tail, length-append head (atom_lines seed size), lines_length seed size, small)
 
 pub demo_is_faultless : DemoIsFaultless
-demo_is_faultless seed size small = ap (λ (t : Bool). cond t (in_text None (read (demo_script seed size))) (Some too_many_bytes)) (le-leb (length (demo_script seed size)) most_bytes (script_length seed size small))
-    ∙ is_read seed size small
+demo_is_faultless bound seed size small = ap (λ (t : Bool). cond t (in_text bound (read (demo_script seed size))) (Some too_many_bytes)) (le-leb (length (demo_script seed size)) most_bytes (script_length seed size small))
+    ∙ is_read bound seed size small

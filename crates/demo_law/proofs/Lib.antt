@@ -1,5 +1,5 @@
 mod Commands
-mod Faultless
+pub mod Faultless
 mod Numeral
 mod Room
 mod Text

@@ -4,7 +4,6 @@
 ghost use Rattle.demo_law.specs.Laws.{DemoIsFaultless};
 
 /// The demo's script has no fault, at every seed and size.
-#[tactic(auto, using(crate::proofs::Faultless::demo_is_faultless))]
 pub fn demo_is_faultless()
     ensures { DemoIsFaultless }
 {}

@@ -7,7 +7,7 @@ ghost use Rattle.check_run.specs.Headline.{DeltaSatIsTrue, RefusalIsTrue, UnsatI
 
 use crate::solve::{solve_demo, solve_problem};
 use crate::upgrade::upgrade_problem;
-use check_run::{Status, end_halted, fetch_problem, read_script, run_check, say};
+use check_run::{Halt, Status, end_halted, fetch_problem, read_script, run_check, say};
 use desk::Desk;
 use gen_script::make;
 use problem_build::Reader;
@@ -60,7 +60,7 @@ fn run_upgrade<D: Desk>(alloc: Global, desk: &mut D, asked: UpgradeWords<'_>) ->
     }
 }
 
-// Makes a script and solves it.
+// Makes a script, which has no fault, and solves it.
 fn run_demo<R: Threads + Wait + Sync, D: Desk, G: Gate + Sync>(
     rt: &R,
     alloc: Global,
@@ -84,7 +84,8 @@ fn run_demo<R: Threads + Wait + Sync, D: Desk, G: Gate + Sync>(
     };
     match read_script(&Reader, alloc, &script, options.bound) {
         Ok(problem) => solve_demo(rt, alloc, desk, cert, &script, &problem, options, gate),
-        Err(stop) => end_halted(desk, stop),
+        Err(Halt::Memory) => Status::NoMemory,
+        Err(Halt::Refused(_)) | Err(Halt::Failed) => unreachable!(),
     }
 }
 

@@ -4,7 +4,7 @@ use Rattle.poly_graph.specs.ProblemViews.{problem_of}
 use Rattle.check_run.specs.Course.{RunEnds}
 use Rattle.check_run.specs.Can.{CanDemo}
 use Rattle.script_faults.specs.Reader.{HasProblem}
-use Rattle.check_run.proofs.Running.{demo_problem, demo_halted}
+use Rattle.check_run.proofs.Running.{demo_problem}
 use Rattle.dpoly.proofs.top.run_demo.Goals as goal
 
 pub returns-in-Ok-read_script-clause-course : goal.returns-in-Ok-read_script-clause-course
@@ -14,7 +14,3 @@ returns-in-Ok-read_script-clause-course g c script cert_in tells =
     (g.D.Desk.sight c.args.desk.now) (g.D.Desk.sight c.solve_demo.new.desk) c.solve_demo.result in
     demo_problem (seen_demo c.args.asked) c.in-Ok.script.items (problem_of c.in-Ok-read_script.problem) _ _ _
     (subst H c.deref.ensures.value c.in-Ok-read_script.ensures.script) c.in-Ok.ensures (subst R c.deref-in-Ok-read_script.ensures.value c.solve_demo.ensures.ends) script cert_in
-
-pub returns-clause-course : goal.returns-clause-course
-returns-clause-course g c script cert_in tells =
-    demo_halted (seen_demo c.args.asked) c.deref.result.now c.in-Err.stop _ _ _ c.in-Err.ensures.script (c.deref.ensures.value ∙ c.in-Ok.ensures) c.end_halted.ensures.ends script cert_in
