@@ -1,14 +1,14 @@
 -- The demo's commands, and their sorts.
-use Rattle.std.proofs.Common.{◌≡◌, ℕ, zero, suc, List, [], ◌∷◌, Bool, true, false, Option, None, refl, ap, sym, ◌∙◌, codes}
+use Rattle.std.proofs.Common.{◌≡◌, ℕ, zero, suc, [], ◌∷◌, true, false, None, refl, ap, codes}
 use Rattle.std.specs.Prelude.{decimal}
 use Rattle.dyadic.specs.Point.{real_sort}
-use Rattle.script_model.specs.Sexp.{Place, Sexp}
-use Rattle.script_model.specs.Script.{Command, claim}
+use Rattle.script_model.specs.Sexp.{Place}
+use Rattle.script_model.specs.Script.{claim}
 use Rattle.script_model.specs.Reading.{Names, value}
-use Rattle.smt_script.specs.Commands.{Before, CommandsRead, commands, commands_from, joined, Said, says}
-use Rattle.sort_check.specs.Sorts.{Sorted, of_sort, sort_fault_from, Finding, then_on}
+use Rattle.smt_script.specs.Commands.{Before, commands, commands_from, joined, says}
+use Rattle.sort_check.specs.Sorts.{Sorted, of_sort, sort_fault_from}
 use Rattle.gen_script.specs.Demo.{next_number, coefficient}
-use Rattle.demo_law.specs.Shape.{atom_claims, atom_commands, in_line, behind_line, equation}
+use Rattle.demo_law.proofs.Shape.{atom_claims, atom_commands, in_line, behind_line, equation}
 
 abbrev pub open_script : Before
 open_script = record { logic = true; checked = false; ended = false }

@@ -1,5 +1,5 @@
 -- The demo's script has no fault.
-use Rattle.std.proofs.Common.{◌≡◌, ℕ, zero, suc, ◌+◌, ◌*◌, ◌≤◌, List, [], ◌∷◌, ◌++◌, map, Bool, true, false, cond, nat_le, Option, None, Some, refl, ap, ap₂, sym, ◌∙◌, subst, arith, codes, length}
+use Rattle.std.proofs.Common.{◌≡◌, ℕ, zero, suc, ◌+◌, ◌*◌, ◌≤◌, List, [], ◌∷◌, ◌++◌, map, Bool, true, cond, Option, None, Some, refl, ap, ap₂, sym, ◌∙◌, subst, arith, codes, length}
 use Rattle.std.specs.Prelude.{decimal}
 use Rattle.std.proofs.lemmas.List.{length-append}
 use Rattle.std.proofs.lemmas.Bool.{le-leb}
@@ -8,27 +8,26 @@ use Rattle.dyadic.specs.Point.{real_sort}
 use Rattle.script_model.specs.Sexp.{Place, Sexp, group}
 use Rattle.script_model.specs.Script.{Command, claims, constants_of, sorts_of, Constant, ineffective, declare, claim}
 use Rattle.script_model.specs.Reading.{Names, value, meaning}
-use Rattle.script_model.specs.Declared.{Bounding, Bound, bounding, bounds_in, concat, constant_bounding, bound_fault, script_bounds, numbered, BoundFault, bound_fault_from, tightest_end, default_low, default_high, greatest, least, values_on, lower, upper}
+use Rattle.script_model.specs.Declared.{Bounding, Bound, bounding, bounds_in, concat, constant_bounding, bound_fault, numbered, BoundFault, bound_fault_from, tightest_end, default_low, default_high, greatest, least, values_on, lower, upper}
 use Rattle.poly_graph.specs.Term.{Atom}
 use Rattle.poly_graph.specs.Form.{forms_map, form_map}
 use Rattle.script_forms.specs.Terms.{Unfolded}
 use Rattle.script_forms.specs.Unfolded.{as_tree, forms_of, truth_of}
 use Rattle.script_forms.specs.Atoms.{atom_of, atoms_in_place, constant_tree, number_in}
 use Rattle.script_forms.specs.Work.{Work, as_work, assertion_events, Event}
-use Rattle.script_forms.specs.Walk.{Stand, Walked, stands, after_events, after_assertions, after_root, claim_places, walked, fault_or, fault_of_bounds, building_fault, places, constant_work, nothing_made, works, last_place, nowhere, form_size}
-use Rattle.smt_script.specs.Commands.{CommandsRead, commands, commands_of, joined, says}
-use Rattle.smt_sexp.specs.Lexicon.{whole, read, list_of, TextRead}
-use Rattle.sort_check.specs.Sorts.{sort_fault, Finding}
-use Rattle.script_faults.specs.Faults.{script_fault, in_text, in_commands, in_sorts, in_building, most_bytes}
+use Rattle.script_forms.specs.Walk.{Stand, Walked, after_events, after_assertions, after_root, claim_places, walked, fault_or, fault_of_bounds, building_fault, places, constant_work, nothing_made, works, last_place, nowhere, form_size}
+use Rattle.smt_script.specs.Commands.{CommandsRead, joined, says}
+use Rattle.smt_sexp.specs.Lexicon.{read}
+use Rattle.script_faults.specs.Faults.{in_text, in_commands, in_sorts, in_building, most_bytes}
 use Rattle.gen_script.specs.Demo.{next_number, coefficient, atom_line, atom_lines, demo_script, head, tail}
 use Rattle.dyadic.specs.Fraction.{negated, at_most}
 use Rattle.smt_sexp.specs.Reads.{too_many_bytes}
 use Rattle.demo_law.specs.Laws.{DemoIsFaultless}
-use Rattle.demo_law.specs.Shape.{atom_claims, atom_commands, in_line, behind_line, equation, within, place, demo_with, demo_commands, two, three, named}
+use Rattle.demo_law.proofs.Shape.{atom_commands, in_line, behind_line, equation, within, place, demo_with, two, three, named}
 use Rattle.demo_law.proofs.Commands.{commands_are, sorts_fit, open_script}
 use Rattle.demo_law.proofs.Room.{Room, StandsIn, stand_after, then_in, formed_in, weight, asks, is_clear}
 use Rattle.demo_law.proofs.Text.{coefficient_is_numeral, lines_read}
-use Rattle.demo_law.proofs.Walked.{axes, line_is, line_events, line_weight, line_asks, line_clear, coefficient_of, product}
+use Rattle.demo_law.proofs.Walked.{axes, line_is, line_events, line_weight, line_asks, line_clear, product}
 use Rattle.dyadic.specs.Lowest.{reduced}
 
 -- ---- the walk over the atoms
@@ -189,8 +188,11 @@ pieces_length : (a b c e ds : List ℕ) → length (a ++ ds ++ b ++ ds ++ c ++ d
 pieces_length a b c e ds = simp length-append
 
 line_length : (number : ℕ) → length (atom_line (coefficient number)) ≤ 60
-line_length number = omega (arith, length-decimal-le 4 (coefficient number) (omega arith) (omega arith) (omega arith),
-    pieces_length (codes "(assert (= (- (* ") (codes " x y) (* ") (codes " y x)) (/ ") (codes " 8)))\n") (decimal (coefficient number)))
+line_length number = omega (
+  arith,
+  length-decimal-le 4 (coefficient number) (omega arith) (omega arith) (omega arith),
+  pieces_length (codes "(assert (= (- (* ") (codes " x y) (* ") (codes " y x)) (/ ") (codes " 8)))\n") (decimal (coefficient number)),
+)
 
 lines_length : (number left : ℕ) → length (atom_lines number left) ≤ 60 * left
 unfolding atom_lines

@@ -1,5 +1,5 @@
 -- How the decimal of a number is read.
-use Rattle.std.proofs.Common.{◌≡◌, ℕ, zero, suc, pred, ◌+◌, ◌^◌, ◌<◌, ◌≤◌, List, [], ◌∷◌, ◌++◌, Bool, true, false, cond, not, ◌&&◌, refl, ap, ap₂, sym, ◌∙◌, subst, arith, length, take, drop, get_or, nat_eq, nat_le}
+use Rattle.std.proofs.Common.{◌≡◌, ℕ, zero, pred, ◌^◌, ◌<◌, ◌≤◌, List, [], ◌∷◌, ◌++◌, Bool, true, false, not, ◌&&◌, refl, ap, ◌∙◌, arith, length, drop, get_or, nat_eq, nat_le}
 use Rattle.std.specs.Prelude.{decimal}
 use Rattle.std.specs.Str.{all_ascii_digits}
 use Rattle.std.specs.Str.Parse.{digits_value}
@@ -7,7 +7,7 @@ use Rattle.std.proofs.lemmas.Bool.Decides.{nat_tests}
 use Rattle.std.proofs.lemmas.Fmt.{digits_decimal, digits_value-decimal, first_decimal}
 use Rattle.std.proofs.lemmas.Str.Parse.{IsNumeralModel, tells_all_ascii_digits, numerals_by_value}
 use Rattle.script_model.specs.Sexp.{Place, numeral}
-use Rattle.smt_sexp.specs.Lexicon.{is_digit, is_white, run, front, number_front, point_or_end, numeral_front, wide, clash, placed, place_after, next_place, sayings, Said, token, fault, too_wide, word, Front}
+use Rattle.smt_sexp.specs.Lexicon.{is_digit, is_white, run, front, number_front, numeral_front, placed, place_after, next_place, sayings, Said, token, word, Front}
 use Rattle.smt_sexp.specs.Classes.{is_wide}
 use Rattle.smt_sexp.proofs.Fronts.{at_true, at_false, numeral_says, says_leaf}
 use Rattle.std.proofs.lemmas.List.{append-nil}

@@ -1,5 +1,5 @@
 -- A walk goes on while there is room for what its events may add.
-use Rattle.std.proofs.Common.{◌≡◌, ℕ, zero, suc, ◌+◌, ◌<◌, ◌≤◌, List, [], ◌∷◌, ◌++◌, Bool, true, false, cond, nat_lt, length, refl, ap, sym, ◌∙◌, subst, arith}
+use Rattle.std.proofs.Common.{◌≡◌, ℕ, suc, ◌+◌, ◌<◌, ◌≤◌, List, [], ◌∷◌, ◌++◌, Bool, true, false, cond, nat_lt, length, refl, ap, sym, subst, arith}
 use Rattle.std.proofs.lemmas.List.{length-append}
 use Rattle.std.proofs.lemmas.Bool.{le-leb}
 use Rattle.script_model.specs.Sexp.{Place}
@@ -7,7 +7,7 @@ use Rattle.poly_graph.specs.Term.{Term, Atom}
 use Rattle.poly_graph.specs.Form.{Form, yes_form, no_form, atom_is, bool_is, all_form, any_form, Forms, no_forms, more_forms, form_map, forms_map}
 use Rattle.script_forms.specs.Atoms.{already, number_in}
 use Rattle.script_forms.specs.Work.{Event, reached, made, asked, formed, met}
-use Rattle.script_forms.specs.Walk.{Stand, Walked, stands, stops, larger, with_tree, with_atom, with_form, most_size, most_trees, most_atoms, most_forms, has_tree, has_form, places, form_size, all_sizes, if_room, make_tree, ask_atom, make_form, after_event, after_events, goes_on, BuildingFault, too_large, too_many_nodes, too_many_atoms, too_many_forms}
+use Rattle.script_forms.specs.Walk.{Stand, Walked, stands, larger, with_tree, with_atom, with_form, most_size, most_trees, most_atoms, most_forms, has_tree, has_form, places, form_size, all_sizes, if_room, make_tree, ask_atom, make_form, after_event, after_events, goes_on, BuildingFault, too_large, too_many_nodes, too_many_atoms, too_many_forms}
 
 -- what an event may add to expressions, trees and forms
 abbrev pub weight : List Event → ℕ
@@ -67,44 +67,60 @@ made_in at s t n k r = by (has_tree t s.trees)
   where
     by : (b : Bool) → StandsIn (cond b (stands s) (if_room (nat_lt (length s.trees) most_trees) at too_many_nodes (with_tree s t))) n k
     by true = (s, refl, record { size = omega (arith, r.size); trees = omega (arith, r.trees); forms = omega (arith, r.forms); atoms = r.atoms })
-    by false = (with_tree s t, fits_in at too_many_nodes (with_tree s t) (length s.trees) most_trees (omega (arith, r.trees)), record {
-      size = omega (arith, r.size);
-      trees = omega (arith, r.trees, length-append s.trees (t ∷ []));
-      forms = omega (arith, r.forms);
-      atoms = r.atoms;
-    })
+    by false = (
+      with_tree s t,
+      fits_in at too_many_nodes (with_tree s t) (length s.trees) most_trees (omega (arith, r.trees)),
+      record {
+        size = omega (arith, r.size);
+        trees = omega (arith, r.trees, length-append s.trees (t ∷ []));
+        forms = omega (arith, r.forms);
+        atoms = r.atoms;
+      },
+    )
 
 asked_in : (at : Place) (s : Stand) (a : Atom) (n k : ℕ) → Room s (suc n) (suc k) → StandsIn (ask_atom at s a) n k
 asked_in at s a n k r = by (already a s.atoms)
   where
     by : (b : Bool) → StandsIn (cond b (stands s) (if_room (nat_lt (length s.atoms) most_atoms) at too_many_atoms (with_atom s a))) n k
     by true = (s, refl, record { size = omega (arith, r.size); trees = omega (arith, r.trees); forms = omega (arith, r.forms); atoms = omega (arith, r.atoms) })
-    by false = (with_atom s a, fits_in at too_many_atoms (with_atom s a) (length s.atoms) most_atoms (omega (arith, r.atoms)), record {
-      size = omega (arith, r.size);
-      trees = omega (arith, r.trees);
-      forms = omega (arith, r.forms);
-      atoms = omega (arith, r.atoms, length-append s.atoms (a ∷ []));
-    })
+    by false = (
+      with_atom s a,
+      fits_in at too_many_atoms (with_atom s a) (length s.atoms) most_atoms (omega (arith, r.atoms)),
+      record {
+        size = omega (arith, r.size);
+        trees = omega (arith, r.trees);
+        forms = omega (arith, r.forms);
+        atoms = omega (arith, r.atoms, length-append s.atoms (a ∷ []));
+      },
+    )
 
 pub formed_in : (at : Place) (s : Stand) (f : Form ℕ) (n k : ℕ) → Room s (form_size f + n) k → StandsIn (make_form at s f) n k
 formed_in at s f n k r = by (has_form f s.forms)
   where
     by : (b : Bool) → StandsIn (cond b (stands s) (if_room (nat_lt (all_sizes s.forms + form_size f) (suc most_forms)) at too_many_forms (with_form s f))) n k
     by true = (s, refl, record { size = omega (arith, r.size); trees = omega (arith, r.trees); forms = omega (arith, r.forms); atoms = r.atoms })
-    by false = (with_form s f, fits_in at too_many_forms (with_form s f) (all_sizes s.forms + form_size f) (suc most_forms) (omega (arith, r.forms)), record {
-      size = omega (arith, r.size);
-      trees = omega (arith, r.trees);
-      forms = omega (arith, r.forms, sizes_more s.forms f);
-      atoms = r.atoms;
-    })
+    by false = (
+      with_form s f,
+      fits_in at too_many_forms (with_form s f) (all_sizes s.forms + form_size f) (suc most_forms) (omega (arith, r.forms)),
+      record {
+        size = omega (arith, r.size);
+        trees = omega (arith, r.trees);
+        forms = omega (arith, r.forms, sizes_more s.forms f);
+        atoms = r.atoms;
+      },
+    )
 
 reached_in : (at : Place) (s : Stand) (n k : ℕ) → Room s (suc n) k → StandsIn (if_room (nat_lt s.size most_size) at too_large (larger s)) n k
-reached_in at s n k r = (larger s, fits_in at too_large (larger s) s.size most_size (omega (arith, r.size)), record {
-  size = omega (arith, r.size);
-  trees = omega (arith, r.trees);
-  forms = omega (arith, r.forms);
-  atoms = r.atoms;
-})
+reached_in at s n k r = (
+  larger s,
+  fits_in at too_large (larger s) s.size most_size (omega (arith, r.size)),
+  record {
+    size = omega (arith, r.size);
+    trees = omega (arith, r.trees);
+    forms = omega (arith, r.forms);
+    atoms = r.atoms;
+  },
+)
 
 -- ---- events
 

@@ -1,10 +1,10 @@
 -- The demo's script is read to the expressions that its lines spell.
-use Rattle.std.proofs.Common.{◌≡◌, ℕ, zero, suc, ◌+◌, ◌*◌, ◌/◌, ◌%◌, ◌^◌, ◌<◌, List, [], ◌∷◌, ◌++◌, None, refl, ap, sym, ◌∙◌, arith, append_assoc, codes}
+use Rattle.std.proofs.Common.{◌≡◌, ℕ, zero, suc, List, [], ◌∷◌, ◌++◌, None, refl, ap, ◌∙◌, arith, append_assoc, codes}
 use Rattle.std.specs.Prelude.{decimal}
 use Rattle.script_model.specs.Sexp.{Place, numeral, Sexp}
 use Rattle.smt_sexp.specs.Lexicon.{expressions, Unclosed, list_of, sayings, place_after, Said, token, word, whole}
 use Rattle.gen_script.specs.Demo.{next_number, coefficient, atom_line, atom_lines, tail}
-use Rattle.demo_law.specs.Shape.{named, first_product, difference, atom_claim, in_line, behind_line, atom_claims}
+use Rattle.demo_law.proofs.Shape.{named, first_product, difference, atom_claim, in_line, behind_line, atom_claims}
 use Rattle.demo_law.proofs.Numeral.{IsNumeralText, decimal_is_numeral, numeral_reads}
 
 -- what is not closed before each of the three numerals

@@ -1,6 +1,6 @@
 -- The walk over the demo's script.
-use Rattle.std.proofs.Common.{◌≡◌, ℕ, zero, suc, ◌+◌, ◌*◌, ◌/◌, ◌%◌, ◌^◌, ◌≤◌, List, [], ◌∷◌, ◌++◌, Bool, true, false, Option, None, refl, ap, sym, ◌∙◌, codes, length, cond, ◌&&◌, arith}
-use Rattle.std.specs.Prelude.{decimal, ℤ, pos}
+use Rattle.std.proofs.Common.{◌≡◌, ℕ, ◌*◌, ◌^◌, ◌≤◌, List, [], ◌∷◌, ◌++◌, Bool, true, false, refl, ap, ◌∙◌, codes, cond, ◌&&◌, arith}
+use Rattle.std.specs.Prelude.{pos}
 use Rattle.dyadic.specs.Fraction.{Fraction, whole, product_of, quotient_of}
 use Rattle.dyadic.specs.Lowest.{reduced, divided, gcd_within, fits, product_fits}
 use Rattle.std.proofs.lemmas.List.{append-nil}
@@ -8,7 +8,7 @@ use Rattle.std.proofs.lemmas.Bool.{le-leb}
 use Rattle.std.proofs.Math.Nat.{mod-one, div-one}
 use Rattle.std.specs.Str.Parse.{digits_value}
 use Rattle.dyadic.specs.Point.{real_sort}
-use Rattle.script_model.specs.Sexp.{Place, Sexp}
+use Rattle.script_model.specs.Sexp.{Place}
 use Rattle.script_model.specs.Reading.{Names, value, meaning, literal_value, equality}
 use Rattle.poly_graph.specs.Term.{Term, constant, variable, negate, add, multiply, eq}
 use Rattle.poly_graph.specs.Form.{atom_is}
@@ -16,7 +16,7 @@ use Rattle.script_forms.specs.Atoms.{atom_of}
 use Rattle.script_forms.specs.Terms.{Unfolded, Comparison, term, constant_or, inverse_of, is_nought}
 use Rattle.script_forms.specs.Work.{Event, Work, as_work, assertion_events, subtract_events, reached, made, asked, formed, ending}
 use Rattle.script_forms.specs.Walk.{constant_work}
-use Rattle.demo_law.specs.Shape.{further, equation, difference, eighth}
+use Rattle.demo_law.proofs.Shape.{further, equation, difference, eighth}
 use Rattle.demo_law.proofs.Room.{weight, asks, is_clear}
 
 abbrev pub axes : Names Work

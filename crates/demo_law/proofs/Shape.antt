@@ -1,6 +1,6 @@
 -- The demo's script as expressions.
-use Rattle.std.specs.Prelude.{ℕ, zero, suc, ◌+◌, List, [], ◌∷◌, ◌++◌, codes, decimal, get_or}
-use Rattle.script_model.specs.Sexp.{Place, Leaf, numeral, symbol, Sexp, leaf, group, Sexps, none, more}
+use Rattle.std.specs.Prelude.{ℕ, zero, suc, List, [], ◌∷◌, codes, decimal, get_or}
+use Rattle.script_model.specs.Sexp.{Place, numeral, symbol, Sexp, leaf, group, Sexps, none, more}
 use Rattle.script_model.specs.Script.{Command, declare, claim, check, ineffective}
 use Rattle.dyadic.specs.Point.{real_sort}
 use Rattle.smt_sexp.specs.Lexicon.{place_after}
@@ -51,9 +51,9 @@ abbrev pub in_line : Place → List ℕ → ℕ → Place
 in_line p ds k =
     let first = shift 17 p in let second = shift 9 (place_after first ds) in let third = shift 10 (place_after second ds) in
     get_or (p ∷ shift 1 p ∷ shift 8 p ∷ shift 9 p ∷ shift 11 p ∷ shift 12 p ∷ shift 14 p ∷ shift 15 p
-        ∷ first ∷ shift 1 (place_after first ds) ∷ shift 3 (place_after first ds) ∷ shift 6 (place_after first ds) ∷ shift 7 (place_after first ds)
-        ∷ second ∷ shift 1 (place_after second ds) ∷ shift 3 (place_after second ds) ∷ shift 7 (place_after second ds) ∷ shift 8 (place_after second ds)
-        ∷ third ∷ shift 1 (place_after third ds) ∷ []) k p
+    ∷ first ∷ shift 1 (place_after first ds) ∷ shift 3 (place_after first ds) ∷ shift 6 (place_after first ds) ∷ shift 7 (place_after first ds)
+    ∷ second ∷ shift 1 (place_after second ds) ∷ shift 3 (place_after second ds) ∷ shift 7 (place_after second ds) ∷ shift 8 (place_after second ds)
+    ∷ third ∷ shift 1 (place_after third ds) ∷ []) k p
 
 abbrev pub next_line : Place → Place
 next_line p = record { line = suc p.line; column = 1 }
