@@ -1,3 +1,4 @@
+pub mod Loosened
 pub mod ScriptFaults
 pub mod Shown
 pub mod Stops

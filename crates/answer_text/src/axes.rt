@@ -29,7 +29,8 @@ pub(crate) fn append_axes(
     space: &Space,
     shown: Shown,
 ) -> Result<(), AllocError>
-    ensures { OnOk result (text.new.items ≡ text.old.items ++ axes_text (shown_text shown) (map axis_of axes.now) (space_of space.now)) }
+    ensures { OnOk result (text.new.items ≡ text.old.items
+        ++ axes_text (shown_text shown) (map axis_of axes.now) (space_of space.now)) }
 {
     for (axis, domain) in axes.iter().zip(&space.axes) {
         append_axis(text, axis, *domain, shown)?;
@@ -43,7 +44,8 @@ fn append_axis(
     domain: Domain,
     shown: Shown,
 ) -> Result<(), AllocError>
-    ensures { OnOk result (text.new.items ≡ text.old.items ++ text_line (name_text axis.now.name.items ++ 32 ∷ shown_text shown (domain_of domain))) }
+    ensures { OnOk result (text.new.items ≡ text.old.items
+        ++ text_line (name_text axis.now.name.items ++ 32 ∷ shown_text shown (domain_of domain))) }
 {
     append_name(text, &axis.name)?;
     text.extend_from_slice(b" ")?;
@@ -63,7 +65,8 @@ fn append_domain(text: &mut Vec<u8>, domain: Domain, shown: Shown) -> Result<(),
 }
 
 fn append_ends(text: &mut Vec<u8>, range: Range) -> Result<(), AllocError>
-    ensures { OnOk result (text.new.items ≡ text.old.items ++ (number_spelling (dyadic_of range.low) ++ 32 ∷ number_spelling (dyadic_of range.high))) }
+    ensures { OnOk result (text.new.items ≡ text.old.items
+        ++ (number_spelling (dyadic_of range.low) ++ 32 ∷ number_spelling (dyadic_of range.high))) }
 {
     append_number(text, range.low)?;
     text.extend_from_slice(b" ")?;

@@ -1,10 +1,10 @@
 // The answers of a search.
 ghost use Rattle.std.specs.Prelude.{◌≡◌, IfOk, List};
 ghost use Rattle.poly_graph.specs.ProblemViews.{problem_of};
-ghost use Rattle.cover_model.specs.State.{Loosenings};
 ghost use Rattle.poly_graph.specs.Marks.{Mark};
 ghost use Rattle.ival.specs.SpaceViews.{space_of};
 ghost use Rattle.cert_model.specs.AnswerText.{budget_text, delta_sat_text, demo_text, unsat_text, width_text};
+ghost use Rattle.answer_text.specs.Loosened.{AtDelta, AtMargin};
 
 use crate::axes::{Shown, append_axes};
 use ival::Space;
@@ -13,7 +13,7 @@ use std::alloc::{AllocError, Global};
 
 /// No point satisfies the script, even loosened by two to the minus `margin_bits`.
 pub fn unsat(alloc: Global, margin_bits: u32) -> Result<Vec<u8>, AllocError>
-    ensures { IfOk result (λ text. (s : Loosenings) → s.margin_bits ≡ margin_bits → text.items ≡ unsat_text s) }
+    ensures { IfOk result (λ text. AtMargin margin_bits (λ s. text.items ≡ unsat_text s)) }
 {
     let text = format!(in alloc; "unsat\nmargin 1b-{margin_bits}\n")?;
     Ok(text.into_bytes())
@@ -26,7 +26,8 @@ pub fn delta_sat(
     delta_bits: u32,
     point: &Space,
 ) -> Result<Vec<u8>, AllocError>
-    ensures { IfOk result (λ text. (s : Loosenings) → s.delta_bits ≡ delta_bits → text.items ≡ delta_sat_text (problem_of problem.now) s (space_of point.now)) }
+    ensures { IfOk result (λ text. AtDelta delta_bits (λ s.
+        text.items ≡ delta_sat_text (problem_of problem.now) s (space_of point.now))) }
 {
     let head = format!(in alloc; "delta-sat\ndelta 1b-{delta_bits}\n")?;
     let mut text = head.into_bytes();
@@ -49,7 +50,9 @@ pub fn width(
     space: &Space,
     atom: u32,
 ) -> Result<Vec<u8>, AllocError>
-    ensures { IfOk result (λ text. (marks : List Mark) → text.items ≡ width_text (problem_of problem.now) (record { space = space_of space.now; marks = marks }) atom) }
+    ensures { IfOk result (λ text. (marks : List Mark) →
+        text.items ≡ width_text (problem_of problem.now)
+        (record { space = space_of space.now; marks = marks }) atom) }
 {
     let head = format!(in alloc; "unknown width\natom {atom}\n")?;
     let mut text = head.into_bytes();

@@ -63,7 +63,8 @@ impl Centre {
         requires atoms { All (λ x. x.0 < length problem.now.atoms) multipliers.now }
         requires rows { rows_of rows.now ≡ enclosures (space_of space.old) problem.now.nodes }
         requires axes { length (space_of space.old) ≡ length problem.now.axes }
-        ensures narrowed { IsCombined problem.now margin lits.now multipliers.now space.old space.new result }
+        ensures narrowed { IsCombined problem.now margin lits.now multipliers.now
+            space.old space.new result }
         ensures centre { IsCentre problem.now self.new }
     {
         space.middle(&mut self.space);

@@ -67,7 +67,8 @@ fn are_ordered(pairs: &[(u32, Dy)]) -> bool
 fn is_combinable(problem: &Problem, state: &State, j: u32) -> bool
     requires fits { Fits problem.now (state_of state.now) }
     requires atom { j < length problem.now.atoms }
-    ensures { result ≡ (in_yes (state_of state.now) j || in_no_one_sided (problem_of problem.now) (state_of state.now) j) }
+    ensures { result ≡ (in_yes (state_of state.now) j
+        || in_no_one_sided (problem_of problem.now) (state_of state.now) j) }
 {
     state.in_yes(j) || (state.in_no(j) && is_inequality(problem, j))
 }
@@ -76,7 +77,8 @@ fn is_combinable(problem: &Problem, state: &State, j: u32) -> bool
 fn are_combinable(problem: &Problem, state: &State, pairs: &[(u32, Dy)]) -> bool
     requires fits { Fits problem.now (state_of state.now) }
     requires atoms { IsTrue (are_atoms (problem_of problem.now) (multipliers_of pairs.now)) }
-    ensures { result ≡ are_combinable (problem_of problem.now) (state_of state.now) (multipliers_of pairs.now) }
+    ensures { result
+        ≡ are_combinable (problem_of problem.now) (state_of state.now) (multipliers_of pairs.now) }
 {
     for i in 0..pairs.len() {
         if !is_combinable(problem, state, pairs[i].0) {
@@ -90,7 +92,8 @@ fn are_combinable(problem: &Problem, state: &State, pairs: &[(u32, Dy)]) -> bool
 fn can_combine(problem: &Problem, s: Loosenings, state: &State, pairs: &[(u32, Dy)]) -> bool
     requires fits { Fits problem.now (state_of state.now) }
     requires atoms { IsTrue (are_atoms (problem_of problem.now) (multipliers_of pairs.now)) }
-    ensures { result ≡ can_combine (problem_of problem.now) (loosenings_of s) (state_of state.now) (multipliers_of pairs.now) }
+    ensures { result ≡ can_combine (problem_of problem.now) (loosenings_of s)
+        (state_of state.now) (multipliers_of pairs.now) }
 {
     2 <= s.version
         && !pairs.is_empty()
@@ -110,7 +113,8 @@ pub fn combine(
     requires serves { Serves problem.now tools.old }
     requires fits { Fits problem.now (state_of state) }
     requires atoms { IsTrue (are_atoms (problem_of problem.now) (multipliers_of pairs.now)) }
-    ensures rule { IsLeftBy (combine (multipliers_of pairs.now)) problem.now (loosenings_of s) [] state result }
+    ensures rule { IsLeftBy (combine (multipliers_of pairs.now))
+        problem.now (loosenings_of s) [] state result }
     ensures serves { Serves problem.now tools.new }
 {
     if !can_combine(problem, s, &state, pairs) {
@@ -135,7 +139,8 @@ pub fn void_combine(
     requires serves { Serves problem.now tools.old }
     requires fits { Fits problem.now (state_of state) }
     requires atoms { IsTrue (are_atoms (problem_of problem.now) (multipliers_of pairs.now)) }
-    ensures rule { IsLeftBy (void_combine (multipliers_of pairs.now)) problem.now (loosenings_of s) [] state result }
+    ensures rule { IsLeftBy (void_combine (multipliers_of pairs.now))
+        problem.now (loosenings_of s) [] state result }
     ensures serves { Serves problem.now tools.new }
 {
     if !can_combine(problem, s, &state, pairs) {

@@ -58,7 +58,8 @@ impl Feed {
     /// Takes a piece, and answers the certificate's first fault.
     pub fn piece(&mut self, piece: &[u8]) -> Result<(), CertFault>
         ensures goes { IsFedPiece self.old piece.now self.new result }
-        ensures more { OnOk result (bytes_taken self.new ≡ bytes_taken self.old + length piece.now) }
+        ensures more { OnOk result (bytes_taken self.new
+            ≡ bytes_taken self.old + length piece.now) }
         ensures fits { bytes_taken self.new < 2 ^ 64 }
     {
         let left = MOST_BYTES - self.taken;

@@ -68,7 +68,8 @@ fn axis_allows(space: &Space, axis: u32, value: bool) -> bool
 fn may_atom(problem: &Problem, space: &Space, lits: &Lits, judged: &Judged, j: u32) -> bool
     requires judged { AreJudgedOver problem.now (space_of space.now) judged.now }
     requires lits { length lits.now ≡ length problem.now.atoms }
-    ensures { result ≡ atom_may_hold problem.now judged.now.margin (state_of (space_of space.now) lits.now) j }
+    ensures { result ≡ atom_may_hold problem.now judged.now.margin
+        (state_of (space_of space.now) lits.now) j }
 {
     let _ = problem;
     let _ = space;
@@ -95,7 +96,8 @@ fn may_node(
     requires judged { AreJudgedOver problem.now (space_of space.now) judged.now }
     requires lits { length lits.now ≡ length problem.now.atoms }
     requires order { IsTrue (form_comes_after (length truths.now) (form_node_of node.now)) }
-    ensures { result ≡ node_may_hold problem.now judged.now.margin (state_of (space_of space.now) lits.now) truths.now (form_node_of node.now) }
+    ensures { result ≡ node_may_hold problem.now judged.now.margin
+        (state_of (space_of space.now) lits.now) truths.now (form_node_of node.now) }
 {
     match node {
         FormNode::True => true,
@@ -119,7 +121,8 @@ pub fn may_hold(
     requires judged { AreJudgedOver problem.now (space_of space.now) judged.now }
     requires lits { length lits.now ≡ length problem.now.atoms }
     requires marks { vec_len marks.old.truths ≡ length problem.now.forms }
-    ensures truth { result ≡ form_may_hold problem.now judged.now.margin (state_of (space_of space.now) lits.now) }
+    ensures truth { result ≡ form_may_hold problem.now judged.now.margin
+        (state_of (space_of space.now) lits.now) }
     ensures marks { vec_len marks.new.truths ≡ length problem.now.forms }
 {
     let forms = problem.forms();

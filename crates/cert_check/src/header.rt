@@ -102,7 +102,8 @@ fn same_bound(a: Option<u32>, b: Option<u32>) -> bool
 
 /// `bound`, which has to be that of the words.
 pub fn bound_line(s: Loosenings, bound: Option<u32>, line: &Line) -> Result<Due, Refusal>
-    ensures comes { (p : Parts) → IsNextAt p bound (due_of p (BoundDue s)) (line_of line.now) result }
+    ensures comes { (p : Parts) →
+        IsNextAt p bound (due_of p (BoundDue s)) (line_of line.now) result }
     ensures sound { (p : Parts) → IfOk result (IsSound p) }
 {
     match line {

@@ -1,14 +1,9 @@
 // Which atoms' enclosures miss their ranges.
 ghost use Rattle.std.specs.Prelude.{◌≡◌, ◌≢◌, ℕ, ◌<◌, ◌≤◌, length, IfOk, false, true, ◌||◌, slice_index_or};
-ghost use Rattle.dyadic.specs.Rounding.{two_to_minus};
-ghost use Rattle.interval_model.specs.Interval.{met, is_nothing};
 ghost use Rattle.poly_graph.specs.Problem.{atom_at};
 ghost use Rattle.poly_graph.specs.ProblemViews.{problem_of};
-ghost use Rattle.poly_graph.specs.Views.{kind_of};
-ghost use Rattle.cover_model.specs.NodeEnclosure.{row};
-ghost use Rattle.cover_model.specs.Space.{range};
 ghost use Rattle.ival.specs.RowViews.{rows_of, marks_of, is_marked};
-ghost use Rattle.cert_check.specs.Judged.{row_misses, AreJudged};
+ghost use Rattle.cert_check.specs.Judged.{AreJudged, atom_misses, is_missing, row_misses};
 
 use ival::Rows;
 use poly_graph::{Atom, Problem};
@@ -26,7 +21,7 @@ pub struct Judged {
 fn is_missed(atom: Atom, margin: u32, rows: &Rows) -> bool
     requires margin { margin ≤ 120 }
     requires place { atom.term < length (rows_of rows.now) }
-    ensures { result ≡ is_nothing (met (row (rows_of rows.now) atom.term) (range (two_to_minus margin) (kind_of atom.kind))) }
+    ensures { result ≡ atom_misses margin (rows_of rows.now) atom }
 {
     let range = kind_range(atom.kind, margin);
     rows.get(atom.term as usize).meet(range).is_empty()
@@ -44,7 +39,8 @@ fn is_due(all: bool, atom: Atom, rows: &Rows) -> bool
 fn again(all: bool, atom: Atom, margin: u32, rows: &Rows, was: bool) -> bool
     requires margin { margin ≤ 120 }
     requires place { atom.term < length (rows_of rows.now) }
-    ensures due { (all || is_marked (marks_of rows.now) atom.term) ≡ true → result ≡ is_nothing (met (row (rows_of rows.now) atom.term) (range (two_to_minus margin) (kind_of atom.kind))) }
+    ensures due { (all || is_marked (marks_of rows.now) atom.term) ≡ true →
+        result ≡ atom_misses margin (rows_of rows.now) atom }
     ensures kept { (all || is_marked (marks_of rows.now) atom.term) ≡ false → result ≡ was }
 {
     if is_due(all, atom, rows) {
@@ -59,9 +55,12 @@ fn judge(problem: &Problem, margin: u32, all: bool, rows: &Rows, misses: &mut [b
     requires margin { margin ≤ 120 }
     requires rows { length (rows_of rows.now) ≡ length problem.now.nodes }
     requires count { length misses.old ≡ length problem.now.atoms }
-    requires others { (j : ℕ) → j < length problem.now.atoms → all ≡ false → is_marked (marks_of rows.now) (atom_at (problem_of problem.now) j).0 ≡ false → slice_index_or misses.old j false ≡ row_misses problem.now margin (rows_of rows.now) j }
+    requires others { (j : ℕ) → j < length problem.now.atoms → all ≡ false →
+        is_marked (marks_of rows.now) (atom_at (problem_of problem.now) j).0 ≡ false →
+        slice_index_or misses.old j false ≡ row_misses problem.now margin (rows_of rows.now) j }
     ensures count { length misses.new ≡ length problem.now.atoms }
-    ensures each { (j : ℕ) → j < length problem.now.atoms → slice_index_or misses.new j false ≡ row_misses problem.now margin (rows_of rows.now) j }
+    ensures each { (j : ℕ) → j < length problem.now.atoms →
+        slice_index_or misses.new j false ≡ row_misses problem.now margin (rows_of rows.now) j }
 {
     for j in 0..misses.len() {
         let atom = problem.atoms()[j];
@@ -85,7 +84,9 @@ impl Judged {
         requires margin { self.old.margin ≤ 120 }
         requires rows { length (rows_of rows.now) ≡ length problem.now.nodes }
         requires count { length self.old.misses.items ≡ length problem.now.atoms }
-        requires others { (j : ℕ) → j < length problem.now.atoms → is_marked (marks_of rows.now) (atom_at (problem_of problem.now) j).0 ≡ false → slice_index_or self.old.misses.items j false ≡ row_misses problem.now self.old.margin (rows_of rows.now) j }
+        requires others { (j : ℕ) → j < length problem.now.atoms →
+            is_marked (marks_of rows.now) (atom_at (problem_of problem.now) j).0 ≡ false →
+            is_missing self.old j ≡ row_misses problem.now self.old.margin (rows_of rows.now) j }
         ensures { AreJudged problem.now (rows_of rows.now) self.new }
     {
         judge(problem, self.margin, false, rows, &mut self.misses);

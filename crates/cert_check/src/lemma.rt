@@ -168,7 +168,8 @@ pub fn axis_line(
 // The first line of the tree of a lemma with this state.
 fn lemma_tree(alloc: Global, cover: Cover, lemma: State) -> Result<Due, Refusal>
     ensures comes { (p : Parts) → IsOutcome p result (begun_lemma cover lemma) }
-    ensures sound { (p : Parts) → AllFit p cover.lemmas.items → Fits p (state_of lemma) → IfOk result (IsSound p) }
+    ensures sound { (p : Parts) → AllFit p cover.lemmas.items → Fits p (state_of lemma) →
+        IfOk result (IsSound p) }
 {
     let state = lemma.try_clone(alloc)?;
     let pending = Vec::new(alloc);

@@ -53,7 +53,8 @@ fn value(declared: Declared, line: &Line) -> Result<Domain, Refusal>
 
 // Whether the value of an axis lies within delta of what is declared.
 fn is_near(s: Loosenings, declared: Declared, domain: Domain) -> bool
-    ensures { result ≡ is_near (delta_in s) (declared_of declared) (coordinate_of (domain_of domain)) }
+    ensures { result
+        ≡ is_near (delta_in s) (declared_of declared) (coordinate_of (domain_of domain)) }
 {
     match declared {
         Declared::Real(low, high) => match domain {

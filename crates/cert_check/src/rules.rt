@@ -32,7 +32,8 @@ pub fn rule(
     requires lemmas { All (λ L. Fits problem.now (state_of L)) lemmas.now }
     requires fits { Fits problem.now (state_of state) }
     requires names { IsTrue (names_well (problem_of problem.now) (step_rule step)) }
-    ensures rule { IfOk result (IsLeftBy (step_rule step.entry) problem.now (loosenings_of s) lemmas.now state) }
+    ensures rule { IfOk result
+        (IsLeftBy (step_rule step.entry) problem.now (loosenings_of s) lemmas.now state) }
     ensures serves { Serves problem.now tools.new }
 {
     match step {

@@ -111,7 +111,8 @@ impl Tools {
         requires serves { Serves problem.now self.old }
         requires margin { margin ≤ 120 }
         requires atoms { length state.now.lits ≡ length problem.now.atoms }
-        ensures truth { result ≡ may (problem_of problem.now) (pruning margin) (state_of state.now) }
+        ensures truth { result
+            ≡ may (problem_of problem.now) (pruning margin) (state_of state.now) }
         ensures serves { Serves problem.now self.new }
     {
         self.follow(problem, &state.space);
@@ -232,7 +233,8 @@ impl Tools {
         requires lits { length lits.now ≡ length problem.now.atoms }
         requires atoms { All (λ x. x.0 < length problem.now.atoms) pairs.now }
         requires axes { length (space_of space.old) ≡ length problem.now.axes }
-        ensures narrowed { IsCombined problem.now margin lits.now pairs.now space.old space.new result }
+        ensures narrowed { IsCombined problem.now margin lits.now pairs.now
+            space.old space.new result }
         ensures serves { Serves problem.now self.new }
     {
         self.follow(problem, space);

@@ -42,7 +42,8 @@ fn next_state(pending: Vec<State>) -> Option<Tree>
 // What is in work after a rule of which this is left; none where the tree is complete.
 #[tactic(auto, using(crate::proofs::Waits::pending_more, crate::proofs::Waits::pending_none))]
 fn leave(pending: Vec<State>, left: Left) -> Result<Option<Tree>, AllocError>
-    ensures waiting { IfOk result (λ o. waiting o ≡ left_states (left_of left) ++ pending_of pending.items) }
+    ensures waiting { IfOk result (λ o.
+        waiting o ≡ left_states (left_of left) ++ pending_of pending.items) }
     ensures fits { HasTreeBehind pending.items left result }
 {
     match left {
@@ -86,7 +87,8 @@ fn is_stays(left: &Left) -> bool
 #[tactic(auto, using(crate::proofs::Waits::main_done, crate::proofs::Waits::main_on))]
 fn main_left(cover: Cover, pending: Vec<State>, stayed: u64, left: Left) -> Result<Due, Refusal>
     requires { stayed < 2 ^ 64 - 1 }
-    ensures comes { (p : Parts) (f : Fault) (x : Standing) → IsOutcome p result (after_main_rule cover pending.items stayed (left_of left) f x) }
+    ensures comes { (p : Parts) (f : Fault) (x : Standing) →
+        IsOutcome p result (after_main_rule cover pending.items stayed (left_of left) f x) }
     ensures sound { IsSoundBehind cover.lemmas.items pending.items left result }
 {
     let stayed = count_stays(stayed, &left);
@@ -105,7 +107,8 @@ fn lemma_left(
     left: Left,
     word: Rule,
 ) -> Result<Due, Refusal>
-    ensures comes { (p : Parts) → IsOutcome p result (after_rule_of_lemma cover lemma pending.items (left_of left) (RuleFails (rule_word word))) }
+    ensures comes { (p : Parts) → IsOutcome p result (after_rule_of_lemma cover lemma
+        pending.items (left_of left) (RuleFails (rule_word word))) }
     ensures sound { IsSoundInLemma cover.lemmas.items lemma pending.items left result }
 {
     if is_stays(&left) {
@@ -134,7 +137,8 @@ fn main_rule(
     requires serves { Serves problem.now tools.old }
     requires sound { IsSound problem.now (TreeDue cover tree stayed) }
     requires room { stayed < 2 ^ 64 - 1 }
-    ensures comes { IsNext problem.now (TreeDue cover tree stayed) (line_of_step step.entry) result }
+    ensures comes { IsNext problem.now (TreeDue cover tree stayed)
+        (line_of_step step.entry) result }
     ensures sound { IfOk result (IsSound problem.now) }
     ensures serves { Serves problem.now tools.new }
 {
@@ -168,7 +172,8 @@ fn lemma_rule(
 ) -> Result<Due, Refusal>
     requires serves { Serves problem.now tools.old }
     requires sound { IsSound problem.now (LemmaDue cover lemma tree) }
-    ensures comes { IsNext problem.now (LemmaDue cover lemma tree) (line_of_step step.entry) result }
+    ensures comes { IsNext problem.now (LemmaDue cover lemma tree)
+        (line_of_step step.entry) result }
     ensures sound { IfOk result (IsSound problem.now) }
     ensures serves { Serves problem.now tools.new }
 {

@@ -7,7 +7,7 @@ use Rattle.dyadic.specs.Rounding.{Dyadic}
 use Rattle.dyadic.specs.Views as dy
 use Rattle.cert_read.specs.declared.fault.LineFault.{LineFault}
 use Rattle.cert_read.specs.declared.fault.LineFault.TheVariants.{BadLine, BadNumber, Memory}
-use Rattle.cert_read.specs.CertLine.{has_pairs, pairs_of}
+use Rattle.cert_read.specs.CertLine.{counts_of, has_pairs, pairs_of}
 use Rattle.cert_read.specs.Views.{pair_list}
 
 -- the number of a word, or that it has none
@@ -20,6 +20,11 @@ abbrev pub IsUncounted : {A : Type 0} → LineFault → Option A → Type 0
 IsUncounted BadNumber o = o ≡ None
 IsUncounted Memory o = Unit {0}
 IsUncounted f o = ⊥
+
+-- the plain numbers of words, or such a fault
+abbrev pub AreCounted : Result (Vec ℕ Global) LineFault → List (List ℕ) → Type 0
+AreCounted (Ok v) ws = counts_of ws ≡ Some v.items
+AreCounted (Err f) ws = IsUncounted f (counts_of ws)
 
 -- atoms with their multipliers; a fault is that the words are no pairs, that a number is none, or that memory ran out
 abbrev pub ArePairs : Result (Vec (ℕ × Dy) Global) LineFault → List (List ℕ) → Type 0

@@ -1,9 +1,9 @@
 // The numbers of lines.
 ghost use Rattle.std.specs.Prelude.{◌≡◌, ◌^◌, ◌<◌, ◌≤◌, ◌↔◌, IsTrue, MatchOption, MatchResult, Some};
 ghost use Rattle.std.specs.Str.Parse.{digits_value};
-ghost use Rattle.cert_read.specs.CertLine.{are_paired, count_of, counts_of, dyadic_of, pairs_of};
+ghost use Rattle.cert_read.specs.CertLine.{are_paired, count_of, dyadic_of, pairs_of};
 ghost use Rattle.cert_read.specs.Lines.{words_of};
-ghost use Rattle.cert_read.specs.Numbers.{AreDigits, IsMeasured, IsPlain, IsUncounted};
+ghost use Rattle.cert_read.specs.Numbers.{AreCounted, AreDigits, IsMeasured, IsPlain, IsUncounted};
 ghost use Rattle.cert_read.specs.Told.{IsCounted};
 ghost use Rattle.cert_read.specs.Views.{pair_list};
 
@@ -31,7 +31,9 @@ fn is_plain(word: &[u8]) -> bool
 // The number that digits write, below 2^32.
 fn value(digits: &[u8]) -> Option<u32>
     requires { AreDigits digits.now }
-    ensures { MatchOption result (2 ^ 32 ≤ digits_value 10 digits.now) (λ n. (n ≡ digits_value 10 digits.now) × (n < 2 ^ 32)) }
+    ensures { MatchOption result
+        (2 ^ 32 ≤ digits_value 10 digits.now)
+        (λ n. (n ≡ digits_value 10 digits.now) × (n < 2 ^ 32)) }
 {
     let mut value = 0;
     for digit in digits {
@@ -68,7 +70,7 @@ pub(crate) fn dyadic(word: &[u8]) -> Result<Dy, LineFault>
 
 /// The plain numbers that words spell.
 pub(crate) fn counts(alloc: Global, text: &[u8]) -> Result<Vec<u32>, LineFault>
-    ensures { MatchResult result (λ v. counts_of (words_of text.now) ≡ Some v.items) (λ f. IsUncounted f (counts_of (words_of text.now))) }
+    ensures { AreCounted result (words_of text.now) }
 {
     let mut numbers = Vec::new(alloc);
     let mut at = 0;
@@ -103,7 +105,9 @@ pub(crate) fn are_paired(text: &[u8]) -> bool
 
 /// The pairs of a plain number and a number of the grid that words spell, without a word that is left over.
 pub(crate) fn pairs(alloc: Global, text: &[u8]) -> Result<Vec<(u32, Dy)>, LineFault>
-    ensures { MatchResult result (λ v. pairs_of (words_of text.now) ≡ Some (pair_list v.items)) (λ f. IsUncounted f (pairs_of (words_of text.now))) }
+    ensures { MatchResult result
+        (λ v. pairs_of (words_of text.now) ≡ Some (pair_list v.items))
+        (λ f. IsUncounted f (pairs_of (words_of text.now))) }
 {
     let mut pairs = Vec::new(alloc);
     let mut rest = text;

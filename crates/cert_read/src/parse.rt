@@ -1,9 +1,9 @@
 // What the bytes of a line say.
-ghost use Rattle.std.specs.Prelude.{◌≡◌, [], ◌∷◌, MatchResult, Some, option_map};
-ghost use Rattle.cert_read.specs.CertLine.{by_first, counts_of, of_bool, of_bound, parsed};
+ghost use Rattle.std.specs.Prelude.{◌≡◌, [], ◌∷◌, option_copied};
+ghost use Rattle.cert_read.specs.CertLine.{by_first, of_bool, of_bound, parsed};
 ghost use Rattle.cert_read.specs.Keywords.{keyword_text};
 ghost use Rattle.cert_read.specs.Lines.{are_words, words_of};
-ghost use Rattle.cert_read.specs.Numbers.{ArePairs, IsUncounted};
+ghost use Rattle.cert_read.specs.Numbers.{AreCounted, ArePairs};
 ghost use Rattle.cert_read.specs.Told.{Says, SaysBool};
 ghost use Rattle.cert_read.specs.Words.{HasCount, HasForm, words_behind};
 
@@ -57,7 +57,7 @@ fn are_words(bytes: &[u8]) -> bool
 
 // What a line says that begins with this word.
 fn after_keyword(alloc: Global, word: Keyword, rest: Option<&[u8]>) -> Result<Line, LineFault>
-    ensures { Says result (by_first (keyword_text word ∷ words_behind (option_map (λ s. s.now) rest.entry))) }
+    ensures { Says result (by_first (keyword_text word ∷ words_behind (option_copied rest.entry))) }
 {
     match word {
         Keyword::Yes => Ok(Line::Yes(list(alloc, rest)?)),
@@ -73,7 +73,7 @@ fn after_keyword(alloc: Global, word: Keyword, rest: Option<&[u8]>) -> Result<Li
 
 // The numbers of a list, which may be none.
 fn list(alloc: Global, rest: Option<&[u8]>) -> Result<Vec<u32>, LineFault>
-    ensures { MatchResult result (λ v. counts_of (words_behind (option_map (λ s. s.now) rest.entry)) ≡ Some v.items) (λ f. IsUncounted f (counts_of (words_behind (option_map (λ s. s.now) rest.entry)))) }
+    ensures { AreCounted result (words_behind (option_copied rest.entry)) }
 {
     match rest {
         None => Ok(Vec::new(alloc)),
@@ -83,7 +83,7 @@ fn list(alloc: Global, rest: Option<&[u8]>) -> Result<Vec<u32>, LineFault>
 
 // The atoms of a combination with their multipliers, which are some.
 fn multipliers(alloc: Global, rest: Option<&[u8]>) -> Result<Vec<(u32, Dy)>, LineFault>
-    ensures { ArePairs result (words_behind (option_map (λ s. s.now) rest.entry)) }
+    ensures { ArePairs result (words_behind (option_copied rest.entry)) }
 {
     let Some(text) = rest else {
         return Err(LineFault::BadLine);

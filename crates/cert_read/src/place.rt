@@ -1,5 +1,5 @@
 // Where a byte stands, and the first word.
-ghost use Rattle.std.specs.Prelude.{◌≡◌, ◌≢◌, ℕ, ◌<◌, ◌≤◌, ◌∷◌, length, slice_index, MatchOption, option_map};
+ghost use Rattle.std.specs.Prelude.{◌≡◌, ◌≢◌, ℕ, ◌<◌, ◌≤◌, ◌∷◌, length, slice_index, MatchOption, option_copied};
 ghost use Rattle.cert_read.specs.Lines.{words_of};
 ghost use Rattle.cert_read.specs.Words.{words_behind};
 
@@ -20,7 +20,7 @@ pub(crate) fn place_of(byte: u8, from: usize, bytes: &[u8]) -> usize
 
 /// The first word, and what stands behind the space after it.
 pub(crate) fn cut(bytes: &[u8]) -> (&[u8], Option<&[u8]>)
-    ensures words { words_of bytes.now ≡ result.0.now ∷ words_behind (option_map (λ s. s.now) result.1) }
+    ensures words { words_of bytes.now ≡ result.0.now ∷ words_behind (option_copied result.1) }
     ensures shorter { MatchOption result.1 (Unit {0}) (λ s. length s.now < length bytes.now) }
 {
     let size = place_of(b' ', 0, bytes);

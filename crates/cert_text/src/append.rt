@@ -25,7 +25,8 @@ fn append_count(text: &mut Vec<u8>, n: u32) -> Result<(), AllocError>
 }
 
 fn append_number(text: &mut Vec<u8>, number: Dy) -> Result<(), AllocError>
-    ensures text { OnOk result (text.new.items ≡ text.old.items ++ number_spelling (dyadic_of number)) }
+    ensures text { OnOk result (text.new.items
+        ≡ text.old.items ++ number_spelling (dyadic_of number)) }
     ensures spelled { IsSpelledNumber (dyadic_of number) }
     ensures short { length (number_spelling (dyadic_of number)) ≤ 64 }
 {
@@ -97,7 +98,8 @@ pub(crate) fn append_value(text: &mut Vec<u8>, value: Dy) -> Result<(), AllocErr
 
 /// Appends the line of an interval.
 pub(crate) fn append_interval(text: &mut Vec<u8>, low: Dy, high: Dy) -> Result<(), AllocError>
-    ensures { Appends text.old text.new (real_interval (dyadic_of low) (dyadic_of high) ∷ []) result }
+    ensures { Appends text.old text.new
+        (real_interval (dyadic_of low) (dyadic_of high) ∷ []) result }
 {
     text.extend_from_slice(b"real ")?;
     append_number(text, low)?;

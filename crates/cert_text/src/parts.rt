@@ -121,7 +121,8 @@ pub(crate) fn append_lines(text: &mut Vec<u8>, lines: &Lines) -> Result<(), Allo
 // A lemma: its number, its state and its tree.
 fn append_lemma(text: &mut Vec<u8>, id: u32, lemma: &Learned) -> Result<(), AllocError>
     requires { HasFewMarks lemma.now }
-    ensures { Appends text.old text.new (lemma_lines id (lemma_tree (learned_of lemma.now))) result }
+    ensures { Appends text.old text.new
+        (lemma_lines id (lemma_tree (learned_of lemma.now))) result }
 {
     let marks = lemma.state.lits().marks();
     append_counted(text, Counted::Lemma, id)?;

@@ -20,7 +20,9 @@ pub struct StuckBox<'a> {
 
 // The box in which a node is stuck.
 fn stuck_box(node: &Node) -> Option<StuckBox<'_>>
-    ensures { MatchOption result (IsNotStuck node.now) (λ x. IsStuckAt node.now x.atom x.state.now) }
+    ensures { MatchOption result
+        (IsNotStuck node.now)
+        (λ x. IsStuckAt node.now x.atom x.state.now) }
 {
     match node {
         Node::Stuck(lines, state) => match lines.end {
@@ -57,8 +59,9 @@ fn first_stuck_node<'a>(
 /// The first stuck box of a book, in the order of its tree, which is that of what the written certificate leaves; none
 /// where no node is stuck. Where no node is live, it is the first that is left. Out of memory is its one error.
 pub fn first_stuck<'a>(alloc: Global, book: &'a Book) -> Result<Option<StuckBox<'a>>, AllocError>
-    ensures { let none = has_stuck book.now ≡ false in
-        IfOk result (λ found. MatchOption found none (λ x. IsFirstStuck book.now x.atom x.state.now)) }
+    ensures { IfOk result (λ found. MatchOption found
+        (has_stuck book.now ≡ false)
+        (λ x. IsFirstStuck book.now x.atom x.state.now)) }
 {
     first_stuck_node(alloc, book.nodes())
 }

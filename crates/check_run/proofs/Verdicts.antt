@@ -95,13 +95,13 @@ shown_unsat text m w is e (accepted s (left_open (x ∷ xs))) h = let same : ◌
 shown_unsat text m w is e (accepted s (at_point space)) h = let same : ◌≡◌ {A = told.Verdict} (Unsat m) (Point s.delta_bits) = sym is ∙ h in cc
 shown_unsat text m w is e (refused f n) h = absurd h
 
-pub shown_point : (text : List ℕ) (m : ℕ) (w : told.Verdict) → w ≡ Point m → ((s : Loosenings) (point : Space) → s.delta_bits ≡ m → text ≡ check_text s (at_point point))
+pub shown_point : (text : List ℕ) (m : ℕ) (w : told.Verdict) → w ≡ Point m → ((s : Loosenings) → s.delta_bits ≡ m → (point : Space) → text ≡ check_text s (at_point point))
     → (v : Verdict) → IsVerdict v (Ok w) → verdict_course v ≡ says Answered text
 shown_point text m w is e (accepted s (left_open [])) h = let same : ◌≡◌ {A = told.Verdict} (Point m) (Unsat s.margin_bits) = sym is ∙ h in cc
 shown_point text m w is e (accepted s (left_open (x ∷ xs))) h = let same : ◌≡◌ {A = told.Verdict} (Point m) (Left (length (x ∷ xs))) = sym is ∙ h in cc
 shown_point text m w is e (accepted s (at_point space)) h =
     let same : ◌≡◌ {A = told.Verdict} (Point m) (Point s.delta_bits) = sym is ∙ h in
-    let bits : s.delta_bits ≡ m = cc in ap (λ (t : List ℕ). says Answered t) (sym (e s space bits))
+    let bits : s.delta_bits ≡ m = cc in ap (λ (t : List ℕ). says Answered t) (sym (e s bits space))
 shown_point text m w is e (refused f n) h = absurd h
 
 pub shown_left : (text : List ℕ) (m : ℕ) (w : told.Verdict) → w ≡ Left m → ((s : Loosenings) (first : Standing) (rest : List Standing) → length (first ∷ rest) ≡ m → text ≡ check_text s (left_open (first ∷ rest)))

@@ -100,7 +100,8 @@ pub fn check_problem<D: Desk>(
     problem: &Problem,
     bound: Option<u32>,
 ) -> Status
-    ensures ends { EndsOnCheck problem.now bound name.now (D.sight desk.old) (D.sight desk.new) result }
+    ensures ends { EndsOnCheck problem.now bound name.now
+        (D.sight desk.old) (D.sight desk.new) result }
     ensures cause { CheckHasCause (D.sight desk.old) (D.sight desk.new) result }
     ensures script { (D.sight desk.new).script ≡ (D.sight desk.old).script }
     ensures read { result ≡ Status.Answered → IsReadToEnd (D.sight desk.old) (D.sight desk.new) }

@@ -17,9 +17,11 @@ pub fn run_check<S: ScriptReader, D: Desk>(
     asked: CheckWords<'_>,
 ) -> Status
     ensures cause { HasCause (check_run asked.entry (D.sight desk.old) (D.sight desk.new) result) }
-    ensures script { ScriptIsRead (check_run asked.entry (D.sight desk.old) (D.sight desk.new) result) }
+    ensures script { ScriptIsRead
+        (check_run asked.entry (D.sight desk.old) (D.sight desk.new) result) }
     ensures cert { CertIsRead (check_run asked.entry (D.sight desk.old) (D.sight desk.new) result) }
-    ensures course { HasCourse (check_run asked.entry (D.sight desk.old) (D.sight desk.new) result) }
+    ensures course { HasCourse
+        (check_run asked.entry (D.sight desk.old) (D.sight desk.new) result) }
 {
     let CheckWords {
         script,

@@ -18,7 +18,8 @@ pub struct Interval {
 
 // Whether a bound on this side is as tight as another, or tighter.
 fn is_as_tight(side: Side, value: Frac, other: Frac) -> bool
-    ensures { result ≡ is_as_tight (side_of side) (fraction_of_frac value) (fraction_of_frac other) }
+    ensures { result
+        ≡ is_as_tight (side_of side) (fraction_of_frac value) (fraction_of_frac other) }
 {
     match side {
         Side::Lower => cmp_frac(other, value).is_le(),
@@ -28,7 +29,8 @@ fn is_as_tight(side: Side, value: Frac, other: Frac) -> bool
 
 // The tighter of an end on this side, where there is one, and a bound.
 fn tighter(side: Side, end: Option<Frac>, value: Frac) -> Frac
-    ensures { fraction_of_frac result ≡ tighter (side_of side) (end_of end) (fraction_of_frac value) }
+    ensures { fraction_of_frac result
+        ≡ tighter (side_of side) (end_of end) (fraction_of_frac value) }
 {
     match end {
         Some(end) => {

@@ -55,7 +55,8 @@ fn marks_at(alloc: Global, count: usize, nodes: &[u32]) -> Result<Vec<bool>, All
 
 // So many axes without ends.
 fn no_intervals(alloc: Global, count: usize) -> Result<Vec<Interval>, AllocError>
-    ensures { IfOk result (λ intervals. map interval_of intervals.items ≡ replicate count no_interval) }
+    ensures { IfOk result (λ intervals.
+        map interval_of intervals.items ≡ replicate count no_interval) }
 {
     let mut intervals = Vec::with_capacity(alloc, count)?;
     for _ in 0..count {

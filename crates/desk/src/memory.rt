@@ -77,7 +77,8 @@ fn is_listed(faults: &[Fault], fault: Fault) -> bool
 
 // Appends what is taken at once, and answers how much that was.
 fn append_front(sink: &mut Vec<u8>, most: usize, piece: &[u8]) -> Result<usize, AllocError>
-    ensures ok { OnOk result (sink.new.items ≡ sink.old.items ++ take (min most (length piece.now)) piece.now) }
+    ensures ok { OnOk result (sink.new.items
+        ≡ sink.old.items ++ take (min most (length piece.now)) piece.now) }
     ensures count { IfOk result (λ n. n ≡ min most (length piece.now)) }
     ensures err { OnErr result (sink.new.items ≡ sink.old.items) }
 {
@@ -295,9 +296,12 @@ impl Desk for MemoryDesk {
     ghost sight = { memory_sight };
 
     fn start(&mut self, p: Port, name: &str) -> Result<(), Denied>
-        ensures ok { OnOk result (memory_sight self.new ≡ with_start p name.now (memory_sight self.old)) }
-        ensures failed { IsErrOf result Denied.Failed → FailsOn p (memory_sight self.old) (memory_sight self.new) }
-        ensures memory { IsErrOf result Denied.Memory → memory_sight self.new ≡ memory_sight self.old }
+        ensures ok { OnOk result (memory_sight self.new
+            ≡ with_start p name.now (memory_sight self.old)) }
+        ensures failed { IsErrOf result Denied.Failed →
+            FailsOn p (memory_sight self.old) (memory_sight self.new) }
+        ensures memory { IsErrOf result Denied.Memory →
+            memory_sight self.new ≡ memory_sight self.old }
         ensures due { IsErrOf result Denied.Failed ↔ IsDue self.old p }
         ensures counted { IsCounted p (calls_of self.old) (calls_of self.new) }
         ensures listed { faults_of self.new ≡ faults_of self.old }
@@ -311,7 +315,8 @@ impl Desk for MemoryDesk {
 
     fn read(&mut self, p: Port, into: &mut [u8]) -> Result<usize, Failed>
         requires { IsIn p }
-        ensures ok { IfOk result (λ n. Reads p n into.new (memory_sight self.old) (memory_sight self.new)) }
+        ensures ok { IfOk result (λ n.
+            Reads p n into.new (memory_sight self.old) (memory_sight self.new)) }
         ensures failed { OnErr result (FailsOn p (memory_sight self.old) (memory_sight self.new)) }
         ensures due { IsErr result ↔ IsDue self.old p }
         ensures counted { IsCounted p (calls_of self.old) (calls_of self.new) }
@@ -326,9 +331,12 @@ impl Desk for MemoryDesk {
 
     fn write(&mut self, p: Port, from: &[u8]) -> Result<usize, Denied>
         requires { IsOut p }
-        ensures ok { IfOk result (λ n. Writes p n from.now (memory_sight self.old) (memory_sight self.new)) }
-        ensures failed { IsErrOf result Denied.Failed → FailsOn p (memory_sight self.old) (memory_sight self.new) }
-        ensures memory { IsErrOf result Denied.Memory → memory_sight self.new ≡ memory_sight self.old }
+        ensures ok { IfOk result (λ n.
+            Writes p n from.now (memory_sight self.old) (memory_sight self.new)) }
+        ensures failed { IsErrOf result Denied.Failed →
+            FailsOn p (memory_sight self.old) (memory_sight self.new) }
+        ensures memory { IsErrOf result Denied.Memory →
+            memory_sight self.new ≡ memory_sight self.old }
         ensures due { IsErrOf result Denied.Failed ↔ IsDue self.old p }
         ensures counted { IsCounted p (calls_of self.old) (calls_of self.new) }
         ensures listed { faults_of self.new ≡ faults_of self.old }
