@@ -15,7 +15,9 @@ use std::alloc::AllocError;
 
 // Whether it was done. Out of memory is handed on.
 fn was_done(answer: Result<(), PatchRefusal>) -> Result<bool, AllocError>
-    ensures { (refusal : Option Refusal) (old done new : PatchModel) → PatchAnswer refusal old done new answer → IfOk result (Attempts refusal old done new) }
+    ensures { (refusal : Option Refusal) (old done new : PatchModel) →
+        PatchAnswer refusal old done new answer →
+        IfOk result (Attempts refusal old done new) }
 {
     match answer {
         Ok(()) => Ok(true),
@@ -53,7 +55,8 @@ pub fn void_no(patch: &mut Patch, j: u32) -> Result<bool, AllocError>
 
 /// Ends the patch by this combination, where its atoms are marked and it leaves nothing.
 pub fn void_combine(patch: &mut Patch, multipliers: &[(u32, Dy)]) -> Result<bool, AllocError>
-    ensures { IfOk result (VoidCombineAttempt (multipliers_of multipliers.now) patch.old patch.new) }
+    ensures { IfOk result
+        (VoidCombineAttempt (multipliers_of multipliers.now) patch.old patch.new) }
 {
     let answer = patch.void_combine(multipliers);
     was_done(answer)

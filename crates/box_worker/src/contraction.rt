@@ -8,6 +8,7 @@ ghost use Rattle.cover_rule.specs.Serves.{IsNumbered};
 ghost use Rattle.box_worker.specs.Attempts.{IsOpen};
 
 use crate::combining::{combine_all, relax};
+use crate::facts::problem_is_whole;
 use crate::fallen::{atom_masks, repeating_atoms, take_over};
 use crate::guide::Guide;
 use crate::needs::{Needs, is_set, needs_at};
@@ -361,7 +362,7 @@ fn look(
     requires problem { patch.now.problem ≡ problem.now }
     requires margins { AreMargins margins.now }
 {
-    let _ = problem.axes();
+    problem_is_whole(problem);
     match &mut scout.guide {
         Some(guide) => guide.look(
             alloc,
@@ -387,7 +388,7 @@ pub fn see(
     requires margins { AreMargins margins.now }
 {
     look(alloc, problem, margins, scout, patch)?;
-    let _ = problem.axes();
+    problem_is_whole(problem);
     needs_at(
         alloc,
         problem,

@@ -1,9 +1,8 @@
 // Points of a box that a local search from its middle finds.
-ghost use Rattle.std.specs.Prelude.{◌≡◌, IfOk, IfSome, IsTrue};
-ghost use Rattle.cover_model.specs.Root.{root_space};
+ghost use Rattle.std.specs.Prelude.{◌≡◌, IfOk, IfSome};
 ghost use Rattle.poly_graph.specs.ProblemViews.{problem_of};
-ghost use Rattle.interval_model.specs.Space.{space_within};
 ghost use Rattle.cover_data.specs.Margins.{AreMargins};
+ghost use Rattle.cover_rule.specs.Middle.{LiesInRoot};
 ghost use Rattle.box_worker.specs.Ended.{IsFoundIn};
 
 use crate::heuristics::Heuristics;
@@ -24,7 +23,7 @@ fn tried(
     requires problem { patch.now.problem ≡ problem.now }
     requires margins { patch.now.margins ≡ margins.now }
     requires bits { AreMargins margins.now }
-    requires root { IsTrue (space_within patch.now.kept.first.space (root_space (problem_of problem.now))) }
+    requires root { LiesInRoot (problem_of problem.now) patch.now.kept.first.space }
     ensures { IfOk result (λ o. IfSome o (IsFoundIn patch.now)) }
 {
     let reached = patch.reached().space();
@@ -49,7 +48,7 @@ pub fn found_point(
     requires problem { patch.old.problem ≡ problem.now }
     requires margins { patch.old.margins ≡ margins.now }
     requires bits { AreMargins margins.now }
-    requires root { IsTrue (space_within patch.old.kept.first.space (root_space (problem_of problem.now))) }
+    requires root { LiesInRoot (problem_of problem.now) patch.old.kept.first.space }
     ensures found { IfOk result (λ o. IfSome o (IsFoundIn patch.new)) }
     ensures same { patch.new ≡ patch.old }
 {

@@ -81,7 +81,8 @@ fn marks_in_use(alloc: Global, problem: &Problem, run: &KeptPatch) -> Result<Lit
 fn root_with(alloc: Global, problem: &Problem, marks: Lits) -> Result<Option<State>, AllocError>
     requires { length marks ≡ length problem.now.atoms }
     ensures fits { IfOk result (λ o. IfSome o (FitsProblem (problem_of problem.now))) }
-    ensures root { IfOk result (λ o. IfSome o (λ s. s.space ≡ root_space (problem_of problem.now))) }
+    ensures root { IfOk result (λ o.
+        IfSome o (λ s. s.space ≡ root_space (problem_of problem.now))) }
 {
     match root_space(alloc, problem)? {
         Root::Empty(_) => Ok(None),
@@ -92,14 +93,13 @@ fn root_with(alloc: Global, problem: &Problem, marks: Lits) -> Result<Option<Sta
 // Takes a step by which a run narrows once more.
 fn repeat_step(
     problem: &Problem,
-    margins: &Margins,
+    _margins: &Margins,
     step: &Step,
     patch: &mut Patch,
 ) -> Result<(), AllocError>
-    requires { IsOpen problem.now margins.now [] patch.old.kept.first patch.old }
-    ensures { IsOpen problem.now margins.now [] patch.old.kept.first patch.new }
+    requires { IsOpen problem.now _margins.now [] patch.old.kept.first patch.old }
+    ensures { IsOpen problem.now _margins.now [] patch.old.kept.first patch.new }
 {
-    let _ = margins;
     let count = problem.atoms().len();
     match step {
         Step::Pull(j) => {
@@ -181,7 +181,8 @@ fn widened(
 ) -> Result<Option<ClosedPatch>, AllocError>
     requires numbered { IsNumbered room.old }
     requires margins { AreMargins (margins_of options.now) }
-    ensures shown { IfOk result (λ o. IfSome o (IsShownFromRoot room.old (margins_of options.now))) }
+    ensures shown { IfOk result (λ o.
+        IfSome o (IsShownFromRoot room.old (margins_of options.now))) }
     ensures room { room.new ≡ room.old }
 {
     if !is_worth(run) {

@@ -19,7 +19,8 @@ pub fn mark_conjuncts(alloc: Global, problem: &Problem, patch: &mut Patch) -> Re
     requires open { patch.old.kept.end ≡ None }
     ensures continues { IfOk result (λ u. Continues patch.old patch.new) }
     ensures open { IfOk result (λ u. patch.new.kept.end ≡ None) }
-    ensures decided { IfOk result (λ u. conjuncts_are_decided problem.now patch.new.kept.reached ≡ true) }
+    ensures decided { IfOk result (λ u.
+        conjuncts_are_decided problem.now patch.new.kept.reached ≡ true) }
 {
     let mut marks = Marks::new(alloc, problem)?;
     if conjuncts_in_yes(problem, patch.reached().lits(), &mut marks) {
@@ -51,14 +52,12 @@ pub fn void_any(problem: &Problem, patch: &mut Patch) -> Result<bool, AllocError
 }
 
 // Ends the patch by atom j, where it is marked and leaves nothing.
-fn void_by(problem: &Problem, j: u32, patch: &mut Patch) -> Result<bool, AllocError>
-    requires problem { patch.old.problem ≡ problem.now }
-    requires atom { j < length problem.now.atoms }
+fn void_by(j: u32, patch: &mut Patch) -> Result<bool, AllocError>
+    requires { j < length patch.old.problem.atoms }
     ensures continues { IfOk result (λ b. Continues patch.old patch.new) }
     ensures closed { IfOk result (λ b. b ≡ true → IsClosed patch.new.kept) }
     ensures same { IfOk result (λ b. b ≡ false → patch.new ≡ patch.old) }
 {
-    let _ = problem;
     if attempt::void(patch, j)? {
         return Ok(true);
     }
@@ -75,7 +74,7 @@ fn void_at(problem: &Problem, by: &Option<Emptied>, patch: &mut Patch) -> Result
     match by {
         Some(Emptied::Atom(j)) => {
             if (*j as usize) < problem.atoms().len() {
-                void_by(problem, *j, patch)
+                void_by(*j, patch)
             } else {
                 Ok(false)
             }

@@ -1,11 +1,11 @@
 // The work on one box.
 ghost use Rattle.std.specs.Prelude.{◌≡◌, IfOk, IsTrue, MatchOption, not, length, None, All};
-ghost use Rattle.cover_model.specs.Root.{root_space};
 ghost use Rattle.poly_graph.specs.ProblemViews.{problem_of};
 ghost use Rattle.cover_model.specs.State.{sure};
-ghost use Rattle.interval_model.specs.Space.{space_within, middle};
+ghost use Rattle.interval_model.specs.Space.{middle};
 ghost use Rattle.cover_model.specs.Fits.{FitsProblem, IsShownAt};
 ghost use Rattle.cover_data.specs.Margins.{AreMargins, loosenings_of};
+ghost use Rattle.cover_rule.specs.Middle.{LiesInRoot};
 ghost use Rattle.cover_rule.specs.Serves.{IsNumbered};
 ghost use Rattle.box_worker.specs.Attempts.{Continues, IsOpen};
 ghost use Rattle.box_worker.specs.Ended.{HasEnded, AtOnce, first_covering};
@@ -39,8 +39,12 @@ fn middle_point(
     requires problem { patch.old.problem ≡ problem.now }
     requires margins { patch.old.margins ≡ margins.now }
     requires bits { AreMargins margins.now }
-    requires root { IsTrue (space_within patch.old.kept.first.space (root_space (problem_of problem.now))) }
-    ensures middle { IfOk result (λ o. MatchOption o (IsTrue (not (sure (problem_of problem.now) (loosenings_of margins.now) (middle patch.old.kept.reached.space)))) (λ x. (x ≡ middle patch.old.kept.reached.space) × IsShownAt (problem_of problem.now) (loosenings_of margins.now) x)) }
+    requires root { LiesInRoot (problem_of problem.now) patch.old.kept.first.space }
+    ensures middle { let p = problem_of problem.now in
+        let s = loosenings_of margins.now in
+        let point = middle patch.old.kept.reached.space in
+        IfOk result (λ o. MatchOption o (IsTrue (not (sure p s point)))
+        (λ x. (x ≡ point) × IsShownAt p s x)) }
     ensures same { patch.new ≡ patch.old }
 {
     if !patch.is_sure_at_middle() {
@@ -53,7 +57,9 @@ fn middle_point(
 fn first_covering<'a>(lemmas: &'a [Lemma], state: &State) -> Option<&'a Lemma>
     requires axes { All (λ l. length l.state.space ≡ length state.now.space) lemmas.now }
     requires atoms { All (λ l. length l.state.marks ≡ length state.now.marks) lemmas.now }
-    ensures { MatchOption result (first_covering lemmas.now state.now ≡ None) (λ l. first_covering lemmas.now state.now ≡ Some l.now) }
+    ensures { MatchOption result
+        (first_covering lemmas.now state.now ≡ None)
+        (λ l. first_covering lemmas.now state.now ≡ Some l.now) }
 {
     for lemma in lemmas {
         if lemma.state().covers(state) {
@@ -76,7 +82,7 @@ fn at_once(
     requires margins { patch.old.margins ≡ margins.now }
     requires bits { AreMargins margins.now }
     requires open { patch.old.kept.end ≡ None }
-    requires root { IsTrue (space_within patch.old.kept.first.space (root_space (problem_of problem.now))) }
+    requires root { LiesInRoot (problem_of problem.now) patch.old.kept.first.space }
     requires lemmas { AreLemmasFor (problem_of problem.now) (loosenings_of margins.now) lemmas.now }
     ensures { IfOk result (AtOnce lemmas.now patch.old patch.new) }
 {
@@ -111,7 +117,7 @@ fn finish(
     requires numbered { IsNumbered problem.now }
     requires bits { AreMargins margins.now }
     requires open { patch.old.kept.end ≡ None }
-    requires root { IsTrue (space_within patch.old.kept.first.space (root_space (problem_of problem.now))) }
+    requires root { LiesInRoot (problem_of problem.now) patch.old.kept.first.space }
     ensures continues { IfOk result (λ e. Continues patch.old patch.new) }
     ensures ended { IfOk result (HasEnded patch.new) }
 {
@@ -211,7 +217,7 @@ pub fn work_in(
     requires numbered { IsNumbered room.old }
     requires margins { AreMargins (margins_of options.now) }
     requires state { FitsProblem (problem_of room.old) state }
-    requires root { IsTrue (space_within state.space (root_space (problem_of room.old))) }
+    requires root { LiesInRoot (problem_of room.old) state.space }
     requires lemmas { AreLemmasAt room.old options.now lemmas.now }
     ensures at_once { IfOk result (AnswersAtOnceFor room.old options.now lemmas.now state) }
     ensures work { IfOk result (IsWorkFor room.old options.now lemmas.now state) }
@@ -240,7 +246,7 @@ pub fn work_on(
     requires numbered { IsNumbered problem.now }
     requires margins { AreMargins (margins_of options.now) }
     requires state { FitsProblem (problem_of problem.now) state }
-    requires root { IsTrue (space_within state.space (root_space (problem_of problem.now))) }
+    requires root { LiesInRoot (problem_of problem.now) state.space }
     requires lemmas { AreLemmasAt problem.now options.now lemmas.now }
     ensures at_once { IfOk result (AnswersAtOnceFor problem.now options.now lemmas.now state) }
     ensures work { IfOk result (IsWorkFor problem.now options.now lemmas.now state) }

@@ -65,14 +65,12 @@ fn axis_allows(space: &Space, axis: u32, value: bool) -> bool
 }
 
 // Whether the atom may hold at a point of the space with these marks; not where there is no such atom.
-fn may_atom(problem: &Problem, space: &Space, lits: &Lits, judged: &Judged, j: u32) -> bool
-    requires judged { AreJudgedOver problem.now (space_of space.now) judged.now }
-    requires lits { length lits.now ≡ length problem.now.atoms }
-    ensures { result ≡ atom_may_hold problem.now judged.now.margin
-        (state_of (space_of space.now) lits.now) j }
+fn may_atom(_problem: &Problem, _space: &Space, lits: &Lits, judged: &Judged, j: u32) -> bool
+    requires judged { AreJudgedOver _problem.now (space_of _space.now) judged.now }
+    requires lits { length lits.now ≡ length _problem.now.atoms }
+    ensures { result ≡
+        atom_may_hold _problem.now judged.now.margin (state_of (space_of _space.now) lits.now) j }
 {
-    let _ = problem;
-    let _ = space;
     if j as usize >= judged.misses.len() {
         return false;
     }

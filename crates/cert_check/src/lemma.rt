@@ -38,12 +38,11 @@ fn first_axis(alloc: Global, problem: &Problem, cover: Cover, number: u32) -> Re
 }
 
 // The main tree, after all lemmas.
-fn main_tree(problem: &Problem, cover: Cover) -> Result<Due, Refusal>
-    requires { IsSound problem.now (NextDue cover) }
-    ensures comes { IsNext problem.now (NextDue cover) TreeWord result }
-    ensures sound { IfOk result (IsSound problem.now) }
+fn main_tree(_problem: &Problem, cover: Cover) -> Result<Due, Refusal>
+    requires { IsSound _problem.now (NextDue cover) }
+    ensures comes { IsNext _problem.now (NextDue cover) TreeWord result }
+    ensures sound { IfOk result (IsSound _problem.now) }
 {
-    let _ = problem;
     if cover.lemmas.len() == cover.count as usize {
         Ok(Due::Root(cover))
     } else {

@@ -101,12 +101,11 @@ pub fn unit(
 }
 
 /// Whether the lemma of this number covers the state.
-pub fn lemma_covers(problem: &Problem, lemmas: &[State], i: u32, state: &State) -> bool
-    requires lemmas { All (λ L. Fits problem.now (state_of L)) lemmas.now }
-    requires fits { Fits problem.now (state_of state.now) }
+pub fn lemma_covers(_problem: &Problem, lemmas: &[State], i: u32, state: &State) -> bool
+    requires lemmas { All (λ L. Fits _problem.now (state_of L)) lemmas.now }
+    requires fits { Fits _problem.now (state_of state.now) }
     ensures { result ≡ lemma_covers (map state_of lemmas.now) i (state_of state.now) }
 {
-    let _ = problem;
     let i = i as usize;
     i < lemmas.len() && lemmas[i].covers(state)
 }

@@ -63,7 +63,8 @@ pub fn narrow(
 ) -> Narrowed
     requires parts { ArePartsOver space.old centre.now parts.now }
     requires room { length parts.now ≤ length lefts.old }
-    ensures narrowed { IsNarrowedByParts parts.now centre.now allowed rest space.old space.new result }
+    ensures narrowed { IsNarrowedByParts parts.now centre.now allowed rest
+        space.old space.new result }
     ensures room { length lefts.new ≡ length lefts.old }
 {
     if !tighten(parts, space, centre, allowed, rest, lefts) {

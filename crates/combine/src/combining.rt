@@ -25,7 +25,8 @@ fn narrow_by(
 ) -> Narrowed
     requires measured { IsMeasuredOver space.old centre.now gathered.now }
     requires room { vec_len gathered.now.parts ≤ length lefts.old }
-    ensures narrowed { IsNarrowedByExpansion gathered.now centre.now allowed space.old space.new result }
+    ensures narrowed { IsNarrowedByExpansion gathered.now centre.now allowed
+        space.old space.new result }
     ensures room { length lefts.new ≡ length lefts.old }
 {
     let range = gathered.rest.add(gathered.sum);
@@ -59,7 +60,8 @@ pub fn combine(
     requires centre { space_of centre.now ≡ middle (space_of space.old) }
     requires centre_rows { EncloseOver problem.now centre.now centre_rows.now }
     requires room { FitsRoom problem.now.nodes room.old }
-    ensures narrowed { IsNarrowedByCombination problem.now loosen lits.now multipliers.now space.old space.new result }
+    ensures narrowed { IsNarrowedByCombination problem.now loosen lits.now multipliers.now
+        space.old space.new result }
     ensures room { FitsRoom problem.now.nodes room.new }
 {
     let ranges = hand_roots(

@@ -108,7 +108,8 @@ pub fn expand(
     requires centre_rows { length (rows_of centre_rows.now) ≡ length (rows_of rows.now) }
     requires room { needed_by (node_of node) ≤ gathered.old.first }
     requires measured { IsMeasuredOver space.now centre.now gathered.old }
-    ensures expansion { IsExpanded rows.now centre_rows.now n linear square node gathered.old gathered.new }
+    ensures expansion { IsExpanded rows.now centre_rows.now n linear square node
+        gathered.old gathered.new }
     ensures measured { IsMeasuredOver space.now centre.now gathered.new }
     ensures first { gathered.new.first + needed_by (node_of node) ≡ gathered.old.first }
     ensures room { vec_len gathered.new.parts ≡ vec_len gathered.old.parts }

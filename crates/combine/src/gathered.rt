@@ -69,7 +69,8 @@ impl Gathered {
     )
         requires room { 0 < self.old.first }
         requires measured { IsMeasuredOver space.now centre.now self.old }
-        ensures expansion { expansion_of self.new ≡ with_variable axis linear square (expansion_of self.old) }
+        ensures expansion { expansion_of self.new ≡
+            with_variable axis linear square (expansion_of self.old) }
         ensures measured { IsMeasuredOver space.now centre.now self.new }
         ensures first { self.new.first + 1 ≡ self.old.first }
         ensures room { vec_len self.new.parts ≡ vec_len self.old.parts }

@@ -1,5 +1,5 @@
 // Room for combinations.
-ghost use Rattle.std.specs.Prelude.{◌≡◌, true, IfOk, length};
+ghost use Rattle.std.specs.Prelude.{◌≡◌, IfOk, length};
 ghost use Rattle.combine.specs.Parts.{needed_below};
 ghost use Rattle.combine.specs.Rooms.{FitsRoom};
 
@@ -47,17 +47,5 @@ impl Room {
             gathered,
             lefts,
         })
-    }
-
-    /// Whether there is room for the combinations of this problem.
-    pub fn serves(&self, problem: &Problem) -> bool
-        ensures { result ≡ true → FitsRoom problem.now.nodes self.now }
-    {
-        let graph = problem.graph();
-        let count = variables(graph);
-        self.adjoints.len() == graph.len()
-            && self.squares.len() == graph.len()
-            && self.gathered.parts.len() == count
-            && self.lefts.len() == count
     }
 }

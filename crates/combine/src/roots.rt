@@ -86,8 +86,10 @@ fn hand_root(
     requires centre_rows { length (rows_of centre_rows.now) ≡ length problem.now.nodes }
     requires adjoints { length (rows_of adjoints.old) ≡ length problem.now.nodes }
     ensures root { IsRootHanded problem.now j multiplier adjoints.old adjoints.new }
-    ensures central { interval_of result.central ≡ central_with problem.now centre_rows.now j multiplier ranges.central }
-    ensures allowed { interval_of result.allowed ≡ allowed_with problem.now loosen lits.now j multiplier ranges.allowed }
+    ensures central { interval_of result.central ≡
+        central_with problem.now centre_rows.now j multiplier ranges.central }
+    ensures allowed { interval_of result.allowed ≡
+        allowed_with problem.now loosen lits.now j multiplier ranges.allowed }
     ensures count { length (rows_of adjoints.new) ≡ length problem.now.nodes }
 {
     let factor = only(multiplier);
@@ -116,8 +118,10 @@ pub fn hand_roots(
     requires centre_rows { length (rows_of centre_rows.now) ≡ length problem.now.nodes }
     requires adjoints { length (rows_of adjoints.old) ≡ length problem.now.nodes }
     ensures roots { StandsFor adjoints.new (adjoints_of problem.now multipliers.now) }
-    ensures central { interval_of result.central ≡ central_of problem.now centre_rows.now multipliers.now }
-    ensures allowed { interval_of result.allowed ≡ allowed_of problem.now loosen lits.now multipliers.now }
+    ensures central { interval_of result.central ≡
+        central_of problem.now centre_rows.now multipliers.now }
+    ensures allowed { interval_of result.allowed ≡
+        allowed_of problem.now loosen lits.now multipliers.now }
     ensures count { length (rows_of adjoints.new) ≡ length problem.now.nodes }
 {
     adjoints.clear_marks();

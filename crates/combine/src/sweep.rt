@@ -43,7 +43,8 @@ pub fn sweep(
     requires under { (k : ℕ) → option_at adjoints.old k ≡ None → option_at squares.old k ≡ None }
     requires room { needed_below graph.now (length graph.now) ≤ gathered.old.first }
     requires measured { IsMeasuredOver space.now centre.now gathered.old }
-    ensures expansion { IsSwept graph.now rows.now centre_rows.now adjoints.old squares.old gathered.old gathered.new }
+    ensures expansion { IsSwept graph.now rows.now centre_rows.now
+        adjoints.old squares.old gathered.old gathered.new }
     ensures measured { IsMeasuredOver space.now centre.now gathered.new }
     ensures room { vec_len gathered.new.parts ≡ vec_len gathered.old.parts }
     ensures adjoints { length (rows_of adjoints.new) ≡ length graph.now }

@@ -30,8 +30,10 @@ pub fn tighten(
 ) -> bool
     requires parts { ArePartsOver space.now centre.now parts.now }
     requires room { length parts.now ≤ length lefts.old }
-    ensures none { result ≡ false → LeavesNothing (tightened_parts space.now centre.now allowed rest parts.now) }
-    ensures some { result ≡ true → tightened_parts space.now centre.now allowed rest parts.now ≡ pairs parts.now lefts.new }
+    ensures none { result ≡ false →
+        LeavesNothing (tightened_parts space.now centre.now allowed rest parts.now) }
+    ensures some { result ≡ true →
+        tightened_parts space.now centre.now allowed rest parts.now ≡ pairs parts.now lefts.new }
     ensures left { result ≡ true → (k : ℕ) → k < length parts.now → IsLeft lefts.new k }
     ensures room { length lefts.new ≡ length lefts.old }
 {

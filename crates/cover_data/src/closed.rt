@@ -75,7 +75,9 @@ impl KeptPatch {
 
     /// The closed patch; the patch itself where it did not end by closing its state.
     pub fn closed(self) -> Result<ClosedPatch, KeptPatch>
-        ensures { MatchResult result (λ c. (c ≡ kept_of self) × IsClosed (kept_of self)) (λ k. (k ≡ self) × ¬ IsClosed (kept_of self)) }
+        ensures { MatchResult result
+            (λ c. (c ≡ kept_of self) × IsClosed (kept_of self))
+            (λ k. (k ≡ self) × ¬ IsClosed (kept_of self)) }
     {
         if self.has_closed() {
             Ok(ClosedPatch { kept: self })

@@ -17,8 +17,10 @@ use std::alloc::{AllocError, Global};
 // The lower part of a Real axis, then its upper part.
 fn cut(alloc: Global, state: &State, axis: u32, at: Dy) -> Result<(State, State), AllocError>
     requires { IsTrue (test_axis (strictly_inside (dyadic_of at)) axis state.now.space) }
-    ensures first { IfOk result (λ p. p.0 ≡ with_changed state.now (lower_part (dyadic_of at)) axis) }
-    ensures second { IfOk result (λ p. p.1 ≡ with_changed state.now (upper_part (dyadic_of at)) axis) }
+    ensures first { IfOk result (λ p.
+        p.0 ≡ with_changed state.now (lower_part (dyadic_of at)) axis) }
+    ensures second { IfOk result (λ p.
+        p.1 ≡ with_changed state.now (upper_part (dyadic_of at)) axis) }
 {
     let mut low = state.try_clone(alloc)?;
     let mut high = state.try_clone(alloc)?;
@@ -59,7 +61,8 @@ impl KeptPatch {
     pub fn kids(&self, alloc: Global) -> Result<Option<(State, State)>, AllocError>
         requires { IfSome (kept_of self.now).end (λ l. CanPart l self.now.reached) }
         ensures none { IfOk result (λ o. IfNone o (kids_of (kept_of self.now) ≡ None)) }
-        ensures two { IfOk result (λ o. IfSome o (λ p. kids_of (kept_of self.now) ≡ Some (p.0, p.1))) }
+        ensures two { IfOk result (λ o.
+            IfSome o (λ p. kids_of (kept_of self.now) ≡ Some (p.0, p.1))) }
     {
         match &self.end {
             Some(End::Cut(axis, at)) => Ok(Some(cut(alloc, &self.reached, *axis, *at)?)),

@@ -29,7 +29,8 @@ impl Model for Point {
 impl Point {
     /// The point of a space at which the form was found to be sure at delta. Problem and margins say of which form.
     pub fn shown(_problem: &Problem, _margins: &Margins, space: Space) -> Point
-        requires { IsShownAt (problem_of _problem.now) (loosenings_of _margins.now) (space_of space) }
+        requires { IsShownAt (problem_of _problem.now) (loosenings_of _margins.now)
+            (space_of space) }
         ensures space { result ≡ space_of space }
         ensures shown { IsShownAt (problem_of _problem.now) (loosenings_of _margins.now) result }
     {

@@ -120,7 +120,8 @@ impl State {
     /// Leaves this to the axis.
     pub fn set_axis(&mut self, axis: usize, domain: Domain)
         requires { axis < length self.old.space }
-        ensures { self.new ≡ with_space self.old (slice_set self.old.space axis (domain_of domain)) }
+        ensures { self.new ≡
+            with_space self.old (slice_set self.old.space axis (domain_of domain)) }
     {
         self.space.set(axis, domain);
     }

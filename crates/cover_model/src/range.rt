@@ -14,7 +14,8 @@ use poly_graph::Kind;
 /// The ends of the kind's range, loosened by 2 to the power of minus `loosen`.
 pub fn range_ends(kind: Kind, loosen: u32) -> (Ext, Ext)
     requires { loosen ≤ 120 }
-    ensures { between (ext_of result.0) (ext_of result.1) ≡ range (two_to_minus loosen) (kind_of kind) }
+    ensures { between (ext_of result.0) (ext_of result.1) ≡
+        range (two_to_minus loosen) (kind_of kind) }
 {
     let margin = two_to_minus(loosen);
     match kind {
@@ -28,7 +29,8 @@ pub fn range_ends(kind: Kind, loosen: u32) -> (Ext, Ext)
 /// an atom of this kind fails.
 pub fn off_range_ends(kind: Kind, loosen: u32) -> (Ext, Ext)
     requires { loosen ≤ 120 }
-    ensures { between (ext_of result.0) (ext_of result.1) ≡ off_range (two_to_minus loosen) (kind_of kind) }
+    ensures { between (ext_of result.0) (ext_of result.1) ≡
+        off_range (two_to_minus loosen) (kind_of kind) }
 {
     let margin = two_to_minus(loosen);
     match kind {

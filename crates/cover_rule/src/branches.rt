@@ -15,6 +15,7 @@ ghost use Rattle.cover_rule.specs.Parting.{is_due_at, IsWidestRange};
 ghost use Rattle.cover_data.specs.Views.{kept_of};
 ghost use Rattle.cover_rule.specs.Held.{IsHeld, patch_of};
 
+use crate::facts::problem_is_whole;
 use crate::refusal::PatchRefusal;
 use crate::small::{has_small_side, is_small};
 use crate::steps::may_without;
@@ -126,7 +127,7 @@ fn meets_range(
     ensures { let margin = margin_of (loosenings_of margins.now) in
         result ≡ not (misses (problem_of problem.now) margin state.now.space j) }
 {
-    let _ = problem.axes();
+    problem_is_whole(problem);
     let space = state.space();
     may_atom(
         problem,

@@ -53,7 +53,6 @@ fn narrow_combined(
         IsNarrowed state.now.space (space_of work.new.spare) narrow result }
     ensures work { HasRowsOf problem.now margins.now state.now.space work.new }
 {
-    let _ = problem.axes();
     find_centre(problem, state.space(), &mut work.centre);
     combine(
         problem,

@@ -8,6 +8,7 @@
 mod branches;
 mod combining;
 mod ends;
+mod facts;
 mod narrowing;
 mod patch;
 mod point;

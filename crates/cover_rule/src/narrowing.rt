@@ -4,14 +4,16 @@ ghost use Rattle.poly_graph.specs.ProblemViews.{problem_of};
 ghost use Rattle.poly_graph.specs.Problem.{atom_at};
 ghost use Rattle.cover_model.specs.Fits.{FitsProblem};
 ghost use Rattle.cover_model.specs.State.{with_space};
-ghost use Rattle.cover_model.specs.Rules.{narrowing, narrowing_off, in_no_one_sided};
+ghost use Rattle.cover_model.specs.Rules.{in_no_one_sided};
 ghost use Rattle.cover_model.specs.Honest.{is_some_space, none_empty};
 ghost use Rattle.ival.specs.RowViews.{marks_of, is_marked};
 ghost use Rattle.ival.specs.SpaceViews.{space_of, domain_of};
 ghost use Rattle.ival.specs.Narrows.{IsNarrowed};
 ghost use Rattle.cover_data.specs.Margins.{AreMargins, loosenings_of};
+ghost use Rattle.cover_rule.specs.Calls.{narrowing_at, narrowing_off_at};
 ghost use Rattle.cover_rule.specs.Serves.{HasRowsOf, IsReady, IsNumbered, leaves_some};
 
+use crate::facts::problem_is_whole;
 use crate::workspace::Workspace;
 use cover_data::{Margins, State};
 use cover_model::is_one_sided;
@@ -72,7 +74,8 @@ pub fn forget(work: &mut Workspace)
 // Whether the row of atom j's term is marked.
 fn is_reached(problem: &Problem, rows: &Rows, j: usize) -> bool
     requires { j < length problem.now.atoms }
-    ensures { result ≡ false → is_marked (marks_of rows.now) (atom_at (problem_of problem.now) j).0 ≡ false }
+    ensures { result ≡ false →
+        is_marked (marks_of rows.now) (atom_at (problem_of problem.now) j).0 ≡ false }
 {
     let place = problem.atoms()[j].term as usize;
     place >= rows.len() || rows.marked(place)
@@ -82,8 +85,11 @@ fn is_reached(problem: &Problem, rows: &Rows, j: usize) -> bool
 fn drop_reached(problem: &Problem, rows: &Rows, leaves: &mut Vec<bool, Global>)
     requires { vec_len leaves.old ≡ length problem.now.atoms }
     ensures count { vec_len leaves.new ≡ vec_len leaves.old }
-    ensures kept { (j : ℕ) → slice_index_or leaves.new.items j false ≡ true → slice_index_or leaves.old.items j false ≡ true }
-    ensures unmarked { (j : ℕ) → j < length problem.now.atoms → slice_index_or leaves.new.items j false ≡ true → is_marked (marks_of rows.now) (atom_at (problem_of problem.now) j).0 ≡ false }
+    ensures kept { (j : ℕ) → slice_index_or leaves.new.items j false ≡ true →
+        slice_index_or leaves.old.items j false ≡ true }
+    ensures unmarked { (j : ℕ) → j < length problem.now.atoms →
+        slice_index_or leaves.new.items j false ≡ true →
+        is_marked (marks_of rows.now) (atom_at (problem_of problem.now) j).0 ≡ false }
 {
     for j in 0..problem.atoms().len() {
         if is_reached(problem, rows, j) {
@@ -95,7 +101,8 @@ fn drop_reached(problem: &Problem, rows: &Rows, leaves: &mut Vec<bool, Global>)
 // Leaves a domain to the axis, and tells whether that is a change.
 fn set_axis(axis: usize, domain: Domain, state: &mut State) -> bool
     requires { axis < length state.old.space }
-    ensures state { state.new ≡ with_space state.old (slice_set state.old.space axis (domain_of domain)) }
+    ensures state { state.new ≡
+        with_space state.old (slice_set state.old.space axis (domain_of domain)) }
     ensures same { result ≡ false → state.new ≡ state.old }
 {
     if is_same(state.space().get(axis), domain) {
@@ -149,11 +156,10 @@ fn narrow_by(
     requires margins { AreMargins margins.now }
     requires atom { j < length problem.now.atoms }
     requires work { IsReady problem.now margins.now state.now.space work.old }
-    ensures narrowed { let narrow = narrowing (problem_of problem.now) (loosenings_of margins.now) state.now j in
+    ensures narrowed { let narrow = narrowing_at problem.now margins.now state.now j in
         IsNarrowed state.now.space (space_of work.new.spare) narrow result }
     ensures work { HasRowsOf problem.now margins.now state.now.space work.new }
 {
-    let _ = problem.axes();
     let atom = problem.atoms()[j as usize];
     narrow(
         problem.graph(),
@@ -169,7 +175,8 @@ fn narrow_by(
 fn note(narrowed: Narrowed, j: u32, leaves: &mut Vec<bool, Global>)
     requires { j < vec_len leaves.old }
     ensures none { narrowed ≡ Narrowed.Empty → leaves.new.items ≡ leaves.old.items }
-    ensures some { narrowed ≢ Narrowed.Empty → leaves.new.items ≡ slice_set leaves.old.items j true }
+    ensures some { narrowed ≢ Narrowed.Empty →
+        leaves.new.items ≡ slice_set leaves.old.items j true }
     ensures count { vec_len leaves.new ≡ vec_len leaves.old }
 {
     match narrowed {
@@ -189,7 +196,7 @@ pub fn narrow_spare(
     requires margins { AreMargins margins.now }
     requires atom { j < length problem.now.atoms }
     requires work { IsReady problem.now margins.now state.now.space work.old }
-    ensures narrowed { let narrow = narrowing (problem_of problem.now) (loosenings_of margins.now) state.now j in
+    ensures narrowed { let narrow = narrowing_at problem.now margins.now state.now j in
         IsNarrowed state.now.space (space_of work.new.spare) narrow result }
     ensures work { HasRowsOf problem.now margins.now state.now.space work.new }
 {
@@ -209,11 +216,11 @@ pub fn leaves_nothing(
     requires margins { AreMargins margins.now }
     requires atom { j < length problem.now.atoms }
     requires work { IsReady problem.now margins.now state.now.space work.old }
-    ensures empty { let narrow = narrowing (problem_of problem.now) (loosenings_of margins.now) state.now j in
+    ensures empty { let narrow = narrowing_at problem.now margins.now state.now j in
         result ≡ not (is_some_space narrow) }
     ensures work { IsReady problem.now margins.now state.now.space work.new }
 {
-    let _ = problem.axes();
+    problem_is_whole(problem);
     match narrow_spare(problem, margins, state, j, work) {
         Narrowed::Empty => true,
         Narrowed::Same => false,
@@ -245,11 +252,10 @@ pub fn narrow_off_spare(
     requires margins { AreMargins margins.now }
     requires atom { j < length problem.now.atoms }
     requires work { IsReady problem.now margins.now state.now.space work.old }
-    ensures narrowed { let narrow = narrowing_off (problem_of problem.now) (loosenings_of margins.now) state.now j in
+    ensures narrowed { let narrow = narrowing_off_at problem.now margins.now state.now j in
         IsNarrowed state.now.space (space_of work.new.spare) narrow result }
     ensures work { HasRowsOf problem.now margins.now state.now.space work.new }
 {
-    let _ = problem.axes();
     let atom = problem.atoms()[j as usize];
     narrow_off(
         problem.graph(),
@@ -272,11 +278,11 @@ pub fn off_leaves_nothing(
     requires margins { AreMargins margins.now }
     requires atom { j < length problem.now.atoms }
     requires work { IsReady problem.now margins.now state.now.space work.old }
-    ensures empty { let narrow = narrowing_off (problem_of problem.now) (loosenings_of margins.now) state.now j in
+    ensures empty { let narrow = narrowing_off_at problem.now margins.now state.now j in
         result ≡ not (is_some_space narrow) }
     ensures work { IsReady problem.now margins.now state.now.space work.new }
 {
-    let _ = problem.axes();
+    problem_is_whole(problem);
     match narrow_off_spare(problem, margins, state, j, work) {
         Narrowed::Empty => true,
         Narrowed::Same => false,
@@ -315,7 +321,8 @@ pub fn none_leaves_nothing(
     requires numbered { IsNumbered problem.now }
     requires state { FitsProblem (problem_of problem.now) state.now }
     requires work { IsReady problem.now margins.now state.now.space work.old }
-    ensures none { result ≡ none_empty (problem_of problem.now) (loosenings_of margins.now) state.now }
+    ensures none { result ≡
+        none_empty (problem_of problem.now) (loosenings_of margins.now) state.now }
     ensures work { IsReady problem.now margins.now state.now.space work.new }
 {
     for j in 0..state.lits().len() {

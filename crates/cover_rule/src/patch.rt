@@ -124,7 +124,8 @@ impl<'a> Patch<'a> {
 
     /// The enclosures of the problem's terms over the space that it has reached.
     pub fn rows(&self) -> &Rows
-        ensures { rows_of result.now ≡ enclosures self.now.kept.reached.space self.now.problem.nodes }
+        ensures { rows_of result.now ≡
+            enclosures self.now.kept.reached.space self.now.problem.nodes }
     {
         &self.work.rows
     }
@@ -147,7 +148,8 @@ impl<'a> Patch<'a> {
 
     /// Whether the form is sure at the middle of the space that it has reached.
     pub fn is_sure_at_middle(&mut self) -> bool
-        ensures sure { result ≡ sure_at_middle self.old.problem self.old.margins self.old.kept.reached.space }
+        ensures sure { result ≡
+            sure_at_middle self.old.problem self.old.margins self.old.kept.reached.space }
         ensures same { self.new ≡ self.old }
     {
         is_sure_at_middle(

@@ -43,7 +43,6 @@ impl MiddlePoint for Point {
             let s = loosenings_of margins.now in
             IfOk result (λ o. IfSome o (λ x. IsShownAt p s x)) }
     {
-        let _ = problem.axes();
         let nodes = problem.graph().len();
         let mut rows = Rows::new(alloc, nodes)?;
         let mut marks = Marks::new(alloc, problem)?;

@@ -14,7 +14,8 @@ use ival::{Domain, Range, Space, Truths};
 /// exactly where the sum itself is not.
 pub fn has_small_side(range: Range, bits: u32) -> bool
     requires { bits ≤ 120 }
-    ensures { let side = difference_of (exact (dyadic_of range.high)) (exact (dyadic_of range.low)) in
+    ensures { let side =
+        difference_of (exact (dyadic_of range.high)) (exact (dyadic_of range.low)) in
         result ≡ at_most side (exact (two_to_minus bits)) }
 {
     at_most(

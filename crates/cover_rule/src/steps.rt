@@ -38,7 +38,8 @@ fn narrowed(
     ensures may { OnOk result (pull_refusal (patch_of problem.now margins.now kept.now) j ≡ None) }
     ensures refusal { let P = patch_of problem.now margins.now kept.now in
         IfErr result (λ e. IsPullRefusal P j e) }
-    ensures refused { OnErr result (IsReady problem.now margins.now kept.now.reached.space work.new) }
+    ensures refused { OnErr result
+        (IsReady problem.now margins.now kept.now.reached.space work.new) }
     ensures serves { HasRowsOf problem.now margins.now kept.now.reached.space work.new }
     ensures length { length (space_of work.new.spare) ≡ length kept.now.reached.space }
     ensures fits { OnOk result (FitsPulled (patch_of problem.now margins.now kept.now) j) }
@@ -46,11 +47,11 @@ fn narrowed(
         OnOk result (space_of work.new.spare ≡ pulled_space P j) }
     ensures same { let P = patch_of problem.now margins.now kept.now in
         let space = kept.now.reached.space in
-        result ≡ Ok false → (narrowing_in P j ≡ Some space) × IsReady problem.now margins.now space work.new }
+        result ≡ Ok false →
+        (narrowing_in P j ≡ Some space) × IsReady problem.now margins.now space work.new }
     ensures less { let P = patch_of problem.now margins.now kept.now in
         result ≡ Ok true → narrowing_in P j ≢ Some kept.now.reached.space }
 {
-    let _ = problem.axes();
     if kept.end.is_some() {
         return Err(PatchRefusal::Ended);
     }
@@ -78,7 +79,8 @@ fn narrowed_off(
     ensures may { OnOk result (push_refusal (patch_of problem.now margins.now kept.now) j ≡ None) }
     ensures refusal { let P = patch_of problem.now margins.now kept.now in
         IfErr result (λ e. IsPushRefusal P j e) }
-    ensures refused { OnErr result (IsReady problem.now margins.now kept.now.reached.space work.new) }
+    ensures refused { OnErr result
+        (IsReady problem.now margins.now kept.now.reached.space work.new) }
     ensures serves { HasRowsOf problem.now margins.now kept.now.reached.space work.new }
     ensures length { length (space_of work.new.spare) ≡ length kept.now.reached.space }
     ensures fits { OnOk result (FitsPushed (patch_of problem.now margins.now kept.now) j) }
@@ -86,11 +88,11 @@ fn narrowed_off(
         OnOk result (space_of work.new.spare ≡ pushed_space P j) }
     ensures same { let P = patch_of problem.now margins.now kept.now in
         let space = kept.now.reached.space in
-        result ≡ Ok false → (narrowing_off_in P j ≡ Some space) × IsReady problem.now margins.now space work.new }
+        result ≡ Ok false →
+        (narrowing_off_in P j ≡ Some space) × IsReady problem.now margins.now space work.new }
     ensures less { let P = patch_of problem.now margins.now kept.now in
         result ≡ Ok true → narrowing_off_in P j ≢ Some kept.now.reached.space }
 {
-    let _ = problem.axes();
     if kept.end.is_some() {
         return Err(PatchRefusal::Ended);
     }
@@ -118,7 +120,8 @@ fn combined(
         OnOk result (combine_refusal P (multipliers_of multipliers.now) ≡ None) }
     ensures refusal { let P = patch_of problem.now margins.now kept.now in
         IfErr result (λ e. IsCombineRefusal P (multipliers_of multipliers.now) e) }
-    ensures refused { OnErr result (IsReady problem.now margins.now kept.now.reached.space work.new) }
+    ensures refused { OnErr result
+        (IsReady problem.now margins.now kept.now.reached.space work.new) }
     ensures serves { HasRowsOf problem.now margins.now kept.now.reached.space work.new }
     ensures length { length (space_of work.new.spare) ≡ length kept.now.reached.space }
     ensures some { OnOk result (0 < length multipliers.now) }
@@ -129,11 +132,13 @@ fn combined(
         OnOk result (space_of work.new.spare ≡ combined_space P (multipliers_of multipliers.now)) }
     ensures same { let P = patch_of problem.now margins.now kept.now in
         let space = kept.now.reached.space in
-        result ≡ Ok false → (combining_in P (multipliers_of multipliers.now) ≡ Some space) × IsReady problem.now margins.now space work.new }
+        result ≡ Ok false →
+        (combining_in P (multipliers_of multipliers.now) ≡ Some space) ×
+        IsReady problem.now margins.now space work.new }
     ensures less { let P = patch_of problem.now margins.now kept.now in
-        result ≡ Ok true → combining_in P (multipliers_of multipliers.now) ≢ Some kept.now.reached.space }
+        result ≡ Ok true →
+        combining_in P (multipliers_of multipliers.now) ≢ Some kept.now.reached.space }
 {
-    let _ = problem.axes();
     if kept.end.is_some() {
         return Err(PatchRefusal::Ended);
     }
@@ -287,7 +292,8 @@ fn take_combined(
     requires length { length (space_of work.old.spare) ≡ length kept.old.reached.space }
     ensures ok { let k = kept_of kept.old in
         let reached = with_space k.reached (space_of work.old.spare) in
-        OnOk result (kept_of kept.new ≡ stepped k (combine (multipliers_of multipliers.now)) k.quoted reached) }
+        OnOk result (kept_of kept.new ≡
+        stepped k (combine (multipliers_of multipliers.now)) k.quoted reached) }
     ensures err { OnErr result (kept_of kept.new ≡ kept_of kept.old) }
     ensures memory { OnErr result (result ≡ Err refusal.Memory) }
     ensures ready { IsReady problem.now margins.now kept.new.reached.space work.new }
@@ -355,7 +361,8 @@ pub fn may_without(
     requires atom { IsTrue (undecided state.old j) }
     requires small { j < length problem.now.atoms }
     requires work { IsReady problem.now margins.now state.old.space work.old }
-    ensures truth { result ≡ may (problem_of problem.now) (loosenings_of margins.now) (with_no state.old j) }
+    ensures truth { result ≡
+        may (problem_of problem.now) (loosenings_of margins.now) (with_no state.old j) }
     ensures state { state.new ≡ state.old }
     ensures work { IsReady problem.now margins.now state.old.space work.new }
 {

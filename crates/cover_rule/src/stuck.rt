@@ -7,6 +7,7 @@ ghost use Rattle.cover_model.specs.Honest.{none_below, settled};
 ghost use Rattle.cover_data.specs.Margins.{AreMargins, loosenings_of};
 ghost use Rattle.cover_rule.specs.Serves.{HasRowsOf, IsReady, IsNumbered};
 
+use crate::facts::problem_is_whole;
 use crate::narrowing::none_leaves_nothing;
 use crate::workspace::Workspace;
 use cover_data::{Margins, State};
@@ -25,9 +26,10 @@ pub fn is_stuck_atom(
     requires atom { j < length problem.now.atoms }
     requires state { FitsProblem (problem_of problem.now) state.now }
     requires work { HasRowsOf problem.now margins.now state.now.space work.now }
-    ensures { result ≡ is_stuck_atom (problem_of problem.now) (loosenings_of margins.now) state.now j }
+    ensures { result ≡
+        is_stuck_atom (problem_of problem.now) (loosenings_of margins.now) state.now j }
 {
-    let _ = problem.axes();
+    problem_is_whole(problem);
     let space = state.space();
     may_atom(
         problem,
@@ -69,7 +71,8 @@ pub fn is_settled(problem: &Problem, margins: &Margins, state: &State, work: &mu
     requires numbered { IsNumbered problem.now }
     requires state { FitsProblem (problem_of problem.now) state.now }
     requires work { IsReady problem.now margins.now state.now.space work.old }
-    ensures settled { result ≡ settled (problem_of problem.now) (loosenings_of margins.now) state.now }
+    ensures settled { result ≡
+        settled (problem_of problem.now) (loosenings_of margins.now) state.now }
     ensures work { IsReady problem.now margins.now state.now.space work.new }
 {
     conjuncts_in_yes(problem, state.lits(), &mut work.marks)

@@ -12,6 +12,7 @@ ghost use Rattle.ival.specs.SpaceViews.{space_of};
 ghost use Rattle.cover_data.specs.Margins.{AreMargins, loosenings_of};
 ghost use Rattle.cover_rule.specs.Serves.{HasCentre, IsCentre, HasRowsOf, sure_at_middle};
 
+use crate::facts::problem_is_whole;
 use crate::workspace::{Centre, Workspace};
 use cover_data::{Margins, State};
 use hc4_fwd::{fill, follow};
@@ -28,7 +29,7 @@ pub fn may_hold(problem: &Problem, margins: &Margins, state: &State, work: &mut 
     ensures work { HasRowsOf problem.now margins.now state.now.space work.new }
     ensures spare { work.new.spare ≡ work.old.spare }
 {
-    let _ = problem.axes();
+    problem_is_whole(problem);
     may(
         problem,
         &work.rows,
@@ -57,11 +58,11 @@ pub fn midpoint_sure(
     ensures sure { let point = middle_space (space_of space.now) in
         result ≡ sure_within (problem_of problem.now) (two_to_minus delta) point }
     ensures middle { space_of middle.new ≡ middle_space (space_of space.now) }
-    ensures rows { rows_of rows.new ≡ enclosures (middle_space (space_of space.now)) problem.now.nodes }
+    ensures rows { rows_of rows.new ≡
+        enclosures (middle_space (space_of space.now)) problem.now.nodes }
     ensures marks { vec_len marks.new.truths ≡ length problem.now.forms }
 {
     space.middle(middle);
-    let _ = problem.axes();
     fill(problem.graph(), middle, rows);
     sure(problem, rows, middle, delta, marks)
 }
@@ -104,7 +105,7 @@ pub fn is_sure_at_middle(
     if work.unsure {
         return false;
     }
-    let _ = problem.axes();
+    problem_is_whole(problem);
     find_centre(problem, state.space(), &mut work.centre);
     let is_sure = sure(
         problem,
@@ -127,7 +128,8 @@ pub fn is_not_shown(
     requires margins { AreMargins margins.now }
     requires state { FitsProblem (problem_of problem.now) state.now }
     requires work { HasRowsOf problem.now margins.now state.now.space work.old }
-    ensures truth { result ≡ not_shown (problem_of problem.now) (loosenings_of margins.now) state.now }
+    ensures truth { result ≡
+        not_shown (problem_of problem.now) (loosenings_of margins.now) state.now }
     ensures work { HasRowsOf problem.now margins.now state.now.space work.new }
     ensures spare { work.new.spare ≡ work.old.spare }
 {

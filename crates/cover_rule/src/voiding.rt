@@ -104,7 +104,8 @@ impl Voiding {
     pub fn note(&mut self, narrowed: Narrowed, lits: &Lits, multipliers: &[(u32, Dy)])
         requires { AreMarkedIn lits.now multipliers.now }
         ensures other { narrowed ≢ Narrowed.Empty → self.new ≡ self.old }
-        ensures noted { narrowed ≡ Narrowed.Empty → IsNoted lits.now (multipliers_of multipliers.now) self.new }
+        ensures noted { narrowed ≡ Narrowed.Empty →
+            IsNoted lits.now (multipliers_of multipliers.now) self.new }
     {
         match narrowed {
             Narrowed::Empty => self.known = put(lits, multipliers, &mut self.pairs),

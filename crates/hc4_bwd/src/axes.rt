@@ -29,7 +29,8 @@ fn narrow_variable(axis: u32, interval: Ival, space: &mut Space) -> bool
 
 // Leaves to the axis of a variable its narrowed interval, and tells whether that is a change.
 fn narrow_axis(node: Node, narrowed: Ival, space: &mut Space) -> bool
-    ensures axes { space_of space.new ≡ axis_step (node_of node) (Some (interval_of narrowed)) (space_of space.old) }
+    ensures axes { space_of space.new ≡
+        axis_step (node_of node) (Some (interval_of narrowed)) (space_of space.old) }
     ensures same { result ≡ false → space_of space.new ≡ space_of space.old }
     ensures less { result ≡ true → space_of space.new ≢ space_of space.old }
 {
@@ -42,7 +43,8 @@ fn narrow_axis(node: Node, narrowed: Ival, space: &mut Space) -> bool
 /// Leaves to the axis of each variable its narrowed interval, if it has one, and tells whether that is a change.
 pub fn narrow_axes(graph: &Graph, scratch: &Rows, space: &mut Space) -> bool
     requires { length (rows_of scratch.now) ≡ length graph.now }
-    ensures axes { space_of space.new ≡ with_axes graph.now (options_of scratch.now) (space_of space.old) }
+    ensures axes { space_of space.new ≡
+        with_axes graph.now (options_of scratch.now) (space_of space.old) }
     ensures same { result ≡ false → space_of space.new ≡ space_of space.old }
     ensures less { result ≡ true → space_of space.new ≢ space_of space.old }
 {

@@ -14,7 +14,8 @@ use poly_graph::Node;
 pub fn push_to(rows: &Rows, s: u32, left: Ival, scratch: &mut Rows)
     requires rows { s < length (rows_of rows.now) }
     requires scratch { length (rows_of scratch.old) ≡ length (rows_of rows.now) }
-    ensures at { option_at scratch.new s ≡ pushed (rows_of rows.now) s (interval_of left) (option_at scratch.old s) }
+    ensures at { option_at scratch.new s ≡
+        pushed (rows_of rows.now) s (interval_of left) (option_at scratch.old s) }
     ensures others { (k : ℕ) → k ≢ s → option_at scratch.new k ≡ option_at scratch.old k }
     ensures count { length (rows_of scratch.new) ≡ length (rows_of scratch.old) }
 {
@@ -32,7 +33,9 @@ pub fn push_to(rows: &Rows, s: u32, left: Ival, scratch: &mut Rows)
 fn push(node: Node, narrowed: Ival, rows: &Rows, scratch: &mut Rows)
     requires order { IsTrue (comes_after (length (rows_of rows.now)) (node_of node)) }
     requires scratch { length (rows_of scratch.old) ≡ length (rows_of rows.now) }
-    ensures all { (s : ℕ) → option_at scratch.new s ≡ pushed_by (rows_of rows.now) s (node_of node) (interval_of narrowed) (option_at scratch.old s) }
+    ensures all { (s : ℕ) → option_at scratch.new s ≡
+        pushed_by (rows_of rows.now) s (node_of node) (interval_of narrowed)
+        (option_at scratch.old s) }
     ensures count { length (rows_of scratch.new) ≡ length (rows_of scratch.old) }
 {
     match node {
@@ -56,7 +59,9 @@ fn pass(node: Node, n: usize, narrowed: Ival, rows: &Rows, scratch: &mut Rows)
     requires order { IsTrue (comes_after (length (rows_of rows.now)) (node_of node)) }
     requires rows { n < length (rows_of rows.now) }
     requires scratch { length (rows_of scratch.old) ≡ length (rows_of rows.now) }
-    ensures all { (s : ℕ) → IsPassed (rows_of rows.now) n s (node_of node) (interval_of narrowed) (option_at scratch.old s) (option_at scratch.new s) }
+    ensures all { (s : ℕ) →
+        IsPassed (rows_of rows.now) n s (node_of node) (interval_of narrowed)
+        (option_at scratch.old s) (option_at scratch.new s) }
     ensures count { length (rows_of scratch.new) ≡ length (rows_of scratch.old) }
 {
     if narrowed == rows.get(n) {
@@ -71,7 +76,9 @@ pub fn visit(node: Node, n: usize, narrowed: Ival, rows: &Rows, scratch: &mut Ro
     requires order { IsTrue (comes_after n (node_of node)) }
     requires rows { n < length (rows_of rows.now) }
     requires scratch { length (rows_of scratch.old) ≡ length (rows_of rows.now) }
-    ensures below { (s : ℕ) → s < n → IsPassed (rows_of rows.now) n s (node_of node) (interval_of narrowed) (option_at scratch.old s) (option_at scratch.new s) }
+    ensures below { (s : ℕ) → s < n →
+        IsPassed (rows_of rows.now) n s (node_of node) (interval_of narrowed)
+        (option_at scratch.old s) (option_at scratch.new s) }
     ensures at { option_at scratch.new n ≡ kept_by (node_of node) (option_at scratch.old n) }
     ensures above { (k : ℕ) → n < k → option_at scratch.new k ≡ option_at scratch.old k }
     ensures count { length (rows_of scratch.new) ≡ length (rows_of scratch.old) }

@@ -19,9 +19,13 @@ pub fn sweep(graph: &Graph, root: u32, range: Ival, rows: &Rows, scratch: &mut R
     requires rows { length (rows_of rows.now) ≡ length graph.now }
     requires enclosures { AreEnclosures graph.now (rows_of rows.now) }
     requires scratch { length (rows_of scratch.old) ≡ length graph.now }
-    ensures none { result ≡ false → some_empty (narrowed_under graph.now rows.now root range) ≡ true }
-    ensures some { result ≡ true → some_empty (narrowed_under graph.now rows.now root range) ≡ false }
-    ensures variables { result ≡ true → HasVariables graph.now (rows_of rows.now) (narrowed_under graph.now rows.now root range) scratch.new }
+    ensures none { result ≡ false →
+        some_empty (narrowed_under graph.now rows.now root range) ≡ true }
+    ensures some { result ≡ true →
+        some_empty (narrowed_under graph.now rows.now root range) ≡ false }
+    ensures variables { result ≡ true →
+        HasVariables graph.now (rows_of rows.now)
+        (narrowed_under graph.now rows.now root range) scratch.new }
     ensures count { length (rows_of scratch.new) ≡ length graph.now }
 {
     prove_eq!(rows.len(), graph.len());

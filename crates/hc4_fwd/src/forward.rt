@@ -42,11 +42,10 @@ pub fn follow(graph: &Graph, space: &Space, rows: &mut Rows)
 }
 
 /// As `follow`, where the other space differs from this one at most at the axis.
-pub fn refill(graph: &Graph, space: &Space, axis: u32, rows: &mut Rows)
-    requires { FilledBut axis graph.now (space_of space.now) (rows_of rows.old) }
+pub fn refill(graph: &Graph, space: &Space, _axis: u32, rows: &mut Rows)
+    requires { FilledBut _axis graph.now (space_of space.now) (rows_of rows.old) }
     ensures rows { rows_of rows.new ≡ enclosures (space_of space.now) graph.now }
     ensures apart { IsApart graph.now (rows_of rows.old) (rows_of rows.new) (marks_of rows.new) }
 {
-    let _ = axis;
     follow(graph, space, rows);
 }

@@ -45,7 +45,8 @@ fn set_variable(node: Node, interval: Ival, space: &mut Space) -> bool
 /// Leaves to the axis of each variable what is left to it, where its row is marked, and tells whether that is a change.
 pub fn set_axes(graph: &Graph, left: &Rows, space: &mut Space) -> bool
     requires { length (rows_of left.now) ≡ length graph.now }
-    ensures axes { space_of space.new ≡ with_axes graph.now (options_of left.now) (space_of space.old) }
+    ensures axes { space_of space.new ≡
+        with_axes graph.now (options_of left.now) (space_of space.old) }
     ensures same { result ≡ false → space_of space.new ≡ space_of space.old }
     ensures less { result ≡ true → space_of space.new ≢ space_of space.old }
 {

@@ -37,7 +37,8 @@ pub fn combine_plain(
     requires centre { space_of centre.now ≡ middle (space_of space.old) }
     requires centre_rows { AreEnclosures problem.now.nodes centre.now centre_rows.now }
     requires room { Suits problem.now.nodes room.old }
-    ensures narrowed { IsCombined problem.now loosen lits.now multipliers.now space.old space.new result }
+    ensures narrowed { IsCombined problem.now loosen lits.now multipliers.now
+        space.old space.new result }
     ensures room { Suits problem.now.nodes room.new }
 {
     let graph = problem.graph();

@@ -100,7 +100,8 @@ pub fn give_children(
     requires order { IsTrue (comes_after (length graph.now) (node_of node)) }
     requires rows { length (rows_of centre_rows.now) ≡ length graph.now }
     requires linear { length (rows_of linear.old) ≡ length graph.now }
-    ensures all { option_at linear.new ≡ given graph.now node coefficient centre_rows.now linear.old }
+    ensures all { option_at linear.new ≡
+        given graph.now node coefficient centre_rows.now linear.old }
     ensures count { length (rows_of linear.new) ≡ length graph.now }
 {
     match node {

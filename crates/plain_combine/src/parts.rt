@@ -60,7 +60,8 @@ pub fn sum_parts(
     requires under { AreUnder coefficients.now }
     requires ranges { length (rows_of ranges.old) ≡ length graph.now }
     requires left { length (rows_of left.old) ≡ length graph.now }
-    ensures sum { interval_of result ≡ range_of_parts graph.now coefficients.now space.now centre.now }
+    ensures sum { interval_of result ≡
+        range_of_parts graph.now coefficients.now space.now centre.now }
     ensures ranges { HaveRangesOver graph.now coefficients.now space.now centre.now ranges.new }
     ensures behind { HaveBehind graph.now coefficients.now space.now centre.now left.new }
     ensures marks { marks_of left.new ≡ marks_of left.old }
@@ -127,7 +128,8 @@ pub fn leave(
     requires ranges { HaveRangesOver graph.now coefficients.now space.now centre.now ranges.now }
     requires behind { HaveBehind graph.now coefficients.now space.now centre.now left.old }
     requires none { (k : ℕ) → is_marked (marks_of left.old) k ≡ false }
-    ensures left { Leaves graph.now coefficients.now space.now centre.now allowed rest left.new result }
+    ensures left { Leaves graph.now coefficients.now space.now centre.now
+        allowed rest left.new result }
     ensures count { length (rows_of left.new) ≡ length graph.now }
 {
     prove_eq!(coefficients.linear.len(), graph.len());

@@ -51,7 +51,8 @@ fn is_one(interval: Ival) -> bool
 
 /// The coefficient's multiple; that by 1 is the interval itself.
 pub fn multiple(coefficient: Ival, interval: Ival) -> Ival
-    ensures { interval_of result ≡ interval_product (interval_of coefficient) (interval_of interval) }
+    ensures { interval_of result ≡
+        interval_product (interval_of coefficient) (interval_of interval) }
 {
     if is_one(coefficient) {
         return interval;

@@ -79,8 +79,10 @@ pub fn start(
     requires centre_rows { length (rows_of centre_rows.now) ≡ length problem.now.nodes }
     requires linear { length (rows_of linear.old) ≡ length problem.now.nodes }
     ensures roots { option_at linear.new ≡ adjoints_of problem.now multipliers.now }
-    ensures central { interval_of result.0 ≡ central_of problem.now centre_rows.now multipliers.now }
-    ensures allowed { interval_of result.1 ≡ allowed_by problem.now loosen lits.now multipliers.now }
+    ensures central { interval_of result.0 ≡
+        central_of problem.now centre_rows.now multipliers.now }
+    ensures allowed { interval_of result.1 ≡
+        allowed_by problem.now loosen lits.now multipliers.now }
     ensures count { length (rows_of linear.new) ≡ length problem.now.nodes }
 {
     linear.clear_marks();

@@ -101,7 +101,8 @@ fn with_node(
     requires order { IsTrue (comes_after n (node_of node)) }
     requires node { n < length (rows_of rows.now) }
     requires rows { length (rows_of centre_rows.now) ≡ length (rows_of rows.now) }
-    ensures { interval_of result ≡ rest_with_node rows.now centre_rows.now n linear square node rest }
+    ensures { interval_of result ≡
+        rest_with_node rows.now centre_rows.now n linear square node rest }
 {
     match node {
         Node::Var(_) => rest,
@@ -126,7 +127,8 @@ pub fn sweep(
     requires centre_rows { length (rows_of centre_rows.now) ≡ length graph.now }
     requires count { AreFor graph.now coefficients.old }
     requires under { AreUnder coefficients.old }
-    ensures expansion { Sweeps graph.now rows.now centre_rows.now rest coefficients.old coefficients.new result }
+    ensures expansion { Sweeps graph.now rows.now centre_rows.now rest
+        coefficients.old coefficients.new result }
     ensures count { AreFor graph.now coefficients.new }
     ensures under { AreUnder coefficients.new }
 {

@@ -13,7 +13,8 @@ use poly_graph::Node;
 /// The enclosure of the node over the space, from the rows of its children.
 pub fn value(node: Node, space: &Space, rows: &Rows) -> Ival
     requires { IsTrue (comes_after (length (rows_of rows.now)) (node_of node)) }
-    ensures { interval_of result ≡ node_enclosure (space_of space.now) (rows_of rows.now) (node_of node) }
+    ensures { interval_of result ≡
+        node_enclosure (space_of space.now) (rows_of rows.now) (node_of node) }
 {
     match node {
         Node::Const(fraction) => Ival::around(fraction),

@@ -19,8 +19,10 @@ use poly_graph::{Graph, Node, Parents};
 fn mark_all(places: &[u32], rows: &mut Rows)
     requires { All (λ k. k < length (rows_of rows.old)) places.now }
     ensures rows { rows_of rows.new ≡ rows_of rows.old }
-    ensures others { (k : ℕ) → is_marked (marks_of rows.new) k ≡ false → is_marked (marks_of rows.old) k ≡ false }
-    ensures all { (j : ℕ) → j < length places.now → is_marked (marks_of rows.new) (slice_index places.now j) ≡ true }
+    ensures others { (k : ℕ) → is_marked (marks_of rows.new) k ≡ false →
+        is_marked (marks_of rows.old) k ≡ false }
+    ensures all { (j : ℕ) → j < length places.now →
+        is_marked (marks_of rows.new) (slice_index places.now j) ≡ true }
 {
     for place in places {
         rows.mark(*place as usize);

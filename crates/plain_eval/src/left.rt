@@ -16,7 +16,8 @@ use poly_graph::Node;
 pub fn leave(rows: &Rows, s: u32, interval: Ival, scratch: &mut Rows)
     requires rows { s < length (rows_of rows.now) }
     requires scratch { length (rows_of scratch.old) ≡ length (rows_of rows.now) }
-    ensures at { option_at scratch.new s ≡ left_more (rows_of rows.now) s (interval_of interval) (option_at scratch.old s) }
+    ensures at { option_at scratch.new s ≡
+        left_more (rows_of rows.now) s (interval_of interval) (option_at scratch.old s) }
     ensures others { (k : ℕ) → k ≢ s → option_at scratch.new k ≡ option_at scratch.old k }
     ensures count { length (rows_of scratch.new) ≡ length (rows_of scratch.old) }
 {
@@ -50,7 +51,8 @@ fn leave_all(rows: &Rows, s: u32, scratch: &mut Rows)
 fn leave_all_to_children(node: Node, rows: &Rows, scratch: &mut Rows)
     requires order { IsTrue (comes_after (length (rows_of rows.now)) (node_of node)) }
     requires scratch { length (rows_of scratch.old) ≡ length (rows_of rows.now) }
-    ensures all { (s : ℕ) → option_at scratch.new s ≡ left_all_by (rows_of rows.now) s (node_of node) (option_at scratch.old s) }
+    ensures all { (s : ℕ) → option_at scratch.new s ≡
+        left_all_by (rows_of rows.now) s (node_of node) (option_at scratch.old s) }
     ensures count { length (rows_of scratch.new) ≡ length (rows_of scratch.old) }
 {
     match node {
@@ -74,7 +76,9 @@ fn leave_all_to_children(node: Node, rows: &Rows, scratch: &mut Rows)
 fn leave_inverses(node: Node, narrowed: Ival, rows: &Rows, scratch: &mut Rows)
     requires order { IsTrue (comes_after (length (rows_of rows.now)) (node_of node)) }
     requires scratch { length (rows_of scratch.old) ≡ length (rows_of rows.now) }
-    ensures all { (s : ℕ) → option_at scratch.new s ≡ left_more_by (rows_of rows.now) s (node_of node) (interval_of narrowed) (option_at scratch.old s) }
+    ensures all { (s : ℕ) → option_at scratch.new s ≡
+        left_more_by (rows_of rows.now) s (node_of node) (interval_of narrowed)
+        (option_at scratch.old s) }
     ensures count { length (rows_of scratch.new) ≡ length (rows_of scratch.old) }
 {
     match node {
@@ -109,7 +113,8 @@ pub fn leave_to_children(node: Node, n: usize, narrowed: Ival, rows: &Rows, scra
     requires rows { n < length (rows_of rows.now) }
     requires scratch { length (rows_of scratch.old) ≡ length (rows_of rows.now) }
     ensures all { let es = rows_of rows.now in (s : ℕ) →
-        IsLeftBy es n s (node_of node) (interval_of narrowed) (option_at scratch.old s) (option_at scratch.new s) }
+        IsLeftBy es n s (node_of node) (interval_of narrowed)
+        (option_at scratch.old s) (option_at scratch.new s) }
     ensures count { length (rows_of scratch.new) ≡ length (rows_of scratch.old) }
 {
     if is_whole(narrowed, n, rows) {

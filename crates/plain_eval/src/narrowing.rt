@@ -28,7 +28,8 @@ fn narrow_by(
     requires place { root < length graph.now }
     requires rows { rows_of rows.now ≡ enclosures (space_of space.old) graph.now }
     requires scratch { length (rows_of scratch.old) ≡ length graph.now }
-    ensures narrowed { IsNarrowed (space_of space.old) (space_of space.new) (narrowed_by graph.now root (interval_of range) (space_of space.old)) result }
+    ensures narrowed { IsNarrowed (space_of space.old) (space_of space.new)
+        (narrowed_by graph.now root (interval_of range) (space_of space.old)) result }
     ensures scratch { length (rows_of scratch.new) ≡ length graph.now }
 {
     narrow_rows(graph, root, range, rows, scratch);

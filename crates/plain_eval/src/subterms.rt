@@ -19,7 +19,8 @@ pub fn narrow_rows(graph: &Graph, root: u32, range: Ival, rows: &Rows, scratch: 
     requires rows { length (rows_of rows.now) ≡ length graph.now }
     requires enclosures { AreEnclosures graph.now (rows_of rows.now) }
     requires scratch { length (rows_of scratch.old) ≡ length graph.now }
-    ensures options { options_of scratch.new ≡ narrowed graph.now (rows_of rows.now) root (interval_of range) }
+    ensures options { options_of scratch.new ≡
+        narrowed graph.now (rows_of rows.now) root (interval_of range) }
     ensures count { length (rows_of scratch.new) ≡ length graph.now }
 {
     prove_eq!(rows.len(), graph.len());

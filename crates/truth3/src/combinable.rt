@@ -27,7 +27,8 @@ fn is_other_than_nought(by: Dy) -> bool
 #[tactic(auto, using(crate::proofs::Ordered::nought_here, crate::proofs::Ordered::before_next, crate::proofs::Ordered::last_here))]
 fn is_in_order(multipliers: &[(u32, Dy)], k: usize) -> bool
     requires { k < length multipliers.now }
-    ensures { are_ordered (multipliers_of (drop k multipliers.now)) ≡ (result && are_ordered (multipliers_of (drop (k + 1) multipliers.now))) }
+    ensures { are_ordered (multipliers_of (drop k multipliers.now)) ≡
+        (result && are_ordered (multipliers_of (drop (k + 1) multipliers.now))) }
 {
     let (j, by) = multipliers[k];
     if !is_other_than_nought(by) {
@@ -64,7 +65,8 @@ fn is_combination(multipliers: &[(u32, Dy)]) -> bool
 fn is_combinable(problem: &Problem, lits: &Lits, j: u32) -> bool
     requires { length lits.now ≡ length problem.now.atoms }
     ensures { (space : Domains) → let S = state_of space lits.now in
-        result ≡ (nat_lt j (length problem.now.atoms) && (in_yes S j || in_no_one_sided (problem_of problem.now) S j)) }
+        result ≡ (nat_lt j (length problem.now.atoms) &&
+        (in_yes S j || in_no_one_sided (problem_of problem.now) S j)) }
 {
     let atoms = problem.atoms();
     if j as usize >= atoms.len() {
@@ -81,7 +83,8 @@ fn is_combinable(problem: &Problem, lits: &Lits, j: u32) -> bool
 fn are_combinable(problem: &Problem, lits: &Lits, multipliers: &[(u32, Dy)]) -> bool
     requires { length lits.now ≡ length problem.now.atoms }
     ensures { (space : Domains) →
-        result ≡ are_combinable (problem_of problem.now) (state_of space lits.now) (multipliers_of multipliers.now) }
+        result ≡ are_combinable (problem_of problem.now) (state_of space lits.now)
+        (multipliers_of multipliers.now) }
 {
     for pair in multipliers {
         if !is_combinable(problem, lits, pair.0) {
@@ -95,7 +98,8 @@ fn are_combinable(problem: &Problem, lits: &Lits, multipliers: &[(u32, Dy)]) -> 
 pub fn can_combine(problem: &Problem, lits: &Lits, multipliers: &[(u32, Dy)]) -> bool
     requires { length lits.now ≡ length problem.now.atoms }
     ensures { (space : Domains) → let ms = multipliers_of multipliers.now in
-        result ≡ (is_combination ms && are_combinable (problem_of problem.now) (state_of space lits.now) ms) }
+        result ≡ (is_combination ms &&
+        are_combinable (problem_of problem.now) (state_of space lits.now) ms) }
 {
     is_combination(multipliers) && are_combinable(problem, lits, multipliers)
 }

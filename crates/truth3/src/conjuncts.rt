@@ -36,7 +36,8 @@ fn is_node_in_yes(lits: &Lits, truths: &[bool], node: &FormNode) -> bool
 /// Whether each atom that the form's root reaches through conjunctions alone is marked yes.
 pub fn conjuncts_in_yes(problem: &Problem, lits: &Lits, marks: &mut Marks) -> bool
     requires { vec_len marks.old.truths ≡ length problem.now.forms }
-    ensures truth { (space : Space) → result ≡ conjuncts_are_in_yes problem.now (state_of space lits.now) }
+    ensures truth { (space : Space) →
+        result ≡ conjuncts_are_in_yes problem.now (state_of space lits.now) }
     ensures marks { vec_len marks.new.truths ≡ length problem.now.forms }
 {
     let forms = problem.forms();

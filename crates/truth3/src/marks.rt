@@ -44,7 +44,9 @@ fn may_node(
     requires rows { HasRows problem.now (space_of space.now) (rows_of rows.now) }
     requires lits { length lits.now ≡ length problem.now.atoms }
     requires order { IsTrue (form_comes_after (length truths.now) (form_node_of node.now)) }
-    ensures { result ≡ node_may_hold problem.now margin (state_of (space_of space.now) lits.now) truths.now (form_node_of node.now) }
+    ensures { result ≡
+        node_may_hold problem.now margin (state_of (space_of space.now) lits.now)
+        truths.now (form_node_of node.now) }
 {
     match node {
         FormNode::True => true,
@@ -70,7 +72,8 @@ pub fn may(
     requires rows { HasRows problem.now (space_of space.now) (rows_of rows.now) }
     requires lits { length lits.now ≡ length problem.now.atoms }
     requires marks { vec_len marks.old.truths ≡ length problem.now.forms }
-    ensures truth { result ≡ form_may_hold problem.now margin (state_of (space_of space.now) lits.now) }
+    ensures truth { result ≡
+        form_may_hold problem.now margin (state_of (space_of space.now) lits.now) }
     ensures marks { vec_len marks.new.truths ≡ length problem.now.forms }
 {
     let forms = problem.forms();

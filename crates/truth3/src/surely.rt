@@ -25,7 +25,8 @@ fn sure_node(
     requires delta { delta ≤ 120 }
     requires rows { HasRows problem.now (space_of space.now) (rows_of rows.now) }
     requires order { IsTrue (form_comes_after (length truths.now) (form_node_of node.now)) }
-    ensures { result ≡ node_is_sure problem.now delta (space_of space.now) truths.now (form_node_of node.now) }
+    ensures { result ≡
+        node_is_sure problem.now delta (space_of space.now) truths.now (form_node_of node.now) }
 {
     match node {
         FormNode::True => true,

@@ -9,5 +9,5 @@ use Rattle.box_worker.proofs.contraction.look.Goals as goal
 pub look-requires-clause-rows : goal.look-requires-clause-rows
 look-requires-clause-rows c =
     let p = c.args.problem.now in let S = c.reached.result.now.space in
-    has_rows p c.axes.ensures.whole S (rows_of c.rows.result.now)
+    has_rows p c.problem_is_whole.ensures S (rows_of c.rows.result.now)
     (c.rows.ensures ∙ ap (λ (q : Parts). enclosures c.args.patch.now.kept.reached.space q.nodes) c.requires.problem ∙ ap (λ (T : State). enclosures T.space p.nodes) (sym c.reached.ensures.state))

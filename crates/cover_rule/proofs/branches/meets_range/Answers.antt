@@ -16,7 +16,7 @@ use Rattle.cover_rule.proofs.branches.meets_range.Goals as goal
 pub may_atom-requires-clause-rows : goal.may_atom-requires-clause-rows
 may_atom-requires-clause-rows c =
     let p = c.args.problem.now in
-    has_rows p c.axes.ensures.whole (space_of c.space-space.result.now) (rows_of c.args.work.now.rows) (c.requires.work.rows ∙ ap (λ (s : Space). enclosures s p.nodes) (sym c.space-space.ensures))
+    has_rows p c.problem_is_whole.ensures (space_of c.space-space.result.now) (rows_of c.args.work.now.rows) (c.requires.work.rows ∙ ap (λ (s : Space). enclosures s p.nodes) (sym c.space-space.ensures))
 
 pub returns : goal.returns
 returns c =

@@ -12,11 +12,11 @@ use Rattle.cover_rule.proofs.steps.narrowed.Goals as goal
 pub returns-in-Less-clause-length : goal.returns-in-Less-clause-length
 returns-in-Less-clause-length c =
     let N = space_of c.narrow_spare.new.work.spare in let S = c.args.kept.now.reached in
-    within_length N S.space (narrowing_within (problem_of c.args.problem.now) c.axes.ensures.whole.problem (loosenings_of c.args.margins.now) S c.args.j N c.in-Less.ensures.narrowed.0)
+    within_length N S.space (narrowing_within (problem_of c.args.problem.now) c.requires.held.whole.problem (loosenings_of c.args.margins.now) S c.args.j N c.in-Less.ensures.narrowed.0)
 
 pub returns-in-Less-clause-fits : goal.returns-in-Less-clause-fits
 returns-in-Less-clause-fits c =
     let p = problem_of c.args.problem.now in let N = space_of c.narrow_spare.new.work.spare in let S = c.args.kept.now.reached in
     let e = c.in-Less.ensures.narrowed.0 in
-    let w = narrowing_within p c.axes.ensures.whole.problem (loosenings_of c.args.margins.now) S c.args.j N e in
+    let w = narrowing_within p c.requires.held.whole.problem (loosenings_of c.args.margins.now) S c.args.j N e in
     subst (λ (o : Option Space). FitsAxes p.axes (space_or S.space o)) (sym e) (code_fits p.axes c.narrow_spare.new.work.spare S.space w c.requires.held.run.sound.reached.axes)

@@ -9,9 +9,9 @@ use Rattle.cover_rule.proofs.stuck.is_stuck_atom.Goals as goal
 pub may_atom-requires-clause-rows : goal.may_atom-requires-clause-rows
 may_atom-requires-clause-rows c =
     let p = c.args.problem.now in
-    has_rows p c.axes.ensures.whole (space_of c.space-space.result.now) (rows_of c.args.work.now.rows) (c.requires.work.rows ∙ ap (λ (s : Space). enclosures s p.nodes) (sym c.space-space.ensures))
+    has_rows p c.problem_is_whole.ensures (space_of c.space-space.result.now) (rows_of c.args.work.now.rows) (c.requires.work.rows ∙ ap (λ (s : Space). enclosures s p.nodes) (sym c.space-space.ensures))
 
 pub sure_atom-requires-clause-rows : goal.sure_atom-requires-clause-rows
 sure_atom-requires-clause-rows c =
     let p = c.args.problem.now in
-    has_rows p c.axes.ensures.whole (space_of c.space-space.result.now) (rows_of c.args.work.now.rows) (c.requires.work.rows ∙ ap (λ (s : Space). enclosures s p.nodes) (sym c.space-space.ensures))
+    has_rows p c.problem_is_whole.ensures (space_of c.space-space.result.now) (rows_of c.args.work.now.rows) (c.requires.work.rows ∙ ap (λ (s : Space). enclosures s p.nodes) (sym c.space-space.ensures))

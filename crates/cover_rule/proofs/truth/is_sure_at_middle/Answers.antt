@@ -13,4 +13,4 @@ find_centre-requires-clause-space c = ap length c.space.ensures ∙ fits_length 
 pub sure-is_sure-requires-clause-rows : goal.sure-is_sure-requires-clause-rows
 sure-is_sure-requires-clause-rows c =
     let p = c.args.problem.now in let k = c.find_centre.ensures.is in
-    has_rows p c.axes.ensures.whole (space_of c.find_centre.new.centre.middle) (rows_of c.find_centre.new.centre.rows) (k.filled ∙ ap (λ (s : Space). enclosures s p.nodes) (sym k.place))
+    has_rows p c.problem_is_whole.ensures (space_of c.find_centre.new.centre.middle) (rows_of c.find_centre.new.centre.rows) (k.filled ∙ ap (λ (s : Space). enclosures s p.nodes) (sym k.place))

@@ -9,4 +9,4 @@ use Rattle.cover_rule.proofs.truth.may_hold.Goals as goal
 pub may-requires-clause-rows : goal.may-requires-clause-rows
 may-requires-clause-rows c =
     let p = c.args.problem.now in
-    has_rows p c.axes.ensures.whole (space_of c.space.result.now) (rows_of c.args.work.now.rows) (c.requires.work.rows ∙ ap (λ (s : Space). enclosures s p.nodes) (sym c.space.ensures))
+    has_rows p c.problem_is_whole.ensures (space_of c.space.result.now) (rows_of c.args.work.now.rows) (c.requires.work.rows ∙ ap (λ (s : Space). enclosures s p.nodes) (sym c.space.ensures))

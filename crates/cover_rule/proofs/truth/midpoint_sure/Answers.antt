@@ -8,4 +8,4 @@ use Rattle.cover_rule.proofs.truth.midpoint_sure.Goals as goal
 
 pub sure-requires-clause-rows : goal.sure-requires-clause-rows
 sure-requires-clause-rows c =
-    has_rows c.args.problem.now c.axes.ensures.whole (space_of c.middle.new.into) (rows_of c.fill.new.rows) (c.fill.ensures.rows ∙ ap (λ (ns : List Node). enclosures (space_of c.middle.new.into) ns) c.graph.ensures.graph)
+    has_rows c.args.problem.now c.graph.ensures.whole (space_of c.middle.new.into) (rows_of c.fill.new.rows) (c.fill.ensures.rows ∙ ap (λ (ns : List Node). enclosures (space_of c.middle.new.into) ns) c.graph.ensures.graph)

@@ -9,4 +9,4 @@ pub shown-requires : goal.shown-requires
 shown-requires c =
     let p = problem_of c.args.problem.now in let s = loosenings_of c.args.margins.now in
     subst (IsShownAt p s) (sym c.midpoint_sure.ensures.middle)
-    (middle_shown p c.axes.ensures.whole.problem s c.requires.margins.few_delta c.args.space.now c.requires.space (sym c.midpoint_sure.ensures.sure ∙ c.if-midpoint_sure.true))
+    (middle_shown p c.graph.ensures.whole.problem s c.requires.margins.few_delta c.args.space.now c.requires.space (sym c.midpoint_sure.ensures.sure ∙ c.if-midpoint_sure.true))
