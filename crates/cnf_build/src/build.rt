@@ -65,7 +65,8 @@ fn add_pairs(
     children: &[u32],
 ) -> Result<(), AllocError>
     requires { EachIndex children.now (λ i. slice_index children.now i < length problem.now.forms) }
-    ensures { OnOk result (made.new ≡ made.old ++ pairs_at problem.now first positive children.now) }
+    ensures { OnOk result
+        (made.new ≡ made.old ++ pairs_at problem.now first positive children.now) }
 {
     for child in children {
         let mut clause = Vec::new(alloc);
@@ -89,7 +90,8 @@ fn add_all(
     children: &[u32],
 ) -> Result<(), AllocError>
     requires { EachIndex children.now (λ i. slice_index children.now i < length problem.now.forms) }
-    ensures { OnOk result (made.new ≡ made.old ++ ((first ∷ literals_at problem.now positive children.now) ∷ [])) }
+    ensures { OnOk result (made.new ≡ made.old ++
+        ((first ∷ literals_at problem.now positive children.now) ∷ [])) }
 {
     let mut clause = Vec::new(alloc);
     clause.push(first)?;

@@ -30,7 +30,12 @@ impl Cnf {
     // These clauses over so many atoms, axes and helpers.
     pub(crate) fn new(made: Made, atom_count: u32, axis_count: u32, helper_count: u32) -> Self
         requires { AreNamed atom_count axis_count helper_count made }
-        ensures { result ≡ record { clauses = made; atoms = atom_count; axes = axis_count; helpers = helper_count } }
+        ensures { result ≡ record {
+          clauses = made;
+          atoms = atom_count;
+          axes = axis_count;
+          helpers = helper_count;
+        } }
     {
         Cnf {
             made,

@@ -181,7 +181,8 @@ impl Book {
 
     /// The lemmas of this number and later ones.
     pub fn lemmas_from(&self, from: u32) -> Result<Vec<Lemma>, AllocError>
-        ensures { IfOk result (λ v. BookStep self.now (call.LemmasFrom from) (reply.Lemmas v) self.now) }
+        ensures { IfOk result (λ v.
+            BookStep self.now (call.LemmasFrom from) (reply.Lemmas v) self.now) }
     {
         let count = self.lemmas.len();
         let first = (from as usize).min(count);
@@ -217,7 +218,8 @@ impl Book {
 
     // Refuses more where a point is kept.
     fn test_point(&self) -> Result<(), BookRefusal>
-        ensures { MatchResult result (λ _. self.now.point ≡ None) (λ e. IsPointKeptRefusal self.now e) }
+        ensures { MatchResult result (λ _. self.now.point ≡ None) (λ e.
+            IsPointKeptRefusal self.now e) }
     {
         match &self.point {
             None => Ok(()),

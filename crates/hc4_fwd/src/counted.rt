@@ -23,9 +23,12 @@ use std::sync::ledger::Ledger;
 fn mark_all(places: &[u32], rows: &mut Rows)
     requires { All (λ k. k < length (rows_of rows.old)) places.now }
     ensures rows { rows_of rows.new ≡ rows_of rows.old }
-    ensures others { (k : ℕ) → is_marked (marks_of rows.new) k ≡ false → is_marked (marks_of rows.old) k ≡ false }
-    ensures all { (j : ℕ) → j < length places.now → is_marked (marks_of rows.new) (slice_index places.now j) ≡ true }
-    ensures apart { (k : ℕ) → ((j : ℕ) → j < length places.now → slice_index places.now j ≢ k) → is_marked (marks_of rows.new) k ≡ is_marked (marks_of rows.old) k }
+    ensures others { (k : ℕ) → is_marked (marks_of rows.new) k ≡ false →
+        is_marked (marks_of rows.old) k ≡ false }
+    ensures all { (j : ℕ) → j < length places.now →
+        is_marked (marks_of rows.new) (slice_index places.now j) ≡ true }
+    ensures apart { (k : ℕ) → ((j : ℕ) → j < length places.now → slice_index places.now j ≢ k) →
+        is_marked (marks_of rows.new) k ≡ is_marked (marks_of rows.old) k }
 {
     for place in places {
         rows.mark(*place as usize);
@@ -45,9 +48,12 @@ fn renew_and_mark(
     requires parents { AreParents graph.now parents.now }
     requires count { length (rows_of rows.old) ≡ length graph.now }
     ensures rows { rows_of rows.new ≡ renewed space.now rows.old n node }
-    ensures others { (k : ℕ) → is_marked (marks_of rows.new) k ≡ false → is_marked (marks_of rows.old) k ≡ false }
-    ensures parents { (k : ℕ) (p : Term.Node) → slice_get graph.now k ≡ Some p → has_child n p ≡ true → is_marked (marks_of rows.new) k ≡ true }
-    ensures apart { (k : ℕ) (p : Term.Node) → slice_get graph.now k ≡ Some p → has_child n p ≡ false → is_marked (marks_of rows.new) k ≡ is_marked (marks_of rows.old) k }
+    ensures others { (k : ℕ) → is_marked (marks_of rows.new) k ≡ false →
+        is_marked (marks_of rows.old) k ≡ false }
+    ensures parents { (k : ℕ) (p : Term.Node) → slice_get graph.now k ≡ Some p →
+        has_child n p ≡ true → is_marked (marks_of rows.new) k ≡ true }
+    ensures apart { (k : ℕ) (p : Term.Node) → slice_get graph.now k ≡ Some p →
+        has_child n p ≡ false → is_marked (marks_of rows.new) k ≡ is_marked (marks_of rows.old) k }
 {
     prove!(n < graph.len());
     let interval = node_interval(node, space, rows);

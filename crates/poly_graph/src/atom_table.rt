@@ -66,7 +66,9 @@ impl AtomTable {
 
     /// The number of the atom, which is added where it did not stand yet.
     pub fn intern(&mut self, atom: Atom) -> Result<u32, NoNode>
-        ensures { MatchResult result (AtomInterned self.old self.new (atom_of atom)) (AtomRefused self.old self.new (atom_of atom)) }
+        ensures { MatchResult result
+            (AtomInterned self.old self.new (atom_of atom))
+            (AtomRefused self.old self.new (atom_of atom)) }
     {
         if let Some(n) = self.numbers.get(&atom) {
             return Ok(*n);

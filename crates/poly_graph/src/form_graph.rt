@@ -86,7 +86,9 @@ impl FormGraph {
     /// The number of the node, which is added where it did not stand yet.
     pub fn intern(&mut self, node: FormNode) -> Result<u32, NoNode>
         requires { IsTrue (form_comes_after (length self.old) (form_node_of node)) }
-        ensures { MatchResult result (FormInterned self.old self.new (form_node_of node)) (FormRefused self.old self.new (form_node_of node)) }
+        ensures { MatchResult result
+            (FormInterned self.old self.new (form_node_of node))
+            (FormRefused self.old self.new (form_node_of node)) }
     {
         if let Some(n) = self.numbers.get(&node) {
             return Ok(*n);

@@ -69,7 +69,9 @@ impl Graph {
     /// The number of the node, which is added where it did not stand yet.
     pub fn intern(&mut self, node: Node) -> Result<u32, NoNode>
         requires { IsTrue (comes_after (length self.old) (node_of node)) }
-        ensures { MatchResult result (Interned self.old self.new (node_of node)) (NodeRefused self.old self.new (node_of node)) }
+        ensures { MatchResult result
+            (Interned self.old self.new (node_of node))
+            (NodeRefused self.old self.new (node_of node)) }
     {
         if let Some(n) = self.numbers.get(&node) {
             return Ok(*n);

@@ -26,7 +26,8 @@ impl Model for Parents {
 // Adds number n to row s.
 fn push_at(rows: &mut Vec<Vec<u32>>, s: u32, n: u32) -> Result<(), AllocError>
     requires { s < length rows.old.items }
-    ensures { OnOk result (IsPushed (map (λ v. v.items) rows.old.items) (map (λ v. v.items) rows.new.items) s n) }
+    ensures { OnOk result (IsPushed (map (λ v. v.items) rows.old.items)
+        (map (λ v. v.items) rows.new.items) s n) }
 {
     rows[s as usize].push(n)?;
     Ok(())
@@ -35,7 +36,8 @@ fn push_at(rows: &mut Vec<Vec<u32>>, s: u32, n: u32) -> Result<(), AllocError>
 // Adds number n, which is the node's, to the row of each of its children.
 fn note(rows: &mut Vec<Vec<u32>>, node: Node, n: u32) -> Result<(), AllocError>
     requires { IsTrue (comes_after (length rows.old.items) (node_of node)) }
-    ensures { OnOk result (IsNoted (map (λ v. v.items) rows.old.items) (map (λ v. v.items) rows.new.items) (node_of node) n) }
+    ensures { OnOk result (IsNoted (map (λ v. v.items) rows.old.items)
+        (map (λ v. v.items) rows.new.items) (node_of node) n) }
 {
     match node {
         Node::Const(_) | Node::Var(_) => Ok(()),

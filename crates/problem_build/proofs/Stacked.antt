@@ -1,7 +1,7 @@
 -- What a stack of frames stands for, and how it goes on.
 use Rattle.std.proofs.Common.{◌≡◌, ℕ, List, [], ◌∷◌, ◌++◌, map, refl, ap, sym, ◌∙◌, subst, append_assoc, append-nil}
 use Rattle.std.specs.Prelude.{Result, Ok}
-use Rattle.script_model.specs.Reading.{Names, meaning}
+use Rattle.script_model.specs.Reading.{meaning}
 use Rattle.script_model.specs.Declared.{Bounding, bounding}
 use Rattle.script_forms.specs.Terms.{Unfolded}
 use Rattle.script_forms.specs.Work.{Event, reached, Work, as_work, outcome_of}
@@ -12,8 +12,7 @@ use Rattle.value_build.specs.Making.{Making, Grows, Steps}
 use Rattle.value_build.specs.Values.{IsValue}
 use Rattle.value_build.specs.declared.value.Value.{Value}
 use Rattle.value_build.proofs.Growth.{steps_then, steps_none, values_stay}
-use Rattle.problem_build.specs.Names.{Knows}
-use Rattle.problem_build.specs.Walking.{Fails, Waits, KnowsValues, Enters, Leaves, Goes, GoesReached, Reaches}
+use Rattle.problem_build.specs.Walking.{Fails, Waits, KnowsValues, Enters, Leaves, Goes, GoesReached, Reaches, ReachesMeaning}
 use Rattle.problem_build.specs.declared.top.Top.{Top}
 use Rattle.problem_build.specs.declared.frames.Scope.{Scope}
 use Rattle.problem_build.specs.declared.frames.Frame.{Frame}
@@ -119,8 +118,7 @@ goes_reached m m1 s top w b n h = record {
 
 -- an expression whose work is in hand is entered
 pub enters_reach : (m m1 : Making) (s : arena.Sexps) (top : List Top) (scope : Scope) (at : ℕ) (w : Work) (b : Bounding) (r : Result Next Stop) → Enters m s top scope at w b →
-    ((names : Names Work) (bnames : Names Bounding) → Knows m s top scope.visible scope.locals.value.items names bnames → Reaches m m1 s top (meaning as_work names (expression_at s at)) (meaning bounding bnames (expression_at s at)) r) →
-    Reaches m m1 s top w b r
+    ReachesMeaning m m1 s top scope (λ V M names. meaning M names (expression_at s at)) r → Reaches m m1 s top w b r
 enters_reach m m1 s top scope at w b r h f = reaches_same s top m m1 w (meaning as_work h.names (expression_at s at)) b (meaning bounding h.bnames (expression_at s at)) r h.work h.bound (f h.names h.bnames h.knows)
 
 module _ (s : arena.Sexps) (top : List Top) (whole : Work) (bound : Bounding) where

@@ -20,7 +20,7 @@ use Rattle.value_build.specs.Values.{AreValues}
 use Rattle.value_build.specs.declared.value.Value.{Value}
 use Rattle.value_build.proofs.Growth.{value_stays, steps_then}
 use Rattle.problem_build.specs.Names.{work_names, bound_names_of, bound_locals, AreLocals, Knows}
-use Rattle.problem_build.specs.Walking.{Fails, IsScope}
+use Rattle.problem_build.specs.Walking.{Fails, IsScope, KnowsScope}
 use Rattle.problem_build.specs.declared.frames.Scope.{Scope}
 use Rattle.problem_build.specs.declared.names.Local.{Local}
 use Rattle.problem_build.specs.declared.top.Top.{Top}
@@ -55,7 +55,7 @@ knows_stays m m1 s top n ls names bnames g h = record {
 
 -- what a scope sees
 pub knows_scope : (m : Making) (s : arena.Sexps) (top : List Top) (n : ℕ) (ls : List Local) (names : Names Work) (bnames : Names Bounding) (scope : Scope) → IsScope scope n ls → Knows m s top n ls names bnames →
-    Knows m s top scope.visible scope.locals.value.items names bnames
+    KnowsScope m s top scope names bnames
 knows_scope m s top n ls names bnames scope is h =
     subst (λ (k : ℕ). Knows m s top k scope.locals.value.items names bnames) (sym is.0) (subst (λ (xs : List Local). Knows m s top n xs names bnames) (sym is.1) h)
 

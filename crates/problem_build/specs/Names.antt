@@ -5,7 +5,7 @@ use Rattle.std.specs.HashMap.{HashMap, get_by}
 use Rattle.std.specs.Str.{bytes_eq}
 use Rattle.dyadic.specs.Point.{Sort}
 use Rattle.poly_graph.specs.Problem.{HasSort}
-use Rattle.script_model.specs.Reading.{Meanings, Names, Named, value, found, operators}
+use Rattle.script_model.specs.Reading.{Meanings, Names, Named, meaning, value, found, operators}
 use Rattle.script_model.specs.Script.{defined}
 use Rattle.script_model.specs.Declared.{Bounding, bounding, constant_bounding}
 use Rattle.script_forms.specs.Work.{Work, as_work}
@@ -89,6 +89,13 @@ work_names s top n = top_names as_work constant_work s top n
 
 abbrev pub bound_names_of : arena.Sexps → List Top → ℕ → Names Bounding
 bound_names_of s top n = top_names bounding constant_bounding s top n
+
+-- the work and the bounds of the expression at a place, where all names of the top are seen
+abbrev pub work_at : arena.Sexps → List Top → ℕ → Work
+work_at s top at = meaning as_work (work_names s top (length top)) (expression_at s at)
+
+abbrev pub bounding_at : arena.Sexps → List Top → ℕ → Bounding
+bounding_at s top at = meaning bounding (bound_names_of s top (length top)) (expression_at s at)
 
 -- these locals stand for these names: values, with what is made of them
 abbrev pub AreLocals : Making → List Local → Names Work → Names Bounding → Type 0

@@ -1,7 +1,7 @@
 -- What the walk over an expression answers, and what is left to be done while it goes on.
 use Rattle.std.specs.Prelude.{◌≡◌, ℕ, List, [], ◌∷◌, ◌++◌, map, None, Result, Ok, Err}
 use Rattle.script_model.specs.Sexp.{Place}
-use Rattle.script_model.specs.Reading.{Names, value, meaning, meanings, binding_meanings, values_bound, malformed}
+use Rattle.script_model.specs.Reading.{Meanings, Names, value, meaning, meanings, binding_meanings, values_bound, malformed}
 use Rattle.script_model.specs.Script.{bound_to}
 use Rattle.script_model.specs.Declared.{Bounding, bounding, bounding_operation, other}
 use Rattle.script_forms.specs.Terms.{Unfolded}
@@ -51,6 +51,10 @@ IsIll at r = r ≡ Err (stop.Fault at IllFormed)
 abbrev pub IsScope : Scope → ℕ → List Local → Type 0
 IsScope scope n ls = (scope.visible ≡ n) × (scope.locals.value.items ≡ ls)
 
+-- what the names of a scope stand for, in both meanings
+abbrev pub KnowsScope : Making → arena.Sexps → List Top → Scope → Names Work → Names Bounding → Type 0
+KnowsScope m s top scope names bnames = Knows m s top scope.visible scope.locals.value.items names bnames
+
 -- a value that is made goes back
 abbrev pub returned : Result Value Stop → Result Next Stop
 returned (Ok v) = Ok (next.Back v)
@@ -86,7 +90,7 @@ pub record IsLet (s : arena.Sexps) (place body : ℕ) (names : Names Work) (bnam
 pub record Calls (m : Making) (s : arena.Sexps) (top : List Top) (c : Call) (w : Work) (b : Bounding) : Type 0 where
   pub names : Names Work
   pub bnames : Names Bounding
-  pub knows : Knows m s top c.scope.visible c.scope.locals.value.items names bnames
+  pub knows : KnowsScope m s top c.scope names bnames
   pub done : List Work
   pub bounded : List Bounding
   pub values : AreValues m (map outcome_of done) bounded c.values.items
@@ -96,7 +100,7 @@ pub record Calls (m : Making) (s : arena.Sexps) (top : List Top) (c : Call) (w :
 pub record CallWaits (m : Making) (s : arena.Sexps) (top : List Top) (c : Call) (u : Unfolded) (d : Bounding) (w : Work) (b : Bounding) : Type 0 where
   pub names : Names Work
   pub bnames : Names Bounding
-  pub knows : Knows m s top c.scope.visible c.scope.locals.value.items names bnames
+  pub knows : KnowsScope m s top c.scope names bnames
   pub done : List Work
   pub bounded : List Bounding
   pub values : AreValues m (map outcome_of done) bounded c.values.items
@@ -108,7 +112,7 @@ pub record CallWaits (m : Making) (s : arena.Sexps) (top : List Top) (c : Call) 
 pub record Lets (m : Making) (s : arena.Sexps) (top : List Top) (l : Let) (w : Work) (b : Bounding) : Type 0 where
   pub names : Names Work
   pub bnames : Names Bounding
-  pub knows : Knows m s top l.scope.visible l.scope.locals.value.items names bnames
+  pub knows : KnowsScope m s top l.scope names bnames
   pub done : Names Work
   pub bounded : Names Bounding
   pub stand : AreLocals m l.bound.items done bounded
@@ -118,7 +122,7 @@ pub record Lets (m : Making) (s : arena.Sexps) (top : List Top) (l : Let) (w : W
 pub record LetWaits (m : Making) (s : arena.Sexps) (top : List Top) (l : Let) (x : List ℕ) (u : Unfolded) (d : Bounding) (w : Work) (b : Bounding) : Type 0 where
   pub names : Names Work
   pub bnames : Names Bounding
-  pub knows : Knows m s top l.scope.visible l.scope.locals.value.items names bnames
+  pub knows : KnowsScope m s top l.scope names bnames
   pub done : Names Work
   pub bounded : Names Bounding
   pub stand : AreLocals m l.bound.items done bounded
@@ -140,7 +144,7 @@ KnowsValues m (frame.Let l x) = Unit {0}
 pub record Enters (m : Making) (s : arena.Sexps) (top : List Top) (scope : Scope) (at : ℕ) (w : Work) (b : Bounding) : Type 0 where
   pub names : Names Work
   pub bnames : Names Bounding
-  pub knows : Knows m s top scope.visible scope.locals.value.items names bnames
+  pub knows : KnowsScope m s top scope names bnames
   pub work : w ≡ meaning as_work names (expression_at s at)
   pub bound : b ≡ meaning bounding bnames (expression_at s at)
 
@@ -187,3 +191,8 @@ pub record GoesReached (old new : Making) (s : arena.Sexps) (top : List Top) (w 
 abbrev pub Reaches : Making → Making → arena.Sexps → List Top → Work → Bounding → Result Next Stop → Type 0
 Reaches old new s top w b (Ok n) = GoesReached old new s top w b n
 Reaches old new s top w b (Err e) = Fails old w.events e
+
+-- the same of both meanings of what is read in a scope, where its names stand for what they do
+abbrev pub ReachesMeaning : Making → Making → arena.Sexps → List Top → Scope → ((V : Type 0) → Meanings V → Names V → V) → Result Next Stop → Type 0
+ReachesMeaning old new s top scope read r = (names : Names Work) (bnames : Names Bounding) → KnowsScope old s top scope names bnames →
+    Reaches old new s top (read Work as_work names) (read Bounding bounding bnames) r

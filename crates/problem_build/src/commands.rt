@@ -1,15 +1,11 @@
 // The walk over the commands of a script.
-ghost use Rattle.std.specs.Prelude.{◌≡◌, ◌∷◌, List, None, length};
-ghost use Rattle.script_model.specs.Reading.{meaning};
+ghost use Rattle.std.specs.Prelude.{◌≡◌, ◌∷◌, List, None};
 ghost use Rattle.script_model.specs.Script as model;
 ghost use Rattle.script_model.specs.Script.{sorts_of};
-ghost use Rattle.script_model.specs.Declared.{bounding};
-ghost use Rattle.script_forms.specs.Work.{as_work};
 ghost use Rattle.smt_script.specs.Views.{command_of, commands_in};
-ghost use Rattle.smt_sexp.specs.Arena.{expression_at};
 ghost use Rattle.sort_check.specs.Sorts.{sort_fault};
 ghost use Rattle.value_build.specs.Making.{beginning};
-ghost use Rattle.problem_build.specs.Names.{TopFits, bound_names_of, work_names};
+ghost use Rattle.problem_build.specs.Names.{TopFits, bounding_at, work_at};
 ghost use Rattle.problem_build.specs.Standing.{Asserts, Does, Goes, IsNext, Stands};
 
 use crate::fault::building_error;
@@ -32,8 +28,7 @@ fn assertion<'p, 'a>(
 ) -> Result<(u32, u32), Stop>
     requires { TopFits maker.old.made.sorts top.now }
     ensures asserts { Asserts maker.old maker.new
-        (meaning as_work (work_names sexps.now top.now (length top.now)) (expression_at sexps.now body))
-        (meaning bounding (bound_names_of sexps.now top.now (length top.now)) (expression_at sexps.now body)) result }
+        (work_at sexps.now top.now body) (bounding_at sexps.now top.now body) result }
     ensures sorts { maker.new.made.sorts ≡ maker.old.made.sorts }
 {
     let value = expression(alloc, sexps, top, maker, body)?;
@@ -50,8 +45,11 @@ fn step<'p, 'a>(
     axis: u32,
     command: &'p Command<'a>,
 ) -> Result<u32, ReadError>
-    requires { IsNext sexps.now (command_of sexps.now command.now) maker.old top.old axis claims.old.items }
-    ensures { (script rest : List model.Command) → Stands sexps.now script (command_of sexps.now command.now ∷ rest) maker.old top.old axis claims.old.items →
+    requires { IsNext sexps.now (command_of sexps.now command.now)
+        maker.old top.old axis claims.old.items }
+    ensures { (script rest : List model.Command) →
+        Stands sexps.now script (command_of sexps.now command.now ∷ rest)
+        maker.old top.old axis claims.old.items →
         Goes sexps.now script rest maker.new top.new claims.new.items result }
 {
     match command {

@@ -1,15 +1,15 @@
 // What is done where an expression is entered, by its form.
 ghost use Rattle.std.specs.Prelude.{◌≡◌, List};
 ghost use Rattle.script_model.specs.Sexp as sexp;
-ghost use Rattle.script_model.specs.Reading.{Names, application, found, group_meaning, literal_value, meaning, meanings, name_meaning, operators};
-ghost use Rattle.script_model.specs.Declared.{Bounding, bounding};
-ghost use Rattle.script_forms.specs.Work.{Work, as_work};
+ghost use Rattle.script_model.specs.Reading.{application, found, group_meaning, literal_value, meaning, meanings, name_meaning, operators};
+ghost use Rattle.script_model.specs.Declared.{bounding};
+ghost use Rattle.script_forms.specs.Work.{as_work};
 ghost use Rattle.smt_sexp.specs.Arena.{expression_at, rest_of};
 ghost use Rattle.smt_sexp.specs.Views.{place_of};
 ghost use Rattle.smt_sexp.specs.declared.sexps.Sexps as arena;
-ghost use Rattle.problem_build.specs.Names.{Knows, TopFits};
+ghost use Rattle.problem_build.specs.Names.{TopFits};
 ghost use Rattle.problem_build.specs.Reads.{as_let, let_of};
-ghost use Rattle.problem_build.specs.Walking.{Reaches};
+ghost use Rattle.problem_build.specs.Walking.{Reaches, ReachesMeaning};
 ghost use Rattle.problem_build.specs.declared.top.Top.{Top};
 
 use crate::frames::{Call, Let, Next, Scope, back, call_on, ill_formed, let_on};
@@ -25,7 +25,8 @@ use value_build::Maker;
 
 // A literal, whose digits stand before its point and behind it.
 fn literal<'p, 'a>(maker: &mut Maker, digits: &[u8], decimals: &[u8]) -> Result<Next<'p, 'a>, Stop>
-    ensures walks { (s : arena.Sexps) (top : List Top) (at : sexp.Place) → let q = literal_value digits.now decimals.now in
+    ensures walks { (s : arena.Sexps) (top : List Top) (at : sexp.Place) →
+        let q = literal_value digits.now decimals.now in
         Reaches maker.old maker.new s top (as_work.literal at q) (bounding.literal at q) result }
     ensures sorts { maker.new.made.sorts ≡ maker.old.made.sorts }
 {
@@ -43,8 +44,8 @@ pub(crate) fn enter<'p, 'a>(
     at: usize,
 ) -> Result<Next<'p, 'a>, Stop>
     requires { TopFits maker.old.made.sorts top.now }
-    ensures walks { (names : Names Work) (bnames : Names Bounding) → Knows maker.old sexps.now top.now scope.entry.visible scope.entry.locals.value.items names bnames →
-        Reaches maker.old maker.new sexps.now top.now (meaning as_work names (expression_at sexps.now at)) (meaning bounding bnames (expression_at sexps.now at)) result }
+    ensures walks { ReachesMeaning maker.old maker.new sexps.now top.now scope.entry
+        (λ V M names. meaning M names (expression_at sexps.now at)) result }
     ensures sorts { maker.new.made.sorts ≡ maker.old.made.sorts }
 {
     match sexps.look(at) {
@@ -69,8 +70,8 @@ fn group<'p, 'a>(
     place: Place,
     inside: usize,
 ) -> Result<Next<'p, 'a>, Stop>
-    ensures walks { (names : Names Work) (bnames : Names Bounding) → Knows maker.old sexps.now top.now scope.entry.visible scope.entry.locals.value.items names bnames →
-        Reaches maker.old maker.new sexps.now top.now (group_meaning as_work names (place_of place) (rest_of sexps.now inside)) (group_meaning bounding bnames (place_of place) (rest_of sexps.now inside)) result }
+    ensures walks { ReachesMeaning maker.old maker.new sexps.now top.now scope.entry
+        (λ V M names. group_meaning M names (place_of place) (rest_of sexps.now inside)) result }
     ensures sorts { maker.new.made.sorts ≡ maker.old.made.sorts }
 {
     match sexps.look(inside) {
@@ -93,8 +94,9 @@ fn group<'p, 'a>(
 
 // An annotated expression.
 fn annotated<'p, 'a>(maker: &mut Maker, scope: Scope<'a>, at: usize) -> Result<Next<'p, 'a>, Stop>
-    ensures walks { (s : arena.Sexps) (top : List Top) (names : Names Work) (bnames : Names Bounding) (place : sexp.Place) → Knows maker.old s top scope.entry.visible scope.entry.locals.value.items names bnames →
-        Reaches maker.old maker.new s top (as_work.annotated place (meaning as_work names (expression_at s at))) (meaning bounding bnames (expression_at s at)) result }
+    ensures walks { (s : arena.Sexps) (top : List Top) (place : sexp.Place) →
+        ReachesMeaning maker.old maker.new s top scope.entry
+        (λ V M names. M.annotated place (meaning M names (expression_at s at))) result }
     ensures sorts { maker.new.made.sorts ≡ maker.old.made.sorts }
 {
     maker.reach()?;
@@ -112,10 +114,9 @@ fn applied<'p, 'a>(
     name: &'a Name,
     args: usize,
 ) -> Result<Next<'p, 'a>, Stop>
-    ensures walks { (names : Names Work) (bnames : Names Bounding) → Knows maker.old sexps.now top.now scope.entry.visible scope.entry.locals.value.items names bnames →
-        Reaches maker.old maker.new sexps.now top.now
-        (application as_work names (place_of place) name.now (found name.now operators) (meanings as_work names (rest_of sexps.now args)))
-        (application bounding bnames (place_of place) name.now (found name.now operators) (meanings bounding bnames (rest_of sexps.now args))) result }
+    ensures walks { ReachesMeaning maker.old maker.new sexps.now top.now scope.entry
+        (λ V M names. application M names (place_of place) name.now (found name.now operators)
+        (meanings M names (rest_of sexps.now args))) result }
     ensures sorts { maker.new.made.sorts ≡ maker.old.made.sorts }
 {
     let Some(head) = head_of(top, scope.visible, scope.locals.as_slice(), name) else {
@@ -144,8 +145,8 @@ fn let_value<'p, 'a>(
     place: Place,
     at: usize,
 ) -> Result<Next<'p, 'a>, Stop>
-    ensures walks { (top : List Top) (names : Names Work) (bnames : Names Bounding) → Knows maker.old sexps.now top scope.entry.visible scope.entry.locals.value.items names bnames →
-        Reaches maker.old maker.new sexps.now top (let_of as_work names (place_of place) (as_let (rest_of sexps.now at))) (let_of bounding bnames (place_of place) (as_let (rest_of sexps.now at))) result }
+    ensures walks { (top : List Top) → ReachesMeaning maker.old maker.new sexps.now top scope.entry
+        (λ V M names. let_of M names (place_of place) (as_let (rest_of sexps.now at))) result }
     ensures sorts { maker.new.made.sorts ≡ maker.old.made.sorts }
 {
     let Some((inside, body)) = let_parts(sexps, at) else {
@@ -171,8 +172,9 @@ fn alone<'p, 'a>(
     name: &'a Name,
 ) -> Result<Next<'p, 'a>, Stop>
     requires { TopFits maker.old.made.sorts top.now }
-    ensures walks { (s : arena.Sexps) (names : Names Work) (bnames : Names Bounding) → Knows maker.old s top.now scope.entry.visible scope.entry.locals.value.items names bnames →
-        Reaches maker.old maker.new s top.now (name_meaning as_work names (place_of place) name.now (found name.now operators)) (name_meaning bounding bnames (place_of place) name.now (found name.now operators)) result }
+    ensures walks { (s : arena.Sexps) → ReachesMeaning maker.old maker.new s top.now scope.entry
+        (λ V M names.
+        name_meaning M names (place_of place) name.now (found name.now operators)) result }
     ensures sorts { maker.new.made.sorts ≡ maker.old.made.sorts }
 {
     let Some(head) = head_of(top, scope.visible, scope.locals.as_slice(), name) else {

@@ -41,7 +41,8 @@ impl<'a> Scope<'a> {
 
     /// The same names once more.
     pub(crate) fn again(&self) -> Result<Self, AllocError>
-        ensures { IfOk result (λ scope. IsScope scope self.now.visible self.now.locals.value.items) }
+        ensures { IfOk result (λ scope.
+            IsScope scope self.now.visible self.now.locals.value.items) }
     {
         let locals = self.locals.clone()?;
         Ok(Scope {
@@ -118,8 +119,10 @@ fn called<'p, 'a>(
     values: &[Value],
 ) -> Result<Next<'p, 'a>, Stop>
     requires { AreKnown maker.old values.now }
-    ensures walks { (s : arena.Sexps) (top : List Top) (ws : List Work) (bs : List Bounding) → AreValues maker.old (map outcome_of ws) bs values.now →
-        Turns maker.old maker.new s top (call_work s top (place_of place) head.entry ws) (call_bounds s top head.entry bs) result }
+    ensures walks { (s : arena.Sexps) (top : List Top) (ws : List Work) (bs : List Bounding) →
+        AreValues maker.old (map outcome_of ws) bs values.now →
+        Turns maker.old maker.new s top
+        (call_work s top (place_of place) head.entry ws) (call_bounds s top head.entry bs) result }
     ensures sorts { maker.new.made.sorts ≡ maker.old.made.sorts }
 {
     match head {
@@ -141,7 +144,9 @@ pub(crate) fn call_on<'p, 'a>(
     mut call: Call<'p, 'a>,
 ) -> Result<Next<'p, 'a>, Stop>
     requires { AreKnown maker.old call.values.items }
-    ensures walks { (top : List Top) (w : Work) (b : Bounding) → Calls maker.old sexps.now top call.entry w b → Turns maker.old maker.new sexps.now top w b result }
+    ensures walks { (top : List Top) (w : Work) (b : Bounding) →
+        Calls maker.old sexps.now top call.entry w b →
+        Turns maker.old maker.new sexps.now top w b result }
     ensures sorts { maker.new.made.sorts ≡ maker.old.made.sorts }
 {
     let at = call.next;
@@ -161,7 +166,8 @@ pub(crate) fn let_on<'p, 'a>(
     sexps: &'a Sexps,
     mut bindings: Let<'a>,
 ) -> Result<Next<'p, 'a>, Stop>
-    ensures { (m : Making) (top : List Top) (w : Work) (b : Bounding) → Lets m sexps.now top bindings.entry w b → Turns m m sexps.now top w b result }
+    ensures { (m : Making) (top : List Top) (w : Work) (b : Bounding) →
+        Lets m sexps.now top bindings.entry w b → Turns m m sexps.now top w b result }
 {
     match binding(sexps, bindings.next) {
         Some((_, name, at, after)) => {
@@ -194,7 +200,8 @@ pub(crate) fn resume<'p, 'a>(
 ) -> Result<Next<'p, 'a>, Stop>
     requires known { IsKnown maker.old value }
     requires others { KnowsValues maker.old frame }
-    ensures walks { (top : List Top) (u : Unfolded) (d : Bounding) (w : Work) (b : Bounding) → Waits maker.old sexps.now top frame.entry u d w b → IsValue maker.old u d value →
+    ensures walks { (top : List Top) (u : Unfolded) (d : Bounding) (w : Work) (b : Bounding) →
+        Waits maker.old sexps.now top frame.entry u d w b → IsValue maker.old u d value →
         Turns maker.old maker.new sexps.now top w b result }
     ensures sorts { maker.new.made.sorts ≡ maker.old.made.sorts }
 {

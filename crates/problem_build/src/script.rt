@@ -24,7 +24,8 @@ use value_build::Maker;
 
 // The constants that commands declare, in order.
 fn constants<'a>(alloc: Global, commands: &[Command<'a>]) -> Result<Vec<Constant<'a>>, AllocError>
-    ensures { IfOk result (λ constants. (s : arena.Sexps) → map constant_of constants.items ≡ constants_of (map (command_of s) commands.now)) }
+    ensures { IfOk result (λ constants. (s : arena.Sexps) →
+        map constant_of constants.items ≡ constants_of (map (command_of s) commands.now)) }
 {
     let mut constants = Vec::new(alloc);
     let mut rest = commands;
@@ -43,7 +44,8 @@ fn constants<'a>(alloc: Global, commands: &[Command<'a>]) -> Result<Vec<Constant
 
 // Their sorts.
 fn sorts(alloc: Global, commands: &[Command<'_>]) -> Result<Vec<Sort>, AllocError>
-    ensures { IfOk result (λ sorts. (s : arena.Sexps) → map sort_of sorts.items ≡ sorts_of (map (command_of s) commands.now)) }
+    ensures { IfOk result (λ sorts. (s : arena.Sexps) →
+        map sort_of sorts.items ≡ sorts_of (map (command_of s) commands.now)) }
 {
     let mut sorts = Vec::new(alloc);
     let mut rest = commands;
@@ -58,7 +60,8 @@ fn sorts(alloc: Global, commands: &[Command<'_>]) -> Result<Vec<Sort>, AllocErro
 
 // The place of the last assertion among commands.
 fn last_claim(commands: &[Command<'_>]) -> Place
-    ensures { (s : arena.Sexps) → place_of result ≡ last_place nowhere (claim_places (map (command_of s) commands.now)) }
+    ensures { (s : arena.Sexps) →
+        place_of result ≡ last_place nowhere (claim_places (map (command_of s) commands.now)) }
 {
     let mut last = Place { line: 0, column: 0 };
     let mut rest = commands;

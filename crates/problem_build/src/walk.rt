@@ -1,11 +1,7 @@
 // The walk over an expression: what it stands for, and all that is made on the way, in reading order. What waits for
 // the values of parts stands on a stack on the heap, so that calls may nest as deep as there is memory.
-ghost use Rattle.std.specs.Prelude.{◌≡◌, length};
-ghost use Rattle.script_model.specs.Reading.{meaning};
-ghost use Rattle.script_model.specs.Declared.{bounding};
-ghost use Rattle.script_forms.specs.Work.{as_work};
-ghost use Rattle.smt_sexp.specs.Arena.{expression_at};
-ghost use Rattle.problem_build.specs.Names.{TopFits, bound_names_of, work_names};
+ghost use Rattle.std.specs.Prelude.{◌≡◌};
+ghost use Rattle.problem_build.specs.Names.{TopFits, bounding_at, work_at};
 ghost use Rattle.problem_build.specs.Walking.{Gives};
 
 use crate::expressions::enter;
@@ -26,8 +22,7 @@ pub(crate) fn expression<'p, 'a>(
 ) -> Result<Value, Stop>
     requires { TopFits maker.old.made.sorts top.now }
     ensures walks { Gives maker.old maker.new
-        (meaning as_work (work_names sexps.now top.now (length top.now)) (expression_at sexps.now at))
-        (meaning bounding (bound_names_of sexps.now top.now (length top.now)) (expression_at sexps.now at)) result }
+        (work_at sexps.now top.now at) (bounding_at sexps.now top.now at) result }
     ensures sorts { maker.new.made.sorts ≡ maker.old.made.sorts }
 {
     let scope = Scope::new(alloc, top.len(), Vec::new(alloc))?;

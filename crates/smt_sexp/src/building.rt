@@ -39,7 +39,8 @@ impl Building {
     /// Reads an opening parenthesis.
     pub(crate) fn open(&mut self, place: Place) -> Result<(), AllocError>
         ensures stands { (us : List Unclosed) → (tops : List sexp.Sexp) → Stands self.old us tops →
-            OnOk result (Stands self.new (record { opened = place_of place; before = [] } ∷ us) tops) }
+            OnOk result (Stands self.new
+            (record { opened = place_of place; before = [] } ∷ us) tops) }
         ensures count { OnOk result (vec_len self.new.nodes ≡ vec_len self.old.nodes + 1) }
     {
         let at = self.nodes.len();
@@ -51,7 +52,9 @@ impl Building {
     /// Reads a leaf.
     pub(crate) fn leaf(&mut self, place: Place, leaf: Leaf) -> Result<(), AllocError>
         ensures stands { (us : List Unclosed) → (tops : List sexp.Sexp) → Stands self.old us tops →
-            OnOk result (Stands self.new (put (sexp.leaf (place_of place) (leaf_of leaf)) us tops).0 (put (sexp.leaf (place_of place) (leaf_of leaf)) us tops).1) }
+            OnOk result (Stands self.new
+            (put (sexp.leaf (place_of place) (leaf_of leaf)) us tops).0
+            (put (sexp.leaf (place_of place) (leaf_of leaf)) us tops).1) }
         ensures count { OnOk result (vec_len self.new.nodes ≡ vec_len self.old.nodes + 1) }
     {
         self.nodes.push(Node::Leaf(place, leaf))?;
@@ -62,7 +65,8 @@ impl Building {
     pub(crate) fn close(&mut self) -> Result<bool, AllocError>
         requires some { IsOpen self.old }
         requires few { vec_len self.old.nodes < 2 ^ 32 }
-        ensures stands { (u : Unclosed) → (us : List Unclosed) → (tops : List sexp.Sexp) → Stands self.old (u ∷ us) tops →
+        ensures stands { (u : Unclosed) → (us : List Unclosed) → (tops : List sexp.Sexp) →
+            Stands self.old (u ∷ us) tops →
             IfOk result (λ ends. Closes self.new u us tops ends) }
         ensures count { OnOk result (vec_len self.new.nodes ≡ vec_len self.old.nodes + 1) }
     {

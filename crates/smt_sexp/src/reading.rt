@@ -63,8 +63,11 @@ fn step(building: &mut Building, place: Place, rest: &[u8], found: Found) -> Res
     requires few { vec_len building.old.nodes < 2 ^ 32 }
     requires stands { (us : List Unclosed) × (tops : List sexp.Sexp) × Stands building.old us tops }
     ensures ok { (all : TextRead) → IsReading building.old (place_of place) rest.now all →
-        IfOk result (GoesOn building.new (place_after (place_of place) (take found.size rest.now)) (drop found.size rest.now) all) }
-    ensures err { (all : TextRead) → IsReading building.old (place_of place) rest.now all → IfErr result (λ e. IsFaultOrMemory e (text_fault all)) }
+        IfOk result (GoesOn building.new
+        (place_after (place_of place) (take found.size rest.now))
+        (drop found.size rest.now) all) }
+    ensures err { (all : TextRead) → IsReading building.old (place_of place) rest.now all →
+        IfErr result (λ e. IsFaultOrMemory e (text_fault all)) }
     ensures count { OnOk result (vec_len building.new.nodes ≤ vec_len building.old.nodes + 1) }
 {
     match found.piece {

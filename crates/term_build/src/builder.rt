@@ -187,7 +187,8 @@ impl Builder {
     pub(crate) fn constants(&self, a: u32, b: u32) -> Option<(Frac, Frac)>
         requires first { a < length self.now.nodes }
         requires second { b < length self.now.nodes }
-        ensures { option_map two_fractions result ≡ constants (tree_of self.now a) (tree_of self.now b) }
+        ensures { option_map two_fractions result ≡
+            constants (tree_of self.now a) (tree_of self.now b) }
     {
         both(self.constant_at(a), self.constant_at(b))
     }

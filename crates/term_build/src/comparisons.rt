@@ -25,7 +25,8 @@ impl Builder {
     fn comparison_term(&mut self, at: Place, left: u32, right: u32, kind: Kind) -> Result<u32, Stop>
         requires first { left < length self.old.nodes }
         requires second { right < length self.old.nodes }
-        ensures does { MakesTermOf self.old self.new (comparison_at self.old at left right kind) result }
+        ensures does { MakesTermOf self.old self.new
+            (comparison_at self.old at left right kind) result }
         ensures sorts { self.new.sorts ≡ self.old.sorts }
     {
         if self.is_zero(right) {
@@ -48,7 +49,8 @@ impl Builder {
     pub fn compare(&mut self, at: Place, left: u32, right: u32, kind: Kind) -> Result<u32, Stop>
         requires first { left < length self.old.nodes }
         requires second { right < length self.old.nodes }
-        ensures does { MakesFormOf self.old self.new (comparison_at self.old at left right kind) result }
+        ensures does { MakesFormOf self.old self.new
+            (comparison_at self.old at left right kind) result }
         ensures sorts { self.new.sorts ≡ self.old.sorts }
     {
         let term = self.comparison_term(at, left, right, kind)?;

@@ -184,7 +184,8 @@ impl Pair {
         first: Pair,
         second: Pair,
     ) -> Result<Pair, AllocError>
-        ensures { ConnectsTwo implies_two (drawn sketch.old) (drawn sketch.new) first second result }
+        ensures { ConnectsTwo implies_two (drawn sketch.old) (drawn sketch.new)
+            first second result }
     {
         let yes = vec![in alloc; first.negation, second.truth]?;
         let no = vec![in alloc; first.truth, second.negation]?;
@@ -199,7 +200,8 @@ impl Pair {
         first: Pair,
         second: Pair,
     ) -> Result<Pair, AllocError>
-        ensures { ConnectsChoice (drawn sketch.old) (drawn sketch.new) condition first second result }
+        ensures { ConnectsChoice (drawn sketch.old) (drawn sketch.new)
+            condition first second result }
     {
         let truth = four(
             alloc,

@@ -56,7 +56,8 @@ fn complete(
     requires framed { IsFrame (map drawn_of sketch.now) builder.old (frame_of frame) }
     requires kept { IsMemo (map drawn_of sketch.now) builder.old memo.old }
     requires done { IsComplete (map drawn_of sketch.now) (frame_of frame) }
-    ensures does { CompletesFrame sketch.now builder.old builder.new memo.old memo.new frame result }
+    ensures does { CompletesFrame sketch.now builder.old builder.new memo.old memo.new
+        frame result }
     ensures safe { KeepsSafe sketch.now builder.old builder.new memo.new result }
     ensures made { IfDone result (IsMadeIn memo.old memo.new frame.node) }
     ensures sorts { builder.new.sorts ≡ builder.old.sorts }
@@ -81,7 +82,8 @@ fn step(
     requires framed { IsFrame (map drawn_of sketch.now) builder.old (frame_of frame) }
     requires kept { IsMemo (map drawn_of sketch.now) builder.old memo.old }
     requires nested { AreStacked (map drawn_of sketch.now) memo.old (frames_under stack.old frame) }
-    ensures does { GoesOn sketch.now builder.old builder.new memo.old memo.new stack.old stack.new frame result }
+    ensures does { GoesOn sketch.now builder.old builder.new memo.old memo.new stack.old stack.new
+        frame result }
     ensures safe { KeepsSafe sketch.now builder.old builder.new memo.new result }
     ensures frames { KeepsFrames sketch.now builder.old builder.new stack.old stack.new result }
     ensures turn { TakesTurn sketch.now memo.old memo.new stack.old stack.new frame result }
@@ -115,7 +117,8 @@ fn drain(
     requires kept { IsMemo (map drawn_of sketch.now) builder.old memo.old }
     requires framed { AreFrames (map drawn_of sketch.now) builder.old (frames stack.old) }
     requires nested { AreStacked (map drawn_of sketch.now) memo.old (frames stack.old) }
-    ensures does { DrainsStack sketch.now builder.old builder.new memo.old memo.new stack.old result }
+    ensures does { DrainsStack sketch.now builder.old builder.new memo.old memo.new
+        stack.old result }
     ensures rooted { NumbersRoot memo.old memo.new stack.old result }
     ensures sorts { builder.new.sorts ≡ builder.old.sorts }
 {

@@ -8,6 +8,7 @@ pub mod Leaf
 pub mod Claimed
 pub mod Powers
 pub mod Lifting
+pub mod Sizes
 pub mod Meeting
 pub mod Spreading
 pub mod Gathering

@@ -5,7 +5,7 @@ use Rattle.script_model.specs.Declared.{Bound, Bounding, bounds, bounds_in, conc
 use Rattle.script_model.specs.Reading.{Operator}
 use Rattle.poly_graph.specs.Term.{Term, Kind, le, ge, eq}
 use Rattle.script_forms.specs.Terms.{Unfolded, term, negate_tree, lift_tree, step, steps}
-use Rattle.script_forms.specs.Unfolded.{unfolded_operation, chain, and_of, not_of, lift_form, at_most_terms, at_least_terms, equal_terms}
+use Rattle.script_forms.specs.Unfolded.{unfolded_operation, chain, and_of, not_of, at_most_terms, at_least_terms, equal_terms}
 use Rattle.script_forms.specs.Work.{Event, made, lift_events, step_events, steps_events, compare_events, together, operation_events}
 use Rattle.term_build.specs.Built.{Made, stand_of}
 use Rattle.term_build.specs.Sketch.{Drawn, choice_drawn, IsSketch}

@@ -49,7 +49,8 @@ fn fold_values(
     requires rest { AreSomeValues builder.old (drawn sketch.old) rest.now }
     requires arms { are_arms rest.now ≡ true }
     requires sketched { IsSketch builder.old (drawn sketch.old) }
-    ensures does { FoldsIn builder.old sketch.old builder.new sketch.new at step first rest.now result }
+    ensures does { FoldsIn builder.old sketch.old builder.new sketch.new
+        at step first rest.now result }
     ensures sorts { builder.new.sorts ≡ builder.old.sorts }
 {
     let mut so_far = first;
@@ -95,7 +96,8 @@ pub(crate) fn calculate_values(
     requires rest { AreSomeValues builder.old (drawn sketch.old) rest.now }
     requires arms { are_arms (first ∷ rest.now) ≡ true }
     requires sketched { IsSketch builder.old (drawn sketch.old) }
-    ensures does { Yields builder.old sketch.old builder.new sketch.new at step first rest.now result }
+    ensures does { Yields builder.old sketch.old builder.new sketch.new
+        at step first rest.now result }
     ensures sorts { builder.new.sorts ≡ builder.old.sorts }
 {
     if is_difference(step) && rest.is_empty() {
@@ -144,7 +146,8 @@ fn link(
     requires second { IsSomeValue builder.old (drawn sketch.old) second }
     requires arms { are_arms (first ∷ second ∷ []) ≡ true }
     requires sketched { IsSketch builder.old (drawn sketch.old) }
-    ensures does { LinksTwo builder.old sketch.old bounds.old builder.new sketch.new bounds.new spread kind at first second result }
+    ensures does { LinksTwo builder.old sketch.old bounds.old builder.new sketch.new bounds.new
+        spread kind at first second result }
     ensures sorts { builder.new.sorts ≡ builder.old.sorts }
 {
     let one = arm_of(first);
@@ -180,7 +183,8 @@ fn link_with(
     requires links { AreKnown (making builder.old (drawn sketch.old) bounds.old) links.old.items }
     requires arms { are_arms (first ∷ others.now) ≡ true }
     requires sketched { IsSketch builder.old (drawn sketch.old) }
-    ensures does { LinksOthers builder.old sketch.old bounds.old builder.new sketch.new bounds.new spread kind at first others.now links.old links.new result }
+    ensures does { LinksOthers builder.old sketch.old bounds.old builder.new sketch.new bounds.new
+        spread kind at first others.now links.old links.new result }
     ensures sorts { builder.new.sorts ≡ builder.old.sorts }
 {
     let mut left = others;
@@ -210,7 +214,8 @@ pub(crate) fn link_each(
     requires links { AreKnown (making builder.old (drawn sketch.old) bounds.old) links.old.items }
     requires arms { are_arms values.now ≡ true }
     requires sketched { IsSketch builder.old (drawn sketch.old) }
-    ensures does { LinksValues builder.old sketch.old bounds.old builder.new sketch.new bounds.new spread kind at values.now links.old links.new result }
+    ensures does { LinksValues builder.old sketch.old bounds.old builder.new sketch.new bounds.new
+        spread kind at values.now links.old links.new result }
     ensures sorts { builder.new.sorts ≡ builder.old.sorts }
 {
     let mut left = values;

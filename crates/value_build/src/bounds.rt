@@ -96,7 +96,8 @@ fn add_first(
 ) -> Result<(), AllocError>
     requires first { first < length builder.now.nodes }
     requires later { AreNodes builder.now later.now }
-    ensures { AddsPart bounds.old bounds.new parts.old parts.new (bounds_with builder.now kind first later.now) result }
+    ensures { AddsPart bounds.old bounds.new parts.old parts.new
+        (bounds_with builder.now kind first later.now) result }
 {
     let Some((next, _)) = later.split_first() else {
         return Ok(());

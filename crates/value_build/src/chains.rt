@@ -82,7 +82,8 @@ fn connect_two(
     first: Pair,
     second: Pair,
 ) -> Result<Pair, AllocError>
-    ensures { ConnectsTwo (two_of spread) (drawn sketch.old) (drawn sketch.new) first second result }
+    ensures { ConnectsTwo (two_of spread) (drawn sketch.old) (drawn sketch.new)
+        first second result }
 {
     match spread {
         Spread::Next => Pair::same_two(alloc, sketch, first, second),

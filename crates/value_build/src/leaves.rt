@@ -22,7 +22,8 @@ pub(crate) fn number(
     number: Frac,
 ) -> Result<Value, Stop>
     requires sketched { IsSketch builder.old (drawn sketch.old) }
-    ensures does { MakesLeaf builder.old sketch.old builder.new sketch.new (number_term number) result }
+    ensures does { MakesLeaf builder.old sketch.old builder.new sketch.new
+        (number_term number) result }
     ensures sketched { IsSketch builder.new (drawn sketch.new) }
     ensures sorts { builder.new.sorts ≡ builder.old.sorts }
 {

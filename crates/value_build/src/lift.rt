@@ -3,9 +3,8 @@
 ghost use Rattle.std.specs.Prelude.{◌≡◌, ◌<◌, ◌∷◌, Some, IfOk, OnOk, length, map, slice_get};
 ghost use Rattle.poly_graph.specs.Views.{kind_of};
 ghost use Rattle.smt_sexp.specs.Views.{place_of};
-ghost use Rattle.script_forms.specs.Walk.{after_event};
 ghost use Rattle.script_forms.specs.Work.{reached};
-ghost use Rattle.term_build.specs.Does.{Does};
+ghost use Rattle.term_build.specs.Calls.{DoesEvent, drawn};
 ghost use Rattle.term_build.specs.Shapes.{drawn_of};
 ghost use Rattle.term_build.specs.Sketch.{IsSketch, as_choice};
 ghost use Rattle.term_build.specs.declared.sketch.Arm.TheVariants as arm;
@@ -65,8 +64,9 @@ fn apply_leaf(
 // The condition and the arms of the `ite` of this node, which counts as one expression more.
 fn part(builder: &mut Builder, sketch: &[Drawn], k: u32) -> Result<(Pair, Arm, Arm), Stop>
     requires { IsSomeArm builder.old (map drawn_of sketch.now) (arm.Choice k) }
-    ensures parts { IfOk result (λ w. Some (w.0, w.1, w.2) ≡ as_choice (slice_get (map drawn_of sketch.now) k)) }
-    ensures does { Does builder.old builder.new (λ claim s. after_event claim s reached) result (λ _. Unit {0}) }
+    ensures parts { IfOk result (λ w.
+        Some (w.0, w.1, w.2) ≡ as_choice (slice_get (map drawn_of sketch.now) k)) }
+    ensures does { DoesEvent builder.old builder.new reached result (λ _. Unit {0}) }
     ensures sorts { builder.new.sorts ≡ builder.old.sorts }
 {
     let Some(parts) = choice_at(sketch, k) else {
@@ -87,9 +87,11 @@ fn look(
 ) -> Result<Entry, Stop>
     requires known { AreSomeMet builder.old (map drawn_of sketch.now) (meeting ∷ left.old.items) }
     requires sketched { IsSketch builder.old (map drawn_of sketch.now) }
-    ensures does { Looks builder.old builder.new (map drawn_of sketch.now) task (place_of at) meeting left.old.items left.new.items result }
+    ensures does { Looks builder.old builder.new (map drawn_of sketch.now) task (place_of at)
+        meeting left.old.items left.new.items result }
     ensures sorts { builder.new.sorts ≡ builder.old.sorts }
-    ensures turns { OnOk result (turns_left builder.new left.new.items < turns_left builder.old (meeting ∷ left.old.items)) }
+    ensures turns { OnOk result (turns_left builder.new left.new.items <
+        turns_left builder.old (meeting ∷ left.old.items)) }
 {
     let Meeting { first, second } = meeting;
     match (first, second) {
@@ -131,7 +133,8 @@ fn spread(
     requires first { IsSomeArm builder.old (map drawn_of sketch.now) first }
     requires second { IsSomeArm builder.old (map drawn_of sketch.now) second }
     requires sketched { IsSketch builder.old (map drawn_of sketch.now) }
-    ensures does { Spreads builder.old builder.new (map drawn_of sketch.now) task (place_of at) first second result }
+    ensures does { Spreads builder.old builder.new (map drawn_of sketch.now) task (place_of at)
+        first second result }
     ensures sketched { OnOk result (IsSketch builder.new (map drawn_of sketch.now)) }
     ensures sorts { builder.new.sorts ≡ builder.old.sorts }
 {
@@ -151,8 +154,9 @@ fn join_arms(
     entry: Entry,
     made: &mut VecDeque<Arm>,
 ) -> Result<Arm, AllocError>
-    requires { CanJoinArms (map drawn_of sketch.old.items) entry made.old.items }
-    ensures { JoinsArms (map drawn_of sketch.old.items) (map drawn_of sketch.new.items) entry made.old.items made.new.items result }
+    requires { CanJoinArms (drawn sketch.old) entry made.old.items }
+    ensures { JoinsArms (drawn sketch.old) (drawn sketch.new)
+        entry made.old.items made.new.items result }
 {
     match entry {
         Entry::Choice(condition) => {
@@ -171,8 +175,8 @@ fn join_arms(
 
 // The arm that entries stand for.
 fn gather_arms(sketch: &mut Vec<Drawn>, entries: Vec<Entry>) -> Result<Arm, AllocError>
-    requires { CanGatherArms (map drawn_of sketch.old.items) entries.items }
-    ensures { GathersArms (map drawn_of sketch.old.items) (map drawn_of sketch.new.items) entries.items result }
+    requires { CanGatherArms (drawn sketch.old) entries.items }
+    ensures { GathersArms (drawn sketch.old) (drawn sketch.new) entries.items result }
 {
     let mut entries = entries;
     let mut made = VecDeque::new(*sketch.allocator());
@@ -195,8 +199,9 @@ fn join_pairs(
     entry: Entry,
     said: &mut VecDeque<Pair>,
 ) -> Result<Pair, AllocError>
-    requires { CanJoinPairs (map drawn_of sketch.old.items) (kind_of kind) (place_of at) entry said.old.items }
-    ensures { JoinsPairs (map drawn_of sketch.old.items) (map drawn_of sketch.new.items) (kind_of kind) (place_of at) entry said.old.items said.new.items result }
+    requires { CanJoinPairs (drawn sketch.old) (kind_of kind) (place_of at) entry said.old.items }
+    ensures { JoinsPairs (drawn sketch.old) (drawn sketch.new) (kind_of kind) (place_of at)
+        entry said.old.items said.new.items result }
 {
     match entry {
         Entry::Choice(condition) => {
@@ -221,8 +226,9 @@ fn gather_pairs(
     kind: Kind,
     entries: Vec<Entry>,
 ) -> Result<Pair, AllocError>
-    requires { CanGatherPairs (map drawn_of sketch.old.items) (kind_of kind) (place_of at) entries.items }
-    ensures { GathersPairs (map drawn_of sketch.old.items) (map drawn_of sketch.new.items) (kind_of kind) (place_of at) entries.items result }
+    requires { CanGatherPairs (drawn sketch.old) (kind_of kind) (place_of at) entries.items }
+    ensures { GathersPairs (drawn sketch.old) (drawn sketch.new) (kind_of kind) (place_of at)
+        entries.items result }
 {
     let mut entries = entries;
     let mut said = VecDeque::new(alloc);
@@ -246,8 +252,8 @@ pub(crate) fn lift_one(
     arm: Arm,
 ) -> Result<Arm, Stop>
     requires first { first < length builder.old.nodes }
-    requires known { IsSomeArm builder.old (map drawn_of sketch.old.items) arm }
-    requires sketched { IsSketch builder.old (map drawn_of sketch.old.items) }
+    requires known { IsSomeArm builder.old (drawn sketch.old) arm }
+    requires sketched { IsSketch builder.old (drawn sketch.old) }
     ensures does { LiftsArm builder.old sketch.old builder.new sketch.new at leaf first arm result }
     ensures sorts { builder.new.sorts ≡ builder.old.sorts }
 {
@@ -273,10 +279,11 @@ pub(crate) fn lift_two(
     arm: Arm,
     second: Arm,
 ) -> Result<Arm, Stop>
-    requires known { IsSomeArm builder.old (map drawn_of sketch.old.items) arm }
-    requires second { IsSomeArm builder.old (map drawn_of sketch.old.items) second }
-    requires sketched { IsSketch builder.old (map drawn_of sketch.old.items) }
-    ensures does { LiftsArms builder.old sketch.old builder.new sketch.new at step arm second result }
+    requires known { IsSomeArm builder.old (drawn sketch.old) arm }
+    requires second { IsSomeArm builder.old (drawn sketch.old) second }
+    requires sketched { IsSketch builder.old (drawn sketch.old) }
+    ensures does { LiftsArms builder.old sketch.old builder.new sketch.new
+        at step arm second result }
     ensures sorts { builder.new.sorts ≡ builder.old.sorts }
 {
     let alloc = *sketch.allocator();
@@ -302,10 +309,11 @@ pub(crate) fn compare_arms(
     arm: Arm,
     second: Arm,
 ) -> Result<Pair, Stop>
-    requires known { IsSomeArm builder.old (map drawn_of sketch.old.items) arm }
-    requires second { IsSomeArm builder.old (map drawn_of sketch.old.items) second }
-    requires sketched { IsSketch builder.old (map drawn_of sketch.old.items) }
-    ensures does { SaysArms builder.old sketch.old builder.new sketch.new kind at arm second result }
+    requires known { IsSomeArm builder.old (drawn sketch.old) arm }
+    requires second { IsSomeArm builder.old (drawn sketch.old) second }
+    requires sketched { IsSketch builder.old (drawn sketch.old) }
+    ensures does { SaysArms builder.old sketch.old builder.new sketch.new
+        kind at arm second result }
     ensures sorts { builder.new.sorts ≡ builder.old.sorts }
 {
     let entries = spread(alloc, builder, sketch, at, None, arm, second)?;

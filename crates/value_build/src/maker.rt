@@ -117,7 +117,8 @@ impl Maker {
         values: &[Value],
     ) -> Result<Value, Stop>
         requires { AreKnown self.old values.now }
-        ensures does { Operates self.old self.new (place_of at) (operator_of operator) values.now result }
+        ensures does { Operates self.old self.new
+            (place_of at) (operator_of operator) values.now result }
         ensures sorts { self.new.made.sorts ≡ self.old.made.sorts }
     {
         operate(

@@ -199,7 +199,8 @@ fn arithmetic(
     requires some { 0 < length nodes.now }
     requires nodes { AreNodes builder.old nodes.now }
     requires sketched { IsSketch builder.old (drawn sketch.old) }
-    ensures does { TreesMake builder.old sketch.old builder.new sketch.new at step nodes.now result }
+    ensures does { TreesMake builder.old sketch.old builder.new sketch.new
+        at step nodes.now result }
     ensures sketched { IsSketch builder.new (drawn sketch.new) }
     ensures sorts { builder.new.sorts ≡ builder.old.sorts }
 {
@@ -224,7 +225,8 @@ fn compare(
 ) -> Result<Value, Stop>
     requires nodes { AreNodes builder.now nodes.now }
     requires sketched { IsSketch builder.now (drawn sketch.old) }
-    ensures does { Chains builder.now sketch.old sketch.new bounds.old bounds.new kind at nodes.now result }
+    ensures does { Chains builder.now sketch.old sketch.new bounds.old bounds.new
+        kind at nodes.now result }
     ensures sketched { IsSketch builder.now (drawn sketch.new) }
 {
     let links = compare_each(alloc, sketch, at, nodes, kind, Spread::Next)?;
@@ -244,7 +246,8 @@ fn differ(
 ) -> Result<Value, Stop>
     requires nodes { AreNodes builder.now nodes.now }
     requires sketched { IsSketch builder.now (drawn sketch.old) }
-    ensures does { Differ builder.now sketch.old sketch.new bounds.old bounds.new at nodes.now result }
+    ensures does { Differ builder.now sketch.old sketch.new bounds.old bounds.new
+        at nodes.now result }
     ensures sketched { IsSketch builder.now (drawn sketch.new) }
 {
     let links = compare_each(alloc, sketch, at, nodes, Kind::Eq, Spread::Later)?;
@@ -267,7 +270,8 @@ fn on_reals(
     requires takes { takes_of (operator_of operator) true false false (length nodes.now) ≡ true }
     requires nodes { AreNodes builder.old nodes.now }
     requires sketched { IsSketch builder.old (drawn sketch.old) }
-    ensures does { TreesDo builder.old sketch.old bounds.old builder.new sketch.new bounds.new at operator nodes.now result }
+    ensures does { TreesDo builder.old sketch.old bounds.old builder.new sketch.new bounds.new
+        at operator nodes.now result }
     ensures sketched { IsSketch builder.new (drawn sketch.new) }
     ensures sorts { builder.new.sorts ≡ builder.old.sorts }
 {
@@ -340,7 +344,8 @@ fn connect(
     pairs: &[Pair],
 ) -> Result<Pair, AllocError>
     requires { takes_of (operator_of operator) false true false (length pairs.now) ≡ true }
-    ensures { Connects (operation_of operator) (drawn sketch.old) (drawn sketch.new) pairs.now result }
+    ensures { Connects (operation_of operator) (drawn sketch.old) (drawn sketch.new)
+        pairs.now result }
 {
     match operator {
         Operator::True => Pair::constant(sketch, true),
@@ -387,7 +392,8 @@ fn on_bools(
     requires lists { All (λ (k : ℕ). k < length bounds.old) lists.items }
     requires drawn { ArePairs builder.now (drawn sketch.old) pairs.now }
     requires sketched { IsSketch builder.now (drawn sketch.old) }
-    ensures does { PairsDo builder.now sketch.old sketch.new bounds.old bounds.new operator pairs.now lists result }
+    ensures does { PairsDo builder.now sketch.old sketch.new bounds.old bounds.new
+        operator pairs.now lists result }
     ensures sketched { IsSketch builder.now (drawn sketch.new) }
 {
     let pair = connect(alloc, sketch, operator, pairs)?;
@@ -420,7 +426,8 @@ fn join_links(
     requires bools { are_bool links.now ≡ true }
     requires known { AreKnown (making builder.now (drawn sketch.old) bounds.old) links.now }
     requires sketched { IsSketch builder.now (drawn sketch.old) }
-    ensures does { JoinsLinks builder.now sketch.old sketch.new bounds.old bounds.new spread links.now result }
+    ensures does { JoinsLinks builder.now sketch.old sketch.new bounds.old bounds.new
+        spread links.now result }
     ensures sketched { IsSketch builder.now (drawn sketch.new) }
 {
     if let Some(value) = only_of(spread, links) {
@@ -446,7 +453,8 @@ fn compare_values(
     requires values { AreSomeValues builder.old (drawn sketch.old) values.now }
     requires arms { are_arms values.now ≡ true }
     requires sketched { IsSketch builder.old (drawn sketch.old) }
-    ensures does { ComparesValues builder.old sketch.old bounds.old builder.new sketch.new bounds.new spread kind at values.now result }
+    ensures does { ComparesValues builder.old sketch.old bounds.old
+        builder.new sketch.new bounds.new spread kind at values.now result }
     ensures sketched { IsSketch builder.new (drawn sketch.new) }
     ensures sorts { builder.new.sorts ≡ builder.old.sorts }
 {
@@ -474,7 +482,8 @@ fn calculate_arms(
     requires arms { are_arms values.now ≡ true }
     requires held { are_real values.now ≡ false }
     requires sketched { IsSketch builder.old (drawn sketch.old) }
-    ensures does { ValuesMake builder.old sketch.old builder.new sketch.new at step values.now result }
+    ensures does { ValuesMake builder.old sketch.old builder.new sketch.new
+        at step values.now result }
     ensures sketched { IsSketch builder.new (drawn sketch.new) }
     ensures sorts { builder.new.sorts ≡ builder.old.sorts }
 {
@@ -523,7 +532,8 @@ fn over_arms(
     requires arms { are_arms values.now ≡ true }
     requires held { are_real values.now ≡ false }
     requires takes { takes_of (operator_of operator) true false false (length values.now) ≡ true }
-    ensures does { OverArms builder.old sketch.old bounds.old builder.new sketch.new bounds.new at operator values.now result }
+    ensures does { OverArms builder.old sketch.old bounds.old builder.new sketch.new bounds.new
+        at operator values.now result }
     ensures sketched { IsSketch builder.new (drawn sketch.new) }
     ensures sorts { builder.new.sorts ≡ builder.old.sorts }
 {
@@ -623,7 +633,8 @@ fn on_arms(
     requires held { are_real values.now ≡ false }
     requires apart { are_bool values.now ≡ false }
     requires takes { takes_arms operator values.now ≡ true }
-    ensures does { OverArms builder.old sketch.old bounds.old builder.new sketch.new bounds.new at operator values.now result }
+    ensures does { OverArms builder.old sketch.old bounds.old builder.new sketch.new bounds.new
+        at operator values.now result }
     ensures sketched { IsSketch builder.new (drawn sketch.new) }
     ensures sorts { builder.new.sorts ≡ builder.old.sorts }
 {
@@ -645,7 +656,8 @@ pub(crate) fn operate(
 ) -> Result<Value, Stop>
     requires known { AreKnown (making builder.old (drawn sketch.old) bounds.old) values.now }
     requires sketched { IsSketch builder.old (drawn sketch.old) }
-    ensures does { Applies builder.old sketch.old bounds.old builder.new sketch.new bounds.new at operator values.now result }
+    ensures does { Applies builder.old sketch.old bounds.old builder.new sketch.new bounds.new
+        at operator values.now result }
     ensures sketched { IsSketch builder.new (drawn sketch.new) }
     ensures sorts { builder.new.sorts ≡ builder.old.sorts }
 {

@@ -23,7 +23,8 @@ pub enum Refused {
 // What the parser makes of the words.
 fn parse<'a>(alloc: Global, words: &'a [String]) -> Result<ArgMatches<'a>, Refused>
     ensures ok { IfOk result (AreMatchesOf words.entry.now) }
-    ensures usage { IsErrOf result Refused.Usage → fault_of program (texts_of words.entry.now) ≢ [] }
+    ensures usage { IsErrOf result Refused.Usage →
+        fault_of program (texts_of words.entry.now) ≢ [] }
 {
     let Ok(command) = program_command(alloc) else {
         return Err(Refused::Memory);
@@ -37,7 +38,8 @@ fn parse<'a>(alloc: Global, words: &'a [String]) -> Result<ArgMatches<'a>, Refus
 // What the parser makes of the words of the checker's call.
 fn parse_checker<'a>(alloc: Global, words: &'a [String]) -> Result<ArgMatches<'a>, Refused>
     ensures ok { IfOk result (AreCheckerMatchesOf words.entry.now) }
-    ensures usage { IsErrOf result Refused.Usage → fault_of checker (texts_of words.entry.now) ≢ [] }
+    ensures usage { IsErrOf result Refused.Usage →
+        fault_of checker (texts_of words.entry.now) ≢ [] }
 {
     let Ok(command) = checker_command(alloc) else {
         return Err(Refused::Memory);
@@ -60,7 +62,8 @@ fn refusal(error: &Error) -> Refused
 
 // What was given for an option or a place, as a number.
 fn whole_number(matches: &ArgMatches<'_>, id: &str) -> Option<u32>
-    ensures { result ≡ option_and_then (number_of 32) (one_of id.now (rows_of (found_of matches.now))) }
+    ensures { result ≡
+        option_and_then (number_of 32) (one_of id.now (rows_of (found_of matches.now))) }
 {
     matches.get_one::<u32>(id)
 }
@@ -227,7 +230,8 @@ pub fn read_words<'a>(alloc: Global, words: &'a [String]) -> Result<Asked<'a>, R
 /// Refused for usage exactly where `checker_of` has nothing, `--help` and the like included. Out of memory is a refusal of
 /// its own.
 pub fn read_checker_words<'a>(alloc: Global, words: &'a [String]) -> Result<CheckWords<'a>, Refused>
-    ensures ok { IfOk result (λ asks. checker_of (texts_of words.entry.now) ≡ Some (seen_check asks)) }
+    ensures ok { IfOk result (λ asks.
+        checker_of (texts_of words.entry.now) ≡ Some (seen_check asks)) }
     ensures usage { IsErrOf result Refused.Usage → checker_of (texts_of words.entry.now) ≡ None }
 {
     let matches = match parse_checker(alloc, words) {

@@ -11,7 +11,7 @@ use Rattle.problem_build.proofs.Turns as turns
 use Rattle.problem_build.proofs.expressions.annotated.Goals as goal
 
 pub returns-clause-walks : goal.returns-clause-walks
-returns-clause-walks c = λ s top names bnames place knows.
+returns-clause-walks c = λ s top place names bnames knows.
     let m = c.args.maker.now in
     let m1 = c.reach.new.self in
     let scope = c.args.scope in
@@ -28,6 +28,6 @@ returns-clause-walks c = λ s top names bnames place knows.
     }))
 
 pub returns-in_err-reach-clause-walks : goal.returns-in_err-reach-clause-walks
-returns-in_err-reach-clause-walks c = λ s top names bnames place knows.
+returns-in_err-reach-clause-walks c = λ s top place names bnames knows.
     let p = err_from_is_err_and c.from_residual.result c.from_residual.ensures.1 in
     rw (p.1, p.2) (turns.reach_fails c.args.maker.now _ (meaning as_work names (expression_at s c.args.at)).events c.in_err-reach.field-0.0 refl c.in_err-reach.ensures.does)

@@ -38,4 +38,4 @@ returns-in-Leaf-default-Reserved-Bang-default-clause-walks c = λ names bnames k
     turns.reaches_same c.args.sexps.now c.args.top.now c.args.maker.now c.annotated.new.maker _ _ _ _ c.annotated.result
     (forms.group_bang_at as_work names (place_of c.args.place) (place_of d.field-0) items rest is there)
     (forms.group_bang_at bounding bnames (place_of c.args.place) (place_of d.field-0) items rest is there)
-    (c.annotated.ensures.walks c.args.sexps.now c.args.top.now names bnames (place_of c.args.place) knows)
+    (c.annotated.ensures.walks c.args.sexps.now c.args.top.now (place_of c.args.place) names bnames knows)

@@ -1,11 +1,7 @@
 use Rattle.std.proofs.Common.{◌≡◌, ◌+◌, ◌<◌, arith, List, [], ◌∷◌, ◌++◌, length, length-append, refl, ap, sym, ◌∙◌, subst}
 use Rattle.std.specs.Prelude.{Ok, Err}
 use Rattle.std.proofs.lemmas.Result.{err_from_is_err_and}
-use Rattle.script_model.specs.Reading.{meaning}
-use Rattle.script_model.specs.Declared.{bounding}
-use Rattle.script_forms.specs.Work.{as_work}
-use Rattle.smt_sexp.specs.Arena.{expression_at}
-use Rattle.problem_build.specs.Names.{Knows, work_names, bound_names_of}
+use Rattle.problem_build.specs.Names.{Knows, work_names, bound_names_of, work_at, bounding_at}
 use Rattle.problem_build.specs.Walking.{Enters, Leaves}
 use Rattle.problem_build.specs.declared.names.Local.{Local}
 use Rattle.problem_build.specs.declared.frames.Frame.{Frame}
@@ -27,8 +23,8 @@ turns-init c =
     let first = next.Enter scope c.args.at in
     let names = work_names s top n in
     let bnames = bound_names_of s top n in
-    let w = meaning as_work names (expression_at s c.args.at) in
-    let b = meaning bounding bnames (expression_at s c.args.at) in
+    let w = work_at s top c.args.at in
+    let b = bounding_at s top c.args.at in
     let enters : Enters m s top scope c.args.at w b = record {
       names = names;
       bnames = bnames;
@@ -49,8 +45,8 @@ returns-in_err-next-in-Enter-clause-walks c =
     let start = c.args.maker.now in
     let now = c.turns.maker in
     let fs = c.turns.stack.items in
-    let w = meaning as_work (work_names s top (length top)) (expression_at s c.args.at) in
-    let b = meaning bounding (bound_names_of s top (length top)) (expression_at s c.args.at) in
+    let w = work_at s top c.args.at in
+    let b = bounding_at s top c.args.at in
     let d = c.in-Enter in
     let h = subst (λ (n : Next). Within (Leaves now s top n) start now s top fs w b) d.is c.turns.invariant.walks in
     let e = c.in_err-next-in-Enter in
@@ -65,8 +61,8 @@ returns-in_err-next-in-Wait-clause-walks c =
     let start = c.args.maker.now in
     let now = c.turns.maker in
     let fs = c.turns.stack.items in
-    let w = meaning as_work (work_names s top (length top)) (expression_at s c.args.at) in
-    let b = meaning bounding (bound_names_of s top (length top)) (expression_at s c.args.at) in
+    let w = work_at s top c.args.at in
+    let b = bounding_at s top c.args.at in
     let d = c.in-Wait in
     let h = stacked.within_waits s top w b start now fs d.frame d.scope d.at (subst (λ (n : Next). Within (Leaves now s top n) start now s top fs w b) d.is c.turns.invariant.walks) in
     let e = c.in_err-next-in-Wait in
@@ -79,8 +75,8 @@ resume-requires-clause-known c =
     let s = c.args.sexps.now in
     let top = c.args.top.now in
     let now = c.turns.maker in
-    let w = meaning as_work (work_names s top (length top)) (expression_at s c.args.at) in
-    let b = meaning bounding (bound_names_of s top (length top)) (expression_at s c.args.at) in
+    let w = work_at s top c.args.at in
+    let b = bounding_at s top c.args.at in
     let h = subst (λ (n : Next). Within (Leaves now s top n) c.args.maker.now now s top c.turns.stack.items w b) c.in-Back.is c.turns.invariant.walks in
     (h.here.outcome, h.held, h.inner.1)
 
@@ -90,8 +86,8 @@ resume-requires-clause-others c =
     let top = c.args.top.now in
     let start = c.args.maker.now in
     let now = c.turns.maker in
-    let w = meaning as_work (work_names s top (length top)) (expression_at s c.args.at) in
-    let b = meaning bounding (bound_names_of s top (length top)) (expression_at s c.args.at) in
+    let w = work_at s top c.args.at in
+    let b = bounding_at s top c.args.at in
     let v = c.in-Back.value in
     let f = c.in-Some.frame in
     let back = subst (λ (n : Next). Within (Leaves now s top n) start now s top c.turns.stack.items w b) c.in-Back.is c.turns.invariant.walks in
@@ -104,8 +100,8 @@ returns-in_err-next-in-Some-clause-walks c =
     let top = c.args.top.now in
     let start = c.args.maker.now in
     let now = c.turns.maker in
-    let w = meaning as_work (work_names s top (length top)) (expression_at s c.args.at) in
-    let b = meaning bounding (bound_names_of s top (length top)) (expression_at s c.args.at) in
+    let w = work_at s top c.args.at in
+    let b = bounding_at s top c.args.at in
     let v = c.in-Back.value in
     let f = c.in-Some.frame in
     let back = subst (λ (n : Next). Within (Leaves now s top n) start now s top c.turns.stack.items w b) c.in-Back.is c.turns.invariant.walks in
@@ -121,8 +117,8 @@ turns-preserved-in_ok-next-in-Enter c =
     let top = c.args.top.now in
     let start = c.args.maker.now in
     let now = c.turns.maker in
-    let w = meaning as_work (work_names s top (length top)) (expression_at s c.args.at) in
-    let b = meaning bounding (bound_names_of s top (length top)) (expression_at s c.args.at) in
+    let w = work_at s top c.args.at in
+    let b = bounding_at s top c.args.at in
     let fs = c.turns.stack.items in
     let new = c.enter.new.maker in
     let d = c.in-Enter in
@@ -140,8 +136,8 @@ turns-preserved-in_ok-next-in-Wait c =
     let top = c.args.top.now in
     let start = c.args.maker.now in
     let now = c.turns.maker in
-    let w = meaning as_work (work_names s top (length top)) (expression_at s c.args.at) in
-    let b = meaning bounding (bound_names_of s top (length top)) (expression_at s c.args.at) in
+    let w = work_at s top c.args.at in
+    let b = bounding_at s top c.args.at in
     let fs = c.turns.stack.items in
     let new = c.enter-in-Wait.new.maker in
     let d = c.in-Wait in
@@ -160,8 +156,8 @@ turns-preserved c =
     let top = c.args.top.now in
     let start = c.args.maker.now in
     let now = c.turns.maker in
-    let w = meaning as_work (work_names s top (length top)) (expression_at s c.args.at) in
-    let b = meaning bounding (bound_names_of s top (length top)) (expression_at s c.args.at) in
+    let w = work_at s top c.args.at in
+    let b = bounding_at s top c.args.at in
     let fs = c.pop.new.self.items in
     let new = c.resume.new.maker in
     let v = c.in-Back.value in
@@ -181,8 +177,8 @@ turns-smaller-in_ok-next-in-Enter c =
     let top = c.args.top.now in
     let start = c.args.maker.now in
     let now = c.turns.maker in
-    let w = meaning as_work (work_names s top (length top)) (expression_at s c.args.at) in
-    let b = meaning bounding (bound_names_of s top (length top)) (expression_at s c.args.at) in
+    let w = work_at s top c.args.at in
+    let b = bounding_at s top c.args.at in
     let fs = c.turns.stack.items in
     let new = c.enter.new.maker in
     let d = c.in-Enter in
@@ -198,8 +194,8 @@ turns-smaller-in_ok-next-in-Wait c =
     let top = c.args.top.now in
     let start = c.args.maker.now in
     let now = c.turns.maker in
-    let w = meaning as_work (work_names s top (length top)) (expression_at s c.args.at) in
-    let b = meaning bounding (bound_names_of s top (length top)) (expression_at s c.args.at) in
+    let w = work_at s top c.args.at in
+    let b = bounding_at s top c.args.at in
     let fs = c.turns.stack.items in
     let new = c.enter-in-Wait.new.maker in
     let d = c.in-Wait in
@@ -217,8 +213,8 @@ turns-smaller c =
     let top = c.args.top.now in
     let start = c.args.maker.now in
     let now = c.turns.maker in
-    let w = meaning as_work (work_names s top (length top)) (expression_at s c.args.at) in
-    let b = meaning bounding (bound_names_of s top (length top)) (expression_at s c.args.at) in
+    let w = work_at s top c.args.at in
+    let b = bounding_at s top c.args.at in
     let fs = c.pop.new.self.items in
     let new = c.resume.new.maker in
     let v = c.in-Back.value in
