@@ -124,7 +124,8 @@ impl SharedBook {
         requires { IsSeatOf self.now seat.old }
         ensures own { IsSeatOf self.now seat.new }
         ensures ok { IfOk result (λ v. IsReply seat.old (LemmasFrom from) (Lemmas v) seat.new) }
-        ensures err { IfErr result (λ _. IsReply seat.old (LemmasFrom from) (Refused Memory) seat.new) }
+        ensures err { IfErr result (λ _.
+            IsReply seat.old (LemmasFrom from) (Refused Memory) seat.new) }
     {
         match self.lock.call(rt, &mut seat.place, Call::LemmasFrom(from)) {
             Reply::Lemmas(lemmas) => Ok(lemmas),

@@ -84,7 +84,8 @@ impl Search {
         ensures book { self.new.book ≡ self.old.book }
         ensures lemmas { self.new.lemmas ≡ self.old.lemmas }
         ensures none { IsNone result → IsOver self.old }
-        ensures taken { IfSome result (λ n. self.old.waiting.items ≡ self.new.waiting.items ++ (n ∷ [])) }
+        ensures taken { IfSome result (λ n.
+            self.old.waiting.items ≡ self.new.waiting.items ++ (n ∷ [])) }
         ensures no_point { IfSome result (λ n. self.old.book.point ≡ None) }
     {
         if self.book.point().is_some() {

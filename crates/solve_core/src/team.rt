@@ -38,7 +38,8 @@ fn enlist<'a>(
     requires parts { 2 * vec_len hands < (view lead.old).parts }
     ensures own { IsSeatOf shared.now lead.new }
     ensures team { IfOk result (λ v. All (IsMemberOf shared.now) v.items) }
-    ensures parts { IfOk result (λ v. (view lead.new).parts + 2 * vec_len v ≡ (view lead.old).parts) }
+    ensures parts { IfOk result (λ v.
+        (view lead.new).parts + 2 * vec_len v ≡ (view lead.old).parts) }
     ensures none { IfErr result (λ _. view lead.new ≡ view lead.old) }
 {
     let mut hands = hands;

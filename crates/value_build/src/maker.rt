@@ -32,16 +32,15 @@ pub struct Maker {
 }
 
 impl Model for Maker {
-    ghost use Rattle.std.specs.Prelude.{map};
-    ghost use Rattle.term_build.specs.Shapes.{drawn_of};
+    ghost use Rattle.term_build.specs.Calls.{drawn};
     ghost use Rattle.term_build.specs.Sketch.{IsSketch};
-    ghost use Rattle.value_build.specs.Making.{Making};
+    ghost use Rattle.value_build.specs.Making.{Making, making};
 
     ghost Value = { Making };
 
-    ghost view = { λ m. record { made = m.builder; drawn = map drawn_of m.sketch.items; bounds = m.bounds } };
+    ghost view = { λ m. making m.builder (drawn m.sketch) m.bounds };
 
-    ghost invariant = { λ m. IsSketch m.builder (map drawn_of m.sketch.items) };
+    ghost invariant = { λ m. IsSketch m.builder (drawn m.sketch) };
 }
 
 impl Maker {
