@@ -18,7 +18,10 @@ pub struct ShelfReader<'a, J: Subject> {
 
 impl<'a, J: Subject> ShelfReader<'a, J> {
     /// At the beginning of the shelf.
-    pub fn new(shelf: &'a Shelf<J>) -> ShelfReader<'a, J> {
+    pub fn new(shelf: &'a Shelf<J>) -> ShelfReader<'a, J>
+        ensures shelf { result.shelf.now ≡ shelf.now }
+        ensures begins { result.mark.next ≡ 0 }
+    {
         ShelfReader {
             shelf,
             mark: Mark::new(),
