@@ -11,10 +11,10 @@ const SEARCH_PERIOD: u32 = 16;
 /// Closed runs are not repeated for so many of them in a row at most.
 const LESSONS_LEFT_OUT: u32 = 32;
 
-/// So many lemmas are learned before a run quotes one, and after each that does.
-const LESSONS_A_QUOTE: u32 = 8;
+/// So many closed runs are repeated before a run quotes a lemma, and after each that does.
+const REPEATS_A_QUOTE: u32 = 16;
 
-/// Which closed runs are repeated at the root space: some, as long as the lemmas that they show are quoted.
+/// Which closed runs are repeated at the root space: some, as long as lemmas are quoted.
 #[derive(Clone, Copy, PartialEq, Eq, Debug)]
 pub struct Lessons {
     patience: Patience,
@@ -26,7 +26,7 @@ impl Lessons {
     pub fn new() -> Lessons {
         Lessons {
             patience: Patience::new(LESSONS_LEFT_OUT),
-            left: LESSONS_A_QUOTE,
+            left: REPEATS_A_QUOTE,
         }
     }
 
@@ -35,17 +35,15 @@ impl Lessons {
         self.left > 0 && self.patience.is_due()
     }
 
-    /// Notes whether a run that was repeated showed a lemma.
-    pub fn note_lesson(&mut self, has_shown: bool) {
+    /// Notes that a run was repeated, and whether that showed a lemma.
+    pub fn note_repeat(&mut self, has_shown: bool) {
         self.patience.note(has_shown);
-        if has_shown {
-            self.left = self.left.saturating_sub(1);
-        }
+        self.left = self.left.saturating_sub(1);
     }
 
     /// Notes that a run has quoted a lemma.
     pub fn note_quote(&mut self) {
-        self.left = LESSONS_A_QUOTE;
+        self.left = REPEATS_A_QUOTE;
     }
 }
 

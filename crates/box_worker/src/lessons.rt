@@ -216,8 +216,8 @@ fn begins_at_root(alloc: Global, problem: &Problem, run: &KeptPatch) -> Result<b
 /// What is to be learned of a closed run of the room's problem, of which `own` is a copy: a lemma that holds in each box
 /// where some atoms are marked together. It is the run repeated at the whole root space with the marks alone of the atoms
 /// by which it narrows, where that leaves nothing, else the copy where it begins at the root space. Runs are not repeated
-/// for 1, 2, 4 boxes and so on, at most 32, after one that showed nothing so, nor after eight lemmas none of which was
-/// quoted. A lemma of a smaller space is none to be learned: the boxes of a cover do not overlap, so it would not be quoted. What is repeated is a choice: that nothing is
+/// for 1, 2, 4 boxes and so on, at most 32, after one that showed nothing so, nor after 16 that were repeated while
+/// no lemma was quoted. A lemma of a smaller space is none to be learned: the boxes of a cover do not overlap, so it would not be quoted. What is repeated is a choice: that nothing is
 /// learned is ruled out by no clause.
 ///
 /// # Errors
@@ -237,7 +237,7 @@ pub fn lesson(
 {
     if room.heuristics.lessons.is_due() {
         let shown = widened(alloc, room, options, run)?;
-        room.heuristics.lessons.note_lesson(shown.is_some());
+        room.heuristics.lessons.note_repeat(shown.is_some());
         if shown.is_some() {
             return Ok(shown);
         }
