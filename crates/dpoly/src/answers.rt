@@ -98,7 +98,8 @@ pub fn tell(alloc: Global, book: &Book, options: &Options) -> Result<Told, Alloc
 /// The certificate of a book that leaves nothing.
 pub fn whole_cover(alloc: Global, book: &Book) -> Result<Vec<u8>, AllocError>
     requires { verdict_of book.now ≡ verdict.Unsat }
-    ensures { IfOk result (λ cert. (options : Options) → IsLeftBy options book.now → IsAnswer (problem_in book.now) options cert.items (left_open [])) }
+    ensures { IfOk result (λ cert. (options : Options) → IsLeftBy options book.now →
+        IsAnswer (problem_in book.now) options cert.items (left_open [])) }
 {
     let _ = book.nodes();
     write_cover(alloc, book)

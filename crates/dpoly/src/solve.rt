@@ -65,7 +65,8 @@ fn covered<R: Threads + Wait + Sync, G: Gate + Sync>(
 ) -> Result<Vec<u8>, AllocError>
     requires options { AreOptions options.now }
     requires within { IsWithin problem.now }
-    ensures { IfOk result (λ cert. IsAnswer (problem_of problem.now) options.now cert.items (left_open [])) }
+    ensures { IfOk result (λ cert.
+        IsAnswer (problem_of problem.now) options.now cert.items (left_open [])) }
 {
     let book = search(rt, alloc, problem, options, gate)?;
     match book.verdict() {
@@ -89,7 +90,8 @@ pub fn solve_problem<R: Threads + Wait + Sync, D: Desk, G: Gate + Sync>(
 ) -> Status
     requires options { AreOptions options }
     requires within { IsWithin problem.now }
-    ensures ends { RunEnds (CanSolve (problem_of problem.now) options name.now) [] (D.sight desk.old) (D.sight desk.new) result }
+    ensures ends { RunEnds (CanSolve (problem_of problem.now) options name.now) []
+        (D.sight desk.old) (D.sight desk.new) result }
     ensures same { SameIn (D.sight desk.old) (D.sight desk.new) }
     ensures cause { SolveHasCause (D.sight desk.old) (D.sight desk.new) result }
 {
@@ -112,7 +114,8 @@ pub fn solve_demo<R: Threads + Wait + Sync, D: Desk, G: Gate + Sync>(
 ) -> Status
     requires options { AreOptions options }
     requires within { IsWithin problem.now }
-    ensures ends { RunEnds (CanDemo (problem_of problem.now) options name.now script.now) [] (D.sight desk.old) (D.sight desk.new) result }
+    ensures ends { RunEnds (CanDemo (problem_of problem.now) options name.now script.now) []
+        (D.sight desk.old) (D.sight desk.new) result }
     ensures same { SameIn (D.sight desk.old) (D.sight desk.new) }
     ensures cause { DemoHasCause (D.sight desk.old) (D.sight desk.new) result }
 {

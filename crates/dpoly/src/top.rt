@@ -27,8 +27,10 @@ fn run_solve<R: Threads + Wait + Sync, D: Desk, G: Gate + Sync>(
 ) -> Status
     requires { AreOptions asked.options }
     ensures cause { HasCause (solve_run asked.entry (D.sight desk.old) (D.sight desk.new) result) }
-    ensures script { ScriptIsRead (solve_run asked.entry (D.sight desk.old) (D.sight desk.new) result) }
-    ensures course { HasCourse (solve_run asked.entry (D.sight desk.old) (D.sight desk.new) result) }
+    ensures script { ScriptIsRead
+        (solve_run asked.entry (D.sight desk.old) (D.sight desk.new) result) }
+    ensures course { HasCourse
+        (solve_run asked.entry (D.sight desk.old) (D.sight desk.new) result) }
 {
     let SolveWords {
         script,
@@ -43,10 +45,14 @@ fn run_solve<R: Threads + Wait + Sync, D: Desk, G: Gate + Sync>(
 
 // Writes a certificate of a script in version 2.
 fn run_upgrade<D: Desk>(alloc: Global, desk: &mut D, asked: UpgradeWords<'_>) -> Status
-    ensures cause { HasCause (upgrade_run asked.entry (D.sight desk.old) (D.sight desk.new) result) }
-    ensures script { ScriptIsRead (upgrade_run asked.entry (D.sight desk.old) (D.sight desk.new) result) }
-    ensures cert { CertIsRead (upgrade_run asked.entry (D.sight desk.old) (D.sight desk.new) result) }
-    ensures course { HasCourse (upgrade_run asked.entry (D.sight desk.old) (D.sight desk.new) result) }
+    ensures cause { HasCause
+        (upgrade_run asked.entry (D.sight desk.old) (D.sight desk.new) result) }
+    ensures script { ScriptIsRead
+        (upgrade_run asked.entry (D.sight desk.old) (D.sight desk.new) result) }
+    ensures cert { CertIsRead
+        (upgrade_run asked.entry (D.sight desk.old) (D.sight desk.new) result) }
+    ensures course { HasCourse
+        (upgrade_run asked.entry (D.sight desk.old) (D.sight desk.new) result) }
 {
     let UpgradeWords {
         script,
@@ -99,9 +105,11 @@ fn run_command<R: Threads + Wait + Sync, D: Desk, G: Gate + Sync>(
 ) -> Status
     requires { IsInRange (seen asked) }
     ensures cause { HasCause (asked_run asked.entry (D.sight desk.old) (D.sight desk.new) result) }
-    ensures script { ScriptIsRead (asked_run asked.entry (D.sight desk.old) (D.sight desk.new) result) }
+    ensures script { ScriptIsRead
+        (asked_run asked.entry (D.sight desk.old) (D.sight desk.new) result) }
     ensures cert { CertIsRead (asked_run asked.entry (D.sight desk.old) (D.sight desk.new) result) }
-    ensures course { HasCourse (asked_run asked.entry (D.sight desk.old) (D.sight desk.new) result) }
+    ensures course { HasCourse
+        (asked_run asked.entry (D.sight desk.old) (D.sight desk.new) result) }
 {
     match asked {
         Asked::Solve(asked) => run_solve(rt, alloc, desk, asked, gate),
@@ -139,7 +147,8 @@ pub fn run_top<R: Threads + Wait + Sync, D: Desk, G: Gate + Sync>(
     // What is answered is true of the script, and a certificate that is refused has the fault that is answered. What is
     // written again is accepted with the value of the certificate that was read.
     ensures unsat { UnsatIsTrue (run words.now (D.sight desk.old) (D.sight desk.new) result) }
-    ensures delta_sat { DeltaSatIsTrue (run words.now (D.sight desk.old) (D.sight desk.new) result) }
+    ensures delta_sat { DeltaSatIsTrue
+        (run words.now (D.sight desk.old) (D.sight desk.new) result) }
     ensures refused { RefusalIsTrue (run words.now (D.sight desk.old) (D.sight desk.new) result) }
     ensures upgraded { UpgradeIsTrue (run words.now (D.sight desk.old) (D.sight desk.new) result) }
 {

@@ -84,7 +84,8 @@ pub fn upgrade_problem<D: Desk>(
     problem: &Problem,
     bound: Option<u32>,
 ) -> Status
-    ensures ends { EndsOnUpgrade problem.now bound cert.now out.now (D.sight desk.old) (D.sight desk.new) result }
+    ensures ends { EndsOnUpgrade problem.now bound cert.now out.now
+        (D.sight desk.old) (D.sight desk.new) result }
     ensures cause { UpgradeHasCause (D.sight desk.old) (D.sight desk.new) result }
     ensures script { (D.sight desk.new).script ≡ (D.sight desk.old).script }
     ensures read { result ≡ Status.Answered → IsReadToEnd (D.sight desk.old) (D.sight desk.new) }
