@@ -2,6 +2,7 @@
 ghost use Rattle.std.specs.Prelude.{◌≡◌, [], None, Some, IfOk};
 ghost use Rattle.words.specs.declared.asked.Options.{Options};
 ghost use Rattle.cert_model.specs.Due.{left_open};
+ghost use Rattle.cover_book.specs.Keeps.{IsBook};
 ghost use Rattle.cover_book.specs.Model.{problem_in};
 ghost use Rattle.cover_book.specs.Verdict.{verdict_of};
 ghost use Rattle.cover_book.specs.declared.verdict.BookVerdict.TheVariants as verdict;
@@ -33,6 +34,13 @@ pub fn search_options(options: &Options) -> cover_rule::Options
         workers: options.workers,
         bound: options.bound,
     }
+}
+
+// Shows what the type of a book keeps. A proof sees it only as what a call ensures.
+fn book_is_sound(book: &Book)
+    ensures { IsBook book.now }
+{
+    book.nodes();
 }
 
 // The text of the point that is kept, with its certificate.
@@ -70,7 +78,7 @@ fn left_text(alloc: Global, book: &Book, options: &Options) -> Result<Vec<u8>, A
     requires no_point { book.now.point ≡ None }
     ensures { IfOk result (λ text. SaysLeft options.now book.now text.items) }
 {
-    let _ = book.nodes();
+    book_is_sound(book);
     match book.verdict() {
         BookVerdict::UnknownBudget => answer_text::budget(alloc, u64::from(options.budget)),
         BookVerdict::UnknownWidth => width_text(alloc, book),
@@ -84,7 +92,7 @@ pub fn tell(alloc: Global, book: &Book, options: &Options) -> Result<Told, Alloc
     requires { IsLeftBy options.now book.now }
     ensures { IfOk result (λ told. IsTold (problem_in book.now) options.now told) }
 {
-    let _ = book.nodes();
+    book_is_sound(book);
     match book.point() {
         Some(point) => tell_point(alloc, book, options, point),
         None => {
@@ -101,6 +109,6 @@ pub fn whole_cover(alloc: Global, book: &Book) -> Result<Vec<u8>, AllocError>
     ensures { IfOk result (λ cert. (options : Options) → IsLeftBy options book.now →
         IsAnswer (problem_in book.now) options cert.items (left_open [])) }
 {
-    let _ = book.nodes();
+    book_is_sound(book);
     write_cover(alloc, book)
 }
