@@ -1,4 +1,4 @@
-//! The work on one box of a cover: `work_on` takes a state and closes it, parts it in two or finds it stuck by lines
+//! The work on one box of a cover: `work_on` takes a state and closes it, splits it in two or finds it stuck by lines
 //! that are lawful and honest, or finds a point in it; `lesson` says what is learned of a run that closed one. `guide`,
 //! `needs`, `fallen`, `combining`, `patience` and `choice` are heuristics that promise nothing; what holds of an answer is
 //! what the lines of a patch ensure. Nothing but room is kept from one box of a problem to the next (`Room`, with

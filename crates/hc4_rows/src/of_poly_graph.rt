@@ -1,4 +1,5 @@
 use poly_graph::*;
+use sample_problems::smallest;
 use std::alloc::{AllocError, Global};
 use std::test::Fail;
 
@@ -111,20 +112,6 @@ fn parents_are_listed(rt: HostRuntime) -> Result<(), Fail> {
     }
     assert_eq!(rt; copy.len(), 3);
     Ok(())
-}
-
-// A problem without axes and atoms, whose form is true.
-#[tactic(auto, using(poly_graph::proofs::Smallest::smallest))]
-fn smallest(alloc: Global) -> Result<Problem, NoNode> {
-    let mut forms = FormGraph::new(alloc);
-    let root = forms.intern(FormNode::True)?;
-    Ok(Problem::new(
-        Vec::new(alloc),
-        Graph::new(alloc),
-        Vec::new(alloc),
-        forms,
-        root,
-    ))
 }
 
 #[test]

@@ -1,28 +1,12 @@
 // The root space of a problem without axes, and the truth of its form there.
-ghost use Rattle.std.specs.Prelude.{◌≡◌, [], IfOk};
+ghost use Rattle.std.specs.Prelude.{◌≡◌, []};
 
 use ival::{Rows, Space};
-use poly_graph::{FormGraph, FormNode, Graph, Lits, NoNode, Problem};
+use poly_graph::{Lits, Problem};
+use sample_problems::smallest;
 use std::alloc::{AllocError, Global};
 use std::test::Fail;
 use truth3::*;
-
-// A problem without axes and atoms, whose form is true.
-#[tactic(auto, using(poly_graph::proofs::Smallest::smallest))]
-fn smallest(alloc: Global) -> Result<Problem, NoNode>
-    ensures nodes { IfOk result (λ p. p.nodes ≡ []) }
-    ensures atoms { IfOk result (λ p. p.atoms ≡ []) }
-{
-    let mut forms = FormGraph::new(alloc);
-    let root = forms.intern(FormNode::True)?;
-    Ok(Problem::new(
-        Vec::new(alloc),
-        Graph::new(alloc),
-        Vec::new(alloc),
-        forms,
-        root,
-    ))
-}
 
 // Whether the form may hold, and whether it surely does.
 #[tactic(auto, using(crate::proofs::Smallest::no_rows, crate::proofs::Smallest::no_marks))]

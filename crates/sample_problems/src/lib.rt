@@ -7,4 +7,4 @@ mod made;
 pub mod scripts;
 
 pub use inside::lies_within;
-pub use made::{USUAL, small, verdict};
+pub use made::{USUAL, small, smallest, verdict};

@@ -1,10 +1,10 @@
 // What is asked of problems, and what a certificate says of them.
-ghost use Rattle.std.specs.Prelude.{IfSome};
+ghost use Rattle.std.specs.Prelude.{◌≡◌, [], IfOk, IfSome};
 ghost use Rattle.sample_problems.specs.Small.{IsSmall};
 
 use cert_check::{CertFault, Feed, Verdict};
 use cover_data::Options;
-use poly_graph::Problem;
+use poly_graph::{FormGraph, FormNode, Graph, NoNode, Problem};
 use std::alloc::Global;
 
 /// What a search is asked for where nothing else is said.
@@ -16,6 +16,28 @@ pub const USUAL: Options = Options {
     workers: 1,
     bound: None,
 };
+
+/// A problem without axes and atoms, whose form is true.
+///
+/// # Errors
+///
+/// Memory ran out.
+#[tactic(auto, using(poly_graph::proofs::Smallest::smallest))]
+pub fn smallest(alloc: Global) -> Result<Problem, NoNode>
+    ensures axes { IfOk result (λ p. p.axes ≡ []) }
+    ensures nodes { IfOk result (λ p. p.nodes ≡ []) }
+    ensures atoms { IfOk result (λ p. p.atoms ≡ []) }
+{
+    let mut forms = FormGraph::new(alloc);
+    let root = forms.intern(FormNode::True)?;
+    Ok(Problem::new(
+        Vec::new(alloc),
+        Graph::new(alloc),
+        Vec::new(alloc),
+        forms,
+        root,
+    ))
+}
 
 /// The problem, if there may be a book of it.
 pub fn small(problem: Problem) -> Option<Problem>

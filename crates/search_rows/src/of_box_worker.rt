@@ -1,30 +1,13 @@
 // The work on a problem without axes and atoms, whose form is true.
-ghost use Rattle.std.specs.Prelude.{◌≡◌, [], IfOk};
+ghost use Rattle.std.specs.Prelude.{◌≡◌, []};
 
 use box_worker::*;
 use cover_data::State;
 use ival::Space;
-use poly_graph::{FormGraph, FormNode, Graph, Lits, NoNode, Problem};
-use sample_problems::USUAL;
+use poly_graph::{Lits, Problem};
+use sample_problems::{USUAL, smallest};
 use std::alloc::{AllocError, Global};
 use std::test::Fail;
-
-// A problem without axes and atoms, whose form is true.
-#[tactic(auto, using(poly_graph::proofs::Smallest::smallest))]
-fn smallest(alloc: Global) -> Result<Problem, NoNode>
-    ensures axes { IfOk result (λ p. p.axes ≡ []) }
-    ensures atoms { IfOk result (λ p. p.atoms ≡ []) }
-{
-    let mut forms = FormGraph::new(alloc);
-    let root = forms.intern(FormNode::True)?;
-    Ok(Problem::new(
-        Vec::new(alloc),
-        Graph::new(alloc),
-        Vec::new(alloc),
-        forms,
-        root,
-    ))
-}
 
 // The work on its one state.
 fn work(alloc: Global, problem: &Problem) -> Result<Worked, AllocError>

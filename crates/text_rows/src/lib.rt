@@ -6,6 +6,8 @@ mod of_answer_text;
 #[cfg(test)]
 mod of_cert_read;
 #[cfg(test)]
+mod of_check_run;
+#[cfg(test)]
 mod of_desk;
 #[cfg(test)]
 mod of_gen_script;
