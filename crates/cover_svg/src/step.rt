@@ -155,7 +155,8 @@ fn narrowed_off(
     requires margin { margin_bits ≤ 60 }
     requires atom { atom.now.term < length problem.now.nodes }
     ensures marks { IfOk result (λ r. r.0.marks ≡ state.marks) }
-    ensures space { NarrowsTo problem.now atom.now (atom_off_range margin_bits atom.now) state result }
+    ensures space { NarrowsTo problem.now atom.now
+        (atom_off_range margin_bits atom.now) state result }
 {
     let graph = problem.graph();
     let mut rows = Rows::new(alloc, graph.len())?;
@@ -326,7 +327,8 @@ fn combine_marked(
     multipliers: &[(u32, Dy)],
 ) -> Result<Option<Left>, AllocError>
     requires margin { margin_bits ≤ 60 }
-    ensures follows { FollowsRule problem.now margin_bits state (combined_by multipliers.now) result }
+    ensures follows { FollowsRule problem.now margin_bits state
+        (combined_by multipliers.now) result }
     ensures end { EndsWith state (rule_line (combine_at (multipliers_of multipliers.now))) result }
 {
     if !can_combine(problem, &state, multipliers) {
@@ -349,7 +351,8 @@ fn void_combine(
 ) -> Result<Option<Left>, AllocError>
     requires margin { margin_bits ≤ 60 }
     ensures follows { FollowsRule problem.now margin_bits state (voided_by multipliers.now) result }
-    ensures end { EndsWith state (rule_line (void_combine_at (multipliers_of multipliers.now))) result }
+    ensures end { EndsWith state
+        (rule_line (void_combine_at (multipliers_of multipliers.now))) result }
 {
     if !can_combine(problem, &state, multipliers) {
         return Ok(None);
