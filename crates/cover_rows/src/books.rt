@@ -59,7 +59,8 @@ struct Commit {
 
 // What is kept of a patch that has ended.
 fn ended(patch: Patch<'_>) -> Option<KeptPatch>
-    ensures { IfSome result (λ k. IsRun (problem_of patch.entry.problem) patch.entry.margins (kept_of k) × IsSome k.end) }
+    ensures { IfSome result (λ k.
+        IsRun (problem_of patch.entry.problem) patch.entry.margins (kept_of k) × IsSome k.end) }
 {
     let (kept, _) = patch.into_kept();
     if kept.end.is_some() { Some(kept) } else { None }
@@ -74,8 +75,10 @@ fn worked(
     lines: &[(&'static str, Answer)],
 ) -> Option<KeptPatch>
     requires fits { IfSome lemma (λ l. FitsProblem (problem_in book.now) l.now.state) }
-    requires lemma { IfSome lemma (λ l. IsLemma (problem_in book.now) (loosenings_in book.now) l.now.state) }
-    ensures { IfSome result (λ k. IsRun (problem_in book.now) (margins_of book.now.options) (kept_of k) × IsSome k.end) }
+    requires lemma { IfSome lemma (λ l.
+        IsLemma (problem_in book.now) (loosenings_in book.now) l.now.state) }
+    ensures { IfSome result (λ k.
+        IsRun (problem_in book.now) (margins_of book.now.options) (kept_of k) × IsSome k.end) }
 {
     let atoms = book.problem().atoms().len();
     let state = state_of(alloc, atoms, state)?;
@@ -85,7 +88,8 @@ fn worked(
 
 // The same of a commit, where a lemma may be quoted.
 fn kept(alloc: Global, book: &Book, commit: &Commit) -> Option<KeptPatch>
-    ensures { IfSome result (λ k. IsRun (problem_in book.now) (margins_of book.now.options) (kept_of k) × IsSome k.end) }
+    ensures { IfSome result (λ k.
+        IsRun (problem_in book.now) (margins_of book.now.options) (kept_of k) × IsSome k.end) }
 {
     match commit.quotes {
         None => worked(alloc, book, None, commit.state, commit.lines),

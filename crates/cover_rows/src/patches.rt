@@ -182,7 +182,8 @@ fn answer(book: &Book, lemma: Option<&Lemma>, patch: &mut Patch, line: &Line) ->
     requires problem { patch.old.problem ≡ book.now.problem }
     requires margins { patch.old.margins ≡ margins_of book.now.options }
     requires fits { IfSome lemma (λ l. FitsProblem (problem_in book.now) l.now.state) }
-    requires lemma { IfSome lemma (λ l. IsLemma (problem_in book.now) (loosenings_in book.now) l.now.state) }
+    requires lemma { IfSome lemma (λ l.
+        IsLemma (problem_in book.now) (loosenings_in book.now) l.now.state) }
     ensures problem { patch.new.problem ≡ patch.old.problem }
     ensures margins { patch.new.margins ≡ patch.old.margins }
 {
@@ -209,7 +210,8 @@ fn is_answered(
     requires problem { patch.old.problem ≡ book.now.problem }
     requires margins { patch.old.margins ≡ margins_of book.now.options }
     requires fits { IfSome lemma (λ l. FitsProblem (problem_in book.now) l.now.state) }
-    requires lemma { IfSome lemma (λ l. IsLemma (problem_in book.now) (loosenings_in book.now) l.now.state) }
+    requires lemma { IfSome lemma (λ l.
+        IsLemma (problem_in book.now) (loosenings_in book.now) l.now.state) }
     ensures problem { patch.new.problem ≡ patch.old.problem }
     ensures margins { patch.new.margins ≡ patch.old.margins }
 {
@@ -236,7 +238,8 @@ fn follow(
     requires problem { patch.old.problem ≡ book.now.problem }
     requires margins { patch.old.margins ≡ margins_of book.now.options }
     requires fits { IfSome lemma (λ l. FitsProblem (problem_in book.now) l.now.state) }
-    requires lemma { IfSome lemma (λ l. IsLemma (problem_in book.now) (loosenings_in book.now) l.now.state) }
+    requires lemma { IfSome lemma (λ l.
+        IsLemma (problem_in book.now) (loosenings_in book.now) l.now.state) }
     ensures problem { patch.new.problem ≡ patch.old.problem }
     ensures margins { patch.new.margins ≡ patch.old.margins }
 {
@@ -257,7 +260,8 @@ pub(crate) fn led<'a>(
     lines: &[(&'static str, Answer)],
 ) -> Result<Patch<'a>, &'static str>
     requires fits { IfSome lemma (λ l. FitsProblem (problem_in book.now) l.now.state) }
-    requires lemma { IfSome lemma (λ l. IsLemma (problem_in book.now) (loosenings_in book.now) l.now.state) }
+    requires lemma { IfSome lemma (λ l.
+        IsLemma (problem_in book.now) (loosenings_in book.now) l.now.state) }
     ensures problem { IfOk result (λ p. p.problem ≡ book.now.problem) }
     ensures margins { IfOk result (λ p. p.margins ≡ margins_of book.now.options) }
 {
@@ -273,7 +277,8 @@ fn lemma_of(alloc: Global, book: &Book, patch: Patch, id: u32) -> Option<Lemma>
     requires problem { patch.problem ≡ book.now.problem }
     requires margins { patch.margins ≡ margins_of book.now.options }
     ensures fits { IfSome result (λ l. FitsProblem (problem_in book.now) l.state) }
-    ensures lemma { IfSome result (λ l. IsLemma (problem_in book.now) (loosenings_in book.now) l.state) }
+    ensures lemma { IfSome result (λ l.
+        IsLemma (problem_in book.now) (loosenings_in book.now) l.state) }
 {
     let _ = patch.reached();
     match patch.closed() {
@@ -360,7 +365,8 @@ fn patch_of<'a>(
     case: &Case,
 ) -> Option<Patch<'a>>
     requires fits { IfSome lemma (λ l. FitsProblem (problem_in book.now) l.now.state) }
-    requires lemma { IfSome lemma (λ l. IsLemma (problem_in book.now) (loosenings_in book.now) l.now.state) }
+    requires lemma { IfSome lemma (λ l.
+        IsLemma (problem_in book.now) (loosenings_in book.now) l.now.state) }
 {
     let atoms = book.problem().atoms().len();
     let state = state_of(alloc, atoms, case.state)?;
@@ -385,7 +391,8 @@ fn closes_in(
     line: &str,
 ) -> bool
     requires fits { IfSome lemma (λ l. FitsProblem (problem_in book.now) l.now.state) }
-    requires lemma { IfSome lemma (λ l. IsLemma (problem_in book.now) (loosenings_in book.now) l.now.state) }
+    requires lemma { IfSome lemma (λ l.
+        IsLemma (problem_in book.now) (loosenings_in book.now) l.now.state) }
 {
     match patch_of(alloc, book, lemma, case) {
         Some(patch) => is_closed_by(alloc, patch, steps, line),
@@ -672,7 +679,8 @@ fn an_atom_of_a_choice_is_parted(rt: HostRuntime) {
 // The lemma of this number of the whole interval with the last atom marked yes.
 pub(crate) fn outside_lemma(alloc: Global, book: &Book, id: u32) -> Option<Lemma>
     ensures fits { IfSome result (λ l. FitsProblem (problem_in book.now) l.state) }
-    ensures lemma { IfSome result (λ l. IsLemma (problem_in book.now) (loosenings_in book.now) l.state) }
+    ensures lemma { IfSome result (λ l.
+        IsLemma (problem_in book.now) (loosenings_in book.now) l.state) }
 {
     let state = state_of(alloc, 5, &["real 0 1b0", "yes 4"])?;
     let lines = [("pull 4", DONE), ("false", DONE)];

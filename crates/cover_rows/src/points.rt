@@ -80,7 +80,8 @@ pub(crate) fn middle_of(
     book: &Book,
     node: u32,
 ) -> Result<Option<Point>, &'static str>
-    ensures { IfOk result (λ o. IfSome o (λ p. IsShownAt (problem_in book.now) (loosenings_in book.now) p)) }
+    ensures { IfOk result (λ o.
+        IfSome o (λ p. IsShownAt (problem_in book.now) (loosenings_in book.now) p)) }
 {
     let Ok(state) = book.state_of(node) else {
         return Err("no state");
