@@ -29,7 +29,8 @@ pub fn run_top<D: Desk>(alloc: Global, words: &[String], desk: &mut D) -> Status
 
     // What is confirmed is true of the script, and a certificate that is refused has the fault that is answered.
     ensures unsat { UnsatIsTrue (run words.now (D.sight desk.old) (D.sight desk.new) result) }
-    ensures delta_sat { DeltaSatIsTrue (run words.now (D.sight desk.old) (D.sight desk.new) result) }
+    ensures delta_sat { DeltaSatIsTrue
+        (run words.now (D.sight desk.old) (D.sight desk.new) result) }
     ensures refused { RefusalIsTrue (run words.now (D.sight desk.old) (D.sight desk.new) result) }
 {
     match read_checker_words(alloc, words) {
