@@ -1,3 +1,4 @@
+pub mod Demo
 pub mod Solving
 pub mod Told
 pub mod Upgrading

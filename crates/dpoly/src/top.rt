@@ -91,7 +91,8 @@ fn run_demo<R: Threads + Wait + Sync, D: Desk, G: Gate + Sync>(
     match read_script(&Reader, alloc, &script, options.bound) {
         Ok(problem) => solve_demo(rt, alloc, desk, cert, &script, &problem, options, gate),
         Err(Halt::Memory) => Status::NoMemory,
-        Err(Halt::Refused(_)) | Err(Halt::Failed) => unreachable!(),
+        Err(Halt::Refused(_)) => unreachable!(),
+        Err(Halt::Failed) => unreachable!(),
     }
 }
 

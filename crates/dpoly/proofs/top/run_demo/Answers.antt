@@ -5,6 +5,9 @@ use Rattle.check_run.specs.Course.{RunEnds}
 use Rattle.check_run.specs.Can.{CanDemo}
 use Rattle.script_faults.specs.Reader.{HasProblem}
 use Rattle.check_run.proofs.Running.{demo_problem}
+use Rattle.check_run.specs.declared.script.Halt.{Halt}
+use Rattle.check_run.specs.Script.{Refuses}
+use Rattle.dpoly.proofs.Demo.{never_refused}
 use Rattle.dpoly.proofs.top.run_demo.Goals as goal
 
 pub returns-in-Ok-read_script-clause-course : goal.returns-in-Ok-read_script-clause-course
@@ -14,3 +17,9 @@ returns-in-Ok-read_script-clause-course g c script cert_in tells =
     (g.D.Desk.sight c.args.desk.now) (g.D.Desk.sight c.solve_demo.new.desk) c.solve_demo.result in
     demo_problem (seen_demo c.args.asked) c.in-Ok.script.items (problem_of c.in-Ok-read_script.problem) _ _ _
     (subst H c.deref.ensures.value c.in-Ok-read_script.ensures.script) c.in-Ok.ensures (subst R c.deref-in-Ok-read_script.ensures.value c.solve_demo.ensures.ends) script cert_in
+
+pub unreachable-requires : goal.unreachable-requires
+unreachable-requires g c =
+    let R : Halt → Type 0 = λ h. Refuses c.args.asked.options.bound c.deref.result.now h in
+    never_refused c.args.asked.options.bound c.args.asked.seed c.args.asked.size c.deref.result.now c.in-Err-Refused.field-0-0.items
+    c.requires.size_most (c.deref.ensures.value ∙ c.in-Ok.ensures) (subst R c.in-Err-Refused.field-0-is c.in-Err-Refused.ensures.script)
