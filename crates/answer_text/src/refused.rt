@@ -8,7 +8,7 @@ ghost use Rattle.answer_text.specs.Stops.{stop_text};
 use cert_check::{CertFault, Rule};
 use std::alloc::{AllocError, Global};
 
-/// The certificate is refused for this fault. Want of memory has no text, and is answered again.
+/// The certificate is refused for this fault. Out of memory has no text, and is answered again.
 pub fn cert_fault(alloc: Global, fault: CertFault) -> Result<Vec<u8>, AllocError>
     ensures { IfOk result (λ text. stop_text (stop_of fault) ≡ Some text.items) }
 {

@@ -14,7 +14,7 @@ use Rattle.book_lock.specs.declared.views.Stage.TheVariants.{Idle, Ticket, Turn}
 use Rattle.book_lock.specs.declared.views.SeatView.{SeatView}
 use Rattle.book_lock.specs.History.{entry, calls_by, IsHistory, IsLegal}
 use Rattle.book_lock.specs.Rule.{total, tickets, IsTicketOf, IsTurn, IsStageOf, tickets_of, parts_of, IsJoinedNumber, IsSpent, ArePairs, IsAccount, IsViewAt, IsAtHome, IsOut, HasKeeper, LockInvariant, first_view, left_view, new_view, HaveCalls, IsClosing, joined_view, spent_view}
-use Rattle.book_lock.specs.Told.{ticket_told, IsInSlot, IsTurnOf, look_told, IsCallOf, end_told, number_told, match_told}
+use Rattle.book_lock.specs.SlotSteps.{ticket_step, IsInSlot, IsTurnOf, look_step, IsCallOf, end_step, number_step, match_step}
 use Rattle.book_lock.proofs.Rows.{total_set, total_snoc, at_front, at_end, calls_front, shorter_front, longer_in, names_left, names_right, total_ge, total_le, total_two, below_length, prefix_refl, prefix_more, prefix_trans, calls_by-mine, calls_by-other, leaves_snoc, legal_last, next_mod}
 
 module _ {O : Type 0} where
@@ -131,7 +131,7 @@ module _ {O C R : Type 0} (meets : O → C → Type 0) (steps : O → C → R �
   staged v st = record v { stage = st }
 
   -- a ticket is drawn
-  pub draw_allowed : (slots id : ℕ) (me : M) → me.0.stage ≡ Idle → 0 < me.0.parts → Allows Rule slots id me 0 (λ n. (n + 1) % N) (ticket_told (step slots 0 1 0 none) me)
+  pub draw_allowed : (slots id : ℕ) (me : M) → me.0.stage ≡ Idle → 0 < me.0.parts → Allows Rule slots id me 0 (λ n. (n + 1) % N) (ticket_step (step slots 0 1 0 none) me)
   draw_allowed slots id me idle some_part s r deep at small =
       let v : SeatView O C R = me.0 in
       let w : SeatView O C R = staged v (Ticket r.drawn) in
@@ -249,7 +249,7 @@ module _ {O C R : Type 0} (meets : O → C → Type 0) (steps : O → C → R �
   no_has t st is h = subst IsTurn is h
 
   -- the seat look_allowed whether it is served, and takes the object if it is
-  pub look_allowed : (slots id : ℕ) (me : M) (t : ℕ) → me.0.stage ≡ Ticket t → Allows Rule slots id me 1 (λ n. n) (look_told meets steps (step slots 1 0 0 none) me)
+  pub look_allowed : (slots id : ℕ) (me : M) (t : ℕ) → me.0.stage ≡ Ticket t → Allows Rule slots id me 1 (λ n. n) (look_step meets steps (step slots 1 0 0 none) me)
   look_allowed slots id me t is s r deep at small =
       let v : SeatView O C R = me.0 in
       let served : ℕ = length r.log in
@@ -399,7 +399,7 @@ module _ {O C R : Type 0} (meets : O → C → Type 0) (steps : O → C → R �
       }
 
   end_allowed_at : (slots id : ℕ) (v : SeatView O C R) (b b' : O) (said : Option C) (answered : Option R) (c : C) (a : R) → v.stage ≡ Turn b → v.named ≡ true → said ≡ Some c → answered ≡ Some a → meets b c → steps b c a b'
-      → Allows Rule slots id (v, (0, Some b') ∷ []) 1 (λ n. (n + 1) % N) (end_told meets steps said answered (step slots 1 1 0 none) (v, (0, Some b') ∷ []))
+      → Allows Rule slots id (v, (0, Some b') ∷ []) 1 (λ n. (n + 1) % N) (end_step meets steps said answered (step slots 1 1 0 none) (v, (0, Some b') ∷ []))
   end_allowed_at slots id v b b' said answered c a is named said_is answered_is may did s r deep at small =
       let e : Entry C R = entry v.number c a in
       let w : SeatView O C R = after_call v r.log e in
@@ -434,9 +434,9 @@ module _ {O C R : Type 0} (meets : O → C → Type 0) (steps : O → C → R �
       origin_is f e = cc
 
   pub end_allowed : (slots id : ℕ) (me : M) (b b' : O) (said : Option C) (answered : Option R) (c : C) (a : R) → me.1 ≡ (0, Some b') ∷ [] → me.0.stage ≡ Turn b → me.0.named ≡ true → said ≡ Some c → answered ≡ Some a → meets b c → steps b c a b'
-      → Allows Rule slots id me 1 (λ n. (n + 1) % N) (end_told meets steps said answered (step slots 1 1 0 none) me)
+      → Allows Rule slots id me 1 (λ n. (n + 1) % N) (end_step meets steps said answered (step slots 1 1 0 none) me)
   end_allowed slots id me b b' said answered c a carried is named said_is answered_is may did =
-      subst (λ (m : M). Allows Rule slots id m 1 (λ n. (n + 1) % N) (end_told meets steps said answered (step slots 1 1 0 none) m)) (λ i. (me.0, sym carried i)) (end_allowed_at slots id me.0 b b' said answered c a is named said_is answered_is may did)
+      subst (λ (m : M). Allows Rule slots id m 1 (λ n. (n + 1) % N) (end_step meets steps said answered (step slots 1 1 0 none) m)) (λ i. (me.0, sym carried i)) (end_allowed_at slots id me.0 b b' said answered c a is named said_is answered_is may did)
 
   at_old : (vs : List (SeatView O C R)) (id : ℕ) (w z : SeatView O C R) (j : ℕ) → j < length vs → get_elem? (set vs id w ++ z ∷ []) j ≡ get_elem? (set vs id w) j
   at_old vs id w z j l = at_front (set vs id w) (z ∷ []) j (subst (λ (n : ℕ). j < n) (sym (length-set vs id w)) l)
@@ -611,7 +611,7 @@ module _ {O C R : Type 0} (meets : O → C → Type 0) (steps : O → C → R �
       }
 
   -- a new seat finds its number
-  pub number_allowed : (slots id : ℕ) (me : M) → me.0.named ≡ false → 0 < me.0.parts → me.0.mine ≡ [] → Allows Rule slots id me 1 (λ n. n) (number_told (step slots 1 0 0 none) me)
+  pub number_allowed : (slots id : ℕ) (me : M) → me.0.named ≡ false → 0 < me.0.parts → me.0.mine ≡ [] → Allows Rule slots id me 1 (λ n. n) (number_step (step slots 1 0 0 none) me)
   number_allowed slots id me unnamed some_part none_made s r deep at small =
       let v : SeatView O C R = me.0 in
       let w : SeatView O C R = record v { named = true; number = id } in
@@ -638,11 +638,11 @@ module _ {O C R : Type 0} (meets : O → C → Type 0) (steps : O → C → R �
         ),
       )
 
-  pub number_allowed_at : (slots id : ℕ) (me : M) (v : SeatView O C R) → me ≡ (new_view v, []) → Allows Rule slots id me 1 (λ n. n) (number_told (step slots 1 0 0 none) me)
-  number_allowed_at slots id me v e = subst (λ (m : M). Allows Rule slots id m 1 (λ n. n) (number_told (step slots 1 0 0 none) m)) (sym e) (number_allowed slots id (new_view v, []) refl (omega arith) refl)
+  pub number_allowed_at : (slots id : ℕ) (me : M) (v : SeatView O C R) → me ≡ (new_view v, []) → Allows Rule slots id me 1 (λ n. n) (number_step (step slots 1 0 0 none) me)
+  number_allowed_at slots id me v e = subst (λ (m : M). Allows Rule slots id m 1 (λ n. n) (number_step (step slots 1 0 0 none) m)) (sym e) (number_allowed slots id (new_view v, []) refl (omega arith) refl)
 
   -- a seat match_allowed the two histories that it was joined from
-  pub match_allowed : (slots id : ℕ) (me : M) → 0 < me.0.parts → Allows Rule slots id me 1 (λ n. n) (match_told (step slots 1 0 0 none) me)
+  pub match_allowed : (slots id : ℕ) (me : M) → 0 < me.0.parts → Allows Rule slots id me 1 (λ n. n) (match_step (step slots 1 0 0 none) me)
   match_allowed slots id me some_part s r deep at small =
       let v : SeatView O C R = me.0 in
       let w : SeatView O C R = record v { beside = [] } in
@@ -670,8 +670,8 @@ module _ {O C R : Type 0} (meets : O → C → Type 0) (steps : O → C → R �
   pairs_both log vs [] qs h k = k
   pairs_both log vs (p ∷ ps) qs h k = (h.0, h.1, h.2, pairs_both log vs ps qs h.3 k)
 
-  pub match_allowed_at : (slots id : ℕ) (me : M) (v w : SeatView O C R) (cs : List (ℕ × Option O)) → me ≡ (joined_view v w, cs) → 0 < v.parts → Allows Rule slots id me 1 (λ n. n) (match_told (step slots 1 0 0 none) me)
-  match_allowed_at slots id me v w cs e p = subst (λ (m : M). Allows Rule slots id m 1 (λ n. n) (match_told (step slots 1 0 0 none) m)) (sym e) (match_allowed slots id (joined_view v w, cs) (omega arith))
+  pub match_allowed_at : (slots id : ℕ) (me : M) (v w : SeatView O C R) (cs : List (ℕ × Option O)) → me ≡ (joined_view v w, cs) → 0 < v.parts → Allows Rule slots id me 1 (λ n. n) (match_step (step slots 1 0 0 none) me)
+  match_allowed_at slots id me v w cs e p = subst (λ (m : M). Allows Rule slots id m 1 (λ n. n) (match_step (step slots 1 0 0 none) m)) (sym e) (match_allowed slots id (joined_view v w, cs) (omega arith))
 
   -- a seat takes in another
   pub join_allowed : (id : ℕ) (v : SeatView O C R) (other : ℕ) (w : SeatView O C R) → w.stage ≡ Idle → 0 < v.parts → 0 < w.parts → v.named ≡ true → w.named ≡ true → Joins Rule id v other w (joined_view v w) spent_view

@@ -3,4 +3,4 @@ pub mod Laws
 pub mod Rest
 pub mod Rule
 pub mod Shared
-pub mod Told
+pub mod SlotSteps

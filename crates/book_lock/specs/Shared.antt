@@ -12,7 +12,7 @@ use Rattle.book_lock.specs.declared.seat.ObjectSeat.{ObjectSeat}
 use Rattle.book_lock.specs.declared.views.SeatView.{SeatView}
 use Rattle.book_lock.specs.History.{calls_by}
 use Rattle.book_lock.specs.Rule.{IsClosing, left_view, shorter, matched_view}
-use Rattle.book_lock.specs.Told.{IsCallOf}
+use Rattle.book_lock.specs.SlotSteps.{IsCallOf}
 
 -- ---- a shared book and its seats
 

@@ -29,6 +29,7 @@ impl SharedBook {
         ensures view { IfOk result (λ t. view t.1 ≡ first_view book parts) }
         ensures err { IfErr result (λ b. b ≡ book) }
     {
+        // What the type of a book keeps, which a proof sees as what this call ensures.
         let _ = book.branches();
         let (lock, seat) = SharedObject::share(alloc, book, parts)?;
         Ok((SharedBook { lock }, ObjectSeat::at_rest(seat)))

@@ -4,7 +4,7 @@ ghost use mathlib.Core.List.{IsPrefix};
 ghost use Rattle.book_lock.specs.declared.views.Stage.TheVariants.{Idle, Turn};
 ghost use Rattle.book_lock.specs.Rest.{IsAtRest, HasEmptySlot, IsSameSeat};
 ghost use Rattle.book_lock.specs.Rule.{IsClosing, first_view, left_view, new_view, longer, shorter, matched_view};
-ghost use Rattle.book_lock.specs.Told.{IsInSlot, IsCallOf, IsNumbered, IsTurnOf, MayAnswer};
+ghost use Rattle.book_lock.specs.SlotSteps.{IsInSlot, IsCallOf, IsNumbered, IsTurnOf, MayAnswer};
 
 use crate::object::Object;
 use crate::plays::{

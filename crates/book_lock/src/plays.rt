@@ -1,6 +1,6 @@
 // What each step on the table tells.
 ghost use Rattle.std.specs.Prelude.{None, Option};
-ghost use Rattle.book_lock.specs.Told.{ticket_told, look_told, end_told, number_told, match_told};
+ghost use Rattle.book_lock.specs.SlotSteps.{ticket_step, look_step, end_step, number_step, match_step};
 
 use crate::object::Object;
 use crate::views::SeatView;
@@ -10,13 +10,13 @@ use std::marker::{Brand, PhantomData};
 pub(crate) struct TicketDraw;
 
 impl<O, C, R> Play<Option<O>, SeatView<O, C, R>> for TicketDraw {
-    ghost then = { ticket_told };
+    ghost then = { ticket_step };
 }
 
 pub(crate) struct TurnLook;
 
 impl<O: Object<C, R>, C, R> Play<Option<O>, SeatView<O, C, R>> for TurnLook {
-    ghost then = { look_told O.meets O.steps };
+    ghost then = { look_step O.meets O.steps };
 }
 
 /// What a turn adds to the history, for the proof alone. A call at `Brand` picks it from its arguments.
@@ -37,19 +37,19 @@ pub(crate) struct TurnEnd<J> {
 }
 
 impl<O: Object<C, R>, C, R, J: EndedCall<C, R>> Play<Option<O>, SeatView<O, C, R>> for TurnEnd<J> {
-    ghost then = { end_told O.meets O.steps J.call J.reply };
+    ghost then = { end_step O.meets O.steps J.call J.reply };
 }
 
 pub(crate) struct SeatNumber;
 
 impl<O, C, R> Play<Option<O>, SeatView<O, C, R>> for SeatNumber {
-    ghost then = { number_told };
+    ghost then = { number_step };
 }
 
 pub(crate) struct HistoryMatch;
 
 impl<O, C, R> Play<Option<O>, SeatView<O, C, R>> for HistoryMatch {
-    ghost then = { match_told };
+    ghost then = { match_step };
 }
 
 pub(crate) struct SeatSplit;

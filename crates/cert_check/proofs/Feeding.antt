@@ -12,7 +12,7 @@ use Rattle.cert_check.specs.declared.fault.CertFault.TheVariants.{Memory}
 use Rattle.cert_check.specs.Checked.{Checked}
 use Rattle.cert_check.specs.Courses.{Takes, Finishes, IsAt, IsCutOff, IsFed, IsVerdict}
 use Rattle.cert_check.proofs.Fed.{fed_nothing, fed_on}
-use Rattle.cert_check.proofs.Told.{verdict_is_told, fault_is_told, too_long_is_told}
+use Rattle.cert_check.proofs.VerdictAnswers.{verdict_is_told, fault_is_told, too_long_is_told}
 use Rattle.cert_check.specs.declared.feed.Feed.{Feed}
 use Rattle.cert_check.specs.Feeding.{HasTaken, IsVerdictOrMemory}
 

@@ -16,5 +16,5 @@ pub mod RuleFits
 pub mod Stays
 pub mod Taking
 pub mod Tiny
-pub mod Told
+pub mod VerdictAnswers
 pub mod Waits

@@ -5,7 +5,7 @@ use Rattle.poly_graph.specs.ProblemViews.{Parts}
 use Rattle.cert_read.specs.CertLine.{Parsed}
 use Rattle.cert_read.specs.declared.fault.LineFault.{LineFault}
 use Rattle.cert_read.specs.declared.fault.LineFault.TheVariants as unread
-use Rattle.cert_read.specs.Told.{IsFault}
+use Rattle.cert_read.specs.LineAnswers.{IsFault}
 use Rattle.cert_model.specs.Due as due
 use Rattle.cert_model.specs.Due.{Due, Next, on, faulty}
 use Rattle.cert_model.specs.Accepted.{stopped, reached, next_parsed}
@@ -13,7 +13,7 @@ use Rattle.cert_check.specs.declared.due.Due as held
 use Rattle.cert_check.specs.declared.refusal.Refusal.{Refusal}
 use Rattle.cert_check.specs.declared.refusal.Refusal.TheVariants.{BadHeader, BadNumber, RuleFails, Missing, Extra, WrongBound, NotShown, BadLine, LineTooLong, Memory}
 use Rattle.cert_check.specs.Dues.{lean_next, due_of}
-use Rattle.cert_check.specs.Faults.{Refuses, stop_of, fault_at, refusal_of, rule_word}
+use Rattle.cert_check.specs.Faults.{IsLineRefusal, stop_of, fault_at, refusal_of, rule_word}
 use Rattle.cert_check.specs.Courses.{leads, after}
 use Rattle.cert_check.specs.Stages.{IsLed, HasLed}
 use Rattle.cert_check.specs.declared.fault.CertFault.{CertFault}
@@ -25,7 +25,7 @@ same-number lines = omega arith
 faulty-leads : (lines : ℕ) (x : Next) (f : due.CertFault) → x ≡ faulty f → IsLed (Some (stopped f (lines + 1))) (leads (suc lines) (lean_next x))
 faulty-leads lines x f e = inr (ap (λ (n : ℕ). Some (stopped f n)) (same-number lines) ∙ sym (ap (λ (y : Next). Some (leads (suc lines) (lean_next y))) e))
 
-pub refused_leads : (lines : ℕ) (x : Next) (r : Refusal) → Refuses r x → IsLed (stop_of (fault_at r (lines + 1))) (leads (suc lines) (lean_next x))
+pub refused_leads : (lines : ℕ) (x : Next) (r : Refusal) → IsLineRefusal r x → IsLed (stop_of (fault_at r (lines + 1))) (leads (suc lines) (lean_next x))
 refused_leads lines x BadHeader e = faulty-leads lines x due.BadHeader e
 refused_leads lines x BadNumber e = faulty-leads lines x due.BadNumber e
 refused_leads lines x (RuleFails w) e = faulty-leads lines x (due.RuleFails (rule_word w)) e

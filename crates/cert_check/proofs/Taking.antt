@@ -8,18 +8,18 @@ use Rattle.cert_read.specs.State.{Reading}
 use Rattle.cert_read.specs.declared.line.Line.{Line}
 use Rattle.cert_read.specs.declared.fault.LineFault.{LineFault}
 use Rattle.cert_read.specs.Lines.{lines_of, lines_so_far, is_too_long}
-use Rattle.cert_read.specs.Told.{IsFault}
+use Rattle.cert_read.specs.LineAnswers.{IsFault}
 use Rattle.cert_read.specs.Views.{line_of}
-use Rattle.cert_read.specs.Reading.{lines_ahead, behind, Answers as AnswersReader}
+use Rattle.cert_read.specs.Reading.{lines_ahead, behind, IsNextLine}
 use Rattle.cert_model.specs.Accepted.{Course, stopped, reached}
 use Rattle.cert_check.specs.declared.fault.CertFault.{CertFault}
 use Rattle.cert_check.specs.Checked.{Checked}
 use Rattle.cert_check.specs.Faults.{stop_of}
-use Rattle.cert_check.specs.Courses.{after_all, Answers, IsUnderWay, Takes, IsFed}
+use Rattle.cert_check.specs.Courses.{after_all, IsCourseAnswer, IsUnderWay, Takes, IsFed}
 use Rattle.cert_check.proofs.Led.{after_append, stays_stopped}
 use Rattle.cert_check.proofs.Firsts.{Passes, passes_line, formed_is_short}
 use Rattle.cert_check.proofs.Fed.{fed_line}
-use Rattle.cert_check.proofs.Told.{stopped_somewhere}
+use Rattle.cert_check.proofs.VerdictAnswers.{stopped_somewhere}
 
 module _ (p : Problem) (b : Option ℕ) where
   abbrev pub led_on : List Parsed → Option Course → Option Course
@@ -85,7 +85,7 @@ leads-line old now new xs ys r e f g t =
 
 module _ (old : Checked) (ahead : Reading) (now : Checked) (left : Reading) (t : Taking old ahead now left) where
   -- no line is ahead any more
-  pub taken_all : (r : Result (Unit {0}) CertFault) → lines_ahead left ≡ [] → Answers now.course r → Takes old (map parsed (lines_ahead ahead)) now r
+  pub taken_all : (r : Result (Unit {0}) CertFault) → lines_ahead left ≡ [] → IsCourseAnswer now.course r → Takes old (map parsed (lines_ahead ahead)) now r
   taken_all r e a = record {
     problem = t.problem;
     bound = t.bound;
@@ -140,7 +140,7 @@ still_fed old now ahead left t bytes e f u = elim (t.fed bytes e f) [ inl h ↦ 
 
 -- ---- what a reader answers
 
-pub none_ahead : (ls : List (List ℕ)) (old new : Reading) → AnswersReader ls old new (Ok None) → (ls ≡ []) × (new ≡ old)
+pub none_ahead : (ls : List (List ℕ)) (old new : Reading) → IsNextLine ls old new (Ok None) → (ls ≡ []) × (new ≡ old)
 none_ahead [] old new h = (refl, h.1)
 none_ahead (l ∷ ls) old new h = absurd h
 
@@ -152,7 +152,7 @@ pub record IsLine (ls : List (List ℕ)) (old new : Reading) (said : Line) : Typ
   pub passed : new ≡ behind first old
   pub rest : lines_ahead new ≡ later
 
-pub line_ahead : (ls : List (List ℕ)) (old new : Reading) (said : Line) → AnswersReader ls old new (Ok (Some said)) → IsLine ls old new said
+pub line_ahead : (ls : List (List ℕ)) (old new : Reading) (said : Line) → IsNextLine ls old new (Ok (Some said)) → IsLine ls old new said
 line_ahead [] old new said h = cc
 line_ahead (l ∷ ls) old new said h = record { first = l; later = ls; here = refl; says = h.0; passed = h.1; rest = h.2 }
 
@@ -163,26 +163,26 @@ pub record IsRefused (ls : List (List ℕ)) (old new : Reading) (fault : LineFau
   pub told : IsFault fault (parsed first)
   pub same : new ≡ old
 
-pub fault_ahead : (ls : List (List ℕ)) (old new : Reading) (fault : LineFault) → AnswersReader ls old new (Err fault) → IsRefused ls old new fault
+pub fault_ahead : (ls : List (List ℕ)) (old new : Reading) (fault : LineFault) → IsNextLine ls old new (Err fault) → IsRefused ls old new fault
 fault_ahead [] old new fault h = cc
 fault_ahead (l ∷ ls) old new fault h = record { first = l; later = ls; here = refl; told = h.0; same = h.1 }
 
 -- ---- the ways out of a loop over a reader's lines
 
 module _ (old : Checked) (ahead : Reading) (now : Checked) (left : Reading) (t : Taking old ahead now left) where
-  pub ends_none : (new : Reading) (r : Result (Unit {0}) CertFault) → AnswersReader (lines_ahead left) left new (Ok None) → Answers now.course r → Takes old (map parsed (lines_ahead ahead)) now r
+  pub ends_none : (new : Reading) (r : Result (Unit {0}) CertFault) → IsNextLine (lines_ahead left) left new (Ok None) → IsCourseAnswer now.course r → Takes old (map parsed (lines_ahead ahead)) now r
   ends_none new r h a = taken_all old ahead now left t r (none_ahead (lines_ahead left) left new h).0 a
 
-  pub ends_fault : (new : Reading) (fault : LineFault) (after : Checked) (f : CertFault) → AnswersReader (lines_ahead left) left new (Err fault) →
+  pub ends_fault : (new : Reading) (fault : LineFault) (after : Checked) (f : CertFault) → IsNextLine (lines_ahead left) left new (Err fault) →
       ((x : Parsed) → IsFault fault x → Takes now (x ∷ []) after (Err f)) → Takes old (map parsed (lines_ahead ahead)) after (Err f)
   ends_fault new fault after f h k = let q = fault_ahead (lines_ahead left) left new fault h in taken_fault old ahead now left t q.first q.later q.here after f (k (parsed q.first) q.told)
 
-  pub ends_line : (new : Reading) (said : Line) (after : Checked) (f : CertFault) → AnswersReader (lines_ahead left) left new (Ok (Some said)) →
+  pub ends_line : (new : Reading) (said : Line) (after : Checked) (f : CertFault) → IsNextLine (lines_ahead left) left new (Ok (Some said)) →
       Takes now (line (line_of said) ∷ []) after (Err f) → Takes old (map parsed (lines_ahead ahead)) after (Err f)
   ends_line new said after f h k = let q = line_ahead (lines_ahead left) left new said h in
       taken_fault old ahead now left t q.first q.later q.here after f (subst (λ (x : Parsed). Takes now (x ∷ []) after (Err f)) (sym q.says) k)
 
-  pub goes_on : (new : Reading) (said : Line) (after : Checked) → AnswersReader (lines_ahead left) left new (Ok (Some said)) →
+  pub goes_on : (new : Reading) (said : Line) (after : Checked) → IsNextLine (lines_ahead left) left new (Ok (Some said)) →
       Takes now (line (line_of said) ∷ []) after (Ok tt) → Taking old ahead after new
   goes_on new said after h k = let q = line_ahead (lines_ahead left) left new said h in
       taken_line old ahead now left t q.first q.later q.here after new (line_of said) q.says q.passed q.rest (subst (λ (x : Parsed). Takes now (x ∷ []) after (Ok tt)) (sym q.says) k)

@@ -9,17 +9,17 @@ use Rattle.ival.specs.SpaceViews.{domain_of}
 use Rattle.cert_model.specs.Due.{on, axis_next, coordinate_next}
 use Rattle.cert_model.specs.Accepted.{axis_line, coordinate_line}
 use Rattle.cert_check.specs.declared.refusal.Refusal.{Refusal}
-use Rattle.cert_check.specs.Faults.{Refuses}
+use Rattle.cert_check.specs.Faults.{IsLineRefusal}
 
 -- the domain, with which the state goes on, or the line's fault
 abbrev pub IsAxis : Declared → CertLine → Result code.Domain Refusal → Type 0
 IsAxis a l (Ok d) = (p : Problem) (s : Loosenings) (k : ℕ) (lemmas : List State) (axes : List Axis) (space : Space) →
     axis_line p s k lemmas a axes space l ≡ on (axis_next s k lemmas axes (space ++ (domain_of d ∷ [])))
 IsAxis a l (Err r) = (p : Problem) (s : Loosenings) (k : ℕ) (lemmas : List State) (axes : List Axis) (space : Space) →
-    Refuses r (axis_line p s k lemmas a axes space l)
+    IsLineRefusal r (axis_line p s k lemmas a axes space l)
 
 -- the same of a point
 abbrev pub IsCoordinate : Declared → CertLine → Result code.Domain Refusal → Type 0
 IsCoordinate a l (Ok d) = (s : Loosenings) (axes : List Axis) (space : Space) →
     coordinate_line s a axes space l ≡ on (coordinate_next s axes (space ++ (domain_of d ∷ [])))
-IsCoordinate a l (Err r) = (s : Loosenings) (axes : List Axis) (space : Space) → Refuses r (coordinate_line s a axes space l)
+IsCoordinate a l (Err r) = (s : Loosenings) (axes : List Axis) (space : Space) → IsLineRefusal r (coordinate_line s a axes space l)

@@ -41,16 +41,16 @@ IsUnderWay (Some (reached d n)) = Unit {0}
 IsUnderWay c = ⊥
 
 -- the fault where the course stopped, or out of memory
-abbrev pub Answers : Option Course → Result (Unit {0}) CertFault → Type 0
-Answers c (Ok _) = IsUnderWay c
-Answers c (Err f) = c ≡ stop_of f
+abbrev pub IsCourseAnswer : Option Course → Result (Unit {0}) CertFault → Type 0
+IsCourseAnswer c (Ok _) = IsUnderWay c
+IsCourseAnswer c (Err f) = c ≡ stop_of f
 
 -- lines are taken, in order, and answered; out of memory may come at any
 pub record Takes (old : Checked) (ls : List Parsed) (new : Checked) (r : Result (Unit {0}) CertFault) : Type 0 where
   pub problem : new.problem ≡ old.problem
   pub bound : new.bound ≡ old.bound
   pub course : (new.course ≡ None) ⊎ (new.course ≡ option_map (λ c. after_all (problem_of old.problem) old.bound c ls) old.course)
-  pub answers : Answers new.course r
+  pub answers : IsCourseAnswer new.course r
 
 -- ---- verdicts
 

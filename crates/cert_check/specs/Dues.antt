@@ -19,7 +19,7 @@ use Rattle.cert_check.specs.declared.due.Due as held
 use Rattle.cert_check.specs.declared.due.Due.TheVariants as due
 use Rattle.cert_check.specs.declared.refusal.Refusal.{Refusal}
 use Rattle.cert_check.specs.States.{state_of, loosenings_of, Fits}
-use Rattle.cert_check.specs.Faults.{Refuses}
+use Rattle.cert_check.specs.Faults.{IsLineRefusal}
 
 -- ---- states that stay
 
@@ -109,7 +109,7 @@ IsSound p d = Unit {0}
 -- the outcome of a line: what is due next, or its fault
 abbrev pub IsOutcome : Parts → Result held.Due Refusal → Next → Type 0
 IsOutcome p (Ok d) x = lean_next x ≡ on (due_of p d)
-IsOutcome p (Err r) x = Refuses r x
+IsOutcome p (Err r) x = IsLineRefusal r x
 
 -- the outcome of a line where this is due and the words give this bound
 abbrev pub IsNextAt : Parts → Option ℕ → Due → CertLine → Result held.Due Refusal → Type 0

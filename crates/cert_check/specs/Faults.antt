@@ -65,14 +65,14 @@ refusal_of unread.LineTooLong = LineTooLong
 refusal_of unread.Memory = Memory
 
 -- the line has this fault; of out of memory nothing is said
-abbrev pub Refuses : Refusal → Next → Type 0
-Refuses BadHeader x = x ≡ faulty due.BadHeader
-Refuses BadNumber x = x ≡ faulty due.BadNumber
-Refuses (RuleFails w) x = x ≡ faulty (due.RuleFails (rule_word w))
-Refuses Missing x = x ≡ faulty due.Missing
-Refuses Extra x = x ≡ faulty due.Extra
-Refuses WrongBound x = x ≡ faulty due.WrongBound
-Refuses NotShown x = x ≡ faulty due.NotShown
-Refuses BadLine x = x ≡ faulty due.BadLine
-Refuses LineTooLong x = x ≡ faulty due.LineTooLong
-Refuses Memory x = Unit {0}
+abbrev pub IsLineRefusal : Refusal → Next → Type 0
+IsLineRefusal BadHeader x = x ≡ faulty due.BadHeader
+IsLineRefusal BadNumber x = x ≡ faulty due.BadNumber
+IsLineRefusal (RuleFails w) x = x ≡ faulty (due.RuleFails (rule_word w))
+IsLineRefusal Missing x = x ≡ faulty due.Missing
+IsLineRefusal Extra x = x ≡ faulty due.Extra
+IsLineRefusal WrongBound x = x ≡ faulty due.WrongBound
+IsLineRefusal NotShown x = x ≡ faulty due.NotShown
+IsLineRefusal BadLine x = x ≡ faulty due.BadLine
+IsLineRefusal LineTooLong x = x ≡ faulty due.LineTooLong
+IsLineRefusal Memory x = Unit {0}

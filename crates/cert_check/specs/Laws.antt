@@ -6,7 +6,7 @@ use Rattle.cert_check.specs.declared.checker.Verdict as told
 use Rattle.cert_check.specs.declared.fault.CertFault.{CertFault}
 use Rattle.cert_check.specs.declared.fault.CertFault.TheVariants.{Memory}
 use Rattle.cert_check.specs.Checked.{Checked}
-use Rattle.cert_check.specs.Courses.{Answers, Finishes, IsAt, IsCutOff, IsVerdict}
+use Rattle.cert_check.specs.Courses.{IsCourseAnswer, Finishes, IsAt, IsCutOff, IsVerdict}
 
 -- Where the input ends, what is answered is the verdict of its bytes, or out of memory.
 abbrev pub VerdictIsTold : Type 0
@@ -16,7 +16,7 @@ VerdictIsTold = (c : Checked) (bytes : List ℕ) (r : Result told.Verdict CertFa
 -- A fault of the bytes so far is that of all bytes, whatever follows.
 abbrev pub FaultIsTold : Type 0
 FaultIsTold = (c : Checked) (bytes rest : List ℕ) (f : CertFault) → length bytes ≤ most_bytes → IsAt c bytes false →
-    Answers c.course (Err f) → (f ≡ Memory) ⊎ IsVerdict (verdict (problem_of c.problem) c.bound (bytes ++ rest)) (Err f)
+    IsCourseAnswer c.course (Err f) → (f ≡ Memory) ⊎ IsVerdict (verdict (problem_of c.problem) c.bound (bytes ++ rest)) (Err f)
 
 -- Where more bytes follow than a certificate may have, no more of them are read.
 abbrev pub TooLongIsTold : Type 0

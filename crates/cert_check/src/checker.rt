@@ -2,7 +2,7 @@
 ghost use Rattle.std.specs.Prelude.{◌≡◌, ℕ, ◌<◌, ◌≤◌, ◌-◌, ◌^◌, [], ◌∷◌, Some, Err, map, IfOk, OnOk};
 ghost use Rattle.cert_read.specs.CertLine.{line as FormLine, Parsed, parsed};
 ghost use Rattle.cert_read.specs.Reading.{lines_ahead};
-ghost use Rattle.cert_read.specs.Told.{IsFault};
+ghost use Rattle.cert_read.specs.LineAnswers.{IsFault};
 ghost use Rattle.cert_read.specs.Views.{line_of};
 ghost use Rattle.cert_model.specs.Accepted.{reached};
 ghost use Rattle.poly_graph.specs.ProblemViews.{Parts};
@@ -13,7 +13,7 @@ ghost use Rattle.cert_check.specs.Dues.{due_of, IsSound, value_of};
 ghost use Rattle.cert_check.specs.Serving.{Serves};
 ghost use Rattle.cert_check.specs.Stages.{IsFaultAfter, IsOneMore, IsSoundStage, IsStageAfter};
 ghost use Rattle.cert_check.specs.Stays.{StaysWithin, stays_in};
-ghost use Rattle.cert_check.specs.Courses.{Answers, AreLinesTaken, Finishes, in_work, IsCutOff, IsFedOn, states_in_work, Takes, verdict_of};
+ghost use Rattle.cert_check.specs.Courses.{IsCourseAnswer, AreLinesTaken, Finishes, in_work, IsCutOff, IsFedOn, states_in_work, Takes, verdict_of};
 
 use crate::due::{Due, Value};
 use crate::fault::CertFault;
@@ -216,7 +216,7 @@ impl Checker {
 
     // The fault that is answered for good, if there is one.
     fn answer(&self) -> Result<(), CertFault>
-        ensures { Answers self.now.course result }
+        ensures { IsCourseAnswer self.now.course result }
     {
         match &self.stage {
             Stage::InWork(_) => Ok(()),

@@ -4,19 +4,19 @@
 ghost use Rattle.cert_check.specs.Laws.{FaultIsTold, TooLongIsTold, VerdictIsTold};
 
 /// Where the input ends, what is answered is the verdict of its bytes, or out of memory.
-#[tactic(auto, using(crate::proofs::Told::verdict_is_told))]
+#[tactic(auto, using(crate::proofs::VerdictAnswers::verdict_is_told))]
 pub fn verdict_is_told()
     ensures { VerdictIsTold }
 {}
 
 /// A fault of the bytes so far is that of all bytes, whatever follows.
-#[tactic(auto, using(crate::proofs::Told::fault_is_told))]
+#[tactic(auto, using(crate::proofs::VerdictAnswers::fault_is_told))]
 pub fn fault_is_told()
     ensures { FaultIsTold }
 {}
 
 /// Where more bytes follow than a certificate may have, the fault is answered without reading them.
-#[tactic(auto, using(crate::proofs::Told::too_long_is_told))]
+#[tactic(auto, using(crate::proofs::VerdictAnswers::too_long_is_told))]
 pub fn too_long_is_told()
     ensures { TooLongIsTold }
 {}

@@ -7,7 +7,7 @@ ghost use Rattle.poly_graph.specs.ProblemViews.{declared_of, Parts};
 ghost use Rattle.ival.specs.SpaceViews.{space_of, truths_of};
 ghost use Rattle.cert_check.specs.declared.due.Due.TheVariants.{Next as NextDue, Axis as AxisDue, No as NoDue};
 ghost use Rattle.cert_check.specs.States.{Fits, state_of};
-ghost use Rattle.cert_check.specs.Faults.{Refuses};
+ghost use Rattle.cert_check.specs.Faults.{IsLineRefusal};
 ghost use Rattle.cert_check.specs.Axis.{IsAxis};
 ghost use Rattle.cert_check.specs.Dues.{AllFit, begun_lemma, IsNext, IsNextOf, IsOutcome, IsSound, states_of, yes_of};
 
@@ -52,7 +52,7 @@ fn main_tree(_problem: &Problem, cover: Cover) -> Result<Due, Refusal>
 
 // A line of a tree after the trees that are complete.
 fn after_trees(cover: &Cover) -> Refusal
-    ensures { Refuses result (faulty (extra_after (states_of cover.now.lemmas.items))) }
+    ensures { IsLineRefusal result (faulty (extra_after (states_of cover.now.lemmas.items))) }
 {
     if cover.lemmas.is_empty() {
         Refusal::Missing

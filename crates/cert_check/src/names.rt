@@ -5,7 +5,7 @@ ghost use Rattle.cover_model.specs.Views.{multipliers_of};
 ghost use Rattle.cert_model.specs.Accepted.{no_crossing};
 ghost use Rattle.poly_graph.specs.ProblemViews.{problem_of};
 ghost use Rattle.poly_graph.specs.Problem.{crosses};
-ghost use Rattle.cert_check.specs.Faults.{Refuses};
+ghost use Rattle.cert_check.specs.Faults.{IsLineRefusal};
 ghost use Rattle.cert_check.specs.Steps.{rule_line_of};
 
 use crate::fault::Rule;
@@ -74,7 +74,7 @@ pub fn crosses(problem: &Problem, axis: u32) -> bool
 
 /// The fault of a line for crossed bounds where it may not stand.
 pub fn no_crossing(problem: &Problem, axis: u32) -> Refusal
-    ensures { Refuses result (no_crossing (problem_of problem.now) axis) }
+    ensures { IsLineRefusal result (no_crossing (problem_of problem.now) axis) }
 {
     if is_axis(problem, axis) {
         Refusal::RuleFails(Rule::Empty)

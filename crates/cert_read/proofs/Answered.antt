@@ -8,21 +8,21 @@ use Rattle.cert_read.specs.declared.line.Line.{Line}
 use Rattle.cert_read.specs.declared.fault.LineFault.{LineFault}
 use Rattle.cert_read.specs.declared.fault.LineFault.TheVariants.{LineTooLong}
 use Rattle.cert_read.specs.CertLine.{parsed}
-use Rattle.cert_read.specs.Reading.{lines_ahead, Answers}
+use Rattle.cert_read.specs.Reading.{lines_ahead, IsNextLine}
 use Rattle.cert_read.specs.State.{Reading}
-use Rattle.cert_read.specs.Told.{IsFault, Says}
+use Rattle.cert_read.specs.LineAnswers.{IsFault, IsParse}
 use Rattle.cert_read.proofs.Ahead.{ahead_line, ahead_last, ahead_empty, ahead_unfinished, ahead_long, long_parsed}
 
 -- no line feed stands in the first bytes
 abbrev pub NoFeed : List ℕ → ℕ → Type 0
 NoFeed u n = (k : ℕ) → k < n → get_or u k 0 ≢ 10
 
-pub told_long : (r : Reading) (n : ℕ) → n ≡ length r.unread → 524288 < n → NoFeed r.unread n → Answers (lines_ahead r) r r (Err LineTooLong)
+pub told_long : (r : Reading) (n : ℕ) → n ≡ length r.unread → 524288 < n → NoFeed r.unread n → IsNextLine (lines_ahead r) r r (Err LineTooLong)
 told_long r n e l h =
-    subst (λ ls. Answers ls r r (Err LineTooLong)) (sym (ahead_long r.unread r.ended n e l h)) (long_parsed r.unread (omega (arith, e, l)), refl)
+    subst (λ ls. IsNextLine ls r r (Err LineTooLong)) (sym (ahead_long r.unread r.ended n e l h)) (long_parsed r.unread (omega (arith, e, l)), refl)
 
-pub told_none : (r new : Reading) → lines_ahead r ≡ [] → new ≡ r → Answers (lines_ahead r) r new (Ok None)
-told_none r new e f = subst (λ ls. Answers ls r new (Ok None)) (sym e) (refl, f)
+pub told_none : (r new : Reading) → lines_ahead r ≡ [] → new ≡ r → IsNextLine (lines_ahead r) r new (Ok None)
+told_none r new e f = subst (λ ls. IsNextLine ls r new (Ok None)) (sym e) (refl, f)
 
 some_test : (n : ℕ) → nat_lt 0 n ≡ false → n ≡ 0
 some_test n h = grind (arith, nat_tests)
@@ -66,15 +66,15 @@ last_line r n f e l h =
     ∙ ap (λ (w : List ℕ). w ∷ []) (sym all)
     ∙ ap (λ (ls : List (List ℕ)). take n r.unread ∷ ls) (sym (ahead_empty (drop (n + 1) r.unread) r.ended (ap length none)))
 
-pub told_fault : (r : Reading) (n : ℕ) (l : List ℕ) (f : LineFault) → lines_ahead r ≡ take n r.unread ∷ lines_ahead (left r n) → l ≡ take n r.unread → IsFault f (parsed l) → Answers (lines_ahead r) r r (Err f)
-told_fault r n l f e g s = subst (λ ls. Answers ls r r (Err f)) (sym e) (subst (λ w. IsFault f (parsed w)) g s, refl)
+pub told_fault : (r : Reading) (n : ℕ) (l : List ℕ) (f : LineFault) → lines_ahead r ≡ take n r.unread ∷ lines_ahead (left r n) → l ≡ take n r.unread → IsFault f (parsed l) → IsNextLine (lines_ahead r) r r (Err f)
+told_fault r n l f e g s = subst (λ ls. IsNextLine ls r r (Err f)) (sym e) (subst (λ w. IsFault f (parsed w)) g s, refl)
 
 pub told_line : (r new : Reading) (n : ℕ) (l : List ℕ) (said : Line) → n ≤ length r.unread → lines_ahead r ≡ take n r.unread ∷ lines_ahead (left r n) → l ≡ take n r.unread
-    → Says (Ok said) (parsed l) → new ≡ left r n → Answers (lines_ahead r) r new (Ok (Some said))
+    → IsParse (Ok said) (parsed l) → new ≡ left r n → IsNextLine (lines_ahead r) r new (Ok (Some said))
 told_line r new n l said m e g s f =
     let size : length (take n r.unread) ≡ n = omega (arith, length-take n r.unread, m) in
-    subst (λ ls. Answers ls r new (Ok (Some said))) (sym e) (
-      subst (λ w. Says (Ok said) (parsed w)) g s,
+    subst (λ ls. IsNextLine ls r new (Ok (Some said))) (sym e) (
+      subst (λ w. IsParse (Ok said) (parsed w)) g s,
       f ∙ ap (λ (k : ℕ). left r k) (sym size),
       ap lines_ahead f,
     )

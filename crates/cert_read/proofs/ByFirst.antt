@@ -5,7 +5,7 @@ use Rattle.cert_read.specs.CertLine.{parsed, unless_long, if_words, by_first}
 use Rattle.cert_read.specs.declared.line.Line.{Line}
 use Rattle.cert_read.specs.declared.fault.LineFault.{LineFault}
 use Rattle.cert_read.specs.Lines.{are_words, words_of}
-use Rattle.cert_read.specs.Told.{Says}
+use Rattle.cert_read.specs.LineAnswers.{IsParse}
 
 short_test : (n : ℕ) → n ≤ 524288 → nat_lt 524288 n ≡ false
 short_test n h = grind (arith, nat_tests)
@@ -15,5 +15,5 @@ parsed_by bytes w ws l h e =
     ap (λ (t : Bool). unless_long t bytes) (short_test (length bytes) l) ∙ ap (λ (t : Bool). if_words t bytes) h ∙ ap by_first e
 
 pub said_by : (r : Result Line LineFault) (bytes w t : List ℕ) (ws : List (List ℕ)) → length bytes ≤ 524288 → are_words (words_of bytes) ≡ true → words_of bytes ≡ w ∷ ws
-    → w ≡ t → Says r (by_first (t ∷ ws)) → Says r (parsed bytes)
-said_by r bytes w t ws l h e f s = subst (Says r) (sym (parsed_by bytes w ws l h e ∙ ap (λ (v : List ℕ). by_first (v ∷ ws)) f)) s
+    → w ≡ t → IsParse r (by_first (t ∷ ws)) → IsParse r (parsed bytes)
+said_by r bytes w t ws l h e f s = subst (IsParse r) (sym (parsed_by bytes w ws l h e ∙ ap (λ (v : List ℕ). by_first (v ∷ ws)) f)) s

@@ -6,6 +6,6 @@ pub mod Lines
 pub mod Numbers
 pub mod Reading
 pub mod State
-pub mod Told
+pub mod LineAnswers
 pub mod Views
 pub mod Words

@@ -4,7 +4,7 @@ ghost use Rattle.std.specs.Str.Parse.{digits_value};
 ghost use Rattle.cert_read.specs.CertLine.{are_paired, count_of, dyadic_of, pairs_of};
 ghost use Rattle.cert_read.specs.Lines.{words_of};
 ghost use Rattle.cert_read.specs.Numbers.{AreCounted, AreDigits, IsMeasured, IsPlain, IsUncounted};
-ghost use Rattle.cert_read.specs.Told.{IsCounted};
+ghost use Rattle.cert_read.specs.LineAnswers.{IsCounted};
 ghost use Rattle.cert_read.specs.Views.{pair_list};
 
 use crate::LineFault;

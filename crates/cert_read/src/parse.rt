@@ -4,7 +4,7 @@ ghost use Rattle.cert_read.specs.CertLine.{by_first, of_bool, of_bound, parsed};
 ghost use Rattle.cert_read.specs.Keywords.{keyword_text};
 ghost use Rattle.cert_read.specs.Lines.{are_words, words_of};
 ghost use Rattle.cert_read.specs.Numbers.{AreCounted, ArePairs};
-ghost use Rattle.cert_read.specs.Told.{Says, SaysBool};
+ghost use Rattle.cert_read.specs.LineAnswers.{IsParse, IsBoolParse};
 ghost use Rattle.cert_read.specs.Words.{HasCount, HasForm, words_behind};
 
 use crate::keyword::{Keyword, keyword_in};
@@ -19,7 +19,7 @@ pub(crate) const LONGEST: usize = 524_288;
 
 /// What a line says, of which these are the bytes without the line feed.
 pub(crate) fn parse(alloc: Global, bytes: &[u8]) -> Result<Line, LineFault>
-    ensures { Says result (parsed bytes.now) }
+    ensures { IsParse result (parsed bytes.now) }
 {
     if bytes.len() > LONGEST {
         return Err(LineFault::LineTooLong);
@@ -57,7 +57,8 @@ fn are_words(bytes: &[u8]) -> bool
 
 // What a line says that begins with this word.
 fn after_keyword(alloc: Global, word: Keyword, rest: Option<&[u8]>) -> Result<Line, LineFault>
-    ensures { Says result (by_first (keyword_text word ∷ words_behind (option_copied rest.entry))) }
+    ensures { IsParse result
+        (by_first (keyword_text word ∷ words_behind (option_copied rest.entry))) }
 {
     match word {
         Keyword::Yes => Ok(Line::Yes(list(alloc, rest)?)),
@@ -97,7 +98,7 @@ fn multipliers(alloc: Global, rest: Option<&[u8]>) -> Result<Vec<(u32, Dy)>, Lin
 // What a line says that is one word.
 fn alone(word: Keyword) -> Result<Line, LineFault>
     requires { HasForm word }
-    ensures { Says result (by_first (keyword_text word ∷ [])) }
+    ensures { IsParse result (by_first (keyword_text word ∷ [])) }
 {
     match word {
         Keyword::Point => Ok(Line::Point),
@@ -112,7 +113,7 @@ fn alone(word: Keyword) -> Result<Line, LineFault>
 // What a line says that has one or two more words, or more, which no form has.
 fn with_more(word: Keyword, text: &[u8]) -> Result<Line, LineFault>
     requires { HasForm word }
-    ensures { Says result (by_first (keyword_text word ∷ words_of text.now)) }
+    ensures { IsParse result (by_first (keyword_text word ∷ words_of text.now)) }
 {
     let (first, rest) = cut(text);
     let Some(rest) = rest else {
@@ -128,7 +129,7 @@ fn with_more(word: Keyword, text: &[u8]) -> Result<Line, LineFault>
 // What a line says that has one more word.
 fn with_one(word: Keyword, text: &[u8]) -> Result<Line, LineFault>
     requires { HasForm word }
-    ensures { Says result (by_first (keyword_text word ∷ text.now ∷ [])) }
+    ensures { IsParse result (by_first (keyword_text word ∷ text.now ∷ [])) }
 {
     match word {
         Keyword::Bound => bound(text),
@@ -141,7 +142,7 @@ fn with_one(word: Keyword, text: &[u8]) -> Result<Line, LineFault>
 // What a line says that has a plain number.
 fn with_count(word: Keyword, text: &[u8]) -> Result<Line, LineFault>
     requires { HasCount word }
-    ensures { Says result (by_first (keyword_text word ∷ text.now ∷ [])) }
+    ensures { IsParse result (by_first (keyword_text word ∷ text.now ∷ [])) }
 {
     match word {
         Keyword::Version => Ok(Line::Version(count(text)?)),
@@ -166,7 +167,7 @@ fn with_count(word: Keyword, text: &[u8]) -> Result<Line, LineFault>
 // What a line says that has two more words.
 fn with_two(word: Keyword, first: &[u8], second: &[u8]) -> Result<Line, LineFault>
     requires { HasForm word }
-    ensures { Says result (by_first (keyword_text word ∷ first.now ∷ second.now ∷ [])) }
+    ensures { IsParse result (by_first (keyword_text word ∷ first.now ∷ second.now ∷ [])) }
 {
     match word {
         Keyword::Real => Ok(Line::RealInterval(dyadic(first)?, dyadic(second)?)),
@@ -178,7 +179,7 @@ fn with_two(word: Keyword, first: &[u8], second: &[u8]) -> Result<Line, LineFaul
 
 // The bound of a line.
 fn bound(text: &[u8]) -> Result<Line, LineFault>
-    ensures { Says result (of_bound text.now) }
+    ensures { IsParse result (of_bound text.now) }
 {
     if text == b"none".as_slice() {
         return Ok(Line::Bound(None));
@@ -188,7 +189,7 @@ fn bound(text: &[u8]) -> Result<Line, LineFault>
 
 // The values of a line.
 fn bool_set(text: &[u8]) -> Result<BoolSet, LineFault>
-    ensures { SaysBool result (of_bool text.now) }
+    ensures { IsBoolParse result (of_bool text.now) }
 {
     if text == b"false".as_slice() {
         return Ok(BoolSet::False);

@@ -1,6 +1,6 @@
 // The reader of lines.
 ghost use Rattle.std.specs.Prelude.{◌≡◌, ◌≤◌, ◌&&◌, [], false, true, drop, length, nat_lt, vec_len, IfNone, IfOk, OnErr, OnOk};
-ghost use Rattle.cert_read.specs.Reading.{Answers, fed, lines_ahead};
+ghost use Rattle.cert_read.specs.Reading.{IsNextLine, fed, lines_ahead};
 
 use crate::parse::{LONGEST, parse};
 use crate::place::place_of;
@@ -73,7 +73,7 @@ impl LineReader {
     /// and each other fault is answered by every later call. A line that is too long is told as soon as so many bytes
     /// were fed.
     pub fn next_line(&mut self) -> Result<Option<Line>, LineFault>
-        ensures lines { Answers (lines_ahead self.old) self.old self.new result }
+        ensures lines { IsNextLine (lines_ahead self.old) self.old self.new result }
         ensures held { IfOk result (λ o. IfNone o (length self.new.unread ≤ 524288)) }
     {
         let (_, unread) = self.bytes.split_at(self.at);

@@ -18,7 +18,7 @@ use Rattle.check_run.specs.Can.{CanDemo, CanBy, CanFrom, OfProblem, Can}
 use Rattle.check_run.specs.Run.{HasCause, ReadsScript, ScriptIsRead, run_of}
 use Rattle.check_run.specs.Parts.{After}
 use Rattle.script_faults.specs.Reader.{HasProblem}
-use Rattle.check_run.specs.Script.{HasFaultText, Refuses, script_start, Fetches, Halts, HaltEnds}
+use Rattle.check_run.specs.Script.{HasFaultText, IsHaltOfScript, script_start, Fetches, Halts, HaltEnds}
 use Rattle.check_run.proofs.Ending.{appended-nil, take_first, ends_behind, run_behind, widen}
 
 -- ---- what a course is behind its script

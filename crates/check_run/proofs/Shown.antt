@@ -1,7 +1,7 @@
 -- What each status shows, of a run that ends on one of its courses.
 use Rattle.std.proofs.Common.{◌≡◌, inl, inr, ℕ, List, Option, Some, None, sym, subst, ◌∙◌}
 use Rattle.desk.specs.Sight.{Sight}
-use Rattle.words.specs.declared.asked.Options.{Options}
+use Rattle.words.specs.declared.request.Options.{Options}
 use Rattle.words.specs.Words.{Command, solve, check, demo, upgrade}
 use Rattle.gen_script.specs.Demo.{demo_script}
 use Rattle.poly_graph.specs.Problem.{Problem}

@@ -4,7 +4,7 @@ use Rattle.std.specs.Option.{option_map}
 use Rattle.std.proofs.Math.ListN.{drop_of_length-le}
 use Rattle.std.proofs.lemmas.Option.{none-some}
 use Rattle.desk.specs.declared.desk.Port.TheVariants.{CertIn}
-use Rattle.desk.specs.Sight.{Sight, Reads, FailsOn, SideFailed, with_start}
+use Rattle.desk.specs.Sight.{Sight, ReadStep, FailsOn, SideFailed, with_start}
 use Rattle.desk.specs.Texts.{ReadsSome, ReadsThenFails}
 use Rattle.desk.proofs.Reading.{ReadSoFar, read_start, read_step, read_end}
 use Rattle.poly_graph.specs.Problem.{Problem}
@@ -49,7 +49,7 @@ pub check_start : (p : Parts) (bound : Option ℕ) (f : Feed) (d : Sight) → Ha
 check_start p bound f d has = record { bytes = []; read = read_start CertIn d; has = has }
 
 module _ (p : Parts) (bound : Option ℕ) (f : Feed) (n : ℕ) (buffer : List ℕ) (old now new : Sight) where
-  pub check_step : (more : Feed) → CheckedSoFar p bound f old now → Reads CertIn n buffer now new
+  pub check_step : (more : Feed) → CheckedSoFar p bound f old now → ReadStep CertIn n buffer now new
       → ((q : Parts) (b : Option ℕ) (bs : List ℕ) → HasTaken q b bs f → HasTaken q b (bs ++ take n buffer) more) → CheckedSoFar p bound more old new
   check_step more so_far step goes = record {
     bytes = so_far.bytes ++ take n buffer;
@@ -57,7 +57,7 @@ module _ (p : Parts) (bound : Option ℕ) (f : Feed) (n : ℕ) (buffer : List �
     has = goes p bound so_far.bytes so_far.has;
   }
 
-  pub check_end : (r : Result told.Verdict CertFault) → n ≡ 0 → 0 < length buffer → CheckedSoFar p bound f old now → Reads CertIn n buffer now new
+  pub check_end : (r : Result told.Verdict CertFault) → n ≡ 0 → 0 < length buffer → CheckedSoFar p bound f old now → ReadStep CertIn n buffer now new
       → ((q : Parts) (b : Option ℕ) (bs : List ℕ) → HasTaken q b bs f → IsVerdictOrMemory (verdict (problem_of q) b bs) r) → IfSome old.cert_in (λ cert. IsVerdictOrMemory (verdict (problem_of p) bound cert) r)
   check_end r none room so_far step tells =
       let all = read_end CertIn n so_far.bytes buffer old now new none room so_far.read step in
@@ -68,12 +68,12 @@ module _ (p : Parts) (bound : Option ℕ) (f : Feed) (n : ℕ) (buffer : List �
   none_left bytes None h = refl
   none_left bytes (Some held) h = ap (λ (l : List ℕ). Some l) (drop_of_length-le held (omega (arith, ap length h)))
 
-  pub check_whole : n ≡ 0 → 0 < length buffer → CheckedSoFar p bound f old now → Reads CertIn n buffer now new → new.cert_in ≡ option_map (λ (cert : List ℕ). []) old.cert_in
+  pub check_whole : n ≡ 0 → 0 < length buffer → CheckedSoFar p bound f old now → ReadStep CertIn n buffer now new → new.cert_in ≡ option_map (λ (cert : List ℕ). []) old.cert_in
   check_whole none room so_far step =
       let all = read_end CertIn n so_far.bytes buffer old now new none room so_far.read step in
       ap (λ (d : Sight). d.cert_in) all.rest ∙ none_left so_far.bytes old.cert_in all.all
 
-  pub check_fault : (x : CertFault) → CheckedSoFar p bound f old now → Reads CertIn n buffer now new
+  pub check_fault : (x : CertFault) → CheckedSoFar p bound f old now → ReadStep CertIn n buffer now new
       → ((q : Parts) (b : Option ℕ) (bs : List ℕ) → HasTaken q b bs f → (rest : List ℕ) → IsVerdictOrMemory (verdict (problem_of q) b ((bs ++ take n buffer) ++ rest)) (Err x))
       → IfSome old.cert_in (λ cert. IsVerdictOrMemory (verdict (problem_of p) bound cert) (Err x))
   check_fault x so_far step tells =

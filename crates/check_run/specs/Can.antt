@@ -1,7 +1,7 @@
 -- The courses that a run may take.
 use Rattle.std.specs.Prelude.{◌≡◌, ℕ, List, [], ◌∷◌, Option, Some, None, codes, length}
 use Rattle.desk.specs.declared.desk.Port.TheVariants.{Script, CertIn}
-use Rattle.words.specs.declared.asked.Options.{Options}
+use Rattle.words.specs.declared.request.Options.{Options}
 use Rattle.words.specs.Words.{Command, solve, check, demo, upgrade}
 use Rattle.gen_script.specs.Demo.{demo_script}
 use Rattle.poly_graph.specs.Problem.{Problem}

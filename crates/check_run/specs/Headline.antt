@@ -1,7 +1,7 @@
 -- What the answers of a run say of its script.
 use Rattle.std.specs.Prelude.{◌≡◌, ◌++◌, ℕ, List, [], Option, Some, None, IsSomeAnd, codes}
 use Rattle.desk.specs.Sight.{Sight}
-use Rattle.words.specs.declared.asked.Options.{Options}
+use Rattle.words.specs.declared.request.Options.{Options}
 use Rattle.words.specs.Words.{Command, solve, check, demo, upgrade}
 use Rattle.gen_script.specs.Demo.{demo_script}
 use Rattle.dyadic.specs.Rounding.{exact}

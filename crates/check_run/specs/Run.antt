@@ -6,11 +6,11 @@ use Rattle.std.specs.declared.string.String.{String}
 use Rattle.desk.specs.Sight.{Sight, SideFailed}
 use Rattle.words.specs.Words.{Command, Solve, Check, Demo, Upgrade, command_of, solve, check, demo, upgrade}
 use Rattle.words.specs.Seen.{seen, seen_solve, seen_check, seen_demo, seen_upgrade}
-use Rattle.words.specs.declared.asked.Asked.{Asked}
-use Rattle.words.specs.declared.asked.SolveWords.{SolveWords}
-use Rattle.words.specs.declared.asked.CheckWords.{CheckWords}
-use Rattle.words.specs.declared.asked.DemoWords.{DemoWords}
-use Rattle.words.specs.declared.asked.UpgradeWords.{UpgradeWords}
+use Rattle.words.specs.declared.request.Request.{Request}
+use Rattle.words.specs.declared.request.SolveWords.{SolveWords}
+use Rattle.words.specs.declared.request.CheckWords.{CheckWords}
+use Rattle.words.specs.declared.request.DemoWords.{DemoWords}
+use Rattle.words.specs.declared.request.UpgradeWords.{UpgradeWords}
 use Rattle.check_run.specs.declared.status.Status.{Status}
 use Rattle.check_run.specs.declared.status.Status.TheVariants.{Answered, CertRefused, ScriptRefused, Usage, InFailed, OutFailed, NoMemory}
 use Rattle.script_faults.specs.Faults.{most_bytes}
@@ -50,7 +50,7 @@ upgrade_run words = run_of (Some (upgrade (seen_upgrade words)))
 abbrev pub demo_run : DemoWords → Sight → Sight → Status → Run
 demo_run words = run_of (Some (demo (seen_demo words)))
 
-abbrev pub asked_run : Asked → Sight → Sight → Status → Run
+abbrev pub asked_run : Request → Sight → Sight → Status → Run
 asked_run words = run_of (Some (seen words))
 
 abbrev pub ReadsCert : Option Command → Type 0

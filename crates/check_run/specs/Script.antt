@@ -25,13 +25,13 @@ abbrev pub HasFaultText : Option ScriptFault → List ℕ → Type 0
 HasFaultText fault text = option_map fault_text fault ≡ Some text
 
 -- why bytes have no problem: their first fault, by its text, or out of memory, since no port fails
-abbrev pub IsTold : Option ScriptFault → Halt → Type 0
-IsTold fault (halt.Refused text) = HasFaultText fault text.items
-IsTold fault halt.Failed = ⊥
-IsTold fault halt.Memory = Unit {0}
+abbrev pub IsHaltOfFault : Option ScriptFault → Halt → Type 0
+IsHaltOfFault fault (halt.Refused text) = HasFaultText fault text.items
+IsHaltOfFault fault halt.Failed = ⊥
+IsHaltOfFault fault halt.Memory = Unit {0}
 
-abbrev pub Refuses : Option ℕ → List ℕ → Halt → Type 0
-Refuses bound script h = IsTold (script_fault bound script) h
+abbrev pub IsHaltOfScript : Option ℕ → List ℕ → Halt → Type 0
+IsHaltOfScript bound script h = IsHaltOfFault (script_fault bound script) h
 
 -- a refusal with this text
 abbrev pub HasText : List ℕ → Halt → Type 0

@@ -5,7 +5,7 @@ ghost use Rattle.script_fault.specs.Answers.{IsFaultOrMemory};
 ghost use Rattle.answer_text.specs.ScriptFaults.{fault_text};
 ghost use Rattle.script_faults.specs.Reader.{HasProblem};
 ghost use Rattle.check_run.specs.Run.{SameIn};
-ghost use Rattle.check_run.specs.Script.{Fetches, HaltEnds, Halts, HasText, IsTold, IsTooLong, IsWithin, Refuses};
+ghost use Rattle.check_run.specs.Script.{Fetches, HaltEnds, Halts, HasText, IsHaltOfFault, IsTooLong, IsWithin, IsHaltOfScript};
 
 use crate::ports::{fetch, say};
 use crate::status::Status;
@@ -36,7 +36,8 @@ fn fault_refusal(alloc: Global, fault: &ScriptFault) -> Halt
 
 // Why a script is not read.
 fn refusal(alloc: Global, error: &ReadError) -> Halt
-    ensures { (found : Option ScriptFault) → IsFaultOrMemory error.now found → IsTold found result }
+    ensures { (found : Option ScriptFault) → IsFaultOrMemory error.now found →
+        IsHaltOfFault found result }
 {
     match error {
         ReadError::Fault(fault) => fault_refusal(alloc, fault),
@@ -64,7 +65,7 @@ pub fn read_script<S: ScriptReader>(
 ) -> Result<Problem, Halt>
     ensures script { MatchResult result
         (λ p. HasProblem bound (problem_of p) bytes.now)
-        (λ halt. Refuses bound bytes.now halt) }
+        (λ halt. IsHaltOfScript bound bytes.now halt) }
     ensures within { IfOk result (λ p. IsWithin p) }
 {
     match reader.read_script(alloc, bytes, bound) {

@@ -60,10 +60,10 @@ pub record IsAtRest (c : Cnf) (t : Trail) : Type 0 where
   pub unmet : IsTrue (not (meets_nogood t))
   pub assumed_on : (l : Literal) → IsTrue (was_assumed t l) → IsTrue (stands_on t l)
 
-abbrev pub Says : Cnf → Trail → Trail → Prop → Type 0
-Says c t u (Forced j) = IsForced c t u j
-Says c t u Conflict = MayNotHold c u ⊎ IsTrue (meets_nogood u)
-Says c t u Rest = IsAtRest c u
+abbrev pub IsPropagation : Cnf → Trail → Trail → Prop → Type 0
+IsPropagation c t u (Forced j) = IsForced c t u j
+IsPropagation c t u Conflict = MayNotHold c u ⊎ IsTrue (meets_nogood u)
+IsPropagation c t u Rest = IsAtRest c u
 
 -- the trail has grown by derived literals alone
 pub record Grows (t u : Trail) : Type 0 where

@@ -13,7 +13,7 @@ use std::alloc::AllocError;
 
 impl Trail {
     ghost use Rattle.clause_search.specs.Trail.{IsTrailOf, undecided_on, nogoods_of};
-    ghost use Rattle.clause_search.specs.Answers.{Says, Grows, IsUnit, meets_nogood};
+    ghost use Rattle.clause_search.specs.Answers.{IsPropagation, Grows, IsUnit, meets_nogood};
 
     // Whether all literals of a nogood are on the trail.
     fn meets_nogood(&self) -> bool
@@ -42,7 +42,7 @@ impl Trail {
         requires { IsTrailOf cnf.now self.old }
         ensures made { IsTrailOf cnf.now self.new }
         ensures grows { Grows self.old self.new }
-        ensures says { IfOk result (Says cnf.now self.old self.new) }
+        ensures says { IfOk result (IsPropagation cnf.now self.old self.new) }
         ensures answers { IsOk result }
     {
         if self.failed {

@@ -6,9 +6,9 @@ ghost use Rattle.poly_graph.specs.ProblemViews.{axis_of};
 ghost use Rattle.cnf_build.specs.Clauses.{IsFormOf};
 ghost use Rattle.cnf_build.specs.Encoding.{is_bool_axis, variable_at, literal, literals_at, pairs_at, clauses_at};
 
+use crate::clause_list::ClauseList;
 use crate::cnf::Cnf;
 use crate::literal::{Literal, Variable};
-use crate::made::Made;
 use poly_graph::{Axis, Declared, FormNode, Problem};
 use std::alloc::{AllocError, Global};
 
@@ -47,7 +47,7 @@ fn helper(k: u32, positive: bool) -> Literal
 }
 
 // Adds the clause of this literal alone.
-fn add_unit(alloc: Global, made: &mut Made, only: Literal) -> Result<(), AllocError>
+fn add_unit(alloc: Global, made: &mut ClauseList, only: Literal) -> Result<(), AllocError>
     ensures { OnOk result (made.new ≡ made.old ++ ((only ∷ []) ∷ [])) }
 {
     let mut clause = Vec::new(alloc);
@@ -59,7 +59,7 @@ fn add_unit(alloc: Global, made: &mut Made, only: Literal) -> Result<(), AllocEr
 fn add_pairs(
     alloc: Global,
     problem: &Problem,
-    made: &mut Made,
+    made: &mut ClauseList,
     first: Literal,
     positive: bool,
     children: &[u32],
@@ -84,7 +84,7 @@ fn add_pairs(
 fn add_all(
     alloc: Global,
     problem: &Problem,
-    made: &mut Made,
+    made: &mut ClauseList,
     first: Literal,
     positive: bool,
     children: &[u32],
@@ -105,7 +105,12 @@ fn add_all(
 }
 
 // Adds the clauses by which helper k is true exactly where node k is.
-fn add_node(alloc: Global, problem: &Problem, made: &mut Made, k: u32) -> Result<(), AllocError>
+fn add_node(
+    alloc: Global,
+    problem: &Problem,
+    made: &mut ClauseList,
+    k: u32,
+) -> Result<(), AllocError>
     requires node { k < length problem.now.forms }
     requires ordered { IsTrue (forms_in_order 0 problem.now.forms) }
     ensures { OnOk result (made.new ≡ made.old ++ clauses_at problem.now k) }
@@ -148,7 +153,7 @@ pub fn clauses(alloc: Global, problem: &Problem) -> Result<Cnf, AllocError>
     let atoms = narrow(problem.atoms().len())?;
     let axes = narrow(problem.axes().len())?;
     let count = problem.forms().len() as u32;
-    let mut made = Made::new(alloc);
+    let mut made = ClauseList::new(alloc);
     for k in 0..count {
         add_node(alloc, problem, &mut made, k)?;
     }

@@ -2,14 +2,14 @@
 ghost use Rattle.std.specs.Prelude.{◌≡◌, ◌<◌, ◌↔◌, length, Some, IsTrue, slice_get};
 ghost use Rattle.cnf_build.specs.Clauses.{AreNamed, HasVariablesIn};
 
+use crate::clause_list::ClauseList;
 use crate::literal::Literal;
-use crate::made::Made;
 use std::marker::Model;
 
 /// Clauses of which every one is to have a true literal, over so many atoms, axes and helpers.
 #[derive(Drop)]
 pub struct Cnf {
-    made: Made,
+    made: ClauseList,
     atom_count: u32,
     axis_count: u32,
     helper_count: u32,
@@ -21,14 +21,19 @@ impl Model for Cnf {
 
     ghost Value = { words.Cnf };
 
-    ghost view = { λ c. record { clauses = c.made; atoms = c.atom_count; axes = c.axis_count; helpers = c.helper_count } };
+    ghost view = { λ c. record {
+      clauses = c.made;
+      atoms = c.atom_count;
+      axes = c.axis_count;
+      helpers = c.helper_count;
+    } };
 
     ghost invariant = { λ c. AreNamed c.atom_count c.axis_count c.helper_count c.made };
 }
 
 impl Cnf {
     // These clauses over so many atoms, axes and helpers.
-    pub(crate) fn new(made: Made, atom_count: u32, axis_count: u32, helper_count: u32) -> Self
+    pub(crate) fn new(made: ClauseList, atom_count: u32, axis_count: u32, helper_count: u32) -> Self
         requires { AreNamed atom_count axis_count helper_count made }
         ensures { result ≡ record {
           clauses = made;

@@ -4,9 +4,9 @@
 #![tactic(auto)]
 
 mod build;
+mod clause_list;
 mod cnf;
 mod literal;
-mod made;
 
 pub use build::{clauses, variable_at};
 pub use cnf::Cnf;

@@ -48,9 +48,23 @@ impl Model for Book {
     ghost use Rattle.cover_book.specs.Views.{node_of, learned_of};
     ghost use Rattle.cover_book.specs.Keeps.{IsBook};
 
-    ghost view = { λ b. record { problem = b.problem; options = b.options; nodes = map node_of b.nodes.items; lemmas = map learned_of b.lemmas.items; branches = b.branches; point = b.point } };
+    ghost view = { λ b. record {
+      problem = b.problem;
+      options = b.options;
+      nodes = map node_of b.nodes.items;
+      lemmas = map learned_of b.lemmas.items;
+      branches = b.branches;
+      point = b.point;
+    } };
 
-    ghost invariant = { λ b. IsBook (record { problem = b.problem; options = b.options; nodes = map node_of b.nodes.items; lemmas = map learned_of b.lemmas.items; branches = b.branches; point = b.point }) };
+    ghost invariant = { λ b. IsBook (record {
+      problem = b.problem;
+      options = b.options;
+      nodes = map node_of b.nodes.items;
+      lemmas = map learned_of b.lemmas.items;
+      branches = b.branches;
+      point = b.point;
+    }) };
 }
 
 // The node that a book opens with.

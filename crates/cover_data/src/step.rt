@@ -31,7 +31,7 @@ impl Step {
     }
 }
 
-/// An end: it closes the state, parts it in two, or leaves it as a stuck one. Numbers are those of atoms, of
+/// An end: it closes the state, splits it in two, or leaves it as a stuck one. Numbers are those of atoms, of
 /// `By` that of a lemma, of `Cut` and `Flip` that of an axis.
 #[derive(Drop, PartialEq, Eq, Debug)]
 pub enum End {

@@ -99,7 +99,7 @@ fn can_cut(space: &Space, axis: u32, at: Dy) -> bool
     axis < space.len() && is_inside(at, space.get(axis))
 }
 
-// Whether the axis may be parted into its truth values.
+// Whether the axis may be split into its truth values.
 #[tactic(auto, using(crate::proofs::Follow::tested_domain, crate::proofs::Follow::tested_past))]
 fn can_flip(space: &Space, axis: u32) -> bool
     ensures { result ≡ test_axis is_undecided axis (space_of space.now) }

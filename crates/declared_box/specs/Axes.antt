@@ -21,7 +21,7 @@ use Rattle.script_fault.specs.declared.fault.FaultKind.{FaultKind}
 use Rattle.script_fault.specs.declared.fault.FaultKind.TheVariants.{NoBound, BoundTooWide}
 use Rattle.script_fault.specs.declared.fault.ReadError.{ReadError}
 use Rattle.script_fault.specs.declared.fault.ScriptFault.{ScriptFault}
-use Rattle.smt_sexp.specs.Reads.{fault_at}
+use Rattle.smt_sexp.specs.TextAnswers.{fault_at}
 
 abbrev pub constant_of : Constant → script.Constant
 constant_of c = record { at = place_of c.place; name = c.name.now; sort = sort_of c.sort }
@@ -54,6 +54,6 @@ IsAxisOf c i (Ok a) = (axis_fault c.sort i ≡ None) × (a.name.items ≡ c.name
 IsAxisOf c i (Err e) = (later : Option (script.Constant × BoundFault)) → IsBoundsError e (or_later c (axis_fault c.sort i) later)
 
 -- where the words give this bound, and these are the bounds: the axes of the constants, or the first fault
-abbrev pub Answers : Option ℕ → List Bound → List script.Constant → Result (Vec Axis Global) ReadError → Type 0
-Answers bound bs constants (Ok axes) = (bound_fault_from (interval_by bound bs) 0 constants ≡ None) × AreAxes (interval_by bound bs) 0 constants (map axis_of axes.items)
-Answers bound bs constants (Err e) = IsBoundsError e (bound_fault_from (interval_by bound bs) 0 constants)
+abbrev pub IsAxesAnswer : Option ℕ → List Bound → List script.Constant → Result (Vec Axis Global) ReadError → Type 0
+IsAxesAnswer bound bs constants (Ok axes) = (bound_fault_from (interval_by bound bs) 0 constants ≡ None) × AreAxes (interval_by bound bs) 0 constants (map axis_of axes.items)
+IsAxesAnswer bound bs constants (Err e) = IsBoundsError e (bound_fault_from (interval_by bound bs) 0 constants)

@@ -10,7 +10,7 @@ use Rattle.poly_graph.specs.Problem as problem
 use Rattle.poly_graph.specs.Problem.{IsDeclared, sorts_of_axes}
 use Rattle.poly_graph.specs.ProblemViews.{axis_of}
 use Rattle.poly_graph.specs.declared.axis.Axis.{Axis}
-use Rattle.declared_box.specs.Axes.{Answers, constant_of}
+use Rattle.declared_box.specs.Axes.{IsAxesAnswer, constant_of}
 use Rattle.declared_box.specs.Interval.{AreTightest, tightened}
 use Rattle.declared_box.specs.Same.{SameBounds}
 use Rattle.declared_box.specs.Sweep.{intervals_after, tightened_at}
@@ -57,7 +57,7 @@ AreTightestBy lists roots axes is = AreTightest (all_of lists roots) axes (inter
 
 -- by whatever bounds are the same as those of these lists
 abbrev pub AnswersBy : List (List Bound) → List ℕ → Option ℕ → List Constant → Result (Vec Axis Global) ReadError → Type 0
-AnswersBy lists roots bound constants r = (bs : List Bound) → SameBounds (all_of lists roots) bs → Answers bound bs (map constant_of constants) r
+AnswersBy lists roots bound constants r = (bs : List Bound) → SameBounds (all_of lists roots) bs → IsAxesAnswer bound bs (map constant_of constants) r
 
 abbrev pub AreDeclared : Vec Axis Global → Type 0
 AreDeclared axes = All (λ (a : problem.Axis). IsDeclared a.declared) (map axis_of axes.items)

@@ -21,7 +21,7 @@ use Rattle.smt_sexp.specs.Lexicon.{read}
 use Rattle.script_faults.specs.Faults.{in_text, in_commands, in_sorts, in_building, most_bytes}
 use Rattle.gen_script.specs.Demo.{next_number, coefficient, atom_line, atom_lines, demo_script, head, tail}
 use Rattle.dyadic.specs.Fraction.{negated, at_most}
-use Rattle.smt_sexp.specs.Reads.{too_many_bytes}
+use Rattle.smt_sexp.specs.TextAnswers.{too_many_bytes}
 use Rattle.demo_law.specs.Laws.{DemoIsFaultless}
 use Rattle.demo_law.proofs.Shape.{atom_commands, in_line, behind_line, equation, within, place, demo_with, two, three, named}
 use Rattle.demo_law.proofs.Commands.{commands_are, sorts_fit, open_script}

@@ -289,7 +289,7 @@ impl MemoryDesk {
 }
 
 impl Desk for MemoryDesk {
-    ghost use Rattle.desk.specs.Sight.{IsIn, IsOut, with_start, FailsOn, Reads, Writes};
+    ghost use Rattle.desk.specs.Sight.{IsIn, IsOut, with_start, FailsOn, ReadStep, WriteStep};
     ghost use Rattle.desk.specs.Calls.{IsCounted};
     ghost use Rattle.desk.specs.Memory.{memory_sight, IsDue, calls_of, faults_of};
 
@@ -316,7 +316,7 @@ impl Desk for MemoryDesk {
     fn read(&mut self, p: Port, into: &mut [u8]) -> Result<usize, Failed>
         requires { IsIn p }
         ensures ok { IfOk result (λ n.
-            Reads p n into.new (memory_sight self.old) (memory_sight self.new)) }
+            ReadStep p n into.new (memory_sight self.old) (memory_sight self.new)) }
         ensures failed { OnErr result (FailsOn p (memory_sight self.old) (memory_sight self.new)) }
         ensures due { IsErr result ↔ IsDue self.old p }
         ensures counted { IsCounted p (calls_of self.old) (calls_of self.new) }
@@ -332,7 +332,7 @@ impl Desk for MemoryDesk {
     fn write(&mut self, p: Port, from: &[u8]) -> Result<usize, Denied>
         requires { IsOut p }
         ensures ok { IfOk result (λ n.
-            Writes p n from.now (memory_sight self.old) (memory_sight self.new)) }
+            WriteStep p n from.now (memory_sight self.old) (memory_sight self.new)) }
         ensures failed { IsErrOf result Denied.Failed →
             FailsOn p (memory_sight self.old) (memory_sight self.new) }
         ensures memory { IsErrOf result Denied.Memory →

@@ -1,4 +1,4 @@
 pub mod Demo
 pub mod Solving
-pub mod Told
+pub mod SearchAnswers
 pub mod Upgrading

@@ -1,7 +1,7 @@
 -- From a certificate on its port to the same in version 2.
 use Rattle.std.proofs.Common.{◌≡◌, ◌<◌, ◌≤◌, ◌++◌, ℕ, List, [], ◌∷◌, Option, Some, Ok, Err, IfSome, length, take, refl, ap, sym, ◌∙◌, subst}
 use Rattle.desk.specs.declared.desk.Port.TheVariants.{CertIn}
-use Rattle.desk.specs.Sight.{Sight, Reads, with_start}
+use Rattle.desk.specs.Sight.{Sight, ReadStep, with_start}
 use Rattle.desk.specs.Texts.{ReadsSome}
 use Rattle.desk.proofs.Reading.{read_start, read_step, read_end}
 use Rattle.poly_graph.specs.Problem.{Problem}
@@ -37,7 +37,7 @@ confirmed (accepted s value) w h = tt
 confirmed (refused f n) w h = absurd h
 
 module _ (p : Parts) (bound : Option ℕ) (f : Feed) (kept : List ℕ) (n : ℕ) (buffer : List ℕ) (old now new : Sight) where
-  pub kept_step : (more : Feed) (later : List ℕ) → KeptSoFar p bound f kept old now → Reads CertIn n buffer now new
+  pub kept_step : (more : Feed) (later : List ℕ) → KeptSoFar p bound f kept old now → ReadStep CertIn n buffer now new
       → ((q : Parts) (b : Option ℕ) (bs : List ℕ) → HasTaken q b bs f → HasTaken q b (bs ++ take n buffer) more) → later ≡ kept ++ take n buffer → KeptSoFar p bound more later old new
   kept_step more later so_far step goes e = record {
     checked = record {
@@ -48,7 +48,7 @@ module _ (p : Parts) (bound : Option ℕ) (f : Feed) (kept : List ℕ) (n : ℕ)
     kept_are = ap (λ (bs : List ℕ). bs ++ take n buffer) so_far.kept_are ∙ sym e;
   }
 
-  pub kept_end : (w : told.Verdict) → n ≡ 0 → 0 < length buffer → KeptSoFar p bound f kept old now → Reads CertIn n buffer now new
+  pub kept_end : (w : told.Verdict) → n ≡ 0 → 0 < length buffer → KeptSoFar p bound f kept old now → ReadStep CertIn n buffer now new
       → ((q : Parts) (b : Option ℕ) (bs : List ℕ) → HasTaken q b bs f → IsVerdictOrMemory (verdict (problem_of q) b bs) (Ok w)) → IfSome old.cert_in (IsKept (problem_of p) bound kept)
   kept_end w none room so_far step tells =
       let all = read_end CertIn n so_far.checked.bytes buffer old now new none room so_far.checked.read step in

@@ -1,6 +1,6 @@
 -- What a search is asked for, and what is answered of the book that it left.
 use Rattle.std.specs.Prelude.{◌≡◌, ◌≢◌, ℕ, List, []}
-use Rattle.words.specs.declared.asked.Options.{Options}
+use Rattle.words.specs.declared.request.Options.{Options}
 use Rattle.poly_graph.specs.Problem.{Problem}
 use Rattle.cover_model.specs.Derivation.{Tree}
 use Rattle.cert_model.specs.Due.{Standing, Value, left_open}
@@ -12,7 +12,7 @@ use Rattle.cover_book.specs.Keeps.{IsCrossed}
 use Rattle.cover_book.specs.Laws.{IsTreeOfBook}
 use Rattle.cover_book.specs.Verdict.{verdict_of}
 use Rattle.solve_core.specs.Left.{LeavesDue}
-use Rattle.dpoly.specs.declared.answers.Told.{Told}
+use Rattle.dpoly.specs.declared.answers.SearchAnswer.{SearchAnswer}
 use Rattle.check_run.specs.Answer.{loosenings_of, IsAnswer}
 
 -- the words' options, as a search takes them
@@ -38,7 +38,7 @@ pub record SaysLeft (options : Options) (b : BookModel) (text : List ℕ) : Type
   pub crossed : IsCrossed b → text ≡ solve_text (problem_in b) options.budget (loosenings_of options) (left_open [])
 
 -- the certificate answers the problem, and the text is that of its value
-pub record IsTold (p : Problem) (options : Options) (told : Told) : Type 0 where
+pub record IsSearchAnswer (p : Problem) (options : Options) (told : SearchAnswer) : Type 0 where
   pub value : Value
   pub answer : IsAnswer p options told.cert.items value
   pub text : told.text.items ≡ solve_text p options.budget (loosenings_of options) value

@@ -1,13 +1,13 @@
 // From the book that a search left to its certificate and its answer.
 ghost use Rattle.std.specs.Prelude.{◌≡◌, [], None, Some, IfOk};
-ghost use Rattle.words.specs.declared.asked.Options.{Options};
+ghost use Rattle.words.specs.declared.request.Options.{Options};
 ghost use Rattle.cert_model.specs.Due.{left_open};
 ghost use Rattle.cover_book.specs.Keeps.{IsBook};
 ghost use Rattle.cover_book.specs.Model.{problem_in};
 ghost use Rattle.cover_book.specs.Verdict.{verdict_of};
 ghost use Rattle.cover_book.specs.declared.verdict.BookVerdict.TheVariants as verdict;
 ghost use Rattle.check_run.specs.Answer.{IsAnswer};
-ghost use Rattle.dpoly.specs.Search.{search_options as options_of, IsLeftBy, IsTold, SaysLeft};
+ghost use Rattle.dpoly.specs.Search.{search_options as options_of, IsLeftBy, IsSearchAnswer, SaysLeft};
 
 use cert_text::{first_stuck, write_cover, write_point};
 use cover_book::{Book, BookVerdict};
@@ -17,7 +17,7 @@ use words::Options;
 
 /// A certificate, and the answer's text.
 #[derive(Debug, Drop)]
-pub struct Told {
+pub struct SearchAnswer {
     pub cert: Vec<u8>,
     pub text: Vec<u8>,
 }
@@ -49,15 +49,15 @@ fn tell_point(
     book: &Book,
     options: &Options,
     point: &Point,
-) -> Result<Told, AllocError>
+) -> Result<SearchAnswer, AllocError>
     requires left { IsLeftBy options.now book.now }
     requires kept { book.now.point ≡ Some point.now }
-    ensures { IfOk result (λ told. IsTold (problem_in book.now) options.now told) }
+    ensures { IfOk result (λ told. IsSearchAnswer (problem_in book.now) options.now told) }
 {
     let problem = book.problem();
     let cert = write_point(alloc, problem, book.options(), point)?;
     let text = answer_text::delta_sat(alloc, problem, options.delta_bits, point.space())?;
-    Ok(Told { cert, text })
+    Ok(SearchAnswer { cert, text })
 }
 
 // The text of the first stuck box, in the tree's order.
@@ -88,9 +88,9 @@ fn left_text(alloc: Global, book: &Book, options: &Options) -> Result<Vec<u8>, A
 }
 
 /// The certificate of a book that a search left, and its answer.
-pub fn tell(alloc: Global, book: &Book, options: &Options) -> Result<Told, AllocError>
+pub fn tell(alloc: Global, book: &Book, options: &Options) -> Result<SearchAnswer, AllocError>
     requires { IsLeftBy options.now book.now }
-    ensures { IfOk result (λ told. IsTold (problem_in book.now) options.now told) }
+    ensures { IfOk result (λ told. IsSearchAnswer (problem_in book.now) options.now told) }
 {
     book_is_sound(book);
     match book.point() {
@@ -98,7 +98,7 @@ pub fn tell(alloc: Global, book: &Book, options: &Options) -> Result<Told, Alloc
         None => {
             let cert = write_cover(alloc, book)?;
             let text = left_text(alloc, book, options)?;
-            Ok(Told { cert, text })
+            Ok(SearchAnswer { cert, text })
         }
     }
 }

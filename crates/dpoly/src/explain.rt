@@ -2,7 +2,7 @@
 use check_run::Status;
 use file_desk::{FileDesk, Messages};
 use std::alloc::Global;
-use words::{Asked, read_words, usage_text};
+use words::{Request, read_words, usage_text};
 
 // The messages of a run on one script and one certificate.
 fn messages<'a>(script: &'a str, cert: &'a str) -> Messages<'a> {
@@ -17,10 +17,10 @@ fn messages<'a>(script: &'a str, cert: &'a str) -> Messages<'a> {
 // The messages of the run that the words ask for.
 fn messages_of<'a>(alloc: Global, words: &'a [String]) -> Messages<'a> {
     match read_words(alloc, words) {
-        Ok(Asked::Solve(asked)) => messages(asked.script, asked.cert),
-        Ok(Asked::Check(asked)) => messages(asked.script, asked.cert),
-        Ok(Asked::Demo(asked)) => messages("the demo's script", asked.cert),
-        Ok(Asked::Upgrade(asked)) => Messages {
+        Ok(Request::Solve(asked)) => messages(asked.script, asked.cert),
+        Ok(Request::Check(asked)) => messages(asked.script, asked.cert),
+        Ok(Request::Demo(asked)) => messages("the demo's script", asked.cert),
+        Ok(Request::Upgrade(asked)) => Messages {
             cert_out: asked.out,
             ..messages(asked.script, asked.cert)
         },

@@ -9,9 +9,9 @@ ghost use Rattle.check_run.specs.Course.{RunEnds};
 ghost use Rattle.check_run.specs.Can.{CanSolve, CanDemo};
 ghost use Rattle.check_run.specs.Run.{DemoHasCause, SameIn, SolveHasCause};
 ghost use Rattle.check_run.specs.Script.{IsWithin};
-ghost use Rattle.dpoly.specs.Search.{IsLeftBy, IsTold};
+ghost use Rattle.dpoly.specs.Search.{IsLeftBy, IsSearchAnswer};
 
-use crate::answers::{Told, search_options, tell, whole_cover};
+use crate::answers::{SearchAnswer, search_options, tell, whole_cover};
 use check_run::{Status, finish};
 use cover_book::{Book, BookVerdict};
 use desk::Desk;
@@ -46,10 +46,10 @@ fn solved<R: Threads + Wait + Sync, G: Gate + Sync>(
     problem: &Problem,
     options: &Options,
     gate: &G,
-) -> Result<Told, AllocError>
+) -> Result<SearchAnswer, AllocError>
     requires options { AreOptions options.now }
     requires within { IsWithin problem.now }
-    ensures { IfOk result (λ told. IsTold (problem_of problem.now) options.now told) }
+    ensures { IfOk result (λ told. IsSearchAnswer (problem_of problem.now) options.now told) }
 {
     let book = search(rt, alloc, problem, options, gate)?;
     tell(alloc, &book, options)

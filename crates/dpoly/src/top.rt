@@ -15,7 +15,7 @@ use solve_core::Gate;
 use std::alloc::Global;
 use std::sync::Wait;
 use std::thread::Threads;
-use words::{Asked, DemoWords, Refused, SolveWords, UpgradeWords, read_words};
+use words::{DemoWords, Refused, Request, SolveWords, UpgradeWords, read_words};
 
 // Solves a script: its certificate, and then the answer.
 fn run_solve<R: Threads + Wait + Sync, D: Desk, G: Gate + Sync>(
@@ -101,7 +101,7 @@ fn run_command<R: Threads + Wait + Sync, D: Desk, G: Gate + Sync>(
     rt: &R,
     alloc: Global,
     desk: &mut D,
-    asked: Asked<'_>,
+    asked: Request<'_>,
     gate: &G,
 ) -> Status
     requires { IsInRange (seen asked) }
@@ -113,10 +113,10 @@ fn run_command<R: Threads + Wait + Sync, D: Desk, G: Gate + Sync>(
         (asked_run asked.entry (D.sight desk.old) (D.sight desk.new) result) }
 {
     match asked {
-        Asked::Solve(asked) => run_solve(rt, alloc, desk, asked, gate),
-        Asked::Check(asked) => run_check(&Reader, alloc, desk, asked),
-        Asked::Demo(asked) => run_demo(rt, alloc, desk, asked, gate),
-        Asked::Upgrade(asked) => run_upgrade(alloc, desk, asked),
+        Request::Solve(asked) => run_solve(rt, alloc, desk, asked, gate),
+        Request::Check(asked) => run_check(&Reader, alloc, desk, asked),
+        Request::Demo(asked) => run_demo(rt, alloc, desk, asked, gate),
+        Request::Upgrade(asked) => run_upgrade(alloc, desk, asked),
     }
 }
 

@@ -111,7 +111,8 @@ impl Frac {
     pub fn add(self, other: Frac) -> Result<Frac, TooWide>
         ensures { MatchResult result
             (λ r. IsTrue (sum_fits (fraction_of_frac self) (fraction_of_frac other)) ×
-            (fraction_of_frac r ≡ reduced (sum_of (fraction_of_frac self) (fraction_of_frac other))))
+            (fraction_of_frac r ≡
+            reduced (sum_of (fraction_of_frac self) (fraction_of_frac other))))
             (λ _. IsFalse (sum_fits (fraction_of_frac self) (fraction_of_frac other))) }
     {
         let left = times(self.n, other.d)?;
@@ -125,7 +126,8 @@ impl Frac {
     pub fn mul(self, other: Frac) -> Result<Frac, TooWide>
         ensures { MatchResult result
             (λ r. IsTrue (product_fits (fraction_of_frac self) (fraction_of_frac other)) ×
-            (fraction_of_frac r ≡ reduced (product_of (fraction_of_frac self) (fraction_of_frac other))))
+            (fraction_of_frac r ≡
+            reduced (product_of (fraction_of_frac self) (fraction_of_frac other))))
             (λ _. IsFalse (product_fits (fraction_of_frac self) (fraction_of_frac other))) }
     {
         let above = times(self.n, other.n)?;
@@ -138,7 +140,8 @@ impl Frac {
         requires { other.n ≡ pos 0 → ⊥ }
         ensures { MatchResult result
             (λ r. IsTrue (quotient_fits (fraction_of_frac self) (fraction_of_frac other)) ×
-            (fraction_of_frac r ≡ reduced (quotient_of (fraction_of_frac self) (fraction_of_frac other))))
+            (fraction_of_frac r ≡
+            reduced (quotient_of (fraction_of_frac self) (fraction_of_frac other))))
             (λ _. IsFalse (quotient_fits (fraction_of_frac self) (fraction_of_frac other))) }
     {
         let above = times(self.n, other.d)?;

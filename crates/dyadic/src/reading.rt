@@ -59,7 +59,8 @@ fn sign_and_rest(text: &[u8]) -> (bool, &[u8])
 fn mark_in(text: &[u8]) -> Option<usize>
     ensures { MatchOption result
         ((k : ℕ) → k < length text.now → slice_index text.now k ≢ 98)
-        (λ m. (m < length text.now) × (slice_index text.now m ≡ 98) × ((k : ℕ) → k < m → slice_index text.now k ≢ 98)) }
+        (λ m. (m < length text.now) × (slice_index text.now m ≡ 98) ×
+        ((k : ℕ) → k < m → slice_index text.now k ≢ 98)) }
 {
     for (i, c) in text.iter().enumerate() {
         if *c == b'b' {

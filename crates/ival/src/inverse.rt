@@ -49,7 +49,8 @@ fn greatest_quotient(a: Ends, first: Side, divisor: Ends, second: Side) -> Ext
     requires first { LiesOn first (end_of (ext_of a.low)) (end_of (ext_of a.high)) }
     requires second { MissesOn second (ext_of divisor.low) (ext_of divisor.high) }
     ensures { ext_of result ≡
-        greatest_quotient (ext_of a.low) (ext_of a.high) (ext_of divisor.low) (ext_of divisor.high) }
+        greatest_quotient (ext_of a.low) (ext_of a.high)
+        (ext_of divisor.low) (ext_of divisor.high) }
 {
     let terms = greatest_factors(first, second, a.low, a.high, divisor.high, divisor.low);
     div_up(terms.0, terms.1)

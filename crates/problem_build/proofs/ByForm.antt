@@ -5,7 +5,7 @@ use Rattle.script_model.specs.Reading.{Meanings, Names, value, Label, meaning, m
 use Rattle.smt_sexp.specs.Arena.{first_of}
 use Rattle.smt_script.specs.Forms.{as_any, is_end}
 use Rattle.sort_check.specs.Forms.{as_binding, labels_of}
-use Rattle.problem_build.specs.Reads.{begins, as_let, let_of}
+use Rattle.problem_build.specs.LetParts.{begins, as_let, let_of}
 
 module _ {V : Type 0} (M : Meanings V) where
   -- ---- arguments

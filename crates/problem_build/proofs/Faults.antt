@@ -4,13 +4,13 @@ use Rattle.script_model.specs.Sexp.{Place}
 use Rattle.script_fault.specs.declared.fault.FaultKind.TheVariants.{TooMany}
 use Rattle.script_fault.specs.declared.limit.Limit.{Limit}
 use Rattle.script_fault.specs.declared.limit.Limit.TheVariants.{Bytes, Depth, Axes, Size, Nodes, Atoms, Forms}
-use Rattle.smt_sexp.specs.Reads.{fault_at}
+use Rattle.smt_sexp.specs.TextAnswers.{fault_at}
 use Rattle.script_forms.specs.Walk.{Walked, stops, unfolds_not}
 use Rattle.script_faults.specs.Faults.{in_building}
 use Rattle.term_build.specs.Does.{IsBeyond, fault_of}
 use Rattle.term_build.specs.declared.stop.Fault.{Fault}
 use Rattle.term_build.specs.declared.stop.Fault.TheVariants.{NumberTooWide, DivisorNotConstant, ZeroDivisor, IllFormed}
-use Rattle.problem_build.specs.Told.{builder_kind, found_by}
+use Rattle.problem_build.specs.BuildAnswers.{builder_kind, found_by}
 
 kind-of : (at : Place) (x : Fault) → in_building (found_by (stops at (unfolds_not (fault_of at x)))) ≡ Some (fault_at at (builder_kind x))
 kind-of at NumberTooWide = refl

@@ -28,7 +28,7 @@ use Rattle.script_forms.specs.ProblemOf.{AreAxes, IsProblemOf}
 use Rattle.script_forms.specs.Work.{Work, outcome_of}
 use Rattle.script_forms.specs.Walk.{Stand, Walked, stands, stops, BuildingFault, works, walked, after_root, goes_on, claim_places, last_place, nowhere, fault_or, fault_of_bounds, building_fault, make_form}
 use Rattle.script_forms.proofs.Walks.{Tells, works_tell}
-use Rattle.term_build.specs.Built.{Made, stand_of, IsMade}
+use Rattle.term_build.specs.Built.{BuilderModel, stand_of, IsMade}
 use Rattle.term_build.specs.Does.{Does, StopsAs}
 use Rattle.term_build.specs.Sketch.{IsFormOf}
 use Rattle.term_build.specs.Shapes.{AreNumbers}
@@ -43,7 +43,7 @@ use Rattle.value_build.specs.Making.{Making}
 use Rattle.problem_build.specs.Laws.{parts_made}
 use Rattle.problem_build.specs.Roots.{AreFormsOf, Roots}
 use Rattle.problem_build.specs.Standing.{AreClaims, boundings, IsDone}
-use Rattle.problem_build.specs.Told.{IsBuildingError, found_by}
+use Rattle.problem_build.specs.BuildAnswers.{IsBuildingError, found_by}
 use Rattle.script_fault.specs.declared.fault.ReadError.{ReadError}
 use Rattle.script_fault.specs.declared.fault.ReadError.TheVariants as errors
 use Rattle.declared_box.specs.Axes.{bounds_fault, IsBoundsError}
@@ -64,7 +64,7 @@ forms_are m [] (b ∷ bs) cs h = elim h [ ]
 forms_are m (u ∷ us) [] cs h = elim h [ ]
 forms_are m (u ∷ us) (b ∷ bs) [] h = elim h [ ]
 
-form-below : (m : Made) (f : Form Atom) (k : ℕ) → IsFormOf m f k → k < length m.forms
+form-below : (m : BuilderModel) (f : Form Atom) (k : ℕ) → IsFormOf m f k → k < length m.forms
 form-below m f k h = omega (arith, get_below (graph_forms m.forms) k (form_map (number_in (stand_of m).atoms) f) h, length_forms m.forms)
 
 below-so : (a b : ℕ) → a < b → nat_lt a b ≡ true
@@ -146,14 +146,14 @@ module _ (script : List Command) (m : Making) (made : List (ℕ × ℕ)) (h : Is
   pub walked_root : walked script ≡ after_root script (stand_of m.made)
   walked_root = ap (goes_on (after_root script)) h.walk
 
-  pub root_stops : (m1 : Made) (e : Stop) (claim : Place) → claim ≡ last_place nowhere (claim_places script) → Roots m.made m1 (map (λ c. c.0) made) (Err e) → StopsAs claim (walked script) e
+  pub root_stops : (m1 : BuilderModel) (e : Stop) (claim : Place) → claim ≡ last_place nowhere (claim_places script) → Roots m.made m1 (map (λ c. c.0) made) (Err e) → StopsAs claim (walked script) e
   root_stops m1 e claim at roots =
       let s = stand_of m.made in
       let there = roots (forms_in (map outcome_of (works script))) done_forms claim in
       stops_so claim (walked script) (make_form claim s (form_map (number_in s.atoms) (all_form (forms_in (map outcome_of (works script)))))) e
       (walked_root ∙ ap₂ (λ p f. make_form p s (form_map (number_in s.atoms) f)) (sym at) (sym (whole_forms script))) there
 
-  module _ (m1 : Made) (root : ℕ) (roots : Roots m.made m1 (map (λ c. c.0) made) (Ok root)) where
+  module _ (m1 : BuilderModel) (root : ℕ) (roots : Roots m.made m1 (map (λ c. c.0) made) (Ok root)) where
     rooted : Does m.made m1 (λ claim s. make_form claim s (form_map (number_in s.atoms) (all_form (forms_in (map outcome_of (works script)))))) (Ok root) (IsFormOf m1 (all_form (forms_in (map outcome_of (works script)))))
     rooted = roots (forms_in (map outcome_of (works script))) done_forms
 
@@ -180,8 +180,8 @@ module _ (script : List Command) (m : Making) (made : List (ℕ × ℕ)) (h : Is
     bounds_refuse bound f r = subst (λ (x : Option (Place × BuildingFault)). IsBuildingError f x)
         (sym (ap (λ w. fault_or w (fault_of_bounds (bound_fault bound script))) walked_all)) (bounds-error f (bound_fault bound script) r)
 
-pub roots_as : (m m' m1 : Made) (ks ks' : List ℕ) (r : Result ℕ Stop) → m' ≡ m → ks' ≡ ks → Roots m' m1 ks' r → Roots m m1 ks r
-roots_as m m' m1 ks ks' r e f h = subst (λ (x : Made). Roots x m1 ks r) e (subst (λ (x : List ℕ). Roots m' m1 x r) f h)
+pub roots_as : (m m' m1 : BuilderModel) (ks ks' : List ℕ) (r : Result ℕ Stop) → m' ≡ m → ks' ≡ ks → Roots m' m1 ks' r → Roots m m1 ks r
+roots_as m m' m1 ks ks' r e f h = subst (λ (x : BuilderModel). Roots x m1 ks r) e (subst (λ (x : List ℕ). Roots m' m1 x r) f h)
 
 -- ---- lists that are gathered
 

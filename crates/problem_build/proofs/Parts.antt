@@ -13,7 +13,7 @@ use Rattle.script_forms.specs.ProblemOf.{AreAxes, IsProblemOf}
 use Rattle.script_forms.specs.Walk.{Stand, Walked, stands, nothing_made, claim_places, works, after_assertions, after_root, goes_on, fault_or, fault_of_bounds, building_fault, last_place, nowhere, if_room, too_many_forms, with_form, make_form, has_form, all_sizes, form_size, most_forms}
 use Rattle.script_forms.proofs.Walks.{Walks, assertions_walk}
 use Rattle.term_build.specs.Built as built
-use Rattle.term_build.specs.Built.{Made, stand_of, IsMade}
+use Rattle.term_build.specs.Built.{BuilderModel, stand_of, IsMade}
 use Rattle.term_build.specs.Sketch.{IsFormOf}
 use Rattle.term_build.proofs.Lists.{get_index, index_get}
 use Rattle.term_build.proofs.Atoms.{full_at}
@@ -33,10 +33,10 @@ pub root_atoms : (claim : Place) (s s1 : Stand) (g : Form ℕ) → make_form cla
 root_atoms claim s s1 g e = subst (λ (w : Walked). atoms-in s w) e (form-atoms (has_form g s.forms) (nat_lt (all_sizes s.forms + form_size g) (suc most_forms)) claim s g)
 
 -- an atom of the table with its term
-full-of : (m : Made) (j : ℕ) → j < length m.atoms → slice_index_or (stand_of m).atoms j no_atom ≡ built.full_atom (graph_terms m.nodes) (slice_index_or m.atoms j no_place)
+full-of : (m : BuilderModel) (j : ℕ) → j < length m.atoms → slice_index_or (stand_of m).atoms j no_atom ≡ built.full_atom (graph_terms m.nodes) (slice_index_or m.atoms j no_place)
 full-of m j h = get_index (stand_of m).atoms j (built.full_atom (graph_terms m.nodes) (slice_index_or m.atoms j no_place)) no_atom (full_at (graph_terms m.nodes) m.atoms j (slice_index_or m.atoms j no_place) (index_get m.atoms j no_place h))
 
-pub parts_problem : (bound : Option ℕ) (script : List Command) (m m1 : Made) (axes : List Axis) (root : ℕ) → IsMade m1 →
+pub parts_problem : (bound : Option ℕ) (script : List Command) (m m1 : BuilderModel) (axes : List Axis) (root : ℕ) → IsMade m1 →
     after_assertions nothing_made (claim_places script) (works script) ≡ stands (stand_of m) → after_root script (stand_of m) ≡ stands (stand_of m1) → IsFormOf m1 (atoms_in_place script) root →
     bound_fault bound script ≡ None → AreAxes (declared_interval bound script) 0 (constants_of script) axes → IsProblemOf bound script (problem_of (parts_made m1 axes root)) × (building_fault bound script ≡ None)
 parts_problem bound script m m1 axes root made e f form bounded declared = (

@@ -24,14 +24,14 @@ use Rattle.smt_script.specs.declared.command.Parameter as code_parameter
 use Rattle.term_build.specs.declared.stop.Stop.{Stop}
 use Rattle.value_build.specs.Making.{Making, Grows, Steps}
 use Rattle.value_build.specs.Values.{IsArm, is_choice, IsValue, AreValues}
-use Rattle.term_build.specs.Built.{Made}
-use Rattle.term_build.specs.Sketch.{Drawn}
+use Rattle.term_build.specs.Built.{BuilderModel}
+use Rattle.term_build.specs.Sketch.{SketchNode}
 use Rattle.term_build.specs.declared.sketch.Arm.TheVariants as arm
 use Rattle.value_build.specs.declared.value.Value.{Value}
 use Rattle.value_build.specs.declared.value.Value.TheVariants as values
 use Rattle.value_build.proofs.Growth.{value_stays}
 use Rattle.problem_build.specs.Names.{local_value, top_known, IsHead, known_of, work_names, bound_names_of, AreLocals, Knows}
-use Rattle.problem_build.specs.Reads.{as_let, let_of}
+use Rattle.problem_build.specs.LetParts.{as_let, let_of}
 use Rattle.problem_build.specs.Walking.{IsCall, IsLet, Turns, Reaches, call_work, call_bounds}
 use Rattle.problem_build.specs.declared.top.Known.{Known}
 use Rattle.problem_build.specs.declared.top.Known.TheVariants as known
@@ -45,7 +45,7 @@ use Rattle.problem_build.proofs.Turns.{turns_same, reaches_same, reaches_then}
 
 -- ---- values are not refused
 
-choice-first : (n : Made) (ds : List Drawn) (u : Unfolded) (k : ℕ) (us : List Unfolded) → IsArm n ds u (arm.Choice k) → first_fault (u ∷ us) ≡ first_fault us
+choice-first : (n : BuilderModel) (ds : List SketchNode) (u : Unfolded) (k : ℕ) (us : List Unfolded) → IsArm n ds u (arm.Choice k) → first_fault (u ∷ us) ≡ first_fault us
 choice-first n ds _ k us (is_choice e w i j) = refl
 
 pub values_free : (m : Making) (us : List Unfolded) (bs : List Bounding) (vs : List Value) → AreValues m us bs vs → first_fault us ≡ None

@@ -10,18 +10,18 @@ use Rattle.script_fault.specs.declared.fault.ReadError.{ReadError}
 use Rattle.script_fault.specs.declared.fault.ReadError.TheVariants.{Fault, Memory}
 use Rattle.script_fault.specs.declared.fault.ScriptFault.{ScriptFault}
 use Rattle.smt_sexp.specs.Lexicon.{TextRead, whole, read}
-use Rattle.smt_sexp.specs.Reads.{bytes_fault}
+use Rattle.smt_sexp.specs.TextAnswers.{bytes_fault}
 use Rattle.smt_script.specs.Commands.{CommandsRead, commands, commands_of, accepted, of_read}
-use Rattle.smt_script.specs.Told.{commands_fault}
+use Rattle.smt_script.specs.CommandAnswers.{commands_fault}
 use Rattle.smt_script.specs.Views.{commands_in}
 use Rattle.smt_script.specs.declared.command.Script.{Script}
 use Rattle.sort_check.specs.Sorts.{sort_fault}
-use Rattle.sort_check.specs.Told.{finding_fault}
+use Rattle.sort_check.specs.SortAnswers.{finding_fault}
 use Rattle.script_forms.specs.ProblemOf.{AreAxes, IsProblemOf}
 use Rattle.script_forms.specs.Walk.{building_fault}
 use Rattle.poly_graph.specs.Problem.{Axis}
 use Rattle.poly_graph.specs.ProblemViews.{Parts, problem_of, IsWhole}
-use Rattle.problem_build.specs.Told.{IsBuildingError, IsLean}
+use Rattle.problem_build.specs.BuildAnswers.{IsBuildingError, IsLean}
 use Rattle.problem_build.proofs.Few.{few_constants}
 use Rattle.script_faults.specs.Faults.{script_fault, in_text, in_commands, in_sorts, in_building, most_bytes}
 use Rattle.script_faults.proofs.Parts.{bytes_first, commands_first, sorts_first}

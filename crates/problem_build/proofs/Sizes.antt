@@ -10,7 +10,7 @@ use Rattle.term_build.proofs.Emits.{stands_on}
 use Rattle.value_build.proofs.Sizes.{emits_size, reached_size}
 use Rattle.value_build.specs.Making.{Grows, Making, Steps}
 use Rattle.value_build.specs.declared.value.Value.{Value}
-use Rattle.problem_build.specs.Walking.{Goes, GoesReached}
+use Rattle.problem_build.specs.Walking.{WorkStep, ReachedWorkStep}
 use Rattle.problem_build.specs.declared.top.Top.{Top}
 use Rattle.problem_build.specs.declared.frames.Next.{Next}
 use Rattle.problem_build.specs.declared.frames.Next.TheVariants as next
@@ -48,11 +48,11 @@ numbers-back most a d x j k h g e = omega arith
 
 module _ (m m1 : Making) (s : arena.Sexps) (top : List Top) (w : Work) (b : Bounding) (n : Next) where
   -- an expression is entered, where the stack got no higher than what was to be done allowed
-  pub enter_falls : (old : Next) (j k : ℕ) → 2 * j ≤ 2 * k + weight old → GoesReached m m1 s top w b n → left m1 j n < left m k old
+  pub enter_falls : (old : Next) (j k : ℕ) → 2 * j ≤ 2 * k + weight old → ReachedWorkStep m m1 s top w b n → left m1 j n < left m k old
   enter_falls old j k i h = let one = reach-size m h.middle tt h.reach in
       numbers-reached most_size m.made.size h.middle.made.size m1.made.size (weight n) (weight old) j k one.0 one.1
       (steps-size (λ (x : Unit {0}). Unit {0}) h.middle m1 h.goes.done (tt {0}) h.goes.steps) (weight-most n) i
 
   -- the last frame goes on with a value
-  pub resume_falls : (v : Value) (j k : ℕ) → j ≡ k + 1 → Goes m m1 s top w b n → left m1 k n < left m j (next.Back v)
+  pub resume_falls : (v : Value) (j k : ℕ) → j ≡ k + 1 → WorkStep m m1 s top w b n → left m1 k n < left m j (next.Back v)
   resume_falls v j k e h = numbers-back most_size m.made.size m1.made.size (weight n) j k (steps-size (λ (x : Unit {0}). Unit {0}) m m1 h.done (tt {0}) h.steps) (weight-most n) e

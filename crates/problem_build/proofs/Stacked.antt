@@ -12,7 +12,7 @@ use Rattle.value_build.specs.Making.{Making, Grows, Steps}
 use Rattle.value_build.specs.Values.{IsValue}
 use Rattle.value_build.specs.declared.value.Value.{Value}
 use Rattle.value_build.proofs.Growth.{steps_then, steps_none, values_stay}
-use Rattle.problem_build.specs.Walking.{Fails, Waits, KnowsValues, Enters, Leaves, Goes, GoesReached, Reaches, ReachesMeaning}
+use Rattle.problem_build.specs.Walking.{Fails, Waits, KnowsValues, Enters, Leaves, WorkStep, ReachedWorkStep, Reaches, ReachesMeaning}
 use Rattle.problem_build.specs.declared.top.Top.{Top}
 use Rattle.problem_build.specs.declared.frames.Scope.{Scope}
 use Rattle.problem_build.specs.declared.frames.Frame.{Frame}
@@ -106,7 +106,7 @@ pub keeps_values : (m : Making) (s : arena.Sexps) (top : List Top) (f : Frame) (
 keeps_values m s top (frame.Call c) u d w b h = (map outcome_of h.done, h.bounded, h.values)
 keeps_values m s top (frame.Let l x) u d w b h = tt
 
-pub goes_reached : (m m1 : Making) (s : arena.Sexps) (top : List Top) (w : Work) (b : Bounding) (n : Next) → GoesReached m m1 s top w b n → Goes m m1 s top w b n
+pub goes_reached : (m m1 : Making) (s : arena.Sexps) (top : List Top) (w : Work) (b : Bounding) (n : Next) → ReachedWorkStep m m1 s top w b n → WorkStep m m1 s top w b n
 goes_reached m m1 s top w b n h = record {
   done = reached ∷ h.goes.done;
   left = h.goes.left;
@@ -134,7 +134,7 @@ module _ (s : arena.Sexps) (top : List Top) (whole : Work) (bound : Bounding) wh
     events = sym (append-nil whole.events);
   }
 
-  pub within_goes : (InHand : Work → Bounding → Type 0) (start now new : Making) (stack : List Frame) (n : Next) (h : Within InHand start now s top stack whole bound) → Goes now new s top h.here h.held n →
+  pub within_goes : (InHand : Work → Bounding → Type 0) (start now new : Making) (stack : List Frame) (n : Next) (h : Within InHand start now s top stack whole bound) → WorkStep now new s top h.here h.held n →
       Within (Leaves new s top n) start new s top stack whole bound
   within_goes InHand start now new stack n h g = record {
     done = h.done ++ g.done;

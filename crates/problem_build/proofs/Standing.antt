@@ -33,7 +33,7 @@ use Rattle.value_build.specs.declared.value.Value.{Value}
 use Rattle.value_build.proofs.Growth.{lists_stay, lists_on}
 use Rattle.problem_build.specs.Names.{known_of, entry_of, top_names, work_names, bound_names_of, KnownFits, TopFits}
 use Rattle.problem_build.specs.Standing.{IsAsserted, Asserts, AreClaims, left_works, left_bounds, boundings, walk_of, Stands, IsDone}
-use Rattle.problem_build.specs.Walking.{Fails, Gives}
+use Rattle.problem_build.specs.Walking.{Fails, IsWorkValue}
 use Rattle.problem_build.proofs.Steps.{fails_on}
 use Rattle.problem_build.specs.declared.top.Known.TheVariants as known
 use Rattle.problem_build.specs.declared.top.Top.{Top}
@@ -217,7 +217,7 @@ ends s script rest m top axis made none h0 =
 
 -- ---- an assertion
 
-pub asserts_claim : (m m1 m2 : Making) (w : Work) (b : Bounding) (v : Value) (r : Result (ℕ × ℕ) Stop) → Gives m m1 w b (Ok v) → Claims m1 m2 v r → Asserts m m2 w b r
+pub asserts_claim : (m m1 m2 : Making) (w : Work) (b : Bounding) (v : Value) (r : Result (ℕ × ℕ) Stop) → IsWorkValue m m1 w b (Ok v) → Claims m1 m2 v r → Asserts m m2 w b r
 asserts_claim m m1 m2 w b v r h c =
     emits_then (λ (x : Value). Grows m m1 × IsValue m1 w.outcome b x) (IsAsserted m m2 w b) m.made m1.made m2.made w.events (form_events (truth_of w.outcome)) v r h
     (emits_more (IsClaimed m1 m2 w.outcome b) (IsAsserted m m2 w b) m1.made m2.made (form_events (truth_of w.outcome)) r (λ x d. record {

@@ -12,7 +12,7 @@ use Rattle.value_build.specs.Making.{Making, Steps}
 use Rattle.value_build.specs.Values.{IsValue}
 use Rattle.value_build.specs.declared.value.Value.{Value}
 use Rattle.value_build.proofs.Growth.{steps_none}
-use Rattle.problem_build.specs.Walking.{Fails, IsIll, returned, Leaves, Goes, Turns, Reaches}
+use Rattle.problem_build.specs.Walking.{Fails, IsIll, returned, Leaves, WorkStep, Turns, Reaches}
 use Rattle.problem_build.specs.declared.top.Top.{Top}
 use Rattle.problem_build.specs.declared.frames.Next.{Next}
 use Rattle.problem_build.proofs.Steps.{steps_ill, fails_on, fails_then}
@@ -21,7 +21,7 @@ module _ (s : arena.Sexps) (top : List Top) where
   -- ---- turns
 
   -- nothing is done yet
-  pub goes_none : (m : Making) (w : Work) (b : Bounding) (n : Next) → Leaves m s top n w b → Goes m m s top w b n
+  pub goes_none : (m : Making) (w : Work) (b : Bounding) (n : Next) → Leaves m s top n w b → WorkStep m m s top w b n
   goes_none m w b n h = record {
     done = [];
     left = w;
@@ -46,8 +46,8 @@ module _ (s : arena.Sexps) (top : List Top) where
   -- the same work, by its parts
   pub turns_same : (m m1 : Making) (w w' : Work) (b b' : Bounding) (r : Result Next Stop) → w.events ≡ w'.events → w.outcome ≡ w'.outcome → b ≡ b' → Turns m m1 s top w' b' r → Turns m m1 s top w b r
   turns_same m m1 w w' b b' (Ok n) e o f h =
-      let goes : Goes m m1 s top w b' n = record { done = h.done; left = h.left; steps = h.steps; leaves = h.leaves; events = e ∙ h.events; outcome = o ∙ h.outcome } in
-      subst (λ (x : Bounding). Goes m m1 s top w x n) (sym f) goes
+      let goes : WorkStep m m1 s top w b' n = record { done = h.done; left = h.left; steps = h.steps; leaves = h.leaves; events = e ∙ h.events; outcome = o ∙ h.outcome } in
+      subst (λ (x : Bounding). WorkStep m m1 s top w x n) (sym f) goes
   turns_same m m1 w w' b b' (Err x) e o f h = subst (λ (es : List Event). Fails m es x) (sym e) h
 
   -- ---- turns of an expression that is reached

@@ -6,7 +6,7 @@ use Rattle.poly_graph.specs.Form.{Form}
 use Rattle.poly_graph.specs.FormGraph.{FormNode, yes_node, no_node, atom_node, bool_node, all_node, any_node, form_at, picked, node_form, forms_after, graph_forms}
 use Rattle.poly_graph.specs.Problem.{Axis, IsDeclared, IsForm, AreForms, IsNode, sorts_of_axes}
 use Rattle.poly_graph.specs.ProblemViews.{IsWhole}
-use Rattle.term_build.specs.Built.{Made, IsMade, IsFormNode}
+use Rattle.term_build.specs.Built.{BuilderModel, IsMade, IsFormNode}
 use Rattle.term_build.proofs.Lists.{all_head, all_tail}
 use Rattle.problem_build.specs.Laws.{parts_made}
 
@@ -39,7 +39,7 @@ module _ (sorts : List Sort) (n : ℕ) where
   pub forms_good : (ds : List FormNode) → All (IsFormNode sorts n) ds → (k : ℕ) → IsForm sorts n (form_at (graph_forms ds) k)
   forms_good ds h = after-good ds [] (λ k. tt) h
 
-pub whole : (m : Made) (axes : List Axis) (root : ℕ) → IsMade m → All (λ (a : Axis). IsDeclared a.declared) axes → sorts_of_axes axes ≡ m.sorts → root < length m.forms → IsWhole (parts_made m axes root)
+pub whole : (m : BuilderModel) (axes : List Axis) (root : ℕ) → IsMade m → All (λ (a : Axis). IsDeclared a.declared) axes → sorts_of_axes axes ≡ m.sorts → root < length m.forms → IsWhole (parts_made m axes root)
 whole m axes root made bounds sorts below = record {
   problem = record {
     bounds = bounds;

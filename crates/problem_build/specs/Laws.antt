@@ -11,7 +11,7 @@ use Rattle.script_forms.specs.ProblemOf.{AreAxes, IsProblemOf}
 use Rattle.script_forms.specs.Walk.{stands, nothing_made, claim_places, works, after_assertions, after_root, unfolds_not, building_fault}
 use Rattle.script_faults.specs.Reader.{IsBuilt}
 use Rattle.sort_check.specs.Sorts.{sort_fault}
-use Rattle.term_build.specs.Built.{Made, stand_of, IsMade}
+use Rattle.term_build.specs.Built.{BuilderModel, stand_of, IsMade}
 use Rattle.term_build.specs.Sketch.{IsFormOf}
 
 -- A well-sorted script meets no expression without a sort.
@@ -19,13 +19,13 @@ abbrev pub SortedIsSound : Type 0
 SortedIsSound = (bound : Option ℕ) (script : List Command) → sort_fault script ≡ None → (at place : Place) → building_fault bound script ≡ Some (at, unfolds_not (ill_formed place)) → ⊥
 
 -- the parts of a problem that a builder made, with these axes, the form's root being this node
-abbrev pub parts_made : Made → List Axis → ℕ → Parts
+abbrev pub parts_made : BuilderModel → List Axis → ℕ → Parts
 parts_made m axes root = record { axes = axes; nodes = m.nodes; atoms = m.atoms; forms = m.forms; root = root }
 
 -- Where a builder walked over all assertions of a script, and then made its form as this node, its parts are the
 -- script's problem, if the axes are those that the script declares and no bound has a fault.
 abbrev pub PartsAreProblem : Type 0
-PartsAreProblem = (bound : Option ℕ) (script : List Command) (m m1 : Made) (axes : List Axis) (root : ℕ) → IsMade m1 →
+PartsAreProblem = (bound : Option ℕ) (script : List Command) (m m1 : BuilderModel) (axes : List Axis) (root : ℕ) → IsMade m1 →
     after_assertions nothing_made (claim_places script) (works script) ≡ stands (stand_of m) → after_root script (stand_of m) ≡ stands (stand_of m1) → IsFormOf m1 (atoms_in_place script) root →
     bound_fault bound script ≡ None → AreAxes (declared_interval bound script) 0 (constants_of script) axes → IsProblemOf bound script (problem_of (parts_made m1 axes root)) × (building_fault bound script ≡ None)
 

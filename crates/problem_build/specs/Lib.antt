@@ -1,7 +1,7 @@
 pub mod Laws
 pub mod Names
-pub mod Reads
+pub mod LetParts
 pub mod Roots
 pub mod Standing
-pub mod Told
+pub mod BuildAnswers
 pub mod Walking

@@ -16,7 +16,7 @@ use Rattle.term_build.specs.declared.stop.Stop.{Stop}
 use Rattle.value_build.specs.Making.{Making, MoreLists}
 use Rattle.value_build.specs.Values.{IsClaim}
 use Rattle.problem_build.specs.Names.{work_names, bound_names_of, TopFits}
-use Rattle.problem_build.specs.Told.{IsBuildingError, found_by}
+use Rattle.problem_build.specs.BuildAnswers.{IsBuildingError, found_by}
 use Rattle.script_fault.specs.declared.fault.ReadError.{ReadError}
 use Rattle.problem_build.specs.declared.top.Top.{Top}
 
@@ -77,9 +77,9 @@ pub record IsNext (s : arena.Sexps) (c : Command) (m : Making) (top : List Top) 
   pub stand : Stands s script (c ∷ rest) m top axis made
 
 -- behind a command the walk stands so, or the script has this fault
-abbrev pub Goes : arena.Sexps → List Command → List Command → Making → List Top → List (ℕ × ℕ) → Result ℕ ReadError → Type 0
-Goes s script rest m top made (Ok axis) = Stands s script rest m top axis made
-Goes s script rest m top made (Err e) = IsBuildingError e (found_by (walk_of script))
+abbrev pub CommandStep : arena.Sexps → List Command → List Command → Making → List Top → List (ℕ × ℕ) → Result ℕ ReadError → Type 0
+CommandStep s script rest m top made (Ok axis) = Stands s script rest m top axis made
+CommandStep s script rest m top made (Err e) = IsBuildingError e (found_by (walk_of script))
 
 -- all assertions of a script are done
 pub record IsDone (script : List Command) (m : Making) (made : List (ℕ × ℕ)) : Type 0 where

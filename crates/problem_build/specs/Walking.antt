@@ -40,8 +40,8 @@ abbrev pub Fails : Making → List Event → Stop → Type 0
 Fails m es e = (claim : Place) → StopsAs claim (after_events claim (stand_of m.made) es) e
 
 -- the work is done, and what is answered is its value
-abbrev pub Gives : Making → Making → Work → Bounding → Result Value Stop → Type 0
-Gives old new w b r = Steps old new w.events r (IsValue new w.outcome b)
+abbrev pub IsWorkValue : Making → Making → Work → Bounding → Result Value Stop → Type 0
+IsWorkValue old new w b r = Steps old new w.events r (IsValue new w.outcome b)
 
 -- an expression without a sort
 abbrev pub IsIll : {X : Type 0} → code.Place → Result X Stop → Type 0
@@ -167,7 +167,7 @@ Leaves m s top (next.Wait f scope at) w b = EntersWithin m s top f scope at w b
 -- ---- a turn of the walk
 
 -- some of the work is done, and the rest is left
-pub record Goes (old new : Making) (s : arena.Sexps) (top : List Top) (w : Work) (b : Bounding) (n : Next) : Type 0 where
+pub record WorkStep (old new : Making) (s : arena.Sexps) (top : List Top) (w : Work) (b : Bounding) (n : Next) : Type 0 where
   pub done : List Event
   pub left : Work
   pub steps : Steps {X = Unit {0}} old new done (Ok tt) (λ _. Unit {0})
@@ -176,20 +176,20 @@ pub record Goes (old new : Making) (s : arena.Sexps) (top : List Top) (w : Work)
   pub outcome : w.outcome ≡ left.outcome
 
 abbrev pub Turns : Making → Making → arena.Sexps → List Top → Work → Bounding → Result Next Stop → Type 0
-Turns old new s top w b (Ok n) = Goes old new s top w b n
+Turns old new s top w b (Ok n) = WorkStep old new s top w b n
 Turns old new s top w b (Err e) = Fails old w.events e
 
 -- an expression is reached, some of its work is done, and the rest is left
-pub record GoesReached (old new : Making) (s : arena.Sexps) (top : List Top) (w : Work) (b : Bounding) (n : Next) : Type 0 where
+pub record ReachedWorkStep (old new : Making) (s : arena.Sexps) (top : List Top) (w : Work) (b : Bounding) (n : Next) : Type 0 where
   pub middle : Making
   pub after : Work
   pub reach : Steps {X = Unit {0}} old middle (reached ∷ []) (Ok tt) (λ _. Unit {0})
-  pub goes : Goes middle new s top after b n
+  pub goes : WorkStep middle new s top after b n
   pub events : w.events ≡ reached ∷ after.events
   pub outcome : w.outcome ≡ after.outcome
 
 abbrev pub Reaches : Making → Making → arena.Sexps → List Top → Work → Bounding → Result Next Stop → Type 0
-Reaches old new s top w b (Ok n) = GoesReached old new s top w b n
+Reaches old new s top w b (Ok n) = ReachedWorkStep old new s top w b n
 Reaches old new s top w b (Err e) = Fails old w.events e
 
 -- the same of both meanings of what is read in a scope, where its names stand for what they do

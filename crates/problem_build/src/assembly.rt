@@ -6,7 +6,7 @@ ghost use Rattle.poly_graph.specs.ProblemViews.{axis_of};
 ghost use Rattle.term_build.specs.Shapes.{AreNumbers};
 ghost use Rattle.problem_build.specs.Laws.{parts_made};
 ghost use Rattle.problem_build.specs.Roots.{Roots};
-ghost use Rattle.problem_build.specs.Told.{IsLean};
+ghost use Rattle.problem_build.specs.BuildAnswers.{IsLean};
 
 use poly_graph::{Axis, FormNode, Problem};
 use term_build::{Builder, Stop};

@@ -6,7 +6,7 @@ ghost use Rattle.smt_script.specs.Views.{command_of, commands_in};
 ghost use Rattle.sort_check.specs.Sorts.{sort_fault};
 ghost use Rattle.value_build.specs.Making.{beginning};
 ghost use Rattle.problem_build.specs.Names.{TopFits, bounding_at, work_at};
-ghost use Rattle.problem_build.specs.Standing.{Asserts, Does, Goes, IsNext, Stands};
+ghost use Rattle.problem_build.specs.Standing.{Asserts, Does, CommandStep, IsNext, Stands};
 
 use crate::fault::building_error;
 use crate::top::{Known, Top, TopTable};
@@ -50,7 +50,7 @@ fn step<'p, 'a>(
     ensures { (script rest : List model.Command) →
         Stands sexps.now script (command_of sexps.now command.now ∷ rest)
         maker.old top.old axis claims.old.items →
-        Goes sexps.now script rest maker.new top.new claims.new.items result }
+        CommandStep sexps.now script rest maker.new top.new claims.new.items result }
 {
     match command {
         Command::Declare(_, name, sort) => {

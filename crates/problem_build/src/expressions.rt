@@ -8,7 +8,7 @@ ghost use Rattle.smt_sexp.specs.Arena.{expression_at, rest_of};
 ghost use Rattle.smt_sexp.specs.Views.{place_of};
 ghost use Rattle.smt_sexp.specs.declared.sexps.Sexps as arena;
 ghost use Rattle.problem_build.specs.Names.{TopFits};
-ghost use Rattle.problem_build.specs.Reads.{as_let, let_of};
+ghost use Rattle.problem_build.specs.LetParts.{as_let, let_of};
 ghost use Rattle.problem_build.specs.Walking.{Reaches, ReachesMeaning};
 ghost use Rattle.problem_build.specs.declared.top.Top.{Top};
 

@@ -3,7 +3,7 @@ ghost use Rattle.std.specs.Prelude.{◌≡◌};
 ghost use Rattle.script_forms.specs.Walk.{Walked};
 ghost use Rattle.smt_sexp.specs.Views.{place_of};
 ghost use Rattle.term_build.specs.Does.{StopsAs};
-ghost use Rattle.problem_build.specs.Told.{IsBuildingError, builder_kind, found_by};
+ghost use Rattle.problem_build.specs.BuildAnswers.{IsBuildingError, builder_kind, found_by};
 
 use script_fault::{FaultKind, Place, ReadError};
 use term_build::{Fault, Stop};

@@ -2,7 +2,7 @@
 ghost use Rattle.std.specs.Prelude.{◌≡◌, is_some};
 ghost use Rattle.script_model.specs.Reading.{bound_names};
 ghost use Rattle.smt_sexp.specs.Arena.{rest_of};
-ghost use Rattle.problem_build.specs.Reads.{FindsLet};
+ghost use Rattle.problem_build.specs.LetParts.{FindsLet};
 
 use smt_sexp::{Seen, Sexps};
 use sort_check::{behind, binding, ends};

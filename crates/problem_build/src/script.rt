@@ -9,7 +9,7 @@ ghost use Rattle.sort_check.specs.Sorts.{sort_fault};
 ghost use Rattle.declared_box.specs.Axes.{constant_of};
 ghost use Rattle.problem_build.specs.Standing.{IsDone};
 ghost use Rattle.script_faults.specs.Reader.{AreLowest, IsInWalkOrder};
-ghost use Rattle.problem_build.specs.Told.{Builds, IsLean};
+ghost use Rattle.problem_build.specs.BuildAnswers.{IsBuildAnswer, IsLean};
 
 use crate::assembly::{assemble, root_form};
 use crate::commands::claims;
@@ -98,7 +98,7 @@ fn finish(
 ) -> Result<Problem, ReadError>
     requires done { IsDone (commands_in script.now) maker made.now }
     requires sorted { sort_fault (commands_in script.now) ≡ None }
-    ensures builds { Builds bound (commands_in script.now) result }
+    ensures builds { IsBuildAnswer bound (commands_in script.now) result }
     ensures lean { IfOk result (λ p. IsLean p) }
     ensures order { IfOk result (λ p. IsInWalkOrder (commands_in script.now) p.nodes) }
     ensures ends { IfOk result (λ p. All (λ a. AreLowest a.declared) p.axes) }
@@ -122,7 +122,7 @@ fn finish(
 ///
 /// The first fault of its building: of the walk over its assertions, in order, then of the bounds, axis by axis.
 pub fn build(alloc: Global, typed: Typed<'_>, bound: Option<u32>) -> Result<Problem, ReadError>
-    ensures builds { Builds bound (commands_in typed.entry.script) result }
+    ensures builds { IsBuildAnswer bound (commands_in typed.entry.script) result }
     ensures lean { IfOk result (λ p. IsLean p) }
     ensures order { IfOk result (λ p. IsInWalkOrder (commands_in typed.entry.script) p.nodes) }
     ensures ends { IfOk result (λ p. All (λ a. AreLowest a.declared) p.axes) }

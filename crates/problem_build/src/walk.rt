@@ -2,7 +2,7 @@
 // the values of parts stands on a stack on the heap, so that calls may nest as deep as there is memory.
 ghost use Rattle.std.specs.Prelude.{◌≡◌};
 ghost use Rattle.problem_build.specs.Names.{TopFits, bounding_at, work_at};
-ghost use Rattle.problem_build.specs.Walking.{Gives};
+ghost use Rattle.problem_build.specs.Walking.{IsWorkValue};
 
 use crate::expressions::enter;
 use crate::frames::{Frame, Next, Scope, resume};
@@ -21,7 +21,7 @@ pub(crate) fn expression<'p, 'a>(
     at: usize,
 ) -> Result<Value, Stop>
     requires { TopFits maker.old.made.sorts top.now }
-    ensures walks { Gives maker.old maker.new
+    ensures walks { IsWorkValue maker.old maker.new
         (work_at sexps.now top.now at) (bounding_at sexps.now top.now at) result }
     ensures sorts { maker.new.made.sorts ≡ maker.old.made.sorts }
 {

@@ -3,11 +3,11 @@ use Rattle.std.proofs.Common.{◌≡◌, ℕ, List, Bool, true, false, cond, nat
 use Rattle.script_model.specs.Script.{Command}
 use Rattle.script_fault.specs.declared.fault.ScriptFault.{ScriptFault}
 use Rattle.smt_sexp.specs.Lexicon.{TextRead, whole, faulty, read}
-use Rattle.smt_sexp.specs.Reads.{bytes_fault, most_bytes, text_fault, too_many_bytes}
+use Rattle.smt_sexp.specs.TextAnswers.{bytes_fault, most_bytes, text_fault, too_many_bytes}
 use Rattle.smt_script.specs.Commands.{CommandsRead, commands, command_fault}
-use Rattle.smt_script.specs.Told.{commands_fault}
+use Rattle.smt_script.specs.CommandAnswers.{commands_fault}
 use Rattle.sort_check.specs.Sorts.{Finding}
-use Rattle.sort_check.specs.Told.{finding_fault}
+use Rattle.sort_check.specs.SortAnswers.{finding_fault}
 use Rattle.script_faults.specs.Faults.{in_text, in_commands, in_sorts, script_fault}
 
 pub text_first : (bound : Option ℕ) (r : TextRead) (x : ScriptFault) → text_fault r ≡ Some x → in_text bound r ≡ Some x

@@ -2,7 +2,7 @@
 use Rattle.std.proofs.Common.{◌≡◌, ℕ, List, [], ◌++◌, Some, None, codes, refl}
 use Rattle.script_model.specs.Sexp.{Place}
 use Rattle.script_fault.specs.declared.fault.FaultKind.TheVariants.{Unbalanced, NumberTooWide, UnknownSymbol, DivisorNotConstant, ZeroDivisor, NoBound, BoundTooWide, NoCheck, LeftOut}
-use Rattle.smt_sexp.specs.Reads.{fault_at}
+use Rattle.smt_sexp.specs.TextAnswers.{fault_at}
 use Rattle.script_faults.specs.Faults.{script_fault}
 
 abbrev at : ℕ → ℕ → Place

@@ -8,12 +8,12 @@ use Rattle.script_fault.specs.declared.fault.FaultKind.TheVariants.{NumberTooWid
 use Rattle.script_fault.specs.declared.fault.ScriptFault.{ScriptFault}
 use Rattle.script_fault.specs.declared.limit.Limit.TheVariants.{Size, Nodes, Atoms, Forms}
 use Rattle.smt_sexp.specs.Lexicon.{TextRead, whole, faulty, read}
-use Rattle.smt_sexp.specs.Reads.{fault_at, text_kind, too_many_bytes}
-pub use Rattle.smt_sexp.specs.Reads.{most_bytes}
+use Rattle.smt_sexp.specs.TextAnswers.{fault_at, text_kind, too_many_bytes}
+pub use Rattle.smt_sexp.specs.TextAnswers.{most_bytes}
 use Rattle.smt_script.specs.Commands.{CommandsRead, commands, command_fault, commands_of}
-use Rattle.smt_script.specs.Told.{command_kind}
+use Rattle.smt_script.specs.CommandAnswers.{command_kind}
 use Rattle.sort_check.specs.Sorts.{Finding, sort_fault}
-use Rattle.sort_check.specs.Told.{sort_kind}
+use Rattle.sort_check.specs.SortAnswers.{sort_kind}
 use Rattle.script_forms.specs.Terms as terms
 use Rattle.script_forms.specs.Terms.{Fault}
 use Rattle.script_forms.specs.Walk as walk

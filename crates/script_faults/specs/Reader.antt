@@ -6,7 +6,7 @@ use Rattle.poly_graph.specs.Problem.{Axis, Declared, real_between, any_bool, Pro
 use Rattle.poly_graph.specs.Shared.{IsGraph}
 use Rattle.poly_graph.specs.Term.{Term, Node, graph_terms}
 use Rattle.script_model.specs.Script.{Command}
-pub use Rattle.smt_sexp.specs.Reads.{too_many_bytes}
+pub use Rattle.smt_sexp.specs.TextAnswers.{too_many_bytes}
 use Rattle.smt_script.specs.Commands.{script_of}
 use Rattle.script_forms.specs.ProblemOf.{IsProblemOf}
 use Rattle.script_forms.specs.Walk.{Walked, stands, stops, walked}

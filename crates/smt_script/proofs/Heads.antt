@@ -8,7 +8,7 @@ use Rattle.smt_script.specs.Commands.{Before, fails, left_out, Said, says, Word,
 use Rattle.smt_sexp.specs.Lexicon.{read, whole}
 use Rattle.smt_script.specs.Forms.{as_symbol}
 use Rattle.smt_script.specs.Run.{by_first, with_first, with_front}
-use Rattle.smt_script.specs.Told.{said_fault, commands_fault}
+use Rattle.smt_script.specs.CommandAnswers.{said_fault, commands_fault}
 use Rattle.script_fault.specs.declared.fault.ScriptFault.{ScriptFault}
 use Rattle.smt_script.proofs.Shapes.{by_one}
 

@@ -11,7 +11,7 @@ use Rattle.smt_script.specs.Commands.{Said, by_word, one_command, says}
 use Rattle.smt_script.specs.Forms.{as_any, as_symbol}
 use Rattle.smt_script.specs.Run.{GivesNext, after_word, before_of}
 use Rattle.smt_script.specs.Shapes.{asserts_term, at_last, declares_function_name, declares_name, defines_name, sets_name}
-use Rattle.smt_script.specs.Told.{Gives, with_set}
+use Rattle.smt_script.specs.CommandAnswers.{IsCommandAnswer, with_set}
 use Rattle.smt_script.specs.Views.{command_of, word_of}
 use Rattle.smt_script.specs.declared.command.Command.{Command}
 use Rattle.smt_script.specs.declared.reading.Before.{Before}
@@ -24,15 +24,15 @@ GivesGroup s before place inside r = GivesNext s (place_of place) r (one_command
 -- the command of this word at its arguments, where a logic is set already or is not
 abbrev pub GivesByWord : Sexps → Bool → Word → Place → ℕ → Result Command ReadError → Type 0
 GivesByWord s is_set word place at r = (b : defined.Before) → b.logic ≡ is_set →
-    Gives s (after_word (word_of word) b) (place_of place) r (by_word b (place_of place) (word_of word) (rest_of s at))
+    IsCommandAnswer s (after_word (word_of word) b) (place_of place) r (by_word b (place_of place) (word_of word) (rest_of s at))
 
 abbrev pub GivesLogic : Sexps → Bool → Place → ℕ → Result Command ReadError → Type 0
 GivesLogic s is_set place at r = (b : defined.Before) → b.logic ≡ is_set →
-    Gives s (with_set b) (place_of place) r (sets_name b (place_of place) (as_symbol (rest_of s at)))
+    IsCommandAnswer s (with_set b) (place_of place) r (sets_name b (place_of place) (as_symbol (rest_of s at)))
 
 -- what is said, whatever comes before the command
 abbrev pub GivesAfterAny : Sexps → Place → (defined.Before → Said) → Result Command ReadError → Type 0
-GivesAfterAny s place said r = (b : defined.Before) → Gives s b (place_of place) r (said b)
+GivesAfterAny s place said r = (b : defined.Before) → IsCommandAnswer s b (place_of place) r (said b)
 
 -- this command, where nothing is left
 abbrev pub said_alone : Sexps → ℕ → Command → defined.Before → Said

@@ -4,5 +4,5 @@ pub mod Forms
 pub mod Views
 pub mod Words
 pub mod Shapes
-pub mod Told
+pub mod CommandAnswers
 pub mod Run

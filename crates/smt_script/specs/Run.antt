@@ -10,7 +10,7 @@ use Rattle.smt_script.specs.Commands.{Said, says, fails, bad_command, by_head, c
 use Rattle.smt_script.specs.Forms.{Behind}
 use Rattle.script_fault.specs.Answers.{IsFaultOrMemory}
 use Rattle.script_fault.specs.declared.fault.ReadError.{ReadError}
-use Rattle.smt_script.specs.Told.{said_fault, commands_fault, with_set}
+use Rattle.smt_script.specs.CommandAnswers.{said_fault, commands_fault, with_set}
 use Rattle.smt_script.specs.Views.{command_of}
 use Rattle.smt_script.specs.declared.reading.Before.{Before}
 use Rattle.smt_script.specs.declared.command.Command.{Command}

@@ -2,7 +2,7 @@
 ghost use Rattle.std.specs.Prelude.{◌≡◌, IfOk};
 ghost use Rattle.smt_sexp.specs.Arena.{rest_of};
 ghost use Rattle.smt_script.specs.Commands.{arguments, parameters};
-ghost use Rattle.smt_script.specs.Told.{FindsForm, FindsShape, arguments_of, parameters_of};
+ghost use Rattle.smt_script.specs.CommandAnswers.{FindsForm, FindsShape, arguments_of, parameters_of};
 
 use crate::command::Parameter;
 use crate::forms::{any, ends, group, symbol};

@@ -5,7 +5,7 @@ ghost use Rattle.smt_sexp.specs.Arena.{listed, rest_of};
 ghost use Rattle.smt_script.specs.Calls.{GivesAfterAny, GivesByWord, GivesGroup, GivesLogic, assertion_said, constant_said, definition_said, function_said, said_alone};
 ghost use Rattle.smt_script.specs.Commands as defined;
 ghost use Rattle.smt_script.specs.Commands.{by_word, commands_of, may_follow};
-ghost use Rattle.smt_script.specs.Told.{Reads};
+ghost use Rattle.smt_script.specs.CommandAnswers.{IsScriptAnswer};
 ghost use Rattle.smt_script.specs.Run.{Steps, after_word, before_of};
 ghost use Rattle.smt_script.specs.Views.{word_of};
 
@@ -27,7 +27,7 @@ pub(crate) struct Before {
 
 /// The commands of the expressions of a text, or their first fault.
 pub fn commands(alloc: Global, sexps: &Sexps) -> Result<Script<'_>, ReadError>
-    ensures { Reads sexps.now result (commands_of (listed (rest_of sexps.now 0))) }
+    ensures { IsScriptAnswer sexps.now result (commands_of (listed (rest_of sexps.now 0))) }
 {
     let mut commands = Vec::new(alloc);
     let mut before = Before {

@@ -7,7 +7,7 @@ use Rattle.script_fault.specs.Answers.{IsFaultOrMemory}
 use Rattle.script_fault.specs.declared.fault.ReadError.{ReadError}
 use Rattle.script_fault.specs.declared.fault.ReadError.TheVariants.{Fault, Memory}
 use Rattle.smt_sexp.specs.Lexicon.{read}
-use Rattle.smt_sexp.specs.Reads.{HasExpressions, Reads, bytes_fault, most_bytes, text_fault, too_many_bytes}
+use Rattle.smt_sexp.specs.TextAnswers.{HasExpressions, IsTextAnswer, bytes_fault, most_bytes, text_fault, too_many_bytes}
 use Rattle.smt_sexp.specs.declared.sexps.Sexps as code
 
 not-few : (n m : ℕ) → m < n → nat_le n m ≡ false
@@ -19,7 +19,7 @@ fault_of_many bytes many = ap (λ (b : Bool). cond b (text_fault (read bytes)) (
 fault-of-text : (bytes : List ℕ) → length bytes ≤ most_bytes → bytes_fault bytes ≡ text_fault (read bytes)
 fault-of-text bytes few = ap (λ (b : Bool). cond b (text_fault (read bytes)) (Some too_many_bytes)) (le-leb (length bytes) most_bytes few)
 
-pub reads_bytes : (bytes : List ℕ) (r : Result code.Sexps ReadError) → length bytes ≤ most_bytes → Reads r (read bytes) →
+pub reads_bytes : (bytes : List ℕ) (r : Result code.Sexps ReadError) → length bytes ≤ most_bytes → IsTextAnswer r (read bytes) →
     MatchResult r (λ s. HasExpressions bytes s) (λ e. IsFaultOrMemory e (bytes_fault bytes))
 reads_bytes bytes (Ok s) few h = record { few = few; text = h }
 reads_bytes bytes (Err (Fault f)) few h = fault-of-text bytes few ∙ h

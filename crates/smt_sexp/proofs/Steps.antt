@@ -6,7 +6,7 @@ use Rattle.std.proofs.lemmas.Bool.{false≢true}
 use Rattle.std.proofs.lemmas.Bool.Decides.{nat_tests}
 use Rattle.script_model.specs.Sexp.{Place, Leaf, Sexp, leaf}
 use Rattle.smt_sexp.specs.Lexicon.{Said, token, fault, opening, closing, word, TextFault, bad_byte, open_token, too_wide, too_deep, unbalanced, front, place_after, placed, sayings, Unclosed, TextRead, whole, faulty, put, expressions, end_of_text, list_of, is_exit}
-use Rattle.smt_sexp.specs.Found.{front_of, Stops, at_once, after_leaf}
+use Rattle.smt_sexp.specs.FrontOf.{front_of, FirstFault, at_once, after_leaf}
 use Rattle.smt_sexp.specs.Arena.{bead_of, items_at, listed}
 use Rattle.smt_sexp.specs.Building.{Stands, Closes, group_of, opened_of}
 use Rattle.smt_sexp.specs.Step.{GoesOn}
@@ -51,10 +51,10 @@ module _ (bytes : List ℕ) (at : Place) (n : ℕ) (some : 0 < length bytes) (si
   pub leafs : (l : Leaf) → (front_of bytes).says ≡ (0, token (word l)) ∷ [] → here ≡ expressions None (put (leaf at l) us tops).0 (put (leaf at l) us tops).1 next
   leafs l e = goes ((0, token (word l)) ∷ []) e
 
-  pub stops : (k : ℕ) (f : TextFault) → Stops (front_of bytes).says k f → (f ≡ bad_byte) → here ≡ faulty (place_after at (take k bytes)) bad_byte
+  pub stops : (k : ℕ) (f : TextFault) → FirstFault (front_of bytes).says k f → (f ≡ bad_byte) → here ≡ faulty (place_after at (take k bytes)) bad_byte
   stops k f h is = goes (front_of bytes).says refl ∙ by (front_of bytes).says k f h is
     where
-      by : (says : List (ℕ × Said)) (k : ℕ) (f : TextFault) → Stops says k f → f ≡ bad_byte → expressions None us tops (placed at bytes says ++ next) ≡ faulty (place_after at (take k bytes)) bad_byte
+      by : (says : List (ℕ × Said)) (k : ℕ) (f : TextFault) → FirstFault says k f → f ≡ bad_byte → expressions None us tops (placed at bytes says ++ next) ≡ faulty (place_after at (take k bytes)) bad_byte
       by says k f (at_once {rest}) is = ap (λ g. expressions None us tops ((place_after at (take k bytes), fault g) ∷ (placed at bytes rest ++ next))) is
       by says k f (after_leaf {l} {rest}) is =
           ap (λ g. expressions None (put (leaf at l) us tops).0 (put (leaf at l) us tops).1 ((place_after at (take k bytes), fault g) ∷ (placed at bytes rest ++ next))) is
@@ -62,12 +62,12 @@ module _ (bytes : List ℕ) (at : Place) (n : ℕ) (some : 0 < length bytes) (si
   pub unended : (front_of bytes).says ≡ (0, fault open_token) ∷ [] → n ≡ length bytes → here ≡ faulty at open_token
   unended e all = goes ((0, fault open_token) ∷ []) e ∙ ap (λ bs. expressions (Some at) us tops (sayings zero (place_after at (take n bytes)) bs)) (drop_all n bytes (omega (arith, all)))
 
-pub wide : (bytes : List ℕ) (at : Place) (n : ℕ) → 0 < length bytes → n ≡ (front_of bytes).size → 0 < n → (us : List Unclosed) (tops : List Sexp) → Stops (front_of bytes).says 0 too_wide →
+pub wide : (bytes : List ℕ) (at : Place) (n : ℕ) → 0 < length bytes → n ≡ (front_of bytes).size → 0 < n → (us : List Unclosed) (tops : List Sexp) → FirstFault (front_of bytes).says 0 too_wide →
     expressions None us tops (sayings zero at bytes) ≡ faulty at too_wide
 wide bytes at n some size pos us tops h =
     ap (expressions None us tops) (jump bytes at n some size pos) ∙ by (front_of bytes).says too_wide h refl
   where
-    by : (says : List (ℕ × Said)) (f : TextFault) → Stops says 0 f → f ≡ too_wide →
+    by : (says : List (ℕ × Said)) (f : TextFault) → FirstFault says 0 f → f ≡ too_wide →
         expressions None us tops (placed at bytes says ++ sayings zero (place_after at (take n bytes)) (drop n bytes)) ≡ faulty at too_wide
     by says f (at_once {rest}) is = ap (λ g. expressions None us tops ((at, fault g) ∷ (placed at bytes rest ++ sayings zero (place_after at (take n bytes)) (drop n bytes)))) is
     by says f (after_leaf {l} {rest}) is =

@@ -1,9 +1,9 @@
 pub mod Lexicon
 pub mod Classes
 pub mod Views
-pub mod Found
+pub mod FrontOf
 pub mod Arena
 pub mod Seen
 pub mod Building
-pub mod Reads
+pub mod TextAnswers
 pub mod Step

@@ -2,16 +2,16 @@
 ghost use Rattle.std.specs.Prelude.{◌≡◌, ℕ, ◌+◌, ◌^◌, ◌<◌, ◌≤◌, List, MatchResult, OnOk, IfErr, IfOk, drop, length, take, vec_len};
 ghost use Rattle.script_model.specs.Sexp as sexp;
 ghost use Rattle.smt_sexp.specs.Building.{Stands};
-ghost use Rattle.smt_sexp.specs.Found.{Finds, front_of};
+ghost use Rattle.smt_sexp.specs.FrontOf.{IsFrontOf, front_of};
 ghost use Rattle.smt_sexp.specs.Lexicon.{TextRead, Unclosed, place_after, read};
 ghost use Rattle.script_fault.specs.Answers.{IsFaultOrMemory};
-ghost use Rattle.smt_sexp.specs.Reads.{HasExpressions, Reads, bytes_fault, most_bytes, text_fault};
+ghost use Rattle.smt_sexp.specs.TextAnswers.{HasExpressions, IsTextAnswer, bytes_fault, most_bytes, text_fault};
 ghost use Rattle.smt_sexp.specs.Step.{GoesOn, IsRead, IsReading};
 ghost use Rattle.smt_sexp.specs.Views.{place_of};
 
 use crate::Sexps;
 use crate::building::Building;
-use crate::tokens::{Found, Piece, front};
+use crate::tokens::{Lexeme, Piece, front};
 use script_fault::{FaultKind, Limit, MOST_BYTES, MOST_DEPTH, Place, ReadError};
 use std::alloc::Global;
 
@@ -35,7 +35,7 @@ pub fn read(alloc: Global, bytes: &[u8]) -> Result<Sexps, ReadError>
 // The same of bytes that are not too many.
 fn read_text(alloc: Global, bytes: &[u8]) -> Result<Sexps, ReadError>
     requires { length bytes.now ≤ most_bytes }
-    ensures { Reads result (read bytes.now) }
+    ensures { IsTextAnswer result (read bytes.now) }
 {
     let mut building = Building::new(alloc);
     let mut place = Place { line: 1, column: 1 };
@@ -55,9 +55,14 @@ fn read_text(alloc: Global, bytes: &[u8]) -> Result<Sexps, ReadError>
 }
 
 // Takes what stands at the front of the text, and says whether the text ends with it.
-fn step(building: &mut Building, place: Place, rest: &[u8], found: Found) -> Result<bool, ReadError>
+fn step(
+    building: &mut Building,
+    place: Place,
+    rest: &[u8],
+    found: Lexeme,
+) -> Result<bool, ReadError>
     requires some { 0 < length rest.now }
-    requires found { Finds rest.now (front_of rest.now) found }
+    requires found { IsFrontOf rest.now (front_of rest.now) found }
     requires line { place.line + length rest.now < 2 ^ 32 }
     requires column { place.column + length rest.now < 2 ^ 32 }
     requires few { vec_len building.old.nodes < 2 ^ 32 }
@@ -124,7 +129,7 @@ fn after(place: Place, bytes: &[u8]) -> Place
 
 // What was read, where each parenthesis is closed.
 fn finish(building: Building) -> Result<Sexps, ReadError>
-    ensures { (all : TextRead) → IsRead building all → Reads result all }
+    ensures { (all : TextRead) → IsRead building all → IsTextAnswer result all }
 {
     match building.open.last() {
         Some(opened) => Err(ReadError::at(opened.place, FaultKind::Unbalanced)),

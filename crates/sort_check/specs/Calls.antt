@@ -19,8 +19,8 @@ use Rattle.smt_script.specs.declared.command.Sort.{Sort}
 use Rattle.sort_check.specs.Forms.{Binds, Lists, let_at}
 use Rattle.sort_check.specs.Sorts.{Finding, Sorted, operator_sort, sorting, wants}
 use Rattle.sort_check.specs.Steps.{FindsFault, Steps}
-use Rattle.sort_check.specs.Told.{finding_fault}
-use Rattle.sort_check.specs.Views.{Heads, Knows, Says, around, named_of, operator_of, sorts_seen}
+use Rattle.sort_check.specs.SortAnswers.{finding_fault}
+use Rattle.sort_check.specs.Views.{Heads, Knows, IsSortAnswer, around, named_of, operator_of, sorts_seen}
 use Rattle.sort_check.specs.declared.names.Head.{Head}
 use Rattle.sort_check.specs.declared.names.Known.{Known}
 use Rattle.sort_check.specs.declared.operators.Operator.{Operator}
@@ -69,7 +69,7 @@ abbrev pub sort_of_operator : Place → Operator → List Sort → Sorted
 sort_of_operator place operator sorts = operator_sort (place_of place) (operator_of operator) (sorts_seen sorts)
 
 abbrev pub SaysSort : {S : Type 0} → Top S → List Parameter → (Names Sorted → Sorted) → Result Sort Stop → Type 0
-SaysSort top locals f r = (names : Names Sorted) → Knows top names → Says r (f (around locals names))
+SaysSort top locals f r = (names : Names Sorted) → Knows top names → IsSortAnswer r (f (around locals names))
 
 abbrev pub ListsSorts : {S A : Type 0} → Top S → List Parameter → (Names Sorted → List Sorted) → Result (Vec Sort A) Stop → Type 0
 ListsSorts top locals f r = (names : Names Sorted) → Knows top names → Lists r (f (around locals names))

@@ -2,5 +2,5 @@ pub mod Calls
 pub mod Forms
 pub mod Sorts
 pub mod Steps
-pub mod Told
+pub mod SortAnswers
 pub mod Views

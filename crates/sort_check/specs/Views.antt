@@ -30,10 +30,10 @@ fault_of faults.LeftOut = left_out_form
 fault_of faults.TooManyAxes = too_many_axes
 
 -- the sort that is said, or its fault, or memory
-abbrev pub Says : Result code_sort.Sort Stop → Sorted → Type 0
-Says (Ok s) said = said ≡ of_sort (sort_of s)
-Says (Err (stops.Fault at f)) said = said ≡ ill (place_of at) (fault_of f)
-Says (Err stops.Memory) said = Unit {0}
+abbrev pub IsSortAnswer : Result code_sort.Sort Stop → Sorted → Type 0
+IsSortAnswer (Ok s) said = said ≡ of_sort (sort_of s)
+IsSortAnswer (Err (stops.Fault at f)) said = said ≡ ill (place_of at) (fault_of f)
+IsSortAnswer (Err stops.Memory) said = Unit {0}
 
 abbrev pub operator_of : code_operator.Operator → Operator
 operator_of op.True = truth

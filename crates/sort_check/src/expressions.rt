@@ -4,7 +4,7 @@ ghost use Rattle.script_model.specs.Reading.{bound_names, operators};
 ghost use Rattle.smt_sexp.specs.Arena.{rest_of};
 ghost use Rattle.smt_sexp.specs.Views.{place_of};
 ghost use Rattle.sort_check.specs.Calls.{BindsNames, ListsSorts, SaysSort, sort_of_call, sort_of_expression, sort_of_group, sort_of_leaf, sort_of_let, sort_of_name, sorts_of_arguments};
-ghost use Rattle.sort_check.specs.Views.{Says, bare_sort, head_sort, sorts_seen};
+ghost use Rattle.sort_check.specs.Views.{IsSortAnswer, bare_sort, head_sort, sorts_seen};
 
 use crate::forms::{behind, binding, ends, let_form};
 use crate::names::{Head, Known, fits, head_of, is_taken};
@@ -197,7 +197,7 @@ fn alone<'p, 'a>(
 
 // The sort of what a name alone stands for.
 fn bare<'p, 'a>(place: Place, head: Head<'p, 'a>) -> Result<Sort, Stop<'a>>
-    ensures { Says result (bare_sort (place_of place) head.entry) }
+    ensures { IsSortAnswer result (bare_sort (place_of place) head.entry) }
 {
     match head {
         Head::Operator(operator) => operator_sort(place, operator, &[]),
@@ -210,7 +210,7 @@ fn bare<'p, 'a>(place: Place, head: Head<'p, 'a>) -> Result<Sort, Stop<'a>>
 
 // The sort of a call at arguments of these sorts.
 fn called<'p, 'a>(place: Place, head: Head<'p, 'a>, sorts: &[Sort]) -> Result<Sort, Stop<'a>>
-    ensures { Says result (head_sort (place_of place) head.entry (sorts_seen sorts.now)) }
+    ensures { IsSortAnswer result (head_sort (place_of place) head.entry (sorts_seen sorts.now)) }
 {
     match head {
         Head::Operator(operator) => operator_sort(place, operator, sorts),

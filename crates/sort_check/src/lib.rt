@@ -3,7 +3,7 @@
 //! `check` answers the same script, all of whose names and sorts fit, or its first fault. No term is built here.
 #![tactic(auto)]
 
-ghost use Rattle.sort_check.specs.Told.{Checks};
+ghost use Rattle.sort_check.specs.SortAnswers.{IsCheckAnswer};
 
 mod commands;
 mod expressions;
@@ -23,7 +23,7 @@ pub use typed::Typed;
 
 /// The same script, or the first fault of its names and sorts.
 pub fn check<'a>(alloc: Global, script: Script<'a>) -> Result<Typed<'a>, ReadError>
-    ensures { Checks script.entry result }
+    ensures { IsCheckAnswer script.entry result }
 {
     match commands::sorts(alloc, &script) {
         Ok(()) => Ok(Typed { script }),

@@ -3,7 +3,7 @@ ghost use Rattle.std.specs.Prelude.{◌≡◌, option_map};
 ghost use Rattle.script_model.specs.Reading.{choice, found, operators};
 ghost use Rattle.sort_check.specs.Calls.{sort_of_operator};
 ghost use Rattle.sort_check.specs.Sorts.{all_of, is_bool, is_real, operator_sort};
-ghost use Rattle.sort_check.specs.Views.{Says, operator_of, later_operators, sorts_seen};
+ghost use Rattle.sort_check.specs.Views.{IsSortAnswer, operator_of, later_operators, sorts_seen};
 ghost use Rattle.smt_sexp.specs.Views.{place_of};
 
 use crate::stop::{Fault, Stop, if_takes};
@@ -135,7 +135,7 @@ pub(crate) fn operator_sort<'a>(
     operator: Operator,
     sorts: &[Sort],
 ) -> Result<Sort, Stop<'a>>
-    ensures { Says result (sort_of_operator place operator sorts.now) }
+    ensures { IsSortAnswer result (sort_of_operator place operator sorts.now) }
 {
     let bools = all_bool(sorts);
     let reals = all_real(sorts);
@@ -164,7 +164,7 @@ pub(crate) fn operator_sort<'a>(
 
 // The same of `ite`, whose arms have one sort.
 fn choice_sort<'a>(place: Place, sorts: &[Sort]) -> Result<Sort, Stop<'a>>
-    ensures { Says result (operator_sort (place_of place) choice (sorts_seen sorts.now)) }
+    ensures { IsSortAnswer result (operator_sort (place_of place) choice (sorts_seen sorts.now)) }
 {
     match sorts {
         [Sort::Bool, Sort::Real, Sort::Real] => Ok(Sort::Real),

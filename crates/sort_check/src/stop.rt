@@ -2,7 +2,7 @@
 ghost use Rattle.std.specs.Prelude.{◌≡◌};
 ghost use Rattle.script_model.specs.Reading.{unknown};
 ghost use Rattle.sort_check.specs.Sorts.{because, if_takes};
-ghost use Rattle.sort_check.specs.Views.{Says};
+ghost use Rattle.sort_check.specs.Views.{IsSortAnswer};
 ghost use Rattle.smt_sexp.specs.Views.{place_of};
 ghost use Rattle.smt_script.specs.Views.{sort_of};
 ghost use Rattle.sort_check.specs.declared.stop.Stop.TheVariants.{Memory};
@@ -47,7 +47,7 @@ impl<'a, T: Drop> From<AllocFailed<T>> for Stop<'a> {
 
 /// This sort where it holds, and else a mismatch.
 pub(crate) fn if_takes<'a>(place: Place, holds: bool, sort: Sort) -> Result<Sort, Stop<'a>>
-    ensures { Says result (if_takes (place_of place) holds (sort_of sort)) }
+    ensures { IsSortAnswer result (if_takes (place_of place) holds (sort_of sort)) }
 {
     if holds {
         Ok(sort)
@@ -58,7 +58,7 @@ pub(crate) fn if_takes<'a>(place: Place, holds: bool, sort: Sort) -> Result<Sort
 
 /// A name that is not known: `sqrt` is left out.
 pub(crate) fn unknown(place: Place, name: &Name) -> Result<Sort, Stop<'_>>
-    ensures { Says result (because (place_of place) (unknown name.now)) }
+    ensures { IsSortAnswer result (because (place_of place) (unknown name.now)) }
 {
     if name.as_slice() == b"sqrt".as_slice() {
         Err(Stop::Fault(place, Fault::LeftOut))

@@ -5,7 +5,7 @@ use Rattle.steal_pool.specs.declared.deque.Link.{Link}
 use Rattle.steal_pool.specs.declared.hand.Hand.{Hand}
 use Rattle.steal_pool.specs.declared.deque.OwnDeque.{OwnDeque}
 use Rattle.steal_pool.specs.declared.rule.DequeView.{DequeView}
-use Rattle.steal_pool.specs.Made.{IsNew, IsBare, LosesPart, LinkedHands}
+use Rattle.steal_pool.specs.NewPool.{IsNew, IsBare, LosesPart, LinkedHands}
 
 pub still_linked : (old new : List Hand) (ls : List Link) → length new ≡ length old → ((k : ℕ) (d : Hand) → k < length old → worker_deque (get_or new k d).own.worker ≡ worker_deque (get_or old k d).own.worker) → LinkedHands old ls → LinkedHands new ls
 still_linked old new ls len same h = (h.0 ∙ sym len, λ k d e below. let low : k < length old = subst (λ (n : ℕ). k < n) len below in let t = h.1 k d e low in record { deque = t.deque ∙ sym (same k d low); view = t.view })

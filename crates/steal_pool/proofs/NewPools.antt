@@ -5,7 +5,7 @@ use Rattle.steal_pool.specs.declared.deque.Link.{Link}
 use Rattle.steal_pool.specs.declared.hand.Hand.{Hand}
 use Rattle.steal_pool.specs.declared.rule.DequeView.{DequeView}
 use Rattle.steal_pool.specs.Account.{taken_by, deque_of}
-use Rattle.steal_pool.specs.Made.{LinkedHands}
+use Rattle.steal_pool.specs.NewPool.{LinkedHands}
 use Rattle.steal_pool.specs.Pool.{own_of, IsPool, IsFresh, IsNewPool, AreLinked}
 use Rattle.steal_pool.proofs.Maps.{map_all, map_two}
 use Rattle.steal_pool.proofs.Rows.{some_of}

@@ -4,7 +4,7 @@ pub mod Links
 pub mod Bits
 pub mod Account
 pub mod Turns
-pub mod Made
+pub mod NewPool
 pub mod Gathering
 pub mod Pool
 pub mod PoolLaw

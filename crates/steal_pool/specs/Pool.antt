@@ -5,7 +5,7 @@ use Rattle.atomic_blocks.specs.Lent.{RowsId}
 use Rattle.crossbeam_deque.specs.Handles.{worker_deque, worker_view}
 use Rattle.steal_pool.specs.declared.hand.Hand.{Hand}
 use Rattle.steal_pool.specs.Account.{Account, Place, account_of, place_of, room_of, has_left}
-use Rattle.steal_pool.specs.Made.{IsBare, LinkedHands}
+use Rattle.steal_pool.specs.NewPool.{IsBare, LinkedHands}
 
 -- the deque of a hand
 abbrev pub own_of : Hand → RowsId × Global

@@ -109,7 +109,7 @@ fn steal_any<R: Wait>(rt: &R, links: &mut [Link], start: usize) -> Option<u32>
 
 impl Hand {
     ghost use Rattle.steal_pool.specs.Account.{account_of, place_of, room_of, has_left, last_read, hands_beside, Takes, FoundNothing};
-    ghost use Rattle.steal_pool.specs.Made.{IsNew, IsLinked, LosesPart};
+    ghost use Rattle.steal_pool.specs.NewPool.{IsNew, IsLinked, LosesPart};
     ghost use Rattle.steal_pool.specs.Gathering.{TakenIn};
     ghost use Rattle.steal_pool.specs.Turns.{ChangesRest, ReadsCount, TakesNothing, LooksInVain, TakesOne};
 

@@ -1,6 +1,6 @@
 //! A pool is made.
 ghost use Rattle.std.specs.Prelude.{◌≡◌, List, ◌<◌, ◌≤◌, All, length, vec_len, IfOk};
-ghost use Rattle.steal_pool.specs.Made.{IsNew, LinkedHands, AllLosePart, HavePartsOver};
+ghost use Rattle.steal_pool.specs.NewPool.{IsNew, LinkedHands, AllLosePart, HavePartsOver};
 ghost use Rattle.steal_pool.specs.Pool.{AreLinked, IsNewPool, IsPool, SamePlaces};
 
 use crate::count::CountSeat;

@@ -16,7 +16,7 @@ use Rattle.script_forms.specs.Atoms.{already, same_atom, number_in}
 use Rattle.script_forms.specs.Walk as walk
 use Rattle.script_forms.specs.Walk.{Stand, Walked, stands, stops, ask_atom, if_room, with_atom, too_many_atoms}
 use Rattle.script_forms.proofs.Numbered.{atom_self, same_atom_is}
-use Rattle.term_build.specs.Built.{Made, stand_of, IsMade, IsAtomOf, IsFormNode, full_atom}
+use Rattle.term_build.specs.Built.{BuilderModel, stand_of, IsMade, IsAtomOf, IsFormNode, full_atom}
 use Rattle.term_build.specs.Does.{IsAtom, Does, limited_to}
 use Rattle.term_build.specs.declared.stop.Stop.{Stop}
 use Rattle.term_build.proofs.Lists.{get_below, get_end, all_end, all_more, map_end, get_index}
@@ -87,10 +87,10 @@ new-by ns xs x g h b new true e =
 
 -- ---- an atom is asked for
 
-abbrev pub with_atoms : Made → List (ℕ × Kind) → Made
+abbrev pub with_atoms : BuilderModel → List (ℕ × Kind) → BuilderModel
 with_atoms m xs = record { sorts = m.sorts; size = m.size; nodes = m.nodes; atoms = xs; forms = m.forms }
 
-record AtomMade (m : Made) (xs : List (ℕ × Kind)) (x : ℕ × Kind) (k : ℕ) : Type 0 where
+record AtomMade (m : BuilderModel) (xs : List (ℕ × Kind)) (x : ℕ × Kind) (k : ℕ) : Type 0 where
   pub made : IsMade (with_atoms m xs)
   pub does : (claim : Place) → ask_atom claim (stand_of m) (full_atom (graph_terms m.nodes) x) ≡ stands (stand_of (with_atoms m xs))
   pub stands_there : slice_get xs k ≡ Some x
@@ -117,7 +117,7 @@ form-more sorts n k (bool_node axis v) h p = p
 form-more sorts n k (all_node ks) h p = tt
 form-more sorts n k (any_node ks) h p = tt
 
-added : (m : Made) (x : ℕ × Kind) → IsMade m → x.0 < length m.nodes → IsNewAtom m.atoms x → AreAtoms (m.atoms ++ (x ∷ [])) → AtomMade m (m.atoms ++ (x ∷ [])) x (length m.atoms)
+added : (m : BuilderModel) (x : ℕ × Kind) → IsMade m → x.0 < length m.nodes → IsNewAtom m.atoms x → AreAtoms (m.atoms ++ (x ∷ [])) → AtomMade m (m.atoms ++ (x ∷ [])) x (length m.atoms)
 added m x h b new t = record {
   made = record {
     few = h.few;
@@ -137,7 +137,7 @@ added m x h b new t = record {
   stands_there = get_end m.atoms x;
 }
 
-stood-there : (m : Made) (x : ℕ × Kind) (k : ℕ) → IsMade m → slice_get m.atoms k ≡ Some x → AtomMade m m.atoms x k
+stood-there : (m : BuilderModel) (x : ℕ × Kind) (k : ℕ) → IsMade m → slice_get m.atoms k ≡ Some x → AtomMade m m.atoms x k
 stood-there m x k h e = record {
   made = h;
   does = λ claim. let ts = graph_terms m.nodes in let full = map (full_atom ts) m.atoms in
@@ -146,30 +146,30 @@ stood-there m x k h e = record {
   stands_there = e;
 }
 
-atom-made : (m : Made) (xs : List (ℕ × Kind)) (x : ℕ × Kind) (k : ℕ) → IsMade m → x.0 < length m.nodes → AreAtoms xs → AtomInterned m.atoms xs x k → AtomMade m xs x k
+atom-made : (m : BuilderModel) (xs : List (ℕ × Kind)) (x : ℕ × Kind) (k : ℕ) → IsMade m → x.0 < length m.nodes → AreAtoms xs → AtomInterned m.atoms xs x k → AtomMade m xs x k
 atom-made m xs x k h b t i = elim i.1 [
   | inl e ↦ subst (λ (ys : List (ℕ × Kind)). AtomMade m ys x k) (sym e) (stood-there m x k h (ap (λ ys. slice_get ys k) (sym e) ∙ i.0))
   | inr e ↦ subst (λ (ys : List (ℕ × Kind)). AtomMade m ys x k) (sym e.0) (subst (λ (j : ℕ). AtomMade m (m.atoms ++ (x ∷ [])) x j) (sym e.1)
       (added m x h b e.2 (subst (λ (ys : List (ℕ × Kind)). AreAtoms ys) e.0 t)))
 ]
 
-none-made : (m : Made) (x : ℕ × Kind) (claim : Place) → IsMade m → x.0 < length m.nodes → IsNewAtom m.atoms x → length m.atoms ≡ most_atoms →
+none-made : (m : BuilderModel) (x : ℕ × Kind) (claim : Place) → IsMade m → x.0 < length m.nodes → IsNewAtom m.atoms x → length m.atoms ≡ most_atoms →
     ask_atom claim (stand_of m) (full_atom (graph_terms m.nodes) x) ≡ stops claim too_many_atoms
 none-made m x claim h b new full-up = let ts = graph_terms m.nodes in let full = map (full_atom ts) m.atoms in
     ap (λ b. cond b (stands (stand_of m)) (if_room (nat_lt (length full) walk.most_atoms) claim too_many_atoms (with_atom (stand_of m) (full_atom ts x)))) (new-by m.nodes m.atoms x h.graph h.atoms b new (already (full_atom ts x) full) refl)
     ∙ no-room (nat_lt (length full) walk.most_atoms) (lt-false (length full) walk.most_atoms (length-map m.atoms (full_atom ts) ∙ full-up)) claim (with_atom (stand_of m) (full_atom ts x))
 
 -- the atom of that number, and the number of that atom
-is-atom : (m : Made) (xs : List (ℕ × Kind)) (x : ℕ × Kind) (k : ℕ) → AtomMade m xs x k → IsAtom (with_atoms m xs) (full_atom (graph_terms m.nodes) x) k
+is-atom : (m : BuilderModel) (xs : List (ℕ × Kind)) (x : ℕ × Kind) (k : ℕ) → AtomMade m xs x k → IsAtom (with_atoms m xs) (full_atom (graph_terms m.nodes) x) k
 is-atom m xs x k a = let full = map (full_atom (graph_terms m.nodes)) xs in let y = full_atom (graph_terms m.nodes) x in let there = full_at (graph_terms m.nodes) xs k x a.stands_there in
     (get_below xs k x a.stands_there, number_at full k y (full_once m.nodes xs a.made.graph a.made.table a.made.atoms) there, already_at full k y there)
 
-pub kept_ask : (m m' : Made) (xs : List (ℕ × Kind)) (x : ℕ × Kind) (r : Result ℕ NoNode) → m ≡ m' → IsMade m → x.0 < length m'.nodes → AreAtoms xs →
+pub kept_ask : (m m' : BuilderModel) (xs : List (ℕ × Kind)) (x : ℕ × Kind) (r : Result ℕ NoNode) → m ≡ m' → IsMade m → x.0 < length m'.nodes → AreAtoms xs →
     MatchResult r (AtomInterned m.atoms xs x) (AtomRefused m.atoms xs x) → IsMade (with_atoms m xs)
 kept_ask m m' xs x r e h b t i = go r i
   where
     there : x.0 < length m.nodes
-    there = subst (λ (n : Made). x.0 < length n.nodes) (sym e) b
+    there = subst (λ (n : BuilderModel). x.0 < length n.nodes) (sym e) b
 
     go : (r : Result ℕ NoNode) → MatchResult r (AtomInterned m.atoms xs x) (AtomRefused m.atoms xs x) → IsMade (with_atoms m xs)
     go (Ok k) i = (atom-made m xs x k h there t i).made
@@ -178,16 +178,16 @@ kept_ask m m' xs x r e h b t i = go r i
     go (Err (TooMany Forms)) i = absurd i
     go (Err Memory) i = subst (λ (ys : List (ℕ × Kind)). IsMade (with_atoms m ys)) (sym i) h
 
-pub seen_ask : (m m' : Made) (xs : List (ℕ × Kind)) (x : ℕ × Kind) (r : Result ℕ NoNode) (s : Result ℕ Stop) → m ≡ m' → s ≡ limited_to r → IsMade m → x.0 < length m'.nodes → AreAtoms xs →
+pub seen_ask : (m m' : BuilderModel) (xs : List (ℕ × Kind)) (x : ℕ × Kind) (r : Result ℕ NoNode) (s : Result ℕ Stop) → m ≡ m' → s ≡ limited_to r → IsMade m → x.0 < length m'.nodes → AreAtoms xs →
     MatchResult r (AtomInterned m.atoms xs x) (AtomRefused m.atoms xs x) →
     Does m' (with_atoms m xs) (λ claim s. ask_atom claim s (full_atom (graph_terms m'.nodes) x)) s (IsAtom (with_atoms m xs) (full_atom (graph_terms m'.nodes) x))
 unfolding Rattle.term_build.specs.Does.IsBeyond
 seen_ask m m' xs x r s e d h b t i =
-    subst (λ (n : Made). Does n (with_atoms m xs) (λ claim s. ask_atom claim s (full_atom (graph_terms n.nodes) x)) s (IsAtom (with_atoms m xs) (full_atom (graph_terms n.nodes) x))) e
+    subst (λ (n : BuilderModel). Does n (with_atoms m xs) (λ claim s. ask_atom claim s (full_atom (graph_terms n.nodes) x)) s (IsAtom (with_atoms m xs) (full_atom (graph_terms n.nodes) x))) e
     (subst (λ (s : Result ℕ Stop). Does m (with_atoms m xs) (λ claim s. ask_atom claim s (full_atom (graph_terms m.nodes) x)) s (IsAtom (with_atoms m xs) (full_atom (graph_terms m.nodes) x))) (sym d) (go r i))
   where
     there : x.0 < length m.nodes
-    there = subst (λ (n : Made). x.0 < length n.nodes) (sym e) b
+    there = subst (λ (n : BuilderModel). x.0 < length n.nodes) (sym e) b
 
     go : (r : Result ℕ NoNode) → MatchResult r (AtomInterned m.atoms xs x) (AtomRefused m.atoms xs x) →
         Does m (with_atoms m xs) (λ claim s. ask_atom claim s (full_atom (graph_terms m.nodes) x)) (limited_to r) (IsAtom (with_atoms m xs) (full_atom (graph_terms m.nodes) x))

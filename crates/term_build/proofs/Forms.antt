@@ -15,7 +15,7 @@ use Rattle.poly_graph.specs.declared.refused.Limit.TheVariants as limits
 use Rattle.poly_graph.proofs.FormGraphs.{form_node_is_its_kind}
 use Rattle.script_forms.specs.Walk as walk
 use Rattle.script_forms.specs.Walk.{Stand, Walked, stands, stops, make_form, if_room, with_form, too_many_forms, same_form, same_forms, same_bool, has_form, form_size, all_sizes, places}
-use Rattle.term_build.specs.Built.{Made, stand_of, IsMade, IsFormNode}
+use Rattle.term_build.specs.Built.{BuilderModel, stand_of, IsMade, IsFormNode}
 use Rattle.term_build.specs.Does.{IsForm, Does, limited_to}
 use Rattle.term_build.specs.declared.stop.Stop.{Stop}
 use Rattle.term_build.proofs.Lists.{get_below, get_end, index_get, stood, all_end}
@@ -181,10 +181,10 @@ new-by ns g n o f true h =
 
 -- ---- a node is asked for
 
-abbrev pub with_forms : Made → List FormNode → Made
+abbrev pub with_forms : BuilderModel → List FormNode → BuilderModel
 with_forms m ns = record { sorts = m.sorts; size = m.size; nodes = m.nodes; atoms = m.atoms; forms = ns }
 
-record FormMade (m : Made) (ns : List FormNode) (n : FormNode) (k : ℕ) : Type 0 where
+record FormMade (m : BuilderModel) (ns : List FormNode) (n : FormNode) (k : ℕ) : Type 0 where
   pub made : IsMade (with_forms m ns)
   pub does : (claim : Place) → make_form claim (stand_of m) (node_form (graph_forms m.forms) n) ≡ stands (stand_of (with_forms m ns))
   pub form : IsForm (with_forms m ns) (node_form (graph_forms m.forms) n) k
@@ -207,7 +207,7 @@ pieces-size : (ns : List FormNode) (n : FormNode) → forms_size (ns ++ (n ∷ [
 pieces-size [] n = omega arith
 pieces-size (m ∷ ns) n = omega (arith, pieces-size ns n)
 
-added : (m : Made) (n : FormNode) → IsMade m → IsTrue (form_comes_after (length m.forms) n) → IsFormNode m.sorts (length m.atoms) n → IsNewForm m.forms n → IsFormGraph (m.forms ++ (n ∷ [])) →
+added : (m : BuilderModel) (n : FormNode) → IsMade m → IsTrue (form_comes_after (length m.forms) n) → IsFormNode m.sorts (length m.atoms) n → IsNewForm m.forms n → IsFormGraph (m.forms ++ (n ∷ [])) →
     FormMade m (m.forms ++ (n ∷ [])) n (length m.forms)
 added m n h o f new g = let fs = graph_forms m.forms in let x = node_form fs n in record {
   made = record {
@@ -225,51 +225,51 @@ added m n h o f new g = let fs = graph_forms m.forms in let x = node_form fs n i
   form = ap (λ ys. slice_get ys (length m.forms)) (forms_end m.forms n) ∙ ap (λ k. slice_get (fs ++ (x ∷ [])) k) (sym (length_forms m.forms)) ∙ get_end fs x;
 }
 
-stood-there : (m : Made) (n : FormNode) (k : ℕ) → IsMade m → slice_get m.forms k ≡ Some n → FormMade m m.forms n k
+stood-there : (m : BuilderModel) (n : FormNode) (k : ℕ) → IsMade m → slice_get m.forms k ≡ Some n → FormMade m m.forms n k
 stood-there m n k h e = let fs = graph_forms m.forms in let x = node_form fs n in record {
   made = h;
   does = λ claim. ap (λ b. cond b (stands (stand_of m)) (if_room (nat_lt (all_sizes fs + form_size x) (suc walk.most_forms)) claim too_many_forms (with_form (stand_of m) x))) (has_at fs k x (form_there m.forms h.shared k n e));
   form = form_there m.forms h.shared k n e;
 }
 
-form-made : (m : Made) (ns : List FormNode) (n : FormNode) (k : ℕ) → IsMade m → IsTrue (form_comes_after (length m.forms) n) → IsFormNode m.sorts (length m.atoms) n → IsFormGraph ns → FormInterned m.forms ns n k → FormMade m ns n k
+form-made : (m : BuilderModel) (ns : List FormNode) (n : FormNode) (k : ℕ) → IsMade m → IsTrue (form_comes_after (length m.forms) n) → IsFormNode m.sorts (length m.atoms) n → IsFormGraph ns → FormInterned m.forms ns n k → FormMade m ns n k
 form-made m ns n k h o f g i = elim i.1 [
   | inl e ↦ subst (λ (xs : List FormNode). FormMade m xs n k) (sym e) (stood-there m n k h (ap (λ xs. slice_get xs k) (sym e) ∙ i.0))
   | inr e ↦ subst (λ (xs : List FormNode). FormMade m xs n k) (sym e.0) (subst (λ (j : ℕ). FormMade m (m.forms ++ (n ∷ [])) n j) (sym e.1)
       (added m n h o f e.2 (subst (λ (xs : List FormNode). IsFormGraph xs) e.0 g)))
 ]
 
-none-made : (m : Made) (n : FormNode) (claim : Place) → IsMade m → IsTrue (form_comes_after (length m.forms) n) → IsNewForm m.forms n → most_forms < forms_size m.forms + node_size n →
+none-made : (m : BuilderModel) (n : FormNode) (claim : Place) → IsMade m → IsTrue (form_comes_after (length m.forms) n) → IsNewForm m.forms n → most_forms < forms_size m.forms + node_size n →
     make_form claim (stand_of m) (node_form (graph_forms m.forms) n) ≡ stops claim too_many_forms
 none-made m n claim h o new full = let fs = graph_forms m.forms in let x = node_form fs n in
     ap (λ b. cond b (stands (stand_of m)) (if_room (nat_lt (all_sizes fs + form_size x) (suc walk.most_forms)) claim too_many_forms (with_form (stand_of m) x))) (new-by m.forms h.shared n o new (has_form x fs) refl)
     ∙ no-room (nat_lt (all_sizes fs + form_size x) (suc walk.most_forms)) (lt-false (all_sizes fs + form_size x) (suc walk.most_forms) (omega (arith, sizes m.forms, size-of fs n, full))) claim (with_form (stand_of m) x)
 
-pub kept_form : (m m' : Made) (ns : List FormNode) (n : FormNode) (r : Result ℕ NoNode) → m ≡ m' → IsMade m → IsTrue (form_comes_after (length m'.forms) n) → IsFormNode m'.sorts (length m'.atoms) n → IsFormGraph ns →
+pub kept_form : (m m' : BuilderModel) (ns : List FormNode) (n : FormNode) (r : Result ℕ NoNode) → m ≡ m' → IsMade m → IsTrue (form_comes_after (length m'.forms) n) → IsFormNode m'.sorts (length m'.atoms) n → IsFormGraph ns →
     MatchResult r (FormInterned m.forms ns n) (FormRefused m.forms ns n) → IsMade (with_forms m ns)
 kept_form m m' ns n r e h o f g i = go r i
   where
     go : (r : Result ℕ NoNode) → MatchResult r (FormInterned m.forms ns n) (FormRefused m.forms ns n) → IsMade (with_forms m ns)
-    go (Ok k) i = (form-made m ns n k h (subst (λ (x : Made). IsTrue (form_comes_after (length x.forms) n)) (sym e) o) (subst (λ (x : Made). IsFormNode x.sorts (length x.atoms) n) (sym e) f) g i).made
+    go (Ok k) i = (form-made m ns n k h (subst (λ (x : BuilderModel). IsTrue (form_comes_after (length x.forms) n)) (sym e) o) (subst (λ (x : BuilderModel). IsFormNode x.sorts (length x.atoms) n) (sym e) f) g i).made
     go (Err (TooMany limits.Forms)) i = subst (λ (xs : List FormNode). IsMade (with_forms m xs)) (sym i.0) h
     go (Err (TooMany limits.Atoms)) i = absurd i
     go (Err (TooMany limits.Nodes)) i = absurd i
     go (Err Memory) i = subst (λ (xs : List FormNode). IsMade (with_forms m xs)) (sym i) h
 
-pub seen_form : (m m' : Made) (ns : List FormNode) (n : FormNode) (r : Result ℕ NoNode) (s : Result ℕ Stop) → m ≡ m' → s ≡ limited_to r → IsMade m → IsTrue (form_comes_after (length m'.forms) n) → IsFormNode m'.sorts (length m'.atoms) n → IsFormGraph ns →
+pub seen_form : (m m' : BuilderModel) (ns : List FormNode) (n : FormNode) (r : Result ℕ NoNode) (s : Result ℕ Stop) → m ≡ m' → s ≡ limited_to r → IsMade m → IsTrue (form_comes_after (length m'.forms) n) → IsFormNode m'.sorts (length m'.atoms) n → IsFormGraph ns →
     MatchResult r (FormInterned m.forms ns n) (FormRefused m.forms ns n) →
     Does m' (with_forms m ns) (λ claim s. make_form claim s (node_form (graph_forms m'.forms) n)) s (IsForm (with_forms m ns) (node_form (graph_forms m'.forms) n))
 unfolding Rattle.term_build.specs.Does.IsBeyond
 seen_form m m' ns n r s e d h o f g i =
-    subst (λ (x : Made). Does x (with_forms m ns) (λ claim s. make_form claim s (node_form (graph_forms x.forms) n)) s (IsForm (with_forms m ns) (node_form (graph_forms x.forms) n))) e
+    subst (λ (x : BuilderModel). Does x (with_forms m ns) (λ claim s. make_form claim s (node_form (graph_forms x.forms) n)) s (IsForm (with_forms m ns) (node_form (graph_forms x.forms) n))) e
     (subst (λ (s : Result ℕ Stop). Does m (with_forms m ns) (λ claim s. make_form claim s (node_form (graph_forms m.forms) n)) s (IsForm (with_forms m ns) (node_form (graph_forms m.forms) n))) (sym d) (go r i))
   where
     comes : IsTrue (form_comes_after (length m.forms) n)
-    comes = subst (λ (x : Made). IsTrue (form_comes_after (length x.forms) n)) (sym e) o
+    comes = subst (λ (x : BuilderModel). IsTrue (form_comes_after (length x.forms) n)) (sym e) o
 
     go : (r : Result ℕ NoNode) → MatchResult r (FormInterned m.forms ns n) (FormRefused m.forms ns n) →
         Does m (with_forms m ns) (λ claim s. make_form claim s (node_form (graph_forms m.forms) n)) (limited_to r) (IsForm (with_forms m ns) (node_form (graph_forms m.forms) n))
-    go (Ok k) i = let a = form-made m ns n k h comes (subst (λ (x : Made). IsFormNode x.sorts (length x.atoms) n) (sym e) f) g i in (a.does, a.form)
+    go (Ok k) i = let a = form-made m ns n k h comes (subst (λ (x : BuilderModel). IsFormNode x.sorts (length x.atoms) n) (sym e) f) g i in (a.does, a.form)
     go (Err (TooMany limits.Forms)) i = λ claim. none-made m n claim h comes i.2 i.1
     go (Err (TooMany limits.Atoms)) i = absurd i
     go (Err (TooMany limits.Nodes)) i = absurd i

@@ -1,7 +1,7 @@
 -- Each turn leaves fewer.
 use Rattle.std.proofs.Common.{◌≡◌, ℕ, zero, suc, ◌+◌, ◌-◌, ◌<◌, List, [], ◌∷◌, ◌++◌, map, length, Bool, true, false, cond, Option, Some, None, nat_eq, refl, ap, ap₂, sym, ◌∙◌, subst, arith, replicate, length-append}
 use Rattle.std.specs.Prelude.{slice_get, slice_set, Result, Ok, Err}
-use Rattle.term_build.specs.Sketch.{Drawn, yes_drawn}
+use Rattle.term_build.specs.Sketch.{SketchNode, yes_sketch}
 use Rattle.term_build.specs.Shapes.{Frame, IfDone, frame_of, children, node_at}
 use Rattle.term_build.specs.Turns.{done_of, turns_of, turns_unless, turns_at, sum_below, turns_left, AreNested, AreStacked, IsMadeIn, IsRooted, IsTurn}
 use Rattle.term_build.specs.declared.shape.Frame as code_frame
@@ -116,7 +116,7 @@ root-made memo root j (x ∷ xs) f u h = h
 
 -- ---- the three turns
 
-module _ (ds : List Drawn) (memo : List (Option ℕ)) (xs : List Frame) (f : Frame) (nested : AreNested memo (length ds) (xs ++ (f ∷ []))) where
+module _ (ds : List SketchNode) (memo : List (Option ℕ)) (xs : List Frame) (f : Frame) (nested : AreNested memo (length ds) (xs ++ (f ∷ []))) where
   size : ℕ → ℕ
   size k = length (children (node_at ds k))
 
@@ -174,18 +174,18 @@ module _ (ds : List Drawn) (memo : List (Option ℕ)) (xs : List Frame) (f : Fra
 
 -- ---- as the stack's items
 
-pub turned_on : (ds : List Drawn) (memo : List (Option ℕ)) (stack stack' : List code_frame.Frame) (f f' : code_frame.Frame) (d : Drawn) (n c j : ℕ) → AreStacked ds memo (map frame_of stack ++ (frame_of f ∷ [])) →
+pub turned_on : (ds : List SketchNode) (memo : List (Option ℕ)) (stack stack' : List code_frame.Frame) (f f' : code_frame.Frame) (d : SketchNode) (n c j : ℕ) → AreStacked ds memo (map frame_of stack ++ (frame_of f ∷ [])) →
     slice_get ds f.node ≡ Some d → n ≡ length f.numbers.items → Some c ≡ slice_get (children d) n → stack' ≡ stack ++ (f' ∷ []) → f'.node ≡ f.node → f'.numbers.items ≡ f.numbers.items ++ (j ∷ []) →
     IsTurn ds memo memo (map frame_of stack ++ (frame_of f ∷ [])) (map frame_of stack')
 turned_on ds memo stack stack' f f' d n c j nested e size h items node numbers =
-    let at : node_at ds f.node ≡ d = get_index ds f.node d yes_drawn e in
+    let at : node_at ds f.node ≡ d = get_index ds f.node d yes_sketch e in
     let child : slice_get (children (node_at ds f.node)) (length f.numbers.items) ≡ Some c =
-    ap (λ (x : Drawn). slice_get (children x) (length f.numbers.items)) at ∙ ap (λ (k : ℕ). slice_get (children d) k) (sym size) ∙ sym h in
+    ap (λ (x : SketchNode). slice_get (children x) (length f.numbers.items)) at ∙ ap (λ (k : ℕ). slice_get (children d) k) (sym size) ∙ sym h in
     subst (λ (xs : List Frame). IsTurn ds memo memo (map frame_of stack ++ (frame_of f ∷ [])) xs) (sym (popped stack' stack f' items))
     (turn_on ds memo (map frame_of stack) (frame_of f) nested (frame_of f') node (omega (arith, ap (λ (js : List ℕ). length js) numbers, length-append f.numbers.items (j ∷ [])))
     (get_below (children (node_at ds f.node)) (length f.numbers.items) c child))
 
-pub turned_down : (ds : List Drawn) (memo : List (Option ℕ)) (stack stack' stack'' : List code_frame.Frame) (f f' g' : code_frame.Frame) (c : ℕ) → AreStacked ds memo (map frame_of stack ++ (frame_of f ∷ [])) →
+pub turned_down : (ds : List SketchNode) (memo : List (Option ℕ)) (stack stack' stack'' : List code_frame.Frame) (f f' g' : code_frame.Frame) (c : ℕ) → AreStacked ds memo (map frame_of stack ++ (frame_of f ∷ [])) →
     c < f.node → slice_get memo c ≡ Some None → stack' ≡ stack ++ (f' ∷ []) → frame_of f' ≡ frame_of f → stack'' ≡ stack' ++ (g' ∷ []) → g'.node ≡ c → g'.numbers.items ≡ [] →
     IsTurn ds memo memo (map frame_of stack ++ (frame_of f ∷ [])) (map frame_of stack'')
 turned_down ds memo stack stack' stack'' f f' g' c nested l u items same items' node numbers =
@@ -194,7 +194,7 @@ turned_down ds memo stack stack' stack'' f f' g' c nested l u items same items' 
     subst (λ (xs : List Frame). IsTurn ds memo memo (map frame_of stack ++ (frame_of f ∷ [])) xs) (sym all)
     (turn_down ds memo (map frame_of stack) (frame_of f) nested (frame_of g') (subst (λ (k : ℕ). k < f.node) (sym node) l) (subst (λ (k : ℕ). slice_get memo k ≡ Some None) (sym node) u) numbers)
 
-pub turned_up : {X : Type 0} (ds : List Drawn) (memo memo' : List (Option ℕ)) (stack : List code_frame.Frame) (f : code_frame.Frame) (r : Result X Stop) → AreStacked ds memo (map frame_of stack ++ (frame_of f ∷ [])) → IfDone r (IsMadeIn memo memo' f.node) →
+pub turned_up : {X : Type 0} (ds : List SketchNode) (memo memo' : List (Option ℕ)) (stack : List code_frame.Frame) (f : code_frame.Frame) (r : Result X Stop) → AreStacked ds memo (map frame_of stack ++ (frame_of f ∷ [])) → IfDone r (IsMadeIn memo memo' f.node) →
     IfDone r (IsTurn ds memo memo' (map frame_of stack ++ (frame_of f ∷ [])) (map frame_of stack))
 turned_up ds memo memo' stack f (Ok x) nested h =
     subst (λ (m : List (Option ℕ)). IsTurn ds memo m (map frame_of stack ++ (frame_of f ∷ [])) (map frame_of stack)) (sym h.1) (turn_up ds memo (map frame_of stack) (frame_of f) nested h.0)
@@ -210,7 +210,7 @@ get-none (suc n) (suc k) h = get-none n k (omega (arith, h))
 alone : (stack before : List code_frame.Frame) (f : code_frame.Frame) → stack ≡ before ++ (f ∷ []) → before ≡ [] → map frame_of stack ≡ frame_of f ∷ []
 alone stack before f e h = popped stack before f e ∙ ap (λ (xs : List code_frame.Frame). map frame_of xs ++ (frame_of f ∷ [])) h
 
-pub stacked_first : (ds : List Drawn) (memo items : List (Option ℕ)) (n root : ℕ) (stack before : List code_frame.Frame) (f : code_frame.Frame) → memo ≡ items → items ≡ replicate n None → n ≡ length ds → root < length ds →
+pub stacked_first : (ds : List SketchNode) (memo items : List (Option ℕ)) (n root : ℕ) (stack before : List code_frame.Frame) (f : code_frame.Frame) → memo ≡ items → items ≡ replicate n None → n ≡ length ds → root < length ds →
     stack ≡ before ++ (f ∷ []) → before ≡ [] → f.node ≡ root → AreStacked ds memo (map frame_of stack)
 stacked_first ds memo items n root stack before f e h size below items-are b node =
     let under : f.node < length ds = subst (λ (k : ℕ). k < length ds) (sym node) below in

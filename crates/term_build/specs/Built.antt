@@ -10,7 +10,7 @@ use Rattle.poly_graph.specs.AtomTable.{AreAtoms}
 use Rattle.script_forms.specs.Walk.{Stand, most_size}
 
 -- the sorts of the constants, how many expressions were reached, and the shared nodes
-pub record Made : Type 0 where
+pub record BuilderModel : Type 0 where
   pub sorts : List Sort
   pub size : ℕ
   pub nodes : List Node
@@ -22,7 +22,7 @@ abbrev pub full_atom : List Term → ℕ × Kind → Atom
 full_atom terms (k, kind) = (slice_index_or terms k (constant zero_fraction), kind)
 
 -- the trees, atoms and forms that these nodes are
-abbrev pub stand_of : Made → Stand
+abbrev pub stand_of : BuilderModel → Stand
 stand_of m = record { size = m.size; trees = graph_terms m.nodes; atoms = map (full_atom (graph_terms m.nodes)) m.atoms; forms = graph_forms m.forms }
 
 -- a node of a form names an atom below this number, or a Bool constant
@@ -34,7 +34,7 @@ IsFormNode sorts n _ = Unit {0}
 abbrev pub IsAtomOf : List Node → ℕ × Kind → Type 0
 IsAtomOf nodes a = a.0 < length nodes
 
-pub record IsMade (m : Made) : Type 0 where
+pub record IsMade (m : BuilderModel) : Type 0 where
   pub few : m.size ≤ most_size
   pub graph : IsGraph m.nodes
   pub nodes : All (IsNode m.sorts) m.nodes
@@ -44,5 +44,5 @@ pub record IsMade (m : Made) : Type 0 where
   pub forms : All (IsFormNode m.sorts (length m.atoms)) m.forms
 
 -- nothing is made yet
-abbrev pub begun : List Sort → Made
+abbrev pub begun : List Sort → BuilderModel
 begun sorts = record { sorts = sorts; size = 0; nodes = []; atoms = []; forms = [] }

@@ -10,7 +10,7 @@ use Rattle.script_forms.specs.Walk.{Stand, Walked, stands, stops, unfolds_not, t
 use Rattle.poly_graph.specs.declared.refused.NoNode.{NoNode}
 use Rattle.poly_graph.specs.declared.refused.NoNode.TheVariants as none
 use Rattle.poly_graph.specs.declared.refused.Limit.TheVariants as limit
-use Rattle.term_build.specs.Built.{Made, stand_of}
+use Rattle.term_build.specs.Built.{BuilderModel, stand_of}
 use Rattle.term_build.specs.declared.stop.Fault.{Fault}
 use Rattle.term_build.specs.declared.stop.Fault.TheVariants.{NumberTooWide, DivisorNotConstant, ZeroDivisor, IllFormed}
 use Rattle.script_fault.specs.declared.limit.Limit.{Limit}
@@ -41,12 +41,12 @@ StopsAs claim w (stop.TooMany what) = IsBeyond claim w what
 StopsAs claim w stop.Memory = Unit {0}
 
 -- within each assertion the walk goes on from what was made to what is made now, or stops
-abbrev pub Does : {X : Type 0} → Made → Made → (Place → Stand → Walked) → Result X Stop → (X → Type 0) → Type 0
+abbrev pub Does : {X : Type 0} → BuilderModel → BuilderModel → (Place → Stand → Walked) → Result X Stop → (X → Type 0) → Type 0
 Does old new f (Ok x) P = ((claim : Place) → f claim (stand_of old) ≡ stands (stand_of new)) × P x
 Does old new f (Err e) P = (claim : Place) → StopsAs claim (f claim (stand_of old)) e
 
 -- node k is this tree
-abbrev pub IsTree : Made → Term → ℕ → Type 0
+abbrev pub IsTree : BuilderModel → Term → ℕ → Type 0
 IsTree m t k = slice_get (stand_of m).trees k ≡ Some t
 
 -- a number, or why there is none
@@ -58,9 +58,9 @@ limited_to (Err (none.TooMany limit.Forms)) = Err (stop.TooMany Forms)
 limited_to (Err none.Memory) = Err stop.Memory
 
 -- atom k is this one, and k its number
-abbrev pub IsAtom : Made → Atom → ℕ → Type 0
+abbrev pub IsAtom : BuilderModel → Atom → ℕ → Type 0
 IsAtom m a k = (k < length m.atoms) × (number_in (stand_of m).atoms a ≡ k) × IsTrue (already a (stand_of m).atoms)
 
 -- node k of the form is this one
-abbrev pub IsForm : Made → Form ℕ → ℕ → Type 0
+abbrev pub IsForm : BuilderModel → Form ℕ → ℕ → Type 0
 IsForm m f k = slice_get (stand_of m).forms k ≡ Some f

@@ -10,34 +10,34 @@ use Rattle.script_forms.specs.Terms.{Comparison}
 use Rattle.script_forms.specs.Atoms.{atom_of, number_in}
 use Rattle.script_forms.specs.Work.{Event, formed, form_events, forms_events}
 use Rattle.script_forms.specs.Walk.{Stand, after_events, make_form}
-use Rattle.term_build.specs.Built.{Made, stand_of}
+use Rattle.term_build.specs.Built.{BuilderModel, stand_of}
 use Rattle.term_build.specs.Does.{StopsAs, Does, IsForm}
 use Rattle.term_build.specs.declared.stop.Stop.{Stop}
 use Rattle.term_build.specs.Steps.{Emits}
-use Rattle.term_build.specs.Sketch.{Drawn, yes_drawn, no_drawn, comparison_drawn, bool_drawn, all_drawn, any_drawn, choice_drawn, drawn_at, drawn_children, comparison_of, IsAtomForm, IsFormOf, IsDrawing, IsSketch}
+use Rattle.term_build.specs.Sketch.{SketchNode, yes_sketch, no_sketch, comparison_sketch, bool_sketch, all_sketch, any_sketch, choice_sketch, sketch_at, sketch_children, comparison_of, IsAtomForm, IsFormOf, IsDrawing, IsSketch}
 use Rattle.term_build.specs.Settled.{Extends, FormSettled}
 use Rattle.term_build.specs.declared.shape.Frame as code_frame
-use Rattle.term_build.specs.declared.sketch.Drawn as code
-use Rattle.term_build.specs.declared.sketch.Drawn.TheVariants as drawn
+use Rattle.term_build.specs.declared.sketch.SketchNode as code
+use Rattle.term_build.specs.declared.sketch.SketchNode.TheVariants as drawn
 
-abbrev pub drawn_of : code.Drawn → Drawn
-drawn_of drawn.True = yes_drawn
-drawn_of drawn.False = no_drawn
-drawn_of (drawn.Compare at l r kind) = comparison_drawn (place_of at) l r (kind_of kind)
-drawn_of (drawn.BoolIs axis v) = bool_drawn axis v
-drawn_of (drawn.And ks) = all_drawn ks.items
-drawn_of (drawn.Or ks) = any_drawn ks.items
-drawn_of (drawn.Choice p x y) = choice_drawn p x y
+abbrev pub sketch_of : code.SketchNode → SketchNode
+sketch_of drawn.True = yes_sketch
+sketch_of drawn.False = no_sketch
+sketch_of (drawn.Compare at l r kind) = comparison_sketch (place_of at) l r (kind_of kind)
+sketch_of (drawn.BoolIs axis v) = bool_sketch axis v
+sketch_of (drawn.And ks) = all_sketch ks.items
+sketch_of (drawn.Or ks) = any_sketch ks.items
+sketch_of (drawn.Choice p x y) = choice_sketch p x y
 
-abbrev pub children : Drawn → List ℕ
-children (all_drawn ks) = ks
-children (any_drawn ks) = ks
+abbrev pub children : SketchNode → List ℕ
+children (all_sketch ks) = ks
+children (any_sketch ks) = ks
 children d = []
 
 -- what is left to do of a node of this form, where so many of its children are done
-abbrev pub left_of : List (Form Comparison) → Form Comparison → Drawn → ℕ → List Event
-left_of fs f (all_drawn ks) i = forms_events (drawn_children fs (drop i ks)) ++ (formed (all_form (forms_map atom_of (drawn_children fs ks))) ∷ [])
-left_of fs f (any_drawn ks) i = forms_events (drawn_children fs (drop i ks)) ++ (formed (any_form (forms_map atom_of (drawn_children fs ks))) ∷ [])
+abbrev pub left_of : List (Form Comparison) → Form Comparison → SketchNode → ℕ → List Event
+left_of fs f (all_sketch ks) i = forms_events (sketch_children fs (drop i ks)) ++ (formed (all_form (forms_map atom_of (sketch_children fs ks))) ∷ [])
+left_of fs f (any_sketch ks) i = forms_events (sketch_children fs (drop i ks)) ++ (formed (any_form (forms_map atom_of (sketch_children fs ks))) ∷ [])
 left_of fs f d i = form_events f
 
 -- a node whose children these are the numbers of, as many as are done
@@ -48,20 +48,20 @@ pub record Frame : Type 0 where
 abbrev pub frame_of : code_frame.Frame → Frame
 frame_of f = record { node = f.node; numbers = f.numbers.items }
 
-abbrev pub node_at : List Drawn → ℕ → Drawn
-node_at ds k = slice_index_or ds k yes_drawn
+abbrev pub node_at : List SketchNode → ℕ → SketchNode
+node_at ds k = slice_index_or ds k yes_sketch
 
-abbrev pub left_in : List (Form Comparison) → List Drawn → Frame → List Event
-left_in fs ds f = left_of fs (drawn_at fs f.node) (node_at ds f.node) (length f.numbers)
+abbrev pub left_in : List (Form Comparison) → List SketchNode → Frame → List Event
+left_in fs ds f = left_of fs (sketch_at fs f.node) (node_at ds f.node) (length f.numbers)
 
 -- of frames with the last one on top
-abbrev pub left_on : List (Form Comparison) → List Drawn → List Frame → List Event
+abbrev pub left_on : List (Form Comparison) → List SketchNode → List Frame → List Event
 left_on fs ds [] = []
 left_on fs ds (f ∷ above) = left_on fs ds above ++ left_in fs ds f
 
 -- node k is settled, and j is its number
 abbrev pub IsShaped : Stand → List (Form Comparison) → ℕ → ℕ → Type 0
-IsShaped s fs k j = FormSettled s (drawn_at fs k) × (slice_get s.forms j ≡ Some (form_map (number_in s.atoms) (form_map atom_of (drawn_at fs k))))
+IsShaped s fs k j = FormSettled s (sketch_at fs k) × (slice_get s.forms j ≡ Some (form_map (number_in s.atoms) (form_map atom_of (sketch_at fs k))))
 
 -- as many of the children as have numbers
 abbrev pub AreShaped : Stand → List (Form Comparison) → List ℕ → List ℕ → Type 0
@@ -69,7 +69,7 @@ AreShaped s fs ks [] = Unit {0}
 AreShaped s fs (k ∷ ks) (j ∷ js) = IsShaped s fs k j × AreShaped s fs ks js
 AreShaped s fs [] (j ∷ js) = ⊥
 
-abbrev pub FramesShaped : Stand → List (Form Comparison) → List Drawn → List Frame → Type 0
+abbrev pub FramesShaped : Stand → List (Form Comparison) → List SketchNode → List Frame → Type 0
 FramesShaped s fs ds [] = Unit {0}
 FramesShaped s fs ds (f ∷ rest) = AreShaped s fs (children (node_at ds f.node)) f.numbers × FramesShaped s fs ds rest
 
@@ -77,7 +77,7 @@ abbrev pub MemoShaped : Stand → List (Form Comparison) → List (Option ℕ) �
 MemoShaped s fs memo = (k j : ℕ) → slice_get memo k ≡ Some (Some j) → IsShaped s fs k j
 
 -- what is left on the stack is what is left of the walk over these events from s0
-pub record Goes (s0 : Stand) (es : List Event) (fs : List (Form Comparison)) (ds : List Drawn) (m : Made) (memo : List (Option ℕ)) (stack : List Frame) : Type 0 where
+pub record IsWalkLeft (s0 : Stand) (es : List Event) (fs : List (Form Comparison)) (ds : List SketchNode) (m : BuilderModel) (memo : List (Option ℕ)) (stack : List Frame) : Type 0 where
   pub walk : (claim : Place) → after_events claim s0 es ≡ after_events claim (stand_of m) (left_on fs ds stack)
   pub extends : Extends s0 (stand_of m)
   pub made : MemoShaped (stand_of m) fs memo
@@ -88,55 +88,55 @@ abbrev pub AreNumbers : ℕ → List ℕ → Type 0
 AreNumbers n js = IsTrue (list_all (λ j. nat_lt j n) js)
 
 -- the frame names a node of the sketch, and nodes of the form
-pub record IsFrame (ds : List Drawn) (m : Made) (f : Frame) : Type 0 where
+pub record IsFrame (ds : List SketchNode) (m : BuilderModel) (f : Frame) : Type 0 where
   pub node : f.node < length ds
   pub numbers : AreNumbers (length m.forms) f.numbers
 
-abbrev pub AreFrames : List Drawn → Made → List Frame → Type 0
+abbrev pub AreFrames : List SketchNode → BuilderModel → List Frame → Type 0
 AreFrames ds m fs = AllByRecursion (IsFrame ds m) fs
 
-pub record IsMemo (ds : List Drawn) (m : Made) (memo : List (Option ℕ)) : Type 0 where
+pub record IsMemo (ds : List SketchNode) (m : BuilderModel) (memo : List (Option ℕ)) : Type 0 where
   pub count : length memo ≡ length ds
   pub numbers : (k j : ℕ) → slice_get memo k ≡ Some (Some j) → j < length m.forms
 
 -- a node of the form, of numbers of its children
-abbrev pub joined : Drawn → List ℕ → FormNode
-joined yes_drawn js = yes_node
-joined no_drawn js = no_node
-joined (bool_drawn axis v) js = bool_node axis v
-joined (all_drawn ks) js = all_node js
-joined (any_drawn ks) js = any_node js
-joined (comparison_drawn at l r kind) js = no_node
-joined (choice_drawn p x y) js = no_node
+abbrev pub joined : SketchNode → List ℕ → FormNode
+joined yes_sketch js = yes_node
+joined no_sketch js = no_node
+joined (bool_sketch axis v) js = bool_node axis v
+joined (all_sketch ks) js = all_node js
+joined (any_sketch ks) js = any_node js
+joined (comparison_sketch at l r kind) js = no_node
+joined (choice_sketch p x y) js = no_node
 
 -- the last step of a node: a comparison's events, or one node of the form
-abbrev pub Finishes : Made → Made → Drawn → List ℕ → Result ℕ Stop → Type 0
-Finishes old new (comparison_drawn at l r kind) js r' =
+abbrev pub Finishes : BuilderModel → BuilderModel → SketchNode → List ℕ → Result ℕ Stop → Type 0
+Finishes old new (comparison_sketch at l r kind) js r' =
     let c = comparison_of (stand_of old).trees at l r kind in Emits old new (form_events (atom_is c)) r' (IsAtomForm new (atom_of c))
 Finishes old new d js r = let f = node_form (graph_forms old.forms) (joined d js) in Does old new (λ claim s. make_form claim s f) r (IsForm new f)
 
 -- the walk goes on from what is left on the stack, or stops
-abbrev pub Steps : {X : Type 0} → Stand → List Event → List (Form Comparison) → List Drawn → Made → List (Option ℕ) → List Frame → Result X Stop → Type 0
-Steps s0 es fs ds m memo stack (Ok x) = Goes s0 es fs ds m memo stack
+abbrev pub Steps : {X : Type 0} → Stand → List Event → List (Form Comparison) → List SketchNode → BuilderModel → List (Option ℕ) → List Frame → Result X Stop → Type 0
+Steps s0 es fs ds m memo stack (Ok x) = IsWalkLeft s0 es fs ds m memo stack
 Steps s0 es fs ds m memo stack (Err e) = (claim : Place) → StopsAs claim (after_events claim s0 es) e
 
 -- the node is made: what is left on the stack goes on, with its number in the memo
-abbrev pub Completes : Stand → List Event → List (Form Comparison) → List Drawn → Made → List (Option ℕ) → ℕ → List Frame → Result ℕ Stop → Type 0
-Completes s0 es fs ds m memo k stack (Ok j) = Goes s0 es fs ds m (slice_set memo k (Some j)) stack
+abbrev pub Completes : Stand → List Event → List (Form Comparison) → List SketchNode → BuilderModel → List (Option ℕ) → ℕ → List Frame → Result ℕ Stop → Type 0
+Completes s0 es fs ds m memo k stack (Ok j) = IsWalkLeft s0 es fs ds m (slice_set memo k (Some j)) stack
 Completes s0 es fs ds m memo k stack (Err e) = (claim : Place) → StopsAs claim (after_events claim s0 es) e
 
 -- whatever is left below it on a stack, the node of this frame is made
-abbrev pub Completing : {X : Type 0} → List Drawn → Made → Made → List (Option ℕ) → List (Option ℕ) → Frame → Result X Stop → Type 0
-Completing ds old new memo memo' f r = (m0 : Made) (es : List Event) (fs : List (Form Comparison)) (xs : List Frame) → IsDrawing (stand_of m0).trees ds fs → IsSketch m0 ds →
-    Goes (stand_of m0) es fs ds old memo (xs ++ (f ∷ [])) → Steps (stand_of m0) es fs ds new memo' xs r
+abbrev pub Completing : {X : Type 0} → List SketchNode → BuilderModel → BuilderModel → List (Option ℕ) → List (Option ℕ) → Frame → Result X Stop → Type 0
+Completing ds old new memo memo' f r = (m0 : BuilderModel) (es : List Event) (fs : List (Form Comparison)) (xs : List Frame) → IsDrawing (stand_of m0).trees ds fs → IsSketch m0 ds →
+    IsWalkLeft (stand_of m0) es fs ds old memo (xs ++ (f ∷ [])) → Steps (stand_of m0) es fs ds new memo' xs r
 
 -- the frame, taken from the top of the stack, goes on
-abbrev pub Stepping : {X : Type 0} → List Drawn → Made → Made → List (Option ℕ) → List (Option ℕ) → List code_frame.Frame → List code_frame.Frame → Frame → Result X Stop → Type 0
-Stepping ds old new memo memo' stack stack' f r = (m0 : Made) (es : List Event) (fs : List (Form Comparison)) → IsDrawing (stand_of m0).trees ds fs → IsSketch m0 ds →
-    Goes (stand_of m0) es fs ds old memo (map frame_of stack ++ (f ∷ [])) → Steps (stand_of m0) es fs ds new memo' (map frame_of stack') r
+abbrev pub Stepping : {X : Type 0} → List SketchNode → BuilderModel → BuilderModel → List (Option ℕ) → List (Option ℕ) → List code_frame.Frame → List code_frame.Frame → Frame → Result X Stop → Type 0
+Stepping ds old new memo memo' stack stack' f r = (m0 : BuilderModel) (es : List Event) (fs : List (Form Comparison)) → IsDrawing (stand_of m0).trees ds fs → IsSketch m0 ds →
+    IsWalkLeft (stand_of m0) es fs ds old memo (map frame_of stack ++ (f ∷ [])) → Steps (stand_of m0) es fs ds new memo' (map frame_of stack') r
 
 -- what is asked of a sketch, a memo and frames still holds
-pub record StaysSafe (ds : List Drawn) (old new : Made) (memo : List (Option ℕ)) : Type 0 where
+pub record StaysSafe (ds : List SketchNode) (old new : BuilderModel) (memo : List (Option ℕ)) : Type 0 where
   pub sketched : IsSketch new ds
   pub kept : IsMemo ds new memo
   pub more : length old.forms ≤ length new.forms
@@ -146,10 +146,10 @@ IfDone (Ok x) P = P
 IfDone (Err e) P = Unit {0}
 
 -- the builder does what the form of this node asks for
-abbrev pub Shaping : Made → Made → List Drawn → ℕ → Result ℕ Stop → Type 0
-Shaping old new ds root r = (fs : List (Form Comparison)) → IsDrawing (stand_of old).trees ds fs → Emits old new (form_events (drawn_at fs root)) r (IsFormOf new (form_map atom_of (drawn_at fs root)))
+abbrev pub Shaping : BuilderModel → BuilderModel → List SketchNode → ℕ → Result ℕ Stop → Type 0
+Shaping old new ds root r = (fs : List (Form Comparison)) → IsDrawing (stand_of old).trees ds fs → Emits old new (form_events (sketch_at fs root)) r (IsFormOf new (form_map atom_of (sketch_at fs root)))
 
 -- whatever the stack came from, it goes on to this one
-abbrev pub Draining : {X : Type 0} → List Drawn → Made → Made → List (Option ℕ) → List (Option ℕ) → List Frame → List Frame → Result X Stop → Type 0
-Draining ds old new memo memo' stack stack' r = (m0 : Made) (es : List Event) (fs : List (Form Comparison)) → IsDrawing (stand_of m0).trees ds fs → IsSketch m0 ds →
-    Goes (stand_of m0) es fs ds old memo stack → Steps (stand_of m0) es fs ds new memo' stack' r
+abbrev pub Draining : {X : Type 0} → List SketchNode → BuilderModel → BuilderModel → List (Option ℕ) → List (Option ℕ) → List Frame → List Frame → Result X Stop → Type 0
+Draining ds old new memo memo' stack stack' r = (m0 : BuilderModel) (es : List Event) (fs : List (Form Comparison)) → IsDrawing (stand_of m0).trees ds fs → IsSketch m0 ds →
+    IsWalkLeft (stand_of m0) es fs ds old memo stack → Steps (stand_of m0) es fs ds new memo' stack' r

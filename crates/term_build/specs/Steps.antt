@@ -9,20 +9,20 @@ use Rattle.poly_graph.specs.Term.{Term, constant, variable, add, multiply, squar
 use Rattle.script_forms.specs.Terms.{Unfolded, term, constant_or, same_term}
 use Rattle.script_forms.specs.Work.{Event}
 use Rattle.script_forms.specs.Walk.{after_events}
-use Rattle.term_build.specs.Built.{Made, stand_of}
+use Rattle.term_build.specs.Built.{BuilderModel, stand_of}
 use Rattle.term_build.specs.Does.{Does, IsTree}
 use Rattle.term_build.specs.declared.stop.Stop.{Stop}
 
 -- the tree of a node
-abbrev pub tree_of : Made → ℕ → Term
+abbrev pub tree_of : BuilderModel → ℕ → Term
 tree_of m k = slice_index_or (stand_of m).trees k (constant zero_fraction)
 
 -- the builder does what these events say
-abbrev pub Emits : {X : Type 0} → Made → Made → List Event → Result X Stop → (X → Type 0) → Type 0
+abbrev pub Emits : {X : Type 0} → BuilderModel → BuilderModel → List Event → Result X Stop → (X → Type 0) → Type 0
 Emits old new es r P = Does old new (λ claim s. after_events claim s es) r P
 
 -- node k is the tree that this unfolded to
-abbrev pub IsTreeOf : Made → Unfolded → ℕ → Type 0
+abbrev pub IsTreeOf : BuilderModel → Unfolded → ℕ → Type 0
 IsTreeOf m u k = (t : Term) × (u ≡ term t) × IsTree m t k
 
 abbrev pub as_constant : Term → Option Fraction

@@ -35,13 +35,25 @@ pub struct Builder {
 impl Model for Builder {
     ghost use Rattle.std.specs.Prelude.{map};
     ghost use Rattle.smt_script.specs.Views.{sort_of};
-    ghost use Rattle.term_build.specs.Built.{Made, IsMade};
+    ghost use Rattle.term_build.specs.Built.{BuilderModel, IsMade};
 
-    ghost Value = { Made };
+    ghost Value = { BuilderModel };
 
-    ghost view = { λ b. record { sorts = map sort_of b.sorts.items; size = b.size; nodes = b.graph; atoms = b.atoms; forms = b.forms } };
+    ghost view = { λ b. record {
+      sorts = map sort_of b.sorts.items;
+      size = b.size;
+      nodes = b.graph;
+      atoms = b.atoms;
+      forms = b.forms;
+    } };
 
-    ghost invariant = { λ b. IsMade (record { sorts = map sort_of b.sorts.items; size = b.size; nodes = b.graph; atoms = b.atoms; forms = b.forms }) };
+    ghost invariant = { λ b. IsMade (record {
+      sorts = map sort_of b.sorts.items;
+      size = b.size;
+      nodes = b.graph;
+      atoms = b.atoms;
+      forms = b.forms;
+    }) };
 }
 
 // The constant of a node.

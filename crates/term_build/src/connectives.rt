@@ -3,11 +3,11 @@ ghost use Rattle.std.specs.Prelude.{◌≡◌, IfOk, map};
 ghost use Rattle.poly_graph.specs.Form.{all_form, any_form};
 ghost use Rattle.script_forms.specs.Unfolded.{and_of, chain, different, implies_of, implies_two, or_of, xor_all, xor_from, xor_of};
 ghost use Rattle.term_build.specs.Calls.{Compares, drawn};
-ghost use Rattle.term_build.specs.Shapes.{drawn_of};
+ghost use Rattle.term_build.specs.Shapes.{sketch_of};
 ghost use Rattle.term_build.specs.Pairs.{Adds, AddsChoice, AddsPair, Connects, ConnectsChoice, ConnectsFrom, ConnectsTwo, ImpliesFrom, JoinsFour, JoinsTwo, Negates, Writes, WritesBool, constant_formula, same_of};
 ghost use Rattle.term_build.specs.declared.connectives.Pair as code_pair;
 
-use crate::sketch::{Arm, Drawn};
+use crate::sketch::{Arm, SketchNode};
 use poly_graph::Kind;
 use script_fault::Place;
 use std::alloc::{AllocError, Global};
@@ -20,8 +20,8 @@ pub struct Pair {
 }
 
 // A node at the end of the sketch: its number.
-fn add(sketch: &mut Vec<Drawn>, node: Drawn) -> Result<u32, AllocError>
-    ensures { Adds (drawn sketch.old) (drawn sketch.new) (drawn_of node) result }
+fn add(sketch: &mut Vec<SketchNode>, node: SketchNode) -> Result<u32, AllocError>
+    ensures { Adds (drawn sketch.old) (drawn sketch.new) (sketch_of node) result }
 {
     let Ok(k) = u32::try_from(sketch.len()) else {
         return Err(AllocError);
@@ -32,20 +32,24 @@ fn add(sketch: &mut Vec<Drawn>, node: Drawn) -> Result<u32, AllocError>
 
 /// A Real `ite` of these arms, at the end of the sketch.
 pub fn choose_arms(
-    sketch: &mut Vec<Drawn>,
+    sketch: &mut Vec<SketchNode>,
     condition: Pair,
     first: Arm,
     second: Arm,
 ) -> Result<Arm, AllocError>
     ensures { AddsChoice (drawn sketch.old) (drawn sketch.new) condition first second result }
 {
-    let k = add(sketch, Drawn::Choice(condition, first, second))?;
+    let k = add(sketch, SketchNode::Choice(condition, first, second))?;
     Ok(Arm::Choice(k))
 }
 
 // Two nodes at the end of the sketch: that of a truth, and that of its negation.
-fn add_pair(sketch: &mut Vec<Drawn>, yes: Drawn, no: Drawn) -> Result<Pair, AllocError>
-    ensures { AddsPair (drawn sketch.old) (drawn sketch.new) (drawn_of yes) (drawn_of no) result }
+fn add_pair(
+    sketch: &mut Vec<SketchNode>,
+    yes: SketchNode,
+    no: SketchNode,
+) -> Result<Pair, AllocError>
+    ensures { AddsPair (drawn sketch.old) (drawn sketch.new) (sketch_of yes) (sketch_of no) result }
 {
     let truth = add(sketch, yes)?;
     let negation = add(sketch, no)?;
@@ -53,25 +57,25 @@ fn add_pair(sketch: &mut Vec<Drawn>, yes: Drawn, no: Drawn) -> Result<Pair, Allo
 }
 
 // That both nodes hold.
-fn both(alloc: Global, sketch: &mut Vec<Drawn>, a: u32, b: u32) -> Result<u32, AllocError>
+fn both(alloc: Global, sketch: &mut Vec<SketchNode>, a: u32, b: u32) -> Result<u32, AllocError>
     ensures { JoinsTwo all_form (drawn sketch.old) (drawn sketch.new) a b result }
 {
     let children = vec![in alloc; a, b]?;
-    add(sketch, Drawn::And(children))
+    add(sketch, SketchNode::And(children))
 }
 
 // That one of two nodes holds.
-fn either(alloc: Global, sketch: &mut Vec<Drawn>, a: u32, b: u32) -> Result<u32, AllocError>
+fn either(alloc: Global, sketch: &mut Vec<SketchNode>, a: u32, b: u32) -> Result<u32, AllocError>
     ensures { JoinsTwo any_form (drawn sketch.old) (drawn sketch.new) a b result }
 {
     let children = vec![in alloc; a, b]?;
-    add(sketch, Drawn::Or(children))
+    add(sketch, SketchNode::Or(children))
 }
 
 // That both of two nodes hold, or both of two others.
 fn four(
     alloc: Global,
-    sketch: &mut Vec<Drawn>,
+    sketch: &mut Vec<SketchNode>,
     a: (u32, u32),
     b: (u32, u32),
 ) -> Result<u32, AllocError>
@@ -109,48 +113,56 @@ impl Pair {
     }
 
     /// That all of these hold.
-    pub fn all(alloc: Global, sketch: &mut Vec<Drawn>, pairs: &[Pair]) -> Result<Pair, AllocError>
+    pub fn all(
+        alloc: Global,
+        sketch: &mut Vec<SketchNode>,
+        pairs: &[Pair],
+    ) -> Result<Pair, AllocError>
         ensures { Connects and_of (drawn sketch.old) (drawn sketch.new) pairs.now result }
     {
         let truths = truths(alloc, pairs)?;
         let negations = negations(alloc, pairs)?;
-        add_pair(sketch, Drawn::And(truths), Drawn::Or(negations))
+        add_pair(sketch, SketchNode::And(truths), SketchNode::Or(negations))
     }
 
     /// That one of these holds.
-    pub fn any(alloc: Global, sketch: &mut Vec<Drawn>, pairs: &[Pair]) -> Result<Pair, AllocError>
+    pub fn any(
+        alloc: Global,
+        sketch: &mut Vec<SketchNode>,
+        pairs: &[Pair],
+    ) -> Result<Pair, AllocError>
         ensures { Connects or_of (drawn sketch.old) (drawn sketch.new) pairs.now result }
     {
         let truths = truths(alloc, pairs)?;
         let negations = negations(alloc, pairs)?;
-        add_pair(sketch, Drawn::Or(truths), Drawn::And(negations))
+        add_pair(sketch, SketchNode::Or(truths), SketchNode::And(negations))
     }
 
     /// The constant.
-    pub fn constant(sketch: &mut Vec<Drawn>, value: bool) -> Result<Pair, AllocError>
+    pub fn constant(sketch: &mut Vec<SketchNode>, value: bool) -> Result<Pair, AllocError>
         ensures { Writes (constant_formula value) (drawn sketch.old) (drawn sketch.new) result }
     {
         if value {
-            add_pair(sketch, Drawn::True, Drawn::False)
+            add_pair(sketch, SketchNode::True, SketchNode::False)
         } else {
-            add_pair(sketch, Drawn::False, Drawn::True)
+            add_pair(sketch, SketchNode::False, SketchNode::True)
         }
     }
 
     /// The value of a Bool constant, whose axis this is.
-    pub fn bool_is(sketch: &mut Vec<Drawn>, axis: u32) -> Result<Pair, AllocError>
+    pub fn bool_is(sketch: &mut Vec<SketchNode>, axis: u32) -> Result<Pair, AllocError>
         ensures { WritesBool axis (drawn sketch.old) (drawn sketch.new) result }
     {
         add_pair(
             sketch,
-            Drawn::BoolIs(axis, true),
-            Drawn::BoolIs(axis, false),
+            SketchNode::BoolIs(axis, true),
+            SketchNode::BoolIs(axis, false),
         )
     }
 
     /// The comparison of the trees of two nodes, of an expression at this place. That they differ says nothing.
     pub fn compare_two(
-        sketch: &mut Vec<Drawn>,
+        sketch: &mut Vec<SketchNode>,
         at: Place,
         left: u32,
         right: u32,
@@ -161,18 +173,18 @@ impl Pair {
         match kind {
             Kind::Le => add_pair(
                 sketch,
-                Drawn::Compare(at, left, right, Kind::Le),
-                Drawn::Compare(at, left, right, Kind::Ge),
+                SketchNode::Compare(at, left, right, Kind::Le),
+                SketchNode::Compare(at, left, right, Kind::Ge),
             ),
             Kind::Ge => add_pair(
                 sketch,
-                Drawn::Compare(at, left, right, Kind::Ge),
-                Drawn::Compare(at, left, right, Kind::Le),
+                SketchNode::Compare(at, left, right, Kind::Ge),
+                SketchNode::Compare(at, left, right, Kind::Le),
             ),
             Kind::Eq => add_pair(
                 sketch,
-                Drawn::Compare(at, left, right, Kind::Eq),
-                Drawn::True,
+                SketchNode::Compare(at, left, right, Kind::Eq),
+                SketchNode::True,
             ),
         }
     }
@@ -180,7 +192,7 @@ impl Pair {
     /// That the second holds where the first does.
     pub fn implies_two(
         alloc: Global,
-        sketch: &mut Vec<Drawn>,
+        sketch: &mut Vec<SketchNode>,
         first: Pair,
         second: Pair,
     ) -> Result<Pair, AllocError>
@@ -189,13 +201,13 @@ impl Pair {
     {
         let yes = vec![in alloc; first.negation, second.truth]?;
         let no = vec![in alloc; first.truth, second.negation]?;
-        add_pair(sketch, Drawn::Or(yes), Drawn::And(no))
+        add_pair(sketch, SketchNode::Or(yes), SketchNode::And(no))
     }
 
     /// The second where the first holds, else the third.
     pub fn choose(
         alloc: Global,
-        sketch: &mut Vec<Drawn>,
+        sketch: &mut Vec<SketchNode>,
         condition: Pair,
         first: Pair,
         second: Pair,
@@ -221,7 +233,7 @@ impl Pair {
     /// That one of two holds, and not the other.
     pub fn exclusive_two(
         alloc: Global,
-        sketch: &mut Vec<Drawn>,
+        sketch: &mut Vec<SketchNode>,
         first: Pair,
         second: Pair,
     ) -> Result<Pair, AllocError>
@@ -231,7 +243,11 @@ impl Pair {
     }
 
     /// That each link of a chain holds; one alone is its own.
-    pub fn chain(alloc: Global, sketch: &mut Vec<Drawn>, pairs: &[Pair]) -> Result<Pair, AllocError>
+    pub fn chain(
+        alloc: Global,
+        sketch: &mut Vec<SketchNode>,
+        pairs: &[Pair],
+    ) -> Result<Pair, AllocError>
         ensures { Connects chain (drawn sketch.old) (drawn sketch.new) pairs.now result }
     {
         if pairs.len() == 1 {
@@ -243,7 +259,7 @@ impl Pair {
     /// That two Bool expressions are equal.
     pub fn same_two(
         alloc: Global,
-        sketch: &mut Vec<Drawn>,
+        sketch: &mut Vec<SketchNode>,
         first: Pair,
         second: Pair,
     ) -> Result<Pair, AllocError>
@@ -256,19 +272,19 @@ impl Pair {
     /// That Reals differ, whose pairs' equalities these are: this says nothing, and its negation that one of them holds.
     pub fn different(
         alloc: Global,
-        sketch: &mut Vec<Drawn>,
+        sketch: &mut Vec<SketchNode>,
         pairs: &[Pair],
     ) -> Result<Pair, AllocError>
         ensures { Connects different (drawn sketch.old) (drawn sketch.new) pairs.now result }
     {
         let equal = truths(alloc, pairs)?;
-        add_pair(sketch, Drawn::True, Drawn::Or(equal))
+        add_pair(sketch, SketchNode::True, SketchNode::Or(equal))
     }
 
     /// That each implies what comes after it, taken from the right.
     pub fn implies(
         alloc: Global,
-        sketch: &mut Vec<Drawn>,
+        sketch: &mut Vec<SketchNode>,
         pairs: &[Pair],
     ) -> Result<Pair, AllocError>
         ensures { Connects implies_of (drawn sketch.old) (drawn sketch.new) pairs.now result }
@@ -282,7 +298,7 @@ impl Pair {
     /// That an odd number of these hold, taken from the left.
     pub fn exclusive(
         alloc: Global,
-        sketch: &mut Vec<Drawn>,
+        sketch: &mut Vec<SketchNode>,
         pairs: &[Pair],
     ) -> Result<Pair, AllocError>
         ensures { Connects xor_all (drawn sketch.old) (drawn sketch.new) pairs.now result }
@@ -297,7 +313,7 @@ impl Pair {
 // That an odd number of a first pair and these hold.
 fn exclusive_from(
     alloc: Global,
-    sketch: &mut Vec<Drawn>,
+    sketch: &mut Vec<SketchNode>,
     first: Pair,
     rest: &[Pair],
 ) -> Result<Pair, AllocError>
@@ -313,7 +329,7 @@ fn exclusive_from(
 // That each but the last implies what comes after it, taken from the right.
 fn implies_from(
     alloc: Global,
-    sketch: &mut Vec<Drawn>,
+    sketch: &mut Vec<SketchNode>,
     before: &[Pair],
     last: Pair,
 ) -> Result<Pair, AllocError>

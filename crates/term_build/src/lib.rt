@@ -16,5 +16,5 @@ mod stop;
 pub use builder::Builder;
 pub use connectives::{Pair, choose_arms};
 pub use shape::make_form;
-pub use sketch::{Arm, Drawn, choice_at};
+pub use sketch::{Arm, SketchNode, choice_at};
 pub use stop::{Fault, Stop};

@@ -2,11 +2,11 @@
 ghost use Rattle.std.specs.Prelude.{◌≡◌, ◌<◌, ◌^◌, length, map, replicate, slice_get, IfOk, None, Some};
 ghost use Rattle.term_build.specs.Calls.{CompletesFrame, DrainsStack, GoesOn, IsComplete, KeepsFrames, KeepsSafe, NumbersRoot, TakesTurn, frames, frames_under};
 ghost use Rattle.term_build.specs.Sketch.{IsDrawn, IsSketch};
-ghost use Rattle.term_build.specs.Shapes.{AreFrames, AreNumbers, Shaping, Finishes, IfDone, IsFrame, IsMemo, children, drawn_of, frame_of};
+ghost use Rattle.term_build.specs.Shapes.{AreFrames, AreNumbers, Shaping, Finishes, IfDone, IsFrame, IsMemo, children, sketch_of, frame_of};
 ghost use Rattle.term_build.specs.Turns.{AreStacked, IsMadeIn, IsNumbered};
 
 use crate::builder::Builder;
-use crate::sketch::Drawn;
+use crate::sketch::SketchNode;
 use crate::stop::Stop;
 use poly_graph::FormNode;
 use std::alloc::{AllocError, Global};
@@ -19,43 +19,43 @@ pub(crate) struct Frame {
 }
 
 // The child of this place of a node.
-fn child_at(node: &Drawn, i: usize) -> Option<u32>
-    ensures { result ≡ slice_get (children (drawn_of node.now)) i }
+fn child_at(node: &SketchNode, i: usize) -> Option<u32>
+    ensures { result ≡ slice_get (children (sketch_of node.now)) i }
 {
     match node {
-        Drawn::And(children) | Drawn::Or(children) => children.get(i).copied(),
+        SketchNode::And(children) | SketchNode::Or(children) => children.get(i).copied(),
         _ => None,
     }
 }
 
 // The number of a node's form, whose children have these numbers.
-fn finish(builder: &mut Builder, node: &Drawn, numbers: Vec<u32>) -> Result<u32, Stop>
-    requires drawn { IsDrawn builder.old (drawn_of node.now) }
+fn finish(builder: &mut Builder, node: &SketchNode, numbers: Vec<u32>) -> Result<u32, Stop>
+    requires drawn { IsDrawn builder.old (sketch_of node.now) }
     requires below { AreNumbers (length builder.old.forms) numbers.items }
-    ensures does { Finishes builder.old builder.new (drawn_of node.now) numbers.items result }
+    ensures does { Finishes builder.old builder.new (sketch_of node.now) numbers.items result }
     ensures sorts { builder.new.sorts ≡ builder.old.sorts }
 {
     match node {
-        Drawn::True => builder.form(FormNode::True),
-        Drawn::False | Drawn::Choice(_, _, _) => builder.form(FormNode::False),
-        Drawn::Compare(at, left, right, kind) => builder.compare(*at, *left, *right, *kind),
-        Drawn::BoolIs(axis, value) => builder.form(FormNode::BoolIs(*axis, *value)),
-        Drawn::And(_) => builder.form(FormNode::And(numbers)),
-        Drawn::Or(_) => builder.form(FormNode::Or(numbers)),
+        SketchNode::True => builder.form(FormNode::True),
+        SketchNode::False | SketchNode::Choice(_, _, _) => builder.form(FormNode::False),
+        SketchNode::Compare(at, left, right, kind) => builder.compare(*at, *left, *right, *kind),
+        SketchNode::BoolIs(axis, value) => builder.form(FormNode::BoolIs(*axis, *value)),
+        SketchNode::And(_) => builder.form(FormNode::And(numbers)),
+        SketchNode::Or(_) => builder.form(FormNode::Or(numbers)),
     }
 }
 
 // The node of a frame, all of whose children are made, is made too.
 fn complete(
     builder: &mut Builder,
-    sketch: &[Drawn],
+    sketch: &[SketchNode],
     memo: &mut [Option<u32>],
     frame: Frame,
 ) -> Result<(), Stop>
-    requires sketched { IsSketch builder.old (map drawn_of sketch.now) }
-    requires framed { IsFrame (map drawn_of sketch.now) builder.old (frame_of frame) }
-    requires kept { IsMemo (map drawn_of sketch.now) builder.old memo.old }
-    requires done { IsComplete (map drawn_of sketch.now) (frame_of frame) }
+    requires sketched { IsSketch builder.old (map sketch_of sketch.now) }
+    requires framed { IsFrame (map sketch_of sketch.now) builder.old (frame_of frame) }
+    requires kept { IsMemo (map sketch_of sketch.now) builder.old memo.old }
+    requires done { IsComplete (map sketch_of sketch.now) (frame_of frame) }
     ensures does { CompletesFrame sketch.now builder.old builder.new memo.old memo.new
         frame result }
     ensures safe { KeepsSafe sketch.now builder.old builder.new memo.new result }
@@ -73,15 +73,16 @@ fn complete(
 fn step(
     alloc: Global,
     builder: &mut Builder,
-    sketch: &[Drawn],
+    sketch: &[SketchNode],
     memo: &mut [Option<u32>],
     stack: &mut Vec<Frame>,
     mut frame: Frame,
 ) -> Result<(), Stop>
-    requires sketched { IsSketch builder.old (map drawn_of sketch.now) }
-    requires framed { IsFrame (map drawn_of sketch.now) builder.old (frame_of frame) }
-    requires kept { IsMemo (map drawn_of sketch.now) builder.old memo.old }
-    requires nested { AreStacked (map drawn_of sketch.now) memo.old (frames_under stack.old frame) }
+    requires sketched { IsSketch builder.old (map sketch_of sketch.now) }
+    requires framed { IsFrame (map sketch_of sketch.now) builder.old (frame_of frame) }
+    requires kept { IsMemo (map sketch_of sketch.now) builder.old memo.old }
+    requires nested { AreStacked (map sketch_of sketch.now) memo.old
+        (frames_under stack.old frame) }
     ensures does { GoesOn sketch.now builder.old builder.new memo.old memo.new stack.old stack.new
         frame result }
     ensures safe { KeepsSafe sketch.now builder.old builder.new memo.new result }
@@ -109,14 +110,14 @@ fn step(
 fn drain(
     alloc: Global,
     builder: &mut Builder,
-    sketch: &[Drawn],
+    sketch: &[SketchNode],
     memo: &mut [Option<u32>],
     stack: &mut Vec<Frame>,
 ) -> Result<(), Stop>
-    requires sketched { IsSketch builder.old (map drawn_of sketch.now) }
-    requires kept { IsMemo (map drawn_of sketch.now) builder.old memo.old }
-    requires framed { AreFrames (map drawn_of sketch.now) builder.old (frames stack.old) }
-    requires nested { AreStacked (map drawn_of sketch.now) memo.old (frames stack.old) }
+    requires sketched { IsSketch builder.old (map sketch_of sketch.now) }
+    requires kept { IsMemo (map sketch_of sketch.now) builder.old memo.old }
+    requires framed { AreFrames (map sketch_of sketch.now) builder.old (frames stack.old) }
+    requires nested { AreStacked (map sketch_of sketch.now) memo.old (frames stack.old) }
     ensures does { DrainsStack sketch.now builder.old builder.new memo.old memo.new
         stack.old result }
     ensures rooted { NumbersRoot memo.old memo.new stack.old result }
@@ -151,12 +152,12 @@ fn number_of(memo: &[Option<u32>], k: u32) -> u32
 pub fn make_form(
     alloc: Global,
     builder: &mut Builder,
-    sketch: &[Drawn],
+    sketch: &[SketchNode],
     root: u32,
 ) -> Result<u32, Stop>
-    requires sketched { IsSketch builder.old (map drawn_of sketch.now) }
+    requires sketched { IsSketch builder.old (map sketch_of sketch.now) }
     requires rooted { root < length sketch.now }
-    ensures does { Shaping builder.old builder.new (map drawn_of sketch.now) root result }
+    ensures does { Shaping builder.old builder.new (map sketch_of sketch.now) root result }
     ensures sorts { builder.new.sorts ≡ builder.old.sorts }
 {
     let mut memo = none_made(alloc, sketch.len())?;

@@ -1,6 +1,6 @@
 // The forms of expressions before their atoms have numbers.
 ghost use Rattle.std.specs.Prelude.{◌≡◌, map, slice_get};
-ghost use Rattle.term_build.specs.Shapes.{drawn_of};
+ghost use Rattle.term_build.specs.Shapes.{sketch_of};
 ghost use Rattle.term_build.specs.Sketch.{as_choice};
 
 use crate::connectives::Pair;
@@ -17,7 +17,7 @@ pub enum Arm {
 /// A node of the forms of expressions, with its comparisons in place. The numbers of `And` and `Or` are those of
 /// their children, which come before it.
 #[derive(Debug, Drop)]
-pub enum Drawn {
+pub enum SketchNode {
     True,
     False,
     /// An expression at this place compares the trees of two nodes.
@@ -31,11 +31,11 @@ pub enum Drawn {
 }
 
 /// The condition and the arms of the `ite` of this node.
-pub fn choice_at(sketch: &[Drawn], k: u32) -> Option<(Pair, Arm, Arm)>
-    ensures { result ≡ as_choice (slice_get (map drawn_of sketch.now) k) }
+pub fn choice_at(sketch: &[SketchNode], k: u32) -> Option<(Pair, Arm, Arm)>
+    ensures { result ≡ as_choice (slice_get (map sketch_of sketch.now) k) }
 {
     match sketch.get(k as usize) {
-        Some(Drawn::Choice(condition, first, second)) => Some((*condition, *first, *second)),
+        Some(SketchNode::Choice(condition, first, second)) => Some((*condition, *first, *second)),
         _ => None,
     }
 }

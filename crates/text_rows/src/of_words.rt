@@ -30,7 +30,7 @@ fn is_refused(alloc: Global, line: &str) -> Result<bool, AllocError> {
     }
 }
 
-fn asks(alloc: Global, line: &str, asked: Asked<'_>) -> Result<bool, AllocError> {
+fn asks(alloc: Global, line: &str, asked: Request<'_>) -> Result<bool, AllocError> {
     let words = words_of(alloc, line)?;
     match read_words(alloc, &words) {
         Ok(found) => Ok(found == asked),
@@ -42,7 +42,7 @@ fn solves(alloc: Global, line: &str, options: Options) -> Result<bool, AllocErro
     asks(
         alloc,
         line,
-        Asked::Solve(SolveWords {
+        Request::Solve(SolveWords {
             script: "s",
             cert: "c",
             options,
@@ -200,13 +200,13 @@ fn solve_is_asked(rt: HostRuntime) -> Result<(), Fail> {
         cert: "-",
         options: usual,
     };
-    assert!(rt; asks(alloc, "dpoly solve - -", Asked::Solve(streams))?);
+    assert!(rt; asks(alloc, "dpoly solve - -", Request::Solve(streams))?);
     let dashed = SolveWords {
         script: "--help",
         cert: "-c",
         options: usual,
     };
-    assert!(rt; asks(alloc, "dpoly solve -- --help -c", Asked::Solve(dashed))?);
+    assert!(rt; asks(alloc, "dpoly solve -- --help -c", Request::Solve(dashed))?);
     Ok(())
 }
 
@@ -218,7 +218,7 @@ fn other_commands_are_asked(rt: HostRuntime) -> Result<(), Fail> {
         cert: "c",
         bound: None,
     };
-    assert!(rt; asks(alloc, "dpoly check - c", Asked::Check(piped))?);
+    assert!(rt; asks(alloc, "dpoly check - c", Request::Check(piped))?);
     let bounded = CheckWords {
         script: "s",
         cert: "-",
@@ -228,7 +228,7 @@ fn other_commands_are_asked(rt: HostRuntime) -> Result<(), Fail> {
         asks(
             alloc,
             "any check s - --bound 4294967295",
-            Asked::Check(bounded)
+            Request::Check(bounded)
         )?
     );
     let renewed = UpgradeWords {
@@ -241,7 +241,7 @@ fn other_commands_are_asked(rt: HostRuntime) -> Result<(), Fail> {
         asks(
             alloc,
             "dpoly upgrade - c - --bound 1",
-            Asked::Upgrade(renewed)
+            Request::Upgrade(renewed)
         )?
     );
     let first = DemoWords {
@@ -250,7 +250,7 @@ fn other_commands_are_asked(rt: HostRuntime) -> Result<(), Fail> {
         cert: "-",
         options: usual_options(1),
     };
-    assert!(rt; asks(alloc, "dpoly demo 0 1 -", Asked::Demo(first))?);
+    assert!(rt; asks(alloc, "dpoly demo 0 1 -", Request::Demo(first))?);
     let last = DemoWords {
         seed: 18446744073709551615,
         size: 10000,
@@ -261,7 +261,7 @@ fn other_commands_are_asked(rt: HostRuntime) -> Result<(), Fail> {
         asks(
             alloc,
             "dpoly demo 18446744073709551615 10000 c --workers 64",
-            Asked::Demo(last)
+            Request::Demo(last)
         )?
     );
     Ok(())

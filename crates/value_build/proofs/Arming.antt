@@ -9,9 +9,9 @@ use Rattle.poly_graph.specs.Term.{Term, Kind, le, ge, eq}
 use Rattle.script_forms.specs.Terms.{Unfolded, refused, divisor_not_constant, hold_either, divide_tree, step, steps, all_steps}
 use Rattle.script_forms.specs.Unfolded.{unfolded_operation}
 use Rattle.script_forms.specs.Work.{Event, met, divide_events, step_events, steps_events, all_events, compare_events, together, operation_events}
-use Rattle.term_build.specs.Built.{Made, stand_of}
+use Rattle.term_build.specs.Built.{BuilderModel, stand_of}
 use Rattle.term_build.specs.Settled.{Extends}
-use Rattle.term_build.specs.Sketch.{Drawn, IsSketch}
+use Rattle.term_build.specs.Sketch.{SketchNode, IsSketch}
 use Rattle.term_build.specs.Pairs.{Grown, Negates, compared}
 use Rattle.term_build.specs.Steps.{Emits}
 use Rattle.term_build.specs.declared.connectives.Pair.{Pair}
@@ -24,7 +24,7 @@ use Rattle.term_build.proofs.Emits.{emits_then, emits_stop, emits_more, emits_fa
 use Rattle.term_build.proofs.Pairs.{grown_self, grown_both}
 use Rattle.declared_box.specs.Same.{SameBounds}
 use Rattle.value_build.specs.Arithmetic.{is_difference, operator_of_step, tree_of_step, events_of_step}
-use Rattle.value_build.specs.Arms.{arm_of, IsSomeArm, IsLifted, Lifts, LiftsOne, LiftsTwo, IsSaid, Says, SaysTwo, AreSomeValues, IsSomeValue, hold_choice, is_quotient, Folds, Calculates, arm_bounds, linked, link_bounds, Links, LinksWith, LinksEach}
+use Rattle.value_build.specs.Arms.{arm_of, IsSomeArm, IsLifted, Lifts, LiftsOne, LiftsTwo, IsSaid, IsPairAnswer, SaysTwo, AreSomeValues, IsSomeValue, hold_choice, is_quotient, Folds, Calculates, arm_bounds, linked, link_bounds, Links, LinksWith, LinksEach}
 use Rattle.value_build.specs.Bounds.{AddsList, bounds_of_kind, chained_bounds}
 use Rattle.value_build.specs.Chains.{others_of, spread_over}
 use Rattle.value_build.specs.Making.{Making, making, Grows, Steps, MoreLists}
@@ -55,15 +55,15 @@ arms_tail (values.Real k) vs e = e
 arms_tail (values.Choice k) vs e = e
 arms_tail (values.Bool p n) vs e = cc
 
-pub value_arm : (m : Made) (ds : List Drawn) (lists : List (List Bound)) (u : Unfolded) (b : Bounding) (v : Value) → are_arms (v ∷ []) ≡ true → IsValue (making m ds lists) u b v → IsArm m ds u (arm_of v)
+pub value_arm : (m : BuilderModel) (ds : List SketchNode) (lists : List (List Bound)) (u : Unfolded) (b : Bounding) (v : Value) → are_arms (v ∷ []) ≡ true → IsValue (making m ds lists) u b v → IsArm m ds u (arm_of v)
 value_arm m ds lists u b (values.Real k) e h = subst (λ (x : Unfolded). IsArm m ds x (arm.Tree k)) (sym h.1) (is_tree h.2)
 value_arm m ds lists u b (values.Choice k) e h = h.0
 value_arm m ds lists u b (values.Bool p n) e h = cc
 
-pub some_arm : (m : Made) (ds : List Drawn) (v : Value) → are_arms (v ∷ []) ≡ true → IsSomeValue m ds v → IsSomeArm m ds (arm_of v)
+pub some_arm : (m : BuilderModel) (ds : List SketchNode) (v : Value) → are_arms (v ∷ []) ≡ true → IsSomeValue m ds v → IsSomeArm m ds (arm_of v)
 some_arm m ds v e h = (h.1, value_arm m ds h.0 h.1 h.2 v e h.3)
 
-pub first_value : (m : Made) (ds : List Drawn) (v : Value) (vs : List Value) → AreSomeValues m ds (v ∷ vs) → IsSomeValue m ds v
+pub first_value : (m : BuilderModel) (ds : List SketchNode) (v : Value) (vs : List Value) → AreSomeValues m ds (v ∷ vs) → IsSomeValue m ds v
 first_value m ds v vs h = go h.0 h.1 h.2 h.3
   where
     go : (lists : List (List Bound)) (us : List Unfolded) (bs : List Bounding) → AreValues (making m ds lists) us bs (v ∷ vs) → IsSomeValue m ds v
@@ -72,7 +72,7 @@ first_value m ds v vs h = go h.0 h.1 h.2 h.3
     go lists [] (b ∷ bs) k = elim k [ ]
     go lists (u ∷ us) [] k = elim k [ ]
 
-pub later_values : (m : Made) (ds : List Drawn) (v : Value) (vs : List Value) → AreSomeValues m ds (v ∷ vs) → AreSomeValues m ds vs
+pub later_values : (m : BuilderModel) (ds : List SketchNode) (v : Value) (vs : List Value) → AreSomeValues m ds (v ∷ vs) → AreSomeValues m ds vs
 later_values m ds v vs h = go h.0 h.1 h.2 h.3
   where
     go : (lists : List (List Bound)) (us : List Unfolded) (bs : List Bounding) → AreValues (making m ds lists) us bs (v ∷ vs) → AreSomeValues m ds vs
@@ -83,26 +83,26 @@ later_values m ds v vs h = go h.0 h.1 h.2 h.3
 
 -- ---- what stands stays
 
-pub record Stood (m m' : Made) (ds ds' : List Drawn) : Type 0 where
+pub record Stood (m m' : BuilderModel) (ds ds' : List SketchNode) : Type 0 where
   pub stand : Extends (stand_of m) (stand_of m')
   pub grown : Grown ds ds'
   pub sketch : IsSketch m' ds'
 
-pub stood_lift : (m m1 : Made) (ds ds1 : List Drawn) (es : List Event) (u : Unfolded) (x : Arm) → Lifts m ds m1 ds1 es u (Ok x) → Stood m m1 ds ds1
+pub stood_lift : (m m1 : BuilderModel) (ds ds1 : List SketchNode) (es : List Event) (u : Unfolded) (x : Arm) → Lifts m ds m1 ds1 es u (Ok x) → Stood m m1 ds ds1
 stood_lift m m1 ds ds1 es u x h = record { stand = emits_grows (IsLifted m1 ds ds1 u) m m1 es x h; grown = h.1.grown; sketch = h.1.sketch }
 
-stood-grows : (m m' : Made) (ds ds' : List Drawn) (lists : List (List Bound)) → Stood m m' ds ds' → Grows (making m ds lists) (making m' ds' lists)
+stood-grows : (m m' : BuilderModel) (ds ds' : List SketchNode) (lists : List (List Bound)) → Stood m m' ds ds' → Grows (making m ds lists) (making m' ds' lists)
 stood-grows m m' ds ds' lists h = record { stand = h.stand; drawn = h.grown; bounds = lists_self lists }
 
-pub values_stood : (m m' : Made) (ds ds' : List Drawn) (vs : List Value) → Stood m m' ds ds' → AreSomeValues m ds vs → AreSomeValues m' ds' vs
+pub values_stood : (m m' : BuilderModel) (ds ds' : List SketchNode) (vs : List Value) → Stood m m' ds ds' → AreSomeValues m ds vs → AreSomeValues m' ds' vs
 values_stood m m' ds ds' vs s h = (h.0, h.1, h.2, values_stay (making m ds h.0) (making m' ds' h.0) h.1 h.2 vs (stood-grows m m' ds ds' h.0 s) h.3)
 
 -- ---- steps from the left
 
-wider : (m1 m2 : Made) (ds ds1 ds2 : List Drawn) (es : List Event) (u : Unfolded) (r : Result Arm Stop) → Grown ds ds1 → Lifts m1 ds1 m2 ds2 es u r → Emits m1 m2 es r (IsLifted m2 ds ds2 u)
+wider : (m1 m2 : BuilderModel) (ds ds1 ds2 : List SketchNode) (es : List Event) (u : Unfolded) (r : Result Arm Stop) → Grown ds ds1 → Lifts m1 ds1 m2 ds2 es u r → Emits m1 m2 es r (IsLifted m2 ds ds2 u)
 wider m1 m2 ds ds1 ds2 es u r g h = emits_more (IsLifted m2 ds1 ds2 u) (IsLifted m2 ds ds2 u) m1 m2 es r (λ x p. record { grown = grown_both ds ds1 ds2 g p.grown; sketch = p.sketch; arm = p.arm }) h
 
-pub folds_none : (m : Made) (ds : List Drawn) (at : Place) (s : Step) (x : Arm) → IsSketch m ds → Folds m ds m ds at s x [] (Ok x)
+pub folds_none : (m : BuilderModel) (ds : List SketchNode) (at : Place) (s : Step) (x : Arm) → IsSketch m ds → Folds m ds m ds at s x [] (Ok x)
 folds_none m ds at s x k = λ lists u us bs h l. go lists u us bs h l
   where
     go : (lists : List (List Bound)) (u : Unfolded) (us : List Unfolded) (bs : List Bounding) → IsArm m ds u x → AreValues (making m ds lists) us bs [] →
@@ -112,7 +112,7 @@ folds_none m ds at s x k = λ lists u us bs h l. go lists u us bs h l
     go lists u (w ∷ us) [] h l = elim l [ ]
     go lists u (w ∷ us) (b ∷ bs) h l = elim l [ ]
 
-pub folds_on : (m m1 m2 : Made) (ds ds1 ds2 : List Drawn) (at : Place) (s : Step) (x y : Arm) (v : Value) (vs : List Value) (r : Result Arm Stop) → are_arms (v ∷ vs) ≡ true →
+pub folds_on : (m m1 m2 : BuilderModel) (ds ds1 ds2 : List SketchNode) (at : Place) (s : Step) (x y : Arm) (v : Value) (vs : List Value) (r : Result Arm Stop) → are_arms (v ∷ vs) ≡ true →
     LiftsTwo m ds m1 ds1 at s x (arm_of v) (Ok y) → Folds m1 ds1 m2 ds2 at s y vs r → Folds m ds m2 ds2 at s x (v ∷ vs) r
 folds_on m m1 m2 ds ds1 ds2 at s x y v vs r e two rest = λ lists u us bs h l. go lists u us bs h l
   where
@@ -129,7 +129,7 @@ folds_on m m1 m2 ds ds1 ds2 at s x y v vs r e two rest = λ lists u us bs h l. g
     go lists u [] (b ∷ bs) h l = elim l [ ]
     go lists u (w ∷ us) [] h l = elim l [ ]
 
-pub folds_stop : (m m1 : Made) (ds ds1 : List Drawn) (at : Place) (s : Step) (x : Arm) (v : Value) (vs : List Value) (z : Stop) → are_arms (v ∷ vs) ≡ true →
+pub folds_stop : (m m1 : BuilderModel) (ds ds1 : List SketchNode) (at : Place) (s : Step) (x : Arm) (v : Value) (vs : List Value) (z : Stop) → are_arms (v ∷ vs) ≡ true →
     LiftsTwo m ds m1 ds1 at s x (arm_of v) (Err z) → Folds m ds m1 ds1 at s x (v ∷ vs) (Err z)
 folds_stop m m1 ds ds1 at s x v vs z e two = λ lists u us bs h l. go lists u us bs h l
   where
@@ -142,7 +142,7 @@ folds_stop m m1 ds ds1 at s x v vs z e two = λ lists u us bs h l. go lists u us
     go lists u [] (b ∷ bs) h l = elim l [ ]
     go lists u (w ∷ us) [] h l = elim l [ ]
 
-pub made_arm : (m m1 : Made) (ds ds1 : List Drawn) (at : Place) (s : Step) (x x' y : Arm) → LiftsTwo m ds m1 ds1 at s x x' (Ok y) → IsSomeArm m ds x → IsSomeArm m ds x' → IsSomeArm m1 ds1 y × Stood m m1 ds ds1
+pub made_arm : (m m1 : BuilderModel) (ds ds1 : List SketchNode) (at : Place) (s : Step) (x x' y : Arm) → LiftsTwo m ds m1 ds1 at s x x' (Ok y) → IsSomeArm m ds x → IsSomeArm m ds x' → IsSomeArm m1 ds1 y × Stood m m1 ds ds1
 made_arm m m1 ds ds1 at s x x' y two h k = let f = tree_of_step s at in let i = two h.0 k.0 h.1 k.1 in
     ((step f h.0 k.0, i.1.arm), stood_lift m m1 ds ds1 (step_events (events_of_step s at) h.0 k.0) (step f h.0 k.0) y i)
 
@@ -154,7 +154,7 @@ hold_is m (u ∷ us) (b ∷ bs) (values.Real k ∷ vs) h = ap (λ x. hold_either
 hold_is m (u ∷ us) (b ∷ bs) (values.Bool p n ∷ vs) h = ap (λ x. hold_either (x ∷ us)) h.0.0.is ∙ hold_is m us bs vs h.1
 hold_is m (u ∷ us) (b ∷ bs) (values.Choice k ∷ vs) h = holds m.made m.drawn u k h.0.0
   where
-    holds : (n : Made) (ds : List Drawn) (u : Unfolded) (k : ℕ) → IsArm n ds u (arm.Choice k) → hold_either (u ∷ us) ≡ true
+    holds : (n : BuilderModel) (ds : List SketchNode) (u : Unfolded) (k : ℕ) → IsArm n ds u (arm.Choice k) → hold_either (u ∷ us) ≡ true
     holds n ds _ k (is_choice e w i j) = refl
 hold_is m [] [] (v ∷ vs) h = elim h [ ]
 hold_is m [] (b ∷ bs) vs h = elim h [ ]
@@ -167,7 +167,7 @@ no-values m [] (b ∷ bs) h = elim h [ ]
 no-values m (u ∷ us) [] h = elim h [ ]
 no-values m (u ∷ us) (b ∷ bs) h = elim h [ ]
 
-pub opposite_calculates : (m m' : Made) (ds ds' : List Drawn) (at : Place) (s : Step) (t : Term) (v : Value) (r : Result Arm Stop) → is_difference s ≡ true → are_arms (v ∷ []) ≡ true →
+pub opposite_calculates : (m m' : BuilderModel) (ds ds' : List SketchNode) (at : Place) (s : Step) (t : Term) (v : Value) (r : Result Arm Stop) → is_difference s ≡ true → are_arms (v ∷ []) ≡ true →
     LiftsOne m ds m' ds' at leaf.Opposite t (arm_of v) r → Calculates m ds m' ds' at s v [] r
 opposite_calculates m m' ds ds' at Subtract t v r d e w = λ lists u us b bs h l.
     subst (λ (xs : List Unfolded). Lifts m ds m' ds' (operation_events at (operator_of_step Subtract) (u ∷ xs)) (unfolded_operation at (operator_of_step Subtract) (u ∷ xs)) r) (sym (no-values (making m ds lists) us bs l))
@@ -176,7 +176,7 @@ opposite_calculates m m' ds ds' at Add t v r d e w = cc
 opposite_calculates m m' ds ds' at Multiply t v r d e w = cc
 opposite_calculates m m' ds ds' at Divide t v r d e w = cc
 
-pub quotient_stops : (m m' : Made) (ds ds' : List Drawn) (at : code_place.Place) (s : Step) (v : Value) (vs : List Value) → is_quotient s ≡ true → hold_choice vs ≡ true →
+pub quotient_stops : (m m' : BuilderModel) (ds ds' : List SketchNode) (at : code_place.Place) (s : Step) (v : Value) (vs : List Value) → is_quotient s ≡ true → hold_choice vs ≡ true →
     Calculates m ds m ds' (place_of at) s v vs (Err (stop.Fault at DivisorNotConstant))
 quotient_stops m m' ds ds' at Divide v vs d e = λ lists u us b bs h l.
     let x : hold_either us ≡ true = hold_is (making m ds lists) us bs vs l ∙ e in
@@ -187,7 +187,7 @@ quotient_stops m m' ds ds' at Add v vs d e = cc
 quotient_stops m m' ds ds' at Subtract v vs d e = cc
 quotient_stops m m' ds ds' at Multiply v vs d e = cc
 
-pub folds_calculate : (m m' : Made) (ds ds' : List Drawn) (at : Place) (s : Step) (v : Value) (vs : List Value) (r : Result Arm Stop) → are_arms (v ∷ []) ≡ true → (is_difference s ≡ true → vs ≡ [] → ⊥) → (is_quotient s ≡ true → hold_choice vs ≡ false) →
+pub folds_calculate : (m m' : BuilderModel) (ds ds' : List SketchNode) (at : Place) (s : Step) (v : Value) (vs : List Value) (r : Result Arm Stop) → are_arms (v ∷ []) ≡ true → (is_difference s ≡ true → vs ≡ [] → ⊥) → (is_quotient s ≡ true → hold_choice vs ≡ false) →
     Folds m ds m' ds' at s (arm_of v) vs r → Calculates m ds m' ds' at s v vs r
 folds_calculate m m' ds ds' at s v vs r e d q w = λ lists u us b bs h l. go s lists u us b bs d q h l (w lists u us bs (value_arm m ds lists u b v e h) l)
   where
@@ -235,10 +235,10 @@ other-second eq (bounds bs) = refl
 none-same : (xs : List Bound) → xs ≡ [] → SameBounds [] xs
 none-same xs e = subst (λ (ys : List Bound). SameBounds [] ys) (sym e) tt
 
-weighs-at : (m : Made) (ds : List Drawn) (lists : List (List Bound)) (u : Unfolded) (b : Bounding) (k : ℕ) → IsValue (making m ds lists) u b (values.Real k) → Weighs (term_at (stand_of m).trees k) b
+weighs-at : (m : BuilderModel) (ds : List SketchNode) (lists : List (List Bound)) (u : Unfolded) (b : Bounding) (k : ℕ) → IsValue (making m ds lists) u b (values.Real k) → Weighs (term_at (stand_of m).trees k) b
 weighs-at m ds lists u b k h = subst (λ (t : Term). Weighs t b) (sym (tree_is m h.0 k h.2)) h.3
 
-arm-same : (kind : Kind) (m : Made) (ds : List Drawn) (lists : List (List Bound)) (u x : Unfolded) (b c : Bounding) (v w : Value) → are_arms (v ∷ w ∷ []) ≡ true → IsValue (making m ds lists) u b v → IsValue (making m ds lists) x c w →
+arm-same : (kind : Kind) (m : BuilderModel) (ds : List SketchNode) (lists : List (List Bound)) (u x : Unfolded) (b c : Bounding) (v w : Value) → are_arms (v ∷ w ∷ []) ≡ true → IsValue (making m ds lists) u b v → IsValue (making m ds lists) x c w →
     SameBounds (arm_bounds kind (stand_of m).trees (arm_of v) (arm_of w)) (bounds_of_kind kind b c)
 arm-same kind m ds lists u x b c (values.Real i) (values.Real j) e h k = subst (λ (ys : List Bound). SameBounds (chained_bounds kind (weights (stand_of m).trees (i ∷ j ∷ []))) ys) (append-nil (bounds_of_kind kind b c))
     (chained_same kind (stand_of m).trees (i ∷ j ∷ []) (b ∷ c ∷ []) (weighs-at m ds lists u b i h, (weighs-at m ds lists x c j k, tt)))
@@ -252,15 +252,15 @@ arm-same kind m ds lists u x b c (values.Choice i) (values.Bool p n) e h k = cc
 second-arm : (v w : Value) → are_arms (v ∷ w ∷ []) ≡ true → are_arms (w ∷ []) ≡ true
 second-arm v w e = arms_tail v (w ∷ []) e
 
-module _ (kind : Kind) (at : Place) (m m1 : Made) (ds ds1 : List Drawn) (lists lists1 : List (List Bound)) (v w : Value) (e : are_arms (v ∷ w ∷ []) ≡ true) where
+module _ (kind : Kind) (at : Place) (m m1 : BuilderModel) (ds ds1 : List SketchNode) (lists lists1 : List (List Bound)) (v w : Value) (e : are_arms (v ∷ w ∷ []) ≡ true) where
   said : (r : Result Pair Stop) → SaysTwo m ds m1 ds1 kind at (arm_of v) (arm_of w) r → (u x : Unfolded) (b c : Bounding) → IsValue (making m ds lists) u b v → IsValue (making m ds lists) x c w →
-      Says m ds m1 ds1 (compare_events u x) (compared kind at u x) r
+      IsPairAnswer m ds m1 ds1 (compare_events u x) (compared kind at u x) r
   said r h u x b c i j = h u x (value_arm m ds lists u b v (arms_head v (w ∷ []) e) i) (value_arm m ds lists x c w (second-arm v w e) j)
 
   pub link_stop : (s : Spread) (z : Stop) → SaysTwo m ds m1 ds1 kind at (arm_of v) (arm_of w) (Err z) → Links m ds lists m1 ds1 lists s kind at v w (Err z)
   link_stop s z h = λ u x b c i j claim. said (Err z) h u x b c i j claim
 
-  grows-said : (u : Unfolded) (es : List Event) (p : Pair) → Says m ds m1 ds1 es u (Ok p) → MoreLists lists lists1 → Grows (making m ds lists) (making m1 ds1 lists1)
+  grows-said : (u : Unfolded) (es : List Event) (p : Pair) → IsPairAnswer m ds m1 ds1 es u (Ok p) → MoreLists lists lists1 → Grows (making m ds lists) (making m1 ds1 lists1)
   grows-said u es p h g = record { stand = emits_grows (IsSaid m1 ds ds1 u) m m1 es p h; drawn = h.1.grown; bounds = g }
 
   pub link_next : (p : Pair) (k : ℕ) → SaysTwo m ds m1 ds1 kind at (arm_of v) (arm_of w) (Ok p) → AddsList lists lists1 (arm_bounds kind (stand_of m1).trees (arm_of v) (arm_of w)) (Ok k) →
@@ -285,7 +285,7 @@ module _ (kind : Kind) (at : Place) (m m1 : Made) (ds ds1 : List Drawn) (lists l
   )
 
 -- a tree of an arm stands behind what was said
-pub said_below : (m m1 : Made) (ds ds1 : List Drawn) (kind : Kind) (at : Place) (x y z : Arm) (p : Pair) → SaysTwo m ds m1 ds1 kind at x y (Ok p) → IsSomeArm m ds x → IsSomeArm m ds y → IsSomeArm m ds z →
+pub said_below : (m m1 : BuilderModel) (ds ds1 : List SketchNode) (kind : Kind) (at : Place) (x y z : Arm) (p : Pair) → SaysTwo m ds m1 ds1 kind at x y (Ok p) → IsSomeArm m ds x → IsSomeArm m ds y → IsSomeArm m ds z →
     (k : ℕ) → z ≡ arm.Tree k → k < length m1.nodes
 said_below m m1 ds ds1 kind at x y z p h i j l k e =
     let s = h i.0 j.0 i.1 j.1 in
@@ -307,7 +307,7 @@ values-end m (x ∷ us) (c ∷ bs) [] u b v h k = elim h [ ]
 as-lists : (m : Making) (us us' : List Unfolded) (bs bs' : List Bounding) (vs : List Value) → us ≡ us' → bs ≡ bs' → AreValues m us bs vs → AreValues m us' bs' vs
 as-lists m us us' bs bs' vs e f h = subst (λ (xs : List Unfolded). AreValues m xs bs' vs) e (subst (λ (xs : List Bounding). AreValues m us xs vs) f h)
 
-pub with_none : (m : Made) (ds : List Drawn) (lists : List (List Bound)) (s : Spread) (kind : Kind) (at : Place) (v : Value) (links : List Value) → IsSketch m ds → LinksWith {X = Unit {0}} m ds lists m ds lists s kind at v [] links links (Ok tt)
+pub with_none : (m : BuilderModel) (ds : List SketchNode) (lists : List (List Bound)) (s : Spread) (kind : Kind) (at : Place) (v : Value) (links : List Value) → IsSketch m ds → LinksWith {X = Unit {0}} m ds lists m ds lists s kind at v [] links links (Ok tt)
 with_none m ds lists s kind at v links k = λ u b us bs ls cs i j l. go u b us bs ls cs j l
   where
     go : (u : Unfolded) (b : Bounding) (us : List Unfolded) (bs : List Bounding) (ls : List Unfolded) (cs : List Bounding) → AreValues (making m ds lists) us bs [] → AreValues (making m ds lists) ls cs links →
@@ -318,7 +318,7 @@ with_none m ds lists s kind at v links k = λ u b us bs ls cs i j l. go u b us b
     go u b (x ∷ us) [] ls cs j l = elim j [ ]
     go u b (x ∷ us) (c ∷ bs) ls cs j l = elim j [ ]
 
-pub with_on : (m m1 m2 : Made) (ds ds1 ds2 : List Drawn) (lists lists1 lists2 : List (List Bound)) (s : Spread) (kind : Kind) (at : Place) (v w y : Value) (vs links links1 links2 : List Value) (r : Result (Unit {0}) Stop) →
+pub with_on : (m m1 m2 : BuilderModel) (ds ds1 ds2 : List SketchNode) (lists lists1 lists2 : List (List Bound)) (s : Spread) (kind : Kind) (at : Place) (v w y : Value) (vs links links1 links2 : List Value) (r : Result (Unit {0}) Stop) →
     Links m ds lists m1 ds1 lists1 s kind at v w (Ok y) → links1 ≡ links ++ (y ∷ []) → LinksWith m1 ds1 lists1 m2 ds2 lists2 s kind at v vs links1 links2 r → LinksWith m ds lists m2 ds2 lists2 s kind at v (w ∷ vs) links links2 r
 with_on m m1 m2 ds ds1 ds2 lists lists1 lists2 s kind at v w y vs links links1 links2 r one e rest = λ u b us bs ls cs i j l. go u b us bs ls cs i j l
   where
@@ -338,7 +338,7 @@ with_on m m1 m2 ds ds1 ds2 lists lists1 lists2 s kind at v w y vs links links1 l
     go u b [] (c ∷ bs) ls cs i j l = elim j [ ]
     go u b (x ∷ us) [] ls cs i j l = elim j [ ]
 
-pub with_stop : (m m1 : Made) (ds ds1 : List Drawn) (lists lists1 : List (List Bound)) (s : Spread) (kind : Kind) (at : Place) (v w : Value) (vs links links1 : List Value) (z : Stop) →
+pub with_stop : (m m1 : BuilderModel) (ds ds1 : List SketchNode) (lists lists1 : List (List Bound)) (s : Spread) (kind : Kind) (at : Place) (v w : Value) (vs links links1 : List Value) (z : Stop) →
     Links m ds lists m1 ds1 lists1 s kind at v w (Err z) → LinksWith {X = Unit {0}} m ds lists m1 ds1 lists1 s kind at v (w ∷ vs) links links1 (Err z)
 with_stop m m1 ds ds1 lists lists1 s kind at v w vs links links1 z one = λ u b us bs ls cs i j l. go u b us bs ls cs i j
   where
@@ -353,12 +353,12 @@ with_stop m m1 ds ds1 lists lists1 s kind at v w vs links links1 z one = λ u b 
     go u b (x ∷ us) [] ls cs i j = elim j [ ]
 
 -- of arms the lists of bounds do not matter
-pub relist : (m : Made) (ds : List Drawn) (lists lists' : List (List Bound)) (u : Unfolded) (b : Bounding) (v : Value) → are_arms (v ∷ []) ≡ true → IsValue (making m ds lists) u b v → IsValue (making m ds lists') u b v
+pub relist : (m : BuilderModel) (ds : List SketchNode) (lists lists' : List (List Bound)) (u : Unfolded) (b : Bounding) (v : Value) → are_arms (v ∷ []) ≡ true → IsValue (making m ds lists) u b v → IsValue (making m ds lists') u b v
 relist m ds lists lists' u b (values.Real k) e h = h
 relist m ds lists lists' u b (values.Choice k) e h = h
 relist m ds lists lists' u b (values.Bool p n) e h = cc
 
-pub relist_all : (m : Made) (ds : List Drawn) (lists lists' : List (List Bound)) (us : List Unfolded) (bs : List Bounding) (vs : List Value) → are_arms vs ≡ true → AreValues (making m ds lists) us bs vs → AreValues (making m ds lists') us bs vs
+pub relist_all : (m : BuilderModel) (ds : List SketchNode) (lists lists' : List (List Bound)) (us : List Unfolded) (bs : List Bounding) (vs : List Value) → are_arms vs ≡ true → AreValues (making m ds lists) us bs vs → AreValues (making m ds lists') us bs vs
 relist_all m ds lists lists' [] [] [] e h = tt
 relist_all m ds lists lists' (u ∷ us) (b ∷ bs) (v ∷ vs) e h = (relist m ds lists lists' u b v (arms_head v vs e) h.0, relist_all m ds lists lists' us bs vs (arms_tail v vs e) h.1)
 relist_all m ds lists lists' [] [] (v ∷ vs) e h = elim h [ ]
@@ -367,11 +367,11 @@ relist_all m ds lists lists' (u ∷ us) [] vs e h = elim h [ ]
 relist_all m ds lists lists' (u ∷ us) (b ∷ bs) [] e h = elim h [ ]
 
 -- what is known behind links
-pub record Linked (m m' : Made) (ds ds' : List Drawn) (lists' : List (List Bound)) (links : List Value) : Type 0 where
+pub record Linked (m m' : BuilderModel) (ds ds' : List SketchNode) (lists' : List (List Bound)) (links : List Value) : Type 0 where
   pub stood : Stood m m' ds ds'
   pub known : AreKnown (making m' ds' lists') links
 
-pub link_known : (m m1 : Made) (ds ds1 : List Drawn) (lists lists1 : List (List Bound)) (s : Spread) (kind : Kind) (at : Place) (v w y : Value) (links links1 : List Value) → Links m ds lists m1 ds1 lists1 s kind at v w (Ok y) →
+pub link_known : (m m1 : BuilderModel) (ds ds1 : List SketchNode) (lists lists1 : List (List Bound)) (s : Spread) (kind : Kind) (at : Place) (v w y : Value) (links links1 : List Value) → Links m ds lists m1 ds1 lists1 s kind at v w (Ok y) →
     are_arms (v ∷ w ∷ []) ≡ true → IsSomeValue m ds v → IsSomeValue m ds w → AreKnown (making m ds lists) links → links1 ≡ links ++ (y ∷ []) → Linked m m1 ds ds1 lists1 links1
 link_known m m1 ds ds1 lists lists1 s kind at v w y links links1 h e i j l f =
     let k = h i.1 j.1 i.2 j.2 (relist m ds i.0 lists i.1 i.2 v (arms_head v (w ∷ []) e) i.3) (relist m ds j.0 lists j.1 j.2 w (second-arm v w e) j.3) in record {
@@ -384,7 +384,7 @@ link_known m m1 ds ds1 lists lists1 s kind at v w y links links1 h e i j l f =
       );
     }
 
-pub with_known : (m m1 : Made) (ds ds1 : List Drawn) (lists lists1 : List (List Bound)) (s : Spread) (kind : Kind) (at : Place) (v : Value) (vs links links1 : List Value) → LinksWith {X = Unit {0}} m ds lists m1 ds1 lists1 s kind at v vs links links1 (Ok tt) →
+pub with_known : (m m1 : BuilderModel) (ds ds1 : List SketchNode) (lists lists1 : List (List Bound)) (s : Spread) (kind : Kind) (at : Place) (v : Value) (vs links links1 : List Value) → LinksWith {X = Unit {0}} m ds lists m1 ds1 lists1 s kind at v vs links links1 (Ok tt) →
     are_arms (v ∷ vs) ≡ true → IsSomeValue m ds v → AreSomeValues m ds vs → AreKnown (making m ds lists) links → Linked m m1 ds ds1 lists1 links1
 with_known m m1 ds ds1 lists lists1 s kind at v vs links links1 h e i j l =
     let k = h i.1 i.2 j.1 j.2 l.0 l.1 (relist m ds i.0 lists i.1 i.2 v (arms_head v vs e) i.3) (relist_all m ds j.0 lists j.1 j.2 vs (arms_tail v vs e) j.3) l.2 in record {
@@ -392,7 +392,7 @@ with_known m m1 ds ds1 lists lists1 s kind at v vs links links1 h e i j l =
       known = (l.0 ++ map (linked s kind at i.1) j.1, l.1 ++ map (link_bounds s kind i.2) j.2, k.1.1.1);
     }
 
-pub value_stood : (m m' : Made) (ds ds' : List Drawn) (v : Value) → Stood m m' ds ds' → IsSomeValue m ds v → IsSomeValue m' ds' v
+pub value_stood : (m m' : BuilderModel) (ds ds' : List SketchNode) (v : Value) → Stood m m' ds ds' → IsSomeValue m ds v → IsSomeValue m' ds' v
 value_stood m m' ds ds' v s h = (h.0, h.1, h.2, value_stays (making m ds h.0) (making m' ds' h.0) h.1 h.2 v (stood-grows m m' ds ds' h.0 s) h.3)
 
 pub arms_two : (v w : Value) (vs : List Value) → are_arms (v ∷ w ∷ vs) ≡ true → are_arms (v ∷ w ∷ []) ≡ true
@@ -416,7 +416,7 @@ others_values m Next [] (b ∷ bs) vs h = elim h [ ]
 others_values m Next (u ∷ us) [] vs h = elim h [ ]
 others_values m Next (u ∷ us) (b ∷ bs) [] h = elim h [ ]
 
-pub others_some : (m : Made) (ds : List Drawn) (s : Spread) (vs : List Value) → AreSomeValues m ds vs → AreSomeValues m ds (others_of s vs)
+pub others_some : (m : BuilderModel) (ds : List SketchNode) (s : Spread) (vs : List Value) → AreSomeValues m ds vs → AreSomeValues m ds (others_of s vs)
 others_some m ds s vs h = (h.0, others_of s h.1, others_of s h.2, others_values (making m ds h.0) s h.1 h.2 vs h.3)
 
 pub others_arms : (s : Spread) (v : Value) (vs : List Value) → are_arms (v ∷ vs) ≡ true → are_arms (v ∷ others_of s vs) ≡ true
@@ -428,7 +428,7 @@ together-both : (xs ys : List (List Event)) → together (xs ++ ys) ≡ together
 together-both [] ys = refl
 together-both (x ∷ xs) ys = ap (λ l. x ++ l) (together-both xs ys) ∙ sym (append_assoc x (together xs) (together ys))
 
-pub each_none : (m : Made) (ds : List Drawn) (lists : List (List Bound)) (s : Spread) (kind : Kind) (at : Place) (links : List Value) → IsSketch m ds → LinksEach {X = Unit {0}} m ds lists m ds lists s kind at [] links links (Ok tt)
+pub each_none : (m : BuilderModel) (ds : List SketchNode) (lists : List (List Bound)) (s : Spread) (kind : Kind) (at : Place) (links : List Value) → IsSketch m ds → LinksEach {X = Unit {0}} m ds lists m ds lists s kind at [] links links (Ok tt)
 each_none m ds lists s kind at links k = λ us bs ls cs j l. go us bs ls cs j l
   where
     go : (us : List Unfolded) (bs : List Bounding) (ls : List Unfolded) (cs : List Bounding) → AreValues (making m ds lists) us bs [] → AreValues (making m ds lists) ls cs links →
@@ -439,7 +439,7 @@ each_none m ds lists s kind at links k = λ us bs ls cs j l. go us bs ls cs j l
     go (x ∷ us) [] ls cs j l = elim j [ ]
     go (x ∷ us) (c ∷ bs) ls cs j l = elim j [ ]
 
-pub each_on : (m m1 m2 : Made) (ds ds1 ds2 : List Drawn) (lists lists1 lists2 : List (List Bound)) (s : Spread) (kind : Kind) (at : Place) (v : Value) (vs links links1 links2 : List Value) (r : Result (Unit {0}) Stop) →
+pub each_on : (m m1 m2 : BuilderModel) (ds ds1 ds2 : List SketchNode) (lists lists1 lists2 : List (List Bound)) (s : Spread) (kind : Kind) (at : Place) (v : Value) (vs links links1 links2 : List Value) (r : Result (Unit {0}) Stop) →
     LinksWith {X = Unit {0}} m ds lists m1 ds1 lists1 s kind at v (others_of s vs) links links1 (Ok tt) → LinksEach m1 ds1 lists1 m2 ds2 lists2 s kind at vs links1 links2 r → LinksEach m ds lists m2 ds2 lists2 s kind at (v ∷ vs) links links2 r
 each_on m m1 m2 ds ds1 ds2 lists lists1 lists2 s kind at v vs links links1 links2 r one rest = λ us bs ls cs j l. go us bs ls cs j l
   where
@@ -461,7 +461,7 @@ each_on m m1 m2 ds ds1 ds2 lists lists1 lists2 s kind at v vs links links1 links
     go [] (c ∷ bs) ls cs j l = elim j [ ]
     go (x ∷ us) [] ls cs j l = elim j [ ]
 
-pub each_stop : (m m1 : Made) (ds ds1 : List Drawn) (lists lists1 : List (List Bound)) (s : Spread) (kind : Kind) (at : Place) (v : Value) (vs links links1 : List Value) (z : Stop) →
+pub each_stop : (m m1 : BuilderModel) (ds ds1 : List SketchNode) (lists lists1 : List (List Bound)) (s : Spread) (kind : Kind) (at : Place) (v : Value) (vs links links1 : List Value) (z : Stop) →
     LinksWith {X = Unit {0}} m ds lists m1 ds1 lists1 s kind at v (others_of s vs) links links1 (Err z) → LinksEach {X = Unit {0}} m ds lists m1 ds1 lists1 s kind at (v ∷ vs) links links1 (Err z)
 each_stop m m1 ds ds1 lists lists1 s kind at v vs links links1 z one = λ us bs ls cs j l. go us bs ls cs j l
   where
@@ -478,7 +478,7 @@ each_stop m m1 ds ds1 lists lists1 s kind at v vs links links1 z one = λ us bs 
     go [] (c ∷ bs) ls cs j l = elim j [ ]
     go (x ∷ us) [] ls cs j l = elim j [ ]
 
-pub each_known : (m m1 : Made) (ds ds1 : List Drawn) (lists lists1 : List (List Bound)) (s : Spread) (kind : Kind) (at : Place) (vs links : List Value) → LinksEach {X = Unit {0}} m ds lists m1 ds1 lists1 s kind at vs [] links (Ok tt) →
+pub each_known : (m m1 : BuilderModel) (ds ds1 : List SketchNode) (lists lists1 : List (List Bound)) (s : Spread) (kind : Kind) (at : Place) (vs links : List Value) → LinksEach {X = Unit {0}} m ds lists m1 ds1 lists1 s kind at vs [] links (Ok tt) →
     are_arms vs ≡ true → AreSomeValues m ds vs → Linked m m1 ds ds1 lists1 links
 each_known m m1 ds ds1 lists lists1 s kind at vs links h e j =
     let k = h j.1 j.2 [] [] (relist_all m ds j.0 lists j.1 j.2 vs e j.3) tt in record {

@@ -13,11 +13,11 @@ use Rattle.script_forms.specs.Unfolded.{truth_of}
 use Rattle.script_forms.specs.Atoms.{atom_of}
 use Rattle.script_forms.specs.Work.{form_events}
 use Rattle.script_forms.specs.Walk.{make_form, after_events}
-use Rattle.term_build.specs.Built.{Made, stand_of}
+use Rattle.term_build.specs.Built.{BuilderModel, stand_of}
 use Rattle.term_build.specs.Does.{Does, IsForm, StopsAs}
 use Rattle.term_build.specs.Settled.{FormSettled}
 use Rattle.term_build.specs.Shapes.{Shaping}
-use Rattle.term_build.specs.Sketch.{Drawn, yes_drawn, no_drawn, comparison_drawn, bool_drawn, all_drawn, any_drawn, choice_drawn, drawn_after, drawn_in_order, drawn_at, drawn_children, drawn_form, IsDrawing, IsSketch, IsFormOf}
+use Rattle.term_build.specs.Sketch.{SketchNode, yes_sketch, no_sketch, comparison_sketch, bool_sketch, all_sketch, any_sketch, choice_sketch, sketch_after, sketch_in_order, sketch_at, sketch_children, sketch_form, IsDrawing, IsSketch, IsFormOf}
 use Rattle.term_build.specs.Steps.{Emits}
 use Rattle.term_build.specs.Pairs.{DrawsForm}
 use Rattle.term_build.specs.declared.stop.Stop.{Stop}
@@ -38,83 +38,83 @@ use Rattle.value_build.proofs.Growth.{lists_self}
 
 -- ---- every sketch is drawn
 
-children-more : (fs gs : List (Form Comparison)) (ks : List ℕ) (n : ℕ) → n ≤ length fs → IsTrue (list_all (λ k. nat_lt k n) ks) → drawn_children (fs ++ gs) ks ≡ drawn_children fs ks
+children-more : (fs gs : List (Form Comparison)) (ks : List ℕ) (n : ℕ) → n ≤ length fs → IsTrue (list_all (λ k. nat_lt k n) ks) → sketch_children (fs ++ gs) ks ≡ sketch_children fs ks
 children-more fs gs [] n l h = refl
 children-more fs gs (k ∷ ks) n l h = let o = both_true (nat_lt k n) (list_all (λ k. nat_lt k n) ks) h in
     let less : k < n = ltb→lt k n (passes _ o.0) in
     ap₂ more_forms (index_before fs gs k no_form (omega (arith, less, l))) (children-more fs gs ks n l o.1)
 
-form-more : (ts : List Term) (fs gs : List (Form Comparison)) (d : Drawn) (n : ℕ) → n ≤ length fs → IsTrue (drawn_after n d) → drawn_form ts (fs ++ gs) d ≡ drawn_form ts fs d
-form-more ts fs gs (all_drawn ks) n l h = ap all_form (children-more fs gs ks n l h)
-form-more ts fs gs (any_drawn ks) n l h = ap any_form (children-more fs gs ks n l h)
-form-more ts fs gs yes_drawn n l h = refl
-form-more ts fs gs no_drawn n l h = refl
-form-more ts fs gs (comparison_drawn at i j kind) n l h = refl
-form-more ts fs gs (bool_drawn axis v) n l h = refl
-form-more ts fs gs (choice_drawn p x y) n l h = refl
+form-more : (ts : List Term) (fs gs : List (Form Comparison)) (d : SketchNode) (n : ℕ) → n ≤ length fs → IsTrue (sketch_after n d) → sketch_form ts (fs ++ gs) d ≡ sketch_form ts fs d
+form-more ts fs gs (all_sketch ks) n l h = ap all_form (children-more fs gs ks n l h)
+form-more ts fs gs (any_sketch ks) n l h = ap any_form (children-more fs gs ks n l h)
+form-more ts fs gs yes_sketch n l h = refl
+form-more ts fs gs no_sketch n l h = refl
+form-more ts fs gs (comparison_sketch at i j kind) n l h = refl
+form-more ts fs gs (bool_sketch axis v) n l h = refl
+form-more ts fs gs (choice_sketch p x y) n l h = refl
 
-order-at : (n : ℕ) (ds : List Drawn) → IsTrue (drawn_in_order n ds) → (k : ℕ) (d : Drawn) → slice_get ds k ≡ Some d → IsTrue (drawn_after (n + k) d)
+order-at : (n : ℕ) (ds : List SketchNode) → IsTrue (sketch_in_order n ds) → (k : ℕ) (d : SketchNode) → slice_get ds k ≡ Some d → IsTrue (sketch_after (n + k) d)
 order-at n [] h k d e = cc
-order-at n (x ∷ ds) h zero d e = let f : x ≡ d = cc in let g : n ≡ n + 0 = omega arith in subst (λ (j : ℕ). IsTrue (drawn_after j d)) g (subst (λ (y : Drawn). IsTrue (drawn_after n y)) f (both_true (drawn_after n x) (drawn_in_order (suc n) ds) h).0)
-order-at n (x ∷ ds) h (suc k) d e = let g : suc n + k ≡ n + suc k = omega arith in subst (λ (j : ℕ). IsTrue (drawn_after j d)) g (order-at (suc n) ds (both_true (drawn_after n x) (drawn_in_order (suc n) ds) h).1 k d e)
+order-at n (x ∷ ds) h zero d e = let f : x ≡ d = cc in let g : n ≡ n + 0 = omega arith in subst (λ (j : ℕ). IsTrue (sketch_after j d)) g (subst (λ (y : SketchNode). IsTrue (sketch_after n y)) f (both_true (sketch_after n x) (sketch_in_order (suc n) ds) h).0)
+order-at n (x ∷ ds) h (suc k) d e = let g : suc n + k ≡ n + suc k = omega arith in subst (λ (j : ℕ). IsTrue (sketch_after j d)) g (order-at (suc n) ds (both_true (sketch_after n x) (sketch_in_order (suc n) ds) h).1 k d e)
 
-last-or : (ds : List Drawn) (d : Drawn) (k : ℕ) (x : Drawn) → slice_get (ds ++ (d ∷ [])) k ≡ Some x → (slice_get ds k ≡ Some x) ⊎ ((k ≡ length ds) × (d ≡ x))
+last-or : (ds : List SketchNode) (d : SketchNode) (k : ℕ) (x : SketchNode) → slice_get (ds ++ (d ∷ [])) k ≡ Some x → (slice_get ds k ≡ Some x) ⊎ ((k ≡ length ds) × (d ≡ x))
 last-or [] d zero x e = inr (refl, cc)
 last-or [] d (suc k) x e = cc
 last-or (y ∷ ds) d zero x e = inl e
 last-or (y ∷ ds) d (suc k) x e = elim (last-or ds d k x e) [ inl h ↦ inl h | inr h ↦ inr (ap suc h.0, h.1) ]
 
-drawn-end : (ts : List Term) (all done rest : List Drawn) (fs : List (Form Comparison)) (d : Drawn) → ((k : ℕ) (x : Drawn) → slice_get all k ≡ Some x → IsTrue (drawn_after k x)) → all ≡ (done ++ (d ∷ [])) ++ rest → IsDrawing ts done fs →
-    IsDrawing ts (done ++ (d ∷ [])) (fs ++ (drawn_form ts fs d ∷ []))
-drawn-end ts all done rest fs d o e h = let f = drawn_form ts fs d in record {
+drawn-end : (ts : List Term) (all done rest : List SketchNode) (fs : List (Form Comparison)) (d : SketchNode) → ((k : ℕ) (x : SketchNode) → slice_get all k ≡ Some x → IsTrue (sketch_after k x)) → all ≡ (done ++ (d ∷ [])) ++ rest → IsDrawing ts done fs →
+    IsDrawing ts (done ++ (d ∷ [])) (fs ++ (sketch_form ts fs d ∷ []))
+drawn-end ts all done rest fs d o e h = let f = sketch_form ts fs d in record {
   count = omega (arith, length-append fs (f ∷ []), length-append done (d ∷ []), h.count);
   forms = λ k x g.
-      let after : IsTrue (drawn_after k x) = o k x (ap (λ xs. slice_get xs k) e ∙ get_before (done ++ (d ∷ [])) rest k x g) in
+      let after : IsTrue (sketch_after k x) = o k x (ap (λ xs. slice_get xs k) e ∙ get_before (done ++ (d ∷ [])) rest k x g) in
       elim (last-or done d k x g) [
         | inl i ↦ let below = get_below done k x i in
             index_before fs (f ∷ []) k no_form (omega (arith, below, h.count)) ∙ h.forms k x i ∙ sym (form-more ts fs (f ∷ []) x k (omega (arith, below, h.count)) after)
         | inr i ↦ let at : k ≡ length fs = i.0 ∙ sym h.count in
-            ap (drawn_at (fs ++ (f ∷ []))) at ∙ get_index (fs ++ (f ∷ [])) (length fs) f no_form (get_end fs f) ∙ ap (drawn_form ts fs) i.1 ∙ sym (form-more ts fs (f ∷ []) x k (omega (arith, at)) after)
+            ap (sketch_at (fs ++ (f ∷ []))) at ∙ get_index (fs ++ (f ∷ [])) (length fs) f no_form (get_end fs f) ∙ ap (sketch_form ts fs) i.1 ∙ sym (form-more ts fs (f ∷ []) x k (omega (arith, at)) after)
       ];
 }
 
-draw : (ts : List Term) (all : List Drawn) → ((k : ℕ) (x : Drawn) → slice_get all k ≡ Some x → IsTrue (drawn_after k x)) → (done : List Drawn) (fs : List (Form Comparison)) (rest : List Drawn) → all ≡ done ++ rest → IsDrawing ts done fs →
+draw : (ts : List Term) (all : List SketchNode) → ((k : ℕ) (x : SketchNode) → slice_get all k ≡ Some x → IsTrue (sketch_after k x)) → (done : List SketchNode) (fs : List (Form Comparison)) (rest : List SketchNode) → all ≡ done ++ rest → IsDrawing ts done fs →
     (gs : List (Form Comparison)) × IsDrawing ts all gs
-draw ts all o done fs [] e h = (fs, subst (λ (xs : List Drawn). IsDrawing ts xs fs) (sym (e ∙ append-nil done)) h)
+draw ts all o done fs [] e h = (fs, subst (λ (xs : List SketchNode). IsDrawing ts xs fs) (sym (e ∙ append-nil done)) h)
 draw ts all o done fs (d ∷ rest) e h = let g = e ∙ sym (append_assoc done (d ∷ []) rest) in
-    draw ts all o (done ++ (d ∷ [])) (fs ++ (drawn_form ts fs d ∷ [])) rest g (drawn-end ts all done rest fs d o g h)
+    draw ts all o (done ++ (d ∷ [])) (fs ++ (sketch_form ts fs d ∷ [])) rest g (drawn-end ts all done rest fs d o g h)
 
-pub drawing : (m : Made) (ts : List Term) (ds : List Drawn) → IsSketch m ds → (fs : List (Form Comparison)) × IsDrawing ts ds fs
-drawing m ts ds s = draw ts ds (λ k x e. let z : 0 + k ≡ k = omega arith in subst (λ (j : ℕ). IsTrue (drawn_after j x)) z (order-at 0 ds s.ordered k x e)) [] [] ds refl (record { count = refl; forms = λ k d e. cc })
+pub drawing : (m : BuilderModel) (ts : List Term) (ds : List SketchNode) → IsSketch m ds → (fs : List (Form Comparison)) × IsDrawing ts ds fs
+drawing m ts ds s = draw ts ds (λ k x e. let z : 0 + k ≡ k = omega arith in subst (λ (j : ℕ). IsTrue (sketch_after j x)) z (order-at 0 ds s.ordered k x e)) [] [] ds refl (record { count = refl; forms = λ k d e. cc })
 
 -- ---- Bool assertions
 
 nowhere : Place
 nowhere = record { line = 0; column = 0 }
 
-form-made : (m m' : Made) (f : Form Comparison) (j : ℕ) → Emits m m' (form_events f) (Ok j) (IsFormOf m' (form_map atom_of f)) → IsFormMade m m' f j
+form-made : (m m' : BuilderModel) (f : Form Comparison) (j : ℕ) → Emits m m' (form_events f) (Ok j) (IsFormOf m' (form_map atom_of f)) → IsFormMade m m' f j
 form-made m m' f j e = record {
   stand = emits_grows (IsFormOf m' (form_map atom_of f)) m m' (form_events f) j e;
   settled = form_done nowhere (stand_of m) (stand_of m') f (e.0 nowhere);
   form = e.1;
 }
 
-shaped : (m m' : Made) (ds : List Drawn) (k : ℕ) (r : Result ℕ Stop) (f : Form Comparison) → IsSketch m ds → Shaping m m' ds k r → DrawsForm (stand_of m).trees ds f k → Emits m m' (form_events f) r (IsFormOf m' (form_map atom_of f))
+shaped : (m m' : BuilderModel) (ds : List SketchNode) (k : ℕ) (r : Result ℕ Stop) (f : Form Comparison) → IsSketch m ds → Shaping m m' ds k r → DrawsForm (stand_of m).trees ds f k → Emits m m' (form_events f) r (IsFormOf m' (form_map atom_of f))
 shaped m m' ds k r f s w d = let ts = (stand_of m).trees in let g = drawing m ts ds s in
-    let e : drawn_at g.0 k ≡ f = d.form [] [] g.0 (subst (λ (xs : List Term). IsDrawing xs (ds ++ []) g.0) (sym (append-nil ts)) (subst (λ (xs : List Drawn). IsDrawing ts xs g.0) (sym (append-nil ds)) g.1)) in
+    let e : sketch_at g.0 k ≡ f = d.form [] [] g.0 (subst (λ (xs : List Term). IsDrawing xs (ds ++ []) g.0) (sym (append-nil ts)) (subst (λ (xs : List SketchNode). IsDrawing ts xs g.0) (sym (append-nil ds)) g.1)) in
     subst (λ (h : Form Comparison). Emits m m' (form_events h) r (IsFormOf m' (form_map atom_of h))) e (w g.0 g.1)
 
-pub bool_claimed : (m m' : Made) (ds : List Drawn) (k n j : ℕ) → IsSketch m ds → Shaping m m' ds k (Ok j) → ClaimsBool m m' ds k n (Ok (j, n))
+pub bool_claimed : (m m' : BuilderModel) (ds : List SketchNode) (k n j : ℕ) → IsSketch m ds → Shaping m m' ds k (Ok j) → ClaimsBool m m' ds k n (Ok (j, n))
 bool_claimed m m' ds k n j s w = λ f d. let e = shaped m m' ds k (Ok j) f s w d in ((λ claim. e.0 claim), (form-made m m' f j e, refl))
 
-pub bool_stopped : (m m' : Made) (ds : List Drawn) (k n : ℕ) (x : Stop) → IsSketch m ds → Shaping m m' ds k (Err x) → ClaimsBool m m' ds k n (Err x)
+pub bool_stopped : (m m' : BuilderModel) (ds : List SketchNode) (k n : ℕ) (x : Stop) → IsSketch m ds → Shaping m m' ds k (Err x) → ClaimsBool m m' ds k n (Err x)
 bool_stopped m m' ds k n x s w = λ f d claim. shaped m m' ds k (Err x) f s w d claim
 
-pub real_claimed : (m m' : Made) (lists lists' : List (List Bound)) (j n : ℕ) → Does m m' (λ claim s. make_form claim s no_form) (Ok j) (IsForm m' no_form) → AddsList lists lists' [] (Ok n) → ClaimsReal m m' lists lists' (Ok (j, n))
+pub real_claimed : (m m' : BuilderModel) (lists lists' : List (List Bound)) (j n : ℕ) → Does m m' (λ claim s. make_form claim s no_form) (Ok j) (IsForm m' no_form) → AddsList lists lists' [] (Ok n) → ClaimsReal m m' lists lists' (Ok (j, n))
 real_claimed m m' lists lists' j n d a = let e = emits_form m m' no_form no_form (Ok j) refl d in
     ((λ claim. e.0 claim), (form-made m m' no_form j e, a.0, (a.1, subst (λ (xs : List Bound). SameBounds xs []) (sym a.2) tt)))
 
-pub real_stopped : (m m' : Made) (lists lists' : List (List Bound)) (x : Stop) → Does m m' (λ claim s. make_form claim s no_form) (Err x) (IsForm m' no_form) → ClaimsReal m m' lists lists' (Err x)
+pub real_stopped : (m m' : BuilderModel) (lists lists' : List (List Bound)) (x : Stop) → Does m m' (λ claim s. make_form claim s no_form) (Err x) (IsForm m' no_form) → ClaimsReal m m' lists lists' (Err x)
 real_stopped m m' lists lists' x d = λ claim. emits_form m m' no_form no_form (Err x) refl d claim
 
 -- ---- values
@@ -127,7 +127,7 @@ no-bounds (add t u) b h = ap bounds_in h
 no-bounds (multiply t u) b h = ap bounds_in h
 no-bounds (square t) b h = ap bounds_in h
 
-pub claims_bool : (m m' : Made) (ds : List Drawn) (lists : List (List Bound)) (old : Making) (v : Value) (p : Pair) (n : ℕ) (r : Result (ℕ × ℕ) Stop) → making m ds lists ≡ old → v ≡ values.Bool p n → ClaimsBool m m' ds p.truth n r → Claims old (making m' [] lists) v r
+pub claims_bool : (m m' : BuilderModel) (ds : List SketchNode) (lists : List (List Bound)) (old : Making) (v : Value) (p : Pair) (n : ℕ) (r : Result (ℕ × ℕ) Stop) → making m ds lists ≡ old → v ≡ values.Bool p n → ClaimsBool m m' ds p.truth n r → Claims old (making m' [] lists) v r
 claims_bool m m' ds lists old v p n r e g w = subst (λ (x : Making). Claims x (making m' [] lists) v r) e (subst (λ (y : Value). Claims (making m ds lists) (making m' [] lists) y r) (sym g) (go r w))
   where
     go : (r : Result (ℕ × ℕ) Stop) → ClaimsBool m m' ds p.truth n r → Claims (making m ds lists) (making m' [] lists) (values.Bool p n) r
@@ -145,7 +145,7 @@ claims_bool m m' ds lists old v p n r e g w = subst (λ (x : Making). Claims x (
       },
     )
 
-pub claims_real : (m m' : Made) (ds : List Drawn) (lists lists' : List (List Bound)) (old : Making) (v : Value) (k : ℕ) (r : Result (ℕ × ℕ) Stop) → making m ds lists ≡ old → v ≡ values.Real k → ClaimsReal m m' lists lists' r → Claims old (making m' [] lists') v r
+pub claims_real : (m m' : BuilderModel) (ds : List SketchNode) (lists lists' : List (List Bound)) (old : Making) (v : Value) (k : ℕ) (r : Result (ℕ × ℕ) Stop) → making m ds lists ≡ old → v ≡ values.Real k → ClaimsReal m m' lists lists' r → Claims old (making m' [] lists') v r
 claims_real m m' ds lists lists' old v k r e g w = subst (λ (x : Making). Claims x (making m' [] lists') v r) e (subst (λ (y : Value). Claims (making m ds lists) (making m' [] lists') y r) (sym g)
     (λ u b h. subst (λ (x : Unfolded). Emits m m' (form_events (truth_of x)) r (IsClaimed (making m ds lists) (making m' [] lists') x b)) (sym h.1) (go h.0 b (no-bounds h.0 b h.3) r w)))
   where
@@ -164,7 +164,7 @@ claims_real m m' ds lists lists' old v k r e g w = subst (λ (x : Making). Claim
       },
     )
 
-pub claims_choice : (m m' : Made) (ds : List Drawn) (lists lists' : List (List Bound)) (old : Making) (v : Value) (k : ℕ) (r : Result (ℕ × ℕ) Stop) → making m ds lists ≡ old → v ≡ values.Choice k → ClaimsReal m m' lists lists' r → Claims old (making m' [] lists') v r
+pub claims_choice : (m m' : BuilderModel) (ds : List SketchNode) (lists lists' : List (List Bound)) (old : Making) (v : Value) (k : ℕ) (r : Result (ℕ × ℕ) Stop) → making m ds lists ≡ old → v ≡ values.Choice k → ClaimsReal m m' lists lists' r → Claims old (making m' [] lists') v r
 claims_choice m m' ds lists lists' old v k r e g w = subst (λ (x : Making). Claims x (making m' [] lists') v r) e (subst (λ (y : Value). Claims (making m ds lists) (making m' [] lists') y r) (sym g)
     (λ u b h. go u b (no-form u h.0) (ap bounds_in h.1) r w))
   where
@@ -186,5 +186,5 @@ claims_choice m m' ds lists lists' old v k r e g w = subst (λ (x : Making). Cla
       },
     )
 
-pub truth_below : (m : Made) (ds : List Drawn) (lists : List (List Bound)) (old : Making) (v : Value) (p : Pair) (n : ℕ) → making m ds lists ≡ old → v ≡ values.Bool p n → IsKnown old v → p.truth < length ds
+pub truth_below : (m : BuilderModel) (ds : List SketchNode) (lists : List (List Bound)) (old : Making) (v : Value) (p : Pair) (n : ℕ) → making m ds lists ≡ old → v ≡ values.Bool p n → IsKnown old v → p.truth < length ds
 truth_below m ds lists old v p n e g h = let k = subst (λ (x : Making). IsKnown x (values.Bool p n)) (sym e) (subst (λ (y : Value). IsKnown old y) g h) in k.2.0.yes.below

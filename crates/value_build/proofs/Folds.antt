@@ -9,7 +9,7 @@ use Rattle.script_forms.specs.Terms.{term, refused, divisor_not_constant, divide
 use Rattle.script_forms.specs.Unfolded.{unfolded_operation}
 use Rattle.script_forms.specs.Work.{Event, met, divide_events, steps_events, operation_events, ending}
 use Rattle.script_forms.specs.Walk.{after_events, goes_on}
-use Rattle.term_build.specs.Built.{Made, stand_of}
+use Rattle.term_build.specs.Built.{BuilderModel, stand_of}
 use Rattle.term_build.specs.Does.{IsTree}
 use Rattle.term_build.specs.Settled.{Extends}
 use Rattle.term_build.specs.Steps.{Emits, IsTreeOf, tree_of}
@@ -27,13 +27,13 @@ pub nowhere : Place
 nowhere = record { line = 0; column = 0 }
 
 -- what emits grows
-pub emits_grows : {X : Type 0} (P : X → Type 0) (m m1 : Made) (es : List Event) (x : X) → Emits m m1 es (Ok x) P → Extends (stand_of m) (stand_of m1)
+pub emits_grows : {X : Type 0} (P : X → Type 0) (m m1 : BuilderModel) (es : List Event) (x : X) → Emits m m1 es (Ok x) P → Extends (stand_of m) (stand_of m1)
 emits_grows P m m1 es x h = extends_to (record { line = 0; column = 0 }) (stand_of m) (stand_of m1) es (h.0 (record { line = 0; column = 0 }))
 
-pub node_there : (m : Made) (k : ℕ) → k < length m.nodes → IsTree m (tree_of m k) k
+pub node_there : (m : BuilderModel) (k : ℕ) → k < length m.nodes → IsTree m (tree_of m k) k
 node_there m k h = index_get (stand_of m).trees k (constant zero_fraction) (omega (arith, h, length_terms m.nodes))
 
-pub fold_begun : (step : Step) (at : Place) (m : Made) (first : ℕ) (rest : List ℕ) → first < length m.nodes → AreNodes m rest → IsFolding step at m m first rest first rest
+pub fold_begun : (step : Step) (at : Place) (m : BuilderModel) (first : ℕ) (rest : List ℕ) → first < length m.nodes → AreNodes m rest → IsFolding step at m m first rest first rest
 fold_begun step at m first rest h below = record {
   sorts = refl;
   stand = extends_self (stand_of m);
@@ -45,21 +45,21 @@ fold_begun step at m first rest h below = record {
 }
 
 -- the nodes of the next step stand
-pub fold_first : (step : Step) (at : Place) (m now : Made) (first : ℕ) (rest : List ℕ) (k : ℕ) (left : List ℕ) → IsFolding step at m now first rest k left → k < length now.nodes
+pub fold_first : (step : Step) (at : Place) (m now : BuilderModel) (first : ℕ) (rest : List ℕ) (k : ℕ) (left : List ℕ) → IsFolding step at m now first rest k left → k < length now.nodes
 fold_first step at m now first rest k left h = tree_below now h.value k h.there
 
-pub fold_next : (step : Step) (at : Place) (m now : Made) (first : ℕ) (rest : List ℕ) (k j : ℕ) (left : List ℕ) → IsFolding step at m now first rest k (j ∷ left) → j < length now.nodes
+pub fold_next : (step : Step) (at : Place) (m now : BuilderModel) (first : ℕ) (rest : List ℕ) (k j : ℕ) (left : List ℕ) → IsFolding step at m now first rest k (j ∷ left) → j < length now.nodes
 fold_next step at m now first rest k j left h = omega (arith, h.below.0, more_nodes m now h.stand.trees)
 
 -- the events of the step, over the trees as they were
-step-emits : (step : Step) (at : Place) (m now next : Made) (first : ℕ) (rest : List ℕ) (k j : ℕ) (left : List ℕ) (r : Result ℕ Stop) → (h : IsFolding step at m now first rest k (j ∷ left)) →
+step-emits : (step : Step) (at : Place) (m now next : BuilderModel) (first : ℕ) (rest : List ℕ) (k j : ℕ) (left : List ℕ) (r : Result ℕ Stop) → (h : IsFolding step at m now first rest k (j ∷ left)) →
     Emits now next (events_of_step step at (tree_of now k) (tree_of now j)) r (IsTreeOf next (tree_of_step step at (tree_of now k) (tree_of now j))) →
     Emits now next (events_of_step step at h.value (tree_of m j)) r (IsTreeOf next (tree_of_step step at h.value (tree_of m j)))
 step-emits step at m now next first rest k j left r h e =
     subst (λ (t : Term). Emits now next (events_of_step step at t (tree_of m j)) r (IsTreeOf next (tree_of_step step at t (tree_of m j)))) (tree_is now h.value k h.there)
     (subst (λ (u : Term). Emits now next (events_of_step step at (tree_of now k) u) r (IsTreeOf next (tree_of_step step at (tree_of now k) u))) (same_tree m now j h.stand.trees h.below.0) e)
 
-pub fold_step : (step : Step) (at : Place) (m now next : Made) (first : ℕ) (rest : List ℕ) (k j i : ℕ) (left : List ℕ) → IsFolding step at m now first rest k (j ∷ left) →
+pub fold_step : (step : Step) (at : Place) (m now next : BuilderModel) (first : ℕ) (rest : List ℕ) (k j i : ℕ) (left : List ℕ) → IsFolding step at m now first rest k (j ∷ left) →
     Emits now next (events_of_step step at (tree_of now k) (tree_of now j)) (Ok i) (IsTreeOf next (tree_of_step step at (tree_of now k) (tree_of now j))) → next.sorts ≡ now.sorts →
     IsFolding step at m next first rest i left
 fold_step step at m now next first rest k j i left h e s =
@@ -77,7 +77,7 @@ fold_step step at m now next first rest k j i left h e s =
       same = h.same ∙ ap (λ u. steps f u us) w.1.1;
     }
 
-pub fold_stopped : (P : ℕ → Type 0) (step : Step) (at : Place) (m now next : Made) (first : ℕ) (rest : List ℕ) (k j : ℕ) (x : Stop) (left : List ℕ) → IsFolding step at m now first rest k (j ∷ left) →
+pub fold_stopped : (P : ℕ → Type 0) (step : Step) (at : Place) (m now next : BuilderModel) (first : ℕ) (rest : List ℕ) (k j : ℕ) (x : Stop) (left : List ℕ) → IsFolding step at m now first rest k (j ∷ left) →
     Emits now next (events_of_step step at (tree_of now k) (tree_of now j)) (Err x) (IsTreeOf next (tree_of_step step at (tree_of now k) (tree_of now j))) →
     Emits m next (steps_events (tree_of_step step at) (events_of_step step at) (tree_at (stand_of m).trees first) (trees_at (stand_of m).trees rest)) (Err x) P
 fold_stopped P step at m now next first rest k j x left h e = λ claim.
@@ -88,14 +88,14 @@ fold_stopped P step at m now next first rest k j x left h e = λ claim.
     (h.walk claim ∙ events_both claim (stand_of now) (g h.value (tree_of m j)) es)
     (stopped_on claim (after_events claim (stand_of now) (g h.value (tree_of m j))) (λ s'. after_events claim s' es) x (w claim))
 
-pub fold_done : (step : Step) (at : Place) (m now : Made) (first : ℕ) (rest : List ℕ) (k : ℕ) → IsFolding step at m now first rest k [] →
+pub fold_done : (step : Step) (at : Place) (m now : BuilderModel) (first : ℕ) (rest : List ℕ) (k : ℕ) → IsFolding step at m now first rest k [] →
     Emits m now (steps_events (tree_of_step step at) (events_of_step step at) (tree_at (stand_of m).trees first) (trees_at (stand_of m).trees rest)) (Ok k)
     (IsTreeOf now (steps (tree_of_step step at) (tree_at (stand_of m).trees first) (trees_at (stand_of m).trees rest)))
 fold_done step at m now first rest k h = ((λ claim. h.walk claim), (h.value, h.same, h.there))
 
 -- ---- an operator
 
-pub calculate_folds : (step : Step) (at : Place) (m m1 : Made) (k : ℕ) (ks : List ℕ) (r : Result ℕ Stop) → (is_difference step ≡ true → ks ≡ [] → ⊥) →
+pub calculate_folds : (step : Step) (at : Place) (m m1 : BuilderModel) (k : ℕ) (ks : List ℕ) (r : Result ℕ Stop) → (is_difference step ≡ true → ks ≡ [] → ⊥) →
     Emits m m1 (steps_events (tree_of_step step at) (events_of_step step at) (tree_at (stand_of m).trees k) (trees_at (stand_of m).trees ks)) r (IsTreeOf m1 (steps (tree_of_step step at) (tree_at (stand_of m).trees k) (trees_at (stand_of m).trees ks))) →
     Emits m m1 (operation_events at (operator_of_step step) (trees_at (stand_of m).trees (k ∷ ks))) r (IsTreeOf m1 (unfolded_operation at (operator_of_step step) (trees_at (stand_of m).trees (k ∷ ks))))
 calculate_folds Add at m m1 k ks r h e = e
@@ -106,7 +106,7 @@ calculate_folds Divide at m m1 k ks r h e = let ts = (stand_of m).trees in let f
 calculate_folds Subtract at m m1 k [] r h e = absurd (h refl refl)
 calculate_folds Subtract at m m1 k (j ∷ ks) r h e = e
 
-pub calculate_negates : (step : Step) (at : Place) (m m1 : Made) (k : ℕ) (ks : List ℕ) (r : Result ℕ Stop) → is_difference step ≡ true → ks ≡ [] →
+pub calculate_negates : (step : Step) (at : Place) (m m1 : BuilderModel) (k : ℕ) (ks : List ℕ) (r : Result ℕ Stop) → is_difference step ≡ true → ks ≡ [] →
     Emits m m1 (ending (term (negate_tree (tree_of m k)))) r (IsTreeOf m1 (term (negate_tree (tree_of m k)))) →
     Emits m m1 (operation_events at (operator_of_step step) (trees_at (stand_of m).trees (k ∷ ks))) r (IsTreeOf m1 (unfolded_operation at (operator_of_step step) (trees_at (stand_of m).trees (k ∷ ks))))
 calculate_negates Subtract at m m1 k [] r h e n = n

@@ -8,8 +8,8 @@ use Rattle.script_forms.specs.Terms.{Comparison, Unfolded, formula}
 use Rattle.script_forms.specs.Unfolded.{truth_of, negation_form, is_real_tree}
 use Rattle.script_forms.specs.Work.{Event, ending, made}
 use Rattle.script_forms.specs.Walk.{after_events}
-use Rattle.term_build.specs.Built.{Made, stand_of}
-use Rattle.term_build.specs.Sketch.{Drawn, yes_drawn, no_drawn, comparison_drawn, bool_drawn, all_drawn, any_drawn, choice_drawn, IsDrawing, IsDrawn, IsSketch}
+use Rattle.term_build.specs.Built.{BuilderModel, stand_of}
+use Rattle.term_build.specs.Sketch.{SketchNode, yes_sketch, no_sketch, comparison_sketch, bool_sketch, all_sketch, any_sketch, choice_sketch, IsDrawing, IsDrawn, IsSketch}
 use Rattle.term_build.specs.Pairs.{DrawsForm, Draws, Grown}
 use Rattle.term_build.specs.Settled.{Extends}
 use Rattle.term_build.specs.declared.sketch.Arm.{Arm}
@@ -56,34 +56,34 @@ grows_on a b d g h = record {
 
 -- ---- what nodes draw over more trees
 
-draws-trees : (ts us : List Term) (ds : List Drawn) (f : Form Comparison) (k : ℕ) (vs : List Term) → us ≡ ts ++ vs → DrawsForm ts ds f k → DrawsForm us ds f k
+draws-trees : (ts us : List Term) (ds : List SketchNode) (f : Form Comparison) (k : ℕ) (vs : List Term) → us ≡ ts ++ vs → DrawsForm ts ds f k → DrawsForm us ds f k
 draws-trees ts us ds f k vs e h = record {
   below = h.below;
   form = λ ts' more fs d. h.form (vs ++ ts') more fs (subst (λ (x : List Term). IsDrawing x (ds ++ more) fs) (ap (λ x. x ++ ts') e ∙ append_assoc ts vs ts') d);
 }
 
-pub pair_trees : (ts us : List Term) (ds : List Drawn) (u : Unfolded) (p : Pair) (vs : List Term) → us ≡ ts ++ vs → Draws ts ds u p → Draws us ds u p
+pub pair_trees : (ts us : List Term) (ds : List SketchNode) (u : Unfolded) (p : Pair) (vs : List Term) → us ≡ ts ++ vs → Draws ts ds u p → Draws us ds u p
 pair_trees ts us ds u p vs e h = record { yes = draws-trees ts us ds (truth_of u) p.truth vs e h.yes; no = draws-trees ts us ds (negation_form u) p.negation vs e h.no; is = h.is }
 
 -- ---- arms stay
 
-got-before : (ds more : List Drawn) (k : ℕ) (d : Drawn) → slice_get ds k ≡ Some d → slice_get (ds ++ more) k ≡ Some d
+got-before : (ds more : List SketchNode) (k : ℕ) (d : SketchNode) → slice_get ds k ≡ Some d → slice_get (ds ++ more) k ≡ Some d
 got-before [] more k d h = cc
 got-before (x ∷ ds) more zero d h = h
 got-before (x ∷ ds) more (suc k) d h = got-before ds more k d h
 
-pub arm_stays : (m m' : Made) (ds ds' : List Drawn) (u : Unfolded) (x : Arm) → Extends (stand_of m) (stand_of m') → Grown ds ds' → IsArm m ds u x → IsArm m' ds' u x
+pub arm_stays : (m m' : BuilderModel) (ds ds' : List SketchNode) (u : Unfolded) (x : Arm) → Extends (stand_of m) (stand_of m') → Grown ds ds' → IsArm m ds u x → IsArm m' ds' u x
 arm_stays m m' ds ds' _ _ e g (is_tree {t = t} {k = k} h) = is_tree (tree_stays m m' t k e.trees h)
 arm_stays m m' ds ds' _ _ e g (is_choice {c = c} {d = d} {u = u} {v = v} {p = p} {x = x} {y = y} {k = k} h w i j) =
-    is_choice (ap (λ l. slice_get l k) g.is ∙ got-before ds g.more k (choice_drawn p x y) h)
+    is_choice (ap (λ l. slice_get l k) g.is ∙ got-before ds g.more k (choice_sketch p x y) h)
     (pair_more (stand_of m').trees ds ds' (formula c d) p g (pair_trees (stand_of m).trees (stand_of m').trees ds (formula c d) p e.trees.0 e.trees.1 w))
     (arm_stays m m' ds ds' u x e g i) (arm_stays m m' ds ds' v y e g j)
 
-pub arm_is_real : (m : Made) (ds : List Drawn) (u : Unfolded) (x : Arm) → IsArm m ds u x → is_real_tree u ≡ true
+pub arm_is_real : (m : BuilderModel) (ds : List SketchNode) (u : Unfolded) (x : Arm) → IsArm m ds u x → is_real_tree u ≡ true
 arm_is_real m ds _ _ (is_tree h) = refl
 arm_is_real m ds _ _ (is_choice {u = u} {v = v} {x = x} {y = y} h w i j) = ap (λ b. b && is_real_tree v) (arm_is_real m ds u x i) ∙ arm_is_real m ds v y j
 
-choice-quiet : (m : Made) (ds : List Drawn) (u : Unfolded) (k : ℕ) → IsArm m ds u (arm.Choice k) → ending u ≡ []
+choice-quiet : (m : BuilderModel) (ds : List SketchNode) (u : Unfolded) (k : ℕ) → IsArm m ds u (arm.Choice k) → ending u ≡ []
 choice-quiet m ds _ k (is_choice h w i j) = refl
 
 -- ---- values stay
@@ -143,17 +143,17 @@ named_again m u b (values.Bool pair n) h = (
 
 -- ---- sketches over more trees
 
-drawn-stays : (m m' : Made) (d : Drawn) → length m.nodes ≤ length m'.nodes → m'.sorts ≡ m.sorts → IsDrawn m d → IsDrawn m' d
-drawn-stays m m' (comparison_drawn at l r kind) n s h = (omega (arith, n, h.0), omega (arith, n, h.1))
-drawn-stays m m' (bool_drawn axis v) n s h = rw s h
-drawn-stays m m' yes_drawn n s h = tt
-drawn-stays m m' no_drawn n s h = tt
-drawn-stays m m' (choice_drawn p x y) n s h = tt
-drawn-stays m m' (all_drawn ks) n s h = tt
-drawn-stays m m' (any_drawn ks) n s h = tt
+drawn-stays : (m m' : BuilderModel) (d : SketchNode) → length m.nodes ≤ length m'.nodes → m'.sorts ≡ m.sorts → IsDrawn m d → IsDrawn m' d
+drawn-stays m m' (comparison_sketch at l r kind) n s h = (omega (arith, n, h.0), omega (arith, n, h.1))
+drawn-stays m m' (bool_sketch axis v) n s h = rw s h
+drawn-stays m m' yes_sketch n s h = tt
+drawn-stays m m' no_sketch n s h = tt
+drawn-stays m m' (choice_sketch p x y) n s h = tt
+drawn-stays m m' (all_sketch ks) n s h = tt
+drawn-stays m m' (any_sketch ks) n s h = tt
 
-pub sketch_stays : (m m' : Made) (ds : List Drawn) → length m.nodes ≤ length m'.nodes → m'.sorts ≡ m.sorts → IsSketch m ds → IsSketch m' ds
+pub sketch_stays : (m m' : BuilderModel) (ds : List SketchNode) → length m.nodes ≤ length m'.nodes → m'.sorts ≡ m.sorts → IsSketch m ds → IsSketch m' ds
 sketch_stays m m' ds n s h = record { ordered = h.ordered; drawn = λ k d e. drawn-stays m m' d n s (h.drawn k d e) }
 
-pub no_sketch : (m : Made) → IsSketch m []
+pub no_sketch : (m : BuilderModel) → IsSketch m []
 no_sketch m = record { ordered = refl; drawn = λ k d e. cc }

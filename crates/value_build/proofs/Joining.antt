@@ -11,11 +11,11 @@ use Rattle.poly_graph.specs.Form.{Form}
 use Rattle.script_forms.specs.Terms.{Comparison, Unfolded, term, formula, refused, either, hold_either}
 use Rattle.script_forms.specs.Unfolded.{unfolded_operation, chain, and_of, different, equal_two, differ_two, takes, are_terms, are_formulas, picks_terms, choice_tree, truth_of, negation_form}
 use Rattle.script_forms.specs.Work.{compare_events, together, operation_events}
-use Rattle.term_build.specs.Built.{Made, stand_of}
+use Rattle.term_build.specs.Built.{BuilderModel, stand_of}
 use Rattle.term_build.specs.Does.{StopsAs}
 use Rattle.script_forms.specs.Walk.{after_events}
 use Rattle.term_build.specs.declared.sketch.Arm.{Arm}
-use Rattle.term_build.specs.Sketch.{Drawn, choice_drawn, IsSketch}
+use Rattle.term_build.specs.Sketch.{SketchNode, choice_sketch, IsSketch}
 use Rattle.term_build.specs.Pairs.{Grown, Draws, DrawsEach, compared}
 use Rattle.term_build.specs.declared.connectives.Pair.{Pair}
 use Rattle.term_build.specs.declared.sketch.Arm.TheVariants as arm
@@ -48,7 +48,7 @@ one-link m u b (values.Bool p n) e h = (h.0, (bounds_in b ++ [], refl, subst (λ
 one-link m u b (values.Real k) e h = cc
 one-link m u b (values.Choice k) e h = cc
 
-pub joins_one : (m : Made) (ds : List Drawn) (lists : List (List Bound)) (s : Spread) (links : List Value) (v : Value) → Some v ≡ only_of s links → are_bool links ≡ true → Joins m ds ds lists lists s links (Ok v)
+pub joins_one : (m : BuilderModel) (ds : List SketchNode) (lists : List (List Bound)) (s : Spread) (links : List Value) (v : Value) → Some v ≡ only_of s links → are_bool links ≡ true → Joins m ds ds lists lists s links (Ok v)
 joins_one m ds lists Next (w ∷ []) v e b = λ us bs h. go us bs h
   where
     same : w ≡ v
@@ -82,7 +82,7 @@ and-true : (x y : Bool) → x ≡ true → y ≡ true → x && y ≡ true
 and-true true y e f = f
 and-true false y e f = e
 
-pub joins_all : (m : Made) (ds ds' : List Drawn) (lists lists' : List (List Bound)) (s : Spread) (links : List Value) (ps : List Pair) (ns : List ℕ) (r : Result Value Stop) → ps ≡ map pair_number links → ns ≡ map list_number links →
+pub joins_all : (m : BuilderModel) (ds ds' : List SketchNode) (lists lists' : List (List Bound)) (s : Spread) (links : List Value) (ps : List Pair) (ns : List ℕ) (r : Result Value Stop) → ps ≡ map pair_number links → ns ≡ map list_number links →
     None ≡ only_of s links → are_bool links ≡ true → (length links ≡ 0 → ⊥) → BoolsDo m ds ds' lists lists' conjunction ps ns r → Joins m ds ds' lists lists' s links r
 joins_all m ds ds' lists lists' s links ps ns r e f n b some w = λ us bs h.
     let k = bools_seen m ds lists us bs links h b in
@@ -93,7 +93,7 @@ joins_all m ds ds' lists lists' s links ps ns r e f n b some w = λ us bs h.
 
 -- ---- comparisons
 
-pub says_all : (m m1 : Made) (ds ds1 ds2 : List Drawn) (lists lists1 lists2 : List (List Bound)) (s : Spread) (kind : Kind) (at : Place) (vs links : List Value) (r : Result Value Stop) →
+pub says_all : (m m1 : BuilderModel) (ds ds1 ds2 : List SketchNode) (lists lists1 lists2 : List (List Bound)) (s : Spread) (kind : Kind) (at : Place) (vs links : List Value) (r : Result Value Stop) →
     LinksEach {X = Unit {0}} m ds lists m1 ds1 lists1 s kind at vs [] links (Ok tt) → Joins m1 ds1 ds2 lists1 lists2 s links r → SaysAll m ds lists m1 ds2 lists2 s kind at vs r
 says_all m m1 ds ds1 ds2 lists lists1 lists2 s kind at vs links r h w = λ us bs k.
     let M = making m ds lists in let M1 = making m1 ds1 lists1 in let M2 = making m1 ds2 lists2 in
@@ -103,7 +103,7 @@ says_all m m1 ds ds1 ds2 lists lists1 lists2 s kind at vs links r h w = λ us bs
     (steps_then (λ (_ : Unit {0}). IsSketch m1 ds1 × AreValues M1 (spread_over s (linked s kind at) us) (spread_over s (link_bounds s kind) bs) links) P M M1 M2 (together (spread_over s compare_events us)) [] (tt {0}) r i
     (w (spread_over s (linked s kind at) us) (spread_over s (link_bounds s kind) bs) i.1.1.1))
 
-pub says_stop : (m m1 : Made) (ds ds1 ds2 : List Drawn) (lists lists1 lists2 : List (List Bound)) (s : Spread) (kind : Kind) (at : Place) (vs links : List Value) (z : Stop) →
+pub says_stop : (m m1 : BuilderModel) (ds ds1 ds2 : List SketchNode) (lists lists1 lists2 : List (List Bound)) (s : Spread) (kind : Kind) (at : Place) (vs links : List Value) (z : Stop) →
     LinksEach {X = Unit {0}} m ds lists m1 ds1 lists1 s kind at vs [] links (Err z) → SaysAll m ds lists m1 ds2 lists2 s kind at vs (Err z)
 says_stop m m1 ds ds1 ds2 lists lists1 lists2 s kind at vs links z h = λ us bs k claim. h us bs [] [] k tt claim
 
@@ -122,7 +122,7 @@ no-pairs kind [] = refl
 no-pairs kind (b ∷ bs) = no-each kind b bs (pairs (link_bounds Later kind) bs) (no-pairs kind bs)
 
 -- a chain says what its operator says
-pub chain_says : (m m' : Made) (ds ds' : List Drawn) (lists lists' : List (List Bound)) (kind : Kind) (at : Place) (vs : List Value) (r : Result Value Stop) → SaysAll m ds lists m' ds' lists' Next kind at vs r →
+pub chain_says : (m m' : BuilderModel) (ds ds' : List SketchNode) (lists lists' : List (List Bound)) (kind : Kind) (at : Place) (vs : List Value) (r : Result Value Stop) → SaysAll m ds lists m' ds' lists' Next kind at vs r →
     (us : List Unfolded) (bs : List Bounding) → AreValues (making m ds lists) us bs vs →
     Steps (making m ds lists) (making m' ds' lists') (together (neighbours compare_events us)) r (IsValue (making m' ds' lists') (chain (neighbours (compared kind at) us)) (bounds (concat (neighbours (bounds_of_kind kind) bs))))
 chain_says m m' ds ds' lists lists' kind at vs r h us bs k =
@@ -131,7 +131,7 @@ chain_says m m' ds ds' lists lists' kind at vs r h us bs k =
     (subst (λ (xs : List Bound). Steps M M' (together (spread_over Next compare_events us)) r (IsValue M' (chain (neighbours (compared kind at) us)) (bounds xs))) (ap (λ cs. concat (map bounds_in cs)) (spread_next (link_bounds Next kind) bs) ∙ chained kind bs)
     (subst (λ (xs : List Unfolded). Steps M M' (together (spread_over Next compare_events us)) r (IsValue M' (chain xs) (bounds (concat (map bounds_in (spread_over Next (link_bounds Next kind) bs)))))) (spread_next (linked Next kind at) us) (h us bs k)))
 
-pub pairs_say : (m m' : Made) (ds ds' : List Drawn) (lists lists' : List (List Bound)) (at : Place) (vs : List Value) (r : Result Value Stop) → SaysAll m ds lists m' ds' lists' Later eq at vs r →
+pub pairs_say : (m m' : BuilderModel) (ds ds' : List SketchNode) (lists lists' : List (List Bound)) (at : Place) (vs : List Value) (r : Result Value Stop) → SaysAll m ds lists m' ds' lists' Later eq at vs r →
     (us : List Unfolded) (bs : List Bounding) → AreValues (making m ds lists) us bs vs →
     Steps (making m ds lists) (making m' ds' lists') (together (pairs compare_events us)) r (IsValue (making m' ds' lists') (and_of (pairs (differ_two at) us)) (bounds []))
 pairs_say m m' ds ds' lists lists' at vs r h us bs k =
@@ -162,13 +162,13 @@ differ-reals at (either c d a b ∷ us) e h = refl
 differ-reals at (formula p n ∷ us) e h = cc
 differ-reals at (refused x ∷ us) e h = cc
 
-pub equal_arms : (m m' : Made) (ds ds' : List Drawn) (lists lists' : List (List Bound)) (at : Place) (vs : List Value) (r : Result Value Stop) → are_arms vs ≡ true → SaysAll m ds lists m' ds' lists' Next eq at vs r →
+pub equal_arms : (m m' : BuilderModel) (ds ds' : List SketchNode) (lists lists' : List (List Bound)) (at : Place) (vs : List Value) (r : Result Value Stop) → are_arms vs ≡ true → SaysAll m ds lists m' ds' lists' Next eq at vs r →
     ArmsDo m m' ds ds' lists lists' at equality vs r
 equal_arms m m' ds ds' lists lists' at vs r e h = λ us bs k t. let f = facts (making m ds lists) us bs vs k in
     subst (λ (u : Unfolded). Steps (making m ds lists) (making m' ds' lists') (together (neighbours compare_events us)) r (IsValue (making m' ds' lists') u (bounds (concat (neighbours equal_bounds bs))))) (sym (equal-reals at us (f.reals ∙ e)))
     (chain_says m m' ds ds' lists lists' eq at vs r h us bs k)
 
-pub differ_arms : (m m' : Made) (ds ds' : List Drawn) (lists lists' : List (List Bound)) (at : Place) (vs : List Value) (r : Result Value Stop) → are_arms vs ≡ true → are_real vs ≡ false → SaysAll m ds lists m' ds' lists' Later eq at vs r →
+pub differ_arms : (m m' : BuilderModel) (ds ds' : List SketchNode) (lists lists' : List (List Bound)) (at : Place) (vs : List Value) (r : Result Value Stop) → are_arms vs ≡ true → are_real vs ≡ false → SaysAll m ds lists m' ds' lists' Later eq at vs r →
     ArmsDo m m' ds ds' lists lists' at distinctness vs r
 differ_arms m m' ds ds' lists lists' at vs r e o h = λ us bs k t. let f = facts (making m ds lists) us bs vs k in
     subst (λ (u : Unfolded). Steps (making m ds lists) (making m' ds' lists') (together (pairs compare_events us)) r (IsValue (making m' ds' lists') u (bounds [])))
@@ -177,7 +177,7 @@ differ_arms m m' ds ds' lists lists' at vs r e o h = λ us bs k t. let f = facts
 
 -- ---- arithmetic
 
-pub arms_made : (m m' : Made) (ds ds' : List Drawn) (at : Place) (s : Step) (v : Value) (vs : List Value) (k : ℕ) → Calculates m ds m' ds' at s v vs (Ok (arm.Choice k)) → ArmsMake m ds m' ds' at (operator_of_step s) (v ∷ vs) (Ok (values.Choice k))
+pub arms_made : (m m' : BuilderModel) (ds ds' : List SketchNode) (at : Place) (s : Step) (v : Value) (vs : List Value) (k : ℕ) → Calculates m ds m' ds' at s v vs (Ok (arm.Choice k)) → ArmsMake m ds m' ds' at (operator_of_step s) (v ∷ vs) (Ok (values.Choice k))
 arms_made m m' ds ds' at s v vs k w = λ lists us bs h. go lists us bs h
   where
     go : (lists : List (List Bound)) (us : List Unfolded) (bs : List Bounding) → AreValues (making m ds lists) us bs (v ∷ vs) →
@@ -193,7 +193,7 @@ arms_made m m' ds ds' at s v vs k w = λ lists us bs h. go lists us bs h
     go lists [] (b ∷ bs) h = elim h [ ]
     go lists (u ∷ us) [] h = elim h [ ]
 
-pub arms_stopped : (m m' : Made) (ds ds' ds'' : List Drawn) (at : Place) (s : Step) (v : Value) (vs : List Value) (z : Stop) → Calculates m ds m' ds' at s v vs (Err z) → ArmsMake m ds m' ds'' at (operator_of_step s) (v ∷ vs) (Err z)
+pub arms_stopped : (m m' : BuilderModel) (ds ds' ds'' : List SketchNode) (at : Place) (s : Step) (v : Value) (vs : List Value) (z : Stop) → Calculates m ds m' ds' at s v vs (Err z) → ArmsMake m ds m' ds'' at (operator_of_step s) (v ∷ vs) (Err z)
 arms_stopped m m' ds ds' ds'' at s v vs z w = λ lists us bs h. go lists us bs h
   where
     go : (lists : List (List Bound)) (us : List Unfolded) (bs : List Bounding) → AreValues (making m ds lists) us bs (v ∷ vs) →
@@ -203,7 +203,7 @@ arms_stopped m m' ds ds' ds'' at s v vs z w = λ lists us bs h. go lists us bs h
     go lists [] (b ∷ bs) h = elim h [ ]
     go lists (u ∷ us) [] h = elim h [ ]
 
-pub arms_sketch : (m m' : Made) (ds ds' : List Drawn) (at : Place) (s : Step) (v : Value) (vs : List Value) (k : ℕ) → Calculates m ds m' ds' at s v vs (Ok (arm.Choice k)) → AreSomeValues m ds (v ∷ vs) → IsSketch m' ds'
+pub arms_sketch : (m m' : BuilderModel) (ds ds' : List SketchNode) (at : Place) (s : Step) (v : Value) (vs : List Value) (k : ℕ) → Calculates m ds m' ds' at s v vs (Ok (arm.Choice k)) → AreSomeValues m ds (v ∷ vs) → IsSketch m' ds'
 arms_sketch m m' ds ds' at s v vs k w h = go h.0 h.1 h.2 h.3
   where
     go : (lists : List (List Bound)) (us : List Unfolded) (bs : List Bounding) → AreValues (making m ds lists) us bs (v ∷ vs) → IsSketch m' ds'
@@ -249,7 +249,7 @@ arms-other Multiply m us bs vs h e = alone-other m times us bs vs h e
 arms-other Subtract m us bs vs h e = ap (computed minus) (unknown m us bs vs h e)
 arms-other Divide m us bs vs h e = ap (computed divide) (unknown m us bs vs h e)
 
-pub arithmetic_arms : (m m' : Made) (ds ds' : List Drawn) (lists : List (List Bound)) (at : Place) (s : Step) (vs : List Value) (r : Result Value Stop) → are_arms vs ≡ true → are_real vs ≡ false → ArmsMake m ds m' ds' at (operator_of_step s) vs r →
+pub arithmetic_arms : (m m' : BuilderModel) (ds ds' : List SketchNode) (lists : List (List Bound)) (at : Place) (s : Step) (vs : List Value) (r : Result Value Stop) → are_arms vs ≡ true → are_real vs ≡ false → ArmsMake m ds m' ds' at (operator_of_step s) vs r →
     ArmsDo m m' ds ds' lists lists at (operator_of_step s) vs r
 arithmetic_arms m m' ds ds' lists at s vs r e o w = λ us bs k t.
     let op = operator_of_step s in let M' = making m' ds' lists in
@@ -258,22 +258,22 @@ arithmetic_arms m m' ds ds' lists at s vs r e o w = λ us bs k t.
 
 -- ---- a Real `ite`
 
-at-end : (ds : List Drawn) (d : Drawn) → slice_get (ds ++ (d ∷ [])) (length ds) ≡ Some d
+at-end : (ds : List SketchNode) (d : SketchNode) → slice_get (ds ++ (d ∷ [])) (length ds) ≡ Some d
 at-end [] d = refl
 at-end (x ∷ ds) d = at-end ds d
 
-pick-value : (m : Made) (ds ds' : List Drawn) (lists : List (List Bound)) (c d : Form Comparison) (p : Pair) (n k : ℕ) (a b : Unfolded) (x y : Arm) → ds' ≡ ds ++ (choice_drawn p x y ∷ []) → k ≡ length ds → Draws (stand_of m).trees ds (formula c d) p →
+pick-value : (m : BuilderModel) (ds ds' : List SketchNode) (lists : List (List Bound)) (c d : Form Comparison) (p : Pair) (n k : ℕ) (a b : Unfolded) (x y : Arm) → ds' ≡ ds ++ (choice_sketch p x y ∷ []) → k ≡ length ds → Draws (stand_of m).trees ds (formula c d) p →
     IsArm m ds a x → IsArm m ds b y → Grown ds ds' × IsArm m ds' (either c d a b) (arm.Choice k)
 pick-value m ds ds' lists c d p n k a b x y e f w i j =
-    let g : Grown ds ds' = record { more = choice_drawn p x y ∷ []; is = e } in (
+    let g : Grown ds ds' = record { more = choice_sketch p x y ∷ []; is = e } in (
       g,
-      is_choice (ap (λ l. slice_get l k) e ∙ ap (λ i. slice_get (ds ++ (choice_drawn p x y ∷ [])) i) f ∙ at-end ds (choice_drawn p x y)) (pair_more (stand_of m).trees ds ds' (formula c d) p g w)
+      is_choice (ap (λ l. slice_get l k) e ∙ ap (λ i. slice_get (ds ++ (choice_sketch p x y ∷ [])) i) f ∙ at-end ds (choice_sketch p x y)) (pair_more (stand_of m).trees ds ds' (formula c d) p g w)
           (arm_stays m m ds ds' a x (extends_self (stand_of m)) g i) (arm_stays m m ds ds' b y (extends_self (stand_of m)) g j),
     )
 
-pub picks_sketch : (m : Made) (ds ds' : List Drawn) (vs : List Value) (r : Result Value Stop) → IsSketch m ds → PicksOf ds ds' vs r → IsSketch m ds'
-picks_sketch m ds ds' (v ∷ w ∷ x ∷ []) (Ok (values.Choice k)) s h = subst (λ (l : List Drawn). IsSketch m l) (sym h.3) (sketch_end m ds (choice_drawn h.0 (arm_of w) (arm_of x)) s refl tt)
-picks_sketch m ds ds' vs (Err e) s h = subst (λ (l : List Drawn). IsSketch m l) (sym h.1) (record { ordered = refl; drawn = λ k d e. cc })
+pub picks_sketch : (m : BuilderModel) (ds ds' : List SketchNode) (vs : List Value) (r : Result Value Stop) → IsSketch m ds → PicksOf ds ds' vs r → IsSketch m ds'
+picks_sketch m ds ds' (v ∷ w ∷ x ∷ []) (Ok (values.Choice k)) s h = subst (λ (l : List SketchNode). IsSketch m l) (sym h.3) (sketch_end m ds (choice_sketch h.0 (arm_of w) (arm_of x)) s refl tt)
+picks_sketch m ds ds' vs (Err e) s h = subst (λ (l : List SketchNode). IsSketch m l) (sym h.1) (record { ordered = refl; drawn = λ k d e. cc })
 picks_sketch m ds ds' (v ∷ w ∷ x ∷ []) (Ok (values.Real k)) s h = elim h [ ]
 picks_sketch m ds ds' (v ∷ w ∷ x ∷ []) (Ok (values.Bool p n)) s h = elim h [ ]
 picks_sketch m ds ds' [] (Ok y) s h = elim h [ ]
@@ -286,7 +286,7 @@ second-real : (x y : Bool) → x || y ≡ true → x ≡ false → y ≡ true
 second-real true y h e = cc
 second-real false y h e = h
 
-pub picked_arms : (m : Made) (ds ds' : List Drawn) (lists : List (List Bound)) (at : Place) (vs : List Value) (r : Result Value Stop) → are_bool vs ≡ false → PicksOf ds ds' vs r → ArmsDo m m ds ds' lists lists at choice vs r
+pub picked_arms : (m : BuilderModel) (ds ds' : List SketchNode) (lists : List (List Bound)) (at : Place) (vs : List Value) (r : Result Value Stop) → are_bool vs ≡ false → PicksOf ds ds' vs r → ArmsDo m m ds ds' lists lists at choice vs r
 picked_arms m ds ds' lists at vs (Err e) b h = λ us bs k t claim. subst (λ (z : Stop). StopsAs claim (after_events claim (stand_of m) (operation_events at choice us)) z) (sym h.0) tt
 picked_arms m ds ds' lists at (v ∷ w ∷ x ∷ []) (Ok (values.Choice n)) b h = λ us bs k t. go us bs k t
   where

@@ -13,9 +13,9 @@ use Rattle.poly_graph.specs.Term.{Term, variable, constant}
 use Rattle.script_forms.specs.Work.{made, reached, ending}
 use Rattle.script_forms.specs.Atoms.{constant_tree}
 use Rattle.script_forms.specs.Walk.{make_tree, after_event}
-use Rattle.term_build.specs.Built.{Made, stand_of}
+use Rattle.term_build.specs.Built.{BuilderModel, stand_of}
 use Rattle.term_build.specs.Does.{Does, IsTree}
-use Rattle.term_build.specs.Sketch.{Drawn, IsSketch}
+use Rattle.term_build.specs.Sketch.{SketchNode, IsSketch}
 use Rattle.term_build.specs.Steps.{Emits}
 use Rattle.term_build.specs.declared.stop.Stop.{Stop}
 use Rattle.term_build.proofs.Emits.{emits_made, stands_on, stops_so}
@@ -29,28 +29,28 @@ use Rattle.value_build.proofs.Folds.{emits_grows}
 use Rattle.value_build.proofs.Growth.{lists_self}
 use Rattle.value_build.proofs.Operating.{emits_sketch}
 
-pub tree_made : (m m' : Made) (ds : List Drawn) (t : Term) (k : ℕ) → Does m m' (λ claim s. make_tree claim s t) (Ok k) (IsTree m' t) → MakesTree m ds m' ds t (Ok (values.Real k))
+pub tree_made : (m m' : BuilderModel) (ds : List SketchNode) (t : Term) (k : ℕ) → Does m m' (λ claim s. make_tree claim s t) (Ok k) (IsTree m' t) → MakesTree m ds m' ds t (Ok (values.Real k))
 tree_made m m' ds t k h = λ lists b w. let e = emits_made m m' t (Ok k) h in (
   (λ claim. e.0 claim),
   (record { stand = emits_grows (IsTree m' t) m m' (made t ∷ []) k e; drawn = grown_self ds; bounds = lists_self lists }, (t, refl, e.1, w)),
 )
 
-pub tree_not : (m m' : Made) (ds ds' : List Drawn) (t : Term) (x : Stop) → Does m m' (λ claim s. make_tree claim s t) (Err x) (IsTree m' t) → MakesTree m ds m' ds' t (Err x)
+pub tree_not : (m m' : BuilderModel) (ds ds' : List SketchNode) (t : Term) (x : Stop) → Does m m' (λ claim s. make_tree claim s t) (Err x) (IsTree m' t) → MakesTree m ds m' ds' t (Err x)
 tree_not m m' ds ds' t x h = λ lists b w claim. emits_made m m' t (Err x) h claim
 
-pub tree_sketch : (m m' : Made) (ds : List Drawn) (t : Term) (k : ℕ) → Does m m' (λ claim s. make_tree claim s t) (Ok k) (IsTree m' t) → m'.sorts ≡ m.sorts → IsSketch m ds → IsSketch m' ds
+pub tree_sketch : (m m' : BuilderModel) (ds : List SketchNode) (t : Term) (k : ℕ) → Does m m' (λ claim s. make_tree claim s t) (Ok k) (IsTree m' t) → m'.sorts ≡ m.sorts → IsSketch m ds → IsSketch m' ds
 tree_sketch m m' ds t k h s i = emits_sketch (IsTree m' t) m m' ds (made t ∷ []) k (emits_made m m' t (Ok k) h) s i
 
 -- one more expression is reached
-pub reach_emits : {X : Type 0} (P : X → Type 0) (m m' : Made) (r : Result X Stop) → Does m m' (λ claim s. after_event claim s reached) r P → Emits m m' (reached ∷ []) r P
+pub reach_emits : {X : Type 0} (P : X → Type 0) (m m' : BuilderModel) (r : Result X Stop) → Does m m' (λ claim s. after_event claim s reached) r P → Emits m m' (reached ∷ []) r P
 reach_emits P m m' (Ok x) h = ((λ claim. stands_on (after_event claim (stand_of m) reached) ∙ h.0 claim), h.1)
 reach_emits P m m' (Err e) h = λ claim. stops_so claim _ (after_event claim (stand_of m) reached) e (stands_on (after_event claim (stand_of m) reached)) (h claim)
 
-pub reach_steps : {X : Type 0} (P : X → Type 0) (m m' : Made) (ds : List Drawn) (lists : List (List Bound)) (x : X) → Does m m' (λ claim s. after_event claim s reached) (Ok x) P → Steps (making m ds lists) (making m' ds lists) (reached ∷ []) (Ok x) P
+pub reach_steps : {X : Type 0} (P : X → Type 0) (m m' : BuilderModel) (ds : List SketchNode) (lists : List (List Bound)) (x : X) → Does m m' (λ claim s. after_event claim s reached) (Ok x) P → Steps (making m ds lists) (making m' ds lists) (reached ∷ []) (Ok x) P
 reach_steps P m m' ds lists x h = let e = reach_emits P m m' (Ok x) h in
     (e.0, (record { stand = emits_grows P m m' (reached ∷ []) x e; drawn = grown_self ds; bounds = lists_self lists }, e.1))
 
-pub reach_sketch : {X : Type 0} (P : X → Type 0) (m m' : Made) (ds : List Drawn) (x : X) → Does m m' (λ claim s. after_event claim s reached) (Ok x) P → m'.sorts ≡ m.sorts → IsSketch m ds → IsSketch m' ds
+pub reach_sketch : {X : Type 0} (P : X → Type 0) (m m' : BuilderModel) (ds : List SketchNode) (x : X) → Does m m' (λ claim s. after_event claim s reached) (Ok x) P → m'.sorts ≡ m.sorts → IsSketch m ds → IsSketch m' ds
 reach_sketch P m m' ds x h s i = emits_sketch P m m' ds (reached ∷ []) x (reach_emits P m m' (Ok x) h) s i
 
 -- a constant has one sort
@@ -69,17 +69,17 @@ one_sort s t (x ∷ sorts) (suc axis) h k = one_sort s t sorts axis (later s x s
     later bool_sort x sorts axis h = h
 
 -- a declared constant is named
-pub names_real : (m m' : Made) (ds ds' : List Drawn) (lists : List (List Bound)) (old : Making) (axis : ℕ) (r : Result Value Stop) → making m ds lists ≡ old → HasSort real_sort m.sorts axis → MakesTree m ds m' ds' (variable axis) r → Names old (making m' ds' lists) axis r
+pub names_real : (m m' : BuilderModel) (ds ds' : List SketchNode) (lists : List (List Bound)) (old : Making) (axis : ℕ) (r : Result Value Stop) → making m ds lists ≡ old → HasSort real_sort m.sorts axis → MakesTree m ds m' ds' (variable axis) r → Names old (making m' ds' lists) axis r
 names_real m m' ds ds' lists old axis r e k w = subst (λ (x : Making). Names x (making m' ds' lists) axis r) e
     (λ sort h. subst (λ (s : Sort). Steps (making m ds lists) (making m' ds' lists) (ending (constant_tree axis s)) r (IsValue (making m' ds' lists) (constant_tree axis s) (constant_bounding axis s))) (one_sort real_sort sort m.sorts axis k h)
     (w lists (constant_of axis) refl))
 
-pub names_switch : (m : Made) (ds ds' : List Drawn) (lists lists' : List (List Bound)) (old : Making) (axis : ℕ) (r : Result Value Stop) → making m ds lists ≡ old → HasSort bool_sort m.sorts axis → MakesSwitch m ds ds' lists lists' axis r → Names old (making m ds' lists') axis r
+pub names_switch : (m : BuilderModel) (ds ds' : List SketchNode) (lists lists' : List (List Bound)) (old : Making) (axis : ℕ) (r : Result Value Stop) → making m ds lists ≡ old → HasSort bool_sort m.sorts axis → MakesSwitch m ds ds' lists lists' axis r → Names old (making m ds' lists') axis r
 names_switch m ds ds' lists lists' old axis r e k w = subst (λ (x : Making). Names x (making m ds' lists') axis r) e
     (λ sort h. subst (λ (s : Sort). Steps (making m ds lists) (making m ds' lists') (ending (constant_tree axis s)) r (IsValue (making m ds' lists') (constant_tree axis s) (constant_bounding axis s))) (one_sort bool_sort sort m.sorts axis k h) w)
 
 -- a literal
-pub literal_made : (m m' : Made) (ds ds' : List Drawn) (lists : List (List Bound)) (old : Making) (q p : Fraction) (r : Result Value Stop) → making m ds lists ≡ old → p ≡ reduced q → IsFraction q → MakesTree m ds m' ds' (constant p) r →
+pub literal_made : (m m' : BuilderModel) (ds ds' : List SketchNode) (lists : List (List Bound)) (old : Making) (q p : Fraction) (r : Result Value Stop) → making m ds lists ≡ old → p ≡ reduced q → IsFraction q → MakesTree m ds m' ds' (constant p) r →
     let u = term (constant (reduced q)) in Steps old (making m' ds' lists) (ending u) r (IsValue (making m' ds' lists) u (known q))
 literal_made m m' ds ds' lists old q p r e f i w = let s = reduced_same q i in
     subst (λ (x : Making). Steps x (making m' ds' lists) (ending (term (constant (reduced q)))) r (IsValue (making m' ds' lists) (term (constant (reduced q))) (known q))) e

@@ -6,9 +6,9 @@ use Rattle.poly_graph.specs.Term.{Term, Kind, le, ge, eq}
 use Rattle.poly_graph.specs.Form.{Form}
 use Rattle.script_forms.specs.Terms.{Comparison, Unfolded, term, formula, either, arms}
 use Rattle.script_forms.specs.Unfolded.{compare_two}
-use Rattle.term_build.specs.Built.{Made, stand_of}
+use Rattle.term_build.specs.Built.{BuilderModel, stand_of}
 use Rattle.term_build.specs.Does.{IsTree}
-use Rattle.term_build.specs.Sketch.{Drawn, choice_drawn, as_choice, IsSketch}
+use Rattle.term_build.specs.Sketch.{SketchNode, choice_sketch, as_choice, IsSketch}
 use Rattle.term_build.specs.Pairs.{Grown, Draws, AddsChoice, compared}
 use Rattle.term_build.specs.declared.connectives.Pair.{Pair}
 use Rattle.term_build.specs.declared.sketch.Arm.{Arm}
@@ -22,7 +22,7 @@ use Rattle.value_build.proofs.Growth.{arm_stays}
 -- ---- arms
 
 -- the parts of a Real `ite`
-pub record ChoiceParts (m : Made) (ds : List Drawn) (u : Unfolded) (p : Pair) (x y : Arm) : Type 0 where
+pub record ChoiceParts (m : BuilderModel) (ds : List SketchNode) (u : Unfolded) (p : Pair) (x y : Arm) : Type 0 where
   pub c : Form Comparison
   pub d : Form Comparison
   pub a : Unfolded
@@ -32,7 +32,7 @@ pub record ChoiceParts (m : Made) (ds : List Drawn) (u : Unfolded) (p : Pair) (x
   pub one : IsArm m ds a x
   pub other : IsArm m ds b y
 
-pub parts : (m : Made) (ds : List Drawn) (u : Unfolded) (k : ℕ) (p : Pair) (x y : Arm) → Some (p, x, y) ≡ as_choice (slice_get ds k) → IsArm m ds u (arm.Choice k) → ChoiceParts m ds u p x y
+pub parts : (m : BuilderModel) (ds : List SketchNode) (u : Unfolded) (k : ℕ) (p : Pair) (x y : Arm) → Some (p, x, y) ≡ as_choice (slice_get ds k) → IsArm m ds u (arm.Choice k) → ChoiceParts m ds u p x y
 parts m ds _ k p x y h (is_choice {c = c} {d = d} {u = a} {v = b} {p = p'} {x = x'} {y = y'} e w i j) =
     let q = h ∙ ap as_choice e in
     let left : Pair × Arm × Arm = (p, x, y) in let right : Pair × Arm × Arm = (p', x', y') in
@@ -47,27 +47,27 @@ parts m ds _ k p x y h (is_choice {c = c} {d = d} {u = a} {v = b} {p = p'} {x = 
       other = subst (λ (z : Arm). IsArm m ds b z) (sym (ap (λ z. z.2) t)) j;
     }
 
-pub tree_parts : (m : Made) (ds : List Drawn) (u : Unfolded) (k : ℕ) → IsArm m ds u (arm.Tree k) → (t : Term) × (u ≡ term t) × IsTree m t k
+pub tree_parts : (m : BuilderModel) (ds : List SketchNode) (u : Unfolded) (k : ℕ) → IsArm m ds u (arm.Tree k) → (t : Term) × (u ≡ term t) × IsTree m t k
 tree_parts m ds _ k (is_tree {t = t} h) = (t, refl, h)
 
 -- arms of which neither is a fault
-pub arms_are : (m : Made) (ds : List Drawn) (c d : Form Comparison) (a b : Unfolded) (x y : Arm) → IsArm m ds a x → IsArm m ds b y → arms c d a b ≡ either c d a b
+pub arms_are : (m : BuilderModel) (ds : List SketchNode) (c d : Form Comparison) (a b : Unfolded) (x y : Arm) → IsArm m ds a x → IsArm m ds b y → arms c d a b ≡ either c d a b
 arms_are m ds c d _ _ _ _ (is_tree h) (is_tree k) = refl
 arms_are m ds c d _ _ _ _ (is_tree h) (is_choice e w i j) = refl
 arms_are m ds c d _ _ _ _ (is_choice e w i j) (is_tree h) = refl
 arms_are m ds c d _ _ _ _ (is_choice e w i j) (is_choice e' w' i' j') = refl
 
-at-end : (ds : List Drawn) (d : Drawn) → slice_get (ds ++ (d ∷ [])) (length ds) ≡ Some d
+at-end : (ds : List SketchNode) (d : SketchNode) → slice_get (ds ++ (d ∷ [])) (length ds) ≡ Some d
 at-end [] d = refl
 at-end (x ∷ ds) d = at-end ds d
 
-pub added : (m : Made) (ds ds' : List Drawn) (c d : Form Comparison) (a b : Unfolded) (p : Pair) (x y z : Arm) → AddsChoice ds ds' p x y (Ok z) → IsSketch m ds → Draws (stand_of m).trees ds (formula c d) p →
+pub added : (m : BuilderModel) (ds ds' : List SketchNode) (c d : Form Comparison) (a b : Unfolded) (p : Pair) (x y z : Arm) → AddsChoice ds ds' p x y (Ok z) → IsSketch m ds → Draws (stand_of m).trees ds (formula c d) p →
     IsArm m ds a x → IsArm m ds b y → IsLifted m ds ds' (either c d a b) z
 added m ds ds' c d a b p x y (arm.Choice k) h s w i j =
-    let g : Grown ds ds' = record { more = choice_drawn p x y ∷ []; is = h.0 } in record {
+    let g : Grown ds ds' = record { more = choice_sketch p x y ∷ []; is = h.0 } in record {
       grown = g;
-      sketch = subst (λ (l : List Drawn). IsSketch m l) (sym h.0) (sketch_end m ds (choice_drawn p x y) s refl tt);
-      arm = is_choice (ap (λ l. slice_get l k) h.0 ∙ ap (λ n. slice_get (ds ++ (choice_drawn p x y ∷ [])) n) h.1 ∙ at-end ds (choice_drawn p x y))
+      sketch = subst (λ (l : List SketchNode). IsSketch m l) (sym h.0) (sketch_end m ds (choice_sketch p x y) s refl tt);
+      arm = is_choice (ap (λ l. slice_get l k) h.0 ∙ ap (λ n. slice_get (ds ++ (choice_sketch p x y ∷ [])) n) h.1 ∙ at-end ds (choice_sketch p x y))
           (pair_more (stand_of m).trees ds ds' (formula c d) p g w)
           (arm_stays m m ds ds' a x (extends_self (stand_of m)) g i) (arm_stays m m ds ds' b y (extends_self (stand_of m)) g j);
     }

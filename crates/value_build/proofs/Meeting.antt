@@ -7,10 +7,10 @@ use Rattle.poly_graph.specs.Form.{Form}
 use Rattle.script_forms.specs.Terms.{Comparison, Unfolded, term, formula, either}
 use Rattle.script_forms.specs.Work.{Event, reached, step_events}
 use Rattle.script_forms.specs.Walk.{after_event, most_size}
-use Rattle.term_build.specs.Built.{Made, stand_of}
+use Rattle.term_build.specs.Built.{BuilderModel, stand_of}
 use Rattle.term_build.specs.Does.{StopsAs}
 use Rattle.term_build.specs.Settled.{Extends}
-use Rattle.term_build.specs.Sketch.{Drawn, as_choice}
+use Rattle.term_build.specs.Sketch.{SketchNode, as_choice}
 use Rattle.term_build.specs.Pairs.{Draws}
 use Rattle.term_build.specs.Steps.{Emits, IsTreeOf, tree_of}
 use Rattle.term_build.specs.declared.connectives.Pair.{Pair}
@@ -34,7 +34,7 @@ use Rattle.value_build.proofs.Sizes.{IsReached, emits_size, reached_size}
 -- ---- how many turns are left
 
 -- it stops where an expression is reached
-abbrev pub IsStopped : Made → Stop → Type 0
+abbrev pub IsStopped : BuilderModel → Stop → Type 0
 IsStopped m s = (claim : Place) → StopsAs claim (after_event claim (stand_of m) reached) s
 
 turns-parted : (most a b n l : ℕ) → a < most → b ≡ suc a → n ≡ suc (suc l) → 2 * (most - b) + n < 2 * (most - a) + suc l
@@ -43,29 +43,29 @@ turns-parted most a b n l h e f = omega arith
 turns-made : (most a b l : ℕ) → a ≤ b → 2 * (most - b) + l < 2 * (most - a) + suc l
 turns-made most a b l h = omega arith
 
-pub turns_parted : (m m1 : Made) (y z w : Meeting) (left new : List Meeting) → IsReached m m1 → new ≡ y ∷ z ∷ left → turns_left m1 new < turns_left m (w ∷ left)
+pub turns_parted : (m m1 : BuilderModel) (y z w : Meeting) (left new : List Meeting) → IsReached m m1 → new ≡ y ∷ z ∷ left → turns_left m1 new < turns_left m (w ∷ left)
 turns_parted m m1 y z w left new h e = let s = reached_size m m1 h in turns-parted most_size m.size m1.size (length new) (length left) s.0 s.1 (ap (λ (l : List Meeting). length l) e)
 
-pub turns_made : {X : Type 0} (P : X → Type 0) (m m1 : Made) (es : List Event) (x : X) (w : Meeting) (left : List Meeting) → Emits m m1 es (Ok x) P → turns_left m1 left < turns_left m (w ∷ left)
+pub turns_made : {X : Type 0} (P : X → Type 0) (m m1 : BuilderModel) (es : List Event) (x : X) (w : Meeting) (left : List Meeting) → Emits m m1 es (Ok x) P → turns_left m1 left < turns_left m (w ∷ left)
 turns_made P m m1 es x w left h = turns-made most_size m.size m1.size (length left) (emits_size P m m1 es x h)
 
 -- ---- arms that meet
 
-pub met_first : (m : Made) (ds : List Drawn) (ps : List (Unfolded × Unfolded)) (x : Meeting) (xs : List Meeting) → AreMet m ds ps (x ∷ xs) → IsSomeArm m ds x.first
+pub met_first : (m : BuilderModel) (ds : List SketchNode) (ps : List (Unfolded × Unfolded)) (x : Meeting) (xs : List Meeting) → AreMet m ds ps (x ∷ xs) → IsSomeArm m ds x.first
 met_first m ds (p ∷ ps) x xs h = (p.0, h.0)
 met_first m ds [] x xs h = absurd h
 
-pub met_second : (m : Made) (ds : List Drawn) (ps : List (Unfolded × Unfolded)) (x : Meeting) (xs : List Meeting) → AreMet m ds ps (x ∷ xs) → IsSomeArm m ds x.second
+pub met_second : (m : BuilderModel) (ds : List SketchNode) (ps : List (Unfolded × Unfolded)) (x : Meeting) (xs : List Meeting) → AreMet m ds ps (x ∷ xs) → IsSomeArm m ds x.second
 met_second m ds (p ∷ ps) x xs h = (p.1, h.1)
 met_second m ds [] x xs h = absurd h
 
-met-stay : (m m1 : Made) (ds : List Drawn) (ps : List (Unfolded × Unfolded)) (xs : List Meeting) → Extends (stand_of m) (stand_of m1) → AreMet m ds ps xs → AreMet m1 ds ps xs
+met-stay : (m m1 : BuilderModel) (ds : List SketchNode) (ps : List (Unfolded × Unfolded)) (xs : List Meeting) → Extends (stand_of m) (stand_of m1) → AreMet m ds ps xs → AreMet m1 ds ps xs
 met-stay m m1 ds [] [] e h = tt
 met-stay m m1 ds (p ∷ ps) (x ∷ xs) e h = (arm_stays m m1 ds ds p.0 x.first e (grown_self ds) h.0, arm_stays m m1 ds ds p.1 x.second e (grown_self ds) h.1, met-stay m m1 ds ps xs e h.2)
 met-stay m m1 ds [] (x ∷ xs) e h = absurd h
 met-stay m m1 ds (p ∷ ps) [] e h = absurd h
 
-pub some_tree_below : (m : Made) (ds : List Drawn) (k : ℕ) → IsSomeArm m ds (arm.Tree k) → k < length m.nodes
+pub some_tree_below : (m : BuilderModel) (ds : List SketchNode) (k : ℕ) → IsSomeArm m ds (arm.Tree k) → k < length m.nodes
 some_tree_below m ds k h = let t = tree_parts m ds h.0 k h.1 in tree_below m t.0 k t.2
 
 -- what an `ite` that is looked at does first
@@ -74,24 +74,24 @@ module _ (task : Option Leaf) (at : Place) where
   G = events_at task at
 
   -- an `ite` is reached before anything else
-  begins : (m : Made) (ds : List Drawn) (u v : Unfolded) (k : ℕ) → IsArm m ds u (arm.Choice k) → (es : List Event) × (step_events G u v ≡ reached ∷ es)
+  begins : (m : BuilderModel) (ds : List SketchNode) (u v : Unfolded) (k : ℕ) → IsArm m ds u (arm.Choice k) → (es : List Event) × (step_events G u v ≡ reached ∷ es)
   begins m ds _ v k (is_choice {u = a} {v = b} e w i j) = (step_events G a v ++ step_events G b v, refl)
 
-  begins-second : (m : Made) (ds : List Drawn) (u v : Unfolded) (i k : ℕ) → IsArm m ds u (arm.Tree i) → IsArm m ds v (arm.Choice k) → (es : List Event) × (step_events G u v ≡ reached ∷ es)
+  begins-second : (m : BuilderModel) (ds : List SketchNode) (u v : Unfolded) (i k : ℕ) → IsArm m ds u (arm.Tree i) → IsArm m ds v (arm.Choice k) → (es : List Event) × (step_events G u v ≡ reached ∷ es)
   begins-second m ds _ _ i k (is_tree {t = t} h) (is_choice {u = a} {v = b} e w f g) = (step_events G (term t) a ++ step_events G (term t) b, refl)
 
-  stops-at : (m m1 : Made) (s : Stop) (es fs : List Event) (n : List Event) → es ≡ reached ∷ n → Emits {X = Unit {0}} m m1 (reached ∷ []) (Err s) (λ _. Unit {0}) → Emits {X = Unit {0}} m m1 (es ++ fs) (Err s) (λ _. Unit {0})
+  stops-at : (m m1 : BuilderModel) (s : Stop) (es fs : List Event) (n : List Event) → es ≡ reached ∷ n → Emits {X = Unit {0}} m m1 (reached ∷ []) (Err s) (λ _. Unit {0}) → Emits {X = Unit {0}} m m1 (es ++ fs) (Err s) (λ _. Unit {0})
   stops-at m m1 s es fs n e h = subst (λ (l : List Event). Emits {X = Unit {0}} m m1 (l ++ fs) (Err s) (λ _. Unit {0})) (sym e)
       (emits_stop {X = Unit {0}} {Y = Unit {0}} (λ _. Unit {0}) (λ _. Unit {0}) m m1 m1 (reached ∷ []) (n ++ fs) s h)
 
-  pub first_stops : (m m1 : Made) (ds : List Drawn) (ps : List (Unfolded × Unfolded)) (x : Meeting) (xs : List Meeting) (k : ℕ) (s : Stop) → x.first ≡ arm.Choice k → AreMet m ds ps (x ∷ xs) →
+  pub first_stops : (m m1 : BuilderModel) (ds : List SketchNode) (ps : List (Unfolded × Unfolded)) (x : Meeting) (xs : List Meeting) (k : ℕ) (s : Stop) → x.first ≡ arm.Choice k → AreMet m ds ps (x ∷ xs) →
       IsStopped m s → Emits {X = Unit {0}} m m1 (events_met task at ps) (Err s) (λ _. Unit {0})
   first_stops m m1 ds (p ∷ ps) x xs k s e h d =
       let b = begins m ds p.0 p.1 k (subst (λ (a : Arm). IsArm m ds p.0 a) e h.0) in
       stops-at m m1 s (step_events G p.0 p.1) (events_met task at ps) b.0 b.1 (reach_emits {X = Unit {0}} (λ _. Unit {0}) m m1 (Err s) d)
   first_stops m m1 ds [] x xs k s e h d = absurd h
 
-  pub second_stops : (m m1 : Made) (ds : List Drawn) (ps : List (Unfolded × Unfolded)) (x : Meeting) (xs : List Meeting) (i k : ℕ) (s : Stop) → x.first ≡ arm.Tree i → x.second ≡ arm.Choice k → AreMet m ds ps (x ∷ xs) →
+  pub second_stops : (m m1 : BuilderModel) (ds : List SketchNode) (ps : List (Unfolded × Unfolded)) (x : Meeting) (xs : List Meeting) (i k : ℕ) (s : Stop) → x.first ≡ arm.Tree i → x.second ≡ arm.Choice k → AreMet m ds ps (x ∷ xs) →
       IsStopped m s → Emits {X = Unit {0}} m m1 (events_met task at ps) (Err s) (λ _. Unit {0})
   second_stops m m1 ds (p ∷ ps) x xs i k s e f h d =
       let b = begins-second m ds p.0 p.1 i k (subst (λ (a : Arm). IsArm m ds p.0 a) e h.0) (subst (λ (a : Arm). IsArm m ds p.1 a) f h.1) in
@@ -109,10 +109,10 @@ module _ (task : Option Leaf) (at : Place) where
   choice-second (Some l) f c d u a b = refl
   choice-second None f c d u a b = refl
 
-  drawn-stays : (m m1 : Made) (ds : List Drawn) (c d : Form Comparison) (p : Pair) → Extends (stand_of m) (stand_of m1) → Draws (stand_of m).trees ds (formula c d) p → Draws (stand_of m1).trees ds (formula c d) p
+  drawn-stays : (m m1 : BuilderModel) (ds : List SketchNode) (c d : Form Comparison) (p : Pair) → Extends (stand_of m) (stand_of m1) → Draws (stand_of m).trees ds (formula c d) p → Draws (stand_of m1).trees ds (formula c d) p
   drawn-stays m m1 ds c d p e w = pair_trees (stand_of m).trees (stand_of m1).trees ds (formula c d) p e.trees.0 e.trees.1 w
 
-  pub first_parted : (m m1 : Made) (ds : List Drawn) (ps : List (Unfolded × Unfolded)) (x y z : Meeting) (xs left : List Meeting) (k : ℕ) (p : Pair) (one other : Arm) → x.first ≡ arm.Choice k → AreMet m ds ps (x ∷ xs) →
+  pub first_parted : (m m1 : BuilderModel) (ds : List SketchNode) (ps : List (Unfolded × Unfolded)) (x y z : Meeting) (xs left : List Meeting) (k : ℕ) (p : Pair) (one other : Arm) → x.first ≡ arm.Choice k → AreMet m ds ps (x ∷ xs) →
       Some (p, one, other) ≡ as_choice (slice_get ds k) → IsReached m m1 → y ≡ record { first = one; second = x.second } → z ≡ record { first = other; second = x.second } → left ≡ y ∷ z ∷ xs → Looked m m1 ds task at ps left (entry.Choice p)
   first_parted m m1 ds (q ∷ ps) x y z xs left k p one other e h is d i j l =
       let t = parts m ds q.0 k p one other is (subst (λ (a : Arm). IsArm m ds q.0 a) e h.0) in
@@ -142,7 +142,7 @@ module _ (task : Option Leaf) (at : Place) where
       }
   first_parted m m1 ds [] x y z xs left k p one other e h is d i j l = absurd h
 
-  pub second_parted : (m m1 : Made) (ds : List Drawn) (ps : List (Unfolded × Unfolded)) (x y z : Meeting) (xs left : List Meeting) (i k : ℕ) (p : Pair) (one other : Arm) → x.first ≡ arm.Tree i → x.second ≡ arm.Choice k → AreMet m ds ps (x ∷ xs) →
+  pub second_parted : (m m1 : BuilderModel) (ds : List SketchNode) (ps : List (Unfolded × Unfolded)) (x y z : Meeting) (xs left : List Meeting) (i k : ℕ) (p : Pair) (one other : Arm) → x.first ≡ arm.Tree i → x.second ≡ arm.Choice k → AreMet m ds ps (x ∷ xs) →
       Some (p, one, other) ≡ as_choice (slice_get ds k) → IsReached m m1 → y ≡ record { first = x.first; second = one } → z ≡ record { first = x.first; second = other } → left ≡ y ∷ z ∷ xs → Looked m m1 ds task at ps left (entry.Choice p)
   second_parted m m1 ds (q ∷ ps) x y z xs left i k p one other e f h is d n j l =
       let a = tree_parts m ds q.0 i (subst (λ (b : Arm). IsArm m ds q.0 b) e h.0) in
@@ -177,8 +177,8 @@ module _ (task : Option Leaf) (at : Place) where
 
 -- ---- two trees
 
-module _ (at : Place) (m : Made) (ds : List Drawn) where
-  pub made_looked : (l : Leaf) (m1 : Made) (ps : List (Unfolded × Unfolded)) (x : Meeting) (xs : List Meeting) (i j k : ℕ) → x.first ≡ arm.Tree i → x.second ≡ arm.Tree j → AreMet m ds ps (x ∷ xs) →
+module _ (at : Place) (m : BuilderModel) (ds : List SketchNode) where
+  pub made_looked : (l : Leaf) (m1 : BuilderModel) (ps : List (Unfolded × Unfolded)) (x : Meeting) (xs : List Meeting) (i j k : ℕ) → x.first ≡ arm.Tree i → x.second ≡ arm.Tree j → AreMet m ds ps (x ∷ xs) →
       Emits m m1 (events_of_leaf l at (tree_of m i) (tree_of m j)) (Ok k) (IsTreeOf m1 (tree_of_leaf l at (tree_of m i) (tree_of m j))) → Looked m m1 ds (Some l) at ps xs (entry.Made k)
   made_looked l m1 (q ∷ ps) x xs i j k e f h d =
       let a = tree_parts m ds q.0 i (subst (λ (b : Arm). IsArm m ds q.0 b) e h.0) in
@@ -200,7 +200,7 @@ module _ (at : Place) (m : Made) (ds : List Drawn) where
       }
   made_looked l m1 [] x xs i j k e f h d = absurd h
 
-  pub made_stops : (l : Leaf) (m1 : Made) (ps : List (Unfolded × Unfolded)) (x : Meeting) (xs : List Meeting) (i j : ℕ) (s : Stop) → x.first ≡ arm.Tree i → x.second ≡ arm.Tree j → AreMet m ds ps (x ∷ xs) →
+  pub made_stops : (l : Leaf) (m1 : BuilderModel) (ps : List (Unfolded × Unfolded)) (x : Meeting) (xs : List Meeting) (i j : ℕ) (s : Stop) → x.first ≡ arm.Tree i → x.second ≡ arm.Tree j → AreMet m ds ps (x ∷ xs) →
       Emits m m1 (events_of_leaf l at (tree_of m i) (tree_of m j)) (Err s) (IsTreeOf m1 (tree_of_leaf l at (tree_of m i) (tree_of m j))) → Emits {X = Unit {0}} m m1 (events_met (Some l) at ps) (Err s) (λ _. Unit {0})
   made_stops l m1 (q ∷ ps) x xs i j s e f h d =
       let a = tree_parts m ds q.0 i (subst (λ (b : Arm). IsArm m ds q.0 b) e h.0) in
@@ -216,7 +216,7 @@ module _ (at : Place) (m : Made) (ds : List Drawn) where
   nothing-done : (q : Unfolded × Unfolded) (t u : Term) → q.0 ≡ term t → q.1 ≡ term u → step_events (events_at None at) q.0 q.1 ≡ []
   nothing-done q t u e f = ap (λ (v : Unfolded). step_events (events_at None at) v q.1) e ∙ ap (λ (v : Unfolded). step_events (events_at None at) (term t) v) f
 
-  pub trees_looked : (m1 : Made) (ps : List (Unfolded × Unfolded)) (x : Meeting) (xs left : List Meeting) (i j : ℕ) → m1 ≡ m → left ≡ xs → x.first ≡ arm.Tree i → x.second ≡ arm.Tree j → AreMet m ds ps (x ∷ xs) → Looked m m1 ds None at ps left (entry.Trees i j)
+  pub trees_looked : (m1 : BuilderModel) (ps : List (Unfolded × Unfolded)) (x : Meeting) (xs left : List Meeting) (i j : ℕ) → m1 ≡ m → left ≡ xs → x.first ≡ arm.Tree i → x.second ≡ arm.Tree j → AreMet m ds ps (x ∷ xs) → Looked m m1 ds None at ps left (entry.Trees i j)
   trees_looked m1 (q ∷ ps) x xs left i j same n e f h =
       let a = tree_parts m ds q.0 i (subst (λ (b : Arm). IsArm m ds q.0 b) e h.0) in
       let b = tree_parts m ds q.1 j (subst (λ (b : Arm). IsArm m ds q.1 b) f h.1) in
@@ -234,5 +234,5 @@ module _ (at : Place) (m : Made) (ds : List Drawn) where
         );
         does = ((λ claim. refl), tt);
       } in
-      subst (λ (mm : Made). Looked m mm ds None at (q ∷ ps) left (entry.Trees i j)) (sym same) (subst (λ (ys : List Meeting). Looked m m ds None at (q ∷ ps) ys (entry.Trees i j)) (sym n) there)
+      subst (λ (mm : BuilderModel). Looked m mm ds None at (q ∷ ps) left (entry.Trees i j)) (sym same) (subst (λ (ys : List Meeting). Looked m m ds None at (q ∷ ps) ys (entry.Trees i j)) (sym n) there)
   trees_looked m1 [] x xs left i j same n e f h = absurd h

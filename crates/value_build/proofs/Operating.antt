@@ -14,8 +14,8 @@ use Rattle.poly_graph.proofs.Graphs.{length_terms}
 use Rattle.script_forms.specs.Terms.{Unfolded, term, either, refused, ill_formed}
 use Rattle.script_forms.specs.Unfolded.{are_terms, are_formulas, at_least_long, takes, first_fault, unfolded_operation, operation_tree, chain, different, unless_refused, choice_form, and_of, equal_two, differ_two, choice_two, choice_tree, picks_terms}
 use Rattle.script_forms.specs.Work.{compare_events, together, operation_events, operator_events, unless_met, met}
-use Rattle.term_build.specs.Built.{Made, stand_of}
-use Rattle.term_build.specs.Sketch.{Drawn, IsSketch}
+use Rattle.term_build.specs.Built.{BuilderModel, stand_of}
+use Rattle.term_build.specs.Sketch.{SketchNode, IsSketch}
 use Rattle.term_build.specs.Steps.{Emits, IsTreeOf}
 use Rattle.term_build.specs.Pairs.{Grown, Draws, DrawsEach, Sketches, Connects, ConnectsChoice, compared, trees_at, same_of}
 use Rattle.term_build.specs.declared.connectives.Pair.{Pair}
@@ -50,19 +50,19 @@ use Rattle.value_build.proofs.Weights.{arithmetic_weighs}
 
 -- ---- trees
 
-pub are_trees : (m : Made) (ks : List ℕ) → AreNodes m ks → AreTrees (stand_of m).trees ks
+pub are_trees : (m : BuilderModel) (ks : List ℕ) → AreNodes m ks → AreTrees (stand_of m).trees ks
 are_trees m [] h = tt
 are_trees m (k ∷ ks) h = (omega (arith, h.0, length_terms m.nodes), are_trees m ks h.1)
 
-trees-fit : (m : Made) → length (stand_of m).trees ≤ length m.nodes
+trees-fit : (m : BuilderModel) → length (stand_of m).trees ≤ length m.nodes
 trees-fit m = omega (arith, length_terms m.nodes)
 
 -- ---- comparisons of each two that belong together, joined
 
-pub compares_sketch : {V : Type 0} (items : V → List Pair) (s : Spread) (f : Unfolded → Unfolded → Unfolded) (m : Made) (ds ds1 : List Drawn) (ks : List ℕ) (r : Result V AllocError) → IsSketch m ds → AreNodes m ks → ComparesEach items s f ds ds1 ks r → IsSketch m ds1
+pub compares_sketch : {V : Type 0} (items : V → List Pair) (s : Spread) (f : Unfolded → Unfolded → Unfolded) (m : BuilderModel) (ds ds1 : List SketchNode) (ks : List ℕ) (r : Result V AllocError) → IsSketch m ds → AreNodes m ks → ComparesEach items s f ds ds1 ks r → IsSketch m ds1
 compares_sketch items s f m ds ds1 ks r k h w = (w m (stand_of m).trees k (are_trees m ks h) (trees-fit m)).sketch
 
-pub compares_joined : {V : Type 0} (items : V → List Pair) (s : Spread) (f : Unfolded → Unfolded → Unfolded) (op : List Unfolded → Unfolded) (m : Made) (ds ds1 ds2 : List Drawn) (ks : List ℕ) (links : V) (ps : List Pair) (r : Result Pair AllocError) → ps ≡ items links →
+pub compares_joined : {V : Type 0} (items : V → List Pair) (s : Spread) (f : Unfolded → Unfolded → Unfolded) (op : List Unfolded → Unfolded) (m : BuilderModel) (ds ds1 ds2 : List SketchNode) (ks : List ℕ) (links : V) (ps : List Pair) (r : Result Pair AllocError) → ps ≡ items links →
     IsSketch m ds → AreNodes m ks → ComparesEach items s f ds ds1 ks (Ok links) → Connects op ds1 ds2 ps r → Sketches ds ds2 m (Draws (stand_of m).trees ds2 (op (spread_over s f (trees_at (stand_of m).trees ks)))) r
 compares_joined items s f op m ds ds1 ds2 ks links ps r e k h w c =
     let ts = (stand_of m).trees in
@@ -70,11 +70,11 @@ compares_joined items s f op m ds ds1 ds2 ks links ps r e k h w c =
     let b = c m ts (spread_over s f (trees_at ts ks)) a.sketch (subst (λ (qs : List Pair). DrawsEach ts ds1 (spread_over s f (trees_at ts ks)) qs) (sym e) a.drawn) in
     record { grown = grown_both ds ds1 ds2 a.grown b.grown; sketch = b.sketch; drawn = b.drawn }
 
-pub connects_ended : {V : Type 0} (items : V → List Pair) (s : Spread) (f : Unfolded → Unfolded → Unfolded) (op : List Unfolded → Unfolded) (ds ds1 : List Drawn) (qs : List Pair) (x : Result V AllocError) (r : Result Pair AllocError) → IsErr r →
+pub connects_ended : {V : Type 0} (items : V → List Pair) (s : Spread) (f : Unfolded → Unfolded → Unfolded) (op : List Unfolded → Unfolded) (ds ds1 : List SketchNode) (qs : List Pair) (x : Result V AllocError) (r : Result Pair AllocError) → IsErr r →
     ConnectsEach items s f ds ds1 qs x → Connects op ds ds1 qs r
 connects_ended items s f op ds ds1 qs x r is w = λ m ts us k d. let a = w m ts us k d in ended ds ds1 m (Draws ts ds1 (op us)) r is a.grown a.sketch
 
-pub connects_joined : {V : Type 0} (items : V → List Pair) (s : Spread) (f : Unfolded → Unfolded → Unfolded) (op op' : List Unfolded → Unfolded) (ds ds1 ds2 : List Drawn) (qs : List Pair) (links : V) (ps : List Pair) (r : Result Pair AllocError) → ps ≡ items links →
+pub connects_joined : {V : Type 0} (items : V → List Pair) (s : Spread) (f : Unfolded → Unfolded → Unfolded) (op op' : List Unfolded → Unfolded) (ds ds1 ds2 : List SketchNode) (qs : List Pair) (links : V) (ps : List Pair) (r : Result Pair AllocError) → ps ≡ items links →
     ((us : List Unfolded) → op (spread_over s f us) ≡ op' us) → ConnectsEach items s f ds ds1 qs (Ok links) → Connects op ds1 ds2 ps r → Connects op' ds ds2 qs r
 connects_joined items s f op op' ds ds1 ds2 qs links ps r e same w c = λ m ts us k d.
     let a = w m ts us k d in
@@ -86,7 +86,7 @@ equal_spread us = ap chain (spread_next same_of us)
 
 -- ---- a Bool value
 
-pub bool_value : (m : Made) (ds ds2 : List Drawn) (lists lists' : List (List Bound)) (u : Unfolded) (b : Bounding) (xs ys : List Bound) (p : Pair) (k : ℕ) → Sketches ds ds2 m (Draws (stand_of m).trees ds2 u) (Ok p) → AddsList lists lists' xs (Ok k) → SameBounds xs ys → b ≡ bounds ys →
+pub bool_value : (m : BuilderModel) (ds ds2 : List SketchNode) (lists lists' : List (List Bound)) (u : Unfolded) (b : Bounding) (xs ys : List Bound) (p : Pair) (k : ℕ) → Sketches ds ds2 m (Draws (stand_of m).trees ds2 u) (Ok p) → AddsList lists lists' xs (Ok k) → SameBounds xs ys → b ≡ bounds ys →
     Steps (making m ds lists) (making m ds2 lists') [] (Ok (values.Bool p k)) (IsValue (making m ds2 lists') u b)
 bool_value m ds ds2 lists lists' u b xs ys p k s a same e = (
   (λ claim. refl),
@@ -98,10 +98,10 @@ bool_value m ds ds2 lists lists' u b xs ys p k s a same e = (
 
 -- ---- a Real value
 
-pub grown_same : (ds ds' : List Drawn) → ds' ≡ ds → Grown ds ds'
-grown_same ds ds' e = subst (λ (x : List Drawn). Grown ds x) (sym e) (grown_self ds)
+pub grown_same : (ds ds' : List SketchNode) → ds' ≡ ds → Grown ds ds'
+grown_same ds ds' e = subst (λ (x : List SketchNode). Grown ds x) (sym e) (grown_self ds)
 
-pub arithmetic_done : (s : Step) (at : Place) (m m' : Made) (ds : List Drawn) (ks : List ℕ) (k : ℕ) →
+pub arithmetic_done : (s : Step) (at : Place) (m m' : BuilderModel) (ds : List SketchNode) (ks : List ℕ) (k : ℕ) →
     Emits m m' (operation_events at (operator_of_step s) (trees_at (stand_of m).trees ks)) (Ok k) (IsTreeOf m' (unfolded_operation at (operator_of_step s) (trees_at (stand_of m).trees ks))) →
     RealsMake m ds m' ds at (operator_of_step s) ks (Ok (values.Real k))
 arithmetic_done s at m m' ds ks k e = λ lists bs h t. (
@@ -116,12 +116,12 @@ arithmetic_done s at m m' ds ks k e = λ lists bs h t. (
   ),
 )
 
-pub arithmetic_stopped : (s : Step) (at : Place) (m m' : Made) (ds ds' : List Drawn) (ks : List ℕ) (x : Stop) (P : ℕ → Type 0) →
+pub arithmetic_stopped : (s : Step) (at : Place) (m m' : BuilderModel) (ds ds' : List SketchNode) (ks : List ℕ) (x : Stop) (P : ℕ → Type 0) →
     Emits m m' (operation_events at (operator_of_step s) (trees_at (stand_of m).trees ks)) (Err x) P →
     RealsMake m ds m' ds' at (operator_of_step s) ks (Err x)
 arithmetic_stopped s at m m' ds ds' ks x P e = λ lists bs h t claim. e claim
 
-pub emits_sketch : {X : Type 0} (P : X → Type 0) (m m' : Made) (ds : List Drawn) (es : _) (x : X) → Emits m m' es (Ok x) P → m'.sorts ≡ m.sorts → IsSketch m ds → IsSketch m' ds
+pub emits_sketch : {X : Type 0} (P : X → Type 0) (m m' : BuilderModel) (ds : List SketchNode) (es : _) (x : X) → Emits m m' es (Ok x) P → m'.sorts ≡ m.sorts → IsSketch m ds → IsSketch m' ds
 emits_sketch P m m' ds es x e s h = sketch_stays m m' ds (more_nodes m m' (emits_grows P m m' es x e).trees) s h
 
 pub equality_reals : (at : Place) (ts : List Term) (ks : List ℕ) → unfolded_operation at equality (trees_at ts ks) ≡ chain (neighbours (compared eq at) (trees_at ts ks))
@@ -149,21 +149,21 @@ differ_done m m' at ts ks r h = subst (λ (u : Unfolded). Steps m m' [] r (IsVal
 
 -- ---- Bool operators
 
-no-terms : (ts : List Term) (ds : List Drawn) (u : Unfolded) (us : List Unfolded) (ps : List Pair) → DrawsEach ts ds (u ∷ us) ps → are_terms (u ∷ us) ≡ false
+no-terms : (ts : List Term) (ds : List SketchNode) (u : Unfolded) (us : List Unfolded) (ps : List Pair) → DrawsEach ts ds (u ∷ us) ps → are_terms (u ∷ us) ≡ false
 no-terms ts ds u us (p ∷ ps) h = ap (λ x. are_terms (x ∷ us)) h.0.is
 no-terms ts ds u us [] h = elim h [ ]
 
 -- no operator of Reals takes them
-no-reals : (b : Bool) (ts : List Term) (ds : List Drawn) (us : List Unfolded) (ps : List Pair) → (length us ≡ 0 → b ≡ false) → DrawsEach ts ds us ps → are_terms us && b ≡ true → ⊥
+no-reals : (b : Bool) (ts : List Term) (ds : List SketchNode) (us : List Unfolded) (ps : List Pair) → (length us ≡ 0 → b ≡ false) → DrawsEach ts ds us ps → are_terms us && b ≡ true → ⊥
 no-reals b ts ds [] ps f h t = true≢false (sym t ∙ f refl)
 no-reals b ts ds (u ∷ us) ps f h t = true≢false (sym t ∙ ap (λ x. x && b) (no-terms ts ds u us ps h))
 
-equality-bools : (at : Place) (ts : List Term) (ds : List Drawn) (us : List Unfolded) (ps : List Pair) → DrawsEach ts ds us ps → unfolded_operation at equality us ≡ bool_operation equality us
+equality-bools : (at : Place) (ts : List Term) (ds : List SketchNode) (us : List Unfolded) (ps : List Pair) → DrawsEach ts ds us ps → unfolded_operation at equality us ≡ bool_operation equality us
 equality-bools at ts ds [] ps h = refl
 equality-bools at ts ds (u ∷ us) (p ∷ ps) h = ap (λ x. unfolded_operation at equality (x ∷ us)) h.0.is ∙ ap (λ x. bool_operation equality (x ∷ us)) (sym h.0.is)
 equality-bools at ts ds (u ∷ us) [] h = elim h [ ]
 
-distinctness-bools : (at : Place) (ts : List Term) (ds : List Drawn) (us : List Unfolded) (ps : List Pair) → DrawsEach ts ds us ps → nat_le 2 (length us) ≡ true → unfolded_operation at distinctness us ≡ bool_operation distinctness us
+distinctness-bools : (at : Place) (ts : List Term) (ds : List SketchNode) (us : List Unfolded) (ps : List Pair) → DrawsEach ts ds us ps → nat_le 2 (length us) ≡ true → unfolded_operation at distinctness us ≡ bool_operation distinctness us
 distinctness-bools at ts ds [] ps h t = cc
 distinctness-bools at ts ds (u ∷ us) (p ∷ ps) h t = ap (λ x. unfolded_operation at distinctness (x ∷ us)) h.0.is ∙ ap (λ x. bool_operation distinctness (x ∷ us)) (sym h.0.is)
 distinctness-bools at ts ds (u ∷ us) [] h t = elim h [ ]
@@ -184,7 +184,7 @@ are_bools lists (n ∷ ns) (b ∷ bs) h = ((h.0.0, h.0.1), are_bools lists ns bs
 are_bools lists [] (b ∷ bs) h = elim h [ ]
 are_bools lists (n ∷ ns) [] h = elim h [ ]
 
-choice-bools : (ts : List Term) (ds : List Drawn) (us : List Unfolded) (ps : List Pair) → DrawsEach ts ds us ps → choice_tree us ≡ choice_form us
+choice-bools : (ts : List Term) (ds : List SketchNode) (us : List Unfolded) (ps : List Pair) → DrawsEach ts ds us ps → choice_tree us ≡ choice_form us
 choice-bools ts ds [] ps h = refl
 choice-bools ts ds (c ∷ []) ps h = refl
 choice-bools ts ds (c ∷ a ∷ []) ps h = refl
@@ -207,7 +207,7 @@ pub record BoolFacts (op : Operator) (at : Place) (us : List Unfolded) (bs : Lis
   pub bounding : bounding_operation op bs ≡ bounds given
   pub same : SameBounds (given_bounds op lists ns) given
 
-pub bool_facts : (op : Operator) (at : Place) (ts : List Term) (ds : List Drawn) (us : List Unfolded) (ps : List Pair) (bs : List Bounding) (lists : List (List Bound)) (ns : List ℕ) → DrawsEach ts ds us ps → ListsEach lists ns bs → takes op us ≡ true →
+pub bool_facts : (op : Operator) (at : Place) (ts : List Term) (ds : List SketchNode) (us : List Unfolded) (ps : List Pair) (bs : List Bounding) (lists : List (List Bound)) (ns : List ℕ) → DrawsEach ts ds us ps → ListsEach lists ns bs → takes op us ≡ true →
     BoolFacts op at us bs lists ns
 bool_facts truth at ts ds us ps bs lists ns h l t = record { events = refl; form = refl; given = []; bounding = refl; same = tt }
 bool_facts falsehood at ts ds us ps bs lists ns h l t = record { events = refl; form = refl; given = []; bounding = refl; same = tt }
@@ -228,7 +228,7 @@ bool_facts below_op at ts ds us ps bs lists ns h l t = absurd (no-reals (at_leas
 bool_facts at_least_op at ts ds us ps bs lists ns h l t = absurd (no-reals (at_least_long 2 us) ts ds us ps (λ e. ap (λ n. nat_le 2 n) e) h t)
 bool_facts above_op at ts ds us ps bs lists ns h l t = absurd (no-reals (at_least_long 2 us) ts ds us ps (λ e. ap (λ n. nat_le 2 n) e) h t)
 
-pub bools_done : (op : Operator) (m : Made) (ds ds2 : List Drawn) (lists lists' : List (List Bound)) (ps : List Pair) (ns : List ℕ) (p : Pair) (k : ℕ) → IsSketch m ds → Connects (bool_operation op) ds ds2 ps (Ok p) → AddsList lists lists' (given_bounds op lists ns) (Ok k) →
+pub bools_done : (op : Operator) (m : BuilderModel) (ds ds2 : List SketchNode) (lists lists' : List (List Bound)) (ps : List Pair) (ns : List ℕ) (p : Pair) (k : ℕ) → IsSketch m ds → Connects (bool_operation op) ds ds2 ps (Ok p) → AddsList lists lists' (given_bounds op lists ns) (Ok k) →
     (at : Place) (us : List Unfolded) (bs : List Bounding) → DrawsEach (stand_of m).trees ds us ps → ListsEach lists ns bs → takes op us ≡ true →
     Steps (making m ds lists) (making m ds2 lists') (operation_events at op us) (Ok (values.Bool p k)) (IsValue (making m ds2 lists') (unfolded_operation at op us) (bounding_operation op bs))
 bools_done op m ds ds2 lists lists' ps ns p k s c a at us bs h l t =
@@ -246,7 +246,7 @@ pub record Facts (us : List Unfolded) (vs : List Value) : Type 0 where
   pub count : length us ≡ length vs
   pub faultless : first_fault us ≡ None
 
-choice-facts : (m : Made) (ds : List Drawn) (u : Unfolded) (us : List Unfolded) (k : ℕ) (vs : List Value) → IsArm m ds u (arm.Choice k) → Facts us vs → Facts (u ∷ us) (values.Choice k ∷ vs)
+choice-facts : (m : BuilderModel) (ds : List SketchNode) (u : Unfolded) (us : List Unfolded) (k : ℕ) (vs : List Value) → IsArm m ds u (arm.Choice k) → Facts us vs → Facts (u ∷ us) (values.Choice k ∷ vs)
 choice-facts m ds _ us k vs (is_choice {c = c} {d = d} {u = u} {v = v} {p = p} {x = x} {y = y} e w i j) r = record {
   reals = ap (λ b. b && are_terms us) (arm_is_real m ds (either c d u v) (arm.Choice k) (is_choice e w i j)) ∙ r.reals;
   bools = refl;
@@ -310,7 +310,7 @@ operate_taken m m' op at us bs vs r t h s =
     (sym (ap (λ o. unless_refused o (cond (takes op us) (unfolded_operation at op us) (refused (ill_formed at)))) f ∙ ap (λ b. cond b (unfolded_operation at op us) (refused (ill_formed at))) t)) s)
 
 -- all Bool
-pub bools_seen : (m : Made) (ds : List Drawn) (lists : List (List Bound)) (us : List Unfolded) (bs : List Bounding) (vs : List Value) → AreValues (making m ds lists) us bs vs → are_bool vs ≡ true →
+pub bools_seen : (m : BuilderModel) (ds : List SketchNode) (lists : List (List Bound)) (us : List Unfolded) (bs : List Bounding) (vs : List Value) → AreValues (making m ds lists) us bs vs → are_bool vs ≡ true →
     DrawsEach (stand_of m).trees ds us (map pair_number vs) × ListsEach lists (map list_number vs) bs
 bools_seen m ds lists [] [] [] h e = (tt, tt)
 bools_seen m ds lists (u ∷ us) (b ∷ bs) (values.Bool p n ∷ vs) h e = let r = bools_seen m ds lists us bs vs h.1 e in ((h.0.0, r.0), (h.0.1, r.1))
@@ -322,7 +322,7 @@ bools_seen m ds lists (u ∷ us) [] vs h e = elim h [ ]
 bools_seen m ds lists (u ∷ us) (b ∷ bs) [] h e = elim h [ ]
 
 -- all Real
-pub reals_seen : (m : Made) (ds : List Drawn) (lists : List (List Bound)) (us : List Unfolded) (bs : List Bounding) (vs : List Value) → AreValues (making m ds lists) us bs vs → are_real vs ≡ true →
+pub reals_seen : (m : BuilderModel) (ds : List SketchNode) (lists : List (List Bound)) (us : List Unfolded) (bs : List Bounding) (vs : List Value) → AreValues (making m ds lists) us bs vs → are_real vs ≡ true →
     (us ≡ trees_at (stand_of m).trees (map node_number vs)) × WeighsEach (stand_of m).trees (map node_number vs) bs × AreNodes m (map node_number vs)
 reals_seen m ds lists [] [] [] h e = (refl, tt, tt)
 reals_seen m ds lists (u ∷ us) (b ∷ bs) (values.Real k ∷ vs) h e =
@@ -338,10 +338,10 @@ reals_seen m ds lists [] (b ∷ bs) vs h e = elim h [ ]
 reals_seen m ds lists (u ∷ us) [] vs h e = elim h [ ]
 reals_seen m ds lists (u ∷ us) (b ∷ bs) [] h e = elim h [ ]
 
-pub choice_three : (ds ds2 : List Drawn) (o p q : Pair) (rest : List Pair) (r : Result Pair AllocError) → ConnectsChoice ds ds2 o p q r → Connects choice_form ds ds2 (o ∷ p ∷ q ∷ rest) r
+pub choice_three : (ds ds2 : List SketchNode) (o p q : Pair) (rest : List Pair) (r : Result Pair AllocError) → ConnectsChoice ds ds2 o p q r → Connects choice_form ds ds2 (o ∷ p ∷ q ∷ rest) r
 choice_three ds ds2 o p q rest r w = λ m ts us s d. go m ts us s d
   where
-    go : (m : Made) (ts : List Term) (us : List Unfolded) → IsSketch m ds → DrawsEach ts ds us (o ∷ p ∷ q ∷ rest) → Sketches ds ds2 m (Draws ts ds2 (choice_form us)) r
+    go : (m : BuilderModel) (ts : List Term) (us : List Unfolded) → IsSketch m ds → DrawsEach ts ds us (o ∷ p ∷ q ∷ rest) → Sketches ds ds2 m (Draws ts ds2 (choice_form us)) r
     go m ts (c ∷ u ∷ v ∷ us) s d = w m ts c u v s d.0 d.1.0 d.1.1.0
     go m ts [] s d = elim d [ ]
     go m ts (c ∷ []) s d = elim d.1 [ ]
@@ -359,14 +359,14 @@ lists_below lists (n ∷ ns) (b ∷ bs) h = all-first (λ (k : ℕ). k < length 
 lists_below lists [] (b ∷ bs) h = elim h [ ]
 lists_below lists (n ∷ ns) [] h = elim h [ ]
 
-pub operate_bools : (m : Made) (ds ds' : List Drawn) (lists lists' : List (List Bound)) (op : Operator) (at : Place) (vs : List Value) (ps : List Pair) (ns : List ℕ) (r : Result Value Stop) → ps ≡ map pair_number vs → ns ≡ map list_number vs → are_bool vs ≡ true →
+pub operate_bools : (m : BuilderModel) (ds ds' : List SketchNode) (lists lists' : List (List Bound)) (op : Operator) (at : Place) (vs : List Value) (ps : List Pair) (ns : List ℕ) (r : Result Value Stop) → ps ≡ map pair_number vs → ns ≡ map list_number vs → are_bool vs ≡ true →
     true ≡ takes_of op (are_arms vs) (are_bool vs) (are_picked vs) (length vs) → BoolsDo m ds ds' lists lists' op ps ns r → Operates (making m ds lists) (making m ds' lists') at op vs r
 operate_bools m ds ds' lists lists' op at vs ps ns r e f b t w = λ us bs h.
     let s = bools_seen m ds lists us bs vs h b in let k = takes_seen (making m ds lists) op us bs vs true t h in
     operate_taken (making m ds lists) (making m ds' lists') op at us bs vs r k h
     (w at us bs (subst (λ (qs : List Pair). DrawsEach (stand_of m).trees ds us qs) (sym e) s.0) (subst (λ (js : List ℕ). ListsEach lists js bs) (sym f) s.1) k)
 
-pub operate_reals : (m m' : Made) (ds ds' : List Drawn) (lists lists' : List (List Bound)) (op : Operator) (at : Place) (vs : List Value) (ks : List ℕ) (r : Result Value Stop) → ks ≡ map node_number vs → are_real vs ≡ true →
+pub operate_reals : (m m' : BuilderModel) (ds ds' : List SketchNode) (lists lists' : List (List Bound)) (op : Operator) (at : Place) (vs : List Value) (ks : List ℕ) (r : Result Value Stop) → ks ≡ map node_number vs → are_real vs ≡ true →
     true ≡ takes_of op (are_arms vs) (are_bool vs) (are_picked vs) (length vs) → RealsDo (making m ds lists) (making m' ds' lists') at op ks r → Operates (making m ds lists) (making m' ds' lists') at op vs r
 operate_reals m m' ds ds' lists lists' op at vs ks r e b t w = λ us bs h.
     let s = reals_seen m ds lists us bs vs h b in let k = takes_seen (making m ds lists) op us bs vs true t h in
@@ -375,10 +375,10 @@ operate_reals m m' ds ds' lists lists' op at vs ks r e b t w = λ us bs h.
     (subst (λ (xs : List Unfolded). Steps (making m ds lists) (making m' ds' lists') (operation_events at op xs) r (IsValue (making m' ds' lists') (unfolded_operation at op xs) (bounding_operation op bs))) (sym us-is)
     (w bs (subst (λ (js : List ℕ). WeighsEach (stand_of m).trees js bs) (sym e) s.1) (sym (ap (takes op) us-is) ∙ k)))
 
-pub nodes_there : (m : Made) (ds : List Drawn) (lists : List (List Bound)) (vs : List Value) (ks : List ℕ) → AreKnown (making m ds lists) vs → ks ≡ map node_number vs → are_real vs ≡ true → AreNodes m ks
+pub nodes_there : (m : BuilderModel) (ds : List SketchNode) (lists : List (List Bound)) (vs : List Value) (ks : List ℕ) → AreKnown (making m ds lists) vs → ks ≡ map node_number vs → are_real vs ≡ true → AreNodes m ks
 nodes_there m ds lists vs ks h e b = subst (λ (js : List ℕ). AreNodes m js) (sym e) (reals_seen m ds lists h.0 h.1 vs h.2 b).2
 
-pub operate_arms : (m m' : Made) (ds ds' : List Drawn) (lists lists' : List (List Bound)) (op : Operator) (at : Place) (vs : List Value) (r : Result Value Stop) → true ≡ takes_of op (are_arms vs) (are_bool vs) (are_picked vs) (length vs) →
+pub operate_arms : (m m' : BuilderModel) (ds ds' : List SketchNode) (lists lists' : List (List Bound)) (op : Operator) (at : Place) (vs : List Value) (r : Result Value Stop) → true ≡ takes_of op (are_arms vs) (are_bool vs) (are_picked vs) (length vs) →
     ArmsDo m m' ds ds' lists lists' at op vs r → Operates (making m ds lists) (making m' ds' lists') at op vs r
 operate_arms m m' ds ds' lists lists' op at vs r t w = λ us bs h. let k = takes_seen (making m ds lists) op us bs vs true t h in
     operate_taken (making m ds lists) (making m' ds' lists') op at us bs vs r k h (w us bs h k)

@@ -7,7 +7,7 @@ use Rattle.poly_graph.specs.Form.{form_map}
 use Rattle.script_forms.specs.Atoms.{already, number_in}
 use Rattle.script_forms.specs.Work.{Event, reached, made, asked, formed, met}
 use Rattle.script_forms.specs.Walk.{Stand, Walked, stands, stops, BuildingFault, too_large, too_many_nodes, too_many_atoms, too_many_forms, if_room, has_tree, with_tree, with_atom, has_form, with_form, larger, after_event, goes_on, after_events, most_size, most_trees, most_atoms, most_forms, form_size, all_sizes, nowhere}
-use Rattle.term_build.specs.Built.{Made, stand_of}
+use Rattle.term_build.specs.Built.{BuilderModel, stand_of}
 use Rattle.term_build.specs.Steps.{Emits}
 
 -- ---- no event makes them fewer
@@ -43,12 +43,12 @@ at-events : (at : Place) (n : ℕ) (es : List Event) (s : Stand) → n ≤ s.siz
 at-events at n [] s h = h
 at-events at n (e ∷ es) s h = going-on n (after_event at s e) (λ s'. after_events at s' es) (at-event at n s e h) (λ s' k. at-events at n es s' k)
 
-pub emits_size : {X : Type 0} (P : X → Type 0) (m m1 : Made) (es : List Event) (x : X) → Emits m m1 es (Ok x) P → m.size ≤ m1.size
+pub emits_size : {X : Type 0} (P : X → Type 0) (m m1 : BuilderModel) (es : List Event) (x : X) → Emits m m1 es (Ok x) P → m.size ≤ m1.size
 emits_size P m m1 es x h = subst (λ (w : Walked). NotFewer m.size w) (h.0 nowhere) (at-events nowhere m.size es (stand_of m) (omega arith))
 
 -- ---- an expression that is reached is one more
 
-abbrev pub IsReached : Made → Made → Type 0
+abbrev pub IsReached : BuilderModel → BuilderModel → Type 0
 IsReached m m1 = (claim : Place) → after_event claim (stand_of m) reached ≡ stands (stand_of m1)
 
 abbrev size-of : Walked → ℕ
@@ -59,5 +59,5 @@ one-more : (s s1 : Stand) (b : Bool) → nat_lt s.size most_size ≡ b → if_ro
 one-more s s1 true e f = (ltb-true s.size most_size e, ap (λ w. size-of w) (sym f))
 one-more s s1 false e f = cc
 
-pub reached_size : (m m1 : Made) → IsReached m m1 → (m.size < most_size) × (m1.size ≡ suc m.size)
+pub reached_size : (m m1 : BuilderModel) → IsReached m m1 → (m.size < most_size) × (m1.size ≡ suc m.size)
 reached_size m m1 h = one-more (stand_of m) (stand_of m1) (nat_lt m.size most_size) refl (h nowhere)

@@ -14,8 +14,8 @@ use Rattle.script_forms.specs.Unfolded.{are_formulas, lift_form, unfolded_operat
 use Rattle.sort_check.specs.Views.{operator_of}
 use Rattle.sort_check.specs.declared.operators.Operator as code_operator
 use Rattle.sort_check.specs.declared.operators.Operator.TheVariants as op
-use Rattle.term_build.specs.Built.{Made}
-use Rattle.term_build.specs.Sketch.{Drawn}
+use Rattle.term_build.specs.Built.{BuilderModel}
+use Rattle.term_build.specs.Sketch.{SketchNode}
 use Rattle.term_build.specs.declared.sketch.Arm.TheVariants as arm
 use Rattle.term_build.proofs.Emits.{tree_below}
 use Rattle.value_build.specs.Arithmetic.{operator_of_step, tree_of_step}
@@ -244,7 +244,7 @@ some_pairs (v ∷ vs) h = le-leb 1 (suc (length (map pair_number vs))) (omega ar
 
 -- ---- an arm stands on a node
 
-pub arm_stands : (m : Made) (ds : List Drawn) (u : Unfolded) (x : _) → IsArm m ds u x → 0 < length m.nodes
+pub arm_stands : (m : BuilderModel) (ds : List SketchNode) (u : Unfolded) (x : _) → IsArm m ds u x → 0 < length m.nodes
 arm_stands m ds _ _ (is_tree {t = t} {k = k} h) = omega (arith, tree_below m t k h)
 arm_stands m ds _ _ (is_choice {u = u} {x = x} e w i j) = arm_stands m ds u x i
 
@@ -314,7 +314,7 @@ operation-held Subtract at u [] h = one-held (λ t. term (negate_tree t)) u h
 operation-held Subtract at u (v ∷ us) h = all-held (tree_of_step Subtract at) u (v ∷ us) h
 operation-held Divide at u us h = quotient-held (hold_either us) _ (steps (divide_tree at) u us) (all-held (divide_tree at) u us h)
 
-pub calculates_no_tree : (m m' : Made) (ds ds' : List Drawn) (at : Place) (s : Step) (v : Value) (vs : List Value) (k : ℕ) → Calculates m ds m' ds' at s v vs (Ok (arm.Tree k)) → AreSomeValues m ds (v ∷ vs) → hold_choice (v ∷ vs) ≡ true → ⊥
+pub calculates_no_tree : (m m' : BuilderModel) (ds ds' : List SketchNode) (at : Place) (s : Step) (v : Value) (vs : List Value) (k : ℕ) → Calculates m ds m' ds' at s v vs (Ok (arm.Tree k)) → AreSomeValues m ds (v ∷ vs) → hold_choice (v ∷ vs) ≡ true → ⊥
 calculates_no_tree m m' ds ds' at s v vs k w h c = go h.0 h.1 h.2 h.3
   where
     go : (lists : List (List Bound)) (us : List Unfolded) (bs : List Bounding) → AreValues (making m ds lists) us bs (v ∷ vs) → ⊥
@@ -368,7 +368,7 @@ spread-some Next f (u ∷ v ∷ us) n = some-more (f u v) _
 spread-some Later f (u ∷ v ∷ us) n = some-more (f u v) _
 
 -- links are Bool, and of two values or more there are some
-pub links_made : (m m1 : Made) (ds ds1 : List Drawn) (lists lists1 : List (List Bound)) (s : Spread) (kind : Kind) (at : Place) (vs links : List Value) → LinksEach {X = Unit {0}} m ds lists m1 ds1 lists1 s kind at vs [] links (Ok tt) →
+pub links_made : (m m1 : BuilderModel) (ds ds1 : List SketchNode) (lists lists1 : List (List Bound)) (s : Spread) (kind : Kind) (at : Place) (vs links : List Value) → LinksEach {X = Unit {0}} m ds lists m1 ds1 lists1 s kind at vs [] links (Ok tt) →
     are_arms vs ≡ true → AreSomeValues m ds vs → 1 < length vs → (are_bool links ≡ true) × (0 < length links)
 links_made m m1 ds ds1 lists lists1 s kind at vs links h e j n =
     let us = j.1 in let bs = j.2 in

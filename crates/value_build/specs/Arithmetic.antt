@@ -6,7 +6,7 @@ use Rattle.poly_graph.specs.Term.{Term}
 use Rattle.script_forms.specs.Terms.{Unfolded, term, add_tree, subtract_tree, multiply_tree, divide_tree, steps}
 use Rattle.script_forms.specs.Work.{Event, add_events, subtract_events, multiply_events, divide_events, steps_events}
 use Rattle.script_forms.specs.Walk.{after_events}
-use Rattle.term_build.specs.Built.{Made, stand_of}
+use Rattle.term_build.specs.Built.{BuilderModel, stand_of}
 use Rattle.term_build.specs.Does.{IsTree}
 use Rattle.term_build.specs.Settled.{Extends}
 use Rattle.term_build.specs.Pairs.{tree_at, trees_at}
@@ -36,12 +36,12 @@ is_difference Subtract = true
 is_difference step = false
 
 -- numbers of nodes
-abbrev pub AreNodes : Made → List ℕ → Type 0
+abbrev pub AreNodes : BuilderModel → List ℕ → Type 0
 AreNodes m [] = Unit {0}
 AreNodes m (k ∷ ks) = (k < length m.nodes) × AreNodes m ks
 
 -- what is left, after some of the steps, goes on to the same
-pub record IsFolding (step : Step) (at : Place) (old now : Made) (first : ℕ) (rest : List ℕ) (so_far : ℕ) (left : List ℕ) : Type 0 where
+pub record IsFolding (step : Step) (at : Place) (old now : BuilderModel) (first : ℕ) (rest : List ℕ) (so_far : ℕ) (left : List ℕ) : Type 0 where
   pub sorts : now.sorts ≡ old.sorts
   pub stand : Extends (stand_of old) (stand_of now)
   pub below : AreNodes old left

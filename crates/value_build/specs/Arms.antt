@@ -7,8 +7,8 @@ use Rattle.poly_graph.specs.Term.{Term, Kind, le, ge, eq}
 use Rattle.script_forms.specs.Terms.{Unfolded, term, negate_tree, lift_tree, step, steps}
 use Rattle.script_forms.specs.Unfolded.{unfolded_operation, chain, and_of, not_of, at_most_terms, at_least_terms, equal_terms}
 use Rattle.script_forms.specs.Work.{Event, made, lift_events, step_events, steps_events, compare_events, together, operation_events}
-use Rattle.term_build.specs.Built.{Made, stand_of}
-use Rattle.term_build.specs.Sketch.{Drawn, choice_drawn, IsSketch}
+use Rattle.term_build.specs.Built.{BuilderModel, stand_of}
+use Rattle.term_build.specs.Sketch.{SketchNode, choice_sketch, IsSketch}
 use Rattle.term_build.specs.Pairs.{Grown, Draws, compared}
 use Rattle.term_build.specs.Steps.{Emits}
 use Rattle.term_build.specs.declared.connectives.Pair.{Pair}
@@ -42,14 +42,14 @@ abbrev pub value_of : Arm → Value
 value_of (arm.Tree k) = values.Real k
 value_of (arm.Choice k) = values.Choice k
 
-abbrev pub AreArms : Made → List Drawn → List Unfolded → List Arm → Type 0
+abbrev pub AreArms : BuilderModel → List SketchNode → List Unfolded → List Arm → Type 0
 AreArms m ds [] [] = Unit {0}
 AreArms m ds (u ∷ us) (x ∷ xs) = IsArm m ds u x × AreArms m ds us xs
 AreArms m ds [] (x ∷ xs) = ⊥
 AreArms m ds (u ∷ us) [] = ⊥
 
 -- there is an expression that the arm stands for
-abbrev pub IsSomeArm : Made → List Drawn → Arm → Type 0
+abbrev pub IsSomeArm : BuilderModel → List SketchNode → Arm → Type 0
 IsSomeArm m ds x = (u : Unfolded) × IsArm m ds u x
 
 -- ---- arithmetic
@@ -64,23 +64,23 @@ events_of_leaf leaf.Opposite at t u = made (negate_tree u) ∷ []
 events_of_leaf (leaf.Of s) at t u = events_of_step s at t u
 
 -- the sketch has grown and is one still, and the arm stands for this
-pub record IsLifted (m : Made) (ds ds' : List Drawn) (u : Unfolded) (x : Arm) : Type 0 where
+pub record IsLifted (m : BuilderModel) (ds ds' : List SketchNode) (u : Unfolded) (x : Arm) : Type 0 where
   pub grown : Grown ds ds'
   pub sketch : IsSketch m ds'
   pub arm : IsArm m ds' u x
 
-abbrev pub Lifts : Made → List Drawn → Made → List Drawn → List Event → Unfolded → Result Arm Stop → Type 0
+abbrev pub Lifts : BuilderModel → List SketchNode → BuilderModel → List SketchNode → List Event → Unfolded → Result Arm Stop → Type 0
 Lifts m ds m' ds' es u r = Emits m m' es r (IsLifted m' ds ds' u)
 
 -- with each arm of this one
-abbrev pub LiftsOne : Made → List Drawn → Made → List Drawn → Place → Leaf → Term → Arm → Result Arm Stop → Type 0
+abbrev pub LiftsOne : BuilderModel → List SketchNode → BuilderModel → List SketchNode → Place → Leaf → Term → Arm → Result Arm Stop → Type 0
 LiftsOne m ds m' ds' at l t x r = (u : Unfolded) → IsArm m ds u x → Lifts m ds m' ds' (lift_events (events_of_leaf l at t) u) (lift_tree (tree_of_leaf l at t) u) r
 
 -- with each arm of the first one and each of the second one
-abbrev pub LiftsTwo : Made → List Drawn → Made → List Drawn → Place → Step → Arm → Arm → Result Arm Stop → Type 0
+abbrev pub LiftsTwo : BuilderModel → List SketchNode → BuilderModel → List SketchNode → Place → Step → Arm → Arm → Result Arm Stop → Type 0
 LiftsTwo m ds m' ds' at s x y r = (u v : Unfolded) → IsArm m ds u x → IsArm m ds v y → Lifts m ds m' ds' (step_events (events_of_step s at) u v) (step (tree_of_step s at) u v) r
 
-abbrev pub LiftsAll : Made → List Drawn → Made → List Drawn → Place → Step → Arm → List Arm → Result Arm Stop → Type 0
+abbrev pub LiftsAll : BuilderModel → List SketchNode → BuilderModel → List SketchNode → Place → Step → Arm → List Arm → Result Arm Stop → Type 0
 LiftsAll m ds m' ds' at s x xs r = (u : Unfolded) (us : List Unfolded) → IsArm m ds u x → AreArms m ds us xs →
     Lifts m ds m' ds' (steps_events (tree_of_step s at) (events_of_step s at) u us) (steps (tree_of_step s at) u us) r
 
@@ -92,23 +92,23 @@ terms_of ge = at_least_terms
 terms_of eq = equal_terms
 
 -- the sketch has grown and is one still, and the pair draws this
-pub record IsSaid (m : Made) (ds ds' : List Drawn) (u : Unfolded) (p : Pair) : Type 0 where
+pub record IsSaid (m : BuilderModel) (ds ds' : List SketchNode) (u : Unfolded) (p : Pair) : Type 0 where
   pub grown : Grown ds ds'
   pub sketch : IsSketch m ds'
   pub drawn : Draws (stand_of m).trees ds' u p
 
-abbrev pub Says : Made → List Drawn → Made → List Drawn → List Event → Unfolded → Result Pair Stop → Type 0
-Says m ds m' ds' es u r = Emits m m' es r (IsSaid m' ds ds' u)
+abbrev pub IsPairAnswer : BuilderModel → List SketchNode → BuilderModel → List SketchNode → List Event → Unfolded → Result Pair Stop → Type 0
+IsPairAnswer m ds m' ds' es u r = Emits m m' es r (IsSaid m' ds ds' u)
 
-abbrev pub SaysTwo : Made → List Drawn → Made → List Drawn → Kind → Place → Arm → Arm → Result Pair Stop → Type 0
-SaysTwo m ds m' ds' kind at x y r = (u v : Unfolded) → IsArm m ds u x → IsArm m ds v y → Says m ds m' ds' (compare_events u v) (compared kind at u v) r
+abbrev pub SaysTwo : BuilderModel → List SketchNode → BuilderModel → List SketchNode → Kind → Place → Arm → Arm → Result Pair Stop → Type 0
+SaysTwo m ds m' ds' kind at x y r = (u v : Unfolded) → IsArm m ds u x → IsArm m ds v y → IsPairAnswer m ds m' ds' (compare_events u v) (compared kind at u v) r
 
 -- ---- values
 
-abbrev pub AreSomeValues : Made → List Drawn → List Value → Type 0
+abbrev pub AreSomeValues : BuilderModel → List SketchNode → List Value → Type 0
 AreSomeValues m ds vs = (lists : List (List Bound)) × (us : List Unfolded) × (bs : List Bounding) × AreValues (making m ds lists) us bs vs
 
-abbrev pub IsSomeValue : Made → List Drawn → Value → Type 0
+abbrev pub IsSomeValue : BuilderModel → List SketchNode → Value → Type 0
 IsSomeValue m ds v = (lists : List (List Bound)) × (u : Unfolded) × (b : Bounding) × IsValue (making m ds lists) u b v
 
 abbrev pub hold_choice : List Value → Bool
@@ -121,11 +121,11 @@ is_quotient Divide = true
 is_quotient s = false
 
 -- steps from the left
-abbrev pub Folds : Made → List Drawn → Made → List Drawn → Place → Step → Arm → List Value → Result Arm Stop → Type 0
+abbrev pub Folds : BuilderModel → List SketchNode → BuilderModel → List SketchNode → Place → Step → Arm → List Value → Result Arm Stop → Type 0
 Folds m ds m' ds' at s x vs r = (lists : List (List Bound)) (u : Unfolded) (us : List Unfolded) (bs : List Bounding) → IsArm m ds u x → AreValues (making m ds lists) us bs vs →
     Lifts m ds m' ds' (steps_events (tree_of_step s at) (events_of_step s at) u us) (steps (tree_of_step s at) u us) r
 
-abbrev pub Calculates : Made → List Drawn → Made → List Drawn → Place → Step → Value → List Value → Result Arm Stop → Type 0
+abbrev pub Calculates : BuilderModel → List SketchNode → BuilderModel → List SketchNode → Place → Step → Value → List Value → Result Arm Stop → Type 0
 Calculates m ds m' ds' at s v vs r = (lists : List (List Bound)) (u : Unfolded) (us : List Unfolded) (b : Bounding) (bs : List Bounding) → IsValue (making m ds lists) u b v → AreValues (making m ds lists) us bs vs →
     Lifts m ds m' ds' (operation_events at (operator_of_step s) (u ∷ us)) (unfolded_operation at (operator_of_step s) (u ∷ us)) r
 
@@ -145,18 +145,18 @@ abbrev pub link_bounds : Spread → Kind → Bounding → Bounding → Bounding
 link_bounds Next kind b c = bounds (bounds_of_kind kind b c)
 link_bounds Later kind b c = bounds []
 
-abbrev pub Links : Made → List Drawn → List (List Bound) → Made → List Drawn → List (List Bound) → Spread → Kind → Place → Value → Value → Result Value Stop → Type 0
+abbrev pub Links : BuilderModel → List SketchNode → List (List Bound) → BuilderModel → List SketchNode → List (List Bound) → Spread → Kind → Place → Value → Value → Result Value Stop → Type 0
 Links m ds lists m' ds' lists' s kind at v w r = (u x : Unfolded) (b c : Bounding) → IsValue (making m ds lists) u b v → IsValue (making m ds lists) x c w →
     Steps (making m ds lists) (making m' ds' lists') (compare_events u x) r (λ y. IsSketch m' ds' × IsValue (making m' ds' lists') (linked s kind at u x) (link_bounds s kind b c) y)
 
 -- of a first value with each of others, behind what was linked
-abbrev pub LinksWith : {X : Type 0} → Made → List Drawn → List (List Bound) → Made → List Drawn → List (List Bound) → Spread → Kind → Place → Value → List Value → List Value → List Value → Result X Stop → Type 0
+abbrev pub LinksWith : {X : Type 0} → BuilderModel → List SketchNode → List (List Bound) → BuilderModel → List SketchNode → List (List Bound) → Spread → Kind → Place → Value → List Value → List Value → List Value → Result X Stop → Type 0
 LinksWith m ds lists m' ds' lists' s kind at v vs links links' r = (u : Unfolded) (b : Bounding) (us : List Unfolded) (bs : List Bounding) (ls : List Unfolded) (cs : List Bounding) →
     IsValue (making m ds lists) u b v → AreValues (making m ds lists) us bs vs → AreValues (making m ds lists) ls cs links →
     Steps (making m ds lists) (making m' ds' lists') (together (map (compare_events u) us)) r
     (λ _. IsSketch m' ds' × AreValues (making m' ds' lists') (ls ++ map (linked s kind at u) us) (cs ++ map (link_bounds s kind b) bs) links')
 
-abbrev pub LinksEach : {X : Type 0} → Made → List Drawn → List (List Bound) → Made → List Drawn → List (List Bound) → Spread → Kind → Place → List Value → List Value → List Value → Result X Stop → Type 0
+abbrev pub LinksEach : {X : Type 0} → BuilderModel → List SketchNode → List (List Bound) → BuilderModel → List SketchNode → List (List Bound) → Spread → Kind → Place → List Value → List Value → List Value → Result X Stop → Type 0
 LinksEach m ds lists m' ds' lists' s kind at vs links links' r = (us : List Unfolded) (bs : List Bounding) (ls : List Unfolded) (cs : List Bounding) →
     AreValues (making m ds lists) us bs vs → AreValues (making m ds lists) ls cs links →
     Steps (making m ds lists) (making m' ds' lists') (together (spread_over s compare_events us)) r
@@ -164,12 +164,12 @@ LinksEach m ds lists m' ds' lists' s kind at vs links links' r = (us : List Unfo
 
 -- ---- a Real `ite`
 
-abbrev pub Picks : List Drawn → List Drawn → Value → Value → Value → Result Value Stop → Type 0
-Picks ds ds' v w x (Ok (values.Choice k)) = (p : Pair) × (n : ℕ) × (v ≡ values.Bool p n) × (ds' ≡ ds ++ (choice_drawn p (arm_of w) (arm_of x) ∷ [])) × (k ≡ length ds)
+abbrev pub Picks : List SketchNode → List SketchNode → Value → Value → Value → Result Value Stop → Type 0
+Picks ds ds' v w x (Ok (values.Choice k)) = (p : Pair) × (n : ℕ) × (v ≡ values.Bool p n) × (ds' ≡ ds ++ (choice_sketch p (arm_of w) (arm_of x) ∷ [])) × (k ≡ length ds)
 Picks ds ds' v w x (Ok y) = ⊥
 Picks ds ds' v w x (Err e) = e ≡ stop.Memory
 
-abbrev pub PicksOf : List Drawn → List Drawn → List Value → Result Value Stop → Type 0
+abbrev pub PicksOf : List SketchNode → List SketchNode → List Value → Result Value Stop → Type 0
 PicksOf ds ds' (v ∷ w ∷ x ∷ []) (Ok y) = Picks ds ds' v w x (Ok y)
 PicksOf ds ds' vs (Ok y) = ⊥
 PicksOf ds ds' vs (Err e) = (e ≡ stop.Memory) × (ds' ≡ [])
@@ -186,17 +186,17 @@ abbrev pub joined : Spread → List Unfolded → Unfolded
 joined Next us = chain us
 joined Later us = and_of us
 
-abbrev pub Joins : Made → List Drawn → List Drawn → List (List Bound) → List (List Bound) → Spread → List Value → Result Value Stop → Type 0
+abbrev pub Joins : BuilderModel → List SketchNode → List SketchNode → List (List Bound) → List (List Bound) → Spread → List Value → Result Value Stop → Type 0
 Joins m ds ds' lists lists' s links r = (us : List Unfolded) (bs : List Bounding) → AreValues (making m ds lists) us bs links →
     Steps (making m ds lists) (making m ds' lists') [] r (IsValue (making m ds' lists') (joined s us) (bounds (concat (map bounds_in bs))))
 
 -- comparisons of each two that belong together
-abbrev pub SaysAll : Made → List Drawn → List (List Bound) → Made → List Drawn → List (List Bound) → Spread → Kind → Place → List Value → Result Value Stop → Type 0
+abbrev pub SaysAll : BuilderModel → List SketchNode → List (List Bound) → BuilderModel → List SketchNode → List (List Bound) → Spread → Kind → Place → List Value → Result Value Stop → Type 0
 SaysAll m ds lists m' ds' lists' s kind at vs r = (us : List Unfolded) (bs : List Bounding) → AreValues (making m ds lists) us bs vs →
     Steps (making m ds lists) (making m' ds' lists') (together (spread_over s compare_events us)) r
     (IsValue (making m' ds' lists') (joined s (spread_over s (linked s kind at) us)) (bounds (concat (map bounds_in (spread_over s (link_bounds s kind) bs)))))
 
 -- an arithmetic operator, whatever the lists of bounds are
-abbrev pub ArmsMake : Made → List Drawn → Made → List Drawn → Place → Operator → List Value → Result Value Stop → Type 0
+abbrev pub ArmsMake : BuilderModel → List SketchNode → BuilderModel → List SketchNode → Place → Operator → List Value → Result Value Stop → Type 0
 ArmsMake m ds m' ds' at op vs r = (lists : List (List Bound)) (us : List Unfolded) (bs : List Bounding) → AreValues (making m ds lists) us bs vs →
     Steps (making m ds lists) (making m' ds' lists) (operation_events at op us) r (λ v. (k : ℕ) × (v ≡ values.Choice k) × IsArm m' ds' (unfolded_operation at op us) (arm.Choice k))

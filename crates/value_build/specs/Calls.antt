@@ -18,13 +18,13 @@ use Rattle.script_forms.specs.Unfolded.{unfolded_operation}
 use Rattle.script_forms.specs.Work.{ending, operation_events, steps_events}
 use Rattle.sort_check.specs.Views.{operator_of}
 use Rattle.sort_check.specs.declared.operators.Operator.{Operator}
-use Rattle.term_build.specs.Built.{Made, stand_of}
+use Rattle.term_build.specs.Built.{BuilderModel, stand_of}
 use Rattle.term_build.specs.Calls.{Computes, drawn}
 use Rattle.term_build.specs.Pairs.{compared, tree_at, trees_at}
 use Rattle.term_build.specs.Steps.{Emits, IsTreeOf, tree_of}
 use Rattle.term_build.specs.declared.connectives.Pair.{Pair}
 use Rattle.term_build.specs.declared.sketch.Arm.{Arm}
-use Rattle.term_build.specs.declared.sketch.Drawn as code
+use Rattle.term_build.specs.declared.sketch.SketchNode as code
 use Rattle.term_build.specs.declared.stop.Stop.{Stop}
 use Rattle.declared_box.specs.Views.{side_of}
 use Rattle.declared_box.specs.declared.table.Side.{Side}
@@ -44,7 +44,7 @@ use Rattle.value_build.specs.declared.lift.Leaf.{Leaf}
 use Rattle.value_build.specs.declared.value.Value.{Value}
 
 abbrev pub Sketch : Type 0
-Sketch = Vec code.Drawn Global
+Sketch = Vec code.SketchNode Global
 
 -- the numbers of the lists of a table
 abbrev pub Numbers : Type 0
@@ -66,52 +66,52 @@ MakesLiteral old new digits decimals r =
 abbrev pub number_term : Frac → Term
 number_term number = constant (fraction_of_frac number)
 
-abbrev pub MakesLeaf : Made → Sketch → Made → Sketch → Term → Result Value Stop → Type 0
+abbrev pub MakesLeaf : BuilderModel → Sketch → BuilderModel → Sketch → Term → Result Value Stop → Type 0
 MakesLeaf m s m' s' t r = MakesTree m (drawn s) m' (drawn s') t r
 
-abbrev pub Switches : Made → Sketch → Sketch → BoundLists → BoundLists → ℕ → Result Value Stop → Type 0
+abbrev pub Switches : BuilderModel → Sketch → Sketch → BoundLists → BoundLists → ℕ → Result Value Stop → Type 0
 Switches m s s' lists lists' axis r = MakesSwitch m (drawn s) (drawn s') lists lists' axis r
 
 -- ---- arithmetic of trees
 
-abbrev pub ComputesStep : Step → Made → Made → Place → ℕ → ℕ → Result ℕ Stop → Type 0
+abbrev pub ComputesStep : Step → BuilderModel → BuilderModel → Place → ℕ → ℕ → Result ℕ Stop → Type 0
 ComputesStep step old new at a b r = Computes (events_of_step step) (tree_of_step step) old new at a b r
 
 -- from the left, of a first tree and others
-abbrev pub FoldsTrees : Step → Made → Made → Place → ℕ → List ℕ → Result ℕ Stop → Type 0
+abbrev pub FoldsTrees : Step → BuilderModel → BuilderModel → Place → ℕ → List ℕ → Result ℕ Stop → Type 0
 FoldsTrees step old new at first rest r =
     let ts = (stand_of old).trees in let f = tree_of_step step (place_of at) in let g = events_of_step step (place_of at) in
     Emits old new (steps_events f g (tree_at ts first) (trees_at ts rest)) r (IsTreeOf new (steps f (tree_at ts first) (trees_at ts rest)))
 
 -- what the operator makes of trees
-abbrev pub CalculatesTrees : Step → Made → Made → Place → List ℕ → Result ℕ Stop → Type 0
+abbrev pub CalculatesTrees : Step → BuilderModel → BuilderModel → Place → List ℕ → Result ℕ Stop → Type 0
 CalculatesTrees step old new at nodes r =
     let us = trees_at (stand_of old).trees nodes in let op = operator_of_step step in
     Emits old new (operation_events (place_of at) op us) r (IsTreeOf new (unfolded_operation (place_of at) op us))
 
 -- ---- arithmetic of arms
 
-abbrev pub ComputesLeaf : Leaf → Made → Made → Place → ℕ → ℕ → Result ℕ Stop → Type 0
+abbrev pub ComputesLeaf : Leaf → BuilderModel → BuilderModel → Place → ℕ → ℕ → Result ℕ Stop → Type 0
 ComputesLeaf leaf old new at first second r = Computes (events_of_leaf leaf) (tree_of_leaf leaf) old new at first second r
 
-abbrev pub LiftsArm : Made → Sketch → Made → Sketch → Place → Leaf → ℕ → Arm → Result Arm Stop → Type 0
+abbrev pub LiftsArm : BuilderModel → Sketch → BuilderModel → Sketch → Place → Leaf → ℕ → Arm → Result Arm Stop → Type 0
 LiftsArm m s m' s' at leaf first arm r = LiftsOne m (drawn s) m' (drawn s') (place_of at) leaf (tree_of m first) arm r
 
-abbrev pub LiftsArms : Made → Sketch → Made → Sketch → Place → Step → Arm → Arm → Result Arm Stop → Type 0
+abbrev pub LiftsArms : BuilderModel → Sketch → BuilderModel → Sketch → Place → Step → Arm → Arm → Result Arm Stop → Type 0
 LiftsArms m s m' s' at step arm second r = LiftsTwo m (drawn s) m' (drawn s') (place_of at) step arm second r
 
 -- from the left, of a first arm and values
-abbrev pub FoldsIn : Made → Sketch → Made → Sketch → Place → Step → Arm → List Value → Result Arm Stop → Type 0
+abbrev pub FoldsIn : BuilderModel → Sketch → BuilderModel → Sketch → Place → Step → Arm → List Value → Result Arm Stop → Type 0
 FoldsIn m s m' s' at step first rest r = Folds m (drawn s) m' (drawn s') (place_of at) step first rest r
 
 -- what the operator makes of a first value and others
-abbrev pub Yields : Made → Sketch → Made → Sketch → Place → Step → Value → List Value → Result Arm Stop → Type 0
+abbrev pub Yields : BuilderModel → Sketch → BuilderModel → Sketch → Place → Step → Value → List Value → Result Arm Stop → Type 0
 Yields m s m' s' at step first rest r = Calculates m (drawn s) m' (drawn s') (place_of at) step first rest r
 
-abbrev pub ValuesMake : Made → Sketch → Made → Sketch → Place → Step → List Value → Result Value Stop → Type 0
+abbrev pub ValuesMake : BuilderModel → Sketch → BuilderModel → Sketch → Place → Step → List Value → Result Value Stop → Type 0
 ValuesMake m s m' s' at step values r = ArmsMake m (drawn s) m' (drawn s') (place_of at) (operator_of_step step) values r
 
-abbrev pub TreesMake : Made → Sketch → Made → Sketch → Place → Step → List ℕ → Result Value Stop → Type 0
+abbrev pub TreesMake : BuilderModel → Sketch → BuilderModel → Sketch → Place → Step → List ℕ → Result Value Stop → Type 0
 TreesMake m s m' s' at step nodes r = RealsMake m (drawn s) m' (drawn s') (place_of at) (operator_of_step step) nodes r
 
 -- ---- bounds of comparisons
@@ -129,15 +129,15 @@ abbrev pub bounds_of : Kind → Weight → Weight → List Bound
 bounds_of kind a b = bounds_of_kind (kind_of kind) (weight_of a) (weight_of b)
 
 -- of a tree and the first of those behind it
-abbrev pub bounds_with : Made → Kind → ℕ → List ℕ → List Bound
+abbrev pub bounds_with : BuilderModel → Kind → ℕ → List ℕ → List Bound
 bounds_with m kind first later = first_bounds (kind_of kind) (stand_of m).trees first later
 
 -- of each two neighbours
-abbrev pub bounds_along : Made → Kind → List ℕ → List Bound
+abbrev pub bounds_along : BuilderModel → Kind → List ℕ → List Bound
 bounds_along m kind nodes = chained_bounds (kind_of kind) (weights (stand_of m).trees nodes)
 
 -- of two arms
-abbrev pub bounds_between : Made → Kind → Arm → Arm → List Bound
+abbrev pub bounds_between : BuilderModel → Kind → Arm → Arm → List Bound
 bounds_between m kind first second = arm_bounds (kind_of kind) (stand_of m).trees first second
 
 -- of an operator at Bool arguments, whose lists have these numbers
@@ -160,35 +160,35 @@ abbrev pub ConnectsSpread : Spread → Sketch → Sketch → List Pair → Resul
 ConnectsSpread spread s s' pairs r = ConnectsEach (λ ps. ps.items) spread (two_of spread) (drawn s) (drawn s') pairs r
 
 -- a chain of comparisons
-abbrev pub Chains : Made → Sketch → Sketch → BoundLists → BoundLists → Kind → Place → List ℕ → Result Value Stop → Type 0
+abbrev pub Chains : BuilderModel → Sketch → Sketch → BoundLists → BoundLists → Kind → Place → List ℕ → Result Value Stop → Type 0
 Chains m s s' lists lists' kind at nodes r = ComparesAll m (drawn s) (drawn s') lists lists' (kind_of kind) (place_of at) nodes r
 
 -- that each two differ
-abbrev pub Differ : Made → Sketch → Sketch → BoundLists → BoundLists → Place → List ℕ → Result Value Stop → Type 0
+abbrev pub Differ : BuilderModel → Sketch → Sketch → BoundLists → BoundLists → Place → List ℕ → Result Value Stop → Type 0
 Differ m s s' lists lists' at nodes r = DiffersAll m (drawn s) (drawn s') lists lists' (place_of at) nodes r
 
 -- ---- comparisons of arms
 
-abbrev pub SaysArms : Made → Sketch → Made → Sketch → Kind → Place → Arm → Arm → Result Pair Stop → Type 0
+abbrev pub SaysArms : BuilderModel → Sketch → BuilderModel → Sketch → Kind → Place → Arm → Arm → Result Pair Stop → Type 0
 SaysArms m s m' s' kind at arm second r = SaysTwo m (drawn s) m' (drawn s') (kind_of kind) (place_of at) arm second r
 
-abbrev pub LinksTwo : Made → Sketch → BoundLists → Made → Sketch → BoundLists → Spread → Kind → Place → Value → Value → Result Value Stop → Type 0
+abbrev pub LinksTwo : BuilderModel → Sketch → BoundLists → BuilderModel → Sketch → BoundLists → Spread → Kind → Place → Value → Value → Result Value Stop → Type 0
 LinksTwo m s lists m' s' lists' spread kind at first second r = Links m (drawn s) lists m' (drawn s') lists' spread (kind_of kind) (place_of at) first second r
 
 -- of a first value with each of others, behind the links before
-abbrev pub LinksOthers : {X : Type 0} → Made → Sketch → BoundLists → Made → Sketch → BoundLists → Spread → Kind → Place → Value → List Value → Vec Value Global → Vec Value Global → Result X Stop → Type 0
+abbrev pub LinksOthers : {X : Type 0} → BuilderModel → Sketch → BoundLists → BuilderModel → Sketch → BoundLists → Spread → Kind → Place → Value → List Value → Vec Value Global → Vec Value Global → Result X Stop → Type 0
 LinksOthers m s lists m' s' lists' spread kind at first others links links' r =
     LinksWith m (drawn s) lists m' (drawn s') lists' spread (kind_of kind) (place_of at) first others links.items links'.items r
 
 -- of each two values that belong together, behind the links before
-abbrev pub LinksValues : {X : Type 0} → Made → Sketch → BoundLists → Made → Sketch → BoundLists → Spread → Kind → Place → List Value → Vec Value Global → Vec Value Global → Result X Stop → Type 0
+abbrev pub LinksValues : {X : Type 0} → BuilderModel → Sketch → BoundLists → BuilderModel → Sketch → BoundLists → Spread → Kind → Place → List Value → Vec Value Global → Vec Value Global → Result X Stop → Type 0
 LinksValues m s lists m' s' lists' spread kind at values links links' r =
     LinksEach m (drawn s) lists m' (drawn s') lists' spread (kind_of kind) (place_of at) values links.items links'.items r
 
-abbrev pub JoinsLinks : Made → Sketch → Sketch → BoundLists → BoundLists → Spread → List Value → Result Value Stop → Type 0
+abbrev pub JoinsLinks : BuilderModel → Sketch → Sketch → BoundLists → BoundLists → Spread → List Value → Result Value Stop → Type 0
 JoinsLinks m s s' lists lists' spread links r = Joins m (drawn s) (drawn s') lists lists' spread links r
 
-abbrev pub ComparesValues : Made → Sketch → BoundLists → Made → Sketch → BoundLists → Spread → Kind → Place → List Value → Result Value Stop → Type 0
+abbrev pub ComparesValues : BuilderModel → Sketch → BoundLists → BuilderModel → Sketch → BoundLists → Spread → Kind → Place → List Value → Result Value Stop → Type 0
 ComparesValues m s lists m' s' lists' spread kind at values r = SaysAll m (drawn s) lists m' (drawn s') lists' spread (kind_of kind) (place_of at) values r
 
 -- ---- operators
@@ -201,14 +201,14 @@ operation_of operator us = bool_operation (operator_of operator) us
 abbrev pub takes_arms : Operator → List Value → Bool
 takes_arms operator values = takes_of (operator_of operator) (are_arms values) false (are_picked values) (length values)
 
-abbrev pub TreesDo : Made → Sketch → BoundLists → Made → Sketch → BoundLists → Place → Operator → List ℕ → Result Value Stop → Type 0
+abbrev pub TreesDo : BuilderModel → Sketch → BoundLists → BuilderModel → Sketch → BoundLists → Place → Operator → List ℕ → Result Value Stop → Type 0
 TreesDo m s lists m' s' lists' at operator nodes r = RealsDo (making m (drawn s) lists) (making m' (drawn s') lists') (place_of at) (operator_of operator) nodes r
 
-abbrev pub PairsDo : Made → Sketch → Sketch → BoundLists → BoundLists → Operator → List Pair → Numbers → Result Value Stop → Type 0
+abbrev pub PairsDo : BuilderModel → Sketch → Sketch → BoundLists → BoundLists → Operator → List Pair → Numbers → Result Value Stop → Type 0
 PairsDo m s s' lists lists' operator pairs numbers r = BoolsDo m (drawn s) (drawn s') lists lists' (operator_of operator) pairs numbers.items r
 
-abbrev pub OverArms : Made → Sketch → BoundLists → Made → Sketch → BoundLists → Place → Operator → List Value → Result Value Stop → Type 0
+abbrev pub OverArms : BuilderModel → Sketch → BoundLists → BuilderModel → Sketch → BoundLists → Place → Operator → List Value → Result Value Stop → Type 0
 OverArms m s lists m' s' lists' at operator values r = ArmsDo m m' (drawn s) (drawn s') lists lists' (place_of at) (operator_of operator) values r
 
-abbrev pub Applies : Made → Sketch → BoundLists → Made → Sketch → BoundLists → Place → Operator → List Value → Result Value Stop → Type 0
+abbrev pub Applies : BuilderModel → Sketch → BoundLists → BuilderModel → Sketch → BoundLists → Place → Operator → List Value → Result Value Stop → Type 0
 Applies m s lists m' s' lists' at operator values r = Operates (making m (drawn s) lists) (making m' (drawn s') lists') (place_of at) (operator_of operator) values r

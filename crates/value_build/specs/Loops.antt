@@ -3,8 +3,8 @@ use Rattle.std.specs.Prelude.{◌≡◌, List, ◌∷◌, true, Result}
 use Rattle.script_model.specs.Sexp.{Place}
 use Rattle.script_model.specs.Declared.{Bound}
 use Rattle.poly_graph.specs.Term.{Kind}
-use Rattle.term_build.specs.Built.{Made}
-use Rattle.term_build.specs.Sketch.{Drawn, IsSketch}
+use Rattle.term_build.specs.Built.{BuilderModel}
+use Rattle.term_build.specs.Sketch.{SketchNode, IsSketch}
 use Rattle.term_build.specs.declared.sketch.Arm.{Arm}
 use Rattle.term_build.specs.declared.stop.Stop.{Stop}
 use Rattle.value_build.specs.Arms.{IsSomeArm, IsSomeValue, AreSomeValues, Folds, LinksWith, LinksEach}
@@ -16,31 +16,31 @@ use Rattle.value_build.specs.declared.chains.Spread.{Spread}
 use Rattle.value_build.specs.declared.value.Value.{Value}
 
 -- steps from the left: an arm was made, and these values are left
-pub record IsFoldingArms (at : Place) (s : Step) (m0 m : Made) (ds0 ds : List Drawn) (x0 : Arm) (vs0 : List Value) (x : Arm) (vs : List Value) : Type 0 where
+pub record IsFoldingArms (at : Place) (s : Step) (m0 m : BuilderModel) (ds0 ds : List SketchNode) (x0 : Arm) (vs0 : List Value) (x : Arm) (vs : List Value) : Type 0 where
   pub sorts : m.sorts ≡ m0.sorts
   pub known : IsSomeArm m ds x
   pub rest : AreSomeValues m ds vs
   pub arms : are_arms vs ≡ true
   pub sketch : IsSketch m ds
-  pub goes : (m' : Made) (ds' : List Drawn) (r : Result Arm Stop) → Folds m ds m' ds' at s x vs r → Folds m0 ds0 m' ds' at s x0 vs0 r
+  pub goes : (m' : BuilderModel) (ds' : List SketchNode) (r : Result Arm Stop) → Folds m ds m' ds' at s x vs r → Folds m0 ds0 m' ds' at s x0 vs0 r
 
 -- a first value with each of others, of which these are left
-pub record IsLinkingWith (s : Spread) (kind : Kind) (at : Place) (v : Value) (m0 m : Made) (ds0 ds : List Drawn) (lists0 lists : List (List Bound)) (vs0 links0 vs links : List Value) : Type 0 where
+pub record IsLinkingWith (s : Spread) (kind : Kind) (at : Place) (v : Value) (m0 m : BuilderModel) (ds0 ds : List SketchNode) (lists0 lists : List (List Bound)) (vs0 links0 vs links : List Value) : Type 0 where
   pub sorts : m.sorts ≡ m0.sorts
   pub first : IsSomeValue m ds v
   pub others : AreSomeValues m ds vs
   pub known : AreKnown (making m ds lists) links
   pub arms : are_arms (v ∷ vs) ≡ true
   pub sketch : IsSketch m ds
-  pub goes : (m' : Made) (ds' : List Drawn) (lists' : List (List Bound)) (links' : List Value) (r : Result (Unit {0}) Stop) →
+  pub goes : (m' : BuilderModel) (ds' : List SketchNode) (lists' : List (List Bound)) (links' : List Value) (r : Result (Unit {0}) Stop) →
       LinksWith m ds lists m' ds' lists' s kind at v vs links links' r → LinksWith m0 ds0 lists0 m' ds' lists' s kind at v vs0 links0 links' r
 
 -- each value with those that belong with it, where these are left
-pub record IsLinkingEach (s : Spread) (kind : Kind) (at : Place) (m0 m : Made) (ds0 ds : List Drawn) (lists0 lists : List (List Bound)) (vs0 links0 vs links : List Value) : Type 0 where
+pub record IsLinkingEach (s : Spread) (kind : Kind) (at : Place) (m0 m : BuilderModel) (ds0 ds : List SketchNode) (lists0 lists : List (List Bound)) (vs0 links0 vs links : List Value) : Type 0 where
   pub sorts : m.sorts ≡ m0.sorts
   pub values : AreSomeValues m ds vs
   pub known : AreKnown (making m ds lists) links
   pub arms : are_arms vs ≡ true
   pub sketch : IsSketch m ds
-  pub goes : (m' : Made) (ds' : List Drawn) (lists' : List (List Bound)) (links' : List Value) (r : Result (Unit {0}) Stop) →
+  pub goes : (m' : BuilderModel) (ds' : List SketchNode) (lists' : List (List Bound)) (links' : List Value) (r : Result (Unit {0}) Stop) →
       LinksEach m ds lists m' ds' lists' s kind at vs links links' r → LinksEach m0 ds0 lists0 m' ds' lists' s kind at vs0 links0 links' r

@@ -3,8 +3,8 @@ use Rattle.std.specs.Prelude.{◌≡◌, List, [], ◌++◌, Result}
 use Rattle.script_model.specs.Declared.{Bound}
 use Rattle.dyadic.specs.Point.{Sort}
 use Rattle.script_forms.specs.Work.{Event}
-use Rattle.term_build.specs.Built.{Made, begun, stand_of}
-use Rattle.term_build.specs.Sketch.{Drawn}
+use Rattle.term_build.specs.Built.{BuilderModel, begun, stand_of}
+use Rattle.term_build.specs.Sketch.{SketchNode}
 use Rattle.term_build.specs.Pairs.{Grown}
 use Rattle.term_build.specs.Settled.{Extends}
 use Rattle.term_build.specs.Steps.{Emits}
@@ -12,11 +12,11 @@ use Rattle.term_build.specs.declared.stop.Stop.{Stop}
 
 -- what a builder has made of the script; the sketch of the forms of the assertion in work; the lists of bounds
 pub record Making : Type 0 where
-  pub made : Made
-  pub drawn : List Drawn
+  pub made : BuilderModel
+  pub drawn : List SketchNode
   pub bounds : List (List Bound)
 
-abbrev pub making : Made → List Drawn → List (List Bound) → Making
+abbrev pub making : BuilderModel → List SketchNode → List (List Bound) → Making
 making m ds lists = record { made = m; drawn = ds; bounds = lists }
 
 -- nothing is made yet; the constants have these sorts

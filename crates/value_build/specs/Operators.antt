@@ -9,8 +9,8 @@ use Rattle.poly_graph.specs.Form.{yes_form, no_form}
 use Rattle.script_forms.specs.Terms.{Unfolded, formula}
 use Rattle.script_forms.specs.Unfolded.{takes, unfolded_operation, chain, different, not_first, and_of, or_of, implies_of, xor_all, xor_of, choice_form}
 use Rattle.script_forms.specs.Work.{operation_events}
-use Rattle.term_build.specs.Built.{Made, stand_of}
-use Rattle.term_build.specs.Sketch.{Drawn}
+use Rattle.term_build.specs.Built.{BuilderModel, stand_of}
+use Rattle.term_build.specs.Sketch.{SketchNode}
 use Rattle.term_build.specs.Pairs.{DrawsEach, compared, trees_at, same_of}
 use Rattle.term_build.specs.declared.connectives.Pair.{Pair}
 use Rattle.term_build.specs.declared.stop.Stop.{Stop}
@@ -82,16 +82,16 @@ RealsDo old new at op ks r = (bs : List Bounding) → WeighsEach (stand_of old.m
     Steps old new (operation_events at op (trees_at (stand_of old.made).trees ks)) r (IsValue new (unfolded_operation at op (trees_at (stand_of old.made).trees ks)) (bounding_operation op bs))
 
 -- whatever the lists of bounds are
-abbrev pub RealsMake : Made → List Drawn → Made → List Drawn → Place → Operator → List ℕ → Result Value Stop → Type 0
+abbrev pub RealsMake : BuilderModel → List SketchNode → BuilderModel → List SketchNode → Place → Operator → List ℕ → Result Value Stop → Type 0
 RealsMake m ds m' ds' at op ks r = (lists : List (List Bound)) → RealsDo (making m ds lists) (making m' ds' lists) at op ks r
 
 -- a chain of comparisons
-abbrev pub ComparesAll : Made → List Drawn → List Drawn → List (List Bound) → List (List Bound) → Kind → Place → List ℕ → Result Value Stop → Type 0
+abbrev pub ComparesAll : BuilderModel → List SketchNode → List SketchNode → List (List Bound) → List (List Bound) → Kind → Place → List ℕ → Result Value Stop → Type 0
 ComparesAll m ds ds' lists lists' kind at ks r = (bs : List Bounding) → WeighsEach (stand_of m).trees ks bs →
     Steps (making m ds lists) (making m ds' lists') [] r (IsValue (making m ds' lists') (chain (neighbours (compared kind at) (trees_at (stand_of m).trees ks))) (bounds (chained_bounds kind bs)))
 
 -- that each two differ
-abbrev pub DiffersAll : Made → List Drawn → List Drawn → List (List Bound) → List (List Bound) → Place → List ℕ → Result Value Stop → Type 0
+abbrev pub DiffersAll : BuilderModel → List SketchNode → List SketchNode → List (List Bound) → List (List Bound) → Place → List ℕ → Result Value Stop → Type 0
 DiffersAll m ds ds' lists lists' at ks r =
     Steps (making m ds lists) (making m ds' lists') [] r (IsValue (making m ds' lists') (different (pairs (compared eq at) (trees_at (stand_of m).trees ks))) (bounds []))
 
@@ -122,7 +122,7 @@ given_bounds conjunction lists ns = all_of lists ns
 given_bounds op lists ns = []
 
 -- the pairs draw formulas
-abbrev pub ArePairs : Made → List Drawn → List Pair → Type 0
+abbrev pub ArePairs : BuilderModel → List SketchNode → List Pair → Type 0
 ArePairs m ds ps = (us : List Unfolded) × DrawsEach (stand_of m).trees ds us ps
 
 -- the lists have the bounds of Bool expressions
@@ -132,12 +132,12 @@ ListsEach lists (n ∷ ns) (b ∷ bs) = ((xs : List Bound) × (b ≡ bounds xs) 
 ListsEach lists _ _ = ⊥
 
 -- an operator is applied to what these pairs and lists are
-abbrev pub BoolsDo : Made → List Drawn → List Drawn → List (List Bound) → List (List Bound) → Operator → List Pair → List ℕ → Result Value Stop → Type 0
+abbrev pub BoolsDo : BuilderModel → List SketchNode → List SketchNode → List (List Bound) → List (List Bound) → Operator → List Pair → List ℕ → Result Value Stop → Type 0
 BoolsDo m ds ds' lists lists' op ps ns r = (at : Place) (us : List Unfolded) (bs : List Bounding) → DrawsEach (stand_of m).trees ds us ps → ListsEach lists ns bs → takes op us ≡ true →
     Steps (making m ds lists) (making m ds' lists') (operation_events at op us) r (IsValue (making m ds' lists') (unfolded_operation at op us) (bounding_operation op bs))
 
 -- ---- Real arguments that hold an `ite`, or the arguments of one
 
-abbrev pub ArmsDo : Made → Made → List Drawn → List Drawn → List (List Bound) → List (List Bound) → Place → Operator → List Value → Result Value Stop → Type 0
+abbrev pub ArmsDo : BuilderModel → BuilderModel → List SketchNode → List SketchNode → List (List Bound) → List (List Bound) → Place → Operator → List Value → Result Value Stop → Type 0
 ArmsDo m m' ds ds' lists lists' at op vs r = (us : List Unfolded) (bs : List Bounding) → AreValues (making m ds lists) us bs vs → takes op us ≡ true →
     Steps (making m ds lists) (making m' ds' lists') (operation_events at op us) r (IsValue (making m' ds' lists') (unfolded_operation at op us) (bounding_operation op bs))

@@ -12,14 +12,14 @@ use Rattle.script_model.specs.Sexp.{Place}
 use Rattle.script_model.specs.Reading.{Operator}
 use Rattle.script_forms.specs.Atoms.{atom_of, constant_tree}
 use Rattle.script_forms.specs.Work.{ending, form_events, operator_events}
-use Rattle.term_build.specs.Built.{Made, stand_of}
+use Rattle.term_build.specs.Built.{BuilderModel, stand_of}
 use Rattle.term_build.specs.declared.connectives.Pair.{Pair}
 use Rattle.term_build.specs.declared.sketch.Arm.{Arm}
 use Rattle.term_build.specs.declared.sketch.Arm.TheVariants as arm
 use Rattle.term_build.specs.Does.{IsTree}
 use Rattle.term_build.specs.Pairs.{Draws}
 use Rattle.term_build.specs.Settled.{Extends, FormSettled}
-use Rattle.term_build.specs.Sketch.{Drawn, choice_drawn, IsFormOf}
+use Rattle.term_build.specs.Sketch.{SketchNode, choice_sketch, IsFormOf}
 use Rattle.term_build.specs.Steps.{Emits}
 use Rattle.term_build.specs.declared.stop.Stop.{Stop}
 use Rattle.declared_box.specs.Same.{SameNumber, SameBounds}
@@ -38,11 +38,11 @@ Weighs t b = b ≡ other
 abbrev pub Lists : List (List Bound) → ℕ → List Bound → Type 0
 Lists lists n bs = (n < length lists) × SameBounds (list_at lists n) bs
 
-module _ (m : Made) (ds : List Drawn) where
+module _ (m : BuilderModel) (ds : List SketchNode) where
   -- the arm stands for a Real expression that unfolds so
   pub data IsArm : Unfolded → Arm → Type 0 where
     is_tree : {t : Term} {k : ℕ} → IsTree m t k → IsArm (term t) (arm.Tree k)
-    is_choice : {c d : Form Comparison} {u v : Unfolded} {p : Pair} {x y : Arm} {k : ℕ} → slice_get ds k ≡ Some (choice_drawn p x y) → Draws (stand_of m).trees ds (formula c d) p →
+    is_choice : {c d : Form Comparison} {u v : Unfolded} {p : Pair} {x y : Arm} {k : ℕ} → slice_get ds k ≡ Some (choice_sketch p x y) → Draws (stand_of m).trees ds (formula c d) p →
         IsArm u x → IsArm v y → IsArm (either c d u v) (arm.Choice k)
 
 -- the value stands for an expression that unfolds so, with these bounds

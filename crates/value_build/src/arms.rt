@@ -21,7 +21,7 @@ use declared_box::BoundTable;
 use poly_graph::Kind;
 use script_fault::Place;
 use std::alloc::{AllocError, Global};
-use term_build::{Arm, Builder, Drawn, Fault, Stop, choose_arms};
+use term_build::{Arm, Builder, Fault, SketchNode, Stop, choose_arms};
 
 // A Real value as an arm.
 fn arm_of(value: Value) -> Arm
@@ -39,7 +39,7 @@ fn arm_of(value: Value) -> Arm
 // What the steps make, from the left, of an arm and these values.
 fn fold_values(
     builder: &mut Builder,
-    sketch: &mut Vec<Drawn>,
+    sketch: &mut Vec<SketchNode>,
     at: Place,
     step: Step,
     first: Arm,
@@ -86,7 +86,7 @@ fn is_quotient(step: Step) -> bool
 /// What an arithmetic operator makes of a first value and others.
 pub(crate) fn calculate_values(
     builder: &mut Builder,
-    sketch: &mut Vec<Drawn>,
+    sketch: &mut Vec<SketchNode>,
     at: Place,
     step: Step,
     first: Value,
@@ -134,7 +134,7 @@ fn pair_bounds(
 fn link(
     alloc: Global,
     builder: &mut Builder,
-    sketch: &mut Vec<Drawn>,
+    sketch: &mut Vec<SketchNode>,
     bounds: &mut BoundTable,
     at: Place,
     kind: Kind,
@@ -169,7 +169,7 @@ fn link(
 fn link_with(
     alloc: Global,
     builder: &mut Builder,
-    sketch: &mut Vec<Drawn>,
+    sketch: &mut Vec<SketchNode>,
     bounds: &mut BoundTable,
     at: Place,
     kind: Kind,
@@ -202,7 +202,7 @@ fn link_with(
 pub(crate) fn link_each(
     alloc: Global,
     builder: &mut Builder,
-    sketch: &mut Vec<Drawn>,
+    sketch: &mut Vec<SketchNode>,
     bounds: &mut BoundTable,
     at: Place,
     kind: Kind,
@@ -233,7 +233,7 @@ pub(crate) fn link_each(
 
 /// The Real `ite` of a condition and two values.
 pub(crate) fn pick(
-    sketch: &mut Vec<Drawn>,
+    sketch: &mut Vec<SketchNode>,
     condition: Value,
     first: Value,
     second: Value,

@@ -8,7 +8,7 @@ ghost use Rattle.value_build.specs.Chains.{others_of, two_of};
 use poly_graph::Kind;
 use script_fault::Place;
 use std::alloc::{AllocError, Global};
-use term_build::{Drawn, Pair};
+use term_build::{Pair, SketchNode};
 
 /// Which two of several arguments belong together: each with the next, or each with every later one.
 #[derive(Clone, Copy, Debug, PartialEq, Eq)]
@@ -29,7 +29,7 @@ pub(crate) fn others_of<T: Copy>(spread: Spread, later: &[T]) -> &[T]
 
 // The comparisons of one tree with each of others, after those that were made.
 fn compare_with(
-    sketch: &mut Vec<Drawn>,
+    sketch: &mut Vec<SketchNode>,
     at: Place,
     first: u32,
     others: &[u32],
@@ -50,7 +50,7 @@ fn compare_with(
 /// The comparisons of each two trees that belong together.
 pub(crate) fn compare_each(
     alloc: Global,
-    sketch: &mut Vec<Drawn>,
+    sketch: &mut Vec<SketchNode>,
     at: Place,
     nodes: &[u32],
     kind: Kind,
@@ -77,7 +77,7 @@ pub(crate) fn compare_each(
 // What two Bool expressions that belong together make: that they are equal, or that they differ.
 fn connect_two(
     alloc: Global,
-    sketch: &mut Vec<Drawn>,
+    sketch: &mut Vec<SketchNode>,
     spread: Spread,
     first: Pair,
     second: Pair,
@@ -94,7 +94,7 @@ fn connect_two(
 // What one Bool expression makes with each of others, after those that were made.
 fn connect_with(
     alloc: Global,
-    sketch: &mut Vec<Drawn>,
+    sketch: &mut Vec<SketchNode>,
     spread: Spread,
     first: Pair,
     others: &[Pair],
@@ -115,7 +115,7 @@ fn connect_with(
 /// later one.
 pub(crate) fn connect_each(
     alloc: Global,
-    sketch: &mut Vec<Drawn>,
+    sketch: &mut Vec<SketchNode>,
     spread: Spread,
     pairs: &[Pair],
 ) -> Result<Vec<Pair>, AllocError>

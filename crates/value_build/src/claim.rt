@@ -8,13 +8,13 @@ use crate::operate::{give_up, no_bounds};
 use declared_box::BoundTable;
 use poly_graph::FormNode;
 use std::alloc::Global;
-use term_build::{Builder, Drawn, Stop, make_form};
+use term_build::{Builder, SketchNode, Stop, make_form};
 
 /// The form of a Bool assertion, whose truth is this node of the sketch: its node, with the number of its list.
 pub(crate) fn claim_bool(
     alloc: Global,
     builder: &mut Builder,
-    sketch: &mut Vec<Drawn>,
+    sketch: &mut Vec<SketchNode>,
     truth: u32,
     list: u32,
 ) -> Result<(u32, u32), Stop>

@@ -13,12 +13,12 @@ use declared_box::BoundTable;
 use dyadic::Frac;
 use poly_graph::Node;
 use std::alloc::Global;
-use term_build::{Builder, Drawn, Pair, Stop};
+use term_build::{Builder, Pair, SketchNode, Stop};
 
 /// A constant number.
 pub(crate) fn number(
     builder: &mut Builder,
-    sketch: &mut Vec<Drawn>,
+    sketch: &mut Vec<SketchNode>,
     number: Frac,
 ) -> Result<Value, Stop>
     requires sketched { IsSketch builder.old (drawn sketch.old) }
@@ -37,7 +37,11 @@ pub(crate) fn number(
 }
 
 /// A Real constant of the script.
-pub(crate) fn real(builder: &mut Builder, sketch: &mut Vec<Drawn>, axis: u32) -> Result<Value, Stop>
+pub(crate) fn real(
+    builder: &mut Builder,
+    sketch: &mut Vec<SketchNode>,
+    axis: u32,
+) -> Result<Value, Stop>
     requires sort { HasSort real_sort builder.old.sorts axis }
     requires sketched { IsSketch builder.old (drawn sketch.old) }
     ensures does { MakesLeaf builder.old sketch.old builder.new sketch.new (variable axis) result }
@@ -57,7 +61,7 @@ pub(crate) fn real(builder: &mut Builder, sketch: &mut Vec<Drawn>, axis: u32) ->
 pub(crate) fn switch(
     alloc: Global,
     builder: &Builder,
-    sketch: &mut Vec<Drawn>,
+    sketch: &mut Vec<SketchNode>,
     bounds: &mut BoundTable,
     axis: u32,
 ) -> Result<Value, Stop>

@@ -5,7 +5,7 @@ ghost use Rattle.poly_graph.specs.Views.{kind_of};
 ghost use Rattle.smt_sexp.specs.Views.{place_of};
 ghost use Rattle.script_forms.specs.Work.{reached};
 ghost use Rattle.term_build.specs.Calls.{DoesEvent, drawn};
-ghost use Rattle.term_build.specs.Shapes.{drawn_of};
+ghost use Rattle.term_build.specs.Shapes.{sketch_of};
 ghost use Rattle.term_build.specs.Sketch.{IsSketch, as_choice};
 ghost use Rattle.term_build.specs.declared.sketch.Arm.TheVariants as arm;
 ghost use Rattle.value_build.specs.Arms.{IsSomeArm};
@@ -17,7 +17,7 @@ use poly_graph::Kind;
 use script_fault::Place;
 use std::alloc::{AllocError, Global};
 use std::collections::VecDeque;
-use term_build::{Arm, Builder, Drawn, Pair, Stop, choice_at, choose_arms};
+use term_build::{Arm, Builder, Pair, SketchNode, Stop, choice_at, choose_arms};
 
 /// What is done with a tree, where a first one is given: its opposite, or a step of both.
 #[derive(Clone, Copy, Debug, PartialEq, Eq)]
@@ -38,7 +38,7 @@ pub(crate) struct Meeting {
 #[derive(Clone, Copy, Debug)]
 pub(crate) enum Entry {
     Choice(Pair),
-    Made(u32),
+    BuilderModel(u32),
     Trees(u32, u32),
 }
 
@@ -62,10 +62,10 @@ fn apply_leaf(
 }
 
 // The condition and the arms of the `ite` of this node, which counts as one expression more.
-fn part(builder: &mut Builder, sketch: &[Drawn], k: u32) -> Result<(Pair, Arm, Arm), Stop>
-    requires { IsSomeArm builder.old (map drawn_of sketch.now) (arm.Choice k) }
+fn part(builder: &mut Builder, sketch: &[SketchNode], k: u32) -> Result<(Pair, Arm, Arm), Stop>
+    requires { IsSomeArm builder.old (map sketch_of sketch.now) (arm.Choice k) }
     ensures parts { IfOk result (λ w.
-        Some (w.0, w.1, w.2) ≡ as_choice (slice_get (map drawn_of sketch.now) k)) }
+        Some (w.0, w.1, w.2) ≡ as_choice (slice_get (map sketch_of sketch.now) k)) }
     ensures does { DoesEvent builder.old builder.new reached result (λ _. Unit {0}) }
     ensures sorts { builder.new.sorts ≡ builder.old.sorts }
 {
@@ -79,15 +79,15 @@ fn part(builder: &mut Builder, sketch: &[Drawn], k: u32) -> Result<(Pair, Arm, A
 // What is read off two arms first. Where one of them is an `ite`, its arms stand in front of what is left.
 fn look(
     builder: &mut Builder,
-    sketch: &[Drawn],
+    sketch: &[SketchNode],
     at: Place,
     task: Option<Leaf>,
     meeting: Meeting,
     left: &mut VecDeque<Meeting>,
 ) -> Result<Entry, Stop>
-    requires known { AreSomeMet builder.old (map drawn_of sketch.now) (meeting ∷ left.old.items) }
-    requires sketched { IsSketch builder.old (map drawn_of sketch.now) }
-    ensures does { Looks builder.old builder.new (map drawn_of sketch.now) task (place_of at)
+    requires known { AreSomeMet builder.old (map sketch_of sketch.now) (meeting ∷ left.old.items) }
+    requires sketched { IsSketch builder.old (map sketch_of sketch.now) }
+    ensures does { Looks builder.old builder.new (map sketch_of sketch.now) task (place_of at)
         meeting left.old.items left.new.items result }
     ensures sorts { builder.new.sorts ≡ builder.old.sorts }
     ensures turns { OnOk result (turns_left builder.new left.new.items <
@@ -124,18 +124,18 @@ fn look(
 fn spread(
     alloc: Global,
     builder: &mut Builder,
-    sketch: &[Drawn],
+    sketch: &[SketchNode],
     at: Place,
     task: Option<Leaf>,
     first: Arm,
     second: Arm,
 ) -> Result<Vec<Entry>, Stop>
-    requires first { IsSomeArm builder.old (map drawn_of sketch.now) first }
-    requires second { IsSomeArm builder.old (map drawn_of sketch.now) second }
-    requires sketched { IsSketch builder.old (map drawn_of sketch.now) }
-    ensures does { Spreads builder.old builder.new (map drawn_of sketch.now) task (place_of at)
+    requires first { IsSomeArm builder.old (map sketch_of sketch.now) first }
+    requires second { IsSomeArm builder.old (map sketch_of sketch.now) second }
+    requires sketched { IsSketch builder.old (map sketch_of sketch.now) }
+    ensures does { Spreads builder.old builder.new (map sketch_of sketch.now) task (place_of at)
         first second result }
-    ensures sketched { OnOk result (IsSketch builder.new (map drawn_of sketch.now)) }
+    ensures sketched { OnOk result (IsSketch builder.new (map sketch_of sketch.now)) }
     ensures sorts { builder.new.sorts ≡ builder.old.sorts }
 {
     let mut left = VecDeque::new(alloc);
@@ -150,7 +150,7 @@ fn spread(
 
 // What an entry stands for, of what is made of those behind it.
 fn join_arms(
-    sketch: &mut Vec<Drawn>,
+    sketch: &mut Vec<SketchNode>,
     entry: Entry,
     made: &mut VecDeque<Arm>,
 ) -> Result<Arm, AllocError>
@@ -174,7 +174,7 @@ fn join_arms(
 }
 
 // The arm that entries stand for.
-fn gather_arms(sketch: &mut Vec<Drawn>, entries: Vec<Entry>) -> Result<Arm, AllocError>
+fn gather_arms(sketch: &mut Vec<SketchNode>, entries: Vec<Entry>) -> Result<Arm, AllocError>
     requires { CanGatherArms (drawn sketch.old) entries.items }
     ensures { GathersArms (drawn sketch.old) (drawn sketch.new) entries.items result }
 {
@@ -193,7 +193,7 @@ fn gather_arms(sketch: &mut Vec<Drawn>, entries: Vec<Entry>) -> Result<Arm, Allo
 // What an entry says, of what those behind it say.
 fn join_pairs(
     alloc: Global,
-    sketch: &mut Vec<Drawn>,
+    sketch: &mut Vec<SketchNode>,
     at: Place,
     kind: Kind,
     entry: Entry,
@@ -221,7 +221,7 @@ fn join_pairs(
 // The pair that entries stand for.
 fn gather_pairs(
     alloc: Global,
-    sketch: &mut Vec<Drawn>,
+    sketch: &mut Vec<SketchNode>,
     at: Place,
     kind: Kind,
     entries: Vec<Entry>,
@@ -245,7 +245,7 @@ fn gather_pairs(
 /// What is done with each arm of one, where a first tree is given.
 pub(crate) fn lift_one(
     builder: &mut Builder,
-    sketch: &mut Vec<Drawn>,
+    sketch: &mut Vec<SketchNode>,
     at: Place,
     leaf: Leaf,
     first: u32,
@@ -273,7 +273,7 @@ pub(crate) fn lift_one(
 /// A step of each arm of a first one and each of a second one.
 pub(crate) fn lift_two(
     builder: &mut Builder,
-    sketch: &mut Vec<Drawn>,
+    sketch: &mut Vec<SketchNode>,
     at: Place,
     step: Step,
     arm: Arm,
@@ -303,7 +303,7 @@ pub(crate) fn lift_two(
 pub(crate) fn compare_arms(
     alloc: Global,
     builder: &mut Builder,
-    sketch: &mut Vec<Drawn>,
+    sketch: &mut Vec<SketchNode>,
     at: Place,
     kind: Kind,
     arm: Arm,

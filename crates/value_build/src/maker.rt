@@ -20,14 +20,14 @@ use smt_script::Sort;
 use sort_check::Operator;
 use std::alloc::Global;
 use std::marker::Model;
-use term_build::{Builder, Drawn, Stop};
+use term_build::{Builder, SketchNode, Stop};
 
 /// What is made of a script so far: its terms, atoms and forms, the lists of its bounds, and the sketch of the forms of
 /// the assertion in work. Where a method answers a stop, the sketch is given up.
 #[derive(Drop)]
 pub struct Maker {
     pub(crate) builder: Builder,
-    pub(crate) sketch: Vec<Drawn>,
+    pub(crate) sketch: Vec<SketchNode>,
     pub(crate) bounds: BoundTable,
 }
 

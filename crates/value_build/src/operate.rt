@@ -24,10 +24,10 @@ use poly_graph::Kind;
 use script_fault::Place;
 use sort_check::Operator;
 use std::alloc::{AllocError, Global};
-use term_build::{Arm, Builder, Drawn, Fault, Pair, Stop};
+use term_build::{Arm, Builder, Fault, Pair, SketchNode, Stop};
 
 /// The sketch is given up, as where the builder stopped.
-pub(crate) fn give_up(sketch: &mut Vec<Drawn>)
+pub(crate) fn give_up(sketch: &mut Vec<SketchNode>)
     ensures { drawn sketch.new ≡ [] }
 {
     sketch.clear();
@@ -191,7 +191,7 @@ fn takes(operator: Operator, reals: bool, bools: bool, picked: bool, count: usiz
 // A sum, a difference, a product or a quotient.
 fn arithmetic(
     builder: &mut Builder,
-    sketch: &mut Vec<Drawn>,
+    sketch: &mut Vec<SketchNode>,
     at: Place,
     step: Step,
     nodes: &[u32],
@@ -217,7 +217,7 @@ fn arithmetic(
 fn compare(
     alloc: Global,
     builder: &Builder,
-    sketch: &mut Vec<Drawn>,
+    sketch: &mut Vec<SketchNode>,
     bounds: &mut BoundTable,
     at: Place,
     nodes: &[u32],
@@ -239,7 +239,7 @@ fn compare(
 fn differ(
     alloc: Global,
     builder: &Builder,
-    sketch: &mut Vec<Drawn>,
+    sketch: &mut Vec<SketchNode>,
     bounds: &mut BoundTable,
     at: Place,
     nodes: &[u32],
@@ -260,7 +260,7 @@ fn differ(
 fn on_reals(
     alloc: Global,
     builder: &mut Builder,
-    sketch: &mut Vec<Drawn>,
+    sketch: &mut Vec<SketchNode>,
     bounds: &mut BoundTable,
     at: Place,
     operator: Operator,
@@ -293,7 +293,7 @@ fn on_reals(
 // ---- Bool arguments
 
 // That Bool expressions are equal, each to the next.
-fn equal(alloc: Global, sketch: &mut Vec<Drawn>, pairs: &[Pair]) -> Result<Pair, AllocError>
+fn equal(alloc: Global, sketch: &mut Vec<SketchNode>, pairs: &[Pair]) -> Result<Pair, AllocError>
     ensures { Connects bool_equality (drawn sketch.old) (drawn sketch.new) pairs.now result }
 {
     let links = connect_each(alloc, sketch, Spread::Next, pairs)?;
@@ -301,7 +301,7 @@ fn equal(alloc: Global, sketch: &mut Vec<Drawn>, pairs: &[Pair]) -> Result<Pair,
 }
 
 // That Bool expressions differ, each from every other.
-fn distinct(alloc: Global, sketch: &mut Vec<Drawn>, pairs: &[Pair]) -> Result<Pair, AllocError>
+fn distinct(alloc: Global, sketch: &mut Vec<SketchNode>, pairs: &[Pair]) -> Result<Pair, AllocError>
     ensures { Connects bool_distinctness (drawn sketch.old) (drawn sketch.new) pairs.now result }
 {
     let links = connect_each(alloc, sketch, Spread::Later, pairs)?;
@@ -309,7 +309,7 @@ fn distinct(alloc: Global, sketch: &mut Vec<Drawn>, pairs: &[Pair]) -> Result<Pa
 }
 
 // The negation of the first.
-fn negation(sketch: &mut Vec<Drawn>, pairs: &[Pair]) -> Result<Pair, AllocError>
+fn negation(sketch: &mut Vec<SketchNode>, pairs: &[Pair]) -> Result<Pair, AllocError>
     requires { 0 < length pairs.now }
     ensures { Connects not_first (drawn sketch.old) (drawn sketch.new) pairs.now result }
 {
@@ -320,7 +320,7 @@ fn negation(sketch: &mut Vec<Drawn>, pairs: &[Pair]) -> Result<Pair, AllocError>
 }
 
 // The second where the first holds, else the third.
-fn choice(alloc: Global, sketch: &mut Vec<Drawn>, pairs: &[Pair]) -> Result<Pair, AllocError>
+fn choice(alloc: Global, sketch: &mut Vec<SketchNode>, pairs: &[Pair]) -> Result<Pair, AllocError>
     requires { length pairs.now ≡ 3 }
     ensures { Connects choice_form (drawn sketch.old) (drawn sketch.new) pairs.now result }
 {
@@ -339,7 +339,7 @@ fn choice(alloc: Global, sketch: &mut Vec<Drawn>, pairs: &[Pair]) -> Result<Pair
 // The form of an operator at Bool arguments.
 fn connect(
     alloc: Global,
-    sketch: &mut Vec<Drawn>,
+    sketch: &mut Vec<SketchNode>,
     operator: Operator,
     pairs: &[Pair],
 ) -> Result<Pair, AllocError>
@@ -382,7 +382,7 @@ fn connect_bounds(
 fn on_bools(
     alloc: Global,
     builder: &Builder,
-    sketch: &mut Vec<Drawn>,
+    sketch: &mut Vec<SketchNode>,
     bounds: &mut BoundTable,
     operator: Operator,
     pairs: &[Pair],
@@ -417,7 +417,7 @@ fn only_of(spread: Spread, links: &[Value]) -> Option<Value>
 fn join_links(
     alloc: Global,
     builder: &Builder,
-    sketch: &mut Vec<Drawn>,
+    sketch: &mut Vec<SketchNode>,
     bounds: &mut BoundTable,
     spread: Spread,
     links: &[Value],
@@ -442,7 +442,7 @@ fn join_links(
 fn compare_values(
     alloc: Global,
     builder: &mut Builder,
-    sketch: &mut Vec<Drawn>,
+    sketch: &mut Vec<SketchNode>,
     bounds: &mut BoundTable,
     at: Place,
     kind: Kind,
@@ -473,7 +473,7 @@ fn compare_values(
 // A sum, a difference, a product or a quotient.
 fn calculate_arms(
     builder: &mut Builder,
-    sketch: &mut Vec<Drawn>,
+    sketch: &mut Vec<SketchNode>,
     at: Place,
     step: Step,
     values: &[Value],
@@ -501,7 +501,7 @@ fn calculate_arms(
 }
 
 // `ite` at Real arms.
-fn pick_arm(sketch: &mut Vec<Drawn>, values: &[Value]) -> Result<Value, Stop>
+fn pick_arm(sketch: &mut Vec<SketchNode>, values: &[Value]) -> Result<Value, Stop>
     requires { are_picked values.now ≡ true }
     ensures { PicksOf (drawn sketch.old) (drawn sketch.new) values.now result }
 {
@@ -521,7 +521,7 @@ fn pick_arm(sketch: &mut Vec<Drawn>, values: &[Value]) -> Result<Value, Stop>
 fn over_arms(
     alloc: Global,
     builder: &mut Builder,
-    sketch: &mut Vec<Drawn>,
+    sketch: &mut Vec<SketchNode>,
     bounds: &mut BoundTable,
     at: Place,
     operator: Operator,
@@ -622,7 +622,7 @@ fn over_arms(
 fn on_arms(
     alloc: Global,
     builder: &mut Builder,
-    sketch: &mut Vec<Drawn>,
+    sketch: &mut Vec<SketchNode>,
     bounds: &mut BoundTable,
     at: Place,
     operator: Operator,
@@ -648,7 +648,7 @@ fn on_arms(
 pub(crate) fn operate(
     alloc: Global,
     builder: &mut Builder,
-    sketch: &mut Vec<Drawn>,
+    sketch: &mut Vec<SketchNode>,
     bounds: &mut BoundTable,
     at: Place,
     operator: Operator,

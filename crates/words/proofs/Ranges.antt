@@ -6,7 +6,7 @@ use Rattle.std.specs.Str.Parse.{without_leading_plus, digits_value}
 use Rattle.std.proofs.lemmas.Bool.Decides.{nat_tests}
 use Rattle.clap.specs.Words.{Row, Text, fault_of, first_of, one_of, subcommand_of}
 use Rattle.clap.specs.Walk.{is_empty}
-use Rattle.words.specs.declared.asked.Options.{Options}
+use Rattle.words.specs.declared.request.Options.{Options}
 use Rattle.words.specs.Program.{program}
 use Rattle.words.specs.Words.{Command, Solve, Check, Demo, Upgrade, solve, check, demo, upgrade, AreOptions, IsBound, IsDemo, IsInRange, is_number, number_of, number_in, long_number_in, within, ordered, parted, parted_upgrade, usual, options_of, solve_of, check_of, demo_of, upgrade_of, chosen, command_of}
 use Rattle.words.proofs.Numbers.{and_first, and_second, true_less}

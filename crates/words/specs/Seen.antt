@@ -5,12 +5,12 @@ use Rattle.std.specs.declared.string.String.{String}
 use Rattle.clap.specs.Words.{Text, fault_of, found_of, matches_of, rows_of, subcommand_of, subcommand_rows_of}
 use Rattle.clap.specs.declared.parser.matches.ArgMatches.{ArgMatches}
 use Rattle.words.specs.Program.{checker, program}
-use Rattle.words.specs.declared.asked.SolveWords.{SolveWords}
-use Rattle.words.specs.declared.asked.CheckWords.{CheckWords}
-use Rattle.words.specs.declared.asked.DemoWords.{DemoWords}
-use Rattle.words.specs.declared.asked.UpgradeWords.{UpgradeWords}
-use Rattle.words.specs.declared.asked.Asked.{Asked}
-use Rattle.words.specs.declared.asked.Asked.TheVariants.{Solve, Check, Demo, Upgrade}
+use Rattle.words.specs.declared.request.SolveWords.{SolveWords}
+use Rattle.words.specs.declared.request.CheckWords.{CheckWords}
+use Rattle.words.specs.declared.request.DemoWords.{DemoWords}
+use Rattle.words.specs.declared.request.UpgradeWords.{UpgradeWords}
+use Rattle.words.specs.declared.request.Request.{Request}
+use Rattle.words.specs.declared.request.Request.TheVariants.{Solve, Check, Demo, Upgrade}
 use Rattle.words.specs.Words as words
 use Rattle.words.specs.Words.{Command, solve, check, demo, upgrade}
 
@@ -26,7 +26,7 @@ seen_demo asked = record { seed = asked.seed; size = asked.size; cert = asked.ce
 abbrev pub seen_upgrade : UpgradeWords → words.Upgrade
 seen_upgrade asked = record { script = asked.script.now; cert = asked.cert.now; out = asked.out.now; bound = asked.bound }
 
-abbrev pub seen : Asked → Command
+abbrev pub seen : Request → Command
 seen (Solve asked) = solve (seen_solve asked)
 seen (Check asked) = check (seen_check asked)
 seen (Demo asked) = demo (seen_demo asked)

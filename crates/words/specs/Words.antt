@@ -6,7 +6,7 @@ use Rattle.std.specs.Char.{digit_value}
 use Rattle.std.specs.Str.Parse.{without_leading_plus, digits_value}
 use Rattle.clap.specs.Walk.{is_empty}
 use Rattle.clap.specs.Words.{Row, Text, fault_of, first_of, matches_of, one_of, subcommand_of}
-use Rattle.words.specs.declared.asked.Options.{Options}
+use Rattle.words.specs.declared.request.Options.{Options}
 use Rattle.words.specs.Program.{checker, program}
 
 -- A text writes a number of so many bits in decimal digits, at least one; a plus sign may stand before them.

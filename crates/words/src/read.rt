@@ -5,10 +5,10 @@ ghost use Rattle.words.specs.Program.{checker, program};
 ghost use Rattle.words.specs.Words.{check_of, checker_of, chosen, command_of, demo_of, long_number_in, number_in, number_of, options_of, IsInRange, solve_of, upgrade_of};
 ghost use Rattle.words.specs.Seen.{AreCheckerMatchesOf, AreMatchesOf, seen, seen_check, seen_demo, seen_solve, seen_upgrade, texts_of};
 
-use crate::asked::{
-    Asked, CheckWords, DemoWords, Options, SolveWords, UpgradeWords, usual_options,
-};
 use crate::program::{checker_command, program_command};
+use crate::request::{
+    CheckWords, DemoWords, Options, Request, SolveWords, UpgradeWords, usual_options,
+};
 use clap::error::ErrorKind;
 use clap::{ArgMatches, Error};
 use std::alloc::Global;
@@ -187,17 +187,17 @@ fn upgrade_words<'a>(matches: &ArgMatches<'a>) -> Option<UpgradeWords<'a>>
 }
 
 // What the subcommand of this name asks for.
-fn choose<'a>(name: &str, matches: &ArgMatches<'a>) -> Option<Asked<'a>>
+fn choose<'a>(name: &str, matches: &ArgMatches<'a>) -> Option<Request<'a>>
     ensures { option_map seen result ≡ chosen (name.now, rows_of (found_of matches.now)) }
 {
     if name == "solve" {
-        Some(Asked::Solve(solve_words(matches)?))
+        Some(Request::Solve(solve_words(matches)?))
     } else if name == "check" {
-        Some(Asked::Check(check_words(matches)?))
+        Some(Request::Check(check_words(matches)?))
     } else if name == "demo" {
-        Some(Asked::Demo(demo_words(matches)?))
+        Some(Request::Demo(demo_words(matches)?))
     } else if name == "upgrade" {
-        Some(Asked::Upgrade(upgrade_words(matches)?))
+        Some(Request::Upgrade(upgrade_words(matches)?))
     } else {
         None
     }
@@ -207,7 +207,7 @@ fn choose<'a>(name: &str, matches: &ArgMatches<'a>) -> Option<Asked<'a>>
 ///
 /// Refused for usage exactly where `command_of` has nothing, `--help` and the like included. Out of memory is a refusal of
 /// its own.
-pub fn read_words<'a>(alloc: Global, words: &'a [String]) -> Result<Asked<'a>, Refused>
+pub fn read_words<'a>(alloc: Global, words: &'a [String]) -> Result<Request<'a>, Refused>
     ensures ok { IfOk result (λ asked. command_of (texts_of words.entry.now) ≡ Some (seen asked)) }
     ensures range { IfOk result (λ asked. IsInRange (seen asked)) }
     ensures usage { IsErrOf result Refused.Usage → command_of (texts_of words.entry.now) ≡ None }

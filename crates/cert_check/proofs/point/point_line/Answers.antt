@@ -7,7 +7,7 @@ use Rattle.poly_graph.specs.ProblemViews.{problem_of, axis_of}
 use Rattle.ival.specs.SpaceViews.{space_of, domain_of}
 use Rattle.cert_check.specs.States.{loosenings_of}
 use Rattle.cert_check.specs.Dues.{IsOutcome}
-use Rattle.cert_check.specs.Faults.{Refuses}
+use Rattle.cert_check.specs.Faults.{IsLineRefusal}
 use Rattle.cert_check.proofs.Waits.{axes_here, axes_done, coordinate_goes}
 use Rattle.cert_check.proofs.point.point_line.Goals as goal
 
@@ -24,7 +24,7 @@ returns-in-Err-clause-comes c b =
     let a = get_or axes n c.index-axes-axis.result in
     let here : drop (length space) p.axes ≡ axis_of a ∷ drop (n + 1) p.axes =
     ap (λ (k : ℕ). drop k p.axes) (sym c.len-axis.ensures) ∙ axes_here axes p.axes n c.index-axes-axis.result c.axes-axes.ensures.axes c.if-axis-axes.false in
-    subst (λ (xs : List Axis). Refuses c.in-Err.refusal (next (problem_of p) b (coordinate_next (loosenings_of c.args.s) xs space) (line_of c.args.line.now)))
+    subst (λ (xs : List Axis). IsLineRefusal c.in-Err.refusal (next (problem_of p) b (coordinate_next (loosenings_of c.args.s) xs space) (line_of c.args.line.now)))
     (sym here) (c.in-Err.ensures (loosenings_of c.args.s) (drop (n + 1) p.axes) space)
 
 pub returns-in-Ok-clause-comes : goal.returns-in-Ok-clause-comes

@@ -2,7 +2,7 @@ use Rattle.std.proofs.Common.{refl, ap, sym, ◌∙◌}
 use Rattle.std.proofs.lemmas.Result.{IfOk-weaker}
 use Rattle.cert_model.specs.AnswerText.{budget_text}
 use Rattle.check_run.specs.Answer.{loosenings_of}
-use Rattle.dpoly.proofs.Told.{says_budget, says_unsat}
+use Rattle.dpoly.proofs.SearchAnswers.{says_budget, says_unsat}
 use Rattle.dpoly.proofs.answers.left_text.Goals as goal
 
 pub returns-in-UnknownBudget : goal.returns-in-UnknownBudget

@@ -1,5 +1,5 @@
 use Rattle.cert_model.specs.Due.{left_open}
-use Rattle.dpoly.proofs.Told.{cover_is}
+use Rattle.dpoly.proofs.SearchAnswers.{cover_is}
 use Rattle.dpoly.proofs.answers.tell.Goals as goal
 
 pub returns-in_ok-text-in-None : goal.returns-in_ok-text-in-None

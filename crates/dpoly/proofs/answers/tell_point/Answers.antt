@@ -1,6 +1,6 @@
 use Rattle.cert_model.specs.Due.{at_point}
 use Rattle.ival.specs.SpaceViews.{space_of}
-use Rattle.dpoly.proofs.Told.{point_answers, says_point}
+use Rattle.dpoly.proofs.SearchAnswers.{point_answers, says_point}
 use Rattle.dpoly.proofs.answers.tell_point.Goals as goal
 
 pub returns : goal.returns

@@ -1,5 +1,5 @@
 use Rattle.std.proofs.lemmas.Result.{IfOk-weaker}
-use Rattle.dpoly.proofs.Told.{unsat_leaves_none}
+use Rattle.dpoly.proofs.SearchAnswers.{unsat_leaves_none}
 use Rattle.dpoly.proofs.answers.whole_cover.Goals as goal
 
 pub returns : goal.returns

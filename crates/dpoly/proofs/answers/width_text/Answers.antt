@@ -1,6 +1,6 @@
 use Rattle.std.proofs.lemmas.Result.{IfOk-weaker}
 use Rattle.ival.specs.SpaceViews.{space_of}
-use Rattle.dpoly.proofs.Told.{says_width, width_as}
+use Rattle.dpoly.proofs.SearchAnswers.{says_width, width_as}
 use Rattle.dpoly.proofs.answers.width_text.Goals as goal
 
 pub returns : goal.returns

@@ -1,7 +1,7 @@
 use Rattle.std.proofs.Common.{rules, subst, sym}
 use Rattle.cover_data.specs.declared.margins.Options.{Options}
 use Rattle.cover_book.specs.Limits.{IsWithinLimits}
-use Rattle.dpoly.proofs.Told.{limits}
+use Rattle.dpoly.proofs.SearchAnswers.{limits}
 use Rattle.dpoly.proofs.solve.search.Goals as goal
 
 pub solve-requires : goal.solve-requires

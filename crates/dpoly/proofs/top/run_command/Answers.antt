@@ -1,21 +1,21 @@
 use Rattle.std.proofs.Common.{Some, subst, sym}
-use Rattle.words.specs.declared.asked.Asked.{Asked}
+use Rattle.words.specs.declared.request.Request.{Request}
 use Rattle.words.specs.Seen.{seen}
 use Rattle.check_run.specs.Run.{HasCourse, run_of}
 use Rattle.dpoly.proofs.top.run_command.Goals as goal
 
 pub returns-in-Solve-clause-course : goal.returns-in-Solve-clause-course
 returns-in-Solve-clause-course g c =
-    subst (λ (a : Asked). HasCourse (run_of (Some (seen a)) (g.D.Desk.sight c.args.desk.now) (g.D.Desk.sight c.run_solve.new.desk) c.run_solve.result)) (sym c.in-Solve.is) c.run_solve.ensures.course
+    subst (λ (a : Request). HasCourse (run_of (Some (seen a)) (g.D.Desk.sight c.args.desk.now) (g.D.Desk.sight c.run_solve.new.desk) c.run_solve.result)) (sym c.in-Solve.is) c.run_solve.ensures.course
 
 pub returns-in-Check-clause-course : goal.returns-in-Check-clause-course
 returns-in-Check-clause-course g c =
-    subst (λ (a : Asked). HasCourse (run_of (Some (seen a)) (g.D.Desk.sight c.args.desk.now) (g.D.Desk.sight c.run_check.new.desk) c.run_check.result)) (sym c.in-Check.is) c.run_check.ensures.course
+    subst (λ (a : Request). HasCourse (run_of (Some (seen a)) (g.D.Desk.sight c.args.desk.now) (g.D.Desk.sight c.run_check.new.desk) c.run_check.result)) (sym c.in-Check.is) c.run_check.ensures.course
 
 pub returns-in-Demo-clause-course : goal.returns-in-Demo-clause-course
 returns-in-Demo-clause-course g c =
-    subst (λ (a : Asked). HasCourse (run_of (Some (seen a)) (g.D.Desk.sight c.args.desk.now) (g.D.Desk.sight c.run_demo.new.desk) c.run_demo.result)) (sym c.in-Demo.is) c.run_demo.ensures.course
+    subst (λ (a : Request). HasCourse (run_of (Some (seen a)) (g.D.Desk.sight c.args.desk.now) (g.D.Desk.sight c.run_demo.new.desk) c.run_demo.result)) (sym c.in-Demo.is) c.run_demo.ensures.course
 
 pub returns-in-Upgrade-clause-course : goal.returns-in-Upgrade-clause-course
 returns-in-Upgrade-clause-course g c =
-    subst (λ (a : Asked). HasCourse (run_of (Some (seen a)) (g.D.Desk.sight c.args.desk.now) (g.D.Desk.sight c.run_upgrade.new.desk) c.run_upgrade.result)) (sym c.in-Upgrade.is) c.run_upgrade.ensures.course
+    subst (λ (a : Request). HasCourse (run_of (Some (seen a)) (g.D.Desk.sight c.args.desk.now) (g.D.Desk.sight c.run_upgrade.new.desk) c.run_upgrade.result)) (sym c.in-Upgrade.is) c.run_upgrade.ensures.course

@@ -6,7 +6,7 @@ use Rattle.check_run.specs.Can.{CanDemo}
 use Rattle.script_faults.specs.Reader.{HasProblem}
 use Rattle.check_run.proofs.Running.{demo_problem}
 use Rattle.check_run.specs.declared.script.Halt.{Halt}
-use Rattle.check_run.specs.Script.{Refuses}
+use Rattle.check_run.specs.Script.{IsHaltOfScript}
 use Rattle.dpoly.proofs.Demo.{never_refused}
 use Rattle.dpoly.proofs.top.run_demo.Goals as goal
 
@@ -20,6 +20,6 @@ returns-in-Ok-read_script-clause-course g c script cert_in tells =
 
 pub unreachable-requires : goal.unreachable-requires
 unreachable-requires g c =
-    let R : Halt → Type 0 = λ h. Refuses c.args.asked.options.bound c.deref.result.now h in
+    let R : Halt → Type 0 = λ h. IsHaltOfScript c.args.asked.options.bound c.deref.result.now h in
     never_refused c.args.asked.options.bound c.args.asked.seed c.args.asked.size c.deref.result.now c.in-Err-Refused.field-0-0.items
     c.requires.size_most (c.deref.ensures.value ∙ c.in-Ok.ensures) (subst R c.in-Err-Refused.field-0-is c.in-Err-Refused.ensures.script)

@@ -5,7 +5,7 @@ use Rattle.poly_graph.specs.Views.{atom_of}
 use Rattle.poly_graph.specs.AtomTable.{most_atoms}
 use Rattle.poly_graph.specs.ProblemViews.{Parts, axis_of, parts_of, IsWhole}
 use Rattle.poly_graph.specs.Shared.{IsGraph}
-use Rattle.problem_build.specs.Told.{IsLean}
+use Rattle.problem_build.specs.BuildAnswers.{IsLean}
 use Rattle.problem_build.proofs.Whole.{whole}
 use Rattle.problem_build.proofs.assembly.assemble.Goals as goal
 

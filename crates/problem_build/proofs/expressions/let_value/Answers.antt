@@ -5,7 +5,7 @@ use Rattle.script_forms.specs.Work.{as_work}
 use Rattle.smt_sexp.specs.Arena.{expression_at, rest_of}
 use Rattle.smt_sexp.specs.Views.{place_of}
 use Rattle.problem_build.specs.Names.{AreLocals}
-use Rattle.problem_build.specs.Reads.{as_let, let_of}
+use Rattle.problem_build.specs.LetParts.{as_let, let_of}
 use Rattle.problem_build.specs.declared.names.Local.{Local}
 use Rattle.problem_build.proofs.Reached as reached
 use Rattle.problem_build.proofs.Steps as steps

@@ -1,7 +1,7 @@
 use Rattle.std.proofs.Common.{◌∙◌, ap, sym, subst}
 use Rattle.std.specs.Prelude.{Some}
 use Rattle.smt_sexp.specs.Views.{place_of}
-use Rattle.smt_sexp.specs.Reads.{fault_at}
+use Rattle.smt_sexp.specs.TextAnswers.{fault_at}
 use Rattle.term_build.specs.Does.{StopsAs}
 use Rattle.problem_build.proofs.Faults.{beyond_fault, expression_fault}
 use Rattle.problem_build.proofs.fault.building_error.Goals as goal

@@ -6,7 +6,7 @@ use Rattle.smt_sexp.specs.Views.{place_of}
 use Rattle.smt_script.specs.Views.{parameter_of}
 use Rattle.term_build.specs.declared.stop.Stop.{Stop}
 use Rattle.problem_build.specs.Names.{work_names, bound_names_of}
-use Rattle.problem_build.specs.Walking.{Goes, Turns, call_work, call_bounds}
+use Rattle.problem_build.specs.Walking.{WorkStep, Turns, call_work, call_bounds}
 use Rattle.problem_build.specs.declared.names.Head.{Head}
 use Rattle.problem_build.specs.declared.names.Head.TheVariants as head
 use Rattle.problem_build.specs.declared.frames.Next.{Next}
@@ -33,7 +33,7 @@ returns-in_ok-scope-in-Function-clause-walks c = λ s top ws bs are.
     let names = bound_to (map parameter_of d.parameters.now) ws ++ work_names s top d.visible in
     let bnames = bound_to (map parameter_of d.parameters.now) bs ++ bound_names_of s top d.visible in
     let ls = c.in_ok-locals-in-Function.locals.items in
-    subst (λ (x : Head). Goes m m s top (call_work s top at x ws) (call_bounds s top x bs) n) (sym d.is)
+    subst (λ (x : Head). WorkStep m m s top (call_work s top at x ws) (call_bounds s top x bs) n) (sym d.is)
     (turns.goes_none s top m (call_work s top at h ws) (call_bounds s top h bs) n (record {
       names = names;
       bnames = bnames;

@@ -9,7 +9,7 @@ use Rattle.script_forms.specs.ProblemOf.{AreAxes, IsProblemOf}
 use Rattle.script_forms.specs.Walk.{walked, building_fault, claim_places, last_place, nowhere}
 use Rattle.smt_script.specs.Views.{command_of, commands_in}
 use Rattle.smt_sexp.specs.Views.{place_of}
-use Rattle.term_build.specs.Built.{Made, IsMade}
+use Rattle.term_build.specs.Built.{BuilderModel, IsMade}
 use Rattle.term_build.specs.Shapes.{AreNumbers}
 use Rattle.declared_box.specs.Same.{SameBounds}
 use Rattle.declared_box.specs.Table.{all_of, AreBefore}
@@ -22,7 +22,7 @@ use Rattle.problem_build.proofs.script.finish.Goals as goal
 
 pub root_form-requires : goal.root_form-requires
 root_form-requires c = subst (λ (ks : List ℕ). AreNumbers (length c.into_parts-builder.result.0.forms) ks) (sym c.in_ok-forms.ensures)
-    (subst (λ (mk : Made). AreNumbers (length mk.forms) (map (λ p. p.0) c.args.made.now)) (sym c.into_parts-builder.ensures.builder) (finishing.done_numbers (commands_in c.args.script.now) c.args.maker c.args.made.now c.requires.done))
+    (subst (λ (mk : BuilderModel). AreNumbers (length mk.forms) (map (λ p. p.0) c.args.made.now)) (sym c.into_parts-builder.ensures.builder) (finishing.done_numbers (commands_in c.args.script.now) c.args.maker c.args.made.now c.requires.done))
 
 pub declare-requires : goal.declare-requires
 declare-requires c = subst (λ (ks : List ℕ). AreBefore (length c.into_parts-builder.result.1) ks) (sym (c.as_slice.ensures.value ∙ c.in_ok-lists.ensures))
@@ -34,7 +34,7 @@ assemble-requires c =
     record {
       bounds = c.in_ok-axes.ensures.bounds;
       sorts = c.in_ok-axes.ensures.sorts ∙ ap (λ xs. map sort_of_constant (map constant_of xs)) c.as_slice-2.ensures.value ∙ ap (map sort_of_constant) (c.in_ok-constants.ensures c.args.script.now.sexps.now ∙ ap (λ xs. constants_of (map (command_of c.args.script.now.sexps.now) xs)) c.as_slice-commands.ensures.value) ∙
-          sym (c.root_form.ensures.sorts ∙ ap (λ (mk : Made). mk.sorts) c.into_parts-builder.ensures.builder ∙ c.requires.done.sorts);
+          sym (c.root_form.ensures.sorts ∙ ap (λ (mk : BuilderModel). mk.sorts) c.into_parts-builder.ensures.builder ∙ c.requires.done.sorts);
       rooted = finishing.root_below (commands_in c.args.script.now) c.args.maker c.args.made.now c.requires.done c.root_form.new.builder c.in-Ok.root roots;
     }
 
@@ -56,7 +56,7 @@ returns-clause-builds c =
     let axes = map axis_of c.in_ok-axes.axes.items in
     let answers = subst (λ (cs : List Constant). (bound_fault_from (declared_interval c.args.bound script) 0 cs ≡ None) × AreAxes (declared_interval c.args.bound script) 0 cs axes) constants_are (c.in_ok-axes.ensures.answers (script_bounds script) same) in
     subst (λ (p : Parts). (building_fault c.args.bound script ≡ None) × IsProblemOf c.args.bound script (problem_of p)) (sym c.assemble.ensures.parts)
-    (finishing.builds_so script c.args.maker c.args.made.now c.requires.done c.root_form.new.builder c.in-Ok.root roots c.args.bound axes (subst (λ (mk : Made). IsMade mk) c.builder.view_is c.builder.invariant) answers.0 answers.1)
+    (finishing.builds_so script c.args.maker c.args.made.now c.requires.done c.root_form.new.builder c.in-Ok.root roots c.args.bound axes (subst (λ (mk : BuilderModel). IsMade mk) c.builder.view_is c.builder.invariant) answers.0 answers.1)
 
 pub returns-in_err-axes-clause-builds : goal.returns-in_err-axes-clause-builds
 returns-in_err-axes-clause-builds c =

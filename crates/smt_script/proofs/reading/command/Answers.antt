@@ -7,7 +7,7 @@ use Rattle.smt_sexp.specs.Views.{place_of}
 use Rattle.smt_script.specs.Commands.{command_words, one_command, by_word, says}
 use Rattle.smt_script.specs.Run.{before_of}
 use Rattle.script_fault.specs.Answers.{IsFaultOrMemory}
-use Rattle.smt_script.specs.Told.{said_fault}
+use Rattle.smt_script.specs.CommandAnswers.{said_fault}
 use Rattle.smt_script.specs.Views.{word_of, command_of}
 use Rattle.smt_script.proofs.Heads.{late, timely}
 use Rattle.smt_script.proofs.reading.command.Goals as goal

@@ -1,7 +1,7 @@
 use Rattle.std.proofs.Common.{◌≡◌, length, ap, arith}
 use Rattle.std.proofs.lemmas.Grind.{common_steps}
 use Rattle.smt_sexp.specs.Lexicon.{faulty, unbalanced}
-use Rattle.smt_sexp.specs.Reads.{text_fault}
+use Rattle.smt_sexp.specs.TextAnswers.{text_fault}
 use Rattle.smt_sexp.specs.Views.{place_of}
 use Rattle.smt_sexp.proofs.Steps.{finished, none_at, open_length}
 use Rattle.smt_sexp.proofs.reading.finish.Goals as goal

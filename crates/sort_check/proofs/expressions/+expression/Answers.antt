@@ -6,7 +6,7 @@ use Rattle.smt_sexp.specs.Views.{place_of, leaf_of}
 use Rattle.smt_script.specs.Views.{parameter_of}
 use Rattle.sort_check.specs.Forms.{bound_from}
 use Rattle.sort_check.specs.Sorts.{sorting, is_taken, parameter_names}
-use Rattle.sort_check.specs.Views.{Says, around, head_sort, names_back, sorts_seen}
+use Rattle.sort_check.specs.Views.{IsSortAnswer, around, head_sort, names_back, sorts_seen}
 use Rattle.script_model.specs.Sexp.{more, leaf}
 use Rattle.smt_sexp.specs.declared.leaf.Leaf.TheVariants as leaves
 use Rattle.sort_check.proofs.Bindings as bindings
@@ -16,10 +16,10 @@ use Rattle.sort_check.proofs.expressions.+expression.Goals as goal
 
 pub applied-returns : goal.applied-returns
 applied-returns t c = λ names knows.
-    subst (Says c.called.result)
+    subst (IsSortAnswer c.called.result)
     (sym (calls.applied_is (around c.args.locals.now names) (place_of c.args.place) c.args.name.now c.in-Some.head c.in_ok-sorts.sorts.items (rest_of c.args.sexps.now c.args.args)
     (c.in-Some.ensures names knows) (sym c.ends.ensures ∙ c.if-ends.false) (c.in_ok-sorts.ensures names knows)))
-    (subst (λ ss. Says c.called.result (head_sort (place_of c.args.place) c.in-Some.head (sorts_seen ss))) c.as_slice.ensures.value c.called.ensures)
+    (subst (λ ss. IsSortAnswer c.called.result (head_sort (place_of c.args.place) c.in-Some.head (sorts_seen ss))) c.as_slice.ensures.value c.called.ensures)
 
 pub arguments-loop-after-init : goal.arguments-loop-after-init
 arguments-loop-after-init t c = record {
@@ -49,13 +49,13 @@ arguments-returns-in_err-sort t c = λ names knows.
 
 pub group-returns-in-Leaf-default-Reserved-Let-default : goal.group-returns-in-Leaf-default-Reserved-Let-default
 group-returns-in-Leaf-default-Reserved-Let-default t c = λ names knows.
-    subst (Says c.let_sort.result)
+    subst (IsSortAnswer c.let_sort.result)
     (sym (bindings.group_let_at (around c.args.locals.now names) (place_of c.args.place) (place_of c.in-Leaf-default-Reserved-Let-default.field-0) (rest_of c.args.sexps.now c.args.inside) (rest_of c.args.sexps.now c.in-Leaf-default-Reserved-Let-default.at) (c.in-Leaf-default-Reserved-Let-default.ensures.0 ∙ ap (λ l. more (leaf (place_of c.in-Leaf-default-Reserved-Let-default.field-0) (leaf_of l)) (rest_of c.args.sexps.now c.in-Leaf-default-Reserved-Let-default.at)) (c.in-Leaf-default-Reserved-Let-default.field-1-is ∙ ap leaves.Reserved c.in-Leaf-default-Reserved-Let-default.field-1-0-is))))
     (c.let_sort.ensures names knows)
 
 pub group-returns-else-ends : goal.group-returns-else-ends
 group-returns-else-ends t c = λ names knows.
-    subst (Says c.expression.result)
+    subst (IsSortAnswer c.expression.result)
     (sym (bindings.group_bang_at (around c.args.locals.now names) (place_of c.args.place) (place_of c.in-Leaf-default-Reserved-Bang-default.field-0) (rest_of c.args.sexps.now c.args.inside) (rest_of c.args.sexps.now c.in-Leaf-default-Reserved-Bang-default.at)
     (c.in-Leaf-default-Reserved-Bang-default.ensures.0 ∙ ap (λ l. more (leaf (place_of c.in-Leaf-default-Reserved-Bang-default.field-0) (leaf_of l)) (rest_of c.args.sexps.now c.in-Leaf-default-Reserved-Bang-default.at)) (c.in-Leaf-default-Reserved-Bang-default.field-1-is ∙ ap leaves.Reserved c.in-Leaf-default-Reserved-Bang-default.field-1-0-is)) (sym c.ends.ensures ∙ c.if-ends.false)))
     (c.expression.ensures names knows)
@@ -110,7 +110,7 @@ let_sort-returns-in_err-scope t c = λ names knows.
 pub let_sort-returns : goal.let_sort-returns
 let_sort-returns t c = λ names knows.
     let env = around c.args.locals.now names in
-    subst (Says c.expression.result)
+    subst (IsSortAnswer c.expression.result)
     (ap (λ e. meaning sorting e (expression_at c.args.sexps.now c.in-Some.body))
     (ap (λ ls. around ls names) (c.as_slice.ensures.value ∙ c.in_ok-extend_from_slice.ensures.items) ∙ bindings.around_more c.in_ok-scope.scope.items c.args.locals.now names ∙
     ap (λ ms. ms ++ env) (sym ((c.in_ok-scope.ensures names knows).1))) ∙

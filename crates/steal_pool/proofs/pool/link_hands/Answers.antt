@@ -1,7 +1,7 @@
 use Rattle.std.proofs.Common.{rules, arith, ◌≡◌, ℕ, ◌<◌, List, length, get_or, sym, ◌∙◌, subst}
 use Rattle.steal_pool.specs.declared.deque.Link.{Link}
 use Rattle.steal_pool.specs.declared.hand.Hand.{Hand}
-use Rattle.steal_pool.specs.Made.{IsLinked, LosesPart}
+use Rattle.steal_pool.specs.NewPool.{IsLinked, LosesPart}
 use Rattle.steal_pool.proofs.Rows.{row_more, set_more, set_rest, get_or-any}
 use Rattle.steal_pool.proofs.pool.link_hands.Goals as goal
 

@@ -1,7 +1,7 @@
 use Rattle.std.proofs.Common.{◌≡◌, ℕ, ◌<◌, ◌≤◌, slice_index_or, vec_len, vec_capacity}
 use Rattle.steal_pool.specs.declared.deque.Link.{Link}
 use Rattle.steal_pool.specs.declared.hand.Hand.{Hand}
-use Rattle.steal_pool.specs.Made.{IsLinked, LosesPart}
+use Rattle.steal_pool.specs.NewPool.{IsLinked, LosesPart}
 use Rattle.steal_pool.proofs.pool.link_hands.Given as goal
 
 abbrev pub invariant-loop-i : goal.invariant-loop-i

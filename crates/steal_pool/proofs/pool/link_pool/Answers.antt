@@ -4,7 +4,7 @@ use native.Mathlib.Decide.{ℕ_discrete}
 use Rattle.crossbeam_deque.specs.Handles.{worker_deque, worker_view}
 use Rattle.steal_pool.specs.declared.deque.OwnDeque.{OwnDeque}
 use Rattle.steal_pool.specs.declared.hand.Hand.{Hand}
-use Rattle.steal_pool.specs.Made.{LinkedHands, AllLosePart}
+use Rattle.steal_pool.specs.NewPool.{LinkedHands, AllLosePart}
 use Rattle.steal_pool.proofs.Columns.{own_at, kept_at}
 use Rattle.steal_pool.proofs.Linking.{still_linked, bare_new, bare_less, bare_set}
 use Rattle.steal_pool.proofs.pool.link_pool.Goals as goal

@@ -1,7 +1,7 @@
 use Rattle.std.proofs.Common.{◌≡◌, ℕ, ◌+◌, ◌<◌, slice_index_or, length}
 use Rattle.crossbeam_deque.specs.Handles.{worker_view}
 use Rattle.steal_pool.specs.declared.hand.Hand.{Hand}
-use Rattle.steal_pool.specs.Made.{IsBare, LinkedHands}
+use Rattle.steal_pool.specs.NewPool.{IsBare, LinkedHands}
 use Rattle.steal_pool.proofs.pool.link_pool.Given as goal
 
 abbrev pub invariant-loop-j : goal.invariant-loop-j

@@ -1,6 +1,6 @@
 use Rattle.std.proofs.Common.{rules, arith, ◌≡◌, ◌+◌, ◌-◌, ◌∙◌, ap, sym, vec_len, length, List, [], ◌∷◌, ◌++◌, get_or, subst}
 use Rattle.steal_pool.specs.declared.hand.Hand.{Hand}
-use Rattle.steal_pool.specs.Made.{IsNew}
+use Rattle.steal_pool.specs.NewPool.{IsNew}
 use Rattle.steal_pool.specs.Count.{all_resting}
 use Rattle.steal_pool.proofs.Rows.{row_more}
 use Rattle.steal_pool.proofs.pool.make_hands.Goals as goal

@@ -1,5 +1,5 @@
 use Rattle.std.proofs.Common.{◌≡◌, ◌+◌, ◌-◌, All, vec_len, vec_capacity}
-use Rattle.steal_pool.specs.Made.{IsNew}
+use Rattle.steal_pool.specs.NewPool.{IsNew}
 use Rattle.steal_pool.specs.Count.{all_resting}
 use Rattle.steal_pool.proofs.pool.make_hands.Given as goal
 

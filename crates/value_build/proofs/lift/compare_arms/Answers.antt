@@ -3,8 +3,8 @@ use Rattle.std.specs.Prelude.{Result, Err}
 use Rattle.poly_graph.specs.Views.{kind_of}
 use Rattle.smt_sexp.specs.Views.{place_of}
 use Rattle.script_forms.specs.Terms.{Unfolded}
-use Rattle.term_build.specs.Shapes.{drawn_of}
-use Rattle.term_build.specs.Sketch.{Drawn, IsSketch}
+use Rattle.term_build.specs.Shapes.{sketch_of}
+use Rattle.term_build.specs.Sketch.{SketchNode, IsSketch}
 use Rattle.term_build.specs.declared.connectives.Pair.{Pair}
 use Rattle.term_build.specs.declared.stop.Stop.{Stop}
 use Rattle.term_build.proofs.Emits.{err_is}
@@ -16,18 +16,18 @@ use Rattle.value_build.proofs.lift.compare_arms.Goals as goal
 
 pub returns-in_err-entries-clause-does : goal.returns-in_err-entries-clause-does
 returns-in_err-entries-clause-does c =
-    let stop = subst (λ (ds : List Drawn). Spreads c.args.builder.now c.spread.new.builder ds None (place_of c.args.at) c.args.arm c.args.second (Err c.in_err-entries.field-0.0)) (ap (map drawn_of) c.deref.ensures.value) c.in_err-entries.ensures.does in
-    subst (λ (r : Result Pair Stop). SaysTwo c.args.builder.now (map drawn_of c.args.sketch.now.items) c.spread.new.builder (map drawn_of c.args.sketch.now.items) (kind_of c.args.kind) (place_of c.args.at) c.args.arm c.args.second r) (sym (err_is c.from_residual.result c.in_err-entries.field-0.0 c.from_residual.ensures))
+    let stop = subst (λ (ds : List SketchNode). Spreads c.args.builder.now c.spread.new.builder ds None (place_of c.args.at) c.args.arm c.args.second (Err c.in_err-entries.field-0.0)) (ap (map sketch_of) c.deref.ensures.value) c.in_err-entries.ensures.does in
+    subst (λ (r : Result Pair Stop). SaysTwo c.args.builder.now (map sketch_of c.args.sketch.now.items) c.spread.new.builder (map sketch_of c.args.sketch.now.items) (kind_of c.args.kind) (place_of c.args.at) c.args.arm c.args.second r) (sym (err_is c.from_residual.result c.in_err-entries.field-0.0 c.from_residual.ensures))
     (λ u v h k. stop u v h k)
 
 pub gather_pairs-requires : goal.gather_pairs-requires
 gather_pairs-requires c =
-    let spread = subst (λ (ds : List Drawn). (u v : Unfolded) → IsArm c.args.builder.now ds u c.args.arm → IsArm c.args.builder.now ds v c.args.second → Spread c.args.builder.now c.spread.new.builder ds None (place_of c.args.at) u v c.in_ok-entries.entries.items) (ap (map drawn_of) c.deref.ensures.value) c.in_ok-entries.ensures.does in
-    let sketched = subst (λ (ds : List Drawn). IsSketch c.spread.new.builder ds) (ap (map drawn_of) c.deref.ensures.value) c.in_ok-entries.ensures.sketched in
-    can_gather_pairs c.args.builder.now c.spread.new.builder (map drawn_of c.args.sketch.now.items) (kind_of c.args.kind) (place_of c.args.at) c.in_ok-entries.entries.items sketched c.args.arm c.args.second c.requires.known c.requires.second spread
+    let spread = subst (λ (ds : List SketchNode). (u v : Unfolded) → IsArm c.args.builder.now ds u c.args.arm → IsArm c.args.builder.now ds v c.args.second → Spread c.args.builder.now c.spread.new.builder ds None (place_of c.args.at) u v c.in_ok-entries.entries.items) (ap (map sketch_of) c.deref.ensures.value) c.in_ok-entries.ensures.does in
+    let sketched = subst (λ (ds : List SketchNode). IsSketch c.spread.new.builder ds) (ap (map sketch_of) c.deref.ensures.value) c.in_ok-entries.ensures.sketched in
+    can_gather_pairs c.args.builder.now c.spread.new.builder (map sketch_of c.args.sketch.now.items) (kind_of c.args.kind) (place_of c.args.at) c.in_ok-entries.entries.items sketched c.args.arm c.args.second c.requires.known c.requires.second spread
 
 pub returns-clause-does : goal.returns-clause-does
 returns-clause-does c = λ u v h k.
-    let spread = subst (λ (ds : List Drawn). (u v : Unfolded) → IsArm c.args.builder.now ds u c.args.arm → IsArm c.args.builder.now ds v c.args.second → Spread c.args.builder.now c.spread.new.builder ds None (place_of c.args.at) u v c.in_ok-entries.entries.items) (ap (map drawn_of) c.deref.ensures.value) c.in_ok-entries.ensures.does in
-    let sketched = subst (λ (ds : List Drawn). IsSketch c.spread.new.builder ds) (ap (map drawn_of) c.deref.ensures.value) c.in_ok-entries.ensures.sketched in
-    pairs_said c.args.builder.now c.spread.new.builder (map drawn_of c.args.sketch.now.items) (kind_of c.args.kind) (place_of c.args.at) c.in_ok-entries.entries.items sketched (map drawn_of c.gather_pairs.new.sketch.items) u v c.in_ok-gather_pairs.field-0 (spread u v h k) c.in_ok-gather_pairs.ensures
+    let spread = subst (λ (ds : List SketchNode). (u v : Unfolded) → IsArm c.args.builder.now ds u c.args.arm → IsArm c.args.builder.now ds v c.args.second → Spread c.args.builder.now c.spread.new.builder ds None (place_of c.args.at) u v c.in_ok-entries.entries.items) (ap (map sketch_of) c.deref.ensures.value) c.in_ok-entries.ensures.does in
+    let sketched = subst (λ (ds : List SketchNode). IsSketch c.spread.new.builder ds) (ap (map sketch_of) c.deref.ensures.value) c.in_ok-entries.ensures.sketched in
+    pairs_said c.args.builder.now c.spread.new.builder (map sketch_of c.args.sketch.now.items) (kind_of c.args.kind) (place_of c.args.at) c.in_ok-entries.entries.items sketched (map sketch_of c.gather_pairs.new.sketch.items) u v c.in_ok-gather_pairs.field-0 (spread u v h k) c.in_ok-gather_pairs.ensures

@@ -1,7 +1,7 @@
 use Rattle.std.proofs.Common.{map, ◌≡◌, sym, subst, List, true}
 use Rattle.std.specs.Prelude.{Ok, Err}
 use Rattle.smt_sexp.specs.Views.{place_of}
-use Rattle.term_build.specs.Shapes.{drawn_of}
+use Rattle.term_build.specs.Shapes.{sketch_of}
 use Rattle.term_build.specs.declared.sketch.Arm.{Arm}
 use Rattle.value_build.specs.Arms.{AreSomeValues}
 use Rattle.value_build.specs.declared.value.Value.{Value}
@@ -20,24 +20,24 @@ unreachable-requires c = some_held c.args.values.now c.requires.held (nil_of c.a
 
 pub unreachable-requires-in-Ok-Tree : goal.unreachable-requires-in-Ok-Tree
 unreachable-requires-in-Ok-Tree c =
-    let k = subst (λ (xs : List Value). AreSomeValues c.args.builder.now (map drawn_of c.args.sketch.now.items) xs) c.in-Some.ensures.cases.0 c.requires.values in
+    let k = subst (λ (xs : List Value). AreSomeValues c.args.builder.now (map sketch_of c.args.sketch.now.items) xs) c.in-Some.ensures.cases.0 c.requires.values in
     let h = subst (λ (xs : List Value). hold_choice xs ≡ true) c.in-Some.ensures.cases.0 (holds c.args.values.now c.requires.held c.requires.arms) in
-    calculates_no_tree c.args.builder.now c.calculate_values.new.builder (map drawn_of c.args.sketch.now.items) (map drawn_of c.calculate_values.new.sketch.items) (place_of c.args.at) c.args.step c.in-Some.first.now c.in-Some.rest.now _
-    (subst (λ (a : Arm). Calculates c.args.builder.now (map drawn_of c.args.sketch.now.items) c.calculate_values.new.builder (map drawn_of c.calculate_values.new.sketch.items) (place_of c.args.at) c.args.step c.in-Some.first.now c.in-Some.rest.now (Ok a)) c.in-Ok-Tree.field-0-is c.in-Ok-Tree.ensures.does) k h
+    calculates_no_tree c.args.builder.now c.calculate_values.new.builder (map sketch_of c.args.sketch.now.items) (map sketch_of c.calculate_values.new.sketch.items) (place_of c.args.at) c.args.step c.in-Some.first.now c.in-Some.rest.now _
+    (subst (λ (a : Arm). Calculates c.args.builder.now (map sketch_of c.args.sketch.now.items) c.calculate_values.new.builder (map sketch_of c.calculate_values.new.sketch.items) (place_of c.args.at) c.args.step c.in-Some.first.now c.in-Some.rest.now (Ok a)) c.in-Ok-Tree.field-0-is c.in-Ok-Tree.ensures.does) k h
 
 pub calculate_values-requires-clause-known : goal.calculate_values-requires-clause-known
-calculate_values-requires-clause-known c = let k = subst (λ (xs : List Value). AreSomeValues c.args.builder.now (map drawn_of c.args.sketch.now.items) xs) c.in-Some.ensures.cases.0 c.requires.values in first_value c.args.builder.now (map drawn_of c.args.sketch.now.items) c.in-Some.first.now c.in-Some.rest.now k
+calculate_values-requires-clause-known c = let k = subst (λ (xs : List Value). AreSomeValues c.args.builder.now (map sketch_of c.args.sketch.now.items) xs) c.in-Some.ensures.cases.0 c.requires.values in first_value c.args.builder.now (map sketch_of c.args.sketch.now.items) c.in-Some.first.now c.in-Some.rest.now k
 
 pub calculate_values-requires-clause-rest : goal.calculate_values-requires-clause-rest
-calculate_values-requires-clause-rest c = let k = subst (λ (xs : List Value). AreSomeValues c.args.builder.now (map drawn_of c.args.sketch.now.items) xs) c.in-Some.ensures.cases.0 c.requires.values in later_values c.args.builder.now (map drawn_of c.args.sketch.now.items) c.in-Some.first.now c.in-Some.rest.now k
+calculate_values-requires-clause-rest c = let k = subst (λ (xs : List Value). AreSomeValues c.args.builder.now (map sketch_of c.args.sketch.now.items) xs) c.in-Some.ensures.cases.0 c.requires.values in later_values c.args.builder.now (map sketch_of c.args.sketch.now.items) c.in-Some.first.now c.in-Some.rest.now k
 
 pub returns-in-Ok-Choice-clause-does : goal.returns-in-Ok-Choice-clause-does
-returns-in-Ok-Choice-clause-does c = subst (λ (vs : List Value). ArmsMake c.args.builder.now (map drawn_of c.args.sketch.now.items) c.calculate_values.new.builder (map drawn_of c.calculate_values.new.sketch.items) (place_of c.args.at) (operator_of_step c.args.step) vs (Ok (values.Choice c.in-Ok-Choice.k))) (sym c.in-Some.ensures.cases.0)
-    (arms_made c.args.builder.now c.calculate_values.new.builder (map drawn_of c.args.sketch.now.items) (map drawn_of c.calculate_values.new.sketch.items) (place_of c.args.at) c.args.step c.in-Some.first.now c.in-Some.rest.now c.in-Ok-Choice.k (subst (λ (a : Arm). Calculates c.args.builder.now (map drawn_of c.args.sketch.now.items) c.calculate_values.new.builder (map drawn_of c.calculate_values.new.sketch.items) (place_of c.args.at) c.args.step c.in-Some.first.now c.in-Some.rest.now (Ok a)) c.in-Ok-Choice.field-0-is c.in-Ok-Choice.ensures.does))
+returns-in-Ok-Choice-clause-does c = subst (λ (vs : List Value). ArmsMake c.args.builder.now (map sketch_of c.args.sketch.now.items) c.calculate_values.new.builder (map sketch_of c.calculate_values.new.sketch.items) (place_of c.args.at) (operator_of_step c.args.step) vs (Ok (values.Choice c.in-Ok-Choice.k))) (sym c.in-Some.ensures.cases.0)
+    (arms_made c.args.builder.now c.calculate_values.new.builder (map sketch_of c.args.sketch.now.items) (map sketch_of c.calculate_values.new.sketch.items) (place_of c.args.at) c.args.step c.in-Some.first.now c.in-Some.rest.now c.in-Ok-Choice.k (subst (λ (a : Arm). Calculates c.args.builder.now (map sketch_of c.args.sketch.now.items) c.calculate_values.new.builder (map sketch_of c.calculate_values.new.sketch.items) (place_of c.args.at) c.args.step c.in-Some.first.now c.in-Some.rest.now (Ok a)) c.in-Ok-Choice.field-0-is c.in-Ok-Choice.ensures.does))
 
 pub returns-in-Ok-Choice-clause-sketched : goal.returns-in-Ok-Choice-clause-sketched
-returns-in-Ok-Choice-clause-sketched c = let k = subst (λ (xs : List Value). AreSomeValues c.args.builder.now (map drawn_of c.args.sketch.now.items) xs) c.in-Some.ensures.cases.0 c.requires.values in arms_sketch c.args.builder.now c.calculate_values.new.builder (map drawn_of c.args.sketch.now.items) (map drawn_of c.calculate_values.new.sketch.items) (place_of c.args.at) c.args.step c.in-Some.first.now c.in-Some.rest.now c.in-Ok-Choice.k (subst (λ (a : Arm). Calculates c.args.builder.now (map drawn_of c.args.sketch.now.items) c.calculate_values.new.builder (map drawn_of c.calculate_values.new.sketch.items) (place_of c.args.at) c.args.step c.in-Some.first.now c.in-Some.rest.now (Ok a)) c.in-Ok-Choice.field-0-is c.in-Ok-Choice.ensures.does) k
+returns-in-Ok-Choice-clause-sketched c = let k = subst (λ (xs : List Value). AreSomeValues c.args.builder.now (map sketch_of c.args.sketch.now.items) xs) c.in-Some.ensures.cases.0 c.requires.values in arms_sketch c.args.builder.now c.calculate_values.new.builder (map sketch_of c.args.sketch.now.items) (map sketch_of c.calculate_values.new.sketch.items) (place_of c.args.at) c.args.step c.in-Some.first.now c.in-Some.rest.now c.in-Ok-Choice.k (subst (λ (a : Arm). Calculates c.args.builder.now (map sketch_of c.args.sketch.now.items) c.calculate_values.new.builder (map sketch_of c.calculate_values.new.sketch.items) (place_of c.args.at) c.args.step c.in-Some.first.now c.in-Some.rest.now (Ok a)) c.in-Ok-Choice.field-0-is c.in-Ok-Choice.ensures.does) k
 
 pub returns-in-Err-clause-does : goal.returns-in-Err-clause-does
-returns-in-Err-clause-does c = subst (λ (vs : List Value). ArmsMake c.args.builder.now (map drawn_of c.args.sketch.now.items) c.calculate_values.new.builder (map drawn_of c.give_up.new.sketch.items) (place_of c.args.at) (operator_of_step c.args.step) vs (Err c.in-Err.stop)) (sym c.in-Some.ensures.cases.0)
-    (arms_stopped c.args.builder.now c.calculate_values.new.builder (map drawn_of c.args.sketch.now.items) (map drawn_of c.calculate_values.new.sketch.items) (map drawn_of c.give_up.new.sketch.items) (place_of c.args.at) c.args.step c.in-Some.first.now c.in-Some.rest.now c.in-Err.stop c.in-Err.ensures.does)
+returns-in-Err-clause-does c = subst (λ (vs : List Value). ArmsMake c.args.builder.now (map sketch_of c.args.sketch.now.items) c.calculate_values.new.builder (map sketch_of c.give_up.new.sketch.items) (place_of c.args.at) (operator_of_step c.args.step) vs (Err c.in-Err.stop)) (sym c.in-Some.ensures.cases.0)
+    (arms_stopped c.args.builder.now c.calculate_values.new.builder (map sketch_of c.args.sketch.now.items) (map sketch_of c.calculate_values.new.sketch.items) (map sketch_of c.give_up.new.sketch.items) (place_of c.args.at) c.args.step c.in-Some.first.now c.in-Some.rest.now c.in-Err.stop c.in-Err.ensures.does)

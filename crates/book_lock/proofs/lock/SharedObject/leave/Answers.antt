@@ -1,6 +1,6 @@
 use Rattle.std.proofs.Common.{rules, ◌∷◌, Some, None, sym, ap, ◌∙◌, subst}
 use Rattle.atomic_table.specs.Table.{rest}
-use Rattle.book_lock.specs.Told.{IsCallOf}
+use Rattle.book_lock.specs.SlotSteps.{IsCallOf}
 use Rattle.book_lock.specs.declared.views.SeatView.{SeatView}
 use Rattle.book_lock.proofs.Allowed.{end_allowed}
 use Rattle.book_lock.proofs.lock.SharedObject.leave.Goals as goal

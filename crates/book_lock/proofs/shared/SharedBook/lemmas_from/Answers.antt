@@ -4,7 +4,7 @@ use Rattle.cover_book.specs.declared.calls.Call.TheVariants.{LemmasFrom}
 use Rattle.cover_book.specs.declared.calls.Reply.{Reply}
 use Rattle.cover_book.specs.declared.calls.Reply.TheVariants.{Refused}
 use Rattle.book_lock.specs.Shared.{view}
-use Rattle.book_lock.specs.Told.{IsCallOf}
+use Rattle.book_lock.specs.SlotSteps.{IsCallOf}
 use Rattle.book_lock.proofs.Allowed.{made_step}
 use Rattle.book_lock.proofs.Replies.{lemma_replies, lemmas_refused}
 use Rattle.book_lock.proofs.shared.SharedBook.lemmas_from.Goals as goal

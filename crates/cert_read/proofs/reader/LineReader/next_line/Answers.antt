@@ -1,7 +1,7 @@
 use Rattle.std.proofs.Common.{◌≡◌, ◌<◌, ◌≤◌, ◌+◌, ◌∷◌, ℕ, List, Ok, Err, Some, None, length, take, drop, get_or, refl, sym, ap, ◌∙◌, subst, arith}
 use Rattle.cert_read.specs.State.{Reading}
 use Rattle.cert_read.specs.Held.{reading_of}
-use Rattle.cert_read.specs.Reading.{Answers, lines_ahead}
+use Rattle.cert_read.specs.Reading.{IsNextLine, lines_ahead}
 use Rattle.cert_read.specs.declared.fault.LineFault.TheVariants.{LineTooLong}
 use Rattle.cert_read.proofs.Answered.{NoFeed, told_long, told_none, none_whole, is_last, left, first_line, last_line, told_fault, told_line, behind_place}
 use Rattle.cert_read.proofs.reader.LineReader.next_line.Goals as goal
@@ -14,7 +14,7 @@ returns-then-size-gt-LONGEST-clause-lines c =
     let back : c.split_at.result.1.now ≡ r.unread = c.split_at.ensures.back ∙ ap (drop c.self.inside.at) c.deref.ensures.value in
     let all : n ≡ length r.unread = omega (arith, c.if-size-unread.true, ap length back) in
     let none : NoFeed r.unread n = subst (λ u. NoFeed u n) back c.place_of-size.ensures.before in
-    subst (λ s. Answers (lines_ahead s) s s (Err LineTooLong)) c.self.view_is (told_long r n all c.if-size-gt-LONGEST.true none)
+    subst (λ s. IsNextLine (lines_ahead s) s s (Err LineTooLong)) c.self.view_is (told_long r n all c.if-size-gt-LONGEST.true none)
 
 pub returns-then-not-is_last_line-clause-lines : goal.returns-then-not-is_last_line-clause-lines
 returns-then-not-is_last_line-clause-lines c =
@@ -23,7 +23,7 @@ returns-then-not-is_last_line-clause-lines c =
     let back : c.split_at.result.1.now ≡ r.unread = c.split_at.ensures.back ∙ ap (drop c.self.inside.at) c.deref.ensures.value in
     let all : n ≡ length r.unread = omega (arith, c.if-size-unread.true, ap length back) in
     let none : NoFeed r.unread n = subst (λ u. NoFeed u n) back c.place_of-size.ensures.before in
-    subst (λ s. Answers (lines_ahead s) s r (Ok None)) c.self.view_is
+    subst (λ s. IsNextLine (lines_ahead s) s r (Ok None)) c.self.view_is
     (told_none r r (none_whole r n (sym c.if-not-is_last_line.ensures) all (omega (arith, c.if-size-gt-LONGEST.false)) none) refl)
 
 pub returns-in-Err-clause-lines : goal.returns-in-Err-clause-lines
@@ -45,7 +45,7 @@ returns-in-Err-clause-lines c =
           first_line r n (omega (arith, more, ap length back)) (subst (λ u. get_or u n 0 ≡ 10) back (c.place_of-size.ensures.found more)) none
           )
     ] in
-    subst (λ s. Answers (lines_ahead s) s s (Err c.in-Err.fault)) c.self.view_is (told_fault r n c.split_at-2.result.0.now c.in-Err.fault ahead front c.in-Err.ensures)
+    subst (λ s. IsNextLine (lines_ahead s) s s (Err c.in-Err.fault)) c.self.view_is (told_fault r n c.split_at-2.result.0.now c.in-Err.fault ahead front c.in-Err.ensures)
 
 pub returns-in-Ok-clause-lines : goal.returns-in-Ok-clause-lines
 returns-in-Ok-clause-lines c =
@@ -70,7 +70,7 @@ returns-in-Ok-clause-lines c =
     let size : c.len.result ≡ length c.self.inside.bytes.items = omega (arith, c.len.ensures, c.self.inside.bytes.ok.0) in
     let behind : drop c.min-self-inside.result c.self.inside.bytes.items ≡ drop (n + 1) r.unread =
     behind_place c.self.inside.bytes.items r.unread c.self.inside.at n c.min-self-inside.result c.len.result size refl c.min-self-inside.ensures in
-    subst (λ s. Answers (lines_ahead s) s new (Ok (Some c.in-Ok.line))) c.self.view_is
+    subst (λ s. IsNextLine (lines_ahead s) s new (Ok (Some c.in-Ok.line))) c.self.view_is
     (told_line r new n c.split_at-2.result.0.now c.in-Ok.line within ahead front c.in-Ok.ensures (ap (λ (u : List ℕ). record { unread = u; ended = c.self.inside.ended }) behind))
 
 pub returns-then-not-is_last_line-clause-held : goal.returns-then-not-is_last_line-clause-held

@@ -5,7 +5,7 @@ use Rattle.smt_sexp.specs.Lexicon.{Front, Said, token, fault, opening, closing, 
 use Rattle.smt_sexp.specs.Views.{leaf_of}
 use Rattle.smt_sexp.specs.declared.tokens.Piece.{Piece}
 use Rattle.smt_sexp.specs.declared.tokens.Piece.TheVariants.{Blank, Opening, Closing, Word, BadByte, TooWide, Unended}
-use Rattle.smt_sexp.specs.declared.tokens.Found.{Found}
+use Rattle.smt_sexp.specs.declared.tokens.Lexeme.{Lexeme}
 
 -- what stands at the front of a text
 abbrev pub front_of : List ℕ → Front
@@ -32,23 +32,23 @@ abbrev pub keyword_at : List ℕ → Front
 keyword_at bytes = keyword_front (run is_symbol_byte (drop 1 bytes))
 
 -- its first fault is this one, at this distance; at most a leaf comes before it
-pub data Stops : List (ℕ × Said) → ℕ → TextFault → Type 0 where
-  at_once : {k : ℕ} {f : TextFault} {rest : List (ℕ × Said)} → Stops ((k, fault f) ∷ rest) k f
-  after_leaf : {l : sexp.Leaf} {k : ℕ} {f : TextFault} {rest : List (ℕ × Said)} → Stops ((0, token (word l)) ∷ (k, fault f) ∷ rest) k f
+pub data FirstFault : List (ℕ × Said) → ℕ → TextFault → Type 0 where
+  at_once : {k : ℕ} {f : TextFault} {rest : List (ℕ × Said)} → FirstFault ((k, fault f) ∷ rest) k f
+  after_leaf : {l : sexp.Leaf} {k : ℕ} {f : TextFault} {rest : List (ℕ × Said)} → FirstFault ((0, token (word l)) ∷ (k, fault f) ∷ rest) k f
 
 -- a piece tells what is said of a front of this size
-abbrev pub Tells : ℕ → Front → Piece → Type 0
-Tells n f Blank = f.says ≡ []
-Tells n f Opening = f.says ≡ (0, token opening) ∷ []
-Tells n f Closing = f.says ≡ (0, token closing) ∷ []
-Tells n f (Word l) = f.says ≡ (0, token (word (leaf_of l))) ∷ []
-Tells n f (BadByte k) = (k ≤ n) × Stops f.says k bad_byte
-Tells n f TooWide = Stops f.says 0 too_wide
-Tells n f Unended = (f.says ≡ (0, fault open_token) ∷ []) × (f.size ≡ n)
+abbrev pub IsPieceOf : ℕ → Front → Piece → Type 0
+IsPieceOf n f Blank = f.says ≡ []
+IsPieceOf n f Opening = f.says ≡ (0, token opening) ∷ []
+IsPieceOf n f Closing = f.says ≡ (0, token closing) ∷ []
+IsPieceOf n f (Word l) = f.says ≡ (0, token (word (leaf_of l))) ∷ []
+IsPieceOf n f (BadByte k) = (k ≤ n) × FirstFault f.says k bad_byte
+IsPieceOf n f TooWide = FirstFault f.says 0 too_wide
+IsPieceOf n f Unended = (f.says ≡ (0, fault open_token) ∷ []) × (f.size ≡ n)
 
 -- what was found is this front of the text
-pub record Finds (bytes : List ℕ) (f : Front) (found : Found) : Type 0 where
+pub record IsFrontOf (bytes : List ℕ) (f : Front) (found : Lexeme) : Type 0 where
   pub size : found.size ≡ f.size
   pub some : 0 < found.size
   pub within : found.size ≤ length bytes
-  pub tells : Tells (length bytes) f found.piece
+  pub tells : IsPieceOf (length bytes) f found.piece

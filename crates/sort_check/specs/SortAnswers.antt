@@ -6,7 +6,7 @@ use Rattle.script_fault.specs.declared.fault.FaultKind.TheVariants.{UnknownSymbo
 use Rattle.script_fault.specs.declared.fault.ReadError.{ReadError}
 use Rattle.script_fault.specs.declared.fault.ScriptFault.{ScriptFault}
 use Rattle.script_fault.specs.declared.limit.Limit.TheVariants.{Axes}
-use Rattle.smt_sexp.specs.Reads.{fault_at}
+use Rattle.smt_sexp.specs.TextAnswers.{fault_at}
 use Rattle.smt_script.specs.Views.{commands_in}
 use Rattle.smt_script.specs.declared.command.Script.{Script}
 use Rattle.sort_check.specs.Sorts.{SortFault, unknown_symbol, redeclared, sort_mismatch, left_out_form, too_many_axes, Finding, sort_fault}
@@ -25,6 +25,6 @@ finding_fault (Some (at, x)) = Some (fault_at at (sort_kind x))
 finding_fault None = None
 
 -- the same commands, which have no fault, or their first one
-abbrev pub Checks : Script → Result Typed ReadError → Type 0
-Checks script (Ok typed) = (typed.script ≡ script) × (sort_fault (commands_in script) ≡ None)
-Checks script (Err e) = IsFaultOrMemory e (finding_fault (sort_fault (commands_in script)))
+abbrev pub IsCheckAnswer : Script → Result Typed ReadError → Type 0
+IsCheckAnswer script (Ok typed) = (typed.script ≡ script) × (sort_fault (commands_in script) ≡ None)
+IsCheckAnswer script (Err e) = IsFaultOrMemory e (finding_fault (sort_fault (commands_in script)))

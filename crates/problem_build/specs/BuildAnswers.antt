@@ -27,9 +27,9 @@ abbrev pub IsBuildingError : ReadError → Option (Place × BuildingFault) → T
 IsBuildingError e found = IsFaultOrMemory e (in_building found)
 
 -- the problem of a script without a fault, or its first fault, where the words give this bound
-abbrev pub Builds : Option ℕ → List Command → Result Parts ReadError → Type 0
-Builds bound script (Ok p) = (building_fault bound script ≡ None) × IsProblemOf bound script (problem_of p)
-Builds bound script (Err e) = IsBuildingError e (building_fault bound script)
+abbrev pub IsBuildAnswer : Option ℕ → List Command → Result Parts ReadError → Type 0
+IsBuildAnswer bound script (Ok p) = (building_fault bound script ≡ None) × IsProblemOf bound script (problem_of p)
+IsBuildAnswer bound script (Err e) = IsBuildingError e (building_fault bound script)
 
 -- each node of the terms stands once, and there are no more atoms than there may be
 pub record IsLean (p : Parts) : Type 0 where

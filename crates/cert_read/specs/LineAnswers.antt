@@ -15,13 +15,13 @@ IsFault LineTooLong p = p ≡ too_long
 IsFault Memory p = Unit {0}
 
 -- what a line is answered to say
-abbrev pub Says : Result Line LineFault → Parsed → Type 0
-Says (Ok l) p = p ≡ line (line_of l)
-Says (Err f) p = IsFault f p
+abbrev pub IsParse : Result Line LineFault → Parsed → Type 0
+IsParse (Ok l) p = p ≡ line (line_of l)
+IsParse (Err f) p = IsFault f p
 
-abbrev pub SaysBool : Result BoolSet LineFault → Parsed → Type 0
-SaysBool (Ok b) p = p ≡ line (bool_value (bool_word_of b))
-SaysBool (Err f) p = IsFault f p
+abbrev pub IsBoolParse : Result BoolSet LineFault → Parsed → Type 0
+IsBoolParse (Ok b) p = p ≡ line (bool_value (bool_word_of b))
+IsBoolParse (Err f) p = IsFault f p
 
 -- the number of a word, or that it has none
 abbrev pub IsCounted : Result ℕ LineFault → Option ℕ → Type 0

@@ -20,7 +20,7 @@ use Rattle.script_fault.specs.declared.fault.FaultKind.{FaultKind}
 use Rattle.script_fault.specs.declared.fault.FaultKind.TheVariants.{BadCommand, WrongLogic, LeftOut, NoCheck}
 use Rattle.script_fault.specs.declared.fault.ReadError.{ReadError}
 use Rattle.script_fault.specs.declared.fault.ScriptFault.{ScriptFault}
-use Rattle.smt_sexp.specs.Reads.{fault_at}
+use Rattle.smt_sexp.specs.TextAnswers.{fault_at}
 use Rattle.smt_script.specs.declared.lists.Arguments.{Arguments}
 use Rattle.smt_script.specs.declared.lists.Arguments.TheVariants as args
 use Rattle.smt_script.specs.declared.lists.Parameters.{Parameters}
@@ -58,9 +58,9 @@ said_fault at (fails x) = Some (fault_at at (command_kind x))
 said_fault at (says b c) = None
 
 -- the command that is said, with what comes before the next one, or its fault
-abbrev pub Gives : arena.Sexps → defined.Before → Place → Result Command ReadError → Said → Type 0
-Gives s b at (Ok c) said = said ≡ says b (command_of s c)
-Gives s b at (Err e) said = IsFaultOrMemory e (said_fault at said)
+abbrev pub IsCommandAnswer : arena.Sexps → defined.Before → Place → Result Command ReadError → Said → Type 0
+IsCommandAnswer s b at (Ok c) said = said ≡ says b (command_of s c)
+IsCommandAnswer s b at (Err e) said = IsFaultOrMemory e (said_fault at said)
 
 -- the first fault of commands
 abbrev pub commands_fault : CommandsRead → Option ScriptFault
@@ -68,9 +68,9 @@ commands_fault (command_fault at x) = Some (fault_at at (command_kind x))
 commands_fault (commands cs) = None
 
 -- all commands, or their first fault
-abbrev pub Reads : arena.Sexps → Result Script ReadError → CommandsRead → Type 0
-Reads s (Ok script) read = (script.sexps.now ≡ s) × (read ≡ commands (commands_in script))
-Reads s (Err e) read = IsFaultOrMemory e (commands_fault read)
+abbrev pub IsScriptAnswer : arena.Sexps → Result Script ReadError → CommandsRead → Type 0
+IsScriptAnswer s (Ok script) read = (script.sexps.now ≡ s) × (read ≡ commands (commands_in script))
+IsScriptAnswer s (Err e) read = IsFaultOrMemory e (commands_fault read)
 
 -- a logic is set
 abbrev pub with_set : defined.Before → defined.Before

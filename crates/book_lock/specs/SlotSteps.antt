@@ -19,22 +19,22 @@ module _ {O C R : Type 0} where
     pub other : w.number ≢ v.number
     pub none_seen : calls_by w.number v.seen ≡ []
 
-  abbrev pub number_told : Step (Option O) → Me (Option O) (SeatView O C R) → ℕ → Me (Option O) (SeatView O C R) → Type 0
-  number_told st m n m' = IsNumbered m.0 m'.0 × (m'.1 ≡ m.1)
+  abbrev pub number_step : Step (Option O) → Me (Option O) (SeatView O C R) → ℕ → Me (Option O) (SeatView O C R) → Type 0
+  number_step st m n m' = IsNumbered m.0 m'.0 × (m'.1 ≡ m.1)
 
-  abbrev pub match_told : Step (Option O) → Me (Option O) (SeatView O C R) → ℕ → Me (Option O) (SeatView O C R) → Type 0
-  match_told st m n m' = (m' ≡ (record m.0 { beside = [] }, m.1)) × IsPrefix m.0.beside m.0.seen
+  abbrev pub match_step : Step (Option O) → Me (Option O) (SeatView O C R) → ℕ → Me (Option O) (SeatView O C R) → Type 0
+  match_step st m n m' = (m' ≡ (record m.0 { beside = [] }, m.1)) × IsPrefix m.0.beside m.0.seen
 
-  abbrev pub ticket_told : Step (Option O) → Me (Option O) (SeatView O C R) → ℕ → Me (Option O) (SeatView O C R) → Type 0
-  ticket_told st m r m' = (t : ℕ) × (t % 18446744073709551616 ≡ r) × (m' ≡ (record m.0 { stage = Ticket t }, m.1))
+  abbrev pub ticket_step : Step (Option O) → Me (Option O) (SeatView O C R) → ℕ → Me (Option O) (SeatView O C R) → Type 0
+  ticket_step st m r m' = (t : ℕ) × (t % 18446744073709551616 ≡ r) × (m' ≡ (record m.0 { stage = Ticket t }, m.1))
 
 module _ {O C R : Type 0} (meets : O → C → Type 0) (steps : O → C → R → O → Type 0) where
   -- the seat's turn has come: it has the object, which some legal history left
   abbrev pub IsTurnOf : Me (Option O) (SeatView O C R) → Me (Option O) (SeatView O C R) → Type 0
   IsTurnOf m m' = (b : O) × (m' ≡ (record m.0 { stage = Turn b }, (0, Some b) ∷ m.1)) × ((first : O) → m.0.origin ≡ Some first → (log : List (Entry C R)) × IsHistory meets steps first log b)
 
-  abbrev pub look_told : Step (Option O) → Me (Option O) (SeatView O C R) → ℕ → Me (Option O) (SeatView O C R) → Type 0
-  look_told st m r m' = (t : ℕ) → m.0.stage ≡ Ticket t → (r ≡ t % 18446744073709551616 → IsTurnOf m m') × (r ≢ t % 18446744073709551616 → m' ≡ m)
+  abbrev pub look_step : Step (Option O) → Me (Option O) (SeatView O C R) → ℕ → Me (Option O) (SeatView O C R) → Type 0
+  look_step st m r m' = (t : ℕ) → m.0.stage ≡ Ticket t → (r ≡ t % 18446744073709551616 → IsTurnOf m m') × (r ≢ t % 18446744073709551616 → m' ≡ m)
 
   -- the history that is seen after a call: legal, it begins with all that was seen, ends with the call, and has the seat's own calls and no others with its number
   pub record IsCallOf (v : SeatView O C R) (c : C) (r : R) (w : SeatView O C R) : Type 0 where
@@ -50,5 +50,5 @@ module _ {O C R : Type 0} (meets : O → C → Type 0) (steps : O → C → R �
   MayAnswer st c r b' = (b : O) × (st ≡ Turn b) × meets b c × steps b c r b'
 
   -- the turn ended, with this call and its reply
-  abbrev pub end_told : Option C → Option R → Step (Option O) → Me (Option O) (SeatView O C R) → ℕ → Me (Option O) (SeatView O C R) → Type 0
-  end_told call reply st m n m' = (c : C) (r : R) → call ≡ Some c → reply ≡ Some r → IsCallOf m.0 c r m'.0 × (m'.1 ≡ rest m.1)
+  abbrev pub end_step : Option C → Option R → Step (Option O) → Me (Option O) (SeatView O C R) → ℕ → Me (Option O) (SeatView O C R) → Type 0
+  end_step call reply st m n m' = (c : C) (r : R) → call ≡ Some c → reply ≡ Some r → IsCallOf m.0 c r m'.0 × (m'.1 ≡ rest m.1)

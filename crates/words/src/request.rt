@@ -58,7 +58,7 @@ pub struct UpgradeWords<'a> {
 
 /// What the words ask for. A name `-` stands for standard input or output.
 #[derive(Clone, Copy, Debug, PartialEq, Eq)]
-pub enum Asked<'a> {
+pub enum Request<'a> {
     Solve(SolveWords<'a>),
     Check(CheckWords<'a>),
     Demo(DemoWords<'a>),

@@ -7,11 +7,11 @@ use std::marker::Model;
 
 /// A list of clauses.
 #[derive(Drop)]
-pub struct Made {
+pub struct ClauseList {
     clauses: Vec<Vec<Literal>>,
 }
 
-impl Model for Made {
+impl Model for ClauseList {
     ghost use Rattle.std.specs.Prelude.{List};
     ghost use Rattle.cnf_build.specs.declared.literal.Literal.{Literal};
     ghost use Rattle.cnf_build.specs.Kept.{clauses_of};
@@ -21,12 +21,12 @@ impl Model for Made {
     ghost view = { λ m. clauses_of m.clauses.items };
 }
 
-impl Made {
+impl ClauseList {
     /// No clauses.
     pub fn new(alloc: Global) -> Self
         ensures { result ≡ [] }
     {
-        Made {
+        ClauseList {
             clauses: Vec::new(alloc),
         }
     }

@@ -27,9 +27,9 @@ text_fault (faulty at x) = Some (fault_at at (text_kind x))
 text_fault (whole es) = None
 
 -- all expressions of the text, or its first fault
-abbrev pub Reads : Result code.Sexps ReadError → TextRead → Type 0
-Reads (Ok s) read = read ≡ whole (listed (rest_of s 0))
-Reads (Err e) read = IsFaultOrMemory e (text_fault read)
+abbrev pub IsTextAnswer : Result code.Sexps ReadError → TextRead → Type 0
+IsTextAnswer (Ok s) read = read ≡ whole (listed (rest_of s 0))
+IsTextAnswer (Err e) read = IsFaultOrMemory e (text_fault read)
 
 -- ---- bytes, of which there may be too many
 
