@@ -38,7 +38,7 @@ pub(crate) struct Meeting {
 #[derive(Clone, Copy, Debug)]
 pub(crate) enum Entry {
     Choice(Pair),
-    BuilderModel(u32),
+    Made(u32),
     Trees(u32, u32),
 }
 
