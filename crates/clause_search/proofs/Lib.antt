@@ -3,7 +3,7 @@ pub mod Listed
 pub mod Meaning
 pub mod Nogoods
 pub mod Queue
-pub mod IsPropagation
+pub mod Propagations
 pub mod Sets
 pub mod Sound
 pub mod Watching

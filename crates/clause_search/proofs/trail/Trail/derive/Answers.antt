@@ -1,7 +1,7 @@
 use Rattle.std.proofs.Common.{inl, inr, not}
 use Rattle.clause_search.proofs.Sets.{sets_still, open_stands_not}
 use Rattle.clause_search.specs.Table.{value_at}
-use Rattle.clause_search.proofs.Says.{unit_derived}
+use Rattle.clause_search.proofs.Propagations.{unit_derived}
 use Rattle.clause_search.proofs.trail.Trail.derive.Goals as goal
 
 pub returns-clause-made : goal.returns-clause-made

@@ -3,7 +3,7 @@ use Rattle.std.specs.List.{list_any, list_all}
 use Rattle.cnf_build.specs.declared.literal.Literal.{Literal}
 use Rattle.clause_search.specs.Table.{is_true}
 use Rattle.clause_search.specs.Answers.{is_met}
-use Rattle.clause_search.proofs.Says.{any_map}
+use Rattle.clause_search.proofs.Propagations.{any_map}
 use Rattle.clause_search.proofs.trail.Trail.meets_nogood.Goals as goal
 
 pub returns : goal.returns

@@ -1,5 +1,5 @@
 use Rattle.std.proofs.Common.{inl}
-use Rattle.clause_search.proofs.Says.{failed_means, conflict_means, forced, undecided_before}
+use Rattle.clause_search.proofs.Propagations.{failed_means, conflict_means, forced, undecided_before}
 use Rattle.clause_search.proofs.trail.Trail.propagate.Goals as goal
 
 pub returns-then-self-clause-says : goal.returns-then-self-clause-says
