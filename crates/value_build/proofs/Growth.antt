@@ -154,6 +154,3 @@ drawn-stays m m' (any_sketch ks) n s h = tt
 
 pub sketch_stays : (m m' : BuilderModel) (ds : List SketchNode) → length m.nodes ≤ length m'.nodes → m'.sorts ≡ m.sorts → IsSketch m ds → IsSketch m' ds
 sketch_stays m m' ds n s h = record { ordered = h.ordered; drawn = λ k d e. drawn-stays m m' d n s (h.drawn k d e) }
-
-pub empty_sketch : (m : BuilderModel) → IsSketch m []
-empty_sketch m = record { ordered = refl; drawn = λ k d e. cc }
