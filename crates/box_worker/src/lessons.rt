@@ -1,6 +1,6 @@
 // Lemmas that are wider than the box whose run shows them. Which runs are repeated is a heuristic that promises nothing;
 // that a lemma holds is what the patch ensures.
-ghost use Rattle.std.specs.Prelude.{◌≡◌, [], IfOk, IfSome, length};
+ghost use Rattle.std.specs.Prelude.{◌≡◌, [], Some, IfOk, IfSome, length};
 ghost use Rattle.cover_model.specs.Fits.{FitsProblem};
 ghost use Rattle.cover_model.specs.Root.{root_space};
 ghost use Rattle.cover_data.specs.Margins.{AreMargins};
@@ -171,6 +171,35 @@ fn is_worth(run: &KeptPatch) -> bool {
     leaves_nothing && run.steps.len() <= MOST_STEPS
 }
 
+// What a closed run of the room's problem shows where it is repeated at this state of the whole root space. None where
+// that does not leave nothing.
+fn shown_at(
+    alloc: Global,
+    room: &mut Room,
+    options: &Options,
+    run: &KeptPatch,
+    state: State,
+) -> Result<Option<ClosedPatch>, AllocError>
+    requires numbered { IsNumbered room.old }
+    requires margins { AreMargins (margins_of options.now) }
+    requires state { FitsProblem (problem_of room.old) state }
+    requires root { state.space ≡ root_space (problem_of room.old) }
+    ensures shown { IfOk result (λ o.
+        IfSome o (IsShownFromRoot room.old (margins_of options.now))) }
+    ensures room { room.new ≡ room.old }
+{
+    let problem = room.problem();
+    let margins = options.margins();
+    let mut patch = room.begin(alloc, &margins, state)?;
+    repeat_steps(problem, &margins, &run.steps, &mut patch)?;
+    repeat_end(problem, &run.end, &mut patch)?;
+    let kept = room.end(patch);
+    match kept.closed() {
+        Ok(closed) => Ok(Some(closed)),
+        Err(_) => Ok(None),
+    }
+}
+
 // What a closed run of the room's problem shows of the whole root space: it is repeated there with the marks alone of the
 // atoms by which it narrows. None where that does not leave nothing.
 fn widened(
@@ -190,18 +219,31 @@ fn widened(
     }
     let problem = room.problem();
     let marks = marks_in_use(alloc, problem, run)?;
-    let Some(state) = root_with(alloc, problem, marks)? else {
-        return Ok(None);
-    };
-    let margins = options.margins();
-    let mut patch = room.begin(alloc, &margins, state)?;
-    repeat_steps(problem, &margins, &run.steps, &mut patch)?;
-    repeat_end(problem, &run.end, &mut patch)?;
-    let kept = room.end(patch);
-    match kept.closed() {
-        Ok(closed) => Ok(Some(closed)),
-        Err(_) => Ok(None),
+    match root_with(alloc, problem, marks)? {
+        Some(state) => shown_at(alloc, room, options, run, state),
+        None => Ok(None),
     }
+}
+
+// What a closed run of the room's problem shows of the whole root space, where it is due to be repeated.
+fn repeated(
+    alloc: Global,
+    room: &mut Room,
+    options: &Options,
+    run: &KeptPatch,
+) -> Result<Option<ClosedPatch>, AllocError>
+    requires numbered { IsNumbered room.old }
+    requires margins { AreMargins (margins_of options.now) }
+    ensures shown { IfOk result (λ o.
+        IfSome o (IsShownFromRoot room.old (margins_of options.now))) }
+    ensures room { room.new ≡ room.old }
+{
+    if !room.heuristics.lessons.is_due() {
+        return Ok(None);
+    }
+    let shown = widened(alloc, room, options, run)?;
+    room.heuristics.lessons.note_repeat(shown.is_some());
+    Ok(shown)
 }
 
 // Whether a run begins at the whole root space.
@@ -210,6 +252,24 @@ fn begins_at_root(alloc: Global, problem: &Problem, run: &KeptPatch) -> Result<b
     match root_space(alloc, problem)? {
         Root::Empty(_) => Ok(false),
         Root::Space(root) => Ok(root.len() == space.len() && root.within(space)),
+    }
+}
+
+// The closed run, where it begins at the whole root space.
+fn own_lesson(
+    alloc: Global,
+    problem: &Problem,
+    own: Option<ClosedPatch>,
+) -> Result<Option<ClosedPatch>, AllocError>
+    ensures { IfOk result (λ o. IfSome o (λ c. own ≡ Some c)) }
+{
+    let Some(closed) = own else {
+        return Ok(None);
+    };
+    if begins_at_root(alloc, problem, closed.kept())? {
+        Ok(Some(closed))
+    } else {
+        Ok(None)
     }
 }
 
@@ -235,19 +295,8 @@ pub fn lesson(
     ensures lesson { IfOk result (λ o. IfSome o (IsLesson room.old (margins_of options.now) own)) }
     ensures room { room.new ≡ room.old }
 {
-    if room.heuristics.lessons.is_due() {
-        let shown = widened(alloc, room, options, run)?;
-        room.heuristics.lessons.note_repeat(shown.is_some());
-        if shown.is_some() {
-            return Ok(shown);
-        }
-    }
-    let Some(closed) = own else {
-        return Ok(None);
-    };
-    if begins_at_root(alloc, room.problem(), closed.kept())? {
-        Ok(Some(closed))
-    } else {
-        Ok(None)
+    match repeated(alloc, room, options, run)? {
+        Some(shown) => Ok(Some(shown)),
+        None => own_lesson(alloc, room.problem(), own),
     }
 }
