@@ -1,5 +1,5 @@
 // A search on its way.
-ghost use Rattle.std.specs.Prelude.{◌≡◌, ◌≢◌, ◌∷◌, [], ◌++◌, ◌≤◌, ℕ, drop, OnOk, IfOk, IfSome, IsNone, None};
+ghost use Rattle.std.specs.Prelude.{◌≡◌, ◌≢◌, ◌∷◌, [], ◌++◌, ◌≤◌, ◌-◌, drop, length, OnOk, IfOk, IfSome, IsNone, None};
 ghost use Rattle.cover_data.specs.Views.{kept_of};
 ghost use Rattle.cover_book.specs.Verdict.{live_numbers_after};
 ghost use Rattle.box_worker.specs.Learned.{IsLesson};
@@ -57,7 +57,7 @@ fn unless_memory(refusal: BookRefusal) -> Result<(), AllocError>
 
 /// Leaves out the oldest lemmas where there are more than may be handed on.
 pub fn keep_latest(lemmas: &mut Vec<Lemma>)
-    ensures { (k : ℕ) × (lemmas.new.items ≡ drop k lemmas.old.items) }
+    ensures { lemmas.new.items ≡ drop (length lemmas.old.items - 64) lemmas.old.items }
 {
     let extra = lemmas.len().saturating_sub(MOST_HANDED);
     lemmas.drain(..extra);

@@ -1,4 +1,4 @@
-use Rattle.std.proofs.Common.{◌∙◌}
+use Rattle.std.proofs.Common.{◌∙◌, ◌-◌, length}
 use Rattle.cover_data.specs.Margins.{margins_of}
 use Rattle.std.proofs.Common.{ap, sym}
 use Rattle.book_lock.specs.Shared.{first_of}
@@ -10,6 +10,6 @@ returns-clause-worker g c = let t = c.args.task.now in record {
   book = c.requires.worker.book;
   seat = c.requires.worker.seat;
   stays = c.requires.worker.stays;
-  lemmas = read_lemmas (first_of t.shared.now) g.J.Subject.problem g.J.Subject.margins c.args.self.now.lemmas.items c.more.new.list.items c.keep_latest.new.lemmas.items c.keep_latest.ensures.0
-      (t.subject_problem ∙ sym t.problem_is) (t.subject_margins ∙ ap margins_of (sym t.options_are)) c.more.ensures.appended c.keep_latest.ensures.1 c.requires.worker.lemmas;
+  lemmas = read_lemmas (first_of t.shared.now) g.J.Subject.problem g.J.Subject.margins c.args.self.now.lemmas.items c.more.new.list.items c.keep_latest.new.lemmas.items (length c.more.new.list.items - 64)
+      (t.subject_problem ∙ sym t.problem_is) (t.subject_margins ∙ ap margins_of (sym t.options_are)) c.more.ensures.appended c.keep_latest.ensures c.requires.worker.lemmas;
 }
