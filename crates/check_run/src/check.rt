@@ -1,5 +1,6 @@
 // `check`, from a problem to the verdict of a certificate.
-ghost use Rattle.std.specs.Prelude.{◌≡◌, Err, IfOk, Ok};
+ghost use Rattle.std.specs.Prelude.{◌≡◌, [], Err, IfOk, Ok};
+ghost use Rattle.cert_check.specs.Feeding.{HasTaken};
 ghost use Rattle.check_run.specs.Check.{EndsOnCheck, EndsOnFault, EndsOnVerdict, IsConfirmation, IsReadFor, IsVerdictFor};
 ghost use Rattle.check_run.specs.Run.{CheckHasCause, IsReadToEnd, SameIn, UpgradeHasCause};
 
@@ -21,20 +22,17 @@ pub enum Unconfirmed {
     Failed,
 }
 
-// The verdict of the certificate on its port, which is read up to its first fault.
-fn read_verdict<D: Desk>(
-    alloc: Global,
+// The verdict of the certificate on its port by a feed that was fed nothing; it is read up to its first fault.
+fn verdict_by<D: Desk>(
     desk: &mut D,
     problem: &Problem,
     bound: Option<u32>,
+    feed: &mut Feed,
 ) -> Result<Verdict, Unconfirmed>
+    requires { HasTaken problem.now bound [] feed.old }
     ensures told { IsVerdictFor problem.now bound (D.sight desk.old) result }
     ensures leaves { IsReadFor result (D.sight desk.old) (D.sight desk.new) }
 {
-    let mut feed = match Feed::new(alloc, problem, bound) {
-        Ok(feed) => feed,
-        Err(_) => return Err(Unconfirmed::Fault(CertFault::Memory)),
-    };
     let mut buffer = [0u8; ROOM];
     loop {
         let n = match desk.read(Port::CertIn, &mut buffer) {
@@ -51,6 +49,22 @@ fn read_verdict<D: Desk>(
             Ok(()) => {}
             Err(fault) => return Err(Unconfirmed::Fault(fault)),
         }
+    }
+}
+
+// The verdict of the certificate on its port, which is read up to its first fault.
+fn read_verdict<D: Desk>(
+    alloc: Global,
+    desk: &mut D,
+    problem: &Problem,
+    bound: Option<u32>,
+) -> Result<Verdict, Unconfirmed>
+    ensures told { IsVerdictFor problem.now bound (D.sight desk.old) result }
+    ensures leaves { IsReadFor result (D.sight desk.old) (D.sight desk.new) }
+{
+    match Feed::new(alloc, problem, bound) {
+        Ok(mut feed) => verdict_by(desk, problem, bound, &mut feed),
+        Err(_) => Err(Unconfirmed::Fault(CertFault::Memory)),
     }
 }
 

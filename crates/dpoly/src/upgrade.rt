@@ -1,6 +1,6 @@
 // `upgrade`, from a problem to a certificate in version 2.
-ghost use Rattle.std.specs.Prelude.{◌≡◌, ◌++◌, ◌+◌, ◌<◌, ◌^◌, OnOk, length};
-ghost use Rattle.cert_check.specs.Feeding.{bytes_taken, IsFedPiece};
+ghost use Rattle.std.specs.Prelude.{◌≡◌, [], ◌++◌, ◌+◌, ◌<◌, ◌^◌, OnOk, length};
+ghost use Rattle.cert_check.specs.Feeding.{bytes_taken, HasTaken, IsFedPiece};
 ghost use Rattle.check_run.specs.Run.{IsReadToEnd, SameIn, UpgradeHasCause};
 ghost use Rattle.dpoly.specs.Upgrade.{EndsOnUpgrade, EndsOnUpgraded, IsKeptFor, IsReadAsKept};
 
@@ -28,20 +28,18 @@ fn feed_and_keep(feed: &mut Feed, kept: &mut Vec<u8>, piece: &[u8]) -> Result<()
     }
 }
 
-// The certificate on its port, whole, where it is accepted; it is read up to its first fault.
-fn read_kept<D: Desk>(
+// The certificate on its port by a feed that was fed nothing, whole, where it is accepted; it is read up to its first fault.
+fn kept_by<D: Desk>(
     alloc: Global,
     desk: &mut D,
     problem: &Problem,
     bound: Option<u32>,
+    feed: &mut Feed,
 ) -> Result<Vec<u8>, Unconfirmed>
+    requires { HasTaken problem.now bound [] feed.old }
     ensures told { IsKeptFor problem.now bound (D.sight desk.old) result }
     ensures leaves { IsReadAsKept result (D.sight desk.old) (D.sight desk.new) }
 {
-    let mut feed = match Feed::new(alloc, problem, bound) {
-        Ok(feed) => feed,
-        Err(_) => return Err(Unconfirmed::Fault(CertFault::Memory)),
-    };
     let mut kept = Vec::new(alloc);
     let mut buffer = [0u8; ROOM];
     loop {
@@ -55,10 +53,26 @@ fn read_kept<D: Desk>(
                 Err(fault) => return Err(Unconfirmed::Fault(fault)),
             }
         }
-        match feed_and_keep(&mut feed, &mut kept, &buffer[..n]) {
+        match feed_and_keep(feed, &mut kept, &buffer[..n]) {
             Ok(()) => {}
             Err(fault) => return Err(Unconfirmed::Fault(fault)),
         }
+    }
+}
+
+// The certificate on its port, whole, where it is accepted; it is read up to its first fault.
+fn read_kept<D: Desk>(
+    alloc: Global,
+    desk: &mut D,
+    problem: &Problem,
+    bound: Option<u32>,
+) -> Result<Vec<u8>, Unconfirmed>
+    ensures told { IsKeptFor problem.now bound (D.sight desk.old) result }
+    ensures leaves { IsReadAsKept result (D.sight desk.old) (D.sight desk.new) }
+{
+    match Feed::new(alloc, problem, bound) {
+        Ok(mut feed) => kept_by(alloc, desk, problem, bound, &mut feed),
+        Err(_) => Err(Unconfirmed::Fault(CertFault::Memory)),
     }
 }
 

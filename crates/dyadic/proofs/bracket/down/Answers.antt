@@ -1,4 +1,5 @@
-use Rattle.std.proofs.Common.{sym, subst, neg_ℤ, pos}
+use Rattle.std.proofs.lemmas.Grind.{common_steps}
+use Rattle.std.proofs.Common.{sym, subst, neg_ℤ, pos, arith}
 use Rattle.dyadic.specs.Signed.{IsFloor, signed_of}
 use Rattle.dyadic.specs.Views.{units_of}
 use Rattle.dyadic.proofs.Signs.{floor_plus, floor_minus}
@@ -13,3 +14,6 @@ pub returns-in-Some : goal.returns-in-Some
 returns-in-Some c = λ n d p t.
     subst (λ b. IsFloor (signed_of b n) d (units_of c.signed.result)) (sym c.if-negative.true)
     (subst (λ z. IsFloor (neg_ℤ (pos n)) d z) (sym c.signed.ensures) (floor_minus n d _ _ _ _ p t c.in-Some.ensures))
+
+pub returns-in-None : goal.returns-in-None
+returns-in-None c = grind (arith, common_steps)

@@ -1,4 +1,4 @@
-use Rattle.std.proofs.Common.{sym, ap, ◌∙◌, subst, pos, ◌<ℤ◌}
+use Rattle.std.proofs.Common.{sym, ap, ◌∙◌, subst, pos, ◌<ℤ◌, rules}
 use Rattle.std.proofs.lemmas.Result.{err_from_is_err_and}
 use Rattle.dyadic.specs.Lowest.{reduced}
 use Rattle.dyadic.specs.SmallSteps.{IsSmall}
@@ -41,3 +41,9 @@ returns c =
     let below = small_passed c.in_ok-below.below (subst IsSmall (sym d.0) d.1) in
     let total = small_passed c.in_ok-total.total (subst IsSmall (sym e.0) e.1) in
     (sum_fits_yes a b (record { left = l.1; right = r.1; total = e.1; below = d.1 }), c.new.ensures ∙ ap reduced (sum_is a b _ _ (total ∙ e.0) (below ∙ d.0)))
+
+pub returns-in_err-left : goal.returns-in_err-left
+returns-in_err-left c = search rules
+
+pub returns-in_err-right : goal.returns-in_err-right
+returns-in_err-right c = search rules

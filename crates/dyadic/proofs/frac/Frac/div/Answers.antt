@@ -1,4 +1,4 @@
-use Rattle.std.proofs.Common.{sym, ap, ◌∙◌, subst, ◌<◌}
+use Rattle.std.proofs.Common.{sym, ap, ◌∙◌, subst, ◌<◌, rules}
 use Rattle.std.specs.Int.RustNames.{unsigned_abs}
 use Rattle.dyadic.specs.Lowest.{reduced}
 use Rattle.dyadic.specs.SmallSteps.{IsSmall}
@@ -23,3 +23,9 @@ returns c =
       quotient_fits_yes a b (record { above = e.1; below = d.1 }),
       c.from_sizes.ensures ∙ ap reduced (quotient_is a b _ _ c.unsigned_abs.result c.unsigned_abs-2.result c.requires (above ∙ e.0) (below ∙ d.0) c.unsigned_abs.ensures.value c.unsigned_abs-2.ensures.value),
     )
+
+pub returns-in_err-above : goal.returns-in_err-above
+returns-in_err-above c = search rules
+
+pub returns-in_err-below : goal.returns-in_err-below
+returns-in_err-below c = search rules

@@ -1,4 +1,4 @@
-use Rattle.std.proofs.Common.{sym, ap, ◌∙◌, subst, pos, ◌<ℤ◌}
+use Rattle.std.proofs.Common.{sym, ap, ◌∙◌, subst, pos, ◌<ℤ◌, rules}
 use Rattle.dyadic.specs.Lowest.{reduced}
 use Rattle.dyadic.specs.SmallSteps.{IsSmall}
 use Rattle.dyadic.proofs.FracSteps.{n_passed, d_passed, small_passed, positive_product}
@@ -20,3 +20,9 @@ returns c =
     let below = small_passed c.in_ok-below.below (subst IsSmall (sym d.0) d.1) in
     let above = small_passed c.in_ok-above.above (subst IsSmall (sym e.0) e.1) in
     (product_fits_yes a b (record { above = e.1; below = d.1 }), c.new.ensures ∙ ap reduced (product_is a b _ _ (above ∙ e.0) (below ∙ d.0)))
+
+pub returns-in_err-above : goal.returns-in_err-above
+returns-in_err-above c = search rules
+
+pub returns-in_err-below : goal.returns-in_err-below
+returns-in_err-below c = search rules

@@ -1,0 +1,5 @@
+use Rattle.std.proofs.Common.{rules}
+use Rattle.dyadic.proofs.frac_steps.plus.Goals as goal
+
+pub returns : goal.returns
+returns c = search rules
