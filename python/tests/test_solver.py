@@ -56,20 +56,19 @@ class Answers(unittest.TestCase):
         self.assertTrue(answer.point["on"] or x - y_value <= answer.delta)
 
     def test_unknown_has_its_cause(self):
-        x, y = Real("x", -10, 10), Real("y", -10, 10)
-        hard = And(x * x + y * y == 50, x * y == 26)
+        x, y = Real("x", 0, 1), Real("y", 0, 1)
+        hard = x * y - y * x >= Fraction(1, 64)
         spent = solve(hard, budget=0)
         self.assertIsInstance(spent, Unknown)
         self.assertEqual((spent.cause, spent.budget, spent.open_boxes), ("budget", 0, 1))
-        narrow = solve(hard, least_bits=0, delta_bits=30, margin_bits=40)
+        narrow = solve(hard, least_bits=1)
         self.assertIsInstance(narrow, Unknown)
-        self.assertEqual(narrow.cause, "width")
-        low, high = narrow.box["x"]
-        self.assertLess(low, high)
+        self.assertEqual((narrow.cause, narrow.open_boxes), ("width", 4))
+        self.assertEqual(narrow.box["x"][1] - narrow.box["x"][0], Fraction(1, 2))
 
     def test_choices_and_options(self):
         u = If(X > 1, 1, If(X < -1, -1, X))
-        self.assertIsInstance(solve(u > 1, workers=2, check=False), Unsat)
+        self.assertIsInstance(solve(u > 1.1, workers=2, check=False), Unsat)
         free = Real("free")
         self.assertIsInstance(solve(free * free == -1, bound=4), Unsat)
 
