@@ -28,6 +28,3 @@ fn main(rt: HostRuntime) -> ExitCode {
     explain(&rt, &words, &desk, status);
     ExitCode::from(status.code())
 }
-
-#[cfg(test)]
-mod tests;
