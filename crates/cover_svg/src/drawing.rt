@@ -2,7 +2,7 @@
 ghost use Rattle.std.specs.Prelude.{◌≤◌};
 
 use crate::fault::Fault;
-use crate::frame::{Frame, frame_of};
+use crate::frame::{Axes, Frame, frame_of};
 use crate::header::{Header, Matter, read_header};
 use crate::lines::Lines;
 use crate::picture::Picture;
@@ -87,28 +87,34 @@ fn draw_tree(
 
 // Draws the point.
 fn draw_point(
-    alloc: Global,
     problem: &Problem,
     frame: &Frame<'_>,
     lines: &mut Lines,
     picture: &mut Picture,
 ) -> Result<(), Fault> {
-    let mut numbers = Vec::new(alloc);
-    for axis in problem.axes() {
-        match (axis.declared, lines.due()?) {
-            (Declared::Real(_, _), Line::RealValue(number)) => numbers.push(number)?,
+    let (mut across, mut upward) = (None, None);
+    for (axis, declared) in problem.axes().iter().enumerate() {
+        match (declared.declared, lines.due()?) {
+            (Declared::Real(_, _), Line::RealValue(number)) => {
+                if axis == frame.across.axis {
+                    across = Some(number);
+                }
+                if axis == frame.upward.axis {
+                    upward = Some(number);
+                }
+            }
             (Declared::Bool, Line::Bool(BoolSet::False | BoolSet::True)) => {}
             _ => return Err(lines.misfit()),
         }
     }
-    if let [across, upward] = numbers.as_slice() {
-        picture.add_point(frame, *across, *upward)?;
+    if let (Some(across), Some(upward)) = (across, upward) {
+        picture.add_point(frame, across, upward)?;
     }
     lines.finish()
 }
 
-/// The picture of what the certificate describes of the script.
-pub fn draw(alloc: Global, script: &[u8], cert: &[u8]) -> Result<String, Fault> {
+/// The picture of what the certificate describes of the script, projected to these axes.
+pub fn draw(alloc: Global, script: &[u8], cert: &[u8], axes: Axes<'_>) -> Result<String, Fault> {
     let mut lines = Lines::new(alloc, cert)?;
     let header = read_header(&mut lines)?;
     let problem = read_problem(alloc, script, header.bound)?;
@@ -116,10 +122,10 @@ pub fn draw(alloc: Global, script: &[u8], cert: &[u8]) -> Result<String, Fault> 
         Root::Space(root) => root,
         Root::Empty(_) => return Err(Fault::EmptyBox),
     };
-    let frame = frame_of(alloc, &problem, &root)?;
+    let frame = frame_of(alloc, &problem, &root, axes)?;
     let mut picture = Picture::new(alloc, &frame)?;
     match header.matter {
-        Matter::Point => draw_point(alloc, &problem, &frame, &mut lines, &mut picture)?,
+        Matter::Point => draw_point(&problem, &frame, &mut lines, &mut picture)?,
         Matter::Cover => {
             skip_lemmas(&mut lines, cert.len())?;
             draw_tree(

@@ -8,7 +8,7 @@ use thiserror::Error;
 /// Why there is no picture.
 #[derive(Debug, Drop, Error)]
 pub enum Fault {
-    #[error("wants the names of a script and of a certificate")]
+    #[error("wants the names of a script and of a certificate, and for a projection those of two Real constants")]
     Usage,
     #[error("the script can't be read")]
     Script,
@@ -21,9 +21,12 @@ pub enum Fault {
     /// The script has a fault.
     #[error("script: {0}")]
     Refused(ReadError),
-    /// The script has another number of Real constants than two.
-    #[error("the script does not have two Real constants")]
+    /// The script has another number of Real constants than two, and none was named.
+    #[error("the script does not have two Real constants: name two of them, behind the certificate")]
     Axes,
+    /// The script has no Real constant of a name that was given.
+    #[error("the script does not have Real constants of these two names")]
+    NoAxis,
     /// The bounds of a constant cross.
     #[error("the declared box is empty")]
     EmptyBox,
@@ -41,7 +44,7 @@ impl Fault {
     pub fn status(&self) -> u8 {
         match self {
             Fault::Line { .. } | Fault::Misfit { .. } => 1,
-            Fault::Axes | Fault::EmptyBox => 2,
+            Fault::Axes | Fault::NoAxis | Fault::EmptyBox => 2,
             Fault::Refused(ReadError::Memory) => 6,
             Fault::Refused(_) => 2,
             Fault::Usage => 3,

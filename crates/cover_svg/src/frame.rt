@@ -5,7 +5,7 @@ use crate::fault::Fault;
 use dyadic::{Dy, Ext, Frac, at_most, mid};
 use ival::{Domain, Range, Space};
 use poly_graph::{Declared, Problem};
-use std::alloc::Global;
+use std::alloc::{AllocError, Global};
 
 /// The units of each side of the declared box, a power of two: a side is halved until a unit is left.
 pub const UNITS: u32 = 8192;
@@ -32,6 +32,13 @@ pub struct Span {
 pub struct Frame<'a> {
     pub across: Side<'a>,
     pub upward: Side<'a>,
+}
+
+/// Which axes are drawn: all Real ones, which have to be two, or those of two names.
+#[derive(Clone, Copy)]
+pub enum Axes<'a> {
+    All,
+    Named(&'a [u8], &'a [u8]),
 }
 
 impl<'a> Side<'a> {
@@ -73,8 +80,12 @@ impl<'a> Side<'a> {
     }
 }
 
-/// The two Real axes of the problem, whose cover begins with this space.
-pub fn frame_of<'a>(alloc: Global, problem: &'a Problem, root: &Space) -> Result<Frame<'a>, Fault> {
+// The Real axes of the problem, whose cover begins with this space.
+fn sides_of<'a>(
+    alloc: Global,
+    problem: &'a Problem,
+    root: &Space,
+) -> Result<Vec<Side<'a>>, AllocError> {
     let mut sides = Vec::new(alloc);
     for (axis, declared) in problem.axes().iter().enumerate() {
         if let (Declared::Real(from, to), Some(Domain::Real(range))) = (
@@ -90,8 +101,33 @@ pub fn frame_of<'a>(alloc: Global, problem: &'a Problem, root: &Space) -> Result
             })?;
         }
     }
-    match sides.as_slice() {
-        [across, upward] => Ok(Frame {
+    Ok(sides)
+}
+
+// The axis of this name.
+fn side_named<'a>(sides: &[Side<'a>], name: &[u8]) -> Result<Side<'a>, Fault> {
+    for side in sides {
+        if side.name == name {
+            return Ok(*side);
+        }
+    }
+    Err(Fault::NoAxis)
+}
+
+/// The frame of these axes of the problem, whose cover begins with this space.
+pub fn frame_of<'a>(
+    alloc: Global,
+    problem: &'a Problem,
+    root: &Space,
+    axes: Axes<'_>,
+) -> Result<Frame<'a>, Fault> {
+    let sides = sides_of(alloc, problem, root)?;
+    match (axes, sides.as_slice()) {
+        (Axes::Named(across, upward), sides) => Ok(Frame {
+            across: side_named(sides, across)?,
+            upward: side_named(sides, upward)?,
+        }),
+        (Axes::All, [across, upward]) => Ok(Frame {
             across: *across,
             upward: *upward,
         }),

@@ -1,4 +1,5 @@
-// The program `cover_svg SCRIPT CERT`: draws the cover that a certificate describes.
+// The program `cover_svg SCRIPT CERT [ACROSS UPWARD]`: draws the cover that a certificate describes, projected to the Real
+// constants of these two names.
 #![tactic(auto)]
 
 mod drawing;
@@ -11,6 +12,7 @@ mod step;
 
 use drawing::draw;
 use fault::Fault;
+use frame::Axes;
 use std::alloc::Global;
 use std::io::ErrorKind;
 use std::process::ExitCode;
@@ -27,8 +29,13 @@ fn drawn(rt: &HostRuntime, alloc: Global) -> Result<String, Fault> {
         },
     };
     let words = args.collect::<Vec<String>>(alloc)?;
-    let [_, script, cert] = words.as_slice() else {
-        return Err(Fault::Usage);
+    let (script, cert, axes) = match words.as_slice() {
+        [_, script, cert] => (script, cert, Axes::All),
+        [_, script, cert, across, upward] if across != upward => {
+            let named = Axes::Named(across.as_bytes(), upward.as_bytes());
+            (script, cert, named)
+        }
+        _ => return Err(Fault::Usage),
     };
     let Ok(script) = fs::read(rt, script.as_str()) else {
         return Err(Fault::Script);
@@ -36,7 +43,7 @@ fn drawn(rt: &HostRuntime, alloc: Global) -> Result<String, Fault> {
     let Ok(cert) = fs::read(rt, cert.as_str()) else {
         return Err(Fault::Cert);
     };
-    draw(alloc, &script, &cert)
+    draw(alloc, &script, &cert, axes)
 }
 
 fn main(rt: HostRuntime) -> ExitCode {

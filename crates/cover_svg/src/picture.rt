@@ -29,10 +29,12 @@ struct Counts {
     stuck: u64,
 }
 
-/// A picture that boxes are added to.
+/// A picture that boxes are added to. Those that are open or stuck are drawn last, so that in a projection no closed box
+/// hides them.
 #[derive(Drop)]
 pub struct Picture {
     text: String,
+    left: String,
     counts: Counts,
 }
 
@@ -122,7 +124,8 @@ impl Picture {
             open: 0,
             stuck: 0,
         };
-        Ok(Picture { text, counts })
+        let left = String::new(alloc);
+        Ok(Picture { text, left, counts })
     }
 
     /// Adds the box of the space.
@@ -141,8 +144,12 @@ impl Picture {
         );
         let word = fate.word();
         self.counts.add(fate);
+        let text = match fate {
+            Fate::Open | Fate::Stuck => &mut self.left,
+            Fate::Void | Fate::False | Fate::By => &mut self.text,
+        };
         writeln!(
-            self.text,
+            text,
             "<rect class='{word}' x='{x}' y='{y}' width='{width}' height='{height}'/>"
         )
     }
@@ -172,6 +179,7 @@ impl Picture {
     /// The whole text.
     pub fn finish(self) -> Result<String, AllocError> {
         let mut picture = self;
+        picture.text.push_str(picture.left.as_str())?;
         picture.text.push_str("<text y='8852'>")?;
         for fate in [Fate::Void, Fate::False, Fate::By, Fate::Open, Fate::Stuck] {
             picture.add_count(fate)?;
@@ -179,7 +187,11 @@ impl Picture {
         picture.text.push_str(
             "</text>\n<rect class='frame' width='8192' height='8192'/>\n</svg>\n",
         )?;
-        let Picture { text, counts: _ } = picture;
+        let Picture {
+            text,
+            left: _,
+            counts: _,
+        } = picture;
         Ok(text)
     }
 }
