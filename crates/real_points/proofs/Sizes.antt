@@ -1,0 +1,155 @@
+-- Fractions whose size, or whose distance, is at most k over n + 1.
+use Rattle.std.proofs.Common.{◌≡◌, ℕ, zero, suc, negsuc, ◌+◌, ◌*◌, ◌<◌, ◌≤◌, IsTrue, refl, ap, ap₂, sym, ◌∙◌, subst, inl, inr, ◌⊎◌, arith, ℤ, pos, ◌+ℤ◌, ◌*ℤ◌, neg_ℤ, ◌≤ℤ◌, nat_abs, mul-pos, mul-le-mul_right, mul-le-mul_left, le_of_mul-le-mul_right}
+use Rattle.std.proofs.Math.IntN.{*ℤ_comm}
+use Rattle.std.proofs.lemmas.Int.{ints}
+use borrow.Author.Differences.{up, down}
+use Rattle.dyadic.specs.Fraction.{Fraction, IsFraction, zero_fraction, negated, sum_of, difference_of, product_of, at_most}
+use Rattle.dyadic.proofs.Equal.{holds_le, le_holds, through}
+use Rattle.dyadic.proofs.Ints.{nat_abs-neg}
+use Rattle.script_model.proofs.Bounds.{product_is}
+use Rattle.dyadic.proofs.Ring
+use Rattle.dyadic.proofs.Ring.{Is, atom, natural, plus, minus, times, same, below, read_below}
+
+-- ---- sizes of whole numbers
+
+size-sum : (a b : ℤ) → nat_abs (a +ℤ b) ≤ nat_abs a + nat_abs b
+size-sum a b = omega (arith, ints)
+
+size-product : (a b : ℤ) → nat_abs (a *ℤ b) ≡ nat_abs a * nat_abs b
+size-product (pos m) (pos n) = refl
+size-product (pos m) (negsuc n) = nat_abs-neg (pos (m * suc n))
+size-product (negsuc m) (pos n) = nat_abs-neg (pos (suc m * n))
+size-product (negsuc m) (negsuc n) = refl
+
+-- of z = a k + b l
+size-of-two : (z a b : ℤ) (k l : ℕ) → z ≡ (a *ℤ pos k) +ℤ (b *ℤ pos l) → nat_abs z ≤ nat_abs a * k + nat_abs b * l
+size-of-two z a b k l e = rw e (omega (arith, size-sum (a *ℤ pos k) (b *ℤ pos l), size-product a (pos k), size-product b (pos l)))
+
+products : (a b c d : ℕ) → a ≤ b → c ≤ d → a * c ≤ b * d
+products a b c d h k = omega (arith, mul-le-mul_right c h, mul-le-mul_left b k)
+
+-- ---- |q| <= k
+
+pub record IsSized (k : ℕ) (q : Fraction) : Type 0 where
+  pub sized : nat_abs q.num ≤ k * q.den
+
+pub sized_constant : (q : Fraction) → IsFraction q → IsSized (nat_abs q.num) q
+sized_constant q f = record { sized = omega (arith, mul-le-mul_left (nat_abs q.num) f) }
+
+pub sized_negated : (k : ℕ) (q : Fraction) → IsSized k q → IsSized k (negated q)
+unfolding negated
+sized_negated k q h = record { sized = rw (nat_abs-neg q.num) h.sized }
+
+sum-at : (s t b d j k : ℕ) → s ≤ j * b → t ≤ k * d → s * d + t * b ≤ (j + k) * (b * d)
+sum-at s t b d j k h i = omega (arith, mul-le-mul_right d h, mul-le-mul_right b i)
+
+pub sized_sum : (j k : ℕ) (p q : Fraction) → IsSized j p → IsSized k q → IsSized (j + k) (sum_of p q)
+unfolding sum_of
+sized_sum j k p q h i = record {
+  sized = omega (arith, size-of-two ((p.num *ℤ pos q.den) +ℤ (q.num *ℤ pos p.den)) p.num q.num q.den p.den refl, sum-at (nat_abs p.num) (nat_abs q.num) p.den q.den j k h.sized i.sized);
+}
+
+pub sized_product : (j k : ℕ) (p q : Fraction) → IsSized j p → IsSized k q → IsSized (j * k) (product_of p q)
+unfolding product_of
+sized_product j k p q h i = record { sized = omega (arith, size-product p.num q.num, products (nat_abs p.num) (j * p.den) (nat_abs q.num) (k * q.den) h.sized i.sized) }
+
+-- ---- |p - q| <= k / (n + 1)
+
+pub record IsClose (k n : ℕ) (p q : Fraction) : Type 0 where
+  pub close : nat_abs ((p.num *ℤ pos q.den) +ℤ (neg_ℤ q.num *ℤ pos p.den)) * suc n ≤ k * (p.den * q.den)
+
+-- the numerator of a / b - c / d
+abbrev gap : ℤ → ℤ → ℕ → ℕ → ℤ
+gap a c b d = (a *ℤ pos d) +ℤ (neg_ℤ c *ℤ pos b)
+
+-- the same as a product of differences, to compare by `same`
+gap-sum : (a u a' u' : ℤ) (b v b' v' : ℕ) → gap ((a *ℤ pos v) +ℤ (u *ℤ pos b)) ((a' *ℤ pos v') +ℤ (u' *ℤ pos b')) (b * v) (b' * v') ≡
+    (gap a a' b b' *ℤ pos (v * v')) +ℤ (gap u u' v v' *ℤ pos (b * b'))
+gap-sum a u a' u' b v b' v' = same
+    (plus (times (plus (times (atom a) (natural v)) (times (atom u) (natural b))) (natural (b' * v'))) (times (minus (plus (times (atom a') (natural v')) (times (atom u') (natural b')))) (natural (b * v))))
+    (plus (times (plus (times (atom a) (natural b')) (times (minus (atom a')) (natural b))) (natural (v * v'))) (times (plus (times (atom u) (natural v')) (times (minus (atom u')) (natural v))) (natural (b * b'))))
+    (omega arith)
+
+gap-chain : (a a' a'' : ℤ) (b b' b'' : ℕ) → gap a a'' b b'' *ℤ pos b' ≡ (gap a a' b b' *ℤ pos b'') +ℤ (gap a' a'' b' b'' *ℤ pos b)
+gap-chain a a' a'' b b' b'' = same
+    (times (plus (times (atom a) (natural b'')) (times (minus (atom a'')) (natural b))) (natural b'))
+    (plus (times (plus (times (atom a) (natural b')) (times (minus (atom a')) (natural b))) (natural b'')) (times (plus (times (atom a') (natural b'')) (times (minus (atom a'')) (natural b'))) (natural b)))
+    (omega arith)
+
+gap-scaled : (a u u' : ℤ) (b v v' : ℕ) → gap (a *ℤ u) (a *ℤ u') (b * v) (b * v') ≡ (a *ℤ gap u u' v v') *ℤ pos b
+gap-scaled a u u' b v v' = same
+    (plus (times (times (atom a) (atom u)) (natural (b * v'))) (times (minus (times (atom a) (atom u'))) (natural (b * v))))
+    (times (times (atom a) (plus (times (atom u) (natural v')) (times (minus (atom u')) (natural v)))) (natural b))
+    (omega arith)
+
+gap-turned : (a c : ℤ) (b d : ℕ) → gap c a d b ≡ neg_ℤ (gap a c b d)
+gap-turned a c b d = same
+    (plus (times (atom c) (natural b)) (times (minus (atom a)) (natural d)))
+    (minus (plus (times (atom a) (natural d)) (times (minus (atom c)) (natural b))))
+    (omega arith)
+
+gap-itself : (a : ℤ) (b : ℕ) → gap a a b b ≡ pos 0
+gap-itself a b = same (plus (times (atom a) (natural b)) (times (minus (atom a)) (natural b))) (natural 0) (omega arith)
+
+gap-negated : (a c : ℤ) (b d : ℕ) → gap (neg_ℤ a) (neg_ℤ c) b d ≡ neg_ℤ (gap a c b d)
+gap-negated a c b d = same
+    (plus (times (minus (atom a)) (natural d)) (times (minus (minus (atom c))) (natural b)))
+    (minus (plus (times (atom a) (natural d)) (times (minus (atom c)) (natural b))))
+    (omega arith)
+
+pub close_itself : (k n : ℕ) (p : Fraction) → IsClose k n p p
+close_itself k n p = record { close = rw (gap-itself p.num p.den) (omega arith) }
+
+pub close_turned : (k n : ℕ) (p q : Fraction) → IsClose k n p q → IsClose k n q p
+close_turned k n p q h = record { close = rw (gap-turned p.num q.num p.den q.den, nat_abs-neg (gap p.num q.num p.den q.den)) (omega (arith, h.close)) }
+
+pub close_negated : (k n : ℕ) (p q : Fraction) → IsClose k n p q → IsClose k n (negated p) (negated q)
+unfolding negated
+close_negated k n p q h = record { close = rw (gap-negated p.num q.num p.den q.den, nat_abs-neg (gap p.num q.num p.den q.den)) h.close }
+
+-- x <= s c' + t c where s N <= j b, t N <= k c
+joined : (x s t c d N j k b e : ℕ) → x ≤ s * c + t * d → s * N ≤ j * b → t * N ≤ k * e → x * N ≤ j * (b * c) + k * (e * d)
+joined x s t c d N j k b e h i l = omega (arith, mul-le-mul_right N h, mul-le-mul_right c i, mul-le-mul_right d l)
+
+pub close_sum : (j k n : ℕ) (p q r s : Fraction) → IsClose j n p q → IsClose k n r s → IsClose (j + k) n (sum_of p r) (sum_of q s)
+unfolding sum_of
+close_sum j k n p q r s h i =
+    let b = p.den * q.den in let v = r.den * s.den in
+    let x = gap ((p.num *ℤ pos r.den) +ℤ (r.num *ℤ pos p.den)) ((q.num *ℤ pos s.den) +ℤ (s.num *ℤ pos q.den)) (p.den * r.den) (q.den * s.den) in
+    let f = gap p.num q.num p.den q.den in let g = gap r.num s.num r.den s.den in
+    let e : nat_abs x ≤ nat_abs f * v + nat_abs g * b = size-of-two x f g v b (gap-sum p.num r.num q.num s.num p.den r.den q.den s.den) in
+    let l : nat_abs x * suc n ≤ j * (b * v) + k * (v * b) = joined (nat_abs x) (nat_abs f) (nat_abs g) v b (suc n) j k b v e h.close i.close in
+    record { close = omega (arith, l) }
+
+pub close_chain : (j k n : ℕ) (p q r : Fraction) → IsFraction q → IsClose j n p q → IsClose k n q r → IsClose (j + k) n p r
+close_chain j k n p q r f h i =
+    let x = gap p.num r.num p.den r.den in
+    let d = gap p.num q.num p.den q.den in let g = gap q.num r.num q.den r.den in
+    let e : nat_abs (x *ℤ pos q.den) ≤ nat_abs d * r.den + nat_abs g * p.den = size-of-two (x *ℤ pos q.den) d g r.den p.den (gap-chain p.num q.num r.num p.den q.den r.den) in
+    let l : nat_abs (x *ℤ pos q.den) * suc n ≤ j * (p.den * q.den * r.den) + k * (q.den * r.den * p.den) = joined (nat_abs (x *ℤ pos q.den)) (nat_abs d) (nat_abs g) r.den p.den (suc n) j k (p.den * q.den) (q.den * r.den) e h.close i.close in
+    let m : (nat_abs x * suc n) * q.den ≤ ((j + k) * (p.den * r.den)) * q.den = omega (arith, l, ap (λ y. y * suc n) (size-product x (pos q.den))) in
+    record { close = le_of_mul-le-mul_right m f }
+
+scaled-at : (s t b N V d v : ℕ) → s ≤ V * b → t * N ≤ d * v → (s * t * b) * N ≤ (V * d) * (b * b * v)
+scaled-at s t b N V d v h k = omega (arith, mul-le-mul_right b (products s (V * b) (t * N) (d * v) h k))
+
+pub close_scaled : (j k n : ℕ) (p r s : Fraction) → IsSized j p → IsClose k n r s → IsClose (j * k) n (product_of p r) (product_of p s)
+unfolding product_of
+close_scaled j k n p r s h i =
+    let g = gap r.num s.num r.den s.den in
+    let x = gap (p.num *ℤ r.num) (p.num *ℤ s.num) (p.den * r.den) (p.den * s.den) in
+    let e : nat_abs x ≡ nat_abs p.num * nat_abs g * p.den = ap nat_abs (gap-scaled p.num r.num s.num p.den r.den s.den) ∙ size-product (p.num *ℤ g) (pos p.den) ∙ ap (λ y. y * p.den) (size-product p.num g) in
+    let l : (nat_abs p.num * nat_abs g * p.den) * suc n ≤ (j * k) * (p.den * p.den * (r.den * s.den)) = scaled-at (nat_abs p.num) (nat_abs g) p.den (suc n) j k (r.den * s.den) h.sized i.close in
+    record { close = rw e (omega (arith, l)) }
+
+product-turned : (p q : Fraction) → product_of p q ≡ product_of q p
+unfolding product_of
+product-turned p q = ap₂ (λ (x : ℤ) (y : ℕ). record { num = x; den = y }) (*ℤ_comm p.num q.num) (omega arith)
+
+-- |p r - q s| <= |p| |r - s| + |s| |p - q|
+pub close_product : (j k l m n : ℕ) (p q r s : Fraction) → IsFraction p → IsFraction s → IsSized j p → IsSized k s → IsClose l n p q → IsClose m n r s →
+    IsClose (j * m + k * l) n (product_of p r) (product_of q s)
+close_product j k l m n p q r s f g h i c d =
+    close_chain (j * m) (k * l) n (product_of p r) (product_of p s) (product_of q s) (product_is p s f g)
+    (close_scaled j m n p r s h d)
+    (rw (product-turned p s, product-turned q s) (close_scaled k l n s p q i c))

@@ -1,0 +1,2 @@
+//! Real points.
+#![tactic(auto)]
