@@ -1,5 +1,5 @@
 -- Fractions whose size, or whose distance, is at most k over n + 1.
-use Rattle.std.proofs.Common.{◌≡◌, ℕ, zero, suc, negsuc, ◌+◌, ◌*◌, ◌<◌, ◌≤◌, IsTrue, refl, ap, ap₂, sym, ◌∙◌, subst, inl, inr, ◌⊎◌, arith, ℤ, pos, ◌+ℤ◌, ◌*ℤ◌, neg_ℤ, ◌≤ℤ◌, nat_abs, mul-pos, mul-le-mul_right, mul-le-mul_left, le_of_mul-le-mul_right}
+use Rattle.std.proofs.Common.{◌≡◌, ℕ, zero, suc, negsuc, ◌+◌, ◌*◌, ◌<◌, ◌≤◌, IsTrue, refl, ap, ap₂, sym, ◌∙◌, subst, inl, inr, ◌⊎◌, arith, ℤ, pos, ◌+ℤ◌, ◌*ℤ◌, neg_ℤ, ◌≤ℤ◌, nat_abs, mul-pos, mul-le-mul_right, mul-le-mul_left, le_of_mul-le-mul_right, zero-le}
 use Rattle.std.proofs.Math.IntN.{*ℤ_comm}
 use Rattle.std.proofs.lemmas.Int.{ints}
 use borrow.Author.Differences.{up, down}
@@ -7,6 +7,7 @@ use Rattle.dyadic.specs.Fraction.{Fraction, IsFraction, zero_fraction, negated, 
 use Rattle.dyadic.proofs.Equal.{holds_le, le_holds, through}
 use Rattle.dyadic.proofs.Ints.{nat_abs-neg}
 use Rattle.script_model.proofs.Bounds.{product_is}
+use Rattle.real_points.specs.Real.{IsWithin}
 use Rattle.dyadic.proofs.Ring
 use Rattle.dyadic.proofs.Ring.{Is, atom, natural, plus, minus, times, same, below, read_below}
 
@@ -153,3 +154,71 @@ close_product j k l m n p q r s f g h i c d =
     close_chain (j * m) (k * l) n (product_of p r) (product_of p s) (product_of q s) (product_is p s f g)
     (close_scaled j m n p r s h d)
     (rw (product-turned p s, product-turned q s) (close_scaled k l n s p q i c))
+
+-- ---- from distances to orders and back
+
+-- k over n + 1
+abbrev pub ratio : ℕ → ℕ → Fraction
+ratio k n = record { num = pos k; den = suc n }
+
+size-view : (z : ℤ) (p n : ℕ) → Is z p n → (p ≤ n + nat_abs z) × (n ≤ p + nat_abs z)
+size-view z p n h = (omega (arith, ints, h.is), omega (arith, ints, h.is))
+
+gap-view : (a c : ℤ) (b d : ℕ) → (up a * d + down c * b ≤ down a * d + up c * b + nat_abs (gap a c b d)) × (down a * d + up c * b ≤ up a * d + down c * b + nat_abs (gap a c b d))
+gap-view a c b d = let h = size-view (gap a c b d) _ _ (plus (times (atom a) (natural d)) (times (minus (atom c)) (natural b))) in (omega (arith, h.0), omega (arith, h.1))
+
+above-at : (a c : ℤ) (b d k N : ℕ) → nat_abs (gap a c b d) * N ≤ k * (b * d) → (c *ℤ pos (b * N)) ≤ℤ (((a *ℤ pos N) +ℤ (pos k *ℤ pos b)) *ℤ pos d)
+above-at a c b d k N h = below (times (atom c) (natural (b * N))) (times (plus (times (atom a) (natural N)) (times (natural k) (natural b))) (natural d))
+    (omega (arith, h, mul-le-mul_right N (gap-view a c b d).1))
+
+-- q <= p + k / (n + 1)
+pub close_above : (k n : ℕ) (p q : Fraction) → IsClose k n p q → IsTrue (at_most q (sum_of p (ratio k n)))
+unfolding at_most sum_of
+close_above k n p q h = le_holds _ _ (above-at p.num q.num p.den q.den k (suc n) h.close)
+
+below-at : (a c : ℤ) (b d k N : ℕ) → nat_abs (gap a c b d) * N ≤ k * (b * d) → (((a *ℤ pos N) +ℤ (neg_ℤ (pos k) *ℤ pos b)) *ℤ pos d) ≤ℤ (c *ℤ pos (b * N))
+below-at a c b d k N h = below (times (plus (times (atom a) (natural N)) (times (minus (natural k)) (natural b))) (natural d)) (times (atom c) (natural (b * N)))
+    (omega (arith, h, mul-le-mul_right N (gap-view a c b d).0))
+
+-- p - k / (n + 1) <= q
+pub close_below : (k n : ℕ) (p q : Fraction) → IsClose k n p q → IsTrue (at_most (difference_of p (ratio k n)) q)
+unfolding at_most sum_of negated
+close_below k n p q h = le_holds _ _ (below-at p.num q.num p.den q.den k (suc n) h.close)
+
+size-below : (z : ℤ) (p n t : ℕ) → Is z p n → p ≤ n + t → n ≤ p + t → nat_abs z ≤ t
+size-below z p n t h k l = omega (arith, ints, h.is)
+
+-- a distance of at most x / y
+within-at : (a c : ℤ) (b d x y : ℕ) → (gap a c b d *ℤ pos y) ≤ℤ (pos x *ℤ pos (b * d)) → (gap c a d b *ℤ pos y) ≤ℤ (pos x *ℤ pos (d * b)) → nat_abs (gap a c b d *ℤ pos y) ≤ x * (b * d)
+within-at a c b d x y h k =
+    let f = times (plus (times (atom a) (natural d)) (times (minus (atom c)) (natural b))) (natural y) in
+    let g = times (plus (times (atom c) (natural b)) (times (minus (atom a)) (natural d))) (natural y) in
+    size-below (gap a c b d *ℤ pos y) _ _ (x * (b * d)) f
+    (omega (arith, read_below f (times (natural x) (natural (b * d))) h))
+    (omega (arith, read_below g (times (natural x) (natural (d * b))) k))
+
+pub within_sized : (x y : ℕ) (p q : Fraction) → IsWithin (record { num = pos x; den = y }) p q → nat_abs (gap p.num q.num p.den q.den) * y ≤ x * (p.den * q.den)
+unfolding at_most sum_of negated
+within_sized x y p q h =
+    rw (← size-product (gap p.num q.num p.den q.den) (pos y)) (within-at p.num q.num p.den q.den x y (holds_le _ _ h.0) (holds_le _ _ h.1))
+
+pub close_more : (j k n : ℕ) (p q : Fraction) → j ≤ k → IsClose j n p q → IsClose k n p q
+close_more j k n p q l h = record { close = omega (arith, h.close, mul-le-mul_right (p.den * q.den) l) }
+
+pub sized_more : (j k : ℕ) (p : Fraction) → j ≤ k → IsSized j p → IsSized k p
+sized_more j k p l h = record { sized = omega (arith, h.sized, mul-le-mul_right p.den l) }
+
+-- what is close to a sized fraction is sized
+gap-other : (a c : ℤ) (b d : ℕ) → c *ℤ pos b ≡ (a *ℤ pos d) +ℤ (neg_ℤ (gap a c b d) *ℤ pos 1)
+gap-other a c b d = same (times (atom c) (natural b))
+    (plus (times (atom a) (natural d)) (times (minus (plus (times (atom a) (natural d)) (times (minus (atom c)) (natural b)))) (natural 1)))
+    (omega arith)
+
+apart-at : (a c : ℤ) (b d k N j : ℕ) → nat_abs (gap a c b d) * suc N ≤ k * (b * d) → nat_abs a ≤ j * b → nat_abs c * b ≤ ((j + k) * d) * b
+apart-at a c b d k N j h s =
+    let e : nat_abs (c *ℤ pos b) ≤ nat_abs a * d + nat_abs (neg_ℤ (gap a c b d)) * 1 = size-of-two (c *ℤ pos b) a (neg_ℤ (gap a c b d)) d 1 (gap-other a c b d) in
+    let g : nat_abs (gap a c b d) ≤ k * (b * d) = omega (arith, h) in
+    omega (arith, size-product c (pos b), e, g, nat_abs-neg (gap a c b d), mul-le-mul_right d s)
+
+pub sized_beside : (j k n : ℕ) (p q : Fraction) → IsFraction p → IsSized j p → IsClose k n p q → IsSized (j + k) q
+sized_beside j k n p q f h i = record { sized = le_of_mul-le-mul_right (apart-at p.num q.num p.den q.den k n j i.close h.sized) f }
