@@ -1,3 +1,4 @@
 mod Sizes
 mod Terms
 mod Moves
+mod Points

@@ -18,7 +18,7 @@ use Rattle.script_forms.proofs.Good.{script_good}
 use Rattle.real_points.proofs.Sizes.{IsSized, IsClose, ratio, close_above, close_below, close_more}
 use Rattle.real_points.proofs.Terms.{rate_of, rate_of_all, AreClose, Values, values}
 
-own : (q : Fraction) → IsTrue (at_most q q)
+pub own : (q : Fraction) → IsTrue (at_most q q)
 own q = elim (total q q) [ inl h ↦ h | inr h ↦ h ]
 
 negated-sum-at : (a c : ℤ) (b d : ℕ) → (neg_ℤ ((a *ℤ pos d) +ℤ (c *ℤ pos b)) *ℤ pos (b * d)) ≤ℤ (((neg_ℤ a *ℤ pos d) +ℤ (neg_ℤ c *ℤ pos b)) *ℤ pos (b * d))
@@ -29,22 +29,22 @@ negated-sum : (p q : Fraction) → IsTrue (at_most (negated (sum_of p q)) (sum_o
 unfolding at_most negated sum_of
 negated-sum p q = le_holds _ _ (negated-sum-at p.num q.num p.den q.den)
 
-ratio-is : (k n : ℕ) → IsFraction (ratio k n)
-ratio-is k n = omega arith
+pub ratio_is : (k n : ℕ) → IsFraction (ratio k n)
+ratio_is k n = omega arith
 
 module _ (k n : ℕ) (m m' : Fraction) (f : IsFraction m) (step : IsTrue (at_most (sum_of m (ratio k n)) m')) where
   above-moves : (v w : Fraction) → IsFraction v → IsClose k n v w → IsTrue (at_most v m) → IsTrue (at_most w m')
   above-moves v w g c h =
       let s = ratio k n in
-      through w (sum_of v s) m' (sum_is v s g (ratio-is k n)) (close_above k n v w c)
-      (through (sum_of v s) (sum_of m s) m' (sum_is m s f (ratio-is k n)) (sum_mono v s m s h (own s)) step)
+      through w (sum_of v s) m' (sum_is v s g (ratio_is k n)) (close_above k n v w c)
+      (through (sum_of v s) (sum_of m s) m' (sum_is m s f (ratio_is k n)) (sum_mono v s m s h (own s)) step)
 
   below-moves : (v w : Fraction) → IsFraction v → IsClose k n v w → IsTrue (at_most (negated m) v) → IsTrue (at_most (negated m') w)
   below-moves v w g c h =
       let s = ratio k n in
-      through (negated m') (negated (sum_of m s)) w (negated_is (sum_of m s) (sum_is m s f (ratio-is k n))) (negated_mono (sum_of m s) m' step)
-      (through (negated (sum_of m s)) (sum_of (negated m) (negated s)) w (sum_is (negated m) (negated s) (negated_is m f) (negated_is s (ratio-is k n))) (negated-sum m s)
-      (through (sum_of (negated m) (negated s)) (sum_of v (negated s)) w (sum_is v (negated s) g (negated_is s (ratio-is k n))) (sum_mono (negated m) (negated s) v (negated s) h (own (negated s))) (close_below k n v w c)))
+      through (negated m') (negated (sum_of m s)) w (negated_is (sum_of m s) (sum_is m s f (ratio_is k n))) (negated_mono (sum_of m s) m' step)
+      (through (negated (sum_of m s)) (sum_of (negated m) (negated s)) w (sum_is (negated m) (negated s) (negated_is m f) (negated_is s (ratio_is k n))) (negated-sum m s)
+      (through (sum_of (negated m) (negated s)) (sum_of v (negated s)) w (sum_is v (negated s) g (negated_is s (ratio_is k n))) (sum_mono (negated m) (negated s) v (negated s) h (own (negated s))) (close_below k n v w c)))
 
   range-moves : (kind : Kind) (v w : Fraction) → IsFraction v → IsClose k n v w → IsTrue (in_range m kind v) → IsTrue (in_range m' kind w)
   range-moves le v w g c h = above-moves v w g c h
@@ -71,17 +71,14 @@ bools-same b c n (bool_sort ∷ sorts) (at_bool x ∷ ps) (at_bool y ∷ qs) h z
 bools-same b c n (bool_sort ∷ sorts) (at_bool x ∷ ps) (at_bool y ∷ qs) h (suc axis) v k = bools-same b c n sorts ps qs h.1 axis v k
 bools-same b c n sorts ps qs h axis v k = elim h [ ]
 
-points-left : (b c n : ℕ) (sorts : List Sort) (ps qs : List Coordinate) → AreClose b c n sorts ps qs → IsPoint sorts ps × IsPoint sorts qs
-points-left b c n [] [] [] h = (tt, tt)
-points-left b c n (real_sort ∷ sorts) (at_fraction p ∷ ps) (at_fraction q ∷ qs) h = let k = points-left b c n sorts ps qs h.1 in ((h.0.0, k.0), (h.0.1, k.1))
-points-left b c n (bool_sort ∷ sorts) (at_bool x ∷ ps) (at_bool y ∷ qs) h = points-left b c n sorts ps qs h.1
-points-left b c n sorts ps qs h = elim h [ ]
+pub points_left : (b c n : ℕ) (sorts : List Sort) (ps qs : List Coordinate) → AreClose b c n sorts ps qs → IsPoint sorts ps × IsPoint sorts qs
+points_left b c n [] [] [] h = (tt, tt)
+points_left b c n (real_sort ∷ sorts) (at_fraction p ∷ ps) (at_fraction q ∷ qs) h = let k = points_left b c n sorts ps qs h.1 in ((h.0.0, k.0), (h.0.1, k.1))
+points_left b c n (bool_sort ∷ sorts) (at_bool x ∷ ps) (at_bool y ∷ qs) h = points_left b c n sorts ps qs h.1
+points_left b c n sorts ps qs h = elim h [ ]
 
 module _ (script : List Command) (e : unfolding_fault script ≡ None) (b c n : ℕ) (ps qs : List Coordinate) (near : AreClose b c n (sorts_of script) ps qs) (m m' : Fraction) (f : IsFraction m)
     (step : IsTrue (at_most (sum_of m (ratio (rate_of_all b c (script_atoms script)) n)) m')) where
-  atom-at : ℕ → Atom
-  atom-at j = slice_index_or (script_atoms script) j no_atom
-
   atom-moves : (j : ℕ) → IsTrue (atom_holds m ps (slice_index_or (script_atoms script) j no_atom)) → IsTrue (atom_holds m' qs (slice_index_or (script_atoms script) j no_atom))
   atom-moves j h =
       let a = slice_index_or (script_atoms script) j no_atom in
@@ -92,7 +89,7 @@ module _ (script : List Command) (e : unfolding_fault script ≡ None) (b c n : 
   -- at a close point the script holds, loosened by so much more
   pub script_moves : Satisfies m ps script → Satisfies m' qs script
   script_moves h =
-      let i = points-left b c n (sorts_of script) ps qs near in
+      let i = points_left b c n (sorts_of script) ps qs near in
       (script_means script e m' qs i.1).0
       (rises (λ j. atom_holds m ps (slice_index_or (script_atoms script) j no_atom)) (λ j. atom_holds m' qs (slice_index_or (script_atoms script) j no_atom)) (bool_holds ps) (bool_holds qs)
       atom-moves (bools-same b c n (sorts_of script) ps qs near) (script_form script) ((script_means script e m ps i.0).1 h))

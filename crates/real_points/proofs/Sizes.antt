@@ -1,5 +1,5 @@
 -- Fractions whose size, or whose distance, is at most k over n + 1.
-use Rattle.std.proofs.Common.{◌≡◌, ℕ, zero, suc, negsuc, ◌+◌, ◌*◌, ◌<◌, ◌≤◌, IsTrue, refl, ap, ap₂, sym, ◌∙◌, subst, inl, inr, ◌⊎◌, arith, ℤ, pos, ◌+ℤ◌, ◌*ℤ◌, neg_ℤ, ◌≤ℤ◌, nat_abs, mul-pos, mul-le-mul_right, mul-le-mul_left, le_of_mul-le-mul_right, zero-le}
+use Rattle.std.proofs.Common.{◌≡◌, ℕ, zero, suc, negsuc, ◌+◌, ◌*◌, ◌<◌, ◌≤◌, IsTrue, refl, ap, ap₂, sym, ◌∙◌, subst, inl, inr, ◌⊎◌, arith, ℤ, pos, ◌+ℤ◌, ◌*ℤ◌, neg_ℤ, ◌≤ℤ◌, nat_abs, mul-pos, mul-le-mul_right, mul-le-mul_left, le_of_mul-le-mul_right, lt_of_mul-lt-mul_right}
 use Rattle.std.proofs.Math.IntN.{*ℤ_comm}
 use Rattle.std.proofs.lemmas.Int.{ints}
 use borrow.Author.Differences.{up, down}
@@ -7,7 +7,7 @@ use Rattle.dyadic.specs.Fraction.{Fraction, IsFraction, zero_fraction, negated, 
 use Rattle.dyadic.proofs.Equal.{holds_le, le_holds, through}
 use Rattle.dyadic.proofs.Ints.{nat_abs-neg}
 use Rattle.script_model.proofs.Bounds.{product_is}
-use Rattle.real_points.specs.Real.{IsWithin}
+use Rattle.real_points.specs.Real.{IsWithin, part}
 use Rattle.dyadic.proofs.Ring
 use Rattle.dyadic.proofs.Ring.{Is, atom, natural, plus, minus, times, same, below, read_below}
 
@@ -222,3 +222,83 @@ apart-at a c b d k N j h s =
 
 pub sized_beside : (j k n : ℕ) (p q : Fraction) → IsFraction p → IsSized j p → IsClose k n p q → IsSized (j + k) q
 sized_beside j k n p q f h i = record { sized = le_of_mul-le-mul_right (apart-at p.num q.num p.den q.den k n j i.close h.sized) f }
+
+from-at : (a c : ℤ) (b d k N : ℕ) → (c *ℤ pos (b * N)) ≤ℤ (((a *ℤ pos N) +ℤ (pos k *ℤ pos b)) *ℤ pos d) → (a *ℤ pos (d * N)) ≤ℤ (((c *ℤ pos N) +ℤ (pos k *ℤ pos d)) *ℤ pos b) →
+    nat_abs (gap a c b d *ℤ pos N) ≤ k * (b * d)
+from-at a c b d k N h i = size-below (gap a c b d *ℤ pos N) _ _ (k * (b * d)) (times (plus (times (atom a) (natural d)) (times (minus (atom c)) (natural b))) (natural N))
+    (omega (arith, read_below (times (atom a) (natural (d * N))) (times (plus (times (atom c) (natural N)) (times (natural k) (natural d))) (natural b)) i))
+    (omega (arith, read_below (times (atom c) (natural (b * N))) (times (plus (times (atom a) (natural N)) (times (natural k) (natural b))) (natural d)) h))
+
+-- q <= p + k / (n + 1) and p <= q + k / (n + 1)
+pub close_from : (k n : ℕ) (p q : Fraction) → IsTrue (at_most q (sum_of p (ratio k n))) → IsTrue (at_most p (sum_of q (ratio k n))) → IsClose k n p q
+unfolding at_most sum_of
+close_from k n p q h i = record { close = rw (← size-product (gap p.num q.num p.den q.den) (pos (suc n))) (from-at p.num q.num p.den q.den k (suc n) (holds_le _ _ h) (holds_le _ _ i)) }
+
+grown-at : (a : ℤ) (b k N : ℕ) → (a *ℤ pos (b * N)) ≤ℤ (((a *ℤ pos N) +ℤ (pos k *ℤ pos b)) *ℤ pos b)
+grown-at a b k N = below (times (atom a) (natural (b * N))) (times (plus (times (atom a) (natural N)) (times (natural k) (natural b))) (natural b)) (omega arith)
+
+-- q <= q + k / (n + 1)
+pub grown : (k n : ℕ) (q : Fraction) → IsTrue (at_most q (sum_of q (ratio k n)))
+unfolding at_most sum_of
+grown k n q = le_holds _ _ (grown-at q.num q.den k (suc n))
+
+across-at : (a c : ℤ) (b d k N : ℕ) → (((a *ℤ pos N) +ℤ (neg_ℤ (pos k) *ℤ pos b)) *ℤ pos d) ≤ℤ (c *ℤ pos (b * N)) → (a *ℤ pos (d * N)) ≤ℤ (((c *ℤ pos N) +ℤ (pos k *ℤ pos d)) *ℤ pos b)
+across-at a c b d k N h = below (times (atom a) (natural (d * N))) (times (plus (times (atom c) (natural N)) (times (natural k) (natural d))) (natural b))
+    (omega (arith, read_below (times (plus (times (atom a) (natural N)) (times (minus (natural k)) (natural b))) (natural d)) (times (atom c) (natural (b * N))) h))
+
+-- p - k / (n + 1) <= q gives p <= q + k / (n + 1)
+pub across : (k n : ℕ) (p q : Fraction) → IsTrue (at_most (difference_of p (ratio k n)) q) → IsTrue (at_most p (sum_of q (ratio k n)))
+unfolding at_most sum_of negated
+across k n p q h = le_holds _ _ (across-at p.num q.num p.den q.den k (suc n) (holds_le _ _ h))
+
+-- ---- what is so up to every 1 / (n + 1) is so
+
+squeezed : (p q t : ℕ) → p * suc (2 * t) ≤ q * suc (2 * t) + 2 * t → p ≤ q
+squeezed p q t h = let l : p * suc (2 * t) < suc q * suc (2 * t) = omega (arith, h) in let k : p < suc q = lt_of_mul-lt-mul_right (suc (2 * t)) l in omega (arith, k)
+
+limit-at : (a c : ℤ) (b d : ℕ) → (c *ℤ pos (b * suc (2 * (b * d)))) ≤ℤ (((a *ℤ pos (suc (2 * (b * d)))) +ℤ (pos 2 *ℤ pos b)) *ℤ pos d) → (c *ℤ pos b) ≤ℤ (a *ℤ pos d)
+limit-at a c b d h = below (times (atom c) (natural b)) (times (atom a) (natural d))
+    (squeezed _ _ (b * d) (omega (arith, read_below (times (atom c) (natural (b * suc (2 * (b * d))))) (times (plus (times (atom a) (natural (suc (2 * (b * d))))) (times (natural 2) (natural b))) (natural d)) h)))
+
+-- q <= p + 2 / (n + 1) for all n gives q <= p
+pub limit : (p q : Fraction) → ((n : ℕ) → IsTrue (at_most q (sum_of p (ratio 2 n)))) → IsTrue (at_most q p)
+unfolding at_most sum_of
+limit p q h = le_holds _ _ (limit-at p.num q.num p.den q.den (holds_le _ _ (h (2 * (p.den * q.den)))))
+
+-- q <= r + k / (n + 1), r <= p + k / (n + 1)
+twice-at : (a e c : ℤ) (b f d N : ℕ) → 0 < f → (c *ℤ pos (f * N)) ≤ℤ (((e *ℤ pos N) +ℤ (pos 1 *ℤ pos f)) *ℤ pos d) → (e *ℤ pos (b * N)) ≤ℤ (((a *ℤ pos N) +ℤ (pos 1 *ℤ pos b)) *ℤ pos f) →
+    (c *ℤ pos (b * N)) ≤ℤ (((a *ℤ pos N) +ℤ (pos 2 *ℤ pos b)) *ℤ pos d)
+twice-at a e c b f d N g h i = below (times (atom c) (natural (b * N))) (times (plus (times (atom a) (natural N)) (times (natural 2) (natural b))) (natural d))
+    (le_of_mul-le-mul_right {k = f} (omega (
+      arith,
+      mul-le-mul_right b (read_below (times (atom c) (natural (f * N))) (times (plus (times (atom e) (natural N)) (times (natural 1) (natural f))) (natural d)) h),
+      mul-le-mul_right d (read_below (times (atom e) (natural (b * N))) (times (plus (times (atom a) (natural N)) (times (natural 1) (natural b))) (natural f)) i),
+    )) g)
+
+pub twice : (n : ℕ) (p r q : Fraction) → IsFraction r → IsTrue (at_most q (sum_of r (ratio 1 n))) → IsTrue (at_most r (sum_of p (ratio 1 n))) → IsTrue (at_most q (sum_of p (ratio 2 n)))
+unfolding at_most sum_of
+twice n p r q f h i = le_holds _ _ (twice-at p.num r.num q.num p.den r.den q.den (suc n) f (holds_le _ _ h) (holds_le _ _ i))
+
+-- ---- steps of a loosening
+
+added-at : (x p q c : ℤ) (y d f e : ℕ) → (((p *ℤ pos f) +ℤ (q *ℤ pos d)) *ℤ pos e) ≤ℤ (c *ℤ pos (d * f)) →
+    (((((x *ℤ pos d) +ℤ (p *ℤ pos y)) *ℤ pos f) +ℤ (q *ℤ pos (y * d))) *ℤ pos (y * e)) ≤ℤ (((x *ℤ pos e) +ℤ (c *ℤ pos y)) *ℤ pos (y * d * f))
+added-at x p q c y d f e h = below
+    (times (plus (times (plus (times (atom x) (natural d)) (times (atom p) (natural y))) (natural f)) (times (atom q) (natural (y * d)))) (natural (y * e)))
+    (times (plus (times (atom x) (natural e)) (times (atom c) (natural y))) (natural (y * d * f)))
+    (omega (arith, mul-le-mul_right (y * y) (read_below (times (plus (times (atom p) (natural f)) (times (atom q) (natural d))) (natural e)) (times (atom c) (natural (d * f))) h)))
+
+added : (m p q c : Fraction) → IsTrue (at_most (sum_of p q) c) → IsTrue (at_most (sum_of (sum_of m p) q) (sum_of m c))
+unfolding at_most sum_of
+added m p q c h = le_holds _ _ (added-at m.num p.num q.num c.num m.den p.den q.den c.den (holds_le _ _ h))
+
+halves-at : (r k N : ℕ) → 2 * r * suc k ≤ N → (1 * N + r * suc (2 * k + 1)) * suc k ≤ 1 * (suc (2 * k + 1) * N)
+halves-at r k N h = omega (arith, mul-le-mul_right (suc k) h)
+
+halves : (r k n : ℕ) → 2 * r * suc k ≤ suc n → IsTrue (at_most (sum_of (part (2 * k + 1)) (ratio r n)) (part k))
+unfolding at_most sum_of
+halves r k n h = le_holds _ _ (below (natural ((1 * suc n + r * suc (2 * k + 1)) * suc k)) (natural (1 * (suc (2 * k + 1) * suc n))) (omega (arith, halves-at r k (suc n) h)))
+
+-- m + 1 / (2 k + 2) + r / (n + 1) is at most m + 1 / (k + 1)
+pub step_halves : (m : Fraction) (r k n : ℕ) → 2 * r * suc k ≤ suc n → IsTrue (at_most (sum_of (sum_of m (part (2 * k + 1))) (ratio r n)) (sum_of m (part k)))
+step_halves m r k n h = added m (part (2 * k + 1)) (ratio r n) (part k) (halves r k n h)
