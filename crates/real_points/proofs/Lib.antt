@@ -2,3 +2,4 @@ mod Sizes
 mod Terms
 mod Moves
 mod Points
+pub mod Truth

@@ -1,2 +1,3 @@
 pub mod Real
 pub mod RealPoint
+pub mod Laws

@@ -1,2 +1,25 @@
-//! Real points.
+//! Real points: what is said of the rational points of a script holds of its real points.
+//!
+//! No code runs here: each function is a law about definitions, and its contract is the law. A real number is a sequence
+//! of fractions (Bishop, Foundations of Constructive Analysis, 1967, chapter 2).
 #![tactic(auto)]
+
+ghost use Rattle.real_points.specs.Laws.{TruthIsOfThePoint, RationalPointsSuffice, UnsatIsOfReals};
+
+/// Whether a real point satisfies a script does not depend on the fractions that give the point.
+pub fn truth_is_of_the_point()
+    ensures { TruthIsOfThePoint }
+{}
+
+/// Where no rational point of the declared box satisfies the script at a margin, no real point satisfies it below the
+/// margin.
+#[tactic(auto, using(crate::proofs::Truth::rational_points_suffice))]
+pub fn rational_points_suffice()
+    ensures { RationalPointsSuffice }
+{}
+
+/// A cover that leaves nothing: no real point of the declared box satisfies the script below the margin.
+#[tactic(auto, using(crate::proofs::Truth::unsat_is_of_reals))]
+pub fn unsat_is_of_reals()
+    ensures { UnsatIsOfReals }
+{}

@@ -1,0 +1,38 @@
+-- What is said of real points.
+use Rattle.std.specs.Prelude.{◌≡◌, ℕ, List, [], Option, None, not, IsTrue}
+use Rattle.dyadic.specs.Fraction.{Fraction, IsFraction, at_most}
+use Rattle.dyadic.specs.Rounding.{exact}
+use Rattle.script_model.specs.Script.{Command, sorts_of}
+use Rattle.script_forms.specs.Atoms.{unfolding_fault}
+use Rattle.script_forms.specs.ProblemOf.{IsProblemOf}
+use Rattle.poly_graph.specs.Problem.{Problem, IsProblem}
+use Rattle.cover_model.specs.State.{Loosenings, margin_of}
+use Rattle.cert_model.specs.Due.{left_open}
+use Rattle.cert_model.specs.Accepted.{IsAccepted}
+use Rattle.headline.specs.Laws.{HasNoPoint}
+use Rattle.real_points.specs.RealPoint.{RealCoordinate, IsRealPoint, IsSamePoint, IsInDeclaredBox, SatisfiesAtReal}
+
+-- Whether a real point satisfies a script, each atom loosened by m, does not depend on the fractions that give the point.
+abbrev pub TruthIsOfThePoint : Type 0
+TruthIsOfThePoint = (script : List Command) → unfolding_fault script ≡ None → (m : Fraction) → IsFraction m → (x y : List RealCoordinate) →
+    IsRealPoint (sorts_of script) x → IsRealPoint (sorts_of script) y → IsSamePoint x y → SatisfiesAtReal m x script → SatisfiesAtReal m y script
+
+-- no real point of the declared box satisfies the script, each atom loosened by m
+abbrev pub HasNoRealPoint : Option ℕ → List Command → Fraction → Type 0
+HasNoRealPoint bound script m = (point : List RealCoordinate) → IsInDeclaredBox bound script point → SatisfiesAtReal m point script → ⊥
+
+-- a < b
+abbrev pub IsBelow : Fraction → Fraction → Type 0
+IsBelow a b = IsTrue (not (at_most b a))
+
+-- Where no rational point of the declared box satisfies the script loosened by a margin, no real point of it satisfies the
+-- script loosened by any number below the margin.
+abbrev pub RationalPointsSuffice : Type 0
+RationalPointsSuffice = (bound : Option ℕ) (script : List Command) → unfolding_fault script ≡ None → (margin m : Fraction) → IsFraction margin → IsFraction m → IsBelow m margin →
+    HasNoPoint bound script margin → HasNoRealPoint bound script m
+
+-- Whoever made the bytes: where they are accepted, for a problem of the script, as a cover that leaves nothing, no real
+-- point of the script's declared box satisfies it, each atom loosened by any number below the margin of the header.
+abbrev pub UnsatIsOfReals : Type 0
+UnsatIsOfReals = (bound : Option ℕ) (script : List Command) (p : Problem) → IsProblem p → IsProblemOf bound script p → (bytes : List ℕ) (s : Loosenings) →
+    IsAccepted p bound bytes s (left_open []) → (m : Fraction) → IsFraction m → IsBelow m (exact (margin_of s)) → HasNoRealPoint bound script m
