@@ -3,3 +3,4 @@ mod Terms
 mod Moves
 mod Points
 pub mod Truth
+mod RootOfTwo

@@ -26,7 +26,7 @@ size-product (negsuc m) (negsuc n) = refl
 size-of-two : (z a b : ℤ) (k l : ℕ) → z ≡ (a *ℤ pos k) +ℤ (b *ℤ pos l) → nat_abs z ≤ nat_abs a * k + nat_abs b * l
 size-of-two z a b k l e = rw e (omega (arith, size-sum (a *ℤ pos k) (b *ℤ pos l), size-product a (pos k), size-product b (pos l)))
 
-products : (a b c d : ℕ) → a ≤ b → c ≤ d → a * c ≤ b * d
+pub products : (a b c d : ℕ) → a ≤ b → c ≤ d → a * c ≤ b * d
 products a b c d h k = omega (arith, mul-le-mul_right c h, mul-le-mul_left b k)
 
 -- ---- |q| <= k

@@ -1,3 +1,4 @@
 pub mod Real
 pub mod RealPoint
 pub mod Laws
+pub mod RootOfTwo
