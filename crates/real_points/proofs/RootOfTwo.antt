@@ -2,10 +2,12 @@
 use Rattle.std.proofs.Common.{◌≡◌, ℕ, zero, suc, ◌+◌, ◌*◌, ◌<◌, ◌≤◌, List, [], ◌∷◌, Bool, true, false, cond, None, IsTrue, refl, sym, inl, inr, ◌⊎◌, arith, ℤ, pos, ◌+ℤ◌, ◌*ℤ◌, neg_ℤ, ◌≤ℤ◌, mul-le-mul_right, mul-le-mul_left, mul-pos, lit<}
 use Rattle.std.specs.Prelude.{nat_le}
 use Rattle.std.proofs.lemmas.Bool.{leb-true, leb-false}
-use Rattle.dyadic.specs.Fraction.{Fraction, IsFraction, zero_fraction, sum_of, difference_of, at_most}
+use Rattle.dyadic.specs.Fraction.{Fraction, IsFraction, zero_fraction, sum_of, difference_of, product_of, at_most}
 use Rattle.dyadic.proofs.Equal.{le_holds, both_pass}
 use Rattle.dyadic.proofs.Ring
 use Rattle.dyadic.proofs.Ring.{atom, natural, plus, minus, times, below}
+use Rattle.dyadic.specs.Point.{at_fraction}
+use Rattle.script_model.specs.Script.{Satisfies}
 use Rattle.script_model.specs.Declared.{declared_interval}
 use Rattle.headline.specs.Laws.{HasNoPoint}
 use Rattle.real_points.specs.Real.{Sequence, IsReal, IsWithin, part}
@@ -13,6 +15,7 @@ use Rattle.real_points.specs.RealPoint.{RealCoordinate, at_real, IsInDeclaredBox
 use Rattle.real_points.specs.RootOfTwo.{root_script, root_up_to, root_of_two, one_from_below}
 use Rattle.real_points.specs.Laws.{IsBelow}
 use Rattle.real_points.proofs.Sizes.{products}
+use Rattle.real_points.proofs.Truth.{rational_points_suffice}
 
 -- r is the square root of n rounded down
 record IsRoot (n r : ℕ) : Type 0 where
@@ -93,3 +96,49 @@ edge_is_in = (
   (record { fractions = λ n. omega arith; regular = λ m n. edge-regular m n }, λ n. low-at n (suc n) (omega arith), λ n. high-at n (suc n) (omega arith)),
   tt,
 )
+
+-- ---- the script
+
+abbrev x-at : ℕ → ℕ → Fraction
+x-at r N = record { num = pos r; den = N }
+
+abbrev loose : ℕ → Fraction
+loose k = sum_of zero_fraction (part k)
+
+above-one : (k r N : ℕ) → N ≤ r → IsTrue (at_most (difference_of (record { num = pos 1; den = 1 }) (x-at r N)) (loose k))
+unfolding at_most sum_of Rattle.dyadic.specs.Fraction.negated
+above-one k r N h = le_holds _ _ (below (times (plus (times (natural 1) (natural N)) (times (minus (natural r)) (natural 1))) (natural (1 * suc k)))
+    (times (plus (times (natural 0) (natural (suc k))) (times (natural 1) (natural 1))) (natural (1 * N))) (omega (arith, mul-le-mul_right (suc k) h)))
+
+below-two : (k r N : ℕ) → r ≤ 2 * N → IsTrue (at_most (difference_of (x-at r N) (record { num = pos 2; den = 1 })) (loose k))
+unfolding at_most sum_of Rattle.dyadic.specs.Fraction.negated
+below-two k r N h = le_holds _ _ (below (times (plus (times (natural r) (natural 1)) (times (minus (natural 2)) (natural N))) (natural (1 * suc k)))
+    (times (plus (times (natural 0) (natural (suc k))) (times (natural 1) (natural 1))) (natural (N * 1))) (omega (arith, mul-le-mul_right (suc k) h)))
+
+square-above : (k r N : ℕ) → r ≤ 2 * N → 2 * (N * N) < suc r * suc r → 4 * suc k ≤ N →
+    IsTrue (at_most (Rattle.dyadic.specs.Fraction.negated (loose k)) (difference_of (product_of (x-at r N) (x-at r N)) (record { num = pos 2; den = 1 })))
+unfolding at_most sum_of product_of Rattle.dyadic.specs.Fraction.negated
+square-above k r N h i l = le_holds _ _ (below (times (minus (plus (times (natural 0) (natural (suc k))) (times (natural 1) (natural 1)))) (natural (N * N * 1)))
+    (times (plus (times (times (natural r) (natural r)) (natural 1)) (times (minus (natural 2)) (natural (N * N)))) (natural (1 * suc k)))
+    (let a : 2 * (N * N) ≤ r * r + 4 * N = omega (arith, i, h) in omega (arith, mul-le-mul_right (suc k) a, mul-le-mul_right N l)))
+
+square-below : (k r N : ℕ) → r * r ≤ 2 * (N * N) → IsTrue (at_most (difference_of (product_of (x-at r N) (x-at r N)) (record { num = pos 2; den = 1 })) (loose k))
+unfolding at_most sum_of product_of Rattle.dyadic.specs.Fraction.negated
+square-below k r N h = le_holds _ _ (below (times (plus (times (times (natural r) (natural r)) (natural 1)) (times (minus (natural 2)) (natural (N * N)))) (natural (1 * suc k)))
+    (times (plus (times (natural 0) (natural (suc k))) (times (natural 1) (natural 1))) (natural (N * N * 1))) (omega (arith, mul-le-mul_right (suc k) h)))
+
+root-satisfies : (k r N : ℕ) → N ≤ r → r ≤ 2 * N → r * r ≤ 2 * (N * N) → 2 * (N * N) < suc r * suc r → 4 * suc k ≤ N → Satisfies (loose k) (at_fraction (x-at r N) ∷ []) root_script
+root-satisfies k r N f g h i l = (
+  both_pass _ _ (above-one k r N f) (both_pass _ _ (below-two k r N g) refl),
+  (both_pass _ _ (both_pass _ _ (square-above k r N g i l) (square-below k r N h)) refl, tt),
+)
+
+root-at : (k n : ℕ) → 4 * suc k ≤ n → Satisfies (loose k) (at_fraction (root_of_two n) ∷ []) root_script
+root-at k n l = rw (spelled n) (let b = not-far (suc n) (root n) (root-of n) in root-satisfies k (root n) (suc n) b.0 b.1 (root-of n).at_least (root-of n).at_last (omega (arith, l)))
+
+pub root_satisfies : IsInDeclaredBox None root_script (at_real root_of_two ∷ []) × SatisfiesAtReal zero_fraction (at_real root_of_two ∷ []) root_script
+root_satisfies = ((root-between, tt), λ k. (4 * suc k, λ n l. root-at k n l))
+
+pub root_is_no_unsat : (margin : Fraction) → IsFraction margin → IsBelow zero_fraction margin → HasNoPoint None root_script margin → ⊥
+root_is_no_unsat margin f h none =
+    rational_points_suffice None root_script refl margin zero_fraction f (lit< tt) h none (at_real root_of_two ∷ []) root_satisfies.0 root_satisfies.1

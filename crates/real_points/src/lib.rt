@@ -5,6 +5,7 @@
 #![tactic(auto)]
 
 ghost use Rattle.real_points.specs.Laws.{TruthIsOfThePoint, RationalPointsSuffice, UnsatIsOfReals};
+ghost use Rattle.real_points.specs.RootOfTwo.{RootSatisfies, RootIsNoUnsat, EdgeIsIn};
 
 /// Whether a real point satisfies a script does not depend on the fractions that give the point.
 pub fn truth_is_of_the_point()
@@ -22,4 +23,19 @@ pub fn rational_points_suffice()
 #[tactic(auto, using(crate::proofs::Truth::unsat_is_of_reals))]
 pub fn unsat_is_of_reals()
     ensures { UnsatIsOfReals }
+{}
+
+/// The square root of 2 satisfies `(= (* x x) 2)` with x in [1, 2].
+pub fn root_of_two_satisfies()
+    ensures { RootSatisfies }
+{}
+
+/// So that script is unsat at no margin.
+pub fn root_of_two_is_no_unsat()
+    ensures { RootIsNoUnsat }
+{}
+
+/// The number 1, given by fractions below it, lies in [1, 2].
+pub fn edge_is_in()
+    ensures { EdgeIsIn }
 {}
