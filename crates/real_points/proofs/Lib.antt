@@ -4,3 +4,4 @@ mod Moves
 mod Points
 pub mod Truth
 mod RootOfTwo
+mod AtPoints

@@ -2,3 +2,4 @@ pub mod Real
 pub mod RealPoint
 pub mod Laws
 pub mod RootOfTwo
+pub mod RealMeaning
