@@ -5,3 +5,4 @@ mod Points
 pub mod Truth
 mod RootOfTwo
 mod AtPoints
+mod OverReals

@@ -1,6 +1,6 @@
 -- What is said of real points.
 use Rattle.std.specs.Prelude.{◌≡◌, ℕ, List, [], Option, None, not, IsTrue}
-use Rattle.dyadic.specs.Fraction.{Fraction, IsFraction, at_most}
+use Rattle.dyadic.specs.Fraction.{Fraction, IsFraction, zero_fraction, at_most}
 use Rattle.dyadic.specs.Rounding.{exact}
 use Rattle.script_model.specs.Script.{Command, sorts_of}
 use Rattle.script_forms.specs.Atoms.{unfolding_fault}
@@ -11,6 +11,7 @@ use Rattle.cert_model.specs.Due.{left_open}
 use Rattle.cert_model.specs.Accepted.{IsAccepted}
 use Rattle.headline.specs.Laws.{HasNoPoint}
 use Rattle.real_points.specs.RealPoint.{RealCoordinate, IsRealPoint, IsSamePoint, IsInDeclaredBox, SatisfiesAtReal}
+use Rattle.real_points.specs.RealMeaning.{SatisfiesOverReals}
 
 -- Whether a real point satisfies a script, each atom loosened by m, does not depend on the fractions that give the point.
 abbrev pub TruthIsOfThePoint : Type 0
@@ -36,3 +37,13 @@ RationalPointsSuffice = (bound : Option ℕ) (script : List Command) → unfoldi
 abbrev pub UnsatIsOfReals : Type 0
 UnsatIsOfReals = (bound : Option ℕ) (script : List Command) (p : Problem) → IsProblem p → IsProblemOf bound script p → (bytes : List ℕ) (s : Loosenings) →
     IsAccepted p bound bytes s (left_open []) → (m : Fraction) → IsFraction m → IsBelow m (exact (margin_of s)) → HasNoRealPoint bound script m
+
+-- What is true at a real point as SMT-LIB has it is true there loosened by 0.
+abbrev pub OverRealsIsLoosened : Type 0
+OverRealsIsLoosened = (point : List RealCoordinate) (script : List Command) → SatisfiesOverReals point script → SatisfiesAtReal zero_fraction point script
+
+-- Whoever made the bytes: where they are accepted as such a cover, no real point of the declared box satisfies the script as
+-- SMT-LIB has it.
+abbrev pub UnsatIsExactOverReals : Type 0
+UnsatIsExactOverReals = (bound : Option ℕ) (script : List Command) (p : Problem) → IsProblem p → IsProblemOf bound script p → (bytes : List ℕ) (s : Loosenings) →
+    IsAccepted p bound bytes s (left_open []) → (point : List RealCoordinate) → IsInDeclaredBox bound script point → SatisfiesOverReals point script → ⊥
