@@ -2,7 +2,7 @@ mod Sizes
 mod Terms
 mod Moves
 mod Points
-pub mod Truth
+mod Truth
 mod RootOfTwo
 mod AtPoints
 mod OverReals

@@ -1,6 +1,9 @@
 -- What is true over the reals is, at the n-th fractions, true loosened by any 1/(k + 1) for all n from some N on.
-use Rattle.std.proofs.Common.{◌≡◌, ℕ, suc, ◌+◌, ◌*◌, ◌<◌, ◌≤◌, List, [], ◌∷◌, map, Bool, true, false, ◌&&◌, ◌||◌, Option, IsTrue, refl, sym, subst, inl, inr, ◌⊎◌, arith, ℤ, pos, ◌+ℤ◌, ◌*ℤ◌, neg_ℤ, ◌≤ℤ◌, mul-le-mul_right, le_of_mul-le-mul_right, lit<}
+use Rattle.std.proofs.Common.{◌≡◌, ℕ, suc, ◌+◌, ◌*◌, ◌<◌, ◌≤◌, List, [], ◌∷◌, map, Bool, true, false, ◌&&◌, ◌||◌, not, ◌^◌, ◌-◌, Option, IsTrue, refl, sym, subst, inl, inr, ◌⊎◌, arith, ℤ, pos, ◌+ℤ◌, ◌*ℤ◌, neg_ℤ, ◌≤ℤ◌, mul-le-mul_right, le_of_mul-le-mul_right, lit<}
 use Rattle.std.specs.List.{AllByRecursion}
+use native.Mathlib.Nat.{one-le-pow}
+use Rattle.std.specs.Prelude.{nat_le}
+use Rattle.std.proofs.lemmas.Bool.Decides.{nat_tests}
 use Rattle.dyadic.specs.Fraction.{Fraction, IsFraction, zero_fraction, negated, sum_of, difference_of, at_most}
 use Rattle.dyadic.specs.Rounding.{exact}
 use Rattle.dyadic.proofs.Equal.{le_holds, holds_le, both_pass}
@@ -9,9 +12,16 @@ use Rattle.dyadic.proofs.Ring.{atom, natural, plus, minus, times, below, read_be
 use Rattle.poly_graph.proofs.Bools.{or_first, or_second}
 use Rattle.script_model.specs.Meaning.{Pair, pair_of, not_above, not_below, loosened, coordinate_value}
 use Rattle.script_model.specs.Script.{Command, claims, Holds as HoldsPair, Satisfies}
+use Rattle.script_forms.specs.ProblemOf.{IsProblemOf}
+use Rattle.poly_graph.specs.Problem.{Problem, IsProblem}
+use Rattle.cover_model.specs.State.{Loosenings, margin_of}
+use Rattle.cert_model.specs.Due.{left_open}
+use Rattle.cert_model.specs.Accepted.{IsAccepted}
+use Rattle.real_points.specs.Laws.{IsBelow}
 use Rattle.real_points.specs.Real.{Sequence, part}
 use Rattle.real_points.specs.RealPoint.{RealCoordinate, nth_point, SatisfiesAtReal, IsInDeclaredBox}
 use Rattle.real_points.specs.RealMeaning.{IsAtMost, IsLess, Relation, is_at_most, is_less, is_at_least, is_greater, is_equal, Statement, yes, senseless, compares, deny, both, differ, choose, Related, Unrelated, Holds, Fails, RealValue, number, statement, chosen, over_reals, coordinate_of, IsTrueStatement, SatisfiesOverReals}
+use Rattle.real_points.proofs.Truth.{unsat_is_of_reals}
 use Rattle.real_points.proofs.AtPoints.{relation_at, pair_at, value_at, claims_at}
 
 abbrev loose : ℕ → Fraction
@@ -54,12 +64,6 @@ is-less j k p q h = le_holds _ _ (less-at p.num q.num p.den q.den (suc j) (suc k
 
 abbrev Eventually : (ℕ → Type 0) → Type 0
 Eventually P = (N : ℕ) × ((n : ℕ) → N ≤ n → P n)
-
-gives : {P Q : ℕ → Type 0} → ((n : ℕ) → P n → Q n) → Eventually P → Eventually Q
-gives f h = (h.0, λ n l. f n (h.1 n l))
-
-together : {P Q R : ℕ → Type 0} → ((n : ℕ) → P n → Q n → R n) → Eventually P → Eventually Q → Eventually R
-together f h i = (h.0 + i.0, λ n l. f n (h.1 n (omega (arith, l))) (i.1 n (omega (arith, l))))
 
 at-most-later : (k : ℕ) (a b : Sequence) → IsAtMost a b → Eventually (λ n. IsTrue (at_most (a n) (sum_of (b n) (part k))))
 at-most-later k a b h = h k
@@ -145,3 +149,15 @@ pub over_reals_is_loosened : (point : List RealCoordinate) (script : List Comman
 over_reals_is_loosened point script h k =
     let f = all-hold k (claims over_reals [] (map coordinate_of point) script) h in
     (f.0, λ n l. rw (← claims_at (loose k) n point script) (f.1 n l))
+
+positive-at : (t : ℕ) → 1 ≤ t → IsTrue (not (nat_le (t * 1) 0))
+positive-at t h = grind (arith, nat_tests)
+
+margin-is-positive : (s : Loosenings) → IsBelow zero_fraction (exact (margin_of s))
+unfolding at_most
+margin-is-positive s = positive-at (2 ^ (120 - s.margin_bits)) (one-le-pow (120 - s.margin_bits) 2 (omega arith))
+
+pub unsat_is_exact_over_reals : (bound : Option ℕ) (script : List Command) (p : Problem) → IsProblem p → IsProblemOf bound script p → (bytes : List ℕ) (s : Loosenings) →
+    IsAccepted p bound bytes s (left_open []) → (point : List RealCoordinate) → IsInDeclaredBox bound script point → SatisfiesOverReals point script → ⊥
+unsat_is_exact_over_reals bound script p g t bytes s e point b h =
+    unsat_is_of_reals bound script p g t bytes s e zero_fraction (lit< tt) (margin-is-positive s) point b (over_reals_is_loosened point script h)

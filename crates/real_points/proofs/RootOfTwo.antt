@@ -11,7 +11,9 @@ use Rattle.script_model.specs.Script.{Satisfies}
 use Rattle.script_model.specs.Declared.{declared_interval}
 use Rattle.headline.specs.Laws.{HasNoPoint}
 use Rattle.real_points.specs.Real.{Sequence, IsReal, IsWithin, part}
-use Rattle.real_points.specs.RealPoint.{RealCoordinate, at_real, IsInDeclaredBox, LiesBetween, SatisfiesAtReal}
+use Rattle.real_points.specs.RealPoint.{RealCoordinate, at_real, IsInDeclaredBox, LiesBetween}
+use Rattle.real_points.specs.RealMeaning.{SatisfiesOverReals}
+use Rattle.real_points.proofs.OverReals.{over_reals_is_loosened}
 use Rattle.real_points.specs.RootOfTwo.{root_script, root_up_to, root_of_two, one_from_below}
 use Rattle.real_points.specs.Laws.{IsBelow}
 use Rattle.real_points.proofs.Sizes.{products}
@@ -102,43 +104,47 @@ edge_is_in = (
 abbrev x-at : ℕ → ℕ → Fraction
 x-at r N = record { num = pos r; den = N }
 
-abbrev loose : ℕ → Fraction
-loose k = sum_of zero_fraction (part k)
+above-one : (k r N : ℕ) → N ≤ r → IsTrue (at_most (record { num = pos 1; den = 1 }) (sum_of (x-at r N) (part k)))
+unfolding at_most sum_of
+above-one k r N h = le_holds _ _ (below (times (natural 1) (natural (N * suc k))) (times (plus (times (natural r) (natural (suc k))) (times (natural 1) (natural N))) (natural 1))
+    (omega (arith, mul-le-mul_right (suc k) h)))
 
-above-one : (k r N : ℕ) → N ≤ r → IsTrue (at_most (difference_of (record { num = pos 1; den = 1 }) (x-at r N)) (loose k))
-unfolding at_most sum_of Rattle.dyadic.specs.Fraction.negated
-above-one k r N h = le_holds _ _ (below (times (plus (times (natural 1) (natural N)) (times (minus (natural r)) (natural 1))) (natural (1 * suc k)))
-    (times (plus (times (natural 0) (natural (suc k))) (times (natural 1) (natural 1))) (natural (1 * N))) (omega (arith, mul-le-mul_right (suc k) h)))
+below-two : (k r N : ℕ) → r ≤ 2 * N → IsTrue (at_most (x-at r N) (sum_of (record { num = pos 2; den = 1 }) (part k)))
+unfolding at_most sum_of
+below-two k r N h = le_holds _ _ (below (times (natural r) (natural (1 * suc k))) (times (plus (times (natural 2) (natural (suc k))) (times (natural 1) (natural 1))) (natural N))
+    (omega (arith, mul-le-mul_right (suc k) h)))
 
-below-two : (k r N : ℕ) → r ≤ 2 * N → IsTrue (at_most (difference_of (x-at r N) (record { num = pos 2; den = 1 })) (loose k))
-unfolding at_most sum_of Rattle.dyadic.specs.Fraction.negated
-below-two k r N h = le_holds _ _ (below (times (plus (times (natural r) (natural 1)) (times (minus (natural 2)) (natural N))) (natural (1 * suc k)))
-    (times (plus (times (natural 0) (natural (suc k))) (times (natural 1) (natural 1))) (natural (N * 1))) (omega (arith, mul-le-mul_right (suc k) h)))
+square-below : (k r N : ℕ) → r * r ≤ 2 * (N * N) → IsTrue (at_most (product_of (x-at r N) (x-at r N)) (sum_of (record { num = pos 2; den = 1 }) (part k)))
+unfolding at_most sum_of product_of
+square-below k r N h = le_holds _ _ (below (times (times (natural r) (natural r)) (natural (1 * suc k))) (times (plus (times (natural 2) (natural (suc k))) (times (natural 1) (natural 1))) (natural (N * N)))
+    (omega (arith, mul-le-mul_right (suc k) h)))
 
-square-above : (k r N : ℕ) → r ≤ 2 * N → 2 * (N * N) < suc r * suc r → 4 * suc k ≤ N →
-    IsTrue (at_most (Rattle.dyadic.specs.Fraction.negated (loose k)) (difference_of (product_of (x-at r N) (x-at r N)) (record { num = pos 2; den = 1 })))
-unfolding at_most sum_of product_of Rattle.dyadic.specs.Fraction.negated
-square-above k r N h i l = le_holds _ _ (below (times (minus (plus (times (natural 0) (natural (suc k))) (times (natural 1) (natural 1)))) (natural (N * N * 1)))
-    (times (plus (times (times (natural r) (natural r)) (natural 1)) (times (minus (natural 2)) (natural (N * N)))) (natural (1 * suc k)))
+square-above : (k r N : ℕ) → r ≤ 2 * N → 2 * (N * N) < suc r * suc r → 4 * suc k ≤ N → IsTrue (at_most (record { num = pos 2; den = 1 }) (sum_of (product_of (x-at r N) (x-at r N)) (part k)))
+unfolding at_most sum_of product_of
+square-above k r N h i l = le_holds _ _ (below (times (natural 2) (natural (N * N * suc k))) (times (plus (times (times (natural r) (natural r)) (natural (suc k))) (times (natural 1) (natural (N * N)))) (natural 1))
     (let a : 2 * (N * N) ≤ r * r + 4 * N = omega (arith, i, h) in omega (arith, mul-le-mul_right (suc k) a, mul-le-mul_right N l)))
 
-square-below : (k r N : ℕ) → r * r ≤ 2 * (N * N) → IsTrue (at_most (difference_of (product_of (x-at r N) (x-at r N)) (record { num = pos 2; den = 1 })) (loose k))
-unfolding at_most sum_of product_of Rattle.dyadic.specs.Fraction.negated
-square-below k r N h = le_holds _ _ (below (times (plus (times (times (natural r) (natural r)) (natural 1)) (times (minus (natural 2)) (natural (N * N)))) (natural (1 * suc k)))
-    (times (plus (times (natural 0) (natural (suc k))) (times (natural 1) (natural 1))) (natural (N * N * 1))) (omega (arith, mul-le-mul_right (suc k) h)))
-
-root-satisfies : (k r N : ℕ) → N ≤ r → r ≤ 2 * N → r * r ≤ 2 * (N * N) → 2 * (N * N) < suc r * suc r → 4 * suc k ≤ N → Satisfies (loose k) (at_fraction (x-at r N) ∷ []) root_script
-root-satisfies k r N f g h i l = (
-  both_pass _ _ (above-one k r N f) (both_pass _ _ (below-two k r N g) refl),
-  (both_pass _ _ (both_pass _ _ (square-above k r N g i l) (square-below k r N h)) refl, tt),
+pub root_satisfies : IsInDeclaredBox None root_script (at_real root_of_two ∷ []) × SatisfiesOverReals (at_real root_of_two ∷ []) root_script
+root_satisfies = (
+  (root-between, tt),
+  (
+    (
+      λ k. (0, λ n l. rw (spelled n) (above-one k (root n) (suc n) (not-far (suc n) (root n) (root-of n)).0)),
+      (λ k. (0, λ n l. rw (spelled n) (below-two k (root n) (suc n) (not-far (suc n) (root n) (root-of n)).1)), tt),
+    ),
+    (
+      (
+        (
+          λ k. (0, λ n l. rw (spelled n) (square-below k (root n) (suc n) (root-of n).at_least)),
+          λ k. (4 * suc k, λ n l. rw (spelled n) (square-above k (root n) (suc n) (not-far (suc n) (root n) (root-of n)).1 (root-of n).at_last (omega (arith, l)))),
+        ),
+        tt,
+      ),
+      tt,
+    ),
+  ),
 )
-
-root-at : (k n : ℕ) → 4 * suc k ≤ n → Satisfies (loose k) (at_fraction (root_of_two n) ∷ []) root_script
-root-at k n l = rw (spelled n) (let b = not-far (suc n) (root n) (root-of n) in root-satisfies k (root n) (suc n) b.0 b.1 (root-of n).at_least (root-of n).at_last (omega (arith, l)))
-
-pub root_satisfies : IsInDeclaredBox None root_script (at_real root_of_two ∷ []) × SatisfiesAtReal zero_fraction (at_real root_of_two ∷ []) root_script
-root_satisfies = ((root-between, tt), λ k. (4 * suc k, λ n l. root-at k n l))
 
 pub root_is_no_unsat : (margin : Fraction) → IsFraction margin → IsBelow zero_fraction margin → HasNoPoint None root_script margin → ⊥
 root_is_no_unsat margin f h none =
-    rational_points_suffice None root_script refl margin zero_fraction f (lit< tt) h none (at_real root_of_two ∷ []) root_satisfies.0 root_satisfies.1
+    rational_points_suffice None root_script refl margin zero_fraction f (lit< tt) h none (at_real root_of_two ∷ []) root_satisfies.0 (over_reals_is_loosened (at_real root_of_two ∷ []) root_script root_satisfies.1)

@@ -6,7 +6,8 @@ use Rattle.script_model.specs.Sexp.{Place, Sexp, leaf, group, more, none, symbol
 use Rattle.script_model.specs.Script.{Command, declare, claim, check}
 use Rattle.headline.specs.Laws.{HasNoPoint}
 use Rattle.real_points.specs.Real.{Sequence}
-use Rattle.real_points.specs.RealPoint.{RealCoordinate, at_real, IsInDeclaredBox, SatisfiesAtReal}
+use Rattle.real_points.specs.RealPoint.{RealCoordinate, at_real, IsInDeclaredBox}
+use Rattle.real_points.specs.RealMeaning.{SatisfiesOverReals}
 use Rattle.real_points.specs.Laws.{IsBelow}
 
 abbrev pub nowhere : Place
@@ -39,9 +40,9 @@ root_of_two n = record { num = pos (root_up_to (2 * suc n) (2 * (suc n * suc n))
 abbrev pub one_from_below : Sequence
 one_from_below n = record { num = pos n; den = suc n }
 
--- the square root of 2 lies in the declared box and satisfies the script
+-- the square root of 2 lies in the declared box and satisfies the script as SMT-LIB has it
 abbrev pub RootSatisfies : Type 0
-RootSatisfies = IsInDeclaredBox None root_script (at_real root_of_two ∷ []) × SatisfiesAtReal zero_fraction (at_real root_of_two ∷ []) root_script
+RootSatisfies = IsInDeclaredBox None root_script (at_real root_of_two ∷ []) × SatisfiesOverReals (at_real root_of_two ∷ []) root_script
 
 -- so at every margin some rational point does
 abbrev pub RootIsNoUnsat : Type 0

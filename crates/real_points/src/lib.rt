@@ -4,7 +4,9 @@
 //! of fractions (Bishop, Foundations of Constructive Analysis, 1967, chapter 2).
 #![tactic(auto)]
 
-ghost use Rattle.real_points.specs.Laws.{TruthIsOfThePoint, RationalPointsSuffice, UnsatIsOfReals};
+ghost use Rattle.real_points.specs.Laws.{
+    TruthIsOfThePoint, RationalPointsSuffice, UnsatIsOfReals, OverRealsIsLoosened, UnsatIsExactOverReals,
+};
 ghost use Rattle.real_points.specs.RootOfTwo.{RootSatisfies, RootIsNoUnsat, EdgeIsIn};
 
 /// Whether a real point satisfies a script does not depend on the fractions that give the point.
@@ -14,15 +16,23 @@ pub fn truth_is_of_the_point()
 
 /// Where no rational point of the declared box satisfies the script at a margin, no real point satisfies it below the
 /// margin.
-#[tactic(auto, using(crate::proofs::Truth::rational_points_suffice))]
 pub fn rational_points_suffice()
     ensures { RationalPointsSuffice }
 {}
 
 /// A cover that leaves nothing: no real point of the declared box satisfies the script below the margin.
-#[tactic(auto, using(crate::proofs::Truth::unsat_is_of_reals))]
 pub fn unsat_is_of_reals()
     ensures { UnsatIsOfReals }
+{}
+
+/// What is true at a real point as SMT-LIB has it is true there loosened by 0 (SMT-LIB 2.6, theories Core and Reals).
+pub fn over_reals_is_loosened()
+    ensures { OverRealsIsLoosened }
+{}
+
+/// A cover that leaves nothing: no real point of the declared box satisfies the script as SMT-LIB has it.
+pub fn unsat_is_exact_over_reals()
+    ensures { UnsatIsExactOverReals }
 {}
 
 /// The square root of 2 satisfies `(= (* x x) 2)` with x in [1, 2].
