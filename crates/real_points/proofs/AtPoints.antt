@@ -1,14 +1,13 @@
 -- What a script says of a real point, read at the n-th fractions, is what it says of them.
-use Rattle.std.proofs.Common.{◌≡◌, ℕ, List, [], ◌∷◌, ◌++◌, map, Bool, true, false, refl, ap, ap₂, sym, ◌∙◌}
+use Rattle.std.proofs.Common.{◌≡◌, ℕ, List, [], ◌∷◌, ◌++◌, map, true, false, refl, ap, ap₂, sym, ◌∙◌}
 use Rattle.dyadic.specs.Fraction.{Fraction, zero_fraction, negated, sum_of, difference_of, product_of, quotient_of}
-use Rattle.dyadic.specs.Point.{Coordinate, at_fraction, at_bool}
 use Rattle.script_model.specs.Reading.{Operator, truth, falsehood, negation, conjunction, disjunction, implication, exclusive, equality, distinctness, choice, minus, plus, times, divide, at_most_op, below_op, at_least_op, above_op}
-use Rattle.script_model.specs.Meaning.{Pair, Value, real, bool, either, fraction_of, lift_value, step_values, lift_pair, compare_values, differing_values, subtract_values, pair_of, true_pair, not_pair, and_pair, or_pair, xor_pair, choice_pair, all_pair, any_pair, implies_pair, at_most_pair, at_least_pair, equal_pair, neighbours, pairs, from_left, first_and_rest, equality_of, distinctness_of, choice_of, choice_value, negation_of, operation, loosened, coordinate_value}
+use Rattle.script_model.specs.Meaning.{Pair, Value, real, bool, either, lift_value, step_values, lift_pair, compare_values, differing_values, subtract_values, pair_of, true_pair, not_pair, and_pair, or_pair, xor_pair, choice_pair, all_pair, any_pair, implies_pair, at_most_pair, at_least_pair, equal_pair, neighbours, pairs, from_left, first_and_rest, equality_of, distinctness_of, choice_of, choice_value, negation_of, operation, loosened, coordinate_value}
 use Rattle.script_model.specs.Script.{Command, claims}
 use Rattle.script_model.proofs.Related.{Each, Respects, claims_alike}
 use Rattle.real_points.specs.Real.{Sequence}
 use Rattle.real_points.specs.RealPoint.{RealCoordinate, at_real, at_truth, nth_point}
-use Rattle.real_points.specs.RealMeaning.{Relation, is_at_most, is_less, is_at_least, is_greater, is_equal, Statement, yes, senseless, compares, deny, both, differ, choose, RealValue, number, statement, chosen, sequence_of, statement_of, each_arm, of_arm, step, compared, all_of, either_of, any_of, implied, first_denied, subtraction, equal_all, distinct_all, arm_of, picked, chain, real_operation, over_reals, coordinate_of}
+use Rattle.real_points.specs.RealMeaning.{Relation, is_at_most, is_less, is_at_least, is_greater, is_equal, Statement, yes, senseless, compares, deny, both, differ, choose, RealValue, number, statement, chosen, statement_of, each_arm, of_arm, step, compared, all_of, any_of, implied, first_denied, subtraction, equal_all, distinct_all, arm_of, picked, real_operation, over_reals, coordinate_of}
 
 -- ---- lists
 

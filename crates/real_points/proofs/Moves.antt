@@ -1,22 +1,21 @@
 -- A script that holds at one point holds at each point that is close to it, loosened by a little more.
-use Rattle.std.proofs.Common.{◌≡◌, ℕ, zero, suc, ◌+◌, ◌*◌, ◌≤◌, List, [], ◌∷◌, Bool, true, false, IsTrue, refl, sym, subst, inl, inr, arith, slice_index_or, ◌&&◌, None, ℤ, pos, ◌+ℤ◌, ◌*ℤ◌, neg_ℤ, ◌≤ℤ◌, lit<}
+use Rattle.std.proofs.Common.{◌≡◌, ℕ, zero, suc, ◌*◌, ◌≤◌, List, [], ◌∷◌, Bool, IsTrue, inl, inr, arith, slice_index_or, None, ℤ, pos, ◌+ℤ◌, ◌*ℤ◌, neg_ℤ, ◌≤ℤ◌, lit<}
 use Rattle.std.specs.List.{AllByRecursion}
-use Rattle.dyadic.specs.Fraction.{Fraction, IsFraction, zero_fraction, negated, sum_of, difference_of, at_most}
+use Rattle.dyadic.specs.Fraction.{Fraction, IsFraction, negated, sum_of, at_most}
 use Rattle.dyadic.specs.Point.{Sort, real_sort, bool_sort, Coordinate, at_fraction, at_bool, IsPoint}
 use Rattle.dyadic.proofs.Equal.{le_holds, through, total, both_true, both_pass}
-use Rattle.dyadic.proofs.Ring
 use Rattle.dyadic.proofs.Ring.{atom, natural, plus, minus, times, below}
 use Rattle.interval_model.proofs.EndsSums.{sum_mono, negated_mono}
-use Rattle.script_model.proofs.Bounds.{sum_is, negated_is, difference_is}
-use Rattle.poly_graph.specs.Term.{Term, term_value, Kind, le, ge, eq, in_range, Atom, atom_holds}
+use Rattle.script_model.proofs.Bounds.{sum_is, negated_is}
+use Rattle.poly_graph.specs.Term.{term_value, Kind, le, ge, eq, in_range, Atom, atom_holds}
 use Rattle.poly_graph.specs.Problem.{IsTerm, bool_holds, no_atom}
 use Rattle.poly_graph.proofs.Forms.{rises}
 use Rattle.script_model.specs.Script.{Command, Satisfies, sorts_of}
 use Rattle.script_forms.specs.Atoms.{unfolding_fault, script_atoms, script_form}
 use Rattle.script_forms.proofs.Numbered.{script_means}
 use Rattle.script_forms.proofs.Good.{script_good}
-use Rattle.real_points.proofs.Sizes.{IsSized, IsClose, ratio, close_above, close_below, close_more}
-use Rattle.real_points.proofs.Terms.{rate_of, rate_of_all, AreClose, Values, values}
+use Rattle.real_points.proofs.Sizes.{IsClose, ratio, close_above, close_below, close_more}
+use Rattle.real_points.proofs.Terms.{rate_of, rate_of_all, AreClose, values}
 
 pub own : (q : Fraction) → IsTrue (at_most q q)
 own q = elim (total q q) [ inl h ↦ h | inr h ↦ h ]

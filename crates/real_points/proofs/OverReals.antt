@@ -1,17 +1,16 @@
 -- What is true over the reals is, at the n-th fractions, true loosened by any 1/(k + 1) for all n from some N on.
-use Rattle.std.proofs.Common.{◌≡◌, ℕ, suc, ◌+◌, ◌*◌, ◌<◌, ◌≤◌, List, [], ◌∷◌, map, Bool, true, false, ◌&&◌, ◌||◌, not, ◌^◌, ◌-◌, Option, IsTrue, refl, sym, subst, inl, inr, ◌⊎◌, arith, ℤ, pos, ◌+ℤ◌, ◌*ℤ◌, neg_ℤ, ◌≤ℤ◌, mul-le-mul_right, le_of_mul-le-mul_right, lit<}
+use Rattle.std.proofs.Common.{ℕ, suc, ◌+◌, ◌*◌, ◌<◌, ◌≤◌, List, [], ◌∷◌, map, not, ◌^◌, ◌-◌, Option, IsTrue, refl, inl, inr, arith, ℤ, pos, ◌+ℤ◌, ◌*ℤ◌, neg_ℤ, ◌≤ℤ◌, mul-le-mul_right, le_of_mul-le-mul_right, lit<}
 use Rattle.std.specs.List.{AllByRecursion}
 use native.Mathlib.Nat.{one-le-pow}
 use Rattle.std.specs.Prelude.{nat_le}
 use Rattle.std.proofs.lemmas.Bool.Decides.{nat_tests}
-use Rattle.dyadic.specs.Fraction.{Fraction, IsFraction, zero_fraction, negated, sum_of, difference_of, at_most}
+use Rattle.dyadic.specs.Fraction.{Fraction, zero_fraction, negated, sum_of, at_most}
 use Rattle.dyadic.specs.Rounding.{exact}
 use Rattle.dyadic.proofs.Equal.{le_holds, holds_le, both_pass}
-use Rattle.dyadic.proofs.Ring
 use Rattle.dyadic.proofs.Ring.{atom, natural, plus, minus, times, below, read_below}
 use Rattle.poly_graph.proofs.Bools.{or_first, or_second}
-use Rattle.script_model.specs.Meaning.{Pair, pair_of, not_above, not_below, loosened, coordinate_value}
-use Rattle.script_model.specs.Script.{Command, claims, Holds as HoldsPair, Satisfies}
+use Rattle.script_model.specs.Meaning.{pair_of, not_above, not_below}
+use Rattle.script_model.specs.Script.{Command, claims, Holds as HoldsPair}
 use Rattle.script_forms.specs.ProblemOf.{IsProblemOf}
 use Rattle.poly_graph.specs.Problem.{Problem, IsProblem}
 use Rattle.cover_model.specs.State.{Loosenings, margin_of}
@@ -19,7 +18,7 @@ use Rattle.cert_model.specs.Due.{left_open}
 use Rattle.cert_model.specs.Accepted.{IsAccepted}
 use Rattle.real_points.specs.Laws.{IsBelow}
 use Rattle.real_points.specs.Real.{Sequence, part}
-use Rattle.real_points.specs.RealPoint.{RealCoordinate, nth_point, SatisfiesAtReal, IsInDeclaredBox}
+use Rattle.real_points.specs.RealPoint.{RealCoordinate, SatisfiesAtReal, IsInDeclaredBox}
 use Rattle.real_points.specs.RealMeaning.{IsAtMost, IsLess, Relation, is_at_most, is_less, is_at_least, is_greater, is_equal, Statement, yes, senseless, compares, deny, both, differ, choose, Related, Unrelated, Holds, Fails, RealValue, number, statement, chosen, over_reals, coordinate_of, IsTrueStatement, SatisfiesOverReals}
 use Rattle.real_points.proofs.Truth.{unsat_is_of_reals}
 use Rattle.real_points.proofs.AtPoints.{relation_at, pair_at, value_at, claims_at}

@@ -1,16 +1,16 @@
 -- The n-th fractions of real points: those of the same point come together, and those of the declared box have points of
 -- the box beside them.
-use Rattle.std.proofs.Common.{◌≡◌, ℕ, zero, suc, ◌+◌, ◌*◌, ◌≤◌, List, [], ◌∷◌, map, Bool, true, false, cond, Option, Some, None, IsTrue, refl, sym, subst, ap, ◌∙◌, inl, inr, arith, ℤ, pos, nat_abs, le_of_mul-le-mul_right, true≢false}
+use Rattle.std.proofs.Common.{◌≡◌, ℕ, suc, ◌+◌, ◌*◌, ◌≤◌, List, [], ◌∷◌, Bool, true, false, cond, Option, Some, None, IsTrue, refl, sym, ◌∙◌, inl, inr, arith, nat_abs, le_of_mul-le-mul_right, true≢false}
 use Rattle.dyadic.specs.Fraction.{Fraction, IsFraction, sum_of, difference_of, at_most}
-use Rattle.dyadic.specs.Point.{Sort, real_sort, bool_sort, Coordinate, at_fraction, at_bool, IsPoint}
+use Rattle.dyadic.specs.Point.{Sort, real_sort, bool_sort, Coordinate, at_fraction, at_bool}
 use Rattle.dyadic.proofs.Equal.{through, total}
 use Rattle.script_model.specs.Declared.{DeclaredInterval, IfBelow, IfAbove, InBox}
-use Rattle.script_model.proofs.Bounds.{IfFraction, sum_is}
-use Rattle.real_points.specs.Real.{Sequence, IsReal, AreEqual, IsWithin, part}
+use Rattle.script_model.proofs.Bounds.{IfFraction}
+use Rattle.real_points.specs.Real.{Sequence, IsReal, AreEqual, part}
 use Rattle.real_points.specs.RealPoint.{RealCoordinate, at_real, at_truth, IsRealPoint, IsSamePoint, LiesBetween, IsInBox, nth_point}
 use Rattle.real_points.proofs.Sizes.{IsSized, IsClose, ratio, sized_constant, sized_beside, sized_more, close_itself, close_from, within_sized, grown, across, twice, limit}
 use Rattle.real_points.proofs.Terms.{AreClose}
-use Rattle.real_points.proofs.Moves.{own, ratio_is}
+use Rattle.real_points.proofs.Moves.{own}
 
 -- ---- sizes
 
@@ -48,7 +48,10 @@ pub same_close : (b n : ℕ) (sorts : List Sort) (xs ys : List RealCoordinate) �
 same_close b n [] [] [] i j e l = tt
 same_close b n (real_sort ∷ sorts) (at_real x ∷ xs) (at_real y ∷ ys) i j e l = (
   (
-    i.0.fractions n, j.0.fractions n, sized_more (bound_at x) b (x n) (omega (arith, l)) (sized-at x i.0 n), sized_more (bound_at y) b (y n) (omega (arith, l)) (sized-at y j.0 n),
+    i.0.fractions n,
+    j.0.fractions n,
+    sized_more (bound_at x) b (x n) (omega (arith, l)) (sized-at x i.0 n),
+    sized_more (bound_at y) b (y n) (omega (arith, l)) (sized-at y j.0 n),
     equal-close x y e.0 n,
   ),
   same_close b n sorts xs ys i.1 j.1 e.1 (omega (arith, l)),
@@ -145,8 +148,11 @@ module _ (b n : ℕ) (box : ℕ → DeclaredInterval) (ends : (k : ℕ) → IfFr
         ((i.is, i.low, i.high), rest.0),
         (
           (
-            e.0.0.fractions n, i.is, sized_more (bound_at x) b (x n) (omega (arith, l)) s,
-            sized_more (bound_at x + 1) b (held (box axis) (x n)) (omega (arith, l)) (sized_beside (bound_at x) 1 n (x n) (held (box axis) (x n)) (e.0.0.fractions n) s i.close), i.close,
+            e.0.0.fractions n,
+            i.is,
+            sized_more (bound_at x) b (x n) (omega (arith, l)) s,
+            sized_more (bound_at x + 1) b (held (box axis) (x n)) (omega (arith, l)) (sized_beside (bound_at x) 1 n (x n) (held (box axis) (x n)) (e.0.0.fractions n) s i.close),
+            i.close,
           ),
           rest.1,
         ),

@@ -1,17 +1,14 @@
 -- The square root of 2.
-use Rattle.std.proofs.Common.{◌≡◌, ℕ, zero, suc, ◌+◌, ◌*◌, ◌<◌, ◌≤◌, List, [], ◌∷◌, Bool, true, false, cond, None, IsTrue, refl, sym, inl, inr, ◌⊎◌, arith, ℤ, pos, ◌+ℤ◌, ◌*ℤ◌, neg_ℤ, ◌≤ℤ◌, mul-le-mul_right, mul-le-mul_left, mul-pos, lit<}
+use Rattle.std.proofs.Common.{◌≡◌, ℕ, zero, suc, ◌+◌, ◌*◌, ◌<◌, ◌≤◌, [], ◌∷◌, Bool, true, false, cond, None, IsTrue, refl, arith, pos, mul-le-mul_right, mul-pos, lit<}
 use Rattle.std.specs.Prelude.{nat_le}
 use Rattle.std.proofs.lemmas.Bool.{leb-true, leb-false}
 use Rattle.dyadic.specs.Fraction.{Fraction, IsFraction, zero_fraction, sum_of, difference_of, product_of, at_most}
-use Rattle.dyadic.proofs.Equal.{le_holds, both_pass}
-use Rattle.dyadic.proofs.Ring
-use Rattle.dyadic.proofs.Ring.{atom, natural, plus, minus, times, below}
-use Rattle.dyadic.specs.Point.{at_fraction}
-use Rattle.script_model.specs.Script.{Satisfies}
+use Rattle.dyadic.proofs.Equal.{le_holds}
+use Rattle.dyadic.proofs.Ring.{natural, plus, minus, times, below}
 use Rattle.script_model.specs.Declared.{declared_interval}
 use Rattle.headline.specs.Laws.{HasNoPoint}
-use Rattle.real_points.specs.Real.{Sequence, IsReal, IsWithin, part}
-use Rattle.real_points.specs.RealPoint.{RealCoordinate, at_real, IsInDeclaredBox, LiesBetween}
+use Rattle.real_points.specs.Real.{IsReal, IsWithin, part}
+use Rattle.real_points.specs.RealPoint.{at_real, IsInDeclaredBox, LiesBetween}
 use Rattle.real_points.specs.RealMeaning.{SatisfiesOverReals}
 use Rattle.real_points.proofs.OverReals.{over_reals_is_loosened}
 use Rattle.real_points.specs.RootOfTwo.{root_script, root_up_to, root_of_two, one_from_below}

@@ -1,14 +1,13 @@
 -- Fractions whose size, or whose distance, is at most k over n + 1.
-use Rattle.std.proofs.Common.{◌≡◌, ℕ, zero, suc, negsuc, ◌+◌, ◌*◌, ◌<◌, ◌≤◌, IsTrue, refl, ap, ap₂, sym, ◌∙◌, subst, inl, inr, ◌⊎◌, arith, ℤ, pos, ◌+ℤ◌, ◌*ℤ◌, neg_ℤ, ◌≤ℤ◌, nat_abs, mul-pos, mul-le-mul_right, mul-le-mul_left, le_of_mul-le-mul_right, lt_of_mul-lt-mul_right}
+use Rattle.std.proofs.Common.{◌≡◌, ℕ, suc, negsuc, ◌+◌, ◌*◌, ◌<◌, ◌≤◌, IsTrue, refl, ap, ap₂, ◌∙◌, arith, ℤ, pos, ◌+ℤ◌, ◌*ℤ◌, neg_ℤ, ◌≤ℤ◌, nat_abs, mul-le-mul_right, mul-le-mul_left, le_of_mul-le-mul_right, lt_of_mul-lt-mul_right}
 use Rattle.std.proofs.Math.IntN.{*ℤ_comm}
 use Rattle.std.proofs.lemmas.Int.{ints}
 use borrow.Author.Differences.{up, down}
-use Rattle.dyadic.specs.Fraction.{Fraction, IsFraction, zero_fraction, negated, sum_of, difference_of, product_of, at_most}
-use Rattle.dyadic.proofs.Equal.{holds_le, le_holds, through}
+use Rattle.dyadic.specs.Fraction.{Fraction, IsFraction, negated, sum_of, difference_of, product_of, at_most}
+use Rattle.dyadic.proofs.Equal.{holds_le, le_holds}
 use Rattle.dyadic.proofs.Ints.{nat_abs-neg}
 use Rattle.script_model.proofs.Bounds.{product_is}
 use Rattle.real_points.specs.Real.{IsWithin, part}
-use Rattle.dyadic.proofs.Ring
 use Rattle.dyadic.proofs.Ring.{Is, atom, natural, plus, minus, times, same, below, read_below}
 
 -- ---- sizes of whole numbers

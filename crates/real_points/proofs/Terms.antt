@@ -1,20 +1,11 @@
 -- Along points that come together, the values of a term come together, at a rate that is computed from the term.
-use Rattle.std.proofs.Common.{◌≡◌, ℕ, zero, suc, ◌+◌, ◌*◌, ◌≤◌, List, [], ◌∷◌, Bool, true, false, IsTrue, refl, sym, subst, arith, nat_abs, slice_index_or, ◌&&◌}
-use Rattle.std.specs.List.{AllByRecursion}
-use Rattle.dyadic.specs.Fraction.{Fraction, IsFraction, zero_fraction, negated, sum_of, difference_of, product_of, at_most}
-use Rattle.dyadic.specs.Point.{Sort, real_sort, bool_sort, Coordinate, at_fraction, at_bool, IsPoint}
-use Rattle.dyadic.proofs.Equal.{through, total, both_true, both_pass}
-use Rattle.interval_model.proofs.EndsSums.{sum_mono, negated_mono}
-use Rattle.script_model.proofs.Bounds.{product_is, sum_is, negated_is, difference_is}
-use Rattle.poly_graph.specs.Term.{Term, constant, variable, negate, add, multiply, square, coordinate, term_value, Kind, le, ge, eq, in_range, Atom, atom_holds}
-use Rattle.poly_graph.specs.Form.{Form, form_truth}
-use Rattle.poly_graph.specs.Problem.{HasSort, IsTerm, bool_holds, no_atom}
-use Rattle.poly_graph.proofs.Forms.{rises}
-use Rattle.script_model.specs.Script.{Command, Satisfies, sorts_of}
-use Rattle.script_forms.specs.Atoms.{unfolding_fault, script_atoms, script_form, form_holds}
-use Rattle.script_forms.proofs.Numbered.{script_means, value_is_fraction}
-use Rattle.script_forms.proofs.Good.{script_good}
-use Rattle.real_points.proofs.Sizes.{IsSized, IsClose, ratio, sized_constant, sized_negated, sized_sum, sized_product, close_itself, close_negated, close_sum, close_product, close_above, close_below, close_more}
+use Rattle.std.proofs.Common.{◌≡◌, ℕ, zero, suc, ◌+◌, ◌*◌, List, [], ◌∷◌, nat_abs}
+use Rattle.dyadic.specs.Fraction.{IsFraction}
+use Rattle.dyadic.specs.Point.{Sort, real_sort, bool_sort, Coordinate, at_fraction, at_bool}
+use Rattle.script_model.proofs.Bounds.{product_is, sum_is, negated_is}
+use Rattle.poly_graph.specs.Term.{Term, constant, variable, negate, add, multiply, square, coordinate, term_value, Atom}
+use Rattle.poly_graph.specs.Problem.{HasSort, IsTerm}
+use Rattle.real_points.proofs.Sizes.{IsSized, IsClose, sized_constant, sized_negated, sized_sum, sized_product, close_itself, close_negated, close_sum, close_product}
 
 -- ---- bounds and rates
 

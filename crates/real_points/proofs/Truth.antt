@@ -1,15 +1,12 @@
 -- Truth at real points.
-use Rattle.std.proofs.Common.{◌≡◌, ℕ, suc, ◌+◌, ◌*◌, ◌<◌, ◌≤◌, List, [], Option, Some, None, Bool, true, false, not, IsTrue, refl, sym, arith, ℤ, pos, negsuc, ◌+ℤ◌, ◌*ℤ◌, neg_ℤ, ◌≤ℤ◌, mul-le-mul_right, mul-le-mul_left, mul-pos, true≢false, lit<}
+use Rattle.std.proofs.Common.{◌≡◌, ℕ, suc, ◌+◌, ◌*◌, ◌≤◌, List, [], Option, None, Bool, true, false, not, IsTrue, refl, sym, arith, ℤ, pos, ◌+ℤ◌, ◌*ℤ◌, ◌≤ℤ◌, mul-le-mul_right, lit<}
 use Rattle.std.proofs.lemmas.Int.{ints}
-use borrow.Author.Differences.{up, down}
 use lib.Signed.{le_z}
-use Rattle.dyadic.specs.Fraction.{Fraction, IsFraction, sum_of, difference_of, at_most}
-use Rattle.dyadic.specs.Point.{Coordinate}
+use Rattle.dyadic.specs.Fraction.{Fraction, IsFraction, sum_of, at_most}
 use Rattle.dyadic.proofs.Equal.{through, le_holds}
-use Rattle.dyadic.proofs.Ring
 use Rattle.dyadic.proofs.Ring.{atom, natural, plus, times, below, read_below}
-use Rattle.script_model.specs.Script.{Command, Satisfies, sorts_of}
-use Rattle.script_model.specs.Declared.{declared_interval, InDeclaredBox}
+use Rattle.script_model.specs.Script.{Command, sorts_of}
+use Rattle.script_model.specs.Declared.{declared_interval}
 use Rattle.script_model.proofs.Bounds.{sum_is, ends_are_fractions}
 use Rattle.script_forms.specs.Atoms.{unfolding_fault, script_atoms}
 use Rattle.script_forms.specs.ProblemOf.{IsProblemOf}
@@ -22,9 +19,9 @@ use Rattle.headline.specs.Laws.{HasNoPoint}
 use Rattle.headline.proofs.Headline.{unsat_is}
 use Rattle.real_points.specs.Laws.{HasNoRealPoint, IsBelow}
 use Rattle.real_points.specs.Real.{part}
-use Rattle.real_points.specs.RealPoint.{RealCoordinate, IsRealPoint, IsSamePoint, IsInDeclaredBox, nth_point, SatisfiesAtReal}
+use Rattle.real_points.specs.RealPoint.{RealCoordinate, IsRealPoint, IsSamePoint, nth_point, SatisfiesAtReal}
 use Rattle.real_points.proofs.Sizes.{ratio, step_halves}
-use Rattle.real_points.proofs.Terms.{AreClose, rate_of_all}
+use Rattle.real_points.proofs.Terms.{rate_of_all}
 use Rattle.real_points.proofs.Moves.{script_moves, ratio_is}
 use Rattle.real_points.proofs.Points.{bound_of_point, same_close, held_close, held_point}
 
@@ -41,8 +38,8 @@ truth_is_of_the_point script e m f x y i j s h k =
     let b = bound_of_point x + bound_of_point y in let r = rate_of_all b 2 (script_atoms script) in let t = h (2 * k + 1) in (
       t.0 + 2 * r * suc k,
       λ n l. script_moves script e b 2 n (nth_point n x) (nth_point n y) (same_close b n (sorts_of script) x y i j s (omega arith))
-      (sum_of m (part (2 * k + 1))) (sum_of m (part k)) (sum_is m (part (2 * k + 1)) f (part-is (2 * k + 1))) (step_halves m r k n (far r k n t.0 l))
-      (t.1 n (omega (arith, l))),
+          (sum_of m (part (2 * k + 1))) (sum_of m (part k)) (sum_is m (part (2 * k + 1)) f (part-is (2 * k + 1))) (step_halves m r k n (far r k n t.0 l))
+          (t.1 n (omega (arith, l))),
     )
 
 -- ---- margins

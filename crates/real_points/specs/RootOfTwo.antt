@@ -1,12 +1,12 @@
 -- The square root of 2 as a real point, and a real point on the edge of the box.
 use Rattle.std.specs.Prelude.{ℕ, zero, suc, ◌*◌, List, [], ◌∷◌, cond, codes, pos, None, nat_le}
 use Rattle.dyadic.specs.Fraction.{Fraction, IsFraction, zero_fraction}
-use Rattle.dyadic.specs.Point.{Sort, real_sort}
+use Rattle.dyadic.specs.Point.{real_sort}
 use Rattle.script_model.specs.Sexp.{Place, Sexp, leaf, group, more, none, symbol, numeral}
 use Rattle.script_model.specs.Script.{Command, declare, claim, check}
 use Rattle.headline.specs.Laws.{HasNoPoint}
 use Rattle.real_points.specs.Real.{Sequence}
-use Rattle.real_points.specs.RealPoint.{RealCoordinate, at_real, IsInDeclaredBox}
+use Rattle.real_points.specs.RealPoint.{at_real, IsInDeclaredBox}
 use Rattle.real_points.specs.RealMeaning.{SatisfiesOverReals}
 use Rattle.real_points.specs.Laws.{IsBelow}
 

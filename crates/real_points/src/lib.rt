@@ -5,7 +5,11 @@
 #![tactic(auto)]
 
 ghost use Rattle.real_points.specs.Laws.{
-    TruthIsOfThePoint, RationalPointsSuffice, UnsatIsOfReals, OverRealsIsLoosened, UnsatIsExactOverReals,
+  TruthIsOfThePoint,
+  RationalPointsSuffice,
+  UnsatIsOfReals,
+  OverRealsIsLoosened,
+  UnsatIsExactOverReals,
 };
 ghost use Rattle.real_points.specs.RootOfTwo.{RootSatisfies, RootIsNoUnsat, EdgeIsIn};
 
