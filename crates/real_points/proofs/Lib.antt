@@ -6,3 +6,4 @@ mod Truth
 mod RootOfTwo
 mod AtPoints
 mod OverReals
+mod Rational

@@ -1,8 +1,9 @@
 -- What is said of real points.
-use Rattle.std.specs.Prelude.{◌≡◌, ℕ, List, [], Option, None, not, IsTrue}
+use Rattle.std.specs.Prelude.{◌≡◌, ◌↔◌, ℕ, List, [], map, Option, None, not, IsTrue}
 use Rattle.dyadic.specs.Fraction.{Fraction, IsFraction, zero_fraction, at_most}
+use Rattle.dyadic.specs.Point.{Coordinate, IsPoint}
 use Rattle.dyadic.specs.Rounding.{exact}
-use Rattle.script_model.specs.Script.{Command, sorts_of}
+use Rattle.script_model.specs.Script.{Command, Satisfies, sorts_of}
 use Rattle.script_forms.specs.Atoms.{unfolding_fault}
 use Rattle.script_forms.specs.ProblemOf.{IsProblemOf}
 use Rattle.poly_graph.specs.Problem.{Problem, IsProblem}
@@ -10,13 +11,18 @@ use Rattle.cover_model.specs.State.{Loosenings, margin_of}
 use Rattle.cert_model.specs.Due.{left_open}
 use Rattle.cert_model.specs.Accepted.{IsAccepted}
 use Rattle.headline.specs.Laws.{HasNoPoint}
-use Rattle.real_points.specs.RealPoint.{RealCoordinate, IsRealPoint, IsSamePoint, IsInDeclaredBox, SatisfiesAtReal}
+use Rattle.real_points.specs.RealPoint.{RealCoordinate, IsRealPoint, IsSamePoint, IsInDeclaredBox, SatisfiesAtReal, as_real}
 use Rattle.real_points.specs.RealMeaning.{SatisfiesOverReals}
 
 -- Whether a real point satisfies a script, each atom loosened by m, does not depend on the fractions that give the point.
 abbrev pub TruthIsOfThePoint : Type 0
 TruthIsOfThePoint = (script : List Command) → unfolding_fault script ≡ None → (m : Fraction) → IsFraction m → (x y : List RealCoordinate) →
     IsRealPoint (sorts_of script) x → IsRealPoint (sorts_of script) y → IsSamePoint x y → SatisfiesAtReal m x script → SatisfiesAtReal m y script
+
+-- A rational point satisfies a script loosened by m as a real point exactly where it does as a rational one.
+abbrev pub RationalIsReal : Type 0
+RationalIsReal = (script : List Command) → unfolding_fault script ≡ None → (m : Fraction) → IsFraction m → (point : List Coordinate) → IsPoint (sorts_of script) point →
+    SatisfiesAtReal m (map as_real point) script ↔ Satisfies m point script
 
 -- no real point of the declared box satisfies the script, each atom loosened by m
 abbrev pub HasNoRealPoint : Option ℕ → List Command → Fraction → Type 0

@@ -6,6 +6,7 @@
 
 ghost use Rattle.real_points.specs.Laws.{
   TruthIsOfThePoint,
+  RationalIsReal,
   RationalPointsSuffice,
   UnsatIsOfReals,
   OverRealsIsLoosened,
@@ -16,6 +17,11 @@ ghost use Rattle.real_points.specs.RootOfTwo.{RootSatisfies, RootIsNoUnsat, Edge
 /// Whether a real point satisfies a script does not depend on the fractions that give the point.
 pub fn truth_is_of_the_point()
     ensures { TruthIsOfThePoint }
+{}
+
+/// A rational point is a real point, with the same truth.
+pub fn rational_is_real()
+    ensures { RationalIsReal }
 {}
 
 /// Where no rational point of the declared box satisfies the script at a margin, no real point satisfies it below the
