@@ -7,3 +7,4 @@ mod RootOfTwo
 mod AtPoints
 mod OverReals
 mod Rational
+mod Irrational

@@ -15,15 +15,15 @@ use Rattle.dyadic.proofs.Ring.{Is, atom, natural, plus, minus, times, same, belo
 size-sum : (a b : ℤ) → nat_abs (a +ℤ b) ≤ nat_abs a + nat_abs b
 size-sum a b = omega (arith, ints)
 
-size-product : (a b : ℤ) → nat_abs (a *ℤ b) ≡ nat_abs a * nat_abs b
-size-product (pos m) (pos n) = refl
-size-product (pos m) (negsuc n) = nat_abs-neg (pos (m * suc n))
-size-product (negsuc m) (pos n) = nat_abs-neg (pos (suc m * n))
-size-product (negsuc m) (negsuc n) = refl
+pub size_product : (a b : ℤ) → nat_abs (a *ℤ b) ≡ nat_abs a * nat_abs b
+size_product (pos m) (pos n) = refl
+size_product (pos m) (negsuc n) = nat_abs-neg (pos (m * suc n))
+size_product (negsuc m) (pos n) = nat_abs-neg (pos (suc m * n))
+size_product (negsuc m) (negsuc n) = refl
 
 -- of z = a k + b l
 size-of-two : (z a b : ℤ) (k l : ℕ) → z ≡ (a *ℤ pos k) +ℤ (b *ℤ pos l) → nat_abs z ≤ nat_abs a * k + nat_abs b * l
-size-of-two z a b k l e = rw e (omega (arith, size-sum (a *ℤ pos k) (b *ℤ pos l), size-product a (pos k), size-product b (pos l)))
+size-of-two z a b k l e = rw e (omega (arith, size-sum (a *ℤ pos k) (b *ℤ pos l), size_product a (pos k), size_product b (pos l)))
 
 pub products : (a b c d : ℕ) → a ≤ b → c ≤ d → a * c ≤ b * d
 products a b c d h k = omega (arith, mul-le-mul_right c h, mul-le-mul_left b k)
@@ -51,7 +51,7 @@ sized_sum j k p q h i = record {
 
 pub sized_product : (j k : ℕ) (p q : Fraction) → IsSized j p → IsSized k q → IsSized (j * k) (product_of p q)
 unfolding product_of
-sized_product j k p q h i = record { sized = omega (arith, size-product p.num q.num, products (nat_abs p.num) (j * p.den) (nat_abs q.num) (k * q.den) h.sized i.sized) }
+sized_product j k p q h i = record { sized = omega (arith, size_product p.num q.num, products (nat_abs p.num) (j * p.den) (nat_abs q.num) (k * q.den) h.sized i.sized) }
 
 -- ---- |p - q| <= k / (n + 1)
 
@@ -127,7 +127,7 @@ close_chain j k n p q r f h i =
     let d = gap p.num q.num p.den q.den in let g = gap q.num r.num q.den r.den in
     let e : nat_abs (x *ℤ pos q.den) ≤ nat_abs d * r.den + nat_abs g * p.den = size-of-two (x *ℤ pos q.den) d g r.den p.den (gap-chain p.num q.num r.num p.den q.den r.den) in
     let l : nat_abs (x *ℤ pos q.den) * suc n ≤ j * (p.den * q.den * r.den) + k * (q.den * r.den * p.den) = joined (nat_abs (x *ℤ pos q.den)) (nat_abs d) (nat_abs g) r.den p.den (suc n) j k (p.den * q.den) (q.den * r.den) e h.close i.close in
-    let m : (nat_abs x * suc n) * q.den ≤ ((j + k) * (p.den * r.den)) * q.den = omega (arith, l, ap (λ y. y * suc n) (size-product x (pos q.den))) in
+    let m : (nat_abs x * suc n) * q.den ≤ ((j + k) * (p.den * r.den)) * q.den = omega (arith, l, ap (λ y. y * suc n) (size_product x (pos q.den))) in
     record { close = le_of_mul-le-mul_right m f }
 
 scaled-at : (s t b N V d v : ℕ) → s ≤ V * b → t * N ≤ d * v → (s * t * b) * N ≤ (V * d) * (b * b * v)
@@ -138,7 +138,7 @@ unfolding product_of
 close_scaled j k n p r s h i =
     let g = gap r.num s.num r.den s.den in
     let x = gap (p.num *ℤ r.num) (p.num *ℤ s.num) (p.den * r.den) (p.den * s.den) in
-    let e : nat_abs x ≡ nat_abs p.num * nat_abs g * p.den = ap nat_abs (gap-scaled p.num r.num s.num p.den r.den s.den) ∙ size-product (p.num *ℤ g) (pos p.den) ∙ ap (λ y. y * p.den) (size-product p.num g) in
+    let e : nat_abs x ≡ nat_abs p.num * nat_abs g * p.den = ap nat_abs (gap-scaled p.num r.num s.num p.den r.den s.den) ∙ size_product (p.num *ℤ g) (pos p.den) ∙ ap (λ y. y * p.den) (size_product p.num g) in
     let l : (nat_abs p.num * nat_abs g * p.den) * suc n ≤ (j * k) * (p.den * p.den * (r.den * s.den)) = scaled-at (nat_abs p.num) (nat_abs g) p.den (suc n) j k (r.den * s.den) h.sized i.close in
     record { close = rw e (omega (arith, l)) }
 
@@ -199,7 +199,7 @@ within-at a c b d x y h k =
 pub within_sized : (x y : ℕ) (p q : Fraction) → IsWithin (record { num = pos x; den = y }) p q → nat_abs (gap p.num q.num p.den q.den) * y ≤ x * (p.den * q.den)
 unfolding at_most sum_of negated
 within_sized x y p q h =
-    rw (← size-product (gap p.num q.num p.den q.den) (pos y)) (within-at p.num q.num p.den q.den x y (holds_le _ _ h.0) (holds_le _ _ h.1))
+    rw (← size_product (gap p.num q.num p.den q.den) (pos y)) (within-at p.num q.num p.den q.den x y (holds_le _ _ h.0) (holds_le _ _ h.1))
 
 pub close_more : (j k n : ℕ) (p q : Fraction) → j ≤ k → IsClose j n p q → IsClose k n p q
 close_more j k n p q l h = record { close = omega (arith, h.close, mul-le-mul_right (p.den * q.den) l) }
@@ -217,7 +217,7 @@ apart-at : (a c : ℤ) (b d k N j : ℕ) → nat_abs (gap a c b d) * suc N ≤ k
 apart-at a c b d k N j h s =
     let e : nat_abs (c *ℤ pos b) ≤ nat_abs a * d + nat_abs (neg_ℤ (gap a c b d)) * 1 = size-of-two (c *ℤ pos b) a (neg_ℤ (gap a c b d)) d 1 (gap-other a c b d) in
     let g : nat_abs (gap a c b d) ≤ k * (b * d) = omega (arith, h) in
-    omega (arith, size-product c (pos b), e, g, nat_abs-neg (gap a c b d), mul-le-mul_right d s)
+    omega (arith, size_product c (pos b), e, g, nat_abs-neg (gap a c b d), mul-le-mul_right d s)
 
 pub sized_beside : (j k n : ℕ) (p q : Fraction) → IsFraction p → IsSized j p → IsClose k n p q → IsSized (j + k) q
 sized_beside j k n p q f h i = record { sized = le_of_mul-le-mul_right (apart-at p.num q.num p.den q.den k n j i.close h.sized) f }
@@ -231,7 +231,7 @@ from-at a c b d k N h i = size-below (gap a c b d *ℤ pos N) _ _ (k * (b * d)) 
 -- q <= p + k / (n + 1) and p <= q + k / (n + 1)
 pub close_from : (k n : ℕ) (p q : Fraction) → IsTrue (at_most q (sum_of p (ratio k n))) → IsTrue (at_most p (sum_of q (ratio k n))) → IsClose k n p q
 unfolding at_most sum_of
-close_from k n p q h i = record { close = rw (← size-product (gap p.num q.num p.den q.den) (pos (suc n))) (from-at p.num q.num p.den q.den k (suc n) (holds_le _ _ h) (holds_le _ _ i)) }
+close_from k n p q h i = record { close = rw (← size_product (gap p.num q.num p.den q.den) (pos (suc n))) (from-at p.num q.num p.den q.den k (suc n) (holds_le _ _ h) (holds_le _ _ i)) }
 
 grown-at : (a : ℤ) (b k N : ℕ) → (a *ℤ pos (b * N)) ≤ℤ (((a *ℤ pos N) +ℤ (pos k *ℤ pos b)) *ℤ pos b)
 grown-at a b k N = below (times (atom a) (natural (b * N))) (times (plus (times (atom a) (natural N)) (times (natural k) (natural b))) (natural b)) (omega arith)

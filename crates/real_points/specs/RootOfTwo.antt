@@ -1,9 +1,10 @@
 -- The square root of 2 as a real point, and a real point on the edge of the box.
 use Rattle.std.specs.Prelude.{ℕ, zero, suc, ◌*◌, List, [], ◌∷◌, cond, codes, pos, None, nat_le}
 use Rattle.dyadic.specs.Fraction.{Fraction, IsFraction, zero_fraction}
-use Rattle.dyadic.specs.Point.{real_sort}
+use Rattle.dyadic.specs.Point.{real_sort, at_fraction}
 use Rattle.script_model.specs.Sexp.{Place, Sexp, leaf, group, more, none, symbol, numeral}
 use Rattle.script_model.specs.Script.{Command, declare, claim, check}
+use Rattle.script_model.specs.Exact.{SatisfiesExactly}
 use Rattle.headline.specs.Laws.{HasNoPoint}
 use Rattle.real_points.specs.Real.{Sequence}
 use Rattle.real_points.specs.RealPoint.{at_real, IsInDeclaredBox}
@@ -44,7 +45,11 @@ one_from_below n = record { num = pos n; den = suc n }
 abbrev pub RootSatisfies : Type 0
 RootSatisfies = IsInDeclaredBox None root_script (at_real root_of_two ∷ []) × SatisfiesOverReals (at_real root_of_two ∷ []) root_script
 
--- so at every margin some rational point does
+-- no rational point does
+abbrev pub NoFractionSatisfies : Type 0
+NoFractionSatisfies = (q : Fraction) → IsFraction q → SatisfiesExactly (at_fraction q ∷ []) root_script → ⊥
+
+-- so the script has no margin at which no rational point satisfies it
 abbrev pub RootIsNoUnsat : Type 0
 RootIsNoUnsat = (margin : Fraction) → IsFraction margin → IsBelow zero_fraction margin → HasNoPoint None root_script margin → ⊥
 

@@ -12,7 +12,7 @@ ghost use Rattle.real_points.specs.Laws.{
   OverRealsIsLoosened,
   UnsatIsExactOverReals,
 };
-ghost use Rattle.real_points.specs.RootOfTwo.{RootSatisfies, RootIsNoUnsat, EdgeIsIn};
+ghost use Rattle.real_points.specs.RootOfTwo.{RootSatisfies, NoFractionSatisfies, RootIsNoUnsat, EdgeIsIn};
 
 /// Whether a real point satisfies a script does not depend on the fractions that give the point.
 pub fn truth_is_of_the_point()
@@ -50,7 +50,12 @@ pub fn root_of_two_satisfies()
     ensures { RootSatisfies }
 {}
 
-/// So that script is unsat at no margin.
+/// No rational number does.
+pub fn no_fraction_satisfies()
+    ensures { NoFractionSatisfies }
+{}
+
+/// That script is unsat at no margin.
 pub fn root_of_two_is_no_unsat()
     ensures { RootIsNoUnsat }
 {}
