@@ -86,6 +86,6 @@ module _ (script : List Command) (e : unfolding_fault script ≡ None) (m : Frac
   pub rational_is_real : (SatisfiesAtReal m (map as_real point) script → Satisfies m point script) × (Satisfies m point script → SatisfiesAtReal m (map as_real point) script)
   rational_is_real = (
     λ h. let K = m.den + needed point m (script_atoms script) in let t = h K in
-    closed K (omega arith) (rw (nth-is t.0 point) at (t.1 t.0 (omega arith))),
+        closed K (omega arith) (rw (nth-is t.0 point) at (t.1 t.0 (omega arith))),
     λ h k. (0, λ n l. rw (nth-is n point) (looser k h)),
   )
