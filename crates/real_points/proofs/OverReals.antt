@@ -10,7 +10,7 @@ use Rattle.dyadic.proofs.Equal.{le_holds, holds_le, both_pass}
 use Rattle.dyadic.proofs.Ring.{atom, natural, plus, minus, times, below, read_below}
 use Rattle.poly_graph.proofs.Bools.{or_first, or_second}
 use Rattle.script_model.specs.Meaning.{pair_of, not_above, not_below}
-use Rattle.script_model.specs.Script.{Command, claims, Holds as HoldsPair}
+use Rattle.script_model.specs.Script.{Command, claims, Holds as HoldsPair, Satisfies}
 use Rattle.script_forms.specs.ProblemOf.{IsProblemOf}
 use Rattle.poly_graph.specs.Problem.{Problem, IsProblem}
 use Rattle.cover_model.specs.State.{Loosenings, margin_of}
@@ -18,8 +18,8 @@ use Rattle.cert_model.specs.Due.{left_open}
 use Rattle.cert_model.specs.Accepted.{IsAccepted}
 use Rattle.real_points.specs.Laws.{IsBelow}
 use Rattle.real_points.specs.Real.{Sequence, part}
-use Rattle.real_points.specs.RealPoint.{RealCoordinate, SatisfiesAtReal, IsInDeclaredBox}
-use Rattle.real_points.specs.RealMeaning.{IsAtMost, IsLess, Relation, is_at_most, is_less, is_at_least, is_greater, is_equal, Statement, yes, senseless, compares, deny, both, differ, choose, Related, Unrelated, Holds, Fails, RealValue, number, statement, chosen, over_reals, coordinate_of, IsTrueStatement, SatisfiesOverReals}
+use Rattle.real_points.specs.RealPoint.{RealCoordinate, nth_point, SatisfiesAtReal, IsInDeclaredBox}
+use Rattle.real_points.specs.RealMeaning.{IsAtMost, IsLess, Relation, is_at_most, is_less, is_at_least, is_greater, is_equal, Statement, yes, senseless, compares, deny, both, differ, choose, Related, Unrelated, Holds, Fails, RealValue, number, statement, chosen, over_reals, coordinate_of, IsTrueStatement, Comparison, SatisfiesBy, SatisfiesOverReals, LooselyRelated, LooselyUnrelated}
 use Rattle.real_points.proofs.Truth.{unsat_is_of_reals}
 use Rattle.real_points.proofs.AtPoints.{relation_at, pair_at, value_at, claims_at}
 
@@ -71,12 +71,6 @@ less-later : (k : ℕ) (a b : Sequence) → IsLess a b → Eventually (λ n. IsT
 less-later k a b h = (h.1, λ n l. is-less h.0 k (a n) (b n) (h.2 n l))
 
 module _ (k : ℕ) where
-  abbrev Pos : Statement → ℕ → Type 0
-  Pos s n = IsTrue (pair_at (loose k) n s).pos
-
-  abbrev Neg : Statement → ℕ → Type 0
-  Neg s n = IsTrue (pair_at (loose k) n s).neg
-
   above-later : (a b : Sequence) → Eventually (λ n. IsTrue (at_most (a n) (sum_of (b n) (part k)))) → Eventually (λ n. IsTrue (not_above (loose k) (a n) (b n)))
   above-later a b h = (h.0, λ n l. is-above k (a n) (b n) (h.1 n l))
 
@@ -99,11 +93,16 @@ module _ (k : ℕ) where
   unrelated is_greater a b h = above-later a b (at-most-later k a b h)
   unrelated is_equal a b h = (0, λ n l. refl)
 
+-- ---- statements
+
+-- where comparisons that R or U says are so at the n-th fractions, loosened by d, for all n from some N on
+module _ (d : Fraction) (R U : Comparison) (yes-later : (r : Relation) (a b : Sequence) → R r a b → Eventually (λ n. IsTrue (relation_at d r (a n) (b n)).pos))
+    (no-later : (r : Relation) (a b : Sequence) → U r a b → Eventually (λ n. IsTrue (relation_at d r (a n) (b n)).neg)) where
   mutual
-    holds : (s : Statement) → Holds s → Eventually (Pos s)
+    holds : (s : Statement) → Holds R U s → Eventually (λ n. IsTrue (pair_at d n s).pos)
     holds yes h = (0, λ n l. refl)
     holds senseless h = elim h [ ]
-    holds (compares r a b) h = related r a b h
+    holds (compares r a b) h = yes-later r a b h
     holds (deny s) h = fails s h
     holds (both s t) h = let f = holds s h.0 in let g = holds t h.1 in (f.0 + g.0, λ n l. both_pass _ _ (f.1 n (omega (arith, l))) (g.1 n (omega (arith, l))))
     holds (differ s t) h = elim h [
@@ -115,10 +114,10 @@ module _ (k : ℕ) where
       | inr x ↦ let f = fails c x.0 in let g = holds t x.1 in (f.0 + g.0, λ n l. or_second _ _ (both_pass _ _ (f.1 n (omega (arith, l))) (g.1 n (omega (arith, l)))))
     ]
 
-    fails : (s : Statement) → Fails s → Eventually (Neg s)
+    fails : (s : Statement) → Fails R U s → Eventually (λ n. IsTrue (pair_at d n s).neg)
     fails yes h = elim h [ ]
     fails senseless h = elim h [ ]
-    fails (compares r a b) h = unrelated r a b h
+    fails (compares r a b) h = no-later r a b h
     fails (deny s) h = holds s h
     fails (both s t) h = elim h [
       | inl x ↦ let f = fails s x in (f.0, λ n l. or_first _ _ (f.1 n l))
@@ -135,19 +134,42 @@ module _ (k : ℕ) where
 
   -- ---- scripts
 
-  one-holds : (v : RealValue) → IsTrueStatement v → Eventually (λ n. HoldsPair (pair_of (value_at (loose k) n v)))
+  one-holds : (v : RealValue) → IsTrueStatement R U v → Eventually (λ n. HoldsPair (pair_of (value_at d n v)))
   one-holds (statement s) h = holds s h
   one-holds (number a) h = elim h [ ]
   one-holds (chosen c v w) h = elim h [ ]
 
-  all-hold : (vs : List RealValue) → AllByRecursion IsTrueStatement vs → Eventually (λ n. AllByRecursion HoldsPair (map pair_of (map (value_at (loose k) n) vs)))
+  all-hold : (vs : List RealValue) → AllByRecursion (IsTrueStatement R U) vs → Eventually (λ n. AllByRecursion HoldsPair (map pair_of (map (value_at d n) vs)))
   all-hold [] h = (0, λ n l. tt)
   all-hold (v ∷ vs) h = let f = one-holds v h.0 in let g = all-hold vs h.1 in (f.0 + g.0, λ n l. (f.1 n (omega (arith, l)), g.1 n (omega (arith, l))))
 
+  satisfied : (point : List RealCoordinate) (script : List Command) → SatisfiesBy R U point script → Eventually (λ n. Satisfies d (nth_point n point) script)
+  satisfied point script h =
+      let f = all-hold (claims over_reals [] (map coordinate_of point) script) h in
+      (f.0, λ n l. rw (← claims_at d n point script) (f.1 n l))
+
 pub over_reals_is_loosened : (point : List RealCoordinate) (script : List Command) → SatisfiesOverReals point script → SatisfiesAtReal zero_fraction point script
-over_reals_is_loosened point script h k =
-    let f = all-hold k (claims over_reals [] (map coordinate_of point) script) h in
-    (f.0, λ n l. rw (← claims_at (loose k) n point script) (f.1 n l))
+over_reals_is_loosened point script h k = satisfied (loose k) Related Unrelated (related k) (unrelated k) point script h
+
+-- ---- loosened by m
+
+module _ (m : Fraction) (k : ℕ) where
+  loosely-related : (r : Relation) (a b : Sequence) → LooselyRelated m r a b → Eventually (λ n. IsTrue (relation_at (sum_of m (part k)) r (a n) (b n)).pos)
+  loosely-related is_at_most a b h = h k
+  loosely-related is_less a b h = h k
+  loosely-related is_at_least a b h = h k
+  loosely-related is_greater a b h = h k
+  loosely-related is_equal a b h = let f = h.0 k in let g = h.1 k in (f.0 + g.0, λ n l. both_pass _ _ (f.1 n (omega (arith, l))) (g.1 n (omega (arith, l))))
+
+  loosely-unrelated : (r : Relation) (a b : Sequence) → LooselyUnrelated m r a b → Eventually (λ n. IsTrue (relation_at (sum_of m (part k)) r (a n) (b n)).neg)
+  loosely-unrelated is_at_most a b h = h k
+  loosely-unrelated is_less a b h = h k
+  loosely-unrelated is_at_least a b h = h k
+  loosely-unrelated is_greater a b h = h k
+  loosely-unrelated is_equal a b h = (0, λ n l. refl)
+
+pub loosely_is_at_the_limit : (m : Fraction) (point : List RealCoordinate) (script : List Command) → SatisfiesBy (LooselyRelated m) (LooselyUnrelated m) point script → SatisfiesAtReal m point script
+loosely_is_at_the_limit m point script h k = satisfied (sum_of m (part k)) (LooselyRelated m) (LooselyUnrelated m) (loosely-related m k) (loosely-unrelated m k) point script h
 
 positive-at : (t : ℕ) → 1 ≤ t → IsTrue (not (nat_le (t * 1) 0))
 positive-at t h = grind (arith, nat_tests)

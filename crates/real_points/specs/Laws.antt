@@ -12,7 +12,7 @@ use Rattle.cert_model.specs.Due.{left_open}
 use Rattle.cert_model.specs.Accepted.{IsAccepted}
 use Rattle.headline.specs.Laws.{HasNoPoint}
 use Rattle.real_points.specs.RealPoint.{RealCoordinate, IsRealPoint, IsSamePoint, IsInDeclaredBox, SatisfiesAtReal, as_real}
-use Rattle.real_points.specs.RealMeaning.{SatisfiesOverReals}
+use Rattle.real_points.specs.RealMeaning.{SatisfiesBy, SatisfiesOverReals, LooselyRelated, LooselyUnrelated}
 
 -- Whether a real point satisfies a script, each atom loosened by m, does not depend on the fractions that give the point.
 abbrev pub TruthIsOfThePoint : Type 0
@@ -47,6 +47,12 @@ UnsatIsOfReals = (bound : Option ℕ) (script : List Command) (p : Problem) → 
 -- What is true at a real point as SMT-LIB has it is true there loosened by 0.
 abbrev pub OverRealsIsLoosened : Type 0
 OverRealsIsLoosened = (point : List RealCoordinate) (script : List Command) → SatisfiesOverReals point script → SatisfiesAtReal zero_fraction point script
+
+-- What is true at a real point by recursion over the script, each comparison loosened by m and closed, is true there
+-- loosened by m.
+abbrev pub LooselyIsLoosened : Type 0
+LooselyIsLoosened = (m : Fraction) (point : List RealCoordinate) (script : List Command) → SatisfiesBy (LooselyRelated m) (LooselyUnrelated m) point script →
+    SatisfiesAtReal m point script
 
 -- Whoever made the bytes: where they are accepted as such a cover, no real point of the declared box satisfies the script as
 -- SMT-LIB has it.

@@ -4,7 +4,7 @@ use Rattle.std.specs.Prelude.{ℕ, ◌≤◌, ◌⊎◌, List, [], ◌∷◌, ma
 use Rattle.std.specs.List.{AllByRecursion}
 use Rattle.dyadic.specs.Fraction.{Fraction, zero_fraction, negated, sum_of, difference_of, product_of, quotient_of, at_most}
 use Rattle.script_model.specs.Reading.{Operator, truth, falsehood, negation, conjunction, disjunction, implication, exclusive, equality, distinctness, choice, minus, plus, times, divide, at_most_op, below_op, at_least_op, above_op, Meanings}
-use Rattle.script_model.specs.Meaning.{neighbours, pairs, from_left, first_and_rest}
+use Rattle.script_model.specs.Meaning.{not_above, not_below, neighbours, pairs, from_left, first_and_rest}
 use Rattle.script_model.specs.Script.{Command, claims}
 use Rattle.real_points.specs.Real.{Sequence, part}
 use Rattle.real_points.specs.RealPoint.{RealCoordinate, at_real, at_truth}
@@ -33,39 +33,43 @@ pub data Statement : Type 0 where
   both differ : Statement → Statement → Statement
   choose : Statement → Statement → Statement → Statement
 
-abbrev pub Related : Relation → Sequence → Sequence → Type 0
+abbrev pub Comparison : Type 1
+Comparison = Relation → Sequence → Sequence → Type 0
+
+-- when each is true, and when it is false
+abbrev pub Related : Comparison
 Related is_at_most a b = IsAtMost a b
 Related is_less a b = IsLess a b
 Related is_at_least a b = IsAtMost b a
 Related is_greater a b = IsLess b a
 Related is_equal a b = IsAtMost a b × IsAtMost b a
 
-abbrev pub Unrelated : Relation → Sequence → Sequence → Type 0
+abbrev pub Unrelated : Comparison
 Unrelated is_at_most a b = IsLess b a
 Unrelated is_less a b = IsAtMost b a
 Unrelated is_at_least a b = IsLess a b
 Unrelated is_greater a b = IsAtMost a b
 Unrelated is_equal a b = IsLess a b ⊎ IsLess b a
 
--- the statement is true, and it is false
+-- the statement is true, and it is false, where R says when a comparison is true and U when it is false
 abbrev mutual
-  pub Holds : Statement → Type 0
-  Holds yes = Unit {0}
-  Holds senseless = ⊥
-  Holds (compares r a b) = Related r a b
-  Holds (deny s) = Fails s
-  Holds (both s t) = Holds s × Holds t
-  Holds (differ s t) = (Holds s × Fails t) ⊎ (Fails s × Holds t)
-  Holds (choose c s t) = (Holds c × Holds s) ⊎ (Fails c × Holds t)
+  pub Holds : Comparison → Comparison → Statement → Type 0
+  Holds R U yes = Unit {0}
+  Holds R U senseless = ⊥
+  Holds R U (compares r a b) = R r a b
+  Holds R U (deny s) = Fails R U s
+  Holds R U (both s t) = Holds R U s × Holds R U t
+  Holds R U (differ s t) = (Holds R U s × Fails R U t) ⊎ (Fails R U s × Holds R U t)
+  Holds R U (choose c s t) = (Holds R U c × Holds R U s) ⊎ (Fails R U c × Holds R U t)
 
-  pub Fails : Statement → Type 0
-  Fails yes = ⊥
-  Fails senseless = ⊥
-  Fails (compares r a b) = Unrelated r a b
-  Fails (deny s) = Holds s
-  Fails (both s t) = Fails s ⊎ Fails t
-  Fails (differ s t) = (Holds s × Holds t) ⊎ (Fails s × Fails t)
-  Fails (choose c s t) = (Holds c × Fails s) ⊎ (Fails c × Fails t)
+  pub Fails : Comparison → Comparison → Statement → Type 0
+  Fails R U yes = ⊥
+  Fails R U senseless = ⊥
+  Fails R U (compares r a b) = U r a b
+  Fails R U (deny s) = Holds R U s
+  Fails R U (both s t) = Fails R U s ⊎ Fails R U t
+  Fails R U (differ s t) = (Holds R U s × Holds R U t) ⊎ (Fails R U s × Fails R U t)
+  Fails R U (choose c s t) = (Holds R U c × Fails R U s) ⊎ (Fails R U c × Fails R U t)
 
 -- ---- expressions
 
@@ -183,10 +187,37 @@ abbrev pub coordinate_of : RealCoordinate → RealValue
 coordinate_of (at_real x) = number x
 coordinate_of (at_truth b) = statement (truth_of_bool b)
 
-abbrev pub IsTrueStatement : RealValue → Type 0
-IsTrueStatement (statement s) = Holds s
-IsTrueStatement _ = ⊥
+abbrev pub IsTrueStatement : Comparison → Comparison → RealValue → Type 0
+IsTrueStatement R U (statement s) = Holds R U s
+IsTrueStatement R U _ = ⊥
+
+-- each assertion is true at the real point, where comparisons are true and false so
+abbrev pub SatisfiesBy : Comparison → Comparison → List RealCoordinate → List Command → Type 0
+SatisfiesBy R U point script = AllByRecursion (IsTrueStatement R U) (claims over_reals [] (map coordinate_of point) script)
 
 -- each assertion is true at the real point
 abbrev pub SatisfiesOverReals : List RealCoordinate → List Command → Type 0
-SatisfiesOverReals point script = AllByRecursion IsTrueStatement (claims over_reals [] (map coordinate_of point) script)
+SatisfiesOverReals point script = SatisfiesBy Related Unrelated point script
+
+-- ---- the same loosened, each comparison and its negation closed
+
+-- a - b <= m, and a - b >= -m
+abbrev pub IsNotAbove : Fraction → Sequence → Sequence → Type 0
+IsNotAbove m a b = (k : ℕ) → (N : ℕ) × ((n : ℕ) → N ≤ n → IsTrue (not_above (sum_of m (part k)) (a n) (b n)))
+
+abbrev pub IsNotBelow : Fraction → Sequence → Sequence → Type 0
+IsNotBelow m a b = (k : ℕ) → (N : ℕ) × ((n : ℕ) → N ≤ n → IsTrue (not_below (sum_of m (part k)) (a n) (b n)))
+
+abbrev pub LooselyRelated : Fraction → Comparison
+LooselyRelated m is_at_most a b = IsNotAbove m a b
+LooselyRelated m is_less a b = IsNotAbove m a b
+LooselyRelated m is_at_least a b = IsNotBelow m a b
+LooselyRelated m is_greater a b = IsNotBelow m a b
+LooselyRelated m is_equal a b = IsNotBelow m a b × IsNotAbove m a b
+
+abbrev pub LooselyUnrelated : Fraction → Comparison
+LooselyUnrelated m is_at_most a b = IsNotBelow m a b
+LooselyUnrelated m is_less a b = IsNotBelow m a b
+LooselyUnrelated m is_at_least a b = IsNotAbove m a b
+LooselyUnrelated m is_greater a b = IsNotAbove m a b
+LooselyUnrelated m is_equal a b = Unit {0}

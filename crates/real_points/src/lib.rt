@@ -10,6 +10,7 @@ ghost use Rattle.real_points.specs.Laws.{
   RationalPointsSuffice,
   UnsatIsOfReals,
   OverRealsIsLoosened,
+  LooselyIsLoosened,
   UnsatIsExactOverReals,
 };
 ghost use Rattle.real_points.specs.RootOfTwo.{RootSatisfies, NoFractionSatisfies, RootIsNoUnsat, EdgeIsIn};
@@ -38,6 +39,11 @@ pub fn unsat_is_of_reals()
 /// What is true at a real point as SMT-LIB has it is true there loosened by 0 (SMT-LIB 2.6, theories Core and Reals).
 pub fn over_reals_is_loosened()
     ensures { OverRealsIsLoosened }
+{}
+
+/// What is true at a real point by recursion over the script, each comparison loosened and closed, is true there loosened.
+pub fn loosely_is_loosened()
+    ensures { LooselyIsLoosened }
 {}
 
 /// A cover that leaves nothing: no real point of the declared box satisfies the script as SMT-LIB has it.
