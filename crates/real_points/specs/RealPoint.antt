@@ -58,7 +58,7 @@ nth_point n point = map (nth_coordinate n) point
 abbrev pub SatisfiesAtReal : Fraction → List RealCoordinate → List Command → Type 0
 SatisfiesAtReal m point script = (k : ℕ) → (N : ℕ) × ((n : ℕ) → N ≤ n → Satisfies (sum_of m (part k)) (nth_point n point) script)
 
--- a rational point as a real one: each fraction is its own n-th one
+-- a rational point as a real one, given by the same fraction again and again
 abbrev pub as_real : Coordinate → RealCoordinate
 as_real (at_fraction q) = at_real (λ n. q)
 as_real (at_bool b) = at_truth b
