@@ -7,4 +7,5 @@ mod RootOfTwo
 mod AtPoints
 mod OverReals
 mod Rational
+mod RationalBox
 mod Irrational

@@ -30,9 +30,9 @@ above-at : (a x : ℤ) (b y K : ℕ) → b * y ≤ K → (a *ℤ pos (y * suc K)
 above-at a x b y K l h = below (times (atom a) (natural y)) (times (atom x) (natural b))
     (closer _ _ (b * y) K (omega (arith, read_below (times (atom a) (natural (y * suc K))) (times (plus (times (atom x) (natural (suc K))) (times (natural 1) (natural y))) (natural b)) h)) l)
 
-closed-above : (v m : Fraction) (K : ℕ) → v.den * m.den ≤ K → IsTrue (at_most v (sum_of m (part K))) → IsTrue (at_most v m)
+pub closed_above : (v m : Fraction) (K : ℕ) → v.den * m.den ≤ K → IsTrue (at_most v (sum_of m (part K))) → IsTrue (at_most v m)
 unfolding at_most sum_of
-closed-above v m K l h = le_holds _ _ (above-at v.num m.num v.den m.den K l (holds_le _ _ h))
+closed_above v m K l h = le_holds _ _ (above-at v.num m.num v.den m.den K l (holds_le _ _ h))
 
 below-at : (a x : ℤ) (b y K : ℕ) → b * y ≤ K → (neg_ℤ ((x *ℤ pos (suc K)) +ℤ (pos 1 *ℤ pos y)) *ℤ pos b) ≤ℤ (a *ℤ pos (y * suc K)) → (neg_ℤ x *ℤ pos b) ≤ℤ (a *ℤ pos y)
 below-at a x b y K l h = below (times (minus (atom x)) (natural b)) (times (atom a) (natural y))
@@ -43,10 +43,10 @@ unfolding at_most sum_of negated
 closed-below v m K l h = le_holds _ _ (below-at v.num m.num v.den m.den K l (holds_le _ _ h))
 
 closed-range : (v m : Fraction) (K : ℕ) → v.den * m.den ≤ K → (kind : Kind) → IsTrue (in_range (sum_of m (part K)) kind v) → IsTrue (in_range m kind v)
-closed-range v m K l le h = closed-above v m K l h
+closed-range v m K l le h = closed_above v m K l h
 closed-range v m K l ge h = closed-below v m K l h
 closed-range v m K l eq h = let b = both_true (at_most (negated (sum_of m (part K))) v) (at_most v (sum_of m (part K))) h in
-    both_pass (at_most (negated m) v) (at_most v m) (closed-below v m K l b.0) (closed-above v m K l b.1)
+    both_pass (at_most (negated m) v) (at_most v m) (closed-below v m K l b.0) (closed_above v m K l b.1)
 
 looser-above : (v m : Fraction) (k : ℕ) → IsFraction m → IsTrue (at_most v m) → IsTrue (at_most v (sum_of m (part k)))
 looser-above v m k f h = through v m (sum_of m (part k)) f h (grown 1 k m)

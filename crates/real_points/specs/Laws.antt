@@ -4,6 +4,7 @@ use Rattle.dyadic.specs.Fraction.{Fraction, IsFraction, zero_fraction, at_most}
 use Rattle.dyadic.specs.Point.{Coordinate, IsPoint}
 use Rattle.dyadic.specs.Rounding.{exact}
 use Rattle.script_model.specs.Script.{Command, Satisfies, sorts_of}
+use Rattle.script_model.specs.Declared.{InDeclaredBox}
 use Rattle.script_forms.specs.Atoms.{unfolding_fault}
 use Rattle.script_forms.specs.ProblemOf.{IsProblemOf}
 use Rattle.poly_graph.specs.Problem.{Problem, IsProblem}
@@ -23,6 +24,10 @@ TruthIsOfThePoint = (script : List Command) → unfolding_fault script ≡ None 
 abbrev pub RationalIsReal : Type 0
 RationalIsReal = (script : List Command) → unfolding_fault script ≡ None → (m : Fraction) → IsFraction m → (point : List Coordinate) → IsPoint (sorts_of script) point →
     SatisfiesAtReal m (map as_real point) script ↔ Satisfies m point script
+
+-- And it lies in the declared box as a real point exactly where it does as a rational one.
+abbrev pub RationalBoxIsReal : Type 0
+RationalBoxIsReal = (bound : Option ℕ) (script : List Command) (point : List Coordinate) → IsInDeclaredBox bound script (map as_real point) ↔ InDeclaredBox bound script point
 
 -- no real point of the declared box satisfies the script, each atom loosened by m
 abbrev pub HasNoRealPoint : Option ℕ → List Command → Fraction → Type 0

@@ -7,6 +7,7 @@
 ghost use Rattle.real_points.specs.Laws.{
   TruthIsOfThePoint,
   RationalIsReal,
+  RationalBoxIsReal,
   RationalPointsSuffice,
   UnsatIsOfReals,
   OverRealsIsLoosened,
@@ -23,6 +24,11 @@ pub fn truth_is_of_the_point()
 /// A rational point is a real point, with the same truth.
 pub fn rational_is_real()
     ensures { RationalIsReal }
+{}
+
+/// It lies in the declared box as a real point exactly where it does as a rational one.
+pub fn rational_box_is_real()
+    ensures { RationalBoxIsReal }
 {}
 
 /// Where no rational point of the declared box satisfies the script at a margin, no real point satisfies it below the
