@@ -1,12 +1,12 @@
 -- A rational point lies in the declared box as a real point exactly where it does as a rational one.
-use Rattle.std.proofs.Common.{◌≡◌, ℕ, suc, ◌+◌, ◌*◌, ◌≤◌, List, [], ◌∷◌, map, Option, Some, None, IsTrue, arith, ℤ, pos, ◌+ℤ◌, ◌*ℤ◌, neg_ℤ, ◌≤ℤ◌}
+use Rattle.std.proofs.Common.{ℕ, suc, ◌*◌, List, [], ◌∷◌, map, Option, Some, None, IsTrue, arith, ℤ, pos, ◌+ℤ◌, ◌*ℤ◌, neg_ℤ, ◌≤ℤ◌}
 use Rattle.dyadic.specs.Fraction.{Fraction, IsFraction, sum_of, difference_of, negated, at_most}
 use Rattle.dyadic.specs.Point.{Sort, real_sort, bool_sort, Coordinate, at_fraction, at_bool}
 use Rattle.dyadic.proofs.Equal.{le_holds, through}
 use Rattle.dyadic.proofs.Ring.{atom, natural, plus, minus, times, below}
 use Rattle.script_model.specs.Script.{Command, sorts_of}
 use Rattle.script_model.specs.Declared.{DeclaredInterval, declared_interval, IfBelow, IfAbove, InBox, InDeclaredBox}
-use Rattle.real_points.specs.Real.{IsReal, IsWithin, part}
+use Rattle.real_points.specs.Real.{IsReal, part}
 use Rattle.real_points.specs.RealPoint.{IsInBox, IsInDeclaredBox, as_real}
 use Rattle.real_points.proofs.Sizes.{close_itself, close_below, grown, across}
 use Rattle.real_points.proofs.Rational.{closed_above}
