@@ -1,0 +1,11 @@
+mod Sizes
+mod Terms
+mod Moves
+mod Points
+mod Truth
+mod RootOfTwo
+mod AtPoints
+mod OverReals
+mod Rational
+mod RationalBox
+mod Irrational
