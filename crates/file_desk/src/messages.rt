@@ -64,6 +64,25 @@ fn excerpt(alloc: Global, script: &[u8], at: Spot) -> Result<String, AllocError>
     Ok(text)
 }
 
+// The text with each control character but a line feed at the end escaped: a name in a script, or of a file, cannot write
+// to a terminal.
+fn printable(alloc: Global, text: &str) -> Result<String, AllocError> {
+    let mut shown = String::new(alloc);
+    let line = text.trim_end();
+    for symbol in line.chars() {
+        if symbol.is_control() {
+            let code = symbol as u32;
+            write!(shown, "\\x{code:02x}")?;
+        } else {
+            shown.push(symbol)?;
+        }
+    }
+    if text.ends_with('\n') {
+        shown.push('\n')?;
+    }
+    Ok(shown)
+}
+
 /// What standard error says of a run of a program: the program's name, and those of the script and of the certificate that
 /// is read or written.
 #[derive(Clone, Copy, Debug, PartialEq, Eq)]
@@ -100,7 +119,10 @@ impl<'a> Messages<'a> {
         let Some(trouble) = desk.trouble() else {
             return;
         };
-        let (program, name) = (self.program, self.port_name(trouble.port));
+        let program = self.program;
+        let Ok(name) = printable(rt.alloc(), self.port_name(trouble.port)) else {
+            return;
+        };
         let verb = match trouble.port {
             Port::Script | Port::CertIn => "read",
             Port::CertOut | Port::Answer => "write",
@@ -111,11 +133,21 @@ impl<'a> Messages<'a> {
         };
     }
 
+    // Says what the program answered of the file of this name.
+    fn say(&self, rt: &HostRuntime, name: &str, answer: &str) {
+        let program = self.program;
+        if let (Ok(name), Ok(answer)) = (
+            printable(rt.alloc(), name),
+            printable(rt.alloc(), answer),
+        ) {
+            let _ = eprint!(rt; "{program}: {name}: {answer}");
+        }
+    }
+
     /// Says which script is refused, for what, and shows its line.
     pub fn script_refused(&self, rt: &HostRuntime, desk: &FileDesk) {
         let text = desk.answer();
-        let (program, name) = (self.program, source(self.script));
-        let _ = eprint!(rt; "{program}: {name}: {text}");
+        self.say(rt, source(self.script), text);
         let Some(at) = spot_in(text) else {
             return;
         };
@@ -135,8 +167,7 @@ impl<'a> Messages<'a> {
 
     /// Says which certificate is refused, and for what.
     pub fn cert_refused(&self, rt: &HostRuntime, desk: &FileDesk) {
-        let (program, name) = (self.program, source(self.cert_in));
-        let _ = eprint!(rt; "{program}: {name}: {}", desk.answer());
+        self.say(rt, source(self.cert_in), desk.answer());
     }
 
     /// Says that there was no memory.
