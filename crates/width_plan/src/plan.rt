@@ -107,12 +107,11 @@ fn first_far(root: &Space, bits: u32) -> Option<usize>
 }
 
 // The answer where so many bits are the least that fit all atoms.
-fn on_axes(problem: &Problem, root: &Space, bits: u32, _delta_bits: u32, _margin_bits: u32) -> Plan
-    requires root { space_of root.now ≡ root_space (problem_of problem.now) }
-    requires least { IsLeast (problem_of problem.now) _delta_bits _margin_bits bits }
-    ensures { IsPlanBy None (problem_of problem.now) _delta_bits _margin_bits (answer_of result) }
+fn on_axes(_problem: &Problem, root: &Space, bits: u32, _delta_bits: u32, _margin_bits: u32) -> Plan
+    requires root { space_of root.now ≡ root_space (problem_of _problem.now) }
+    requires least { IsLeast (problem_of _problem.now) _delta_bits _margin_bits bits }
+    ensures { IsPlanBy None (problem_of _problem.now) _delta_bits _margin_bits (answer_of result) }
 {
-    let _ = problem;
     match first_far(root, bits) {
         None => Plan::Least(bits),
         Some(axis) => Plan::NoAxis(axis),
