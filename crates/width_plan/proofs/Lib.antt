@@ -1,0 +1,12 @@
+pub mod Close
+pub mod Ends
+pub mod Factors
+pub mod Far
+pub mod Fills
+pub mod Finds
+pub mod Gap
+pub mod Narrow
+pub mod Products
+pub mod Sides
+pub mod Stuck
+pub mod Terms
