@@ -2,12 +2,14 @@
 #![tactic(auto)]
 
 mod answers;
+mod auto;
 mod explain;
 mod progress;
 mod solve;
 mod top;
 mod upgrade;
 
+use auto::resolve_workers;
 pub use check_run::Status;
 use explain::explain;
 use file_desk::{FileDesk, words_of};
@@ -18,9 +20,12 @@ pub use top::run_top;
 
 fn main(rt: HostRuntime) -> ExitCode {
     let mut desk = FileDesk::new(rt, "dpoly");
-    let Ok(words) = words_of(&rt, "dpoly") else {
+    let Ok(mut words) = words_of(&rt, "dpoly") else {
         return ExitCode::from(Status::NoMemory.code());
     };
+    if resolve_workers(&rt, rt.alloc(), &mut words).is_err() {
+        return ExitCode::from(Status::NoMemory.code());
+    }
     let gate = Progress::new(rt);
     let status = run_top(&rt, rt.alloc(), &words, &mut desk, &gate);
     gate.clear();

@@ -68,7 +68,7 @@ fn workers_option<'a>(alloc: Global) -> Arg<'a>
 {
     Arg::new(alloc, "workers")
         .long("workers")
-        .help("The number of threads that search; 1 to 64")
+        .help("The number of threads that search: 1 to 64, or auto for one a processor")
         .value_parser(value_parser!(u32).range(1..=64))
         .default_value("1")
 }
