@@ -1,4 +1,4 @@
-use Rattle.std.proofs.Common.{◌≡◌, ap, ◌∙◌}
+use Rattle.std.proofs.Common.{ap, ◌∙◌}
 use Rattle.cover_book.specs.Model.{BookModel}
 use Rattle.solve_core.specs.Reaches.{Reaches}
 use Rattle.solve_core.proofs.Reached.{reaches_same}
