@@ -1,49 +1,39 @@
 -- Each step keeps the rule.
-use Rattle.std.proofs.Common.{◌≡◌, ◌≢◌, ◌⊎◌, ℕ, zero, suc, ◌+◌, ◌%◌, ◌<◌, ◌≤◌, true, false, List, [], ◌∷◌, ◌++◌, length, set, get_or, refl, sym, ap, ◌∙◌, subst, inl, inr, ⊎_elim, arith, le_refl, Option, Some, length-set, length-append, get_or-set_other, get_or-set_same}
+use Rattle.std.proofs.Common.{◌≡◌, ◌≢◌, ◌⊎◌, ℕ, zero, suc, ◌+◌, ◌<◌, ◌≤◌, true, false, List, [], ◌∷◌, ◌++◌, length, set, get_or, eqb, ne_eqb, refl, sym, ap, ◌∙◌, subst, inl, inr, ⊎_elim, arith, le_refl, Option, Some, length-set, length-append, get_or-set_same}
 use mathlib.Core.Logic.{dite}
 use mathlib.Core.Option.{some, none, some-injective, some-ne-none}
 use native.Mathlib.Decide.{ℕ_discrete, dec_le}
 use lib.ListN.{get_elem?}
+use prog.Atomic.{either}
 use lib.Seq.{set-get_or}
 use Rattle.atomic_table.specs.Table.{State, Me, step, keeps, takes, gives, stepped, Allows, Splits, Joins, opening, Final, Seen}
-use Rattle.atomic_table.proofs.Lists.{at_set, set_here, set_else, set_again, at_last, one_turn}
+use Rattle.atomic_table.proofs.Lists.{at_set, set_here, set_else, set_again, at_last}
 use Rattle.book_lock.specs.declared.views.Entry.{Entry}
 use Rattle.book_lock.specs.declared.views.JoinedSeat.{JoinedSeat}
 use Rattle.book_lock.specs.declared.views.Stage.{Stage}
-use Rattle.book_lock.specs.declared.views.Stage.TheVariants.{Idle, Ticket, Turn}
+use Rattle.book_lock.specs.declared.views.Stage.TheVariants.{Idle, Turn}
 use Rattle.book_lock.specs.declared.views.SeatView.{SeatView}
 use Rattle.book_lock.specs.History.{entry, calls_by, IsHistory, IsLegal}
-use Rattle.book_lock.specs.Rule.{total, tickets, IsTicketOf, IsTurn, IsStageOf, tickets_of, parts_of, IsJoinedNumber, IsSpent, ArePairs, IsAccount, IsViewAt, IsAtHome, IsOut, HasKeeper, LockInvariant, first_view, left_view, new_view, HaveCalls, IsClosing, joined_view, spent_view}
-use Rattle.book_lock.specs.SlotSteps.{ticket_step, IsInSlot, IsTurnOf, look_step, IsCallOf, end_step, number_step, match_step}
-use Rattle.book_lock.proofs.Rows.{total_set, total_snoc, at_front, at_end, calls_front, shorter_front, longer_in, names_left, names_right, total_ge, total_le, total_two, below_length, prefix_refl, prefix_more, prefix_trans, calls_by-mine, calls_by-other, leaves_snoc, legal_last, next_mod}
+use Rattle.book_lock.specs.Rule.{IsTurn, IsStageOf, parts_of, IsJoinedNumber, IsSpent, ArePairs, IsAccount, IsViewAt, IsOut, IsFree, IsTaken, HasKeeper, LockInvariant, first_view, left_view, new_view, HaveCalls, IsClosing, joined_view, spent_view}
+use Rattle.book_lock.specs.SlotSteps.{IsInSlot, IsTurnOf, take_step, IsCallOf, end_step, number_step, match_step}
+use Rattle.book_lock.proofs.Rows.{total_set, total_snoc, at_front, at_end, calls_front, shorter_front, longer_in, names_left, names_right, total_two, below_length, prefix_refl, prefix_more, prefix_trans, calls_by-mine, calls_by-other, leaves_snoc, legal_last}
+
+-- a turn that is taken only where it is free
+pub taken_if_free : (n : ℕ) → 0 < either (eqb n 0) 1 n
+taken_if_free zero = omega arith
+taken_if_free (suc n) = subst (λ b. 0 < either b 1 (suc n)) (sym (ne_eqb (suc n) 0 (λ e. omega arith))) (omega arith)
 
 module _ {O : Type 0} where
-  draws_ticket : (served t : ℕ) (st : Stage O) → IsTicketOf served t st → 0 < tickets st
-  draws_ticket served t Idle d = absurd d
-  draws_ticket served t (Ticket u) d = omega arith
-  draws_ticket served t (Turn b) d = omega arith
+  turn_of : (st : Stage O) (b : O) → st ≡ Turn b → IsTurn st
+  turn_of st b is = subst IsTurn (sym is) tt
 
-  -- a ticket that is out was drawn
-  below_drawn : (served drawn t : ℕ) (now : O) (st : Stage O) → IsStageOf served drawn now st → (0 < tickets st → served < drawn) → IsTicketOf served t st → t < drawn
-  below_drawn served drawn t now Idle k some_out d = absurd d
-  below_drawn served drawn t now (Ticket u) k some_out d = let a = k.1 in subst (λ (z : ℕ). z < drawn) d a
-  below_drawn served drawn t now (Turn b) k some_out d = subst (λ (z : ℕ). z < drawn) d (some_out (omega arith))
+  no_turn : (st : Stage O) → st ≡ Idle → ¬ IsTurn st
+  no_turn st idle h = subst IsTurn idle h
 
-  -- after the turn of `served`, a ticket of another seat is a later one
-  stage_later : (served drawn : ℕ) (now now' : O) (st : Stage O) → ((t : ℕ) → IsTicketOf served t st → t ≢ served) → IsStageOf served drawn now st → IsStageOf (served + 1) drawn now' st
-  stage_later served drawn now now' Idle other k = tt
-  stage_later served drawn now now' (Ticket t) other k = let a = k.0 in let n : t ≢ served = other t refl in (omega arith, k.1)
-  stage_later served drawn now now' (Turn b) other k = absurd (other served refl refl)
-
-  draws_before : (served t : ℕ) (st : Stage O) → ((u : ℕ) → IsTicketOf served u st → u ≢ served) → IsTicketOf (served + 1) t st → IsTicketOf served t st
-  draws_before served t Idle other d = d
-  draws_before served t (Ticket u) other d = d
-  draws_before served t (Turn b) other d = absurd (other served refl refl)
-
-  has_draws : (served : ℕ) (st : Stage O) → IsTurn st → IsTicketOf served served st
-  has_draws served Idle h = absurd h
-  has_draws served (Ticket u) h = absurd h
-  has_draws served (Turn b) h = refl
+  -- nothing is said of an object where the seat has no turn
+  any_now : (now now' : O) (st : Stage O) → ¬ IsTurn st → IsStageOf now st → IsStageOf now' st
+  any_now now now' Idle idle k = tt
+  any_now now now' (Turn b) idle k = absurd (idle tt)
 
 module _ {O C R : Type 0} where
   -- what a set list of views says of a place
@@ -84,16 +74,6 @@ module _ {O C R : Type 0} (meets : O → C → Type 0) (steps : O → C → R �
   abbrev Rule : St → Type 0
   Rule = LockInvariant meets steps first all
 
-  abbrev N : ℕ
-  N = 18446744073709551616
-
-  -- fewer tickets are out than there are parts
-  few_out : (s : St) (r : Rule s) → total tickets_of s.views < 4294967296
-  few_out s r = let t = total_le tickets_of parts_of s.views (λ j v e. (r.each j v e).covered) in let a = r.shared in let b = r.few in omega (arith, t)
-
-  ticket_out : (s : St) (r : Rule s) (j : ℕ) (v : SeatView O C R) → get_elem? s.views j ≡ some v → 0 < tickets v.stage → length r.log < r.drawn
-  ticket_out s r j v at some_ticket = let t = total_ge tickets_of s.views j v at in let a = r.out in omega (arith, t)
-
   keeper_stays : (vs : List (SeatView O C R)) (id : ℕ) (v w : SeatView O C R) (n : ℕ) → get_elem? vs id ≡ some v → w.parts ≡ v.parts → w.joined ≡ v.joined → HasKeeper vs n → HasKeeper (set vs id w) n
   keeper_stays vs id v w n at same pairs k = dite (ℕ_discrete k.0 id)
       (λ e. let is : v ≡ k.1 = same_view vs id v k.1 at (subst (λ (z : ℕ). get_elem? vs z ≡ some k.1) e k.2) in (
@@ -106,120 +86,41 @@ module _ {O C R : Type 0} (meets : O → C → Type 0) (steps : O → C → R �
       (λ ne. (k.0, k.1, set_else vs id k.0 w ne ∙ k.2, k.3, k.4))
 
   -- what a seat knows stays when another's stage changes
-  knows_stays : (s : St) (log : List (Entry C R)) (now : O) (drawn drawn' : ℕ) (id : ℕ) (v w : SeatView O C R) → get_elem? s.views id ≡ some v → w.parts ≡ v.parts → (j : ℕ) (u : SeatView O C R)
-      → (IsStageOf (length log) drawn now u.stage → IsStageOf (length log) drawn' now u.stage) → IsViewAt first (length log) log now drawn s.views j u → IsViewAt first (length log) log now drawn' (set s.views id w) j u
-  knows_stays s log now drawn drawn' id v w at same j u stage k = record {
-    covered = k.covered;
-    stage = stage k.stage;
+  knows_stays : (vs : List (SeatView O C R)) (log : List (Entry C R)) (now : O) (id : ℕ) (v w : SeatView O C R) → get_elem? vs id ≡ some v → w.parts ≡ v.parts → (j : ℕ) (u : SeatView O C R) → IsViewAt first log now vs j u → IsViewAt first log now (set vs id w) j u
+  knows_stays vs log now id v w at same j u k = record {
+    used = k.used;
+    stage = k.stage;
     fits = λ p. let f = k.fits p in record {
       origin = f.origin;
       seen = f.seen;
       beside = f.beside;
       mine = f.mine;
-      pairs = pairs_stay log s.views id v w at same u.joined f.pairs;
+      pairs = pairs_stay log vs id v w at same u.joined f.pairs;
       named = f.named;
       unnamed = f.unnamed;
     };
   }
 
-  stage_drawn : (served drawn : ℕ) (now : O) (st : Stage O) → IsStageOf served drawn now st → IsStageOf served (drawn + 1) now st
-  stage_drawn served drawn now Idle k = tt
-  stage_drawn served drawn now (Ticket t) k = let a = k.1 in (k.0, omega arith)
-  stage_drawn served drawn now (Turn b) k = k
-
   abbrev staged : SeatView O C R → Stage O → SeatView O C R
   staged v st = record v { stage = st }
 
-  -- a ticket is drawn
-  pub draw_allowed : (slots id : ℕ) (me : M) → me.0.stage ≡ Idle → 0 < me.0.parts → Allows Rule slots id me 0 (λ n. (n + 1) % N) (ticket_step (step slots 0 1 0 none) me)
-  draw_allowed slots id me idle some_part s r deep at small =
-      let v : SeatView O C R = me.0 in
-      let w : SeatView O C R = staged v (Ticket r.drawn) in
-      let wide = r.wide in
-      let served : ℕ = length r.log in
-      let none_yet : tickets v.stage ≡ 0 = ap tickets idle in
-      let before = r.each id v at in
-      let longer : served ≤ r.drawn = (let a = r.out in omega arith) in (
-        w,
-        keeps,
-        tt,
-        record {
-          log = r.log;
-          now = r.now;
-          drawn = r.drawn + 1;
-          legal = r.legal;
-          wide = length-set s.words 0 _ ∙ wide;
-          deep = r.deep;
-          ticket_is = get_or-set_same s.words 0 _ 0 (omega arith) ∙ (ap (λ (z : ℕ). (z + 1) % N) r.ticket_is ∙ next_mod r.drawn N);
-          serving_is = get_or-set_other s.words 0 1 _ 0 (λ e. omega arith) ∙ r.serving_is;
-          out = (let t = total_set tickets_of s.views id v w at in let a = r.out in omega (arith, t));
-          shared = (let t = total_set parts_of s.views id v w at in let a = r.shared in omega (arith, t));
-          few = r.few;
-          each = set_cases (λ j u. IsViewAt first (length r.log) r.log r.now (r.drawn + 1) (set s.views id w) j u) s.views id w
-              (record {
-                covered = omega arith;
-                stage = (longer, omega arith);
-                fits = λ p. (let f = before.fits p in record {
-                  origin = f.origin;
-                  seen = f.seen;
-                  beside = f.beside;
-                  mine = f.mine;
-                  pairs = pairs_stay r.log s.views id v w at refl v.joined f.pairs;
-                  named = f.named;
-                  unnamed = f.unnamed;
-                });
-              })
-              (λ j u other e. knows_stays s r.log r.now r.drawn (r.drawn + 1) id v w at refl j u (stage_drawn served r.drawn r.now u.stage) (r.each j u e));
-          apart = λ j k t x y a b c d.
-              set_cases (λ j x. (k : ℕ) (y : SeatView O C R) → get_elem? (set s.views id w) k ≡ some y → IsTicketOf served t x.stage → IsTicketOf served t y.stage → j ≡ k) s.views id w
-              (set_cases (λ k y. IsTicketOf served t w.stage → IsTicketOf served t y.stage → id ≡ k) s.views id w (λ _ _. refl)
-              (λ k y other e c d. (let l = below_drawn served r.drawn t r.now y.stage (r.each k y e).stage (ticket_out s r k y e) d in absurd (omega arith))))
-              (λ j x other e. set_cases (λ k y. IsTicketOf served t x.stage → IsTicketOf served t y.stage → j ≡ k) s.views id w
-              (λ c d. (let l = below_drawn served r.drawn t r.now x.stage (r.each j x e).stage (ticket_out s r j x e) c in absurd (omega arith)))
-              (λ k y _ e' c d. r.apart j k t x y e e' c d))
-              j x a k y b c d;
-          home = ⊎_elim (λ (h : IsAtHome r.now s). inl (h.0, h.1, h.2, set_cases (λ j u. ¬ IsTurn u.stage) s.views id w (λ x. x) (λ j u other e. h.3 j u e)))
-              (λ (h : IsOut s.views). inr (h.0, h.1, set_else s.views id h.0 w (λ e. subst IsTurn (ap (λ (u : SeatView O C R). u.stage) (sym (same_view s.views id v h.1 at (subst (λ (z : ℕ). get_elem? s.views z ≡ some h.1) e h.2))) ∙ idle) h.3) ∙ h.2, h.3)) r.home;
-          keeper = λ n l. keeper_stays s.views id v w n at refl refl (r.keeper n (subst (λ (z : ℕ). n < z) (length-set s.views id w) l));
-          nobody = λ n l. r.nobody n (subst (λ (z : ℕ). z ≤ n) (length-set s.views id w) l);
-        },
-        (r.drawn, sym r.ticket_is, refl),
-      )
-
-  abbrev ticket_or : ℕ → Stage O → ℕ
-  ticket_or d (Ticket t) = t
-  ticket_or d _ = d
-
-  -- a load of either word by a seat whose view stays
-  unmoved : (s : St) (i id : ℕ) (v : SeatView O C R) (cs : List (ℕ × Option O)) → get_elem? s.views id ≡ some v → Rule s → Rule (stepped s i (get_or s.words i 0) id cs v keeps)
-  unmoved s i id v cs at r = subst (λ (z : List ℕ × List (SeatView O C R)). Rule record { words = z.0; homes = s.homes; views = z.1 }) (λ j. (sym (set-get_or s.words i 0) j, sym (set_again s.views id v at) j)) r
-
-  -- the object comes out of the slot
-  takes_out : (s : St) (r : Rule s) (id t : ℕ) (v : SeatView O C R) (x : Option O) → get_elem? s.views id ≡ some v → v.stage ≡ Ticket t → length r.log ≡ t
-      → Rule (stepped s 1 (get_or s.words 1 0) id [] (staged v (Turn r.now)) (takes 0 x))
-  takes_out s r id t v x at is turn =
+  -- a free turn is taken, and the object comes out of the slot
+  takes_out : (s : St) (r : Rule s) (id n : ℕ) (v : SeatView O C R) (x : Option O) → get_elem? s.views id ≡ some v → v.stage ≡ Idle → 0 < v.parts → 0 < n → ((j : ℕ) (u : SeatView O C R) → get_elem? s.views j ≡ some u → ¬ IsTurn u.stage)
+      → Rule (stepped s 0 n id [] (staged v (Turn r.now)) (takes 0 x))
+  takes_out s r id n v x at idle some_part taken nobody_else =
       let w : SeatView O C R = staged v (Turn r.now) in
-      let served : ℕ = length r.log in
       let before = r.each id v at in
-      let one_ticket : tickets v.stage ≡ 1 = ap tickets is in
-      let cov = before.covered in
       let wide = r.wide in
-      let as_before : (u : ℕ) → IsTicketOf served u w.stage → IsTicketOf served u v.stage = λ u d. subst (IsTicketOf served u) (sym is) (sym turn ∙ d) in
-      subst (λ (z : List ℕ). Rule record { words = z; homes = set s.homes 0 none; views = set s.views id w }) (sym (set-get_or s.words 1 0)) record {
+      record {
         log = r.log;
         now = r.now;
-        drawn = r.drawn;
         legal = r.legal;
-        wide = wide;
+        wide = length-set s.words 0 n ∙ wide;
         deep = length-set s.homes 0 none ∙ r.deep;
-        ticket_is = r.ticket_is;
-        serving_is = r.serving_is;
-        out = (let q = total_set tickets_of s.views id v w at in let a = r.out in omega (arith, q));
         shared = (let q = total_set parts_of s.views id v w at in let a = r.shared in omega (arith, q));
-        few = r.few;
-        each = set_cases (λ j u. IsViewAt first (length r.log) r.log r.now r.drawn (set s.views id w) j u) s.views id w
+        each = set_cases (λ j u. IsViewAt first r.log r.now (set s.views id w) j u) s.views id w
             (record {
-              covered = omega arith;
+              used = λ _. some_part;
               stage = refl;
               fits = λ p. (let f = before.fits p in record {
                 origin = f.origin;
@@ -231,79 +132,67 @@ module _ {O C R : Type 0} (meets : O → C → Type 0) (steps : O → C → R �
                 unnamed = f.unnamed;
               });
             })
-            (λ j u other e. knows_stays s r.log r.now r.drawn r.drawn id v w at refl j u (λ k. k) (r.each j u e));
-        apart = λ j k u x y a b c d.
-            set_cases (λ j x. (k : ℕ) (y : SeatView O C R) → get_elem? (set s.views id w) k ≡ some y → IsTicketOf served u x.stage → IsTicketOf served u y.stage → j ≡ k) s.views id w
-            (set_cases (λ k y. IsTicketOf served u w.stage → IsTicketOf served u y.stage → id ≡ k) s.views id w (λ _ _. refl)
-            (λ k y other e c d. r.apart id k u v y at e (as_before u c) d))
-            (λ j x other e. set_cases (λ k y. IsTicketOf served u x.stage → IsTicketOf served u y.stage → j ≡ k) s.views id w
-            (λ c d. r.apart j id u x v e at c (as_before u d))
-            (λ k y _ e' c d. r.apart j k u x y e e' c d))
+            (λ j u other e. knows_stays s.views r.log r.now id v w at refl j u (r.each j u e));
+        apart = λ j k x y a b c d.
+            set_cases (λ j x. (k : ℕ) (y : SeatView O C R) → get_elem? (set s.views id w) k ≡ some y → IsTurn x.stage → IsTurn y.stage → j ≡ k) s.views id w
+            (set_cases (λ k y. IsTurn w.stage → IsTurn y.stage → id ≡ k) s.views id w (λ _ _. refl) (λ k y other e c d. absurd (nobody_else k y e d)))
+            (λ j x other e k y b c d. absurd (nobody_else j x e c))
             j x a k y b c d;
-        home = inr (id, w, set_here s.views id w (below_length s.views id v at), tt);
+        home = inr (
+          subst (λ (z : ℕ). 0 < z) (sym (get_or-set_same s.words 0 n 0 (omega arith))) taken,
+          (id, w, set_here s.views id w (below_length s.views id v at), tt),
+        );
         keeper = λ n l. keeper_stays s.views id v w n at refl refl (r.keeper n (subst (λ (z : ℕ). n < z) (length-set s.views id w) l));
         nobody = λ n l. r.nobody n (subst (λ (z : ℕ). z ≤ n) (length-set s.views id w) l);
       }
 
-  no_has : (t : ℕ) (st : Stage O) → st ≡ Ticket t → ¬ IsTurn st
-  no_has t st is h = subst IsTurn is h
+  -- a turn that another seat has stays taken
+  stays_taken : (s : St) (r : Rule s) (id n : ℕ) (v : SeatView O C R) (cs : List (ℕ × Option O)) → get_elem? s.views id ≡ some v → 0 < n → IsOut s.views → Rule (stepped s 0 n id cs v keeps)
+  stays_taken s r id n v cs at taken out =
+      let wide = r.wide in
+      subst (λ (vs : List (SeatView O C R)). Rule record { words = set s.words 0 n; homes = s.homes; views = vs }) (sym (set_again s.views id v at)) record {
+        log = r.log;
+        now = r.now;
+        legal = r.legal;
+        wide = length-set s.words 0 n ∙ wide;
+        deep = r.deep;
+        shared = r.shared;
+        each = r.each;
+        apart = r.apart;
+        home = inr (subst (λ (z : ℕ). 0 < z) (sym (get_or-set_same s.words 0 n 0 (omega arith))) taken, out);
+        keeper = r.keeper;
+        nobody = r.nobody;
+      }
 
-  -- the seat look_allowed whether it is served, and takes the object if it is
-  pub look_allowed : (slots id : ℕ) (me : M) (t : ℕ) → me.0.stage ≡ Ticket t → Allows Rule slots id me 1 (λ n. n) (look_step meets steps (step slots 1 0 0 none) me)
-  look_allowed slots id me t is s r deep at small =
+  -- the word becomes what is not 0, and the seat takes the turn if it was 0
+  pub take_allowed : (slots id : ℕ) (me : M) (a b : ℕ) (f : ℕ → ℕ) → ((n : ℕ) → 0 < f n) → me.0.stage ≡ Idle → me.1 ≡ [] → 0 < me.0.parts → Allows Rule slots id me 0 f (take_step meets steps (step slots 0 a b none) me)
+  take_allowed slots id me a b f taken idle none_held some_part s r deep at small =
       let v : SeatView O C R = me.0 in
-      let served : ℕ = length r.log in
-      let found : ℕ = get_or s.words 1 0 in
-      let before = r.each id v at in
-      let known = subst (IsStageOf served r.drawn r.now) is before.stage in
-      let one_ticket : tickets v.stage ≡ 1 = ap tickets is in
-      let cov = before.covered in
-      let fit = before.fits (omega arith) in
-      let same : (t' : ℕ) → v.stage ≡ Ticket t' → t ≡ t' = λ t' is'. ap (ticket_or 0) (sym is ∙ is') in
-      dite (ℕ_discrete found (t % N))
-      (λ hit.
-      let low = known.0 in
-      let high = known.1 in
-      let few = few_out s r in
-      let a = r.out in
-      let turn : served ≡ t = one_turn served t N low (omega arith) (sym r.serving_is ∙ hit) in
+      let found : ℕ = get_or s.words 0 0 in
+      let fit = (r.each id v at).fits some_part in
       ⊎_elim
-      (λ (h : IsAtHome r.now s).
+      (λ (h : IsFree r.now s).
       let w : SeatView O C R = staged v (Turn r.now) in (
         w,
         takes 0 (Some r.now),
-        h.1 ∙ ap (λ (z : Option O). some (some z)) h.2,
-        takes_out s r id t v (Some r.now) at is turn,
-        λ t' is'. ((λ _. (r.now, refl, λ f o. (r.log, subst (λ (z : O). IsHistory meets steps z r.log r.now) (origin_is f (sym fit.origin ∙ o)) r.legal))), λ miss. absurd (miss (hit ∙ ap (λ (z : ℕ). z % N) (same t' is')))),
+        h.1.1 ∙ ap (λ (z : Option O). some (some z)) h.1.2,
+        subst (λ (cs : List (ℕ × Option O)). Rule (stepped s 0 (f found) id cs w (takes 0 (Some r.now)))) (sym none_held) (takes_out s r id (f found) v (Some r.now) at idle some_part (taken found) h.1.3),
+        ((λ _. (r.now, refl, λ o is. (r.log, subst (λ (z : O). IsHistory meets steps z r.log r.now) (origin_is o (sym fit.origin ∙ is)) r.legal))), λ more. absurd (let z = h.0 in omega arith)),
       ))
-      (λ (h : IsOut s.views).
-      let u : SeatView O C R = h.1 in
-      let mine : IsTicketOf served served v.stage = subst (IsTicketOf served served) (sym is) (sym turn) in
-      let e : h.0 ≡ id = r.apart h.0 id served u v h.2 at (has_draws served u.stage h.3) mine in
-      let is_me : v ≡ u = same_view s.views id v u at (subst (λ (z : ℕ). get_elem? s.views z ≡ some u) e h.2) in
-      absurd (no_has t u.stage (ap (λ (z : SeatView O C R). z.stage) (sym is_me) ∙ is) h.3))
-      r.home)
-      (λ miss. (
+      (λ (h : IsTaken s). (
         v,
         keeps,
         tt,
-        unmoved s 1 id v me.1 at r,
-        λ t' is'. ((λ hit. absurd (miss (hit ∙ ap (λ (z : ℕ). z % N) (sym (same t' is'))))), λ _. refl),
+        stays_taken s r id (f found) v me.1 at (taken found) h.1,
+        ((λ is. absurd (let z = h.0 in omega arith)), λ _. refl),
       ))
+      r.home
     where
       origin_is : (f : O) → Some first ≡ Some f → first ≡ f
       origin_is f e = cc
 
   abbrev after_call : SeatView O C R → List (Entry C R) → Entry C R → SeatView O C R
   after_call v log e = record v { stage = Idle; seen = log ++ e ∷ []; mine = v.mine ++ e ∷ [] }
-
-  abbrev object_or : O → Stage O → O
-  object_or d (Turn b) = b
-  object_or d _ = d
-
-  not_served : (s : St) (r : Rule s) (id j : ℕ) (v u : SeatView O C R) → get_elem? s.views id ≡ some v → IsTicketOf (length r.log) (length r.log) v.stage → get_elem? s.views j ≡ some u → j ≢ id
-      → (t : ℕ) → IsTicketOf (length r.log) t u.stage → t ≢ length r.log
-  not_served s r id j v u at mine e other t d is = other (r.apart j id (length r.log) u v e at (subst (λ (z : ℕ). IsTicketOf (length r.log) z u.stage) is d) mine)
 
   abbrev carried_or : Option O → List (ℕ × Option O) → Option O
   carried_or d [] = d
@@ -316,45 +205,36 @@ module _ {O C R : Type 0} (meets : O → C → Type 0) (steps : O → C → R �
   legal_after : (s : St) (r : Rule s) (b b' : O) (n : ℕ) (c : C) (a : R) → b ≡ r.now → meets b c → steps b c a b' → IsHistory meets steps first (r.log ++ entry n c a ∷ []) b'
   legal_after s r b b' n c a here may did = leaves_snoc meets steps first r.now r.log n c a b' r.legal (subst (λ (z : O). meets z c) here may) (subst (λ (z : O). steps z c a b') here did)
 
-  -- the turn ends: the call join_allowed the history, and the object goes back
+  -- the turn ends: the call joins the history, and the object goes back
   puts_back : (s : St) (r : Rule s) (id : ℕ) (v : SeatView O C R) (b b' : O) (x : Option O) (c : C) (a : R) → get_elem? s.views id ≡ some v → v.stage ≡ Turn b → v.named ≡ true → x ≡ Some b' → meets b c → steps b c a b'
-      → Rule (stepped s 1 ((get_or s.words 1 0 + 1) % N) id ((0, x) ∷ []) (after_call v r.log (entry v.number c a)) gives)
+      → Rule (stepped s 0 0 id ((0, x) ∷ []) (after_call v r.log (entry v.number c a)) gives)
   puts_back s r id v b b' x c a at is named inside may did =
       let e : Entry C R = entry v.number c a in
       let log' : List (Entry C R) = r.log ++ e ∷ [] in
       let w : SeatView O C R = after_call v r.log e in
-      let served : ℕ = length r.log in
       let before = r.each id v at in
-      let here : b ≡ r.now = subst (IsStageOf served r.drawn r.now) is before.stage in
-      let one_ticket : tickets v.stage ≡ 1 = ap tickets is in
-      let cov = before.covered in
-      let fit = before.fits (omega arith) in
+      let here : b ≡ r.now = subst (IsStageOf r.now) is before.stage in
+      let turn : IsTurn v.stage = turn_of v.stage b is in
+      let some_part : 0 < v.parts = before.used turn in
+      let fit = before.fits some_part in
       let number : v.number ≡ id = fit.named named in
       let wide = r.wide in
       let deep = r.deep in
-      let longer : length log' ≡ served + 1 = length-append r.log (e ∷ []) in
-      let mine : IsTicketOf served served v.stage = has_draws served v.stage (subst IsTurn (sym is) tt) in
-      let few_parts : 0 < v.parts = omega arith in
+      let others : (j : ℕ) (u : SeatView O C R) → j ≢ id → get_elem? s.views j ≡ some u → ¬ IsTurn u.stage = λ j u ne at' h. ne (r.apart j id u v at' at h turn) in
       let other_entry : (n : ℕ) → n ≢ id → calls_by n log' ≡ calls_by n r.log = λ n ne. calls_by-other n v.number r.log c a (λ k. ne (sym k ∙ number)) in
       let own : calls_by id log' ≡ v.mine ++ e ∷ [] = own_calls r.log id v c a number fit.mine in
       let pairs' : (ps : List (JoinedSeat C R)) → ArePairs r.log s.views ps → ArePairs log' (set s.views id w) ps = λ ps h.
-      pairs_stay log' s.views id v w at refl ps (subst (λ (n : ℕ). ArePairs (r.log ++ entry n c a ∷ []) s.views ps) (sym number) (pairs_more r.log s.views id v c a at few_parts ps h)) in
+      pairs_stay log' s.views id v w at refl ps (subst (λ (n : ℕ). ArePairs (r.log ++ entry n c a ∷ []) s.views ps) (sym number) (pairs_more r.log s.views id v c a at some_part ps h)) in
       record {
         log = log';
         now = b';
-        drawn = r.drawn;
         legal = legal_after s r b b' v.number c a here may did;
-        wide = length-set s.words 1 _ ∙ wide;
+        wide = length-set s.words 0 0 ∙ wide;
         deep = length-set s.homes 0 (some x) ∙ deep;
-        ticket_is = get_or-set_other s.words 1 0 _ 0 (λ e. omega arith) ∙ r.ticket_is;
-        serving_is = get_or-set_same s.words 1 _ 0 (omega arith) ∙ (ap (λ (z : ℕ). (z + 1) % N) r.serving_is ∙ (next_mod served N ∙ ap (λ (z : ℕ). z % N) (sym longer)));
-        out = (let q = total_set tickets_of s.views id v w at in let a = r.out in omega (arith, q));
         shared = (let q = total_set parts_of s.views id v w at in let a = r.shared in omega (arith, q));
-        few = r.few;
-        each = subst (λ (n : ℕ). (j : ℕ) (u : SeatView O C R) → get_elem? (set s.views id w) j ≡ some u → IsViewAt first n log' b' r.drawn (set s.views id w) j u) (sym longer)
-            (set_cases (λ j u. IsViewAt first (served + 1) log' b' r.drawn (set s.views id w) j u) s.views id w
+        each = set_cases (λ j u. IsViewAt first log' b' (set s.views id w) j u) s.views id w
             (record {
-              covered = omega arith;
+              used = λ h. absurd h;
               stage = tt;
               fits = λ p. record {
                 origin = fit.origin;
@@ -367,8 +247,8 @@ module _ {O C R : Type 0} (meets : O → C → Type 0) (steps : O → C → R �
               };
             })
             (λ j u other at'. (let k = r.each j u at' in record {
-              covered = k.covered;
-              stage = stage_later served r.drawn r.now b' u.stage (not_served s r id j v u at mine at' other) k.stage;
+              used = k.used;
+              stage = any_now r.now b' u.stage (others j u other at') k.stage;
               fits = λ p. (let f = k.fits p in record {
                 origin = f.origin;
                 seen = prefix_more u.seen r.log (e ∷ []) f.seen;
@@ -378,37 +258,29 @@ module _ {O C R : Type 0} (meets : O → C → Type 0) (steps : O → C → R �
                 named = f.named;
                 unnamed = f.unnamed;
               });
-            })));
-        apart = subst (λ (n : ℕ). (j k t : ℕ) (x y : SeatView O C R) → get_elem? (set s.views id w) j ≡ some x → get_elem? (set s.views id w) k ≡ some y → IsTicketOf n t x.stage → IsTicketOf n t y.stage → j ≡ k) (sym longer)
-            (λ j k t x y p q d d'.
-            set_cases (λ j x. (k : ℕ) (y : SeatView O C R) → get_elem? (set s.views id w) k ≡ some y → IsTicketOf (served + 1) t x.stage → IsTicketOf (served + 1) t y.stage → j ≡ k) s.views id w
+            }));
+        apart = λ j k x y p q d d'.
+            set_cases (λ j x. (k : ℕ) (y : SeatView O C R) → get_elem? (set s.views id w) k ≡ some y → IsTurn x.stage → IsTurn y.stage → j ≡ k) s.views id w
             (λ k y _ d d'. absurd d)
-            (λ j x other at'. set_cases (λ k y. IsTicketOf (served + 1) t x.stage → IsTicketOf (served + 1) t y.stage → j ≡ k) s.views id w
-            (λ d d'. absurd d')
-            (λ k y other' at'' d d'. r.apart j k t x y at' at'' (draws_before served t x.stage (not_served s r id j v x at mine at' other) d) (draws_before served t y.stage (not_served s r id k v y at mine at'' other') d')))
-            j x p k y q d d');
+            (λ j x other at' k y _ d d'. absurd (others j x other at' d))
+            j x p k y q d d';
         home = inl (
-          x,
-          set_here s.homes 0 (some x) (omega arith),
-          inside,
-          set_cases (λ j u. ¬ IsTurn u.stage) s.views id w (λ h. h)
-              (λ j u other at' h. not_served s r id j v u at mine at' other served (has_draws served u.stage h) refl),
+          get_or-set_same s.words 0 0 0 (omega arith),
+          (x, set_here s.homes 0 (some x) (omega arith), inside, set_cases (λ j u. ¬ IsTurn u.stage) s.views id w (λ h. h) others),
         );
         keeper = λ n l. keeper_stays s.views id v w n at refl refl (r.keeper n (subst (λ (z : ℕ). n < z) (length-set s.views id w) l));
         nobody = λ n l. (let l' = subst (λ (z : ℕ). z ≤ n) (length-set s.views id w) l in let at_id = below_length s.views id v at in other_entry n (λ k. omega arith) ∙ r.nobody n l');
       }
 
   end_allowed_at : (slots id : ℕ) (v : SeatView O C R) (b b' : O) (said : Option C) (answered : Option R) (c : C) (a : R) → v.stage ≡ Turn b → v.named ≡ true → said ≡ Some c → answered ≡ Some a → meets b c → steps b c a b'
-      → Allows Rule slots id (v, (0, Some b') ∷ []) 1 (λ n. (n + 1) % N) (end_step meets steps said answered (step slots 1 1 0 none) (v, (0, Some b') ∷ []))
+      → Allows Rule slots id (v, (0, Some b') ∷ []) 0 (λ _. 0) (end_step meets steps said answered (step slots 0 0 0 none) (v, (0, Some b') ∷ []))
   end_allowed_at slots id v b b' said answered c a is named said_is answered_is may did s r deep at small =
       let e : Entry C R = entry v.number c a in
       let w : SeatView O C R = after_call v r.log e in
       let before = r.each id v at in
-      let one_ticket : tickets v.stage ≡ 1 = ap tickets is in
-      let cov = before.covered in
-      let fit = before.fits (omega arith) in
+      let fit = before.fits (before.used (turn_of v.stage b is)) in
       let number : v.number ≡ id = fit.named named in
-      let here : b ≡ r.now = subst (IsStageOf (length r.log) r.drawn r.now) is before.stage in (
+      let here : b ≡ r.now = subst (IsStageOf r.now) is before.stage in (
         w,
         gives,
         tt,
@@ -434,9 +306,9 @@ module _ {O C R : Type 0} (meets : O → C → Type 0) (steps : O → C → R �
       origin_is f e = cc
 
   pub end_allowed : (slots id : ℕ) (me : M) (b b' : O) (said : Option C) (answered : Option R) (c : C) (a : R) → me.1 ≡ (0, Some b') ∷ [] → me.0.stage ≡ Turn b → me.0.named ≡ true → said ≡ Some c → answered ≡ Some a → meets b c → steps b c a b'
-      → Allows Rule slots id me 1 (λ n. (n + 1) % N) (end_step meets steps said answered (step slots 1 1 0 none) me)
+      → Allows Rule slots id me 0 (λ _. 0) (end_step meets steps said answered (step slots 0 0 0 none) me)
   end_allowed slots id me b b' said answered c a carried is named said_is answered_is may did =
-      subst (λ (m : M). Allows Rule slots id m 1 (λ n. (n + 1) % N) (end_step meets steps said answered (step slots 1 1 0 none) m)) (λ i. (me.0, sym carried i)) (end_allowed_at slots id me.0 b b' said answered c a is named said_is answered_is may did)
+      subst (λ (m : M). Allows Rule slots id m 0 (λ _. 0) (end_step meets steps said answered (step slots 0 0 0 none) m)) (λ i. (me.0, sym carried i)) (end_allowed_at slots id me.0 b b' said answered c a is named said_is answered_is may did)
 
   at_old : (vs : List (SeatView O C R)) (id : ℕ) (w z : SeatView O C R) (j : ℕ) → j < length vs → get_elem? (set vs id w ++ z ∷ []) j ≡ get_elem? (set vs id w) j
   at_old vs id w z j l = at_front (set vs id w) (z ∷ []) j (subst (λ (n : ℕ). j < n) (sym (length-set vs id w)) l)
@@ -451,11 +323,6 @@ module _ {O C R : Type 0} (meets : O → C → Type 0) (steps : O → C → R �
   pairs_split : (log : List (Entry C R)) (vs : List (SeatView O C R)) (id : ℕ) (v w z : SeatView O C R) → get_elem? vs id ≡ some v → 0 < v.parts → (ps : List (JoinedSeat C R)) → ArePairs log vs ps → ArePairs log (set vs id w ++ z ∷ []) ps
   pairs_split log vs id v w z at some_part [] h = tt
   pairs_split log vs id v w z at some_part (p ∷ ps) h = (let l = h.0 in let n = longer_split vs id w z in omega arith, h.1, spent_split vs id v w z p.number at some_part h.0 h.2, pairs_split log vs id v w z at some_part ps h.3)
-
-  few_tickets : (st : Stage O) → tickets st ≤ 1
-  few_tickets Idle = omega arith
-  few_tickets (Ticket t) = omega arith
-  few_tickets (Turn b) = omega arith
 
   keeper_split : (vs : List (SeatView O C R)) (id : ℕ) (v w z : SeatView O C R) (n : ℕ) → get_elem? vs id ≡ some v → 0 < w.parts → w.joined ≡ v.joined → HasKeeper vs n → HasKeeper (set vs id w ++ z ∷ []) n
   keeper_split vs id v w z n at some_part pairs k =
@@ -478,31 +345,24 @@ module _ {O C R : Type 0} (meets : O → C → Type 0) (steps : O → C → R �
       let z : SeatView O C R = new_view v in
       let vs : List (SeatView O C R) = s.views in
       let views' : List (SeatView O C R) = set vs id w ++ z ∷ [] in
-      let served : ℕ = length r.log in
       let before = r.each id v at in
       let fit = before.fits (omega arith) in
       let l = below_length vs id v at in
       let n = longer_split vs id w z in
       let some_part : 0 < v.parts = omega arith in
-      let few = few_tickets v.stage in
       let all_cases : (P : ℕ → SeatView O C R → Type 0) → P id w → P (length vs) z → ((j : ℕ) (u : SeatView O C R) → j ≢ id → get_elem? vs j ≡ some u → P j u) → (j : ℕ) (u : SeatView O C R) → get_elem? views' j ≡ some u → P j u = λ P mine new others j u e.
       ⊎_elim (λ (t : (j < length (set vs id w)) × (get_elem? (set vs id w) j ≡ some u)). set_cases P vs id w mine others j u t.1)
       (λ (t : (j ≡ length (set vs id w)) × (z ≡ u)). subst (λ (x : ℕ × SeatView O C R). P x.0 x.1) (λ i. (sym (t.0 ∙ length-set vs id w) i, t.1 i)) new) (at_end (set vs id w) z u j e) in
       record {
         log = r.log;
         now = r.now;
-        drawn = r.drawn;
         legal = r.legal;
         wide = r.wide;
         deep = r.deep;
-        ticket_is = r.ticket_is;
-        serving_is = r.serving_is;
-        out = (let q = total_set tickets_of vs id v w at in let p = total_snoc tickets_of (set vs id w) z in let a = r.out in omega (arith, p, q));
         shared = (let q = total_set parts_of vs id v w at in let p = total_snoc parts_of (set vs id w) z in let a = r.shared in omega (arith, p, q));
-        few = r.few;
-        each = all_cases (λ j u. IsViewAt first served r.log r.now r.drawn views' j u)
+        each = all_cases (λ j u. IsViewAt first r.log r.now views' j u)
             (record {
-              covered = omega arith;
+              used = λ _. omega arith;
               stage = before.stage;
               fits = λ p. record {
                 origin = fit.origin;
@@ -515,7 +375,7 @@ module _ {O C R : Type 0} (meets : O → C → Type 0) (steps : O → C → R �
               };
             })
             (record {
-              covered = omega arith;
+              used = λ h. absurd h;
               stage = tt;
               fits = λ p. record {
                 origin = fit.origin;
@@ -528,7 +388,7 @@ module _ {O C R : Type 0} (meets : O → C → Type 0) (steps : O → C → R �
               };
             })
             (λ j u other e. (let k = r.each j u e in record {
-              covered = k.covered;
+              used = k.used;
               stage = k.stage;
               fits = λ p. (let f = k.fits p in record {
                 origin = f.origin;
@@ -540,17 +400,17 @@ module _ {O C R : Type 0} (meets : O → C → Type 0) (steps : O → C → R �
                 unnamed = f.unnamed;
               });
             }));
-        apart = λ j k t x y a b c d.
-            all_cases (λ j x. (k : ℕ) (y : SeatView O C R) → get_elem? views' k ≡ some y → IsTicketOf served t x.stage → IsTicketOf served t y.stage → j ≡ k)
-            (all_cases (λ k y. IsTicketOf served t v.stage → IsTicketOf served t y.stage → id ≡ k) (λ _ _. refl) (λ c d. absurd d) (λ k y other e c d. r.apart id k t v y at e c d))
+        apart = λ j k x y a b c d.
+            all_cases (λ j x. (k : ℕ) (y : SeatView O C R) → get_elem? views' k ≡ some y → IsTurn x.stage → IsTurn y.stage → j ≡ k)
+            (all_cases (λ k y. IsTurn v.stage → IsTurn y.stage → id ≡ k) (λ _ _. refl) (λ c d. absurd d) (λ k y other e c d. r.apart id k v y at e c d))
             (λ k y _ c d. absurd c)
-            (λ j x other e. all_cases (λ k y. IsTicketOf served t x.stage → IsTicketOf served t y.stage → j ≡ k) (λ c d. r.apart j id t x v e at c d) (λ c d. absurd d) (λ k y _ e' c d. r.apart j k t x y e e' c d))
+            (λ j x other e. all_cases (λ k y. IsTurn x.stage → IsTurn y.stage → j ≡ k) (λ c d. r.apart j id x v e at c d) (λ c d. absurd d) (λ k y _ e' c d. r.apart j k x y e e' c d))
             j x a k y b c d;
         home = ⊎_elim
-            (λ (h : IsAtHome r.now s). inl (h.0, h.1, h.2, all_cases (λ j u. ¬ IsTurn u.stage) (h.3 id v at) (λ x. x) (λ j u other e. h.3 j u e)))
-            (λ (h : IsOut vs). (let lk = below_length vs h.0 h.1 h.2 in dite (ℕ_discrete h.0 id)
-            (λ e. inr (id, w, at_old vs id w z id l ∙ set_here vs id w l, subst (λ (u : SeatView O C R). IsTurn u.stage) (sym (same_view vs id v h.1 at (subst (λ (k : ℕ). get_elem? vs k ≡ some h.1) e h.2))) h.3))
-            (λ ne. inr (h.0, h.1, at_old vs id w z h.0 lk ∙ (set_else vs id h.0 w ne ∙ h.2), h.3)))) r.home;
+            (λ (h : IsFree r.now s). inl (h.0, (h.1.0, h.1.1, h.1.2, all_cases (λ j u. ¬ IsTurn u.stage) (h.1.3 id v at) (λ x. x) (λ j u other e. h.1.3 j u e))))
+            (λ (h : IsTaken s). (let lk = below_length vs h.1.0 h.1.1 h.1.2 in dite (ℕ_discrete h.1.0 id)
+            (λ e. inr (h.0, (id, w, at_old vs id w z id l ∙ set_here vs id w l, subst (λ (u : SeatView O C R). IsTurn u.stage) (sym (same_view vs id v h.1.1 at (subst (λ (k : ℕ). get_elem? vs k ≡ some h.1.1) e h.1.2))) h.1.3)))
+            (λ ne. inr (h.0, (h.1.0, h.1.1, at_old vs id w z h.1.0 lk ∙ (set_else vs id h.1.0 w ne ∙ h.1.2), h.1.3))))) r.home;
         keeper = λ k below. dite (ℕ_discrete k (length vs))
             (λ e. (length vs, z, at_last (set vs id w) z (length vs) (length-set vs id w), omega arith, inl e))
             (λ ne. keeper_split vs id v w z k at (omega arith) refl (r.keeper k (omega arith)));
@@ -562,26 +422,18 @@ module _ {O C R : Type 0} (meets : O → C → Type 0) (steps : O → C → R �
       → (0 < v.parts → IsAccount first r.log s.views id v → IsAccount first r.log s.views id w) → Rule (stepped s i (get_or s.words i 0) id cs w keeps)
   renames s r i id v w cs at parts stage pairs turn =
       let before = r.each id v at in
-      let served : ℕ = length r.log in
-      let cov = before.covered in
-      let same_ticket : tickets w.stage ≡ tickets v.stage = ap tickets stage in
-      let back : (t : ℕ) → IsTicketOf served t w.stage → IsTicketOf served t v.stage = λ t d. subst (IsTicketOf served t) stage d in
+      let back : IsTurn w.stage → IsTurn v.stage = λ d. subst IsTurn stage d in
       subst (λ (ws : List ℕ). Rule record { words = ws; homes = s.homes; views = set s.views id w }) (sym (set-get_or s.words i 0)) record {
         log = r.log;
         now = r.now;
-        drawn = r.drawn;
         legal = r.legal;
         wide = r.wide;
         deep = r.deep;
-        ticket_is = r.ticket_is;
-        serving_is = r.serving_is;
-        out = (let q = total_set tickets_of s.views id v w at in let a = r.out in omega (arith, q));
         shared = (let q = total_set parts_of s.views id v w at in let a = r.shared in omega (arith, q));
-        few = r.few;
-        each = set_cases (λ j u. IsViewAt first served r.log r.now r.drawn (set s.views id w) j u) s.views id w
+        each = set_cases (λ j u. IsViewAt first r.log r.now (set s.views id w) j u) s.views id w
             (record {
-              covered = omega arith;
-              stage = subst (IsStageOf served r.drawn r.now) (sym stage) before.stage;
+              used = λ d. subst (λ (z : ℕ). 0 < z) (sym parts) (before.used (back d));
+              stage = subst (IsStageOf r.now) (sym stage) before.stage;
               fits = λ p. (let some_part : 0 < v.parts = omega arith in let f = turn some_part (before.fits some_part) in record {
                 origin = f.origin;
                 seen = f.seen;
@@ -592,26 +444,23 @@ module _ {O C R : Type 0} (meets : O → C → Type 0) (steps : O → C → R �
                 unnamed = f.unnamed;
               });
             })
-            (λ j u other e. knows_stays s r.log r.now r.drawn r.drawn id v w at parts j u (λ k. k) (r.each j u e));
-        apart = λ j k u x y a b c d.
-            set_cases (λ j x. (k : ℕ) (y : SeatView O C R) → get_elem? (set s.views id w) k ≡ some y → IsTicketOf served u x.stage → IsTicketOf served u y.stage → j ≡ k) s.views id w
-            (set_cases (λ k y. IsTicketOf served u w.stage → IsTicketOf served u y.stage → id ≡ k) s.views id w (λ _ _. refl)
-            (λ k y other e c d. r.apart id k u v y at e (back u c) d))
-            (λ j x other e. set_cases (λ k y. IsTicketOf served u x.stage → IsTicketOf served u y.stage → j ≡ k) s.views id w
-            (λ c d. r.apart j id u x v e at c (back u d))
-            (λ k y _ e' c d. r.apart j k u x y e e' c d))
+            (λ j u other e. knows_stays s.views r.log r.now id v w at parts j u (r.each j u e));
+        apart = λ j k x y a b c d.
+            set_cases (λ j x. (k : ℕ) (y : SeatView O C R) → get_elem? (set s.views id w) k ≡ some y → IsTurn x.stage → IsTurn y.stage → j ≡ k) s.views id w
+            (set_cases (λ k y. IsTurn w.stage → IsTurn y.stage → id ≡ k) s.views id w (λ _ _. refl) (λ k y other e c d. r.apart id k v y at e (back c) d))
+            (λ j x other e. set_cases (λ k y. IsTurn x.stage → IsTurn y.stage → j ≡ k) s.views id w (λ c d. r.apart j id x v e at c (back d)) (λ k y _ e' c d. r.apart j k x y e e' c d))
             j x a k y b c d;
         home = ⊎_elim
-            (λ (h : IsAtHome r.now s). inl (h.0, h.1, h.2, set_cases (λ j u. ¬ IsTurn u.stage) s.views id w (λ x. h.3 id v at (subst IsTurn stage x)) (λ j u other e. h.3 j u e)))
-            (λ (h : IsOut s.views). dite (ℕ_discrete h.0 id)
-            (λ e. inr (id, w, set_here s.views id w (below_length s.views id v at), subst IsTurn (ap (λ (u : SeatView O C R). u.stage) (sym (same_view s.views id v h.1 at (subst (λ (k : ℕ). get_elem? s.views k ≡ some h.1) e h.2))) ∙ sym stage) h.3))
-            (λ ne. inr (h.0, h.1, set_else s.views id h.0 w ne ∙ h.2, h.3))) r.home;
+            (λ (h : IsFree r.now s). inl (h.0, (h.1.0, h.1.1, h.1.2, set_cases (λ j u. ¬ IsTurn u.stage) s.views id w (λ x. h.1.3 id v at (back x)) (λ j u other e. h.1.3 j u e))))
+            (λ (h : IsTaken s). dite (ℕ_discrete h.1.0 id)
+            (λ e. inr (h.0, (id, w, set_here s.views id w (below_length s.views id v at), subst IsTurn (ap (λ (u : SeatView O C R). u.stage) (sym (same_view s.views id v h.1.1 at (subst (λ (k : ℕ). get_elem? s.views k ≡ some h.1.1) e h.1.2))) ∙ sym stage) h.1.3)))
+            (λ ne. inr (h.0, (h.1.0, h.1.1, set_else s.views id h.1.0 w ne ∙ h.1.2, h.1.3)))) r.home;
         keeper = λ n l. keeper_stays s.views id v w n at parts pairs (r.keeper n (subst (λ (z : ℕ). n < z) (length-set s.views id w) l));
         nobody = λ n l. r.nobody n (subst (λ (z : ℕ). z ≤ n) (length-set s.views id w) l);
       }
 
   -- a new seat finds its number
-  pub number_allowed : (slots id : ℕ) (me : M) → me.0.named ≡ false → 0 < me.0.parts → me.0.mine ≡ [] → Allows Rule slots id me 1 (λ n. n) (number_step (step slots 1 0 0 none) me)
+  pub number_allowed : (slots id : ℕ) (me : M) → me.0.named ≡ false → 0 < me.0.parts → me.0.mine ≡ [] → Allows Rule slots id me 0 (λ n. n) (number_step (step slots 0 0 0 none) me)
   number_allowed slots id me unnamed some_part none_made s r deep at small =
       let v : SeatView O C R = me.0 in
       let w : SeatView O C R = record v { named = true; number = id } in
@@ -619,7 +468,7 @@ module _ {O C R : Type 0} (meets : O → C → Type 0) (steps : O → C → R �
         w,
         keeps,
         tt,
-        renames s r 1 id v w me.1 at refl refl refl (λ p f. record {
+        renames s r 0 id v w me.1 at refl refl refl (λ p f. record {
           origin = f.origin;
           seen = f.seen;
           beside = f.beside;
@@ -638,11 +487,11 @@ module _ {O C R : Type 0} (meets : O → C → Type 0) (steps : O → C → R �
         ),
       )
 
-  pub number_allowed_at : (slots id : ℕ) (me : M) (v : SeatView O C R) → me ≡ (new_view v, []) → Allows Rule slots id me 1 (λ n. n) (number_step (step slots 1 0 0 none) me)
-  number_allowed_at slots id me v e = subst (λ (m : M). Allows Rule slots id m 1 (λ n. n) (number_step (step slots 1 0 0 none) m)) (sym e) (number_allowed slots id (new_view v, []) refl (omega arith) refl)
+  pub number_allowed_at : (slots id : ℕ) (me : M) (v : SeatView O C R) → me ≡ (new_view v, []) → Allows Rule slots id me 0 (λ n. n) (number_step (step slots 0 0 0 none) me)
+  number_allowed_at slots id me v e = subst (λ (m : M). Allows Rule slots id m 0 (λ n. n) (number_step (step slots 0 0 0 none) m)) (sym e) (number_allowed slots id (new_view v, []) refl (omega arith) refl)
 
   -- a seat match_allowed the two histories that it was joined from
-  pub match_allowed : (slots id : ℕ) (me : M) → 0 < me.0.parts → Allows Rule slots id me 1 (λ n. n) (match_step (step slots 1 0 0 none) me)
+  pub match_allowed : (slots id : ℕ) (me : M) → 0 < me.0.parts → Allows Rule slots id me 0 (λ n. n) (match_step (step slots 0 0 0 none) me)
   match_allowed slots id me some_part s r deep at small =
       let v : SeatView O C R = me.0 in
       let w : SeatView O C R = record v { beside = [] } in
@@ -650,7 +499,7 @@ module _ {O C R : Type 0} (meets : O → C → Type 0) (steps : O → C → R �
         w,
         keeps,
         tt,
-        renames s r 1 id v w me.1 at refl refl refl (λ p f. record {
+        renames s r 0 id v w me.1 at refl refl refl (λ p f. record {
           origin = f.origin;
           seen = f.seen;
           beside = (v.seen, refl);
@@ -670,8 +519,8 @@ module _ {O C R : Type 0} (meets : O → C → Type 0) (steps : O → C → R �
   pairs_both log vs [] qs h k = k
   pairs_both log vs (p ∷ ps) qs h k = (h.0, h.1, h.2, pairs_both log vs ps qs h.3 k)
 
-  pub match_allowed_at : (slots id : ℕ) (me : M) (v w : SeatView O C R) (cs : List (ℕ × Option O)) → me ≡ (joined_view v w, cs) → 0 < v.parts → Allows Rule slots id me 1 (λ n. n) (match_step (step slots 1 0 0 none) me)
-  match_allowed_at slots id me v w cs e p = subst (λ (m : M). Allows Rule slots id m 1 (λ n. n) (match_step (step slots 1 0 0 none) m)) (sym e) (match_allowed slots id (joined_view v w, cs) (omega arith))
+  pub match_allowed_at : (slots id : ℕ) (me : M) (v w : SeatView O C R) (cs : List (ℕ × Option O)) → me ≡ (joined_view v w, cs) → 0 < v.parts → Allows Rule slots id me 0 (λ n. n) (match_step (step slots 0 0 0 none) me)
+  match_allowed_at slots id me v w cs e p = subst (λ (m : M). Allows Rule slots id m 0 (λ n. n) (match_step (step slots 0 0 0 none) m)) (sym e) (match_allowed slots id (joined_view v w, cs) (omega arith))
 
   -- a seat takes in another
   pub join_allowed : (id : ℕ) (v : SeatView O C R) (other : ℕ) (w : SeatView O C R) → w.stage ≡ Idle → 0 < v.parts → 0 < w.parts → v.named ≡ true → w.named ≡ true → Joins Rule id v other w (joined_view v w) spent_view
@@ -681,17 +530,14 @@ module _ {O C R : Type 0} (meets : O → C → Type 0) (steps : O → C → R �
       let vs : List (SeatView O C R) = s.views in
       let mid : List (SeatView O C R) = set vs id both in
       let views' : List (SeatView O C R) = set mid other gone in
-      let served : ℕ = length r.log in
       let at' : get_elem? vs other ≡ some w = sym (set_else vs id other both apart') ∙ there in
       let before = r.each id v at in
       let before' = r.each other w at' in
-      let cov = before.covered in
       let fit = before.fits some_part in
       let fit' = before'.fits some_part' in
       let l = below_length vs id v at in
       let l' = below_length vs other w at' in
       let len : length views' ≡ length vs = length-set mid other gone ∙ length-set vs id both in
-      let none_out : tickets w.stage ≡ 0 = ap tickets idle in
       let number : w.number ≡ other = fit'.named named' in
       let here : get_elem? views' id ≡ some both = set_else mid other id gone (λ e. apart' (sym e)) ∙ set_here vs id both l in
       let gone_here : get_elem? views' other ≡ some gone = set_here mid other gone (subst (λ (n : ℕ). other < n) (sym (length-set vs id both)) l') in
@@ -707,18 +553,13 @@ module _ {O C R : Type 0} (meets : O → C → Type 0) (steps : O → C → R �
       record {
         log = r.log;
         now = r.now;
-        drawn = r.drawn;
         legal = r.legal;
         wide = r.wide;
         deep = r.deep;
-        ticket_is = r.ticket_is;
-        serving_is = r.serving_is;
-        out = (let q = total_set tickets_of vs id v both at in let p = total_set tickets_of mid other w gone there in let a = r.out in omega (arith, p, q));
         shared = (let q = total_set parts_of vs id v both at in let p = total_set parts_of mid other w gone there in let a = r.shared in omega (arith, p, q));
-        few = r.few;
-        each = all_cases (λ j u. IsViewAt first served r.log r.now r.drawn views' j u)
+        each = all_cases (λ j u. IsViewAt first r.log r.now views' j u)
             (record {
-              covered = omega arith;
+              used = λ _. omega arith;
               stage = before.stage;
               fits = λ p. record {
                 origin = fit.origin;
@@ -735,9 +576,9 @@ module _ {O C R : Type 0} (meets : O → C → Type 0) (steps : O → C → R �
                 unnamed = fit.unnamed;
               };
             })
-            (record { covered = omega arith; stage = tt; fits = λ p. absurd (omega arith) })
+            (record { used = λ h. absurd h; stage = tt; fits = λ p. absurd (omega arith) })
             (λ j u _ _ e. (let k = r.each j u e in record {
-              covered = k.covered;
+              used = k.used;
               stage = k.stage;
               fits = λ p. (let f = k.fits p in record {
                 origin = f.origin;
@@ -749,19 +590,19 @@ module _ {O C R : Type 0} (meets : O → C → Type 0) (steps : O → C → R �
                 unnamed = f.unnamed;
               });
             }));
-        apart = λ j k t x y a b c d.
-            all_cases (λ j x. (k : ℕ) (y : SeatView O C R) → get_elem? views' k ≡ some y → IsTicketOf served t x.stage → IsTicketOf served t y.stage → j ≡ k)
-            (all_cases (λ k y. IsTicketOf served t v.stage → IsTicketOf served t y.stage → id ≡ k) (λ _ _. refl) (λ c d. absurd d) (λ k y _ _ e c d. r.apart id k t v y at e c d))
+        apart = λ j k x y a b c d.
+            all_cases (λ j x. (k : ℕ) (y : SeatView O C R) → get_elem? views' k ≡ some y → IsTurn x.stage → IsTurn y.stage → j ≡ k)
+            (all_cases (λ k y. IsTurn v.stage → IsTurn y.stage → id ≡ k) (λ _ _. refl) (λ c d. absurd d) (λ k y _ _ e c d. r.apart id k v y at e c d))
             (λ k y _ c d. absurd c)
-            (λ j x _ _ e. all_cases (λ k y. IsTicketOf served t x.stage → IsTicketOf served t y.stage → j ≡ k) (λ c d. r.apart j id t x v e at c d) (λ c d. absurd d) (λ k y _ _ e' c d. r.apart j k t x y e e' c d))
+            (λ j x _ _ e. all_cases (λ k y. IsTurn x.stage → IsTurn y.stage → j ≡ k) (λ c d. r.apart j id x v e at c d) (λ c d. absurd d) (λ k y _ _ e' c d. r.apart j k x y e e' c d))
             j x a k y b c d;
         home = ⊎_elim
-            (λ (h : IsAtHome r.now s). inl (h.0, h.1, h.2, all_cases (λ j u. ¬ IsTurn u.stage) (h.3 id v at) (λ x. x) (λ j u _ _ e. h.3 j u e)))
-            (λ (h : IsOut vs). dite (ℕ_discrete h.0 id)
-            (λ e. inr (id, both, here, subst (λ (u : SeatView O C R). IsTurn u.stage) (sym (same_view vs id v h.1 at (subst (λ (k : ℕ). get_elem? vs k ≡ some h.1) e h.2))) h.3))
-            (λ ne. dite (ℕ_discrete h.0 other)
-            (λ e. absurd (subst IsTurn idle (subst (λ (u : SeatView O C R). IsTurn u.stage) (sym (same_view vs other w h.1 at' (subst (λ (k : ℕ). get_elem? vs k ≡ some h.1) e h.2))) h.3)))
-            (λ ne'. inr (h.0, h.1, as_was h.0 ne ne' ∙ h.2, h.3)))) r.home;
+            (λ (h : IsFree r.now s). inl (h.0, (h.1.0, h.1.1, h.1.2, all_cases (λ j u. ¬ IsTurn u.stage) (h.1.3 id v at) (λ x. x) (λ j u _ _ e. h.1.3 j u e))))
+            (λ (h : IsTaken s). dite (ℕ_discrete h.1.0 id)
+            (λ e. inr (h.0, (id, both, here, subst (λ (u : SeatView O C R). IsTurn u.stage) (sym (same_view vs id v h.1.1 at (subst (λ (k : ℕ). get_elem? vs k ≡ some h.1.1) e h.1.2))) h.1.3)))
+            (λ ne. dite (ℕ_discrete h.1.0 other)
+            (λ e. absurd (no_turn w.stage idle (subst (λ (u : SeatView O C R). IsTurn u.stage) (sym (same_view vs other w h.1.1 at' (subst (λ (k : ℕ). get_elem? vs k ≡ some h.1.1) e h.1.2))) h.1.3)))
+            (λ ne'. inr (h.0, (h.1.0, h.1.1, as_was h.1.0 ne ne' ∙ h.1.2, h.1.3))))) r.home;
         keeper = λ k below. (let q = r.keeper k (subst (λ (n : ℕ). k < n) len below) in dite (ℕ_discrete q.0 id)
             (λ e. (let is = same_view vs id v q.1 at (subst (λ (z : ℕ). get_elem? vs z ≡ some q.1) e q.2) in (
               id,
@@ -783,24 +624,19 @@ module _ {O C R : Type 0} (meets : O → C → Type 0) (steps : O → C → R �
       }
 
   -- the lock at the start
-  pub opening_holds : (x : Option O) → x ≡ Some first → 0 < all → all < 4294967296 → Rule (opening (0 ∷ 0 ∷ []) (x ∷ []) (first_view first all))
-  opening_holds x inside some_part few =
+  pub opening_holds : (x : Option O) → x ≡ Some first → 0 < all → Rule (opening (0 ∷ []) (x ∷ []) (first_view first all))
+  opening_holds x inside some_part =
       let v : SeatView O C R = first_view first all in
       let alone : (P : ℕ → SeatView O C R → Type 0) → P 0 v → (j : ℕ) (u : SeatView O C R) → get_elem? (v ∷ []) j ≡ some u → P j u = λ P one. only v P one in
       record {
         log = [];
         now = first;
-        drawn = 0;
         legal = refl;
         wide = refl;
         deep = refl;
-        ticket_is = refl;
-        serving_is = refl;
-        out = refl;
         shared = omega arith;
-        few = few;
-        each = alone (λ j u. IsViewAt first 0 [] first 0 (v ∷ []) j u) (record {
-          covered = omega arith;
+        each = alone (λ j u. IsViewAt first [] first (v ∷ []) j u) (record {
+          used = λ h. absurd h;
           stage = tt;
           fits = λ p. record {
             origin = refl;
@@ -812,8 +648,8 @@ module _ {O C R : Type 0} (meets : O → C → Type 0) (steps : O → C → R �
             unnamed = λ e. absurd (cc);
           };
         });
-        apart = λ j k t a b p q d d'. alone (λ j a. IsTicketOf 0 t a.stage → j ≡ k) (λ d. absurd d) j a p d;
-        home = inl (x, refl, inside, alone (λ j u. ¬ IsTurn u.stage) (λ h. h));
+        apart = λ j k a b p q d d'. alone (λ j a. IsTurn a.stage → j ≡ k) (λ d. absurd d) j a p d;
+        home = inl (refl, (x, refl, inside, alone (λ j u. ¬ IsTurn u.stage) (λ h. h)));
         keeper = λ n below. (0, v, refl, some_part, inl (omega arith));
         nobody = λ n above. refl;
       }
@@ -839,10 +675,10 @@ module _ {O C R : Type 0} (meets : O → C → Type 0) (steps : O → C → R �
       (let t = total_two parts_of s.views j id u v ne e at in let a = r.shared in omega (arith, t)) in
       let only : (j : ℕ) (u : SeatView O C R) → get_elem? s.views j ≡ some u → 0 < u.parts → j ≡ id = λ j u e p. dite (ℕ_discrete j id) (λ k. k) (λ ne. (let z = others j u ne e in absurd (omega arith))) in
       ⊎_elim
-      (λ (h : IsAtHome r.now s).
-      let same : h.0 ≡ y = some-injective h.0 y (sym (final.4 0 h.0 h.1) ∙ there) in (
+      (λ (h : IsFree r.now s).
+      let same : h.1.0 ≡ y = some-injective h.1.0 y (sym (final.4 0 h.1.0 h.1.1) ∙ there) in (
         r.now,
-        sym same ∙ h.2,
+        sym same ∙ h.1.2,
         record {
           log = r.log;
           legal = r.legal;
@@ -855,12 +691,10 @@ module _ {O C R : Type 0} (meets : O → C → Type 0) (steps : O → C → R �
               ⊎_elim (λ (t : n ≡ q.0). absurd (ne (t ∙ (e ∙ sym number)))) (λ (t : IsJoinedNumber n q.1.joined). absurd (none (subst (λ (u : SeatView O C R). IsJoinedNumber n u.joined) (sym is) t))) q.4));
         },
       ))
-      (λ (h : IsOut s.views).
-      let cov = (r.each h.0 h.1 h.2).covered in
-      let out : 0 < tickets h.1.stage = draws_ticket (length r.log) (length r.log) h.1.stage (has_draws (length r.log) h.1.stage h.3) in
-      let e = only h.0 h.1 h.2 (omega arith) in
-      let is = same_view s.views id v h.1 at (subst (λ (z : ℕ). get_elem? s.views z ≡ some h.1) e h.2) in
-      absurd (subst IsTurn idle (subst (λ (u : SeatView O C R). IsTurn u.stage) (sym is) h.3)))
+      (λ (h : IsTaken s).
+      let e = only h.1.0 h.1.1 h.1.2 ((r.each h.1.0 h.1.1 h.1.2).used h.1.3) in
+      let is = same_view s.views id v h.1.1 at (subst (λ (z : ℕ). get_elem? s.views z ≡ some h.1.1) e h.1.2) in
+      absurd (no_turn v.stage idle (subst (λ (u : SeatView O C R). IsTurn u.stage) (sym is) h.1.3)))
       r.home
 
 module _ {O C R : Type 0} (meets : O → C → Type 0) (steps : O → C → R → O → Type 0) where

@@ -6,7 +6,7 @@ use Rattle.book_lock.specs.declared.views.SeatView.{SeatView}
 use Rattle.book_lock.specs.declared.views.Stage.TheVariants.{Idle}
 
 module _ {O C R : Type 0} where
-  -- it has no ticket and no slot, at least one part, and a number
+  -- it has no turn and no slot, at least one part, and a number
   abbrev pub IsAtRest : Me (Option O) (SeatView O C R) → Type 0
   IsAtRest m = (m.0.stage ≡ Idle) × (m.1 ≡ []) × (0 < m.0.parts) × (m.0.named ≡ true)
 

@@ -1,5 +1,5 @@
 -- The rule of the lock.
-use Rattle.std.specs.Prelude.{◌≡◌, ◌≢◌, ◌⊎◌, ℕ, ◌+◌, ◌-◌, ◌%◌, ◌<◌, ◌≤◌, true, false, List, [], ◌∷◌, ◌++◌, length, slice_index, nat_lt, if◌then◌else◌, Option, Some, None}
+use Rattle.std.specs.Prelude.{◌≡◌, ◌≢◌, ◌⊎◌, ℕ, ◌+◌, ◌-◌, ◌<◌, ◌≤◌, true, false, List, [], ◌∷◌, ◌++◌, length, slice_index, nat_lt, if◌then◌else◌, Option, Some, None}
 use mathlib.Core.Option.{some}
 use mathlib.Core.List.{IsPrefix}
 use lib.ListN.{get_elem?}
@@ -7,7 +7,7 @@ use Rattle.atomic_table.specs.Table.{State}
 use Rattle.book_lock.specs.declared.views.Entry.{Entry}
 use Rattle.book_lock.specs.declared.views.JoinedSeat.{JoinedSeat}
 use Rattle.book_lock.specs.declared.views.Stage.{Stage}
-use Rattle.book_lock.specs.declared.views.Stage.TheVariants.{Idle, Ticket, Turn}
+use Rattle.book_lock.specs.declared.views.Stage.TheVariants.{Idle, Turn}
 use Rattle.book_lock.specs.declared.views.SeatView.{SeatView}
 use Rattle.book_lock.specs.History.{calls_by, IsHistory}
 
@@ -16,27 +16,14 @@ total f [] = 0
 total f (v ∷ vs) = f v + total f vs
 
 module _ {O : Type 0} where
-  -- 1 where the seat has a ticket
-  abbrev pub tickets : Stage O → ℕ
-  tickets Idle = 0
-  tickets (Ticket t) = 1
-  tickets (Turn b) = 1
-
-  -- the seat's ticket is t, where `served` is being served
-  abbrev pub IsTicketOf : ℕ → ℕ → Stage O → Type 0
-  IsTicketOf served t Idle = ⊥
-  IsTicketOf served t (Ticket u) = u ≡ t
-  IsTicketOf served t (Turn b) = served ≡ t
-
   abbrev pub IsTurn : Stage O → Type 0
   IsTurn (Turn b) = Unit {0}
-  IsTurn _ = ⊥
+  IsTurn Idle = ⊥
 
-  -- what a stage says, where the tickets from `served` on and below `drawn` are out, and the object is `now`
-  abbrev pub IsStageOf : ℕ → ℕ → O → Stage O → Type 0
-  IsStageOf served drawn now Idle = Unit {0}
-  IsStageOf served drawn now (Ticket t) = (served ≤ t) × (t < drawn)
-  IsStageOf served drawn now (Turn b) = b ≡ now
+  -- what a stage says, where the object is `now`
+  abbrev pub IsStageOf : O → Stage O → Type 0
+  IsStageOf now Idle = Unit {0}
+  IsStageOf now (Turn b) = b ≡ now
 
 module _ {C R : Type 0} where
   -- n is the number of one that was taken in
@@ -45,9 +32,6 @@ module _ {C R : Type 0} where
   IsJoinedNumber n (p ∷ ps) = (p.number ≡ n) ⊎ IsJoinedNumber n ps
 
 module _ {O C R : Type 0} where
-  abbrev pub tickets_of : SeatView O C R → ℕ
-  tickets_of v = tickets v.stage
-
   abbrev pub parts_of : SeatView O C R → ℕ
   parts_of v = v.parts
 
@@ -68,9 +52,9 @@ module _ {O C R : Type 0} where
     pub named : v.named ≡ true → v.number ≡ j
     pub unnamed : v.named ≡ false → v.number < j
 
-  pub record IsViewAt (first : O) (served : ℕ) (log : List (Entry C R)) (now : O) (drawn : ℕ) (views : List (SeatView O C R)) (j : ℕ) (v : SeatView O C R) : Type 0 where
-    pub covered : tickets v.stage ≤ v.parts
-    pub stage : IsStageOf served drawn now v.stage
+  pub record IsViewAt (first : O) (log : List (Entry C R)) (now : O) (views : List (SeatView O C R)) (j : ℕ) (v : SeatView O C R) : Type 0 where
+    pub used : IsTurn v.stage → 0 < v.parts
+    pub stage : IsStageOf now v.stage
     pub fits : 0 < v.parts → IsAccount first log views j v
 
   -- the object is in the slot, or with one seat
@@ -79,6 +63,13 @@ module _ {O C R : Type 0} where
 
   abbrev pub IsOut : List (SeatView O C R) → Type 0
   IsOut views = (j : ℕ) × (v : SeatView O C R) × (get_elem? views j ≡ some v) × IsTurn v.stage
+
+  -- no seat has the turn, and the word says so
+  abbrev pub IsFree : O → State (Option O) (SeatView O C R) → Type 0
+  IsFree now s = (slice_index s.words 0 ≡ 0) × IsAtHome now s
+
+  abbrev pub IsTaken : State (Option O) (SeatView O C R) → Type 0
+  IsTaken s = (0 < slice_index s.words 0) × IsOut s.views
 
   -- some seat in use keeps the calls with this number
   abbrev pub HasKeeper : List (SeatView O C R) → ℕ → Type 0
@@ -94,18 +85,13 @@ module _ {C R : Type 0} where
 pub record LockInvariant {O C R : Type 0} (meets : O → C → Type 0) (steps : O → C → R → O → Type 0) (first : O) (all : ℕ) (s : State (Option O) (SeatView O C R)) : Type 0 where
   pub log : List (Entry C R)
   pub now : O
-  pub drawn : ℕ
   pub legal : IsHistory meets steps first log now
-  pub wide : length s.words ≡ 2
+  pub wide : length s.words ≡ 1
   pub deep : length s.homes ≡ 1
-  pub ticket_is : slice_index s.words 0 ≡ drawn % 18446744073709551616
-  pub serving_is : slice_index s.words 1 ≡ length log % 18446744073709551616
-  pub out : drawn ≡ length log + total tickets_of s.views
   pub shared : total parts_of s.views ≡ all
-  pub few : all < 4294967296
-  pub each : (j : ℕ) (v : SeatView O C R) → get_elem? s.views j ≡ some v → IsViewAt first (length log) log now drawn s.views j v
-  pub apart : (j k t : ℕ) (v w : SeatView O C R) → get_elem? s.views j ≡ some v → get_elem? s.views k ≡ some w → IsTicketOf (length log) t v.stage → IsTicketOf (length log) t w.stage → j ≡ k
-  pub home : IsAtHome now s ⊎ IsOut s.views
+  pub each : (j : ℕ) (v : SeatView O C R) → get_elem? s.views j ≡ some v → IsViewAt first log now s.views j v
+  pub apart : (j k : ℕ) (v w : SeatView O C R) → get_elem? s.views j ≡ some v → get_elem? s.views k ≡ some w → IsTurn v.stage → IsTurn w.stage → j ≡ k
+  pub home : IsFree now s ⊎ IsTaken s
   pub keeper : (n : ℕ) → n < length s.views → HasKeeper s.views n
   pub nobody : (n : ℕ) → length s.views ≤ n → calls_by n log ≡ []
 

@@ -1,10 +1,10 @@
 -- What each step tells.
-use Rattle.std.specs.Prelude.{◌≡◌, ◌≢◌, ℕ, ◌%◌, true, List, [], ◌∷◌, ◌++◌, Option, Some}
+use Rattle.std.specs.Prelude.{◌≡◌, ◌≢◌, ℕ, ◌<◌, true, List, [], ◌∷◌, ◌++◌, Option, Some}
 use mathlib.Core.List.{IsPrefix}
 use Rattle.atomic_table.specs.Table.{Me, Step, rest}
 use Rattle.book_lock.specs.declared.views.Entry.{Entry}
 use Rattle.book_lock.specs.declared.views.Stage.{Stage}
-use Rattle.book_lock.specs.declared.views.Stage.TheVariants.{Idle, Ticket, Turn}
+use Rattle.book_lock.specs.declared.views.Stage.TheVariants.{Idle, Turn}
 use Rattle.book_lock.specs.declared.views.SeatView.{SeatView}
 use Rattle.book_lock.specs.History.{entry, calls_by, IsHistory, IsLegal}
 
@@ -25,16 +25,14 @@ module _ {O C R : Type 0} where
   abbrev pub match_step : Step (Option O) → Me (Option O) (SeatView O C R) → ℕ → Me (Option O) (SeatView O C R) → Type 0
   match_step st m n m' = (m' ≡ (record m.0 { beside = [] }, m.1)) × IsPrefix m.0.beside m.0.seen
 
-  abbrev pub ticket_step : Step (Option O) → Me (Option O) (SeatView O C R) → ℕ → Me (Option O) (SeatView O C R) → Type 0
-  ticket_step st m r m' = (t : ℕ) × (t % 18446744073709551616 ≡ r) × (m' ≡ (record m.0 { stage = Ticket t }, m.1))
-
 module _ {O C R : Type 0} (meets : O → C → Type 0) (steps : O → C → R → O → Type 0) where
-  -- the seat's turn has come: it has the object, which some legal history left
+  -- the seat has the turn: it has the object, which some legal history left
   abbrev pub IsTurnOf : Me (Option O) (SeatView O C R) → Me (Option O) (SeatView O C R) → Type 0
   IsTurnOf m m' = (b : O) × (m' ≡ (record m.0 { stage = Turn b }, (0, Some b) ∷ m.1)) × ((first : O) → m.0.origin ≡ Some first → (log : List (Entry C R)) × IsHistory meets steps first log b)
 
-  abbrev pub look_step : Step (Option O) → Me (Option O) (SeatView O C R) → ℕ → Me (Option O) (SeatView O C R) → Type 0
-  look_step st m r m' = (t : ℕ) → m.0.stage ≡ Ticket t → (r ≡ t % 18446744073709551616 → IsTurnOf m m') × (r ≢ t % 18446744073709551616 → m' ≡ m)
+  -- the seat has the turn where the word was 0, and else is as it was
+  abbrev pub take_step : Step (Option O) → Me (Option O) (SeatView O C R) → ℕ → Me (Option O) (SeatView O C R) → Type 0
+  take_step st m r m' = (r ≡ 0 → IsTurnOf m m') × (0 < r → m' ≡ m)
 
   -- the history that is seen after a call: legal, it begins with all that was seen, ends with the call, and has the seat's own calls and no others with its number
   pub record IsCallOf (v : SeatView O C R) (c : C) (r : R) (w : SeatView O C R) : Type 0 where

@@ -1,4 +1,4 @@
-//! A book that threads share. Its calls are those of `cover_book`, answered one at a time under a ticket lock: each reply
+//! A book that threads share. Its calls are those of `cover_book`, answered one at a time under a lock: each reply
 //! is the one that the book gives at that place of one history, of which every seat has seen a beginning. The main calls
 //! are `SharedBook::share`, `commit` and `close`. The lock itself serves any object of one thread whose calls and replies
 //! are data (`Object`). It works on no box, starts no thread, and says nothing of how long a call waits.

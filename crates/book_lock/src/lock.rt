@@ -1,5 +1,5 @@
-// A ticket lock over a table.
-ghost use Rattle.std.specs.Prelude.{◌≡◌, ◌<◌, true, [], ◌∷◌, Some, None, IfOk, IfErr};
+// A lock over a table.
+ghost use Rattle.std.specs.Prelude.{◌≡◌, ◌<◌, true, [], ◌∷◌, Some, None, IfOk, IfErr, MatchBool};
 ghost use mathlib.Core.List.{IsPrefix};
 ghost use Rattle.book_lock.specs.declared.views.Stage.TheVariants.{Idle, Turn};
 ghost use Rattle.book_lock.specs.Rest.{IsAtRest, HasEmptySlot, IsSameSeat};
@@ -7,9 +7,7 @@ ghost use Rattle.book_lock.specs.Rule.{IsClosing, first_view, left_view, new_vie
 ghost use Rattle.book_lock.specs.SlotSteps.{IsInSlot, IsCallOf, IsNumbered, IsTurnOf, MayAnswer};
 
 use crate::object::Object;
-use crate::plays::{
-    EndedCall, HistoryMatch, SeatJoin, SeatNumber, SeatSplit, TicketDraw, TurnEnd, TurnLook,
-};
+use crate::plays::{EndedCall, HistoryMatch, SeatJoin, SeatNumber, SeatSplit, TurnEnd, TurnTake};
 use crate::views::{LockKey, LockRule, SeatView, TableSeat};
 use atomic_table::{Refused, Table};
 use crossbeam_utils::Backoff;
@@ -17,13 +15,29 @@ use std::alloc::Global;
 use std::marker::Brand;
 use std::snapshot::Snapshot;
 use std::sync::Wait;
+use std::time::Duration;
 
-/// An object under a ticket lock: a table of two words, the next ticket and the one that is served, and one slot, in
-/// which the object lies while no seat has its turn.
+// What the word says: no seat has the turn; one has it; one has it, and others may sleep until it ends.
+const FREE: u64 = 0;
+
+const TAKEN: u64 = 1;
+
+const AWAITED: u64 = 2;
+
+// So many looks at most before a seat that waits sleeps.
+const LOOKS: u32 = 11;
+
+// The first sleep, and the longest, in microseconds. The end of a turn ends a sleep before.
+const SHORTEST: u64 = 64;
+
+const LONGEST: u64 = 4096;
+
+/// An object under a lock: a table of one word, which says whether a seat has the turn, and one slot, in which the object
+/// lies while none has it. Any seat takes a turn that is free.
 #[derive(Drop)]
 pub struct SharedObject<O: Object<C, R>, C, R> {
     pub table: Table<Option<O>, SeatView<O, C, R>, LockKey<O>, LockRule<C, R>, Global>,
-    ghost sized: { (table.shared.table_id.words ≡ 2) × (table.shared.table_id.slots ≡ 1) },
+    ghost sized: { (table.shared.table_id.words ≡ 1) × (table.shared.table_id.slots ≡ 1) },
 }
 
 impl<O: Object<C, R>, C, R> SharedObject<O, C, R> {
@@ -48,7 +62,7 @@ impl<O: Object<C, R>, C, R> SharedObject<O, C, R> {
             return Err(object);
         };
         slots.push_reserved(Some(object));
-        match Table::new(alloc, &[0, 0], slots, &key) {
+        match Table::new(alloc, &[FREE], slots, &key) {
             Ok((table, seat)) => Ok((SharedObject { table }, seat)),
             Err(refused) => {
                 let Refused { mut slots } = refused;
@@ -64,27 +78,70 @@ impl<O: Object<C, R>, C, R> SharedObject<O, C, R> {
         }
     }
 
-    // Waits until it is the seat's turn. Between two looks it spins a little, and where nobody's turn has ended for some
-    // looks it yields the processor.
+    // Takes the turn if it is free, and says whether it was.
+    fn try_enter(&self, seat: &mut TableSeat<O, C, R>) -> bool
+        requires own { seat.old.table_id ≡ self.now.table.shared.table_id }
+        requires rest { IsAtRest seat.old.me }
+        ensures same { IsSameSeat seat.old seat.new }
+        ensures turn { MatchBool result
+            (IsTurnOf O.meets O.steps seat.old.me seat.new.me)
+            (seat.new.me ≡ seat.old.me) }
+    {
+        self.table
+            .shared
+            .compare_exchange::<TurnTake>(seat, 0, FREE, TAKEN)
+            == FREE
+    }
+
+    // The same, and the seat that has the turn is told that others may sleep.
+    fn enter_or_ask(&self, seat: &mut TableSeat<O, C, R>) -> bool
+        requires own { seat.old.table_id ≡ self.now.table.shared.table_id }
+        requires rest { IsAtRest seat.old.me }
+        ensures same { IsSameSeat seat.old seat.new }
+        ensures turn { MatchBool result
+            (IsTurnOf O.meets O.steps seat.old.me seat.new.me)
+            (seat.new.me ≡ seat.old.me) }
+    {
+        self.table.shared.swap::<TurnTake>(seat, 0, AWAITED) == FREE
+    }
+
+    // Takes the turn if it is free at one of some looks. Between them the seat spins, and then yields the processor.
+    fn enter_soon(&self, seat: &mut TableSeat<O, C, R>) -> bool
+        requires own { seat.old.table_id ≡ self.now.table.shared.table_id }
+        requires rest { IsAtRest seat.old.me }
+        ensures same { IsSameSeat seat.old seat.new }
+        ensures turn { MatchBool result
+            (IsTurnOf O.meets O.steps seat.old.me seat.new.me)
+            (seat.new.me ≡ seat.old.me) }
+    {
+        let backoff = Backoff::new();
+        for _ in 0..LOOKS {
+            if self.table.shared.peek(0) == FREE && self.try_enter(seat) {
+                return true;
+            }
+            backoff.snooze();
+        }
+        false
+    }
+
+    // Takes the turn, before long or after sleeps that grow. The end of a turn ends one of them.
     fn enter<W: Wait>(&self, rt: &W, seat: &mut TableSeat<O, C, R>)
         requires own { seat.old.table_id ≡ self.now.table.shared.table_id }
         requires rest { IsAtRest seat.old.me }
         ensures same { IsSameSeat seat.old seat.new }
         ensures turn { IsTurnOf O.meets O.steps seat.old.me seat.new.me }
     {
-        let ticket = self.table.shared.fetch_add::<TicketDraw>(seat, 0, 1);
-        let backoff = Backoff::new();
-        let mut last = ticket;
+        if self.try_enter(seat) || self.enter_soon(seat) {
+            return;
+        }
+        let mut micros = SHORTEST;
         for _ in rt.forever() {
-            let served = self.table.shared.load::<TurnLook>(seat, 1);
-            if served == ticket {
+            if self.enter_or_ask(seat) {
                 return;
             }
-            if served != last {
-                last = served;
-                backoff.reset();
-            }
-            backoff.snooze();
+            let time = Duration::from_micros(micros);
+            self.table.shared.park_timeout(rt, 0, AWAITED as u32, time);
+            micros = micros.saturating_mul(2).min(LONGEST);
         }
         unreachable!()
     }
@@ -101,6 +158,13 @@ impl<O: Object<C, R>, C, R> SharedObject<O, C, R> {
         match self.table.shared.exchange(seat, 0, None) {
             Some(object) => object,
             None => unreachable!(),
+        }
+    }
+
+    // Ends a sleep if the word before the turn's end said that a seat may sleep.
+    fn wake(&self, before: u64) {
+        if before == AWAITED {
+            self.table.shared.wake_one(0);
         }
     }
 
@@ -125,10 +189,11 @@ impl<O: Object<C, R>, C, R> SharedObject<O, C, R> {
             Some(_) => unreachable!(),
             None => {}
         }
-        self.table.shared.fetch_add::<TurnEnd<J>>(seat, 1, 1);
+        let before = self.table.shared.swap::<TurnEnd<J>>(seat, 0, FREE);
+        self.wake(before);
     }
 
-    /// Makes one call, when the seat's turn has come.
+    /// Makes one call, when the seat has the turn.
     pub fn call<W: Wait>(&self, rt: &W, seat: &mut TableSeat<O, C, R>, call: C) -> R
         requires own { seat.old.table_id ≡ self.now.table.shared.table_id }
         requires origin { seat.old.me.0.origin ≡ Some self.now.table.shared.key.first.value }
@@ -158,7 +223,7 @@ impl<O: Object<C, R>, C, R> SharedObject<O, C, R> {
         ensures new { IsNumbered (new_view seat.old.me.0) result.me.0 }
     {
         let mut new = self.table.shared.split_seat::<SeatSplit>(seat);
-        self.table.shared.load::<SeatNumber>(&mut new, 1);
+        self.table.shared.load::<SeatNumber>(&mut new, 0);
         new
     }
 
@@ -176,7 +241,7 @@ impl<O: Object<C, R>, C, R> SharedObject<O, C, R> {
         ensures prefix { IsPrefix (shorter seat.old.me.0.seen other.me.0.seen) seat.new.me.0.seen }
     {
         self.table.shared.join_seat::<SeatJoin>(seat, other);
-        self.table.shared.load::<HistoryMatch>(seat, 1);
+        self.table.shared.load::<HistoryMatch>(seat, 0);
     }
 
     /// The object at the end, for the seat that has every part.

@@ -1,22 +1,16 @@
 // What each step on the table tells.
 ghost use Rattle.std.specs.Prelude.{None, Option};
-ghost use Rattle.book_lock.specs.SlotSteps.{ticket_step, look_step, end_step, number_step, match_step};
+ghost use Rattle.book_lock.specs.SlotSteps.{take_step, end_step, number_step, match_step};
 
 use crate::object::Object;
 use crate::views::SeatView;
 use atomic_table::{Join, Play, Split};
 use std::marker::{Brand, PhantomData};
 
-pub(crate) struct TicketDraw;
+pub(crate) struct TurnTake;
 
-impl<O, C, R> Play<Option<O>, SeatView<O, C, R>> for TicketDraw {
-    ghost then = { ticket_step };
-}
-
-pub(crate) struct TurnLook;
-
-impl<O: Object<C, R>, C, R> Play<Option<O>, SeatView<O, C, R>> for TurnLook {
-    ghost then = { look_step O.meets O.steps };
+impl<O: Object<C, R>, C, R> Play<Option<O>, SeatView<O, C, R>> for TurnTake {
+    ghost then = { take_step O.meets O.steps };
 }
 
 /// What a turn adds to the history, for the proof alone. A call at `Brand` picks it from its arguments.

@@ -6,7 +6,7 @@ use cover_book::{Book, Call, Reply};
 /// What one thread knows of a shared book, and its leave to call it. It has no bytes.
 pub type BookSeat = ObjectSeat<Book, Call, Reply>;
 
-/// A book under a ticket lock. Its calls answer as `Book` does, each at its place in one history.
+/// A book under a lock. Its calls answer as `Book` does, each at its place in one history.
 #[derive(Drop)]
 pub struct SharedBook {
     pub(crate) lock: SharedObject<Book, Call, Reply>,

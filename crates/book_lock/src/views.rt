@@ -21,9 +21,7 @@ pub struct JoinedSeat<C, R> {
 /// How far a seat is with a call.
 pub enum Stage<O> {
     Idle,
-    /// It waits with this ticket, a number that never wraps.
-    Ticket(u64),
-    /// It is its turn, and this is the object as it was taken from the slot.
+    /// It has the turn, and this is the object as it was taken from the slot.
     Turn(O),
 }
 
@@ -50,7 +48,7 @@ pub struct LockKey<O> {
     pub parts: u64,
 }
 
-/// The rule of a lock. Word 0 is the next ticket, word 1 the ticket that is served.
+/// The rule of a lock. Its one word is 0 exactly while no seat has the turn.
 pub struct LockRule<C, R> {
     of: PhantomData<(C, R)>,
 }

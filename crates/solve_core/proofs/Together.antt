@@ -1,21 +1,25 @@
 -- Workers on a shared book.
-use Rattle.std.proofs.Common.{◌≡◌, inl, ℕ, suc, ◌+◌, ◌-◌, false, All, List, [], ◌∷◌, ◌++◌, drop, Some, None, Result, Ok, Err, IfOk, IsTrue, ap, sym, ◌∙◌, subst, arith}
+use Rattle.std.proofs.Common.{◌≡◌, inl, ℕ, suc, ◌+◌, ◌-◌, Bool, true, false, ◌&&◌, true≢false, All, List, [], ◌∷◌, ◌++◌, drop, Option, Some, None, Result, Ok, Err, IfOk, IfSome, IsTrue, refl, ap, sym, ◌∙◌, subst, arith}
 use Rattle.std.specs.List.{Contains}
 use Rattle.std.proofs.lemmas.List.Elements.{All-append, All-contains, All-contains_itself, All-drop, All-nil, All-push, All-weaker, Contains-append_left, Contains-push}
 use Rattle.poly_graph.specs.ProblemViews.{Parts, problem_of}
 use Rattle.interval_model.specs.Space.{space_within}
 use Rattle.cover_model.specs.Fits.{FitsProblem, IsShownAt}
 use Rattle.cover_model.specs.Root.{root_space}
-use Rattle.cover_model.specs.State.{State, IsLemma}
+use Rattle.cover_model.specs.Rules.{Line}
+use Rattle.cover_model.specs.State.{State, IsLemma, covers}
+use Rattle.cover_model.proofs.Within.{space_through}
+use Rattle.poly_graph.specs.Marks.{marks_within}
 use Rattle.cover_data.specs.declared.margins.Margins.{Margins}
 use Rattle.cover_data.specs.declared.margins.Options.{Options}
 use Rattle.cover_data.specs.Margins.{loosenings_of}
 use Rattle.cover_data.specs.Models.{LemmaModel, KeptModel}
-use Rattle.cover_data.specs.Runs.{IsRun}
+use Rattle.cover_data.specs.declared.kept.KeptPatch.{KeptPatch}
+use Rattle.cover_data.specs.Runs.{IsRun, children, kids_by, kids_of}
 use Rattle.cover_data.specs.Views.{kept_of}
-use Rattle.cover_data.proofs.Proved.{closed_is_lemma}
+use Rattle.cover_data.proofs.Proved.{closed_is_lemma, children_within}
 use Rattle.cover_book.specs.declared.calls.Call.{Call}
-use Rattle.cover_book.specs.declared.calls.Call.TheVariants.{Learn, StateOf}
+use Rattle.cover_book.specs.declared.calls.Call.TheVariants.{Commit, Learn, StateOf}
 use Rattle.cover_book.specs.declared.calls.Reply.{Reply}
 use Rattle.cover_book.specs.declared.calls.Reply.TheVariants.{LiveState, Refused}
 use Rattle.cover_book.specs.declared.refusal.BookRefusal.{BookRefusal}
@@ -36,7 +40,7 @@ use Rattle.solve_core.specs.Reaches.{Reaches}
 use Rattle.steal_pool.specs.Account.{has_left}
 use Rattle.solve_core.specs.declared.worker.Worker.{Worker}
 use Rattle.solve_core.specs.declared.member.Member.{Member}
-use Rattle.solve_core.specs.Workers.{IsWorkerOf, MayBeKept}
+use Rattle.solve_core.specs.Workers.{IsWorkerOf, LiesInBook, IsOpenBoxOf, MayBeKept}
 use Rattle.solve_core.specs.Members.{IsMemberOf, HasSeatsOf}
 use Rattle.solve_core.proofs.Reached.{one_call, reaches_through, same_reaches}
 use Rattle.solve_core.proofs.Works.{left_some, closed_some}
@@ -69,12 +73,13 @@ new_seat s seat seat' new other own split e = subst (IsOnePartSeatOf s) (sym e) 
 pub has_seats : (s : SharedBook) (m : Member) → IsMemberOf s m → HasSeatsOf s m
 has_seats s m h = record { worker = h.worker.seat; asker = h.asker.seat }
 
--- a new seat makes a worker that has no lemmas yet
-pub new_worker : (s : SharedBook) (seat seat' new : BookSeat) (w : Worker) → IsBook (first_of s) → IsSeatOf s new → IsSplit seat seat' new → w.seat ≡ new → has_left w.hand ≡ false → w.lemmas.items ≡ [] → IsWorkerOf s w
-new_worker s seat seat' new w b own split e stays none = record {
+-- a new seat makes a worker that has no boxes and no lemmas yet
+pub new_worker : (s : SharedBook) (seat seat' new : BookSeat) (w : Worker) → IsBook (first_of s) → IsSeatOf s new → IsSplit seat seat' new → w.seat ≡ new → has_left w.hand ≡ false → w.waiting.items ≡ [] → w.lemmas.items ≡ [] → IsWorkerOf s w
+new_worker s seat seat' new w b own split e stays idle none = record {
   book = b;
   seat = new_seat s seat seat' new w.seat own split e;
   stays = stays;
+  waiting = subst (All (IsOpenBoxOf (first_of s))) (sym idle) (All-nil (IsOpenBoxOf (first_of s)));
   lemmas = subst (AreLemmasFor (problem_in (first_of s)) (loosenings_in (first_of s))) (sym none) (All-nil (Holds (first_of s)));
 }
 
@@ -91,6 +96,49 @@ all_but_last F old new x e h =
 pub all_and_one : {X : Type 0} (F : X → Type 0) (old new : List X) (x : X) → new ≡ old ++ (x ∷ []) → All F old → F x → All F new
 all_and_one F old new x e h k = subst (All F) (sym e) (All-push F old x h k)
 
+-- ---- states that lie in a book
+
+-- the state of a live node
+pub live_lies : (s : SharedBook) (seat seat' : BookSeat) (n : ℕ) (S : State) → IsBook (first_of s) → IsSeatOf s seat → IsReply seat (StateOf n) (LiveState S) seat' → LiesInBook (first_of s) S
+live_lies s seat seat' n S w own r =
+    let b = first_of s in
+    let t = reply_is_of_book b seat seat' (StateOf n) (LiveState S) w own.1 r in
+    subst (λ (p : Parts). FitsProblem (problem_of p) S × IsTrue (space_within S.space (root_space (problem_of p)))) t.2.problem (nodes_lie_within t.0 t.2.book n S (inl t.3.0))
+
+pub reply_lies : (s : SharedBook) (seat seat' : BookSeat) (n : ℕ) → IsBook (first_of s) → IsSeatOf s seat → (r : Result State BookRefusal) → ResultReply LiveState seat (StateOf n) r seat' → IfOk r (LiesInBook (first_of s))
+reply_lies s seat seat' n w own (Ok S) h = live_lies s seat seat' n S w own h
+reply_lies s seat seat' n w own (Err e) h = tt
+
+first-true : (a b : Bool) → IsTrue (a && b) → IsTrue a
+first-true true b h = refl
+first-true false b h = absurd (true≢false (sym h))
+
+covers-space : (A B : State) → IsTrue (covers A B) → IsTrue (space_within B.space A.space)
+covers-space A B h = first-true (space_within B.space A.space) (marks_within A.marks B.marks) h
+
+end-of : (o : Option Line) (S : State) (pair : State × State) → kids_by o S ≡ Some pair → (l : Line) × (o ≡ Some l) × (children l S ≡ Some pair)
+end-of None S pair e = cc
+end-of (Some l) S pair e = (l, refl, e)
+
+-- the two that a patch leaves of such a state
+kids_lie : (b : BookModel) (n : ℕ) (P : KeptPatch) → IsBook b → MayBeCalled b (Commit n P) → LiesInBook b P.first → (x y : State) → kids_of (kept_of P) ≡ Some (x, y) → LiesInBook b x × LiesInBook b y
+kids_lie b n P w may lies x y e =
+    let k = kept_of P in
+    let t = end-of k.end k.reached (x, y) e in
+    let d = children_within (problem_in b) w.whole.problem (margins_of b.options) k may.0 t.0 t.1 x y t.2 in
+    let root = root_space (problem_in b) in (
+      (d.0.1, space_through x.space P.first.space root (covers-space P.first x d.0.0) lies.1),
+      (d.1.1, space_through y.space P.first.space root (covers-space P.first y d.1.0) lies.1),
+    )
+
+pub parts_lie : (b : BookModel) (n : ℕ) (P : KeptPatch) → IsBook b → MayBeCalled b (Commit n P) → LiesInBook b P.first → (o : Option (State × State)) → IfSome o (λ q. kids_of (kept_of P) ≡ Some (q.0, q.1)) → IfSome o (λ q. LiesInBook b q.0 × LiesInBook b q.1)
+parts_lie b n P w may lies None h = tt
+parts_lie b n P w may lies (Some q) h = kids_lie b n P w may lies q.0 q.1 h
+
+-- what came of the work on a state, where it is a patch
+pub patch_kept : (b : BookModel) (n : ℕ) (w : Worked) (P : KeptPatch) → w ≡ Patch P → MayBeKept b n w → MayBeCalled b (Commit n P) × LiesInBook b P.first
+patch_kept b n w P e h = subst (MayBeKept b n) e h
+
 -- ---- a book of these parts and options
 
 module _ (b : BookModel) (p : Parts) (o : Options) (e : b.problem ≡ p) (f : b.options ≡ o) where
@@ -100,24 +148,19 @@ module _ (b : BookModel) (p : Parts) (o : Options) (e : b.problem ≡ p) (f : b.
   to-parts : (F : Parts → Options → Type 0) → F b.problem b.options → F p o
   to-parts F h = subst (λ (q : Parts). F q o) e (subst (λ (r : Options). F b.problem r) f h)
 
-  -- the state of a live node is one to work on
-  pub state_fits : (s : SharedBook) (seat seat' : BookSeat) (n : ℕ) (S : State) → first_of s ≡ b → IsBook b → IsSeatOf s seat → IsReply seat (StateOf n) (LiveState S) seat' →
-      FitsProblem (problem_of p) S × IsTrue (space_within S.space (root_space (problem_of p)))
-  state_fits s seat seat' n S g w own r =
-      let t = reply_is_of_book b seat seat' (StateOf n) (LiveState S) w (own.1 ∙ ap Some g) r in
-      let h = nodes_lie_within t.0 t.2.book n S (inl t.3.0) in
-      let q : t.0.problem ≡ p = t.2.problem ∙ e in
-      subst (λ (x : Parts). FitsProblem (problem_of x) S × IsTrue (space_within S.space (root_space (problem_of x)))) q h
+  -- a state that lies in the book is one to work on
+  pub state_fits : (S : State) → LiesInBook b S → FitsProblem (problem_of p) S × IsTrue (space_within S.space (root_space (problem_of p)))
+  state_fits S h = subst (λ (x : Parts). FitsProblem (problem_of x) S × IsTrue (space_within S.space (root_space (problem_of x)))) e h
 
   -- what came of the work may be handed to the book
-  pub may_be_kept : (lemmas : List LemmaModel) (S : State) (n : ℕ) (w : Worked) → IsWorkFor p o lemmas S w → MayBeKept b n w
-  may_be_kept lemmas S n (Patch P) h = (of-book (λ q r. IsRun (problem_of q) (margins_of r) (kept_of P)) h.0.run, left_some P.end h.1)
-  may_be_kept lemmas S n (Closed P None) h = (of-book (λ q r. IsRun (problem_of q) (margins_of r) (kept_of P)) h.0.run, closed_some P.end h.1)
-  may_be_kept lemmas S n (Closed P (Some k)) h = (
+  pub may_be_kept : (lemmas : List LemmaModel) (S : State) (n : ℕ) (w : Worked) → LiesInBook b S → IsWorkFor p o lemmas S w → MayBeKept b n w
+  may_be_kept lemmas S n (Patch P) lies h = ((of-book (λ q r. IsRun (problem_of q) (margins_of r) (kept_of P)) h.0.run, left_some P.end h.1), subst (LiesInBook b) (sym h.0.first) lies)
+  may_be_kept lemmas S n (Closed P None) lies h = (of-book (λ q r. IsRun (problem_of q) (margins_of r) (kept_of P)) h.0.run, closed_some P.end h.1)
+  may_be_kept lemmas S n (Closed P (Some k)) lies h = (
     (of-book (λ q r. IsRun (problem_of q) (margins_of r) (kept_of P)) h.0.run, closed_some P.end h.1),
     (of-book (λ q r. IsRun (problem_of q) (margins_of r) k) h.2.1.run, h.2.1.closed),
   )
-  may_be_kept lemmas S n (Point x) h = of-book (λ q r. IsShownAt (problem_of q) (loosenings_of (margins_of r)) x) h.shown
+  may_be_kept lemmas S n (Point x) lies h = of-book (λ q r. IsShownAt (problem_of q) (loosenings_of (margins_of r)) x) h.shown
 
   -- its lemmas are lemmas at these
   pub lemmas_at : (lemmas : List LemmaModel) → AreLemmasFor (problem_in b) (loosenings_in b) lemmas → AreLemmasAt p o lemmas

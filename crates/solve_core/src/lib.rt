@@ -7,6 +7,7 @@
 mod asker;
 mod gate;
 mod member;
+mod open_box;
 mod run;
 mod search;
 mod task;

@@ -1,5 +1,6 @@
 // Many workers on one book.
-ghost use Rattle.std.specs.Prelude.{◌≡◌, ◌+◌, ◌*◌, ◌<◌, ◌≤◌, All, IfOk, IfErr, vec_len};
+ghost use Rattle.std.specs.Prelude.{◌≡◌, false, ◌+◌, ◌*◌, ◌<◌, ◌≤◌, All, IfOk, IfErr, vec_len};
+ghost use Rattle.steal_pool.specs.Account.{has_left};
 ghost use Rattle.steal_pool.specs.Pool.{AllStay};
 ghost use Rattle.cover_book.specs.Keeps.{IsBook};
 ghost use Rattle.cover_book.specs.Model.{margins_of};
@@ -23,13 +24,23 @@ use std::sync::Wait;
 use std::thread::{Threads, for_each_mut};
 use steal_pool::{Hand, Pool};
 
-// A worker for each hand, with two parts of the seat. The one that is made last has number 0 and begins with the node.
+// Puts the nodes on offer, as far as there is room.
+fn offer_all(hand: &mut Hand, nodes: &[u32])
+    requires { has_left hand.old ≡ false }
+    ensures { has_left hand.new ≡ false }
+{
+    for node in nodes {
+        let _ = hand.push(*node);
+    }
+}
+
+// A worker for each hand, with two parts of the seat. The one that is made last has number 0 and offers the nodes.
 fn enlist<'a>(
     alloc: Global,
     shared: &'a SharedBook,
     lead: &mut BookSeat,
     hands: Vec<Hand>,
-    node: u32,
+    nodes: &[u32],
 ) -> Result<Vec<Member<'a>>, AllocError>
     requires few { vec_len hands ≤ 64 }
     requires stay { AllStay hands.items }
@@ -47,7 +58,7 @@ fn enlist<'a>(
     while let Some(hand) = hands.pop() {
         let mut hand = hand;
         if hands.is_empty() {
-            let _ = hand.push(node);
+            offer_all(&mut hand, nodes);
         }
         let seat = shared.split_seat(lead);
         let worker = Worker::new(alloc, hands.len() as u32, hand, seat);
@@ -124,9 +135,12 @@ pub fn search_together<J: Subject + Send + Sync, R: Threads + Wait + Sync, G: Ga
     requires subject_margins { J.margins ≡ margins_of options.now }
     ensures { Reaches book result }
 {
-    let Some(node) = book.live_after(0) else {
+    let Ok(nodes) = book.live_nodes().collect::<Vec<u32>>(alloc) else {
         return book;
     };
+    if nodes.is_empty() {
+        return book;
+    }
     let Ok(hands) = Pool::new(alloc, workers as usize) else {
         return book;
     };
@@ -134,7 +148,7 @@ pub fn search_together<J: Subject + Send + Sync, R: Threads + Wait + Sync, G: Ga
         Ok(parts) => parts,
         Err(book) => return book,
     };
-    if let Ok(mut team) = enlist(alloc, &shared, &mut lead, hands, node) {
+    if let Ok(mut team) = enlist(alloc, &shared, &mut lead, hands, &nodes) {
         let task = Task {
             shared: &shared,
             problem,

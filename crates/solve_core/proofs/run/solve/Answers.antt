@@ -12,7 +12,7 @@ finish-requires g c = ap (λ (b : BookModel). b.problem) c.in_ok-book.ensures �
 
 pub finish-requires-2 : goal.finish-requires-2
 finish-requires-2 g c =
-    let t : Reaches c.in_ok-book.book c.search_together-book.result = c.search_together-book.ensures in
+    let t : Reaches c.in_ok-book.book c.search_together-book.result = reaches_through c.in_ok-begun.ensures.reached c.search_together-book.ensures in
     (reaches_same t).0 ∙ ap (λ (b : BookModel). b.problem) c.in_ok-book.ensures ∙ c.in_ok-copy.ensures
 
 pub returns-then-workers-lt2-clause-problem : goal.returns-then-workers-lt2-clause-problem
@@ -30,14 +30,14 @@ pub returns-clause-problem : goal.returns-clause-problem
 returns-clause-problem g c =
     let o : c.in_ok-book.book ≡ opening c.in_ok-copy.copy c.args.options.now = c.in_ok-book.ensures in
     let e : c.in_ok-copy.copy ≡ c.args.problem.now = c.in_ok-copy.ensures in
-    let t : Reaches c.in_ok-book.book c.search_together-book.result = c.search_together-book.ensures in
+    let t : Reaches c.in_ok-book.book c.search_together-book.result = reaches_through c.in_ok-begun.ensures.reached c.search_together-book.ensures in
     each_ok (Reaches c.search_together-book.result) (λ (b : BookModel). b.problem ≡ c.args.problem.now) c.finish-2.result
     (λ b h. (reaches_same h).0 ∙ (reaches_same t).0 ∙ ap (λ (d : BookModel). d.problem) o ∙ e) c.finish-2.ensures.reached
 
 pub returns-clause-options : goal.returns-clause-options
 returns-clause-options g c =
     let o : c.in_ok-book.book ≡ opening c.in_ok-copy.copy c.args.options.now = c.in_ok-book.ensures in
-    let t : Reaches c.in_ok-book.book c.search_together-book.result = c.search_together-book.ensures in
+    let t : Reaches c.in_ok-book.book c.search_together-book.result = reaches_through c.in_ok-begun.ensures.reached c.search_together-book.ensures in
     each_ok (Reaches c.search_together-book.result) (λ (b : BookModel). b.options ≡ c.args.options.now) c.finish-2.result
     (λ b h. (reaches_same h).1 ∙ (reaches_same t).1 ∙ ap (λ (d : BookModel). d.options) o) c.finish-2.ensures.reached
 
@@ -45,7 +45,7 @@ pub returns-clause-reached : goal.returns-clause-reached
 returns-clause-reached g c =
     let o : c.in_ok-book.book ≡ opening c.in_ok-copy.copy c.args.options.now = c.in_ok-book.ensures in
     let e : c.in_ok-copy.copy ≡ c.args.problem.now = c.in_ok-copy.ensures in
-    let t : Reaches c.in_ok-book.book c.search_together-book.result = c.search_together-book.ensures in
+    let t : Reaches c.in_ok-book.book c.search_together-book.result = reaches_through c.in_ok-begun.ensures.reached c.search_together-book.ensures in
     let s : Reaches (opening c.args.problem.now c.args.options.now) c.search_together-book.result =
     subst (λ (p : Parts). Reaches (opening p c.args.options.now) c.search_together-book.result) e (subst (λ (d : BookModel). Reaches d c.search_together-book.result) o t) in
     each_ok (Reaches c.search_together-book.result) (Reaches (opening c.args.problem.now c.args.options.now)) c.finish-2.result (λ b h. reaches_through s h) c.finish-2.ensures.reached

@@ -13,11 +13,11 @@ loop-hand-preserved c =
     let s = c.args.shared.now in
     let h = all_but_last (λ (x : Hand). has_left x ≡ false) c.loop-hand.hands.items c.pop.new.self.items c.in-Some.hand c.in-Some.ensures.items c.loop-hand.invariant.stay in
     let stays : has_left c.if-is_empty.hand ≡ false = elim c.if-is_empty.branch [
-      | then-is_empty w ↦ subst (λ (x : Hand). has_left x ≡ false) (sym w.hand-is) w.push.ensures.stays
+      | then-is_empty w ↦ subst (λ (x : Hand). has_left x ≡ false) (sym w.hand-is) w.offer_all.ensures
       | else-is_empty w ↦ subst (λ (x : Hand). has_left x ≡ false) (sym w.hand-is) h.1
     ] in
     let made : IsWorkerOf s c.new-worker.result = new_worker s c.loop-hand.lead c.split_seat-seat.new.seat c.split_seat-seat.result c.new-worker.result c.requires.book c.split_seat-seat.ensures.own_new c.split_seat-seat.ensures.split c.new-worker.ensures.seat
-    (subst (λ (x : Hand). has_left x ≡ false) (sym c.new-worker.ensures.hand) stays) c.new-worker.ensures.lemmas in
+    (subst (λ (x : Hand). has_left x ≡ false) (sym c.new-worker.ensures.hand) stays) c.new-worker.ensures.waiting c.new-worker.ensures.lemmas in
     let member : IsMemberOf s (record { worker = c.new-worker.result; asker = c.new-asker.result }) = record {
       worker = made;
       asker = record { shared = c.new-asker.ensures.shared; seat = new_seat s c.split_seat-seat.new.seat c.split_seat-second.new.seat c.split_seat-second.result c.new-asker.result.seat c.split_seat-second.ensures.own_new c.split_seat-second.ensures.split c.new-asker.ensures.seat };

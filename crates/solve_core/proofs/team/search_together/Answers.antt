@@ -11,6 +11,9 @@ use Rattle.solve_core.proofs.team.search_together.Goals as goal
 pub returns-in_default : goal.returns-in_default
 returns-in_default g c = stays
 
+pub returns-then-is_empty : goal.returns-then-is_empty
+returns-then-is_empty g c = stays
+
 pub returns-in_default-new : goal.returns-in_default-new
 returns-in_default-new g c = stays
 

@@ -8,8 +8,8 @@ use Rattle.book_lock.proofs.lock.SharedObject.leave.Goals as goal
 pub exchange-requires : goal.exchange-requires
 exchange-requires g c = (search rules, (None, c.requires.turn.0 ∙ ap (λ l. (0, None) ∷ rest l) (sym c.requires.turn.0)))
 
-pub fetch_add-requires : goal.fetch_add-requires
-fetch_add-requires g c =
+pub swap-before-requires : goal.swap-before-requires
+swap-before-requires g c =
     let now = c.exchange.ensures.3 in
     let made = c.requires.made in (
       search rules,
@@ -21,11 +21,11 @@ fetch_add-requires g c =
 pub returns-clause-slots : goal.returns-clause-slots
 returns-clause-slots g c =
     let now = c.exchange.ensures.3 in
-    let told = c.fetch_add.ensures.2 c.args.said.value c.args.reply.now c.requires.call c.requires.reply in
+    let told = c.swap-before.ensures.2 c.args.said.value c.args.reply.now c.requires.call c.requires.reply in
     told.1 ∙ ap (λ m. rest m.1) now ∙ ap rest c.requires.turn.0
 
 pub returns-clause-call : goal.returns-clause-call
 returns-clause-call g c =
     let now = c.exchange.ensures.3 in
-    let told = c.fetch_add.ensures.2 c.args.said.value c.args.reply.now c.requires.call c.requires.reply in
-    subst (λ (v : SeatView g.row.O.Denot g.row.C.Denot g.row.R.Denot). IsCallOf g.O.Object.meets g.O.Object.steps v c.args.said.value c.args.reply.now c.fetch_add.new.seat.me.0) (ap (λ m. m.0) now) told.0
+    let told = c.swap-before.ensures.2 c.args.said.value c.args.reply.now c.requires.call c.requires.reply in
+    subst (λ (v : SeatView g.row.O.Denot g.row.C.Denot g.row.R.Denot). IsCallOf g.O.Object.meets g.O.Object.steps v c.args.said.value c.args.reply.now c.swap-before.new.seat.me.0) (ap (λ m. m.0) now) told.0

@@ -9,6 +9,5 @@ new-requires g c =
     let x : Option g.row.O.Denot = Some c.args.object in
     let items : c.push_reserved.new.self.items ≡ x ∷ [] = c.push_reserved.ensures.items ∙ ap (λ l. l ++ x ∷ []) c.in-Ok.ensures.items in
     let some_part : 0 < c.from.result = search rules in
-    let few : c.from.result < 4294967296 = search rules in
-    subst (λ (l : List (Option g.row.O.Denot)). LockInvariant g.O.Object.meets g.O.Object.steps c.of.result.value c.from.result (opening (0 ∷ 0 ∷ []) l (first_view c.of.result.value c.from.result)))
-    (sym items) (opening_holds g.O.Object.meets g.O.Object.steps c.of.result.value c.from.result x (ap Some (sym c.of.ensures)) some_part few)
+    subst (λ (l : List (Option g.row.O.Denot)). LockInvariant g.O.Object.meets g.O.Object.steps c.of.result.value c.from.result (opening (0 ∷ []) l (first_view c.of.result.value c.from.result)))
+    (sym items) (opening_holds g.O.Object.meets g.O.Object.steps c.of.result.value c.from.result x (ap Some (sym c.of.ensures)) some_part)

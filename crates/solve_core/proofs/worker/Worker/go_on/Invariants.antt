@@ -1,6 +1,6 @@
 use Rattle.std.proofs.Common.{◌≡◌}
 use Rattle.solve_core.specs.Workers.{IsWorkerOf}
-use Rattle.solve_core.proofs.worker.Worker.run.Given as goal
+use Rattle.solve_core.proofs.worker.Worker.go_on.Given as goal
 
 abbrev pub invariant-loop : goal.invariant-loop
 invariant-loop g l = record {

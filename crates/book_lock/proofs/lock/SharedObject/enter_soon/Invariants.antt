@@ -1,0 +1,9 @@
+use Rattle.std.proofs.Common.{◌≡◌}
+use Rattle.book_lock.proofs.lock.SharedObject.enter_soon.Given as goal
+
+abbrev pub invariant-loop : goal.invariant-loop
+invariant-loop g l = record {
+  table : l.seat.table_id ≡ l.fn.seat.table_id;
+  id : l.seat.id ≡ l.fn.seat.id;
+  me : l.seat.me ≡ l.fn.seat.me;
+}

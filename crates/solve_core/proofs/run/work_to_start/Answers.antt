@@ -1,0 +1,20 @@
+use Rattle.std.proofs.Common.{sym, ◌∙◌}
+use Rattle.solve_core.specs.Reaches.{stays}
+use Rattle.solve_core.proofs.Reached.{reaches_same, reaches_through}
+use Rattle.solve_core.proofs.run.work_to_start.Goals as goal
+
+pub loop-init : goal.loop-init
+loop-init g c = record { search = c.requires.search; reached = stays; room = c.requires.room }
+
+pub loop-preserved : goal.loop-preserved
+loop-preserved g c = record {
+  search = c.in_ok-work_if_few.ensures.search c.if-branch.true;
+  reached = reaches_through c.loop.invariant.reached c.work_if_few.ensures.reached;
+  room = c.work_if_few.ensures.room ∙ c.loop.invariant.room ∙ sym (reaches_same c.work_if_few.ensures.reached).0;
+}
+
+pub returns-in_err-work_if_few : goal.returns-in_err-work_if_few
+returns-in_err-work_if_few g c = reaches_through c.loop.invariant.reached c.work_if_few.ensures.reached
+
+pub returns : goal.returns
+returns g c = reaches_through c.loop.invariant.reached c.work_if_few.ensures.reached
