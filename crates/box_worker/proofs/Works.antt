@@ -25,7 +25,7 @@ use Rattle.box_worker.specs.declared.ended.Ended.TheVariants as ended
 use Rattle.box_worker.specs.declared.worked.Worked.{Worked}
 use Rattle.box_worker.specs.declared.worked.Worked.TheVariants.{Patch, Closed, Point}
 use Rattle.box_worker.specs.Attempts.{AreAmong}
-use Rattle.box_worker.specs.Ended.{first_covering, leaves_some, is_left, AtOnce}
+use Rattle.box_worker.specs.Ended.{first_covering, leaves_some, is_left, AtOnce, ComesToEnd}
 use Rattle.box_worker.specs.Worked.{margins_of, IsRunFrom, IsLearned, IsMiddleFrom, IsWork, IsClosedBy, IsPointAt, IsLeftOpen, AnswersAtOnce, IsEndPoint, WorkOf, teaches_nothing}
 
 -- ---- the first lemma that covers
@@ -202,6 +202,17 @@ module _ (q : Parts) (m : Margins) (lemmas : List LemmaModel) (S : State) where
   at_once_is Q ended.Parted w a h = absurd a
   at_once_is Q (ended.Found x) w a h = absurd a
   at_once_is Q (ended.Shown x) w a h = let k = subst (λ (X : PatchModel). WorkOf X (ended.Shown x) w) a.0 h in (at_once_shown w x a.1 a.2 a.3 k, work-of lemmas (begun q m S) (ended.Shown x) w (none-among lemmas) k)
+
+  pub comes_at_once : (Z : PatchModel) (e : Ended) (w : Worked) → ComesToEnd q m lemmas (begun q m S) Z e → WorkOf Z e w → Answers w
+  comes_at_once Z e w (inl a) h = (at_once_is Z e w a h).0
+  comes_at_once Z e w (inr r) h = none_at_once w r.2.1 r.2.2
+
+  pub comes_to_work : (Z : PatchModel) (e : Ended) (w : Worked) → ComesToEnd q m lemmas (begun q m S) Z e → WorkOf Z e w → IsWork (problem_of q) m lemmas S w
+  comes_to_work Z e w (inl a) h = (at_once_is Z e w a h).1
+  comes_to_work Z e w (inr r) h =
+      let Q = r.0 in let o = r.3 in let k = r.4 in
+      let first : Q.kept.first ≡ S = ap (λ (X : PatchModel). X.kept.first) r.2.0 in
+      work_is q m lemmas S Z e w (k.problem ∙ o.problem) (k.margins ∙ o.margins) (k.first ∙ o.first ∙ first) (subst (AreAmong lemmas) (sym k.quoted) o.among) h
 
 pub if_ok_then : (A B : Worked → Type 0) (r : Result Worked AllocError) → ((w : Worked) → A w → B w) → IfOk r A → IfOk r B
 if_ok_then A B (Ok w) f h = f w h

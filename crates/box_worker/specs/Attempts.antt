@@ -71,6 +71,10 @@ pub record IsOpen (q : Parts) (m : Margins) (lemmas : List LemmaModel) (S : Stat
   pub among : AreAmong lemmas P.kept.quoted
   pub open_end : P.kept.end ≡ None
 
+-- steps that quote no lemma, and perhaps an end
+abbrev pub Repeats : Parts → Margins → PatchModel → PatchModel → Type 0
+Repeats q m P Q = (R : PatchModel) × IsOpen q m [] P.kept.first R × Continues R Q
+
 -- it stays so by a step
 abbrev pub StaysOpen : PatchModel → PatchModel → Type 0
 StaysOpen P Q = (q : Parts) (m : Margins) (lemmas : List LemmaModel) (S : State) → IsOpen q m lemmas S P → IsOpen q m lemmas S Q

@@ -1,17 +1,19 @@
 -- How a patch comes to its end.
 use Rattle.std.specs.Prelude.{◌≡◌, List, Bool, true, false, Option, Some, None, IsTrue, find, ◌⊎◌}
-use Rattle.poly_graph.specs.ProblemViews.{problem_of}
+use Rattle.poly_graph.specs.ProblemViews.{Parts, problem_of}
 use Rattle.cover_model.specs.State.{State, covers, may}
 use Rattle.interval_model.specs.Space.{Space, middle, space_within}
 use Rattle.cover_model.specs.Honest.{not_shown}
 use Rattle.cover_model.specs.Rules.{Line, make_false, cut, flip, case, stuck}
 use Rattle.cover_model.specs.Fits.{IsShownAt}
+use Rattle.cover_data.specs.declared.margins.Margins.{Margins}
 use Rattle.cover_data.specs.Margins.{loosenings_of}
 use Rattle.cover_data.specs.Models.{LemmaModel}
 use Rattle.cover_rule.specs.Models.{PatchModel}
 use Rattle.cover_rule.specs.Patch.{problem_in, loosenings_in, now_in}
 use Rattle.cover_rule.specs.Refusals.{ended_with, covered_by}
 use Rattle.cover_data.specs.Runs.{IsClosed}
+use Rattle.box_worker.specs.Attempts.{Continues, IsOpen}
 use Rattle.box_worker.specs.declared.ended.Ended.{Ended}
 use Rattle.box_worker.specs.declared.ended.Ended.TheVariants.{Closed, Parted, Shown, Found}
 
@@ -50,3 +52,7 @@ AtOnce lemmas P Q (Some Closed) = ((may (problem_in P) (loosenings_in P) (now_in
 AtOnce lemmas P Q (Some Parted) = ⊥
 AtOnce lemmas P Q (Some (Found x)) = ⊥
 AtOnce lemmas P Q (Some (Shown x)) = (Q ≡ P) × (may (problem_in P) (loosenings_in P) (now_in P) ≡ true) × (x ≡ middle (now_in P).space) × IsShownAt (problem_in P) (loosenings_in P) x
+
+-- a patch that has just begun ends at once, or after steps that quote lemmas of the list alone
+abbrev pub ComesToEnd : Parts → Margins → List LemmaModel → PatchModel → PatchModel → Ended → Type 0
+ComesToEnd q m lemmas P Z e = AtOnce lemmas P Z (Some e) ⊎ ((Q : PatchModel) × (O : PatchModel) × AtOnce lemmas P Q None × IsOpen q m lemmas Q.kept.first O × Continues O Z)

@@ -7,7 +7,7 @@ use poly_graph::{FormNode, Problem};
 use std::alloc::{AllocError, Global};
 
 /// What a state is split at.
-#[derive(Clone, Copy, PartialEq, Eq, Debug)]
+#[derive(Clone, Copy)]
 pub enum Choice {
     Atom(u32),
     Flip(u32),

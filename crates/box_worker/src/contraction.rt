@@ -19,6 +19,7 @@ use dyadic::Dy;
 use ival::Space;
 use poly_graph::{Mark, Problem};
 use std::alloc::{AllocError, Global};
+use std::mem;
 
 /// At most so many times an atom is pulled at a state.
 const MOST_ROUNDS: u32 = 10;
@@ -74,7 +75,7 @@ impl Scout {
 
     /// Notes by what nothing is left.
     pub fn note_void(&mut self, by: Emptied) {
-        self.void = Some(by);
+        drop(mem::replace(&mut self.void, Some(by)));
     }
 
     /// Takes over the space, and makes the atoms due that depend on an axis that fell; whether one did.
@@ -155,6 +156,20 @@ fn make_all_due(due: &mut [bool]) {
     }
 }
 
+// Brings the scout to the space, to which all atoms are due; whether it is one for the problem.
+fn renew(problem: &Problem, scout: &mut Scout, space: &Space) -> bool {
+    if scout.due.len() != problem.atoms().len()
+        || scout.space.len() != space.len()
+        || scout.forms != problem.forms().len()
+    {
+        return false;
+    }
+    make_all_due(&mut scout.due);
+    put(space, &mut scout.space);
+    drop(scout.void.take());
+    true
+}
+
 /// The scout at the state of the patch, to which all atoms are due; a new one where there is none for the problem.
 pub fn scout_at(
     alloc: Global,
@@ -162,20 +177,13 @@ pub fn scout_at(
     scout: Option<Scout>,
     patch: &Patch,
 ) -> Result<Scout, AllocError> {
-    let Some(mut scout) = scout else {
-        return start(alloc, problem, patch);
-    };
-    let space = patch.reached().space();
-    if scout.due.len() != problem.atoms().len()
-        || scout.space.len() != space.len()
-        || scout.forms != problem.forms().len()
-    {
-        return start(alloc, problem, patch);
+    if let Some(mut scout) = scout {
+        if renew(problem, &mut scout, patch.reached().space()) {
+            return Ok(scout);
+        }
+        drop(scout);
     }
-    make_all_due(&mut scout.due);
-    put(space, &mut scout.space);
-    scout.void = None;
-    Ok(scout)
+    start(alloc, problem, patch)
 }
 
 // Narrows by atom j where it is marked, and makes those due that depend on what fell.

@@ -15,6 +15,7 @@ use ival::{Domain, Rows, Space, Truths};
 use poly_graph::{FormNode, Lits, Mark, Problem};
 use std::alloc::{AllocError, Global};
 use std::marker::Model;
+use std::mem;
 use truth3::may_atom;
 
 /// The clauses of a form, and a trail of what was seen of the last state that was looked at and of what follows from it.
@@ -132,13 +133,12 @@ impl Guide {
     // then; none where all was forgotten.
     fn go_to(&mut self, alloc: Global, state: &State) -> Result<Option<u64>, AllocError> {
         let next = state.try_clone(alloc)?;
-        let Some(changed) = self.changes_to(state) else {
+        let changed = self.changes_to(state);
+        if changed.is_none() {
             self.trail.clear();
-            self.last = Some(next);
-            return Ok(None);
-        };
-        self.last = Some(next);
-        Ok(Some(changed))
+        }
+        drop(mem::replace(&mut self.last, Some(next)));
+        Ok(changed)
     }
 
     // Assumes what the state says of atom j, of which nothing is on the trail. Where the atom is not marked, its

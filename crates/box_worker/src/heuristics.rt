@@ -1,6 +1,7 @@
 // What choices on boxes rest on.
 use crate::contraction::Scout;
 use crate::patience::Patience;
+use std::mem;
 
 /// In so many boxes at first a point is searched in each.
 const FIRST_SEARCHES: u32 = 8;
@@ -15,7 +16,7 @@ const LESSONS_LEFT_OUT: u32 = 32;
 const REPEATS_A_QUOTE: u32 = 16;
 
 /// Which closed runs are repeated at the root space: some, as long as lemmas are quoted.
-#[derive(Clone, Copy, PartialEq, Eq, Debug)]
+#[derive(Clone, Copy)]
 pub struct Lessons {
     patience: Patience,
     left: u32,
@@ -63,6 +64,11 @@ impl Heuristics {
             lessons: Lessons::new(),
             boxes: 0,
         }
+    }
+
+    /// Keeps the scout for the next box.
+    pub fn keep(&mut self, scout: Scout) {
+        drop(mem::replace(&mut self.scout, Some(scout)));
     }
 
     /// Counts a box that is about to be split, and tells whether a point is to be searched in it: in each of the first ones,

@@ -6,7 +6,7 @@ ghost use Rattle.cover_model.specs.Root.{root_space};
 ghost use Rattle.cover_data.specs.Margins.{AreMargins};
 ghost use Rattle.cover_rule.specs.Serves.{IsNumbered};
 ghost use Rattle.poly_graph.specs.ProblemViews.{problem_of};
-ghost use Rattle.box_worker.specs.Attempts.{Continues, IsOpen};
+ghost use Rattle.box_worker.specs.Attempts.{Continues, IsOpen, Repeats};
 ghost use Rattle.box_worker.specs.Learned.{IsLesson, IsShownFromRoot};
 ghost use Rattle.box_worker.specs.Worked.{margins_of};
 
@@ -162,6 +162,21 @@ fn repeat_end(problem: &Problem, end: &Option<End>, patch: &mut Patch) -> Result
     Ok(())
 }
 
+// Takes the steps by which a run narrows once more, and ends the patch as the run ended.
+fn repeat(
+    problem: &Problem,
+    margins: &Margins,
+    run: &KeptPatch,
+    patch: &mut Patch,
+) -> Result<(), AllocError>
+    requires { IsOpen problem.now margins.now [] patch.old.kept.first patch.old }
+    ensures { IfOk result (λ u. Repeats problem.now margins.now patch.old patch.new) }
+{
+    repeat_steps(problem, margins, &run.steps, patch)?;
+    repeat_end(problem, &run.end, patch)?;
+    Ok(())
+}
+
 // Whether a run ended by an atom or a combination that leaves nothing, after few enough steps.
 fn is_worth(run: &KeptPatch) -> bool {
     let leaves_nothing = matches!(
@@ -191,8 +206,7 @@ fn shown_at(
     let problem = room.problem();
     let margins = options.margins();
     let mut patch = room.begin(alloc, &margins, state)?;
-    repeat_steps(problem, &margins, &run.steps, &mut patch)?;
-    repeat_end(problem, &run.end, &mut patch)?;
+    repeat(problem, &margins, run, &mut patch)?;
     let kept = room.end(patch);
     match kept.closed() {
         Ok(closed) => Ok(Some(closed)),

@@ -1,7 +1,7 @@
 // How long work is left out that gave nothing before: a heuristic that promises nothing.
 
 /// How long something is left out: for 1, 2, 4 boxes and so on after one where it gave nothing, up to a greatest number.
-#[derive(Clone, Copy, PartialEq, Eq, Debug)]
+#[derive(Clone, Copy)]
 pub struct Patience {
     most: u32,
     left: u32,

@@ -12,6 +12,7 @@ use cover_rule::{KeptPatch, Margins, Patch, State, Workspace};
 use poly_graph::Problem;
 use std::alloc::{AllocError, Global};
 use std::marker::Model;
+use std::mem;
 
 /// Room for the work on the boxes of a problem, which is what clauses see of it. The workspace of its patches is made at
 /// the first box, and goes from one to the next: it is filled for the problem.
@@ -82,7 +83,7 @@ impl<'a> Room<'a> {
         ensures same { self.new ≡ self.old }
     {
         let (kept, work) = patch.into_kept();
-        self.work = Some(work);
+        drop(mem::replace(&mut self.work, Some(work)));
         kept
     }
 }

@@ -56,6 +56,45 @@ fn part_by_form(
     part_at(problem, choice, patch)
 }
 
+// What is needed at the state that the patch has reached, as the scout that is kept sees it.
+fn needs(
+    alloc: Global,
+    heuristics: &mut Heuristics,
+    problem: &Problem,
+    margins: &Margins,
+    patch: &Patch,
+) -> Result<Needs, AllocError>
+    requires problem { patch.now.problem ≡ problem.now }
+    requires bits { AreMargins margins.now }
+{
+    let mut scout = scout_at(alloc, problem, heuristics.scout.take(), patch)?;
+    let needs = see(alloc, problem, margins, &mut scout, patch);
+    heuristics.keep(scout);
+    needs
+}
+
+// Parts the state by what is needed: at a disjunction with two children left, else at the widest axis, else at any
+// disjunction.
+fn part_by_needs(
+    alloc: Global,
+    problem: &Problem,
+    needs: &Needs,
+    patch: &mut Patch,
+) -> Result<bool, AllocError>
+    requires problem { patch.old.problem ≡ problem.now }
+    ensures continues { IfOk result (λ b. Continues patch.old patch.new) }
+    ensures parted { IfOk result (λ b. b ≡ true → IsTrue (is_left patch.new.kept.end)) }
+    ensures same { IfOk result (λ b. b ≡ false → patch.new ≡ patch.old) }
+{
+    if part_by_form(alloc, problem, needs, 2, patch)? {
+        return Ok(true);
+    }
+    if attempt::cut(patch)? {
+        return Ok(true);
+    }
+    part_by_form(alloc, problem, needs, u32::MAX, patch)
+}
+
 /// Parts the state where nothing else is left to do: at a Bool axis that is needed at one value, or at an atom or
 /// axis of a needed disjunction with two children left; else at the widest axis; else at an atom or axis of any
 /// needed disjunction.
@@ -75,14 +114,6 @@ pub fn split(
     if !is_open(patch.reached()) {
         return attempt::cut(patch);
     }
-    let mut scout = scout_at(alloc, problem, heuristics.scout.take(), patch)?;
-    let needs = see(alloc, problem, margins, &mut scout, patch)?;
-    heuristics.scout = Some(scout);
-    if part_by_form(alloc, problem, &needs, 2, patch)? {
-        return Ok(true);
-    }
-    if attempt::cut(patch)? {
-        return Ok(true);
-    }
-    part_by_form(alloc, problem, &needs, u32::MAX, patch)
+    let needs = needs(alloc, heuristics, problem, margins, patch)?;
+    part_by_needs(alloc, problem, &needs, patch)
 }

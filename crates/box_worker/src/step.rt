@@ -11,7 +11,7 @@ use poly_graph::{Mark, Problem};
 use std::alloc::AllocError;
 
 /// What a step came to.
-#[derive(Clone, Copy, PartialEq, Eq, Debug)]
+#[derive(Clone, Copy)]
 pub enum Outcome {
     Done,
     /// Narrowing leaves the space as it is.

@@ -6,9 +6,10 @@ ghost use Rattle.interval_model.specs.Space.{middle};
 ghost use Rattle.cover_model.specs.Fits.{FitsProblem, IsShownAt};
 ghost use Rattle.cover_data.specs.Margins.{AreMargins, loosenings_of};
 ghost use Rattle.cover_rule.specs.Middle.{LiesInRoot};
+ghost use Rattle.cover_rule.specs.Patch.{run_at};
 ghost use Rattle.cover_rule.specs.Serves.{IsNumbered};
 ghost use Rattle.box_worker.specs.Attempts.{Continues, IsOpen};
-ghost use Rattle.box_worker.specs.Ended.{HasEnded, AtOnce, first_covering};
+ghost use Rattle.box_worker.specs.Ended.{AtOnce, ComesToEnd, HasEnded, first_covering};
 ghost use Rattle.box_worker.specs.Worked.{margins_of, AreLemmasFor, AreLemmasAt, AnswersAtOnceFor, IsWorkFor, IsClosedWork, WorkOf};
 ghost use Rattle.cover_data.specs.Runs.{IsClosed};
 ghost use Rattle.cover_data.specs.Views.{kept_of};
@@ -197,9 +198,37 @@ fn contract(
     ensures { IsOpen problem.now margins.now lemmas.now patch.old.kept.first patch.new }
 {
     let mut scout = scout_at(alloc, problem, heuristics.scout.take(), patch)?;
-    let void = take_steps(alloc, problem, margins, lemmas, &mut scout, patch)?;
-    heuristics.scout = Some(scout);
-    Ok(void)
+    let void = take_steps(alloc, problem, margins, lemmas, &mut scout, patch);
+    heuristics.keep(scout);
+    void
+}
+
+// Goes on with a patch that has just begun until it has ended.
+fn come_to_end(
+    alloc: Global,
+    heuristics: &mut Heuristics,
+    problem: &Problem,
+    margins: &Margins,
+    lemmas: &[Lemma],
+    patch: &mut Patch,
+) -> Result<Ended, AllocError>
+    requires problem { patch.old.problem ≡ problem.now }
+    requires margins { patch.old.margins ≡ margins.now }
+    requires numbered { IsNumbered problem.now }
+    requires bits { AreMargins margins.now }
+    requires begun { patch.old.kept ≡ run_at patch.old.kept.first }
+    requires root { LiesInRoot (problem_of problem.now) patch.old.kept.first.space }
+    requires lemmas { AreLemmasFor (problem_of problem.now) (loosenings_of margins.now) lemmas.now }
+    ensures comes { IfOk result
+        (ComesToEnd problem.now margins.now lemmas.now patch.old patch.new) }
+    ensures problem { IfOk result (λ e. patch.new.problem ≡ problem.now) }
+    ensures ended { IfOk result (HasEnded patch.new) }
+{
+    if let Some(ended) = at_once(alloc, problem, margins, lemmas, patch)? {
+        return Ok(ended);
+    }
+    let void = contract(alloc, heuristics, problem, margins, lemmas, patch)?;
+    finish(alloc, heuristics, problem, margins, &void, patch)
 }
 
 /// Works on the box of a state of the room's problem that lies within the root space, by lawful and honest lines: until
@@ -226,12 +255,8 @@ pub fn work_in(
     let margins = options.margins();
     let problem = room.problem();
     let mut patch = room.begin(alloc, &margins, state)?;
-    if let Some(ended) = at_once(alloc, problem, &margins, lemmas, &mut patch)? {
-        return worked(alloc, room, ended, patch);
-    }
     let heuristics = &mut room.heuristics;
-    let void = contract(alloc, heuristics, problem, &margins, lemmas, &mut patch)?;
-    let ended = finish(alloc, heuristics, problem, &margins, &void, &mut patch)?;
+    let ended = come_to_end(alloc, heuristics, problem, &margins, lemmas, &mut patch)?;
     worked(alloc, room, ended, patch)
 }
 

@@ -185,6 +185,13 @@ fn fault_after(stage: &Stage, fault: LineFault, lines: u64) -> CertFault
     }
 }
 
+// Puts the stage into this place.
+fn put(place: &mut Stage, stage: Stage)
+    ensures { place.new ≡ stage }
+{
+    drop(mem::replace(place, stage));
+}
+
 // How many lines were taken after one more.
 fn one_more(lines: u64) -> u64
     ensures few { result < 2 ^ 64 - 1 }
@@ -229,7 +236,7 @@ impl Checker {
         ensures { Takes self.old (FormLine (line_of line.now) ∷ []) self.new result }
     {
         let stage = mem::replace(&mut self.stage, Stage::Stopped(CertFault::Memory));
-        self.stage = stage_after(
+        let stage = stage_after(
             self.alloc,
             &self.problem,
             self.bound,
@@ -238,6 +245,7 @@ impl Checker {
             self.lines,
             line,
         );
+        put(&mut self.stage, stage);
         self.lines = one_more(self.lines);
         self.answer()
     }
@@ -247,7 +255,7 @@ impl Checker {
         ensures { (x : Parsed) → IsFault fault x → Takes self.old (x ∷ []) self.new (Err result) }
     {
         let fault = fault_after(&self.stage, fault, self.lines);
-        self.stage = Stage::Stopped(fault);
+        put(&mut self.stage, Stage::Stopped(fault));
         fault
     }
 

@@ -1,11 +1,11 @@
 // Trails over the clauses of a form.
 ghost use Rattle.clause_search.specs.Trail.{IsTrailOf};
 
-use crate::problems::problem;
+use crate::problems::{Form, clauses_of};
 use clause_search::*;
-use cnf_build::{Cnf, Literal, Variable, clauses};
-use poly_graph::{FormNode, Lits, Mark};
-use std::alloc::{AllocError, Global};
+use cnf_build::{Cnf, Literal, Variable};
+use poly_graph::{Lits, Mark};
+use std::alloc::Global;
 use std::test::Fail;
 
 // Assumes the literal where that may be.
@@ -21,112 +21,150 @@ fn assume(cnf: &Cnf, trail: &mut Trail, variable: Variable, positive: bool)
 }
 
 // Propagates to the end: a bit for each atom that was forced, and the last answer.
-fn run(cnf: &Cnf, trail: &mut Trail) -> Result<(u32, Prop), Fail>
+fn run(cnf: &Cnf, trail: &mut Trail) -> Option<(u32, Prop)>
     requires { IsTrailOf cnf.now trail.old }
     ensures { IsTrailOf cnf.now trail.new }
 {
     let mut forced = 0;
     for _ in 0..8u32 {
-        match trail.propagate(cnf)? {
+        match trail.propagate(cnf).ok()? {
             Prop::Forced(j) => forced |= 1 << (j % 8),
-            last => return Ok((forced, last)),
+            last => return Some((forced, last)),
         }
     }
-    Err(Fail::from("too many atoms"))
+    None
 }
 
-// 0 and 1 and (2 or 3) and 4
-fn shape(alloc: Global) -> Result<Vec<FormNode>, AllocError> {
-    let either = FormNode::Or(vec![in alloc; 2, 3]?);
-    let all = FormNode::And(vec![in alloc; 0, 1, 4, 5]?);
-    Ok(vec![in alloc;
-        FormNode::AtomIs(0),
-        FormNode::AtomIs(1),
-        FormNode::AtomIs(2),
-        FormNode::AtomIs(3),
-        either,
-        FormNode::AtomIs(4),
-        all,
-    ]?)
-}
-
-fn shape_clauses(alloc: Global) -> Result<Cnf, Fail> {
-    let problem = problem(alloc, shape(alloc)?, 6)?;
-    Ok(clauses(alloc, &problem)?)
-}
-
-#[test]
-fn forces_each_atom(rt: HostRuntime) -> Result<(), Fail> {
-    let alloc = rt.alloc();
-    let cnf = shape_clauses(alloc)?;
-    let mut trail = Trail::new(alloc, &cnf)?;
-    assume(&cnf, &mut trail, Variable::Atom(2), false);
-    let (forced, last) = run(&cnf, &mut trail)?;
-    assert_eq!(rt; forced, 0b11011);
-    assert_eq!(rt; last, Prop::Rest);
-    assert_eq!(rt; trail.pick(), None);
-    Ok(())
-}
-
-#[test]
-fn assumed_against_what_was_derived(rt: HostRuntime) -> Result<(), Fail> {
-    let alloc = rt.alloc();
-    let cnf = shape_clauses(alloc)?;
-    let mut trail = Trail::new(alloc, &cnf)?;
-    let (forced, last) = run(&cnf, &mut trail)?;
-    assert_eq!(rt; forced, 0b10011);
-    assert_eq!(rt; last, Prop::Rest);
-    assert!(rt; trail.pick().is_some());
-    assert!(rt; trail.is_undecided(Variable::Atom(2)));
-    assert!(rt; !trail.is_undecided(Variable::Atom(4)));
-    assume(&cnf, &mut trail, Variable::Atom(4), false);
-    let (_, last) = run(&cnf, &mut trail)?;
-    assert_eq!(rt; last, Prop::Conflict);
-    Ok(())
-}
-
-// ---- nogoods
-
-// Adds the nogood that atom 4 is marked yes.
-fn forbid(alloc: Global, cnf: &Cnf, trail: &mut Trail) -> Result<(), Fail>
+// Adds the nogood that atom 4 is marked yes; whether that could be done.
+fn forbid(alloc: Global, cnf: &Cnf, trail: &mut Trail) -> bool
     requires { IsTrailOf cnf.now trail.old }
     ensures { IsTrailOf cnf.now trail.new }
 {
-    let mut nogood = Lits::new(alloc, 5)?;
+    let Ok(mut nogood) = Lits::new(alloc, 5) else {
+        return false;
+    };
     if nogood.len() != 5 || cnf.atoms() != 5 {
-        return Err(Fail::from("five atoms"));
+        return false;
     }
     nogood.set(4, Mark::Yes);
-    trail.add_nogood(alloc, &nogood)?;
-    Ok(())
+    trail.add_nogood(alloc, &nogood).is_ok()
 }
 
-#[test]
-fn nogood_after_its_atom_was_forced(rt: HostRuntime) -> Result<(), Fail> {
-    let alloc = rt.alloc();
-    let cnf = shape_clauses(alloc)?;
-    let mut trail = Trail::new(alloc, &cnf)?;
-    forbid(alloc, &cnf, &mut trail)?;
-    assume(&cnf, &mut trail, Variable::Atom(2), false);
-    let (forced, last) = run(&cnf, &mut trail)?;
-    assert!(rt; forced & 16 != 0);
-    assert_eq!(rt; last, Prop::Conflict);
-    Ok(())
+// ---- trails of one form
+
+// 0 and 1 and (2 or 3) and 4
+const SHAPE: [Form; 7] = [
+    Form::Atom(0),
+    Form::Atom(1),
+    Form::Atom(2),
+    Form::Atom(3),
+    Form::Any(&[2, 3]),
+    Form::Atom(4),
+    Form::All(&[0, 1, 4, 5]),
+];
+
+// What is asked of a trail, and what it answers.
+enum Step {
+    Assume(Variable, bool),
+    // Adds the nogood that atom 4 is marked yes.
+    Forbid,
+    Clear,
+    // Propagates to the end: which atoms of these bits are forced, and the last answer.
+    Run(u32, u32, Prop),
+    // Whether there is a variable to pick.
+    Picks(bool),
+    // Whether this one is not decided.
+    IsOpen(Variable, bool),
 }
 
+// Whether the trail answers so.
+fn is_answered(alloc: Global, cnf: &Cnf, trail: &mut Trail, step: &Step) -> bool
+    requires { IsTrailOf cnf.now trail.old }
+    ensures { IsTrailOf cnf.now trail.new }
+{
+    match step {
+        Step::Assume(variable, positive) => {
+            assume(cnf, trail, *variable, *positive);
+            true
+        }
+        Step::Forbid => forbid(alloc, cnf, trail),
+        Step::Clear => {
+            trail.clear();
+            true
+        }
+        Step::Run(of, wanted, answer) => match run(cnf, trail) {
+            Some((forced, last)) => forced & *of == *wanted && last == *answer,
+            None => false,
+        },
+        Step::Picks(picks) => trail.pick().is_some() == *picks,
+        Step::IsOpen(variable, open) => trail.is_undecided(*variable) == *open,
+    }
+}
+
+// Whether it answers so to each step, one after the other.
+fn are_answered(alloc: Global, cnf: &Cnf, trail: &mut Trail, steps: &[Step]) -> bool
+    requires { IsTrailOf cnf.now trail.old }
+    ensures { IsTrailOf cnf.now trail.new }
+{
+    for step in steps {
+        if !is_answered(alloc, cnf, trail, step) {
+            return false;
+        }
+    }
+    true
+}
+
+// The same of a new trail of the clauses.
+fn follows_in(alloc: Global, cnf: &Cnf, steps: &[Step]) -> bool {
+    match Trail::new(alloc, cnf) {
+        Ok(mut trail) => are_answered(alloc, cnf, &mut trail, steps),
+        Err(_) => false,
+    }
+}
+
+// The same of the clauses of the form.
+fn follows(alloc: Global, steps: &[Step]) -> Result<bool, Fail> {
+    let cnf = clauses_of(alloc, &SHAPE, 6)?;
+    Ok(follows_in(alloc, &cnf, steps))
+}
+
+const TRAILS: [&[Step]; 4] = [
+    // each atom is forced
+    &[
+        Step::Assume(Variable::Atom(2), false),
+        Step::Run(0b11111, 0b11011, Prop::Rest),
+        Step::Picks(false),
+    ],
+    // one is assumed against what was derived
+    &[
+        Step::Run(0b11111, 0b10011, Prop::Rest),
+        Step::Picks(true),
+        Step::IsOpen(Variable::Atom(2), true),
+        Step::IsOpen(Variable::Atom(4), false),
+        Step::Assume(Variable::Atom(4), false),
+        Step::Run(0, 0, Prop::Conflict),
+    ],
+    // a nogood, after whose atom was forced
+    &[
+        Step::Forbid,
+        Step::Assume(Variable::Atom(2), false),
+        Step::Run(0b10000, 0b10000, Prop::Conflict),
+    ],
+    // a nogood on the trail, which stays
+    &[
+        Step::Run(0, 0, Prop::Rest),
+        Step::Forbid,
+        Step::Run(0, 0, Prop::Conflict),
+        Step::Clear,
+        Step::Run(0, 0, Prop::Conflict),
+    ],
+];
+
 #[test]
-fn nogood_on_the_trail(rt: HostRuntime) -> Result<(), Fail> {
-    let alloc = rt.alloc();
-    let cnf = shape_clauses(alloc)?;
-    let mut trail = Trail::new(alloc, &cnf)?;
-    run(&cnf, &mut trail)?;
-    forbid(alloc, &cnf, &mut trail)?;
-    let (_, last) = run(&cnf, &mut trail)?;
-    assert_eq!(rt; last, Prop::Conflict);
-    // it stays
-    trail.clear();
-    let (_, last) = run(&cnf, &mut trail)?;
-    assert_eq!(rt; last, Prop::Conflict);
+fn trails_force_and_conflict(rt: HostRuntime) -> Result<(), Fail> {
+    for steps in &TRAILS {
+        assert!(rt; follows(rt.alloc(), steps)?, "of {}", steps.len());
+    }
     Ok(())
 }
 
@@ -152,7 +190,7 @@ fn assume_all(cnf: &Cnf, trail: &mut Trail, bits: u32)
 }
 
 // How many of the 512 assignments of atoms and Bool values propagate without a conflict.
-fn count_rests(cnf: &Cnf, trail: &mut Trail) -> Result<u32, Fail>
+fn count_rests(cnf: &Cnf, trail: &mut Trail) -> Option<u32>
     requires { IsTrailOf cnf.now trail.old }
     ensures { IsTrailOf cnf.now trail.new }
 {
@@ -165,65 +203,43 @@ fn count_rests(cnf: &Cnf, trail: &mut Trail) -> Result<u32, Fail>
             rests = rests.saturating_add(1);
         }
     }
-    Ok(rests)
+    Some(rests)
 }
 
-fn count(alloc: Global, nodes: Vec<FormNode>, root: u32) -> Result<u32, Fail> {
-    let problem = problem(alloc, nodes, root)?;
-    let cnf = clauses(alloc, &problem)?;
-    let mut trail = Trail::new(alloc, &cnf)?;
-    count_rests(&cnf, &mut trail)
+// The same in a trail of its own.
+fn count_in(alloc: Global, cnf: &Cnf) -> Option<u32> {
+    let mut trail = Trail::new(alloc, cnf).ok()?;
+    count_rests(cnf, &mut trail)
 }
 
-fn count_leaf(alloc: Global, node: FormNode) -> Result<u32, Fail> {
-    count(alloc, vec![in alloc; node]?, 0)
+// The same of the clauses of the form.
+fn count(alloc: Global, nodes: &[Form], root: u32) -> Result<Option<u32>, Fail> {
+    let cnf = clauses_of(alloc, nodes, root)?;
+    Ok(count_in(alloc, &cnf))
 }
 
-// A conjunction or a disjunction of two leaves.
-fn count_pair(alloc: Global, a: FormNode, b: FormNode, all: bool) -> Result<u32, Fail> {
-    let children = vec![in alloc; 0, 1]?;
-    let node = if all {
-        FormNode::And(children)
-    } else {
-        FormNode::Or(children)
-    };
-    count(alloc, vec![in alloc; a, b, node]?, 2)
-}
-
-#[test]
-fn leaves(rt: HostRuntime) -> Result<(), Fail> {
-    let alloc = rt.alloc();
-    assert_eq!(rt; count_leaf(alloc, FormNode::True)?, 512);
-    assert_eq!(rt; count_leaf(alloc, FormNode::False)?, 0);
-    assert_eq!(rt; count_leaf(alloc, FormNode::AtomIs(1))?, 256);
-    assert_eq!(rt; count_leaf(alloc, FormNode::BoolIs(1, false))?, 256);
-    Ok(())
-}
+// Nodes, a root, and how many assignments propagate so.
+const COUNTS: [(&[Form], u32, u32); 9] = [
+    (&[Form::True], 0, 512),
+    (&[Form::False], 0, 0),
+    (&[Form::Atom(1)], 0, 256),
+    (&[Form::Bool(1, false)], 0, 256),
+    (&[Form::Atom(0), Form::Atom(4), Form::All(&[0, 1])], 2, 128),
+    (&[Form::Atom(0), Form::Atom(4), Form::Any(&[0, 1])], 2, 384),
+    // 3 of 4 values of two atoms, one of the other three, and all Bool values
+    (&SHAPE, 6, 48),
+    (&[Form::Any(&[])], 0, 0),
+    (&[Form::All(&[])], 0, 512),
+];
 
 #[test]
-fn two_atoms(rt: HostRuntime) -> Result<(), Fail> {
-    let alloc = rt.alloc();
-    let a = FormNode::AtomIs(0);
-    let b = FormNode::AtomIs(4);
-    assert_eq!(rt; count_pair(alloc, a, b, true)?, 128);
-    let a = FormNode::AtomIs(0);
-    let b = FormNode::AtomIs(4);
-    assert_eq!(rt; count_pair(alloc, a, b, false)?, 384);
-    Ok(())
-}
-
-// 3 of 4 values of two atoms, one of the other three, and all Bool values
-#[test]
-fn nested_nodes(rt: HostRuntime) -> Result<(), Fail> {
-    let alloc = rt.alloc();
-    assert_eq!(rt; count(alloc, shape(alloc)?, 6)?, 48);
-    Ok(())
-}
-
-#[test]
-fn empty_nodes(rt: HostRuntime) -> Result<(), Fail> {
-    let alloc = rt.alloc();
-    assert_eq!(rt; count_leaf(alloc, FormNode::Or(Vec::new(alloc)))?, 0);
-    assert_eq!(rt; count_leaf(alloc, FormNode::And(Vec::new(alloc)))?, 512);
+fn as_many_assignments_rest(rt: HostRuntime) -> Result<(), Fail> {
+    for (nodes, root, wanted) in &COUNTS {
+        assert_eq!(rt;
+            count(rt.alloc(), nodes, *root)?,
+            Some(*wanted),
+            "at {root}"
+        );
+    }
     Ok(())
 }

@@ -1,10 +1,9 @@
 // The clauses of a form, under all assignments.
 ghost use Rattle.std.specs.Prelude.{◌<◌};
 
-use crate::problems::problem;
+use crate::problems::{Form, clauses_of};
 use cnf_build::*;
-use poly_graph::FormNode;
-use std::alloc::{AllocError, Global};
+use std::alloc::Global;
 use std::test::Fail;
 
 // ---- assignments: a bit for each atom, each Bool value and each helper
@@ -46,103 +45,87 @@ fn extends(cnf: &Cnf, bits: u32) -> bool {
 }
 
 // How many of the 128 assignments of three atoms and four Bool values extend to the clauses.
-fn count(alloc: Global, nodes: Vec<FormNode>, root: u32) -> Result<usize, Fail> {
-    let problem = problem(alloc, nodes, root)?;
-    let cnf = clauses(alloc, &problem)?;
-    Ok((0..128u32).filter(|bits| extends(&cnf, *bits)).count())
+fn count_extending(cnf: &Cnf) -> usize {
+    (0..128u32).filter(|bits| extends(cnf, *bits)).count()
 }
 
-#[test]
-fn leaves(rt: HostRuntime) -> Result<(), Fail> {
-    let alloc = rt.alloc();
-    assert_eq!(rt; count(alloc, vec![in alloc; FormNode::True]?, 0)?, 128);
-    assert_eq!(rt; count(alloc, vec![in alloc; FormNode::False]?, 0)?, 0);
-    assert_eq!(rt; count(alloc, vec![in alloc; FormNode::AtomIs(1)]?, 0)?, 64);
-    assert_eq!(rt;
-        count(alloc, vec![in alloc; FormNode::BoolIs(1, false)]?, 0)?,
-        64
-    );
-    Ok(())
+// How many of them extend to the clauses of the form.
+fn count(alloc: Global, nodes: &[Form], root: u32) -> Result<usize, Fail> {
+    let cnf = clauses_of(alloc, nodes, root)?;
+    Ok(count_extending(&cnf))
 }
 
-// A node over these two leaves.
-fn over(alloc: Global, a: FormNode, b: FormNode, all: bool) -> Result<Vec<FormNode>, AllocError> {
-    let children = vec![in alloc; 0, 1]?;
-    let node = if all {
-        FormNode::And(children)
-    } else {
-        FormNode::Or(children)
-    };
-    Ok(vec![in alloc; a, b, node]?)
-}
+// (a or b) and (b or c)
+const SHARED: [Form; 6] = [
+    Form::Atom(0),
+    Form::Atom(1),
+    Form::Atom(2),
+    Form::Any(&[0, 1]),
+    Form::Any(&[1, 2]),
+    Form::All(&[3, 4]),
+];
 
-#[test]
-fn both_or_either(rt: HostRuntime) -> Result<(), Fail> {
-    let alloc = rt.alloc();
-    for (all, want) in [(true, 32), (false, 96)] {
-        // two atoms; the two values of one Bool axis, which are independent
-        let atoms = over(alloc, FormNode::AtomIs(0), FormNode::AtomIs(2), all)?;
-        assert_eq!(rt; count(alloc, atoms, 2)?, want);
-        let values = over(
-            alloc,
-            FormNode::BoolIs(0, true),
-            FormNode::BoolIs(0, false),
-            all,
-        )?;
-        assert_eq!(rt; count(alloc, values, 2)?, want);
-    }
-    for (all, with_true, with_false) in [(true, 64, 0), (false, 128, 64)] {
-        let a = over(alloc, FormNode::True, FormNode::AtomIs(0), all)?;
-        assert_eq!(rt; count(alloc, a, 2)?, with_true);
-        let b = over(alloc, FormNode::AtomIs(0), FormNode::False, all)?;
-        assert_eq!(rt; count(alloc, b, 2)?, with_false);
-    }
+// Nodes, a root, and how many assignments extend to the clauses.
+const COUNTS: [(&[Form], u32, usize); 16] = [
+    (&[Form::True], 0, 128),
+    (&[Form::False], 0, 0),
+    (&[Form::Atom(1)], 0, 64),
+    (&[Form::Bool(1, false)], 0, 64),
+    // two atoms
+    (&[Form::Atom(0), Form::Atom(2), Form::All(&[0, 1])], 2, 32),
+    (&[Form::Atom(0), Form::Atom(2), Form::Any(&[0, 1])], 2, 96),
+    // the two values of one Bool axis, which are independent
+    (
+        &[
+            Form::Bool(0, true),
+            Form::Bool(0, false),
+            Form::All(&[0, 1]),
+        ],
+        2,
+        32,
+    ),
+    (
+        &[
+            Form::Bool(0, true),
+            Form::Bool(0, false),
+            Form::Any(&[0, 1]),
+        ],
+        2,
+        96,
+    ),
+    (&[Form::True, Form::Atom(0), Form::All(&[0, 1])], 2, 64),
+    (&[Form::True, Form::Atom(0), Form::Any(&[0, 1])], 2, 128),
+    (&[Form::Atom(0), Form::False, Form::All(&[0, 1])], 2, 0),
+    (&[Form::Atom(0), Form::False, Form::Any(&[0, 1])], 2, 64),
     // a root that is not the last node
-    let inner = over(alloc, FormNode::AtomIs(0), FormNode::AtomIs(2), true)?;
-    assert_eq!(rt; count(alloc, inner, 0)?, 64);
-    Ok(())
-}
+    (&[Form::Atom(0), Form::Atom(2), Form::All(&[0, 1])], 0, 64),
+    (&[Form::All(&[])], 0, 128),
+    (&[Form::Any(&[])], 0, 0),
+    // where b is true, all four; where it is not, only a and c: five of the eight values of the atoms, each with
+    // sixteen of the Bool values
+    (&SHARED, 5, 80),
+];
 
 #[test]
-fn empty_nodes(rt: HostRuntime) -> Result<(), Fail> {
-    let alloc = rt.alloc();
-    let all = vec![in alloc; FormNode::And(Vec::new(alloc))]?;
-    assert_eq!(rt; count(alloc, all, 0)?, 128);
-    let any = vec![in alloc; FormNode::Or(Vec::new(alloc))]?;
-    assert_eq!(rt; count(alloc, any, 0)?, 0);
+fn as_many_assignments_extend(rt: HostRuntime) -> Result<(), Fail> {
+    for (nodes, root, wanted) in &COUNTS {
+        assert_eq!(rt; count(rt.alloc(), nodes, *root)?, *wanted, "at {root}");
+    }
     Ok(())
 }
 
-// (a or b) and (b or c): where b is true, all four; where it is not, only a and c.
-fn shared(alloc: Global) -> Result<Vec<FormNode>, AllocError> {
-    let left = FormNode::Or(vec![in alloc; 0, 1]?);
-    let right = FormNode::Or(vec![in alloc; 1, 2]?);
-    let both = FormNode::And(vec![in alloc; 3, 4]?);
-    Ok(vec![in alloc;
-        FormNode::AtomIs(0),
-        FormNode::AtomIs(1),
-        FormNode::AtomIs(2),
-        left,
-        right,
-        both,
-    ]?)
+// Whether there are three clauses for each of three nodes, and one for the root.
+fn are_shared(cnf: &Cnf) -> bool {
+    if cnf.len() != 10 || cnf.helpers() != 6 || cnf.is_empty() {
+        return false;
+    }
+    let last = cnf.clause(9);
+    last.len() == 1 && last[0].positive && last[0].variable == Variable::Helper(5)
 }
 
 #[test]
 fn shared_nodes(rt: HostRuntime) -> Result<(), Fail> {
-    let alloc = rt.alloc();
-    // five of the eight values of the atoms, each with sixteen of the Bool values
-    assert_eq!(rt; count(alloc, shared(alloc)?, 5)?, 80);
-    let problem = problem(alloc, shared(alloc)?, 5)?;
-    let cnf = clauses(alloc, &problem)?;
-    // three clauses for each of three nodes, and one for the root
-    assert_eq!(rt; cnf.len(), 10);
-    assert_eq!(rt; cnf.helpers(), 6);
-    assert!(rt; !cnf.is_empty());
-    if cnf.len() == 10 {
-        let last = cnf.clause(9);
-        assert!(rt; last.len() == 1 && last[0].positive);
-        assert_eq!(rt; last[0].variable, Variable::Helper(5));
-    }
+    let cnf = clauses_of(rt.alloc(), &SHARED, 5)?;
+    assert!(rt; are_shared(&cnf));
     Ok(())
 }

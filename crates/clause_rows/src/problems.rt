@@ -6,6 +6,7 @@ ghost use Rattle.poly_graph.specs.ProblemViews.{axis_of};
 ghost use Rattle.poly_graph.specs.Views.{atom_of};
 ghost use Rattle.clause_rows.specs.TriedCnfBuild.{nought, tried_nodes, tried_atoms, tried_axes, is_known, are_known};
 
+use cnf_build::{Cnf, clauses};
 use dyadic::Frac;
 use poly_graph::{
     Atom, Axis, Declared, FormGraph, FormNode, Graph, Kind, Node, Problem, is_form_after,
@@ -70,6 +71,7 @@ fn is_known(node: &FormNode) -> bool
     }
 }
 
+// Adds the node, where it is one of the problem.
 fn add(forms: &mut FormGraph, node: FormNode) -> Result<(), Fail>
     requires { IsTrue (are_known forms.old) }
     ensures ok { OnOk result (IsTrue (are_known forms.new)) }
@@ -81,12 +83,44 @@ fn add(forms: &mut FormGraph, node: FormNode) -> Result<(), Fail>
     Ok(())
 }
 
-/// A problem of these form nodes, where they are ones of it, and this root.
-pub(crate) fn problem(alloc: Global, nodes: Vec<FormNode>, root: u32) -> Result<Problem, Fail> {
-    let mut forms = FormGraph::new(alloc);
-    for node in nodes {
-        add(&mut forms, node)?;
+/// A node of a form; one with children has their numbers.
+#[derive(Clone, Copy)]
+pub(crate) enum Form {
+    True,
+    False,
+    Atom(u32),
+    Bool(u32, bool),
+    All(&'static [u32]),
+    Any(&'static [u32]),
+}
+
+// The node in memory of its own.
+fn node_of(alloc: Global, form: Form) -> Result<FormNode, AllocError> {
+    match form {
+        Form::True => Ok(FormNode::True),
+        Form::False => Ok(FormNode::False),
+        Form::Atom(j) => Ok(FormNode::AtomIs(j)),
+        Form::Bool(axis, value) => Ok(FormNode::BoolIs(axis, value)),
+        Form::All(children) => Ok(FormNode::And(Vec::from_slice(alloc, children)?)),
+        Form::Any(children) => Ok(FormNode::Or(Vec::from_slice(alloc, children)?)),
     }
+}
+
+// Adds these nodes.
+fn add_all(alloc: Global, forms: &mut FormGraph, nodes: &[Form]) -> Result<(), Fail>
+    requires { IsTrue (are_known forms.old) }
+    ensures { OnOk result (IsTrue (are_known forms.new)) }
+{
+    for node in nodes {
+        add(forms, node_of(alloc, *node)?)?;
+    }
+    Ok(())
+}
+
+// A problem of these form nodes, where they are ones of it, and this root.
+fn problem(alloc: Global, nodes: &[Form], root: u32) -> Result<Problem, Fail> {
+    let mut forms = FormGraph::new(alloc);
+    add_all(alloc, &mut forms, nodes)?;
     if root as usize >= forms.len() {
         return Err(Fail::from("no such root"));
     }
@@ -94,4 +128,10 @@ pub(crate) fn problem(alloc: Global, nodes: Vec<FormNode>, root: u32) -> Result<
         return Err(Fail::from("no memory"));
     };
     Ok(Problem::new(axes(alloc)?, graph, atoms(alloc)?, forms, root))
+}
+
+/// The clauses of the form with these nodes and this root.
+pub(crate) fn clauses_of(alloc: Global, nodes: &[Form], root: u32) -> Result<Cnf, Fail> {
+    let problem = problem(alloc, nodes, root)?;
+    Ok(clauses(alloc, &problem)?)
 }

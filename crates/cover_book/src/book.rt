@@ -1,8 +1,10 @@
 // The book of a cover.
-ghost use Rattle.std.specs.Prelude.{◌≡◌, ◌↔◌, ◌<◌, ◌^◌, IfOk, IfSome, MatchOption, MatchResult, IsTrue, length, map};
+ghost use Rattle.std.specs.Prelude.{◌≡◌, ◌↔◌, ◌<◌, ◌^◌, IfOk, IfSome, IsSome, MatchOption, MatchResult, IsTrue, length, map, slice_set, vec_len};
 ghost use Rattle.std.specs.List.{list_any};
+ghost use Rattle.std.specs.Vec.{vec_capacity};
+ghost use Rattle.cover_data.specs.Runs.{CanPart};
 ghost use Rattle.cover_data.specs.Views.{kept_of, end_of};
-ghost use Rattle.cover_book.specs.Calls.{IsOpeningOf, KeepsLemma, StoresLemma, StoresPatch, TestsCommit, TestsQuoted};
+ghost use Rattle.cover_book.specs.Calls.{IsOpeningOf, IsOutcomeOf, KeepsLemma, PartsNode, StoresLemma, StoresPatch, TestsCommit, TestsQuoted};
 ghost use Rattle.cover_book.specs.Limits.{IsWithinLimits};
 ghost use Rattle.cover_book.specs.Model.{opening};
 ghost use Rattle.cover_book.specs.Verdict.{verdict_of, is_live, is_stuck, live_after};
@@ -22,6 +24,7 @@ use cover_data::{ClosedPatch, End, KeptPatch, Lemma, Options, Point, State};
 use poly_graph::{Lits, Problem};
 use std::alloc::{AllocError, Global};
 use std::marker::Model;
+use std::mem;
 use truth3::{Root, root_space};
 
 /// A book has at most so many lemmas.
@@ -112,6 +115,60 @@ fn parts(end: &Option<End>) -> bool
         end,
         Some(End::Cut(_, _)) | Some(End::Flip(_)) | Some(End::Case(_))
     )
+}
+
+// What a patch did to its state, and what its end leaves of the state that it reached.
+fn outcome(alloc: Global, patch: KeptPatch) -> Result<(Lines, Ending), AllocError>
+    requires ended { IsSome patch.end }
+    requires parts { IfSome (end_of patch.end) (λ l. CanPart l patch.reached) }
+    ensures { IfOk result (λ x. IsOutcomeOf patch x.0 x.1) }
+{
+    let KeptPatch {
+        first,
+        steps,
+        quoted,
+        end,
+        reached,
+    } = patch;
+    drop(first);
+    drop(quoted);
+    let end = match end {
+        Some(end) => end,
+        None => unreachable!(),
+    };
+    let ending = ending_of(alloc, &end, reached)?;
+    Ok((Lines { steps, end }, ending))
+}
+
+// Writes the node at this place.
+fn put(nodes: &mut Vec<Node>, place: usize, node: Node)
+    requires { place < vec_len nodes.old }
+    ensures items { nodes.new.items ≡ slice_set nodes.old.items place node }
+    ensures len { vec_len nodes.new ≡ vec_len nodes.old }
+    ensures capacity { vec_capacity nodes.new ≡ vec_capacity nodes.old }
+{
+    drop(mem::replace(&mut nodes[place], node));
+}
+
+// Parts the node at this place, whose two parts are appended; answers the number of the lower one. Without memory nothing
+// changes.
+fn part(
+    nodes: &mut Vec<Node>,
+    place: usize,
+    lines: Lines,
+    lower: State,
+    upper: State,
+) -> Result<u32, AllocError>
+    requires place { place < vec_len nodes.old }
+    requires count { vec_len nodes.old < 2 ^ 32 }
+    ensures { PartsNode nodes.old.items place lines lower upper nodes.new.items result }
+{
+    nodes.reserve(2)?;
+    let kid = nodes.len() as u32;
+    put(nodes, place, Node::Parted(lines, kid));
+    nodes.push_reserved(Node::Live(lower));
+    nodes.push_reserved(Node::Live(upper));
+    Ok(kid)
 }
 
 impl Book {
@@ -273,41 +330,24 @@ impl Book {
     {
         on_grid(&patch.reached);
         let place = node as usize;
-        let KeptPatch {
-            first,
-            steps,
-            quoted,
-            end,
-            reached,
-        } = patch;
-        drop(first);
-        drop(quoted);
-        let end = match end {
-            Some(end) => end,
-            None => unreachable!(),
-        };
-        let ending = match ending_of(*self.nodes.allocator(), &end, reached) {
-            Ok(ending) => ending,
+        let (lines, ending) = match outcome(*self.nodes.allocator(), patch) {
+            Ok(outcome) => outcome,
             Err(_) => return Err(BookRefusal::Memory),
         };
-        let lines = Lines { steps, end };
         match ending {
             Ending::Closed => {
-                self.nodes[place] = Node::Closed(lines);
+                put(&mut self.nodes, place, Node::Closed(lines));
                 Ok(Kids::None)
             }
             Ending::Stuck(state) => {
-                self.nodes[place] = Node::Stuck(lines, state);
+                put(&mut self.nodes, place, Node::Stuck(lines, state));
                 Ok(Kids::None)
             }
             Ending::Parted(lower, upper) => {
-                if self.nodes.reserve(2).is_err() {
-                    return Err(BookRefusal::Memory);
-                }
-                let kid = self.nodes.len() as u32;
-                self.nodes[place] = Node::Parted(lines, kid);
-                self.nodes.push_reserved(Node::Live(lower));
-                self.nodes.push_reserved(Node::Live(upper));
+                let kid = match part(&mut self.nodes, place, lines, lower, upper) {
+                    Ok(kid) => kid,
+                    Err(_) => return Err(BookRefusal::Memory),
+                };
                 self.branches += 1;
                 Ok(Kids::Two(kid, kid + 1))
             }
