@@ -3,7 +3,7 @@ use Rattle.std.proofs.Common.{◌≡◌, ◌++◌, inl, inr, ℕ, List, Option, 
 use Rattle.words.specs.declared.request.Options.{Options}
 use Rattle.words.specs.Words.{Plan, Solve}
 use Rattle.poly_graph.specs.Problem.{Problem}
-use Rattle.cert_model.specs.Due.{Standing, Value, at_point, left_open}
+use Rattle.cert_model.specs.Due.{Value, at_point, left_open}
 use Rattle.cert_model.specs.AnswerText.{solve_text, unsat_text, delta_sat_text, budget_text}
 use Rattle.width_plan.specs.Plan as width
 use Rattle.width_plan.specs.Plan.{IsPlan, least_bits, no_atom, no_axis}

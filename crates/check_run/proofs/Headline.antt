@@ -21,12 +21,12 @@ use Rattle.check_run.specs.declared.status.Status.TheVariants.{Answered, CertRef
 use Rattle.script_faults.specs.Reader.{commands_of, IsBuilt}
 use Rattle.check_run.specs.Answer.{loosenings_of, IsAnswer}
 use Rattle.check_run.specs.Course.{Course, behind, appended}
-use Rattle.check_run.specs.Can.{CanSolve, CanCheck, CanUpgrade, CanUpgradeBy, CanDemo, CanPlan, CanBy, OfProblem, Can, verdict_course}
+use Rattle.check_run.specs.Can.{CanSolve, CanCheck, CanUpgrade, CanUpgradeBy, CanPlan, CanBy, OfProblem, Can, verdict_course}
 use Rattle.check_run.specs.Run.{Run, HasCourse, HasInput, IsShown}
 use Rattle.check_run.proofs.Shown.{status_is_shown}
 use Rattle.check_run.proofs.Apart.{apart}
 use Rattle.check_run.proofs.Enough.{BuiltIsOne, is_enough}
-use Rattle.check_run.specs.Headline.{IsWritten, IsUnsat, IsTrueUnsat, UnsatIsTrue, IsDeltaSat, IsTrueDeltaSat, DeltaSatIsTrue, IsRefusedCert, IsTrueRefusal, RefusalIsTrue, IsUpgraded, IsTrueUpgrade, UpgradeIsTrue, IsEnough, IsPlanned, IsTruePlan, PlanIsTrue, delta_sat_word, confirmed_unsat_word, confirmed_delta_sat_word}
+use Rattle.check_run.specs.Headline.{IsWritten, IsUnsat, IsTrueUnsat, UnsatIsTrue, IsDeltaSat, IsTrueDeltaSat, DeltaSatIsTrue, IsRefusedCert, IsTrueRefusal, RefusalIsTrue, IsUpgraded, IsTrueUpgrade, UpgradeIsTrue, IsPlanned, IsTruePlan, PlanIsTrue, delta_sat_word, confirmed_unsat_word, confirmed_delta_sat_word}
 
 -- ---- texts that differ
 

@@ -193,16 +193,15 @@ fn plan_words<'a>(matches: &ArgMatches<'a>) -> Option<PlanWords<'a>>
     let delta_bits = number(matches, "delta-bits", 1, 30)?;
     let margin_bits = number(matches, "margin-bits", 2, 60)?;
     let bound = number(matches, "bound", 1, 4294967295);
-    if delta_bits < margin_bits {
-        Some(PlanWords {
-            script,
-            delta_bits,
-            margin_bits,
-            bound,
-        })
-    } else {
-        None
+    if delta_bits >= margin_bits {
+        return None;
     }
+    Some(PlanWords {
+        script,
+        delta_bits,
+        margin_bits,
+        bound,
+    })
 }
 
 // What the subcommand of this name asks for.
