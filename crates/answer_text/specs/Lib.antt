@@ -1,4 +1,5 @@
 pub mod Loosened
+pub mod Plans
 pub mod ScriptFaults
 pub mod Shown
 pub mod Stops

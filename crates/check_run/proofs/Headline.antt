@@ -1,12 +1,11 @@
 -- What the answers of a run say of its script.
-use Rattle.std.proofs.Common.{◌≡◌, inl, inr, ℕ, List, [], ◌∷◌, ◌++◌, Bool, true, false, get_or, nat_eq, true≢false, Option, Some, None, refl, ap, sym, subst, ◌∙◌}
+use Rattle.std.proofs.Common.{◌≡◌, ℕ, List, [], ◌∷◌, ◌++◌, Bool, true, false, get_or, nat_eq, Option, Some, None, refl, ap, sym, subst, ◌∙◌}
 use Rattle.std.specs.Prelude.{IsSomeAnd}
 use Rattle.std.proofs.lemmas.List.{append_cancel_left}
-use Rattle.std.proofs.lemmas.Bool.Decides.{eqb_tells}
 use Rattle.desk.specs.declared.desk.Port.TheVariants.{CertIn}
 use Rattle.desk.specs.Sight.{Sight}
 use Rattle.words.specs.declared.request.Options.{Options}
-use Rattle.words.specs.Words.{Solve, Check, Upgrade, Demo, Command, solve, check, demo, upgrade}
+use Rattle.words.specs.Words.{Solve, Check, Upgrade, Demo, Plan, Command, solve, check, demo, upgrade, plan}
 use Rattle.gen_script.specs.Demo.{demo_script}
 use Rattle.poly_graph.specs.Problem.{Problem}
 use Rattle.interval_model.specs.Space.{Space}
@@ -22,10 +21,12 @@ use Rattle.check_run.specs.declared.status.Status.TheVariants.{Answered, CertRef
 use Rattle.script_faults.specs.Reader.{commands_of, IsBuilt}
 use Rattle.check_run.specs.Answer.{loosenings_of, IsAnswer}
 use Rattle.check_run.specs.Course.{Course, behind, appended}
-use Rattle.check_run.specs.Can.{CanSolve, CanCheck, CanUpgrade, CanUpgradeBy, CanDemo, CanBy, OfProblem, Can, verdict_course}
+use Rattle.check_run.specs.Can.{CanSolve, CanCheck, CanUpgrade, CanUpgradeBy, CanPlan, CanBy, OfProblem, Can, verdict_course}
 use Rattle.check_run.specs.Run.{Run, HasCourse, HasInput, IsShown}
 use Rattle.check_run.proofs.Shown.{status_is_shown}
-use Rattle.check_run.specs.Headline.{IsWritten, IsUnsat, IsTrueUnsat, UnsatIsTrue, IsDeltaSat, IsTrueDeltaSat, DeltaSatIsTrue, IsRefusedCert, IsTrueRefusal, RefusalIsTrue, IsUpgraded, IsTrueUpgrade, UpgradeIsTrue, delta_sat_word, confirmed_unsat_word, confirmed_delta_sat_word}
+use Rattle.check_run.proofs.Apart.{apart}
+use Rattle.check_run.proofs.Enough.{BuiltIsOne, is_enough}
+use Rattle.check_run.specs.Headline.{IsWritten, IsUnsat, IsTrueUnsat, UnsatIsTrue, IsDeltaSat, IsTrueDeltaSat, DeltaSatIsTrue, IsRefusedCert, IsTrueRefusal, RefusalIsTrue, IsUpgraded, IsTrueUpgrade, UpgradeIsTrue, IsPlanned, IsTruePlan, PlanIsTrue, delta_sat_word, confirmed_unsat_word, confirmed_delta_sat_word}
 
 -- ---- texts that differ
 
@@ -33,10 +34,6 @@ use Rattle.check_run.specs.Headline.{IsWritten, IsUnsat, IsTrueUnsat, UnsatIsTru
 written-is : (told : Option (List ℕ)) (new : Option (List ℕ)) (text answer : List ℕ) → IsSomeAnd told (λ before. new ≡ Some (before ++ text)) → new ≡ appended told answer → text ≡ answer
 written-is None new text answer h e = absurd h
 written-is (Some before) new text answer h e = append_cancel_left before text answer (let same : ◌≡◌ {A = Option (List ℕ)} (Some (before ++ text)) (Some (before ++ answer)) = sym h ∙ e in cc)
-
--- a byte at a place tells two texts apart
-apart : (t u : List ℕ) (k : ℕ) → t ≡ u → nat_eq (get_or t k 0) (get_or u k 0) ≡ false → ⊥
-apart t u k e f = elim (eqb_tells (get_or t k 0) (get_or u k 0)) [ inl h ↦ true≢false (sym h.0 ∙ f) | inr h ↦ h.1 (ap (λ (x : List ℕ). get_or x k 0) e) ]
 
 -- so does it of what is answered where something is left
 apart-left : (p : Problem) (s : Loosenings) (budget : ℕ) (x : Standing) (rest : List Standing) (t : List ℕ) (k : ℕ) → t ≡ solve_text p budget s (left_open (x ∷ rest)) →
@@ -181,6 +178,7 @@ unsat-true None script cert_in old new shows = tt
 unsat-true (Some (solve words)) script cert_in old new shows = solve-unsat words script cert_in old new shows
 unsat-true (Some (check words)) script cert_in old new shows = check-unsat words script cert_in old new shows
 unsat-true (Some (upgrade words)) script cert_in old new shows = tt
+unsat-true (Some (plan words)) script cert_in old new shows = tt
 unsat-true (Some (demo words)) script cert_in old new shows = demo-unsat words script cert_in old new shows
 
 -- ---- delta-sat
@@ -228,6 +226,7 @@ delta-sat-true None script cert_in old new shows = tt
 delta-sat-true (Some (solve words)) script cert_in old new shows = solve-delta words script cert_in old new shows
 delta-sat-true (Some (check words)) script cert_in old new shows = check-delta words script cert_in old new shows
 delta-sat-true (Some (upgrade words)) script cert_in old new shows = tt
+delta-sat-true (Some (plan words)) script cert_in old new shows = tt
 delta-sat-true (Some (demo words)) script cert_in old new shows = tt
 
 -- ---- certificates that are refused
@@ -277,6 +276,7 @@ refusal-true : (command : Option Command) (script cert_in : List ℕ) (old new :
 refusal-true None script cert_in old new shows = tt
 refusal-true (Some (solve words)) script cert_in old new shows = tt
 refusal-true (Some (demo words)) script cert_in old new shows = tt
+refusal-true (Some (plan words)) script cert_in old new shows = tt
 refusal-true (Some (check words)) script cert_in old new (course, can, status, went) =
     let tail : Course = can.0 in
     check-refused words script cert_in old new tail (script_fault words.bound script) can.1 (sym (ap (λ (c : Course). c.status) can.2) ∙ status)
@@ -312,11 +312,37 @@ upgrade-true None script cert_in old new shows = tt
 upgrade-true (Some (solve words)) script cert_in old new shows = tt
 upgrade-true (Some (check words)) script cert_in old new shows = tt
 upgrade-true (Some (demo words)) script cert_in old new shows = tt
+upgrade-true (Some (plan words)) script cert_in old new shows = tt
 upgrade-true (Some (upgrade words)) script cert_in old new (course, can, status, went) =
     let tail : Course = can.0 in
     let status_is : tail.status ≡ Answered = sym (ap (λ (c : Course). c.status) can.2) ∙ status in
     let on = goes-on words.bound script (λ p. CanUpgrade p words.bound words.cert words.out cert_in) (script_fault words.bound script) tail can.1 status_is in
     upgraded-of words script cert_in old new on.p tail on.built on.can status_is (went.cert ∙ ap (λ (c : Course). appended old.cert_out c.cert) can.2)
+
+-- ---- plans
+
+plan-so : BuiltIsOne → (words : Plan) (script cert_in : List ℕ) (old new : Sight) → IsShown (Some (plan words)) script cert_in old new Answered → IsPlanned words script old new
+plan-so one words script cert_in old new (course, can, status, went) =
+    let tail : Course = can.0 in
+    let status_is : tail.status ≡ Answered = sym (ap (λ (c : Course). c.status) can.2) ∙ status in
+    let on = goes-on words.bound script (λ p. CanPlan p words.delta_bits words.margin_bits) (script_fault words.bound script) tail can.1 status_is in
+    let is = on.can in
+    record {
+      problem = on.p;
+      built = on.built;
+      answer = is.0;
+      plan = is.1;
+      written = went.answer ∙ ap (λ (c : Course). appended old.answer c.answer) can.2 ∙ ap (λ (c : Course). appended old.answer c.answer) is.2;
+      enough = is_enough one words script on.p on.built is.0 is.1;
+    }
+
+plan-true : BuiltIsOne → (command : Option Command) (script cert_in : List ℕ) (old new : Sight) → IsShown command script cert_in old new Answered → IsTruePlan command script cert_in old new
+plan-true one None script cert_in old new shows = tt
+plan-true one (Some (solve words)) script cert_in old new shows = tt
+plan-true one (Some (check words)) script cert_in old new shows = tt
+plan-true one (Some (demo words)) script cert_in old new shows = tt
+plan-true one (Some (upgrade words)) script cert_in old new shows = tt
+plan-true one (Some (plan words)) script cert_in old new shows = plan-so one words script cert_in old new shows
 
 -- ---- of whole runs
 
@@ -335,3 +361,6 @@ refusal_is_true r course script cert_in tells e = refusal-true r.command script 
 
 pub upgrade_is_true : (r : Run) → HasCourse r → UpgradeIsTrue r
 upgrade_is_true r course script cert_in tells e = upgrade-true r.command script cert_in r.old r.new (shown-with r Answered course script cert_in tells e)
+
+pub plan_is_true : BuiltIsOne → (r : Run) → HasCourse r → PlanIsTrue r
+plan_is_true one r course script cert_in tells e = plan-true one r.command script cert_in r.old r.new (shown-with r Answered course script cert_in tells e)

@@ -1,4 +1,6 @@
+pub mod Apart
 pub mod Ending
+pub mod Enough
 pub mod Faulty
 pub mod Headline
 pub mod Reading

@@ -1,5 +1,5 @@
 -- A run from its script on.
-use Rattle.std.proofs.Common.{◌≡◌, ◌≤◌, ℕ, List, [], ◌∷◌, Option, Some, None, length, refl, ap, sym, subst, ◌∙◌, min, IfSome, rules}
+use Rattle.std.proofs.Common.{◌≡◌, ◌≤◌, ℕ, List, [], ◌∷◌, Option, Some, None, length, refl, ap, sym, subst, ◌∙◌, min, IfSome}
 use Rattle.std.specs.Prelude.{option_map}
 use Rattle.desk.specs.declared.desk.Port.TheVariants.{Script}
 use Rattle.desk.specs.Sight.{Sight, SideFailed}
@@ -18,8 +18,8 @@ use Rattle.check_run.specs.Can.{CanDemo, CanBy, CanFrom, OfProblem, Can}
 use Rattle.check_run.specs.Run.{HasCause, ReadsScript, ScriptIsRead, run_of}
 use Rattle.check_run.specs.Parts.{After}
 use Rattle.script_faults.specs.Reader.{HasProblem}
-use Rattle.check_run.specs.Script.{HasFaultText, IsHaltOfScript, script_start, Fetches, Halts, HaltEnds}
-use Rattle.check_run.proofs.Ending.{appended-nil, take_first, ends_behind, run_behind, widen}
+use Rattle.check_run.specs.Script.{HasFaultText, script_start, Fetches, Halts, HaltEnds}
+use Rattle.check_run.proofs.Ending.{take_first, ends_behind, run_behind, widen}
 
 -- ---- what a course is behind its script
 

@@ -2,7 +2,7 @@
 use Rattle.std.proofs.Common.{◌≡◌, inl, inr, ℕ, List, Option, Some, None, sym, subst, ◌∙◌}
 use Rattle.desk.specs.Sight.{Sight}
 use Rattle.words.specs.declared.request.Options.{Options}
-use Rattle.words.specs.Words.{Command, solve, check, demo, upgrade}
+use Rattle.words.specs.Words.{Command, solve, check, demo, upgrade, plan}
 use Rattle.gen_script.specs.Demo.{demo_script}
 use Rattle.poly_graph.specs.Problem.{Problem}
 use Rattle.cert_model.specs.Accepted.{Verdict, accepted, refused, verdict}
@@ -11,7 +11,7 @@ use Rattle.script_faults.specs.Faults.{script_fault}
 use Rattle.check_run.specs.declared.status.Status.{Status}
 use Rattle.check_run.specs.declared.status.Status.TheVariants.{Answered, CertRefused, ScriptRefused, Usage, InFailed, OutFailed, NoMemory}
 use Rattle.check_run.specs.Course.{Course, Went, Ends, at_its_end, out_failed, no_memory, RunEnds, on_course, in_failed, no_memory_yet}
-use Rattle.check_run.specs.Can.{CanSolve, CanCheck, CanUpgrade, CanUpgradeBy, CanDemo, CanBy, OfProblem, Can, in_starts, verdict_course}
+use Rattle.check_run.specs.Can.{CanSolve, CanCheck, CanUpgrade, CanUpgradeBy, CanDemo, CanPlan, CanBy, OfProblem, Can, in_starts, verdict_course}
 use Rattle.check_run.specs.Run.{Run, HasCourse, IsShown, IsDue, run_of, StatusIsDue, StatusIsShown}
 
 -- a status that is told by an answer
@@ -58,6 +58,8 @@ said (Some (check words)) script cert_in course can = said-same course _ can.2
     (said-by words.bound script (λ p. CanCheck p words.bound words.cert cert_in) (λ p c h. said-same c _ h (said-verdict (verdict p words.bound cert_in))) (script_fault words.bound script) can.0 can.1)
 said (Some (upgrade words)) script cert_in course can = said-same course _ can.2
     (said-by words.bound script (λ p. CanUpgrade p words.bound words.cert words.out cert_in) (λ p c h. said-upgrade p words.bound words.cert words.out cert_in c h) (script_fault words.bound script) can.0 can.1)
+said (Some (plan words)) script cert_in course can = said-same course _ can.2
+    (said-by words.bound script (λ p. CanPlan p words.delta_bits words.margin_bits) (λ p c h. said-same c _ h.2 tt) (script_fault words.bound script) can.0 can.1)
 said (Some (demo words)) script cert_in course can = said-demo can.0 words.options words.cert (demo_script words.seed words.size) course can.2
 
 module _ (command : Option Command) (script cert_in : List ℕ) (old new : Sight) where

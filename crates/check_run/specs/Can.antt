@@ -2,15 +2,18 @@
 use Rattle.std.specs.Prelude.{◌≡◌, ℕ, List, [], ◌∷◌, Option, Some, None, codes, length}
 use Rattle.desk.specs.declared.desk.Port.TheVariants.{Script, CertIn}
 use Rattle.words.specs.declared.request.Options.{Options}
-use Rattle.words.specs.Words.{Command, solve, check, demo, upgrade}
+use Rattle.words.specs.Words.{Command, solve, check, demo, upgrade, plan}
 use Rattle.gen_script.specs.Demo.{demo_script}
 use Rattle.poly_graph.specs.Problem.{Problem}
+use Rattle.width_plan.specs.Plan as width
+use Rattle.width_plan.specs.Plan.{IsPlan, least_bits, no_atom, no_axis}
 use Rattle.cert_model.specs.Due.{Value, left_open}
 use Rattle.cert_model.specs.Accepted.{Verdict, accepted, refused, verdict, IsAccepted}
 use Rattle.cert_model.specs.AnswerText.{solve_text, verdict_text, demo_text}
 use Rattle.cert_upgrade.specs.Upgraded.{upgraded, in_version_2}
 use Rattle.check_run.specs.declared.status.Status.TheVariants.{Answered, CertRefused, ScriptRefused, Usage}
 use Rattle.script_fault.specs.declared.fault.ScriptFault.{ScriptFault}
+use Rattle.answer_text.specs.Plans.{least_bits_text, no_atom_text, no_axis_text}
 use Rattle.answer_text.specs.ScriptFaults.{fault_text}
 use Rattle.script_faults.specs.Faults.{script_fault}
 use Rattle.script_faults.specs.Reader.{IsBuilt}
@@ -54,6 +57,16 @@ abbrev pub CanDemo : Problem → Options → List ℕ → List ℕ → Course �
 CanDemo p options name bytes course =
     (cert : List ℕ) × IsAnswer p options cert (left_open []) × (course ≡ gives name cert (demo_text (length bytes) (length p.atoms)))
 
+abbrev pub plan_text : width.Answer → List ℕ
+plan_text (least_bits bits) = least_bits_text bits
+plan_text (no_atom atom) = no_atom_text atom
+plan_text (no_axis axis) = no_axis_text axis
+
+-- `plan`: the text of the problem's plan for this delta and margin
+abbrev pub CanPlan : Problem → ℕ → ℕ → Course → Type 0
+CanPlan p delta_bits margin_bits course =
+    (answer : width.Answer) × IsPlan p delta_bits margin_bits answer × (course ≡ says Answered (plan_text answer))
+
 -- a script with a fault is refused, one without goes on
 abbrev pub CanBy : Option ScriptFault → (Course → Type 0) → Course → Type 0
 CanBy (Some fault) goes_on course = course ≡ says ScriptRefused (fault_text fault)
@@ -79,6 +92,9 @@ Can (Some (check words)) script cert_in course =
 Can (Some (upgrade words)) script cert_in course =
     CanFrom words.script (script_fault words.bound script)
     (OfProblem words.bound script (λ p. CanUpgrade p words.bound words.cert words.out cert_in)) course
+Can (Some (plan words)) script cert_in course =
+    CanFrom words.script (script_fault words.bound script)
+    (OfProblem words.bound script (λ p. CanPlan p words.delta_bits words.margin_bits)) course
 Can (Some (demo words)) script cert_in course =
     OfProblem words.options.bound (demo_script words.seed words.size) (λ p. CanDemo p words.options words.cert (demo_script words.seed words.size)) course
 
@@ -88,4 +104,5 @@ in_starts None = []
 in_starts (Some (solve words)) = (Script, words.script) ∷ []
 in_starts (Some (check words)) = (Script, words.script) ∷ (CertIn, words.cert) ∷ []
 in_starts (Some (upgrade words)) = (Script, words.script) ∷ (CertIn, words.cert) ∷ []
+in_starts (Some (plan words)) = (Script, words.script) ∷ []
 in_starts (Some (demo words)) = []

@@ -2,12 +2,14 @@
 use Rattle.std.specs.Prelude.{◌≡◌, ◌++◌, ℕ, List, [], Option, Some, None, IsSomeAnd, codes}
 use Rattle.desk.specs.Sight.{Sight}
 use Rattle.words.specs.declared.request.Options.{Options}
-use Rattle.words.specs.Words.{Command, solve, check, demo, upgrade}
+use Rattle.words.specs.Words.{Command, Plan, Solve, solve, check, demo, upgrade, plan}
 use Rattle.gen_script.specs.Demo.{demo_script}
 use Rattle.dyadic.specs.Rounding.{exact}
 use Rattle.script_model.specs.Script.{Satisfies}
 use Rattle.poly_graph.specs.Problem.{Problem}
 use Rattle.interval_model.specs.Space.{Space}
+use Rattle.width_plan.specs.Plan as width
+use Rattle.width_plan.specs.Plan.{IsPlan, least_bits}
 use Rattle.cover_model.specs.State.{Loosenings, margin_of, delta_of}
 use Rattle.cert_model.specs.Due.{CertFault, Value, at_point, left_open, coordinates}
 use Rattle.cert_model.specs.Accepted.{IsAccepted, refused, verdict}
@@ -18,7 +20,8 @@ use Rattle.headline.specs.Near.{IsNearDeclaredBox}
 use Rattle.script_faults.specs.Reader.{commands_of, IsBuilt}
 use Rattle.check_run.specs.Answer.{loosenings_of}
 use Rattle.check_run.specs.declared.status.Status.TheVariants.{Answered, CertRefused}
-use Rattle.check_run.specs.Course.{appended}
+use Rattle.check_run.specs.Course.{Course, appended}
+use Rattle.check_run.specs.Can.{Can, plan_text}
 use Rattle.check_run.specs.Run.{Run, OnInput}
 
 -- this text was written as answer, where the desk shows the answer's bytes
@@ -54,6 +57,7 @@ IsTrueUnsat (Some (check words)) script cert_in old new =
     (s : Loosenings) × IsWritten (check_text s (left_open [])) old new × IsConfirmedUnsat words.bound script cert_in s
 IsTrueUnsat (Some (demo words)) script cert_in old new = IsUnsat words.options (demo_script words.seed words.size) old new
 IsTrueUnsat (Some (upgrade words)) script cert_in old new = Unit {0}
+IsTrueUnsat (Some (plan words)) script cert_in old new = Unit {0}
 IsTrueUnsat None script cert_in old new = Unit {0}
 
 -- The point satisfies the script, each atom loosened by delta, and lies within delta of the declared box.
@@ -116,6 +120,40 @@ abbrev pub IsTrueUpgrade : Option Command → List ℕ → List ℕ → Sight �
 IsTrueUpgrade (Some (upgrade words)) script cert_in old new = IsUpgraded words.bound script cert_in old new
 IsTrueUpgrade _ script cert_in old new = Unit {0}
 
+-- The options of `solve` are those of the plan, with this least width.
+pub record AreOptionsAt (words : Plan) (bits : ℕ) (options : Options) : Type 0 where
+  pub delta : options.delta_bits ≡ words.delta_bits
+  pub margin : options.margin_bits ≡ words.margin_bits
+  pub bound : options.bound ≡ words.bound
+  pub least : options.least_bits ≡ bits
+
+abbrev pub unknown_width_word : List ℕ
+unknown_width_word = text_line (codes "unknown width")
+
+-- With them no course of `solve` on the script answers `unknown width`, whatever the budget and the workers.
+abbrev pub NeverUnknownWidth : Plan → ℕ → List ℕ → Type 0
+NeverUnknownWidth words bits script =
+    (asked : Solve) → AreOptionsAt words bits asked.options → (cert_in : List ℕ) (course : Course) → Can (Some (solve asked)) script cert_in course →
+    (rest : List ℕ) → course.answer ≡ unknown_width_word ++ rest → ⊥
+
+abbrev pub IsEnough : Plan → List ℕ → width.Answer → Type 0
+IsEnough words script (least_bits bits) = NeverUnknownWidth words bits script
+IsEnough words script _ = Unit {0}
+
+-- The answer is the plan of the script's problem, for the delta and the margin of the words. The width that it names is enough.
+pub record IsPlanned (words : Plan) (script : List ℕ) (old new : Sight) : Type 0 where
+  pub problem : Problem
+  pub built : IsBuilt words.bound script problem
+  pub answer : width.Answer
+  pub plan : IsPlan problem words.delta_bits words.margin_bits answer
+  pub written : new.answer ≡ appended old.answer (plan_text answer)
+  pub enough : IsEnough words script answer
+
+-- `plan` answers where that is so.
+abbrev pub IsTruePlan : Option Command → List ℕ → List ℕ → Sight → Sight → Type 0
+IsTruePlan (Some (plan words)) script cert_in old new = IsPlanned words script old new
+IsTruePlan _ script cert_in old new = Unit {0}
+
 -- ---- runs
 
 -- where the run answers `unsat`, or confirms it, the script holds nowhere in its declared box
@@ -133,3 +171,7 @@ RefusalIsTrue r = OnInput r (λ script cert_in. r.status ≡ CertRefused → IsT
 -- where `upgrade` answers, the certificate is accepted, and so is what was written, in version 2 with the same value
 abbrev pub UpgradeIsTrue : Run → Type 0
 UpgradeIsTrue r = OnInput r (λ script cert_in. r.status ≡ Answered → IsTrueUpgrade r.command script cert_in r.old r.new)
+
+-- where `plan` answers, it is the plan of the script's problem, and `solve` with the width that it names never answers `unknown width`
+abbrev pub PlanIsTrue : Run → Type 0
+PlanIsTrue r = OnInput r (λ script cert_in. r.status ≡ Answered → IsTruePlan r.command script cert_in r.old r.new)

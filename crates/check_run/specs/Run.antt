@@ -4,13 +4,14 @@ use Rattle.std.specs.Option.{option_map}
 use Rattle.std.specs.declared.alloc.Global.{Global}
 use Rattle.std.specs.declared.string.String.{String}
 use Rattle.desk.specs.Sight.{Sight, SideFailed}
-use Rattle.words.specs.Words.{Command, Solve, Check, Demo, Upgrade, command_of, solve, check, demo, upgrade}
-use Rattle.words.specs.Seen.{seen, seen_solve, seen_check, seen_demo, seen_upgrade}
+use Rattle.words.specs.Words.{Command, Solve, Check, Demo, Upgrade, Plan, command_of, solve, check, demo, upgrade, plan}
+use Rattle.words.specs.Seen.{seen, seen_solve, seen_check, seen_demo, seen_upgrade, seen_plan}
 use Rattle.words.specs.declared.request.Request.{Request}
 use Rattle.words.specs.declared.request.SolveWords.{SolveWords}
 use Rattle.words.specs.declared.request.CheckWords.{CheckWords}
 use Rattle.words.specs.declared.request.DemoWords.{DemoWords}
 use Rattle.words.specs.declared.request.UpgradeWords.{UpgradeWords}
+use Rattle.words.specs.declared.request.PlanWords.{PlanWords}
 use Rattle.check_run.specs.declared.status.Status.{Status}
 use Rattle.check_run.specs.declared.status.Status.TheVariants.{Answered, CertRefused, ScriptRefused, Usage, InFailed, OutFailed, NoMemory}
 use Rattle.script_faults.specs.Faults.{most_bytes}
@@ -47,6 +48,9 @@ check_run words = run_of (Some (check (seen_check words)))
 abbrev pub upgrade_run : UpgradeWords → Sight → Sight → Status → Run
 upgrade_run words = run_of (Some (upgrade (seen_upgrade words)))
 
+abbrev pub plan_run : PlanWords → Sight → Sight → Status → Run
+plan_run words = run_of (Some (plan (seen_plan words)))
+
 abbrev pub demo_run : DemoWords → Sight → Sight → Status → Run
 demo_run words = run_of (Some (demo (seen_demo words)))
 
@@ -62,6 +66,7 @@ abbrev pub ReadsScript : Option Command → Type 0
 ReadsScript (Some (solve words)) = Unit {0}
 ReadsScript (Some (check words)) = Unit {0}
 ReadsScript (Some (upgrade words)) = Unit {0}
+ReadsScript (Some (plan words)) = Unit {0}
 ReadsScript _ = ⊥
 
 -- ---- what holds whatever the desk shows
@@ -89,6 +94,9 @@ CheckHasCause old new status = (words : Check) → HasCause (run_of (Some (check
 
 abbrev pub UpgradeHasCause : Sight → Sight → Status → Type 0
 UpgradeHasCause old new status = (words : Upgrade) → HasCause (run_of (Some (upgrade words)) old new status)
+
+abbrev pub PlanHasCause : Sight → Sight → Status → Type 0
+PlanHasCause old new status = (words : Plan) → HasCause (run_of (Some (plan words)) old new status)
 
 abbrev pub DemoHasCause : Sight → Sight → Status → Type 0
 DemoHasCause old new status = (words : Demo) → HasCause (run_of (Some (demo words)) old new status)
@@ -120,6 +128,7 @@ abbrev pub HasInput : Option Command → Sight → List ℕ → List ℕ → Typ
 HasInput (Some (solve words)) d script cert_in = d.script ≡ Some script
 HasInput (Some (check words)) d script cert_in = (d.script ≡ Some script) × (d.cert_in ≡ Some cert_in)
 HasInput (Some (upgrade words)) d script cert_in = (d.script ≡ Some script) × (d.cert_in ≡ Some cert_in)
+HasInput (Some (plan words)) d script cert_in = d.script ≡ Some script
 HasInput _ d script cert_in = Unit {0}
 
 abbrev pub OnInput : Run → (List ℕ → List ℕ → Type 0) → Type 0

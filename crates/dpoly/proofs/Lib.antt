@@ -1,4 +1,5 @@
 pub mod Demo
+pub mod Planning
 pub mod Solving
 pub mod SearchAnswers
 pub mod Upgrading

@@ -1,4 +1,5 @@
-// What standard error says of a run that gave no answer: for people to read, and promised by no clause.
+// What standard error says of a run that gave no answer, or one that a hint helps with: for people to read, and promised
+// by no clause.
 use check_run::Status;
 use file_desk::{FileDesk, Messages};
 use std::alloc::Global;
@@ -24,16 +25,43 @@ fn messages_of<'a>(alloc: Global, words: &'a [String]) -> Messages<'a> {
             cert_out: asked.out,
             ..messages(asked.script, asked.cert)
         },
+        Ok(Request::Plan(asked)) => messages(asked.script, "-"),
         Err(_) => messages("-", "-"),
     }
 }
 
+// What would help, behind an answer that leaves a question open.
+const HINTS: [(&str, &str); 3] = [
+    (
+        "plan none atom ",
+        "no width of 60 bits or fewer is sure to decide this atom (atoms count from 0, comparisons in the order in which they first appear). A greater delta, a smaller margin, or tighter bounds of its constants may help",
+    ),
+    (
+        "plan none axis ",
+        "this constant (they count from 0, in the order of declaration) has a bound so large that its numbers stand too far apart for the width that the atoms need. Tighter bounds, a greater delta or a smaller margin may help",
+    ),
+    (
+        "unknown width\n",
+        "`dpoly plan`, with the same script and options, tells with which `--least-bits` this answer never comes",
+    ),
+];
+
+// Says on standard error what would help, where the answer is one of these.
+fn hint(rt: &HostRuntime, answer: &str) {
+    for (begins, help) in &HINTS {
+        if answer.starts_with(*begins) {
+            let _ = eprintln!(rt; "dpoly: {help}");
+        }
+    }
+}
+
 /// Says on standard error why the run of these words gave no answer: which word is wrong, or the help; which file could
-/// not be read or written; where the script, or the certificate, is refused.
+/// not be read or written; where the script, or the certificate, is refused. Behind an answer that leaves a question open
+/// it says what would help.
 pub fn explain(rt: &HostRuntime, words: &[String], desk: &FileDesk, status: Status) {
     let messages = messages_of(rt.alloc(), words);
     match status {
-        Status::Answered => {}
+        Status::Answered => hint(rt, desk.answer()),
         Status::Usage => {
             if let Ok(text) = usage_text(rt.alloc(), words) {
                 let _ = rt.eprint(text);

@@ -1,10 +1,11 @@
 // The run of the whole program.
 ghost use Rattle.std.specs.Prelude.{◌≡◌, None};
-ghost use Rattle.words.specs.Words.{AreOptions, IsDemo, IsInRange};
-ghost use Rattle.words.specs.Seen.{seen, seen_demo};
-ghost use Rattle.check_run.specs.Run.{asked_run, CertIsRead, command_in, demo_run, HasCause, HasCourse, run, SameIn, ScriptIsRead, solve_run, StatusIsDue, StatusIsShown, upgrade_run};
-ghost use Rattle.check_run.specs.Headline.{DeltaSatIsTrue, RefusalIsTrue, UnsatIsTrue, UpgradeIsTrue};
+ghost use Rattle.words.specs.Words.{AreOptions, IsDemo, IsInRange, IsPlan};
+ghost use Rattle.words.specs.Seen.{seen, seen_demo, seen_plan};
+ghost use Rattle.check_run.specs.Run.{asked_run, CertIsRead, command_in, demo_run, HasCause, HasCourse, plan_run, run, SameIn, ScriptIsRead, solve_run, StatusIsDue, StatusIsShown, upgrade_run};
+ghost use Rattle.check_run.specs.Headline.{DeltaSatIsTrue, PlanIsTrue, RefusalIsTrue, UnsatIsTrue, UpgradeIsTrue};
 
+use crate::plan::plan_problem;
 use crate::solve::{solve_demo, solve_problem};
 use crate::upgrade::upgrade_problem;
 use check_run::{Halt, Status, end_halted, fetch_problem, read_script, run_check, say};
@@ -15,7 +16,7 @@ use solve_core::Gate;
 use std::alloc::Global;
 use std::sync::Wait;
 use std::thread::Threads;
-use words::{DemoWords, Refused, Request, SolveWords, UpgradeWords, read_words};
+use words::{DemoWords, PlanWords, Refused, Request, SolveWords, UpgradeWords, read_words};
 
 // Solves a script: its certificate, and then the answer.
 fn run_solve<R: Threads + Wait + Sync, D: Desk, G: Gate + Sync>(
@@ -62,6 +63,26 @@ fn run_upgrade<D: Desk>(alloc: Global, desk: &mut D, asked: UpgradeWords<'_>) ->
     } = asked;
     match fetch_problem(&Reader, alloc, desk, script, bound) {
         Ok(problem) => upgrade_problem(alloc, desk, cert, out, &problem, bound),
+        Err(stop) => end_halted(desk, stop),
+    }
+}
+
+// Tells the least width that a script needs.
+fn run_plan<D: Desk>(alloc: Global, desk: &mut D, asked: PlanWords<'_>) -> Status
+    requires { IsPlan (seen_plan asked) }
+    ensures cause { HasCause (plan_run asked.entry (D.sight desk.old) (D.sight desk.new) result) }
+    ensures script { ScriptIsRead
+        (plan_run asked.entry (D.sight desk.old) (D.sight desk.new) result) }
+    ensures course { HasCourse (plan_run asked.entry (D.sight desk.old) (D.sight desk.new) result) }
+{
+    let PlanWords {
+        script,
+        delta_bits,
+        margin_bits,
+        bound,
+    } = asked;
+    match fetch_problem(&Reader, alloc, desk, script, bound) {
+        Ok(problem) => plan_problem(alloc, desk, &problem, delta_bits, margin_bits),
         Err(stop) => end_halted(desk, stop),
     }
 }
@@ -117,6 +138,7 @@ fn run_command<R: Threads + Wait + Sync, D: Desk, G: Gate + Sync>(
         Request::Check(asked) => run_check(&Reader, alloc, desk, asked),
         Request::Demo(asked) => run_demo(rt, alloc, desk, asked, gate),
         Request::Upgrade(asked) => run_upgrade(alloc, desk, asked),
+        Request::Plan(asked) => run_plan(alloc, desk, asked),
     }
 }
 
@@ -125,7 +147,8 @@ fn run_command<R: Threads + Wait + Sync, D: Desk, G: Gate + Sync>(
 /// `solve SCRIPT CERT` reads a script and writes a certificate of it, and then the answer. `check SCRIPT CERT` reads a
 /// script and a certificate, and answers whether the certificate is accepted, and what it shows. `upgrade SCRIPT CERT OUT`
 /// does so too, and writes a certificate that is accepted in version 2 of its format. `demo SEED SIZE CERT` makes a script,
-/// solves it, and answers how large it was. The gate is called when work on a box begins and ends.
+/// solves it, and answers how large it was. `plan SCRIPT` reads a script, and answers with which least width `solve` never
+/// answers `unknown width`. The gate is called when work on a box begins and ends.
 pub fn run_top<R: Threads + Wait + Sync, D: Desk, G: Gate + Sync>(
     rt: &R,
     alloc: Global,
@@ -152,6 +175,10 @@ pub fn run_top<R: Threads + Wait + Sync, D: Desk, G: Gate + Sync>(
         (run words.now (D.sight desk.old) (D.sight desk.new) result) }
     ensures refused { RefusalIsTrue (run words.now (D.sight desk.old) (D.sight desk.new) result) }
     ensures upgraded { UpgradeIsTrue (run words.now (D.sight desk.old) (D.sight desk.new) result) }
+
+    // What is planned is the plan of the script's problem, and with the width that it names no run of `solve` on this
+    // script answers `unknown width`.
+    ensures planned { PlanIsTrue (run words.now (D.sight desk.old) (D.sight desk.new) result) }
 {
     match read_words(alloc, words) {
         Ok(asked) => run_command(rt, alloc, desk, asked, gate),

@@ -8,7 +8,7 @@ use Rattle.clap.specs.Words.{Row, Text, fault_of, first_of, one_of, subcommand_o
 use Rattle.clap.specs.Walk.{is_empty}
 use Rattle.words.specs.declared.request.Options.{Options}
 use Rattle.words.specs.Program.{program}
-use Rattle.words.specs.Words.{Command, Solve, Check, Demo, Upgrade, solve, check, demo, upgrade, AreOptions, IsBound, IsDemo, IsInRange, is_number, number_of, number_in, long_number_in, within, ordered, parted, parted_upgrade, usual, options_of, solve_of, check_of, demo_of, upgrade_of, chosen, command_of}
+use Rattle.words.specs.Words.{Command, Solve, Check, Demo, Upgrade, Plan, solve, check, demo, upgrade, plan, AreOptions, IsBound, IsDemo, IsPlan, IsInRange, is_number, number_of, number_in, long_number_in, within, ordered, parted, parted_upgrade, ordered_plan, usual, options_of, solve_of, check_of, demo_of, upgrade_of, plan_of, chosen, command_of}
 use Rattle.words.proofs.Numbers.{and_first, and_second, true_less}
 
 -- a chain that gives a value gave one before
@@ -164,6 +164,29 @@ demo_in_range rows asked h =
             options = usual_are_options workers w;
           })
 
+ordered_plan_is : (c v : Plan) → ordered_plan c ≡ Some v → (c.delta_bits < c.margin_bits) × (c ≡ v)
+ordered_plan_is c v h = let p = passed (nat_lt c.delta_bits c.margin_bits) c v h in (true_less _ _ p.0, p.1)
+
+plan_in_range : (rows : List Row) (asked : Plan) → plan_of rows ≡ Some asked → IsPlan asked
+plan_in_range rows asked h = by_script (first_of (codes "script") rows) h where
+  by_script : (script : Option Text) → option_and_then (λ script. option_and_then (λ delta. option_and_then (λ margin.
+      ordered_plan (record { script = script; delta_bits = delta; margin_bits = margin; bound = number_in 1 4294967295 (codes "bound") rows }))
+      (number_in 2 60 (codes "margin-bits") rows)) (number_in 1 30 (codes "delta-bits") rows)) script ≡ Some asked → IsPlan asked
+  by_script None e = cc
+  by_script (Some script) e =
+      let delta = chained _ _ asked e in
+      let margin = chained _ _ asked delta.gives in
+      let d = between 1 30 (codes "delta-bits") rows delta.value delta.was in
+      let m = between 2 60 (codes "margin-bits") rows margin.value margin.was in
+      let p = ordered_plan_is _ asked margin.gives in
+      subst IsPlan p.1 (record {
+        delta_least = d.at_least;
+        delta_most = d.at_most;
+        below_margin = p.0;
+        margin_most = m.at_most;
+        bound = is_bound _ rows refl;
+      })
+
 -- what a choice of two subcommands gives
 taken : (f : Solve → Command) (o : Option Solve) (c : Command) → option_map f o ≡ Some c → Chained (λ x. Some (f x)) o c
 taken f None c h = cc
@@ -181,31 +204,43 @@ taken_upgrade : (f : Upgrade → Command) (o : Option Upgrade) (c : Command) →
 taken_upgrade f None c h = cc
 taken_upgrade f (Some x) c h = record { value = x; was = refl; gives = h }
 
+taken_plan : (f : Plan → Command) (o : Option Plan) (c : Command) → option_map f o ≡ Some c → Chained (λ x. Some (f x)) o c
+taken_plan f None c h = cc
+taken_plan f (Some x) c h = record { value = x; was = refl; gives = h }
+
 -- What is chosen is in its range.
 pub chosen_in_range : (entered : Text × List Row) (c : Command) → chosen entered ≡ Some c → IsInRange c
 chosen_in_range entered c h = first (bytes_eq entered.0 (codes "solve")) h where
   some_is : (d : Command) → ◌≡◌ {A = Option Command} (Some d) (Some c) → IsInRange d → IsInRange c
   some_is d e r = let is : d ≡ c = cc in subst IsInRange is r
 
-  fourth : (b : Bool) → ◌≡◌ {A = Option Command} (if b then option_map (λ asked. upgrade asked) (upgrade_of entered.1) else None) (Some c) → IsInRange c
+  fifth : (b : Bool) → ◌≡◌ {A = Option Command} (if b then option_map (λ asked. plan asked) (plan_of entered.1) else None) (Some c) → IsInRange c
+  fifth true e = let t = taken_plan (λ asked. plan asked) (plan_of entered.1) c e in some_is (plan t.value) t.gives (plan_in_range entered.1 t.value t.was)
+  fifth false e = cc
+
+  fourth : (b : Bool) → ◌≡◌ {A = Option Command} (if b then option_map (λ asked. upgrade asked) (upgrade_of entered.1)
+      else (if bytes_eq entered.0 (codes "plan") then option_map (λ asked. plan asked) (plan_of entered.1) else None)) (Some c) → IsInRange c
   fourth true e = let t = taken_upgrade (λ asked. upgrade asked) (upgrade_of entered.1) c e in some_is (upgrade t.value) t.gives (upgrade_in_range entered.1 t.value t.was)
-  fourth false e = cc
+  fourth false e = fifth (bytes_eq entered.0 (codes "plan")) e
 
   third : (b : Bool) → ◌≡◌ {A = Option Command} (if b then option_map (λ asked. demo asked) (demo_of entered.1)
-      else (if bytes_eq entered.0 (codes "upgrade") then option_map (λ asked. upgrade asked) (upgrade_of entered.1) else None)) (Some c) → IsInRange c
+      else (if bytes_eq entered.0 (codes "upgrade") then option_map (λ asked. upgrade asked) (upgrade_of entered.1)
+      else (if bytes_eq entered.0 (codes "plan") then option_map (λ asked. plan asked) (plan_of entered.1) else None))) (Some c) → IsInRange c
   third true e = let t = taken_demo (λ asked. demo asked) (demo_of entered.1) c e in some_is (demo t.value) t.gives (demo_in_range entered.1 t.value t.was)
   third false e = fourth (bytes_eq entered.0 (codes "upgrade")) e
 
   second : (b : Bool) → ◌≡◌ {A = Option Command} (if b then option_map (λ asked. check asked) (check_of entered.1)
       else (if bytes_eq entered.0 (codes "demo") then option_map (λ asked. demo asked) (demo_of entered.1)
-      else (if bytes_eq entered.0 (codes "upgrade") then option_map (λ asked. upgrade asked) (upgrade_of entered.1) else None))) (Some c) → IsInRange c
+      else (if bytes_eq entered.0 (codes "upgrade") then option_map (λ asked. upgrade asked) (upgrade_of entered.1)
+      else (if bytes_eq entered.0 (codes "plan") then option_map (λ asked. plan asked) (plan_of entered.1) else None)))) (Some c) → IsInRange c
   second true e = let t = taken_check (λ asked. check asked) (check_of entered.1) c e in some_is (check t.value) t.gives (check_in_range entered.1 t.value t.was)
   second false e = third (bytes_eq entered.0 (codes "demo")) e
 
   first : (b : Bool) → ◌≡◌ {A = Option Command} (if b then option_map (λ asked. solve asked) (solve_of entered.1)
       else (if bytes_eq entered.0 (codes "check") then option_map (λ asked. check asked) (check_of entered.1)
       else (if bytes_eq entered.0 (codes "demo") then option_map (λ asked. demo asked) (demo_of entered.1)
-      else (if bytes_eq entered.0 (codes "upgrade") then option_map (λ asked. upgrade asked) (upgrade_of entered.1) else None)))) (Some c) → IsInRange c
+      else (if bytes_eq entered.0 (codes "upgrade") then option_map (λ asked. upgrade asked) (upgrade_of entered.1)
+      else (if bytes_eq entered.0 (codes "plan") then option_map (λ asked. plan asked) (plan_of entered.1) else None))))) (Some c) → IsInRange c
   first true e = let t = taken (λ asked. solve asked) (solve_of entered.1) c e in some_is (solve t.value) t.gives (solve_in_range entered.1 t.value t.was)
   first false e = second (bytes_eq entered.0 (codes "check")) e
 

@@ -2,7 +2,7 @@
 use Rattle.std.proofs.Common.{◌≡◌, refl, [], ◌∷◌, Some, None, codes}
 use Rattle.clap.proofs.OnLiterals.{clap_on_literals}
 use Rattle.words.specs.Program.{checker, program}
-use Rattle.words.specs.Words.{number_of, usual, checker_of, command_of, solve, check, demo, upgrade}
+use Rattle.words.specs.Words.{number_of, usual, checker_of, command_of, solve, check, demo, upgrade, plan}
 
 -- the usual options
 usual_solve : command_of (codes "dpoly" ∷ codes "solve" ∷ codes "s" ∷ codes "c" ∷ []) ≡ Some (solve (record { script = codes "s"; cert = codes "c"; options = usual 1 }))
@@ -142,3 +142,16 @@ upgrade_of_files = refl
 upgrade_of_one_stream : command_of (codes "dpoly" ∷ codes "upgrade" ∷ codes "-" ∷ codes "-" ∷ codes "d" ∷ []) ≡ None
 unfolding program clap_on_literals number_of
 upgrade_of_one_stream = refl
+
+-- a plan
+usual_plan : command_of (codes "dpoly" ∷ codes "plan" ∷ codes "s" ∷ []) ≡ Some (plan (record { script = codes "s"; delta_bits = 10; margin_bits = 20; bound = None }))
+unfolding program clap_on_literals number_of
+usual_plan = refl
+
+plan_with_options : command_of (codes "dpoly" ∷ codes "plan" ∷ codes "-" ∷ codes "--delta-bits" ∷ codes "30" ∷ codes "--margin-bits=60" ∷ codes "--bound" ∷ codes "8" ∷ []) ≡ Some (plan (record { script = codes "-"; delta_bits = 30; margin_bits = 60; bound = Some 8 }))
+unfolding program clap_on_literals number_of
+plan_with_options = refl
+
+plan_of_wider_margin : command_of (codes "dpoly" ∷ codes "plan" ∷ codes "s" ∷ codes "--margin-bits" ∷ codes "10" ∷ []) ≡ None
+unfolding program clap_on_literals number_of
+plan_of_wider_margin = refl

@@ -39,10 +39,14 @@ seed_rule = record (word_rule (codes "seed")) { parser = Some (parser.Unsigned 0
 abbrev pub size_rule : Rule
 size_rule = record (word_rule (codes "size")) { parser = Some (parser.Signed (pos 1) (pos 10000)) }
 
+-- `solve SCRIPT CERT` with delta and margin alone
+abbrev pub loosened_app : App
+loosened_app = with_rule (with_rule (with_rule (with_rule (new_app (codes "solve"))
+    (word_rule (codes "script"))) (word_rule (codes "cert"))) delta_rule) margin_rule
+
 -- `solve SCRIPT CERT` and its options
 abbrev pub solve_app : App
-solve_app = with_rule (with_rule (with_rule (with_rule (with_rule (with_rule (with_rule (with_rule (new_app (codes "solve"))
-    (word_rule (codes "script"))) (word_rule (codes "cert"))) delta_rule) margin_rule) least_rule) budget_rule) bound_rule) workers_rule
+solve_app = with_rule (with_rule (with_rule (with_rule loosened_app least_rule) budget_rule) bound_rule) workers_rule
 
 -- `check SCRIPT CERT` and its option
 abbrev pub check_app : App
@@ -64,10 +68,19 @@ abbrev pub demo_app : App
 demo_app = with_rule (with_rule (with_rule (with_rule (new_app (codes "demo"))
     seed_rule) size_rule) (word_rule (codes "cert"))) workers_rule
 
+-- `plan SCRIPT` and its options
+abbrev pub plan_app : App
+plan_app = with_rule (with_rule (with_rule (with_rule (new_app (codes "plan"))
+    (word_rule (codes "script"))) delta_rule) margin_rule) bound_rule
+
 -- the command before its subcommands are added, one of which has to be given
 abbrev pub new_program : App
 new_program = record (new_app (codes "dpoly")) { top = record (new_app (codes "dpoly")).top { subcommand_required = true } }
 
+-- the command with its first three subcommands
+abbrev pub first_program : App
+first_program = with_subcommand (with_subcommand (with_subcommand new_program solve_app.top) check_app.top) demo_app.top
+
 -- the whole command
 unfoldable pub program : App
-program = with_subcommand (with_subcommand (with_subcommand (with_subcommand new_program solve_app.top) check_app.top) demo_app.top) upgrade_app.top
+program = with_subcommand (with_subcommand first_program upgrade_app.top) plan_app.top

@@ -9,10 +9,11 @@ use Rattle.words.specs.declared.request.SolveWords.{SolveWords}
 use Rattle.words.specs.declared.request.CheckWords.{CheckWords}
 use Rattle.words.specs.declared.request.DemoWords.{DemoWords}
 use Rattle.words.specs.declared.request.UpgradeWords.{UpgradeWords}
+use Rattle.words.specs.declared.request.PlanWords.{PlanWords}
 use Rattle.words.specs.declared.request.Request.{Request}
-use Rattle.words.specs.declared.request.Request.TheVariants.{Solve, Check, Demo, Upgrade}
+use Rattle.words.specs.declared.request.Request.TheVariants.{Solve, Check, Demo, Upgrade, Plan}
 use Rattle.words.specs.Words as words
-use Rattle.words.specs.Words.{Command, solve, check, demo, upgrade}
+use Rattle.words.specs.Words.{Command, solve, check, demo, upgrade, plan}
 
 abbrev pub seen_solve : SolveWords → words.Solve
 seen_solve asked = record { script = asked.script.now; cert = asked.cert.now; options = asked.options }
@@ -26,11 +27,15 @@ seen_demo asked = record { seed = asked.seed; size = asked.size; cert = asked.ce
 abbrev pub seen_upgrade : UpgradeWords → words.Upgrade
 seen_upgrade asked = record { script = asked.script.now; cert = asked.cert.now; out = asked.out.now; bound = asked.bound }
 
+abbrev pub seen_plan : PlanWords → words.Plan
+seen_plan asked = record { script = asked.script.now; delta_bits = asked.delta_bits; margin_bits = asked.margin_bits; bound = asked.bound }
+
 abbrev pub seen : Request → Command
 seen (Solve asked) = solve (seen_solve asked)
 seen (Check asked) = check (seen_check asked)
 seen (Demo asked) = demo (seen_demo asked)
 seen (Upgrade asked) = upgrade (seen_upgrade asked)
+seen (Plan asked) = plan (seen_plan asked)
 
 -- the bytes of each word
 abbrev pub texts_of : List (String Global) → List Text

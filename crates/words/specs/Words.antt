@@ -114,11 +114,29 @@ demo_of rows =
     (number_in 1 64 (codes "workers") rows)) (first_of (codes "cert") rows))
     (number_in 1 10000 (codes "size") rows)) (long_number_in (codes "seed") rows)
 
+-- what `plan` is asked for: the script, delta and margin
+pub record Plan : Type 0 where
+  pub script : Text
+  pub delta_bits : ℕ
+  pub margin_bits : ℕ
+  pub bound : Option ℕ
+
+-- delta is above margin
+abbrev pub ordered_plan : Plan → Option Plan
+ordered_plan asked = if nat_lt asked.delta_bits asked.margin_bits then Some asked else None
+
+abbrev pub plan_of : List Row → Option Plan
+plan_of rows =
+    option_and_then (λ script. option_and_then (λ delta. option_and_then (λ margin.
+    ordered_plan (record { script = script; delta_bits = delta; margin_bits = margin; bound = number_in 1 4294967295 (codes "bound") rows }))
+    (number_in 2 60 (codes "margin-bits") rows)) (number_in 1 30 (codes "delta-bits") rows)) (first_of (codes "script") rows)
+
 pub data Command : Type 0 where
   solve : Solve → Command
   check : Check → Command
   demo : Demo → Command
   upgrade : Upgrade → Command
+  plan : Plan → Command
 
 -- what the subcommand and what was found for it ask for
 abbrev pub chosen : Text × List Row → Option Command
@@ -126,7 +144,8 @@ chosen entered =
     if bytes_eq entered.0 (codes "solve") then option_map (λ asked. solve asked) (solve_of entered.1)
     else (if bytes_eq entered.0 (codes "check") then option_map (λ asked. check asked) (check_of entered.1)
     else (if bytes_eq entered.0 (codes "demo") then option_map (λ asked. demo asked) (demo_of entered.1)
-    else (if bytes_eq entered.0 (codes "upgrade") then option_map (λ asked. upgrade asked) (upgrade_of entered.1) else None)))
+    else (if bytes_eq entered.0 (codes "upgrade") then option_map (λ asked. upgrade asked) (upgrade_of entered.1)
+    else (if bytes_eq entered.0 (codes "plan") then option_map (λ asked. plan asked) (plan_of entered.1) else None))))
 
 -- What words ask for; none where they are refused, for whatever cause but that memory ran out.
 abbrev pub command_of : List Text → Option Command
@@ -159,9 +178,18 @@ pub record IsDemo (asked : Demo) : Type 0 where
   pub size_most : asked.size ≤ 10000
   pub options : AreOptions asked.options
 
+-- Delta and margin are in their ranges.
+pub record IsPlan (asked : Plan) : Type 0 where
+  pub delta_least : 1 ≤ asked.delta_bits
+  pub delta_most : asked.delta_bits ≤ 30
+  pub below_margin : asked.delta_bits < asked.margin_bits
+  pub margin_most : asked.margin_bits ≤ 60
+  pub bound : IsBound asked.bound
+
 -- All that is asked for is in its range.
 abbrev pub IsInRange : Command → Type 0
 IsInRange (solve asked) = AreOptions asked.options
 IsInRange (check asked) = IsBound asked.bound
 IsInRange (demo asked) = IsDemo asked
 IsInRange (upgrade asked) = IsBound asked.bound
+IsInRange (plan asked) = IsPlan asked

@@ -7,5 +7,5 @@ mod request;
 mod usage;
 
 pub use read::{Refused, read_checker_words, read_words};
-pub use request::{CheckWords, DemoWords, Options, Request, SolveWords, UpgradeWords};
+pub use request::{CheckWords, DemoWords, Options, PlanWords, Request, SolveWords, UpgradeWords};
 pub use usage::{checker_usage_text, usage_text};

@@ -1,7 +1,7 @@
 ghost use Rattle.std.specs.Prelude.{◌≡◌, IfOk, false};
 ghost use Rattle.clap.specs.Words.{rule_of, app_of, new_app};
 ghost use Rattle.clap.specs.declared.builder.command.Command.TheViews.{out-Command as fields_of};
-ghost use Rattle.words.specs.Program.{delta_rule, margin_rule, least_rule, budget_rule, bound_rule, workers_rule, word_rule, seed_rule, size_rule, solve_app, check_app, demo_app, upgrade_app, checker, program};
+ghost use Rattle.words.specs.Program.{delta_rule, margin_rule, least_rule, budget_rule, bound_rule, workers_rule, word_rule, seed_rule, size_rule, loosened_app, solve_app, check_app, demo_app, upgrade_app, plan_app, checker, first_program, program};
 
 use clap::{Arg, Command, value_parser};
 use std::alloc::{AllocError, Global};
@@ -106,8 +106,9 @@ fn check_command<'a>(alloc: Global) -> Result<Command<'a>, AllocError>
     )
 }
 
-fn solve_command<'a>(alloc: Global) -> Result<Command<'a>, AllocError>
-    ensures app { IfOk result (λ c. app_of c ≡ solve_app) }
+// `solve` with delta and margin alone.
+fn loosened_command<'a>(alloc: Global) -> Result<Command<'a>, AllocError>
+    ensures app { IfOk result (λ c. app_of c ≡ loosened_app) }
     ensures local { IfOk result (λ c. (fields_of c).has_globals ≡ false) }
 {
     Ok(
@@ -120,11 +121,20 @@ fn solve_command<'a>(alloc: Global) -> Result<Command<'a>, AllocError>
         .arg(word(alloc, "script"))?
         .arg(word(alloc, "cert"))?
         .arg(delta_option(alloc))?
-        .arg(margin_option(alloc))?
-        .arg(least_option(alloc))?
-        .arg(budget_option(alloc))?
-        .arg(bound_option(alloc))?
-        .arg(workers_option(alloc))?,
+        .arg(margin_option(alloc))?,
+    )
+}
+
+fn solve_command<'a>(alloc: Global) -> Result<Command<'a>, AllocError>
+    ensures app { IfOk result (λ c. app_of c ≡ solve_app) }
+    ensures local { IfOk result (λ c. (fields_of c).has_globals ≡ false) }
+{
+    Ok(
+        loosened_command(alloc)?
+            .arg(least_option(alloc))?
+            .arg(budget_option(alloc))?
+            .arg(bound_option(alloc))?
+            .arg(workers_option(alloc))?,
     )
 }
 
@@ -182,6 +192,24 @@ fn upgrade_command<'a>(alloc: Global) -> Result<Command<'a>, AllocError>
     )
 }
 
+fn plan_command<'a>(alloc: Global) -> Result<Command<'a>, AllocError>
+    ensures app { IfOk result (λ c. app_of c ≡ plan_app) }
+    ensures local { IfOk result (λ c. (fields_of c).has_globals ≡ false) }
+{
+    Ok(
+        described(
+            alloc,
+            "plan",
+            "Tells the least width with which `solve` never answers `unknown width`",
+            "Example: dpoly plan braking.smt2",
+        )
+        .arg(word(alloc, "script"))?
+        .arg(delta_option(alloc))?
+        .arg(margin_option(alloc))?
+        .arg(bound_option(alloc))?,
+    )
+}
+
 // The checker's command, as the definitions have it.
 pub fn checker_command<'a>(alloc: Global) -> Result<Command<'a>, AllocError>
     ensures app { IfOk result (λ c. app_of c ≡ checker) }
@@ -200,9 +228,9 @@ pub fn checker_command<'a>(alloc: Global) -> Result<Command<'a>, AllocError>
     )
 }
 
-// The program's command, as the definitions have it.
-pub fn program_command<'a>(alloc: Global) -> Result<Command<'a>, AllocError>
-    ensures app { IfOk result (λ c. app_of c ≡ program) }
+// The program's command with its first three subcommands.
+fn first_command<'a>(alloc: Global) -> Result<Command<'a>, AllocError>
+    ensures app { IfOk result (λ c. app_of c ≡ first_program) }
     ensures local { IfOk result (λ c. (fields_of c).has_globals ≡ false) }
 {
     Ok(
@@ -215,7 +243,18 @@ pub fn program_command<'a>(alloc: Global) -> Result<Command<'a>, AllocError>
         .subcommand_required(true)
         .subcommand(solve_command(alloc)?)?
         .subcommand(check_command(alloc)?)?
-        .subcommand(demo_command(alloc)?)?
-        .subcommand(upgrade_command(alloc)?)?,
+        .subcommand(demo_command(alloc)?)?,
+    )
+}
+
+// The program's command, as the definitions have it.
+pub fn program_command<'a>(alloc: Global) -> Result<Command<'a>, AllocError>
+    ensures app { IfOk result (λ c. app_of c ≡ program) }
+    ensures local { IfOk result (λ c. (fields_of c).has_globals ≡ false) }
+{
+    Ok(
+        first_command(alloc)?
+            .subcommand(upgrade_command(alloc)?)?
+            .subcommand(plan_command(alloc)?)?,
     )
 }

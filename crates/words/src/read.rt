@@ -2,12 +2,12 @@ ghost use Rattle.std.specs.Prelude.{◌≡◌, ◌≢◌, ◌&&◌, [], IfOk, Is
 ghost use Rattle.std.specs.Str.{bytes_eq};
 ghost use Rattle.clap.specs.Words.{fault_of, first_of, found_of, kind_of, one_of, rows_of};
 ghost use Rattle.words.specs.Program.{checker, program};
-ghost use Rattle.words.specs.Words.{check_of, checker_of, chosen, command_of, demo_of, long_number_in, number_in, number_of, options_of, IsInRange, solve_of, upgrade_of};
-ghost use Rattle.words.specs.Seen.{AreCheckerMatchesOf, AreMatchesOf, seen, seen_check, seen_demo, seen_solve, seen_upgrade, texts_of};
+ghost use Rattle.words.specs.Words.{check_of, checker_of, chosen, command_of, demo_of, long_number_in, number_in, number_of, options_of, IsInRange, plan_of, solve_of, upgrade_of};
+ghost use Rattle.words.specs.Seen.{AreCheckerMatchesOf, AreMatchesOf, seen, seen_check, seen_demo, seen_plan, seen_solve, seen_upgrade, texts_of};
 
 use crate::program::{checker_command, program_command};
 use crate::request::{
-    CheckWords, DemoWords, Options, Request, SolveWords, UpgradeWords, usual_options,
+    CheckWords, DemoWords, Options, PlanWords, Request, SolveWords, UpgradeWords, usual_options,
 };
 use clap::error::ErrorKind;
 use clap::{ArgMatches, Error};
@@ -186,6 +186,24 @@ fn upgrade_words<'a>(matches: &ArgMatches<'a>) -> Option<UpgradeWords<'a>>
     })
 }
 
+fn plan_words<'a>(matches: &ArgMatches<'a>) -> Option<PlanWords<'a>>
+    ensures { option_map seen_plan result ≡ plan_of (rows_of (found_of matches.now)) }
+{
+    let script = text(matches, "script")?;
+    let delta_bits = number(matches, "delta-bits", 1, 30)?;
+    let margin_bits = number(matches, "margin-bits", 2, 60)?;
+    let bound = number(matches, "bound", 1, 4294967295);
+    if delta_bits >= margin_bits {
+        return None;
+    }
+    Some(PlanWords {
+        script,
+        delta_bits,
+        margin_bits,
+        bound,
+    })
+}
+
 // What the subcommand of this name asks for.
 fn choose<'a>(name: &str, matches: &ArgMatches<'a>) -> Option<Request<'a>>
     ensures { option_map seen result ≡ chosen (name.now, rows_of (found_of matches.now)) }
@@ -198,6 +216,8 @@ fn choose<'a>(name: &str, matches: &ArgMatches<'a>) -> Option<Request<'a>>
         Some(Request::Demo(demo_words(matches)?))
     } else if name == "upgrade" {
         Some(Request::Upgrade(upgrade_words(matches)?))
+    } else if name == "plan" {
+        Some(Request::Plan(plan_words(matches)?))
     } else {
         None
     }

@@ -56,6 +56,18 @@ pub struct UpgradeWords<'a> {
     pub bound: Option<u32>,
 }
 
+/// What `plan` is asked for: the name of the script, and delta and margin.
+#[derive(Clone, Copy, Debug, PartialEq, Eq)]
+pub struct PlanWords<'a> {
+    pub script: &'a str,
+    /// As for `solve`.
+    pub delta_bits: u32,
+    /// As for `solve`, and more than `delta_bits`.
+    pub margin_bits: u32,
+    /// The size up to which a constant without a bound of its own is looked at, where one is given; from 1.
+    pub bound: Option<u32>,
+}
+
 /// What the words ask for. A name `-` stands for standard input or output.
 #[derive(Clone, Copy, Debug, PartialEq, Eq)]
 pub enum Request<'a> {
@@ -63,6 +75,7 @@ pub enum Request<'a> {
     Check(CheckWords<'a>),
     Demo(DemoWords<'a>),
     Upgrade(UpgradeWords<'a>),
+    Plan(PlanWords<'a>),
 }
 
 // The options where none is given but the number of workers.

@@ -19,3 +19,7 @@ returns-in-Demo-clause-course g c =
 pub returns-in-Upgrade-clause-course : goal.returns-in-Upgrade-clause-course
 returns-in-Upgrade-clause-course g c =
     subst (λ (a : Request). HasCourse (run_of (Some (seen a)) (g.D.Desk.sight c.args.desk.now) (g.D.Desk.sight c.run_upgrade.new.desk) c.run_upgrade.result)) (sym c.in-Upgrade.is) c.run_upgrade.ensures.course
+
+pub returns-in-Plan-clause-course : goal.returns-in-Plan-clause-course
+returns-in-Plan-clause-course g c =
+    subst (λ (a : Request). HasCourse (run_of (Some (seen a)) (g.D.Desk.sight c.args.desk.now) (g.D.Desk.sight c.run_plan.new.desk) c.run_plan.result)) (sym c.in-Plan.is) c.run_plan.ensures.course

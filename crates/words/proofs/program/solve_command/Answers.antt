@@ -3,4 +3,4 @@ use Rattle.clap.specs.Words.{with_rule}
 use Rattle.words.proofs.program.solve_command.Goals as goal
 
 pub returns-clause-app : goal.returns-clause-app
-returns-clause-app c = (c.in_ok-arg-8.ensures.shape (search rules) ∙ ap₂ with_rule (c.in_ok-arg-7.ensures.shape (search rules) ∙ ap₂ with_rule (c.in_ok-arg-6.ensures.shape (search rules) ∙ ap₂ with_rule (c.in_ok-arg-5.ensures.shape (search rules) ∙ ap₂ with_rule (c.in_ok-arg-4.ensures.shape (search rules) ∙ ap₂ with_rule (c.in_ok-arg-3.ensures.shape (search rules) ∙ ap₂ with_rule (c.in_ok-arg-2.ensures.shape (search rules) ∙ ap₂ with_rule (c.in_ok-arg.ensures.shape (search rules) ∙ ap₂ with_rule c.described.ensures.app c.word.ensures.rule) c.word-2.ensures.rule) c.delta_option.ensures.rule) c.margin_option.ensures.rule) c.least_option.ensures.rule) c.budget_option.ensures.rule) c.bound_option.ensures.rule) c.workers_option.ensures.rule)
+returns-clause-app c = (c.in_ok-arg-4.ensures.shape (search rules) ∙ ap₂ with_rule (c.in_ok-arg-3.ensures.shape (search rules) ∙ ap₂ with_rule (c.in_ok-arg-2.ensures.shape (search rules) ∙ ap₂ with_rule (c.in_ok-arg.ensures.shape (search rules) ∙ ap₂ with_rule c.in_ok-loosened_command.ensures.app c.least_option.ensures.rule) c.budget_option.ensures.rule) c.bound_option.ensures.rule) c.workers_option.ensures.rule)

@@ -1,0 +1,63 @@
+// `plan`, from a problem to its answer.
+ghost use Rattle.std.specs.Prelude.{◌≡◌, ◌<◌, ◌≤◌, [], IfOk};
+ghost use Rattle.poly_graph.specs.ProblemViews.{problem_of};
+ghost use Rattle.width_plan.specs.Views.{answer_of};
+ghost use Rattle.check_run.specs.Course.{RunEnds};
+ghost use Rattle.check_run.specs.Can.{CanPlan, plan_text};
+ghost use Rattle.check_run.specs.Run.{PlanHasCause, SameIn};
+ghost use Rattle.dpoly.specs.Plan.{IsPlanText};
+
+use answer_text::{plan_least_bits, plan_no_atom, plan_no_axis};
+use check_run::{Status, say};
+use desk::Desk;
+use poly_graph::Problem;
+use std::alloc::{AllocError, Global};
+use width_plan::{Plan, plan_widths};
+
+// The text of a plan.
+fn text_of(alloc: Global, plan: Plan) -> Result<Vec<u8>, AllocError>
+    ensures { IfOk result (λ text. text.items ≡ plan_text (answer_of plan)) }
+{
+    match plan {
+        Plan::Least(bits) => plan_least_bits(alloc, bits),
+        Plan::NoAtom(atom) => plan_no_atom(alloc, atom),
+        Plan::NoAxis(axis) => plan_no_axis(alloc, axis),
+    }
+}
+
+// The text of a problem's plan.
+fn planned(
+    alloc: Global,
+    problem: &Problem,
+    delta_bits: u32,
+    margin_bits: u32,
+) -> Result<Vec<u8>, AllocError>
+    requires order { delta_bits < margin_bits }
+    requires few { margin_bits ≤ 60 }
+    ensures { IfOk result (λ text.
+        IsPlanText (problem_of problem.now) delta_bits margin_bits text.items) }
+{
+    let plan = plan_widths(alloc, problem, delta_bits, margin_bits)?;
+    text_of(alloc, plan)
+}
+
+/// Answers the plan of a problem.
+pub fn plan_problem<D: Desk>(
+    alloc: Global,
+    desk: &mut D,
+    problem: &Problem,
+    delta_bits: u32,
+    margin_bits: u32,
+) -> Status
+    requires order { delta_bits < margin_bits }
+    requires few { margin_bits ≤ 60 }
+    ensures ends { RunEnds (CanPlan (problem_of problem.now) delta_bits margin_bits) []
+        (D.sight desk.old) (D.sight desk.new) result }
+    ensures same { SameIn (D.sight desk.old) (D.sight desk.new) }
+    ensures cause { PlanHasCause (D.sight desk.old) (D.sight desk.new) result }
+{
+    match planned(alloc, problem, delta_bits, margin_bits) {
+        Ok(text) => say(desk, Status::Answered, &text),
+        Err(_) => Status::NoMemory,
+    }
+}
