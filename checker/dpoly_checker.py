@@ -8,8 +8,9 @@ read the sources in Rattle, so that two readings of that page can be compared (`
 page, which an auditor keeps beside it; together they take about an hour. The first half reads a script, the second half checks
 a certificate.
 
-What it does not do: it is not proved. It is slower than `dpoly-check` and holds the certificate in memory. It does not know the
-limit `TooMany Forms` of a script and the fault `TooLong` of a certificate. `-` does not stand for standard input."""
+What it does not do: it is not proved. It is slower than `dpoly-check` and holds the certificate in memory. Where an assertion
+exceeds one of the limits Nodes, Atoms and Forms and has another fault of its phase besides, it may name the other one. It does
+not know the fault `TooLong` of a certificate, and `-` does not stand for standard input."""
 import re
 import sys
 from collections import namedtuple
@@ -311,20 +312,28 @@ class Problem:
     A form is a tuple: ('true',), ('false',), ('atom', J), ('bool', axis, value), ('all', forms) or ('any', forms), where forms
     are numbers, parts before wholes. The last form is that of the script."""
     def __init__(self, names, bound):
-        self.names, self.terms, self.atoms, self.forms, self.memo, self.size = names, Terms(), {}, [], {}, 0
-        nodes, truths = [], []
+        self.names, self.terms, self.atoms, self.forms, self.memo, self.size = names, Terms(), {}, {}, {}, 0
+        nodes, truths, self.places, self.command = [], [], 0, None
         for self.command, expression in names.assertions:  # the terms of an assertion are made before those of its atoms
             nodes.append(run(self.unfold(expression, {})))
             truths.append(run(self.form(nodes[-1], True)))
-        self.add_form('all', truths)
-        self.atoms, self.declared = list(self.atoms), self.declared_box(nodes, bound)
+            self.check_limits()
+        self.add_form('all', tuple(truths))
+        self.check_limits()
+        self.atoms, self.forms = list(self.atoms), list(self.forms)
+        self.declared = self.declared_box(nodes, bound)
         self.empty = any(low > high for low, high in self.declared.values())
 
     def count(self):
         """Counts an expression that is reached, or a choice that is taken apart."""
         self.size += 1
-        if self.size > 1048576 or len(self.terms.parts) > 1048576:
-            raise ScriptFault('TooMany', self.command, 'Size' if self.size > 1048576 else 'Nodes')
+        if self.size > 1048576:
+            raise ScriptFault('TooMany', self.command, 'Size')
+
+    def check_limits(self):
+        for what, count in ('Nodes', len(self.terms.parts)), ('Atoms', 16 * len(self.atoms)), ('Forms', len(self.forms) + self.places):
+            if count > 1048576:
+                raise ScriptFault('TooMany', self.command, what)
 
     def unfold(self, expression, local):
         """A task: the value of an expression, which is a tree, a choice or a node; `local` has those of local names."""
@@ -394,8 +403,10 @@ class Problem:
         return Node(kind, condition, *arms)
 
     def add_form(self, *form):
-        self.forms.append(form)
-        return len(self.forms) - 1
+        if form not in self.forms:
+            self.places += len(form[1]) if form[0] in ('all', 'any') else 0
+            self.forms[form] = len(self.forms)
+        return self.forms[form]
 
     def form(self, node, truth):
         """A task: the number of the form of a node's truth or of its negation, made where it is first needed."""
@@ -423,14 +434,14 @@ class Problem:
             ways = [(condition, True), (a, truth)], [(condition, False), (b, truth)]
         first = yield self.list_of('all', ways[0])
         second = yield self.list_of('all', ways[1])
-        return self.add_form('any', [first, second])
+        return self.add_form('any', (first, second))
 
     def list_of(self, kind, wanted):
         """A task: `all` or `any` of the truths or negations of some nodes."""
         numbers = []
         for node, truth in wanted:
             numbers.append((yield self.form(node, truth)))
-        return self.add_form(kind, numbers)
+        return self.add_form(kind, tuple(numbers))
 
     def atom(self, truth, kind, a, b, at):
         """The form of a comparison's truth or negation. The term is `a` if `b` is the constant 0, else `a + (-b)`."""
@@ -438,10 +449,7 @@ class Problem:
             return self.add_form('true')
         kind = kind if truth else {'<=': '>=', '>=': '<='}[kind]
         term = a if self.terms.constant(b) == 0 else self.terms.operation('-', at, a, b)
-        number = self.atoms.setdefault((term, kind), len(self.atoms))
-        if number == 65536:
-            raise ScriptFault('TooMany', self.command, 'Atoms')
-        return self.add_form('atom', number)
+        return self.add_form('atom', self.atoms.setdefault((term, kind), len(self.atoms)))
 
     def declared_box(self, nodes, bound):
         """Phase 6: the declared interval of each Real axis, a pair of fractions."""
