@@ -145,7 +145,7 @@ def command_fault(command, seen):
         inner = [it.value[1] for it in inner]
     elif not re.fullmatch('[sl]*' if name == 'declare-fun' else '', letters(inner)):
         return 'BadCommand'
-    sorts = inner + (rest[1:2] if name == 'declare-const' else rest[2:3] if name != 'set-info' and name != 'set-option' else [])
+    sorts = inner + (rest[-1:] if name in ('declare-const', 'declare-fun') else rest[2:3] if name == 'define-fun' else [])
     plain = all(it.value in ('Real', 'Bool') for it in sorts)
     return None if plain and not (name == 'declare-fun' and inner) else 'LeftOut'
 
@@ -293,6 +293,10 @@ def is_choice(value):
     return isinstance(value, Node) and value.kind == 'choice'
 
 
+def is_real(value):
+    return isinstance(value, int) or value.kind == 'choice'
+
+
 def run(task):
     """The result of a task: a generator that yields tasks and is sent their results. This is recursion with a stack of our own;
     chains of definitions are thousands long."""
@@ -372,7 +376,7 @@ class Problem:
             return result
         if name in ('=', 'distinct', '<=', '<', '>=', '>'):
             pairs = [(a, b) for first, a in enumerate(values) for b in values[first + 1 : None if name == 'distinct' else first + 2]]
-            reals, nodes = isinstance(result, int) or is_choice(result), []
+            reals, nodes = is_real(result), []
             kind = {'<': '<=', '>': '>=', 'distinct': '='}.get(name, name)
             for a, b in pairs:
                 nodes.append((yield self.apart(lambda a, b: Node('comparison', kind, a, b, at), 'ite', [a, b])) if reals
@@ -388,7 +392,7 @@ class Problem:
             for it in values[1:]:
                 result = Node('xor', result, it)
             return result
-        return Node('choice' if name == 'ite' and not (isinstance(values[1], Node) and values[1].kind != 'choice') else name, *values)
+        return Node('choice' if name == 'ite' and is_real(values[1]) else name, *values)
 
     def apart(self, make, kind, values):
         """A task: `make` of some trees; where one is a choice, a node of this kind of the choice's condition and of what comes
@@ -462,10 +466,12 @@ class Problem:
                 waiting.extend(node.parts)
             elif node.kind == 'comparison':
                 kind, a, b, _ = node.parts
-                for term, value, lower, upper in (a, self.terms.constant(b), '>=', '<='), (b, self.terms.constant(a), '<=', '>='):
+                for term, other, lower, upper in (a, b, '>=', '<='), (b, a, '<=', '>='):
+                    value = self.terms.constant(other)
                     if self.terms.parts[term][0] == 'variable' and value is not None:
-                        for side in (0, 1):
-                            bounds[self.terms.parts[term][1]][side].extend([value] if kind in ((lower, upper)[side], '=') else [])
+                        of_axis = bounds[self.terms.parts[term][1]]
+                        of_axis[0].extend([value] if kind in (lower, '=') else [])
+                        of_axis[1].extend([value] if kind in (upper, '=') else [])
         return {axis: self.declared_interval(self.names.axes[axis], *bounds[axis], bound) for axis in bounds}
 
     def declared_interval(self, axis, lower, upper, bound):
@@ -506,7 +512,9 @@ def rounded(fraction):
 
 def meet(a, b):
     """What two intervals have in common."""
-    low, high = (max(a[0], b[0]), min(a[1], b[1])) if a and b else (0, -1)
+    if a is None or b is None:
+        return None
+    low, high = max(a[0], b[0]), min(a[1], b[1])
     return (low, high) if low <= high else None
 
 
@@ -897,14 +905,13 @@ def value_of(word, kind):
     """The value of a word of this kind: a text, None for `none`, a whole number, or a number of the grid as an end."""
     if kind == 'T' or kind == 'B' and word == 'none':
         return word if kind == 'T' else None
-    if kind != 'D' and re.fullmatch('0|[1-9][0-9]{0,9}', word) and int(word) < 2**32:
+    if kind == 'D':
+        found = re.fullmatch('(-?[1-9][0-9]{0,18})b(0|-?[1-9][0-9]{0,2})', word)
+        m, e = (int(found[1]), int(found[2])) if found else (0, 0)
+        if word == '0' or m % 2 and e >= -120 and abs(m) << max(0, e - 60) <= 2**62:
+            return m << e + 120
+    elif re.fullmatch('0|[1-9][0-9]{0,9}', word) and int(word) < 2**32:
         return int(word)
-    found = re.fullmatch('(0)(b?)|(-?[1-9][0-9]{0,18})b(0|-?[1-9][0-9]{0,2})', word) if kind == 'D' else None
-    if word == '0' and kind == 'D':
-        return 0
-    m, e = (int(found[3]), int(found[4])) if found and found[3] else (0, 0)
-    if m % 2 and e >= -120 and abs(m) << max(0, e - 60) <= 2**62:
-        return m << e + 120
     raise CertificateFault('BadNumber')
 
 
@@ -946,7 +953,7 @@ class Lines:
 
 def check_certificate(problem, lines, bound):
     """The answer to a certificate that is accepted."""
-    version, margin = lines.header('dpoly')[1][0], None
+    version = lines.header('dpoly')[1][0]
     if version not in (1, 2):
         raise CertificateFault('BadHeader')
     margin, delta = lines.header('margin')[1][0], lines.header('delta')[1][0]
