@@ -3,10 +3,10 @@
 
     python3 checker/dpoly_checker.py SCRIPT CERT [--bound N]
 
-It prints what `dpoly-check` prints and ends with the same status. It was written from docs/FORMATS.md alone, by one who had not
-read the sources in Rattle, so that two readings of that page can be compared (`tests/checkers`). Its words are those of the
-page, which an auditor keeps beside it; together they take about an hour. The first half reads a script, the second half checks
-a certificate.
+It prints what `dpoly-check` prints and ends with the same status. It was written from docs/FORMATS.md, by one who had not read
+the sources in Rattle, so that two readings of that page can be compared (`tests/checkers`); what the page left open was asked
+of the program and written there. The words are those of the page, which an auditor keeps beside this file; together they take
+more than an hour. The first half reads a script, the second half checks a certificate and stands on its own.
 
 What it does not do: it is not proved. It is slower than `dpoly-check` and holds the certificate in memory. Where an assertion
 exceeds one of the limits Nodes, Atoms and Forms and has another fault of its phase besides, it may name the other one. It does
