@@ -45,6 +45,8 @@ went_behind starts tail old mid new after went = record {
   starts = went.starts ∙ ap (λ o. appended o tail.starts) after.starts_are ∙ appended-appended old.starts starts tail.starts;
   cert = went.cert ∙ ap (λ o. appended o tail.cert) after.cert;
   answer = went.answer ∙ ap (λ o. appended o tail.answer) after.answer;
+  in_faults = went.in_faults ∙ after.in_faults;
+  out_faults = went.out_faults ∙ after.out_faults;
 }
 
 stopped_behind : (starts : List Start) (tail : Course) (old mid new : Sight)
@@ -118,6 +120,8 @@ cert_then name cert text old mid new status is (at_its_end same went) = at_its_e
   starts = went.starts ∙ ap (λ d. appended d.starts ((Answer, codes "-") ∷ [])) is ∙ appended-appended old.starts ((CertOut, name) ∷ []) ((Answer, codes "-") ∷ []);
   cert = went.cert ∙ ap (λ d. appended d.cert_out []) is ∙ appended-nil (appended old.cert_out cert);
   answer = went.answer ∙ ap (λ d. appended d.answer text) is;
+  in_faults = went.in_faults ∙ ap (λ d. d.in_faults) is;
+  out_faults = went.out_faults ∙ ap (λ d. d.out_faults) is;
 })
 cert_then name cert text old mid new status is (out_failed same side stopped) = out_failed same (let P : Sight → Type 0 = λ d. SideFailed d.out_faults new.out_faults in subst P is side) (then_stops name cert text old mid new is stopped)
 cert_then name cert text old mid new status is (no_memory same stopped) = no_memory same (then_stops name cert text old mid new is stopped)

@@ -38,11 +38,13 @@ behind first tail = record tail { starts = first ++ tail.starts }
 abbrev pub appended : {A : Type 0} → Option (List A) → List A → Option (List A)
 appended told more = option_map (λ before. before ++ more) told
 
--- the run went to its end: all its starts and both its texts stand
+-- the run went to its end: all its starts and both its texts stand, and none of its calls failed
 pub record Went (course : Course) (old new : Sight) : Type 0 where
   pub starts : new.starts ≡ appended old.starts course.starts
   pub cert : new.cert_out ≡ appended old.cert_out course.cert
   pub answer : new.answer ≡ appended old.answer course.answer
+  pub in_faults : new.in_faults ≡ old.in_faults
+  pub out_faults : new.out_faults ≡ old.out_faults
 
 -- it stopped on its way: its first starts and a prefix of each text stand; the answer's port, which is started last, was not started
 -- before the certificate was whole

@@ -1,5 +1,5 @@
 // Whether the rows can meet their bounds together.
-use crate::lists::{at, number_at, size};
+use crate::lists::{at, number_at, set, size};
 use crate::tableau::{LinearProgram, SMALLEST};
 use std::alloc::{AllocError, Global};
 
@@ -119,7 +119,8 @@ impl LinearProgram {
         chosen
     }
 
-    // Moves the variable of the column so that the violation ends, or as far as its bounds let it.
+    // Moves the variable of the column so that the violation ends, or as far as its bounds let it. The repaired variable
+    // then stands exactly at its bound: a rest of rounding would leave it room for steps that gain nothing.
     fn repair(&mut self, violation: Violation, c: usize, greedy: bool) {
         let basic = number_at(&self.basic, violation.row);
         let goal = if violation.is_below {
@@ -138,6 +139,7 @@ impl LinearProgram {
             self.shift(c, high);
         } else {
             self.shift(c, wanted);
+            set(&mut self.value, basic, goal);
             self.pivot(violation.row, c);
         }
     }
