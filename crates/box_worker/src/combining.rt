@@ -7,12 +7,10 @@ use crate::contraction::{Emptied, Scout};
 use crate::step::{self, Outcome};
 use cover_rule::{Lemma, Margins, Patch};
 use dyadic::{Dy, pow2};
+use ival::{Domain, Space};
 use poly_graph::Problem;
 use relaxation::{Refutation, Relaxation, Side, is_asking};
 use std::alloc::{AllocError, Global};
-
-/// After so many axes in a row that did not fall by about a tenth no more are narrowed.
-const MOST_IDLE_AXES: u32 = 3;
 
 // Combines these atoms where they leave less; whether an axis fell by about a tenth, or nothing is left.
 fn combine(
@@ -200,7 +198,13 @@ fn narrow_axis(
     Ok(low || high)
 }
 
-// Narrows all axes so; whether one fell by about a tenth, or nothing is left.
+// Whether the axis is a Real one.
+fn is_real(space: &Space, axis: usize) -> bool {
+    axis < space.len() && matches!(space.get(axis), Domain::Real(_))
+}
+
+// Narrows each Real axis so, but for those that gave nothing at the box before; whether one fell by about a tenth, or
+// nothing is left.
 fn narrow_axes(
     alloc: Global,
     problem: &Problem,
@@ -214,18 +218,13 @@ fn narrow_axes(
     ensures { IsOpen problem.now margins.now lemmas.now patch.old.kept.first patch.new }
 {
     let mut has_gained = false;
-    let mut idle = 0;
-    for axis in 0..problem.axes().len() {
-        if idle >= MOST_IDLE_AXES {
-            return Ok(has_gained);
-        }
-        if narrow_axis(
-            alloc, problem, margins, lemmas, scout, patch, relaxation, axis,
-        )? {
-            has_gained = true;
-            idle = 0;
-        } else {
-            idle += 1;
+    for axis in 0..patch.reached().space().len() {
+        if is_real(patch.reached().space(), axis) && scout.is_axis_due(axis) {
+            let has_fallen = narrow_axis(
+                alloc, problem, margins, lemmas, scout, patch, relaxation, axis,
+            )?;
+            scout.note_axis(axis, has_fallen);
+            has_gained = has_gained || has_fallen;
         }
     }
     Ok(has_gained)

@@ -51,6 +51,8 @@ pub struct Scout {
     space: Space,
     void: Option<Emptied>,
     patience: Patience,
+    // the axes that combinations of several atoms pass over at the next box
+    passed: Vec<bool, Global>,
     // none where the form is a conjunction alone
     guide: Option<Guide>,
     // how many nodes the form has
@@ -71,6 +73,18 @@ impl Scout {
     /// How long combinations of several atoms are left out.
     pub fn patience(&mut self) -> &mut Patience {
         &mut self.patience
+    }
+
+    /// Whether combinations of several atoms narrow the axis at this box: one that gave nothing is passed over once.
+    pub fn is_axis_due(&mut self, axis: usize) -> bool {
+        !take_due(&mut self.passed, axis)
+    }
+
+    /// Notes whether narrowing the axis gave something.
+    pub fn note_axis(&mut self, axis: usize, has_fallen: bool) {
+        if !has_fallen {
+            make_due(&mut self.passed, axis);
+        }
     }
 
     /// Notes by what nothing is left.
@@ -135,6 +149,7 @@ fn start(alloc: Global, problem: &Problem, patch: &Patch) -> Result<Scout, Alloc
         space,
         void: None,
         patience: Patience::new(MOST_LEFT_OUT),
+        passed: vec![in alloc; false; problem.axes().len()]?,
         guide: Guide::of(alloc, problem)?,
         forms: problem.forms().len(),
     })
