@@ -156,7 +156,13 @@ fn narrow_end(
     Ok(has_gained)
 }
 
-// Narrows the axis so at both ends; whether it fell by about a tenth, or nothing is left.
+// Whether the axis is a Real one.
+fn is_real(space: &Space, axis: usize) -> bool {
+    axis < space.len() && matches!(space.get(axis), Domain::Real(_))
+}
+
+// Narrows a Real axis so at both ends, unless that gave nothing at the box before; whether it fell by about a tenth, or
+// nothing is left.
 fn narrow_axis(
     alloc: Global,
     problem: &Problem,
@@ -170,7 +176,10 @@ fn narrow_axis(
     requires open { IsOpen problem.now margins.now lemmas.now patch.old.kept.first patch.old }
     ensures { IsOpen problem.now margins.now lemmas.now patch.old.kept.first patch.new }
 {
-    let Ok(axis) = u32::try_from(axis) else {
+    if !is_real(patch.reached().space(), axis) || !scout.is_axis_due(axis) {
+        return Ok(false);
+    }
+    let Ok(number) = u32::try_from(axis) else {
         return Ok(false);
     };
     let low = narrow_end(
@@ -181,7 +190,7 @@ fn narrow_axis(
         scout,
         patch,
         relaxation,
-        axis,
+        number,
         Side::Least,
     )?;
     let high = narrow_end(
@@ -192,19 +201,14 @@ fn narrow_axis(
         scout,
         patch,
         relaxation,
-        axis,
+        number,
         Side::Greatest,
     )?;
+    scout.note_axis(axis, low || high);
     Ok(low || high)
 }
 
-// Whether the axis is a Real one.
-fn is_real(space: &Space, axis: usize) -> bool {
-    axis < space.len() && matches!(space.get(axis), Domain::Real(_))
-}
-
-// Narrows each Real axis so, but for those that gave nothing at the box before; whether one fell by about a tenth, or
-// nothing is left.
+// Narrows all axes so; whether one fell by about a tenth, or nothing is left.
 fn narrow_axes(
     alloc: Global,
     problem: &Problem,
@@ -218,13 +222,11 @@ fn narrow_axes(
     ensures { IsOpen problem.now margins.now lemmas.now patch.old.kept.first patch.new }
 {
     let mut has_gained = false;
-    for axis in 0..patch.reached().space().len() {
-        if is_real(patch.reached().space(), axis) && scout.is_axis_due(axis) {
-            let has_fallen = narrow_axis(
-                alloc, problem, margins, lemmas, scout, patch, relaxation, axis,
-            )?;
-            scout.note_axis(axis, has_fallen);
-            has_gained = has_gained || has_fallen;
+    for axis in 0..problem.axes().len() {
+        if narrow_axis(
+            alloc, problem, margins, lemmas, scout, patch, relaxation, axis,
+        )? {
+            has_gained = true;
         }
     }
     Ok(has_gained)
