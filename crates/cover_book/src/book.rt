@@ -132,6 +132,7 @@ fn outcome(alloc: Global, node: &Node, patch: KeptPatch) -> Result<(Lines, Endin
     requires parts { IfSome (end_of patch.end) (λ l. CanPart l patch.reached) }
     ensures { IfOk result (λ x. IsOutcomeOf patch x.0 x.1) }
 {
+    let ending = ending_of(alloc, &patch, kept_state(node))?;
     let KeptPatch {
         first,
         steps,
@@ -141,12 +142,11 @@ fn outcome(alloc: Global, node: &Node, patch: KeptPatch) -> Result<(Lines, Endin
     } = patch;
     drop(first);
     drop(quoted);
-    let end = match end {
-        Some(end) => end,
+    drop(reached);
+    match end {
+        Some(end) => Ok((Lines { steps, end }, ending)),
         None => unreachable!(),
-    };
-    let ending = ending_of(alloc, &end, reached, kept_state(node))?;
-    Ok((Lines { steps, end }, ending))
+    }
 }
 
 // The state of the latest lemma, as it is kept.

@@ -1,12 +1,12 @@
-// What an end leaves of a state.
-ghost use Rattle.std.specs.Prelude.{◌≡◌, IfOk};
-ghost use Rattle.cover_data.specs.Views.{end_line};
+// What the end of a patch leaves of the state that it reached.
+ghost use Rattle.std.specs.Prelude.{◌≡◌, IfOk, IfSome, IsSome, Some};
+ghost use Rattle.cover_data.specs.Views.{end_line, end_of};
 ghost use Rattle.cover_data.specs.Runs.{CanPart};
+ghost use Rattle.cover_data.specs.declared.step.End.{End as Line};
 ghost use Rattle.cover_book.specs.Ending.{IsEndingOf};
 ghost use Rattle.cover_book.specs.declared.ending.Ending.TheVariants as ending;
 
-use cover_data::{End, State, StoredState};
-use poly_graph::Mark;
+use cover_data::{KeptPatch, State, StoredState};
 use std::alloc::{AllocError, Global};
 
 /// What an end leaves of a state: nothing, its two parts, as they are kept, or the state itself.
@@ -17,7 +17,7 @@ pub enum Ending {
     Stuck(State),
 }
 
-// The two parts of a state. The one that is like them is the state that the run began in, if that is kept.
+// The two parts of a state. One that is kept may be like the first of them.
 fn parted(
     alloc: Global,
     lower: &State,
@@ -31,42 +31,25 @@ fn parted(
     Ok(Ending::Parted(lower, upper))
 }
 
-/// What the end leaves of the state, of which one that is kept may be like its parts.
-#[tactic(auto, using(crate::proofs::Naming::undecided_below))]
+/// What the end of the patch leaves of the state that it reached. One that is kept may be like its parts.
 pub fn ending_of(
     alloc: Global,
-    end: &End,
-    state: State,
+    patch: &KeptPatch,
     like: Option<&StoredState>,
 ) -> Result<Ending, AllocError>
-    requires { CanPart (end_line end.now) state }
-    ensures { IfOk result (λ x. IsEndingOf (end_line end.now) state x) }
+    requires ended { IsSome patch.now.end }
+    requires parts { IfSome (end_of patch.now.end) (λ l. CanPart l patch.now.reached) }
+    ensures { (e : Line) → patch.now.end ≡ Some e →
+        IfOk result (IsEndingOf (end_line e) patch.now.reached) }
 {
-    match end {
-        End::Void(_) | End::VoidNo(_) | End::VoidCombine(_) | End::False | End::By(_) => {
-            Ok(Ending::Closed)
-        }
-        End::Stuck(_) => Ok(Ending::Stuck(state)),
-        End::Cut(axis, cut) => {
-            let mut upper = state.try_clone(alloc)?;
-            let mut lower = state;
-            lower.keep_low(*axis as usize, *cut);
-            upper.keep_high(*axis as usize, *cut);
-            parted(alloc, &lower, &upper, like)
-        }
-        End::Flip(axis) => {
-            let mut upper = state.try_clone(alloc)?;
-            let mut lower = state;
-            lower.keep_bool(*axis as usize, false);
-            upper.keep_bool(*axis as usize, true);
-            parted(alloc, &lower, &upper, like)
-        }
-        End::Case(j) => {
-            let mut second = state.try_clone(alloc)?;
-            let mut first = state;
-            first.set_mark(*j, Mark::Yes);
-            second.set_mark(*j, Mark::No);
-            parted(alloc, &first, &second, like)
+    match patch.kids(alloc)? {
+        Some((lower, upper)) => parted(alloc, &lower, &upper, like),
+        None => {
+            if patch.has_closed() {
+                Ok(Ending::Closed)
+            } else {
+                Ok(Ending::Stuck(patch.reached.try_clone(alloc)?))
+            }
         }
     }
 }
