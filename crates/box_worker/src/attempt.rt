@@ -6,7 +6,7 @@ ghost use Rattle.cover_model.specs.Views.{multipliers_of};
 ghost use Rattle.cover_rule.specs.declared.refusal.PatchRefusal.{PatchRefusal as Refusal};
 ghost use Rattle.cover_rule.specs.Patch.{problem_in, loosenings_in};
 ghost use Rattle.cover_rule.specs.Models.{PatchModel};
-ghost use Rattle.cover_rule.specs.Refusals.{PatchAnswer};
+ghost use Rattle.cover_rule.specs.Refusals.{EndAnswer, PatchAnswer};
 ghost use Rattle.box_worker.specs.Attempts.{Attempts, UnitAttempt, VoidAttempt, VoidNoAttempt, VoidCombineAttempt, FalseAttempt, LemmaAttempt, CutAttempt, FlipAttempt, CaseAttempt, StuckAttempt};
 
 use cover_rule::{Lemma, Patch, PatchRefusal};
@@ -26,6 +26,17 @@ fn was_done(answer: Result<(), PatchRefusal>) -> Result<bool, AllocError>
     }
 }
 
+// Whether it was done.
+fn was_ended(answer: Result<(), PatchRefusal>) -> bool
+    ensures { (refusal : Option Refusal) (old done new : PatchModel) →
+        EndAnswer refusal old done new answer → Attempts refusal old done new result }
+{
+    match answer {
+        Ok(()) => true,
+        Err(_) => false,
+    }
+}
+
 /// Marks atom j yes where the form can't hold without it.
 pub fn unit(patch: &mut Patch, j: u32) -> Result<bool, AllocError>
     requires { j < length patch.old.problem.atoms }
@@ -36,21 +47,21 @@ pub fn unit(patch: &mut Patch, j: u32) -> Result<bool, AllocError>
 }
 
 /// Ends the patch by atom j where it is marked yes and leaves nothing.
-pub fn void(patch: &mut Patch, j: u32) -> Result<bool, AllocError>
+pub fn void(patch: &mut Patch, j: u32) -> bool
     requires { j < length patch.old.problem.atoms }
-    ensures { IfOk result (VoidAttempt j patch.old patch.new) }
+    ensures { VoidAttempt j patch.old patch.new result }
 {
     let answer = patch.void(j);
-    was_done(answer)
+    was_ended(answer)
 }
 
 /// Ends the patch by atom j where it is marked no, is an inequality and leaves nothing.
-pub fn void_no(patch: &mut Patch, j: u32) -> Result<bool, AllocError>
+pub fn void_no(patch: &mut Patch, j: u32) -> bool
     requires { j < length patch.old.problem.atoms }
-    ensures { IfOk result (VoidNoAttempt j patch.old patch.new) }
+    ensures { VoidNoAttempt j patch.old patch.new result }
 {
     let answer = patch.void_no(j);
-    was_done(answer)
+    was_ended(answer)
 }
 
 /// Ends the patch by this combination, where its atoms are marked and it leaves nothing.
@@ -63,11 +74,11 @@ pub fn void_combine(patch: &mut Patch, multipliers: &[(u32, Dy)]) -> Result<bool
 }
 
 /// Ends the patch where the form can't hold.
-pub fn make_false(patch: &mut Patch) -> Result<bool, AllocError>
-    ensures { IfOk result (FalseAttempt patch.old patch.new) }
+pub fn make_false(patch: &mut Patch) -> bool
+    ensures { FalseAttempt patch.old patch.new result }
 {
     let answer = patch.make_false();
-    was_done(answer)
+    was_ended(answer)
 }
 
 /// Ends the patch where the lemma covers its state.
@@ -81,37 +92,37 @@ pub fn by(patch: &mut Patch, lemma: &Lemma) -> Result<bool, AllocError>
 }
 
 /// Ends the patch by cutting the widest axis, where it is wide and nothing else is left to do.
-pub fn cut(patch: &mut Patch) -> Result<bool, AllocError>
-    ensures { IfOk result (CutAttempt patch.old patch.new) }
+pub fn cut(patch: &mut Patch) -> bool
+    ensures { CutAttempt patch.old patch.new result }
 {
     let answer = patch.cut();
-    was_done(answer)
+    was_ended(answer)
 }
 
 /// Ends the patch by parting the axis where it is a Bool that is not decided, and nothing else is left to do.
-pub fn flip(patch: &mut Patch, axis: u32) -> Result<bool, AllocError>
+pub fn flip(patch: &mut Patch, axis: u32) -> bool
     requires { axis < length patch.old.problem.axes }
-    ensures { IfOk result (FlipAttempt axis patch.old patch.new) }
+    ensures { FlipAttempt axis patch.old patch.new result }
 {
     let answer = patch.flip(axis);
-    was_done(answer)
+    was_ended(answer)
 }
 
 /// Ends the patch by parting the state at atom j where it is not marked and not forced, and nothing else is left to
 /// do.
-pub fn case(patch: &mut Patch, j: u32) -> Result<bool, AllocError>
+pub fn case(patch: &mut Patch, j: u32) -> bool
     requires { j < length patch.old.problem.atoms }
-    ensures { IfOk result (CaseAttempt j patch.old patch.new) }
+    ensures { CaseAttempt j patch.old patch.new result }
 {
     let answer = patch.case(j);
-    was_done(answer)
+    was_ended(answer)
 }
 
 /// Ends the patch where nothing can be split any more, and atom j is the first that is stuck.
-pub fn stuck(patch: &mut Patch, j: u32) -> Result<bool, AllocError>
+pub fn stuck(patch: &mut Patch, j: u32) -> bool
     requires { j < length patch.old.problem.atoms }
-    ensures { IfOk result (StuckAttempt j patch.old patch.new) }
+    ensures { StuckAttempt j patch.old patch.new result }
 {
     let answer = patch.stuck(j);
-    was_done(answer)
+    was_ended(answer)
 }

@@ -146,12 +146,12 @@ fn repeat_end(problem: &Problem, end: &Option<End>, patch: &mut Patch) -> Result
     match end {
         Some(End::Void(j)) => {
             if (*j as usize) < count {
-                attempt::void(patch, *j)?;
+                attempt::void(patch, *j);
             }
         }
         Some(End::VoidNo(j)) => {
             if (*j as usize) < count {
-                attempt::void_no(patch, *j)?;
+                attempt::void_no(patch, *j);
             }
         }
         Some(End::VoidCombine(combination)) => {

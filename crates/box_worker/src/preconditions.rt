@@ -33,33 +33,33 @@ pub fn mark_conjuncts(alloc: Global, problem: &Problem, patch: &mut Patch) -> Re
 }
 
 /// Ends the patch by the first atom marked yes that leaves nothing.
-pub fn void_any(problem: &Problem, patch: &mut Patch) -> Result<bool, AllocError>
+pub fn void_any(problem: &Problem, patch: &mut Patch) -> bool
     requires problem { patch.old.problem ≡ problem.now }
     requires numbered { IsNumbered problem.now }
     requires open { patch.old.kept.end ≡ None }
-    ensures continues { IfOk result (λ b. Continues patch.old patch.new) }
-    ensures closed { IfOk result (λ b. b ≡ true → IsClosed patch.new.kept) }
-    ensures same { IfOk result (λ b. b ≡ false → patch.new ≡ patch.old) }
-    ensures none { IfOk result (λ b. b ≡ false → no_atom_empties problem.now patch.old ≡ true) }
+    ensures continues { Continues patch.old patch.new }
+    ensures closed { result ≡ true → IsClosed patch.new.kept }
+    ensures same { result ≡ false → patch.new ≡ patch.old }
+    ensures none { result ≡ false → no_atom_empties problem.now patch.old ≡ true }
 {
     run_is_lawful(patch);
     for j in 0..problem.atoms().len() {
-        if attempt::void(patch, j as u32)? {
-            return Ok(true);
+        if attempt::void(patch, j as u32) {
+            return true;
         }
     }
-    Ok(false)
+    false
 }
 
 // Ends the patch by atom j, where it is marked and leaves nothing.
-fn void_by(j: u32, patch: &mut Patch) -> Result<bool, AllocError>
+fn void_by(j: u32, patch: &mut Patch) -> bool
     requires { j < length patch.old.problem.atoms }
-    ensures continues { IfOk result (λ b. Continues patch.old patch.new) }
-    ensures closed { IfOk result (λ b. b ≡ true → IsClosed patch.new.kept) }
-    ensures same { IfOk result (λ b. b ≡ false → patch.new ≡ patch.old) }
+    ensures continues { Continues patch.old patch.new }
+    ensures closed { result ≡ true → IsClosed patch.new.kept }
+    ensures same { result ≡ false → patch.new ≡ patch.old }
 {
-    if attempt::void(patch, j)? {
-        return Ok(true);
+    if attempt::void(patch, j) {
+        return true;
     }
     attempt::void_no(patch, j)
 }
@@ -74,7 +74,7 @@ fn void_at(problem: &Problem, by: &Option<Emptied>, patch: &mut Patch) -> Result
     match by {
         Some(Emptied::Atom(j)) => {
             if (*j as usize) < problem.atoms().len() {
-                void_by(*j, patch)
+                Ok(void_by(*j, patch))
             } else {
                 Ok(false)
             }
@@ -99,5 +99,5 @@ pub fn close_at(
     if void_at(problem, by, patch)? {
         return Ok(true);
     }
-    attempt::make_false(patch)
+    Ok(attempt::make_false(patch))
 }

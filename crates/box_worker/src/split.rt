@@ -14,28 +14,28 @@ use poly_graph::Problem;
 use std::alloc::{AllocError, Global};
 
 // Parts the state at what was chosen, where nothing else is left to do.
-fn part_at(problem: &Problem, choice: Option<Choice>, patch: &mut Patch) -> Result<bool, AllocError>
+fn part_at(problem: &Problem, choice: Option<Choice>, patch: &mut Patch) -> bool
     requires problem { patch.old.problem ≡ problem.now }
-    ensures continues { IfOk result (λ b. Continues patch.old patch.new) }
-    ensures parted { IfOk result (λ b. b ≡ true → IsTrue (is_left patch.new.kept.end)) }
-    ensures same { IfOk result (λ b. b ≡ false → patch.new ≡ patch.old) }
+    ensures continues { Continues patch.old patch.new }
+    ensures parted { result ≡ true → IsTrue (is_left patch.new.kept.end) }
+    ensures same { result ≡ false → patch.new ≡ patch.old }
 {
     match choice {
         Some(Choice::Atom(j)) => {
             if (j as usize) < problem.atoms().len() {
                 attempt::case(patch, j)
             } else {
-                Ok(false)
+                false
             }
         }
         Some(Choice::Flip(axis)) => {
             if (axis as usize) < problem.axes().len() {
                 attempt::flip(patch, axis)
             } else {
-                Ok(false)
+                false
             }
         }
-        None => Ok(false),
+        None => false,
     }
 }
 
@@ -53,7 +53,7 @@ fn part_by_form(
     ensures same { IfOk result (λ b. b ≡ false → patch.new ≡ patch.old) }
 {
     let choice = choose(alloc, problem, needs, patch.reached(), most)?;
-    part_at(problem, choice, patch)
+    Ok(part_at(problem, choice, patch))
 }
 
 // What is needed at the state that the patch has reached, as the scout that is kept sees it.
@@ -89,7 +89,7 @@ fn part_by_needs(
     if part_by_form(alloc, problem, needs, 2, patch)? {
         return Ok(true);
     }
-    if attempt::cut(patch)? {
+    if attempt::cut(patch) {
         return Ok(true);
     }
     part_by_form(alloc, problem, needs, u32::MAX, patch)
@@ -112,7 +112,7 @@ pub fn split(
     ensures same { IfOk result (λ b. b ≡ false → patch.new ≡ patch.old) }
 {
     if !is_open(patch.reached()) {
-        return attempt::cut(patch);
+        return Ok(attempt::cut(patch));
     }
     let needs = needs(alloc, heuristics, problem, margins, patch)?;
     part_by_needs(alloc, problem, &needs, patch)

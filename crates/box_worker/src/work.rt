@@ -87,7 +87,7 @@ fn at_once(
     requires lemmas { AreLemmasFor (problem_of problem.now) (loosenings_of margins.now) lemmas.now }
     ensures { IfOk result (AtOnce lemmas.now patch.old patch.new) }
 {
-    if attempt::make_false(patch)? {
+    if attempt::make_false(patch) {
         return Ok(Some(Ended::Closed));
     }
     if let Some(point) = middle_point(alloc, problem, margins, patch)? {
@@ -126,7 +126,7 @@ fn finish(
         return Ok(Ended::Closed);
     }
     mark_conjuncts(alloc, problem, patch)?;
-    if attempt::make_false(patch)? {
+    if attempt::make_false(patch) {
         return Ok(Ended::Closed);
     }
     if let Some(found) = found_point(alloc, heuristics, problem, margins, patch)? {
@@ -138,12 +138,12 @@ fn finish(
     if let Some(point) = middle_point(alloc, problem, margins, patch)? {
         return Ok(Ended::Shown(point));
     }
-    if void_any(problem, patch)? {
+    if void_any(problem, patch) {
         return Ok(Ended::Closed);
     }
     problem_is_whole(problem);
     run_is_lawful(patch);
-    part(problem, patch)?;
+    part(problem, patch);
     Ok(Ended::Parted)
 }
 

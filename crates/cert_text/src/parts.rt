@@ -1,5 +1,5 @@
 // The parts of a certificate.
-ghost use Rattle.std.specs.Prelude.{◌≤◌, ◌∷◌, [], length, map};
+ghost use Rattle.std.specs.Prelude.{◌≡◌, ◌≤◌, ◌∷◌, [], length, map};
 ghost use Rattle.std.specs.List.{AllByRecursion};
 ghost use Rattle.ival.specs.SpaceViews.{domain_of, space_of};
 ghost use Rattle.cover_data.specs.Views.{step_line, end_line};
@@ -17,7 +17,7 @@ use crate::append::{
 };
 use crate::keyword::{Counted, Paired, Plain};
 use cover_book::{Learned, Lines};
-use cover_data::{End, Options, Step};
+use cover_data::{End, Options, State, Step};
 use ival::{Domain, Space, Truths};
 use std::alloc::AllocError;
 
@@ -118,18 +118,34 @@ pub(crate) fn append_lines(text: &mut Vec<u8>, lines: &Lines) -> Result<(), Allo
     append_end(text, &lines.end)
 }
 
+// A lemma: its number, its state, which is given, and its tree.
+fn append_lemma_at(
+    text: &mut Vec<u8>,
+    id: u32,
+    lemma: &Learned,
+    state: &State,
+) -> Result<(), AllocError>
+    requires few { HasFewMarks lemma.now }
+    requires state { state.now ≡ lemma.now.state }
+    ensures { Appends text.old text.new
+        (lemma_lines id (lemma_tree (learned_of lemma.now))) result }
+{
+    let marks = state.lits().marks();
+    append_counted(text, Counted::Lemma, id)?;
+    append_space(text, state.space())?;
+    append_marks(text, marks, true)?;
+    append_marks(text, marks, false)?;
+    append_lines(text, &lemma.lines)
+}
+
 // A lemma: its number, its state and its tree.
 fn append_lemma(text: &mut Vec<u8>, id: u32, lemma: &Learned) -> Result<(), AllocError>
     requires { HasFewMarks lemma.now }
     ensures { Appends text.old text.new
         (lemma_lines id (lemma_tree (learned_of lemma.now))) result }
 {
-    let marks = lemma.state.lits().marks();
-    append_counted(text, Counted::Lemma, id)?;
-    append_space(text, lemma.state.space())?;
-    append_marks(text, marks, true)?;
-    append_marks(text, marks, false)?;
-    append_lines(text, &lemma.lines)
+    let state = lemma.state.state(*text.allocator())?;
+    append_lemma_at(text, id, lemma, &state)
 }
 
 /// Appends the lemmas, in the order of their numbers.

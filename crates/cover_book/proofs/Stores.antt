@@ -8,6 +8,7 @@ use Rattle.cover_model.specs.State.{State}
 use Rattle.cover_model.specs.Rules.{Line}
 use Rattle.cover_data.specs.declared.kept.KeptPatch.{KeptPatch}
 use Rattle.cover_data.specs.declared.step.End.{End}
+use Rattle.cover_data.specs.declared.step.Step.{Step}
 use Rattle.cover_data.specs.Models.{KeptModel}
 use Rattle.cover_data.specs.Views.{kept_of, step_line, end_line, end_of}
 use Rattle.cover_data.specs.Runs.{is_closing, children}
@@ -97,5 +98,7 @@ stored_lemma b P e f known room grid reached lemmas g = record {
   book = ap (with_lemmas b) g ∙ ap (λ (x : Option End). learned_book b (kept_of P) (end_of x)) (sym f);
 }
 
-pub lemma_pushed : (xs ys zs : List Learned) (x : Learned) → ys ≡ xs → zs ≡ ys ++ (x ∷ []) → map learned_of zs ≡ map learned_of xs ++ (learned_of x ∷ [])
-lemma_pushed xs ys zs x e f = ap (map learned_of) (f ∙ ap (λ (vs : List Learned). vs ++ (x ∷ [])) e) ∙ map-append learned_of xs (x ∷ [])
+pub lemma_pushed : (xs zs : List Learned) (P : KeptPatch) (L : Learned) → zs ≡ xs ++ (L ∷ []) → L.state ≡ P.first → L.lines.steps ≡ P.steps →
+    map learned_of zs ≡ map learned_of xs ++ (record { state = P.first; steps = map step_line P.steps.items; end = end_line L.lines.end } ∷ [])
+lemma_pushed xs zs P L e f g = ap (map learned_of) e ∙ map-append learned_of xs (L ∷ [])
+    ∙ ap₂ (λ (S : State) (steps : List Step). map learned_of xs ++ (record { state = S; steps = map step_line steps; end = end_line L.lines.end } ∷ [])) f (ap (λ v. v.items) g)

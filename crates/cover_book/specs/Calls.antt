@@ -11,6 +11,7 @@ use Rattle.cover_book.specs.Model.{BookModel, first_node, lemma_states_in}
 use Rattle.cover_book.specs.Steps.{CommitStep, IsCommitRefusal, IsOutOfMemory, IsQuotedRefusal, LemmaStep, MayCommit, QuotesKnownLemmas}
 use Rattle.cover_book.specs.Views.{node_of}
 use Rattle.cover_book.specs.declared.ending.Ending.{Ending}
+use Rattle.cover_book.specs.declared.node.Learned.{Learned}
 use Rattle.cover_book.specs.declared.node.Lines.{Lines}
 use Rattle.cover_book.specs.declared.node.Node.{Node}
 use Rattle.cover_book.specs.declared.node.Node.TheVariants.{Live, Parted}
@@ -36,6 +37,10 @@ TestsCommit b node patch r = MatchResult r (λ _. MayCommit b node (kept_of patc
 -- these are the patch's lines, and this is what its end leaves
 abbrev pub IsOutcomeOf : KeptPatch → Lines → Ending → Type 0
 IsOutcomeOf patch lines ending = (lines.steps ≡ patch.steps) × (patch.end ≡ Some lines.end) × IsEndingOf (end_line lines.end) patch.reached ending
+
+-- the lemma is the patch's first state, with its lines
+abbrev pub IsLearnedOf : KeptPatch → Learned → Type 0
+IsLearnedOf patch lemma = (lemma.state ≡ patch.first) × (lemma.lines.steps ≡ patch.steps) × (patch.end ≡ Some lemma.lines.end)
 
 -- the node has these lines, and its parts are the next two nodes, or nothing changes
 abbrev pub PartsNode : {E : Type 0} → List Node → ℕ → Lines → State → State → List Node → Result ℕ E → Type 0

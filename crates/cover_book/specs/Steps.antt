@@ -164,7 +164,7 @@ IsQuotedRefusal b quoted e = ⊥
 
 abbrev pub IsPointKeptRefusal : BookModel → BookRefusal → Type 0
 IsPointKeptRefusal b (PointKept x) = b.point ≡ Some x
-IsPointKeptRefusal b Memory = Unit {0}
+IsPointKeptRefusal b Memory = IsSome b.point
 IsPointKeptRefusal b e = ⊥
 
 abbrev pub IsCommitRefusal : BookModel → ℕ → KeptModel → BookRefusal → Type 0
@@ -185,7 +185,7 @@ IsLemmaRefusal b k e = ⊥
 abbrev pub IsPointRefusal : BookModel → ℕ → Space → BookRefusal → Type 0
 IsPointRefusal b n x (NotOpen m) = (m ≡ n) × ((S : State) → IsLive b n S → ⊥)
 IsPointRefusal b n x (PointKept y) = ((S : State) × IsLive b n S) × (b.point ≡ Some y)
-IsPointRefusal b n x Memory = Unit {0}
+IsPointRefusal b n x Memory = ((S : State) × IsLive b n S) × IsSome b.point
 IsPointRefusal b n x e = ⊥
 
 abbrev pub IsStateRefusal : BookModel → ℕ → BookRefusal → Type 0

@@ -4,7 +4,7 @@ ghost use Rattle.std.specs.List.{list_any};
 ghost use Rattle.std.specs.Vec.{vec_capacity};
 ghost use Rattle.cover_data.specs.Runs.{CanPart};
 ghost use Rattle.cover_data.specs.Views.{kept_of, end_of};
-ghost use Rattle.cover_book.specs.Calls.{IsOpeningOf, IsOutcomeOf, KeepsLemma, PartsNode, StoresLemma, StoresPatch, TestsCommit, TestsQuoted};
+ghost use Rattle.cover_book.specs.Calls.{IsLearnedOf, IsOpeningOf, IsOutcomeOf, KeepsLemma, PartsNode, StoresLemma, StoresPatch, TestsCommit, TestsQuoted};
 ghost use Rattle.cover_book.specs.Limits.{IsWithinLimits};
 ghost use Rattle.cover_book.specs.Model.{opening};
 ghost use Rattle.cover_book.specs.Verdict.{verdict_of, is_live, is_stuck, live_after};
@@ -20,7 +20,7 @@ use crate::grid::{on_grid, point_on_grid};
 use crate::node::{Learned, Lines, Node};
 use crate::refusal::{BookRefusal, Kids};
 use crate::verdict::BookVerdict;
-use cover_data::{ClosedPatch, End, KeptPatch, Lemma, Options, Point, State};
+use cover_data::{ClosedPatch, End, KeptPatch, Lemma, Options, Point, State, StoredState};
 use poly_graph::{Lits, Problem};
 use std::alloc::{AllocError, Global};
 use std::marker::Model;
@@ -78,7 +78,8 @@ fn opening_node(alloc: Global, problem: &Problem) -> Result<Node, AllocError>
         Root::Empty(axis) => Ok(Node::Crossed(axis)),
         Root::Space(space) => {
             let lits = Lits::new(alloc, problem.atoms().len())?;
-            Ok(Node::Live(State::new(space, lits)))
+            let state = State::new(space, lits);
+            Ok(Node::Live(StoredState::new(alloc, &state, None)?))
         }
     }
 }
@@ -117,12 +118,21 @@ fn parts(end: &Option<End>) -> bool
     )
 }
 
-// What a patch did to its state, and what its end leaves of the state that it reached.
-fn outcome(alloc: Global, patch: KeptPatch) -> Result<(Lines, Ending), AllocError>
+// The state of a live node, as it is kept.
+fn kept_state(node: &Node) -> Option<&StoredState> {
+    match node {
+        Node::Live(state) => Some(state),
+        _ => None,
+    }
+}
+
+// What a patch for this node did to its state, and what its end leaves of the state that it reached.
+fn outcome(alloc: Global, node: &Node, patch: KeptPatch) -> Result<(Lines, Ending), AllocError>
     requires ended { IsSome patch.end }
     requires parts { IfSome (end_of patch.end) (λ l. CanPart l patch.reached) }
     ensures { IfOk result (λ x. IsOutcomeOf patch x.0 x.1) }
 {
+    let ending = ending_of(alloc, &patch, kept_state(node))?;
     let KeptPatch {
         first,
         steps,
@@ -132,12 +142,46 @@ fn outcome(alloc: Global, patch: KeptPatch) -> Result<(Lines, Ending), AllocErro
     } = patch;
     drop(first);
     drop(quoted);
+    drop(reached);
+    match end {
+        Some(end) => Ok((Lines { steps, end }, ending)),
+        None => unreachable!(),
+    }
+}
+
+// The state of the latest lemma, as it is kept.
+fn latest_state(lemmas: &[Learned]) -> Option<&StoredState> {
+    match lemmas.last() {
+        Some(lemma) => Some(&lemma.state),
+        None => None,
+    }
+}
+
+// The first state of a patch as a lemma, with its lines. One that is kept may be like it.
+fn learned(
+    alloc: Global,
+    patch: KeptPatch,
+    like: Option<&StoredState>,
+) -> Result<Learned, AllocError>
+    requires { IsSome patch.end }
+    ensures { IfOk result (IsLearnedOf patch) }
+{
+    let KeptPatch {
+        first,
+        steps,
+        quoted,
+        end,
+        reached,
+    } = patch;
+    drop(quoted);
+    drop(reached);
     let end = match end {
         Some(end) => end,
         None => unreachable!(),
     };
-    let ending = ending_of(alloc, &end, reached)?;
-    Ok((Lines { steps, end }, ending))
+    let state = StoredState::new(alloc, &first, like)?;
+    let lines = Lines { steps, end };
+    Ok(Learned { state, lines })
 }
 
 // Writes the node at this place.
@@ -156,8 +200,8 @@ fn part(
     nodes: &mut Vec<Node>,
     place: usize,
     lines: Lines,
-    lower: State,
-    upper: State,
+    lower: StoredState,
+    upper: StoredState,
 ) -> Result<u32, AllocError>
     requires place { place < vec_len nodes.old }
     requires count { vec_len nodes.old < 2 ^ 32 }
@@ -242,7 +286,7 @@ impl Book {
         ensures { ResultStep reply.LiveState self.now (call.StateOf node) result self.now }
     {
         match self.nodes.get(node as usize) {
-            Some(Node::Live(state)) => match state.try_clone(*self.nodes.allocator()) {
+            Some(Node::Live(state)) => match state.state(*self.nodes.allocator()) {
                 Ok(copy) => Ok(copy),
                 Err(_) => Err(BookRefusal::Memory),
             },
@@ -259,7 +303,7 @@ impl Book {
         let first = (from as usize).min(count);
         let mut copies = Vec::new(*self.nodes.allocator());
         for id in first..count {
-            let state = self.lemmas[id].state.try_clone(*self.nodes.allocator())?;
+            let state = self.lemmas[id].state.state(*self.nodes.allocator())?;
             copies.push(Lemma::new(id as u32, state))?;
         }
         Ok(copies)
@@ -310,7 +354,7 @@ impl Book {
             _ => return Err(BookRefusal::NotOpen(node)),
         };
         if !state.is_same(&patch.first) {
-            return match state.try_clone(*self.nodes.allocator()) {
+            return match state.state(*self.nodes.allocator()) {
                 Ok(copy) => Err(BookRefusal::OtherState(copy)),
                 Err(_) => Err(BookRefusal::Memory),
             };
@@ -330,7 +374,7 @@ impl Book {
     {
         on_grid(&patch.reached);
         let place = node as usize;
-        let (lines, ending) = match outcome(*self.nodes.allocator(), patch) {
+        let (lines, ending) = match outcome(*self.nodes.allocator(), &self.nodes[place], patch) {
             Ok(outcome) => outcome,
             Err(_) => return Err(BookRefusal::Memory),
         };
@@ -377,25 +421,11 @@ impl Book {
         if self.lemmas.reserve(1).is_err() {
             return Err(BookRefusal::Memory);
         }
-        let KeptPatch {
-            first,
-            steps,
-            quoted,
-            end,
-            reached,
-        } = patch;
-        drop(quoted);
-        drop(reached);
-        let end = match end {
-            Some(end) => end,
-            None => unreachable!(),
+        let Ok(lemma) = learned(*self.nodes.allocator(), patch, latest_state(&self.lemmas)) else {
+            return Err(BookRefusal::Memory);
         };
         let id = self.lemmas.len() as u32;
-        let lines = Lines { steps, end };
-        self.lemmas.push_reserved(Learned {
-            state: first,
-            lines,
-        });
+        self.lemmas.push_reserved(lemma);
         Ok(id)
     }
 

@@ -1,52 +1,55 @@
-// What an end leaves of a state.
-ghost use Rattle.std.specs.Prelude.{IfOk};
-ghost use Rattle.cover_data.specs.Views.{end_line};
+// What the end of a patch leaves of the state that it reached.
+ghost use Rattle.std.specs.Prelude.{◌≡◌, IfOk, IfSome, IsSome, Some};
+ghost use Rattle.cover_data.specs.Views.{end_line, end_of};
 ghost use Rattle.cover_data.specs.Runs.{CanPart};
+ghost use Rattle.cover_data.specs.declared.step.End.{End as Line};
 ghost use Rattle.cover_book.specs.Ending.{IsEndingOf};
+ghost use Rattle.cover_book.specs.declared.ending.Ending.TheVariants as ending;
 
-use cover_data::{End, State};
-use poly_graph::Mark;
+use cover_data::{KeptPatch, State, StoredState};
 use std::alloc::{AllocError, Global};
 
-/// What an end leaves of a state: nothing, its two parts, or the state itself.
+/// What an end leaves of a state: nothing, its two parts, as they are kept, or the state itself.
 #[derive(Drop)]
 pub enum Ending {
     Closed,
-    Parted(State, State),
+    Parted(StoredState, StoredState),
     Stuck(State),
 }
 
-/// What the end leaves of the state.
-#[tactic(auto, using(crate::proofs::Naming::undecided_below))]
-pub fn ending_of(alloc: Global, end: &End, state: State) -> Result<Ending, AllocError>
-    requires { CanPart (end_line end.now) state }
-    ensures { IfOk result (λ x. IsEndingOf (end_line end.now) state x) }
+// The two parts of a state. One that is kept may be like the first of them.
+fn parted(
+    alloc: Global,
+    lower: &State,
+    upper: &State,
+    like: Option<&StoredState>,
+) -> Result<Ending, AllocError>
+    ensures { IfOk result (λ x. x ≡ ending.Parted lower.now upper.now) }
 {
-    match end {
-        End::Void(_) | End::VoidNo(_) | End::VoidCombine(_) | End::False | End::By(_) => {
-            Ok(Ending::Closed)
-        }
-        End::Stuck(_) => Ok(Ending::Stuck(state)),
-        End::Cut(axis, cut) => {
-            let mut upper = state.try_clone(alloc)?;
-            let mut lower = state;
-            lower.keep_low(*axis as usize, *cut);
-            upper.keep_high(*axis as usize, *cut);
-            Ok(Ending::Parted(lower, upper))
-        }
-        End::Flip(axis) => {
-            let mut upper = state.try_clone(alloc)?;
-            let mut lower = state;
-            lower.keep_bool(*axis as usize, false);
-            upper.keep_bool(*axis as usize, true);
-            Ok(Ending::Parted(lower, upper))
-        }
-        End::Case(j) => {
-            let mut second = state.try_clone(alloc)?;
-            let mut first = state;
-            first.set_mark(*j, Mark::Yes);
-            second.set_mark(*j, Mark::No);
-            Ok(Ending::Parted(first, second))
+    let lower = StoredState::new(alloc, lower, like)?;
+    let upper = StoredState::new(alloc, upper, Some(&lower))?;
+    Ok(Ending::Parted(lower, upper))
+}
+
+/// What the end of the patch leaves of the state that it reached. One that is kept may be like its parts.
+pub fn ending_of(
+    alloc: Global,
+    patch: &KeptPatch,
+    like: Option<&StoredState>,
+) -> Result<Ending, AllocError>
+    requires ended { IsSome patch.now.end }
+    requires parts { IfSome (end_of patch.now.end) (λ l. CanPart l patch.now.reached) }
+    ensures { (e : Line) → patch.now.end ≡ Some e →
+        IfOk result (IsEndingOf (end_line e) patch.now.reached) }
+{
+    match patch.kids(alloc)? {
+        Some((lower, upper)) => parted(alloc, &lower, &upper, like),
+        None => {
+            if patch.has_closed() {
+                Ok(Ending::Closed)
+            } else {
+                Ok(Ending::Stuck(patch.reached.try_clone(alloc)?))
+            }
         }
     }
 }

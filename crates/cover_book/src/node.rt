@@ -1,5 +1,5 @@
 // The boxes of a cover, and what was committed to them.
-use cover_data::{End, State, Step};
+use cover_data::{End, State, Step, StoredState};
 
 /// What a patch did to a state: its steps, and its end.
 #[derive(Drop)]
@@ -12,7 +12,7 @@ pub struct Lines {
 #[derive(Drop)]
 pub enum Node {
     /// Nothing is committed to this state yet.
-    Live(State),
+    Live(StoredState),
     /// The declared bounds of this axis cross, so there is nothing to cover.
     Crossed(usize),
     /// It was closed.
@@ -26,6 +26,6 @@ pub enum Node {
 /// A state that no point which meets the form is of, with the lines that close it.
 #[derive(Drop)]
 pub struct Learned {
-    pub state: State,
+    pub state: StoredState,
     pub lines: Lines,
 }

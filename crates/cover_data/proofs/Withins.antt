@@ -54,11 +54,11 @@ same-domains (bool_domain f t) (bool_domain f' t') a b =
 same-domains (real_domain l h) (bool_domain f t) a b = absurd (true≢false (sym a))
 same-domains (bool_domain f t) (real_domain l h) a b = absurd (true≢false (sym a))
 
-same-spaces : (s t : Space) → IsTrue (space_within s t) → IsTrue (space_within t s) → s ≡ t
-same-spaces [] [] a b = refl
-same-spaces (d ∷ s) (e ∷ t) a b = let x = both_true (domain_within d e) (space_within s t) a in let y = both_true (domain_within e d) (space_within t s) b in ap₂ (λ (f : Domain) (u : Space). f ∷ u) (same-domains d e x.0 y.0) (same-spaces s t x.1 y.1)
-same-spaces [] (e ∷ t) a b = absurd (true≢false (sym a))
-same-spaces (d ∷ s) [] a b = absurd (true≢false (sym a))
+pub same_spaces : (s t : Space) → IsTrue (space_within s t) → IsTrue (space_within t s) → s ≡ t
+same_spaces [] [] a b = refl
+same_spaces (d ∷ s) (e ∷ t) a b = let x = both_true (domain_within d e) (space_within s t) a in let y = both_true (domain_within e d) (space_within t s) b in ap₂ (λ (f : Domain) (u : Space). f ∷ u) (same-domains d e x.0 y.0) (same_spaces s t x.1 y.1)
+same_spaces [] (e ∷ t) a b = absurd (true≢false (sym a))
+same_spaces (d ∷ s) [] a b = absurd (true≢false (sym a))
 
 same-mark : (m n : Mark) → IsTrue (mark_within m n) → IsTrue (mark_within n m) → m ≡ n
 same-mark marked_yes marked_yes a b = refl
@@ -71,17 +71,17 @@ same-mark marked_no unmarked a b = absurd (true≢false (sym a))
 same-mark unmarked marked_yes a b = absurd (true≢false (sym b))
 same-mark unmarked marked_no a b = absurd (true≢false (sym b))
 
-same-marks : (ms ns : List Mark) → IsTrue (marks_within ms ns) → IsTrue (marks_within ns ms) → ms ≡ ns
-same-marks [] [] a b = refl
-same-marks (m ∷ ms) (n ∷ ns) a b = let x = both_true (mark_within m n) (marks_within ms ns) a in let y = both_true (mark_within n m) (marks_within ns ms) b in ap₂ (λ (k : Mark) (u : List Mark). k ∷ u) (same-mark m n x.0 y.0) (same-marks ms ns x.1 y.1)
-same-marks [] (n ∷ ns) a b = absurd (true≢false (sym b))
-same-marks (m ∷ ms) [] a b = absurd (true≢false (sym a))
+pub same_marks : (ms ns : List Mark) → IsTrue (marks_within ms ns) → IsTrue (marks_within ns ms) → ms ≡ ns
+same_marks [] [] a b = refl
+same_marks (m ∷ ms) (n ∷ ns) a b = let x = both_true (mark_within m n) (marks_within ms ns) a in let y = both_true (mark_within n m) (marks_within ns ms) b in ap₂ (λ (k : Mark) (u : List Mark). k ∷ u) (same-mark m n x.0 y.0) (same_marks ms ns x.1 y.1)
+same_marks [] (n ∷ ns) a b = absurd (true≢false (sym b))
+same_marks (m ∷ ms) [] a b = absurd (true≢false (sym a))
 
 pub same_states : (S T : State) → IsTrue (covers S T) → IsTrue (covers T S) → S ≡ T
 same_states S T a b =
     let x = both_true (space_within T.space S.space) (marks_within S.marks T.marks) a in
     let y = both_true (space_within S.space T.space) (marks_within T.marks S.marks) b in
-    ap₂ (λ (s : Space) (ms : List Mark). record { space = s; marks = ms }) (same-spaces S.space T.space y.0 x.0) (same-marks S.marks T.marks x.1 y.1)
+    ap₂ (λ (s : Space) (ms : List Mark). record { space = s; marks = ms }) (same_spaces S.space T.space y.0 x.0) (same_marks S.marks T.marks x.1 y.1)
 
 -- ---- where a part can be kept
 

@@ -16,6 +16,7 @@ mod margins;
 mod point;
 mod state;
 mod step;
+mod stored;
 
 pub use closed::ClosedPatch;
 pub use combination::Combination;
@@ -25,3 +26,4 @@ pub use margins::{Margins, Options};
 pub use point::Point;
 pub use state::State;
 pub use step::{End, Step};
+pub use stored::StoredState;

@@ -24,7 +24,7 @@ use Rattle.cover_data.specs.Models.{LemmaModel}
 use Rattle.cover_rule.specs.Models.{PatchModel}
 use Rattle.cover_data.specs.Runs.{is_closing, CanPart, IsEnding}
 use Rattle.cover_rule.specs.Patch.{problem_in, loosenings_in, now_in, IsRunOf, narrowing_in, narrowing_off_in, combining_in, combined_space, space_or}
-use Rattle.cover_rule.specs.Refusals.{IfLessStep, unless, then_by, if_ended, honestly, pull_refusal, pulled_by, push_refusal, pushed_by, can_combine_in, combine_refusal, combined_by, void_no_refusal, void_combine_refusal, unit_refusal, forced_by, ban_refusal, banned_by, void_refusal, false_refusal, by_refusal, ended_with, covered_by, flip_refusal, case_refusal, stuck_refusal, cut_line, cut_test, cut_refusal, ended_if, cut_by, PatchAnswer}
+use Rattle.cover_rule.specs.Refusals.{IfLessStep, unless, then_by, if_ended, honestly, pull_refusal, pulled_by, push_refusal, pushed_by, can_combine_in, combine_refusal, combined_by, void_no_refusal, void_combine_refusal, unit_refusal, forced_by, ban_refusal, banned_by, void_refusal, false_refusal, by_refusal, ended_with, covered_by, flip_refusal, case_refusal, stuck_refusal, cut_line, cut_test, cut_refusal, ended_if, cut_by, PatchAnswer, EndAnswer}
 use Rattle.cover_rule.proofs.RunSteps.{run_steps, run_ends, kept_before, lemmas_and, alone, kept_alone, sound_alone, no_lemmas}
 use Rattle.cover_data.specs.declared.kept.KeptPatch.{KeptPatch}
 use Rattle.cover_rule.specs.declared.workspace.Workspace.{Workspace}
@@ -97,6 +97,11 @@ run_refused refusal P done Q Memory a h = subst IsRunOf (sym a.1) h
 pub run_after : (refusal : Option PatchRefusal) (P done Q : PatchModel) (r : Result (Unit {0}) PatchRefusal) → PatchAnswer refusal P done Q r → IsRunOf P → OnOk r (refusal ≡ None → IsRunOf done) → IsRunOf Q
 run_after refusal P done Q (Ok u) a h k = subst IsRunOf (sym a.1) (k a.0)
 run_after refusal P done Q (Err x) a h k = run_refused refusal P done Q x a h
+
+-- the same of a call that takes no memory
+pub run_ended : (refusal : Option PatchRefusal) (P done Q : PatchModel) (r : Result (Unit {0}) PatchRefusal) → EndAnswer refusal P done Q r → IsRunOf P → OnOk r (refusal ≡ None → IsRunOf done) → IsRunOf Q
+run_ended refusal P done Q (Ok u) a h k = subst IsRunOf (sym a.1) (k a.0)
+run_ended refusal P done Q (Err x) a h k = subst IsRunOf (sym a.1) h
 
 pub on_ok : (A B : Type 0) (r : Result (Unit {0}) PatchRefusal) → (A → B) → OnOk r A → OnOk r B
 on_ok A B (Ok u) f h = f h

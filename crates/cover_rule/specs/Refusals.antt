@@ -166,6 +166,11 @@ PatchAnswer refusal old done new (Ok u) = (refusal ≡ None) × (new ≡ done)
 PatchAnswer refusal old done new (Err Memory) = (refusal ≡ None) × (new ≡ old)
 PatchAnswer refusal old done new (Err e) = (refusal ≡ Some e) × (new ≡ old)
 
+-- the same of a call that takes no memory: done, or the first refusal
+abbrev pub EndAnswer : {X : Type 0} → Option PatchRefusal → X → X → X → Result (Unit {0}) PatchRefusal → Type 0
+EndAnswer refusal old done new (Ok u) = (refusal ≡ None) × (new ≡ done)
+EndAnswer refusal old done new (Err e) = (refusal ≡ Some e) × (new ≡ old)
+
 -- a step that narrows the space to this one, where that is less, and nothing where the space stays
 abbrev pub IfLessStep : Option Space → Option PatchRefusal → PatchModel → PatchModel → PatchModel → Result Bool PatchRefusal → Type 0
 IfLessStep narrow refusal P done Q (Ok true) = (narrow ≢ Some (now_in P).space) × PatchAnswer refusal P done Q (Ok tt)
@@ -199,31 +204,31 @@ abbrev pub BanStep : PatchModel → ℕ → LemmaModel → PatchModel → Result
 BanStep P j L Q r = PatchAnswer (ban_refusal P.kept j L) P (banned_by P j L) Q r
 
 abbrev pub VoidEnd : PatchModel → ℕ → PatchModel → Result (Unit {0}) PatchRefusal → Type 0
-VoidEnd P j Q r = PatchAnswer (void_refusal P j) P (ended_with P (void j)) Q r
+VoidEnd P j Q r = EndAnswer (void_refusal P j) P (ended_with P (void j)) Q r
 
 abbrev pub VoidNoEnd : PatchModel → ℕ → PatchModel → Result (Unit {0}) PatchRefusal → Type 0
-VoidNoEnd P j Q r = PatchAnswer (void_no_refusal P j) P (ended_with P (void_no j)) Q r
+VoidNoEnd P j Q r = EndAnswer (void_no_refusal P j) P (ended_with P (void_no j)) Q r
 
 abbrev pub VoidCombineEnd : PatchModel → Multipliers → PatchModel → Result (Unit {0}) PatchRefusal → Type 0
 VoidCombineEnd P ms Q r = PatchAnswer (void_combine_refusal P ms) P (ended_with P (void_combine ms)) Q r
 
 abbrev pub FalseEnd : PatchModel → PatchModel → Result (Unit {0}) PatchRefusal → Type 0
-FalseEnd P Q r = PatchAnswer (false_refusal P) P (ended_with P make_false) Q r
+FalseEnd P Q r = EndAnswer (false_refusal P) P (ended_with P make_false) Q r
 
 abbrev pub LemmaEnd : PatchModel → LemmaModel → PatchModel → Result (Unit {0}) PatchRefusal → Type 0
 LemmaEnd P L Q r = PatchAnswer (by_refusal P.kept L) P (covered_by P L) Q r
 
 abbrev pub CutEnd : PatchModel → PatchModel → Result (Unit {0}) PatchRefusal → Type 0
-CutEnd P Q r = PatchAnswer (cut_refusal P) P (cut_by P) Q r
+CutEnd P Q r = EndAnswer (cut_refusal P) P (cut_by P) Q r
 
 abbrev pub FlipEnd : PatchModel → ℕ → PatchModel → Result (Unit {0}) PatchRefusal → Type 0
-FlipEnd P i Q r = PatchAnswer (flip_refusal P i) P (ended_with P (flip i)) Q r
+FlipEnd P i Q r = EndAnswer (flip_refusal P i) P (ended_with P (flip i)) Q r
 
 abbrev pub CaseEnd : PatchModel → ℕ → PatchModel → Result (Unit {0}) PatchRefusal → Type 0
-CaseEnd P j Q r = PatchAnswer (case_refusal P j) P (ended_with P (case j)) Q r
+CaseEnd P j Q r = EndAnswer (case_refusal P j) P (ended_with P (case j)) Q r
 
 abbrev pub StuckEnd : PatchModel → ℕ → PatchModel → Result (Unit {0}) PatchRefusal → Type 0
-StuckEnd P j Q r = PatchAnswer (stuck_refusal P j) P (ended_with P (stuck j)) Q r
+StuckEnd P j Q r = EndAnswer (stuck_refusal P j) P (ended_with P (stuck j)) Q r
 
 -- the same of a run alone, for what quotes a lemma
 abbrev pub RunBanStep : KeptModel → ℕ → LemmaModel → KeptModel → Result (Unit {0}) PatchRefusal → Type 0

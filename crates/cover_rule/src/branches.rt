@@ -15,6 +15,7 @@ ghost use Rattle.cover_rule.specs.Parting.{is_due_at, IsWidestRange};
 ghost use Rattle.cover_data.specs.Views.{kept_of};
 ghost use Rattle.cover_rule.specs.Held.{IsHeld, patch_of};
 
+use crate::ends::end_by;
 use crate::facts::problem_is_whole;
 use crate::refusal::PatchRefusal;
 use crate::small::{has_small_side, is_small};
@@ -107,7 +108,7 @@ pub fn flip(
     if !is_due(problem, margins, &kept.reached, work) {
         return Err(PatchRefusal::NotHonest);
     }
-    kept.end = Some(End::Flip(axis));
+    end_by(kept, End::Flip(axis));
     Ok(())
 }
 
@@ -191,7 +192,7 @@ pub fn case(
     if !is_case_due(problem, margins, &mut kept.reached, work, j) {
         return Err(PatchRefusal::NotHonest);
     }
-    kept.end = Some(End::Case(j));
+    end_by(kept, End::Case(j));
     Ok(())
 }
 
@@ -225,7 +226,7 @@ pub fn stuck(
     if !none_stuck_below(problem, margins, &kept.reached, work, j) {
         return Err(PatchRefusal::NotHonest);
     }
-    kept.end = Some(End::Stuck(j));
+    end_by(kept, End::Stuck(j));
     Ok(())
 }
 
@@ -268,6 +269,6 @@ pub fn cut(
     if has_small_side(range, margins.least_bits) {
         return Err(PatchRefusal::NotHonest);
     }
-    kept.end = Some(End::Cut(axis as u32, mid(range.low, range.high)));
+    end_by(kept, End::Cut(axis as u32, mid(range.low, range.high)));
     Ok(())
 }

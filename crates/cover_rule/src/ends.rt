@@ -19,6 +19,16 @@ use cover_data::{Combination, End, KeptPatch, Lemma, Margins};
 use dyadic::Dy;
 use poly_graph::Problem;
 use std::alloc::Global;
+use std::mem;
+
+/// Ends the patch by this line.
+pub fn end_by(kept: &mut KeptPatch, end: End)
+    ensures kept { let k = kept_of kept.old in
+        kept_of kept.new ≡ ended_by k (end_line end) k.quoted }
+    ensures reached { kept.new.reached ≡ kept.old.reached }
+{
+    drop(mem::replace(&mut kept.end, Some(end)));
+}
 
 /// Ends the patch by atom j, whose narrowing leaves nothing.
 pub fn void(
@@ -44,7 +54,7 @@ pub fn void(
     if !leaves_nothing(problem, margins, &kept.reached, j, work) {
         return Err(PatchRefusal::NotFalse);
     }
-    kept.end = Some(End::Void(j));
+    end_by(kept, End::Void(j));
     Ok(())
 }
 
@@ -72,7 +82,7 @@ pub fn void_no(
     if !off_leaves_nothing(problem, margins, &kept.reached, j, work) {
         return Err(PatchRefusal::NotFalse);
     }
-    kept.end = Some(End::VoidNo(j));
+    end_by(kept, End::VoidNo(j));
     Ok(())
 }
 
@@ -102,7 +112,7 @@ pub fn void_combine(
     }
     match Combination::new(alloc, multipliers) {
         Ok(combination) => {
-            kept.end = Some(End::VoidCombine(combination));
+            end_by(kept, End::VoidCombine(combination));
             Ok(())
         }
         Err(_) => Err(PatchRefusal::Memory),
@@ -128,7 +138,7 @@ pub fn make_false(
     if may_hold(problem, margins, &kept.reached, work) {
         return Err(PatchRefusal::NotFalse);
     }
-    kept.end = Some(End::False);
+    end_by(kept, End::False);
     Ok(())
 }
 
@@ -148,6 +158,6 @@ pub fn by(alloc: Global, kept: &mut KeptPatch, lemma: &Lemma) -> Result<(), Patc
     if quote(alloc, kept, lemma).is_err() {
         return Err(PatchRefusal::Memory);
     }
-    kept.end = Some(End::By(lemma.id()));
+    end_by(kept, End::By(lemma.id()));
     Ok(())
 }

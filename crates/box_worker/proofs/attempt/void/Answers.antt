@@ -3,4 +3,4 @@ use Rattle.cover_rule.specs.Refusals.{ended_with, void_refusal}
 use Rattle.box_worker.proofs.attempt.void.Goals as goal
 
 pub returns : goal.returns
-returns c = c.was_done.ensures (void_refusal c.args.patch.now c.args.j) c.args.patch.now (ended_with c.args.patch.now (void c.args.j)) c.void-answer.new.self c.void-answer.ensures
+returns c = c.was_ended.ensures (void_refusal c.args.patch.now c.args.j) c.args.patch.now (ended_with c.args.patch.now (void c.args.j)) c.void-answer.new.self c.void-answer.ensures

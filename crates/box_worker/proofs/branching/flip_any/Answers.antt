@@ -10,7 +10,7 @@ use Rattle.box_worker.proofs.branching.flip_any.Goals as goal
 pub loop-axis-preserved : goal.loop-axis-preserved
 loop-axis-preserved c =
     let P = c.loop-axis.patch in let Q = c.flip.new.patch in let i = c.loop-axis.axis in let e = c.loop-axis.invariant.same in
-    let a : Attempts (flip_refusal P i) P (ended_with P (flip i)) Q false = refused (flip_refusal P i) P (ended_with P (flip i)) Q c.in_ok-flip.field-0 c.if-branch.false c.in_ok-flip.ensures in
+    let a : Attempts (flip_refusal P i) P (ended_with P (flip i)) Q false = refused (flip_refusal P i) P (ended_with P (flip i)) Q c.flip.result c.if-flip.false c.flip.ensures in
     let P' = c.args.patch.now in
     record {
       same = a.1 ∙ e;

@@ -14,8 +14,8 @@ use Rattle.box_worker.proofs.branching.part.Goals as goal
 pub stick-requires-clause-small : goal.stick-requires-clause-small
 stick-requires-clause-small c =
     let P = c.args.patch.now in let Q = c.cut.new.patch in
-    let a : Attempts (cut_refusal P) P (cut_by P) Q false = refused (cut_refusal P) P (cut_by P) Q c.in_ok-cut.field-0 c.if-branch.false c.in_ok-cut.ensures in
-    let same : c.flip_any.new.patch ≡ P = c.in_ok-flip_any.ensures.same c.if-branch-2.false ∙ a.1 in
+    let a : Attempts (cut_refusal P) P (cut_by P) Q false = refused (cut_refusal P) P (cut_by P) Q c.cut.result c.if-cut.false c.cut.ensures in
+    let same : c.flip_any.new.patch ≡ P = c.flip_any.ensures.same c.if-flip_any.false ∙ a.1 in
     subst (λ (X : PatchModel). IsTrue (is_small X.margins.least_bits X.kept.reached.space)) (sym same)
     (small_with_bools P.margins.least_bits P.kept.reached.space (cut_refused P Q (cut_by P) c.requires.due a)
-    (λ i l. ap (λ (X : PatchModel). test_axis is_undecided i X.kept.reached.space) (sym a.1) ∙ c.in_ok-flip_any.ensures.none c.if-branch-2.false i (omega (arith, l, fits_length (problem_of P.problem).axes P.kept.reached.space c.run_is_lawful.ensures.sound.reached.axes, ap (λ (r : Parts). length r.axes) c.requires.problem))))
+    (λ i l. ap (λ (X : PatchModel). test_axis is_undecided i X.kept.reached.space) (sym a.1) ∙ c.flip_any.ensures.none c.if-flip_any.false i (omega (arith, l, fits_length (problem_of P.problem).axes P.kept.reached.space c.run_is_lawful.ensures.sound.reached.axes, ap (λ (r : Parts). length r.axes) c.requires.problem))))

@@ -15,7 +15,7 @@ use Rattle.box_worker.proofs.branching.stick.Goals as goal
 pub loop-j-preserved : goal.loop-j-preserved
 loop-j-preserved c =
     let P = c.loop-j.patch in let Q = c.stuck.new.patch in let j = c.loop-j.j in let e = c.loop-j.invariant.same in
-    let a : Attempts (stuck_refusal P j) P (ended_with P (stuck j)) Q false = refused (stuck_refusal P j) P (ended_with P (stuck j)) Q c.in_ok-stuck.field-0 c.if-branch.false c.in_ok-stuck.ensures in
+    let a : Attempts (stuck_refusal P j) P (ended_with P (stuck j)) Q false = refused (stuck_refusal P j) P (ended_with P (stuck j)) Q c.stuck.result c.if-stuck.false c.stuck.ensures in
     let P' = c.args.patch.now in
     record {
       same = a.1 ∙ e;

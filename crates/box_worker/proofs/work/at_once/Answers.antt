@@ -19,7 +19,7 @@ use Rattle.box_worker.proofs.work.at_once.Goals as goal
 pub first_covering-requires-clause-axes : goal.first_covering-requires-clause-axes
 first_covering-requires-clause-axes c = λ k d l.
     let P = c.args.patch.now in let F = c.make_false.new.patch in let Q = c.middle_point.new.patch in let same : Q ≡ F = c.in_ok-point.ensures.same in
-    let a : Attempts (false_refusal P) P (ended_with P make_false) F false = refused (false_refusal P) P (ended_with P make_false) F c.in_ok-make_false.field-0 c.if-branch.false c.in_ok-make_false.ensures in
+    let a : Attempts (false_refusal P) P (ended_with P make_false) F false = refused (false_refusal P) P (ended_with P make_false) F c.make_false.result c.if-make_false.false c.make_false.ensures in
     let p = problem_of c.args.problem.now in
     let e : Q.problem ≡ c.args.problem.now = ap (λ (X : PatchModel). X.problem) (same ∙ a.1) ∙ c.requires.problem in
     let f : FitsProblem p Q.kept.reached = subst (λ (r : Parts). FitsProblem (problem_of r) Q.kept.reached) e c.reached.ensures.run.sound.reached in
@@ -29,7 +29,7 @@ first_covering-requires-clause-axes c = λ k d l.
 pub by-requires-clause-state : goal.by-requires-clause-state
 by-requires-clause-state c =
     let P = c.args.patch.now in let F = c.make_false.new.patch in let Q = c.middle_point.new.patch in let same : Q ≡ F = c.in_ok-point.ensures.same in let L = c.in-Some-first_covering.lemma.now in
-    let a : Attempts (false_refusal P) P (ended_with P make_false) F false = refused (false_refusal P) P (ended_with P make_false) F c.in_ok-make_false.field-0 c.if-branch.false c.in_ok-make_false.ensures in
+    let a : Attempts (false_refusal P) P (ended_with P make_false) F false = refused (false_refusal P) P (ended_with P make_false) F c.make_false.result c.if-make_false.false c.make_false.ensures in
     let e : Q.problem ≡ c.args.problem.now = ap (λ (X : PatchModel). X.problem) (same ∙ a.1) ∙ c.requires.problem in
     let h = All-contains (λ (X : LemmaModel). FitsProblem (problem_of c.args.problem.now) X.state × IsLemma (problem_of c.args.problem.now) (loosenings_of c.args.margins.now) X.state) c.args.lemmas.now L c.requires.lemmas
     (covering_is c.args.lemmas.now c.reached.result.now L c.in-Some-first_covering.ensures).0 in
@@ -38,7 +38,7 @@ by-requires-clause-state c =
 pub by-requires-clause-lemma : goal.by-requires-clause-lemma
 by-requires-clause-lemma c =
     let P = c.args.patch.now in let F = c.make_false.new.patch in let Q = c.middle_point.new.patch in let same : Q ≡ F = c.in_ok-point.ensures.same in let L = c.in-Some-first_covering.lemma.now in
-    let a : Attempts (false_refusal P) P (ended_with P make_false) F false = refused (false_refusal P) P (ended_with P make_false) F c.in_ok-make_false.field-0 c.if-branch.false c.in_ok-make_false.ensures in
+    let a : Attempts (false_refusal P) P (ended_with P make_false) F false = refused (false_refusal P) P (ended_with P make_false) F c.make_false.result c.if-make_false.false c.make_false.ensures in
     let e : Q.problem ≡ c.args.problem.now = ap (λ (X : PatchModel). X.problem) (same ∙ a.1) ∙ c.requires.problem in
     let f : Q.margins ≡ c.args.margins.now = ap (λ (X : PatchModel). X.margins) (same ∙ a.1) ∙ c.requires.margins in
     let h = All-contains (λ (X : LemmaModel). FitsProblem (problem_of c.args.problem.now) X.state × IsLemma (problem_of c.args.problem.now) (loosenings_of c.args.margins.now) X.state) c.args.lemmas.now L c.requires.lemmas
@@ -49,7 +49,7 @@ by-requires-clause-lemma c =
 pub unreachable-requires : goal.unreachable-requires
 unreachable-requires c =
     let P = c.args.patch.now in let F = c.make_false.new.patch in let Q = c.middle_point.new.patch in let same : Q ≡ F = c.in_ok-point.ensures.same in let R = c.by.new.patch in let L = c.in-Some-first_covering.lemma.now in
-    let a : Attempts (false_refusal P) P (ended_with P make_false) F false = refused (false_refusal P) P (ended_with P make_false) F c.in_ok-make_false.field-0 c.if-branch.false c.in_ok-make_false.ensures in
-    let b : Attempts (by_refusal Q.kept L) Q (covered_by Q L) R false = refused (by_refusal Q.kept L) Q (covered_by Q L) R c.in_ok-by.field-0 c.if-branch-2.false c.in_ok-by.ensures in
+    let a : Attempts (false_refusal P) P (ended_with P make_false) F false = refused (false_refusal P) P (ended_with P make_false) F c.make_false.result c.if-make_false.false c.make_false.ensures in
+    let b : Attempts (by_refusal Q.kept L) Q (covered_by Q L) R false = refused (by_refusal Q.kept L) Q (covered_by Q L) R c.in_ok-by.field-0 c.if-branch.false c.in_ok-by.ensures in
     not_refused Q (covered_by Q L) R L (ap (λ (X : PatchModel). X.kept.end) (same ∙ a.1) ∙ c.requires.open)
     (subst (λ (S : State). IsTrue (covers L.state S)) c.reached.ensures.state (covering_is c.args.lemmas.now c.reached.result.now L c.in-Some-first_covering.ensures).1) b

@@ -18,10 +18,10 @@ pub part-requires-clause-due : goal.part-requires-clause-due
 part-requires-clause-due c =
     let A = c.close_at.new.patch in let M = c.mark_conjuncts.new.patch in let F = c.make_false.new.patch in let G = c.found_point.new.patch in let B = c.split.new.patch in let N = c.middle_point.new.patch in let V = c.void_any.new.patch in let p = c.args.problem.now in
     let z : A ≡ c.args.patch.now = c.in_ok-close_at.ensures.same c.if-branch.false in
-    let a : Attempts (false_refusal M) M (ended_with M make_false) F false = refused (false_refusal M) M (ended_with M make_false) F c.in_ok-make_false.field-0 c.if-branch-2.false c.in_ok-make_false.ensures in
+    let a : Attempts (false_refusal M) M (ended_with M make_false) F false = refused (false_refusal M) M (ended_with M make_false) F c.make_false.result c.if-make_false.false c.make_false.ensures in
     let open_end = c.in_ok-mark_conjuncts.ensures.open in
-    let y : B ≡ F = c.in_ok-split.ensures.same c.if-branch-3.false ∙ c.in_ok-found.ensures.same in
-    let last : V ≡ N = c.in_ok-void_any.ensures.same c.if-branch-4.false in
+    let y : B ≡ F = c.in_ok-split.ensures.same c.if-branch-2.false ∙ c.in_ok-found.ensures.same in
+    let last : V ≡ N = c.void_any.ensures.same c.if-void_any.false in
     let e : V ≡ B = last ∙ c.in_ok-point.ensures.same in
     let pr : M.problem ≡ p = c.in_ok-mark_conjuncts.ensures.continues.problem ∙ ap (λ (X : PatchModel). X.problem) z ∙ c.requires.problem in
     let mg : M.margins ≡ c.args.margins.now = c.in_ok-mark_conjuncts.ensures.continues.margins ∙ ap (λ (X : PatchModel). X.margins) z ∙ c.requires.margins in
@@ -35,7 +35,7 @@ part-requires-clause-due c =
     (subst (λ (r : Parts). all_decided V.kept.reached (conjuncts (problem_of r).form) ≡ true) (sym prV)
     (subst (λ (X : PatchModel). all_decided X.kept.reached (conjuncts (problem_of p).form) ≡ true) (sym v) c.in_ok-mark_conjuncts.ensures.decided))
     (subst (λ (r : Parts). none_empty (problem_of r) (loosenings_of V.margins) V.kept.reached ≡ true) (sym prV)
-    (subst (λ (X : PatchModel). none_empty (problem_of p) (loosenings_of X.margins) X.kept.reached ≡ true) (sym last) (c.in_ok-void_any.ensures.none c.if-branch-4.false)))
+    (subst (λ (X : PatchModel). none_empty (problem_of p) (loosenings_of X.margins) X.kept.reached ≡ true) (sym last) (c.void_any.ensures.none c.if-void_any.false)))
     (subst (λ (r : Parts). IsTrue (not (sure (problem_of r) (loosenings_of V.margins) (middle V.kept.reached.space)))) (sym prV)
     (subst (λ (x : Margins). IsTrue (not (sure (problem_of p) (loosenings_of x) (middle V.kept.reached.space)))) (sym mgV)
     (subst (λ (X : PatchModel). IsTrue (not (sure (problem_of p) (loosenings_of c.args.margins.now) (middle X.kept.reached.space)))) (sym e)

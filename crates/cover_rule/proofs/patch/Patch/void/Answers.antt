@@ -5,7 +5,7 @@ use Rattle.cover_rule.specs.Patch.{IsRunOf}
 use Rattle.cover_rule.specs.Models.{PatchModel}
 use Rattle.cover_rule.specs.Refusals.{void_refusal, ended_with, VoidEnd}
 use Rattle.cover_rule.specs.Held.{patch_of}
-use Rattle.cover_rule.proofs.Helds.{run_after, any_ok, held_with, still_ready, run_voided}
+use Rattle.cover_rule.proofs.Helds.{run_ended, any_ok, held_with, still_ready, run_voided}
 use Rattle.cover_rule.proofs.patch.Patch.void.Goals as goal
 
 pub invariant_of-self : goal.invariant_of-self
@@ -13,7 +13,7 @@ invariant_of-self c =
     let i = c.self.inside in let h = c.self.invariant in let p = i.problem.now in let k = i.kept in let k' = c.void.new.kept in let r = c.void.result in
     let P : PatchModel = patch_of p i.margins k in let Q : PatchModel = patch_of p i.margins k' in
     held_with p i.margins k k' i.work c.void.new.work h
-    (run_after (void_refusal P c.args.j) P (ended_with P (void c.args.j)) Q r (c.void.ensures.answer) h.run (any_ok (void_refusal P c.args.j ≡ None → IsRunOf (ended_with P (void c.args.j))) r (λ e. run_voided P h.whole h.run c.args.j e)))
+    (run_ended (void_refusal P c.args.j) P (ended_with P (void c.args.j)) Q r (c.void.ensures.answer) h.run (any_ok (void_refusal P c.args.j ≡ None → IsRunOf (ended_with P (void c.args.j))) r (λ e. run_voided P h.whole h.run c.args.j e)))
     (still_ready p i.margins k k' c.void.new.work (ap (λ (S : State). S.space) c.void.ensures.reached) c.void.ensures.ready)
 
 pub returns : goal.returns
