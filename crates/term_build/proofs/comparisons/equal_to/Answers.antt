@@ -16,8 +16,11 @@ pub compare-requires-clause-first : goal.compare-requires-clause-first
 compare-requires-clause-first c = omega (arith, c.requires.first, nodes_more c.args.builder.now c.loop-other.builder _ _ c.args.made.now.items c.loop-other.made.items c.loop-other.invariant.gathering)
 
 pub compare-requires-clause-second : goal.compare-requires-clause-second
-compare-requires-clause-second c = omega (arith, first_below (length c.args.builder.now.nodes) c.in-Some.other.now c.in-Some.later.now c.loop-other.left.now c.in-Some.ensures.cases.0 c.loop-other.invariant.below,
-    nodes_more c.args.builder.now c.loop-other.builder _ _ c.args.made.now.items c.loop-other.made.items c.loop-other.invariant.gathering)
+compare-requires-clause-second c = omega (
+  arith,
+  first_below (length c.args.builder.now.nodes) c.in-Some.other.now c.in-Some.later.now c.loop-other.left.now c.in-Some.ensures.cases.0 c.loop-other.invariant.below,
+  nodes_more c.args.builder.now c.loop-other.builder _ _ c.args.made.now.items c.loop-other.made.items c.loop-other.invariant.gathering,
+)
 
 pub returns-in_err-number-clause-does : goal.returns-in_err-number-clause-does
 returns-in_err-number-clause-does c = let fs = equal_with (stand_of c.args.builder.now).trees (place_of c.args.at) c.args.first c.args.others.now in

@@ -16,8 +16,11 @@ pub loop-first-init : goal.loop-first-init
 loop-first-init c = record { below = c.requires; gathering = gathering_none c.args.builder.now _ [] c.new-made.result.items c.new-made.ensures.items }
 
 pub equal_to-requires-clause-first : goal.equal_to-requires-clause-first
-equal_to-requires-clause-first c = omega (arith, first_below (length c.args.builder.now.nodes) c.in-Some.first.now c.in-Some.later.now c.loop-first.left.now c.in-Some.ensures.cases.0 c.loop-first.invariant.below,
-    nodes_more c.args.builder.now c.loop-first.builder _ _ [] c.loop-first.made.items c.loop-first.invariant.gathering)
+equal_to-requires-clause-first c = omega (
+  arith,
+  first_below (length c.args.builder.now.nodes) c.in-Some.first.now c.in-Some.later.now c.loop-first.left.now c.in-Some.ensures.cases.0 c.loop-first.invariant.below,
+  nodes_more c.args.builder.now c.loop-first.builder _ _ [] c.loop-first.made.items c.loop-first.invariant.gathering,
+)
 
 pub equal_to-requires-clause-others : goal.equal_to-requires-clause-others
 equal_to-requires-clause-others c = numbers_within (length c.args.builder.now.nodes) (length c.loop-first.builder.nodes) c.in-Some.later.now (nodes_more c.args.builder.now c.loop-first.builder _ _ [] c.loop-first.made.items c.loop-first.invariant.gathering)
