@@ -3,6 +3,7 @@ pub mod Faults
 pub mod Few
 pub mod Finishing
 pub mod Lookups
+pub mod Nearest
 pub mod One
 pub mod Parts
 pub mod Reached

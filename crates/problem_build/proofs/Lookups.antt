@@ -10,10 +10,11 @@ use Rattle.smt_sexp.specs.declared.sexps.Sexps as arena
 use Rattle.value_build.specs.Making.{Making}
 use Rattle.value_build.specs.Values.{IsValue}
 use Rattle.value_build.specs.declared.value.Value.{Value}
-use Rattle.problem_build.specs.Names.{local_value, if_named, top_known, known_of, entry_of, top_names, AreLocals, KnownFits, TopFits}
+use Rattle.problem_build.specs.Locals.{local_value}
+use Rattle.problem_build.specs.Names.{if_named, top_known, known_of, entry_of, top_names, AreLocals, KnownFits, TopFits}
 use Rattle.problem_build.specs.declared.top.Known.{Known}
 use Rattle.problem_build.specs.declared.top.Top.{Top}
-use Rattle.problem_build.specs.declared.names.Local.{Local}
+use Rattle.problem_build.specs.declared.locals.Local.{Local}
 
 -- ---- the top
 

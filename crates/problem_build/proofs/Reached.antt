@@ -30,13 +30,14 @@ use Rattle.term_build.specs.declared.sketch.Arm.TheVariants as arm
 use Rattle.value_build.specs.declared.value.Value.{Value}
 use Rattle.value_build.specs.declared.value.Value.TheVariants as values
 use Rattle.value_build.proofs.Growth.{value_stays}
-use Rattle.problem_build.specs.Names.{local_value, top_known, IsHead, known_of, work_names, bound_names_of, AreLocals, Knows}
+use Rattle.problem_build.specs.Locals.{local_value}
+use Rattle.problem_build.specs.Names.{top_known, IsHead, known_of, work_names, bound_names_of, AreLocals, Knows}
 use Rattle.problem_build.specs.LetParts.{as_let, let_of}
 use Rattle.problem_build.specs.Walking.{IsCall, IsLet, Turns, Reaches, call_work, call_bounds}
 use Rattle.problem_build.specs.declared.top.Known.{Known}
 use Rattle.problem_build.specs.declared.top.Known.TheVariants as known
 use Rattle.problem_build.specs.declared.top.Top.{Top}
-use Rattle.problem_build.specs.declared.names.Local.{Local}
+use Rattle.problem_build.specs.declared.locals.Local.{Local}
 use Rattle.problem_build.specs.declared.names.Head.{Head}
 use Rattle.problem_build.specs.declared.names.Head.TheVariants as head
 use Rattle.problem_build.specs.declared.frames.Next.{Next}

@@ -36,7 +36,7 @@ module _ (m m1 : Making) (s : arena.Sexps) (top : List Top) (g : Grows m m1) whe
   waits-stay (frame.Call c) u d w b h = record {
     names = h.names;
     bnames = h.bnames;
-    knows = knows_stays m m1 s top c.scope.visible c.scope.locals.value.items h.names h.bnames g h.knows;
+    knows = knows_stays m m1 s top c.scope.visible c.scope.locals.value h.names h.bnames g h.knows;
     done = h.done;
     bounded = h.bounded;
     values = values_stay m m1 (map outcome_of h.done) h.bounded c.values.items g h.values;
@@ -47,10 +47,10 @@ module _ (m m1 : Making) (s : arena.Sexps) (top : List Top) (g : Grows m m1) whe
   waits-stay (frame.Let l x) u d w b h = record {
     names = h.names;
     bnames = h.bnames;
-    knows = knows_stays m m1 s top l.scope.visible l.scope.locals.value.items h.names h.bnames g h.knows;
+    knows = knows_stays m m1 s top l.scope.visible l.scope.locals.value h.names h.bnames g h.knows;
     done = h.done;
     bounded = h.bounded;
-    stand = locals_stay m m1 g l.bound.items h.done h.bounded h.stand;
+    stand = locals_stay m m1 g l.bound h.done h.bounded h.stand;
     here = h.here;
     is = h.is;
     binds = h.binds;

@@ -22,7 +22,7 @@ use Rattle.value_build.proofs.Growth.{value_stays, steps_then}
 use Rattle.problem_build.specs.Names.{work_names, bound_names_of, bound_locals, AreLocals, Knows}
 use Rattle.problem_build.specs.Walking.{Fails, IsScope, KnowsScope}
 use Rattle.problem_build.specs.declared.frames.Scope.{Scope}
-use Rattle.problem_build.specs.declared.names.Local.{Local}
+use Rattle.problem_build.specs.declared.locals.Local.{Local}
 use Rattle.problem_build.specs.declared.top.Top.{Top}
 
 -- an expression without a sort
@@ -57,7 +57,7 @@ knows_stays m m1 s top n ls names bnames g h = record {
 pub knows_scope : (m : Making) (s : arena.Sexps) (top : List Top) (n : ℕ) (ls : List Local) (names : Names Work) (bnames : Names Bounding) (scope : Scope) → IsScope scope n ls → Knows m s top n ls names bnames →
     KnowsScope m s top scope names bnames
 knows_scope m s top n ls names bnames scope is h =
-    subst (λ (k : ℕ). Knows m s top k scope.locals.value.items names bnames) (sym is.0) (subst (λ (xs : List Local). Knows m s top n xs names bnames) (sym is.1) h)
+    subst (λ (k : ℕ). Knows m s top k scope.locals.value names bnames) (sym is.0) (subst (λ (xs : List Local). Knows m s top n xs names bnames) (sym is.1) h)
 
 -- ---- more locals
 

@@ -22,7 +22,7 @@ use Rattle.value_build.specs.declared.value.Value.{Value}
 use Rattle.problem_build.specs.Names.{AreLocals}
 use Rattle.problem_build.specs.Walking.{Calls, CallWaits, Lets, LetWaits, EntersWithin, IsScope, Turns, call_work, call_bounds}
 use Rattle.problem_build.specs.declared.top.Top.{Top}
-use Rattle.problem_build.specs.declared.names.Local.{Local}
+use Rattle.problem_build.specs.declared.locals.Local.{Local}
 use Rattle.problem_build.specs.declared.frames.Scope.{Scope}
 use Rattle.problem_build.specs.declared.frames.Call.{Call}
 use Rattle.problem_build.specs.declared.frames.Let.{Let}
@@ -63,7 +63,7 @@ call_back m s top c u d w b v h i = subst (λ (us : List Unfolded). AreValues m 
 
 module _ (m : Making) (s : arena.Sexps) (top : List Top) (c : Call) (w : Work) (b : Bounding) (h : Calls m s top c w b) where
   -- its next argument
-  pub call_next : (after : ℕ) (scope : Scope) → as_any (rest_of s c.next) ≡ Some (expression_at s c.next, rest_of s after) → IsScope scope c.scope.visible c.scope.locals.value.items →
+  pub call_next : (after : ℕ) (scope : Scope) → as_any (rest_of s c.next) ≡ Some (expression_at s c.next, rest_of s after) → IsScope scope c.scope.visible c.scope.locals.value →
       EntersWithin m s top (frame.Call (record c { next = after })) scope c.next w b
   call_next after scope is same =
       let here = meaning as_work h.names (expression_at s c.next) in
@@ -80,7 +80,7 @@ module _ (m : Making) (s : arena.Sexps) (top : List Top) (c : Call) (w : Work) (
         enters = record {
           names = h.names;
           bnames = h.bnames;
-          knows = knows_scope m s top c.scope.visible c.scope.locals.value.items h.names h.bnames scope same h.knows;
+          knows = knows_scope m s top c.scope.visible c.scope.locals.value h.names h.bnames scope same h.knows;
           work = refl;
           bound = refl;
         };
@@ -124,13 +124,13 @@ module _ (m : Making) (s : arena.Sexps) (top : List Top) (c : Call) (w : Work) (
 
 -- the value of a name comes back
 pub let_back : (m : Making) (s : arena.Sexps) (top : List Top) (l : Let) (x : Bor names.Name) (u : Unfolded) (d : Bounding) (w : Work) (b : Bounding) (v : Value) (h : LetWaits m s top l x.now u d w b) → IsValue m u d v →
-    AreLocals m (l.bound.items ++ (record { name = x; value = v } ∷ [])) (h.done ++ ((x.now, value h.here) ∷ [])) (h.bounded ++ ((x.now, value d) ∷ []))
-let_back m s top l x u d w b v h i = locals-last m x h.here d v (subst (λ (o : Unfolded). IsValue m o d v) (sym h.is) i) l.bound.items h.done h.bounded h.stand
+    AreLocals m (l.bound ++ (record { name = x; value = v } ∷ [])) (h.done ++ ((x.now, value h.here) ∷ [])) (h.bounded ++ ((x.now, value d) ∷ []))
+let_back m s top l x u d w b v h i = locals-last m x h.here d v (subst (λ (o : Unfolded). IsValue m o d v) (sym h.is) i) l.bound h.done h.bounded h.stand
 
 module _ (m : Making) (s : arena.Sexps) (top : List Top) (l : Let) (w : Work) (b : Bounding) (h : Lets m s top l w b) where
   -- its next binding
   pub let_next : (x : Bor names.Name) (p : Place) (at after : ℕ) (scope : Scope) → as_binding (rest_of s l.next) ≡ Some (record { at = p; name = x.now }, expression_at s at, rest_of s after) →
-      IsScope scope l.scope.visible l.scope.locals.value.items → EntersWithin m s top (frame.Let (record l { next = after }) x) scope at w b
+      IsScope scope l.scope.visible l.scope.locals.value → EntersWithin m s top (frame.Let (record l { next = after }) x) scope at w b
   let_next x p at after scope is same =
       let here = meaning as_work h.names (expression_at s at) in
       let held = meaning bounding h.bnames (expression_at s at) in
@@ -147,7 +147,7 @@ module _ (m : Making) (s : arena.Sexps) (top : List Top) (l : Let) (w : Work) (b
         enters = record {
           names = h.names;
           bnames = h.bnames;
-          knows = knows_scope m s top l.scope.visible l.scope.locals.value.items h.names h.bnames scope same h.knows;
+          knows = knows_scope m s top l.scope.visible l.scope.locals.value h.names h.bnames scope same h.knows;
           work = refl;
           bound = refl;
         };
@@ -183,6 +183,6 @@ module _ (m : Making) (s : arena.Sexps) (top : List Top) (l : Let) (w : Work) (b
       turns_same s top m m1 w (meaning as_work (h.done ++ h.names) (expression_at s l.body)) b (meaning bounding (h.bounded ++ h.bnames) (expression_at s l.body)) r
       (h.binds.events ∙ ap (λ ns. events_of (values_bound ns) ++ (meaning as_work ((h.done ++ binding_meanings as_work h.names (rest_of s l.next)) ++ h.names) (expression_at s l.body)).events) gone ∙
       ap (λ ns. (meaning as_work (ns ++ h.names) (expression_at s l.body)).events) all)
-      (h.binds.outcome (ap (λ ns. first_fault (map outcome_of (values_bound ns))) all ∙ locals_free m l.bound.items h.done h.bounded h.stand) ∙
+      (h.binds.outcome (ap (λ ns. first_fault (map outcome_of (values_bound ns))) all ∙ locals_free m l.bound h.done h.bounded h.stand) ∙
       ap (λ ns. (meaning as_work (ns ++ h.names) (expression_at s l.body)).outcome) all)
       (h.binds.bound ∙ ap (λ bs. meaning bounding (bs ++ h.bnames) (expression_at s l.body)) ball) t

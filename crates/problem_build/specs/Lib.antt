@@ -1,4 +1,5 @@
 pub mod Laws
+pub mod Locals
 pub mod Names
 pub mod LetParts
 pub mod Roots

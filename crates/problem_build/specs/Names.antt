@@ -20,18 +20,14 @@ use Rattle.problem_build.specs.declared.top.Known.{Known}
 use Rattle.problem_build.specs.declared.top.Known.TheVariants as known
 use Rattle.problem_build.specs.declared.top.Entry.{Entry}
 use Rattle.problem_build.specs.declared.top.Top.{Top}
-use Rattle.problem_build.specs.declared.names.Local.{Local}
+use Rattle.problem_build.specs.declared.locals.Local.{Local}
+use Rattle.problem_build.specs.Locals.{local_value}
 use Rattle.problem_build.specs.declared.names.Head.{Head}
 use Rattle.problem_build.specs.declared.names.Head.TheVariants as head
 use Rattle.smt_script.specs.declared.command.Parameter.{Parameter}
 use Rattle.sort_check.specs.Views.{operator_of}
 
 -- ---- look-up
-
--- the value of the first local of this name
-abbrev pub local_value : List ℕ → List Local → Option Value
-local_value x [] = None
-local_value x (l ∷ rest) = cond (bytes_eq x l.name.now) (Some l.value) (local_value x rest)
 
 abbrev pub if_named : List ℕ → ℕ → Option Top → Option (ℕ × Known) → Option (ℕ × Known)
 if_named x n None before = before

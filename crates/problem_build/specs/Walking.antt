@@ -24,7 +24,7 @@ use Rattle.value_build.specs.Values.{IsValue, AreValues, AreKnown}
 use Rattle.value_build.specs.declared.value.Value.{Value}
 use Rattle.problem_build.specs.Names.{work_names, bound_names_of, AreLocals, Knows}
 use Rattle.problem_build.specs.declared.top.Top.{Top}
-use Rattle.problem_build.specs.declared.names.Local.{Local}
+use Rattle.problem_build.specs.declared.locals.Local.{Local}
 use Rattle.problem_build.specs.declared.names.Head.{Head}
 use Rattle.problem_build.specs.declared.names.Head.TheVariants as head
 use Rattle.problem_build.specs.declared.frames.Scope.{Scope}
@@ -49,11 +49,11 @@ IsIll at r = r ≡ Err (stop.Fault at IllFormed)
 
 -- the scope sees so many names of the top, and these locals
 abbrev pub IsScope : Scope → ℕ → List Local → Type 0
-IsScope scope n ls = (scope.visible ≡ n) × (scope.locals.value.items ≡ ls)
+IsScope scope n ls = (scope.visible ≡ n) × (scope.locals.value ≡ ls)
 
 -- what the names of a scope stand for, in both meanings
 abbrev pub KnowsScope : Making → arena.Sexps → List Top → Scope → Names Work → Names Bounding → Type 0
-KnowsScope m s top scope names bnames = Knows m s top scope.visible scope.locals.value.items names bnames
+KnowsScope m s top scope names bnames = Knows m s top scope.visible scope.locals.value names bnames
 
 -- a value that is made goes back
 abbrev pub returned : Result Value Stop → Result Next Stop
@@ -115,7 +115,7 @@ pub record Lets (m : Making) (s : arena.Sexps) (top : List Top) (l : Let) (w : W
   pub knows : KnowsScope m s top l.scope names bnames
   pub done : Names Work
   pub bounded : Names Bounding
-  pub stand : AreLocals m l.bound.items done bounded
+  pub stand : AreLocals m l.bound done bounded
   pub binds : IsLet s l.next l.body names bnames done bounded w b
 
 -- the same, where this name is to be bound to a value of this outcome and bound
@@ -125,7 +125,7 @@ pub record LetWaits (m : Making) (s : arena.Sexps) (top : List Top) (l : Let) (x
   pub knows : KnowsScope m s top l.scope names bnames
   pub done : Names Work
   pub bounded : Names Bounding
-  pub stand : AreLocals m l.bound.items done bounded
+  pub stand : AreLocals m l.bound done bounded
   pub here : Work
   pub is : here.outcome ≡ u
   pub binds : IsLet s l.next l.body names bnames (done ++ ((x, value here) ∷ [])) (bounded ++ ((x, value d) ∷ [])) w b

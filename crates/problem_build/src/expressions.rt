@@ -14,6 +14,7 @@ ghost use Rattle.problem_build.specs.declared.top.Top.{Top};
 
 use crate::frames::{Call, Let, Next, Scope, back, call_on, ill_formed, let_on};
 use crate::lets::let_parts;
+use crate::locals::{Level, Locals};
 use crate::names::{Head, head_of};
 use crate::top::TopTable;
 use script_fault::{Name, Place};
@@ -119,7 +120,7 @@ fn applied<'p, 'a>(
         (meanings M names (rest_of sexps.now args))) result }
     ensures sorts { maker.new.made.sorts ≡ maker.old.made.sorts }
 {
-    let Some(head) = head_of(top, scope.visible, scope.locals.as_slice(), name) else {
+    let Some(head) = head_of(top, scope.visible, &scope.locals, name) else {
         return ill_formed(place);
     };
     if ends(sexps, args) {
@@ -155,7 +156,7 @@ fn let_value<'p, 'a>(
     maker.reach()?;
     let bindings = Let {
         scope,
-        bound: Vec::new(alloc),
+        bound: Level::new(alloc),
         next: inside,
         body,
     };
@@ -177,7 +178,7 @@ fn alone<'p, 'a>(
         name_meaning M names (place_of place) name.now (found name.now operators)) result }
     ensures sorts { maker.new.made.sorts ≡ maker.old.made.sorts }
 {
-    let Some(head) = head_of(top, scope.visible, scope.locals.as_slice(), name) else {
+    let Some(head) = head_of(top, scope.visible, &scope.locals, name) else {
         return ill_formed(place);
     };
     maker.reach()?;
@@ -186,7 +187,7 @@ fn alone<'p, 'a>(
         Head::Local(value) => Ok(Next::Back(value)),
         Head::Constant(_, axis, _) => back(maker.constant(alloc, axis)),
         Head::Function(visible, _, body) => {
-            let inner = Scope::new(alloc, visible, Vec::new(alloc))?;
+            let inner = Scope::new(alloc, visible, Locals::new(alloc))?;
             Ok(Next::Enter(inner, body))
         }
     }

@@ -10,7 +10,8 @@ ghost use Rattle.value_build.specs.Values.{AreKnown, AreValues, IsKnown, IsValue
 ghost use Rattle.problem_build.specs.Walking.{Calls, IsIll, IsScope, KnowsValues, Lets, Turns, Waits, call_bounds, call_work, returned};
 ghost use Rattle.problem_build.specs.declared.top.Top.{Top};
 
-use crate::names::{Head, Local, bound_locals};
+use crate::locals::{Level, Local, Locals, bound_locals};
+use crate::names::Head;
 use script_fault::{Name, Place};
 use smt_sexp::Sexps;
 use sort_check::{behind, binding};
@@ -23,17 +24,13 @@ use value_build::{Maker, Value};
 #[derive(Drop)]
 pub(crate) struct Scope<'a> {
     pub(crate) visible: usize,
-    pub(crate) locals: Rc<Vec<Local<'a>>>,
+    pub(crate) locals: Rc<Locals<'a>>,
 }
 
 impl<'a> Scope<'a> {
     /// So many names of the top, and these before them.
-    pub(crate) fn new(
-        alloc: Global,
-        visible: usize,
-        locals: Vec<Local<'a>>,
-    ) -> Result<Self, AllocError>
-        ensures { IfOk result (λ scope. IsScope scope visible locals.entry.items) }
+    pub(crate) fn new(alloc: Global, visible: usize, locals: Locals<'a>) -> Result<Self, AllocError>
+        ensures { IfOk result (λ scope. IsScope scope visible locals.entry) }
     {
         let locals = Rc::new(alloc, locals)?;
         Ok(Scope { visible, locals })
@@ -42,7 +39,7 @@ impl<'a> Scope<'a> {
     /// The same names once more.
     pub(crate) fn again(&self) -> Result<Self, AllocError>
         ensures { IfOk result (λ scope.
-            IsScope scope self.now.visible self.now.locals.value.items) }
+            IsScope scope self.now.visible self.now.locals.value) }
     {
         let locals = self.locals.clone()?;
         Ok(Scope {
@@ -69,7 +66,7 @@ pub(crate) struct Call<'p, 'a> {
 pub(crate) struct Let<'a> {
     /// Where its bindings are read.
     pub(crate) scope: Scope<'a>,
-    pub(crate) bound: Vec<Local<'a>>,
+    pub(crate) bound: Level<'a>,
     /// The place of the next binding.
     pub(crate) next: usize,
     pub(crate) body: usize,
@@ -128,7 +125,9 @@ fn called<'p, 'a>(
     match head {
         Head::Operator(operator) => back(maker.operate(alloc, place, operator, values)),
         Head::Function(visible, parameters, body) => {
-            let locals = bound_locals(alloc, parameters, values)?;
+            let bound = bound_locals(alloc, parameters, values)?;
+            let none = Locals::new(alloc);
+            let locals = none.behind(alloc, bound)?;
             let scope = Scope::new(alloc, visible, locals)?;
             Ok(Next::Enter(scope, body))
         }
@@ -182,8 +181,7 @@ pub(crate) fn let_on<'p, 'a>(
                 body,
                 ..
             } = bindings;
-            let mut locals = bound;
-            locals.extend_from_slice(scope.locals.as_slice())?;
+            let locals = scope.locals.behind(alloc, bound)?;
             let inner = Scope::new(alloc, scope.visible, locals)?;
             Ok(Next::Enter(inner, body))
         }

@@ -12,6 +12,7 @@ mod expressions;
 mod fault;
 mod frames;
 mod lets;
+mod locals;
 mod names;
 mod reader;
 mod script;

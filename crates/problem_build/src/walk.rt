@@ -6,6 +6,7 @@ ghost use Rattle.problem_build.specs.Walking.{IsWorkValue};
 
 use crate::expressions::enter;
 use crate::frames::{Frame, Next, Scope, resume};
+use crate::locals::Locals;
 use crate::top::TopTable;
 use smt_sexp::Sexps;
 use std::alloc::Global;
@@ -25,7 +26,7 @@ pub(crate) fn expression<'p, 'a>(
         (work_at sexps.now top.now at) (bounding_at sexps.now top.now at) result }
     ensures sorts { maker.new.made.sorts ≡ maker.old.made.sorts }
 {
-    let scope = Scope::new(alloc, top.len(), Vec::new(alloc))?;
+    let scope = Scope::new(alloc, top.len(), Locals::new(alloc))?;
     let mut stack: Vec<Frame<'p, 'a>> = Vec::new(alloc);
     let mut next = Next::Enter(scope, at);
     'turns: loop {

@@ -29,11 +29,11 @@ call_fails stops.Memory env at x h ms heads fails = tt
 
 pub binding_fails : (f : Stop) (env : Names Sorted) (items0 items rest : Sexps) (x : Label) (e : Sexp) (before : List (List ℕ)) →
     ((body : Sorted) → bound_from [] env items0 body ≡ bound_from before env items body) → as_binding items ≡ Some (x, e, rest) → is_some (bound_names items) ≡ true →
-    is_taken before x.name ≡ false → IsSortAnswer (Err f) (meaning sorting env e) → Binds {A = Global} (Err f) env items0
+    is_taken before x.name ≡ false → IsSortAnswer (Err f) (meaning sorting env e) → Binds (Err f) env items0
 binding_fails (stops.Fault at f) env items0 items rest x e before said first formed free fails =
     λ body. said body ∙ bound_first items rest x e first env before body formed ∙ free_first before x (meaning sorting env e) _ free ∙ fails_first _ _ _ _ fails
 binding_fails stops.Memory env items0 items rest x e before said first formed free fails = tt
 
-pub let_fails : (f : Stop) (env : Names Sorted) (items : Sexps) (said body : Sorted) → said ≡ bound_from [] env items body → Binds {A = Global} (Err f) env items → IsSortAnswer (Err f) said
+pub let_fails : (f : Stop) (env : Names Sorted) (items : Sexps) (said body : Sorted) → said ≡ bound_from [] env items body → Binds (Err f) env items → IsSortAnswer (Err f) said
 let_fails (stops.Fault at f) env items said body is fails = is ∙ fails body
 let_fails stops.Memory env items said body is fails = tt

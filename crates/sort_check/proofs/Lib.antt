@@ -3,3 +3,4 @@ pub mod Calls
 pub mod Failures
 pub mod Known
 pub mod Lists
+pub mod Nearest

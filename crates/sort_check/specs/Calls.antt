@@ -75,7 +75,7 @@ abbrev pub ListsSorts : {S A : Type 0} → Top S → List Parameter → (Names S
 ListsSorts top locals f r = (names : Names Sorted) → Knows top names → Lists r (f (around locals names))
 
 -- the bindings of a `let`
-abbrev pub BindsNames : {S A : Type 0} → Top S → List Parameter → Sexps → ℕ → Result (Vec Parameter A) Stop → Type 0
+abbrev pub BindsNames : {S : Type 0} → Top S → List Parameter → Sexps → ℕ → Result (List Parameter) Stop → Type 0
 BindsNames top locals sexps start r = (names : Names Sorted) → Knows top names → Binds r (around locals names) (rest_of sexps start)
 
 -- ---- faults

@@ -1,5 +1,6 @@
 pub mod Calls
 pub mod Forms
+pub mod Locals
 pub mod Sorts
 pub mod Steps
 pub mod SortAnswers

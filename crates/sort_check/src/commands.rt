@@ -1,5 +1,5 @@
 // The sorts and names of commands, one after the other.
-ghost use Rattle.std.specs.Prelude.{◌≡◌, ◌≤◌, [], map};
+ghost use Rattle.std.specs.Prelude.{◌≡◌, ◌≤◌, [], map, OnOk};
 ghost use Rattle.script_model.specs.Sexp as sexp;
 ghost use Rattle.script_model.specs.Reading.{Names};
 ghost use Rattle.smt_script.specs.Views.{command_of, commands_in, parameter_of};
@@ -11,6 +11,7 @@ ghost use Rattle.sort_check.specs.Views.{Knows};
 ghost use Rattle.sort_check.specs.Steps.{FindsFault};
 
 use crate::expressions::expression;
+use crate::locals::{Level, Locals};
 use crate::names::{Known, is_operator, is_same, is_taken};
 use crate::stop::{Fault, Stop};
 use script_fault::{MOST_AXES, Name, Place};
@@ -55,8 +56,10 @@ fn step<'p, 'a>(
         }
         Command::Define(place, name, parameters, sort, body) => {
             is_new(top, *place, name)?;
-            are_new(alloc, parameters.as_slice())?;
-            wanted(alloc, sexps, top, parameters.as_slice(), *body, *sort)?;
+            let mut bound = Level::new(alloc);
+            are_new(parameters.as_slice(), &mut bound)?;
+            let locals = Locals::new(alloc).behind(alloc, bound)?;
+            wanted(alloc, sexps, top, &locals, *body, *sort)?;
             top.insert(
                 name.as_slice(),
                 Known::Function(parameters.as_slice(), *sort),
@@ -64,7 +67,7 @@ fn step<'p, 'a>(
             Ok(count)
         }
         Command::Assert(_, body) => {
-            wanted(alloc, sexps, top, &[], *body, Sort::Bool)?;
+            claimed(alloc, sexps, top, *body)?;
             Ok(count)
         }
         Command::Check(_) => Ok(count),
@@ -96,14 +99,15 @@ fn is_known<'p, 'a>(top: &HashMap<&'a [u8], Known<'p, 'a>>, name: &Name) -> bool
     operator || stands
 }
 
-// The fault of the first parameter whose name is taken.
-fn are_new<'a>(alloc: Global, parameters: &[Parameter<'a>]) -> Result<(), Stop<'a>>
-    ensures { FindsFault result (taken_parameter [] (map parameter_of parameters.now)) }
+// The names of parameters, or the fault of the first one whose name is taken.
+fn are_new<'a>(parameters: &[Parameter<'a>], before: &mut Level<'a>) -> Result<(), Stop<'a>>
+    requires { before.old ≡ [] }
+    ensures fault { FindsFault result (taken_parameter [] (map parameter_of parameters.now)) }
+    ensures names { OnOk result (before.new ≡ parameters.now) }
 {
-    let mut before = Vec::new(alloc);
     let mut rest = parameters;
     while let [first, later @ ..] = rest {
-        if is_taken(before.as_slice(), first.name) {
+        if is_taken(before, first.name) {
             return Err(Stop::Fault(first.place, Fault::Redeclared(first.name)));
         }
         before.push(*first)?;
@@ -112,12 +116,25 @@ fn are_new<'a>(alloc: Global, parameters: &[Parameter<'a>]) -> Result<(), Stop<'
     Ok(())
 }
 
+// The fault of what is asserted, which is to be Bool.
+fn claimed<'p, 'a>(
+    alloc: Global,
+    sexps: &'a Sexps,
+    top: &HashMap<&'a [u8], Known<'p, 'a>>,
+    at: usize,
+) -> Result<(), Stop<'a>>
+    ensures { FindsAmong top.now (wanted_sort sexps.now at Sort.Bool) result }
+{
+    let locals = Locals::new(alloc);
+    wanted(alloc, sexps, top, &locals, at, Sort::Bool)
+}
+
 // The fault of an expression that is to have a sort.
 fn wanted<'p, 'a>(
     alloc: Global,
     sexps: &'a Sexps,
     top: &HashMap<&'a [u8], Known<'p, 'a>>,
-    locals: &[Parameter<'a>],
+    locals: &Locals<'a>,
     at: usize,
     sort: Sort,
 ) -> Result<(), Stop<'a>>

@@ -7,6 +7,7 @@ ghost use Rattle.sort_check.specs.Calls.{BindsNames, ListsSorts, SaysSort, sort_
 ghost use Rattle.sort_check.specs.Views.{IsSortAnswer, bare_sort, head_sort, sorts_seen};
 
 use crate::forms::{behind, binding, ends, let_form};
+use crate::locals::{Level, Locals};
 use crate::names::{Head, Known, fits, head_of, is_taken};
 use crate::operators::operator_sort;
 use crate::stop::{Fault, Stop, if_takes, unknown};
@@ -22,7 +23,7 @@ pub(crate) fn expression<'p, 'a>(
     alloc: Global,
     sexps: &'a Sexps,
     top: &HashMap<&'a [u8], Known<'p, 'a>>,
-    locals: &[Parameter<'a>],
+    locals: &Locals<'a>,
     at: usize,
 ) -> Result<Sort, Stop<'a>>
     ensures { SaysSort top.now locals.now (sort_of_expression sexps.now at) result }
@@ -40,7 +41,7 @@ fn group<'p, 'a>(
     alloc: Global,
     sexps: &'a Sexps,
     top: &HashMap<&'a [u8], Known<'p, 'a>>,
-    locals: &[Parameter<'a>],
+    locals: &Locals<'a>,
     place: Place,
     inside: usize,
 ) -> Result<Sort, Stop<'a>>
@@ -71,7 +72,7 @@ fn applied<'p, 'a>(
     alloc: Global,
     sexps: &'a Sexps,
     top: &HashMap<&'a [u8], Known<'p, 'a>>,
-    locals: &[Parameter<'a>],
+    locals: &Locals<'a>,
     place: Place,
     name: &'a Name,
     args: usize,
@@ -94,7 +95,7 @@ fn arguments<'p, 'a>(
     alloc: Global,
     sexps: &'a Sexps,
     top: &HashMap<&'a [u8], Known<'p, 'a>>,
-    locals: &[Parameter<'a>],
+    locals: &Locals<'a>,
     start: usize,
 ) -> Result<Vec<Sort>, Stop<'a>>
     ensures { ListsSorts top.now locals.now (sorts_of_arguments sexps.now start) result }
@@ -115,7 +116,7 @@ fn let_sort<'p, 'a>(
     alloc: Global,
     sexps: &'a Sexps,
     top: &HashMap<&'a [u8], Known<'p, 'a>>,
-    locals: &[Parameter<'a>],
+    locals: &Locals<'a>,
     place: Place,
     at: usize,
 ) -> Result<Sort, Stop<'a>>
@@ -124,9 +125,9 @@ fn let_sort<'p, 'a>(
     let Some((inside, body)) = let_form(sexps, at) else {
         return mismatch(place);
     };
-    let mut scope = bindings(alloc, sexps, top, locals, inside)?;
-    scope.extend_from_slice(locals)?;
-    expression(alloc, sexps, top, scope.as_slice(), body)
+    let bound = bindings(alloc, sexps, top, locals, inside)?;
+    let inner = locals.behind(alloc, bound)?;
+    expression(alloc, sexps, top, &inner, body)
 }
 
 // The bindings from a place on, each read outside the `let`.
@@ -135,16 +136,16 @@ fn bindings<'p, 'a>(
     alloc: Global,
     sexps: &'a Sexps,
     top: &HashMap<&'a [u8], Known<'p, 'a>>,
-    locals: &[Parameter<'a>],
+    locals: &Locals<'a>,
     start: usize,
-) -> Result<Vec<Parameter<'a>>, Stop<'a>>
+) -> Result<Level<'a>, Stop<'a>>
     requires { is_some (bound_names (rest_of sexps.now start)) ≡ true }
     ensures { BindsNames top.now locals.now sexps.now start result }
 {
-    let mut bound: Vec<Parameter<'a>> = Vec::new(alloc);
+    let mut bound = Level::new(alloc);
     let mut at = start;
     while let Some((place, name, body, after)) = binding(sexps, at) {
-        if is_taken(bound.as_slice(), name) {
+        if is_taken(&bound, name) {
             return Err(Stop::Fault(place, Fault::Redeclared(name)));
         }
         let sort = expression(alloc, sexps, top, locals, body)?;
@@ -164,7 +165,7 @@ fn mismatch<'a>(place: Place) -> Result<Sort, Stop<'a>>
 // The sort of a leaf.
 fn leaf_sort<'p, 'a>(
     top: &HashMap<&'a [u8], Known<'p, 'a>>,
-    locals: &[Parameter<'a>],
+    locals: &Locals<'a>,
     place: Place,
     leaf: &'a Leaf,
 ) -> Result<Sort, Stop<'a>>
@@ -183,7 +184,7 @@ fn leaf_sort<'p, 'a>(
 // The sort of a name alone.
 fn alone<'p, 'a>(
     top: &HashMap<&'a [u8], Known<'p, 'a>>,
-    locals: &[Parameter<'a>],
+    locals: &Locals<'a>,
     place: Place,
     name: &'a Name,
 ) -> Result<Sort, Stop<'a>>

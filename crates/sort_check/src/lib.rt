@@ -9,6 +9,7 @@ mod commands;
 mod expressions;
 mod fault;
 mod forms;
+mod locals;
 mod names;
 mod operators;
 mod stop;

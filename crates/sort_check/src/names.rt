@@ -6,6 +6,7 @@ ghost use Rattle.sort_check.specs.Calls.{LooksUp, LooksUpHead};
 ghost use Rattle.sort_check.specs.Sorts.{fit, is_operator, is_taken, name_in, same_sort};
 ghost use Rattle.sort_check.specs.Views.{names_back, names_of, sorts_seen};
 
+use crate::locals::{Level, Locals};
 use crate::operators::{Operator, operator_named};
 use script_fault::Name;
 use smt_script::{Parameter, Sort};
@@ -28,17 +29,13 @@ pub(crate) enum Head<'p, 'a> {
 /// What a name stands for that is no operator.
 fn lookup<'p, 'a>(
     top: &HashMap<&'a [u8], Known<'p, 'a>>,
-    locals: &[Parameter<'a>],
+    locals: &Locals<'a>,
     name: &Name,
 ) -> Option<Known<'p, 'a>>
     ensures { LooksUp top.now locals.now name.now result }
 {
-    let mut rest = locals;
-    while let [local, later @ ..] = rest {
-        if name.as_slice() == local.name.as_slice() {
-            return Some(Known::Value(local.sort));
-        }
-        rest = later;
+    if let Some(sort) = locals.sort_of(name) {
+        return Some(Known::Value(sort));
     }
     top.get(name.as_slice()).copied()
 }
@@ -46,7 +43,7 @@ fn lookup<'p, 'a>(
 /// What a name stands for.
 pub(crate) fn head_of<'p, 'a>(
     top: &HashMap<&'a [u8], Known<'p, 'a>>,
-    locals: &[Parameter<'a>],
+    locals: &Locals<'a>,
     name: &Name,
 ) -> Option<Head<'p, 'a>>
     ensures { LooksUpHead top.now locals.now name.now result }
@@ -66,21 +63,14 @@ pub(crate) fn is_operator(name: &Name) -> bool
 }
 
 // Whether a name stands among these.
-fn is_among(before: &[Parameter<'_>], name: &Name) -> bool
+fn is_among(before: &Level<'_>, name: &Name) -> bool
     ensures { result ≡ name_in name.now (names_of (map parameter_of before.now)) }
 {
-    let mut rest = before;
-    while let [first, later @ ..] = rest {
-        if name.as_slice() == first.name.as_slice() {
-            return true;
-        }
-        rest = later;
-    }
-    false
+    before.sort_of(name).is_some()
 }
 
 /// Whether a name is a symbol of the theories, or stands among these.
-pub(crate) fn is_taken(before: &[Parameter<'_>], name: &Name) -> bool
+pub(crate) fn is_taken(before: &Level<'_>, name: &Name) -> bool
     ensures { result ≡ is_taken (names_back (map parameter_of before.now) []) name.now }
 {
     let operator = is_operator(name);

@@ -8,4 +8,5 @@ pub mod Turns
 pub mod Forms
 pub mod Atoms
 pub mod Compares
+pub mod Gathering
 pub mod Pairs

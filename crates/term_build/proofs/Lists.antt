@@ -54,3 +54,7 @@ all_end P (y ∷ xs) x h p (suc k) d b = all_end P xs x (all_tail P y xs h) p k 
 
 pub all_more : {X : Type 0} (P Q : X → Type 0) (xs : List X) → ((x : X) → P x → Q x) → All P xs → All Q xs
 all_more P Q xs f h = λ k d b. f (slice_index_or xs k d) (h k d b)
+
+pub nil_of : {X : Type 0} (xs : List X) → length xs ≡ 0 → xs ≡ []
+nil_of [] h = refl
+nil_of (x ∷ xs) h = absurd (omega (arith, h))

@@ -5,19 +5,21 @@ use Rattle.std.specs.Bool.{passes}
 use Rattle.std.specs.List.{list_all}
 use Rattle.dyadic.proofs.Equal.{both_true, both_pass}
 use Rattle.script_model.specs.Sexp.{Place}
+use Rattle.script_model.specs.Meaning.{pairs}
 use Rattle.dyadic.specs.Fraction.{zero_fraction}
 use Rattle.dyadic.specs.Point.{bool_sort}
 use Rattle.poly_graph.specs.Problem.{HasSort}
 use Rattle.poly_graph.specs.Term.{Term, constant, Kind, le, ge, eq}
 use Rattle.poly_graph.specs.Form.{Form, Forms, no_forms, more_forms, all_form, any_form, yes_form, no_form, atom_is, bool_is}
 use Rattle.script_forms.specs.Terms.{Comparison, Unfolded, formula}
-use Rattle.script_forms.specs.Unfolded.{truth_of, negation_form, forms_of, two, and_of, or_of, not_of, xor_of, implies_two, xor_from, xor_all, implies_of, different, chain, choice_form}
+use Rattle.script_forms.specs.Unfolded.{truth_of, negation_form, forms_of, two, and_of, or_of, not_of, xor_of, implies_two, xor_from, xor_all, implies_of, chain, choice_form, equal_two}
 use Rattle.term_build.specs.Built.{BuilderModel}
-use Rattle.term_build.specs.Sketch.{SketchNode, yes_sketch, no_sketch, comparison_sketch, bool_sketch, all_sketch, any_sketch, choice_sketch, sketch_after, sketch_in_order, sketch_children, sketch_form, comparison_of, IsDrawing, IsDrawn, IsSketch}
-use Rattle.term_build.specs.Pairs.{Grown, DrawsForm, DrawsForms, Draws, DrawsEach, Sketches, Adds, NodeDraws, AddsPair, JoinsTwo, JoinsFour, Connects, ConnectsTwo, ConnectsChoice, ConnectsFrom, ImpliesFrom, IsRight, Left, IsLeft, same_of, ComparesTwo, Writes, WritesBool, constant_formula}
+use Rattle.term_build.specs.Sketch.{SketchNode, yes_sketch, no_sketch, comparison_sketch, bool_sketch, all_sketch, any_sketch, choice_sketch, equal_sketch, equal_with, equal_pairs, forms_in, some_equal, sketch_after, sketch_in_order, sketch_children, sketch_form, comparison_of, IsDrawing, IsDrawn, IsSketch}
+use Rattle.term_build.specs.Pairs.{Grown, DrawsForm, DrawsForms, Draws, DrawsEach, Sketches, Adds, NodeDraws, AddsPair, JoinsTwo, JoinsFour, Connects, ConnectsTwo, ConnectsChoice, ConnectsFrom, ImpliesFrom, IsRight, Left, IsLeft, same_of, ComparesTwo, Writes, WritesBool, DiffersEach, constant_formula, tree_at, trees_at}
 use Rattle.term_build.specs.declared.connectives.Pair.{Pair}
 use Rattle.std.specs.declared.alloc.AllocError.{AllocError}
 use Rattle.term_build.proofs.Lists.{index_before}
+use Rattle.term_build.proofs.Gathering.{numbers_within, some_equal_later}
 
 -- ---- growth
 
@@ -182,6 +184,7 @@ after-more no_sketch a b l h = refl
 after-more (comparison_sketch at i j kind) a b l h = refl
 after-more (bool_sketch axis v) a b l h = refl
 after-more (choice_sketch p x y) a b l h = refl
+after-more (equal_sketch at ks) a b l h = refl
 
 node_more : (m : BuilderModel) (ts : List Term) (ds ds' : List SketchNode) (d : SketchNode) (f : Form Comparison) → Grown ds ds' → NodeDraws m ts ds d f → NodeDraws m ts ds' d f
 node_more m ts ds ds' d f g n = record {
@@ -464,9 +467,28 @@ none-implies ds e m ts (u ∷ us) r s each h = elim each [ ]
 pub implies_none : (ds e : List SketchNode) (r : Result Pair AllocError) → Writes (constant_formula true) ds e r → Connects implies_of ds e [] r
 implies_none ds e r h = λ m ts us s each. none-implies ds e m ts us r s each h
 
-pub adds_different : (ds ds' : List SketchNode) (ps : List Pair) (ks : List ℕ) (r : Result Pair AllocError) → ks ≡ map (λ (p : Pair). p.truth) ps → AddsPair ds ds' yes_sketch (any_sketch ks) r → Connects different ds ds' ps r
-adds_different ds ds' ps ks r e h = λ m ts us s each. h m ts yes_form (any_form (forms_of truth_of us)) s (yes-draws m ts ds)
-    (any_draws m ts ds ks (forms_of truth_of us) (subst (λ (x : List ℕ). DrawsForms ts ds (forms_of truth_of us) x) (sym e) (truths_draw ts ds us ps each)))
+-- ---- that each two of several trees differ
+
+equal-with : (ts : List Term) (at : Place) (k : ℕ) (ls : List ℕ) (us : List Unfolded) (rest : List (Form Comparison)) → forms_of truth_of us ≡ forms_in rest →
+    forms_of truth_of (map (equal_two at (tree_at ts k)) (trees_at ts ls) ++ us) ≡ forms_in (equal_with ts at k ls ++ rest)
+equal-with ts at k [] us rest h = h
+equal-with ts at k (l ∷ ls) us rest h = ap (more_forms (atom_is (comparison_of ts at k l eq))) (equal-with ts at k ls us rest h)
+
+equal-pairs : (ts : List Term) (at : Place) (ks : List ℕ) → forms_of truth_of (pairs (equal_two at) (trees_at ts ks)) ≡ forms_in (equal_pairs ts at ks)
+equal-pairs ts at [] = refl
+equal-pairs ts at (k ∷ ks) = equal-with ts at k ks (pairs (equal_two at) (trees_at ts ks)) (equal_pairs ts at ks) (equal-pairs ts at ks)
+
+equal-draws : (m : BuilderModel) (ts : List Term) (ds : List SketchNode) (at : Place) (ks : List ℕ) → IsTrue (list_all (λ k. nat_lt k (length ts)) ks) → length ts ≤ length m.nodes → NodeDraws m ts ds (equal_sketch at ks) (some_equal ts at ks)
+equal-draws m ts ds at ks h l = record {
+  after = refl;
+  drawn = numbers_within (length ts) (length m.nodes) ks l h;
+  form = λ ts' more fs w. some_equal_later ts (ts ++ ts') (ts', refl) at ks h;
+}
+
+pub adds_different : (ds ds' : List SketchNode) (at : Place) (ks : List ℕ) (r : Result Pair AllocError) → AddsPair ds ds' yes_sketch (equal_sketch at ks) r → DiffersEach at ds ds' ks r
+adds_different ds ds' at ks r h = λ m ts s below l.
+    subst (λ (fs : Forms Comparison). Sketches ds ds' m (Draws ts ds' (formula yes_form (any_form fs))) r) (sym (equal-pairs ts at ks))
+    (h m ts yes_form (some_equal ts at ks) s (yes-draws m ts ds) (equal-draws m ts ds at ks below l))
 
 pub same_done : (ds e : List SketchNode) (p q x n : Pair) → n ≡ record { truth = x.negation; negation = x.truth } → ConnectsTwo xor_of ds e p q (Ok x) → ConnectsTwo same_of ds e p q (Ok n)
 same_done ds e p q x n is h = λ m ts u v s a b. let one = h m ts u v s a b in record { grown = one.grown; sketch = one.sketch; drawn = not_draws ts e (xor_of u v) x n is one.drawn }

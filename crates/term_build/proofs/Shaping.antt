@@ -15,7 +15,7 @@ use Rattle.script_forms.specs.Walk.{Stand, Walked, stands, after_events, make_fo
 use Rattle.term_build.specs.Built.{BuilderModel, stand_of}
 use Rattle.term_build.specs.Does.{Does, StopsAs, IsForm}
 use Rattle.term_build.specs.Settled.{Extends, FormSettled, FormsSettled, AreSettled, AtomsIn}
-use Rattle.term_build.specs.Sketch.{SketchNode, yes_sketch, no_sketch, comparison_sketch, bool_sketch, all_sketch, any_sketch, choice_sketch, sketch_after, sketch_in_order, sketch_at, sketch_children, sketch_form, comparison_of, IsDrawing, IsDrawn, IsSketch, IsFormOf, IsAtomForm}
+use Rattle.term_build.specs.Sketch.{SketchNode, yes_sketch, no_sketch, comparison_sketch, bool_sketch, all_sketch, any_sketch, choice_sketch, equal_sketch, some_equal, sketch_after, sketch_in_order, sketch_at, sketch_children, sketch_form, comparison_of, IsDrawing, IsDrawn, IsSketch, IsFormOf, IsAtomForm}
 use Rattle.term_build.specs.Shapes.{AreFrames, AreNumbers, IsFrame, IsMemo, StaysSafe, IfDone, Completes, Finishes, Frame, frame_of, children, left_of, left_in, left_on, node_at, IsShaped, AreShaped, FramesShaped, IsWalkLeft}
 use Rattle.dyadic.specs.Fraction.{zero_fraction}
 use Rattle.poly_graph.proofs.Graphs.{length_terms}
@@ -23,6 +23,7 @@ use Rattle.term_build.specs.Steps.{Emits}
 use Rattle.term_build.specs.declared.stop.Stop.{Stop}
 use Rattle.term_build.specs.declared.shape.Frame as code_frame
 use Rattle.term_build.proofs.Compares.{emits_form}
+use Rattle.term_build.proofs.Gathering.{numbers_within, some_equal_later}
 use Rattle.term_build.proofs.Lists.{get_index, get_below, index_get, index_before, map_end, stood}
 use Rattle.std.proofs.lemmas.List.{length-map}
 use Rattle.term_build.proofs.Emits.{events_both, stops_so, stopped_on}
@@ -59,6 +60,7 @@ left-next fs f no_sketch i c h = cc
 left-next fs f (comparison_sketch at l r kind) i c h = cc
 left-next fs f (bool_sketch axis v) i c h = cc
 left-next fs f (choice_sketch p x y) i c h = cc
+left-next fs f (equal_sketch at ks) i c h = cc
 
 -- all is left of a node that is begun
 left-begun : (ts : List Term) (fs : List (Form Comparison)) (f : Form Comparison) (d : SketchNode) → f ≡ sketch_form ts fs d → left_of fs f d 0 ≡ form_events f
@@ -69,6 +71,7 @@ left-begun ts fs f no_sketch e = refl
 left-begun ts fs f (comparison_sketch at l r kind) e = refl
 left-begun ts fs f (bool_sketch axis v) e = refl
 left-begun ts fs f (choice_sketch p x y) e = refl
+left-begun ts fs f (equal_sketch at ks) e = refl
 
 -- ---- frames
 
@@ -201,13 +204,13 @@ joined-done fs m m1 k f parts g (Ok j) is same events settled atoms h =
       ),
     )
 
--- a comparison is left
-compared-done : (fs : List (Form Comparison)) (m m1 : BuilderModel) (k : ℕ) (c : Comparison) (r : Result ℕ Stop) → sketch_at fs k ≡ atom_is c → Emits m m1 (form_events (atom_is c)) r (IsAtomForm m1 (atom_of c)) → Finished fs m m1 k (form_events (atom_is c)) r
-compared-done fs m m1 k c (Err e) is h = h
-compared-done fs m m1 k c (Ok j) is h = (
+-- a comparison is left, or several
+compared-done : (fs : List (Form Comparison)) (m m1 : BuilderModel) (k : ℕ) (f : Form Comparison) (r : Result ℕ Stop) → sketch_at fs k ≡ f → Emits m m1 (form_events f) r (IsFormOf m1 (form_map atom_of f)) → Finished fs m m1 k (form_events f) r
+compared-done fs m m1 k f (Err e) is h = h
+compared-done fs m m1 k f (Ok j) is h = (
   h.0,
   subst (λ (p : Form Comparison). FormSettled (stand_of m1) p × (slice_get (stand_of m1).forms j ≡ Some (form_map (number_in (stand_of m1).atoms) (form_map atom_of p)))) (sym is)
-      (form_done here (stand_of m) (stand_of m1) (atom_is c) (h.0 here), h.1),
+      (form_done here (stand_of m) (stand_of m1) f (h.0 here), h.1),
 )
 
 tree-before : (ts us : List Term) → ((vs : List Term) × (us ≡ ts ++ vs)) → (k : ℕ) → k < length ts → slice_index_or us k (constant zero_fraction) ≡ slice_index_or ts k (constant zero_fraction)
@@ -226,7 +229,13 @@ finished-by m0 m m1 fs k (comparison_sketch at l r' kind) js r x is o h e done =
     let same : comparison_of us at l r' kind ≡ comparison_of ts at l r' kind = ap₂ (λ (t u : Term). record { at = at; left = t; right = u; kind = kind })
     (tree-before ts us x.trees l (omega (arith, o.0, length_terms m0.nodes))) (tree-before ts us x.trees r' (omega (arith, o.1, length_terms m0.nodes))) in
     subst (λ (es : List Event). Finished fs m m1 k es r) (sym (ap form_events is))
-    (compared-done fs m m1 k (comparison_of ts at l r' kind) r is (subst (λ (c : Comparison). Emits m m1 (form_events (atom_is c)) r (IsAtomForm m1 (atom_of c))) same done))
+    (compared-done fs m m1 k (atom_is (comparison_of ts at l r' kind)) r is (subst (λ (c : Comparison). Emits m m1 (form_events (atom_is c)) r (IsAtomForm m1 (atom_of c))) same done))
+finished-by m0 m m1 fs k (equal_sketch at ks) js r x is o h e done =
+    let ts = (stand_of m0).trees in
+    let us = (stand_of m).trees in
+    let same : some_equal us at ks ≡ some_equal ts at ks = some_equal_later ts us x.trees at ks (numbers_within (length m0.nodes) (length ts) ks (omega (arith, length_terms m0.nodes)) o) in
+    subst (λ (es : List Event). Finished fs m m1 k es r) (sym (ap form_events is))
+    (compared-done fs m m1 k (some_equal ts at ks) r is (subst (λ (f : Form Comparison). Emits m m1 (form_events f) r (IsFormOf m1 (form_map atom_of f))) same done))
 finished-by m0 m m1 fs k (all_sketch ks) js r x is o h e done =
     let c = children-settled (stand_of m) fs ks js h e in
     let f : Form Comparison = all_form (sketch_children fs ks) in
@@ -314,6 +323,7 @@ child-below-of n no_sketch i c h e = cc
 child-below-of n (comparison_sketch at l r kind) i c h e = cc
 child-below-of n (bool_sketch axis v) i c h e = cc
 child-below-of n (choice_sketch p x y) i c h e = cc
+child-below-of n (equal_sketch at ks) i c h e = cc
 
 pub child_below : (ds : List SketchNode) (k : ℕ) (d : SketchNode) (i c : ℕ) → IsTrue (sketch_in_order 0 ds) → slice_get ds k ≡ Some d → slice_get (children d) i ≡ Some c → c < k
 child_below ds k d i c o h e = let q : 0 + k ≡ k = omega arith in child-below-of k d i c (subst (λ (j : ℕ). IsTrue (sketch_after j d)) q (drawn-order-at 0 ds o k d h)) e
@@ -354,6 +364,7 @@ finish_extends m m1 yes_sketch js j h = form-extends here (stand_of m) (stand_of
 finish_extends m m1 no_sketch js j h = form-extends here (stand_of m) (stand_of m1) no_form (h.0 here)
 finish_extends m m1 (choice_sketch p x y) js j h = form-extends here (stand_of m) (stand_of m1) no_form (h.0 here)
 finish_extends m m1 (comparison_sketch at l r kind) js j h = extends_to here (stand_of m) (stand_of m1) (form_events (atom_is (comparison_of (stand_of m).trees at l r kind))) (h.0 here)
+finish_extends m m1 (equal_sketch at ks) js j h = extends_to here (stand_of m) (stand_of m1) (form_events (some_equal (stand_of m).trees at ks)) (h.0 here)
 finish_extends m m1 (bool_sketch axis v) js j h = form-extends here (stand_of m) (stand_of m1) (bool_is axis v) (h.0 here)
 finish_extends m m1 (all_sketch ks) js j h = form-extends here (stand_of m) (stand_of m1) (all_form (picked (stand_of m).forms js)) (h.0 here)
 finish_extends m m1 (any_sketch ks) js j h = form-extends here (stand_of m) (stand_of m1) (any_form (picked (stand_of m).forms js)) (h.0 here)
@@ -367,6 +378,7 @@ finish_there m m1 no_sketch js j h = there m1 j _ h.1
 finish_there m m1 (choice_sketch p x y) js j h = there m1 j _ h.1
 finish_there m m1 (comparison_sketch at l r kind) js j h = there m1 j _ h.1
 finish_there m m1 (bool_sketch axis v) js j h = there m1 j _ h.1
+finish_there m m1 (equal_sketch at ks) js j h = there m1 j _ h.1
 finish_there m m1 (all_sketch ks) js j h = there m1 j _ h.1
 finish_there m m1 (any_sketch ks) js j h = there m1 j _ h.1
 
@@ -379,6 +391,7 @@ drawn-stays m m1 no_sketch e h k = tt
 drawn-stays m m1 (choice_sketch p x y) e h k = tt
 drawn-stays m m1 (comparison_sketch at l r kind) e h k = (omega (arith, h, k.0), omega (arith, h, k.1))
 drawn-stays m m1 (bool_sketch axis v) e h k = subst (λ (s : List Sort). HasSort bool_sort s axis) (sym e) k
+drawn-stays m m1 (equal_sketch at ks) e h k = numbers_within (length m.nodes) (length m1.nodes) ks h k
 drawn-stays m m1 (all_sketch ks) e h k = tt
 drawn-stays m m1 (any_sketch ks) e h k = tt
 

@@ -21,7 +21,7 @@ use Rattle.term_build.specs.Built.{BuilderModel, full_atom, stand_of}
 use Rattle.term_build.specs.Does.{Does, IsAtom, IsForm, IsTree}
 use Rattle.term_build.specs.Steps.{Emits, Folds, IsTreeOf, tree_of}
 use Rattle.term_build.specs.Sketch.{SketchNode, IsAtomForm, comparison_of}
-use Rattle.term_build.specs.Pairs.{ComparesTwo}
+use Rattle.term_build.specs.Pairs.{ComparesTwo, DiffersEach}
 use Rattle.term_build.specs.Shapes.{AreFrames, Completing, Draining, Frame, IfDone, StaysSafe, Stepping, children, sketch_of, frame_of, node_at}
 use Rattle.term_build.specs.Turns.{IsNumbered, IsRooted, IsTurn}
 use Rattle.term_build.specs.declared.shape.Frame as code_frame
@@ -99,6 +99,10 @@ drawn sketch = map sketch_of sketch.items
 -- a pair for the comparison of the trees of two nodes, of an expression at this place
 abbrev pub Compares : Kind → Place → List SketchNode → List SketchNode → ℕ → ℕ → Result Pair AllocError → Type 0
 Compares kind at ds ds' left right r = ComparesTwo (kind_of kind) (place_of at) ds ds' left right r
+
+-- a pair for that the trees of these nodes differ, each from every other, of an expression at this place
+abbrev pub Differs : Place → List SketchNode → List SketchNode → List ℕ → Result Pair AllocError → Type 0
+Differs at ds ds' ks r = DiffersEach (place_of at) ds ds' ks r
 
 -- ---- forms that are made from a sketch
 

@@ -1,5 +1,7 @@
 -- A Bool expression as a pair of nodes of a sketch: the form of its truth, and that of its negation.
-use Rattle.std.specs.Prelude.{◌≡◌, ℕ, ◌<◌, ◌≤◌, List, [], ◌∷◌, ◌++◌, length, Result, Ok, Err, IfOk, IsTrue, Bool, true, false, slice_index_or, drop}
+use Rattle.std.specs.Prelude.{◌≡◌, ℕ, ◌<◌, ◌≤◌, List, [], ◌∷◌, ◌++◌, length, Result, Ok, Err, IfOk, IsTrue, Bool, true, false, slice_index_or, drop, nat_lt}
+use Rattle.std.specs.List.{list_all}
+use Rattle.script_model.specs.Meaning.{pairs}
 use Rattle.script_model.specs.Sexp.{Place}
 use Rattle.dyadic.specs.Fraction.{zero_fraction}
 use Rattle.poly_graph.specs.Term.{Term, constant, Kind, le, ge, eq}
@@ -8,7 +10,7 @@ use Rattle.script_forms.specs.Atoms.{constant_tree}
 use Rattle.dyadic.specs.Point.{bool_sort}
 use Rattle.poly_graph.specs.Problem.{HasSort}
 use Rattle.script_forms.specs.Terms.{Comparison, Unfolded, term, formula}
-use Rattle.script_forms.specs.Unfolded.{truth_of, negation_form, not_of, xor_of, implies_of, choice_form, two, at_most_two, at_least_two, equal_two}
+use Rattle.script_forms.specs.Unfolded.{truth_of, negation_form, not_of, xor_of, implies_of, choice_form, different, two, at_most_two, at_least_two, equal_two}
 use Rattle.term_build.specs.Built.{BuilderModel}
 use Rattle.term_build.specs.Sketch.{SketchNode, choice_sketch, sketch_after, sketch_at, sketch_form, IsDrawing, IsDrawn, IsSketch}
 use Rattle.term_build.specs.declared.connectives.Pair.{Pair}
@@ -113,6 +115,11 @@ compared eq = equal_two
 abbrev pub ComparesTwo : Kind → Place → List SketchNode → List SketchNode → ℕ → ℕ → Result Pair AllocError → Type 0
 ComparesTwo kind at ds ds' l r' r = (m : BuilderModel) (ts : List Term) → IsSketch m ds → l < length ts → r' < length ts → length ts ≤ length m.nodes →
     Sketches ds ds' m (Draws ts ds' (compared kind at (tree_at ts l) (tree_at ts r'))) r
+
+-- a pair for that the trees of these nodes differ, each from every other
+abbrev pub DiffersEach : Place → List SketchNode → List SketchNode → List ℕ → Result Pair AllocError → Type 0
+DiffersEach at ds ds' ks r = (m : BuilderModel) (ts : List Term) → IsSketch m ds → IsTrue (list_all (λ k. nat_lt k (length ts)) ks) → length ts ≤ length m.nodes →
+    Sketches ds ds' m (Draws ts ds' (different (pairs (compared eq at) (trees_at ts ks)))) r
 
 abbrev pub constant_formula : Bool → Unfolded
 constant_formula true = formula yes_form no_form

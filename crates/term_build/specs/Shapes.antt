@@ -14,7 +14,7 @@ use Rattle.term_build.specs.Built.{BuilderModel, stand_of}
 use Rattle.term_build.specs.Does.{StopsAs, Does, IsForm}
 use Rattle.term_build.specs.declared.stop.Stop.{Stop}
 use Rattle.term_build.specs.Steps.{Emits}
-use Rattle.term_build.specs.Sketch.{SketchNode, yes_sketch, no_sketch, comparison_sketch, bool_sketch, all_sketch, any_sketch, choice_sketch, sketch_at, sketch_children, comparison_of, IsAtomForm, IsFormOf, IsDrawing, IsSketch}
+use Rattle.term_build.specs.Sketch.{SketchNode, yes_sketch, no_sketch, comparison_sketch, bool_sketch, all_sketch, any_sketch, choice_sketch, equal_sketch, sketch_at, sketch_children, comparison_of, some_equal, IsAtomForm, IsFormOf, IsDrawing, IsSketch}
 use Rattle.term_build.specs.Settled.{Extends, FormSettled}
 use Rattle.term_build.specs.declared.shape.Frame as code_frame
 use Rattle.term_build.specs.declared.sketch.SketchNode as code
@@ -28,6 +28,7 @@ sketch_of (drawn.BoolIs axis v) = bool_sketch axis v
 sketch_of (drawn.And ks) = all_sketch ks.items
 sketch_of (drawn.Or ks) = any_sketch ks.items
 sketch_of (drawn.Choice p x y) = choice_sketch p x y
+sketch_of (drawn.SomeEqual at ks) = equal_sketch (place_of at) ks.items
 
 abbrev pub children : SketchNode → List ℕ
 children (all_sketch ks) = ks
@@ -108,11 +109,13 @@ joined (all_sketch ks) js = all_node js
 joined (any_sketch ks) js = any_node js
 joined (comparison_sketch at l r kind) js = no_node
 joined (choice_sketch p x y) js = no_node
+joined (equal_sketch at ks) js = no_node
 
--- the last step of a node: a comparison's events, or one node of the form
+-- the last step of a node: the events of a comparison or of several, or one node of the form
 abbrev pub Finishes : BuilderModel → BuilderModel → SketchNode → List ℕ → Result ℕ Stop → Type 0
 Finishes old new (comparison_sketch at l r kind) js r' =
     let c = comparison_of (stand_of old).trees at l r kind in Emits old new (form_events (atom_is c)) r' (IsAtomForm new (atom_of c))
+Finishes old new (equal_sketch at ks) js r = let f = some_equal (stand_of old).trees at ks in Emits old new (form_events f) r (IsFormOf new (form_map atom_of f))
 Finishes old new d js r = let f = node_form (graph_forms old.forms) (joined d js) in Does old new (λ claim s. make_form claim s f) r (IsForm new f)
 
 -- the walk goes on from what is left on the stack, or stops

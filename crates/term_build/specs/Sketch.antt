@@ -1,10 +1,10 @@
 -- The forms of expressions before their atoms have numbers: nodes that are shared, their comparisons in place.
-use Rattle.std.specs.Prelude.{◌≡◌, Option, Some, None, slice_get, ℕ, suc, ◌<◌, List, [], ◌∷◌, length, Bool, true, ◌&&◌, IsTrue, slice_index_or, nat_lt}
+use Rattle.std.specs.Prelude.{◌≡◌, Option, Some, None, slice_get, ℕ, suc, ◌<◌, List, [], ◌∷◌, ◌++◌, length, Bool, true, ◌&&◌, IsTrue, slice_index_or, nat_lt}
 use Rattle.std.specs.List.{list_all}
 use Rattle.dyadic.specs.Fraction.{zero_fraction}
 use Rattle.dyadic.specs.Point.{bool_sort}
 use Rattle.script_model.specs.Sexp.{Place}
-use Rattle.poly_graph.specs.Term.{Term, constant, Kind, Atom}
+use Rattle.poly_graph.specs.Term.{Term, constant, Kind, eq, Atom}
 use Rattle.poly_graph.specs.Form.{Form, Forms, yes_form, no_form, atom_is, bool_is, all_form, any_form, no_forms, more_forms, form_map}
 use Rattle.poly_graph.specs.Problem.{HasSort}
 use Rattle.script_forms.specs.Terms.{Comparison}
@@ -19,6 +19,8 @@ pub data SketchNode : Type 0 where
   comparison_sketch : Place → ℕ → ℕ → Kind → SketchNode
   bool_sketch : ℕ → Bool → SketchNode
   all_sketch any_sketch : List ℕ → SketchNode
+  -- that two of these trees are equal, of an expression at this place
+  equal_sketch : Place → List ℕ → SketchNode
   -- a Real `ite`, which is part of no form
   choice_sketch : Pair → Arm → Arm → SketchNode
 
@@ -45,6 +47,23 @@ sketch_children fs (k ∷ ks) = more_forms (sketch_at fs k) (sketch_children fs 
 abbrev pub comparison_of : List Term → Place → ℕ → ℕ → Kind → Comparison
 comparison_of ts at l r kind = record { at = at; left = slice_index_or ts l (constant zero_fraction); right = slice_index_or ts r (constant zero_fraction); kind = kind }
 
+abbrev pub forms_in : List (Form Comparison) → Forms Comparison
+forms_in [] = no_forms
+forms_in (f ∷ fs) = more_forms f (forms_in fs)
+
+-- that the tree of a node equals those of others
+abbrev pub equal_with : List Term → Place → ℕ → List ℕ → List (Form Comparison)
+equal_with ts at k [] = []
+equal_with ts at k (l ∷ ls) = atom_is (comparison_of ts at k l eq) ∷ equal_with ts at k ls
+
+-- the same of each with every later one
+abbrev pub equal_pairs : List Term → Place → List ℕ → List (Form Comparison)
+equal_pairs ts at [] = []
+equal_pairs ts at (k ∷ ks) = equal_with ts at k ks ++ equal_pairs ts at ks
+
+abbrev pub some_equal : List Term → Place → List ℕ → Form Comparison
+some_equal ts at ks = any_form (forms_in (equal_pairs ts at ks))
+
 -- the form of a node, over these trees, where these are the forms of the nodes before it
 abbrev pub sketch_form : List Term → List (Form Comparison) → SketchNode → Form Comparison
 sketch_form ts fs yes_sketch = yes_form
@@ -52,6 +71,7 @@ sketch_form ts fs no_sketch = no_form
 sketch_form ts fs (comparison_sketch at l r kind) = atom_is (comparison_of ts at l r kind)
 sketch_form ts fs (bool_sketch axis v) = bool_is axis v
 sketch_form ts fs (choice_sketch p x y) = no_form
+sketch_form ts fs (equal_sketch at ks) = some_equal ts at ks
 sketch_form ts fs (all_sketch ks) = all_form (sketch_children fs ks)
 sketch_form ts fs (any_sketch ks) = any_form (sketch_children fs ks)
 
@@ -64,6 +84,7 @@ pub record IsDrawing (ts : List Term) (ds : List SketchNode) (fs : List (Form Co
 abbrev pub IsDrawn : BuilderModel → SketchNode → Type 0
 IsDrawn m (comparison_sketch at l r kind) = (l < length m.nodes) × (r < length m.nodes)
 IsDrawn m (bool_sketch axis v) = HasSort bool_sort m.sorts axis
+IsDrawn m (equal_sketch at ks) = IsTrue (list_all (λ k. nat_lt k (length m.nodes)) ks)
 IsDrawn m d = Unit {0}
 
 pub record IsSketch (m : BuilderModel) (ds : List SketchNode) : Type 0 where

@@ -1,8 +1,8 @@
 // The connectives of Bool expressions, as nodes at the end of a sketch.
 ghost use Rattle.std.specs.Prelude.{◌≡◌, IfOk, map};
 ghost use Rattle.poly_graph.specs.Form.{all_form, any_form};
-ghost use Rattle.script_forms.specs.Unfolded.{and_of, chain, different, implies_of, implies_two, or_of, xor_all, xor_from, xor_of};
-ghost use Rattle.term_build.specs.Calls.{Compares, drawn};
+ghost use Rattle.script_forms.specs.Unfolded.{and_of, chain, implies_of, implies_two, or_of, xor_all, xor_from, xor_of};
+ghost use Rattle.term_build.specs.Calls.{Compares, Differs, drawn};
 ghost use Rattle.term_build.specs.Shapes.{sketch_of};
 ghost use Rattle.term_build.specs.Pairs.{Adds, AddsChoice, AddsPair, Connects, ConnectsChoice, ConnectsFrom, ConnectsTwo, ImpliesFrom, JoinsFour, JoinsTwo, Negates, Writes, WritesBool, constant_formula, same_of};
 ghost use Rattle.term_build.specs.declared.connectives.Pair as code_pair;
@@ -269,16 +269,18 @@ impl Pair {
         Ok(apart.not())
     }
 
-    /// That Reals differ, whose pairs' equalities these are: this says nothing, and its negation that one of them holds.
+    /// That the trees of these nodes differ, each from every other, of an expression at this place: this says nothing,
+    /// and its negation that two of them are equal.
     pub fn different(
         alloc: Global,
         sketch: &mut Vec<SketchNode>,
-        pairs: &[Pair],
+        at: Place,
+        nodes: &[u32],
     ) -> Result<Pair, AllocError>
-        ensures { Connects different (drawn sketch.old) (drawn sketch.new) pairs.now result }
+        ensures { Differs at (drawn sketch.old) (drawn sketch.new) nodes.now result }
     {
-        let equal = truths(alloc, pairs)?;
-        add_pair(sketch, SketchNode::True, SketchNode::Or(equal))
+        let nodes = Vec::from_slice(alloc, nodes)?;
+        add_pair(sketch, SketchNode::True, SketchNode::SomeEqual(at, nodes))
     }
 
     /// That each implies what comes after it, taken from the right.

@@ -6,6 +6,7 @@ ghost use Rattle.term_build.specs.Shapes.{AreFrames, AreNumbers, Shaping, Finish
 ghost use Rattle.term_build.specs.Turns.{AreStacked, IsMadeIn, IsNumbered};
 
 use crate::builder::Builder;
+use crate::comparisons::some_equal;
 use crate::sketch::SketchNode;
 use crate::stop::Stop;
 use poly_graph::FormNode;
@@ -29,7 +30,12 @@ fn child_at(node: &SketchNode, i: usize) -> Option<u32>
 }
 
 // The number of a node's form, whose children have these numbers.
-fn finish(builder: &mut Builder, node: &SketchNode, numbers: Vec<u32>) -> Result<u32, Stop>
+fn finish(
+    alloc: Global,
+    builder: &mut Builder,
+    node: &SketchNode,
+    numbers: Vec<u32>,
+) -> Result<u32, Stop>
     requires drawn { IsDrawn builder.old (sketch_of node.now) }
     requires below { AreNumbers (length builder.old.forms) numbers.items }
     ensures does { Finishes builder.old builder.new (sketch_of node.now) numbers.items result }
@@ -39,6 +45,7 @@ fn finish(builder: &mut Builder, node: &SketchNode, numbers: Vec<u32>) -> Result
         SketchNode::True => builder.form(FormNode::True),
         SketchNode::False | SketchNode::Choice(_, _, _) => builder.form(FormNode::False),
         SketchNode::Compare(at, left, right, kind) => builder.compare(*at, *left, *right, *kind),
+        SketchNode::SomeEqual(at, nodes) => some_equal(alloc, builder, *at, nodes),
         SketchNode::BoolIs(axis, value) => builder.form(FormNode::BoolIs(*axis, *value)),
         SketchNode::And(_) => builder.form(FormNode::And(numbers)),
         SketchNode::Or(_) => builder.form(FormNode::Or(numbers)),
@@ -47,6 +54,7 @@ fn finish(builder: &mut Builder, node: &SketchNode, numbers: Vec<u32>) -> Result
 
 // The node of a frame, all of whose children are made, is made too.
 fn complete(
+    alloc: Global,
     builder: &mut Builder,
     sketch: &[SketchNode],
     memo: &mut [Option<u32>],
@@ -63,7 +71,7 @@ fn complete(
     ensures sorts { builder.new.sorts ≡ builder.old.sorts }
 {
     let Frame { node, numbers } = frame;
-    let number = finish(builder, &sketch[node as usize], numbers)?;
+    let number = finish(alloc, builder, &sketch[node as usize], numbers)?;
     memo[node as usize] = Some(number);
     Ok(())
 }
@@ -91,7 +99,7 @@ fn step(
     ensures sorts { builder.new.sorts ≡ builder.old.sorts }
 {
     let Some(child) = child_at(&sketch[frame.node as usize], frame.numbers.len()) else {
-        return complete(builder, sketch, memo, frame);
+        return complete(alloc, builder, sketch, memo, frame);
     };
     if let Some(number) = memo[child as usize] {
         frame.numbers.push(number)?;

@@ -26,6 +26,8 @@ pub enum SketchNode {
     BoolIs(u32, bool),
     And(Vec<u32>),
     Or(Vec<u32>),
+    /// Two of these trees are equal, of an expression at this place: the comparison of each with every later one.
+    SomeEqual(Place, Vec<u32>),
     /// A Real `ite`: its condition and its arms. It is part of no form.
     Choice(Pair, Arm, Arm),
 }

@@ -17,7 +17,7 @@ use Rattle.term_build.specs.Built.{BuilderModel, stand_of}
 use Rattle.term_build.specs.Does.{Does, IsForm, StopsAs}
 use Rattle.term_build.specs.Settled.{FormSettled}
 use Rattle.term_build.specs.Shapes.{Shaping}
-use Rattle.term_build.specs.Sketch.{SketchNode, yes_sketch, no_sketch, comparison_sketch, bool_sketch, all_sketch, any_sketch, choice_sketch, sketch_after, sketch_in_order, sketch_at, sketch_children, sketch_form, IsDrawing, IsSketch, IsFormOf}
+use Rattle.term_build.specs.Sketch.{SketchNode, yes_sketch, no_sketch, comparison_sketch, bool_sketch, all_sketch, any_sketch, choice_sketch, equal_sketch, sketch_after, sketch_in_order, sketch_at, sketch_children, sketch_form, IsDrawing, IsSketch, IsFormOf}
 use Rattle.term_build.specs.Steps.{Emits}
 use Rattle.term_build.specs.Pairs.{DrawsForm}
 use Rattle.term_build.specs.declared.stop.Stop.{Stop}
@@ -52,6 +52,7 @@ form-more ts fs gs no_sketch n l h = refl
 form-more ts fs gs (comparison_sketch at i j kind) n l h = refl
 form-more ts fs gs (bool_sketch axis v) n l h = refl
 form-more ts fs gs (choice_sketch p x y) n l h = refl
+form-more ts fs gs (equal_sketch at ks) n l h = refl
 
 order-at : (n : ℕ) (ds : List SketchNode) → IsTrue (sketch_in_order n ds) → (k : ℕ) (d : SketchNode) → slice_get ds k ≡ Some d → IsTrue (sketch_after (n + k) d)
 order-at n [] h k d e = cc

@@ -14,6 +14,7 @@ use Rattle.term_build.specs.Does.{IsTree}
 use Rattle.term_build.specs.Settled.{Extends}
 use Rattle.term_build.specs.Steps.{Emits, IsTreeOf, tree_of}
 use Rattle.term_build.specs.Pairs.{tree_at, trees_at}
+pub use Rattle.term_build.proofs.Lists.{nil_of}
 use Rattle.term_build.specs.declared.stop.Stop.{Stop}
 use Rattle.term_build.proofs.Emits.{events_both, stops_so, stopped_on, tree_is, tree_below, same_tree, more_nodes}
 use Rattle.term_build.proofs.Lists.{index_get}
@@ -116,10 +117,6 @@ calculate_negates Multiply at m m1 k ks r h e n = cc
 calculate_negates Divide at m m1 k ks r h e n = cc
 
 -- ---- lists
-
-pub nil_of : {X : Type 0} (xs : List X) → length xs ≡ 0 → xs ≡ []
-nil_of [] h = refl
-nil_of (x ∷ xs) h = absurd (omega (arith, h))
 
 pub not_empty : {X : Type 0} (xs : List X) → false ≡ (length xs == 0) → xs ≡ [] → ⊥
 not_empty [] h e = true≢false (sym h)

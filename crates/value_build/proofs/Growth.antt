@@ -9,7 +9,7 @@ use Rattle.script_forms.specs.Unfolded.{truth_of, negation_form, is_real_tree}
 use Rattle.script_forms.specs.Work.{Event, ending, made}
 use Rattle.script_forms.specs.Walk.{after_events}
 use Rattle.term_build.specs.Built.{BuilderModel, stand_of}
-use Rattle.term_build.specs.Sketch.{SketchNode, yes_sketch, no_sketch, comparison_sketch, bool_sketch, all_sketch, any_sketch, choice_sketch, IsDrawing, IsDrawn, IsSketch}
+use Rattle.term_build.specs.Sketch.{SketchNode, yes_sketch, no_sketch, comparison_sketch, bool_sketch, all_sketch, any_sketch, choice_sketch, equal_sketch, IsDrawing, IsDrawn, IsSketch}
 use Rattle.term_build.specs.Pairs.{DrawsForm, Draws, Grown}
 use Rattle.term_build.specs.Settled.{Extends}
 use Rattle.term_build.specs.declared.sketch.Arm.{Arm}
@@ -17,6 +17,7 @@ use Rattle.term_build.specs.declared.sketch.Arm.TheVariants as arm
 use Rattle.term_build.specs.declared.connectives.Pair.{Pair}
 use Rattle.term_build.specs.declared.stop.Stop.{Stop}
 use Rattle.term_build.proofs.Emits.{emits_then, emits_stop, emits_more, tree_stays}
+use Rattle.term_build.proofs.Gathering.{numbers_within}
 use Rattle.term_build.proofs.Lists.{index_before}
 use Rattle.term_build.proofs.Pairs.{grown_self, grown_both, pair_more}
 use Rattle.term_build.proofs.Settled.{extends_self, extends_on, settled_events}
@@ -149,6 +150,7 @@ drawn-stays m m' (bool_sketch axis v) n s h = rw s h
 drawn-stays m m' yes_sketch n s h = tt
 drawn-stays m m' no_sketch n s h = tt
 drawn-stays m m' (choice_sketch p x y) n s h = tt
+drawn-stays m m' (equal_sketch at ks) n s h = numbers_within (length m.nodes) (length m'.nodes) ks n h
 drawn-stays m m' (all_sketch ks) n s h = tt
 drawn-stays m m' (any_sketch ks) n s h = tt
 

@@ -1,7 +1,8 @@
 -- What operators make of values.
-use Rattle.std.proofs.Common.{◌≡◌, ℕ, suc, zero, ◌<◌, ◌≤◌, List, [], ◌∷◌, map, length, Bool, true, false, ◌&&◌, ◌||◌, cond, true≢false, None, refl, ap, ap₂, sym, ◌∙◌, subst, arith, nat_le, nat_eq}
+use Rattle.std.proofs.Common.{◌≡◌, ℕ, suc, zero, ◌<◌, ◌≤◌, List, [], ◌∷◌, map, length, Bool, true, false, ◌&&◌, ◌||◌, cond, true≢false, None, refl, ap, ap₂, sym, ◌∙◌, subst, arith, nat_le, nat_lt, nat_eq}
 use Rattle.std.specs.Prelude.{Result, Ok, Err, IsErr}
-use Rattle.std.specs.List.{All}
+use Rattle.std.specs.List.{All, list_all}
+use Rattle.dyadic.proofs.Equal.{both_pass}
 use Rattle.std.specs.declared.alloc.AllocError.{AllocError}
 use Rattle.script_model.specs.Sexp.{Place}
 use Rattle.script_model.specs.Reading.{Operator, truth, falsehood, negation, conjunction, disjunction, implication, exclusive, equality, distinctness, choice, minus, plus, times, divide, at_most_op, below_op, at_least_op, above_op}
@@ -17,7 +18,8 @@ use Rattle.script_forms.specs.Work.{compare_events, together, operation_events, 
 use Rattle.term_build.specs.Built.{BuilderModel, stand_of}
 use Rattle.term_build.specs.Sketch.{SketchNode, IsSketch}
 use Rattle.term_build.specs.Steps.{Emits, IsTreeOf}
-use Rattle.term_build.specs.Pairs.{Grown, Draws, DrawsEach, Sketches, Connects, ConnectsChoice, compared, trees_at, same_of}
+use Rattle.term_build.specs.Pairs.{Grown, Draws, DrawsEach, Sketches, Connects, ConnectsChoice, DiffersEach, compared, trees_at, same_of}
+use Rattle.term_build.specs.Shapes.{AreNumbers}
 use Rattle.term_build.specs.declared.connectives.Pair.{Pair}
 use Rattle.term_build.specs.declared.stop.Stop.{Stop}
 use Rattle.term_build.specs.declared.stop.Stop.TheVariants as stop
@@ -56,6 +58,19 @@ are_trees m (k ∷ ks) h = (omega (arith, h.0, length_terms m.nodes), are_trees 
 
 trees-fit : (m : BuilderModel) → length (stand_of m).trees ≤ length m.nodes
 trees-fit m = omega (arith, length_terms m.nodes)
+
+nodes-below : (m : BuilderModel) (ks : List ℕ) → AreNodes m ks → AreNumbers (length (stand_of m).trees) ks
+nodes-below m [] h = refl
+nodes-below m (k ∷ ks) h = let below : k < length (stand_of m).trees = omega (arith, h.0, length_terms m.nodes) in
+    both_pass (nat_lt k (length (stand_of m).trees)) (list_all (λ j. nat_lt j (length (stand_of m).trees)) ks) (lt-true k (length (stand_of m).trees) below) (nodes-below m ks h.1)
+  where
+    lt-true : (a b : ℕ) → a < b → nat_lt a b ≡ true
+    lt-true a b h = grind (arith, h)
+
+-- that each two differ
+pub differs_sketch : (m : BuilderModel) (at : Place) (ds ds' : List SketchNode) (ks : List ℕ) (r : Result Pair AllocError) → IsSketch m ds → AreNodes m ks → DiffersEach at ds ds' ks r →
+    Sketches ds ds' m (Draws (stand_of m).trees ds' (different (pairs (compared eq at) (trees_at (stand_of m).trees ks)))) r
+differs_sketch m at ds ds' ks r s nodes h = h m (stand_of m).trees s (nodes-below m ks nodes) (trees-fit m)
 
 -- ---- comparisons of each two that belong together, joined
 

@@ -250,8 +250,7 @@ fn differ(
         at nodes.now result }
     ensures sketched { IsSketch builder.now (drawn sketch.new) }
 {
-    let links = compare_each(alloc, sketch, at, nodes, Kind::Eq, Spread::Later)?;
-    let pair = Pair::different(alloc, sketch, &links)?;
+    let pair = Pair::different(alloc, sketch, at, nodes)?;
     let list = no_bounds(alloc, bounds)?;
     Ok(Value::Bool(pair, list))
 }

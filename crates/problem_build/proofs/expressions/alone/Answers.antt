@@ -17,7 +17,7 @@ use Rattle.problem_build.specs.Walking.{Turns, call_work}
 use Rattle.problem_build.specs.declared.names.Head.{Head}
 use Rattle.problem_build.specs.declared.names.Head.TheVariants as head
 use Rattle.problem_build.specs.declared.top.Known.TheVariants as known
-use Rattle.problem_build.specs.declared.names.Local.{Local}
+use Rattle.problem_build.specs.declared.locals.Local.{Local}
 use Rattle.problem_build.specs.declared.frames.Next.{Next}
 use Rattle.problem_build.specs.declared.frames.Next.TheVariants as next
 use Rattle.problem_build.proofs.Lookups as lookups
@@ -32,9 +32,9 @@ returns-in_default-clause-walks c = λ s names bnames knows.
     let m = c.args.maker.now in
     let scope = c.args.scope in
     let x = c.args.name.now in
-    let is = subst (λ (xs : List Local). IsHead x top scope.visible xs None) (c.as_slice.ensures.value ∙ ap (λ v. v.items) c.deref.ensures) c.in_default.ensures in
+    let is = subst (λ (xs : List Local). IsHead x top scope.visible xs None) c.deref.ensures c.in_default.ensures in
     turns.reaches_ill s top m m _ _ c.args.place c.ill_formed.result
-    (reached.alone_unknown names (place_of c.args.place) x is.0 (reached.none_known m s top scope.visible scope.locals.value.items names bnames knows x is)) c.ill_formed.ensures
+    (reached.alone_unknown names (place_of c.args.place) x is.0 (reached.none_known m s top scope.visible scope.locals.value names bnames knows x is)) c.ill_formed.ensures
 
 pub returns-in_err-reach-clause-walks : goal.returns-in_err-reach-clause-walks
 returns-in_err-reach-clause-walks c = λ s names bnames knows.
@@ -42,8 +42,8 @@ returns-in_err-reach-clause-walks c = λ s names bnames knows.
     let m = c.args.maker.now in
     let scope = c.args.scope in
     let x = c.args.name.now in
-    let is = subst (λ (xs : List Local). IsHead x top scope.visible xs (Some c.in-Some.head)) (c.as_slice.ensures.value ∙ ap (λ v. v.items) c.deref.ensures) c.in-Some.ensures in
-    let begun = reached.alone_begins m s top scope.visible scope.locals.value.items names bnames knows x (place_of c.args.place) c.in-Some.head is in
+    let is = subst (λ (xs : List Local). IsHead x top scope.visible xs (Some c.in-Some.head)) c.deref.ensures c.in-Some.ensures in
+    let begun = reached.alone_begins m s top scope.visible scope.locals.value names bnames knows x (place_of c.args.place) c.in-Some.head is in
     let p = err_from_is_err_and c.from_residual.result c.from_residual.ensures.1 in
     rw (p.1, p.2) (turns.reach_fails m _ begun.0 c.in_err-reach.field-0.0 begun.1 c.in_err-reach.ensures.does)
 
@@ -55,7 +55,7 @@ constant-requires c =
     let d = c.in-Constant in
     let top = c.args.top.now in
     let x = c.args.name.now in
-    let is = subst (λ (h : Head). IsHead x top c.args.scope.visible c.as_slice.result.now (Some h)) d.is c.in-Some.ensures in
+    let is = subst (λ (h : Head). IsHead x top c.args.scope.visible c.deref.result.now (Some h)) d.is c.in-Some.ensures in
     (lookups.fits_top c.reach.new.self.made.sorts top (subst (λ (sorts : List Sort). TopFits sorts top) (sym c.reach.ensures.sorts) c.requires) x c.args.scope.visible d.field-0 (known.Constant d.axis d.field-2) is.2).1
 
 pub returns-in-Operator-clause-walks : goal.returns-in-Operator-clause-walks
@@ -66,10 +66,10 @@ returns-in-Operator-clause-walks c = λ s names bnames knows.
     let m1 = c.reach.new.self in
     let m2 = c.operate.new.self in
     let scope = c.args.scope in
-    let ls = scope.locals.value.items in
+    let ls = scope.locals.value in
     let x = c.args.name.now in
     let at = place_of c.args.place in
-    let here = subst (λ (xs : List Local). IsHead x top scope.visible xs (Some c.in-Some.head)) (c.as_slice.ensures.value ∙ ap (λ v. v.items) c.deref.ensures) c.in-Some.ensures in
+    let here = subst (λ (xs : List Local). IsHead x top scope.visible xs (Some c.in-Some.head)) c.deref.ensures c.in-Some.ensures in
     let is = subst (λ (h : Head). IsHead x top scope.visible ls (Some h)) d.is here in
     let w = call_work s top at (head.Operator d.operator) [] in
     let b = bounding_operation (operator_of d.operator) [] in
@@ -83,9 +83,9 @@ returns-in-Local-clause-walks c = λ s names bnames knows.
     let m = c.args.maker.now in
     let m1 = c.reach.new.self in
     let scope = c.args.scope in
-    let ls = scope.locals.value.items in
+    let ls = scope.locals.value in
     let x = c.args.name.now in
-    let here = subst (λ (xs : List Local). IsHead x top scope.visible xs (Some c.in-Some.head)) (c.as_slice.ensures.value ∙ ap (λ v. v.items) c.deref.ensures) c.in-Some.ensures in
+    let here = subst (λ (xs : List Local). IsHead x top scope.visible xs (Some c.in-Some.head)) c.deref.ensures c.in-Some.ensures in
     let is = subst (λ (h : Head). IsHead x top scope.visible ls (Some h)) d.is here in
     reached.alone_local m m1 m1 s top scope.visible ls names bnames knows x (place_of c.args.place) c.in_ok-reach.field-0 c.in_ok-reach.ensures.does d.value (Ok (next.Back d.value)) c.in_ok-reach.ensures.does.1.0 is
     (λ w b i. turns.turns_back s top m1 m1 (record { events = ending w.outcome; outcome = w.outcome }) b (Ok d.value) (named_again m1 w.outcome b d.value i))
@@ -98,9 +98,9 @@ returns-in-Constant-clause-walks c = λ s names bnames knows.
     let m1 = c.reach.new.self in
     let m2 = c.constant.new.self in
     let scope = c.args.scope in
-    let ls = scope.locals.value.items in
+    let ls = scope.locals.value in
     let x = c.args.name.now in
-    let here = subst (λ (xs : List Local). IsHead x top scope.visible xs (Some c.in-Some.head)) (c.as_slice.ensures.value ∙ ap (λ v. v.items) c.deref.ensures) c.in-Some.ensures in
+    let here = subst (λ (xs : List Local). IsHead x top scope.visible xs (Some c.in-Some.head)) c.deref.ensures c.in-Some.ensures in
     let is = subst (λ (h : Head). IsHead x top scope.visible ls (Some h)) d.is here in
     let fits = lookups.fits_top m1.made.sorts top (subst (λ (sorts : List Sort). TopFits sorts top) (sym c.reach.ensures.sorts) c.requires) x scope.visible d.field-0 (known.Constant d.axis d.field-2) is.2 in
     let t = constant_tree d.axis (sort_of d.field-2) in
@@ -116,21 +116,21 @@ returns-clause-walks c = λ s names bnames knows.
     let m = c.args.maker.now in
     let m1 = c.reach.new.self in
     let scope = c.args.scope in
-    let ls = scope.locals.value.items in
+    let ls = scope.locals.value in
     let x = c.args.name.now in
-    let here = subst (λ (xs : List Local). IsHead x top scope.visible xs (Some c.in-Some.head)) (c.as_slice.ensures.value ∙ ap (λ v. v.items) c.deref.ensures) c.in-Some.ensures in
+    let here = subst (λ (xs : List Local). IsHead x top scope.visible xs (Some c.in-Some.head)) c.deref.ensures c.in-Some.ensures in
     let is = subst (λ (h : Head). IsHead x top scope.visible ls (Some h)) d.is here in
     let inner = c.in_ok-inner-in-Function.inner in
     let n = next.Enter inner d.body in
     let names1 = work_names s top d.visible in
     let bnames1 = bound_names_of s top d.visible in
-    let no = c.new.result.items in
+    let no = c.new.result in
     reached.alone_function m m1 m1 s top scope.visible ls names bnames knows x (place_of c.args.place) c.in_ok-reach.field-0 c.in_ok-reach.ensures.does d.visible d.field-1 d.body (Ok n) is
     (turns.goes_none s top m1 (meaning as_work names1 (expression_at s d.body)) (meaning bounding bnames1 (expression_at s d.body)) n (record {
       names = names1;
       bnames = bnames1;
       knows = steps.knows_scope m1 s top d.visible no names1 bnames1 inner c.in_ok-inner-in-Function.ensures
-          (subst (λ (xs : List Local). Knows m1 s top d.visible xs names1 bnames1) (sym c.new.ensures.items) (steps.knows_none m1 s top d.visible));
+          (subst (λ (xs : List Local). Knows m1 s top d.visible xs names1 bnames1) (sym c.new.ensures) (steps.knows_none m1 s top d.visible));
       work = refl;
       bound = refl;
     }))

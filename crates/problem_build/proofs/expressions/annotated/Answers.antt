@@ -22,7 +22,7 @@ returns-clause-walks c = λ s top place names bnames knows.
     (turns.goes_none s top m1 w b n (record {
       names = names;
       bnames = bnames;
-      knows = steps.knows_stays m m1 s top scope.visible scope.locals.value.items names bnames c.in_ok-reach.ensures.does.1.0 knows;
+      knows = steps.knows_stays m m1 s top scope.visible scope.locals.value names bnames c.in_ok-reach.ensures.does.1.0 knows;
       work = refl;
       bound = refl;
     }))

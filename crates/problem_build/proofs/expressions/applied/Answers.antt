@@ -8,7 +8,7 @@ use Rattle.smt_sexp.specs.Views.{place_of}
 use Rattle.value_build.specs.Values.{AreKnown, AreValues}
 use Rattle.value_build.specs.declared.value.Value.{Value}
 use Rattle.problem_build.specs.Names.{IsHead}
-use Rattle.problem_build.specs.declared.names.Local.{Local}
+use Rattle.problem_build.specs.declared.locals.Local.{Local}
 use Rattle.problem_build.proofs.Reached as reached
 use Rattle.problem_build.proofs.Steps as steps
 use Rattle.problem_build.proofs.Turns as turns
@@ -24,13 +24,13 @@ returns-clause-walks c = λ names bnames knows.
     let m = c.args.maker.now in
     let m1 = c.reach.new.self in
     let scope = c.args.scope in
-    let ls = scope.locals.value.items in
+    let ls = scope.locals.value in
     let at = c.args.place in
     let x = c.args.name.now in
     let h = c.in-Some.head in
     let items = rest_of s c.args.args in
     let there = sym c.ends.ensures ∙ c.if-ends.false in
-    let is = subst (λ (xs : List Local). IsHead x top scope.visible xs (Some h)) (c.as_slice.ensures.value ∙ ap (λ v. v.items) c.deref.ensures) c.in-Some.ensures in
+    let is = subst (λ (xs : List Local). IsHead x top scope.visible xs (Some h)) c.deref.ensures c.in-Some.ensures in
     let w = application as_work names (place_of at) x (found x operators) (meanings as_work names items) in
     let b = application bounding bnames (place_of at) x (found x operators) (meanings bounding bnames items) in
     let after = reached.applied_after s top names x (place_of at) h items in
@@ -51,9 +51,9 @@ returns-in_default-clause-walks c = λ names bnames knows.
     let top = c.args.top.now in
     let m = c.args.maker.now in
     let scope = c.args.scope in
-    let ls = scope.locals.value.items in
+    let ls = scope.locals.value in
     let x = c.args.name.now in
-    let is = subst (λ (xs : List Local). IsHead x top scope.visible xs None) (c.as_slice.ensures.value ∙ ap (λ v. v.items) c.deref.ensures) c.in_default.ensures in
+    let is = subst (λ (xs : List Local). IsHead x top scope.visible xs None) c.deref.ensures c.in_default.ensures in
     turns.reaches_ill s top m m _ _ c.args.place c.ill_formed.result
     (reached.applied_unknown names (place_of c.args.place) x (meanings as_work names (rest_of s c.args.args)) is.0 (reached.none_known m s top scope.visible ls names bnames knows x is)) c.ill_formed.ensures
 
@@ -69,7 +69,7 @@ returns-in_err-reach-clause-walks c = λ names bnames knows.
     let scope = c.args.scope in
     let x = c.args.name.now in
     let h = c.in-Some.head in
-    let is = subst (λ (xs : List Local). IsHead x top scope.visible xs (Some h)) (c.as_slice.ensures.value ∙ ap (λ v. v.items) c.deref.ensures) c.in-Some.ensures in
+    let is = subst (λ (xs : List Local). IsHead x top scope.visible xs (Some h)) c.deref.ensures c.in-Some.ensures in
     let p = err_from_is_err_and c.from_residual.result c.from_residual.ensures.1 in
     rw (p.1, p.2) (turns.reach_fails c.args.maker.now _ _ c.in_err-reach.field-0.0
-    (reached.applied_events c.args.maker.now s top scope.visible scope.locals.value.items names bnames knows x (place_of c.args.place) h (rest_of s c.args.args) is (sym c.ends.ensures ∙ c.if-ends.false)) c.in_err-reach.ensures.does)
+    (reached.applied_events c.args.maker.now s top scope.visible scope.locals.value names bnames knows x (place_of c.args.place) h (rest_of s c.args.args) is (sym c.ends.ensures ∙ c.if-ends.false)) c.in_err-reach.ensures.does)

@@ -6,7 +6,7 @@ use Rattle.smt_sexp.specs.Arena.{expression_at, rest_of}
 use Rattle.smt_sexp.specs.Views.{place_of}
 use Rattle.problem_build.specs.Names.{AreLocals}
 use Rattle.problem_build.specs.LetParts.{as_let, let_of}
-use Rattle.problem_build.specs.declared.names.Local.{Local}
+use Rattle.problem_build.specs.declared.locals.Local.{Local}
 use Rattle.problem_build.proofs.Reached as reached
 use Rattle.problem_build.proofs.Steps as steps
 use Rattle.problem_build.proofs.Turns as turns
@@ -29,10 +29,10 @@ returns-clause-walks c = λ top names bnames knows.
     (c.let_on.ensures m1 top after b (record {
       names = names;
       bnames = bnames;
-      knows = steps.knows_stays m m1 s top scope.visible scope.locals.value.items names bnames c.in_ok-reach.ensures.does.1.0 knows;
+      knows = steps.knows_stays m m1 s top scope.visible scope.locals.value names bnames c.in_ok-reach.ensures.does.1.0 knows;
       done = [];
       bounded = [];
-      stand = subst (λ (ls : List Local). AreLocals m1 ls [] []) (sym c.new.ensures.items) tt;
+      stand = subst (λ (ls : List Local). AreLocals m1 ls [] []) (sym c.new.ensures) tt;
       binds = reached.let_begins s names bnames at c.args.at inside body is;
     }))
 

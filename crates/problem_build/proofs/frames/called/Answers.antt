@@ -1,4 +1,4 @@
-use Rattle.std.proofs.Common.{◌++◌, map, sym, subst, refl}
+use Rattle.std.proofs.Common.{◌++◌, ◌∙◌, ap, append-nil, map, sym, subst, refl}
 use Rattle.std.specs.Prelude.{Result}
 use Rattle.script_model.specs.Script.{bound_to}
 use Rattle.script_forms.specs.Work.{outcome_of}
@@ -32,13 +32,13 @@ returns-in_ok-scope-in-Function-clause-walks c = λ s top ws bs are.
     let n = next.Enter c.in_ok-scope-in-Function.scope d.body in
     let names = bound_to (map parameter_of d.parameters.now) ws ++ work_names s top d.visible in
     let bnames = bound_to (map parameter_of d.parameters.now) bs ++ bound_names_of s top d.visible in
-    let ls = c.in_ok-locals-in-Function.locals.items in
+    let ls = c.in_ok-locals-in-Function.locals in
     subst (λ (x : Head). WorkStep m m s top (call_work s top at x ws) (call_bounds s top x bs) n) (sym d.is)
     (turns.goes_none s top m (call_work s top at h ws) (call_bounds s top h bs) n (record {
       names = names;
       bnames = bnames;
       knows = steps.knows_scope m s top d.visible ls names bnames c.in_ok-scope-in-Function.scope c.in_ok-scope-in-Function.ensures
-          (steps.knows_bound m s top d.visible d.parameters.now c.args.values.now ls ws bs c.in_ok-locals-in-Function.ensures are);
+          (steps.knows_bound m s top d.visible d.parameters.now c.args.values.now ls ws bs (c.in_ok-locals-in-Function.ensures ∙ ap (λ xs. c.in_ok-bound-in-Function.bound ++ xs) c.new-none.ensures ∙ append-nil c.in_ok-bound-in-Function.bound ∙ c.in_ok-bound-in-Function.ensures) are);
       work = refl;
       bound = refl;
     }))

@@ -6,7 +6,7 @@ use Rattle.script_forms.specs.Work.{as_work}
 use Rattle.smt_sexp.specs.Arena.{expression_at}
 use Rattle.smt_sexp.specs.Views.{place_of}
 use Rattle.problem_build.specs.Names.{Knows}
-use Rattle.problem_build.specs.declared.names.Local.{Local}
+use Rattle.problem_build.specs.declared.locals.Local.{Local}
 use Rattle.problem_build.specs.declared.frames.Next.TheVariants as next
 use Rattle.problem_build.proofs.Steps as steps
 use Rattle.problem_build.proofs.Turns as turns
@@ -24,15 +24,15 @@ returns-in_ok-inner-in-None c = λ m top w b h.
     let l = c.args.bindings in
     let n = next.Enter c.in_ok-inner-in-None.inner l.body in
     let e = expression_at s l.body in
-    let ls = c.extend_from_slice.new.self.items in
-    let all = c.in_ok-extend_from_slice-in-None.ensures.items ∙ ap (λ xs. l.bound.items ++ xs) (c.as_slice.ensures.value ∙ ap (λ v. v.items) c.deref.ensures) in
+    let ls = c.in_ok-locals-in-None.locals in
+    let all = c.in_ok-locals-in-None.ensures ∙ ap (λ xs. l.bound ++ xs) c.deref.ensures in
     waiting.let_last m s top l w b h m (Ok n) c.in-None.ensures
     (turns.goes_none s top m (meaning as_work (h.done ++ h.names) e) (meaning bounding (h.bounded ++ h.bnames) e) n (record {
       names = h.done ++ h.names;
       bnames = h.bounded ++ h.bnames;
       knows = steps.knows_scope m s top l.scope.visible ls (h.done ++ h.names) (h.bounded ++ h.bnames) c.in_ok-inner-in-None.inner c.in_ok-inner-in-None.ensures
           (subst (λ (xs : List Local). Knows m s top l.scope.visible xs (h.done ++ h.names) (h.bounded ++ h.bnames)) (sym all)
-          (steps.knows_more m s top l.scope.visible l.bound.items l.scope.locals.value.items h.done h.names h.bounded h.bnames h.stand h.knows));
+          (steps.knows_more m s top l.scope.visible l.bound l.scope.locals.value h.done h.names h.bounded h.bnames h.stand h.knows));
       work = refl;
       bound = refl;
     }))

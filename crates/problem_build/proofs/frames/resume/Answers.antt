@@ -5,7 +5,7 @@ use Rattle.value_build.specs.Values.{AreKnown, AreValues}
 use Rattle.value_build.specs.declared.value.Value.{Value}
 use Rattle.problem_build.specs.Names.{AreLocals}
 use Rattle.problem_build.specs.Walking.{CallWaits, LetWaits, Waits, KnowsValues}
-use Rattle.problem_build.specs.declared.names.Local.{Local}
+use Rattle.problem_build.specs.declared.locals.Local.{Local}
 use Rattle.problem_build.specs.declared.frames.Frame.{Frame}
 use Rattle.problem_build.proofs.Waiting as waiting
 use Rattle.problem_build.proofs.frames.resume.Goals as goal
@@ -45,7 +45,7 @@ returns-in_ok-push-in-Let-clause-walks c = λ top u d w b waits i.
       knows = h.knows;
       done = h.done ++ ((x.now, value h.here) ∷ []);
       bounded = h.bounded ++ ((x.now, value d) ∷ []);
-      stand = subst (λ (xs : List Local). AreLocals m xs (h.done ++ ((x.now, value h.here) ∷ [])) (h.bounded ++ ((x.now, value d) ∷ []))) (sym c.in_ok-push-in-Let.ensures.items)
+      stand = subst (λ (xs : List Local). AreLocals m xs (h.done ++ ((x.now, value h.here) ∷ [])) (h.bounded ++ ((x.now, value d) ∷ []))) (sym c.in_ok-push-in-Let.ensures.added)
           (waiting.let_back m s top l x u d w b c.args.value h i);
       binds = h.binds;
     })

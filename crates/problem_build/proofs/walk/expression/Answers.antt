@@ -3,7 +3,7 @@ use Rattle.std.specs.Prelude.{Ok, Err}
 use Rattle.std.proofs.lemmas.Result.{err_from_is_err_and}
 use Rattle.problem_build.specs.Names.{Knows, work_names, bound_names_of, work_at, bounding_at}
 use Rattle.problem_build.specs.Walking.{Enters, Leaves}
-use Rattle.problem_build.specs.declared.names.Local.{Local}
+use Rattle.problem_build.specs.declared.locals.Local.{Local}
 use Rattle.problem_build.specs.declared.frames.Frame.{Frame}
 use Rattle.problem_build.specs.declared.frames.Next.{Next}
 use Rattle.problem_build.specs.declared.frames.Next.TheVariants as next
@@ -28,8 +28,8 @@ turns-init c =
     let enters : Enters m s top scope c.args.at w b = record {
       names = names;
       bnames = bnames;
-      knows = steps.knows_scope m s top n c.new.result.items names bnames scope (c.in_ok-scope.ensures.0 ∙ c.len.ensures, c.in_ok-scope.ensures.1)
-          (subst (λ (xs : List Local). Knows m s top n xs names bnames) (sym c.new.ensures.items) (steps.knows_none m s top n));
+      knows = steps.knows_scope m s top n c.new.result names bnames scope (c.in_ok-scope.ensures.0 ∙ c.len.ensures, c.in_ok-scope.ensures.1)
+          (subst (λ (xs : List Local). Knows m s top n xs names bnames) (sym c.new.ensures) (steps.knows_none m s top n));
       work = refl;
       bound = refl;
     } in

@@ -1,4 +1,4 @@
-use Rattle.std.proofs.Common.{◌≡◌, ap, ◌∙◌, sym, subst, arith, List, [], ◌∷◌, map, refl, true}
+use Rattle.std.proofs.Common.{◌≡◌, ap, ◌∙◌, sym, subst, arith, append-nil, List, [], ◌∷◌, ◌++◌, map, refl, true}
 use Rattle.std.specs.Prelude.{cond, Some, None, nat_lt, suc}
 use Rattle.script_model.specs.Reading.{value, meaning}
 use Rattle.script_model.specs.Sexp as sexp
@@ -33,16 +33,17 @@ returns-in_ok-insert-in-Define c = λ names knows.
     let s = sort_of d.sort in
     let e = expression_at c.args.sexps.now d.body in
     let new = c.insert-in-Define.new.self in
+    let same = c.in_ok-locals-in-Define.ensures ∙ ap (λ ps. c.are_new.new.before ++ ps) c.new.ensures ∙ append-nil c.are_new.new.before ∙ c.in_ok-are_new-in-Define.ensures.names ∙ c.as_slice-in-Define.ensures.value in
     let taken = taken_parameter [] (map parameter_of d.parameters.items) in
     let wanted = wants (sexp.place_of e) s (meaning sorting (around d.parameters.items names) e) in
     let after : List Command → Finding = λ rest. sort_fault_from c.args.count ((d.name.now, signature (map parameter_of d.parameters.items) s) ∷ names) rest in
     rw (c.in-Define.is) (
-      subst (λ ps. Knows new ((d.name.now, signature (map parameter_of ps) s) ∷ names)) c.as_slice-in-Define-4.ensures.value
-          (subst (λ y. Knows new ((y, named_of (known.Function c.as_slice-in-Define-4.result d.sort)) ∷ names)) c.as_slice-in-Define-3.ensures
-          (knows_more c.args.top.now new names c.as_slice-in-Define-3.result.now (known.Function c.as_slice-in-Define-4.result d.sort) knows c.in_ok-insert-in-Define.ensures.updates)),
+      subst (λ ps. Knows new ((d.name.now, signature (map parameter_of ps) s) ∷ names)) c.as_slice-in-Define-3.ensures.value
+          (subst (λ y. Knows new ((y, named_of (known.Function c.as_slice-in-Define-3.result d.sort)) ∷ names)) c.as_slice-in-Define-2.ensures
+          (knows_more c.args.top.now new names c.as_slice-in-Define-2.result.now (known.Function c.as_slice-in-Define-3.result d.sort) knows c.in_ok-insert-in-Define.ensures.updates)),
       refl,
       (λ rest. ap (λ f. then_on f (then_on taken (then_on wanted (after rest)))) (c.in_ok-is_new-in-Define.ensures names knows) ∙
-          ap (λ f. then_on f (then_on wanted (after rest))) (ap (λ ps. taken_parameter [] (map parameter_of ps)) (sym c.as_slice-in-Define.ensures.value) ∙ c.in_ok-are_new-in-Define.ensures) ∙
-          ap (λ f. then_on f (after rest)) (ap (λ ps. wants (sexp.place_of e) s (meaning sorting (around ps names) e)) (sym c.as_slice-in-Define-2.ensures.value) ∙ c.in_ok-wanted-in-Define.ensures names knows)),
+          ap (λ f. then_on f (then_on wanted (after rest))) (ap (λ ps. taken_parameter [] (map parameter_of ps)) (sym c.as_slice-in-Define.ensures.value) ∙ c.in_ok-are_new-in-Define.ensures.fault) ∙
+          ap (λ f. then_on f (after rest)) (ap (λ ps. wants (sexp.place_of e) s (meaning sorting (around ps names) e)) (sym same) ∙ c.in_ok-wanted-in-Define.ensures names knows)),
       omega (arith, c.requires),
     )

@@ -5,7 +5,7 @@ use Rattle.smt_sexp.specs.Arena.{expression_at, rest_of}
 use Rattle.smt_sexp.specs.Views.{place_of, leaf_of}
 use Rattle.smt_script.specs.Views.{parameter_of}
 use Rattle.sort_check.specs.Forms.{bound_from}
-use Rattle.sort_check.specs.Sorts.{sorting, is_taken, parameter_names}
+use Rattle.sort_check.specs.Sorts.{sorting, parameter_names}
 use Rattle.sort_check.specs.Views.{IsSortAnswer, around, head_sort, names_back, sorts_seen}
 use Rattle.script_model.specs.Sexp.{more, leaf}
 use Rattle.smt_sexp.specs.declared.leaf.Leaf.TheVariants as leaves
@@ -64,16 +64,16 @@ pub bindings-returns-then-is_taken : goal.bindings-returns-then-is_taken
 bindings-returns-then-is_taken t c = λ names knows body.
     let env = around c.args.locals.now names in
     c.loop-place.invariant.bound_is names knows body ∙
-    bindings.bound_first (rest_of c.args.sexps.now c.loop-place.at) _ _ _ c.in-Some.ensures.0 env (names_back (map parameter_of c.loop-place.bound.items) []) body c.loop-place.invariant.formed ∙
-    bindings.taken_first _ _ _ _ (ap (λ bs. is_taken (names_back (map parameter_of bs) []) c.in-Some.name.now) (sym c.as_slice.ensures.value) ∙ sym c.is_taken.ensures ∙ c.if-is_taken.true)
+    bindings.bound_first (rest_of c.args.sexps.now c.loop-place.at) _ _ _ c.in-Some.ensures.0 env (names_back (map parameter_of c.loop-place.bound) []) body c.loop-place.invariant.formed ∙
+    bindings.taken_first _ _ _ _ (sym c.is_taken.ensures ∙ c.if-is_taken.true)
 
 pub bindings-returns-in_err-sort : goal.bindings-returns-in_err-sort
 bindings-returns-in_err-sort t c = λ names knows.
     let p = err_from_is_err_and c.from_residual.result c.from_residual.ensures.1 in
     rw (p.1, p.2)
-    (failures.binding_fails c.in_err-sort.field-0.0 (around c.args.locals.now names) (rest_of c.args.sexps.now c.args.start) (rest_of c.args.sexps.now c.loop-place.at) _ _ _ (names_back (map parameter_of c.loop-place.bound.items) [])
+    (failures.binding_fails c.in_err-sort.field-0.0 (around c.args.locals.now names) (rest_of c.args.sexps.now c.args.start) (rest_of c.args.sexps.now c.loop-place.at) _ _ _ (names_back (map parameter_of c.loop-place.bound) [])
     (c.loop-place.invariant.bound_is names knows) c.in-Some.ensures.0 c.loop-place.invariant.formed
-    (ap (λ bs. is_taken (names_back (map parameter_of bs) []) c.in-Some.name.now) (sym c.as_slice.ensures.value) ∙ sym c.is_taken.ensures ∙ c.if-is_taken.false)
+    (sym c.is_taken.ensures ∙ c.if-is_taken.false)
     (c.in_err-sort.ensures names knows))
 
 pub bindings-loop-place-preserved : goal.bindings-loop-place-preserved
@@ -81,38 +81,39 @@ bindings-loop-place-preserved t c =
     let first = c.in-Some.ensures.0 in
     let items = rest_of c.args.sexps.now c.loop-place.at in
     let after = rest_of c.args.sexps.now c.in-Some.after in
-    let free = ap (λ bs. is_taken (names_back (map parameter_of bs) []) c.in-Some.name.now) (sym c.as_slice.ensures.value) ∙ sym c.is_taken.ensures ∙ c.if-is_taken.false in
+    let free = sym c.is_taken.ensures ∙ c.if-is_taken.false in
     record {
       later = omega (arith, c.loop-place.invariant.later, c.in-Some.ensures.2.later);
       formed = sym (bindings.some_first items after _ _ first) ∙ c.loop-place.invariant.formed;
       bound_is = λ names knows body.
           let env = around c.args.locals.now names in
           c.loop-place.invariant.bound_is names knows body ∙
-          bindings.bound_first items after _ _ first env (names_back (map parameter_of c.loop-place.bound.items) []) body c.loop-place.invariant.formed ∙
-          bindings.free_first (names_back (map parameter_of c.loop-place.bound.items) []) (record { at = place_of c.in-Some.place; name = c.in-Some.name.now }) (meaning sorting env (expression_at c.args.sexps.now c.in-Some.body)) _ free ∙ bindings.passes_first _ _ _ (c.in_ok-sort.ensures names knows) ∙
+          bindings.bound_first items after _ _ first env (names_back (map parameter_of c.loop-place.bound) []) body c.loop-place.invariant.formed ∙
+          bindings.free_first (names_back (map parameter_of c.loop-place.bound) []) (record { at = place_of c.in-Some.place; name = c.in-Some.name.now }) (meaning sorting env (expression_at c.args.sexps.now c.in-Some.body)) _ free ∙ bindings.passes_first _ _ _ (c.in_ok-sort.ensures names knows) ∙
           ap (λ before. bound_from before env after body)
-          (sym (bindings.back_after c.loop-place.bound.items _) ∙ ap (λ bs. names_back (map parameter_of bs) []) (sym c.in_ok-push.ensures.items));
+          (sym (bindings.back_after c.loop-place.bound _) ∙ ap (λ bs. names_back (map parameter_of bs) []) (sym c.in_ok-push.ensures.added));
       meant = λ names knows.
           let env = around c.args.locals.now names in
           c.loop-place.invariant.meant names knows ∙
-          ap (λ ms. parameter_names (map parameter_of c.loop-place.bound.items) ++ ms)
+          ap (λ ms. parameter_names (map parameter_of c.loop-place.bound) ++ ms)
           (bindings.meanings_first items after _ _ first env ∙ ap (λ v. (c.in-Some.name.now, bindings.valued v) ∷ binding_meanings sorting env after) (c.in_ok-sort.ensures names knows)) ∙
-          sym (bindings.names_last c.loop-place.bound.items _ (binding_meanings sorting env after)) ∙
-          ap (λ bs. parameter_names (map parameter_of bs) ++ binding_meanings sorting env after) (sym c.in_ok-push.ensures.items);
+          sym (bindings.names_last c.loop-place.bound _ (binding_meanings sorting env after)) ∙
+          ap (λ bs. parameter_names (map parameter_of bs) ++ binding_meanings sorting env after) (sym c.in_ok-push.ensures.added);
     }
 
-pub let_sort-returns-in_err-scope : goal.let_sort-returns-in_err-scope
-let_sort-returns-in_err-scope t c = λ names knows.
+pub let_sort-returns-in_err-bound : goal.let_sort-returns-in_err-bound
+let_sort-returns-in_err-bound t c = λ names knows.
     let p = err_from_is_err_and c.from_residual.result c.from_residual.ensures.1 in
     rw (p.1, p.2)
-    (failures.let_fails c.in_err-scope.field-0.0 (around c.args.locals.now names) (rest_of c.args.sexps.now c.in-Some.inside) _ _ (c.in-Some.ensures.sort_is (around c.args.locals.now names) (place_of c.args.place)) (c.in_err-scope.ensures names knows))
+    (failures.let_fails c.in_err-bound.field-0.0 (around c.args.locals.now names) (rest_of c.args.sexps.now c.in-Some.inside) _ _ (c.in-Some.ensures.sort_is (around c.args.locals.now names) (place_of c.args.place)) (c.in_err-bound.ensures names knows))
 
 pub let_sort-returns : goal.let_sort-returns
 let_sort-returns t c = λ names knows.
     let env = around c.args.locals.now names in
     subst (IsSortAnswer c.expression.result)
     (ap (λ e. meaning sorting e (expression_at c.args.sexps.now c.in-Some.body))
-    (ap (λ ls. around ls names) (c.as_slice.ensures.value ∙ c.in_ok-extend_from_slice.ensures.items) ∙ bindings.around_more c.in_ok-scope.scope.items c.args.locals.now names ∙
-    ap (λ ms. ms ++ env) (sym ((c.in_ok-scope.ensures names knows).1))) ∙
-    sym (c.in-Some.ensures.sort_is env (place_of c.args.place) ∙ (c.in_ok-scope.ensures names knows).0 _))
+    (ap (λ ls. around ls names) c.in_ok-inner.ensures ∙
+    bindings.around_more c.in_ok-bound.bound c.args.locals.now names ∙
+    ap (λ ms. ms ++ env) (sym ((c.in_ok-bound.ensures names knows).1))) ∙
+    sym (c.in-Some.ensures.sort_is env (place_of c.args.place) ∙ (c.in_ok-bound.ensures names knows).0 _))
     (c.expression.ensures names knows)

@@ -41,9 +41,9 @@ invariant-bindings-loop-place l = record {
   later : l.start ≤ l.at;
   formed : is_some (bound_names (rest_of l.sexps l.at)) ≡ true;
   bound_is : (names : Names Sorted) → Knows l.top names → (body : Sorted) →
-      bound_from [] (around l.locals names) (rest_of l.sexps l.start) body ≡ bound_from (names_back (map parameter_of l.bound.items) []) (around l.locals names) (rest_of l.sexps l.at) body;
+      bound_from [] (around l.locals names) (rest_of l.sexps l.start) body ≡ bound_from (names_back (map parameter_of l.bound) []) (around l.locals names) (rest_of l.sexps l.at) body;
   meant : (names : Names Sorted) → Knows l.top names →
-      binding_meanings sorting (around l.locals names) (rest_of l.sexps l.start) ≡ parameter_names (map parameter_of l.bound.items) ++ binding_meanings sorting (around l.locals names) (rest_of l.sexps l.at);
+      binding_meanings sorting (around l.locals names) (rest_of l.sexps l.start) ≡ parameter_names (map parameter_of l.bound) ++ binding_meanings sorting (around l.locals names) (rest_of l.sexps l.at);
 }
 
 abbrev pub decreases-bindings-loop-place : goal.decreases-bindings-loop-place

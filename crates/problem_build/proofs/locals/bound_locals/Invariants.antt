@@ -1,9 +1,9 @@
 use Rattle.std.proofs.Common.{◌≡◌, ◌++◌, length}
 use Rattle.problem_build.specs.Names.{bound_locals}
-use Rattle.problem_build.proofs.names.bound_locals.Given as goal
+use Rattle.problem_build.proofs.locals.bound_locals.Given as goal
 
 abbrev pub invariant-loop-left : goal.invariant-loop-left
-invariant-loop-left l = bound_locals l.parameters l.values ≡ l.locals.items ++ bound_locals l.left l.given
+invariant-loop-left l = bound_locals l.parameters l.values ≡ l.locals ++ bound_locals l.left l.given
 
 abbrev pub decreases-loop-left : goal.decreases-loop-left
 decreases-loop-left l = length l.left

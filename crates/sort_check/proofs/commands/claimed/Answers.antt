@@ -1,0 +1,10 @@
+use Rattle.std.proofs.Common.{List, subst}
+use Rattle.smt_script.specs.declared.command.Parameter.{Parameter}
+use Rattle.smt_script.specs.declared.command.Sort.TheVariants.{Bool}
+use Rattle.sort_check.specs.Calls.{wanted_sort}
+use Rattle.sort_check.specs.Steps.{FindsFault}
+use Rattle.sort_check.specs.Views.{around}
+use Rattle.sort_check.proofs.commands.claimed.Goals as goal
+
+pub returns : goal.returns
+returns c = λ names knows. subst (λ (ps : List Parameter). FindsFault c.wanted.result (wanted_sort c.args.sexps.now c.args.at Bool (around ps names))) c.new-locals.ensures (c.wanted.ensures names knows)
