@@ -7,9 +7,9 @@ ghost use Rattle.cover_book.specs.Model.{loosenings_in, margins_of, problem_in};
 ghost use Rattle.cover_data.specs.Runs.{IsRun};
 ghost use Rattle.cover_data.specs.Views.{kept_of};
 
+use crate::cases::{LINES, PARABOLA};
 use crate::patches::{Answer, DONE, book_of, is_state, led, outside_lemma, state_of};
 use crate::points::{ANYWHERE, NO_ROOT, is_space, middle_of};
-use crate::single_rules::{LINES, PARABOLA};
 use cert_check::Verdict;
 use cert_text::write_cover;
 use cover_book::{Book, BookRefusal, BookVerdict, Kids};
@@ -82,7 +82,7 @@ fn worked(
 {
     let atoms = book.problem().atoms().len();
     let state = state_of(alloc, atoms, state)?;
-    let patch = led(alloc, book, lemma, state, lines).ok()?;
+    let patch = led(alloc, book, lemma, state, lines)?;
     ended(patch)
 }
 
@@ -100,37 +100,25 @@ fn kept(alloc: Global, book: &Book, commit: &Commit) -> Option<KeptPatch>
     }
 }
 
-// Whether the book answers the commit so.
-fn is_committed(alloc: Global, book: &mut Book, commit: &Commit) -> bool {
-    let Some(patch) = kept(alloc, book, commit) else {
-        return false;
-    };
-    let answer = book.commit(commit.node, patch);
-    match (&answer, &commit.reply) {
+// Whether the commit was answered so.
+fn is_reply(
+    alloc: Global,
+    answer: &Result<Kids, BookRefusal>,
+    expected: &Result<Kids, Refused>,
+) -> bool {
+    match (answer, expected) {
         (Ok(kids), Ok(said)) => *kids == *said,
         (Err(refusal), Err(said)) => is_refused(alloc, refusal, said),
         _ => false,
     }
 }
 
-// The book that answers these commits so, one after the other.
-fn made(
-    alloc: Global,
-    script: &str,
-    least_bits: u32,
-    budget: u32,
-    commits: &[Commit],
-) -> Option<Book> {
-    if least_bits > 60 || budget > 100 {
-        return None;
+// Whether the book answers the commit so.
+fn is_committed(alloc: Global, book: &mut Book, commit: &Commit) -> bool {
+    match kept(alloc, book, commit) {
+        Some(patch) => is_reply(alloc, &book.commit(commit.node, patch), &commit.reply),
+        None => false,
     }
-    let mut book = book_of(alloc, script, least_bits, budget)?;
-    for commit in commits {
-        if !is_committed(alloc, &mut book, commit) {
-            return None;
-        }
-    }
-    Some(book)
 }
 
 // Whether the book learns, under this number, the state that is closed by these lines.
@@ -177,6 +165,18 @@ fn is_written(
         && verdict(alloc, book.problem(), &written) == Ok(confirmed)
 }
 
+fn is_found_reply(
+    alloc: Global,
+    answer: &Result<(), BookRefusal>,
+    expected: &Result<(), Refused>,
+) -> bool {
+    match (answer, expected) {
+        (Ok(()), Ok(())) => true,
+        (Err(refusal), Err(said)) => is_refused(alloc, refusal, said),
+        _ => false,
+    }
+}
+
 // Whether the book answers so where the middle of one node's box is found at another node.
 fn is_found(
     alloc: Global,
@@ -185,62 +185,79 @@ fn is_found(
     node: u32,
     expected: &Result<(), Refused>,
 ) -> bool {
-    let Ok(Some(point)) = middle_of(alloc, book, of) else {
-        return false;
-    };
-    let answer = book.found(node, point);
-    match (&answer, expected) {
-        (Ok(()), Ok(())) => true,
-        (Err(refusal), Err(said)) => is_refused(alloc, refusal, said),
+    match middle_of(alloc, book, of) {
+        Ok(Some(point)) => is_found_reply(alloc, &book.found(node, point), expected),
         _ => false,
     }
 }
 
-// ---- x * y - y * x = 1/8
+// Whether the node has no state that is open.
+fn is_not_open(book: &Book, node: u32) -> bool {
+    let answer = book.state_of(node);
+    matches!(&answer, Err(BookRefusal::NotOpen(number)) if *number == node)
+}
 
-const ROOT: [&str; 2] = ["real -1b-1 1b-1", "real -1b-1 1b-1"];
+// What is asked of a book, and what it answers.
+enum Call {
+    Commit(Commit),
+    // The state that is closed by these lines is learned under this number.
+    Learn(&'static [&'static str], &'static [(&'static str, Answer)], u32),
+    // The last lemma: its number and its state.
+    LastLemma(u32, &'static [&'static str]),
+    Branches(u32),
+    LiveAfter(u32, Option<u32>),
+    // The middle of the first node's box is found at the second one.
+    Found(u32, u32, Result<(), Refused>),
+    NotOpen(u32),
+    Verdict(BookVerdict),
+    // What the book says, the certificate that it is written as, and what that is confirmed to be.
+    Written(BookVerdict, &'static str, Verdict),
+}
 
-const LOWER: [&str; 3] = ["real -1b-1 0", "real -1b-1 1b-1", "yes 0 1 2 3 4"];
+// Whether the book answers the call so.
+fn is_answered(alloc: Global, book: &mut Book, call: &Call) -> bool {
+    match call {
+        Call::Commit(commit) => is_committed(alloc, book, commit),
+        Call::Learn(state, lines, id) => learns(alloc, book, state, lines, *id),
+        Call::LastLemma(id, state) => ends_in_lemma(alloc, book, *id, state),
+        Call::Branches(count) => book.branches() == *count,
+        Call::LiveAfter(from, node) => book.live_after(*from) == *node,
+        Call::Found(of, node, reply) => is_found(alloc, book, *of, *node, reply),
+        Call::NotOpen(node) => is_not_open(book, *node),
+        Call::Verdict(said) => book.verdict() == *said,
+        Call::Written(said, text, confirmed) => is_written(alloc, book, *said, text, *confirmed),
+    }
+}
 
-const CUT: [(&str, Answer); 6] = [
-    ("unit 0", DONE),
-    ("unit 1", DONE),
-    ("unit 2", DONE),
-    ("unit 3", DONE),
-    ("unit 4", DONE),
-    ("cut 0 0", DONE),
-];
+fn are_answered(alloc: Global, book: &mut Book, calls: &[Call]) -> bool {
+    for call in calls {
+        if !is_answered(alloc, book, call) {
+            return false;
+        }
+    }
+    true
+}
 
-const BRANCH: [Commit; 4] = [
-    Commit {
-        node: 0,
-        quotes: None,
-        state: &ROOT,
-        lines: &CUT,
-        reply: Ok(Kids::Two(1, 2)),
-    },
-    Commit {
-        node: 0,
-        quotes: None,
-        state: &ROOT,
-        lines: &CUT,
-        reply: Err(Refused::NotOpen(0)),
-    },
-    Commit {
-        node: 1,
-        quotes: None,
-        state: &ROOT,
-        lines: &CUT,
-        reply: Err(Refused::Elsewhere(&LOWER)),
-    },
-    Commit {
-        node: 1,
-        quotes: None,
-        state: &LOWER,
-        lines: &[("cut 0 -1b-2", DONE)],
-        reply: Err(Refused::Spent(1)),
-    },
-];
+// A script, the least width and the budget of its book, and calls that are made one after the other.
+struct Calls {
+    script: &'static str,
+    least_bits: u32,
+    budget: u32,
+    calls: &'static [Call],
+}
+
+// Whether the book answers so.
+fn holds(alloc: Global, row: &Calls) -> bool {
+    if row.least_bits > 60 || row.budget > 100 {
+        return false;
+    }
+    match book_of(alloc, row.script, row.least_bits, row.budget) {
+        Some(mut book) => are_answered(alloc, &mut book, row.calls),
+        None => false,
+    }
+}
+
+// ---- the certificates that are written
 
 // A branch, with a lemma of its own that nothing quotes.
 const OPEN_BRANCH: &str = "dpoly 2
@@ -266,47 +283,6 @@ open
 end
 ";
 
-// Whether the book has made one branch, of which both nodes are live.
-fn has_one_branch(book: &Book) -> bool {
-    book.branches() == 1
-        && book.live_after(0) == Some(1)
-        && book.live_after(2) == Some(2)
-        && book.live_after(3) == None
-}
-
-// Whether the branch is made once and no other, and a lemma is learned besides.
-fn is_branch(alloc: Global) -> bool {
-    let Some(mut book) = made(alloc, SWAPPED, 20, 1, &BRANCH) else {
-        return false;
-    };
-    let state = ["real 0 0", "real 0 0"];
-    let said = BookVerdict::UnknownBudget;
-    learns(alloc, &mut book, &state, &[("false", DONE)], 0)
-        && ends_in_lemma(alloc, &book, 0, &state)
-        && has_one_branch(&book)
-        && is_written(alloc, &book, said, OPEN_BRANCH, Verdict::Left(2))
-}
-
-#[test]
-fn a_branch_is_made_once_and_no_other(rt: HostRuntime) {
-    assert!(rt; is_branch(rt.alloc()));
-}
-
-const STUCK: [Commit; 1] = [Commit {
-    node: 0,
-    quotes: None,
-    state: &ROOT,
-    lines: &[
-        ("unit 0", DONE),
-        ("unit 1", DONE),
-        ("unit 2", DONE),
-        ("unit 3", DONE),
-        ("unit 4", DONE),
-        ("stuck 4", DONE),
-    ],
-    reply: Ok(Kids::None),
-}];
-
 const STUCK_ROOT: &str = "dpoly 2
 margin 20
 delta 10
@@ -321,86 +297,6 @@ unit 4
 stuck 4
 end
 ";
-
-// Whether the book that answers these commits is written as this certificate.
-fn is_cover(
-    alloc: Global,
-    script: &str,
-    least_bits: u32,
-    commits: &[Commit],
-    said: BookVerdict,
-    text: &str,
-    confirmed: Verdict,
-) -> bool {
-    match made(alloc, script, least_bits, 2, commits) {
-        Some(book) => is_written(alloc, &book, said, text, confirmed),
-        None => false,
-    }
-}
-
-#[test]
-fn a_wide_root_is_stuck(rt: HostRuntime) {
-    let said = BookVerdict::UnknownWidth;
-    assert!(rt;
-        is_cover(
-            rt.alloc(),
-            SWAPPED,
-            0,
-            &STUCK,
-            said,
-            STUCK_ROOT,
-            Verdict::Left(1)
-        )
-    );
-}
-
-// ---- x^2 + y^2 = 1 and x * y = 1
-
-const COVER: [Commit; 5] = [
-    Commit {
-        node: 0,
-        quotes: None,
-        state: &["real 0 1b1", "real 0 1b1"],
-        lines: &[
-            ("unit 0", DONE),
-            ("unit 1", DONE),
-            ("unit 2", DONE),
-            ("unit 3", DONE),
-            ("unit 4", DONE),
-            ("unit 5", DONE),
-            ("cut 0 1b0", DONE),
-        ],
-        reply: Ok(Kids::Two(1, 2)),
-    },
-    Commit {
-        node: 1,
-        quotes: None,
-        state: &["real 0 1b0", "real 0 1b1", "yes 0 1 2 3 4 5"],
-        lines: &[("cut 1 1b0", DONE)],
-        reply: Ok(Kids::Two(3, 4)),
-    },
-    Commit {
-        node: 2,
-        quotes: None,
-        state: &["real 1b0 1b1", "real 0 1b1", "yes 0 1 2 3 4 5"],
-        lines: &[("pull 4", DONE), ("false", DONE)],
-        reply: Ok(Kids::None),
-    },
-    Commit {
-        node: 4,
-        quotes: None,
-        state: &["real 0 1b0", "real 1b0 1b1", "yes 0 1 2 3 4 5"],
-        lines: &[("pull 4", DONE), ("false", DONE)],
-        reply: Ok(Kids::None),
-    },
-    Commit {
-        node: 3,
-        quotes: None,
-        state: &["real 0 1b0", "real 0 1b0", "yes 0 1 2 3 4 5"],
-        lines: &[("pull 5", DONE), ("false", DONE)],
-        reply: Ok(Kids::None),
-    },
-];
 
 // A cut is honest only where each conjunct is marked.
 const MARKED_COVER: &str = "dpoly 2
@@ -426,32 +322,6 @@ false
 end
 ";
 
-#[test]
-fn a_cover_of_two_cuts_is_made(rt: HostRuntime) {
-    let said = BookVerdict::Unsat;
-    assert!(rt;
-        is_cover(
-            rt.alloc(),
-            CIRCLE,
-            20,
-            &COVER,
-            said,
-            MARKED_COVER,
-            Verdict::Unsat(20)
-        )
-    );
-}
-
-// ---- combinations of marked atoms
-
-const REFUTED: [Commit; 1] = [Commit {
-    node: 0,
-    quotes: None,
-    state: &["real 0 1b0"],
-    lines: &[("unit 2", DONE), ("voidcomb 2 1b0", DONE)],
-    reply: Ok(Kids::None),
-}];
-
 const REFUTED_PARABOLA: &str = "dpoly 2
 margin 20
 delta 10
@@ -462,20 +332,6 @@ unit 2
 voidcomb 2 1b0
 end
 ";
-
-const APART: [Commit; 1] = [Commit {
-    node: 0,
-    quotes: None,
-    state: &["real 0 1b2", "real 0 1b2"],
-    lines: &[
-        ("unit 4", DONE),
-        ("unit 5", DONE),
-        ("unit 6", DONE),
-        ("comb 4 1b0 5 1b0", DONE),
-        ("voidcomb 4 1b-1 5 1b-1 6 -1b0", DONE),
-    ],
-    reply: Ok(Kids::None),
-}];
 
 const REFUTED_LINES: &str = "dpoly 2
 margin 20
@@ -490,46 +346,6 @@ comb 4 1b0 5 1b0
 voidcomb 4 1b-1 5 1b-1 6 -1b0
 end
 ";
-
-#[test]
-fn combinations_are_written_and_confirmed(rt: HostRuntime) {
-    let alloc = rt.alloc();
-    for (script, commits, text) in [
-        (PARABOLA, &REFUTED, REFUTED_PARABOLA),
-        (LINES, &APART, REFUTED_LINES),
-    ] {
-        let said = BookVerdict::Unsat;
-        assert!(rt; is_cover(alloc, script, 20, commits, said, text, Verdict::Unsat(20)));
-    }
-}
-
-// ---- x^2 = 1/4 and (x >= 3/4 or x <= 1/4)
-
-const QUOTED: [(&str, Answer); 2] = [("unit 4", DONE), ("by 0", DONE)];
-
-const EARLY: [Commit; 1] = [Commit {
-    node: 0,
-    quotes: Some(0),
-    state: &["real 0 1b0"],
-    lines: &QUOTED,
-    reply: Err(Refused::Unknown(0, 0)),
-}];
-
-const WRONG: Commit = Commit {
-    node: 0,
-    quotes: Some(7),
-    state: &["real 0 1b0"],
-    lines: &[("unit 4", DONE), ("by 7", DONE)],
-    reply: Err(Refused::Unknown(7, 1)),
-};
-
-const RIGHT: Commit = Commit {
-    node: 0,
-    quotes: Some(0),
-    state: &["real 0 1b0"],
-    lines: &QUOTED,
-    reply: Ok(Kids::None),
-};
 
 const QUOTED_LEMMA: &str = "dpoly 2
 margin 20
@@ -548,57 +364,22 @@ by 0
 end
 ";
 
-// Whether the root is closed by a lemma once it is learned, and no sooner.
-fn is_closed_by_lemma(alloc: Global) -> bool {
-    let Some(mut book) = made(alloc, OUTSIDE, 20, 0, &EARLY) else {
-        return false;
-    };
-    let state = ["real 0 1b0", "yes 4"];
-    learns(
-        alloc,
-        &mut book,
-        &state,
-        &[("pull 4", DONE), ("false", DONE)],
-        0,
-    ) && is_committed(alloc, &mut book, &WRONG)
-        && is_committed(alloc, &mut book, &RIGHT)
-        && is_written(
-            alloc,
-            &book,
-            BookVerdict::Unsat,
-            QUOTED_LEMMA,
-            Verdict::Unsat(20),
-        )
-}
+// ---- what several rows have
 
-#[test]
-fn a_lemma_is_quoted_once_it_is_known(rt: HostRuntime) {
-    assert!(rt; is_closed_by_lemma(rt.alloc()));
-}
+const ROOT: [&str; 2] = ["real -1b-1 1b-1", "real -1b-1 1b-1"];
 
-// ---- points
+const LOWER: [&str; 3] = ["real -1b-1 0", "real -1b-1 1b-1", "yes 0 1 2 3 4"];
 
-// Whether one point is found, and no other.
-fn is_found_once(alloc: Global) -> bool {
-    let Some(mut book) = made(alloc, ANYWHERE, 20, 0, &[]) else {
-        return false;
-    };
-    is_found(alloc, &mut book, 0, 1, &Err(Refused::NotOpen(1)))
-        && is_found(alloc, &mut book, 0, 0, &Ok(()))
-        && is_found(
-            alloc,
-            &mut book,
-            0,
-            0,
-            &Err(Refused::Found(&["real 1b-1 1b-1"])),
-        )
-        && book.verdict() == BookVerdict::DeltaSat
-}
+const CUT: [(&str, Answer); 6] = [
+    ("unit 0", DONE),
+    ("unit 1", DONE),
+    ("unit 2", DONE),
+    ("unit 3", DONE),
+    ("unit 4", DONE),
+    ("cut 0 0", DONE),
+];
 
-#[test]
-fn a_point_is_found_once(rt: HostRuntime) {
-    assert!(rt; is_found_once(rt.alloc()));
-}
+const QUOTED: [(&str, Answer); 2] = [("unit 4", DONE), ("by 0", DONE)];
 
 // The root of 1/16 is the middle of the lower half.
 const QUARTER: &str = "(declare-const x Real)
@@ -606,78 +387,271 @@ const QUARTER: &str = "(declare-const x Real)
 (assert (= (* x x) (/ 1 16)))
 (check-sat)";
 
-const HALVES: [Commit; 1] = [Commit {
-    node: 0,
-    quotes: None,
-    state: &["real 0 1b0"],
-    lines: &[
-        ("unit 0", DONE),
-        ("unit 1", DONE),
-        ("unit 2", DONE),
-        ("cut 0 1b-1", DONE),
-    ],
-    reply: Ok(Kids::Two(1, 2)),
-}];
+// ---- books
 
-const LATE: Commit = Commit {
-    node: 2,
-    quotes: None,
-    state: &["real 1b-1 1b0", "yes 0 1 2"],
-    lines: &[("false", DONE)],
-    reply: Err(Refused::Found(&["real 1b-2 1b-2"])),
-};
-
-// Whether nothing is committed after a point.
-fn is_last(alloc: Global) -> bool {
-    let Some(mut book) = made(alloc, QUARTER, 20, 1, &HALVES) else {
-        return false;
-    };
-    is_found(alloc, &mut book, 1, 1, &Ok(()))
-        && is_committed(alloc, &mut book, &LATE)
-        && book.verdict() == BookVerdict::DeltaSat
-}
-
-#[test]
-fn nothing_is_committed_after_a_point(rt: HostRuntime) {
-    assert!(rt; is_last(rt.alloc()));
-}
-
-// ---- a node that is closed
-
-const CLOSED: [Commit; 2] = [
-    Commit {
-        node: 0,
-        quotes: None,
-        state: &["real 0 1b0"],
-        lines: &[("false", DONE)],
-        reply: Ok(Kids::None),
+const BOOKS: &[Calls] = &[
+    // a branch is made once and no other, and a lemma is learned besides
+    Calls {
+        script: SWAPPED,
+        least_bits: 20,
+        budget: 1,
+        calls: &[
+            Call::Commit(Commit {
+                node: 0,
+                quotes: None,
+                state: &ROOT,
+                lines: &CUT,
+                reply: Ok(Kids::Two(1, 2)),
+            }),
+            Call::Commit(Commit {
+                node: 0,
+                quotes: None,
+                state: &ROOT,
+                lines: &CUT,
+                reply: Err(Refused::NotOpen(0)),
+            }),
+            Call::Commit(Commit {
+                node: 1,
+                quotes: None,
+                state: &ROOT,
+                lines: &CUT,
+                reply: Err(Refused::Elsewhere(&LOWER)),
+            }),
+            Call::Commit(Commit {
+                node: 1,
+                quotes: None,
+                state: &LOWER,
+                lines: &[("cut 0 -1b-2", DONE)],
+                reply: Err(Refused::Spent(1)),
+            }),
+            Call::Learn(&["real 0 0", "real 0 0"], &[("false", DONE)], 0),
+            Call::LastLemma(0, &["real 0 0", "real 0 0"]),
+            Call::Branches(1),
+            Call::LiveAfter(0, Some(1)),
+            Call::LiveAfter(2, Some(2)),
+            Call::LiveAfter(3, None),
+            Call::Written(BookVerdict::UnknownBudget, OPEN_BRANCH, Verdict::Left(2)),
+        ],
     },
-    Commit {
-        node: 0,
-        quotes: None,
-        state: &["real 0 1b0"],
-        lines: &[("false", DONE)],
-        reply: Err(Refused::NotOpen(0)),
+    // a wide root is stuck
+    Calls {
+        script: SWAPPED,
+        least_bits: 0,
+        budget: 2,
+        calls: &[
+            Call::Commit(Commit {
+                node: 0,
+                quotes: None,
+                state: &ROOT,
+                lines: &[
+                    ("unit 0", DONE),
+                    ("unit 1", DONE),
+                    ("unit 2", DONE),
+                    ("unit 3", DONE),
+                    ("unit 4", DONE),
+                    ("stuck 4", DONE),
+                ],
+                reply: Ok(Kids::None),
+            }),
+            Call::Written(BookVerdict::UnknownWidth, STUCK_ROOT, Verdict::Left(1)),
+        ],
+    },
+    // a cover of two cuts
+    Calls {
+        script: CIRCLE,
+        least_bits: 20,
+        budget: 2,
+        calls: &[
+            Call::Commit(Commit {
+                node: 0,
+                quotes: None,
+                state: &["real 0 1b1", "real 0 1b1"],
+                lines: &[
+                    ("unit 0", DONE),
+                    ("unit 1", DONE),
+                    ("unit 2", DONE),
+                    ("unit 3", DONE),
+                    ("unit 4", DONE),
+                    ("unit 5", DONE),
+                    ("cut 0 1b0", DONE),
+                ],
+                reply: Ok(Kids::Two(1, 2)),
+            }),
+            Call::Commit(Commit {
+                node: 1,
+                quotes: None,
+                state: &["real 0 1b0", "real 0 1b1", "yes 0 1 2 3 4 5"],
+                lines: &[("cut 1 1b0", DONE)],
+                reply: Ok(Kids::Two(3, 4)),
+            }),
+            Call::Commit(Commit {
+                node: 2,
+                quotes: None,
+                state: &["real 1b0 1b1", "real 0 1b1", "yes 0 1 2 3 4 5"],
+                lines: &[("pull 4", DONE), ("false", DONE)],
+                reply: Ok(Kids::None),
+            }),
+            Call::Commit(Commit {
+                node: 4,
+                quotes: None,
+                state: &["real 0 1b0", "real 1b0 1b1", "yes 0 1 2 3 4 5"],
+                lines: &[("pull 4", DONE), ("false", DONE)],
+                reply: Ok(Kids::None),
+            }),
+            Call::Commit(Commit {
+                node: 3,
+                quotes: None,
+                state: &["real 0 1b0", "real 0 1b0", "yes 0 1 2 3 4 5"],
+                lines: &[("pull 5", DONE), ("false", DONE)],
+                reply: Ok(Kids::None),
+            }),
+            Call::Written(BookVerdict::Unsat, MARKED_COVER, Verdict::Unsat(20)),
+        ],
+    },
+    // combinations are written and confirmed
+    Calls {
+        script: PARABOLA,
+        least_bits: 20,
+        budget: 2,
+        calls: &[
+            Call::Commit(Commit {
+                node: 0,
+                quotes: None,
+                state: &["real 0 1b0"],
+                lines: &[("unit 2", DONE), ("voidcomb 2 1b0", DONE)],
+                reply: Ok(Kids::None),
+            }),
+            Call::Written(BookVerdict::Unsat, REFUTED_PARABOLA, Verdict::Unsat(20)),
+        ],
+    },
+    // so are those of several atoms
+    Calls {
+        script: LINES,
+        least_bits: 20,
+        budget: 2,
+        calls: &[
+            Call::Commit(Commit {
+                node: 0,
+                quotes: None,
+                state: &["real 0 1b2", "real 0 1b2"],
+                lines: &[
+                    ("unit 4", DONE),
+                    ("unit 5", DONE),
+                    ("unit 6", DONE),
+                    ("comb 4 1b0 5 1b0", DONE),
+                    ("voidcomb 4 1b-1 5 1b-1 6 -1b0", DONE),
+                ],
+                reply: Ok(Kids::None),
+            }),
+            Call::Written(BookVerdict::Unsat, REFUTED_LINES, Verdict::Unsat(20)),
+        ],
+    },
+    // the root is closed by a lemma once it is learned, and no sooner
+    Calls {
+        script: OUTSIDE,
+        least_bits: 20,
+        budget: 0,
+        calls: &[
+            Call::Commit(Commit {
+                node: 0,
+                quotes: Some(0),
+                state: &["real 0 1b0"],
+                lines: &QUOTED,
+                reply: Err(Refused::Unknown(0, 0)),
+            }),
+            Call::Learn(
+                &["real 0 1b0", "yes 4"],
+                &[("pull 4", DONE), ("false", DONE)],
+                0,
+            ),
+            Call::Commit(Commit {
+                node: 0,
+                quotes: Some(7),
+                state: &["real 0 1b0"],
+                lines: &[("unit 4", DONE), ("by 7", DONE)],
+                reply: Err(Refused::Unknown(7, 1)),
+            }),
+            Call::Commit(Commit {
+                node: 0,
+                quotes: Some(0),
+                state: &["real 0 1b0"],
+                lines: &QUOTED,
+                reply: Ok(Kids::None),
+            }),
+            Call::Written(BookVerdict::Unsat, QUOTED_LEMMA, Verdict::Unsat(20)),
+        ],
+    },
+    // one point is found, and no other
+    Calls {
+        script: ANYWHERE,
+        least_bits: 20,
+        budget: 0,
+        calls: &[
+            Call::Found(0, 1, Err(Refused::NotOpen(1))),
+            Call::Found(0, 0, Ok(())),
+            Call::Found(0, 0, Err(Refused::Found(&["real 1b-1 1b-1"]))),
+            Call::Verdict(BookVerdict::DeltaSat),
+        ],
+    },
+    // nothing is committed after a point
+    Calls {
+        script: QUARTER,
+        least_bits: 20,
+        budget: 1,
+        calls: &[
+            Call::Commit(Commit {
+                node: 0,
+                quotes: None,
+                state: &["real 0 1b0"],
+                lines: &[
+                    ("unit 0", DONE),
+                    ("unit 1", DONE),
+                    ("unit 2", DONE),
+                    ("cut 0 1b-1", DONE),
+                ],
+                reply: Ok(Kids::Two(1, 2)),
+            }),
+            Call::Found(1, 1, Ok(())),
+            Call::Commit(Commit {
+                node: 2,
+                quotes: None,
+                state: &["real 1b-1 1b0", "yes 0 1 2"],
+                lines: &[("false", DONE)],
+                reply: Err(Refused::Found(&["real 1b-2 1b-2"])),
+            }),
+            Call::Verdict(BookVerdict::DeltaSat),
+        ],
+    },
+    // a node that is closed is not open, nor one that was never there
+    Calls {
+        script: NO_ROOT,
+        least_bits: 20,
+        budget: 0,
+        calls: &[
+            Call::Commit(Commit {
+                node: 0,
+                quotes: None,
+                state: &["real 0 1b0"],
+                lines: &[("false", DONE)],
+                reply: Ok(Kids::None),
+            }),
+            Call::Commit(Commit {
+                node: 0,
+                quotes: None,
+                state: &["real 0 1b0"],
+                lines: &[("false", DONE)],
+                reply: Err(Refused::NotOpen(0)),
+            }),
+            Call::NotOpen(0),
+            Call::NotOpen(1),
+            Call::NotOpen(4_294_967_295),
+        ],
     },
 ];
 
-// Whether the node has no state that is open.
-fn is_not_open(book: &Book, node: u32) -> bool {
-    let answer = book.state_of(node);
-    matches!(&answer, Err(BookRefusal::NotOpen(number)) if *number == node)
-}
-
-// Whether a node that is closed, and none that was never there, is open.
-fn is_over(alloc: Global) -> bool {
-    match made(alloc, NO_ROOT, 20, 0, &CLOSED) {
-        Some(book) => {
-            is_not_open(&book, 0) && is_not_open(&book, 1) && is_not_open(&book, 4_294_967_295)
-        }
-        None => false,
-    }
-}
-
 #[test]
-fn a_closed_node_is_not_open(rt: HostRuntime) {
-    assert!(rt; is_over(rt.alloc()));
+fn books_answer(rt: HostRuntime) {
+    for row in BOOKS {
+        assert!(rt; holds(rt.alloc(), row), "{}", row.script);
+    }
 }

@@ -5,7 +5,11 @@
 #[cfg(test)]
 mod books;
 #[cfg(test)]
+mod cases;
+#[cfg(test)]
 mod made;
+#[cfg(test)]
+mod many_atoms;
 #[cfg(test)]
 mod of_cert_check;
 #[cfg(test)]
@@ -16,5 +20,3 @@ mod patches;
 mod points;
 #[cfg(test)]
 mod shared;
-#[cfg(test)]
-mod single_rules;

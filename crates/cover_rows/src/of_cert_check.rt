@@ -2,8 +2,9 @@
 use crate::made::problem;
 use cert_check::Checker;
 use cert_read::LineReader;
+use poly_graph::Problem;
 use sample_problems::scripts::CIRCLE;
-use std::test::Fail;
+use std::alloc::Global;
 
 // The lines of a cover of two cuts, each with how many states are kept after it.
 const LINES: [(&str, usize); 18] = [
@@ -44,12 +45,23 @@ fn first_wrong(checker: &mut Checker, reader: &mut LineReader) -> Option<&'stati
     None
 }
 
+// The same of a new checker for the problem.
+fn first_wrong_in(alloc: Global, problem: &Problem) -> Option<&'static str> {
+    let mut reader = LineReader::new(alloc);
+    match Checker::new(alloc, problem, None) {
+        Ok(mut checker) => first_wrong(&mut checker, &mut reader),
+        Err(_) => Some("no checker"),
+    }
+}
+
+fn first_wrong_of(alloc: Global, script: &str) -> Option<&'static str> {
+    match problem(alloc, script) {
+        Some(problem) => first_wrong_in(alloc, &problem),
+        None => Some("no problem"),
+    }
+}
+
 #[test]
-fn the_states_of_a_tree_are_counted(rt: HostRuntime) -> Result<(), Fail> {
-    let problem = problem(rt.alloc(), CIRCLE).ok_or("no problem")?;
-    let mut checker = Checker::new(rt.alloc(), &problem, None)?;
-    let mut reader = LineReader::new(rt.alloc());
-    let wrong = first_wrong(&mut checker, &mut reader);
-    assert_eq!(rt; wrong, None);
-    Ok(())
+fn the_states_of_a_tree_are_counted(rt: HostRuntime) {
+    assert_eq!(rt; first_wrong_of(rt.alloc(), CIRCLE), None);
 }

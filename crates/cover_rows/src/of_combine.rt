@@ -4,10 +4,10 @@ ghost use Rattle.interval_model.specs.Space.{middle};
 ghost use Rattle.ival.specs.SpaceViews.{space_of};
 ghost use Rattle.combine.specs.Combined.{EncloseOver};
 
+use crate::cases::{EVEN, GREAT, LINES, PARABOLA};
 use crate::made::problem;
 use crate::patches::{line_of, state_of};
 use crate::points::is_space;
-use crate::single_rules::{EVEN, GREAT, LINES, PARABOLA};
 use cert_read::Line;
 use combine::combine;
 use cover_rule::State;
@@ -127,46 +127,46 @@ fn by_checker(
 }
 
 // Whether a way answers so, and leaves this space.
-fn leaves(alloc: Global, told: Option<(Narrowed, Space)>, answer: Narrowed, left: &[&str]) -> bool {
+fn leaves(alloc: Global, told: Option<(Narrowed, Space)>, row: &Row) -> bool {
     match told {
-        Some((said, space)) => said == answer && is_space(alloc, &space, left),
+        Some((said, space)) => said == row.answer && is_space(alloc, &space, row.left),
         None => false,
     }
 }
 
-// Whether both ways answer so, and leave this of the state's space, by the combination that the line says.
+// Whether both ways answer as the row says, and leave what it says of the state's space.
 fn both_leave(
     alloc: Global,
     problem: &Problem,
     state: &State,
-    line: &str,
-    answer: Narrowed,
-    left: &[&str],
+    pairs: &[(u32, Dy)],
+    row: &Row,
 ) -> bool {
-    let Some(Line::Combine(pairs)) = line_of(alloc, line) else {
-        return false;
-    };
-    if state.lits().len() != problem.atoms().len() || !are_atoms(problem, &pairs) {
+    if state.lits().len() != problem.atoms().len() || !are_atoms(problem, pairs) {
         return false;
     }
-    leaves(
-        alloc,
-        by_search(alloc, problem, state, &pairs),
-        answer,
-        left,
-    ) && leaves(
-        alloc,
-        by_checker(alloc, problem, state, &pairs),
-        answer,
-        left,
-    )
+    leaves(alloc, by_search(alloc, problem, state, pairs), row)
+        && leaves(alloc, by_checker(alloc, problem, state, pairs), row)
 }
 
-// The same for a script and lines of a state.
-fn are_left(alloc: Global, row: &Row) -> Option<bool> {
-    let problem = problem(alloc, row.script)?;
-    let state = state_of(alloc, problem.atoms().len(), row.state)?;
-    Some(both_leave(alloc, &problem, &state, row.line, row.answer, row.left))
+// The same in the row's state of the problem, by the combination that its line says.
+fn are_left_in(alloc: Global, problem: &Problem, row: &Row) -> bool {
+    match (
+        state_of(alloc, problem.atoms().len(), row.state),
+        line_of(alloc, row.line),
+    ) {
+        (Some(state), Some(Line::Combine(pairs))) => {
+            both_leave(alloc, problem, &state, &pairs, row)
+        }
+        _ => false,
+    }
+}
+
+fn are_left(alloc: Global, row: &Row) -> bool {
+    match problem(alloc, row.script) {
+        Some(problem) => are_left_in(alloc, &problem, row),
+        None => false,
+    }
 }
 
 // A script, the state of its problem that lines say, a combination, and what both ways answer and leave of the space.
@@ -226,6 +226,6 @@ const ROWS: [Row; 6] = [
 #[test]
 fn both_ways_leave_the_same(rt: HostRuntime) {
     for row in &ROWS {
-        assert!(rt; are_left(rt.alloc(), row) == Some(true), "{}", row.line);
+        assert!(rt; are_left(rt.alloc(), row), "{}", row.line);
     }
 }

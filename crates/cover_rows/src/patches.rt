@@ -1,16 +1,17 @@
 // Patches that are led by hand: what they answer to each line, and the states that they leave.
-ghost use Rattle.std.specs.Prelude.{◌≡◌, ◌<◌, ◌≤◌, length, IfOk, IfSome, IsTrue};
+ghost use Rattle.std.specs.Prelude.{◌≡◌, ◌<◌, ◌≤◌, length, IfSome, IsTrue};
 ghost use Rattle.cover_model.specs.Fits.{FitsProblem};
 ghost use Rattle.cover_model.specs.State.{IsLemma};
 ghost use Rattle.cover_book.specs.Model.{margins_of, problem_in, loosenings_in};
+ghost use Rattle.cover_data.specs.Runs.{CanPart};
+ghost use Rattle.cover_data.specs.Views.{kept_of};
 
 use crate::made::problem;
 use cert_read::{BoolSet, Line, LineReader};
 use cover_book::Book;
-use cover_rule::{End, Lemma, Options, Patch, PatchRefusal, State, Step};
+use cover_rule::{End, KeptPatch, Lemma, Options, Patch, PatchRefusal, State, Step};
 use ival::{Domain, Range, Space, Truths};
 use poly_graph::{Lits, Mark};
-use sample_problems::scripts::{CIRCLE, OUTSIDE, SWAPPED};
 use sample_problems::{USUAL, lies_within};
 use std::alloc::Global;
 
@@ -80,11 +81,13 @@ pub(crate) type Answer = Result<(), PatchRefusal>;
 
 pub(crate) const DONE: Answer = Ok(());
 
-const NOT_HONEST: Answer = Err(PatchRefusal::NotHonest);
+pub(crate) const NOT_HONEST: Answer = Err(PatchRefusal::NotHonest);
 
 pub(crate) const NOT_FALSE: Answer = Err(PatchRefusal::NotFalse);
 
-const NOT_STUCK: Answer = Err(PatchRefusal::NotStuck);
+pub(crate) const NOT_FORCED: Answer = Err(PatchRefusal::NotForced);
+
+pub(crate) const NOT_STUCK: Answer = Err(PatchRefusal::NotStuck);
 
 pub(crate) const NOT_YES: Answer = Err(PatchRefusal::NotYes);
 
@@ -96,7 +99,7 @@ pub(crate) const IS_VOID: Answer = Err(PatchRefusal::IsVoid);
 
 pub(crate) const NOT_INSIDE: Answer = Err(PatchRefusal::NotInside);
 
-const NOT_COVERED: Answer = Err(PatchRefusal::NotCovered);
+pub(crate) const NOT_COVERED: Answer = Err(PatchRefusal::NotCovered);
 
 pub(crate) const DECIDED: Answer = Err(PatchRefusal::Decided);
 
@@ -198,7 +201,53 @@ fn answer(book: &Book, lemma: Option<&Lemma>, patch: &mut Patch, line: &Line) ->
     }
 }
 
-// Whether the patch answers so, and its state stays where it refuses.
+// Whether the patch answers so, and its state stays as it was before where it refuses.
+fn answers_so(
+    book: &Book,
+    lemma: Option<&Lemma>,
+    patch: &mut Patch,
+    line: &Line,
+    expected: Answer,
+    before: &State,
+) -> bool
+    requires problem { patch.old.problem ≡ book.now.problem }
+    requires margins { patch.old.margins ≡ margins_of book.now.options }
+    requires fits { IfSome lemma (λ l. FitsProblem (problem_in book.now) l.now.state) }
+    requires lemma { IfSome lemma (λ l.
+        IsLemma (problem_in book.now) (loosenings_in book.now) l.now.state) }
+    ensures problem { patch.new.problem ≡ patch.old.problem }
+    ensures margins { patch.new.margins ≡ patch.old.margins }
+{
+    match answer(book, lemma, patch, line) {
+        None => false,
+        Some(answer) => answer == expected && (answer.is_ok() || patch.reached().is_same(before)),
+    }
+}
+
+// The same of the state that the patch has reached.
+fn is_line_answered(
+    alloc: Global,
+    book: &Book,
+    lemma: Option<&Lemma>,
+    patch: &mut Patch,
+    line: &Line,
+    expected: Answer,
+) -> bool
+    requires problem { patch.old.problem ≡ book.now.problem }
+    requires margins { patch.old.margins ≡ margins_of book.now.options }
+    requires fits { IfSome lemma (λ l. FitsProblem (problem_in book.now) l.now.state) }
+    requires lemma { IfSome lemma (λ l.
+        IsLemma (problem_in book.now) (loosenings_in book.now) l.now.state) }
+    ensures problem { patch.new.problem ≡ patch.old.problem }
+    ensures margins { patch.new.margins ≡ patch.old.margins }
+{
+    match patch.reached().try_clone(alloc) {
+        Ok(before) => answers_so(book, lemma, patch, line, expected, &before),
+        Err(_) => false,
+    }
+}
+
+// The same of a line's text.
 fn is_answered(
     alloc: Global,
     book: &Book,
@@ -215,26 +264,20 @@ fn is_answered(
     ensures problem { patch.new.problem ≡ patch.old.problem }
     ensures margins { patch.new.margins ≡ patch.old.margins }
 {
-    let Ok(before) = patch.reached().try_clone(alloc) else {
-        return false;
-    };
-    let Some(line) = line_of(alloc, text) else {
-        return false;
-    };
-    match answer(book, lemma, patch, &line) {
+    match line_of(alloc, text) {
+        Some(line) => is_line_answered(alloc, book, lemma, patch, &line, expected),
         None => false,
-        Some(answer) => answer == expected && (answer.is_ok() || patch.reached().is_same(&before)),
     }
 }
 
-// Gives the patch each line, which it is to answer so; where it does not, the line.
+// Whether the patch answers each line so, one after another.
 fn follow(
     alloc: Global,
     book: &Book,
     lemma: Option<&Lemma>,
     patch: &mut Patch,
     lines: &[(&'static str, Answer)],
-) -> Result<(), &'static str>
+) -> bool
     requires problem { patch.old.problem ≡ book.now.problem }
     requires margins { patch.old.margins ≡ margins_of book.now.options }
     requires fits { IfSome lemma (λ l. FitsProblem (problem_in book.now) l.now.state) }
@@ -245,31 +288,32 @@ fn follow(
 {
     for (text, expected) in lines {
         if !is_answered(alloc, book, lemma, patch, text, *expected) {
-            return Err(*text);
+            return false;
         }
     }
-    Ok(())
+    true
 }
 
-// The patch that begins in the state and answers each line so, one after another; where it does not, the line.
+// The patch that begins in the state and answers each line so; none where it does not.
 pub(crate) fn led<'a>(
     alloc: Global,
     book: &'a Book,
     lemma: Option<&Lemma>,
     state: State,
     lines: &[(&'static str, Answer)],
-) -> Result<Patch<'a>, &'static str>
+) -> Option<Patch<'a>>
     requires fits { IfSome lemma (λ l. FitsProblem (problem_in book.now) l.now.state) }
     requires lemma { IfSome lemma (λ l.
         IsLemma (problem_in book.now) (loosenings_in book.now) l.now.state) }
-    ensures problem { IfOk result (λ p. p.problem ≡ book.now.problem) }
-    ensures margins { IfOk result (λ p. p.margins ≡ margins_of book.now.options) }
+    ensures problem { IfSome result (λ p. p.problem ≡ book.now.problem) }
+    ensures margins { IfSome result (λ p. p.margins ≡ margins_of book.now.options) }
 {
-    let Some(mut patch) = begun_at(alloc, book, state) else {
-        return Err("begin");
-    };
-    follow(alloc, book, lemma, &mut patch, lines)?;
-    Ok(patch)
+    let mut patch = begun_at(alloc, book, state)?;
+    if follow(alloc, book, lemma, &mut patch, lines) {
+        Some(patch)
+    } else {
+        None
+    }
 }
 
 // The lemma of this number that a closed patch gives.
@@ -287,14 +331,20 @@ fn lemma_of(alloc: Global, book: &Book, patch: Patch, id: u32) -> Option<Lemma>
     }
 }
 
-// The two states that the patch leaves, which are to be these; none where it did not end in a branch.
-fn leaves(alloc: Global, patch: Patch, lower: &[&str], upper: &[&str]) -> bool {
-    let (kept, _) = patch.into_kept();
+// Whether the two states that are left are these; not so where no branch was made.
+fn are_left(alloc: Global, kept: &KeptPatch, lower: &[&str], upper: &[&str]) -> bool
+    requires { IfSome (kept_of kept.now).end (λ l. CanPart l kept.now.reached) }
+{
     match kept.kids(alloc) {
-        Ok(Some((low, high))) => is_state(alloc, &low, lower) && is_state(alloc, &high, upper),
-        Ok(None) => false,
-        Err(_) => false,
+        Ok(Some(kids)) => is_state(alloc, &kids.0, lower) && is_state(alloc, &kids.1, upper),
+        _ => false,
     }
+}
+
+// The same of what the patch leaves.
+pub(crate) fn leaves(alloc: Global, patch: Patch, lower: &[&str], upper: &[&str]) -> bool {
+    let (kept, _) = patch.into_kept();
+    are_left(alloc, &kept, lower, upper)
 }
 
 // Whether the line says this step.
@@ -309,15 +359,21 @@ fn is_step(line: &Line, step: &Step) -> bool {
     }
 }
 
+fn says_step(alloc: Global, text: &str, step: &Step) -> bool {
+    match line_of(alloc, text) {
+        Some(line) => is_step(&line, step),
+        None => false,
+    }
+}
+
 // Whether the lines say these steps.
 fn are_steps(alloc: Global, lines: &[&str], steps: &[Step]) -> bool {
     if lines.len() != steps.len() {
         return false;
     }
-    for (text, step) in lines.iter().zip(steps) {
-        match line_of(alloc, text) {
-            Some(line) if is_step(&line, step) => {}
-            _ => return false,
+    for i in 0..lines.len() {
+        if !says_step(alloc, lines[i], &steps[i]) {
+            return false;
         }
     }
     true
@@ -337,342 +393,18 @@ fn is_end(line: &Line, end: &End) -> bool {
     }
 }
 
-// Whether the patch is closed by the steps and the end that these lines say.
-fn is_closed_by(alloc: Global, patch: Patch, steps: &[&str], line: &str) -> bool {
-    let Ok(closed) = patch.closed() else {
-        return false;
-    };
-    let kept = closed.kept();
-    match (line_of(alloc, line), &kept.end) {
-        (Some(line), Some(end)) => are_steps(alloc, steps, &kept.steps) && is_end(&line, end),
-        _ => false,
-    }
-}
-
-// A patch for a script: the least width, the state in which it begins, and each line with what it answers.
-pub(crate) struct Case {
-    pub script: &'static str,
-    pub least_bits: u32,
-    pub state: &'static [&'static str],
-    pub lines: &'static [(&'static str, Answer)],
-}
-
-// The patch of the case for its book.
-fn patch_of<'a>(
-    alloc: Global,
-    book: &'a Book,
-    lemma: Option<&Lemma>,
-    case: &Case,
-) -> Option<Patch<'a>>
-    requires fits { IfSome lemma (λ l. FitsProblem (problem_in book.now) l.now.state) }
-    requires lemma { IfSome lemma (λ l.
-        IsLemma (problem_in book.now) (loosenings_in book.now) l.now.state) }
-{
-    let atoms = book.problem().atoms().len();
-    let state = state_of(alloc, atoms, case.state)?;
-    led(alloc, book, lemma, state, case.lines).ok()
-}
-
-// Its book.
-fn book_in(alloc: Global, case: &Case) -> Option<Book> {
-    if case.least_bits > 60 {
-        return None;
-    }
-    book_of(alloc, case.script, case.least_bits, 0)
-}
-
-// Whether the case is closed in its book by the steps and the end that these lines say, where the lemma may be quoted.
-fn closes_in(
-    alloc: Global,
-    book: &Book,
-    lemma: Option<&Lemma>,
-    case: &Case,
-    steps: &[&str],
-    line: &str,
-) -> bool
-    requires fits { IfSome lemma (λ l. FitsProblem (problem_in book.now) l.now.state) }
-    requires lemma { IfSome lemma (λ l.
-        IsLemma (problem_in book.now) (loosenings_in book.now) l.now.state) }
-{
-    match patch_of(alloc, book, lemma, case) {
-        Some(patch) => is_closed_by(alloc, patch, steps, line),
+fn says_end(alloc: Global, text: &str, end: &End) -> bool {
+    match line_of(alloc, text) {
+        Some(line) => is_end(&line, end),
         None => false,
     }
 }
 
-// Whether the case is closed by the steps and the end that these lines say.
-pub(crate) fn closes(alloc: Global, case: &Case, steps: &[&str], line: &str) -> bool {
-    match book_in(alloc, case) {
-        Some(book) => closes_in(alloc, &book, None, case, steps, line),
+// Whether these lines say what is kept.
+pub(crate) fn are_kept(alloc: Global, kept: &KeptPatch, steps: &[&str], line: &str) -> bool {
+    match &kept.end {
+        Some(end) => are_steps(alloc, steps, &kept.steps) && says_end(alloc, line, end),
         None => false,
-    }
-}
-
-// Whether the case ends in a branch that leaves these two states.
-pub(crate) fn parts(alloc: Global, case: &Case, lower: &[&str], upper: &[&str]) -> bool {
-    let Some(book) = book_in(alloc, case) else {
-        return false;
-    };
-    match patch_of(alloc, &book, None, case) {
-        Some(patch) => leaves(alloc, patch, lower, upper),
-        None => false,
-    }
-}
-
-// Whether the case does not close its state, and reaches this one.
-pub(crate) fn reaches(alloc: Global, case: &Case, lines: &[&str]) -> bool {
-    let Some(book) = book_in(alloc, case) else {
-        return false;
-    };
-    let Some(patch) = patch_of(alloc, &book, None, case) else {
-        return false;
-    };
-    match patch.closed() {
-        Ok(_) => false,
-        Err(patch) => is_state(alloc, patch.reached(), lines),
-    }
-}
-
-// ---- x^2 + y^2 = 1 and x * y = 1
-
-const CUTS: [(Case, &[&str], &[&str]); 2] = [
-    (
-        Case {
-            script: CIRCLE,
-            least_bits: 20,
-            state: &["real 0 1b1", "real 0 1b1"],
-            lines: &[
-                ("cut 0 1b0", NOT_HONEST),
-                ("unit 0", DONE),
-                ("unit 1", DONE),
-                ("unit 2", DONE),
-                ("unit 3", DONE),
-                ("unit 4", DONE),
-                ("cut 0 1b0", NOT_HONEST),
-                ("unit 5", DONE),
-                ("cut 0 1b0", DONE),
-            ],
-        },
-        &["real 0 1b0", "real 0 1b1", "yes 0 1 2 3 4 5"],
-        &["real 1b0 1b1", "real 0 1b1", "yes 0 1 2 3 4 5"],
-    ),
-    (
-        Case {
-            script: CIRCLE,
-            least_bits: 20,
-            state: &["real 0 1b0", "real 0 1b1", "yes 0 1 2 3 4 5"],
-            lines: &[("cut 1 1b0", DONE)],
-        },
-        &["real 0 1b0", "real 0 1b0", "yes 0 1 2 3 4 5"],
-        &["real 0 1b0", "real 1b0 1b1", "yes 0 1 2 3 4 5"],
-    ),
-];
-
-#[test]
-fn the_widest_axis_is_cut(rt: HostRuntime) {
-    for (case, lower, upper) in &CUTS {
-        assert!(rt; parts(rt.alloc(), case, lower, upper));
-    }
-}
-
-const PULLED: [(Case, &[&str]); 1] = [(
-    Case {
-        script: CIRCLE,
-        least_bits: 20,
-        state: &["real 0 1b0", "real 0 1b0"],
-        lines: &[("unit 5", DONE), ("pull 5", DONE)],
-    },
-    &["real 1048575b-20 1b0", "real 1048575b-20 1b0", "yes 5"],
-)];
-
-const CLOSED_PARTS: [(Case, &[&str], &str); 3] = [
-    (
-        Case {
-            script: CIRCLE,
-            least_bits: 20,
-            state: &["real 0 1b0", "real 0 1b0"],
-            lines: &[("unit 5", DONE), ("pull 5", DONE), ("false", DONE)],
-        },
-        &["unit 5", "pull 5"],
-        "false",
-    ),
-    (
-        Case {
-            script: CIRCLE,
-            least_bits: 20,
-            state: &["real 0 1b0", "real 1b0 1b1"],
-            lines: &[("unit 4", DONE), ("pull 4", DONE), ("false", DONE)],
-        },
-        &["unit 4", "pull 4"],
-        "false",
-    ),
-    (
-        Case {
-            script: CIRCLE,
-            least_bits: 20,
-            state: &["real 1b0 1b1", "real 0 1b1"],
-            lines: &[("unit 4", DONE), ("pull 4", DONE), ("false", DONE)],
-        },
-        &["unit 4", "pull 4"],
-        "false",
-    ),
-];
-
-#[test]
-fn each_part_is_closed(rt: HostRuntime) {
-    for (case, state) in &PULLED {
-        assert!(rt; reaches(rt.alloc(), case, state));
-    }
-    for (case, steps, end) in &CLOSED_PARTS {
-        assert!(rt; closes(rt.alloc(), case, steps, end));
-    }
-}
-
-// ---- x * y - y * x = 1/8
-
-const SQUARE_CUT: [(Case, &[&str], &[&str]); 1] = [(
-    Case {
-        script: SWAPPED,
-        least_bits: 20,
-        state: &["real -1b-1 1b-1", "real -1b-1 1b-1", "yes 0 1 2 3 4"],
-        lines: &[("cut 0 0", DONE)],
-    },
-    &["real -1b-1 0", "real -1b-1 1b-1", "yes 0 1 2 3 4"],
-    &["real 0 1b-1", "real -1b-1 1b-1", "yes 0 1 2 3 4"],
-)];
-
-const SQUARE_STATES: [(Case, &[&str]); 2] = [
-    (
-        Case {
-            script: SWAPPED,
-            least_bits: 20,
-            state: &["real -1b-1 1b-1", "real -1b-1 1b-1"],
-            lines: &[
-                ("false", NOT_FALSE),
-                ("void 4", NOT_YES),
-                ("unit 0", DONE),
-                ("unit 1", DONE),
-                ("unit 2", DONE),
-                ("unit 3", DONE),
-                ("unit 4", DONE),
-                ("pull 0", DONE),
-                ("pull 1", DONE),
-                ("pull 2", DONE),
-                ("pull 3", DONE),
-                ("pull 4", DONE),
-                ("void 0", NOT_FALSE),
-                ("void 4", NOT_FALSE),
-                ("false", NOT_FALSE),
-                ("stuck 4", NOT_STUCK),
-            ],
-        },
-        &["real -1b-1 1b-1", "real -1b-1 1b-1", "yes 0 1 2 3 4"],
-    ),
-    (
-        Case {
-            script: SWAPPED,
-            least_bits: 0,
-            state: &["real -1b-1 1b-1", "real -1b-1 1b-1"],
-            lines: &[
-                ("stuck 4", NOT_HONEST),
-                ("unit 0", DONE),
-                ("unit 1", DONE),
-                ("unit 2", DONE),
-                ("unit 3", DONE),
-                ("unit 4", DONE),
-                ("cut 0 0", NOT_HONEST),
-                ("stuck 0", NOT_STUCK),
-                ("stuck 3", NOT_STUCK),
-                ("stuck 4", DONE),
-                ("stuck 4", ENDED),
-            ],
-        },
-        &["real -1b-1 1b-1", "real -1b-1 1b-1", "yes 0 1 2 3 4"],
-    ),
-];
-
-#[test]
-fn what_no_atom_narrows_is_cut_or_stuck(rt: HostRuntime) {
-    for (case, lower, upper) in &SQUARE_CUT {
-        assert!(rt; parts(rt.alloc(), case, lower, upper));
-    }
-    for (case, state) in &SQUARE_STATES {
-        assert!(rt; reaches(rt.alloc(), case, state));
-    }
-}
-
-// ---- x^2 = 1/4 and (x >= 3/4 or x <= 1/4)
-
-const CHOICE_PARTS: [(Case, &[&str], &[&str]); 1] = [(
-    Case {
-        script: OUTSIDE,
-        least_bits: 20,
-        state: &["real 0 1b0"],
-        lines: &[
-            ("unit 0", DONE),
-            ("unit 1", DONE),
-            ("unit 4", DONE),
-            ("case 2", DONE),
-        ],
-    },
-    &["real 0 1b0", "yes 0 1 2 4"],
-    &["real 0 1b0", "yes 0 1 4", "no 2"],
-)];
-
-const CHOICE_STATES: [(Case, &[&str]); 2] = [
-    (
-        Case {
-            script: OUTSIDE,
-            least_bits: 20,
-            state: &["real 0 1b0", "yes 0 1 2 4"],
-            lines: &[("void 4", NOT_FALSE), ("pull 2", DONE)],
-        },
-        &["real 786431b-20 1b0", "yes 0 1 2 4"],
-    ),
-    (
-        Case {
-            script: OUTSIDE,
-            least_bits: 20,
-            state: &["real 0 1b0", "yes 0 1 4", "no 2"],
-            lines: &[("unit 2", DECIDED), ("unit 3", DONE), ("pull 3", DONE)],
-        },
-        &["real 0 262145b-20", "yes 0 1 3 4", "no 2"],
-    ),
-];
-
-const CHOICE_CLOSED: [(Case, &[&str], &str); 2] = [
-    (
-        Case {
-            script: OUTSIDE,
-            least_bits: 20,
-            state: &["real 0 1b0", "yes 0 1 2 4"],
-            lines: &[("pull 2", DONE), ("void 4", DONE)],
-        },
-        &["pull 2"],
-        "void 4",
-    ),
-    (
-        Case {
-            script: OUTSIDE,
-            least_bits: 20,
-            state: &["real 0 1b0", "yes 0 1 4", "no 2"],
-            lines: &[("unit 3", DONE), ("pull 3", DONE), ("void 4", DONE)],
-        },
-        &["unit 3", "pull 3"],
-        "void 4",
-    ),
-];
-
-#[test]
-fn an_atom_of_a_choice_is_parted(rt: HostRuntime) {
-    for (case, lower, upper) in &CHOICE_PARTS {
-        assert!(rt; parts(rt.alloc(), case, lower, upper));
-    }
-    for (case, state) in &CHOICE_STATES {
-        assert!(rt; reaches(rt.alloc(), case, state));
-    }
-    for (case, steps, end) in &CHOICE_CLOSED {
-        assert!(rt; closes(rt.alloc(), case, steps, end));
     }
 }
 
@@ -684,89 +416,6 @@ pub(crate) fn outside_lemma(alloc: Global, book: &Book, id: u32) -> Option<Lemma
 {
     let state = state_of(alloc, 5, &["real 0 1b0", "yes 4"])?;
     let lines = [("pull 4", DONE), ("false", DONE)];
-    let Ok(patch) = led(alloc, book, None, state, &lines) else {
-        return None;
-    };
+    let patch = led(alloc, book, None, state, &lines)?;
     lemma_of(alloc, book, patch, id)
-}
-
-// Whether the case is closed so, where that lemma may be quoted.
-fn closes_by_lemma(alloc: Global, case: &Case, steps: &[&str], line: &str) -> bool {
-    let Some(book) = book_in(alloc, case) else {
-        return false;
-    };
-    match outside_lemma(alloc, &book, 0) {
-        Some(lemma) => closes_in(alloc, &book, Some(&lemma), case, steps, line),
-        None => false,
-    }
-}
-
-const BY_LEMMA: [(Case, &[&str], &str); 3] = [
-    (
-        Case {
-            script: OUTSIDE,
-            least_bits: 20,
-            state: &["real 0 1b0"],
-            lines: &[("by 0", NOT_COVERED), ("unit 4", DONE), ("by 0", DONE)],
-        },
-        &["unit 4"],
-        "by 0",
-    ),
-    (
-        Case {
-            script: OUTSIDE,
-            least_bits: 20,
-            state: &["real 0 1b0"],
-            lines: &[("ban 4 0", DONE), ("false", DONE)],
-        },
-        &["ban 4 0"],
-        "false",
-    ),
-    (
-        Case {
-            script: OUTSIDE,
-            least_bits: 20,
-            state: &["real 0 1b0"],
-            lines: &[
-                ("pull 4", NOT_YES),
-                ("void 4", NOT_YES),
-                ("unit 2", Err(PatchRefusal::NotForced)),
-                ("by 0", NOT_COVERED),
-                ("ban 2 0", NOT_COVERED),
-                ("false", NOT_FALSE),
-                ("flip 0", NOT_INSIDE),
-                ("stuck 4", NOT_STUCK),
-                ("cut 0 1b-1", NOT_HONEST),
-                ("case 2", NOT_HONEST),
-                ("unit 4", DONE),
-                ("unit 4", DECIDED),
-                ("ban 4 0", DECIDED),
-                ("case 4", DECIDED),
-                ("void 4", NOT_FALSE),
-                ("pull 4", DONE),
-                ("unit 2", DONE),
-                ("pull 2", IS_VOID),
-                ("void 2", DONE),
-                ("pull 4", ENDED),
-                ("unit 3", ENDED),
-                ("ban 3 0", ENDED),
-                ("void 2", ENDED),
-                ("false", ENDED),
-                ("by 0", ENDED),
-                ("cut 0 1b-1", ENDED),
-                ("flip 0", ENDED),
-                ("case 3", ENDED),
-                ("stuck 3", ENDED),
-            ],
-        },
-        &["unit 4", "pull 4", "unit 2"],
-        "void 2",
-    ),
-];
-
-#[test]
-fn a_lemma_closes_and_a_refusal_changes_nothing(rt: HostRuntime) {
-    for (case, steps, end) in &BY_LEMMA {
-        assert!(rt; closes_by_lemma(rt.alloc(), case, steps, end));
-    }
 }

@@ -1,5 +1,7 @@
 // Middles of opening boxes: where the form is sure there, and the points that they then are.
-ghost use Rattle.std.specs.Prelude.{◌≤◌, IfOk, IfSome};
+ghost use Rattle.std.specs.Prelude.{◌≡◌, ◌≤◌, IfOk, IfSome, length, vec_len};
+ghost use Rattle.ival.specs.RowViews.{rows_of};
+ghost use Rattle.ival.specs.SpaceViews.{space_of};
 ghost use Rattle.cover_book.specs.Model.{loosenings_in, problem_in};
 ghost use Rattle.cover_model.specs.Fits.{IsShownAt};
 
@@ -7,7 +9,7 @@ use crate::patches::{book_of, is_state};
 use cover_book::Book;
 use cover_rule::{MiddlePoint, Point, State, midpoint_sure};
 use ival::{Rows, Space};
-use poly_graph::Lits;
+use poly_graph::{Lits, Problem};
 use sample_problems::scripts::{BOOL, CIRCLE, OUTSIDE, SWAPPED};
 use std::alloc::Global;
 use truth3::Marks;
@@ -24,23 +26,51 @@ pub(crate) const ANYWHERE: &str = "(declare-const x Real)
 (assert (distinct x x))
 (check-sat)";
 
-// Whether the form is sure at the middle of the opening box, loosened by 2 to the power of minus so many bits.
-fn is_sure(alloc: Global, book: &Book, bits: u32) -> Option<bool>
+// Room for what is computed at the middle of a space.
+#[derive(Drop)]
+struct Room {
+    middle: Space,
+    rows: Rows,
+    marks: Marks,
+}
+
+fn room_for(alloc: Global, problem: &Problem, space: &Space) -> Option<Room>
+    ensures middle { IfSome result (λ r. space_of r.middle ≡ space_of space.now) }
+    ensures rows { IfSome result (λ r. length (rows_of r.rows) ≡ length problem.now.nodes) }
+    ensures marks { IfSome result (λ r.
+        vec_len r.marks.truths ≡ length problem.now.forms) }
+{
+    let middle = space.try_clone(alloc).ok()?;
+    let rows = Rows::new(alloc, problem.graph().len()).ok()?;
+    let marks = Marks::new(alloc, problem).ok()?;
+    Some(Room {
+        middle,
+        rows,
+        marks,
+    })
+}
+
+// Whether the form is sure at the middle of the state's box, loosened by 2 to the power of minus so many bits.
+fn is_sure_in(alloc: Global, problem: &Problem, state: &State, bits: u32) -> Option<bool>
     requires { bits ≤ 120 }
 {
-    let state = book.state_of(0).ok()?;
-    let problem = book.problem();
-    let mut middle = state.space().try_clone(alloc).ok()?;
-    let mut rows = Rows::new(alloc, problem.graph().len()).ok()?;
-    let mut marks = Marks::new(alloc, problem).ok()?;
+    let mut room = room_for(alloc, problem, state.space())?;
     Some(midpoint_sure(
         problem,
         state.space(),
         bits,
-        &mut middle,
-        &mut rows,
-        &mut marks,
+        &mut room.middle,
+        &mut room.rows,
+        &mut room.marks,
     ))
+}
+
+// The same of the opening box.
+fn is_sure(alloc: Global, book: &Book, bits: u32) -> Option<bool>
+    requires { bits ≤ 120 }
+{
+    let state = book.state_of(0).ok()?;
+    is_sure_in(alloc, book.problem(), &state, bits)
 }
 
 // Whether the form is found sure there, or not, as said.
@@ -102,14 +132,6 @@ pub(crate) fn is_space(alloc: Global, space: &Space, lines: &[&str]) -> bool {
     }
 }
 
-// Whether the form is sure nowhere near the middle of the script's opening box, so that there is no point.
-fn has_no_point(alloc: Global, script: &str) -> bool {
-    match book_of(alloc, script, 20, 0) {
-        Some(book) => matches!(middle_of(alloc, &book, 0), Ok(None)),
-        None => false,
-    }
-}
-
 // Whether a copy of the point is that of these lines.
 fn is_copied(alloc: Global, point: &Point, lines: &[&str]) -> bool {
     match point.try_clone(alloc) {
@@ -118,22 +140,35 @@ fn is_copied(alloc: Global, point: &Point, lines: &[&str]) -> bool {
     }
 }
 
-// Whether there is a point in the middle of the script's opening box, which is that of these lines.
-fn has_point(alloc: Global, script: &str, lines: &[&str]) -> bool {
-    let Some(book) = book_of(alloc, script, 20, 0) else {
-        return false;
-    };
-    match middle_of(alloc, &book, 0) {
-        Ok(Some(point)) => is_copied(alloc, &point, lines),
+// Whether the point in the middle of the book's opening box is that of these lines, or there is none, as said.
+fn is_point(alloc: Global, book: &Book, expected: Option<&[&str]>) -> bool {
+    match (middle_of(alloc, book, 0), expected) {
+        (Ok(Some(point)), Some(lines)) => is_copied(alloc, &point, lines),
+        (Ok(None), None) => true,
         _ => false,
     }
 }
 
+fn has_point(alloc: Global, script: &str, expected: Option<&[&str]>) -> bool {
+    match book_of(alloc, script, 20, 0) {
+        Some(book) => is_point(alloc, &book, expected),
+        None => false,
+    }
+}
+
+// Scripts, and the point in the middle; none where the form is sure nowhere near it.
+const POINTS: [(&str, Option<&[&str]>); 6] = [
+    (NO_ROOT, None),
+    (CIRCLE, None),
+    (OUTSIDE, None),
+    (SWAPPED, None),
+    (BOOL, None),
+    (ANYWHERE, Some(&["real 1b-1 1b-1"])),
+];
+
 #[test]
 fn a_point_is_a_sure_middle(rt: HostRuntime) {
-    let alloc = rt.alloc();
-    for script in [NO_ROOT, CIRCLE, OUTSIDE, SWAPPED, BOOL] {
-        assert!(rt; has_no_point(alloc, script), "{script}");
+    for (script, expected) in &POINTS {
+        assert!(rt; has_point(rt.alloc(), script, *expected), "{script}");
     }
-    assert!(rt; has_point(alloc, ANYWHERE, &["real 1b-1 1b-1"]));
 }

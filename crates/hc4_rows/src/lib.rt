@@ -4,12 +4,14 @@
 #![tactic(auto)]
 
 #[cfg(test)]
+mod bench;
+#[cfg(test)]
+mod graphs;
+#[cfg(test)]
 mod of_hc4_fwd;
 #[cfg(test)]
-mod of_plain_eval;
+mod of_narrowing;
 #[cfg(test)]
 mod of_poly_graph;
 #[cfg(test)]
 mod of_truth3;
-#[cfg(test)]
-mod tests;

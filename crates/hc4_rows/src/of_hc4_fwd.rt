@@ -1,61 +1,101 @@
-// Rows of small graphs, against ends that were computed by hand.
-ghost use Rattle.std.specs.Prelude.{◌≡◌, ◌+◌, ◌<◌, ◌≤◌, [], ◌∷◌};
+// Rows of small graphs, against ends that were computed by hand, and the ways to fill them against one another.
+ghost use Rattle.std.specs.Prelude.{◌≡◌, ◌+◌, ◌<◌, ◌≤◌, [], ◌∷◌, length};
+ghost use Rattle.hc4_fwd.specs.Above.{IsAbove};
+ghost use Rattle.ival.specs.RowViews.{rows_of};
+ghost use Rattle.ival.specs.SpaceViews.{space_of};
 ghost use Rattle.dyadic.specs.Fraction.{Fraction};
 ghost use Rattle.poly_graph.specs.Term.{constant_node, variable_node, add_node, square_node};
 
-use dyadic::{Dy, Ext, Frac, at_most, pow2};
+use crate::bench::{Bench, Span, Term, bench_of, domain_of, same_rows};
+use crate::graphs::{CUBE, DIFFERENCE, GRAPHS, SQUARE_AND_ONE};
+use dyadic::{Dy, Ext, read_dy};
 use hc4_fwd::*;
-use ival::{Domain, Ends, Ival, Range, Rows, Space};
-use poly_graph::{Graph, Node, is_after};
+use ival::{Domain, Ival, Rows, Space};
+use plain_eval::enclose;
+use poly_graph::Graph;
 use std::alloc::{AllocError, Global};
 use std::marker::Brand;
 use std::sync::ledger::{Blank, Ledger};
-use std::test::Fail;
 
-// The graph of these nodes, none of which stands twice.
-fn graph_of(alloc: Global, nodes: &[Node]) -> Result<Graph, Fail> {
-    let mut graph = Graph::new(alloc);
-    for node in nodes {
-        if !is_after(*node, graph.len() as u32) {
-            return Err(Fail::from("no such node"));
-        }
-        graph.intern(*node).map_err(|_| "no memory")?;
-    }
-    Ok(graph)
+// ---- ends of the last row
+
+// A graph, the ends of both axes, those of the second axis once it was moved, and the ends of the last row.
+struct Filled {
+    terms: &'static [Term],
+    axes: Span,
+    moved: Option<Span>,
+    row: Span,
 }
 
-// From a number to another one that is not below it.
-fn span(low: Dy, high: Dy) -> Option<Domain> {
-    if at_most(Ext::Fin(low), Ext::Fin(high)) {
-        Some(Domain::Real(Range { low, high }))
-    } else {
-        None
-    }
-}
+const FILLED: [Filled; 6] = [
+    Filled {
+        terms: &SQUARE_AND_ONE,
+        axes: ("0", "1b0"),
+        moved: None,
+        row: ("1b0", "1b1"),
+    },
+    Filled {
+        terms: &CUBE,
+        axes: ("0", "1b22"),
+        moved: None,
+        row: ("0", "1b66"),
+    },
+    // past the greatest number that is kept
+    Filled {
+        terms: &CUBE,
+        axes: ("0", "1b50"),
+        moved: None,
+        row: ("0", "inf"),
+    },
+    Filled {
+        terms: &DIFFERENCE,
+        axes: ("-1b-1", "1b-1"),
+        moved: None,
+        row: ("-1b-1", "1b-1"),
+    },
+    // both products are still from -1/4 to 1/4
+    Filled {
+        terms: &DIFFERENCE,
+        axes: ("-1b-1", "1b-1"),
+        moved: Some(("0", "1b-1")),
+        row: ("-1b-1", "1b-1"),
+    },
+    // both are 0
+    Filled {
+        terms: &DIFFERENCE,
+        axes: ("-1b-1", "1b-1"),
+        moved: Some(("0", "0")),
+        row: ("0", "0"),
+    },
+];
 
-// Two axes with this domain.
-fn two_axes(alloc: Global, domain: Domain) -> Result<Space, AllocError> {
-    let mut space = Space::with_capacity(alloc, 2)?;
-    space.push(domain);
-    space.push(domain);
-    Ok(space)
+fn end(text: &str) -> Option<Ext> {
+    match text {
+        "inf" => Some(Ext::PosInf),
+        _ => read_dy(text.as_bytes()).ok().map(Ext::Fin),
+    }
 }
 
 // Whether the interval has these ends.
-fn is_between(interval: Option<Ival>, low: Ext, high: Ext) -> bool {
+fn is_between(interval: Ival, span: Span) -> bool {
     match interval {
-        Some(Ival::Between(ends)) => ends.low == low && ends.high == high,
-        _ => false,
+        Ival::Between(ends) => Some(ends.low) == end(span.0) && Some(ends.high) == end(span.1),
+        Ival::Empty => false,
     }
 }
 
-// The last row after a fill.
-fn last_row(graph: &Graph, space: &Space, rows: &mut Rows) -> Option<Ival> {
+// The last row after a fill, where the checker's pass computes the same.
+pub(crate) fn last_row(graph: &Graph, space: &Space, rows: &mut Rows) -> Option<Ival> {
     if rows.len() != graph.len() || graph.len() == 0 {
         return None;
     }
+    let last = enclose(graph, (graph.len() - 1) as u32, space, rows);
     fill(graph, space, rows);
-    Some(rows.get(graph.len() - 1))
+    if rows.get(graph.len() - 1) == last {
+        Some(last)
+    } else {
+        None
+    }
 }
 
 // The last row after the second axis was given another domain.
@@ -69,118 +109,186 @@ fn moved_row(graph: &Graph, space: &mut Space, domain: Domain, rows: &mut Rows) 
     Some(rows.get(graph.len() - 1))
 }
 
-#[test]
-fn last_rows(rt: HostRuntime) -> Result<(), Fail> {
-    let alloc = rt.alloc();
-    let one = Node::Const(Frac::new(1, 1));
-    let square_and_one = graph_of(alloc, &[Node::Var(0), Node::Sq(0), one, Node::Add(1, 2)])?;
-    let space = two_axes(alloc, span(Dy::ZERO, pow2(0)).ok_or("crossed")?)?;
-    let mut rows = Rows::new(alloc, square_and_one.len())?;
-    let row = last_row(&square_and_one, &space, &mut rows);
-    assert!(rt; is_between(row, Ext::Fin(pow2(0)), Ext::Fin(pow2(1))));
-    let cube = graph_of(alloc, &[Node::Var(0), Node::Mul(0, 0), Node::Mul(1, 0)])?;
-    let mut rows = Rows::new(alloc, cube.len())?;
-    // the second one past the greatest number that is kept
-    for (high, most) in [(pow2(22), Ext::Fin(pow2(66))), (pow2(50), Ext::PosInf)] {
-        let space = two_axes(alloc, span(Dy::ZERO, high).ok_or("crossed")?)?;
-        let row = last_row(&cube, &space, &mut rows);
-        assert!(rt; is_between(row, Ext::Fin(Dy::ZERO), most));
+// The last row of the bench, once the axis was moved where that is asked.
+fn row_in(bench: &mut Bench, moved: Option<Span>) -> Option<Ival> {
+    match moved {
+        None => last_row(&bench.graph, &bench.space, &mut bench.rows),
+        Some(span) => {
+            let domain = domain_of(span)?;
+            moved_row(&bench.graph, &mut bench.space, domain, &mut bench.rows)
+        }
     }
-    Ok(())
 }
 
-// x * y - y * x
-fn difference(alloc: Global) -> Result<Graph, Fail> {
-    graph_of(
-        alloc,
-        &[
-            Node::Var(0),
-            Node::Var(1),
-            Node::Mul(0, 1),
-            Node::Mul(1, 0),
-            Node::Neg(3),
-            Node::Add(2, 4),
-        ],
-    )
+// Whether the last row has the ends that are said.
+fn is_filled(alloc: Global, filled: &Filled) -> bool {
+    let Some(mut bench) = bench_of(alloc, filled.terms, filled.axes) else {
+        return false;
+    };
+    match row_in(&mut bench, filled.moved) {
+        Some(interval) => is_between(interval, filled.row),
+        None => false,
+    }
 }
 
 #[test]
-fn differences_of_equal_products(rt: HostRuntime) -> Result<(), Fail> {
-    let alloc = rt.alloc();
-    let graph = difference(alloc)?;
-    let half = pow2(-1);
-    let mut rows = Rows::new(alloc, graph.len())?;
-    // y in [0, 1/2]: both products still from -1/4 to 1/4; y at 0: both are 0
-    for (high, most) in [(half, half), (Dy::ZERO, Dy::ZERO)] {
-        let mut space = two_axes(alloc, span(half.neg(), half).ok_or("crossed")?)?;
-        let row = last_row(&graph, &space, &mut rows);
-        assert!(rt; is_between(row, Ext::Fin(half.neg()), Ext::Fin(half)));
-        let upper = span(Dy::ZERO, high).ok_or("crossed")?;
-        let row = moved_row(&graph, &mut space, upper, &mut rows);
-        assert!(rt; is_between(row, Ext::Fin(most.neg()), Ext::Fin(most)));
+fn last_rows(rt: HostRuntime) {
+    for filled in &FILLED {
+        assert!(rt; is_filled(rt.alloc(), filled), "{}", filled.row.1);
     }
-    Ok(())
 }
 
-// Whether the rows have the same intervals.
-fn same_rows(a: &Rows, b: &Rows) -> bool {
-    a.len() == b.len() && (0..a.len()).all(|place| a.get(place) == b.get(place))
-}
+// ---- rows that are renewed
 
-// Whether the rows are as after a whole fill, once the first axis was given another domain. Of a circle's rows at
-// most 4 are computed.
-fn renewed_alike<L: Ledger>(
+// Whether the rows are renewed upwards, by two ways, as a whole fill computes them, once the first axis was given
+// another domain.
+fn is_renewed(
     alloc: Global,
     graph: &Graph,
     space: &mut Space,
     domain: Domain,
+    rows: &mut Rows,
+    others: &mut Rows,
+) -> Result<bool, AllocError> {
+    if space.len() < 2 || rows.len() != graph.len() || others.len() != graph.len() {
+        return Ok(false);
+    }
+    let above = Above::new(alloc, graph, space.len())?;
+    let mut fresh = Rows::new(alloc, graph.len())?;
+    fill(graph, space, rows);
+    fill(graph, space, others);
+    space.set(0, domain);
+    refill(graph, space, 0, rows);
+    refill_by(graph, space, 0, &above, others);
+    fill(graph, space, &mut fresh);
+    Ok(same_rows(rows, &fresh) && same_rows(others, &fresh))
+}
+
+// Whether rows follow a space of which both axes were given another domain.
+fn is_followed(
+    graph: &Graph,
+    space: &mut Space,
+    domain: Domain,
+    rows: &mut Rows,
+    others: &mut Rows,
+) -> bool {
+    if space.len() < 2 || rows.len() != graph.len() || others.len() != graph.len() {
+        return false;
+    }
+    fill(graph, space, rows);
+    space.set(0, domain);
+    space.set(1, domain);
+    follow(graph, space, rows);
+    fill(graph, space, others);
+    same_rows(rows, others)
+}
+
+// Both, from -1 to 2 on each axis to 1/2 to 1.
+fn renews(alloc: Global, bench: &mut Bench) -> bool {
+    let Some(domain) = domain_of(("1b-1", "1b0")) else {
+        return false;
+    };
+    let graph = &bench.graph;
+    let rows = &mut bench.rows;
+    let others = &mut bench.others;
+    is_renewed(alloc, graph, &mut bench.space, domain, rows, others) == Ok(true)
+        && is_followed(graph, &mut bench.copy, domain, rows, others)
+}
+
+// The same of the rows of this graph.
+fn are_renewed(alloc: Global, terms: &[Term]) -> bool {
+    match bench_of(alloc, terms, ("-1b0", "1b1")) {
+        Some(mut bench) => renews(alloc, &mut bench),
+        None => false,
+    }
+}
+
+#[test]
+fn rows_are_renewed_upwards(rt: HostRuntime) {
+    for terms in &GRAPHS {
+        assert!(rt; are_renewed(rt.alloc(), terms));
+    }
+}
+
+// ---- steps that are counted
+
+// Renews the rows once the first axis was given another domain. Of a circle's rows at most 4 are computed.
+fn renew_counted<L: Ledger>(
+    graph: &Graph,
+    space: &mut Space,
+    domain: Domain,
+    above: &Above,
+    rows: &mut Rows,
     steps: &mut Steps<L>,
-) -> Result<bool, AllocError>
+)
+    requires axes { 0 < length (space_of space.old) }
+    requires variables { 0 < length above.now.variables.items }
+    requires above { IsAbove graph.now above.now }
+    requires rows { length (rows_of rows.old) ≡ length graph.now }
     ensures { (q : Fraction) → graph.now ≡
         variable_node 0 ∷ square_node 0 ∷ variable_node 1 ∷ square_node 2
         ∷ add_node 1 3 ∷ constant_node q ∷ add_node 4 5 ∷ [] →
         steps.new ≤ steps.old + 4 }
 {
-    if space.len() < 2 {
-        return Ok(false);
-    }
-    let above = Above::new(alloc, graph, space.len())?;
-    let mut rows = Rows::new(alloc, graph.len())?;
-    let mut whole = Rows::new(alloc, graph.len())?;
-    fill(graph, space, &mut rows);
+    fill(graph, space, rows);
     space.set(0, domain);
-    fill(graph, space, &mut whole);
-    refill_counted(graph, space, 0, &above, &mut rows, steps);
-    Ok(same_rows(&rows, &whole))
+    refill_counted(graph, space, 0, above, rows, steps);
 }
 
-// The same, of the circle x * x + y * y - 1 whose x was between -2 and 2, and then from 1/2 to 1.
-fn circle_renewed_alike<L: Ledger>(alloc: Global, blank: Blank) -> Result<bool, Fail>
+// Whether the rows of the graph, filled over the box, are renewed so as a whole fill computes them.
+fn renewed_alike<L: Ledger>(
+    alloc: Global,
+    bench: &mut Bench,
+    domain: Domain,
+    steps: &mut Steps<L>,
+) -> Result<bool, AllocError> {
+    let graph = &bench.graph;
+    if bench.space.len() < 2
+        || bench.rows.len() != graph.len()
+        || bench.others.len() != graph.len()
+    {
+        return Ok(false);
+    }
+    let above = Above::new(alloc, graph, bench.space.len())?;
+    renew_counted(
+        graph,
+        &mut bench.space,
+        domain,
+        &above,
+        &mut bench.rows,
+        steps,
+    );
+    fill(graph, &bench.space, &mut bench.others);
+    Ok(same_rows(&bench.rows, &bench.others))
+}
+
+// x * x + y * y - 1
+const CIRCLE: [Term; 7] = [
+    Term::Var(0),
+    Term::Sq(0),
+    Term::Var(1),
+    Term::Sq(2),
+    Term::Add(1, 3),
+    Term::Whole(-1),
+    Term::Add(4, 5),
+];
+
+// The same, of a circle whose x was between -2 and 2, and then from 1/2 to 1.
+fn circle_renewed_alike<L: Ledger>(alloc: Global, blank: Blank) -> Option<bool>
     requires name { blank.name ≡ L.name }
     requires parts { blank.parts ≡ L.parts }
     requires some { 0 < blank.parts }
 {
-    let graph = graph_of(
-        alloc,
-        &[
-            Node::Var(0),
-            Node::Sq(0),
-            Node::Var(1),
-            Node::Sq(2),
-            Node::Add(1, 3),
-            Node::Const(Frac::new(-1, 1)),
-            Node::Add(4, 5),
-        ],
-    )?;
-    let mut space = two_axes(alloc, span(pow2(1).neg(), pow2(1)).ok_or("crossed")?)?;
-    let right = span(pow2(-1), pow2(0)).ok_or("crossed")?;
     let mut steps = Steps::<L>::new(blank);
-    let alike = renewed_alike(alloc, &graph, &mut space, right, &mut steps)?;
-    Ok(graph.len() == 7 && alike)
+    let right = domain_of(("1b-1", "1b0"))?;
+    let mut bench = bench_of(alloc, &CIRCLE, ("-1b1", "1b1"))?;
+    renewed_alike(alloc, &mut bench, right, &mut steps).ok()
 }
 
 #[test]
-fn circles_are_renewed_in_few_steps(rt: HostRuntime) -> Result<(), Fail> {
-    assert!(rt; circle_renewed_alike::<Brand>(rt.alloc(), Blank::new(1))?);
-    Ok(())
+fn circles_are_renewed_in_few_steps(rt: HostRuntime) {
+    assert_eq!(rt;
+        circle_renewed_alike::<Brand>(rt.alloc(), Blank::new(1)),
+        Some(true)
+    );
 }

@@ -1,13 +1,72 @@
+// Nodes, forms and atoms of which equal ones are one, marks, parents, and copies.
+ghost use Rattle.poly_graph.specs.Parents.{AreParents};
+
+use crate::bench::{Term, graph_of, node_of};
 use poly_graph::*;
 use sample_problems::smallest;
 use std::alloc::{AllocError, Global};
-use std::test::Fail;
+
+// ---- nodes
+
+// Nodes that are added in this order, and their numbers; none where one names another that is not there.
+const NODES: [(Term, Option<u32>); 6] = [
+    (Term::Var(0), Some(0)),
+    (Term::Sq(0), Some(1)),
+    (Term::Add(1, 0), Some(2)),
+    (Term::Sq(0), Some(1)),
+    (Term::Add(0, 1), Some(3)),
+    (Term::Neg(4), None),
+];
 
 fn node_number(graph: &mut Graph, node: Node) -> Option<u32> {
     if !is_after(node, graph.len() as u32) {
         return None;
     }
     graph.intern(node).ok()
+}
+
+// Whether the nodes get their numbers, which are four.
+fn are_numbered(graph: &mut Graph) -> bool {
+    for (term, number) in &NODES {
+        if node_number(graph, node_of(*term)) != *number {
+            return false;
+        }
+    }
+    graph.len() == 4
+}
+
+#[test]
+fn equal_nodes_are_one(rt: HostRuntime) {
+    let mut graph = Graph::new(rt.alloc());
+    assert!(rt; are_numbered(&mut graph) && is_parent(Node::Add(1, 0), 1));
+}
+
+// ---- forms
+
+// A node of a form; one with children has their numbers.
+enum Form {
+    Atom(u32),
+    Bool(u32, bool),
+    All(&'static [u32]),
+    Any(&'static [u32]),
+}
+
+const FORMS: [(Form, Option<u32>); 6] = [
+    (Form::Atom(3), Some(0)),
+    (Form::Bool(1, false), Some(1)),
+    (Form::All(&[0, 1]), Some(2)),
+    (Form::Any(&[0, 1]), Some(3)),
+    (Form::All(&[0, 1]), Some(2)),
+    (Form::All(&[4]), None),
+];
+
+fn form_node(alloc: Global, form: &Form) -> Result<FormNode, AllocError> {
+    match form {
+        Form::Atom(j) => Ok(FormNode::AtomIs(*j)),
+        Form::Bool(axis, value) => Ok(FormNode::BoolIs(*axis, *value)),
+        Form::All(children) => Ok(FormNode::And(Vec::from_slice(alloc, children)?)),
+        Form::Any(children) => Ok(FormNode::Or(Vec::from_slice(alloc, children)?)),
+    }
 }
 
 fn form_number(forms: &mut FormGraph, node: FormNode) -> Option<u32> {
@@ -17,111 +76,126 @@ fn form_number(forms: &mut FormGraph, node: FormNode) -> Option<u32> {
     forms.intern(node).ok()
 }
 
-#[test]
-fn equal_nodes_are_one(rt: HostRuntime) {
-    let mut graph = Graph::new(rt.alloc());
-    assert_eq!(rt; node_number(&mut graph, Node::Var(0)), Some(0));
-    assert_eq!(rt; node_number(&mut graph, Node::Sq(0)), Some(1));
-    assert_eq!(rt; node_number(&mut graph, Node::Add(1, 0)), Some(2));
-    assert_eq!(rt; node_number(&mut graph, Node::Sq(0)), Some(1));
-    assert_eq!(rt; node_number(&mut graph, Node::Add(0, 1)), Some(3));
-    assert_eq!(rt; node_number(&mut graph, Node::Neg(4)), None);
-    assert_eq!(rt; graph.len(), 4);
-    assert!(rt; is_parent(Node::Add(1, 0), 1));
-}
-
-#[test]
-fn equal_forms_are_one(rt: HostRuntime) -> Result<(), Fail> {
-    let alloc = rt.alloc();
-    let mut forms = FormGraph::new(alloc);
-    assert_eq!(rt; form_number(&mut forms, FormNode::AtomIs(3)), Some(0));
-    assert_eq!(rt;
-        form_number(&mut forms, FormNode::BoolIs(1, false)),
-        Some(1)
-    );
-    assert_eq!(rt;
-        form_number(&mut forms, FormNode::And(vec![in alloc; 0, 1]?)),
-        Some(2)
-    );
-    assert_eq!(rt;
-        form_number(&mut forms, FormNode::Or(vec![in alloc; 0, 1]?)),
-        Some(3)
-    );
-    assert_eq!(rt;
-        form_number(&mut forms, FormNode::And(vec![in alloc; 0, 1]?)),
-        Some(2)
-    );
-    assert_eq!(rt;
-        form_number(&mut forms, FormNode::And(vec![in alloc; 4]?)),
-        None
-    );
-    assert_eq!(rt; forms.len(), 4);
-    Ok(())
-}
-
-fn marked(alloc: Global) -> Result<(Lits, Lits), AllocError> {
-    let mut lits = Lits::new(alloc, 2)?;
-    if lits.len() == 2 {
-        lits.set(1, Mark::Yes);
+// Whether the form gets this number.
+fn is_form_numbered(
+    alloc: Global,
+    forms: &mut FormGraph,
+    form: &Form,
+    number: Option<u32>,
+) -> bool {
+    match form_node(alloc, form) {
+        Ok(node) => form_number(forms, node) == number,
+        Err(_) => false,
     }
-    let copy = lits.try_clone(alloc)?;
-    Ok((lits, copy))
+}
+
+// Whether the forms get their numbers, which are four.
+fn are_forms_numbered(alloc: Global, forms: &mut FormGraph) -> bool {
+    for (form, number) in &FORMS {
+        if !is_form_numbered(alloc, forms, form, *number) {
+            return false;
+        }
+    }
+    forms.len() == 4
 }
 
 #[test]
-fn marks_are_kept(rt: HostRuntime) -> Result<(), Fail> {
-    let (lits, copy) = marked(rt.alloc())?;
-    assert!(rt; lits.len() == 2 && copy.len() == 2);
-    assert_eq!(rt; lits.mark(0), Mark::Neither);
-    assert_eq!(rt; lits.mark(1), Mark::Yes);
-    assert_eq!(rt; copy.mark(1), Mark::Yes);
-    Ok(())
+fn equal_forms_are_one(rt: HostRuntime) {
+    let mut forms = FormGraph::new(rt.alloc());
+    assert!(rt; are_forms_numbered(rt.alloc(), &mut forms));
+}
+
+// ---- marks
+
+fn is_marked(lits: &Lits) -> bool {
+    lits.len() == 2 && lits.mark(0) == Mark::Neither && lits.mark(1) == Mark::Yes
+}
+
+// Whether the second of two atoms is marked, in a copy too.
+fn are_kept(alloc: Global) -> Option<bool> {
+    let mut lits = Lits::new(alloc, 2).ok()?;
+    lits.set(1, Mark::Yes);
+    let copy = lits.try_clone(alloc).ok()?;
+    Some(is_marked(&lits) && is_marked(&copy))
+}
+
+#[test]
+fn marks_are_kept(rt: HostRuntime) {
+    assert_eq!(rt; are_kept(rt.alloc()), Some(true));
+}
+
+// ---- atoms
+
+const ATOMS: [(u32, Kind, u32); 3] = [(2, Kind::Le, 0), (2, Kind::Ge, 1), (2, Kind::Le, 0)];
+
+// Whether the atoms get their numbers, which are two.
+fn are_atoms_numbered(table: &mut AtomTable) -> bool {
+    for (term, kind, number) in &ATOMS {
+        let atom = Atom {
+            term: *term,
+            kind: *kind,
+        };
+        if table.intern(atom) != Ok(*number) {
+            return false;
+        }
+    }
+    table.atoms().len() == 2
 }
 
 #[test]
 fn equal_atoms_are_one(rt: HostRuntime) {
     let mut table = AtomTable::new(rt.alloc());
-    let first = Atom {
-        term: 2,
-        kind: Kind::Le,
-    };
-    let second = Atom {
-        term: 2,
-        kind: Kind::Ge,
-    };
-    assert_eq!(rt; table.intern(first), Ok(0));
-    assert_eq!(rt; table.intern(second), Ok(1));
-    assert_eq!(rt; table.intern(first), Ok(0));
-    assert_eq!(rt; table.atoms().len(), 2);
+    assert!(rt; are_atoms_numbered(&mut table));
 }
 
-#[test]
-fn parents_are_listed(rt: HostRuntime) -> Result<(), Fail> {
-    let alloc = rt.alloc();
-    let mut graph = Graph::new(alloc);
-    assert_eq!(rt; node_number(&mut graph, Node::Var(0)), Some(0));
-    assert_eq!(rt; node_number(&mut graph, Node::Sq(0)), Some(1));
-    assert_eq!(rt; node_number(&mut graph, Node::Add(1, 0)), Some(2));
-    let copy = graph.try_clone(alloc)?;
-    let parents = Parents::new(alloc, &copy)?;
-    if graph.len() == 3 && copy.len() == 3 {
-        assert!(rt; graph.same_term(1, 1) && !graph.same_term(1, 2));
-        assert_eq!(rt; parents.of(0), [1, 2].as_slice());
-        assert_eq!(rt; parents.of(1), [2].as_slice());
-        assert!(rt; parents.of(2).is_empty());
+// ---- parents
+
+// Whether the nodes of the graph have these parents, and equal terms are told.
+fn are_parents(graph: &Graph, parents: &Parents) -> bool
+    requires { AreParents graph.now parents.now }
+{
+    if graph.len() != 3 {
+        return false;
     }
-    assert_eq!(rt; copy.len(), 3);
-    Ok(())
+    graph.same_term(1, 1)
+        && !graph.same_term(1, 2)
+        && parents.of(0) == [1, 2].as_slice()
+        && parents.of(1) == [2].as_slice()
+        && parents.of(2).is_empty()
+}
+
+// Whether the parents in a copy of a graph of three nodes are listed.
+fn are_listed(alloc: Global) -> Option<bool> {
+    let terms = [Term::Var(0), Term::Sq(0), Term::Add(1, 0)];
+    let graph = graph_of(alloc, &terms)?;
+    let copy = graph.try_clone(alloc).ok()?;
+    let parents = Parents::new(alloc, &copy).ok()?;
+    Some(are_parents(&copy, &parents))
 }
 
 #[test]
-fn a_problem_is_read_and_cloned(rt: HostRuntime) -> Result<(), Fail> {
-    let alloc = rt.alloc();
-    let problem = smallest(alloc)?;
-    let copy = problem.try_clone(alloc)?;
-    assert!(rt; copy.axes().is_empty() && copy.atoms().is_empty());
-    assert_eq!(rt; copy.graph().len(), 0);
-    assert_eq!(rt; copy.forms().len(), 1);
-    assert_eq!(rt; copy.root(), problem.root());
-    Ok(())
+fn parents_are_listed(rt: HostRuntime) {
+    assert_eq!(rt; are_listed(rt.alloc()), Some(true));
+}
+
+// ---- problems
+
+// Whether a copy of the smallest problem is one.
+fn is_copied(problem: &Problem, copy: &Problem) -> bool {
+    copy.axes().is_empty()
+        && copy.atoms().is_empty()
+        && copy.graph().len() == 0
+        && copy.forms().len() == 1
+        && copy.root() == problem.root()
+}
+
+fn is_smallest(alloc: Global) -> Option<bool> {
+    let problem = smallest(alloc).ok()?;
+    let copy = problem.try_clone(alloc).ok()?;
+    Some(is_copied(&problem, &copy))
+}
+
+#[test]
+fn a_problem_is_read_and_cloned(rt: HostRuntime) {
+    assert_eq!(rt; is_smallest(rt.alloc()), Some(true));
 }

@@ -2,11 +2,108 @@
 use cert_read::*;
 use dyadic::{Dy, read_dy};
 use std::alloc::{AllocError, Global};
-use std::process::Abort;
-use std::test::Fail;
 
-fn dy(text: &str) -> Dy {
-    read_dy(text.as_bytes()).unwrap_or(Dy::ZERO)
+// ---- what lines say
+
+// What a line says that has no list and no number of the grid.
+#[derive(Clone, Copy, PartialEq)]
+enum Plain {
+    Version(u32),
+    Margin(u32),
+    Delta(u32),
+    Bound(Option<u32>),
+    Cover(u32),
+    Point,
+    Tree,
+    End,
+    Lemma(u32),
+    Bool(BoolSet),
+    Pull(u32),
+    Unit(u32),
+    Void(u32),
+    Push(u32),
+    VoidNo(u32),
+    Case(u32),
+    Stuck(u32),
+    By(u32),
+    Ban(u32, u32),
+    Flip(u32),
+    False,
+    Open,
+    Empty(u32),
+}
+
+// What a line says, with numbers by their texts.
+enum Said {
+    Plain(Plain),
+    Interval(&'static str, &'static str),
+    Value(&'static str),
+    Cut(u32, &'static str),
+    Yes(&'static [u32]),
+    No(&'static [u32]),
+    Combine(&'static [(u32, &'static str)]),
+    VoidCombine(&'static [(u32, &'static str)]),
+}
+
+fn plain_of(line: &Line) -> Option<Plain> {
+    match line {
+        Line::Version(n) => Some(Plain::Version(*n)),
+        Line::Margin(n) => Some(Plain::Margin(*n)),
+        Line::Delta(n) => Some(Plain::Delta(*n)),
+        Line::Bound(n) => Some(Plain::Bound(*n)),
+        Line::Cover(n) => Some(Plain::Cover(*n)),
+        Line::Point => Some(Plain::Point),
+        Line::Tree => Some(Plain::Tree),
+        Line::End => Some(Plain::End),
+        Line::Lemma(n) => Some(Plain::Lemma(*n)),
+        Line::Bool(n) => Some(Plain::Bool(*n)),
+        Line::Pull(n) => Some(Plain::Pull(*n)),
+        Line::Unit(n) => Some(Plain::Unit(*n)),
+        Line::Void(n) => Some(Plain::Void(*n)),
+        Line::Push(n) => Some(Plain::Push(*n)),
+        Line::VoidNo(n) => Some(Plain::VoidNo(*n)),
+        Line::Case(n) => Some(Plain::Case(*n)),
+        Line::Stuck(n) => Some(Plain::Stuck(*n)),
+        Line::By(n) => Some(Plain::By(*n)),
+        Line::Ban(a, b) => Some(Plain::Ban(*a, *b)),
+        Line::Flip(n) => Some(Plain::Flip(*n)),
+        Line::False => Some(Plain::False),
+        Line::Open => Some(Plain::Open),
+        Line::Empty(n) => Some(Plain::Empty(*n)),
+        _ => None,
+    }
+}
+
+fn is_number(value: Dy, text: &str) -> bool {
+    read_dy(text.as_bytes()).is_ok_and(|number| number == value)
+}
+
+fn are_pairs(pairs: &[(u32, Dy)], said: &[(u32, &'static str)]) -> bool {
+    if pairs.len() != said.len() {
+        return false;
+    }
+    for i in 0..said.len() {
+        if pairs[i].0 != said[i].0 || !is_number(pairs[i].1, said[i].1) {
+            return false;
+        }
+    }
+    true
+}
+
+fn is_said(line: &Line, said: &Said) -> bool {
+    match (line, said) {
+        (Line::RealInterval(low, high), Said::Interval(least, most)) => {
+            is_number(*low, least) && is_number(*high, most)
+        }
+        (Line::RealValue(value), Said::Value(text)) => is_number(*value, text),
+        (Line::Cut(axis, place), Said::Cut(of, text)) => *axis == *of && is_number(*place, text),
+        (Line::Yes(atoms), Said::Yes(wanted)) => atoms.as_slice() == *wanted,
+        (Line::No(atoms), Said::No(wanted)) => atoms.as_slice() == *wanted,
+        (Line::Combine(pairs), Said::Combine(wanted)) => are_pairs(pairs, wanted),
+        (Line::VoidCombine(pairs), Said::VoidCombine(wanted)) => are_pairs(pairs, wanted),
+        (line, Said::Plain(wanted)) => plain_of(line) == Some(*wanted),
+        _ => false,
+    }
 }
 
 // What the first line of an input says.
@@ -17,100 +114,61 @@ fn first(alloc: Global, text: &[u8]) -> Result<Option<Line>, LineFault> {
     reader.next_line()
 }
 
-fn assert_line(rt: &impl Abort, alloc: Global, text: &str, expected: Line) {
-    let told = first(alloc, text.as_bytes());
-    assert!(rt; told == Ok(Some(expected)), "{text}");
+const LINES: &[(&str, Said)] = &[
+    ("dpoly 1", Said::Plain(Plain::Version(1))),
+    ("margin 20", Said::Plain(Plain::Margin(20))),
+    ("delta 10\n", Said::Plain(Plain::Delta(10))),
+    ("bound none", Said::Plain(Plain::Bound(None))),
+    ("bound 7", Said::Plain(Plain::Bound(Some(7)))),
+    ("cover 4294967295", Said::Plain(Plain::Cover(4_294_967_295))),
+    ("point", Said::Plain(Plain::Point)),
+    ("tree\n\n", Said::Plain(Plain::Tree)),
+    ("end", Said::Plain(Plain::End)),
+    ("lemma 0", Said::Plain(Plain::Lemma(0))),
+    ("bool both", Said::Plain(Plain::Bool(BoolSet::Both))),
+    ("bool true", Said::Plain(Plain::Bool(BoolSet::True))),
+    ("bool false", Said::Plain(Plain::Bool(BoolSet::False))),
+    ("pull 4", Said::Plain(Plain::Pull(4))),
+    ("unit 5", Said::Plain(Plain::Unit(5))),
+    ("void 6", Said::Plain(Plain::Void(6))),
+    ("push 10", Said::Plain(Plain::Push(10))),
+    ("voidno 11", Said::Plain(Plain::VoidNo(11))),
+    ("case 7", Said::Plain(Plain::Case(7))),
+    ("stuck 8", Said::Plain(Plain::Stuck(8))),
+    ("by 9", Said::Plain(Plain::By(9))),
+    ("ban 1 2", Said::Plain(Plain::Ban(1, 2))),
+    ("flip 2", Said::Plain(Plain::Flip(2))),
+    ("false", Said::Plain(Plain::False)),
+    ("open", Said::Plain(Plain::Open)),
+    ("empty 3", Said::Plain(Plain::Empty(3))),
+    ("real 0 1b0", Said::Interval("0", "1b0")),
+    ("real -3b-2", Said::Value("-3b-2")),
+    ("cut 1 1b-1", Said::Cut(1, "1b-1")),
+    ("yes", Said::Yes(&[])),
+    ("yes 4 0 12", Said::Yes(&[4, 0, 12])),
+    ("no 3", Said::No(&[3])),
+    ("comb 3 1b0", Said::Combine(&[(3, "1b0")])),
+    (
+        "comb 3 1b0 4 -3b-2",
+        Said::Combine(&[(3, "1b0"), (4, "-3b-2")]),
+    ),
+    ("voidcomb 0 -1b0", Said::VoidCombine(&[(0, "-1b0")])),
+    ("voidcomb 2 0 2 0", Said::VoidCombine(&[(2, "0"), (2, "0")])),
+];
+
+// Whether the text's first line says this.
+fn says(alloc: Global, text: &str, said: &Said) -> bool {
+    match first(alloc, text.as_bytes()) {
+        Ok(Some(line)) => is_said(&line, said),
+        _ => false,
+    }
 }
 
 #[test]
 fn tells_lines(rt: HostRuntime) {
-    for (text, expected) in [
-        ("dpoly 1", Line::Version(1)),
-        ("margin 20", Line::Margin(20)),
-        ("delta 10\n", Line::Delta(10)),
-        ("bound none", Line::Bound(None)),
-        ("bound 7", Line::Bound(Some(7))),
-        ("cover 4294967295", Line::Cover(4_294_967_295)),
-        ("point", Line::Point),
-        ("tree\n\n", Line::Tree),
-        ("end", Line::End),
-        ("lemma 0", Line::Lemma(0)),
-        ("bool both", Line::Bool(BoolSet::Both)),
-        ("bool true", Line::Bool(BoolSet::True)),
-        ("bool false", Line::Bool(BoolSet::False)),
-        ("pull 4", Line::Pull(4)),
-        ("unit 5", Line::Unit(5)),
-        ("void 6", Line::Void(6)),
-        ("push 10", Line::Push(10)),
-        ("voidno 11", Line::VoidNo(11)),
-        ("case 7", Line::Case(7)),
-        ("stuck 8", Line::Stuck(8)),
-        ("by 9", Line::By(9)),
-        ("ban 1 2", Line::Ban(1, 2)),
-        ("flip 2", Line::Flip(2)),
-        ("false", Line::False),
-        ("open", Line::Open),
-        ("empty 3", Line::Empty(3)),
-    ] {
-        assert_line(&rt, rt.alloc(), text, expected);
+    for (text, said) in LINES {
+        assert!(rt; says(rt.alloc(), text, said), "{text}");
     }
-}
-
-#[test]
-fn tells_lines_of_numbers(rt: HostRuntime) {
-    for (text, expected) in [
-        ("real 0 1b0", Line::RealInterval(dy("0"), dy("1b0"))),
-        ("real -3b-2", Line::RealValue(dy("-3b-2"))),
-        ("cut 1 1b-1", Line::Cut(1, dy("1b-1"))),
-    ] {
-        assert_line(&rt, rt.alloc(), text, expected);
-    }
-}
-
-#[test]
-fn tells_lines_of_marks(rt: HostRuntime) -> Result<(), Fail> {
-    let alloc = rt.alloc();
-    assert_line(&rt, alloc, "yes", Line::Yes(Vec::new(alloc)));
-    assert_line(
-        &rt,
-        alloc,
-        "yes 4 0 12",
-        Line::Yes(vec![in alloc; 4, 0, 12]?),
-    );
-    assert_line(&rt, alloc, "no 3", Line::No(vec![in alloc; 3]?));
-    Ok(())
-}
-
-#[test]
-fn tells_combinations(rt: HostRuntime) -> Result<(), Fail> {
-    let alloc = rt.alloc();
-    let one = (3, dy("1b0"));
-    let other = (4, dy("-3b-2"));
-    assert_line(
-        &rt,
-        alloc,
-        "comb 3 1b0",
-        Line::Combine(vec![in alloc; one]?),
-    );
-    assert_line(
-        &rt,
-        alloc,
-        "comb 3 1b0 4 -3b-2",
-        Line::Combine(vec![in alloc; one, other]?),
-    );
-    assert_line(
-        &rt,
-        alloc,
-        "voidcomb 0 -1b0",
-        Line::VoidCombine(vec![in alloc; (0, dy("-1b0"))]?),
-    );
-    assert_line(
-        &rt,
-        alloc,
-        "voidcomb 2 0 2 0",
-        Line::VoidCombine(vec![in alloc; (2, dy("0")); 2]?),
-    );
-    Ok(())
 }
 
 const FAULTS: [(&str, LineFault); 32] = [
@@ -148,92 +206,119 @@ const FAULTS: [(&str, LineFault); 32] = [
     ("voidcomb 3 1b0 4 1b123", LineFault::BadNumber),
 ];
 
-#[test]
-fn tells_faults(rt: HostRuntime) {
-    for (text, expected) in &FAULTS {
-        let told = first(rt.alloc(), text.as_bytes());
-        assert!(rt; told == Err(*expected), "{text}");
+// Whether the text's first line is refused so.
+fn is_refused(alloc: Global, text: &str, fault: LineFault) -> bool {
+    match first(alloc, text.as_bytes()) {
+        Ok(_) => false,
+        Err(told) => told == fault,
     }
 }
+
+#[test]
+fn tells_faults(rt: HostRuntime) {
+    for (text, fault) in &FAULTS {
+        assert!(rt; is_refused(rt.alloc(), text, *fault), "{text}");
+    }
+}
+
+// ---- long lines
 
 const LONGEST: usize = 524_288;
 
-#[test]
-fn tells_long_lines(rt: HostRuntime) -> Result<(), Fail> {
-    let longest = vec![in rt.alloc(); b'x'; LONGEST]?;
-    let mut reader = LineReader::new(rt.alloc());
-    reader.feed(&longest)?;
-    assert!(rt; reader.next_line() == Ok(None));
-    assert_eq!(rt; reader.held(), LONGEST);
-    reader.feed(b"\n")?;
-    assert!(rt; reader.next_line() == Err(LineFault::BadLine));
-    Ok(())
+fn next_is(reader: &mut LineReader, fault: LineFault) -> bool {
+    matches!(reader.next_line(), Err(told) if told == fault)
 }
 
-#[test]
-fn tells_longer_lines(rt: HostRuntime) -> Result<(), Fail> {
-    let longer = vec![in rt.alloc(); b'x'; LONGEST + 1]?;
-    let mut reader = LineReader::new(rt.alloc());
-    reader.feed(&longer)?;
-    assert!(rt; reader.next_line() == Err(LineFault::LineTooLong));
-    reader.feed(b"\n")?;
-    assert!(rt; reader.next_line() == Err(LineFault::LineTooLong));
-    Ok(())
+// Whether the longest line that may be is held until it ends.
+fn is_held(reader: &mut LineReader, longest: &[u8]) -> bool {
+    reader.feed(longest).is_ok()
+        && matches!(reader.next_line(), Ok(None))
+        && reader.held() == LONGEST
+        && reader.feed(b"\n").is_ok()
+        && next_is(reader, LineFault::BadLine)
 }
 
-// Reads the lines that stand in what was fed.
-fn take_lines(reader: &mut LineReader, lines: &mut Vec<Line>) -> Result<(), LineFault> {
-    for _ in 0..100 {
-        match reader.next_line()? {
-            Some(line) => lines.push(line)?,
-            None => return Ok(()),
-        }
-    }
-    Ok(())
+// Whether a longer one is refused at once, and stays refused.
+fn is_too_long(reader: &mut LineReader, longer: &[u8]) -> bool {
+    reader.feed(longer).is_ok()
+        && next_is(reader, LineFault::LineTooLong)
+        && reader.feed(b"\n").is_ok()
+        && next_is(reader, LineFault::LineTooLong)
 }
 
-// The lines of a text in two pieces of which the second ends in three letters of a line that is not over, and then it is.
-fn lines_of(
-    rt: &impl Abort,
-    alloc: Global,
-    front: &[u8],
-    back: &[u8],
-) -> Result<Vec<Line>, LineFault> {
+fn holds_longest(alloc: Global) -> Result<bool, AllocError> {
+    let longest = vec![in alloc; b'x'; LONGEST]?;
     let mut reader = LineReader::new(alloc);
-    let mut lines = Vec::new(alloc);
-    reader.feed(front)?;
-    take_lines(&mut reader, &mut lines)?;
-    reader.feed(back)?;
-    take_lines(&mut reader, &mut lines)?;
-    assert_eq!(rt; reader.held(), 3);
-    reader.end();
-    reader.feed(b"tree\n")?;
-    take_lines(&mut reader, &mut lines)?;
-    assert_eq!(rt; reader.held(), 0);
-    Ok(lines)
+    Ok(is_held(&mut reader, &longest))
 }
 
-// What the lines of the text say.
-fn expected(alloc: Global) -> Result<Vec<Line>, AllocError> {
-    let mut lines = Vec::new(alloc);
-    lines.push(Line::Version(1))?;
-    lines.push(Line::Yes(vec![in alloc; 1, 22, 3]?))?;
-    lines.push(Line::RealInterval(dy("0"), dy("1b0")))?;
-    lines.push(Line::False)?;
-    lines.push(Line::Cut(1, dy("-1b-1")))?;
-    lines.push(Line::End)?;
-    Ok(lines)
+fn refuses_longer(alloc: Global) -> Result<bool, AllocError> {
+    let longer = vec![in alloc; b'x'; LONGEST + 1]?;
+    let mut reader = LineReader::new(alloc);
+    Ok(is_too_long(&mut reader, &longer))
 }
+
+#[test]
+fn tells_long_lines(rt: HostRuntime) {
+    assert_eq!(rt; holds_longest(rt.alloc()), Ok(true));
+    assert_eq!(rt; refuses_longer(rt.alloc()), Ok(true));
+}
+
+// ---- cuts
 
 const TEXT: &[u8] = b"dpoly 1\nyes 1 22 3\nreal 0 1b0\nfalse\ncut 1 -1b-1\nend";
 
-#[test]
-fn cuts_do_not_matter(rt: HostRuntime) -> Result<(), Fail> {
-    let expected = expected(rt.alloc())?;
-    for cut in 0..=TEXT.len() {
-        let (front, back) = TEXT.split_at(cut);
-        let lines = lines_of(&rt, rt.alloc(), front, back)?;
-        assert!(rt; lines.as_slice() == expected.as_slice(), "{cut}");
+// What the lines of the text say.
+const SAID: &[Said] = &[
+    Said::Plain(Plain::Version(1)),
+    Said::Yes(&[1, 22, 3]),
+    Said::Interval("0", "1b0"),
+    Said::Plain(Plain::False),
+    Said::Cut(1, "-1b-1"),
+    Said::Plain(Plain::End),
+];
+
+// Whether the next lines in what was fed are those of the text from this one on, which moves past them.
+fn follows(reader: &mut LineReader, at: &mut usize) -> bool {
+    for _ in 0..100 {
+        match reader.next_line() {
+            Ok(None) => return true,
+            Ok(Some(line)) if *at < SAID.len() && is_said(&line, &SAID[*at]) => *at += 1,
+            _ => return false,
+        }
     }
-    Ok(())
+    false
+}
+
+// Whether the last line is told once the text has ended, and nothing behind it.
+fn ends(reader: &mut LineReader, at: &mut usize) -> bool {
+    reader.end();
+    reader.feed(b"tree\n").is_ok() && follows(reader, at) && reader.held() == 0 && *at == SAID.len()
+}
+
+// Whether the lines are told from two pieces, of which the second ends in three letters of a line that is not over.
+fn is_told(reader: &mut LineReader, front: &[u8], back: &[u8]) -> bool {
+    let mut at = 0;
+    reader.feed(front).is_ok()
+        && follows(reader, &mut at)
+        && reader.feed(back).is_ok()
+        && follows(reader, &mut at)
+        && reader.held() == 3
+        && ends(reader, &mut at)
+}
+
+fn is_told_in_pieces(alloc: Global, cut: usize) -> bool {
+    if cut > TEXT.len() {
+        return false;
+    }
+    let (front, back) = TEXT.split_at(cut);
+    let mut reader = LineReader::new(alloc);
+    is_told(&mut reader, front, back)
+}
+
+#[test]
+fn cuts_do_not_matter(rt: HostRuntime) {
+    for cut in 0..=TEXT.len() {
+        assert!(rt; is_told_in_pieces(rt.alloc(), cut), "{cut}");
+    }
 }

@@ -1,11 +1,21 @@
+// Scripts that are made.
 use gen_script::*;
-use std::test::Fail;
+use std::alloc::Global;
 
-#[test]
-fn one_atom(rt: HostRuntime) -> Result<(), Fail> {
-    let script = make(rt.alloc(), 1, 1).map_err(|_| "no memory")?;
-    assert_eq!(rt; script.len(), 175);
-    let text = b"(set-logic QF_NRA)
+// The text of a script, or how many bytes it has.
+enum Made {
+    Text(&'static [u8]),
+    Long(usize),
+}
+
+// Seeds, sizes and scripts; the last is that of the last seed and the greatest size.
+const MADE: [(u64, u32, Made); 4] = [
+    (1, 1, Made::Long(175)),
+    (
+        1,
+        1,
+        Made::Text(
+            b"(set-logic QF_NRA)
 (declare-const x Real)
 (declare-const y Real)
 (assert (<= 0 x 1))
@@ -13,15 +23,14 @@ fn one_atom(rt: HostRuntime) -> Result<(), Fail> {
 (assert (= (- (* 775 x y) (* 775 y x)) (/ 775 8)))
 (check-sat)
 (exit)
-";
-    assert!(rt; script.as_slice() == text.as_slice());
-    Ok(())
-}
-
-#[test]
-fn three_atoms(rt: HostRuntime) -> Result<(), Fail> {
-    let script = make(rt.alloc(), 1107, 3).map_err(|_| "no memory")?;
-    let text = b"(set-logic QF_NRA)
+",
+        ),
+    ),
+    (
+        1107,
+        3,
+        Made::Text(
+            b"(set-logic QF_NRA)
 (declare-const x Real)
 (declare-const y Real)
 (assert (<= 0 x 1))
@@ -31,15 +40,27 @@ fn three_atoms(rt: HostRuntime) -> Result<(), Fail> {
 (assert (= (- (* 70 x y) (* 70 y x)) (/ 70 8)))
 (check-sat)
 (exit)
-";
-    assert!(rt; script.as_slice() == text.as_slice());
-    Ok(())
+",
+        ),
+    ),
+    (18446744073709551615, 10000, Made::Long(506875)),
+];
+
+// Whether this script is made.
+fn is_made(alloc: Global, seed: u64, size: u32, made: &Made) -> bool {
+    if size < 1 || size > 10_000 {
+        return false;
+    }
+    match (make(alloc, seed, size), made) {
+        (Ok(script), Made::Text(text)) => script.as_slice() == *text,
+        (Ok(script), Made::Long(length)) => script.len() == *length,
+        _ => false,
+    }
 }
 
-// The last seed, and the greatest size.
 #[test]
-fn many_atoms(rt: HostRuntime) -> Result<(), Fail> {
-    let script = make(rt.alloc(), 18446744073709551615, 10000).map_err(|_| "no memory")?;
-    assert_eq!(rt; script.len(), 506875);
-    Ok(())
+fn scripts_are_made(rt: HostRuntime) {
+    for (seed, size, made) in &MADE {
+        assert!(rt; is_made(rt.alloc(), *seed, *size, made), "{seed}");
+    }
 }

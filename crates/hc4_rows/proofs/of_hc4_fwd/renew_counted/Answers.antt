@@ -3,7 +3,7 @@ use Rattle.interval_model.specs.Space.{Space}
 use Rattle.ival.specs.SpaceViews.{domain_of, space_of}
 use Rattle.hc4_fwd.specs.Reached.{SameBut}
 use Rattle.hc4_fwd.proofs.Reaches.{set_same_but}
-use Rattle.hc4_rows.proofs.of_hc4_fwd.renewed_alike.Goals as goal
+use Rattle.hc4_rows.proofs.of_hc4_fwd.renew_counted.Goals as goal
 
 pub refill_counted-requires-clause-rows : goal.refill_counted-requires-clause-rows
 refill_counted-requires-clause-rows g c = let was = space_of c.args.space.now in record {
