@@ -1,4 +1,6 @@
 pub mod Axis
+pub mod Behind
+pub mod Changed
 pub mod Checked
 pub mod Checking
 pub mod Combinations

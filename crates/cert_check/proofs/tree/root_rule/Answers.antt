@@ -1,4 +1,4 @@
-use Rattle.std.proofs.Common.{ℕ, List, [], Option, length, sym, subst, ap, ap₂, ◌∙◌}
+use Rattle.std.proofs.Common.{ℕ, [], Option, length, sym, subst, ap, ◌∙◌}
 use Rattle.std.proofs.lemmas.List.{length-map}
 use Rattle.cover_model.specs.State.{State}
 use Rattle.poly_graph.specs.Views.{atom_of}
@@ -10,7 +10,7 @@ use Rattle.ival.specs.SpaceViews.{space_of}
 use Rattle.truth3.specs.Roots.{IsRoot}
 use Rattle.cert_check.specs.States.{loosenings_of}
 use Rattle.cert_check.specs.Steps.{rule_line_of}
-use Rattle.cert_check.specs.Dues.{IsOutcome, states_of, pending_of}
+use Rattle.cert_check.specs.Dues.{IsOutcome, states_of}
 use Rattle.cert_check.proofs.RuleFits.{root_is}
 use Rattle.cert_check.proofs.tree.root_rule.Goals as goal
 
@@ -21,6 +21,6 @@ returns-clause-comes c b =
     let count = sym (length-map c.atoms.result.now atom_of) ∙ ap length c.atoms.ensures.atoms in
     let state = root_is p (space_of c.in-Space.space) c.in_ok-lits-in-Space.lits (length c.atoms.result.now) root.1 (c.in_ok-lits-in-Space.ensures) count in
     subst (λ (x : Next). IsOutcome p c.main_rule.result x)
-    (ap₂ (λ (S : State) (ps : List State). tree_line P s lemmas S ps [] l) state (ap pending_of c.new-pending.ensures.items)
+    (ap (λ (S : State). tree_line P s lemmas S [] [] l) state
     ∙ sym (ap (λ (o : Option ℕ). root_line (is_some_axis o) P s lemmas l) root.0))
     (c.main_rule.ensures.comes b)
