@@ -18,3 +18,4 @@ pub mod States
 pub mod Stays
 pub mod Steps
 pub mod Waiting
+pub mod Within

@@ -1,10 +1,11 @@
 // The lines of trees.
-ghost use Rattle.std.specs.Prelude.{◌≡◌, ◌<◌, ◌-◌, ◌^◌, ◌++◌, IfOk, IfSome, Some};
+ghost use Rattle.std.specs.Prelude.{◌≡◌, ◌<◌, ◌-◌, ◌^◌, ◌++◌, IfOk, IsTrue, Some};
 ghost use Rattle.cert_read.specs.Views.{line_of};
-ghost use Rattle.cert_model.specs.Due.{CertFault as Fault, Standing, RuleFails};
-ghost use Rattle.poly_graph.specs.ProblemViews.{Parts};
+ghost use Rattle.cert_model.specs.Due.{CertFault as Fault, names_well, Standing, RuleFails};
+ghost use Rattle.poly_graph.specs.ProblemViews.{Parts, problem_of};
 ghost use Rattle.cert_check.specs.declared.due.Due.TheVariants.{End as EndDue, Lemma as LemmaDue, Root as RootDue, Tree as TreeDue};
-ghost use Rattle.cert_check.specs.Steps.{left_of, line_of_step};
+ghost use Rattle.cert_check.specs.Steps.{left_of, line_of_step, step_rule};
+ghost use Rattle.cert_check.specs.Within.{IsStepInTree};
 ghost use Rattle.cert_check.specs.Faults.{rule_word};
 ghost use Rattle.cert_check.specs.Serving.{Serves};
 ghost use Rattle.cert_check.specs.Behind.{pending_of};
@@ -143,14 +144,12 @@ fn main_rule(
     requires serves { Serves problem.now tools.old }
     requires sound { IsSound problem.now (TreeDue cover tree stayed) }
     requires room { stayed < 2 ^ 64 - 1 }
+    requires names { IsTrue (names_well (problem_of problem.now) (step_rule step)) }
     ensures comes { IsNext problem.now (TreeDue cover tree stayed)
         (line_of_step step.entry) result }
     ensures sound { IfOk result (IsSound problem.now) }
     ensures serves { Serves problem.now tools.new }
 {
-    if !names_well(problem, step) {
-        return Err(Refusal::BadNumber);
-    }
     let Tree { state, pending } = tree;
     match rule(
         alloc,
@@ -178,14 +177,12 @@ fn lemma_rule(
 ) -> Result<Due, Refusal>
     requires serves { Serves problem.now tools.old }
     requires sound { IsSound problem.now (LemmaDue cover lemma tree) }
+    requires names { IsTrue (names_well (problem_of problem.now) (step_rule step)) }
     ensures comes { IsNext problem.now (LemmaDue cover lemma tree)
         (line_of_step step.entry) result }
     ensures sound { IfOk result (IsSound problem.now) }
     ensures serves { Serves problem.now tools.new }
 {
-    if !names_well(problem, step) {
-        return Err(Refusal::BadNumber);
-    }
     let Tree { state, pending } = tree;
     match rule(
         alloc,
@@ -198,6 +195,26 @@ fn lemma_rule(
     )? {
         None => Err(Refusal::RuleFails(step.word())),
         Some(left) => lemma_left(alloc, cover, lemma, pending, left, step.word()),
+    }
+}
+
+// The rule of a line inside a tree, which names what is there; else the line's fault.
+fn step_in_tree<'a>(problem: &Problem, line: &'a Line) -> Result<Step<'a>, Refusal>
+    ensures { IsStepInTree problem.now (line_of line.now) result }
+{
+    match said(line) {
+        TreeLine::Rule(step) => {
+            if names_well(problem, step) {
+                Ok(step)
+            } else {
+                Err(Refusal::BadNumber)
+            }
+        }
+        TreeLine::Crossing(axis) => Err(no_crossing(problem, axis)),
+        TreeLine::Lemma(_) => Err(Refusal::Missing),
+        TreeLine::Tree => Err(Refusal::Missing),
+        TreeLine::End => Err(Refusal::Missing),
+        TreeLine::Other => Err(Refusal::Missing),
     }
 }
 
@@ -217,13 +234,9 @@ pub fn lemma_line(
     ensures sound { IfOk result (IsSound problem.now) }
     ensures serves { Serves problem.now tools.new }
 {
-    match said(line) {
-        TreeLine::Rule(step) => lemma_rule(alloc, problem, tools, cover, lemma, tree, step),
-        TreeLine::Crossing(axis) => Err(no_crossing(problem, axis)),
-        TreeLine::Lemma(_) => Err(Refusal::Missing),
-        TreeLine::Tree => Err(Refusal::Missing),
-        TreeLine::End => Err(Refusal::Missing),
-        TreeLine::Other => Err(Refusal::Missing),
+    match step_in_tree(problem, line) {
+        Ok(step) => lemma_rule(alloc, problem, tools, cover, lemma, tree, step),
+        Err(refusal) => Err(refusal),
     }
 }
 
@@ -244,13 +257,9 @@ pub fn tree_line(
     ensures sound { IfOk result (IsSound problem.now) }
     ensures serves { Serves problem.now tools.new }
 {
-    match said(line) {
-        TreeLine::Rule(step) => main_rule(alloc, problem, tools, cover, tree, stayed, step),
-        TreeLine::Crossing(axis) => Err(no_crossing(problem, axis)),
-        TreeLine::Lemma(_) => Err(Refusal::Missing),
-        TreeLine::Tree => Err(Refusal::Missing),
-        TreeLine::End => Err(Refusal::Missing),
-        TreeLine::Other => Err(Refusal::Missing),
+    match step_in_tree(problem, line) {
+        Ok(step) => main_rule(alloc, problem, tools, cover, tree, stayed, step),
+        Err(refusal) => Err(refusal),
     }
 }
 
@@ -268,14 +277,11 @@ fn root_rule(
     ensures sound { IfOk result (IsSound problem.now) }
     ensures serves { Serves problem.now tools.new }
 {
+    if !names_well(problem, step) {
+        return Err(Refusal::BadNumber);
+    }
     match root_space(alloc, problem)? {
-        Root::Empty(_) => {
-            if names_well(problem, step) {
-                Err(Refusal::RuleFails(step.word()))
-            } else {
-                Err(Refusal::BadNumber)
-            }
-        }
+        Root::Empty(_) => Err(Refusal::RuleFails(step.word())),
         Root::Space(space) => {
             let lits = Lits::new(alloc, problem.atoms().len())?;
             let state = State { space, lits };

@@ -14,8 +14,8 @@ use Rattle.cert_check.specs.Dues.{IsOutcome, states_of}
 use Rattle.cert_check.proofs.RuleFits.{root_is}
 use Rattle.cert_check.proofs.tree.root_rule.Goals as goal
 
-pub returns-clause-comes : goal.returns-clause-comes
-returns-clause-comes c b =
+pub returns-in_ok-lits-in-Space-clause-comes : goal.returns-in_ok-lits-in-Space-clause-comes
+returns-in_ok-lits-in-Space-clause-comes c b =
     let p = c.args.problem.now in let P = problem_of p in let s = loosenings_of c.args.cover.loosenings in let lemmas = states_of c.args.cover.lemmas.items in let l = rule_line_of c.args.step in
     let root = subst (λ (r : Root). IsRoot p r) c.in-Space.is c.in_ok-root_space.ensures in
     let count = sym (length-map c.atoms.result.now atom_of) ∙ ap length c.atoms.ensures.atoms in
