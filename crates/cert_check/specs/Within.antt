@@ -3,7 +3,7 @@ use Rattle.std.specs.Prelude.{◌≡◌, ℕ, List, Option, Result, Ok, Err, IsT
 use Rattle.cover_model.specs.State.{State, Loosenings}
 use Rattle.cert_read.specs.CertLine.{CertLine}
 use Rattle.poly_graph.specs.ProblemViews.{Parts, problem_of}
-use Rattle.cert_model.specs.Due.{Standing, Due, lemma_due, tree_due, names_well}
+use Rattle.cert_model.specs.Due.{Standing, lemma_due, tree_due, names_well}
 use Rattle.cert_model.specs.Accepted.{next}
 use Rattle.cert_check.specs.declared.said.Step.{Step}
 use Rattle.cert_check.specs.declared.refusal.Refusal.{Refusal}
