@@ -1,30 +1,41 @@
 -- What is due in a tree after a rule.
-use Rattle.std.proofs.Common.{◌≡◌, ℕ, suc, zero, ◌+◌, ◌<◌, ◌≤◌, List, [], ◌∷◌, ◌++◌, length, map, reverse, drop, get_or, Bool, true, false, Option, Some, refl, ap, ap₂, sym, ◌∙◌, append-nil, true≢false, arith, length-append}
-use Rattle.std.proofs.lemmas.List.{reverse-append, map-append, drop_more, drop_all, get_or-map, length-map}
+use Rattle.std.proofs.Common.{◌≡◌, ℕ, suc, zero, ◌+◌, ◌<◌, ◌≤◌, List, [], ◌∷◌, ◌++◌, length, map, All, drop, get_or, Bool, true, false, Option, Some, refl, ap, ap₂, sym, subst, ◌∙◌, append-nil, true≢false, arith, length-append}
+use Rattle.std.proofs.lemmas.List.{map-append, drop_more, drop_all, get_or-map, length-map}
 use Rattle.interval_model.specs.Space.{Domain, Space}
 use Rattle.cert_read.specs.CertLine.{CertLine}
 use Rattle.poly_graph.specs.declared.axis.Axis as code-axis
 use Rattle.poly_graph.specs.Problem.{Axis, Problem}
 use Rattle.cover_model.specs.State.{State, Loosenings}
 use Rattle.cover_model.specs.Rules.{Left, closed, one, two, stays}
-use Rattle.poly_graph.specs.ProblemViews.{axis_of}
+use Rattle.poly_graph.specs.ProblemViews.{axis_of, Parts}
 use Rattle.cert_model.specs.Due.{CertFault, Standing, left_open, Due, next_due, lemma_due, tree_due, end_due, Next, on, faulty, after_rule, after_lemma_rule, tree_goes_on, lemma_goes_on, axis_next, coordinate_next}
 use Rattle.cert_model.specs.Accepted.{ruled_line, next, axis_line, coordinate_line}
-use Rattle.cert_check.specs.declared.state.State as code
-use Rattle.cert_check.specs.States.{state_of}
-use Rattle.cert_check.specs.Dues.{blanks, lean_left, lean, lean_next, states_of, pending_of}
-use Rattle.cert_check.specs.Waiting.{left_states, counted_stays, is_stays}
+use Rattle.cert_check.specs.declared.standing.Lemma as code
+use Rattle.cert_check.specs.declared.due.Tree.{Tree}
+use Rattle.cert_check.specs.States.{lemma_of, state_of, Fits}
+use Rattle.cert_check.specs.Dues.{blanks, IsTree, lean_left, lean, lean_next, states_of}
+use Rattle.cert_check.specs.Waiting.{FitsLeft, left_states, counted_stays, is_stays, waiting}
 
-pub states_more : (xs : List code.State) (S : code.State) → states_of (xs ++ (S ∷ [])) ≡ states_of xs ++ (state_of S ∷ [])
-states_more xs S = map-append state_of xs (S ∷ [])
+pub states_more : (xs : List code.Lemma) (L : code.Lemma) → states_of (xs ++ (L ∷ [])) ≡ states_of xs ++ (lemma_of L ∷ [])
+states_more xs L = map-append lemma_of xs (L ∷ [])
 
--- the last one is the next
-pub pending_more : (xs ys : List code.State) (S : code.State) → xs ≡ ys ++ (S ∷ []) → pending_of xs ≡ state_of S ∷ pending_of ys
-pending_more xs ys S e = ap pending_of e ∙ ap reverse (states_more ys S) ∙ reverse-append (states_of ys) (state_of S ∷ [])
+fits-more : (p : Parts) (S : State) (xs : List State) → Fits p S → All (Fits p) xs → All (Fits p) (S ∷ xs)
+fits-more p S xs f h zero d l = f
+fits-more p S xs f h (suc k) d l = h k d (omega (arith, l))
 
-pub pending_none : (xs : List code.State) → length xs ≡ 0 → pending_of xs ≡ []
-pending_none [] e = refl
-pending_none (x ∷ xs) e = absurd (omega (arith, e))
+-- what waits behind a rule has a domain for each axis and a mark for each atom, as what waited before has
+fits-behind : (p : Parts) (l : Left) (before behind : List State) → All (Fits p) before → FitsLeft p (Some l) → behind ≡ left_states l ++ before → All (Fits p) behind
+fits-behind p l before behind h f e = subst (All (Fits p)) (sym e) (left l f)
+  where
+    left : (l : Left) → FitsLeft p (Some l) → All (Fits p) (left_states l ++ before)
+    left closed f = h
+    left stays f = h
+    left (one S) f = fits-more p S before f h
+    left (two S T) f = fits-more p S (T ∷ before) f.0 (fits-more p T before f.1 h)
+
+pub tree_behind : (p : Parts) (l : Left) (before : List State) (t : Tree) → All (Fits p) before → FitsLeft p (Some l) → waiting (Some t) ≡ left_states l ++ before → IsTree p t
+tree_behind p l before t h f e = let fits = fits-behind p l before (waiting (Some t)) h f e in
+    record { state = fits 0 (state_of t.state) (omega arith); pending = λ k d g. fits (suc k) d (omega (arith, g)) }
 
 -- ---- the number of states that stay
 

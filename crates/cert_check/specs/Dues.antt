@@ -1,5 +1,5 @@
 -- What is due in the code as the definitions see it. Of the states that stay open or stuck the code keeps the number.
-use Rattle.std.specs.Prelude.{◌≡◌, ℕ, ◌≤◌, List, [], Option, Some, map, reverse, replicate, length, drop, All, Result, Ok, Err, IsTrue}
+use Rattle.std.specs.Prelude.{◌≡◌, ℕ, ◌≤◌, List, [], Option, Some, map, replicate, length, drop, All, Result, Ok, Err, IsTrue}
 use Rattle.cover_model.specs.State.{State}
 use Rattle.cover_model.specs.Rules as rules
 use Rattle.cover_model.specs.Rules.{open_line}
@@ -9,7 +9,8 @@ use Rattle.ival.specs.declared.space.Space.{Space}
 use Rattle.ival.specs.SpaceViews.{space_of, capacity_of}
 use Rattle.cert_model.specs.Due.{Standing, Value, at_point, left_open, Due, version_due, margin_due, delta_due, bound_due, kind_due, next_due, yes_due, no_due, lemma_due, root_due, tree_due, end_due, nothing_due, Next, on, faulty, axis_next, coordinate_next, all_below, CertFault, after_rule, after_lemma_rule, tree_goes_on, lemma_goes_on}
 use Rattle.cert_model.specs.Accepted.{Course, stopped, reached, next}
-use Rattle.cert_check.specs.declared.state.State as code
+use Rattle.cert_check.specs.declared.standing.Lemma as code
+use Rattle.cert_check.specs.declared.pending.Pending.{Pending}
 use Rattle.cert_check.specs.declared.loosenings.Loosenings.{Loosenings}
 use Rattle.cert_check.specs.declared.due.Cover.{Cover}
 use Rattle.cert_check.specs.declared.due.Tree.{Tree}
@@ -18,7 +19,8 @@ use Rattle.cert_check.specs.declared.due.Value.TheVariants as kept
 use Rattle.cert_check.specs.declared.due.Due as held
 use Rattle.cert_check.specs.declared.due.Due.TheVariants as due
 use Rattle.cert_check.specs.declared.refusal.Refusal.{Refusal}
-use Rattle.cert_check.specs.States.{state_of, loosenings_of, Fits}
+use Rattle.cert_check.specs.States.{state_of, lemma_of, loosenings_of, Fits}
+use Rattle.cert_check.specs.Behind.{pending_of}
 use Rattle.cert_check.specs.Faults.{IsLineRefusal}
 
 -- ---- states that stay
@@ -53,12 +55,8 @@ lean_course (reached d n) = reached (lean d) n
 
 -- ---- views
 
-abbrev pub states_of : List code.State → List State
-states_of xs = map state_of xs
-
--- the next one first
-abbrev pub pending_of : List code.State → List State
-pending_of xs = reverse (states_of xs)
+abbrev pub states_of : List code.Lemma → List State
+states_of Ls = map lemma_of Ls
 
 abbrev pub value_of : value.Value → Value
 value_of (kept.Point space) = at_point (space_of space)
@@ -73,21 +71,21 @@ due_of p (due.Kind s) = kind_due (loosenings_of s)
 due_of p (due.Next c) = next_due (loosenings_of c.loosenings) c.count (states_of c.lemmas.items)
 due_of p (due.Axis c space) = axis_next (loosenings_of c.loosenings) c.count (states_of c.lemmas.items) (drop (length (space_of space)) p.axes) (space_of space)
 due_of p (due.No c space js) = no_due (loosenings_of c.loosenings) c.count (states_of c.lemmas.items) (space_of space) js.items
-due_of p (due.Lemma c L t) = lemma_due (loosenings_of c.loosenings) c.count (states_of c.lemmas.items) (state_of L) (state_of t.state) (pending_of t.pending.items)
+due_of p (due.Lemma c L t) = lemma_due (loosenings_of c.loosenings) c.count (states_of c.lemmas.items) (lemma_of L) (state_of t.state) (pending_of t.pending)
 due_of p (due.Root c) = root_due (loosenings_of c.loosenings) (states_of c.lemmas.items)
-due_of p (due.Tree c t n) = tree_due (loosenings_of c.loosenings) (states_of c.lemmas.items) (state_of t.state) (pending_of t.pending.items) (blanks n)
+due_of p (due.Tree c t n) = tree_due (loosenings_of c.loosenings) (states_of c.lemmas.items) (state_of t.state) (pending_of t.pending) (blanks n)
 due_of p (due.Coordinate s space) = coordinate_next (loosenings_of s) (drop (length (space_of space)) p.axes) (space_of space)
 due_of p (due.End s n) = end_due (loosenings_of s) (left_open (blanks n))
 due_of p (due.Nothing s v) = nothing_due (loosenings_of s) (value_of v)
 
 -- ---- what holds of the states in work
 
-abbrev pub AllFit : Parts → List code.State → Type 0
-AllFit p xs = All (λ S. Fits p (state_of S)) xs
+abbrev pub AllFit : Parts → List code.Lemma → Type 0
+AllFit p Ls = All (λ L. Fits p (lemma_of L)) Ls
 
 pub record IsTree (p : Parts) (t : Tree) : Type 0 where
   pub state : Fits p (state_of t.state)
-  pub pending : AllFit p t.pending.items
+  pub pending : All (Fits p) (pending_of t.pending)
 
 -- the space has room for the axes that are missing
 pub record HasRoom (p : Parts) (axes capacity : ℕ) : Type 0 where
@@ -98,7 +96,7 @@ abbrev pub IsSound : Parts → held.Due → Type 0
 IsSound p (due.Next c) = AllFit p c.lemmas.items
 IsSound p (due.Axis c space) = AllFit p c.lemmas.items × HasRoom p (length (space_of space)) (capacity_of space)
 IsSound p (due.No c space js) = AllFit p c.lemmas.items × (length (space_of space) ≡ length p.axes) × IsTrue (all_below (length p.atoms) js.items)
-IsSound p (due.Lemma c L t) = AllFit p c.lemmas.items × Fits p (state_of L) × IsTree p t
+IsSound p (due.Lemma c L t) = AllFit p c.lemmas.items × Fits p (lemma_of L) × IsTree p t
 IsSound p (due.Root c) = AllFit p c.lemmas.items
 IsSound p (due.Tree c t n) = AllFit p c.lemmas.items × IsTree p t
 IsSound p (due.Coordinate s space) = HasRoom p (length (space_of space)) (capacity_of space)
@@ -136,15 +134,15 @@ abbrev pub end_of_point : Loosenings → Space → Due
 end_of_point s space = end_due (loosenings_of s) (at_point (space_of space))
 
 -- the first line of the tree of a lemma with this state
-abbrev pub begun_lemma : Cover → code.State → Next
-begun_lemma c L = on (lemma_due (loosenings_of c.loosenings) c.count (states_of c.lemmas.items) (state_of L) (state_of L) [])
+abbrev pub begun_lemma : Cover → code.Lemma → Next
+begun_lemma c L = on (lemma_due (loosenings_of c.loosenings) c.count (states_of c.lemmas.items) (lemma_of L) (lemma_of L) [])
 
 -- what is due after a rule of the main tree that leaves this, with what is due where it fails
-abbrev pub after_main_rule : Cover → List code.State → ℕ → rules.Left → CertFault → Standing → Next
+abbrev pub after_main_rule : Cover → Pending → ℕ → rules.Left → CertFault → Standing → Next
 after_main_rule c pending stayed left f x =
     after_rule (Some left) f x (pending_of pending) (blanks stayed) (tree_goes_on (loosenings_of c.loosenings) (states_of c.lemmas.items))
 
 -- what is due after a rule of the tree of a lemma with this state
-abbrev pub after_rule_of_lemma : Cover → code.State → List code.State → rules.Left → CertFault → Next
+abbrev pub after_rule_of_lemma : Cover → code.Lemma → Pending → rules.Left → CertFault → Next
 after_rule_of_lemma c L pending left f =
-    after_lemma_rule (Some left) f (pending_of pending) (lemma_goes_on (loosenings_of c.loosenings) c.count (states_of c.lemmas.items) (state_of L))
+    after_lemma_rule (Some left) f (pending_of pending) (lemma_goes_on (loosenings_of c.loosenings) c.count (states_of c.lemmas.items) (lemma_of L))

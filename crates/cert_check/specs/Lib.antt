@@ -1,4 +1,6 @@
 pub mod Axis
+pub mod Behind
+pub mod Changed
 pub mod Checked
 pub mod Checking
 pub mod Combinations
@@ -16,3 +18,4 @@ pub mod States
 pub mod Stays
 pub mod Steps
 pub mod Waiting
+pub mod Within

@@ -5,11 +5,16 @@ use Rattle.dyadic.specs.Rounding.{exact}
 use Rattle.cover_model.specs.State
 use Rattle.poly_graph.specs.ProblemViews.{Parts}
 use Rattle.ival.specs.SpaceViews.{space_of}
+use Rattle.poly_graph.specs.Marks.{marks_of}
 use Rattle.cert_check.specs.declared.state.State.{State}
+use Rattle.cert_check.specs.declared.standing.Lemma.{Lemma}
 use Rattle.cert_check.specs.declared.loosenings.Loosenings.{Loosenings}
 
 abbrev pub state_of : State → State.State
 state_of S = record { space = space_of S.space; marks = S.lits }
+
+abbrev pub lemma_of : Lemma → State.State
+lemma_of L = record { space = space_of L.space; marks = marks_of L.atoms L.yes.items L.no.items }
 
 abbrev pub loosenings_of : Loosenings → State.Loosenings
 loosenings_of s = record { margin_bits = s.margin; delta_bits = s.delta; version = s.version }

@@ -14,8 +14,9 @@ use Rattle.cert_check.specs.declared.said.TreeLine.{TreeLine}
 use Rattle.cert_check.specs.declared.said.TreeLine.TheVariants as said
 use Rattle.cert_check.specs.declared.left.Left.{Left}
 use Rattle.cert_check.specs.declared.left.Left.TheVariants.{Closed, One, Two, Stays}
+use Rattle.cert_check.specs.declared.standing.Lemma.{Lemma}
 use Rattle.cert_check.specs.declared.state.State.{State}
-use Rattle.cert_check.specs.States.{state_of}
+use Rattle.cert_check.specs.States.{state_of, lemma_of}
 
 abbrev pub rule_line_of : Step → RuleLine
 rule_line_of (step.Pull j) = pull_at j
@@ -71,8 +72,8 @@ lefts None = None
 lefts (Some l) = Some (left_of l)
 
 -- what a rule leaves of a state, where these lemmas stand; none, where its condition fails
-abbrev pub IsLeftBy : rules.Line → Parts → Loosenings → List State → State → Option Left → Type 0
-IsLeftBy r p s lemmas S left = lefts left ≡ rule (problem_of p) s (map state_of lemmas) (state_of S) r
+abbrev pub IsLeftBy : rules.Line → Parts → Loosenings → List Lemma → State → Option Left → Type 0
+IsLeftBy r p s lemmas S left = lefts left ≡ rule (problem_of p) s (map lemma_of lemmas) (state_of S) r
 
 -- the same for a rule that asks for nothing but the state
 abbrev pub IsLeftAnywhere : rules.Line → State → Option Left → Type 0

@@ -3,13 +3,14 @@ ghost use Rattle.std.specs.Prelude.{◌≡◌, ◌<◌, [], length, map, All};
 ghost use Rattle.cover_model.specs.Rules.{void, void_no, make_false, by};
 ghost use Rattle.cover_model.specs.State.{Loosenings as StateLoosenings};
 ghost use Rattle.poly_graph.specs.ProblemViews.{problem_of};
-ghost use Rattle.cert_check.specs.States.{state_of, loosenings_of, Fits};
+ghost use Rattle.cert_check.specs.States.{state_of, lemma_of, loosenings_of, Fits};
 ghost use Rattle.cert_check.specs.Steps.{IsLeftBy};
 ghost use Rattle.cert_check.specs.Serving.{Serves};
 
 use crate::left::Left;
 use crate::loosenings::Loosenings;
 use crate::moves::{can_push, lemma_covers};
+use crate::standing::Lemma;
 use crate::state::State;
 use crate::tools::Tools;
 use ival::Narrowed;
@@ -80,8 +81,8 @@ pub fn make_false(problem: &Problem, tools: &mut Tools, s: Loosenings, state: St
 }
 
 /// Closed, where the lemma covers the state.
-pub fn by(problem: &Problem, lemmas: &[State], state: State, i: u32) -> Option<Left>
-    requires lemmas { All (λ L. Fits problem.now (state_of L)) lemmas.now }
+pub fn by(problem: &Problem, lemmas: &[Lemma], state: State, i: u32) -> Option<Left>
+    requires lemmas { All (λ L. Fits problem.now (lemma_of L)) lemmas.now }
     requires fits { Fits problem.now (state_of state) }
     ensures { (s : StateLoosenings) → IsLeftBy (by i) problem.now s lemmas.now state result }
 {

@@ -1,5 +1,7 @@
 // What is due in a certificate.
 use crate::loosenings::Loosenings;
+use crate::pending::Pending;
+use crate::standing::Lemma;
 use crate::state::State;
 use ival::Space;
 
@@ -9,7 +11,7 @@ pub struct Cover {
     pub loosenings: Loosenings,
     /// How many lemmas the header tells.
     pub count: u32,
-    pub lemmas: Vec<State>,
+    pub lemmas: Vec<Lemma>,
 }
 
 /// The states of a tree that are in work.
@@ -17,8 +19,8 @@ pub struct Cover {
 pub struct Tree {
     /// The state where the next line stands.
     pub state: State,
-    /// The second states of branches whose first child is in work, the next one last.
-    pub pending: Vec<State>,
+    /// The second states of branches whose first child is in work.
+    pub pending: Pending,
 }
 
 /// What an accepted certificate stands for.
@@ -47,7 +49,7 @@ pub enum Due {
     /// The `no` of a lemma's state, whose atoms marked yes are these.
     No(Cover, Space, Vec<u32>),
     /// A line of a lemma's tree; the lemma's state is the first one.
-    Lemma(Cover, State, Tree),
+    Lemma(Cover, Lemma, Tree),
     /// The first line of the main tree.
     Root(Cover),
     /// A later line of the main tree, of which so many states stayed.

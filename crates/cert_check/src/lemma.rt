@@ -6,19 +6,21 @@ ghost use Rattle.cert_model.specs.Due.{bool_domain_of, extra_after, faulty};
 ghost use Rattle.poly_graph.specs.ProblemViews.{declared_of, Parts};
 ghost use Rattle.ival.specs.SpaceViews.{space_of, truths_of};
 ghost use Rattle.cert_check.specs.declared.due.Due.TheVariants.{Next as NextDue, Axis as AxisDue, No as NoDue};
-ghost use Rattle.cert_check.specs.States.{Fits, state_of};
+ghost use Rattle.cert_check.specs.States.{Fits, lemma_of};
 ghost use Rattle.cert_check.specs.Faults.{IsLineRefusal};
 ghost use Rattle.cert_check.specs.Axis.{IsAxis};
 ghost use Rattle.cert_check.specs.Dues.{AllFit, begun_lemma, IsNext, IsNextOf, IsOutcome, IsSound, states_of, yes_of};
 
 use crate::due::{Cover, Due, Tree};
 use crate::lists::{is_list, marks};
+use crate::pending::Pending;
 use crate::refusal::Refusal;
 use crate::said::{TreeLine, said};
+use crate::standing::Lemma;
 use crate::state::State;
 use cert_read::{BoolSet, Line};
 use ival::{Domain, Range, Space, Truths};
-use poly_graph::{Declared, Problem};
+use poly_graph::{Declared, Lits, Problem};
 use std::alloc::Global;
 
 // The first axis of the next lemma.
@@ -165,13 +167,15 @@ pub fn axis_line(
 }
 
 // The first line of the tree of a lemma with this state.
-fn lemma_tree(alloc: Global, cover: Cover, lemma: State) -> Result<Due, Refusal>
+fn lemma_tree(alloc: Global, cover: Cover, lemma: Lemma, lits: Lits) -> Result<Due, Refusal>
+    requires { lits ≡ (lemma_of lemma).marks }
     ensures comes { (p : Parts) → IsOutcome p result (begun_lemma cover lemma) }
-    ensures sound { (p : Parts) → AllFit p cover.lemmas.items → Fits p (state_of lemma) →
+    ensures sound { (p : Parts) → AllFit p cover.lemmas.items → Fits p (lemma_of lemma) →
         IfOk result (IsSound p) }
 {
-    let state = lemma.try_clone(alloc)?;
-    let pending = Vec::new(alloc);
+    let space = lemma.space.try_clone(alloc)?;
+    let state = State { space, lits };
+    let pending = Pending::Empty;
     Ok(Due::Lemma(cover, lemma, Tree { state, pending }))
 }
 
@@ -196,7 +200,16 @@ pub fn no_line(
             }
             match marks(alloc, atoms, &yes, js)? {
                 None => Err(Refusal::BadNumber),
-                Some(lits) => lemma_tree(alloc, cover, State { space, lits }),
+                Some(lits) => {
+                    let no = Vec::from_slice(alloc, js)?;
+                    let lemma = Lemma {
+                        space,
+                        atoms,
+                        yes,
+                        no,
+                    };
+                    lemma_tree(alloc, cover, lemma, lits)
+                }
             }
         }
         _ => Err(Refusal::Missing),

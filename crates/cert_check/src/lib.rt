@@ -8,9 +8,11 @@
 
 mod branches;
 mod centre;
+mod changes;
 mod checker;
 mod closing;
 mod combination;
+mod covering;
 mod due;
 mod fault;
 mod feed;
@@ -25,10 +27,12 @@ mod loosenings;
 mod moves;
 mod names;
 mod next;
+mod pending;
 mod point;
 mod refusal;
 mod rules;
 mod said;
+mod standing;
 mod state;
 mod tools;
 mod tree;

@@ -3,7 +3,7 @@ ghost use Rattle.std.specs.Prelude.{◌<◌, ◌≤◌};
 
 /// The loosenings of pruning, 2 to the power of minus `margin`, and of points, 2 to the power of minus `delta`; and the
 /// version of the format.
-#[derive(Clone, Copy, Debug, PartialEq, Eq)]
+#[derive(Clone, Copy)]
 pub struct Loosenings {
     pub margin: u32,
     pub delta: u32,

@@ -3,12 +3,14 @@ ghost use Rattle.std.specs.Prelude.{◌≡◌, ◌<◌, [], length, map, All};
 ghost use Rattle.cover_model.specs.Rules.{pull, push, unit, ban, can_push, lemma_covers};
 ghost use Rattle.cover_model.specs.State.{Loosenings as StateLoosenings};
 ghost use Rattle.poly_graph.specs.ProblemViews.{problem_of};
-ghost use Rattle.cert_check.specs.States.{state_of, loosenings_of, Fits};
+ghost use Rattle.cert_check.specs.States.{state_of, lemma_of, loosenings_of, Fits};
 ghost use Rattle.cert_check.specs.Steps.{IsLeftBy};
 ghost use Rattle.cert_check.specs.Serving.{Serves};
 
+use crate::covering::covers;
 use crate::left::Left;
 use crate::loosenings::Loosenings;
+use crate::standing::Lemma;
 use crate::state::State;
 use crate::tools::{Tools, is_inequality};
 use ival::Narrowed;
@@ -101,19 +103,19 @@ pub fn unit(
 }
 
 /// Whether the lemma of this number covers the state.
-pub fn lemma_covers(_problem: &Problem, lemmas: &[State], i: u32, state: &State) -> bool
-    requires lemmas { All (λ L. Fits _problem.now (state_of L)) lemmas.now }
+pub fn lemma_covers(_problem: &Problem, lemmas: &[Lemma], i: u32, state: &State) -> bool
+    requires lemmas { All (λ L. Fits _problem.now (lemma_of L)) lemmas.now }
     requires fits { Fits _problem.now (state_of state.now) }
-    ensures { result ≡ lemma_covers (map state_of lemmas.now) i (state_of state.now) }
+    ensures { result ≡ lemma_covers (map lemma_of lemmas.now) i (state_of state.now) }
 {
     let i = i as usize;
-    i < lemmas.len() && lemmas[i].covers(state)
+    i < lemmas.len() && covers(&lemmas[i], state)
 }
 
 /// The atom marked no, where the lemma covers the state with the atom marked yes.
 #[tactic(auto, using(crate::proofs::OneMark::ban_one))]
-pub fn ban(problem: &Problem, lemmas: &[State], state: State, j: u32, i: u32) -> Option<Left>
-    requires lemmas { All (λ L. Fits problem.now (state_of L)) lemmas.now }
+pub fn ban(problem: &Problem, lemmas: &[Lemma], state: State, j: u32, i: u32) -> Option<Left>
+    requires lemmas { All (λ L. Fits problem.now (lemma_of L)) lemmas.now }
     requires fits { Fits problem.now (state_of state) }
     requires atom { j < length problem.now.atoms }
     ensures { (s : StateLoosenings) → IsLeftBy (ban j i) problem.now s lemmas.now state result }

@@ -8,7 +8,7 @@ use cert_read::LineFault;
 use std::alloc::{AllocError, AllocFailed};
 
 /// The fault of a line.
-#[derive(Clone, Copy, Debug, PartialEq, Eq)]
+#[derive(Clone, Copy)]
 pub enum Refusal {
     BadHeader,
     BadNumber,

@@ -2,7 +2,7 @@
 ghost use Rattle.std.specs.Prelude.{All, IfOk, IsTrue};
 ghost use Rattle.poly_graph.specs.ProblemViews.{problem_of};
 ghost use Rattle.cert_model.specs.Due.{names_well};
-ghost use Rattle.cert_check.specs.States.{state_of, loosenings_of, Fits};
+ghost use Rattle.cert_check.specs.States.{state_of, lemma_of, loosenings_of, Fits};
 ghost use Rattle.cert_check.specs.Steps.{IsLeftBy, step_rule};
 ghost use Rattle.cert_check.specs.Serving.{Serves};
 
@@ -13,6 +13,7 @@ use crate::left::Left;
 use crate::loosenings::Loosenings;
 use crate::moves::{ban, pull, push, unit};
 use crate::said::Step;
+use crate::standing::Lemma;
 use crate::state::State;
 use crate::tools::Tools;
 use poly_graph::Problem;
@@ -24,12 +25,12 @@ pub fn rule(
     problem: &Problem,
     tools: &mut Tools,
     s: Loosenings,
-    lemmas: &[State],
+    lemmas: &[Lemma],
     state: State,
     step: Step,
 ) -> Result<Option<Left>, AllocError>
     requires serves { Serves problem.now tools.old }
-    requires lemmas { All (λ L. Fits problem.now (state_of L)) lemmas.now }
+    requires lemmas { All (λ L. Fits problem.now (lemma_of L)) lemmas.now }
     requires fits { Fits problem.now (state_of state) }
     requires names { IsTrue (names_well (problem_of problem.now) (step_rule step)) }
     ensures rule { IfOk result

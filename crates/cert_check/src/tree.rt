@@ -1,24 +1,27 @@
 // The lines of trees.
-ghost use Rattle.std.specs.Prelude.{◌≡◌, ◌<◌, ◌-◌, ◌^◌, ◌++◌, IfOk, IfSome, Some};
+ghost use Rattle.std.specs.Prelude.{◌≡◌, ◌<◌, ◌-◌, ◌^◌, ◌++◌, IfOk, IsTrue, Some};
 ghost use Rattle.cert_read.specs.Views.{line_of};
-ghost use Rattle.cert_model.specs.Due.{CertFault as Fault, Standing, RuleFails};
-ghost use Rattle.poly_graph.specs.ProblemViews.{Parts};
+ghost use Rattle.cert_model.specs.Due.{CertFault as Fault, names_well, Standing, RuleFails};
+ghost use Rattle.poly_graph.specs.ProblemViews.{Parts, problem_of};
 ghost use Rattle.cert_check.specs.declared.due.Due.TheVariants.{End as EndDue, Lemma as LemmaDue, Root as RootDue, Tree as TreeDue};
-ghost use Rattle.cert_check.specs.States.{Fits, state_of};
-ghost use Rattle.cert_check.specs.Steps.{left_of, line_of_step};
+ghost use Rattle.cert_check.specs.Steps.{left_of, line_of_step, step_rule};
+ghost use Rattle.cert_check.specs.Within.{IsStepInTree};
 ghost use Rattle.cert_check.specs.Faults.{rule_word};
 ghost use Rattle.cert_check.specs.Serving.{Serves};
-ghost use Rattle.cert_check.specs.Dues.{after_main_rule, after_rule_of_lemma, AllFit, IsNext, IsNextAnywhere, IsOutcome, IsSound, IsTree, pending_of};
-ghost use Rattle.cert_check.specs.Waiting.{counted_stays, HasTreeBehind, is_stays, IsSoundBehind, IsSoundInLemma, left_states, waiting};
+ghost use Rattle.cert_check.specs.Behind.{pending_of};
+ghost use Rattle.cert_check.specs.Dues.{after_main_rule, after_rule_of_lemma, IsNext, IsNextAnywhere, IsOutcome, IsSound};
+ghost use Rattle.cert_check.specs.Waiting.{counted_stays, is_stays, IsSoundBehind, IsSoundInLemma, left_states, waiting};
 
 use crate::due::{Cover, Due, Tree, Value};
 use crate::fault::Rule;
 use crate::left::Left;
 use crate::loosenings::Loosenings;
 use crate::names::{crosses, names_well, no_crossing};
+use crate::pending::{Pending, behind, wait};
 use crate::refusal::Refusal;
 use crate::rules::rule;
 use crate::said::{Step, TreeLine, said};
+use crate::standing::Lemma;
 use crate::state::State;
 use crate::tools::Tools;
 use cert_read::Line;
@@ -26,33 +29,30 @@ use poly_graph::{Lits, Problem};
 use std::alloc::{AllocError, Global};
 use truth3::{Root, root_space};
 
-// The tree whose next state is the last of these; none where there is no state.
-#[tactic(auto, using(crate::proofs::Waits::pending_more, crate::proofs::Waits::pending_none))]
-fn next_state(pending: Vec<State>) -> Option<Tree>
-    ensures waiting { waiting result ≡ pending_of pending.items }
-    ensures fits { (p : Parts) → AllFit p pending.items → IfSome result (IsTree p) }
+// The tree whose next state is the first of these; none where there is no state.
+fn next_state(alloc: Global, pending: Pending) -> Result<Option<Tree>, AllocError>
+    ensures { IfOk result (λ o. waiting o ≡ pending_of pending) }
 {
-    let mut pending = pending;
-    match pending.pop() {
-        None => None,
-        Some(state) => Some(Tree { state, pending }),
+    match pending {
+        Pending::Empty => Ok(None),
+        Pending::Next(state, below) => {
+            let pending = behind(alloc, &state, below)?;
+            Ok(Some(Tree { state, pending }))
+        }
     }
 }
 
 // What is in work after a rule of which this is left; none where the tree is complete.
-#[tactic(auto, using(crate::proofs::Waits::pending_more, crate::proofs::Waits::pending_none))]
-fn leave(pending: Vec<State>, left: Left) -> Result<Option<Tree>, AllocError>
-    ensures waiting { IfOk result (λ o.
-        waiting o ≡ left_states (left_of left) ++ pending_of pending.items) }
-    ensures fits { HasTreeBehind pending.items left result }
+fn leave(alloc: Global, pending: Pending, left: Left) -> Result<Option<Tree>, AllocError>
+    ensures { IfOk result (λ o.
+        waiting o ≡ left_states (left_of left) ++ pending_of pending) }
 {
     match left {
-        Left::Closed => Ok(next_state(pending)),
-        Left::Stays => Ok(next_state(pending)),
+        Left::Closed => next_state(alloc, pending),
+        Left::Stays => next_state(alloc, pending),
         Left::One(state) => Ok(Some(Tree { state, pending })),
         Left::Two(state, second) => {
-            let mut pending = pending;
-            pending.push(second)?;
+            let pending = wait(alloc, pending, second)?;
             Ok(Some(Tree { state, pending }))
         }
     }
@@ -85,14 +85,20 @@ fn is_stays(left: &Left) -> bool
 
 // What is due in the main tree after a rule of which this is left.
 #[tactic(auto, using(crate::proofs::Waits::main_done, crate::proofs::Waits::main_on))]
-fn main_left(cover: Cover, pending: Vec<State>, stayed: u64, left: Left) -> Result<Due, Refusal>
+fn main_left(
+    alloc: Global,
+    cover: Cover,
+    pending: Pending,
+    stayed: u64,
+    left: Left,
+) -> Result<Due, Refusal>
     requires { stayed < 2 ^ 64 - 1 }
     ensures comes { (p : Parts) (f : Fault) (x : Standing) →
-        IsOutcome p result (after_main_rule cover pending.items stayed (left_of left) f x) }
-    ensures sound { IsSoundBehind cover.lemmas.items pending.items left result }
+        IsOutcome p result (after_main_rule cover pending stayed (left_of left) f x) }
+    ensures sound { IsSoundBehind cover.lemmas.items pending left result }
 {
     let stayed = count_stays(stayed, &left);
-    match leave(pending, left)? {
+    match leave(alloc, pending, left)? {
         None => Ok(Due::End(cover.loosenings, stayed)),
         Some(tree) => Ok(Due::Tree(cover, tree, stayed)),
     }
@@ -101,20 +107,21 @@ fn main_left(cover: Cover, pending: Vec<State>, stayed: u64, left: Left) -> Resu
 // What is due in a lemma's tree after a rule of this word of which this is left.
 #[tactic(auto, using(crate::proofs::Waits::lemma_done, crate::proofs::Waits::lemma_on, crate::proofs::Waits::lemma_stays, crate::proofs::Waits::states_more))]
 fn lemma_left(
+    alloc: Global,
     cover: Cover,
-    lemma: State,
-    pending: Vec<State>,
+    lemma: Lemma,
+    pending: Pending,
     left: Left,
     word: Rule,
 ) -> Result<Due, Refusal>
     ensures comes { (p : Parts) → IsOutcome p result (after_rule_of_lemma cover lemma
-        pending.items (left_of left) (RuleFails (rule_word word))) }
-    ensures sound { IsSoundInLemma cover.lemmas.items lemma pending.items left result }
+        pending (left_of left) (RuleFails (rule_word word))) }
+    ensures sound { IsSoundInLemma cover.lemmas.items lemma pending left result }
 {
     if is_stays(&left) {
         return Err(Refusal::RuleFails(word));
     }
-    match leave(pending, left)? {
+    match leave(alloc, pending, left)? {
         None => {
             let mut cover = cover;
             cover.lemmas.push(lemma)?;
@@ -137,14 +144,12 @@ fn main_rule(
     requires serves { Serves problem.now tools.old }
     requires sound { IsSound problem.now (TreeDue cover tree stayed) }
     requires room { stayed < 2 ^ 64 - 1 }
+    requires names { IsTrue (names_well (problem_of problem.now) (step_rule step)) }
     ensures comes { IsNext problem.now (TreeDue cover tree stayed)
         (line_of_step step.entry) result }
     ensures sound { IfOk result (IsSound problem.now) }
     ensures serves { Serves problem.now tools.new }
 {
-    if !names_well(problem, step) {
-        return Err(Refusal::BadNumber);
-    }
     let Tree { state, pending } = tree;
     match rule(
         alloc,
@@ -156,7 +161,7 @@ fn main_rule(
         step,
     )? {
         None => Err(Refusal::RuleFails(step.word())),
-        Some(left) => main_left(cover, pending, stayed, left),
+        Some(left) => main_left(alloc, cover, pending, stayed, left),
     }
 }
 
@@ -166,20 +171,18 @@ fn lemma_rule(
     problem: &Problem,
     tools: &mut Tools,
     cover: Cover,
-    lemma: State,
+    lemma: Lemma,
     tree: Tree,
     step: Step,
 ) -> Result<Due, Refusal>
     requires serves { Serves problem.now tools.old }
     requires sound { IsSound problem.now (LemmaDue cover lemma tree) }
+    requires names { IsTrue (names_well (problem_of problem.now) (step_rule step)) }
     ensures comes { IsNext problem.now (LemmaDue cover lemma tree)
         (line_of_step step.entry) result }
     ensures sound { IfOk result (IsSound problem.now) }
     ensures serves { Serves problem.now tools.new }
 {
-    if !names_well(problem, step) {
-        return Err(Refusal::BadNumber);
-    }
     let Tree { state, pending } = tree;
     match rule(
         alloc,
@@ -191,7 +194,27 @@ fn lemma_rule(
         step,
     )? {
         None => Err(Refusal::RuleFails(step.word())),
-        Some(left) => lemma_left(cover, lemma, pending, left, step.word()),
+        Some(left) => lemma_left(alloc, cover, lemma, pending, left, step.word()),
+    }
+}
+
+// The rule of a line inside a tree, which names what is there; else the line's fault.
+fn step_in_tree<'a>(problem: &Problem, line: &'a Line) -> Result<Step<'a>, Refusal>
+    ensures { IsStepInTree problem.now (line_of line.now) result }
+{
+    match said(line) {
+        TreeLine::Rule(step) => {
+            if names_well(problem, step) {
+                Ok(step)
+            } else {
+                Err(Refusal::BadNumber)
+            }
+        }
+        TreeLine::Crossing(axis) => Err(no_crossing(problem, axis)),
+        TreeLine::Lemma(_) => Err(Refusal::Missing),
+        TreeLine::Tree => Err(Refusal::Missing),
+        TreeLine::End => Err(Refusal::Missing),
+        TreeLine::Other => Err(Refusal::Missing),
     }
 }
 
@@ -201,7 +224,7 @@ pub fn lemma_line(
     problem: &Problem,
     tools: &mut Tools,
     cover: Cover,
-    lemma: State,
+    lemma: Lemma,
     tree: Tree,
     line: &Line,
 ) -> Result<Due, Refusal>
@@ -211,13 +234,9 @@ pub fn lemma_line(
     ensures sound { IfOk result (IsSound problem.now) }
     ensures serves { Serves problem.now tools.new }
 {
-    match said(line) {
-        TreeLine::Rule(step) => lemma_rule(alloc, problem, tools, cover, lemma, tree, step),
-        TreeLine::Crossing(axis) => Err(no_crossing(problem, axis)),
-        TreeLine::Lemma(_) => Err(Refusal::Missing),
-        TreeLine::Tree => Err(Refusal::Missing),
-        TreeLine::End => Err(Refusal::Missing),
-        TreeLine::Other => Err(Refusal::Missing),
+    match step_in_tree(problem, line) {
+        Ok(step) => lemma_rule(alloc, problem, tools, cover, lemma, tree, step),
+        Err(refusal) => Err(refusal),
     }
 }
 
@@ -238,13 +257,9 @@ pub fn tree_line(
     ensures sound { IfOk result (IsSound problem.now) }
     ensures serves { Serves problem.now tools.new }
 {
-    match said(line) {
-        TreeLine::Rule(step) => main_rule(alloc, problem, tools, cover, tree, stayed, step),
-        TreeLine::Crossing(axis) => Err(no_crossing(problem, axis)),
-        TreeLine::Lemma(_) => Err(Refusal::Missing),
-        TreeLine::Tree => Err(Refusal::Missing),
-        TreeLine::End => Err(Refusal::Missing),
-        TreeLine::Other => Err(Refusal::Missing),
+    match step_in_tree(problem, line) {
+        Ok(step) => main_rule(alloc, problem, tools, cover, tree, stayed, step),
+        Err(refusal) => Err(refusal),
     }
 }
 
@@ -262,18 +277,15 @@ fn root_rule(
     ensures sound { IfOk result (IsSound problem.now) }
     ensures serves { Serves problem.now tools.new }
 {
+    if !names_well(problem, step) {
+        return Err(Refusal::BadNumber);
+    }
     match root_space(alloc, problem)? {
-        Root::Empty(_) => {
-            if names_well(problem, step) {
-                Err(Refusal::RuleFails(step.word()))
-            } else {
-                Err(Refusal::BadNumber)
-            }
-        }
+        Root::Empty(_) => Err(Refusal::RuleFails(step.word())),
         Root::Space(space) => {
             let lits = Lits::new(alloc, problem.atoms().len())?;
             let state = State { space, lits };
-            let pending = Vec::new(alloc);
+            let pending = Pending::Empty;
             main_rule(
                 alloc,
                 problem,

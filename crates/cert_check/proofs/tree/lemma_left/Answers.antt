@@ -1,8 +1,10 @@
-use Rattle.std.proofs.Common.{Option, subst, IfSome}
-use Rattle.cert_check.specs.declared.due.Tree.{Tree}
-use Rattle.cert_check.specs.Dues.{IsTree}
+use Rattle.std.proofs.Common.{sym, ap, ◌∙◌}
+use Rattle.cert_check.specs.Steps.{left_of}
+use Rattle.cert_check.specs.Behind.{pending_of}
+use Rattle.cert_check.specs.Waiting.{waiting}
+use Rattle.cert_check.proofs.Waits.{tree_behind}
 use Rattle.cert_check.proofs.tree.lemma_left.Goals as goal
 
 pub returns-in-Some-clause-sound : goal.returns-in-Some-clause-sound
 returns-in-Some-clause-sound c p lemmas lemma pending left =
-    (lemmas, lemma, subst (λ (o : Option Tree). IfSome o (IsTree p)) c.in-Some.is (c.in_ok-leave.ensures.fits p pending left))
+    (lemmas, lemma, tree_behind p (left_of c.args.left) (pending_of c.args.pending) c.in-Some.tree pending left (ap waiting (sym c.in-Some.is) ∙ c.in_ok-leave.ensures))

@@ -6,7 +6,10 @@ use Rattle.cert_check.specs.declared.due.Due.TheVariants.{Lemma}
 use Rattle.cert_check.specs.Dues.{IsOutcome, due_of}
 use Rattle.cert_check.proofs.tree.lemma_line.Goals as goal
 
-pub returns-in-Rule-clause-comes : goal.returns-in-Rule-clause-comes
-returns-in-Rule-clause-comes c b =
+pub returns-in-Ok-clause-comes : goal.returns-in-Ok-clause-comes
+returns-in-Ok-clause-comes c b =
     let p = c.args.problem.now in
-    subst (λ (l : CertLine). IsOutcome p c.lemma_rule.result (next (problem_of p) b (due_of p (Lemma c.args.cover c.args.lemma c.args.tree)) l)) (sym c.in-Rule.ensures) (c.lemma_rule.ensures.comes b)
+    subst (λ (l : CertLine). IsOutcome p c.lemma_rule.result (next (problem_of p) b (due_of p (Lemma c.args.cover c.args.lemma c.args.tree)) l)) (sym c.in-Ok.ensures.0) (c.lemma_rule.ensures.comes b)
+
+pub returns-in-Err-clause-comes : goal.returns-in-Err-clause-comes
+returns-in-Err-clause-comes c b = c.in-Err.ensures.lemma b _ _ _ _ _ _

@@ -1,8 +1,17 @@
-use Rattle.std.proofs.Common.{Option, subst, IfSome}
-use Rattle.cert_check.specs.declared.due.Tree.{Tree}
-use Rattle.cert_check.specs.Dues.{IsTree}
+use Rattle.std.proofs.Common.{sym, ap, ◌∙◌}
+use Rattle.cert_check.specs.Dues.{states_of}
+use Rattle.cert_check.specs.States.{state_of, loosenings_of}
+use Rattle.cert_check.specs.Steps.{left_of}
+use Rattle.cert_check.specs.Behind.{pending_of}
+use Rattle.cert_check.specs.Waiting.{waiting}
+use Rattle.cert_check.proofs.Waits.{main_on, tree_behind}
 use Rattle.cert_check.proofs.tree.main_left.Goals as goal
+
+pub returns-in-Some-clause-comes : goal.returns-in-Some-clause-comes
+returns-in-Some-clause-comes c p f x =
+    main_on (loosenings_of c.args.cover.loosenings) (states_of c.args.cover.lemmas.items) (left_of c.args.left) f x (pending_of c.args.pending) c.args.stayed
+    c.count_stays-stayed.result c.count_stays-stayed.ensures (state_of c.in-Some.tree.state) (pending_of c.in-Some.tree.pending) (sym c.in_ok-leave.ensures ∙ ap waiting c.in-Some.is)
 
 pub returns-in-Some-clause-sound : goal.returns-in-Some-clause-sound
 returns-in-Some-clause-sound c p lemmas pending left =
-    (lemmas, subst (λ (o : Option Tree). IfSome o (IsTree p)) c.in-Some.is (c.in_ok-leave.ensures.fits p pending left))
+    (lemmas, tree_behind p (left_of c.args.left) (pending_of c.args.pending) c.in-Some.tree pending left (ap waiting (sym c.in-Some.is) ∙ c.in_ok-leave.ensures))

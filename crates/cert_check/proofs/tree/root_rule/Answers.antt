@@ -1,4 +1,4 @@
-use Rattle.std.proofs.Common.{ℕ, List, [], Option, length, sym, subst, ap, ap₂, ◌∙◌}
+use Rattle.std.proofs.Common.{ℕ, [], Option, length, sym, subst, ap, ◌∙◌}
 use Rattle.std.proofs.lemmas.List.{length-map}
 use Rattle.cover_model.specs.State.{State}
 use Rattle.poly_graph.specs.Views.{atom_of}
@@ -10,17 +10,17 @@ use Rattle.ival.specs.SpaceViews.{space_of}
 use Rattle.truth3.specs.Roots.{IsRoot}
 use Rattle.cert_check.specs.States.{loosenings_of}
 use Rattle.cert_check.specs.Steps.{rule_line_of}
-use Rattle.cert_check.specs.Dues.{IsOutcome, states_of, pending_of}
+use Rattle.cert_check.specs.Dues.{IsOutcome, states_of}
 use Rattle.cert_check.proofs.RuleFits.{root_is}
 use Rattle.cert_check.proofs.tree.root_rule.Goals as goal
 
-pub returns-clause-comes : goal.returns-clause-comes
-returns-clause-comes c b =
+pub returns-in_ok-lits-in-Space-clause-comes : goal.returns-in_ok-lits-in-Space-clause-comes
+returns-in_ok-lits-in-Space-clause-comes c b =
     let p = c.args.problem.now in let P = problem_of p in let s = loosenings_of c.args.cover.loosenings in let lemmas = states_of c.args.cover.lemmas.items in let l = rule_line_of c.args.step in
     let root = subst (λ (r : Root). IsRoot p r) c.in-Space.is c.in_ok-root_space.ensures in
     let count = sym (length-map c.atoms.result.now atom_of) ∙ ap length c.atoms.ensures.atoms in
     let state = root_is p (space_of c.in-Space.space) c.in_ok-lits-in-Space.lits (length c.atoms.result.now) root.1 (c.in_ok-lits-in-Space.ensures) count in
     subst (λ (x : Next). IsOutcome p c.main_rule.result x)
-    (ap₂ (λ (S : State) (ps : List State). tree_line P s lemmas S ps [] l) state (ap pending_of c.new-pending.ensures.items)
+    (ap (λ (S : State). tree_line P s lemmas S [] [] l) state
     ∙ sym (ap (λ (o : Option ℕ). root_line (is_some_axis o) P s lemmas l) root.0))
     (c.main_rule.ensures.comes b)
