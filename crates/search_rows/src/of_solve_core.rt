@@ -33,9 +33,11 @@ fn searches_end_with_their_verdicts(rt: HostRuntime) -> Result<(), Fail> {
     Ok(())
 }
 
-// A gate that holds a worker at a node other than the first until two are at work, for so many turns at most.
+// A gate that holds a worker at this node or a later one until so many are at work, for so many turns at most.
 #[derive(Drop)]
 struct Meeting {
+    wanted: u64,
+    first: u32,
     at_work: AtomicU64,
     met: AtomicBool,
 }
@@ -55,10 +57,10 @@ fn hold(flag: &AtomicBool) {
 impl Gate for Meeting {
     fn began(&self, _worker: u32, node: u32) {
         let before = self.at_work.fetch_add(1, Ordering::SeqCst);
-        if before > 0 {
+        if before.saturating_add(1) >= self.wanted {
             self.met.store(true, Ordering::SeqCst);
         }
-        if node != 0 {
+        if node >= self.first {
             hold(&self.met);
         }
     }
@@ -68,15 +70,22 @@ impl Gate for Meeting {
     }
 }
 
+// How many workers meet, and from which node on they are held: the first one at which as many boxes are live.
+const MEETINGS: [(u32, u32); 2] = [(2, 1), (3, 3)];
+
 #[test]
-fn two_workers_are_at_work_at_once(rt: HostRuntime) -> Result<(), Fail> {
-    let gate = Meeting {
-        at_work: AtomicU64::new(0),
-        met: AtomicBool::new(false),
-    };
-    let book = searched(&rt, rt.alloc(), SWAPPED, 65_536, 2, &gate)?;
-    assert_eq!(rt; book.verdict(), BookVerdict::Unsat);
-    assert!(rt; gate.met.load(Ordering::SeqCst));
+fn all_workers_are_at_work_at_once(rt: HostRuntime) -> Result<(), Fail> {
+    for (workers, first) in &MEETINGS {
+        let gate = Meeting {
+            wanted: u64::from(*workers),
+            first: *first,
+            at_work: AtomicU64::new(0),
+            met: AtomicBool::new(false),
+        };
+        let book = searched(&rt, rt.alloc(), SWAPPED, 65_536, *workers, &gate)?;
+        assert_eq!(rt; book.verdict(), BookVerdict::Unsat);
+        assert!(rt; gate.met.load(Ordering::SeqCst), "{workers}");
+    }
     Ok(())
 }
 
