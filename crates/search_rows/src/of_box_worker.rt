@@ -19,14 +19,18 @@ fn work(alloc: Global, problem: &Problem) -> Result<Worked, AllocError>
     work_on(alloc, problem, &USUAL, State::new(space, lits), &[])
 }
 
+// Whether it finds the point of no axes.
+fn is_sure(worked: &Worked) -> bool {
+    match worked {
+        Worked::Point(point) => point.space().len() == 0,
+        Worked::Patch(_) | Worked::Closed(_, _) => false,
+    }
+}
+
 #[test]
 fn a_true_form_is_sure_at_once(rt: HostRuntime) -> Result<(), Fail> {
-    let alloc = rt.alloc();
-    let problem = smallest(alloc)?;
-    match work(alloc, &problem)? {
-        Worked::Point(point) => assert_eq!(rt; point.space().len(), 0),
-        Worked::Patch(_) => assert!(rt; false),
-        Worked::Closed(_, _) => assert!(rt; false),
-    }
+    let problem = smallest(rt.alloc())?;
+    let worked = work(rt.alloc(), &problem)?;
+    assert!(rt; is_sure(&worked));
     Ok(())
 }

@@ -1,15 +1,11 @@
 // What the search calls its gate with, and in which order.
-ghost use Rattle.std.specs.Prelude.{◌≤◌};
-
 use crate::searched::searched;
 use cover_book::{Book, BookVerdict, Node};
 use sample_problems::scripts::{CIRCLE, OUTSIDE, SWAPPED};
 use solve_core::Gate;
 use std::alloc::{AllocError, Global};
-use std::process::Abort;
 use std::sync::Wait;
 use std::sync::atomic::{AtomicBool, AtomicU32, AtomicU64, Ordering};
-use std::test::Fail;
 use std::thread::Threads;
 
 // A place for one call.
@@ -21,7 +17,7 @@ struct Entry {
 }
 
 // A call: of which worker, at which node, and whether it ends the work.
-#[derive(Clone, Copy, Debug, PartialEq, Eq)]
+#[derive(Clone, Copy, PartialEq, Eq)]
 struct Said {
     worker: u32,
     node: u32,
@@ -88,42 +84,46 @@ impl Gate for Diary {
     }
 }
 
-// The book of a search by so many workers, and the calls that it made.
-fn watched<R: Threads + Wait + Sync>(
-    rt: &R,
-    alloc: Global,
-    script: &str,
-    budget: u32,
-    workers: u32,
-) -> Result<(Book, Vec<Said>), Fail>
-    requires { budget ≤ 65536 }
-{
-    let diary = Diary::new(alloc, 10_000)?;
-    let book = searched(rt, alloc, script, budget, workers, &diary)?;
-    let calls = diary.calls(alloc)?.ok_or("too many calls")?;
-    Ok((book, calls))
-}
-
 // The calls of one worker that works on each of the nodes, depth first, the lower part of a box before the upper.
-fn depth_first(alloc: Global, nodes: &[Node]) -> Result<Vec<Said>, Fail> {
+fn depth_first(alloc: Global, nodes: &[Node]) -> Option<Vec<Said>> {
     let mut calls = Vec::new(alloc);
     let mut waiting = Vec::new(alloc);
-    waiting.push(0)?;
+    if waiting.push(0).is_ok() && add_calls(nodes, &mut waiting, &mut calls) {
+        Some(calls)
+    } else {
+        None
+    }
+}
+
+// Adds both calls of a node.
+fn add_both(calls: &mut Vec<Said>, node: u32) -> Result<(), AllocError> {
+    for ends in &[false, true] {
+        calls.push(Said {
+            worker: 0,
+            node,
+            ends: *ends,
+        })?;
+    }
+    Ok(())
+}
+
+// Adds the calls of each node that waits, and of what it is parted into. Whether a branch leads to each node.
+fn add_calls(nodes: &[Node], waiting: &mut Vec<u32>, calls: &mut Vec<Said>) -> bool {
     for _ in 0..nodes.len() {
-        let node: u32 = waiting.pop().ok_or("nodes that no branch leads to")?;
-        for ends in [false, true] {
-            calls.push(Said {
-                worker: 0,
-                node,
-                ends,
-            })?;
+        let Some(node) = waiting.pop() else {
+            return false;
+        };
+        if add_both(calls, node).is_err() {
+            return false;
         }
         if let Some(Node::Parted(_, lower)) = nodes.get(node as usize) {
-            waiting.push(lower.saturating_add(1))?;
-            waiting.push(*lower)?;
+            let upper = lower.saturating_add(1);
+            if waiting.push(upper).is_err() || waiting.push(*lower).is_err() {
+                return false;
+            }
         }
     }
-    Ok(calls)
+    true
 }
 
 // Whether this worker ends its work on a node before it begins that on another.
@@ -185,56 +185,94 @@ fn are_pairs(book: &Book, calls: &[Said], workers: u32) -> bool {
     each_once(nodes.len(), calls) && parts_come_later(nodes, calls)
 }
 
-// How many calls one worker's search makes, where they are depth first.
-fn count_depth_first<R: Threads + Wait + Abort + Sync>(
-    rt: &R,
-    alloc: Global,
-    script: &str,
+// A search: the script, the branches that may be made at most, the workers, and the verdict.
+#[derive(Clone, Copy)]
+struct Row {
+    script: &'static str,
     budget: u32,
     workers: u32,
     verdict: BookVerdict,
-) -> Result<usize, Fail>
-    requires { budget ≤ 65536 }
-{
-    let (book, calls) = watched(rt, alloc, script, budget, workers)?;
-    assert_eq!(rt; book.verdict(), verdict, "{script}");
-    let expected = depth_first(alloc, book.nodes())?;
-    assert_eq!(rt; calls.as_slice(), expected.as_slice(), "{script}");
-    Ok(calls.len())
 }
 
+// Whether the calls of the search are those that its book has: with one worker depth first, else in pairs. They are at
+// least so many.
+fn are_calls(alloc: Global, row: &Row, book: &Book, calls: &[Said], least: usize) -> bool {
+    if book.verdict() != row.verdict || calls.len() < least {
+        return false;
+    }
+    if row.workers > 1 {
+        return are_pairs(book, calls, row.workers);
+    }
+    match depth_first(alloc, book.nodes()) {
+        Some(expected) => calls == expected.as_slice(),
+        None => false,
+    }
+}
+
+// The same of the calls that the diary has.
+fn are_written(alloc: Global, row: &Row, book: &Book, diary: &Diary, least: usize) -> bool {
+    match diary.calls(alloc) {
+        Ok(Some(calls)) => are_calls(alloc, row, book, calls.as_slice(), least),
+        _ => false,
+    }
+}
+
+// The same of a search with this diary.
+fn writes<R: Threads + Wait + Sync>(
+    rt: &R,
+    alloc: Global,
+    row: &Row,
+    diary: &Diary,
+    least: usize,
+) -> bool {
+    if row.budget > 65_536 {
+        return false;
+    }
+    match searched(rt, alloc, row.script, row.budget, row.workers, diary) {
+        Some(book) => are_written(alloc, row, &book, diary, least),
+        None => false,
+    }
+}
+
+// The same with a new one.
+fn is_watched<R: Threads + Wait + Sync>(rt: &R, alloc: Global, row: &Row, least: usize) -> bool {
+    match Diary::new(alloc, 10_000) {
+        Ok(diary) => writes(rt, alloc, row, &diary, least),
+        Err(_) => false,
+    }
+}
+
+const SCRIPTS: [&str; 3] = [SWAPPED, CIRCLE, OUTSIDE];
+
 #[test]
-fn one_worker_calls_the_gate_depth_first(rt: HostRuntime) -> Result<(), Fail> {
-    let mut most = 0;
-    for script in [SWAPPED, CIRCLE, OUTSIDE] {
-        for workers in [0, 1] {
-            let unsat = BookVerdict::Unsat;
-            let count = count_depth_first(&rt, rt.alloc(), script, 65_536, workers, unsat)?;
-            most = most.max(count);
+fn the_gate_is_called_as_boxes_are_worked_on(rt: HostRuntime) {
+    for script in &SCRIPTS {
+        for workers in &[0, 1, 2, 3] {
+            let row = Row {
+                script: *script,
+                budget: 65_536,
+                workers: *workers,
+                verdict: BookVerdict::Unsat,
+            };
+            let least = if *script == SWAPPED { 14 } else { 2 };
+            assert!(rt;
+                is_watched(&rt, rt.alloc(), &row, least),
+                "{workers} {script}"
+            );
         }
     }
-    assert!(rt; most >= 14);
-    Ok(())
 }
 
 // A box for whose branch there is no budget is worked on all the same.
 #[test]
-fn a_spent_budget_leaves_the_order(rt: HostRuntime) -> Result<(), Fail> {
-    for budget in [0, 1, 2] {
-        let spent = BookVerdict::UnknownBudget;
-        count_depth_first(&rt, rt.alloc(), SWAPPED, budget, 1, spent)?;
+fn a_spent_budget_leaves_the_order(rt: HostRuntime) {
+    for budget in &[0, 1, 2] {
+        let row = Row {
+            script: SWAPPED,
+            budget: *budget,
+            workers: 1,
+            verdict: BookVerdict::UnknownBudget,
+        };
+        assert!(rt; is_watched(&rt, rt.alloc(), &row, 2), "{budget}");
     }
-    Ok(())
-}
-
-#[test]
-fn workers_call_the_gate_in_pairs(rt: HostRuntime) -> Result<(), Fail> {
-    for script in [SWAPPED, CIRCLE, OUTSIDE] {
-        for workers in [2, 3] {
-            let (book, calls) = watched(&rt, rt.alloc(), script, 65_536, workers)?;
-            assert_eq!(rt; book.verdict(), BookVerdict::Unsat, "{script}");
-            assert!(rt; are_pairs(&book, &calls, workers), "{script}");
-        }
-    }
-    Ok(())
 }

@@ -8,10 +8,9 @@ use sample_problems::{USUAL, small};
 use solve_core::{Gate, solve};
 use std::alloc::Global;
 use std::sync::Wait;
-use std::test::Fail;
 use std::thread::Threads;
 
-// The book in which so many workers have searched, with so many branches at most.
+// The book in which so many workers have searched, with so many branches at most; none where memory ran out.
 pub(crate) fn searched<R: Threads + Wait + Sync, G: Gate + Sync>(
     rt: &R,
     alloc: Global,
@@ -19,17 +18,19 @@ pub(crate) fn searched<R: Threads + Wait + Sync, G: Gate + Sync>(
     budget: u32,
     workers: u32,
     gate: &G,
-) -> Result<Book, Fail>
+) -> Option<Book>
     requires { budget ≤ 65536 }
 {
-    let Ok(problem) = read_problem(alloc, script.as_bytes(), None) else {
-        return Err(Fail::from("no problem"));
-    };
-    let problem = small(problem).ok_or("a problem without a book")?;
     let options = Options {
         budget,
         workers,
         ..USUAL
     };
-    Ok(solve(rt, alloc, &problem, &options, gate)?)
+    let Ok(problem) = read_problem(alloc, script.as_bytes(), None) else {
+        return None;
+    };
+    match small(problem) {
+        Some(problem) => solve(rt, alloc, &problem, &options, gate).ok(),
+        None => None,
+    }
 }

@@ -6,9 +6,8 @@ use Rattle.steal_pool.specs.declared.deque.Link.{Link}
 use Rattle.steal_pool.specs.declared.deque.OwnDeque.{OwnDeque}
 use Rattle.steal_pool.specs.declared.hand.Hand.{Hand}
 use Rattle.steal_pool.specs.declared.rule.DequeView.{DequeView}
-use Rattle.steal_pool.specs.Law.{WasEmpty}
 use Rattle.steal_pool.specs.Links.{looks_in, found_empty_in, AllAlike, StealsAt, Steals}
-use Rattle.steal_pool.specs.Account.{Account, taken_by, account_of, deque_of, place_of, hands_beside, view_in, reads_of, last_read, Takes, FoundNothing}
+use Rattle.steal_pool.specs.Account.{Account, taken_by, account_of, deque_of, place_of, hands_beside, reads_of, last_read, Takes, FoundNothing}
 use Rattle.steal_pool.specs.Turns.{ChangesRest, ReadsCount, SameDeque, PopsOne, TakesNothing, LooksInVain, TakesOne}
 use mathlib.Core.Logic.{dite}
 use native.Mathlib.Decide.{ℕ_discrete}
@@ -119,15 +118,14 @@ pub found_nothing : (h g k z : Hand) → TakesNothing h g → LooksInVain g k �
 found_nothing h g k z t v w links read last =
     let ls = h.links.items in let zs = z.links.items in
     let len : length zs ≡ length ls = ap (λ l. length l.items) links ∙ (v.links.same ∙ t.links.0) in
-    let vain : (j : ℕ) (d : Link) → j < length ls → (looks_in (get_or ls j d) < looks_in (get_or zs j d)) × (found_empty_in (get_or zs j d) ≡ true) × WasEmpty (view (get_or zs j d).pass) = λ j d h'.
+    let vain : (j : ℕ) (d : Link) → j < length ls → (looks_in (get_or ls j d) < looks_in (get_or zs j d)) × (found_empty_in (get_or zs j d) ≡ true) = λ j d h'.
     (let one = v.links.within j d (omega arith) (let e = t.links.0 in omega (arith, h', e)) in
     let all = then_vain (get_or ls j d) (get_or g.links.items j d) (get_or k.links.items j d) (t.links.1 j d h') one in
-    subst (λ (l : List Link). (looks_in (get_or ls j d) < looks_in (get_or l j d)) × (found_empty_in (get_or l j d) ≡ true) × WasEmpty (view (get_or l j d).pass)) (sym (ap (λ l. l.items) links)) (all.1, all.2, all.3)) in
+    subst (λ (l : List Link). (looks_in (get_or ls j d) < looks_in (get_or l j d)) × (found_empty_in (get_or l j d) ≡ true)) (sym (ap (λ l. l.items) links)) (all.1, all.2)) in
     record {
       same = account_nothing k z w ∙ account_nothing h k (vain_nothing h g k t v);
       looked = λ j h'. (let d = some_of ls (omega arith) in subst (λ (p : ℕ × ℕ). p.0 < p.1) (λ i. (sym (get_or-map looks_in ls j d 0 h') i, sym (get_or-map looks_in zs j d 0 (omega arith)) i)) (vain j d h').0);
       empty = λ j h'. (let d = some_of ls (omega arith) in get_or-map found_empty_in zs j d true (omega arith) ∙ (vain j d h').1);
-      moment = λ j e h'. (let d = some_of ls (omega arith) in subst (λ (u : DequeView). WasEmpty u) (sym (get_or-map view_in zs j d e (omega arith))) (vain j d h').2);
       read = (let a = t.reads in let b = v.reads in omega (arith, a, b, read));
       resting = last ∙ len;
     }

@@ -2,10 +2,10 @@
 use Rattle.std.proofs.Common.{◌≡◌, ◌≢◌, ℕ, zero, suc, ◌+◌, ◌<◌, true, List, [], ◌∷◌, ◌++◌, set, refl, sym, ap, ◌∙◌, subst, ⊎_elim, arith, append_assoc}
 use mathlib.Core.Option.{some, some-injective, some-ne-none}
 use lib.ListN.{get_elem?}
-use Rattle.crossbeam_deque.specs.Tasks.{Pushes, Takes, Finds, FindsFew, Forks, Merges, Learns}
+use Rattle.crossbeam_deque.specs.Tasks.{Pushes, Takes, Finds, Forks, Merges, Learns}
 use Rattle.crossbeam_deque.proofs.Lists.{at_set, at_snoc}
 use Rattle.steal_pool.specs.declared.rule.DequeView.{DequeView}
-use Rattle.steal_pool.specs.Law.{weigh, weigh_all, IsSub, AllSub, total, parts_of, weigh_of, owner_view, guest_view, thief_view, left_view, joined_view, DequeLaw, Knows, IsAccounted, WasEmpty, NoneLeft, TakesLeft}
+use Rattle.steal_pool.specs.Law.{weigh, weigh_all, IsSub, AllSub, total, parts_of, weigh_of, owner_view, guest_view, thief_view, left_view, joined_view, DequeLaw, Knows, IsAccounted, NoneLeft, TakesLeft}
 use Rattle.steal_pool.proofs.Lists.{weigh-append, weigh_all-append, sub_more, sub_both, all_more, all_append, total_set, total_snoc, total_two, total_alone}
 
 all_set : (P : ℕ → DequeView → Type 0) (vs : List DequeView) (id : ℕ) (w : DequeView) → P id w → ((j : ℕ) (u : DequeView) → j ≢ id → get_elem? vs j ≡ some u → P j u) → (j : ℕ) (u : DequeView) → get_elem? (set vs id w) j ≡ some u → P j u
@@ -124,13 +124,6 @@ learns port v owns whole items views r at =
       subst (IsSub v.taken) (sym mine.1) (sub_more v.taken r.removed items k.taken),
       subst (AllSub v.joined) (sym mine.1) (all_more v.joined r.removed items k.joined),
     )
-
-pub finds : (port : ℕ) (v : DequeView) → Finds IsAccounted port v (WasEmpty v)
-finds port v views r at = (views, port, r, at)
-
-pub finds_few : (port : ℕ) (v : DequeView) → FindsFew IsAccounted 0 port v (WasEmpty v)
-finds_few port v [] views few r at = (views, port, r, at)
-finds_few port v (x ∷ items) views few r at = absurd (omega arith)
 
 pub finds_none : (port : ℕ) (v : DequeView) → v.owns ≡ true → v.parts ≡ 65 → Finds IsAccounted port v (NoneLeft v)
 finds_none port v owns whole views r at = learns port v owns whole [] views r at

@@ -24,7 +24,7 @@ pub vain_then : (l m n : Link) → LookedInVain l m → n ≡ m → LookedInVain
 vain_then l m n v e = subst (λ (x : Link). LookedInVain l x) (sym e) v
 
 pub then_vain : (l m n : Link) → Alike l m → LookedInVain m n → LookedInVain l n
-then_vain l m n a v = (alike_then l m n a v.0, (let x = a.2 in let y = v.1 in omega (arith, x, y)), v.2, v.3)
+then_vain l m n a v = (alike_then l m n a v.0, (let x = a.2 in let y = v.1 in omega (arith, x, y)), v.2)
 
 pub all_alike : (ls ms : List Link) (a b : ℕ) → AllLookedInVain ls ms a b → AllAlike ls ms
 all_alike ls ms a b r = (

@@ -3,10 +3,8 @@ use Rattle.std.specs.Prelude.{◌≡◌, ◌⊎◌, ℕ, ◌<◌, Bool, true, Li
 use Rattle.std.specs.declared.alloc.Global.{Global}
 use Rattle.atomic_blocks.specs.Lent.{RowsId}
 use Rattle.crossbeam_deque.specs.Handles.{view, worker_deque, worker_view, stealer_deque}
-use Rattle.steal_pool.specs.declared.rule.DequeView.{DequeView}
 use Rattle.steal_pool.specs.declared.deque.Link.{Link}
 use Rattle.steal_pool.specs.declared.hand.Hand.{Hand}
-use Rattle.steal_pool.specs.Law.{WasEmpty}
 use Rattle.steal_pool.specs.Links.{looks_in, found_empty_in}
 
 -- the ids that a hand pushed, those that it popped from its own deque, and for each hand of the pool those that it stole from its deque, all in their order
@@ -54,13 +52,6 @@ looks_of h = map looks_in h.links.items
 abbrev pub found_empty_of : Hand → List Bool
 found_empty_of h = map found_empty_in h.links.items
 
--- what it knows of each deque
-abbrev pub view_in : Link → DequeView
-view_in l = view l.pass
-
-abbrev pub views_of : Hand → List DequeView
-views_of h = map view_in h.links.items
-
 -- how often it read the count of resting hands, and what it read last
 abbrev pub reads_of : Hand → ℕ
 reads_of h = h.count.seat.me.0.reads
@@ -79,6 +70,5 @@ pub record FoundNothing (old new : Hand) : Type 0 where
   pub same : account_of new ≡ account_of old
   pub looked : (k : ℕ) → k < hands_beside old → slice_index_or (looks_of old) k 0 < slice_index_or (looks_of new) k 0
   pub empty : (k : ℕ) → k < hands_beside old → slice_index_or (found_empty_of new) k true ≡ true
-  pub moment : (k : ℕ) (d : DequeView) → k < hands_beside old → WasEmpty (slice_index_or (views_of new) k d)
   pub read : reads_of old < reads_of new
   pub resting : last_read new ≡ hands_beside old

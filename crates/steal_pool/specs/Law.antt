@@ -66,10 +66,6 @@ pub record IsAccounted (items : List ℕ) (views : List DequeView) : Type 0 wher
   pub balanced : (h : ℕ → ℕ) → total (weigh_of h) views ≡ weigh h removed
   pub each : (port : ℕ) (v : DequeView) → get_elem? views port ≡ some v → Knows removed items owner port v
 
--- what a pass learns where it finds the deque empty: there are views, its own among them, with which the rule holds of no id
-abbrev pub WasEmpty : DequeView → Type 0
-WasEmpty v = (views : List DequeView) × (port : ℕ) × IsAccounted [] views × (get_elem? views port ≡ some v)
-
 -- the owner, which knows the whole, finds no id left
 abbrev pub NoneLeft : DequeView → Type 0
 NoneLeft v = DequeLaw v.put v.taken v.joined []

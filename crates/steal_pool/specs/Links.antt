@@ -2,7 +2,6 @@
 use Rattle.std.specs.Prelude.{◌≡◌, ◌≢◌, ℕ, ◌<◌, ◌≤◌, Bool, true, List, [], ◌∷◌, ◌++◌, length, slice_index_or}
 use Rattle.crossbeam_deque.specs.Handles.{view, stealer_deque}
 use Rattle.steal_pool.specs.declared.deque.Link.{Link}
-use Rattle.steal_pool.specs.Law.{WasEmpty}
 
 -- how often the link looked at its deque, and whether the last look found it empty
 abbrev pub looks_in : Link → ℕ
@@ -20,7 +19,7 @@ AllAlike ls ms = (length ms ≡ length ls) × ((j : ℕ) (d : Link) → j < leng
 
 -- the link looked, and its last look found the deque empty
 abbrev pub LookedInVain : Link → Link → Type 0
-LookedInVain l m = Alike l m × (looks_in l < looks_in m) × (found_empty_in m ≡ true) × WasEmpty (view m.pass)
+LookedInVain l m = Alike l m × (looks_in l < looks_in m) × (found_empty_in m ≡ true)
 
 -- the links from `from` on and below `to` looked in vain, and the others are as they were
 pub record AllLookedInVain (ls ms : List Link) (from to : ℕ) : Type 0 where

@@ -2,7 +2,7 @@
 ghost use Rattle.std.specs.Prelude.{◌≡◌, ℕ, List, length, ◌++◌, ◌∷◌, ◌<◌, ◌+◌, ◌-◌, ◌≤◌, true, [], IfOk, IfSome, MatchResult, MatchOption};
 ghost use Rattle.crossbeam_deque.specs.Handles.{view, IsPassOf, worker_deque, worker_flavor, worker_index, worker_capacity, stealer_deque, stealer_flavor, worker_view};
 ghost use Rattle.crossbeam_deque.specs.Steals.{MatchSteal, is_empty};
-ghost use Rattle.steal_pool.specs.Law.{owner_view, left_view, thief_view, joined_view, DequeLaw, WasEmpty, TakesLeft, NoneLeft};
+ghost use Rattle.steal_pool.specs.Law.{owner_view, left_view, thief_view, joined_view, DequeLaw, TakesLeft, NoneLeft};
 ghost use Rattle.steal_pool.specs.Count.{no_part};
 
 use crate::count::CountSeat;
@@ -147,7 +147,7 @@ impl Link {
         ensures same { stealer_deque self.new.stealer ≡ stealer_deque self.old.stealer }
         ensures taken { let v = view self.old.pass in
             MatchSteal result
-            ((view self.new.pass ≡ v) × WasEmpty v)
+            (view self.new.pass ≡ v)
             (view self.new.pass ≡ v)
             (λ x. view self.new.pass ≡ record v { taken = v.taken ++ x ∷ [] }) }
         ensures look { let n = self.old.notes.seat.me.0 in

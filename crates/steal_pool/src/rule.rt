@@ -40,11 +40,8 @@ pub struct TakeStep;
 
 impl Outcome<u32, DequeView> for TakeStep {
     ghost use Rattle.std.specs.Prelude.{◌≡◌, ◌++◌};
-    ghost use Rattle.steal_pool.specs.Law.{WasEmpty};
 
     ghost then = { λ v xs w. w ≡ record v { taken = v.taken ++ xs } };
-
-    ghost empty = { WasEmpty };
 }
 
 /// The owner, which knows the whole, takes the first of the ids that are left.

@@ -1,198 +1,161 @@
 // Threads that learn the middle of the square in one book.
-ghost use Rattle.std.specs.Prelude.{◌≤◌, ◌<◌, All};
-ghost use Rattle.book_lock.specs.Shared.{IsOnePartSeatOf, first_of};
+ghost use Rattle.std.specs.Prelude.{◌≡◌, ◌+◌, ◌≤◌, ◌<◌, All, true};
+ghost use Rattle.book_lock.specs.Shared.{IsOnePartSeatOf, IsSeatOf, first_of, view};
 ghost use Rattle.thread_rows.specs.TriedBookLock.{IsTried};
+ghost use Rattle.sample_problems.specs.Small.{IsSmall};
 
 use crate::made::problem;
 use crate::swapped::{OPTIONS, Place, closing, is_at};
 use book_lock::{BookSeat, SharedBook};
-use cover_book::Book;
+use cover_book::{Book, Learned};
 use cover_data::Margins;
 use poly_graph::Problem;
 use sample_problems::scripts::SWAPPED;
 use std::alloc::Global;
 use std::sync::Wait;
 use std::sync::atomic::{AtomicU64, Ordering};
-use std::test::Fail;
 use std::thread::{Threads, for_each_mut};
 
-// Learns so many lemmas.
-fn learn_each<R: Wait>(
-    rt: &R,
-    alloc: Global,
-    shared: &SharedBook,
-    seat: &mut BookSeat,
-    problem: &Problem,
-    margins: &Margins,
+// What is learned in which book: so many lemmas of the problem a thread, and the sum of their numbers, each with 1 added.
+#[derive(Drop)]
+struct Lessons<'a> {
+    shared: &'a SharedBook,
+    problem: &'a Problem,
+    margins: &'a Margins,
     count: u32,
-)
-    requires tried { IsTried (first_of shared.now) problem.now margins.now }
-    requires seat { IsOnePartSeatOf shared.now seat.old }
-    ensures { IsOnePartSeatOf shared.now seat.new }
+    sum: &'a AtomicU64,
+}
+
+// Learns them.
+fn learn_each<R: Wait>(rt: &R, alloc: Global, lessons: &Lessons<'_>, seat: &mut BookSeat)
+    requires tried { IsTried (first_of lessons.now.shared.now) lessons.now.problem.now lessons.now.margins.now }
+    requires seat { IsOnePartSeatOf lessons.now.shared.now seat.old }
+    ensures { IsOnePartSeatOf lessons.now.shared.now seat.new }
 {
-    for _ in 0..count {
-        if let Some(patch) = closing(alloc, problem, margins) {
-            let _ = shared.learn(rt, seat, patch);
+    for _ in 0..lessons.count {
+        if let Some(patch) = closing(alloc, lessons.problem, lessons.margins) {
+            if let Ok(id) = lessons.shared.learn(rt, seat, patch) {
+                lessons.sum.fetch_add(u64::from(id) + 1, Ordering::SeqCst);
+            }
         }
     }
 }
 
-// Each seat's thread learns so many lemmas.
+// Each seat's thread does.
 fn learn_all<R: Threads + Wait + Sync>(
     rt: &R,
     alloc: Global,
-    shared: &SharedBook,
+    lessons: &Lessons<'_>,
     seats: &mut [BookSeat],
-    problem: &Problem,
-    margins: &Margins,
-    count: u32,
 )
-    requires tried { IsTried (first_of shared.now) problem.now margins.now }
-    requires seats { All (IsOnePartSeatOf shared.now) seats.old }
-    ensures { All (IsOnePartSeatOf shared.now) seats.new }
+    requires tried { IsTried (first_of lessons.now.shared.now) lessons.now.problem.now lessons.now.margins.now }
+    requires seats { All (IsOnePartSeatOf lessons.now.shared.now) seats.old }
+    ensures { All (IsOnePartSeatOf lessons.now.shared.now) seats.new }
 {
     for_each_mut(
         rt,
         seats,
         64,
-        &|_, seat| learn_each(rt, alloc, shared, seat, problem, margins, count),
+        &|_, seat| learn_each(rt, alloc, lessons, seat),
     );
+}
+
+// So many threads do. Whether there was memory for their seats.
+fn learn_in_threads<R: Threads + Wait + Sync>(
+    rt: &R,
+    alloc: Global,
+    lessons: &Lessons<'_>,
+    lead: &mut BookSeat,
+    threads: u32,
+) -> bool
+    requires tried { IsTried (first_of lessons.now.shared.now) lessons.now.problem.now lessons.now.margins.now }
+    requires own { IsSeatOf lessons.now.shared.now lead.old }
+    requires parts { threads < (view lead.old).parts }
+    ensures own { IsSeatOf lessons.now.shared.now lead.new }
+    ensures parts { result ≡ true → (view lead.new).parts ≡ (view lead.old).parts }
+{
+    let Ok(mut seats) = lessons.shared.split_seats(alloc, lead, threads as usize) else {
+        return false;
+    };
+    learn_all(rt, alloc, lessons, seats.as_mut_slice());
+    lessons.shared.join_seats(lead, seats);
+    true
 }
 
 // The book in which so many threads have learned so many lemmas each.
 fn learned<R: Threads + Wait + Sync>(
     rt: &R,
     alloc: Global,
+    problem: &Problem,
     threads: u32,
     count: u32,
-) -> Result<Book, Fail>
-    requires { (0 < threads) × (threads ≤ 100) }
+    sum: &AtomicU64,
+) -> Option<Book>
+    requires problem { IsSmall problem.now }
+    requires threads { (0 < threads) × (threads ≤ 100) }
 {
-    let Some(problem) = problem(alloc, SWAPPED) else {
-        return Err(Fail::from("no problem"));
-    };
     let margins = OPTIONS.margins();
-    let book = Book::new(alloc, problem.try_clone(alloc)?, OPTIONS)?;
+    let Ok(copy) = problem.try_clone(alloc) else {
+        return None;
+    };
+    let Ok(book) = Book::new(alloc, copy, OPTIONS) else {
+        return None;
+    };
     let Ok((shared, mut lead)) = SharedBook::share(alloc, book, threads + 1) else {
-        return Err(Fail::from("no memory"));
+        return None;
     };
-    let mut seats = shared.split_seats(alloc, &mut lead, threads as usize)?;
-    learn_all(
-        rt,
-        alloc,
-        &shared,
-        seats.as_mut_slice(),
-        &problem,
-        &margins,
+    let lessons = Lessons {
+        shared: &shared,
+        problem,
+        margins: &margins,
         count,
-    );
-    shared.join_seats(&mut lead, seats);
-    Ok(shared.close(lead))
-}
-
-#[test]
-fn each_call_of_each_thread_is_in_the_book(rt: HostRuntime) -> Result<(), Fail> {
-    let alloc = rt.alloc();
-    for (threads, count) in [(2, 1), (16, 1), (4, 10_000)] {
-        let book = learned(&rt, alloc, threads, count)?;
-        assert_eq!(rt; book.lemmas().len(), (threads * count) as usize);
-    }
-    Ok(())
-}
-
-// Learns one lemma, and adds 100 and its number to the sum.
-fn learn_one<R: Wait>(
-    rt: &R,
-    alloc: Global,
-    shared: &SharedBook,
-    seat: &mut BookSeat,
-    problem: &Problem,
-    margins: &Margins,
-    sum: &AtomicU64,
-)
-    requires tried { IsTried (first_of shared.now) problem.now margins.now }
-    requires seat { IsOnePartSeatOf shared.now seat.old }
-    ensures { IsOnePartSeatOf shared.now seat.new }
-{
-    if let Some(patch) = closing(alloc, problem, margins) {
-        if let Ok(id) = shared.learn(rt, seat, patch) {
-            sum.fetch_add(100 + u64::from(id), Ordering::SeqCst);
-        }
-    }
-}
-
-// Two threads learn a lemma each.
-fn learn_two<R: Threads + Wait + Sync>(
-    rt: &R,
-    alloc: Global,
-    shared: &SharedBook,
-    seats: &mut [BookSeat],
-    problem: &Problem,
-    margins: &Margins,
-    sum: &AtomicU64,
-)
-    requires tried { IsTried (first_of shared.now) problem.now margins.now }
-    requires seats { All (IsOnePartSeatOf shared.now) seats.old }
-    ensures { All (IsOnePartSeatOf shared.now) seats.new }
-{
-    for_each_mut(
-        rt,
-        seats,
-        2,
-        &|_, seat| learn_one(rt, alloc, shared, seat, problem, margins, sum),
-    );
-}
-
-// The book in which two threads have learned a lemma each.
-fn learned_by_two<R: Threads + Wait + Sync>(
-    rt: &R,
-    alloc: Global,
-    sum: &AtomicU64,
-) -> Result<Book, Fail> {
-    let Some(problem) = problem(alloc, SWAPPED) else {
-        return Err(Fail::from("no problem"));
-    };
-    let margins = OPTIONS.margins();
-    let book = Book::new(alloc, problem.try_clone(alloc)?, OPTIONS)?;
-    let Ok((shared, mut lead)) = SharedBook::share(alloc, book, 3) else {
-        return Err(Fail::from("no memory"));
-    };
-    let mut seats = shared.split_seats(alloc, &mut lead, 2)?;
-    learn_two(
-        rt,
-        alloc,
-        &shared,
-        seats.as_mut_slice(),
-        &problem,
-        &margins,
         sum,
-    );
-    shared.join_seats(&mut lead, seats);
-    Ok(shared.close(lead))
+    };
+    let done = learn_in_threads(rt, alloc, &lessons, &mut lead, threads);
+    if done { Some(shared.close(lead)) } else { None }
 }
 
-// Whether the book has two lemmas, both of the middle.
-fn has_middle_twice(alloc: Global, book: &Book) -> bool {
-    match book.lemmas_from(0) {
-        Ok(lemmas) => match lemmas.as_slice() {
-            [first, second] => {
-                is_at(alloc, book.problem(), first.state(), Place::Middle)
-                    && is_at(alloc, book.problem(), second.state(), Place::Middle)
-            }
-            _ => false,
-        },
-        Err(_) => false,
+fn is_middle(alloc: Global, book: &Book, lemma: &Learned) -> bool {
+    is_at(alloc, book.problem(), &lemma.state, Place::Middle)
+}
+
+// Whether the first two lemmas are of the middle.
+fn begins_with_middle(alloc: Global, book: &Book) -> bool {
+    match book.lemmas() {
+        [first, second, ..] => is_middle(alloc, book, first) && is_middle(alloc, book, second),
+        _ => false,
     }
 }
 
-// The numbers are 0 and 1, in some order.
-#[test]
-fn lemmas_of_two_threads_have_numbers_of_their_own(rt: HostRuntime) -> Result<(), Fail> {
+// Whether so many threads that learn so many lemmas each leave them all in the book, each under a number of its own.
+fn are_learned<R: Threads + Wait + Sync>(
+    rt: &R,
+    alloc: Global,
+    threads: u32,
+    count: u32,
+) -> Option<bool> {
+    if threads == 0 || threads > 100 || count > 10_000 {
+        return None;
+    }
+    let problem = problem(alloc, SWAPPED)?;
     let sum = AtomicU64::new(0);
-    let book = learned_by_two(&rt, rt.alloc(), &sum)?;
-    assert!(rt; has_middle_twice(rt.alloc(), &book));
-    assert_eq!(rt; sum.load(Ordering::SeqCst), 201);
-    Ok(())
+    let all = u64::from(threads * count);
+    let book = learned(rt, alloc, &problem, threads, count, &sum)?;
+    let is_sum = sum.load(Ordering::SeqCst) == all * (all + 1) / 2;
+    Some(is_sum && book.lemmas().len() as u64 == all && begins_with_middle(alloc, &book))
+}
+
+// How many threads, and how many lemmas each.
+const LEARNED: [(u32, u32); 3] = [(2, 1), (16, 1), (4, 10_000)];
+
+#[test]
+fn each_call_of_each_thread_is_in_the_book(rt: HostRuntime) {
+    for (threads, count) in &LEARNED {
+        assert!(rt;
+            are_learned(&rt, rt.alloc(), *threads, *count) == Some(true),
+            "{threads}"
+        );
+    }
 }
 
 fn may_cross<T: Send>() {}

@@ -76,22 +76,23 @@ fn play_two<R: Wait>(
     (seven, nine, stolen, popped, leave_then_next(rt, hands))
 }
 
-// The first hand pushes the ids below `count`, then all take.
-fn play_all<R: Threads + Wait + Sync>(
-    rt: &R,
-    hands: &mut [Hand],
-    count: u32,
-    totals: &Totals,
-) -> bool
+// The first hand pushes the ids below `count`, then all take: how many were taken, their sum, and whether none was refused.
+fn play_all<R: Threads + Wait + Sync>(rt: &R, hands: &mut [Hand], count: u32) -> (u64, u64, bool)
     requires { (0 < length hands.old) × IsPool hands.old × AllStay hands.old }
     ensures { IsPool hands.new }
 {
+    let totals = Totals {
+        count: AtomicU64::new(0),
+        sum: AtomicU64::new(0),
+    };
     let mut pushed = true;
     for id in 0..count {
         pushed = push_at(hands, 0, id) && pushed;
     }
-    run_all(rt, hands, totals);
-    pushed
+    run_all(rt, hands, &totals);
+    let count = totals.count.load(Ordering::SeqCst);
+    let sum = totals.sum.load(Ordering::SeqCst);
+    (count, sum, pushed)
 }
 
 #[test]
@@ -113,14 +114,8 @@ fn share_out<R: Threads + Wait + Sync>(
     requires { (0 < n) × (n ≤ 64) }
 {
     let mut hands = Pool::new(alloc, n)?;
-    let totals = Totals {
-        count: AtomicU64::new(0),
-        sum: AtomicU64::new(0),
-    };
-    let pushed = play_all(rt, hands.as_mut_slice(), count, &totals);
+    let (count, sum, pushed) = play_all(rt, hands.as_mut_slice(), count);
     let none_left = gather(hands).left().is_none();
-    let count = totals.count.load(Ordering::SeqCst);
-    let sum = totals.sum.load(Ordering::SeqCst);
     Ok((count, sum, pushed && none_left))
 }
 

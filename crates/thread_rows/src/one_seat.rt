@@ -13,7 +13,6 @@ use poly_graph::Problem;
 use sample_problems::scripts::SWAPPED;
 use std::alloc::Global;
 use std::sync::Wait;
-use std::test::Fail;
 
 // What is replied to a commit.
 #[derive(Clone, Copy)]
@@ -163,24 +162,41 @@ fn has_lemma<R: Wait>(
     }
 }
 
+// Whether it replies so to the cuts, and then to the lesson.
+fn replies<R: Wait>(
+    rt: &R,
+    alloc: Global,
+    shared: &SharedBook,
+    seat: &mut BookSeat,
+    problem: &Problem,
+    margins: &Margins,
+) -> bool
+    requires tried { IsTried (first_of shared.now) problem.now margins.now }
+    requires seat { IsOnePartSeatOf shared.now seat.old }
+    ensures { IsOnePartSeatOf shared.now seat.new }
+{
+    are_answered(rt, alloc, shared, seat, problem, margins)
+        && is_learned(rt, alloc, shared, seat, problem, margins)
+        && has_lemma(rt, alloc, shared, seat, problem)
+}
+
 // The book that a shared one leaves, where it replied so.
-fn left_book<R: Wait>(rt: &R, alloc: Global, problem: &Problem) -> Result<Book, Fail>
+fn left_book<R: Wait>(rt: &R, alloc: Global, problem: &Problem) -> Option<Book>
     requires { IsSmall problem.now }
 {
     let margins = OPTIONS.margins();
-    let book = Book::new(alloc, problem.try_clone(alloc)?, OPTIONS)?;
-    let Ok((shared, mut seat)) = SharedBook::share(alloc, book, 1) else {
-        return Err(Fail::from("no memory"));
+    let Ok(copy) = problem.try_clone(alloc) else {
+        return None;
     };
-    let cuts = are_answered(rt, alloc, &shared, &mut seat, problem, &margins);
-    let lesson = is_learned(rt, alloc, &shared, &mut seat, problem, &margins);
-    let lemma = has_lemma(rt, alloc, &shared, &mut seat, problem);
+    let Ok(book) = Book::new(alloc, copy, OPTIONS) else {
+        return None;
+    };
+    let Ok((shared, mut seat)) = SharedBook::share(alloc, book, 1) else {
+        return None;
+    };
+    let right = replies(rt, alloc, &shared, &mut seat, problem, &margins);
     let book = shared.close(seat);
-    if cuts && lesson && lemma {
-        Ok(book)
-    } else {
-        Err(Fail::from("another reply"))
-    }
+    if right { Some(book) } else { None }
 }
 
 // Whether the root was cut into these two halves, and they are live.
@@ -216,17 +232,23 @@ fn is_middle(alloc: Global, problem: &Problem, lemmas: &[Learned]) -> bool {
     }
 }
 
+// Whether a book of one thread would be so after these calls.
+fn is_right(alloc: Global, problem: &Problem, book: &Book) -> bool {
+    are_halves(alloc, problem, book.nodes())
+        && is_middle(alloc, problem, book.lemmas())
+        && book.branches() == 1
+        && book.point().is_none()
+        && book.verdict() == BookVerdict::UnknownBudget
+}
+
+// Whether the book that a shared one leaves is so.
+fn leaves_right<R: Wait>(rt: &R, alloc: Global) -> Option<bool> {
+    let problem = problem(alloc, SWAPPED)?;
+    let book = left_book(rt, alloc, &problem)?;
+    Some(is_right(alloc, &problem, &book))
+}
+
 #[test]
-fn a_shared_book_replies_as_a_book(rt: HostRuntime) -> Result<(), Fail> {
-    let alloc = rt.alloc();
-    let Some(problem) = problem(alloc, SWAPPED) else {
-        return Err(Fail::from("no problem"));
-    };
-    let book = left_book(&rt, alloc, &problem)?;
-    assert!(rt; are_halves(alloc, &problem, book.nodes()));
-    assert!(rt; is_middle(alloc, &problem, book.lemmas()));
-    assert_eq!(rt; book.branches(), 1);
-    assert!(rt; book.point().is_none());
-    assert_eq!(rt; book.verdict(), BookVerdict::UnknownBudget);
-    Ok(())
+fn a_shared_book_replies_as_a_book(rt: HostRuntime) {
+    assert!(rt; leaves_right(&rt, rt.alloc()) == Some(true));
 }

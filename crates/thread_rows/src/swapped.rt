@@ -87,11 +87,18 @@ pub(crate) fn is_at(alloc: Global, problem: &Problem, state: &State, place: Plac
 
 // ---- patches
 
-// Cuts the state that the patch has reached; whether it did.
-fn ends_in_cut(patch: &mut Patch) -> bool
+// Marks so many atoms in the state that the patch has reached, and then cuts it; whether it did.
+fn ends_in_cut(problem: &Problem, patch: &mut Patch, atoms: u32) -> bool
+    requires { patch.old.problem ≡ problem.now }
     ensures problem { patch.new.problem ≡ patch.old.problem }
     ensures margins { patch.new.margins ≡ patch.old.margins }
 {
+    let count = problem.atoms().len();
+    for j in 0..atoms {
+        if (j as usize) >= count || patch.unit(j).is_err() {
+            return false;
+        }
+    }
     patch.cut().is_ok()
 }
 
@@ -109,16 +116,10 @@ pub(crate) fn cutting(
     ensures run { IfSome result (λ k. IsRun (problem_of problem.now) margins.now (kept_of k)) }
     ensures ended { IfSome result (λ k. IsSome k.end) }
 {
-    let count = problem.atoms().len();
     let Ok(mut patch) = Patch::begin(alloc, problem, margins, state) else {
         return None;
     };
-    for j in 0..atoms {
-        if (j as usize) >= count || patch.unit(j).is_err() {
-            return None;
-        }
-    }
-    if !ends_in_cut(&mut patch) {
+    if !ends_in_cut(problem, &mut patch, atoms) {
         return None;
     }
     let (kept, _) = patch.into_kept();

@@ -2,6 +2,10 @@
 use Rattle.std.specs.Prelude.{ℕ, true, pos, List, [], ◌∷◌, Some, codes}
 use Rattle.clap.specs.Words.{App, Rule, Text, new_app, new_rule, with_rule, with_subcommand}
 use Rattle.clap.specs.declared.builder.value_parser.ValueParser.TheVariants as parser
+use Rattle.words.specs.declared.program.Part.{Part}
+use Rattle.words.specs.declared.program.Part.TheVariants.{Script, Cert, Out, Seed, Size, Delta, Margin, Least, Budget, Bound, Workers}
+use Rattle.words.specs.declared.program.Name.{Name}
+use Rattle.words.specs.declared.program.Name.TheVariants.{Solve, Check, Demo, Upgrade, Plan}
 
 -- a word that has to be there
 abbrev pub word_rule : Text → Rule
@@ -39,48 +43,50 @@ seed_rule = record (word_rule (codes "seed")) { parser = Some (parser.Unsigned 0
 abbrev pub size_rule : Rule
 size_rule = record (word_rule (codes "size")) { parser = Some (parser.Signed (pos 1) (pos 10000)) }
 
--- `solve SCRIPT CERT` with delta and margin alone
-abbrev pub loosened_app : App
-loosened_app = with_rule (with_rule (with_rule (with_rule (new_app (codes "solve"))
-    (word_rule (codes "script"))) (word_rule (codes "cert"))) delta_rule) margin_rule
+-- the rule of a word or an option
+abbrev pub rule_in : Part → Rule
+rule_in Script = word_rule (codes "script")
+rule_in Cert = word_rule (codes "cert")
+rule_in Out = word_rule (codes "out")
+rule_in Seed = seed_rule
+rule_in Size = size_rule
+rule_in Delta = delta_rule
+rule_in Margin = margin_rule
+rule_in Least = least_rule
+rule_in Budget = budget_rule
+rule_in Bound = bound_rule
+rule_in Workers = workers_rule
 
--- `solve SCRIPT CERT` and its options
-abbrev pub solve_app : App
-solve_app = with_rule (with_rule (with_rule (with_rule loosened_app least_rule) budget_rule) bound_rule) workers_rule
+-- a command with these parts behind those that it has
+abbrev pub with_parts : App → List Part → App
+with_parts app [] = app
+with_parts app (part ∷ parts) = with_parts (with_rule app (rule_in part)) parts
 
--- `check SCRIPT CERT` and its option
-abbrev pub check_app : App
-check_app = with_rule (with_rule (with_rule (new_app (codes "check"))
-    (word_rule (codes "script"))) (word_rule (codes "cert"))) bound_rule
+-- `check SCRIPT CERT` and its option, under this name
+abbrev pub check_named : Text → App
+check_named name = with_parts (new_app name) (Script ∷ Cert ∷ Bound ∷ [])
 
 -- the checker's own command, `dpoly-check SCRIPT CERT` and its option
 unfoldable pub checker : App
-checker = with_rule (with_rule (with_rule (new_app (codes "dpoly-check"))
-    (word_rule (codes "script"))) (word_rule (codes "cert"))) bound_rule
+checker = check_named (codes "dpoly-check")
 
--- `upgrade SCRIPT CERT OUT` and its option
-abbrev pub upgrade_app : App
-upgrade_app = with_rule (with_rule (with_rule (with_rule (new_app (codes "upgrade"))
-    (word_rule (codes "script"))) (word_rule (codes "cert"))) (word_rule (codes "out"))) bound_rule
-
--- `demo SEED SIZE CERT` and its option
-abbrev pub demo_app : App
-demo_app = with_rule (with_rule (with_rule (with_rule (new_app (codes "demo"))
-    seed_rule) size_rule) (word_rule (codes "cert"))) workers_rule
-
--- `plan SCRIPT` and its options
-abbrev pub plan_app : App
-plan_app = with_rule (with_rule (with_rule (with_rule (new_app (codes "plan"))
-    (word_rule (codes "script"))) delta_rule) margin_rule) bound_rule
+-- the subcommands, each with its words and its options
+abbrev pub app_in : Name → App
+app_in Solve = with_parts (new_app (codes "solve")) (Script ∷ Cert ∷ Delta ∷ Margin ∷ Least ∷ Budget ∷ Bound ∷ Workers ∷ [])
+app_in Check = check_named (codes "check")
+app_in Demo = with_parts (new_app (codes "demo")) (Seed ∷ Size ∷ Cert ∷ Workers ∷ [])
+app_in Upgrade = with_parts (new_app (codes "upgrade")) (Script ∷ Cert ∷ Out ∷ Bound ∷ [])
+app_in Plan = with_parts (new_app (codes "plan")) (Script ∷ Delta ∷ Margin ∷ Bound ∷ [])
 
 -- the command before its subcommands are added, one of which has to be given
 abbrev pub new_program : App
 new_program = record (new_app (codes "dpoly")) { top = record (new_app (codes "dpoly")).top { subcommand_required = true } }
 
--- the command with its first three subcommands
-abbrev pub first_program : App
-first_program = with_subcommand (with_subcommand (with_subcommand new_program solve_app.top) check_app.top) demo_app.top
+-- a command with these subcommands behind those that it has
+abbrev pub with_commands : App → List Name → App
+with_commands app [] = app
+with_commands app (name ∷ names) = with_commands (with_subcommand app (app_in name).top) names
 
 -- the whole command
 unfoldable pub program : App
-program = with_subcommand (with_subcommand first_program upgrade_app.top) plan_app.top
+program = with_commands new_program (Solve ∷ Check ∷ Demo ∷ Upgrade ∷ Plan ∷ [])

@@ -1,12 +1,38 @@
 ghost use Rattle.std.specs.Prelude.{◌≡◌, IfOk, false};
 ghost use Rattle.clap.specs.Words.{rule_of, app_of, new_app};
 ghost use Rattle.clap.specs.declared.builder.command.Command.TheViews.{out-Command as fields_of};
-ghost use Rattle.words.specs.Program.{delta_rule, margin_rule, least_rule, budget_rule, bound_rule, workers_rule, word_rule, seed_rule, size_rule, loosened_app, solve_app, check_app, demo_app, upgrade_app, plan_app, checker, first_program, program};
+ghost use Rattle.words.specs.Program.{delta_rule, margin_rule, least_rule, budget_rule, bound_rule, workers_rule, word_rule, seed_rule, size_rule, rule_in, with_parts, app_in, with_commands, checker, program};
 
 use clap::{Arg, Command, value_parser};
 use std::alloc::{AllocError, Global};
 
 const USUAL_MARGIN: &str = "20";
+
+/// A word or an option of a command.
+#[derive(Clone, Copy)]
+pub enum Part {
+    Script,
+    Cert,
+    Out,
+    Seed,
+    Size,
+    Delta,
+    Margin,
+    Least,
+    Budget,
+    Bound,
+    Workers,
+}
+
+/// A subcommand of the program.
+#[derive(Clone, Copy)]
+pub enum Name {
+    Solve,
+    Check,
+    Demo,
+    Upgrade,
+    Plan,
+}
 
 fn delta_option<'a>(alloc: Global) -> Arg<'a>
     ensures rule { rule_of result ≡ delta_rule }
@@ -81,63 +107,6 @@ fn word<'a>(alloc: Global, id: &'a str) -> Arg<'a>
     Arg::new(alloc, id).required(true)
 }
 
-// A command without arguments yet, and what its help says first and last.
-fn described<'a>(alloc: Global, name: &'a str, about: &'a str, last: &'a str) -> Command<'a>
-    ensures app { app_of result ≡ new_app name.entry.now }
-    ensures local { (fields_of result).has_globals ≡ false }
-{
-    Command::new(alloc, name).about(about).after_help(last)
-}
-
-fn check_command<'a>(alloc: Global) -> Result<Command<'a>, AllocError>
-    ensures app { IfOk result (λ c. app_of c ≡ check_app) }
-    ensures local { IfOk result (λ c. (fields_of c).has_globals ≡ false) }
-{
-    Ok(
-        described(
-            alloc,
-            "check",
-            "Checks a certificate of a script",
-            "Example: dpoly check braking.smt2 braking.cert",
-        )
-        .arg(word(alloc, "script"))?
-        .arg(word(alloc, "cert"))?
-        .arg(bound_option(alloc))?,
-    )
-}
-
-// `solve` with delta and margin alone.
-fn loosened_command<'a>(alloc: Global) -> Result<Command<'a>, AllocError>
-    ensures app { IfOk result (λ c. app_of c ≡ loosened_app) }
-    ensures local { IfOk result (λ c. (fields_of c).has_globals ≡ false) }
-{
-    Ok(
-        described(
-            alloc,
-            "solve",
-            "Solves a script, and writes a certificate of the answer",
-            "Example: dpoly solve braking.smt2 braking.cert",
-        )
-        .arg(word(alloc, "script"))?
-        .arg(word(alloc, "cert"))?
-        .arg(delta_option(alloc))?
-        .arg(margin_option(alloc))?,
-    )
-}
-
-fn solve_command<'a>(alloc: Global) -> Result<Command<'a>, AllocError>
-    ensures app { IfOk result (λ c. app_of c ≡ solve_app) }
-    ensures local { IfOk result (λ c. (fields_of c).has_globals ≡ false) }
-{
-    Ok(
-        loosened_command(alloc)?
-            .arg(least_option(alloc))?
-            .arg(budget_option(alloc))?
-            .arg(bound_option(alloc))?
-            .arg(workers_option(alloc))?,
-    )
-}
-
 fn seed_word<'a>(alloc: Global) -> Arg<'a>
     ensures rule { rule_of result ≡ seed_rule }
     ensures local { result.global ≡ false }
@@ -156,58 +125,132 @@ fn size_word<'a>(alloc: Global) -> Arg<'a>
         .value_parser(value_parser!(u32).range(1..=10000))
 }
 
-fn demo_command<'a>(alloc: Global) -> Result<Command<'a>, AllocError>
-    ensures app { IfOk result (λ c. app_of c ≡ demo_app) }
+fn arg_of<'a>(alloc: Global, part: Part) -> Arg<'a>
+    ensures rule { rule_of result ≡ rule_in part }
+    ensures local { result.global ≡ false }
+{
+    match part {
+        Part::Script => word(alloc, "script"),
+        Part::Cert => word(alloc, "cert"),
+        Part::Out => word(alloc, "out"),
+        Part::Seed => seed_word(alloc),
+        Part::Size => size_word(alloc),
+        Part::Delta => delta_option(alloc),
+        Part::Margin => margin_option(alloc),
+        Part::Least => least_option(alloc),
+        Part::Budget => budget_option(alloc),
+        Part::Bound => bound_option(alloc),
+        Part::Workers => workers_option(alloc),
+    }
+}
+
+// A command without arguments yet, and what its help says first and last.
+fn described<'a>(alloc: Global, name: &'a str, about: &'a str, last: &'a str) -> Command<'a>
+    ensures app { app_of result ≡ new_app name.entry.now }
+    ensures local { (fields_of result).has_globals ≡ false }
+{
+    Command::new(alloc, name).about(about).after_help(last)
+}
+
+// The command with these parts, in their order.
+fn with_parts<'a>(
+    alloc: Global,
+    command: Command<'a>,
+    parts: &[Part],
+) -> Result<Command<'a>, AllocError>
+    requires { (fields_of command).has_globals ≡ false }
+    ensures app { IfOk result (λ c. app_of c ≡ with_parts (app_of command.entry) parts.now) }
     ensures local { IfOk result (λ c. (fields_of c).has_globals ≡ false) }
 {
-    Ok(
-        described(
-            alloc,
-            "demo",
-            "Makes a script from a seed, solves it, and writes a certificate",
-            "Example: dpoly demo 1 100 demo.cert",
-        )
-        .arg(seed_word(alloc))?
-        .arg(size_word(alloc))?
-        .arg(word(alloc, "cert"))?
-        .arg(workers_option(alloc))?,
-    )
+    let mut command = command;
+    for part in parts {
+        command = command.arg(arg_of(alloc, *part))?;
+    }
+    Ok(command)
+}
+
+const SOLVE: [Part; 8] = [
+    Part::Script,
+    Part::Cert,
+    Part::Delta,
+    Part::Margin,
+    Part::Least,
+    Part::Budget,
+    Part::Bound,
+    Part::Workers,
+];
+
+const CHECK: [Part; 3] = [Part::Script, Part::Cert, Part::Bound];
+
+const DEMO: [Part; 4] = [Part::Seed, Part::Size, Part::Cert, Part::Workers];
+
+const UPGRADE: [Part; 4] = [Part::Script, Part::Cert, Part::Out, Part::Bound];
+
+const PLAN: [Part; 4] = [Part::Script, Part::Delta, Part::Margin, Part::Bound];
+
+fn solve_command<'a>(alloc: Global) -> Result<Command<'a>, AllocError>
+    ensures app { IfOk result (λ c. app_of c ≡ app_in Name.Solve) }
+    ensures local { IfOk result (λ c. (fields_of c).has_globals ≡ false) }
+{
+    let command = described(
+        alloc,
+        "solve",
+        "Solves a script, and writes a certificate of the answer",
+        "Example: dpoly solve braking.smt2 braking.cert",
+    );
+    with_parts(alloc, command, &SOLVE)
+}
+
+fn check_command<'a>(alloc: Global) -> Result<Command<'a>, AllocError>
+    ensures app { IfOk result (λ c. app_of c ≡ app_in Name.Check) }
+    ensures local { IfOk result (λ c. (fields_of c).has_globals ≡ false) }
+{
+    let command = described(
+        alloc,
+        "check",
+        "Checks a certificate of a script",
+        "Example: dpoly check braking.smt2 braking.cert",
+    );
+    with_parts(alloc, command, &CHECK)
+}
+
+fn demo_command<'a>(alloc: Global) -> Result<Command<'a>, AllocError>
+    ensures app { IfOk result (λ c. app_of c ≡ app_in Name.Demo) }
+    ensures local { IfOk result (λ c. (fields_of c).has_globals ≡ false) }
+{
+    let command = described(
+        alloc,
+        "demo",
+        "Makes a script from a seed, solves it, and writes a certificate",
+        "Example: dpoly demo 1 100 demo.cert",
+    );
+    with_parts(alloc, command, &DEMO)
 }
 
 fn upgrade_command<'a>(alloc: Global) -> Result<Command<'a>, AllocError>
-    ensures app { IfOk result (λ c. app_of c ≡ upgrade_app) }
+    ensures app { IfOk result (λ c. app_of c ≡ app_in Name.Upgrade) }
     ensures local { IfOk result (λ c. (fields_of c).has_globals ≡ false) }
 {
-    Ok(
-        described(
-            alloc,
-            "upgrade",
-            "Checks a certificate of a script, and writes it in the newest format",
-            "Example: dpoly upgrade braking.smt2 braking.cert braking.new.cert",
-        )
-        .arg(word(alloc, "script"))?
-        .arg(word(alloc, "cert"))?
-        .arg(word(alloc, "out"))?
-        .arg(bound_option(alloc))?,
-    )
+    let command = described(
+        alloc,
+        "upgrade",
+        "Checks a certificate of a script, and writes it in the newest format",
+        "Example: dpoly upgrade braking.smt2 braking.cert braking.new.cert",
+    );
+    with_parts(alloc, command, &UPGRADE)
 }
 
 fn plan_command<'a>(alloc: Global) -> Result<Command<'a>, AllocError>
-    ensures app { IfOk result (λ c. app_of c ≡ plan_app) }
+    ensures app { IfOk result (λ c. app_of c ≡ app_in Name.Plan) }
     ensures local { IfOk result (λ c. (fields_of c).has_globals ≡ false) }
 {
-    Ok(
-        described(
-            alloc,
-            "plan",
-            "Tells the least width with which `solve` never answers `unknown width`",
-            "Example: dpoly plan braking.smt2",
-        )
-        .arg(word(alloc, "script"))?
-        .arg(delta_option(alloc))?
-        .arg(margin_option(alloc))?
-        .arg(bound_option(alloc))?,
-    )
+    let command = described(
+        alloc,
+        "plan",
+        "Tells the least width with which `solve` never answers `unknown width`",
+        "Example: dpoly plan braking.smt2",
+    );
+    with_parts(alloc, command, &PLAN)
 }
 
 // The checker's command, as the definitions have it.
@@ -215,46 +258,64 @@ pub fn checker_command<'a>(alloc: Global) -> Result<Command<'a>, AllocError>
     ensures app { IfOk result (λ c. app_of c ≡ checker) }
     ensures local { IfOk result (λ c. (fields_of c).has_globals ≡ false) }
 {
-    Ok(
-        described(
-            alloc,
-            "dpoly-check",
-            "Checks a certificate of a script of bounded polynomial constraints",
-            "A file named - is standard input. Example: dpoly-check braking.smt2 braking.cert",
-        )
-        .arg(word(alloc, "script"))?
-        .arg(word(alloc, "cert"))?
-        .arg(bound_option(alloc))?,
-    )
+    let command = described(
+        alloc,
+        "dpoly-check",
+        "Checks a certificate of a script of bounded polynomial constraints",
+        "A file named - is standard input. Example: dpoly-check braking.smt2 braking.cert",
+    );
+    with_parts(alloc, command, &CHECK)
 }
 
-// The program's command with its first three subcommands.
-fn first_command<'a>(alloc: Global) -> Result<Command<'a>, AllocError>
-    ensures app { IfOk result (λ c. app_of c ≡ first_program) }
+fn subcommand_of<'a>(alloc: Global, name: Name) -> Result<Command<'a>, AllocError>
+    ensures app { IfOk result (λ c. app_of c ≡ app_in name) }
     ensures local { IfOk result (λ c. (fields_of c).has_globals ≡ false) }
 {
-    Ok(
-        described(
-            alloc,
-            "dpoly",
-            "Decides bounded polynomial constraints (SMT-LIB 2.6, QF_NRA), with certificates",
-            "A file named - is standard input or standard output.",
-        )
-        .subcommand_required(true)
-        .subcommand(solve_command(alloc)?)?
-        .subcommand(check_command(alloc)?)?
-        .subcommand(demo_command(alloc)?)?,
-    )
+    match name {
+        Name::Solve => solve_command(alloc),
+        Name::Check => check_command(alloc),
+        Name::Demo => demo_command(alloc),
+        Name::Upgrade => upgrade_command(alloc),
+        Name::Plan => plan_command(alloc),
+    }
 }
+
+// The command with these subcommands, in their order.
+fn with_commands<'a>(
+    alloc: Global,
+    command: Command<'a>,
+    names: &[Name],
+) -> Result<Command<'a>, AllocError>
+    requires { (fields_of command).has_globals ≡ false }
+    ensures app { IfOk result (λ c. app_of c ≡ with_commands (app_of command.entry) names.now) }
+    ensures local { IfOk result (λ c. (fields_of c).has_globals ≡ false) }
+{
+    let mut command = command;
+    for name in names {
+        command = command.subcommand(subcommand_of(alloc, *name)?)?;
+    }
+    Ok(command)
+}
+
+const NAMES: [Name; 5] = [
+    Name::Solve,
+    Name::Check,
+    Name::Demo,
+    Name::Upgrade,
+    Name::Plan,
+];
 
 // The program's command, as the definitions have it.
 pub fn program_command<'a>(alloc: Global) -> Result<Command<'a>, AllocError>
     ensures app { IfOk result (λ c. app_of c ≡ program) }
     ensures local { IfOk result (λ c. (fields_of c).has_globals ≡ false) }
 {
-    Ok(
-        first_command(alloc)?
-            .subcommand(upgrade_command(alloc)?)?
-            .subcommand(plan_command(alloc)?)?,
+    let command = described(
+        alloc,
+        "dpoly",
+        "Decides bounded polynomial constraints (SMT-LIB 2.6, QF_NRA), with certificates",
+        "A file named - is standard input or standard output.",
     )
+    .subcommand_required(true);
+    with_commands(alloc, command, &NAMES)
 }

@@ -18,7 +18,7 @@ returns-in-Empty g c =
     let look = c.in-Empty.ensures.look in
     let old : Link = get_or now c.args.k c.index-links-k.result in
     let more : c.steal.new.self.notes.seat.me.0.looks ≡ old.notes.seat.me.0.looks + 1 = ap (λ v. v.looks) look in
-    let told : LookedInVain old c.steal.new.self = ((c.in-Empty.ensures.same, c.in-Empty.ensures.taken.0, omega (arith, more)), omega (arith, more), ap (λ v. v.found_empty) look, search rules) in
+    let told : LookedInVain old c.steal.new.self = ((c.in-Empty.ensures.same, c.in-Empty.ensures.taken, omega (arith, more)), omega (arith, more), ap (λ v. v.found_empty) look) in
     vain_at c.args.links.now now c.args.k c.index-links-k.result c.steal.new.self (search rules) c.requires inv.here inv.others told
 
 pub loop-preserved : goal.loop-preserved

@@ -1,8 +1,9 @@
-use Rattle.std.proofs.Common.{rules, ap₂, ◌∙◌}
-use Rattle.clap.specs.Words.{with_rule}
-use Rattle.words.specs.Program.{checker}
+use Rattle.std.proofs.Common.{◌≡◌, IfOk, [], ◌∷◌, subst}
+use Rattle.clap.specs.Words.{App, app_of}
+use Rattle.words.specs.declared.program.Part.TheVariants.{Script, Cert, Bound}
+use Rattle.words.specs.Program.{checker, with_parts}
 use Rattle.words.proofs.program.checker_command.Goals as goal
 
 pub returns-clause-app : goal.returns-clause-app
 unfolding checker
-returns-clause-app c = c.in_ok-arg-3.ensures.shape (search rules) ∙ ap₂ with_rule (c.in_ok-arg-2.ensures.shape (search rules) ∙ ap₂ with_rule (c.in_ok-arg.ensures.shape (search rules) ∙ ap₂ with_rule c.described.ensures.app c.word.ensures.rule) c.word-2.ensures.rule) c.bound_option.ensures.rule
+returns-clause-app c = subst (λ (a : App). IfOk c.with_parts.result (λ x. app_of x ≡ with_parts a (Script ∷ Cert ∷ Bound ∷ []))) c.described-command.ensures.app c.with_parts.ensures.app

@@ -1,12 +1,13 @@
-use Rattle.std.proofs.Common.{ap, ap₂, ◌∙◌}
-use Rattle.clap.specs.Words.{App, with_subcommand}
-use Rattle.words.specs.Program.{program}
+use Rattle.std.proofs.Common.{◌≡◌, ◌∙◌, IfOk, [], ◌∷◌, true, ap, subst}
+use Rattle.clap.specs.Words.{App, app_of}
+use Rattle.clap.specs.Simple.{app_of_fields}
+use Rattle.words.specs.declared.program.Name.TheVariants.{Solve, Check, Demo, Upgrade, Plan}
+use Rattle.words.specs.Program.{new_program, program, with_commands}
 use Rattle.words.proofs.program.program_command.Goals as goal
 
 pub returns-clause-app : goal.returns-clause-app
 unfolding program
 returns-clause-app c =
-    c.in_ok-subcommand-2.ensures.shape c.in_ok-plan_command.ensures.local
-    ∙ ap₂ with_subcommand (c.in_ok-subcommand.ensures.shape c.in_ok-upgrade_command.ensures.local
-    ∙ ap₂ with_subcommand c.in_ok-first_command.ensures.app (ap (λ (a : App). a.top) c.in_ok-upgrade_command.ensures.app))
-    (ap (λ (a : App). a.top) c.in_ok-plan_command.ensures.app)
+    let first : app_of c.subcommand_required-command.result ≡ new_program =
+    ap app_of_fields c.subcommand_required-command.ensures ∙ ap (λ (a : App). record a { top = record a.top { subcommand_required = true } }) c.described.ensures.app in
+    subst (λ (a : App). IfOk c.with_commands.result (λ x. app_of x ≡ with_commands a (Solve ∷ Check ∷ Demo ∷ Upgrade ∷ Plan ∷ []))) first c.with_commands.ensures.app

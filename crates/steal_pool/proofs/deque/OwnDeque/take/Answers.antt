@@ -1,8 +1,5 @@
-use Rattle.steal_pool.proofs.Moves.{takes, finds}
+use Rattle.steal_pool.proofs.Moves.{takes}
 use Rattle.steal_pool.proofs.deque.OwnDeque.take.Goals as goal
 
 pub pop_as-requires-clause-fifo : goal.pop_as-requires-clause-fifo
 pop_as-requires-clause-fifo c = λ _. takes _ _ 1 c.args.self.now.some_part
-
-pub pop_as-requires-clause-empty : goal.pop_as-requires-clause-empty
-pop_as-requires-clause-empty c = finds _ _
