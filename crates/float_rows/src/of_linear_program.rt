@@ -1,4 +1,4 @@
-// Linear programmes: a degenerate one, one whose rows miss their bounds by rounding alone, one of two hundred rows.
+// Linear programmes: a degenerate one, ones whose rows miss their bounds by rounding alone, one of two hundred rows.
 use linear_program::*;
 use std::alloc::{AllocError, Global};
 use std::test::Fail;
@@ -45,6 +45,25 @@ fn rounding_alone_refutes_nothing(rt: HostRuntime) -> Result<(), Fail> {
     let alloc = rt.alloc();
     let mut programme = rounded(alloc)?;
     assert_eq!(rt; programme.feasibility(alloc)?, Feasibility::Feasible);
+    Ok(())
+}
+
+// The second row less the first is a fifth of the first column, which would have to be below -7. A row that was repaired
+// misses its bound by rounding alone.
+fn repaired(alloc: Global) -> Result<LinearProgram, AllocError> {
+    let mut rows = Vec::new(alloc);
+    rows.push(row(alloc, &[0.1, 0.2, -0.5])?)?;
+    rows.push(row(alloc, &[0.3, 0.2, -0.5])?)?;
+    let low = row(alloc, &[-0.7, 0.0, -0.4, 0.599, -0.901])?;
+    let high = row(alloc, &[0.4, 0.2, 1.0, 0.601, -0.899])?;
+    LinearProgram::new(alloc, rows, 3, low, high)
+}
+
+#[test]
+fn rounding_leaves_no_room_to_a_repaired_row(rt: HostRuntime) -> Result<(), Fail> {
+    let alloc = rt.alloc();
+    let mut programme = repaired(alloc)?;
+    assert!(rt; matches!(programme.feasibility(alloc)?, Feasibility::Infeasible(_)));
     Ok(())
 }
 
