@@ -22,6 +22,9 @@ use std::alloc::Global;
 use std::sync::Wait;
 use steal_pool::Hand;
 
+/// A worker keeps copies of the states of boxes of at most so many axes, and asks the book for those of wider ones.
+const MOST_AXES_COPIED: usize = 64;
+
 /// A hand of the pool of nodes that any worker may take, a seat at the book, the boxes that this worker keeps to
 /// itself, of which the last is the next, and the lemmas of all workers that it hands to the work on a box.
 #[derive(Drop)]
@@ -38,11 +41,15 @@ fn goes_on(refusal: &BookRefusal) -> bool {
     !matches!(refusal, BookRefusal::PointKept(_) | BookRefusal::Memory)
 }
 
-// The states of the two parts that a patch leaves, where it ends in a branch and there is memory for them.
+// The states of the two parts that a patch leaves, where it ends in a branch, they are small and there is memory for
+// them.
 fn parts_of(alloc: Global, patch: &KeptPatch) -> Option<(State, State)>
     requires { IfSome (kept_of patch.now).end (λ l. CanPart l patch.now.reached) }
     ensures { IfSome result (λ p. kids_of (kept_of patch.now) ≡ Some (p.0, p.1)) }
 {
+    if patch.reached.space().len() > MOST_AXES_COPIED {
+        return None;
+    }
     match patch.kids(alloc) {
         Ok(parts) => parts,
         Err(_) => None,
