@@ -5,7 +5,7 @@ ghost use Rattle.thread_rows.specs.TriedBookLock.{IsTried};
 ghost use Rattle.sample_problems.specs.Small.{IsSmall};
 
 use crate::made::problem;
-use crate::swapped::{OPTIONS, Place, closing, is_at};
+use crate::swapped::{OPTIONS, Place, closing, is_kept_at};
 use book_lock::{BookSeat, SharedBook};
 use cover_book::{Book, Learned};
 use cover_data::Margins;
@@ -116,7 +116,7 @@ fn learned<R: Threads + Wait + Sync>(
 }
 
 fn is_middle(alloc: Global, book: &Book, lemma: &Learned) -> bool {
-    is_at(alloc, book.problem(), &lemma.state, Place::Middle)
+    is_kept_at(alloc, book.problem(), &lemma.state, Place::Middle)
 }
 
 // Whether the first two lemmas are of the middle.

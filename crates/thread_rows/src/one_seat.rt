@@ -4,7 +4,7 @@ ghost use Rattle.sample_problems.specs.Small.{IsSmall};
 ghost use Rattle.thread_rows.specs.TriedBookLock.{IsTried};
 
 use crate::made::problem;
-use crate::swapped::{ATOMS, OPTIONS, Place, closing, cutting, is_at, state_at};
+use crate::swapped::{ATOMS, OPTIONS, Place, closing, cutting, is_at, is_kept_at, state_at};
 use book_lock::{BookSeat, SharedBook};
 use cover_book::{Book, BookRefusal, BookVerdict, Kids, Learned, Node};
 use cover_data::{End, Margins, Step};
@@ -213,8 +213,8 @@ fn are_halves(alloc: Global, problem: &Problem, nodes: &[Node]) -> bool {
                 ]
                 .as_slice()
                 && lines.end == End::Cut(0, Dy::ZERO)
-                && is_at(alloc, problem, lower, Place::Lower)
-                && is_at(alloc, problem, upper, Place::Upper)
+                && is_kept_at(alloc, problem, lower, Place::Lower)
+                && is_kept_at(alloc, problem, upper, Place::Upper)
         }
         _ => false,
     }
@@ -224,7 +224,7 @@ fn are_halves(alloc: Global, problem: &Problem, nodes: &[Node]) -> bool {
 fn is_middle(alloc: Global, problem: &Problem, lemmas: &[Learned]) -> bool {
     match lemmas {
         [lemma] => {
-            is_at(alloc, problem, &lemma.state, Place::Middle)
+            is_kept_at(alloc, problem, &lemma.state, Place::Middle)
                 && lemma.lines.steps.is_empty()
                 && lemma.lines.end == End::False
         }

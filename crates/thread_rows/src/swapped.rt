@@ -7,7 +7,7 @@ ghost use Rattle.cover_data.specs.Runs.{IsClosed, IsRun};
 ghost use Rattle.cover_data.specs.Views.{kept_of};
 ghost use Rattle.sample_problems.specs.Small.{IsSmall};
 
-use cover_data::{ClosedPatch, KeptPatch, Margins, Options, State};
+use cover_data::{ClosedPatch, KeptPatch, Margins, Options, State, StoredState};
 use cover_rule::Patch;
 use dyadic::{Dy, two_to_minus};
 use ival::{Domain, Range, Space};
@@ -81,6 +81,19 @@ pub(crate) fn state_at(alloc: Global, problem: &Problem, place: Place) -> Option
 pub(crate) fn is_at(alloc: Global, problem: &Problem, state: &State, place: Place) -> bool {
     match state_at(alloc, problem, place) {
         Some(expected) => expected.is_same(state),
+        None => false,
+    }
+}
+
+// Whether the kept state is that of the place.
+pub(crate) fn is_kept_at(
+    alloc: Global,
+    problem: &Problem,
+    state: &StoredState,
+    place: Place,
+) -> bool {
+    match state_at(alloc, problem, place) {
+        Some(expected) => state.is_same(&expected),
         None => false,
     }
 }
