@@ -54,36 +54,13 @@ fn needed_axis(problem: &Problem, needs: &Needs, state: &State) -> Option<u32> {
     None
 }
 
-// For each node of the form, whether something is left to do for it, and for an open atom or axis below it.
-fn open_nodes(
-    alloc: Global,
-    problem: &Problem,
-    needs: &Needs,
-    state: &State,
-) -> Result<Vec<bool, Global>, AllocError> {
-    let forms = problem.forms();
-    let mut open = Vec::new(alloc);
-    for n in 0..forms.len() {
-        let is_left = is_set(&needs.may, n) && !is_set(&needs.done, n);
-        let is_open = match forms.node(n as u32) {
-            FormNode::AtomIs(j) => is_open_atom(state, *j),
-            FormNode::BoolIs(axis, _) => is_open_axis(state, *axis),
-            FormNode::And(children) => count_set(&open, children) > 0,
-            FormNode::Or(children) => count_set(&open, children) > 0,
-            _ => false,
-        };
-        open.push(is_left && is_open)?;
-    }
-    Ok(open)
-}
-
-// The needed disjunction with the fewest children that may hold, of at most so many, below which something is open.
-fn narrowest(problem: &Problem, needs: &Needs, open: &[bool], most: u32) -> Option<usize> {
+// The needed disjunction with the fewest children that may hold, of at most so many.
+fn narrowest(problem: &Problem, needs: &Needs, most: u32) -> Option<usize> {
     let forms = problem.forms();
     let mut best = None;
     let mut fewest = most;
     for n in 0..forms.len() {
-        if is_set(&needs.needed, n) && is_set(open, n) {
+        if is_set(&needs.needed, n) && !is_set(&needs.done, n) {
             if let FormNode::Or(children) = forms.node(n as u32) {
                 let count = count_set(&needs.may, children);
                 if count < fewest || (best.is_none() && count == fewest) {
@@ -143,7 +120,7 @@ fn below(
 }
 
 /// A Bool axis that the form needs at one value, else an atom or axis of the needed disjunction with the fewest
-/// children that may hold, of at most so many; a disjunction below which nothing is open is passed over.
+/// children that may hold, of at most so many.
 pub fn choose(
     alloc: Global,
     problem: &Problem,
@@ -154,8 +131,7 @@ pub fn choose(
     if let Some(axis) = needed_axis(problem, needs, state) {
         return Ok(Some(Choice::Flip(axis)));
     }
-    let open = open_nodes(alloc, problem, needs, state)?;
-    match narrowest(problem, needs, &open, most) {
+    match narrowest(problem, needs, most) {
         Some(top) => below(alloc, problem, needs, state, top),
         None => Ok(None),
     }
