@@ -75,7 +75,7 @@ is-at-step : (g : Form ℕ) (fs : List (Form ℕ)) (f : Form ℕ) (b : Bool) →
 is-at-step g fs f true e h i = (zero, ap (λ x. Some x) (sym (form_is f g e)))
 is-at-step g fs f false e h i = let r = i h in (suc r.0, r.1)
 
-is_at : (fs : List (Form ℕ)) (f : Form ℕ) → has_form f fs ≡ true → (k : ℕ) × (slice_get fs k ≡ Some f)
+pub is_at : (fs : List (Form ℕ)) (f : Form ℕ) → has_form f fs ≡ true → (k : ℕ) × (slice_get fs k ≡ Some f)
 is_at [] f h = cc
 is_at (g ∷ fs) f h = is-at-step g fs f (same_form f g) refl h (is_at fs f)
 
@@ -111,13 +111,13 @@ size-of fs (bool_node axis v) = refl
 size-of fs (all_node ks) = ap suc (places-picked fs ks)
 size-of fs (any_node ks) = ap suc (places-picked fs ks)
 
-sizes-end : (fs : List (Form ℕ)) (f : Form ℕ) → all_sizes (fs ++ (f ∷ [])) ≡ all_sizes fs + form_size f
-sizes-end [] f = omega arith
-sizes-end (g ∷ fs) f = omega (arith, sizes-end fs f)
+pub sizes_end : (fs : List (Form ℕ)) (f : Form ℕ) → all_sizes (fs ++ (f ∷ [])) ≡ all_sizes fs + form_size f
+sizes_end [] f = omega arith
+sizes_end (g ∷ fs) f = omega (arith, sizes_end fs f)
 
 sizes-after : (ns : List FormNode) (done : List (Form ℕ)) → all_sizes (forms_after done ns) ≡ all_sizes done + forms_size ns
 sizes-after [] done = omega arith
-sizes-after (n ∷ ns) done = sizes-after ns (done ++ (node_form done n ∷ [])) ∙ omega (arith, sizes-end done (node_form done n), size-of done n)
+sizes-after (n ∷ ns) done = sizes-after ns (done ++ (node_form done n ∷ [])) ∙ omega (arith, sizes_end done (node_form done n), size-of done n)
 
 sizes : (ns : List FormNode) → all_sizes (graph_forms ns) ≡ forms_size ns
 sizes ns = sizes-after ns [] ∙ omega arith
@@ -274,3 +274,7 @@ seen_form m m' ns n r s e d h o f g i =
     go (Err (TooMany limits.Atoms)) i = absurd i
     go (Err (TooMany limits.Nodes)) i = absurd i
     go (Err Memory) i = λ claim. tt
+
+-- all forms are as large as they may be
+pub few_forms : (m m' : BuilderModel) → m ≡ m' → IsMade m → all_sizes (stand_of m').forms ≤ walk.most_forms
+few_forms m m' e h = subst (λ (x : BuilderModel). all_sizes (stand_of x).forms ≤ walk.most_forms) e (omega (arith, sizes m.forms, h.shared.few))

@@ -9,4 +9,5 @@ pub mod Forms
 pub mod Atoms
 pub mod Compares
 pub mod Gathering
+pub mod Crowds
 pub mod Pairs

@@ -14,10 +14,11 @@ use Rattle.poly_graph.specs.Form.{Form, Forms, no_forms, more_forms, all_form, a
 use Rattle.script_forms.specs.Terms.{Comparison, Unfolded, formula}
 use Rattle.script_forms.specs.Unfolded.{truth_of, negation_form, forms_of, two, and_of, or_of, not_of, xor_of, implies_two, xor_from, xor_all, implies_of, chain, choice_form, equal_two}
 use Rattle.term_build.specs.Built.{BuilderModel}
-use Rattle.term_build.specs.Sketch.{SketchNode, yes_sketch, no_sketch, comparison_sketch, bool_sketch, all_sketch, any_sketch, choice_sketch, equal_sketch, equal_with, equal_pairs, forms_in, some_equal, sketch_after, sketch_in_order, sketch_children, sketch_form, comparison_of, IsDrawing, IsDrawn, IsSketch}
-use Rattle.term_build.specs.Pairs.{Grown, DrawsForm, DrawsForms, Draws, DrawsEach, Sketches, Adds, NodeDraws, AddsPair, JoinsTwo, JoinsFour, Connects, ConnectsTwo, ConnectsChoice, ConnectsFrom, ImpliesFrom, IsRight, Left, IsLeft, same_of, ComparesTwo, Writes, WritesBool, DiffersEach, constant_formula, tree_at, trees_at}
+use Rattle.term_build.specs.Sketch.{SketchNode, yes_sketch, no_sketch, comparison_sketch, bool_sketch, all_sketch, any_sketch, choice_sketch, equal_sketch, crowd_sketch, crowd, joined_by, least_crowd, second_in, side, sketch_row, equal_with, equal_pairs, forms_in, some_equal, sketch_after, sketch_in_order, sketch_children, sketch_form, comparison_of, IsDrawing, IsDrawn, IsSketch}
+use Rattle.term_build.specs.Pairs.{Grown, DrawsForm, DrawsForms, Draws, DrawsEach, Sketches, Adds, NodeDraws, AddsPair, JoinsTwo, JoinsFour, Connects, ConnectsTwo, ConnectsChoice, ConnectsFrom, ImpliesFrom, IsRight, Left, IsLeft, same_of, ComparesTwo, Writes, WritesBool, DiffersEach, AreFormulas, ConnectsCrowd, constant_formula, tree_at, trees_at}
 use Rattle.term_build.specs.declared.connectives.Pair.{Pair}
 use Rattle.std.specs.declared.alloc.AllocError.{AllocError}
+use Rattle.std.proofs.lemmas.List.{length-map}
 use Rattle.term_build.proofs.Lists.{index_before}
 use Rattle.term_build.proofs.Gathering.{numbers_within, some_equal_later}
 
@@ -185,6 +186,7 @@ after-more (comparison_sketch at i j kind) a b l h = refl
 after-more (bool_sketch axis v) a b l h = refl
 after-more (choice_sketch p x y) a b l h = refl
 after-more (equal_sketch at ks) a b l h = refl
+after-more (crowd_sketch v ks) a b l h = all-below ks a b l h
 
 node_more : (m : BuilderModel) (ts : List Term) (ds ds' : List SketchNode) (d : SketchNode) (f : Form Comparison) → Grown ds ds' → NodeDraws m ts ds d f → NodeDraws m ts ds' d f
 node_more m ts ds ds' d f g n = record {
@@ -495,3 +497,52 @@ same_done ds e p q x n is h = λ m ts u v s a b. let one = h m ts u v s a b in r
 
 pub same_stopped : (ds e : List SketchNode) (p q : Pair) (x : AllocError) (r : Result Pair AllocError) → IsErr r → ConnectsTwo xor_of ds e p q (Err x) → ConnectsTwo same_of ds e p q r
 same_stopped ds e p q x r is h = λ m ts u v s a b. let one = h m ts u v s a b in ended ds e m (Draws ts e (same_of u v)) r is one.grown one.sketch
+
+-- ---- that each two of many formulas differ
+
+row-are : (ts : List Term) (ds : List SketchNode) (gs : List (Form Comparison)) (ks : List ℕ) → DrawsForms ts ds (forms_in gs) ks → (ts' : List Term) (more : List SketchNode) (fs : List (Form Comparison)) → IsDrawing (ts ++ ts') (ds ++ more) fs →
+    sketch_row fs ks ≡ gs
+row-are ts ds [] [] h ts' more fs w = refl
+row-are ts ds (g ∷ gs) (k ∷ ks) h ts' more fs w = ap₂ (λ (x : Form Comparison) (xs : List (Form Comparison)). x ∷ xs) (h.0.form ts' more fs w) (row-are ts ds gs ks h.1 ts' more fs w)
+row-are ts ds [] (k ∷ ks) h ts' more fs w = elim h [ ]
+row-are ts ds (g ∷ gs) [] h ts' more fs w = elim h [ ]
+
+crowd-draws : (m : BuilderModel) (ts : List Term) (ds : List SketchNode) (v : Bool) (ks : List ℕ) (gs : List (Form Comparison)) → least_crowd ≤ length ks → DrawsForms ts ds (forms_in gs) ks → NodeDraws m ts ds (crowd_sketch v ks) (crowd v gs)
+crowd-draws m ts ds v ks gs long h = record { after = children-below ts ds (forms_in gs) ks h; drawn = long; form = λ ts' more fs w. ap (crowd v) (row-are ts ds gs ks h ts' more fs w) }
+
+sides-are : (f : Unfolded → Form Comparison) (us : List Unfolded) → forms_of f us ≡ forms_in (map f us)
+sides-are f [] = refl
+sides-are f (u ∷ us) = ap (more_forms (f u)) (sides-are f us)
+
+sides-both : (f : Unfolded → Form Comparison) (us vs : List Unfolded) → forms_in (map f us ++ map f vs) ≡ forms_of f (us ++ vs)
+sides-both f [] vs = sym (sides-are f vs)
+sides-both f (u ∷ us) vs = ap (more_forms (f u)) (sides-both f us vs)
+
+second-is : (v : Bool) (u w : Unfolded) → second_in v (side v (xor_of u w)) ≡ formula (truth_of w) (negation_form w)
+second-is true u w = refl
+second-is false u w = refl
+
+seconds-are : (v : Bool) (u : Unfolded) (us : List Unfolded) → map (second_in v) (map (side v) (map (xor_of u) us)) ≡ map (λ w. formula (truth_of w) (negation_form w)) us
+seconds-are v u [] = refl
+seconds-are v u (w ∷ us) = ap₂ (λ (x : Unfolded) (xs : List Unfolded). x ∷ xs) (second-is v u w) (seconds-are v u us)
+
+crowd-is : (v : Bool) (u : Unfolded) (us : List Unfolded) → AreFormulas us → crowd v (map (side v) (map (xor_of u) us)) ≡ joined_by v (forms_of (side v) (pairs xor_of (u ∷ us)))
+crowd-is v u us each = let ls = map (xor_of u) us in
+    ap (λ (ws : List Unfolded). joined_by v (forms_in (map (side v) ls ++ map (side v) (pairs xor_of ws)))) (seconds-are v u us ∙ each) ∙ ap (joined_by v) (sides-both (side v) ls (pairs xor_of us))
+
+each-length : (ts : List Term) (ds : List SketchNode) (us : List Unfolded) (ps : List Pair) → DrawsEach ts ds us ps → length ps ≡ length us
+each-length ts ds [] [] h = refl
+each-length ts ds (u ∷ us) (p ∷ ps) h = ap suc (each-length ts ds us ps h.1)
+each-length ts ds [] (p ∷ ps) h = elim h [ ]
+each-length ts ds (u ∷ us) [] h = elim h [ ]
+
+pub adds_crowd : (ds ds' : List SketchNode) (ps : List Pair) (ks js : List ℕ) (r : Result Pair AllocError) → ks ≡ map (λ (p : Pair). p.truth) ps → js ≡ map (λ (p : Pair). p.negation) ps → AddsPair ds ds' (crowd_sketch true ks) (crowd_sketch false js) r →
+    ConnectsCrowd ds ds' ps r
+adds_crowd ds ds' ps ks js r e e' h = λ m ts u us s long are each. let ls = map (xor_of u) us in
+    let size : length ps ≡ length us = each-length ts ds ls ps each ∙ length-map us (xor_of u) in
+    let kept : length ks ≡ length ps = ap (λ (l : List ℕ). length l) e ∙ length-map ps (λ (p : Pair). p.truth) in
+    let kept' : length js ≡ length ps = ap (λ (l : List ℕ). length l) e' ∙ length-map ps (λ (p : Pair). p.negation) in
+    subst (λ (w : Unfolded). Sketches ds ds' m (Draws ts ds' w) r) (ap₂ formula (crowd-is true u us are) (crowd-is false u us are))
+    (h m ts (crowd true (map truth_of ls)) (crowd false (map negation_form ls)) s
+    (crowd-draws m ts ds true ks (map truth_of ls) (omega (arith, long, size, kept)) (subst (λ (fs : Forms Comparison). DrawsForms ts ds fs ks) (sides-are truth_of ls) (subst (λ (x : List ℕ). DrawsForms ts ds (forms_of truth_of ls) x) (sym e) (truths_draw ts ds ls ps each))))
+    (crowd-draws m ts ds false js (map negation_form ls) (omega (arith, long, size, kept')) (subst (λ (fs : Forms Comparison). DrawsForms ts ds fs js) (sides-are negation_form ls) (subst (λ (x : List ℕ). DrawsForms ts ds (forms_of negation_form ls) x) (sym e') (negations_draw ts ds ls ps each)))))

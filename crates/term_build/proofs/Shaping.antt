@@ -6,7 +6,7 @@ use Rattle.dyadic.proofs.Equal.{both_true, both_pass}
 use Rattle.std.specs.Prelude.{slice_get, slice_set, Result, Ok, Err}
 use Rattle.script_model.specs.Sexp.{Place}
 use Rattle.poly_graph.specs.Term.{Term, constant}
-use Rattle.poly_graph.specs.Form.{Form, yes_form, no_form, atom_is, bool_is, all_form, any_form, more_forms, form_atoms, forms_atoms, form_map, forms_map}
+use Rattle.poly_graph.specs.Form.{Form, Forms, yes_form, no_form, atom_is, bool_is, all_form, any_form, more_forms, form_atoms, forms_atoms, form_map, forms_map}
 use Rattle.poly_graph.specs.FormGraph.{picked}
 use Rattle.script_forms.specs.Terms.{Comparison}
 use Rattle.script_forms.specs.Atoms.{atom_of, number_in}
@@ -15,14 +15,15 @@ use Rattle.script_forms.specs.Walk.{Stand, Walked, stands, after_events, make_fo
 use Rattle.term_build.specs.Built.{BuilderModel, stand_of}
 use Rattle.term_build.specs.Does.{Does, StopsAs, IsForm}
 use Rattle.term_build.specs.Settled.{Extends, FormSettled, FormsSettled, AreSettled, AtomsIn}
-use Rattle.term_build.specs.Sketch.{SketchNode, yes_sketch, no_sketch, comparison_sketch, bool_sketch, all_sketch, any_sketch, choice_sketch, equal_sketch, some_equal, sketch_after, sketch_in_order, sketch_at, sketch_children, sketch_form, comparison_of, IsDrawing, IsDrawn, IsSketch, IsFormOf, IsAtomForm}
-use Rattle.term_build.specs.Shapes.{AreFrames, AreNumbers, IsFrame, IsMemo, StaysSafe, IfDone, Completes, Finishes, Frame, frame_of, children, left_of, left_in, left_on, node_at, IsShaped, AreShaped, FramesShaped, IsWalkLeft}
+use Rattle.term_build.specs.Sketch.{SketchNode, yes_sketch, no_sketch, comparison_sketch, bool_sketch, all_sketch, any_sketch, choice_sketch, equal_sketch, crowd_sketch, least_crowd, some_equal, sketch_row, sketch_after, sketch_in_order, sketch_at, sketch_children, sketch_form, comparison_of, IsDrawing, IsDrawn, IsSketch, IsFormOf, IsAtomForm}
+use Rattle.term_build.specs.Shapes.{crowd_left, AreFrames, AreNumbers, IsFrame, IsMemo, StaysSafe, IfDone, Completes, Finishes, Frame, frame_of, children, left_of, left_in, left_on, node_at, IsShaped, AreShaped, FramesShaped, IsWalkLeft}
 use Rattle.dyadic.specs.Fraction.{zero_fraction}
 use Rattle.poly_graph.proofs.Graphs.{length_terms}
 use Rattle.term_build.specs.Steps.{Emits}
 use Rattle.term_build.specs.declared.stop.Stop.{Stop}
 use Rattle.term_build.specs.declared.shape.Frame as code_frame
 use Rattle.term_build.proofs.Compares.{emits_form}
+use Rattle.term_build.proofs.Crowds.{crowd_events, crowd_stops, length_row, row_is}
 use Rattle.term_build.proofs.Gathering.{numbers_within, some_equal_later}
 use Rattle.term_build.proofs.Lists.{get_index, get_below, index_get, index_before, map_end, stood}
 use Rattle.std.proofs.lemmas.List.{length-map}
@@ -61,6 +62,8 @@ left-next fs f (comparison_sketch at l r kind) i c h = cc
 left-next fs f (bool_sketch axis v) i c h = cc
 left-next fs f (choice_sketch p x y) i c h = cc
 left-next fs f (equal_sketch at ks) i c h = cc
+left-next fs f (crowd_sketch v ks) i c h = let last = crowd_left v (sketch_row fs ks) in ap (λ xs. forms_events (sketch_children fs xs) ++ last) (drop-one ks i c h)
+    ∙ append_assoc (form_events (sketch_at fs c)) (forms_events (sketch_children fs (drop (suc i) ks))) last
 
 -- all is left of a node that is begun
 left-begun : (ts : List Term) (fs : List (Form Comparison)) (f : Form Comparison) (d : SketchNode) → f ≡ sketch_form ts fs d → left_of fs f d 0 ≡ form_events f
@@ -72,6 +75,7 @@ left-begun ts fs f (comparison_sketch at l r kind) e = refl
 left-begun ts fs f (bool_sketch axis v) e = refl
 left-begun ts fs f (choice_sketch p x y) e = refl
 left-begun ts fs f (equal_sketch at ks) e = refl
+left-begun ts fs f (crowd_sketch v ks) e = ap (λ cs. forms_events cs ++ crowd_left v (sketch_row fs ks)) (row_is fs ks) ∙ sym (ap form_events e ∙ crowd_events v (sketch_row fs ks))
 
 -- ---- frames
 
@@ -236,6 +240,13 @@ finished-by m0 m m1 fs k (equal_sketch at ks) js r x is o h e done =
     let same : some_equal us at ks ≡ some_equal ts at ks = some_equal_later ts us x.trees at ks (numbers_within (length m0.nodes) (length ts) ks (omega (arith, length_terms m0.nodes)) o) in
     subst (λ (es : List Event). Finished fs m m1 k es r) (sym (ap form_events is))
     (compared-done fs m m1 k (some_equal ts at ks) r is (subst (λ (f : Form Comparison). Emits m m1 (form_events f) r (IsFormOf m1 (form_map atom_of f))) same done))
+finished-by m0 m m1 fs k (crowd_sketch v ks) js r x is o h e done =
+    let c = children-settled (stand_of m) fs ks js h e in
+    let last = crowd_left v (sketch_row fs ks) in
+    let long : least_crowd ≤ length (sketch_row fs ks) = omega (arith, o, length_row fs ks) in
+    subst (λ (l : List ℕ). Finished fs m m1 k (forms_events (sketch_children fs l) ++ last) r) (sym (drop-all ks (length js) e))
+    (subst (λ (q : Result ℕ Stop). Finished fs m m1 k last q) (sym done.0)
+    (crowd_stops m v (sketch_row fs ks) (subst (λ (cs : Forms Comparison). AreSettled (stand_of m) (forms_events cs)) (row_is fs ks) c.0) done.1 long))
 finished-by m0 m m1 fs k (all_sketch ks) js r x is o h e done =
     let c = children-settled (stand_of m) fs ks js h e in
     let f : Form Comparison = all_form (sketch_children fs ks) in
@@ -318,6 +329,7 @@ number-below n (k ∷ ks) (suc i) c h e = let o = both_true (nat_lt k n) (list_a
 child-below-of : (n : ℕ) (d : SketchNode) (i c : ℕ) → IsTrue (sketch_after n d) → slice_get (children d) i ≡ Some c → c < n
 child-below-of n (all_sketch ks) i c h e = number-below n ks i c h e
 child-below-of n (any_sketch ks) i c h e = number-below n ks i c h e
+child-below-of n (crowd_sketch v ks) i c h e = number-below n ks i c h e
 child-below-of n yes_sketch i c h e = cc
 child-below-of n no_sketch i c h e = cc
 child-below-of n (comparison_sketch at l r kind) i c h e = cc
@@ -365,6 +377,7 @@ finish_extends m m1 no_sketch js j h = form-extends here (stand_of m) (stand_of 
 finish_extends m m1 (choice_sketch p x y) js j h = form-extends here (stand_of m) (stand_of m1) no_form (h.0 here)
 finish_extends m m1 (comparison_sketch at l r kind) js j h = extends_to here (stand_of m) (stand_of m1) (form_events (atom_is (comparison_of (stand_of m).trees at l r kind))) (h.0 here)
 finish_extends m m1 (equal_sketch at ks) js j h = extends_to here (stand_of m) (stand_of m1) (form_events (some_equal (stand_of m).trees at ks)) (h.0 here)
+finish_extends m m1 (crowd_sketch v ks) js j h = let e = h.0 in cc
 finish_extends m m1 (bool_sketch axis v) js j h = form-extends here (stand_of m) (stand_of m1) (bool_is axis v) (h.0 here)
 finish_extends m m1 (all_sketch ks) js j h = form-extends here (stand_of m) (stand_of m1) (all_form (picked (stand_of m).forms js)) (h.0 here)
 finish_extends m m1 (any_sketch ks) js j h = form-extends here (stand_of m) (stand_of m1) (any_form (picked (stand_of m).forms js)) (h.0 here)
@@ -379,6 +392,7 @@ finish_there m m1 (choice_sketch p x y) js j h = there m1 j _ h.1
 finish_there m m1 (comparison_sketch at l r kind) js j h = there m1 j _ h.1
 finish_there m m1 (bool_sketch axis v) js j h = there m1 j _ h.1
 finish_there m m1 (equal_sketch at ks) js j h = there m1 j _ h.1
+finish_there m m1 (crowd_sketch v ks) js j h = let e = h.0 in cc
 finish_there m m1 (all_sketch ks) js j h = there m1 j _ h.1
 finish_there m m1 (any_sketch ks) js j h = there m1 j _ h.1
 
@@ -392,6 +406,7 @@ drawn-stays m m1 (choice_sketch p x y) e h k = tt
 drawn-stays m m1 (comparison_sketch at l r kind) e h k = (omega (arith, h, k.0), omega (arith, h, k.1))
 drawn-stays m m1 (bool_sketch axis v) e h k = subst (λ (s : List Sort). HasSort bool_sort s axis) (sym e) k
 drawn-stays m m1 (equal_sketch at ks) e h k = numbers_within (length m.nodes) (length m1.nodes) ks h k
+drawn-stays m m1 (crowd_sketch v ks) e h k = k
 drawn-stays m m1 (all_sketch ks) e h k = tt
 drawn-stays m m1 (any_sketch ks) e h k = tt
 

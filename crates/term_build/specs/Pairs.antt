@@ -1,5 +1,5 @@
 -- A Bool expression as a pair of nodes of a sketch: the form of its truth, and that of its negation.
-use Rattle.std.specs.Prelude.{◌≡◌, ℕ, ◌<◌, ◌≤◌, List, [], ◌∷◌, ◌++◌, length, Result, Ok, Err, IfOk, IsTrue, Bool, true, false, slice_index_or, drop, nat_lt}
+use Rattle.std.specs.Prelude.{◌≡◌, ℕ, ◌<◌, ◌≤◌, List, [], ◌∷◌, ◌++◌, map, length, Result, Ok, Err, IfOk, IsTrue, Bool, true, false, slice_index_or, drop, nat_lt}
 use Rattle.std.specs.List.{list_all}
 use Rattle.script_model.specs.Meaning.{pairs}
 use Rattle.script_model.specs.Sexp.{Place}
@@ -10,9 +10,9 @@ use Rattle.script_forms.specs.Atoms.{constant_tree}
 use Rattle.dyadic.specs.Point.{bool_sort}
 use Rattle.poly_graph.specs.Problem.{HasSort}
 use Rattle.script_forms.specs.Terms.{Comparison, Unfolded, term, formula}
-use Rattle.script_forms.specs.Unfolded.{truth_of, negation_form, not_of, xor_of, implies_of, choice_form, different, two, at_most_two, at_least_two, equal_two}
+use Rattle.script_forms.specs.Unfolded.{truth_of, negation_form, and_of, not_of, xor_of, implies_of, choice_form, different, two, at_most_two, at_least_two, equal_two}
 use Rattle.term_build.specs.Built.{BuilderModel}
-use Rattle.term_build.specs.Sketch.{SketchNode, choice_sketch, sketch_after, sketch_at, sketch_form, IsDrawing, IsDrawn, IsSketch}
+use Rattle.term_build.specs.Sketch.{SketchNode, choice_sketch, least_crowd, sketch_after, sketch_at, sketch_form, IsDrawing, IsDrawn, IsSketch}
 use Rattle.term_build.specs.declared.connectives.Pair.{Pair}
 use Rattle.term_build.specs.declared.sketch.Arm.{Arm}
 use Rattle.term_build.specs.declared.sketch.Arm.TheVariants.{Tree, Choice}
@@ -136,6 +136,15 @@ ConnectsChoice ds ds' o p q r = (m : BuilderModel) (ts : List Term) (c u v : Unf
 -- a pair for what is made, from the left, of a first pair and these
 abbrev pub ConnectsFrom : (Unfolded → List Unfolded → Unfolded) → List SketchNode → List SketchNode → Pair → List Pair → Result Pair AllocError → Type 0
 ConnectsFrom op ds ds' p ps r = (m : BuilderModel) (ts : List Term) (u : Unfolded) (us : List Unfolded) → IsSketch m ds → Draws ts ds u p → DrawsEach ts ds us ps → Sketches ds ds' m (Draws ts ds' (op u us)) r
+
+-- each is a formula
+abbrev pub AreFormulas : List Unfolded → Type 0
+AreFormulas us = map (λ u. formula (truth_of u) (negation_form u)) us ≡ us
+
+-- where these are pairs for that a first formula differs from each of many: a pair for that each two of them all differ
+abbrev pub ConnectsCrowd : List SketchNode → List SketchNode → List Pair → Result Pair AllocError → Type 0
+ConnectsCrowd ds ds' ps r = (m : BuilderModel) (ts : List Term) (u : Unfolded) (us : List Unfolded) → IsSketch m ds → least_crowd ≤ length us → AreFormulas us → DrawsEach ts ds (map (xor_of u) us) ps →
+    Sketches ds ds' m (Draws ts ds' (and_of (pairs xor_of (u ∷ us)))) r
 
 -- what is left, after some of the pairs, makes the same
 pub record Left (op : Unfolded → List Unfolded → Unfolded) (u : Unfolded) (m : BuilderModel) (ts : List Term) (ds ds' : List SketchNode) (p : Pair) (ps : List Pair) : Type 0 where

@@ -1,5 +1,5 @@
 -- A form that is being made from its sketch.
-use Rattle.std.specs.Prelude.{◌≡◌, ℕ, ◌<◌, ◌≤◌, List, [], ◌∷◌, ◌++◌, map, length, Option, Some, Result, Ok, Err, drop, slice_get, slice_set, slice_index_or, IsTrue, nat_lt}
+use Rattle.std.specs.Prelude.{◌≡◌, ℕ, ◌<◌, ◌≤◌, List, [], ◌∷◌, ◌++◌, map, Bool, length, Option, Some, Result, Ok, Err, drop, slice_get, slice_set, slice_index_or, IsTrue, nat_lt}
 use Rattle.std.specs.List.{AllByRecursion, list_all}
 use Rattle.script_model.specs.Sexp.{Place}
 use Rattle.smt_sexp.specs.Views.{place_of}
@@ -9,12 +9,14 @@ use Rattle.poly_graph.specs.Form.{Form, atom_is, all_form, any_form, form_map, f
 use Rattle.script_forms.specs.Terms.{Comparison}
 use Rattle.script_forms.specs.Atoms.{atom_of, number_in}
 use Rattle.script_forms.specs.Work.{Event, formed, form_events, forms_events}
-use Rattle.script_forms.specs.Walk.{Stand, after_events, make_form}
+use Rattle.script_forms.specs.Walk.{Stand, after_events, all_sizes, make_form, most_forms}
 use Rattle.term_build.specs.Built.{BuilderModel, stand_of}
 use Rattle.term_build.specs.Does.{StopsAs, Does, IsForm}
 use Rattle.term_build.specs.declared.stop.Stop.{Stop}
+use Rattle.term_build.specs.declared.stop.Stop.TheVariants.{TooMany}
+use Rattle.script_fault.specs.declared.limit.Limit.TheVariants.{Forms}
 use Rattle.term_build.specs.Steps.{Emits}
-use Rattle.term_build.specs.Sketch.{SketchNode, yes_sketch, no_sketch, comparison_sketch, bool_sketch, all_sketch, any_sketch, choice_sketch, equal_sketch, sketch_at, sketch_children, comparison_of, some_equal, IsAtomForm, IsFormOf, IsDrawing, IsSketch}
+use Rattle.term_build.specs.Sketch.{SketchNode, yes_sketch, no_sketch, comparison_sketch, bool_sketch, all_sketch, any_sketch, choice_sketch, equal_sketch, crowd_sketch, crowd, forms_in, later_links, sketch_at, sketch_children, sketch_row, comparison_of, some_equal, IsAtomForm, IsFormOf, IsDrawing, IsSketch}
 use Rattle.term_build.specs.Settled.{Extends, FormSettled}
 use Rattle.term_build.specs.declared.shape.Frame as code_frame
 use Rattle.term_build.specs.declared.sketch.SketchNode as code
@@ -29,16 +31,23 @@ sketch_of (drawn.And ks) = all_sketch ks.items
 sketch_of (drawn.Or ks) = any_sketch ks.items
 sketch_of (drawn.Choice p x y) = choice_sketch p x y
 sketch_of (drawn.SomeEqual at ks) = equal_sketch (place_of at) ks.items
+sketch_of (drawn.Crowd v ks) = crowd_sketch v ks.items
 
 abbrev pub children : SketchNode → List ℕ
 children (all_sketch ks) = ks
 children (any_sketch ks) = ks
+children (crowd_sketch v ks) = ks
 children d = []
+
+-- what is left of many formulas, where the forms of the first and each later one are made
+abbrev pub crowd_left : Bool → List (Form Comparison) → List Event
+crowd_left v fs = forms_events (forms_in (later_links v fs)) ++ (formed (form_map atom_of (crowd v fs)) ∷ [])
 
 -- what is left to do of a node of this form, where so many of its children are done
 abbrev pub left_of : List (Form Comparison) → Form Comparison → SketchNode → ℕ → List Event
 left_of fs f (all_sketch ks) i = forms_events (sketch_children fs (drop i ks)) ++ (formed (all_form (forms_map atom_of (sketch_children fs ks))) ∷ [])
 left_of fs f (any_sketch ks) i = forms_events (sketch_children fs (drop i ks)) ++ (formed (any_form (forms_map atom_of (sketch_children fs ks))) ∷ [])
+left_of fs f (crowd_sketch v ks) i = forms_events (sketch_children fs (drop i ks)) ++ crowd_left v (sketch_row fs ks)
 left_of fs f d i = form_events f
 
 -- a node whose children these are the numbers of, as many as are done
@@ -110,12 +119,14 @@ joined (any_sketch ks) js = any_node js
 joined (comparison_sketch at l r kind) js = no_node
 joined (choice_sketch p x y) js = no_node
 joined (equal_sketch at ks) js = no_node
+joined (crowd_sketch v ks) js = no_node
 
--- the last step of a node: the events of a comparison or of several, or one node of the form
+-- the last step of a node: the events of a comparison or of several, or one node of the form; many formulas stop it
 abbrev pub Finishes : BuilderModel → BuilderModel → SketchNode → List ℕ → Result ℕ Stop → Type 0
 Finishes old new (comparison_sketch at l r kind) js r' =
     let c = comparison_of (stand_of old).trees at l r kind in Emits old new (form_events (atom_is c)) r' (IsAtomForm new (atom_of c))
 Finishes old new (equal_sketch at ks) js r = let f = some_equal (stand_of old).trees at ks in Emits old new (form_events f) r (IsFormOf new (form_map atom_of f))
+Finishes old new (crowd_sketch v ks) js r = (r ≡ Err (TooMany Forms)) × (all_sizes (stand_of old).forms ≤ most_forms)
 Finishes old new d js r = let f = node_form (graph_forms old.forms) (joined d js) in Does old new (λ claim s. make_form claim s f) r (IsForm new f)
 
 -- the walk goes on from what is left on the stack, or stops

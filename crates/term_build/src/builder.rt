@@ -1,5 +1,5 @@
 // The builder: its tables, and the steps that fill them.
-ghost use Rattle.std.specs.Prelude.{◌≡◌, ◌^◌, ◌<◌, length, map, IsTrue, option_map};
+ghost use Rattle.std.specs.Prelude.{◌≡◌, ◌^◌, ◌<◌, ◌≤◌, length, map, Err, IsTrue, option_map};
 ghost use Rattle.dyadic.specs.Views.{fraction_of_frac};
 ghost use Rattle.term_build.specs.Steps.{as_constant, as_variable, both_of, constants, node_constant, node_variable, tree_of, two_fractions};
 ghost use Rattle.poly_graph.specs.Term.{comes_after};
@@ -9,9 +9,12 @@ ghost use Rattle.poly_graph.specs.Problem.{HasSort, IsNode};
 ghost use Rattle.poly_graph.specs.Views.{atom_of, node_of};
 ghost use Rattle.smt_script.specs.Views.{sort_of};
 ghost use Rattle.script_forms.specs.Terms.{same_term};
+ghost use Rattle.script_forms.specs.Walk.{all_sizes, most_forms};
 ghost use Rattle.script_forms.specs.Work.{reached};
-ghost use Rattle.term_build.specs.Built.{IsFormNode, IsMade, begun};
+ghost use Rattle.term_build.specs.Built.{IsFormNode, IsMade, begun, stand_of};
 ghost use Rattle.term_build.specs.Calls.{AsksAtom, DoesEvent, MakesForm, MakesNode, fraction_in};
+ghost use Rattle.term_build.specs.declared.stop.Stop.TheVariants.{TooMany};
+ghost use Rattle.script_fault.specs.declared.limit.Limit.TheVariants.{Forms};
 
 use crate::facts::{atoms_are_apart, forms_are_shared, graph_is_shared};
 use crate::stop::{Stop, limited};
@@ -162,6 +165,15 @@ impl Builder {
         let made = self.forms.intern(node);
         forms_are_shared(&self.forms);
         limited(made)
+    }
+
+    /// There is no room for a form that is larger than all forms may be.
+    pub(crate) fn no_room(&self) -> Result<u32, Stop>
+        ensures stops { result ≡ Err (TooMany Forms) }
+        ensures few { all_sizes (stand_of self.now).forms ≤ most_forms }
+    {
+        forms_are_shared(&self.forms);
+        Err(Stop::TooMany(Limit::Forms))
     }
 
     /// How many nodes there are.

@@ -4,13 +4,17 @@ ghost use Rattle.poly_graph.specs.Form.{all_form, any_form};
 ghost use Rattle.script_forms.specs.Unfolded.{and_of, chain, implies_of, implies_two, or_of, xor_all, xor_from, xor_of};
 ghost use Rattle.term_build.specs.Calls.{Compares, Differs, drawn};
 ghost use Rattle.term_build.specs.Shapes.{sketch_of};
-ghost use Rattle.term_build.specs.Pairs.{Adds, AddsChoice, AddsPair, Connects, ConnectsChoice, ConnectsFrom, ConnectsTwo, ImpliesFrom, JoinsFour, JoinsTwo, Negates, Writes, WritesBool, constant_formula, same_of};
+ghost use Rattle.term_build.specs.Pairs.{Adds, AddsChoice, AddsPair, Connects, ConnectsChoice, ConnectsCrowd, ConnectsFrom, ConnectsTwo, ImpliesFrom, JoinsFour, JoinsTwo, Negates, Writes, WritesBool, constant_formula, same_of};
 ghost use Rattle.term_build.specs.declared.connectives.Pair as code_pair;
 
 use crate::sketch::{Arm, SketchNode};
 use poly_graph::Kind;
 use script_fault::Place;
 use std::alloc::{AllocError, Global};
+
+/// So many Bool expressions that differ from a first one make more pairs than a form has room for: 1,449 expressions
+/// make 1,049,076 pairs.
+pub const LEAST_CROWD: usize = 1448;
 
 /// A Bool expression: the node of its truth in a sketch, and that of its negation.
 #[derive(Clone, Copy, Debug, PartialEq, Eq)]
@@ -281,6 +285,24 @@ impl Pair {
     {
         let nodes = Vec::from_slice(alloc, nodes)?;
         add_pair(sketch, SketchNode::True, SketchNode::SomeEqual(at, nodes))
+    }
+
+    /// That many Bool expressions differ, each from every other, where these are the pairs for that the first one
+    /// differs from each later one. No form has room for it: it stops a builder where it is asked for.
+    pub fn crowd(
+        alloc: Global,
+        sketch: &mut Vec<SketchNode>,
+        links: &[Pair],
+    ) -> Result<Pair, AllocError>
+        ensures { ConnectsCrowd (drawn sketch.old) (drawn sketch.new) links.now result }
+    {
+        let truths = truths(alloc, links)?;
+        let negations = negations(alloc, links)?;
+        add_pair(
+            sketch,
+            SketchNode::Crowd(true, truths),
+            SketchNode::Crowd(false, negations),
+        )
     }
 
     /// That each implies what comes after it, taken from the right.

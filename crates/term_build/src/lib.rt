@@ -14,7 +14,7 @@ mod steps;
 mod stop;
 
 pub use builder::Builder;
-pub use connectives::{Pair, choose_arms};
+pub use connectives::{LEAST_CROWD, Pair, choose_arms};
 pub use shape::make_form;
 pub use sketch::{Arm, SketchNode, choice_at};
 pub use stop::{Fault, Stop};

@@ -24,7 +24,9 @@ fn child_at(node: &SketchNode, i: usize) -> Option<u32>
     ensures { result ≡ slice_get (children (sketch_of node.now)) i }
 {
     match node {
-        SketchNode::And(children) | SketchNode::Or(children) => children.get(i).copied(),
+        SketchNode::And(children) | SketchNode::Or(children) | SketchNode::Crowd(_, children) => {
+            children.get(i).copied()
+        }
         _ => None,
     }
 }
@@ -46,6 +48,7 @@ fn finish(
         SketchNode::False | SketchNode::Choice(_, _, _) => builder.form(FormNode::False),
         SketchNode::Compare(at, left, right, kind) => builder.compare(*at, *left, *right, *kind),
         SketchNode::SomeEqual(at, nodes) => some_equal(alloc, builder, *at, nodes),
+        SketchNode::Crowd(_, _) => builder.no_room(),
         SketchNode::BoolIs(axis, value) => builder.form(FormNode::BoolIs(*axis, *value)),
         SketchNode::And(_) => builder.form(FormNode::And(numbers)),
         SketchNode::Or(_) => builder.form(FormNode::Or(numbers)),

@@ -28,6 +28,9 @@ pub enum SketchNode {
     Or(Vec<u32>),
     /// Two of these trees are equal, of an expression at this place: the comparison of each with every later one.
     SomeEqual(Place, Vec<u32>),
+    /// So many Bool expressions differ, each from every other, that no form has room for it, or two of them are equal.
+    /// These nodes, which come before it, say so of the first and each later one.
+    Crowd(bool, Vec<u32>),
     /// A Real `ite`: its condition and its arms. It is part of no form.
     Choice(Pair, Arm, Arm),
 }

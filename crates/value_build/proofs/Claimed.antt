@@ -17,7 +17,7 @@ use Rattle.term_build.specs.Built.{BuilderModel, stand_of}
 use Rattle.term_build.specs.Does.{Does, IsForm, StopsAs}
 use Rattle.term_build.specs.Settled.{FormSettled}
 use Rattle.term_build.specs.Shapes.{Shaping}
-use Rattle.term_build.specs.Sketch.{SketchNode, yes_sketch, no_sketch, comparison_sketch, bool_sketch, all_sketch, any_sketch, choice_sketch, equal_sketch, sketch_after, sketch_in_order, sketch_at, sketch_children, sketch_form, IsDrawing, IsSketch, IsFormOf}
+use Rattle.term_build.specs.Sketch.{SketchNode, yes_sketch, no_sketch, comparison_sketch, bool_sketch, all_sketch, any_sketch, choice_sketch, equal_sketch, crowd_sketch, crowd, sketch_row, sketch_after, sketch_in_order, sketch_at, sketch_children, sketch_form, IsDrawing, IsSketch, IsFormOf}
 use Rattle.term_build.specs.Steps.{Emits}
 use Rattle.term_build.specs.Pairs.{DrawsForm}
 use Rattle.term_build.specs.declared.stop.Stop.{Stop}
@@ -44,6 +44,12 @@ children-more fs gs (k ∷ ks) n l h = let o = both_true (nat_lt k n) (list_all 
     let less : k < n = ltb→lt k n (passes _ o.0) in
     ap₂ more_forms (index_before fs gs k no_form (omega (arith, less, l))) (children-more fs gs ks n l o.1)
 
+row-more : (fs gs : List (Form Comparison)) (ks : List ℕ) (n : ℕ) → n ≤ length fs → IsTrue (list_all (λ k. nat_lt k n) ks) → sketch_row (fs ++ gs) ks ≡ sketch_row fs ks
+row-more fs gs [] n l h = refl
+row-more fs gs (k ∷ ks) n l h = let o = both_true (nat_lt k n) (list_all (λ k. nat_lt k n) ks) h in
+    let less : k < n = ltb→lt k n (passes _ o.0) in
+    ap₂ (λ (x : Form Comparison) (xs : List (Form Comparison)). x ∷ xs) (index_before fs gs k no_form (omega (arith, less, l))) (row-more fs gs ks n l o.1)
+
 form-more : (ts : List Term) (fs gs : List (Form Comparison)) (d : SketchNode) (n : ℕ) → n ≤ length fs → IsTrue (sketch_after n d) → sketch_form ts (fs ++ gs) d ≡ sketch_form ts fs d
 form-more ts fs gs (all_sketch ks) n l h = ap all_form (children-more fs gs ks n l h)
 form-more ts fs gs (any_sketch ks) n l h = ap any_form (children-more fs gs ks n l h)
@@ -53,6 +59,7 @@ form-more ts fs gs (comparison_sketch at i j kind) n l h = refl
 form-more ts fs gs (bool_sketch axis v) n l h = refl
 form-more ts fs gs (choice_sketch p x y) n l h = refl
 form-more ts fs gs (equal_sketch at ks) n l h = refl
+form-more ts fs gs (crowd_sketch v ks) n l h = ap (crowd v) (row-more fs gs ks n l h)
 
 order-at : (n : ℕ) (ds : List SketchNode) → IsTrue (sketch_in_order n ds) → (k : ℕ) (d : SketchNode) → slice_get ds k ≡ Some d → IsTrue (sketch_after (n + k) d)
 order-at n [] h k d e = cc

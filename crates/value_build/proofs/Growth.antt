@@ -9,7 +9,7 @@ use Rattle.script_forms.specs.Unfolded.{truth_of, negation_form, is_real_tree}
 use Rattle.script_forms.specs.Work.{Event, ending, made}
 use Rattle.script_forms.specs.Walk.{after_events}
 use Rattle.term_build.specs.Built.{BuilderModel, stand_of}
-use Rattle.term_build.specs.Sketch.{SketchNode, yes_sketch, no_sketch, comparison_sketch, bool_sketch, all_sketch, any_sketch, choice_sketch, equal_sketch, IsDrawing, IsDrawn, IsSketch}
+use Rattle.term_build.specs.Sketch.{SketchNode, yes_sketch, no_sketch, comparison_sketch, bool_sketch, all_sketch, any_sketch, choice_sketch, equal_sketch, crowd_sketch, IsDrawing, IsDrawn, IsSketch}
 use Rattle.term_build.specs.Pairs.{DrawsForm, Draws, Grown}
 use Rattle.term_build.specs.Settled.{Extends}
 use Rattle.term_build.specs.declared.sketch.Arm.{Arm}
@@ -151,6 +151,7 @@ drawn-stays m m' yes_sketch n s h = tt
 drawn-stays m m' no_sketch n s h = tt
 drawn-stays m m' (choice_sketch p x y) n s h = tt
 drawn-stays m m' (equal_sketch at ks) n s h = numbers_within (length m.nodes) (length m'.nodes) ks n h
+drawn-stays m m' (crowd_sketch v ks) n s h = h
 drawn-stays m m' (all_sketch ks) n s h = tt
 drawn-stays m m' (any_sketch ks) n s h = tt
 

@@ -13,12 +13,12 @@ use Rattle.script_fault.specs.declared.place.Place as code_place
 use Rattle.poly_graph.specs.Term.{Term, eq}
 use Rattle.poly_graph.proofs.Graphs.{length_terms}
 use Rattle.script_forms.specs.Terms.{Unfolded, term, either, refused, ill_formed}
-use Rattle.script_forms.specs.Unfolded.{are_terms, are_formulas, at_least_long, takes, first_fault, unfolded_operation, operation_tree, chain, different, unless_refused, choice_form, and_of, equal_two, differ_two, choice_two, choice_tree, picks_terms}
+use Rattle.script_forms.specs.Unfolded.{are_terms, are_formulas, at_least_long, takes, first_fault, unfolded_operation, operation_tree, chain, different, unless_refused, choice_form, and_of, xor_of, equal_two, differ_two, choice_two, choice_tree, picks_terms}
 use Rattle.script_forms.specs.Work.{compare_events, together, operation_events, operator_events, unless_met, met}
 use Rattle.term_build.specs.Built.{BuilderModel, stand_of}
-use Rattle.term_build.specs.Sketch.{SketchNode, IsSketch}
+use Rattle.term_build.specs.Sketch.{SketchNode, IsSketch, least_crowd}
 use Rattle.term_build.specs.Steps.{Emits, IsTreeOf}
-use Rattle.term_build.specs.Pairs.{Grown, Draws, DrawsEach, Sketches, Connects, ConnectsChoice, DiffersEach, compared, trees_at, same_of}
+use Rattle.term_build.specs.Pairs.{Grown, Draws, DrawsEach, Sketches, AreFormulas, Connects, ConnectsChoice, ConnectsCrowd, ConnectsFrom, DiffersEach, compared, trees_at, same_of}
 use Rattle.term_build.specs.Shapes.{AreNumbers}
 use Rattle.term_build.specs.declared.connectives.Pair.{Pair}
 use Rattle.term_build.specs.declared.stop.Stop.{Stop}
@@ -35,8 +35,8 @@ use Rattle.value_build.specs.Values.{Weighs, IsArm, is_choice, IsValue, AreValue
 use Rattle.value_build.specs.Weights.{WeighsEach}
 use Rattle.value_build.specs.Arithmetic.{AreNodes, operator_of_step}
 use Rattle.value_build.specs.Bounds.{AddsList, chained_bounds}
-use Rattle.value_build.specs.Chains.{spread_over, AreTrees, ComparesEach, ConnectsEach, two_of}
-use Rattle.value_build.specs.Operators.{are_arms, are_picked, ArmsDo, are_real, are_bool, node_number, pair_number, list_number, takes_of, RealsDo, RealsMake, bool_operation, bool_equality, given_bounds, ListsEach, BoolsDo}
+use Rattle.value_build.specs.Chains.{spread_over, AreTrees, AddsConnected, ComparesEach, ConnectsEach, two_of}
+use Rattle.value_build.specs.Operators.{are_arms, are_picked, ArmsDo, are_real, are_bool, node_number, pair_number, list_number, takes_of, RealsDo, RealsMake, bool_operation, bool_equality, bool_distinctness, distinct_from, given_bounds, ListsEach, BoolsDo}
 use Rattle.value_build.specs.declared.arithmetic.Step.{Step}
 use Rattle.value_build.specs.declared.chains.Spread.{Spread}
 use Rattle.value_build.specs.declared.chains.Spread.TheVariants.{Next}
@@ -95,6 +95,41 @@ connects_joined items s f op op' ds ds1 ds2 qs links ps r e same w c = λ m ts u
     let a = w m ts us k d in
     let b = c m ts (spread_over s f us) a.sketch (subst (λ (xs : List Pair). DrawsEach ts ds1 (spread_over s f us) xs) (sym e) a.drawn) in
     subst (λ (u : Unfolded). Sketches ds ds2 m (Draws ts ds2 u) r) (same us) (record { grown = grown_both ds ds1 ds2 a.grown b.grown; sketch = b.sketch; drawn = b.drawn })
+
+-- ---- many formulas, each two of which differ
+
+formulas : (ts : List Term) (ds : List SketchNode) (us : List Unfolded) (ps : List Pair) → DrawsEach ts ds us ps → AreFormulas us
+formulas ts ds [] [] h = refl
+formulas ts ds (u ∷ us) (p ∷ ps) h = ap₂ (λ (x : Unfolded) (xs : List Unfolded). x ∷ xs) (sym h.0.is) (formulas ts ds us ps h.1)
+formulas ts ds [] (p ∷ ps) h = elim h [ ]
+formulas ts ds (u ∷ us) [] h = elim h [ ]
+
+each-length : (ts : List Term) (ds : List SketchNode) (us : List Unfolded) (ps : List Pair) → DrawsEach ts ds us ps → length us ≡ length ps
+each-length ts ds [] [] h = refl
+each-length ts ds (u ∷ us) (p ∷ ps) h = ap suc (each-length ts ds us ps h.1)
+each-length ts ds [] (p ∷ ps) h = elim h [ ]
+each-length ts ds (u ∷ us) [] h = elim h [ ]
+
+pub crowd_ended : {X : Type 0} (ds ds1 : List SketchNode) (p : Pair) (qs made links : List Pair) (x : Result X AllocError) (r : Result Pair AllocError) → IsErr r → made ≡ [] → AddsConnected xor_of ds ds1 p qs made links x → ConnectsFrom distinct_from ds ds1 p qs r
+crowd_ended ds ds1 p qs made links x r is e w = λ m ts u us s d each.
+    let a = w m ts u us [] s d each (subst (λ (xs : List Pair). DrawsEach ts ds [] xs) (sym e) tt) in ended ds ds1 m (Draws ts ds1 (distinct_from u us)) r is a.grown a.sketch
+
+pub crowd_joined : {X : Type 0} (ds ds1 ds2 : List SketchNode) (p : Pair) (qs made links ps : List Pair) (y : X) (r : Result Pair AllocError) → made ≡ [] → ps ≡ links → least_crowd ≤ length qs → AddsConnected xor_of ds ds1 p qs made links (Ok y) → ConnectsCrowd ds1 ds2 ps r →
+    ConnectsFrom distinct_from ds ds2 p qs r
+crowd_joined ds ds1 ds2 p qs made links ps y r e e' long w c = λ m ts u us s d each.
+    let a = w m ts u us [] s d each (subst (λ (xs : List Pair). DrawsEach ts ds [] xs) (sym e) tt) in
+    let b = c m ts u us a.sketch (omega (arith, long, each-length ts ds us qs each)) (formulas ts ds us qs each) (subst (λ (xs : List Pair). DrawsEach ts ds1 (map (xor_of u) us) xs) (sym e') a.drawn) in
+    record { grown = grown_both ds ds1 ds2 a.grown b.grown; sketch = b.sketch; drawn = b.drawn }
+
+from-first : (ds ds2 : List SketchNode) (p : Pair) (qs : List Pair) (r : Result Pair AllocError) → ConnectsFrom distinct_from ds ds2 p qs r → Connects bool_distinctness ds ds2 (p ∷ qs) r
+from-first ds ds2 p qs r h = go
+  where
+    go : Connects bool_distinctness ds ds2 (p ∷ qs) r
+    go m ts [] s each = elim each [ ]
+    go m ts (u ∷ us) s each = h m ts u us s each.0 each.1
+
+pub from_first : (ds ds2 : List SketchNode) (p : Pair) (qs ps : List Pair) (r : Result Pair AllocError) → ps ≡ p ∷ qs → ConnectsFrom distinct_from ds ds2 p qs r → Connects bool_distinctness ds ds2 ps r
+from_first ds ds2 p qs ps r e h = subst (λ (xs : List Pair). Connects bool_distinctness ds ds2 xs r) (sym e) (from-first ds ds2 p qs r h)
 
 pub equal_spread : (us : List Unfolded) → chain (spread_over Next (two_of Next) us) ≡ bool_equality us
 equal_spread us = ap chain (spread_next same_of us)

@@ -103,6 +103,10 @@ bool_equality us = chain (neighbours same_of us)
 abbrev pub bool_distinctness : List Unfolded → Unfolded
 bool_distinctness us = and_of (pairs xor_of us)
 
+-- of a first one and later ones
+abbrev pub distinct_from : Unfolded → List Unfolded → Unfolded
+distinct_from u us = bool_distinctness (u ∷ us)
+
 -- an operator at Bool arguments; no other is asked for
 abbrev pub bool_operation : Operator → List Unfolded → Unfolded
 bool_operation truth us = formula yes_form no_form

@@ -91,8 +91,8 @@ fn connect_two(
     }
 }
 
-// What one Bool expression makes with each of others, after those that were made.
-fn connect_with(
+/// What one Bool expression makes with each of others, after those that were made.
+pub(crate) fn connect_with(
     alloc: Global,
     sketch: &mut Vec<SketchNode>,
     spread: Spread,

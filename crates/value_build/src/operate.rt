@@ -1,30 +1,30 @@
 // Operators at values.
-ghost use Rattle.std.specs.Prelude.{◌≡◌, ℕ, ◌<◌, true, false, [], length, map, IfOk};
+ghost use Rattle.std.specs.Prelude.{◌≡◌, ℕ, ◌<◌, ◌≤◌, true, false, [], length, map, IfOk};
 ghost use Rattle.std.specs.List.{All};
 ghost use Rattle.script_forms.specs.Unfolded.{choice_form, not_first};
 ghost use Rattle.sort_check.specs.Views.{operator_of};
 ghost use Rattle.term_build.specs.Calls.{drawn};
-ghost use Rattle.term_build.specs.Pairs.{Connects};
-ghost use Rattle.term_build.specs.Sketch.{IsSketch};
+ghost use Rattle.term_build.specs.Pairs.{Connects, ConnectsFrom};
+ghost use Rattle.term_build.specs.Sketch.{IsSketch, least_crowd};
 ghost use Rattle.value_build.specs.Arithmetic.{AreNodes};
 ghost use Rattle.value_build.specs.Arms.{AreSomeValues, PicksOf, only_of};
 ghost use Rattle.value_build.specs.Bounds.{AddsList};
 ghost use Rattle.value_build.specs.Calls.{Applies, Chains, ComparesValues, Differ, JoinsLinks, OverArms, PairsDo, TreesDo, TreesMake, ValuesMake, bounds_given, operation_of, takes_arms};
 ghost use Rattle.value_build.specs.Making.{making};
-ghost use Rattle.value_build.specs.Operators.{ArePairs, are_arms, are_bool, are_picked, are_real, bool_distinctness, bool_equality, list_number, node_number, pair_number, takes_of};
+ghost use Rattle.value_build.specs.Operators.{ArePairs, are_arms, are_bool, are_picked, are_real, bool_distinctness, bool_equality, distinct_from, list_number, node_number, pair_number, takes_of};
 ghost use Rattle.value_build.specs.Values.{AreKnown};
 
 use crate::arithmetic::{Step, calculate};
 use crate::arms::{calculate_values, link_each, pick};
 use crate::bounds::chain_bounds;
-use crate::chains::{Spread, compare_each, connect_each};
+use crate::chains::{Spread, compare_each, connect_each, connect_with};
 use crate::value::Value;
 use declared_box::BoundTable;
 use poly_graph::Kind;
 use script_fault::Place;
 use sort_check::Operator;
 use std::alloc::{AllocError, Global};
-use term_build::{Arm, Builder, Fault, Pair, SketchNode, Stop};
+use term_build::{Arm, Builder, Fault, LEAST_CROWD, Pair, SketchNode, Stop};
 
 /// The sketch is given up, as where the builder stopped.
 pub(crate) fn give_up(sketch: &mut Vec<SketchNode>)
@@ -299,12 +299,45 @@ fn equal(alloc: Global, sketch: &mut Vec<SketchNode>, pairs: &[Pair]) -> Result<
     Pair::chain(alloc, sketch, &links)
 }
 
-// That Bool expressions differ, each from every other.
-fn distinct(alloc: Global, sketch: &mut Vec<SketchNode>, pairs: &[Pair]) -> Result<Pair, AllocError>
+// That Bool expressions differ, each from every other, each two of which have nodes of their own.
+fn few_distinct(
+    alloc: Global,
+    sketch: &mut Vec<SketchNode>,
+    pairs: &[Pair],
+) -> Result<Pair, AllocError>
     ensures { Connects bool_distinctness (drawn sketch.old) (drawn sketch.new) pairs.now result }
 {
     let links = connect_each(alloc, sketch, Spread::Later, pairs)?;
     Pair::all(alloc, sketch, &links)
+}
+
+// The same of a first expression and so many later ones that no form has room for it: no more nodes than these have.
+fn many_distinct(
+    alloc: Global,
+    sketch: &mut Vec<SketchNode>,
+    first: Pair,
+    later: &[Pair],
+) -> Result<Pair, AllocError>
+    requires { least_crowd ≤ length later.now }
+    ensures { ConnectsFrom distinct_from (drawn sketch.old) (drawn sketch.new)
+        first later.now result }
+{
+    let mut links = Vec::new(alloc);
+    connect_with(alloc, sketch, Spread::Later, first, later, &mut links)?;
+    Pair::crowd(alloc, sketch, &links)
+}
+
+// That Bool expressions differ, each from every other.
+fn distinct(alloc: Global, sketch: &mut Vec<SketchNode>, pairs: &[Pair]) -> Result<Pair, AllocError>
+    ensures { Connects bool_distinctness (drawn sketch.old) (drawn sketch.new) pairs.now result }
+{
+    let Some((first, later)) = pairs.split_first() else {
+        return few_distinct(alloc, sketch, pairs);
+    };
+    if later.len() < LEAST_CROWD {
+        return few_distinct(alloc, sketch, pairs);
+    }
+    many_distinct(alloc, sketch, *first, later)
 }
 
 // The negation of the first.
