@@ -8,7 +8,8 @@ the sources in Rattle, so that two readings of that page can be compared (`tests
 of the program and written there. The words are those of the page, which an auditor keeps beside this file; together they take
 more than an hour. The first half reads a script, the second half checks a certificate and stands on its own.
 
-What it does not do: it is not proved. It is slower than `dpoly-check` and holds the certificate in memory. Where an assertion
+What it does not do: it is not proved. It reads scripts without levels: to it `push`, `pop`, `reset`, `reset-assertions`,
+`check-sat-assuming`, `get-value`, `get-info`, `echo`, and what follows the check, are left out or bad commands. It is slower than `dpoly-check` and holds the certificate in memory. Where an assertion
 exceeds one of the limits Nodes, Atoms and Forms and has another fault of its phase besides, it may name the other one. It does
 not know the fault `TooLong` of a certificate, and `-` does not stand for standard input."""
 import re

@@ -5,7 +5,7 @@ use Rattle.script_fault.specs.declared.fault.FaultKind.{FaultKind}
 use Rattle.script_fault.specs.declared.fault.FaultKind.TheVariants.{BadByte, OpenToken, Unbalanced, NumberTooWide, BadCommand, UnknownSymbol, SortMismatch, Redeclared, DivisorNotConstant, ZeroDivisor, NoBound, BoundTooWide, TooMany, NoCheck, WrongLogic, LeftOut}
 use Rattle.script_fault.specs.declared.fault.ScriptFault.{ScriptFault}
 use Rattle.script_fault.specs.declared.limit.Limit.{Limit}
-use Rattle.script_fault.specs.declared.limit.Limit.TheVariants.{Bytes, Depth, Axes, Size, Nodes, Atoms, Forms}
+use Rattle.script_fault.specs.declared.limit.Limit.TheVariants.{Bytes, Depth, Axes, Size, Nodes, Atoms, Forms, Levels, Checks}
 use Rattle.script_fault.specs.declared.place.Place.{Place}
 
 abbrev pub limit_word : Limit → List ℕ
@@ -16,6 +16,8 @@ limit_word Size = codes "Size"
 limit_word Nodes = codes "Nodes"
 limit_word Atoms = codes "Atoms"
 limit_word Forms = codes "Forms"
+limit_word Levels = codes "Levels"
+limit_word Checks = codes "Checks"
 
 -- its number, its name, and what it tells of itself behind a space
 abbrev pub kind_text : FaultKind → List ℕ

@@ -61,5 +61,7 @@ fn append_limit(text: &mut Vec<u8>, what: Limit) -> Result<(), AllocError>
         Limit::Nodes => b"13 TooMany Nodes".as_slice(),
         Limit::Atoms => b"13 TooMany Atoms".as_slice(),
         Limit::Forms => b"13 TooMany Forms".as_slice(),
+        Limit::Levels => b"13 TooMany Levels".as_slice(),
+        Limit::Checks => b"13 TooMany Checks".as_slice(),
     })
 }

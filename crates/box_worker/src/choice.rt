@@ -2,6 +2,7 @@
 use crate::contraction::any_unmarked;
 use crate::needs::{Needs, count_set, is_set};
 use cover_rule::State;
+use floats::at;
 use ival::{Domain, Truths};
 use poly_graph::{FormNode, Problem};
 use std::alloc::{AllocError, Global};
@@ -54,18 +55,127 @@ fn needed_axis(problem: &Problem, needs: &Needs, state: &State) -> Option<u32> {
     None
 }
 
-// The needed disjunction with the fewest children that may hold, of at most so many.
-fn narrowest(problem: &Problem, needs: &Needs, most: u32) -> Option<usize> {
+// What to branch at below a node, and the worth of the node: the greatest of its atoms.
+#[derive(Clone, Copy)]
+struct Best {
+    choice: Choice,
+    worth: f64,
+}
+
+// The one of more worth, or else the first.
+fn better(first: Option<Best>, second: Option<Best>) -> Option<Best> {
+    match (first, second) {
+        (Some(a), Some(b)) if b.worth > a.worth => Some(b),
+        (Some(a), _) => Some(a),
+        (None, b) => b,
+    }
+}
+
+// The Bool axis that was chosen.
+fn axis_of(best: Option<Best>) -> Option<u32> {
+    match best {
+        Some(best) => match best.choice {
+            Choice::Flip(axis) => Some(axis),
+            Choice::Atom(_) => None,
+        },
+        None => None,
+    }
+}
+
+// The best of two nodes under one disjunction: a Bool axis before atoms, since its value says which children are left.
+fn joined(first: Option<Best>, second: Option<Best>) -> Option<Best> {
+    let best = better(first, second)?;
+    let choice = match axis_of(first).or(axis_of(second)) {
+        Some(axis) => Choice::Flip(axis),
+        None => best.choice,
+    };
+    Some(Best {
+        choice,
+        worth: best.worth,
+    })
+}
+
+// Atom j, where it is open.
+fn best_at_atom(worths: &[f64], state: &State, j: u32) -> Option<Best> {
+    if !is_open_atom(state, j) {
+        return None;
+    }
+    Some(Best {
+        choice: Choice::Atom(j),
+        worth: at(worths, j as usize),
+    })
+}
+
+// The Bool axis, where it is open.
+fn best_at_axis(state: &State, axis: u32) -> Option<Best> {
+    if !is_open_axis(state, axis) {
+        return None;
+    }
+    Some(Best {
+        choice: Choice::Flip(axis),
+        worth: 0.0,
+    })
+}
+
+// The best of these nodes.
+fn best_of(bests: &[Option<Best>], numbers: &[u32]) -> Option<Best> {
+    let mut best = None;
+    for k in numbers {
+        let k = *k as usize;
+        if k < bests.len() {
+            best = joined(best, bests[k]);
+        }
+    }
+    best
+}
+
+// For each node what is best below it, through nodes that may hold and for which something is left to do.
+fn bests(
+    alloc: Global,
+    problem: &Problem,
+    needs: &Needs,
+    worths: &[f64],
+    state: &State,
+) -> Result<Vec<Option<Best>, Global>, AllocError> {
+    let forms = problem.forms();
+    let mut bests = Vec::new(alloc);
+    for n in 0..forms.len() {
+        let best = if is_set(&needs.may, n) && !is_set(&needs.done, n) {
+            match forms.node(n as u32) {
+                FormNode::AtomIs(j) => best_at_atom(worths, state, *j),
+                FormNode::BoolIs(axis, _) => best_at_axis(state, *axis),
+                FormNode::And(children) => best_of(&bests, children),
+                FormNode::Or(children) => best_of(&bests, children),
+                FormNode::True | FormNode::False => None,
+            }
+        } else {
+            None
+        };
+        bests.push(best)?;
+    }
+    Ok(bests)
+}
+
+// What to branch at below the needed disjunction of most worth, among those with the fewest children that may hold, of at
+// most so many.
+fn best_of_narrowest(
+    problem: &Problem,
+    needs: &Needs,
+    bests: &[Option<Best>],
+    most: u32,
+) -> Option<Best> {
     let forms = problem.forms();
     let mut best = None;
     let mut fewest = most;
     for n in 0..forms.len() {
-        if is_set(&needs.needed, n) && !is_set(&needs.done, n) {
+        if n < bests.len() && bests[n].is_some() && is_set(&needs.needed, n) {
             if let FormNode::Or(children) = forms.node(n as u32) {
                 let count = count_set(&needs.may, children);
-                if count < fewest || (best.is_none() && count == fewest) {
-                    best = Some(n);
+                if count < fewest {
+                    best = bests[n];
                     fewest = count;
+                } else if count == fewest {
+                    best = better(best, bests[n]);
                 }
             }
         }
@@ -73,66 +183,22 @@ fn narrowest(problem: &Problem, needs: &Needs, most: u32) -> Option<usize> {
     best
 }
 
-// Sets the flags of these.
-fn set_all(flags: &mut [bool], numbers: &[u32]) {
-    for k in numbers {
-        let k = *k as usize;
-        if k < flags.len() {
-            flags[k] = true;
-        }
-    }
-}
-
-// The first atom or axis below a node that is open, and for which something is left to do.
-fn below(
-    alloc: Global,
-    problem: &Problem,
-    needs: &Needs,
-    state: &State,
-    top: usize,
-) -> Result<Option<Choice>, AllocError> {
-    let forms = problem.forms();
-    let mut inside = vec![in alloc; false; forms.len()]?;
-    let mut choice = None;
-    if top < inside.len() {
-        inside[top] = true;
-    }
-    for n in (0..forms.len()).rev() {
-        if is_set(&inside, n) && is_set(&needs.may, n) && !is_set(&needs.done, n) {
-            match forms.node(n as u32) {
-                FormNode::AtomIs(j) => {
-                    if is_open_atom(state, *j) {
-                        choice = Some(Choice::Atom(*j));
-                    }
-                }
-                FormNode::BoolIs(axis, _) => {
-                    if is_open_axis(state, *axis) {
-                        choice = Some(Choice::Flip(*axis));
-                    }
-                }
-                FormNode::And(children) => set_all(&mut inside, children),
-                FormNode::Or(children) => set_all(&mut inside, children),
-                _ => {}
-            }
-        }
-    }
-    Ok(choice)
-}
-
-/// A Bool axis that the form needs at one value, else an atom or axis of the needed disjunction with the fewest
-/// children that may hold, of at most so many.
+/// A Bool axis that the form needs at one value, else what is below the needed disjunction of most worth, among those with
+/// the fewest children that may hold, of at most so many: a Bool axis, or else the atom of most worth.
 pub fn choose(
     alloc: Global,
     problem: &Problem,
     needs: &Needs,
+    worths: &[f64],
     state: &State,
     most: u32,
 ) -> Result<Option<Choice>, AllocError> {
     if let Some(axis) = needed_axis(problem, needs, state) {
         return Ok(Some(Choice::Flip(axis)));
     }
-    match narrowest(problem, needs, most) {
-        Some(top) => below(alloc, problem, needs, state, top),
+    let bests = bests(alloc, problem, needs, worths, state)?;
+    match best_of_narrowest(problem, needs, &bests, most) {
+        Some(best) => Ok(Some(best.choice)),
         None => Ok(None),
     }
 }

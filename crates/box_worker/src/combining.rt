@@ -9,7 +9,7 @@ use cover_rule::{Lemma, Margins, Patch};
 use dyadic::{Dy, pow2};
 use ival::{Domain, Space};
 use poly_graph::Problem;
-use relaxation::{Refutation, Relaxation, Side, is_asking};
+use relaxation::{Elimination, Refutation, Relaxation, Side, are_many_equations, is_asking};
 use std::alloc::{AllocError, Global};
 
 // Combines these atoms where they leave less; whether an axis fell by about a tenth, or nothing is left.
@@ -82,6 +82,120 @@ pub fn combine_all(
             combine_alone(alloc, problem, margins, lemmas, scout, patch, j)?;
         }
     }
+    Ok(())
+}
+
+// The elimination over the state's marked equations; none where there are few.
+fn elimination_at(
+    alloc: Global,
+    problem: &Problem,
+    margins: &Margins,
+    patch: &mut Patch,
+) -> Result<Option<Elimination>, AllocError>
+    ensures { patch.new ≡ patch.old }
+{
+    let lits = patch.reached().lits();
+    if !are_many_equations(problem, margins.margin_bits, lits, patch.rows()) {
+        return Ok(None);
+    }
+    patch.find_centre();
+    let state = patch.reached();
+    Elimination::of(
+        alloc,
+        problem,
+        margins.margin_bits,
+        state.lits(),
+        state.space(),
+        patch.rows(),
+        &patch.centre().rows,
+    )
+}
+
+// Narrows the axis by the equations that are solved for it, if that is worth while; whether an axis fell by about a tenth, or
+// nothing is left.
+fn narrow_solved(
+    alloc: Global,
+    problem: &Problem,
+    margins: &Margins,
+    lemmas: &[Lemma],
+    scout: &mut Scout,
+    patch: &mut Patch,
+    elimination: &mut Elimination,
+    axis: usize,
+) -> Result<bool, AllocError>
+    requires open { IsOpen problem.now margins.now lemmas.now patch.old.kept.first patch.old }
+    ensures { IsOpen problem.now margins.now lemmas.now patch.old.kept.first patch.new }
+{
+    if scout.is_void() {
+        return Ok(false);
+    }
+    let Some(multipliers) = elimination.narrowing(alloc, axis)? else {
+        return Ok(false);
+    };
+    let has_gained = combine(problem, margins, lemmas, scout, patch, multipliers)?;
+    elimination.follow(patch.reached().space());
+    Ok(has_gained)
+}
+
+// Narrows all axes so; whether one fell by about a tenth, or nothing is left.
+fn narrow_all_solved(
+    alloc: Global,
+    problem: &Problem,
+    margins: &Margins,
+    lemmas: &[Lemma],
+    scout: &mut Scout,
+    patch: &mut Patch,
+    elimination: &mut Elimination,
+) -> Result<bool, AllocError>
+    requires open { IsOpen problem.now margins.now lemmas.now patch.old.kept.first patch.old }
+    ensures { IsOpen problem.now margins.now lemmas.now patch.old.kept.first patch.new }
+{
+    let mut has_gained = false;
+    for axis in 0..problem.axes().len() {
+        if narrow_solved(
+            alloc,
+            problem,
+            margins,
+            lemmas,
+            scout,
+            patch,
+            elimination,
+            axis,
+        )? {
+            has_gained = true;
+        }
+    }
+    Ok(has_gained)
+}
+
+/// Combines marked equations so that each combination narrows one axis, unless that gave nothing at the boxes before.
+pub fn eliminate(
+    alloc: Global,
+    problem: &Problem,
+    margins: &Margins,
+    lemmas: &[Lemma],
+    scout: &mut Scout,
+    patch: &mut Patch,
+) -> Result<(), AllocError>
+    requires open { IsOpen problem.now margins.now lemmas.now patch.old.kept.first patch.old }
+    ensures { IsOpen problem.now margins.now lemmas.now patch.old.kept.first patch.new }
+{
+    if !scout.elimination().is_due() {
+        return Ok(());
+    }
+    let Some(mut elimination) = elimination_at(alloc, problem, margins, patch)? else {
+        return Ok(());
+    };
+    let has_gained = narrow_all_solved(
+        alloc,
+        problem,
+        margins,
+        lemmas,
+        scout,
+        patch,
+        &mut elimination,
+    )?;
+    scout.elimination().note(has_gained);
     Ok(())
 }
 

@@ -7,7 +7,8 @@ ghost use Rattle.box_worker.specs.Worked.{AreLemmasFor};
 ghost use Rattle.cover_rule.specs.Serves.{IsNumbered};
 ghost use Rattle.box_worker.specs.Attempts.{IsOpen};
 
-use crate::combining::{combine_all, relax};
+use crate::combining::{combine_all, eliminate, relax};
+use crate::common::Common;
 use crate::facts::problem_is_whole;
 use crate::fallen::{atom_masks, repeating_atoms, take_over};
 use crate::guide::Guide;
@@ -42,7 +43,7 @@ pub enum Emptied {
 }
 
 /// What guides the steps: which atoms are due, what they depend on, in which an axis may repeat, the space as it was, by
-/// what nothing is left, how long combinations of several atoms are left out, and what the form's clauses say.
+/// what nothing is left, how long combinations of several atoms are left out, and what the form says.
 #[derive(Drop)]
 pub struct Scout {
     due: Vec<bool, Global>,
@@ -51,10 +52,13 @@ pub struct Scout {
     space: Space,
     void: Option<Emptied>,
     patience: Patience,
+    // how long eliminations are left out
+    elimination: Patience,
     // the axes that combinations of several atoms pass over at the next box
     passed: Vec<bool, Global>,
     // none where the form is a conjunction alone
     guide: Option<Guide>,
+    common: Common,
     // how many nodes the form has
     forms: usize,
 }
@@ -73,6 +77,11 @@ impl Scout {
     /// How long combinations of several atoms are left out.
     pub fn patience(&mut self) -> &mut Patience {
         &mut self.patience
+    }
+
+    /// How long eliminations are left out.
+    pub fn elimination(&mut self) -> &mut Patience {
+        &mut self.elimination
     }
 
     /// Whether combinations of several atoms narrow the axis at this box: one that gave nothing is passed over once.
@@ -149,8 +158,10 @@ fn start(alloc: Global, problem: &Problem, patch: &Patch) -> Result<Scout, Alloc
         space,
         void: None,
         patience: Patience::new(MOST_LEFT_OUT),
+        elimination: Patience::new(MOST_LEFT_OUT),
         passed: vec![in alloc; false; problem.axes().len()]?,
         guide: Guide::of(alloc, problem)?,
+        common: Common::of(alloc, problem)?,
         forms: problem.forms().len(),
     })
 }
@@ -266,14 +277,15 @@ fn mark(
     Ok(())
 }
 
-// Whether atom j is to be marked: it is not marked, and the guide says that the form needs it.
-fn is_asked(state: &State, guide: &Option<Guide>, j: u32) -> bool {
+// Whether atom j is to be marked: it is not marked, and the form needs it by its clauses or by what the children of a
+// disjunction have in common.
+fn is_asked(state: &State, scout: &Scout, j: u32) -> bool {
     let marks = state.lits().marks();
     if j as usize >= marks.len() || !matches!(marks[j as usize], Mark::Neither) {
         return false;
     }
-    match guide {
-        Some(guide) => guide.needs_atom(j),
+    match &scout.guide {
+        Some(guide) => guide.needs_atom(j) || scout.common.has(j),
         None => true,
     }
 }
@@ -292,7 +304,7 @@ fn mark_needed(
 {
     for j in 0..problem.atoms().len() {
         let j = j as u32;
-        if is_asked(patch.reached(), &scout.guide, j) {
+        if is_asked(patch.reached(), scout, j) {
             mark(problem, margins, lemmas, scout, patch, j)?;
         }
     }
@@ -399,6 +411,14 @@ fn look(
     }
 }
 
+// Finds what the children of disjunctions have in common, after a look that found that the form may hold.
+fn look_at_children(alloc: Global, problem: &Problem, scout: &mut Scout) -> Result<(), AllocError> {
+    match &scout.guide {
+        Some(guide) => scout.common.look(alloc, problem, guide),
+        None => Ok(()),
+    }
+}
+
 /// What is needed at the state that the patch has reached.
 pub fn see(
     alloc: Global,
@@ -456,6 +476,7 @@ fn look_again(
         scout.note_void(Emptied::Form);
         return Ok(());
     }
+    look_at_children(alloc, problem, scout)?;
     mark_needed(problem, margins, lemmas, scout, patch)
 }
 
@@ -508,8 +529,27 @@ fn go_on_while_due(
     Ok(())
 }
 
-// Combines marked atoms, each alone and then together; whether an axis fell by about a tenth, and nothing is known by
-// which nothing is left.
+// Combines marked equations as they are solved, and then marked atoms as their linear relaxation chooses.
+fn combine_several(
+    alloc: Global,
+    problem: &Problem,
+    margins: &Margins,
+    lemmas: &[Lemma],
+    scout: &mut Scout,
+    patch: &mut Patch,
+) -> Result<(), AllocError>
+    requires open { IsOpen problem.now margins.now lemmas.now patch.old.kept.first patch.old }
+    ensures { IsOpen problem.now margins.now lemmas.now patch.old.kept.first patch.new }
+{
+    eliminate(alloc, problem, margins, lemmas, scout, patch)?;
+    if !scout.is_void() {
+        relax(alloc, problem, margins, lemmas, scout, patch)?;
+    }
+    Ok(())
+}
+
+// Combines marked atoms, each alone, then as equations are solved, and then together; whether an axis fell by about a tenth,
+// and nothing is known by which nothing is left.
 fn combine_round(
     alloc: Global,
     problem: &Problem,
@@ -523,7 +563,7 @@ fn combine_round(
 {
     combine_all(alloc, problem, margins, lemmas, scout, patch)?;
     if !scout.is_void() {
-        relax(alloc, problem, margins, lemmas, scout, patch)?;
+        combine_several(alloc, problem, margins, lemmas, scout, patch)?;
     }
     Ok(!scout.is_void() && any_due(&scout.due))
 }

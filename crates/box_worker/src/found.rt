@@ -1,16 +1,19 @@
-// Points of a box that a local search from its middle finds.
+// Points of a box that local searches find.
 ghost use Rattle.std.specs.Prelude.{◌≡◌, IfOk, IfSome};
 ghost use Rattle.poly_graph.specs.ProblemViews.{problem_of};
 ghost use Rattle.cover_data.specs.Margins.{AreMargins};
 ghost use Rattle.cover_rule.specs.Middle.{LiesInRoot};
 ghost use Rattle.box_worker.specs.Ended.{IsFoundIn};
 
-use crate::heuristics::Heuristics;
+use crate::searches::Searches;
 use cover_rule::{Margins, MiddlePoint, Patch, Point};
 use ival::Space;
-use point_search::point_near_middle;
+use point_search::{Start, search_from};
 use poly_graph::Problem;
 use std::alloc::{AllocError, Global};
+
+/// At most so many searches are made in a box.
+const MOST_SEARCHES: u32 = 256;
 
 // The point of a space, where that lies within the space that the patch has reached and the form is sure there.
 fn tried(
@@ -36,11 +39,69 @@ fn tried(
     Point::of_middle(alloc, problem, margins, space)
 }
 
-/// A point of the box that a local search from its middle finds, where the form is sure. It is searched at some boxes, and
-/// not where the form is sure at the middle.
+// The point of the box that one search finds, where the form is sure.
+fn found_from(
+    alloc: Global,
+    searches: &mut Searches,
+    problem: &Problem,
+    margins: &Margins,
+    patch: &Patch,
+    start: Start,
+) -> Result<Option<Point>, AllocError>
+    requires problem { patch.now.problem ≡ problem.now }
+    requires margins { patch.now.margins ≡ margins.now }
+    requires bits { AreMargins margins.now }
+    requires root { LiesInRoot (problem_of problem.now) patch.now.kept.first.space }
+    ensures { IfOk result (λ o. IfSome o (IsFoundIn patch.now)) }
+{
+    let state = patch.reached();
+    let search = search_from(
+        alloc,
+        problem,
+        margins.delta_bits,
+        state.lits(),
+        state.space(),
+        start,
+    )?;
+    searches.note(&search);
+    match search.point {
+        None => Ok(None),
+        Some(space) => tried(alloc, problem, margins, patch, &space),
+    }
+}
+
+// The point of the box that one of the searches finds which are made in it, where the form is sure.
+fn found_by(
+    alloc: Global,
+    searches: &mut Searches,
+    problem: &Problem,
+    margins: &Margins,
+    patch: &Patch,
+) -> Result<Option<Point>, AllocError>
+    requires problem { patch.now.problem ≡ problem.now }
+    requires margins { patch.now.margins ≡ margins.now }
+    requires bits { AreMargins margins.now }
+    requires root { LiesInRoot (problem_of problem.now) patch.now.kept.first.space }
+    ensures { IfOk result (λ o. IfSome o (IsFoundIn patch.now)) }
+{
+    searches.come_to_box(problem.axes().len());
+    for _ in 0..MOST_SEARCHES {
+        let Some(start) = searches.next() else {
+            return Ok(None);
+        };
+        let found = found_from(alloc, searches, problem, margins, patch, start)?;
+        if found.is_some() {
+            return Ok(found);
+        }
+    }
+    Ok(None)
+}
+
+/// A point of the box that local searches from its middle or from other points of it find, where the form is sure. They are
+/// made at some boxes, and not where the form is sure at the middle.
 pub fn found_point(
     alloc: Global,
-    heuristics: &mut Heuristics,
+    searches: &mut Searches,
     problem: &Problem,
     margins: &Margins,
     patch: &mut Patch,
@@ -52,19 +113,8 @@ pub fn found_point(
     ensures found { IfOk result (λ o. IfSome o (IsFoundIn patch.new)) }
     ensures same { patch.new ≡ patch.old }
 {
-    if patch.is_sure_at_middle() || !heuristics.is_search_due() {
+    if patch.is_sure_at_middle() {
         return Ok(None);
     }
-    let state = patch.reached();
-    let found = point_near_middle(
-        alloc,
-        problem,
-        margins.delta_bits,
-        state.lits(),
-        state.space(),
-    )?;
-    match found {
-        None => Ok(None),
-        Some(space) => tried(alloc, problem, margins, patch, &space),
-    }
+    found_by(alloc, searches, problem, margins, patch)
 }

@@ -1,13 +1,8 @@
 // What choices on boxes rest on.
 use crate::contraction::Scout;
 use crate::patience::Patience;
+use crate::searches::Searches;
 use std::mem;
-
-/// In so many boxes at first a point is searched in each.
-const FIRST_SEARCHES: u32 = 8;
-
-/// Then in one of so many.
-const SEARCH_PERIOD: u32 = 16;
 
 /// Closed runs are not repeated for so many of them in a row at most.
 const LESSONS_LEFT_OUT: u32 = 32;
@@ -53,7 +48,7 @@ impl Lessons {
 pub struct Heuristics {
     pub scout: Option<Scout>,
     pub lessons: Lessons,
-    boxes: u32,
+    pub searches: Searches,
 }
 
 impl Heuristics {
@@ -62,20 +57,12 @@ impl Heuristics {
         Heuristics {
             scout: None,
             lessons: Lessons::new(),
-            boxes: 0,
+            searches: Searches::new(),
         }
     }
 
     /// Keeps the scout for the next box.
     pub fn keep(&mut self, scout: Scout) {
         drop(mem::replace(&mut self.scout, Some(scout)));
-    }
-
-    /// Counts a box that is about to be split, and tells whether a point is to be searched in it: in each of the first ones,
-    /// then in some of them.
-    pub fn is_search_due(&mut self) -> bool {
-        let seen = self.boxes;
-        self.boxes = seen.wrapping_add(1);
-        seen < FIRST_SEARCHES || seen % SEARCH_PERIOD == 0
     }
 }

@@ -1,14 +1,15 @@
 //! The work on one box of a cover: `work_on` takes a state and closes it, splits it in two or finds it stuck by lines
 //! that are lawful and honest, or finds a point in it; `lesson` says what is learned of a run that closed one. `guide`,
-//! `needs`, `fallen`, `combining`, `patience` and `choice` are heuristics that promise nothing; what holds of an answer is
-//! what the lines of a patch ensure. Nothing but room is kept from one box of a problem to the next (`Room`, with
-//! `work_in`): which box is worked on, and which lemmas are at hand, is the caller's choice.
+//! `needs`, `common`, `fallen`, `combining`, `patience`, `searches`, `worth` and `choice` are heuristics that promise
+//! nothing; what holds of an answer is what the lines of a patch ensure. Nothing but room is kept from one box of a problem
+//! to the next (`Room`, with `work_in`): which box is worked on, and which lemmas are at hand, is the caller's choice.
 #![tactic(auto)]
 
 mod attempt;
 mod branching;
 mod choice;
 mod combining;
+mod common;
 mod contraction;
 mod ended;
 mod facts;
@@ -22,10 +23,12 @@ mod needs;
 mod patience;
 mod preconditions;
 mod room;
+mod searches;
 mod split;
 mod step;
 mod work;
 mod worked;
+mod worth;
 
 pub use lessons::lesson;
 pub use room::Room;

@@ -9,6 +9,7 @@ use crate::choice::{Choice, choose, is_open};
 use crate::contraction::{scout_at, see};
 use crate::heuristics::Heuristics;
 use crate::needs::Needs;
+use crate::worth::worths;
 use cover_rule::{Margins, Patch};
 use poly_graph::Problem;
 use std::alloc::{AllocError, Global};
@@ -39,11 +40,12 @@ fn part_at(problem: &Problem, choice: Option<Choice>, patch: &mut Patch) -> bool
     }
 }
 
-// Parts the state at an atom or axis of a needed disjunction of at most so many children.
+// Parts the state at an atom or axis of a needed disjunction of at most so many children, by what is expected of the atoms.
 fn part_by_form(
     alloc: Global,
     problem: &Problem,
     needs: &Needs,
+    worths: &[f64],
     most: u32,
     patch: &mut Patch,
 ) -> Result<bool, AllocError>
@@ -52,7 +54,7 @@ fn part_by_form(
     ensures parted { IfOk result (λ b. b ≡ true → IsTrue (is_left patch.new.kept.end)) }
     ensures same { IfOk result (λ b. b ≡ false → patch.new ≡ patch.old) }
 {
-    let choice = choose(alloc, problem, needs, patch.reached(), most)?;
+    let choice = choose(alloc, problem, needs, worths, patch.reached(), most)?;
     Ok(part_at(problem, choice, patch))
 }
 
@@ -79,6 +81,7 @@ fn part_by_needs(
     alloc: Global,
     problem: &Problem,
     needs: &Needs,
+    worths: &[f64],
     patch: &mut Patch,
 ) -> Result<bool, AllocError>
     requires problem { patch.old.problem ≡ problem.now }
@@ -86,13 +89,13 @@ fn part_by_needs(
     ensures parted { IfOk result (λ b. b ≡ true → IsTrue (is_left patch.new.kept.end)) }
     ensures same { IfOk result (λ b. b ≡ false → patch.new ≡ patch.old) }
 {
-    if part_by_form(alloc, problem, needs, 2, patch)? {
+    if part_by_form(alloc, problem, needs, worths, 2, patch)? {
         return Ok(true);
     }
     if attempt::cut(patch) {
         return Ok(true);
     }
-    part_by_form(alloc, problem, needs, u32::MAX, patch)
+    part_by_form(alloc, problem, needs, worths, u32::MAX, patch)
 }
 
 /// Parts the state where nothing else is left to do: at a Bool axis that is needed at one value, or at an atom or
@@ -115,5 +118,6 @@ pub fn split(
         return Ok(attempt::cut(patch));
     }
     let needs = needs(alloc, heuristics, problem, margins, patch)?;
-    part_by_needs(alloc, problem, &needs, patch)
+    let worths = worths(alloc, problem, patch)?;
+    part_by_needs(alloc, problem, &needs, &worths, patch)
 }

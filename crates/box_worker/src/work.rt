@@ -129,7 +129,7 @@ fn finish(
     if attempt::make_false(patch) {
         return Ok(Ended::Closed);
     }
-    if let Some(found) = found_point(alloc, heuristics, problem, margins, patch)? {
+    if let Some(found) = found_point(alloc, &mut heuristics.searches, problem, margins, patch)? {
         return Ok(Ended::Found(found));
     }
     if split(alloc, heuristics, problem, margins, patch)? {

@@ -2,13 +2,14 @@
 use Rattle.std.specs.Prelude.{◌≡◌, ◌⊎◌, ℕ, suc, List, [], ◌∷◌, ◌++◌, length, Bool, false, not, Option, Some, None, Result, Ok, Err, IsTrue, OnOk, nat_eq, option_map}
 use Rattle.poly_graph.specs.Problem.{Problem}
 use Rattle.poly_graph.specs.ProblemViews.{problem_of}
+use Rattle.interval_model.specs.Space.{Space}
 use Rattle.cover_model.specs.State.{Loosenings}
 use Rattle.cert_read.specs.CertLine.{Parsed}
 use Rattle.cert_read.specs.LineText.{text_of_lines}
 use Rattle.cert_read.specs.Lines.{all_bytes}
 use Rattle.cert_read.specs.State.{Reading}
 use Rattle.cert_read.specs.Reading.{lines_ahead}
-use Rattle.cert_model.specs.Due.{Value, at_point, left_open, Due, version_due, lemma_due, root_due, tree_due, Next, on, faulty}
+use Rattle.cert_model.specs.Due.{Value, at_point, left_open, Due, version_due, lemma_due, root_due, tree_due, nothing_due, Next, on, faulty}
 use Rattle.cert_model.specs.Accepted.{Course, stopped, reached, Verdict, accepted, refused, next_parsed, course, ended, cut_off}
 use Rattle.cert_check.specs.declared.checker.Verdict as told
 use Rattle.cert_check.specs.declared.checker.Verdict.TheVariants.{Unsat, Point, Left}
@@ -85,6 +86,18 @@ in_work d = 0
 abbrev pub states_in_work : Option Course → ℕ
 states_in_work (Some (reached d n)) = in_work d
 states_in_work c = 0
+
+-- ---- what a certificate describes, for whoever draws it
+
+-- the box where the next line of the main tree stands, behind the first one
+abbrev pub box_in : Option Course → Option Space
+box_in (Some (reached (tree_due s lemmas S pending done) n)) = Some S.space
+box_in c = None
+
+-- the point of a certificate that is whole
+abbrev pub point_in : Option Course → Option Space
+point_in (Some (reached (nothing_due s (at_point space)) n)) = Some space
+point_in c = None
 
 -- ---- bytes
 

@@ -1,11 +1,12 @@
 // The checker.
-ghost use Rattle.std.specs.Prelude.{◌≡◌, ℕ, ◌<◌, ◌≤◌, ◌-◌, ◌^◌, [], ◌∷◌, Some, Err, map, IfOk, OnOk};
+ghost use Rattle.std.specs.Prelude.{◌≡◌, ℕ, ◌<◌, ◌≤◌, ◌-◌, ◌^◌, [], ◌∷◌, Some, None, Err, map, IfOk, OnOk, MatchOption};
 ghost use Rattle.cert_read.specs.CertLine.{line as FormLine, Parsed, parsed};
 ghost use Rattle.cert_read.specs.Reading.{lines_ahead};
 ghost use Rattle.cert_read.specs.LineAnswers.{IsFault};
 ghost use Rattle.cert_read.specs.Views.{line_of};
 ghost use Rattle.cert_model.specs.Accepted.{reached};
 ghost use Rattle.poly_graph.specs.ProblemViews.{Parts};
+ghost use Rattle.ival.specs.SpaceViews.{space_of};
 ghost use Rattle.cert_check.specs.declared.checker.Stage.TheVariants.{InWork};
 ghost use Rattle.cert_check.specs.Checked.{fresh_checker};
 ghost use Rattle.cert_check.specs.States.{loosenings_of};
@@ -13,7 +14,7 @@ ghost use Rattle.cert_check.specs.Dues.{due_of, IsSound, value_of};
 ghost use Rattle.cert_check.specs.Serving.{Serves};
 ghost use Rattle.cert_check.specs.Stages.{IsFaultAfter, IsOneMore, IsSoundStage, IsStageAfter};
 ghost use Rattle.cert_check.specs.Stays.{StaysWithin, stays_in};
-ghost use Rattle.cert_check.specs.Courses.{IsCourseAnswer, AreLinesTaken, Finishes, in_work, IsCutOff, IsFedOn, states_in_work, Takes, verdict_of};
+ghost use Rattle.cert_check.specs.Courses.{IsCourseAnswer, AreLinesTaken, Finishes, in_work, box_in, point_in, IsCutOff, IsFedOn, states_in_work, Takes, verdict_of};
 
 use crate::due::{Due, Value};
 use crate::fault::CertFault;
@@ -22,6 +23,7 @@ use crate::next::next;
 use crate::refusal::unread;
 use crate::tools::Tools;
 use cert_read::{Line, LineFault, LineReader};
+use ival::Space;
 use poly_graph::Problem;
 use std::alloc::{AllocError, Global};
 use std::marker::Model;
@@ -99,6 +101,28 @@ fn in_work(due: &Due) -> usize
         Due::Root(_) => 1,
         Due::Tree(_, tree, _) => tree.pending.len() + 1,
         _ => 0,
+    }
+}
+
+// The box where the next line of the main tree stands, behind the first one.
+fn box_in(due: &Due) -> Option<&Space>
+    ensures { (p : Parts) (n : ℕ) → let o = box_in (Some (reached (due_of p due.now) n)) in
+        MatchOption result (o ≡ None) (λ space. o ≡ Some (space_of space.now)) }
+{
+    match due {
+        Due::Tree(_, tree, _) => Some(&tree.state.space),
+        _ => None,
+    }
+}
+
+// The point of a certificate that is whole.
+fn point_in(due: &Due) -> Option<&Space>
+    ensures { (p : Parts) (n : ℕ) → let o = point_in (Some (reached (due_of p due.now) n)) in
+        MatchOption result (o ≡ None) (λ space. o ≡ Some (space_of space.now)) }
+{
+    match due {
+        Due::Nothing(_, Value::Point(point)) => Some(point),
+        _ => None,
     }
 }
 
@@ -306,6 +330,29 @@ impl Checker {
         match &self.stage {
             Stage::InWork(due) => in_work(due),
             Stage::Stopped(_) => 0,
+        }
+    }
+
+    /// The box where the next line of the main tree stands; none for its first line, which stands at the root, and where
+    /// no line of that tree is due.
+    pub fn box_at(&self) -> Option<&Space>
+        ensures { let o = box_in self.now.course in
+            MatchOption result (o ≡ None) (λ space. o ≡ Some (space_of space.now)) }
+    {
+        match &self.stage {
+            Stage::InWork(due) => box_in(due),
+            Stage::Stopped(_) => None,
+        }
+    }
+
+    /// The point of a certificate that was taken whole; none of a cover, and before its last line.
+    pub fn point(&self) -> Option<&Space>
+        ensures { let o = point_in self.now.course in
+            MatchOption result (o ≡ None) (λ space. o ≡ Some (space_of space.now)) }
+    {
+        match &self.stage {
+            Stage::InWork(due) => point_in(due),
+            Stage::Stopped(_) => None,
         }
     }
 }

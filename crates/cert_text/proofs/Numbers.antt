@@ -4,11 +4,11 @@ use Rattle.std.specs.Fmt.{decimal}
 use Rattle.std.specs.Int.{IsInRange}
 use Rattle.std.proofs.lemmas.Bool.Decides.{nat_tests}
 use Rattle.dyadic.specs.declared.dy.Dy.{Dy}
-use Rattle.dyadic.specs.Grid.{IsSpelling}
+use Rattle.dyadic.specs.Grid.{IsSpelling, joined}
 use Rattle.dyadic.specs.Rounding.{Dyadic}
 use Rattle.dyadic.specs.NumberText.{number, not_a_number, number_text, number_spelling}
 use Rattle.dyadic.specs.Text.{minus_sign, spelling, joined_text, IsDigits}
-use Rattle.dyadic.specs.Views.{dyadic_of}
+use Rattle.dyadic.specs.Views.{dyadic_of, parts_of}
 use Rattle.dyadic.proofs.Equal.{both_true, both_pass}
 use Rattle.dyadic.proofs.Spellings.{shape_of}
 use Rattle.dyadic.proofs.SpelledTexts.{written_is}
@@ -59,5 +59,5 @@ pub number_spelled : (a : Dy) → IsSpelledNumber (dyadic_of a)
 number_spelled a = (
   written_reads_back a,
   some-bytes (number_spelling (dyadic_of a)) (dyadic_of a) (written_reads_back a),
-  subst Clean (written_is a) (spelling-clean a.negative a.size.odd a.size.shift a.size.spelled),
+  subst Clean (written_is (parts_of a)) (spelling-clean a.negative (joined a.high a.low) a.shift a.spelled),
 )

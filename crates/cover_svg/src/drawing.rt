@@ -1,144 +1,127 @@
-// The picture of a certificate.
-ghost use Rattle.std.specs.Prelude.{◌≤◌};
+// The picture of a certificate: the checker goes through its lines, and each box is drawn where a branch of the main tree
+// ends in it.
 
+use crate::fate::fate_by;
 use crate::fault::Fault;
 use crate::frame::{Axes, Frame, frame_of};
-use crate::header::{Header, Matter, read_header};
-use crate::lines::Lines;
 use crate::picture::Picture;
-use crate::step::{Left, step};
-use cert_read::{BoolSet, Line};
-use cover_data::State;
+use cert_check::Checker;
+use cert_read::{Line, LineFault, LineReader};
 use ival::Space;
-use poly_graph::{Declared, Lits, Problem};
+use poly_graph::Problem;
 use problem_build::read_problem;
-use std::alloc::Global;
+use std::alloc::{AllocError, Global};
 use truth3::{Root, root_space};
 
-// Reads past the lemmas, up to `tree`. Each line has a byte at least, so there are at most so many.
-fn skip_lemmas(lines: &mut Lines, most: usize) -> Result<(), Fault> {
-    for _ in 0..most {
-        if let Line::Tree = lines.due()? {
-            return Ok(());
-        }
-    }
-    Err(lines.misfit())
+// The lines of a certificate.
+fn lines_of(alloc: Global, cert: &[u8]) -> Result<LineReader, Fault> {
+    let mut lines = LineReader::new(alloc);
+    lines.feed(cert)?;
+    lines.end();
+    Ok(lines)
 }
 
-// Takes one line of the tree: draws the last of the states that wait, or puts what is left of it in its place.
-fn take_line(
-    alloc: Global,
-    problem: &Problem,
-    margin_bits: u32,
-    frame: &Frame<'_>,
-    lines: &mut Lines,
-    picture: &mut Picture,
-    waiting: &mut Vec<State>,
-    state: State,
-) -> Result<(), Fault>
-    requires { margin_bits ≤ 60 }
-{
-    let line = lines.due()?;
-    match step(alloc, problem, margin_bits, state, &line)? {
-        None => return Err(lines.misfit()),
-        Some(Left::One(state)) => waiting.push(state)?,
-        Some(Left::Two(first, second)) => {
-            waiting.push(second)?;
-            waiting.push(first)?;
+// The bound that the fourth line names, without which the script has no problem. Whether the lines before it fit is for
+// the checker to say; where the fourth is no such line, it refuses that.
+fn bound_in(alloc: Global, cert: &[u8]) -> Result<Option<u32>, Fault> {
+    let mut lines = lines_of(alloc, cert)?;
+    for _ in 0..4 {
+        match lines.next_line() {
+            Ok(Some(Line::Bound(bound))) => return Ok(bound),
+            Ok(Some(_)) => {}
+            Ok(None) => return Ok(None),
+            Err(LineFault::Memory) => return Err(Fault::Memory),
+            Err(_) => return Ok(None),
         }
-        Some(Left::Done(state, fate)) => picture.add_box(frame, state.space(), fate)?,
+    }
+    Ok(None)
+}
+
+// Draws the box of each branch that ends, up to the last of the lines, which are at most so many.
+fn draw_boxes(
+    frame: &Frame<'_>,
+    root: &Space,
+    lines: &mut LineReader,
+    checker: &mut Checker,
+    picture: &mut Picture,
+    most: usize,
+) -> Result<(), Fault> {
+    let mut at_root = false;
+    for _ in 0..most {
+        let line = match lines.next_line() {
+            Ok(Some(line)) => line,
+            Ok(None) => return Ok(()),
+            Err(fault) => return Err(Fault::Unconfirmed(checker.refuse(fault))),
+        };
+        let space = if at_root {
+            Some(root)
+        } else {
+            checker.box_at()
+        };
+        if let (Some(fate), Some(space)) = (fate_by(&line), space) {
+            picture.add_box(frame, space, fate)?;
+        }
+        at_root = line == Line::Tree;
+        checker.line(&line)?;
     }
     Ok(())
 }
 
-// Draws the boxes of the main tree, which has at most so many lines.
-fn draw_tree(
-    alloc: Global,
-    problem: &Problem,
-    margin_bits: u32,
+// Draws the point, if the certificate has one.
+fn draw_point(
     frame: &Frame<'_>,
-    lines: &mut Lines,
+    checker: &Checker,
     picture: &mut Picture,
-    root: Space,
-    most: usize,
-) -> Result<(), Fault>
-    requires { margin_bits ≤ 60 }
-{
-    let lits = Lits::new(alloc, problem.atoms().len())?;
-    let mut waiting = Vec::new(alloc);
-    waiting.push(State::new(root, lits))?;
-    for _ in 0..most {
-        let Some(state) = waiting.pop() else {
-            return lines.finish();
-        };
-        take_line(
-            alloc,
-            problem,
-            margin_bits,
-            frame,
-            lines,
-            picture,
-            &mut waiting,
-            state,
-        )?;
+) -> Result<(), AllocError> {
+    match checker.point() {
+        Some(point) => picture.add_point(frame, point),
+        None => Ok(()),
     }
-    Err(lines.misfit())
 }
 
-// Draws the point.
-fn draw_point(
-    problem: &Problem,
+// Draws what the certificate describes, which has to be accepted.
+fn draw_lines(
+    cert: &[u8],
     frame: &Frame<'_>,
-    lines: &mut Lines,
+    root: &Space,
+    lines: &mut LineReader,
+    checker: &mut Checker,
     picture: &mut Picture,
 ) -> Result<(), Fault> {
-    let (mut across, mut upward) = (None, None);
-    for (axis, declared) in problem.axes().iter().enumerate() {
-        match (declared.declared, lines.due()?) {
-            (Declared::Real(_, _), Line::RealValue(number)) => {
-                if axis == frame.across.axis {
-                    across = Some(number);
-                }
-                if axis == frame.upward.axis {
-                    upward = Some(number);
-                }
-            }
-            (Declared::Bool, Line::Bool(BoolSet::False | BoolSet::True)) => {}
-            _ => return Err(lines.misfit()),
-        }
-    }
-    if let (Some(across), Some(upward)) = (across, upward) {
-        picture.add_point(frame, across, upward)?;
-    }
-    lines.finish()
+    // A line has a byte at least, its line feed, but for the last one.
+    let most = cert.len().saturating_add(2);
+    draw_boxes(frame, root, lines, checker, picture, most)?;
+    checker.finish()?;
+    draw_point(frame, checker, picture)?;
+    Ok(())
 }
 
-/// The picture of what the certificate describes of the script, projected to these axes.
+// The picture of what the certificate describes of the problem, whose cover begins with this space.
+fn picture_of(
+    alloc: Global,
+    problem: &Problem,
+    bound: Option<u32>,
+    root: &Space,
+    cert: &[u8],
+    frame: &Frame<'_>,
+) -> Result<Picture, Fault> {
+    let mut picture = Picture::new(alloc, frame)?;
+    let mut checker = Checker::new(alloc, problem, bound)?;
+    let mut lines = lines_of(alloc, cert)?;
+    draw_lines(cert, frame, root, &mut lines, &mut checker, &mut picture)?;
+    Ok(picture)
+}
+
+/// The picture of what the certificate describes of the script, projected to these axes. The certificate is checked: one
+/// that is not accepted has no picture.
 pub fn draw(alloc: Global, script: &[u8], cert: &[u8], axes: Axes<'_>) -> Result<String, Fault> {
-    let mut lines = Lines::new(alloc, cert)?;
-    let header = read_header(&mut lines)?;
-    let problem = read_problem(alloc, script, header.bound)?;
+    let bound = bound_in(alloc, cert)?;
+    let problem = read_problem(alloc, script, bound)?;
     let root = match root_space(alloc, &problem)? {
         Root::Space(root) => root,
         Root::Empty(_) => return Err(Fault::EmptyBox),
     };
     let frame = frame_of(alloc, &problem, &root, axes)?;
-    let mut picture = Picture::new(alloc, &frame)?;
-    match header.matter {
-        Matter::Point => draw_point(&problem, &frame, &mut lines, &mut picture)?,
-        Matter::Cover => {
-            skip_lemmas(&mut lines, cert.len())?;
-            draw_tree(
-                alloc,
-                &problem,
-                header.margin_bits,
-                &frame,
-                &mut lines,
-                &mut picture,
-                root,
-                cert.len(),
-            )?;
-        }
-    }
+    let picture = picture_of(alloc, &problem, bound, &root, cert, &frame)?;
     Ok(picture.finish()?)
 }

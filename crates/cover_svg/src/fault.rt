@@ -1,6 +1,6 @@
 // Why there is no picture.
 
-use cert_read::LineFault;
+use cert_check::CertFault;
 use script_fault::ReadError;
 use std::alloc::{AllocError, AllocFailed};
 use thiserror::Error;
@@ -30,12 +30,9 @@ pub enum Fault {
     /// The bounds of a constant cross.
     #[error("the declared box is empty")]
     EmptyBox,
-    /// A line of the certificate says nothing that can be read.
-    #[error("certificate line {line}: {fault}")]
-    Line { line: u64, fault: LineFault },
-    /// A line of the certificate does not fit where it stands, or is missing.
-    #[error("certificate line {line} does not fit")]
-    Misfit { line: u64 },
+    /// The certificate is refused.
+    #[error("certificate: {0}")]
+    Unconfirmed(CertFault),
 }
 
 impl Fault {
@@ -43,7 +40,8 @@ impl Fault {
     /// is not read, 5 where the picture is not written, 6 where there is no memory.
     pub fn status(&self) -> u8 {
         match self {
-            Fault::Line { .. } | Fault::Misfit { .. } => 1,
+            Fault::Unconfirmed(CertFault::Memory) => 6,
+            Fault::Unconfirmed(_) => 1,
             Fault::Axes | Fault::NoAxis | Fault::EmptyBox => 2,
             Fault::Refused(ReadError::Memory) => 6,
             Fault::Refused(_) => 2,
@@ -58,6 +56,12 @@ impl Fault {
 impl From<ReadError> for Fault {
     fn from(error: ReadError) -> Self {
         Fault::Refused(error)
+    }
+}
+
+impl From<CertFault> for Fault {
+    fn from(fault: CertFault) -> Self {
+        Fault::Unconfirmed(fault)
     }
 }
 

@@ -3,12 +3,10 @@
 #![tactic(auto)]
 
 mod drawing;
+mod fate;
 mod fault;
 mod frame;
-mod header;
-mod lines;
 mod picture;
-mod step;
 
 use drawing::draw;
 use fault::Fault;

@@ -1,8 +1,8 @@
 // The text of a picture.
 
+use crate::fate::Fate;
 use crate::frame::{Frame, Side, UNITS};
-use crate::step::Fate;
-use dyadic::{Dy, Frac};
+use dyadic::Frac;
 use ival::Space;
 use std::alloc::{AllocError, Global};
 
@@ -155,14 +155,9 @@ impl Picture {
     }
 
     /// Adds a point.
-    pub fn add_point(
-        &mut self,
-        frame: &Frame<'_>,
-        across: Dy,
-        upward: Dy,
-    ) -> Result<(), AllocError> {
-        let x = frame.across.unit(across);
-        let y = UNITS - frame.upward.unit(upward);
+    pub fn add_point(&mut self, frame: &Frame<'_>, point: &Space) -> Result<(), AllocError> {
+        let x = frame.across.span(point).from;
+        let y = UNITS - frame.upward.span(point).from;
         writeln!(
             self.text,
             "<circle class='point' cx='{x}' cy='{y}' r='60'/>"

@@ -16,15 +16,17 @@ use Rattle.script_forms.specs.Unfolded.{as_tree, forms_of, truth_of}
 use Rattle.script_forms.specs.Atoms.{atom_of, atoms_in_place, constant_tree, number_in}
 use Rattle.script_forms.specs.Work.{Work, as_work, assertion_events, Event}
 use Rattle.script_forms.specs.Walk.{Stand, Walked, after_events, after_assertions, after_root, claim_places, walked, fault_or, fault_of_bounds, building_fault, places, constant_work, nothing_made, works, last_place, nowhere, form_size}
-use Rattle.smt_script.specs.Commands.{CommandsRead, joined, says}
+use Rattle.smt_script.specs.Commands.{CommandsRead, Said, joined, says, one_step}
+use Rattle.smt_script.specs.Levels.{command}
+use Rattle.sort_check.proofs.Scopes.{plain_fault}
 use Rattle.smt_sexp.specs.Lexicon.{read}
-use Rattle.script_faults.specs.Faults.{in_text, in_commands, in_sorts, in_building, most_bytes}
+use Rattle.script_faults.specs.Faults.{in_text, in_commands, in_sorts, in_checks, in_building, most_bytes}
 use Rattle.gen_script.specs.Demo.{next_number, coefficient, atom_line, atom_lines, demo_script, head, tail}
 use Rattle.dyadic.specs.Fraction.{negated, at_most}
 use Rattle.smt_sexp.specs.TextAnswers.{too_many_bytes}
 use Rattle.demo_law.specs.Laws.{DemoIsFaultless}
-use Rattle.demo_law.proofs.Shape.{atom_commands, in_line, behind_line, equation, within, place, demo_with, two, three, named}
-use Rattle.demo_law.proofs.Commands.{commands_are, sorts_fit, open_script}
+use Rattle.demo_law.proofs.Shape.{atom_commands, atom_written, demo_written, in_line, behind_line, equation, within, place, demo_with, two, three, named}
+use Rattle.demo_law.proofs.Commands.{commands_are, sorts_fit, asked_are, open_script}
 use Rattle.demo_law.proofs.Room.{Room, StandsIn, stand_after, then_in, formed_in, weight, asks, is_clear}
 use Rattle.demo_law.proofs.Text.{coefficient_is_numeral, lines_read}
 use Rattle.demo_law.proofs.Walked.{axes, line_is, line_events, line_weight, line_asks, line_clear, product}
@@ -171,15 +173,22 @@ module _ (bound : Option ℕ) (seed size : ℕ) (small : size ≤ 10000) where
       ∷ group (place 2 1) (three (named (place 2 2) (codes "declare-const")) (named (place 2 16) (codes "x")) (named (place 2 18) (codes "Real")))
       ∷ group (place 1 1) (two (named (place 1 2) (codes "set-logic")) (named (place 1 12) (codes "QF_NRA"))) ∷ []
 
+  abbrev says_one : Command → Said
+  says_one c = says open_script (one_step (command c))
+
   abbrev first_joined : CommandsRead → CommandsRead
-  first_joined cs = joined (place 1 1) (says open_script (ineffective (place 1 1))) (joined (place 2 1) (says open_script (declare (place 2 1) (codes "x") real_sort))
-      (joined (place 3 1) (says open_script (declare (place 3 1) (codes "y") real_sort)) (joined (place 4 1) (says open_script (claim (place 4 1) (within 4 (codes "x"))))
-      (joined (place 5 1) (says open_script (claim (place 5 1) (within 5 (codes "y")))) cs))))
+  first_joined cs = joined (place 1 1) (says_one (ineffective (place 1 1))) (joined (place 2 1) (says_one (declare (place 2 1) (codes "x") real_sort))
+      (joined (place 3 1) (says_one (declare (place 3 1) (codes "y") real_sort)) (joined (place 4 1) (says_one (claim (place 4 1) (within 4 (codes "x"))))
+      (joined (place 5 1) (says_one (claim (place 5 1) (within 5 (codes "y")))) cs))))
+
+  abbrev written : List Command
+  written = demo_written (atom_written (place 6 1) seed size)
 
   is_read : in_text bound (read (demo_script seed size)) ≡ None
   is_read = ap (in_text bound) (lines_read seed size (place 6 1) first_expressions)
       ∙ ap (λ (cs : CommandsRead). in_commands bound (first_joined cs)) (commands_are seed size (place 6 1))
-      ∙ ap (in_sorts bound (demo_with later)) (sorts_fit seed size (place 6 1))
+      ∙ ap (in_sorts bound (map command written)) (plain_fault [] [] written (sorts_fit seed size (place 6 1)))
+      ∙ ap (in_checks bound) (asked_are seed size (place 6 1) (demo_with []))
       ∙ ap in_building is_built
 
 -- ---- the size

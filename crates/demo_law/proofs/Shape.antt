@@ -69,11 +69,23 @@ unfoldable pub atom_claims : Place → ℕ → ℕ → List Sexp
 atom_claims p number zero = last_lines p
 atom_claims p number (suc left) = atom_claim (in_line p (decimal (coefficient (next_number number)))) (decimal (coefficient (next_number number))) ∷ atom_claims (behind_line p (decimal (coefficient (next_number number)))) (next_number number) left
 
--- the commands
+abbrev pub atom_claimed : Place → ℕ → Command
+atom_claimed p number = claim p (equation (in_line p (decimal (coefficient (next_number number)))) (decimal (coefficient (next_number number))))
+
+-- the commands that are written
+unfoldable pub atom_written : Place → ℕ → ℕ → List Command
+atom_written p number zero = check p ∷ ineffective (next_line p) ∷ []
+atom_written p number (suc left) = atom_claimed p number ∷ atom_written (behind_line p (decimal (coefficient (next_number number)))) (next_number number) left
+
+-- those that are in force at the check, with the check
 unfoldable pub atom_commands : Place → ℕ → ℕ → List Command
-atom_commands p number zero = check p ∷ ineffective (next_line p) ∷ []
-atom_commands p number (suc left) = claim p (equation (in_line p (decimal (coefficient (next_number number)))) (decimal (coefficient (next_number number))))
-    ∷ atom_commands (behind_line p (decimal (coefficient (next_number number)))) (next_number number) left
+atom_commands p number zero = check p ∷ []
+atom_commands p number (suc left) = atom_claimed p number ∷ atom_commands (behind_line p (decimal (coefficient (next_number number)))) (next_number number) left
+
+-- where the check stands
+unfoldable pub check_place : Place → ℕ → ℕ → Place
+check_place p number zero = p
+check_place p number (suc left) = check_place (behind_line p (decimal (coefficient (next_number number)))) (next_number number) left
 
 -- the commands of the head
 abbrev pub place : ℕ → ℕ → Place
@@ -84,8 +96,9 @@ abbrev pub within : ℕ → List ℕ → Sexp
 within line name = group (place line 9) (more (named (place line 10) (codes "<=")) (three (number (place line 13) (codes "0")) (named (place line 15) name) (number (place line 17) (codes "1"))))
 
 abbrev pub demo_with : List Command → List Command
-demo_with rest = ineffective (place 1 1) ∷ declare (place 2 1) (codes "x") real_sort ∷ declare (place 3 1) (codes "y") real_sort
+demo_with rest = declare (place 2 1) (codes "x") real_sort ∷ declare (place 3 1) (codes "y") real_sort
     ∷ claim (place 4 1) (within 4 (codes "x")) ∷ claim (place 5 1) (within 5 (codes "y")) ∷ rest
 
-abbrev pub demo_commands : ℕ → ℕ → List Command
-demo_commands seed size = demo_with (atom_commands (place 6 1) seed size)
+-- all commands that are written
+abbrev pub demo_written : List Command → List Command
+demo_written rest = ineffective (place 1 1) ∷ demo_with rest

@@ -4,7 +4,7 @@ use Rattle.std.proofs.Math.IntN.{pos-*ℤ-pos, neg_ℤ-neg_ℤ}
 use Rattle.std.proofs.Math.Nat.{mul_comm}
 use Rattle.std.proofs.lemmas.Int.{ints}
 use mathlib.Core.Bool.{beq}
-use Rattle.dyadic.specs.declared.dy.Dy.{Dy}
+use Rattle.dyadic.specs.declared.parts.Parts.{Parts}
 use Rattle.dyadic.specs.declared.dy.Ext.{Ext}
 use Rattle.dyadic.specs.declared.dy.Ext.TheVariants.{NegInf, Fin, PosInf}
 use Rattle.dyadic.specs.declared.frac.Frac.{Frac}
@@ -12,7 +12,7 @@ use Rattle.dyadic.specs.Fraction.{Fraction, IsFraction, sum_of, product_of, quot
 use Rattle.dyadic.specs.Rounding.{exact, down, up}
 use Rattle.dyadic.specs.Size.{units}
 use Rattle.dyadic.specs.Signed.{signed_of, IsFloor, IsCeiling, IsBelowGrid, IsAboveGrid}
-use Rattle.dyadic.specs.Views.{units_of, dyadic_of, ext_of, fraction_of_frac}
+use Rattle.dyadic.specs.Views.{units_of, parts_units, dyadic_of, parts_dyadic, ext_of, fraction_of_frac}
 use Rattle.dyadic.specs.InUnits.{IsDownAt, IsUpAt}
 use Rattle.dyadic.proofs.Ints.{*ℤ-lt_right, *ℤ-le_right, le_of_*ℤ-le_right, *ℤ_assoc}
 use Rattle.dyadic.proofs.Products.{signed_by}
@@ -71,21 +71,21 @@ up_over q n d k NegInf o f = absurd f
 
 -- ---- the operations
 
-pub sum_over : (a b : Dy) → IsOver (sum_of (exact (dyadic_of a)) (exact (dyadic_of b))) (units_of a +ℤ units_of b) 1 (2 ^ 240)
+pub sum_over : (a b : Parts) → IsOver (sum_of (exact (parts_dyadic a)) (exact (parts_dyadic b))) (parts_units a +ℤ parts_units b) 1 (2 ^ 240)
 unfolding sum_of
-sum_over a b = record { some = lit< tt; factor = lit< tt; above = lemma (units_of a) (units_of b); below = refl }
+sum_over a b = record { some = lit< tt; factor = lit< tt; above = lemma (parts_units a) (parts_units b); below = refl }
   where
     lemma : (x y : ℤ) → (x *ℤ pos (2 ^ 120) +ℤ y *ℤ pos (2 ^ 120)) *ℤ pos (2 ^ 120) ≡ (x +ℤ y) *ℤ pos (2 ^ 240)
     lemma x y = omega (arith, ints)
 
-pub half_over : (a b : Dy) → IsOver (half_sum (dyadic_of a) (dyadic_of b)) (units_of a +ℤ units_of b) 2 (2 ^ 240)
+pub half_over : (a b : Parts) → IsOver (half_sum (parts_dyadic a) (parts_dyadic b)) (parts_units a +ℤ parts_units b) 2 (2 ^ 240)
 unfolding sum_of quotient_of
-half_over a b = record { some = lit< tt; factor = lit< tt; above = lemma (units_of a) (units_of b); below = refl }
+half_over a b = record { some = lit< tt; factor = lit< tt; above = lemma (parts_units a) (parts_units b); below = refl }
   where
     lemma : (x y : ℤ) → ((x *ℤ pos (2 ^ 120) +ℤ y *ℤ pos (2 ^ 120)) *ℤ pos 1) *ℤ pos (2 ^ 120) ≡ (x +ℤ y) *ℤ pos (2 ^ 240)
     lemma x y = omega (arith, ints)
 
-pub product_over : (a b : Dy) → IsOver (product_of (exact (dyadic_of a)) (exact (dyadic_of b))) (units_of a *ℤ units_of b) (2 ^ 120) (2 ^ 120)
+pub product_over : (a b : Parts) → IsOver (product_of (exact (parts_dyadic a)) (exact (parts_dyadic b))) (parts_units a *ℤ parts_units b) (2 ^ 120) (2 ^ 120)
 unfolding product_of
 product_over a b = record { some = lit< tt; factor = lit< tt; above = refl; below = refl }
 
@@ -97,7 +97,7 @@ frac_over f p = record { some = p; factor = lit< tt; above = lemma (in_units (fr
 
 -- ---- quotients
 
-abbrev pub quotient_sign : Dy → Dy → ℤ
+abbrev pub quotient_sign : Parts → Parts → ℤ
 quotient_sign a b = signed_of (not (beq a.negative b.negative)) (units a.size * 2 ^ 120)
 
 pub unlike_false : (p : Bool) → not (beq p false) ≡ p
@@ -108,11 +108,11 @@ pub unlike_true : (p : Bool) (x : ℕ) → signed_of (not (beq p true)) x ≡ ne
 unlike_true true x = sym (neg_ℤ-neg_ℤ (pos x))
 unlike_true false x = refl
 
-pub quotient_over : (a b : Dy) → 0 < units b.size → IsOver (quotient_of (exact (dyadic_of a)) (exact (dyadic_of b))) (quotient_sign a b) (units b.size) (2 ^ 120)
+pub quotient_over : (a b : Parts) → 0 < units b.size → IsOver (quotient_of (exact (parts_dyadic a)) (exact (parts_dyadic b))) (quotient_sign a b) (units b.size) (2 ^ 120)
 unfolding quotient_of
 quotient_over a b p = by b.negative (units b.size) p
   where
-    by : (q : Bool) (y : ℕ) → 0 < y → IsOver (over (exact (dyadic_of a)) (signed_of q y) (2 ^ 120)) (signed_of (not (beq a.negative q)) (units a.size * 2 ^ 120)) y (2 ^ 120)
+    by : (q : Bool) (y : ℕ) → 0 < y → IsOver (over (exact (parts_dyadic a)) (signed_of q y) (2 ^ 120)) (signed_of (not (beq a.negative q)) (units a.size * 2 ^ 120)) y (2 ^ 120)
     by q zero p = absurd (omega arith)
     by false (suc m) p = record {
       some = p;

@@ -7,8 +7,7 @@ use Rattle.std.specs.Prelude.{◌≤ℤ◌}
 use Rattle.dyadic.proofs.Ints.{*ℤ-le_right, le_of_*ℤ-le_right, *ℤ_assoc}
 use Rattle.dyadic.specs.declared.dy.Dy.{Dy}
 use Rattle.dyadic.specs.Rounding.{IsRepresentable}
-use Rattle.dyadic.specs.Grid.{IsSpelling}
-use Rattle.dyadic.specs.Size.{units}
+use Rattle.dyadic.specs.Grid.{IsSpelling, joined}
 use Rattle.dyadic.specs.Signed.{signed_of, IsKept, IsFloor}
 use Rattle.dyadic.specs.Views.{units_of}
 use Rattle.dyadic.proofs.Nearest.{pow_split}
@@ -28,7 +27,7 @@ size_of_signed true k = omega (arith, ints)
 size_of_signed false k = refl
 
 pub number_on_grid : (v : Dy) → IsKept (units_of v)
-number_on_grid v = subst IsRepresentable (sym (size_of_signed v.negative (units v.size))) (representable_spelling v.size.odd v.size.shift v.size.spelled)
+number_on_grid v = subst IsRepresentable (sym (size_of_signed v.negative (joined v.high v.low * 2 ^ v.shift))) (representable_spelling (joined v.high v.low) v.shift v.spelled)
 
 -- n / d ≤ m / e gives the same order of their floors
 pub floor_isotone : (n m : ℤ) (d e : ℕ) (r q : ℤ) → 0 < d → IsKept r → (n *ℤ pos e) ≤ℤ (m *ℤ pos d) → IsFloor n d r → IsFloor m e q → r ≤ℤ q

@@ -6,6 +6,7 @@ pub mod Flips
 pub mod Floors
 pub mod FracFits
 pub mod FracSteps
+pub mod Halves
 pub mod Ints
 pub mod MarginTests
 pub mod Margins

@@ -5,10 +5,10 @@ use Rattle.dyadic.specs.Rounding.{Dyadic, exact}
 use Rattle.dyadic.specs.Signed.{signed_of}
 use Rattle.dyadic.specs.Near.{IsUnder}
 use Rattle.std.specs.Int.RustNames.{unsigned_abs}
-use Rattle.dyadic.specs.declared.dy.Dy.{Dy}
+use Rattle.dyadic.specs.declared.parts.Parts.{Parts}
 use Rattle.dyadic.specs.declared.frac.Frac.{Frac}
 use Rattle.dyadic.specs.Size.{units}
-use Rattle.dyadic.specs.Views.{dyadic_of, fraction_of_frac}
+use Rattle.dyadic.specs.Views.{parts_dyadic, fraction_of_frac}
 use Rattle.dyadic.proofs.Margins.{scaled_plus, scaled_mixed, scaled_minus}
 use Rattle.dyadic.proofs.Ring.{natural, plus, minus, times, below, read_below}
 use Rattle.dyadic.proofs.Rounds.{at_most_from, at_most_read}
@@ -79,16 +79,16 @@ same_test false true f g = f.1 (g.1 refl)
 same_test false false f g = refl
 
 -- from the test on sizes to that on the code's fraction and number
-pub low_from : (f : Frac) (v : Dy) (b : ℕ) → b ≤ 60 → (m : Bool) (n d : ℕ) (r : Bool) → n ≡ unsigned_abs f.n → d ≡ unsigned_abs f.d → signed_of m (unsigned_abs f.n) ≡ f.n
-    → IsTrue r ↔ IsUnder m v.negative n d (units v.size) (2 ^ (120 - b)) → r ≡ at_most (difference_of (fraction_of_frac f) (power_below b)) (exact (dyadic_of v))
+pub low_from : (f : Frac) (v : Parts) (b : ℕ) → b ≤ 60 → (m : Bool) (n d : ℕ) (r : Bool) → n ≡ unsigned_abs f.n → d ≡ unsigned_abs f.d → signed_of m (unsigned_abs f.n) ≡ f.n
+    → IsTrue r ↔ IsUnder m v.negative n d (units v.size) (2 ^ (120 - b)) → r ≡ at_most (difference_of (fraction_of_frac f) (power_below b)) (exact (parts_dyadic v))
 low_from f v b h m n d r above below sign t =
     let q = fraction n d (units v.size) b h m in
     let same : q ≡ fraction_of_frac f = ap (λ x. record { num = signed_of m x; den = d }) above ∙ ap (λ z. record { num = z; den = d }) sign ∙ ap (λ x. record { num = f.n; den = x }) below in
-    subst (λ p. r ≡ at_most (difference_of p (power_below b)) (exact (dyadic_of v))) same (same_test r (at_most (difference_of q (power_below b)) (exact (dyadic_of v))) t (under_low n d (units v.size) b h m v.negative))
+    subst (λ p. r ≡ at_most (difference_of p (power_below b)) (exact (parts_dyadic v))) same (same_test r (at_most (difference_of q (power_below b)) (exact (parts_dyadic v))) t (under_low n d (units v.size) b h m v.negative))
 
-pub high_from : (f : Frac) (v : Dy) (b : ℕ) → b ≤ 60 → (m : Bool) (n d : ℕ) (r : Bool) → n ≡ unsigned_abs f.n → d ≡ unsigned_abs f.d → signed_of m (unsigned_abs f.n) ≡ f.n
-    → IsTrue r ↔ IsUnder (not m) (not v.negative) n d (units v.size) (2 ^ (120 - b)) → r ≡ at_most (exact (dyadic_of v)) (sum_of (fraction_of_frac f) (power_below b))
+pub high_from : (f : Frac) (v : Parts) (b : ℕ) → b ≤ 60 → (m : Bool) (n d : ℕ) (r : Bool) → n ≡ unsigned_abs f.n → d ≡ unsigned_abs f.d → signed_of m (unsigned_abs f.n) ≡ f.n
+    → IsTrue r ↔ IsUnder (not m) (not v.negative) n d (units v.size) (2 ^ (120 - b)) → r ≡ at_most (exact (parts_dyadic v)) (sum_of (fraction_of_frac f) (power_below b))
 high_from f v b h m n d r above below sign t =
     let q = fraction n d (units v.size) b h m in
     let same : q ≡ fraction_of_frac f = ap (λ x. record { num = signed_of m x; den = d }) above ∙ ap (λ z. record { num = z; den = d }) sign ∙ ap (λ x. record { num = f.n; den = x }) below in
-    subst (λ p. r ≡ at_most (exact (dyadic_of v)) (sum_of p (power_below b))) same (same_test r (at_most (exact (dyadic_of v)) (sum_of q (power_below b))) t (under_high n d (units v.size) b h m v.negative))
+    subst (λ p. r ≡ at_most (exact (parts_dyadic v)) (sum_of p (power_below b))) same (same_test r (at_most (exact (parts_dyadic v)) (sum_of q (power_below b))) t (under_high n d (units v.size) b h m v.negative))

@@ -1,13 +1,13 @@
 -- The middle of two numbers.
 use Rattle.std.proofs.Common.{ℕ, ◌^◌, ◌≤◌, arith, refl, Bool, true, false, pos, neg_ℤ, ◌+ℤ◌, ◌*ℤ◌, ◌<ℤ◌}
 use Rattle.std.proofs.lemmas.Int.{ints}
-use Rattle.dyadic.specs.declared.dy.Dy.{Dy}
+use Rattle.dyadic.specs.declared.parts.Parts.{Parts}
 use Rattle.dyadic.specs.Size.{units}
 use Rattle.dyadic.specs.Signed.{signed_of, IsBelowGrid}
-use Rattle.dyadic.specs.Views.{units_of}
+use Rattle.dyadic.specs.Views.{parts_units}
 
 -- half a sum is not below the grid
-pub not_below_grid : (a b : Dy) → IsBelowGrid (units_of a +ℤ units_of b) 2 → ⊥
+pub not_below_grid : (a b : Parts) → IsBelowGrid (parts_units a +ℤ parts_units b) 2 → ⊥
 not_below_grid a b f = clash a.negative b.negative (units a.size) (units b.size) a.size.spelled.in_range b.size.spelled.in_range
     (f (neg_ℤ (pos (2 ^ 242))) (record { whole = 2 ^ 62; power = 180; few_bits = omega arith; in_range = omega arith; value = refl }))
   where

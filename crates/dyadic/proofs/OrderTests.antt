@@ -9,10 +9,10 @@ use lib.Signed.{le_z}
 use Rattle.dyadic.specs.Fraction.{at_most}
 use Rattle.dyadic.specs.Rounding.{exact}
 use Rattle.dyadic.specs.Calls.{order_of}
-use Rattle.dyadic.specs.declared.dy.Dy.{Dy}
+use Rattle.dyadic.specs.declared.parts.Parts.{Parts}
 use Rattle.dyadic.specs.declared.frac.Frac.{Frac}
 use Rattle.std.specs.Int.RustNames.{unsigned_abs}
-use Rattle.dyadic.specs.Views.{units_of, dyadic_of, fraction_of_frac}
+use Rattle.dyadic.specs.Views.{parts_units, parts_dyadic, fraction_of_frac}
 use Rattle.dyadic.proofs.FracSteps.{whole_size}
 
 pub le_test : (a b : ℤ) → a ≤ℤ b → le_z a b ≡ true
@@ -39,11 +39,11 @@ scaled_test x y =
     (λ less. lt_test (x *ℤ pos (2 ^ 120)) (y *ℤ pos (2 ^ 120)) (omega (arith, ints, less)) ∙ sym (lt_test x y less))
     (λ le. le_test (x *ℤ pos (2 ^ 120)) (y *ℤ pos (2 ^ 120)) (omega (arith, ints, le)) ∙ sym (le_test x y le))
 
-pub order_of_units : (a b : Dy) → int_cmp (units_of a) (units_of b) ≡ order_of (at_most (exact (dyadic_of a)) (exact (dyadic_of b))) (at_most (exact (dyadic_of b)) (exact (dyadic_of a)))
+pub order_of_units : (a b : Parts) → int_cmp (parts_units a) (parts_units b) ≡ order_of (at_most (exact (parts_dyadic a)) (exact (parts_dyadic b))) (at_most (exact (parts_dyadic b)) (exact (parts_dyadic a)))
 unfolding at_most
 order_of_units a b =
-    let x = units_of a in
-    let y = units_of b in
+    let x = parts_units a in
+    let y = parts_units b in
     order_of_ints x y ∙ ap (λ z. order_of z (le_z y x)) (sym (scaled_test x y)) ∙ ap (λ z. order_of (le_z (x *ℤ pos (2 ^ 120)) (y *ℤ pos (2 ^ 120))) z) (sym (scaled_test y x))
 
 pub is_le_order : (x y : Bool) → is_le (order_of x y) ≡ x

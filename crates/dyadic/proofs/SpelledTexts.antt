@@ -2,12 +2,12 @@
 use Rattle.std.proofs.Common.{◌≡◌, ℕ, zero, suc, ◌+◌, ◌*◌, ◌/◌, ◌%◌, ◌^◌, ◌<◌, ◌≤◌, arith, refl, sym, ap, ◌∙◌, Bool, true, false, nat_eq, ◌∷◌, pos, neg_ℤ, min, mul-pos}
 use Rattle.std.proofs.lemmas.Nat.{pow-add, pow_pos}
 use Rattle.std.proofs.lemmas.Bool.{cond-true, cond-false, eq-eqb, ne_eqb}
-use Rattle.dyadic.specs.declared.dy.Dy.{Dy}
+use Rattle.dyadic.specs.declared.parts.Parts.{Parts}
 use Rattle.dyadic.specs.NumberText.{parts_text, odd_text, units_text, number_spelling}
 use Rattle.dyadic.specs.Grid.{IsSpelling}
 use Rattle.dyadic.specs.Signed.{signed_of}
 use Rattle.dyadic.specs.Text.{spelling}
-use Rattle.dyadic.specs.Views.{dyadic_of}
+use Rattle.dyadic.specs.Views.{parts_dyadic}
 
 -- the twos are taken out
 pub odd_text_is : (most m j k : ℕ) → m % 2 ≡ 1 → j ≤ most → odd_text most (m * 2 ^ j) k ≡ parts_text m (k + j)
@@ -53,5 +53,5 @@ spelling_is false (suc m) k w p =
     odd_of : (n : ℕ) → n % 2 ≡ min 1 n → 0 < n → n % 2 ≡ 1
     odd_of n e h = omega (arith, e, h)
 
-pub written_is : (a : Dy) → spelling a.negative a.size.odd a.size.shift ≡ number_spelling (dyadic_of a)
+pub written_is : (a : Parts) → spelling a.negative a.size.odd a.size.shift ≡ number_spelling (parts_dyadic a)
 written_is a = spelling_is a.negative a.size.odd a.size.shift a.size.spelled a.one_zero

@@ -8,11 +8,11 @@ use Rattle.std.proofs.lemmas.Int.{ints}
 use Rattle.std.proofs.lemmas.Bool.{cases_lt}
 use Rattle.dyadic.specs.declared.dy.Dy.{Dy}
 use Rattle.dyadic.specs.Rounding.{Dyadic, IsRepresentable, IsOnGrid}
-use Rattle.dyadic.specs.Grid.{IsSpelling}
+use Rattle.dyadic.specs.Grid.{IsSpelling, joined}
 use Rattle.dyadic.specs.Signed.{signed_of}
 use Rattle.dyadic.specs.NumberText.{number_text, number, number_spelling, units_text, of_exponent}
 use Rattle.dyadic.specs.Text.{spelling, IsCanonical, IsShift}
-use Rattle.dyadic.specs.Views.{dyadic_of}
+use Rattle.dyadic.specs.Views.{dyadic_of, parts_of}
 use Rattle.dyadic.proofs.Nearest.{representable_le}
 use Rattle.dyadic.proofs.Zeros.{spelling_of, units_of_spelling}
 use Rattle.dyadic.proofs.Spellings.{own, shape_of, odd_digit, IsDigits-decimal}
@@ -62,7 +62,7 @@ parts_read_back s (suc j) k w p =
 
 -- of a number of the code
 pub written_reads_back : (a : Dy) → number_text (number_spelling (dyadic_of a)) ≡ number (dyadic_of a)
-written_reads_back a = ap number_text (sym (written_is a)) ∙ parts_read_back a.negative a.size.odd a.size.shift a.size.spelled a.one_zero
+written_reads_back a = ap number_text (sym (written_is (parts_of a))) ∙ parts_read_back a.negative (joined a.high a.low) a.shift a.spelled a.one_zero
 
 -- of every number of the grid
 signed_reads_back : (s : Bool) (n : ℕ) → 0 < n → IsRepresentable n → number_text (units_text (signed_of s n)) ≡ number (record { units = signed_of s n })

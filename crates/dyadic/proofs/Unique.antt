@@ -37,7 +37,7 @@ same_spelling m i n j a b e = ⊎_elim
     (eq_of_mul-eq-mul_right (2 ^ i) (pow_pos i) m n (e ∙ ap (λ k. n * 2 ^ k) (sym same)), same))
     (cases_lt m 1)
 
-IsSpelling_prop : (m i : ℕ) → IsProp (IsSpelling m i)
+pub IsSpelling_prop : (m i : ℕ) → IsProp (IsSpelling m i)
 IsSpelling_prop m i = hlevel (le_prop, ℕ_set)
 
 -- equal sizes are one value

@@ -5,9 +5,10 @@ ghost use Rattle.dyadic.specs.Size.{units};
 ghost use Rattle.dyadic.specs.Fraction.{at_most};
 ghost use Rattle.dyadic.specs.Rounding.{exact, ext_at_most};
 ghost use Rattle.dyadic.specs.Calls.{order_of};
-ghost use Rattle.dyadic.specs.Views.{units_of, dyadic_of, ext_of};
+ghost use Rattle.dyadic.specs.Views.{parts_units, parts_dyadic, ext_of};
 
-use crate::dy::{Dy, Ext};
+use crate::dy::Ext;
+use crate::parts::Parts;
 use crate::size::Size;
 use std::cmp::Ordering;
 
@@ -54,8 +55,8 @@ pub fn cmp_sizes(a: Size, b: Size) -> Ordering
 }
 
 // The order of the units of two numbers.
-fn cmp_units(a: Dy, b: Dy) -> Ordering
-    ensures { result ≡ int_cmp (units_of a) (units_of b) }
+fn cmp_units(a: Parts, b: Parts) -> Ordering
+    ensures { result ≡ int_cmp (parts_units a) (parts_units b) }
 {
     match (a.negative, b.negative) {
         (false, false) => cmp_sizes(a.size, b.size),
@@ -66,11 +67,11 @@ fn cmp_units(a: Dy, b: Dy) -> Ordering
 }
 
 // The order of two numbers.
-fn cmp_numbers(a: Dy, b: Dy) -> Ordering
+fn cmp_numbers(a: Parts, b: Parts) -> Ordering
     ensures { result ≡
         order_of
-        (at_most (exact (dyadic_of a)) (exact (dyadic_of b)))
-        (at_most (exact (dyadic_of b)) (exact (dyadic_of a))) }
+        (at_most (exact (parts_dyadic a)) (exact (parts_dyadic b)))
+        (at_most (exact (parts_dyadic b)) (exact (parts_dyadic a))) }
 {
     cmp_units(a, b)
 }
@@ -81,7 +82,7 @@ pub fn cmp(a: Ext, b: Ext) -> Ordering
         order_of (ext_at_most (ext_of a) (ext_of b)) (ext_at_most (ext_of b) (ext_of a)) }
 {
     match (a, b) {
-        (Ext::Fin(a), Ext::Fin(b)) => cmp_numbers(a, b),
+        (Ext::Fin(a), Ext::Fin(b)) => cmp_numbers(a.parts(), b.parts()),
         (Ext::NegInf, Ext::NegInf) | (Ext::PosInf, Ext::PosInf) => Ordering::Equal,
         (Ext::NegInf, _) | (_, Ext::PosInf) => Ordering::Less,
         (_, Ext::NegInf) | (Ext::PosInf, _) => Ordering::Greater,

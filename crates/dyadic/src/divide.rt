@@ -5,11 +5,12 @@ ghost use Rattle.dyadic.specs.Rounding.{exact, down, up, end_of};
 ghost use Rattle.dyadic.specs.End.{end_quotient, rounded_down, rounded_up};
 ghost use Rattle.dyadic.specs.Grid.{IsTight};
 ghost use Rattle.dyadic.specs.Size.{units};
-ghost use Rattle.dyadic.specs.Views.{dyadic_of, ext_of};
+ghost use Rattle.dyadic.specs.Views.{parts_dyadic, ext_of};
 ghost use Rattle.dyadic.specs.Calls.{IsDivisor};
 
 use crate::bracket::{Bracket, down, up};
 use crate::dy::{Dy, Ext};
+use crate::parts::Parts;
 use crate::product::UNIT_BITS;
 use crate::quotient::quotient_bracket;
 use crate::sign::{infinite_product, sign_of};
@@ -37,17 +38,17 @@ fn divide_bracket(a: Size, b: Size) -> Bracket
 }
 
 // The quotient of two numbers, rounded down.
-fn finite_down(a: Dy, b: Dy) -> Ext
+fn finite_down(a: Parts, b: Parts) -> Ext
     requires { 0 < units b.size }
-    ensures { ext_of result ≡ down (quotient_of (exact (dyadic_of a)) (exact (dyadic_of b))) }
+    ensures { ext_of result ≡ down (quotient_of (exact (parts_dyadic a)) (exact (parts_dyadic b))) }
 {
     down(a.negative != b.negative, divide_bracket(a.size, b.size))
 }
 
 // The quotient of two numbers, rounded up.
-fn finite_up(a: Dy, b: Dy) -> Ext
+fn finite_up(a: Parts, b: Parts) -> Ext
     requires { 0 < units b.size }
-    ensures { ext_of result ≡ up (quotient_of (exact (dyadic_of a)) (exact (dyadic_of b))) }
+    ensures { ext_of result ≡ up (quotient_of (exact (parts_dyadic a)) (exact (parts_dyadic b))) }
 {
     up(a.negative != b.negative, divide_bracket(a.size, b.size))
 }
@@ -58,7 +59,7 @@ pub fn div_down(a: Ext, b: Ext) -> Ext
     ensures { ext_of result ≡ rounded_down (end_quotient (end_of (ext_of a)) (end_of (ext_of b))) }
 {
     match (a, b) {
-        (Ext::Fin(a), Ext::Fin(b)) => finite_down(a, b),
+        (Ext::Fin(a), Ext::Fin(b)) => finite_down(a.parts(), b.parts()),
         (a, Ext::Fin(b)) => infinite_product(sign_of(a), sign_of(Ext::Fin(b))),
         (_, _) => Ext::Fin(Dy::ZERO),
     }
@@ -70,7 +71,7 @@ pub fn div_up(a: Ext, b: Ext) -> Ext
     ensures { ext_of result ≡ rounded_up (end_quotient (end_of (ext_of a)) (end_of (ext_of b))) }
 {
     match (a, b) {
-        (Ext::Fin(a), Ext::Fin(b)) => finite_up(a, b),
+        (Ext::Fin(a), Ext::Fin(b)) => finite_up(a.parts(), b.parts()),
         (a, Ext::Fin(b)) => infinite_product(sign_of(a), sign_of(Ext::Fin(b))),
         (_, _) => Ext::Fin(Dy::ZERO),
     }

@@ -5,13 +5,14 @@ ghost use Rattle.std.specs.Int.RustNames.{unsigned_abs};
 ghost use Rattle.dyadic.specs.Fraction.{at_most, power_below, sum_of, difference_of};
 ghost use Rattle.dyadic.specs.Rounding.{exact};
 ghost use Rattle.dyadic.specs.Size.{units};
-ghost use Rattle.dyadic.specs.Views.{dyadic_of, fraction_of_frac};
+ghost use Rattle.dyadic.specs.Views.{dyadic_of, parts_dyadic, fraction_of_frac};
 ghost use Rattle.dyadic.specs.Calls.{is_near};
 ghost use Rattle.dyadic.specs.Near.{IsUnder, IsInSteps};
 
 use crate::dy::Dy;
 use crate::frac::Frac;
 use crate::frac_order::cmp_quotients;
+use crate::parts::Parts;
 use crate::quotient::has_minus;
 use crate::size::Size;
 use std::cmp::Ordering;
@@ -138,21 +139,21 @@ fn is_under(minus: bool, n: u128, d: u128, negative: bool, v: Size, bits: u32) -
 }
 
 // Whether the fraction is at most the number and 2^-bits.
-fn is_low(f: Frac, v: Dy, bits: u32) -> bool
+fn is_low(f: Frac, v: Parts, bits: u32) -> bool
     requires some { 1 ≤ bits }
     requires few { bits ≤ 60 }
     ensures { result ≡
-        at_most (difference_of (fraction_of_frac f) (power_below bits)) (exact (dyadic_of v)) }
+        at_most (difference_of (fraction_of_frac f) (power_below bits)) (exact (parts_dyadic v)) }
 {
     is_under(has_minus(f), above(f), below(f), v.negative, v.size, bits)
 }
 
 // Whether the number is at most the fraction and 2^-bits.
-fn is_high(f: Frac, v: Dy, bits: u32) -> bool
+fn is_high(f: Frac, v: Parts, bits: u32) -> bool
     requires some { 1 ≤ bits }
     requires few { bits ≤ 60 }
     ensures { result ≡
-        at_most (exact (dyadic_of v)) (sum_of (fraction_of_frac f) (power_below bits)) }
+        at_most (exact (parts_dyadic v)) (sum_of (fraction_of_frac f) (power_below bits)) }
 {
     is_under(!has_minus(f), above(f), below(f), !v.negative, v.size, bits)
 }
@@ -163,6 +164,7 @@ pub fn near(v: Dy, bits: u32, lo: Frac, hi: Frac) -> bool
     requires few { bits ≤ 60 }
     ensures { result ≡ is_near (dyadic_of v) bits (fraction_of_frac lo) (fraction_of_frac hi) }
 {
+    let v = v.parts();
     is_low(lo, v, bits) && is_high(hi, v, bits)
 }
 

@@ -5,6 +5,7 @@ ghost use Rattle.dyadic.specs.Calls.{power_of_two};
 ghost use Rattle.dyadic.specs.Views.{dyadic_of};
 
 use crate::dy::Dy;
+use crate::number::signed;
 use crate::size::Size;
 
 // How many units' bits the power has.
@@ -25,10 +26,7 @@ pub fn pow2(exponent: i32) -> Dy
 {
     let shift = power_shift(exponent);
     let size = Size { odd: 1, shift };
-    Dy {
-        negative: false,
-        size,
-    }
+    signed(false, size)
 }
 
 /// 2 to the power of minus `bits`, which has to be at most 120.
@@ -40,8 +38,5 @@ pub fn two_to_minus(bits: u32) -> Dy
         odd: 1,
         shift: 120 - bits,
     };
-    Dy {
-        negative: false,
-        size,
-    }
+    signed(false, size)
 }

@@ -5,10 +5,11 @@ ghost use Rattle.dyadic.specs.Rounding.{exact, down, up, end_of};
 ghost use Rattle.dyadic.specs.End.{end_product, rounded_down, rounded_up};
 ghost use Rattle.dyadic.specs.Grid.{IsTight};
 ghost use Rattle.dyadic.specs.Size.{units};
-ghost use Rattle.dyadic.specs.Views.{dyadic_of, ext_of};
+ghost use Rattle.dyadic.specs.Views.{parts_dyadic, ext_of};
 
 use crate::bracket::{Bracket, down, up};
 use crate::dy::{Dy, Ext};
+use crate::parts::Parts;
 use crate::sign::{infinite_product, sign_of};
 use crate::size::Size;
 
@@ -51,15 +52,15 @@ pub fn product_bracket(a: Size, b: Size) -> Bracket
 }
 
 // The product of two numbers, rounded down.
-fn finite_down(a: Dy, b: Dy) -> Ext
-    ensures { ext_of result ≡ down (product_of (exact (dyadic_of a)) (exact (dyadic_of b))) }
+fn finite_down(a: Parts, b: Parts) -> Ext
+    ensures { ext_of result ≡ down (product_of (exact (parts_dyadic a)) (exact (parts_dyadic b))) }
 {
     down(a.negative != b.negative, product_bracket(a.size, b.size))
 }
 
 // The product of two numbers, rounded up.
-fn finite_up(a: Dy, b: Dy) -> Ext
-    ensures { ext_of result ≡ up (product_of (exact (dyadic_of a)) (exact (dyadic_of b))) }
+fn finite_up(a: Parts, b: Parts) -> Ext
+    ensures { ext_of result ≡ up (product_of (exact (parts_dyadic a)) (exact (parts_dyadic b))) }
 {
     up(a.negative != b.negative, product_bracket(a.size, b.size))
 }
@@ -69,7 +70,7 @@ pub fn mul_down(a: Ext, b: Ext) -> Ext
     ensures { ext_of result ≡ rounded_down (end_product (end_of (ext_of a)) (end_of (ext_of b))) }
 {
     match (a, b) {
-        (Ext::Fin(a), Ext::Fin(b)) => finite_down(a, b),
+        (Ext::Fin(a), Ext::Fin(b)) => finite_down(a.parts(), b.parts()),
         (a, b) => infinite_product(sign_of(a), sign_of(b)),
     }
 }
@@ -79,7 +80,7 @@ pub fn mul_up(a: Ext, b: Ext) -> Ext
     ensures { ext_of result ≡ rounded_up (end_product (end_of (ext_of a)) (end_of (ext_of b))) }
 {
     match (a, b) {
-        (Ext::Fin(a), Ext::Fin(b)) => finite_up(a, b),
+        (Ext::Fin(a), Ext::Fin(b)) => finite_up(a.parts(), b.parts()),
         (a, b) => infinite_product(sign_of(a), sign_of(b)),
     }
 }

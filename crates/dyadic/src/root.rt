@@ -106,7 +106,7 @@ pub fn sqrt_down(a: Ext) -> Ext
     ensures { ext_of result ≡ root_ext root_down (ext_of a) }
 {
     match a {
-        Ext::Fin(a) => Ext::Fin(signed(false, size_down(a.size))),
+        Ext::Fin(a) => Ext::Fin(signed(false, size_down(a.parts().size))),
         end => end,
     }
 }
@@ -117,7 +117,7 @@ pub fn sqrt_up(a: Ext) -> Ext
     ensures { ext_of result ≡ root_ext root_up (ext_of a) }
 {
     match a {
-        Ext::Fin(a) => Ext::Fin(signed(false, size_up(a.size))),
+        Ext::Fin(a) => Ext::Fin(signed(false, size_up(a.parts().size))),
         end => end,
     }
 }

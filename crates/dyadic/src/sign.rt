@@ -23,6 +23,7 @@ pub fn sign_of(a: Ext) -> Sign
     match a {
         Ext::NegInf => Sign::Below,
         Ext::Fin(a) => {
+            let a = a.parts();
             if a.size.odd == 0 {
                 Sign::Nought
             } else if a.negative {

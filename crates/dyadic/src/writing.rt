@@ -5,6 +5,7 @@ ghost use Rattle.dyadic.specs.Text.{spelling};
 ghost use Rattle.dyadic.specs.Views.{dyadic_of};
 
 use crate::dy::Dy;
+use crate::parts::Parts;
 use itoa::Buffer;
 
 // Writes the bytes at a place, and says where they end.
@@ -19,10 +20,10 @@ fn put(into: &mut [u8], at: usize, bytes: &[u8]) -> usize
 }
 
 // Writes the number by its parts.
-fn write_parts(a: &Dy, into: &mut [u8; 64]) -> usize
+fn write_parts(a: Parts, into: &mut [u8; 64]) -> usize
     ensures short { result ≤ 64 }
     ensures written { take result into.new ≡
-        spelling a.now.negative a.now.size.odd a.now.size.shift }
+        spelling a.negative a.size.odd a.size.shift }
 {
     if a.size.odd == 0 {
         return put(into, 0, b"0");
@@ -43,5 +44,5 @@ pub fn write_dy(a: &Dy, into: &mut [u8; 64]) -> usize
     ensures short { result ≤ 64 }
     ensures written { take result into.new ≡ number_spelling (dyadic_of a.now) }
 {
-    write_parts(a, into)
+    write_parts(a.parts(), into)
 }

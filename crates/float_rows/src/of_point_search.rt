@@ -1,4 +1,4 @@
-// Points that a local search finds from the middle of a script's box.
+// Points that a local search finds in a script's box.
 use point_search::*;
 use poly_graph::Lits;
 use problem_build::read_problem;
@@ -8,14 +8,14 @@ use std::test::Fail;
 use truth3::{Root, root_space};
 
 // Whether a point is found in the whole box.
-fn finds(alloc: Global, text: &str) -> Option<bool> {
+fn finds(alloc: Global, text: &str, start: Start) -> Option<bool> {
     let problem = read_problem(alloc, text.as_bytes(), None).ok()?;
     let Root::Space(space) = root_space(alloc, &problem).ok()? else {
         return None;
     };
     let lits = Lits::new(alloc, problem.atoms().len()).ok()?;
-    let found = point_near_middle(alloc, &problem, 10, &lits, &space).ok()?;
-    match found {
+    let search = search_from(alloc, &problem, 10, &lits, &space, start).ok()?;
+    match search.point {
         None => Some(false),
         Some(point) => Some(point.len() == space.len()),
     }
@@ -40,6 +40,23 @@ const CHOICE: &str = "(declare-const x Real)
 (assert (or (not b) (= (* x x) 200)))
 (check-sat)";
 
+// Four points of the square that are nearly as far apart as its corners. From the middle, where all four are, none moves.
+const CORNERS: &str = "(declare-const a Real)
+(declare-const b Real)
+(declare-const c Real)
+(declare-const d Real)
+(declare-const e Real)
+(declare-const f Real)
+(declare-const g Real)
+(declare-const h Real)
+(assert (and (<= 0 a 1) (<= 0 b 1) (<= 0 c 1) (<= 0 d 1)))
+(assert (and (<= 0 e 1) (<= 0 f 1) (<= 0 g 1) (<= 0 h 1)))
+(define-fun far ((p Real) (q Real) (r Real) (s Real)) Bool
+  (>= (+ (* (- p r) (- p r)) (* (- q s) (- q s))) (/ 3 4)))
+(assert (and (far a b c d) (far a b e f) (far a b g h)))
+(assert (and (far c d e f) (far c d g h) (far e f g h)))
+(check-sat)";
+
 // A sum of squares that is not 0 anywhere.
 const NOWHERE: &str = "(declare-const x Real)
 (declare-const y Real)
@@ -50,20 +67,33 @@ const NOWHERE: &str = "(declare-const x Real)
 
 #[test]
 fn a_corner_is_found(rt: HostRuntime) -> Result<(), Fail> {
-    assert_eq!(rt; finds(rt.alloc(), VALLEY), Some(true));
+    assert_eq!(rt; finds(rt.alloc(), VALLEY, Start::Middle), Some(true));
     Ok(())
 }
 
 #[test]
 fn the_cheaper_value_of_a_bool_is_taken(rt: HostRuntime) -> Result<(), Fail> {
-    assert_eq!(rt; finds(rt.alloc(), CHOICE), Some(true));
+    assert_eq!(rt; finds(rt.alloc(), CHOICE, Start::Middle), Some(true));
+    Ok(())
+}
+
+#[test]
+fn points_far_apart_are_found_from_elsewhere(rt: HostRuntime) -> Result<(), Fail> {
+    assert_eq!(rt; finds(rt.alloc(), CORNERS, Start::Middle), Some(false));
+    let mut is_found = false;
+    for number in 0..8 {
+        if finds(rt.alloc(), CORNERS, Start::Scattered(number)) == Some(true) {
+            is_found = true;
+        }
+    }
+    assert!(rt; is_found);
     Ok(())
 }
 
 #[test]
 fn nothing_is_found_where_nothing_is(rt: HostRuntime) -> Result<(), Fail> {
-    assert_eq!(rt; finds(rt.alloc(), NOWHERE), Some(false));
+    assert_eq!(rt; finds(rt.alloc(), NOWHERE, Start::Middle), Some(false));
     // A Bool alone is left to its box's split.
-    assert_eq!(rt; finds(rt.alloc(), BOOL), Some(false));
+    assert_eq!(rt; finds(rt.alloc(), BOOL, Start::Middle), Some(false));
     Ok(())
 }

@@ -76,12 +76,13 @@ fn greater(a: f64, b: f64) -> f64 {
 
 /// A float near to the number.
 pub fn approximate(number: Dy) -> f64 {
-    let size = number.size;
+    let parts = number.parts();
+    let size = parts.size;
     let shift = if size.shift > 250 { 250 } else { size.shift };
     // 2 to the power of shift - 120, by its exponent's bits
     let unit = f64_from_bits_with_nan(u64::from(shift + 903) << 52);
     let value = nearest_u64_to_f64(size.odd) * unit;
-    if number.negative { -value } else { value }
+    if parts.negative { -value } else { value }
 }
 
 // A float near to the end; of an infinity, that infinity.

@@ -9,7 +9,10 @@ use Rattle.dyadic.specs.Rounding.{Dyadic, exact}
 use Rattle.interval_model.specs.Space.{real_domain, can_be_halved, side, better}
 use Rattle.dyadic.proofs.Ints.{*ℤ-le_right, le_of_*ℤ-le_right}
 use Rattle.dyadic.proofs.Ring.{atom, natural, plus, minus, times, same, read}
-use Rattle.dyadic.proofs.Rounds.{at_most_from, at_most_read}
+use Rattle.dyadic.proofs.Rounds.{at_most_from, at_most_read, exact_read}
+use Rattle.dyadic.specs.declared.parts.Parts.{Parts}
+use Rattle.dyadic.specs.Views.{units_of, parts_units, dyadic_of}
+use Rattle.ival.specs.declared.domain.Range.{Range}
 use Rattle.ival.specs.WideViews.{side_of_units}
 
 -- ---- at least 2^120 units
@@ -103,3 +106,11 @@ side_of_real l h n t e = go (can_be_halved (real_domain l h)) t
     go : (u : Bool) → u ≡ true → Some (side_of_units n) ≡ cond u (Some (difference_of (exact h) (exact l))) None
     go true k = ap Some (side_is n h l e)
     go false k = absurd (true≢false (sym k))
+
+pub mixed_length : (x y w : ℕ) → w ≡ x + y → pos w ≡ (pos y +ℤ neg_ℤ (neg_ℤ (pos x)))
+mixed_length x y w e = omega (arith, ints, e)
+
+-- ---- the ends of a range by their parts
+
+pub upright_parts : (r : Range) (p q : Parts) → parts_units p ≡ units_of r.low → parts_units q ≡ units_of r.high → parts_units p ≤ℤ parts_units q
+upright_parts r p q e f = subst (λ z. z ≤ℤ parts_units q) (sym e) (subst (λ z. units_of r.low ≤ℤ z) (sym f) (exact_read (dyadic_of r.low) (dyadic_of r.high) r.upright))

@@ -5,7 +5,7 @@ ghost use Rattle.interval_model.specs.Interval.{between, interval_product, inter
 ghost use Rattle.dyadic.specs.End.{rounded_down, rounded_up};
 ghost use Rattle.dyadic.specs.Views.{ext_of};
 ghost use Rattle.ival.specs.Views.{interval_of, ends_of};
-ghost use Rattle.ival.specs.Sides.{LiesOn, first_of_least, second_of_least, first_of_greatest, second_of_greatest};
+ghost use Rattle.ival.specs.Sides.{LiesOn};
 ghost use Rattle.ival.specs.Corners.{least_product, greatest_product, square_from, square_to};
 
 use crate::ends::{Ends, Ival};
@@ -13,85 +13,28 @@ use crate::interval::{greater, lesser};
 use crate::side::{Side, side_of};
 use dyadic::{Dy, Ext, mul_down, mul_up};
 
-// The ends whose product is the least, for intervals on these sides that are not both across 0.
-pub fn least_factors(
-    first: Side,
-    second: Side,
-    low: Ext,
-    high: Ext,
-    from: Ext,
-    to: Ext,
-) -> (Ext, Ext)
-    ensures first { ext_of result.0 ≡ first_of_least first second (ext_of low) (ext_of high) }
-    ensures second { ext_of result.1 ≡ second_of_least first second (ext_of from) (ext_of to) }
-{
-    match (first, second) {
-        (Side::Above, Side::Above) => (low, from),
-        (Side::Above, Side::Below) => (high, from),
-        (Side::Above, Side::Across) => (high, from),
-        (Side::Below, Side::Above) => (low, to),
-        (Side::Below, Side::Below) => (high, to),
-        (Side::Below, Side::Across) => (low, to),
-        (Side::Across, Side::Above) => (low, to),
-        (Side::Across, Side::Below) => (high, from),
-        (Side::Across, Side::Across) => (low, to),
-    }
-}
-
-// The ends whose product is the greatest, for intervals on these sides that are not both across 0.
-pub fn greatest_factors(
-    first: Side,
-    second: Side,
-    low: Ext,
-    high: Ext,
-    from: Ext,
-    to: Ext,
-) -> (Ext, Ext)
-    ensures first { ext_of result.0 ≡ first_of_greatest first second (ext_of low) (ext_of high) }
-    ensures second { ext_of result.1 ≡ second_of_greatest first second (ext_of from) (ext_of to) }
-{
-    match (first, second) {
-        (Side::Above, Side::Above) => (high, to),
-        (Side::Above, Side::Below) => (low, to),
-        (Side::Above, Side::Across) => (high, to),
-        (Side::Below, Side::Above) => (high, from),
-        (Side::Below, Side::Below) => (low, from),
-        (Side::Below, Side::Across) => (low, from),
-        (Side::Across, Side::Above) => (high, to),
-        (Side::Across, Side::Below) => (low, from),
-        (Side::Across, Side::Across) => (low, from),
-    }
-}
-
-// The least product, rounded down.
-fn least(a: Ends, first: Side, b: Ends, second: Side) -> Ext
+// The least product, rounded down, and the greatest, rounded up, for intervals on these sides.
+fn outer_products(a: Ends, first: Side, b: Ends, second: Side) -> (Ext, Ext)
     requires first { LiesOn first (end_of (ext_of a.low)) (end_of (ext_of a.high)) }
     requires second { LiesOn second (end_of (ext_of b.low)) (end_of (ext_of b.high)) }
-    ensures { ext_of result ≡
+    ensures least { ext_of result.0 ≡
         least_product (ext_of a.low) (ext_of a.high) (ext_of b.low) (ext_of b.high) }
-{
-    match (first, second) {
-        (Side::Across, Side::Across) => lesser(mul_down(a.low, b.high), mul_down(a.high, b.low)),
-        _ => {
-            let factors = least_factors(first, second, a.low, a.high, b.low, b.high);
-            mul_down(factors.0, factors.1)
-        }
-    }
-}
-
-// The greatest product, rounded up.
-fn greatest(a: Ends, first: Side, b: Ends, second: Side) -> Ext
-    requires first { LiesOn first (end_of (ext_of a.low)) (end_of (ext_of a.high)) }
-    requires second { LiesOn second (end_of (ext_of b.low)) (end_of (ext_of b.high)) }
-    ensures { ext_of result ≡
+    ensures greatest { ext_of result.1 ≡
         greatest_product (ext_of a.low) (ext_of a.high) (ext_of b.low) (ext_of b.high) }
 {
     match (first, second) {
-        (Side::Across, Side::Across) => greater(mul_up(a.low, b.low), mul_up(a.high, b.high)),
-        _ => {
-            let factors = greatest_factors(first, second, a.low, a.high, b.low, b.high);
-            mul_up(factors.0, factors.1)
-        }
+        (Side::Above, Side::Above) => (mul_down(a.low, b.low), mul_up(a.high, b.high)),
+        (Side::Above, Side::Below) => (mul_down(a.high, b.low), mul_up(a.low, b.high)),
+        (Side::Above, Side::Across) => (mul_down(a.high, b.low), mul_up(a.high, b.high)),
+        (Side::Below, Side::Above) => (mul_down(a.low, b.high), mul_up(a.high, b.low)),
+        (Side::Below, Side::Below) => (mul_down(a.high, b.high), mul_up(a.low, b.low)),
+        (Side::Below, Side::Across) => (mul_down(a.low, b.high), mul_up(a.low, b.low)),
+        (Side::Across, Side::Above) => (mul_down(a.low, b.high), mul_up(a.high, b.high)),
+        (Side::Across, Side::Below) => (mul_down(a.high, b.low), mul_up(a.low, b.low)),
+        (Side::Across, Side::Across) => (
+            lesser(mul_down(a.low, b.high), mul_down(a.high, b.low)),
+            greater(mul_up(a.low, b.low), mul_up(a.high, b.high)),
+        ),
     }
 }
 
@@ -99,11 +42,10 @@ fn greatest(a: Ends, first: Side, b: Ends, second: Side) -> Ext
 fn product_of_ends(a: Ends, b: Ends) -> Ends
     ensures { ends_of result ≡ interval_product (ends_of a) (ends_of b) }
 {
-    let first = side_of(a);
-    let second = side_of(b);
+    let products = outer_products(a, side_of(a), b, side_of(b));
     Ends {
-        low: least(a, first, b, second),
-        high: greatest(a, first, b, second),
+        low: products.0,
+        high: products.1,
     }
 }
 

@@ -18,9 +18,11 @@ use dyadic::{Ext, at_most, mid};
 fn length_of(range: Range) -> Wide
     ensures { pos (wide_value result) ≡ (units_of range.high +ℤ neg_ℤ (units_of range.low)) }
 {
-    let low = wide_of(range.low.size);
-    let high = wide_of(range.high.size);
-    match (range.low.negative, range.high.negative) {
+    let lower = range.low.parts();
+    let upper = range.high.parts();
+    let low = wide_of(lower.size);
+    let high = wide_of(upper.size);
+    match (lower.negative, upper.negative) {
         (false, false) => wide_difference(high, low),
         (true, false) => wide_sum(low, high),
         (true, true) => wide_difference(low, high),

@@ -36,6 +36,17 @@ struct Foot {
     slopes: Vec<f64, Global>,
 }
 
+impl Foot {
+    // The descent that ends here.
+    fn ended(self, points: u32) -> Descent {
+        Descent {
+            x: self.x,
+            height: self.height,
+            points,
+        }
+    }
+}
+
 // The way that a step goes, and how the height changes along it.
 #[derive(Drop)]
 struct Way {
@@ -49,6 +60,14 @@ pub struct Slide<'a> {
     pub bounds: &'a Bounds<'a>,
     pub atom: usize,
     pub rises: bool,
+}
+
+/// Where a descent ended, and at how many points it evaluated terms.
+#[derive(Drop)]
+pub struct Descent {
+    pub x: Vec<f64, Global>,
+    pub height: f64,
+    pub points: u32,
 }
 
 // What a step does.
@@ -125,9 +144,11 @@ impl<'a> Slide<'a> {
         foot: &Foot,
         way: &Way,
         first: f64,
+        points: &mut u32,
     ) -> Result<Option<Foot>, AllocError> {
         let mut by = first;
         for _ in 0..MOST_LENGTHS {
+            *points = points.saturating_add(1);
             let x = moved(alloc, self.bounds, &foot.x, by, &way.along)?;
             let next = self.place(alloc, x)?;
             if next.height <= foot.height + 1e-4 * by * way.slope {
@@ -168,40 +189,43 @@ impl<'a> Slide<'a> {
         foot: &Foot,
         inverse: &[Vec<f64, Global>],
         turn: u32,
+        points: &mut u32,
     ) -> Result<Step, AllocError> {
         let way = self.way(alloc, foot, inverse)?;
         if self.is_lost(foot, &way, turn) {
             return Ok(Step::Ends);
         }
         let first = self.first_length(&way, turn);
-        match self.search_along(alloc, foot, &way, first)? {
+        match self.search_along(alloc, foot, &way, first, points)? {
             Some(next) => Ok(Step::To(next)),
             None => Ok(Step::Ends),
         }
     }
 
-    /// Goes down from a point until half of delta is met; where it ends then.
-    pub fn go(
-        &self,
-        alloc: Global,
-        x: Vec<f64, Global>,
-    ) -> Result<Option<Vec<f64, Global>>, AllocError> {
+    /// Whether a height is low enough: half of delta.
+    pub fn is_low(&self, height: f64) -> bool {
+        height <= 0.5 * self.bounds.delta
+    }
+
+    /// Goes down from a point until the height is low enough, or no step is of use.
+    pub fn go(&self, alloc: Global, x: Vec<f64, Global>) -> Result<Descent, AllocError> {
         let mut inverse = identity(alloc, x.len(), 1.0)?;
         let first = self.place(alloc, x)?;
         let mut foot = self.foot(alloc, first)?;
+        let mut points = 1;
         for turn in 0..MOST_STEPS {
-            if foot.height <= 0.5 * self.bounds.delta {
-                return Ok(Some(foot.x));
+            if self.is_low(foot.height) {
+                return Ok(foot.ended(points));
             }
-            match self.step(alloc, &foot, &inverse, turn)? {
-                Step::Ends => return Ok(None),
+            match self.step(alloc, &foot, &inverse, turn, &mut points)? {
+                Step::Ends => return Ok(foot.ended(points)),
                 Step::To(next) => {
                     inverse = learn(alloc, inverse, &foot, &next, turn)?;
                     foot = next;
                 }
             }
         }
-        Ok(None)
+        Ok(foot.ended(points))
     }
 }
 

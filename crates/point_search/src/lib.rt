@@ -1,10 +1,10 @@
 //! Local search for a point of a box that meets a problem's form, in floats.
 //!
-//! From the box's middle it takes steps of Levenberg (1944) and Marquardt (1963) on what the terms of the needed atoms exceed
-//! their bounds by, held within the box; where one atom is left, it goes down along that atom's term by the updates of
-//! Broyden, Fletcher, Goldfarb and Shanno (1970). Of each disjunction it follows the child that costs least. The main call is
-//! [`point_near_middle`]. Nothing is promised of what it answers: whether the form is sure there is tested exactly by
-//! whoever asks. Values that are no numbers end it without harm.
+//! From the box's middle, or from a point that is scattered over the box, it takes steps of Levenberg (1944) and Marquardt
+//! (1963) on what the terms of the needed atoms exceed their bounds by, held within the box; where one atom is left, it goes
+//! down along that atom's term by the updates of Broyden, Fletcher, Goldfarb and Shanno (1970). Of each disjunction it follows
+//! the child that costs least. The main call is [`search_from`]. Nothing is promised of what it answers: whether the form is
+//! sure there is tested exactly by whoever asks. Values that are no numbers end it without harm.
 #![tactic(auto)]
 
 mod aim;
@@ -14,7 +14,8 @@ mod descent;
 mod exact;
 mod matrix;
 mod moves;
+mod scatter;
 mod search;
 mod stand;
 
-pub use search::point_near_middle;
+pub use search::{Search, Start, search_from};

@@ -12,6 +12,22 @@ struct Equations {
     right: Vec<f64, Global>,
 }
 
+// Adds the coefficients of an atom's term at a point to a row of zeros, by adjoints that are all 0 and are so again
+// afterwards.
+fn put_gradient(bounds: &Bounds, values: &[f64], j: usize, adjoints: &mut [f64], row: &mut [f64]) {
+    let atoms = bounds.problem.atoms();
+    if j < atoms.len() {
+        coefficients(
+            bounds.problem.graph(),
+            atoms[j].term,
+            values,
+            &[],
+            adjoints,
+            row,
+        );
+    }
+}
+
 /// The coefficients of an atom's term at a point, one for each axis.
 pub fn gradient(
     alloc: Global,
@@ -19,13 +35,9 @@ pub fn gradient(
     values: &[f64],
     j: usize,
 ) -> Result<Vec<f64, Global>, AllocError> {
-    let graph = bounds.problem.graph();
-    let atoms = bounds.problem.atoms();
     let mut row = vec![in alloc; 0.0; bounds.sides.len()]?;
-    if j < atoms.len() {
-        let mut adjoints = vec![in alloc; 0.0; graph.len()]?;
-        coefficients(graph, atoms[j].term, values, &[], &mut adjoints, &mut row);
-    }
+    let mut adjoints = vec![in alloc; 0.0; bounds.problem.graph().len()]?;
+    put_gradient(bounds, values, j, &mut adjoints, &mut row);
     Ok(row)
 }
 
@@ -64,17 +76,45 @@ impl Equations {
     }
 }
 
-// The equations of what is missed.
-fn equations_of(alloc: Global, bounds: &Bounds, stand: &Stand) -> Result<Equations, AllocError> {
+// Adds the atoms that are met, but nearly missed: their terms are to stay as they are.
+fn hold_near(
+    alloc: Global,
+    bounds: &Bounds,
+    stand: &Stand,
+    adjoints: &mut [f64],
+    equations: &mut Equations,
+) -> Result<(), AllocError> {
+    for j in 0..stand.aim.atoms.len() {
+        if stand.is_near(bounds, j) {
+            let mut row = vec![in alloc; 0.0; bounds.sides.len()]?;
+            put_gradient(bounds, &stand.values, j, adjoints, &mut row);
+            equations.add(&row, 0.0);
+        }
+    }
+    Ok(())
+}
+
+// The equations of what is missed, and where that is said of what nearly is.
+fn equations_of(
+    alloc: Global,
+    bounds: &Bounds,
+    stand: &Stand,
+    holds_near: bool,
+) -> Result<Equations, AllocError> {
     let count = bounds.sides.len();
     let mut equations = Equations {
         rows: zeros(alloc, count)?,
         right: vec![in alloc; 0.0; count]?,
     };
+    let mut adjoints = vec![in alloc; 0.0; bounds.problem.graph().len()]?;
     for (j, excess) in &stand.missed {
-        let mut row = gradient(alloc, bounds, &stand.values, *j)?;
+        let mut row = vec![in alloc; 0.0; count]?;
+        put_gradient(bounds, &stand.values, *j, &mut adjoints, &mut row);
         stay_within(bounds, &stand.x, *excess, &mut row);
         equations.add(&row, *excess);
+    }
+    if holds_near {
+        hold_near(alloc, bounds, stand, &mut adjoints, &mut equations)?;
     }
     Ok(equations)
 }
@@ -94,14 +134,16 @@ pub fn moved(
     Ok(to)
 }
 
-/// Where a step leads; none where the equations have no solution.
+/// Where a step leads; none where the equations have no solution. Where that is said, it leaves the terms of atoms that are
+/// nearly missed as they are.
 pub fn step(
     alloc: Global,
     bounds: &Bounds,
     stand: &Stand,
     damping: f64,
+    holds_near: bool,
 ) -> Result<Option<Vec<f64, Global>>, AllocError> {
-    let mut equations = equations_of(alloc, bounds, stand)?;
+    let mut equations = equations_of(alloc, bounds, stand, holds_near)?;
     equations.damp(damping);
     if !solve(alloc, &mut equations.rows, &mut equations.right)? {
         return Ok(None);

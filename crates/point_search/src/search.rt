@@ -3,6 +3,7 @@ use crate::bounds::Bounds;
 use crate::descent::Slide;
 use crate::exact::space_at;
 use crate::moves::step;
+use crate::scatter::scattered;
 use crate::stand::Stand;
 use dyadic::two_to_minus;
 use floats::approximate;
@@ -10,14 +11,8 @@ use ival::Space;
 use poly_graph::{Lits, Problem};
 use std::alloc::{AllocError, Global};
 
-/// At most so many steps are taken.
-const MOST_STEPS: u32 = 24;
-
 /// So many steps are taken before one atom that is left is followed alone.
 const STEPS_BEFORE_ALONE: u32 = 3;
-
-/// At most so many steps in a row may take less than three tenths of what is missed.
-const MOST_SMALL_STEPS: u32 = 4;
 
 /// At most so many axes are searched along.
 const MOST_AXES: usize = 64;
@@ -26,7 +21,56 @@ const MOST_AXES: usize = 64;
 const MOST_NODES: usize = 1 << 14;
 
 /// At most so many atoms may be missed.
-const MOST_MISSED: usize = 128;
+const MOST_MISSED: usize = 512;
+
+/// Where a search starts.
+#[derive(Clone, Copy)]
+pub enum Start {
+    /// In the middle of the box.
+    Middle,
+    /// At the point of this number in a sequence that is scattered over the box.
+    Scattered(u32),
+}
+
+/// What a search came to.
+#[derive(Drop)]
+pub struct Search {
+    /// A point within the box at which the form may be sure.
+    pub point: Option<Space>,
+    /// The sum of the squares of what atoms are missed by where it ended.
+    pub missed: f64,
+    /// At how many points terms were evaluated; 0 where there was no search.
+    pub points: u32,
+}
+
+// How long a search goes on, and whether its steps leave atoms that are nearly missed as they are.
+#[derive(Clone, Copy)]
+struct Manner {
+    // at most so many steps are taken
+    steps: u32,
+    // at most so many of them in a row may take less than three tenths of what is missed; one that takes next to nothing
+    // counts as four
+    small_steps: u32,
+    holds_near: bool,
+}
+
+impl Start {
+    // Few steps from the middle; more from elsewhere, every other time past atoms that are nearly missed.
+    fn manner(self) -> Manner {
+        match self {
+            Start::Middle => Manner {
+                steps: 24,
+                small_steps: 6,
+                holds_near: false,
+            },
+            Start::Scattered(number) => Manner {
+                steps: 150,
+                small_steps: 25,
+                holds_near: number % 2 == 0,
+            },
+        }
+    }
+}
 
 // How the steps have gone.
 #[derive(Clone, Copy)]
@@ -36,15 +80,17 @@ struct Pace {
 }
 
 impl Pace {
-    // After a step that took less or more than three tenths.
-    fn forwards(self, small: bool) -> Pace {
+    // After a step that left this share of what was missed.
+    fn forwards(self, share: f64) -> Pace {
         let damping = self.damping * 0.2;
         Pace {
             damping: if damping > 1e-9 { damping } else { 1e-9 },
-            small_steps: if small {
+            small_steps: if share < 0.7 {
+                0
+            } else if share < 0.98 {
                 self.small_steps.saturating_add(1)
             } else {
-                0
+                self.small_steps.saturating_add(4)
             },
         }
     }
@@ -58,8 +104,8 @@ impl Pace {
     }
 
     // Whether it is of no use to go on.
-    fn is_lost(self) -> bool {
-        self.small_steps > MOST_SMALL_STEPS || self.damping > 1e6
+    fn is_lost(self, manner: Manner) -> bool {
+        self.small_steps > manner.small_steps || self.damping > 1e6
     }
 }
 
@@ -69,38 +115,48 @@ fn advance(
     bounds: &Bounds,
     here: Stand,
     pace: Pace,
+    manner: Manner,
 ) -> Result<(Stand, Pace), AllocError> {
-    let Some(x) = step(alloc, bounds, &here, pace.damping)? else {
+    let Some(x) = step(alloc, bounds, &here, pace.damping, manner.holds_near)? else {
         return Ok((here, pace.backwards()));
     };
     let there = Stand::at(alloc, bounds, x)?;
     if there.total < here.total {
-        let small = there.total >= 0.7 * here.total;
-        Ok((there, pace.forwards(small)))
+        let share = there.total / here.total;
+        Ok((there, pace.forwards(share)))
     } else {
         Ok((here, pace.backwards()))
     }
 }
 
-// Goes down along the one atom that is missed.
+// Goes down along the one atom that is missed, after so many points.
 fn follow(
     alloc: Global,
     bounds: &Bounds,
     here: Stand,
     atom: usize,
     excess: f64,
-) -> Result<Option<Space>, AllocError> {
+    points: u32,
+) -> Result<Search, AllocError> {
     let slide = Slide {
         bounds,
         atom,
         rises: excess < 0.0,
     };
-    let Some(x) = slide.go(alloc, here.x)? else {
-        return Ok(None);
+    let descent = slide.go(alloc, here.x)?;
+    let missed = descent.height * descent.height;
+    let points = points.saturating_add(descent.points);
+    let point = if slide.is_low(descent.height) {
+        let there = Stand::at(alloc, bounds, descent.x)?;
+        Some(space_at(alloc, bounds, &there)?)
+    } else {
+        None
     };
-    let there = Stand::at(alloc, bounds, x)?;
-    let space = space_at(alloc, bounds, &there)?;
-    Ok(Some(space))
+    Ok(Search {
+        point,
+        missed,
+        points,
+    })
 }
 
 // The atom that alone is missed, and by how much.
@@ -112,52 +168,82 @@ fn missed_alone(here: &Stand) -> Option<(usize, f64)> {
     }
 }
 
+// The search that ends here after so many points.
+fn ended(alloc: Global, bounds: &Bounds, here: &Stand, points: u32) -> Result<Search, AllocError> {
+    let point = if here.is_met(bounds) {
+        Some(space_at(alloc, bounds, here)?)
+    } else {
+        None
+    };
+    Ok(Search {
+        point,
+        missed: here.total,
+        points,
+    })
+}
+
 // Takes steps from here on.
-fn walk(alloc: Global, bounds: &Bounds, first: Stand) -> Result<Option<Space>, AllocError> {
+fn walk(
+    alloc: Global,
+    bounds: &Bounds,
+    first: Stand,
+    manner: Manner,
+) -> Result<Search, AllocError> {
     let mut here = first;
     let mut pace = Pace {
         damping: 1e-3,
         small_steps: 0,
     };
-    for turn in 0..MOST_STEPS {
-        if here.is_met(bounds) {
-            return Ok(Some(space_at(alloc, bounds, &here)?));
-        }
-        if pace.is_lost() || here.missed.len() > MOST_MISSED {
-            return Ok(None);
+    for turn in 0..manner.steps {
+        let points = turn.saturating_add(1);
+        if here.is_met(bounds) || pace.is_lost(manner) || here.missed.len() > MOST_MISSED {
+            return ended(alloc, bounds, &here, points);
         }
         match missed_alone(&here) {
             Some((atom, excess)) if turn >= STEPS_BEFORE_ALONE => {
-                return follow(alloc, bounds, here, atom, excess);
+                return follow(alloc, bounds, here, atom, excess, points);
             }
             _ => {}
         }
-        let (next, next_pace) = advance(alloc, bounds, here, pace)?;
+        let (next, next_pace) = advance(alloc, bounds, here, pace, manner)?;
         here = next;
         pace = next_pace;
     }
-    Ok(None)
+    ended(alloc, bounds, &here, manner.steps)
 }
 
-/// A point within the box at which the form may be sure, if the atoms are loosened by 2 to the power of minus the bits: it is
-/// searched from the box's middle. None where none is found, where no atom is missed at the middle, which leaves Bools alone to
-/// be decided, and of many axes or terms.
-pub fn point_near_middle(
+// Nothing is searched.
+fn none() -> Search {
+    Search {
+        point: None,
+        missed: 0.0,
+        points: 0,
+    }
+}
+
+/// Searches a point within the box at which the form may be sure, if the atoms are loosened by 2 to the power of minus the
+/// bits. Nothing is searched of many axes or terms, nor from a middle where no atom is missed, which leaves Bools alone to be
+/// decided.
+pub fn search_from(
     alloc: Global,
     problem: &Problem,
     delta_bits: u32,
     lits: &Lits,
     space: &Space,
-) -> Result<Option<Space>, AllocError> {
+    start: Start,
+) -> Result<Search, AllocError> {
     if space.len() > MOST_AXES || problem.graph().len() > MOST_NODES {
-        return Ok(None);
+        return Ok(none());
     }
     let delta = approximate(two_to_minus(if delta_bits > 120 { 120 } else { delta_bits }));
     let bounds = Bounds::of(alloc, problem, lits, space, delta)?;
-    let middle = bounds.middle(alloc)?;
-    let first = Stand::at(alloc, &bounds, middle)?;
-    if first.missed.is_empty() || !first.is_of_numbers() {
-        return Ok(None);
+    let x = match start {
+        Start::Middle => bounds.middle(alloc)?,
+        Start::Scattered(number) => scattered(alloc, &bounds, number)?,
+    };
+    let first = Stand::at(alloc, &bounds, x)?;
+    if !first.is_of_numbers() || first.missed.is_empty() && matches!(start, Start::Middle) {
+        return Ok(none());
     }
-    walk(alloc, &bounds, first)
+    walk(alloc, &bounds, first, start.manner())
 }

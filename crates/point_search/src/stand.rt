@@ -8,6 +8,9 @@ use std::alloc::{AllocError, Global};
 /// A point is taken where no atom misses by more than this part of delta.
 const ENOUGH: f64 = 0.9;
 
+/// An atom that is met is nearly missed where its term is off 0 by less than this part of what is missed most.
+const NEAR: f64 = 0.5;
+
 /// A point, what is aimed at from there, and the atoms that are missed, with by how much.
 #[derive(Drop)]
 pub struct Stand {
@@ -71,6 +74,13 @@ impl Stand {
     /// Whether what is aimed at is met.
     pub fn is_met(&self, bounds: &Bounds) -> bool {
         self.is_of_numbers() && self.aim.clash.is_none() && self.greatest <= ENOUGH * bounds.delta
+    }
+
+    /// Whether the atom is aimed at and met, but nearly missed.
+    pub fn is_near(&self, bounds: &Bounds, j: usize) -> bool {
+        is_set(&self.aim.atoms, j)
+            && excess_of(bounds, &self.values, j) == 0.0
+            && size(bounds.term_value(&self.values, j)) < NEAR * self.greatest
     }
 
     /// Whether by how much it misses is a number that is not too great.

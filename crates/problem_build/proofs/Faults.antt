@@ -3,7 +3,7 @@ use Rattle.std.proofs.Common.{◌≡◌, Some, ap, refl, ◌∙◌}
 use Rattle.script_model.specs.Sexp.{Place}
 use Rattle.script_fault.specs.declared.fault.FaultKind.TheVariants.{TooMany}
 use Rattle.script_fault.specs.declared.limit.Limit.{Limit}
-use Rattle.script_fault.specs.declared.limit.Limit.TheVariants.{Bytes, Depth, Axes, Size, Nodes, Atoms, Forms}
+use Rattle.script_fault.specs.declared.limit.Limit.TheVariants.{Bytes, Depth, Axes, Size, Nodes, Atoms, Forms, Levels, Checks}
 use Rattle.smt_sexp.specs.TextAnswers.{fault_at}
 use Rattle.script_forms.specs.Walk.{Walked, stops, unfolds_not}
 use Rattle.script_faults.specs.Faults.{in_building}
@@ -30,3 +30,5 @@ beyond_fault w at Forms h = ap (λ v. in_building (found_by v)) h
 beyond_fault w at Bytes h = elim h [ ]
 beyond_fault w at Depth h = elim h [ ]
 beyond_fault w at Axes h = elim h [ ]
+beyond_fault w at Levels h = elim h [ ]
+beyond_fault w at Checks h = elim h [ ]

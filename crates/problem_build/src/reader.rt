@@ -11,23 +11,25 @@ use script_fault::ReadError;
 use script_faults::ScriptReader;
 use smt_script::commands;
 use smt_sexp::read;
-use sort_check::check;
+use sort_check::{check, single};
 use std::alloc::Global;
 
-/// The problem of a script's bytes, where constants without bounds have this one.
+/// The problem of a script's bytes, where constants without bounds have this one: of what is in force at its only check.
 ///
 /// # Errors
 ///
-/// The first fault of the script: of its size, its text, its commands, its names and sorts, or its building.
+/// The first fault of the script: of its size, its text, its commands, its names and sorts, its checks, of which there may
+/// be one, or its building.
 pub fn read_problem(alloc: Global, bytes: &[u8], bound: Option<u32>) -> Result<Problem, ReadError>
     ensures { MatchResult result
         (λ p. HasProblem bound (problem_of p) bytes.now)
         (λ e. IsFaultOrMemory e (script_fault bound bytes.now)) }
 {
     let sexps = read(alloc, bytes)?;
-    let script = commands(alloc, &sexps)?;
-    let typed = check(alloc, script)?;
-    let problem = build(alloc, typed, bound)?;
+    let course = commands(alloc, &sexps)?;
+    let typed = check(alloc, course)?;
+    let only = single(alloc, typed)?;
+    let problem = build(alloc, only, bound)?;
     // Its type keeps that it is whole.
     let _ = problem.axes();
     Ok(problem)

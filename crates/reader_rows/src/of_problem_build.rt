@@ -2,7 +2,7 @@ use problem_build::*;
 use script_fault::{FaultKind, Place, ReadError};
 use smt_script::commands;
 use smt_sexp::read;
-use sort_check::check;
+use sort_check::{check, single};
 use std::alloc::{AllocError, Global};
 
 // What is counted of a script's problem: its axes, the nodes of its terms, its atoms, the nodes of its form.
@@ -16,6 +16,7 @@ enum Refused {
     Zero(u32, u32),
     NoBound(u32, u32),
     Far(u32, u32),
+    LeftOut(u32, u32),
     Other,
 }
 
@@ -30,6 +31,7 @@ fn refusal_of(error: &ReadError) -> Refused {
         FaultKind::ZeroDivisor => Refused::Zero(line, column),
         FaultKind::NoBound(_) => Refused::NoBound(line, column),
         FaultKind::BoundTooWide(_) => Refused::Far(line, column),
+        FaultKind::LeftOut => Refused::LeftOut(line, column),
         _ => Refused::Other,
     }
 }
@@ -39,13 +41,17 @@ fn counts(alloc: Global, text: &[u8], bound: Option<u32>) -> Result<Counts, Refu
     let Ok(sexps) = read(alloc, text) else {
         return Err(Refused::Other);
     };
-    let Ok(script) = commands(alloc, &sexps) else {
+    let Ok(course) = commands(alloc, &sexps) else {
         return Err(Refused::Other);
     };
-    let Ok(typed) = check(alloc, script) else {
+    let Ok(typed) = check(alloc, course) else {
         return Err(Refused::Other);
     };
-    match build(alloc, typed, bound) {
+    let only = match single(alloc, typed) {
+        Ok(only) => only,
+        Err(error) => return Err(refusal_of(&error)),
+    };
+    match build(alloc, only, bound) {
         Ok(p) => Ok((
             p.axes().len(),
             p.graph().len(),
@@ -126,6 +132,44 @@ fn builds_problems_and_tells_faults(rt: HostRuntime) {
     for (text, bound, expected) in rows {
         assert_eq!(rt;
             counts(rt.alloc(), text.as_bytes(), bound),
+            expected,
+            "{text}"
+        );
+    }
+}
+
+// The problems of the two scripts are those of `BOX`: what was popped is no part of them, nor what stands behind the check.
+const LEVELS: &str = "(push 1)
+(declare-const y Bool)
+(assert y)
+(pop 1)
+(declare-const x Real)
+(assert (and (<= 0 x) (<= x 4)))
+(push 2)
+(assert (= (* x x) 2))
+(check-sat)
+(pop 2)
+(assert (= 1 (/ 1 x)))";
+
+const ASSUMED: &str = "(declare-const x Real)
+(define-fun low () Bool (and (<= 0 x) (<= x 4)))
+(define-fun root () Bool (= (* x x) 2))
+(check-sat-assuming (low root))";
+
+#[test]
+fn builds_what_is_in_force(rt: HostRuntime) {
+    let rows = [
+        (LEVELS, Ok((1, 11, 3, 5))),
+        (ASSUMED, Ok((1, 11, 3, 5))),
+        ("(check-sat)\n(check-sat)", Err(Refused::LeftOut(2, 1))),
+        (
+            "(check-sat)\n(push 1)\n (check-sat-assuming ())",
+            Err(Refused::LeftOut(3, 2)),
+        ),
+    ];
+    for (text, expected) in rows {
+        assert_eq!(rt;
+            counts(rt.alloc(), text.as_bytes(), None),
             expected,
             "{text}"
         );

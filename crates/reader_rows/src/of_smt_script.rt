@@ -1,7 +1,7 @@
-use script_fault::{FaultKind, Place, ReadError};
+use script_fault::{FaultKind, Limit, Place, ReadError};
 use smt_script::*;
 use smt_sexp::read;
-use std::alloc::Global;
+use std::alloc::{AllocError, Global};
 
 // The first fault of a script's commands, with its line and column; or another one.
 #[derive(Clone, Copy, Debug, PartialEq, Eq)]
@@ -10,6 +10,8 @@ enum Refused {
     LeftOut(u32, u32),
     WrongLogic(u32, u32),
     NoCheck(u32, u32),
+    TooManyLevels(u32, u32),
+    TooManyChecks(u32, u32),
     Other,
 }
 
@@ -23,17 +25,19 @@ fn refusal_of(error: &ReadError) -> Refused {
         FaultKind::LeftOut => Refused::LeftOut(line, column),
         FaultKind::WrongLogic => Refused::WrongLogic(line, column),
         FaultKind::NoCheck => Refused::NoCheck(line, column),
+        FaultKind::TooMany(Limit::Levels) => Refused::TooManyLevels(line, column),
+        FaultKind::TooMany(Limit::Checks) => Refused::TooManyChecks(line, column),
         _ => Refused::Other,
     }
 }
 
-// How many commands a script has, or its first fault.
+// How many steps a script has, or its first fault.
 fn count(alloc: Global, text: &[u8]) -> Result<usize, Refused> {
     let Ok(sexps) = read(alloc, text) else {
         return Err(Refused::Other);
     };
     match commands(alloc, &sexps) {
-        Ok(script) => Ok(script.commands.len()),
+        Ok(course) => Ok(course.steps.len()),
         Err(error) => Err(refusal_of(&error)),
     }
 }
@@ -82,7 +86,7 @@ fn reads_commands(rt: HostRuntime) {
         ("(foo)", bad(1, 1)),
         ("(declare-sort A 0)", bad(1, 1)),
         ("(minimize x)", bad(1, 1)),
-        ("(push 1)\n(check-sat)", left_out(1, 1)),
+        ("(get-proof)\n(check-sat)", left_out(1, 1)),
         ("(define-fun-rec f)", left_out(1, 1)),
         ("", no_check()),
         ("(assert true)", no_check()),
@@ -101,9 +105,9 @@ fn reads_what_follows(rt: HostRuntime) {
             Ok(5),
         ),
         ("(set-info) (set-info 1 2) (set-option) (check-sat)", Ok(4)),
-        ("(check-sat) (assert)", left_out(1, 13)),
-        ("(check-sat) (check-sat)", left_out(1, 13)),
-        ("(check-sat) (push)", left_out(1, 13)),
+        ("(check-sat) (assert)", bad(1, 13)),
+        ("(check-sat) (assert true) (check-sat)", Ok(3)),
+        ("(check-sat) (push)", bad(1, 13)),
         ("(check-sat) (exit 1)", bad(1, 13)),
         ("(check-sat) (get-model 1)", bad(1, 13)),
         ("(check-sat) (foo)", bad(1, 13)),
@@ -144,4 +148,73 @@ fn reads_declarations(rt: HostRuntime) {
     for (text, expected) in rows {
         assert_eq!(rt; count(rt.alloc(), text.as_bytes()), expected, "{text}");
     }
+}
+
+fn levels(line: u32, column: u32) -> Result<usize, Refused> {
+    Err(Refused::TooManyLevels(line, column))
+}
+
+#[test]
+fn reads_levels(rt: HostRuntime) {
+    let rows = [
+        ("(push 1) (pop 1) (check-sat)", Ok(3)),
+        ("(pop 1)\n(check-sat)", bad(1, 1)),
+        ("(push 2)\n(pop 3)\n(check-sat)", bad(2, 1)),
+        ("(push 1 1)", bad(1, 1)),
+        ("(push 1.0)", bad(1, 1)),
+        ("(push 1024) (check-sat)", Ok(2)),
+        ("(push 1025)", levels(1, 1)),
+        ("(push 1024)\n(push 1)", levels(2, 1)),
+        ("(push 1024) (pop 1024) (push 1024) (check-sat)", Ok(4)),
+        ("(push 99999999999999999999)", levels(1, 1)),
+        ("(pop 99999999999999999999)", bad(1, 1)),
+        ("(push 1024)\n(check-sat-assuming (p))", levels(2, 1)),
+        ("(push 1) (reset)\n(pop 1)", bad(2, 1)),
+        ("(reset 1)", bad(1, 1)),
+    ];
+    for (text, expected) in rows {
+        assert_eq!(rt; count(rt.alloc(), text.as_bytes()), expected, "{text}");
+    }
+}
+
+// An assumption is a level with its literals and a check.
+#[test]
+fn reads_assumptions_and_values(rt: HostRuntime) {
+    let rows = [
+        ("(check-sat-assuming ())", Ok(1)),
+        ("(check-sat-assuming (p (not q)))", Ok(5)),
+        ("(check-sat-assuming ((not (not p))))", bad(1, 1)),
+        ("(check-sat-assuming ((and p)))", bad(1, 1)),
+        ("(check-sat-assuming p)", bad(1, 1)),
+        ("(check-sat-assuming (1))", bad(1, 1)),
+        ("(get-value (x (+ x 1))) (check-sat)", Ok(2)),
+        ("(get-value ())", bad(1, 1)),
+        ("(get-value x)", bad(1, 1)),
+        ("(echo \"a\") (get-info :name) (check-sat)", Ok(3)),
+        ("(echo a)", bad(1, 1)),
+        ("(echo)", bad(1, 1)),
+    ];
+    for (text, expected) in rows {
+        assert_eq!(rt; count(rt.alloc(), text.as_bytes()), expected, "{text}");
+    }
+}
+
+// So many checks, each in a line of its own.
+fn checks(alloc: Global, count: usize) -> Result<String, AllocError> {
+    let mut text = String::new(alloc);
+    for _check in 0..count {
+        text.push_str("(check-sat)\n")?;
+    }
+    Ok(text)
+}
+
+#[test]
+fn counts_checks(rt: HostRuntime) {
+    let most = checks(rt.alloc(), 1_024).expect(&rt, "memory");
+    assert_eq!(rt; count(rt.alloc(), most.as_bytes()), Ok(1_024));
+    let more = checks(rt.alloc(), 1_025).expect(&rt, "memory");
+    assert_eq!(rt;
+        count(rt.alloc(), more.as_bytes()),
+        Err(Refused::TooManyChecks(1_025, 1))
+    );
 }

@@ -14,16 +14,16 @@ enum Refused {
     Other,
 }
 
-// How many commands a script has, or its first fault.
+// How many steps a script has, or its first fault.
 fn count(alloc: Global, text: &[u8]) -> Result<usize, Refused> {
     let Ok(sexps) = read(alloc, text) else {
         return Err(Refused::Other);
     };
-    let Ok(script) = commands(alloc, &sexps) else {
+    let Ok(course) = commands(alloc, &sexps) else {
         return Err(Refused::Other);
     };
-    match check(alloc, script) {
-        Ok(typed) => Ok(typed.script.commands.len()),
+    match check(alloc, course) {
+        Ok(typed) => Ok(typed.course.steps.len()),
         Err(error) => Err(refusal_of(&error)),
     }
 }
@@ -130,6 +130,45 @@ fn finds_the_first_fault(rt: HostRuntime) {
             mismatch(1, 12),
         ),
         ("(assert (ite true 1 2))\n(check-sat)", mismatch(1, 9)),
+    ];
+    for (text, expected) in rows {
+        assert_eq!(rt; count(rt.alloc(), text.as_bytes()), expected, "{text}");
+    }
+}
+
+#[test]
+fn sees_what_is_in_force(rt: HostRuntime) {
+    let rows = [
+        (
+            "(push 1)\n(declare-const x Real)\n(pop 1)\n(declare-const x Bool)\n(assert x)\n(check-sat)",
+            Ok(6),
+        ),
+        (
+            "(push 1)\n(define-fun f () Bool true)\n(pop 1)\n(assert f)\n(check-sat)",
+            unknown(4, 9),
+        ),
+        (
+            "(declare-const x Real)\n(push 1)\n(declare-const x Bool)\n(check-sat)",
+            redeclared(3, 1),
+        ),
+        (
+            "(declare-const p Bool)\n(push 2)\n(pop 1)\n(assert p)\n(pop 1)\n(assert p)\n(check-sat)",
+            Ok(7),
+        ),
+        (
+            "(declare-const p Bool)\n(push 1)\n(reset)\n(assert p)\n(check-sat)",
+            unknown(4, 9),
+        ),
+        (
+            "(declare-const x Real)\n(check-sat-assuming (x))",
+            mismatch(2, 22),
+        ),
+        ("(check-sat-assuming (p))", unknown(1, 22)),
+        (
+            "(declare-const x Real)\n(check-sat)\n(get-value (x (= x y)))",
+            unknown(3, 20),
+        ),
+        ("(get-value ((+ true)))\n(check-sat)", mismatch(1, 13)),
     ];
     for (text, expected) in rows {
         assert_eq!(rt; count(rt.alloc(), text.as_bytes()), expected, "{text}");

@@ -5,10 +5,16 @@
 //! is a row of a linear programme (McCormick 1976 bounds such products by planes; here they have bounds alone). The main
 //! calls are [`Relaxation::of`], [`Relaxation::refutation`] and [`Relaxation::narrowing`]. Nothing is promised: what a
 //! combination with these multipliers leaves of the box is computed exactly by whoever makes it.
+//!
+//! Where many equations are marked, as in a system that is unrolled over steps, [`Elimination`] solves them for one axis
+//! each by their slopes at the centre (Gauss and Jordan), so that what is left of the other axes is small: the combination
+//! is a step of the interval Newton method (Hansen and Sengupta 1981) for that axis.
 #![tactic(auto)]
 
 mod columns;
+mod elimination;
 mod relaxed;
 
+pub use elimination::{Elimination, are_many_equations};
 pub use linear_program::Side;
 pub use relaxed::{Refutation, Relaxation, Weights, is_asking};

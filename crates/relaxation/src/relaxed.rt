@@ -7,8 +7,8 @@ use linear_program::{Feasibility, LinearProgram, Optimum, Side};
 use poly_graph::{Atom, Kind, Lits, Mark, Problem};
 use std::alloc::{AllocError, Global};
 
-/// At most so many atoms are rows: a line of a certificate has no more.
-const MOST_ATOMS: usize = 64;
+/// At most so many atoms are combined: a line of a certificate has no more.
+pub(crate) const MOST_ATOMS: usize = 64;
 
 /// At most so many coefficients.
 const MOST_COEFFICIENTS: usize = 1 << 16;
@@ -81,7 +81,13 @@ fn wanted(atom: &Atom, mark: Mark, margin: f64) -> Option<Span> {
 }
 
 // Where the value of an atom's term has to lie, if the atom is marked and its enclosure lies not there already.
-fn asked(problem: &Problem, lits: &Lits, rows: &Rows, margin: f64, j: usize) -> Option<Span> {
+pub(crate) fn asked(
+    problem: &Problem,
+    lits: &Lits,
+    rows: &Rows,
+    margin: f64,
+    j: usize,
+) -> Option<Span> {
     let atoms = problem.atoms();
     let marks = lits.marks();
     if j >= atoms.len() || j >= marks.len() {
@@ -97,7 +103,7 @@ fn asked(problem: &Problem, lits: &Lits, rows: &Rows, margin: f64, j: usize) -> 
 }
 
 // The margin of so many bits.
-fn margin_of(bits: u32) -> f64 {
+pub(crate) fn margin_of(bits: u32) -> f64 {
     approximate(two_to_minus(if bits > 120 { 120 } else { bits }))
 }
 

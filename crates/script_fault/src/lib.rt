@@ -10,6 +10,6 @@ mod name;
 mod place;
 
 pub use fault::{FaultKind, ReadError, ScriptFault};
-pub use limit::{Limit, MOST_AXES, MOST_BYTES, MOST_DEPTH, MOST_SIZE};
+pub use limit::{Limit, MOST_AXES, MOST_BYTES, MOST_CHECKS, MOST_DEPTH, MOST_LEVELS, MOST_SIZE};
 pub use name::Name;
 pub use place::Place;

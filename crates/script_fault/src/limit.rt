@@ -17,6 +17,10 @@ pub enum Limit {
     Atoms,
     /// Nodes of the form, each counted once: at most 1,048,576.
     Forms,
+    /// Levels that `push` opened: at most `MOST_LEVELS`.
+    Levels,
+    /// Checks: at most `MOST_CHECKS`.
+    Checks,
 }
 
 /// How many bytes a script may have.
@@ -27,6 +31,12 @@ pub const MOST_DEPTH: usize = 256;
 
 /// How many constants a script may declare.
 pub const MOST_AXES: usize = 1_024;
+
+/// How many levels may be open.
+pub const MOST_LEVELS: usize = 1_024;
+
+/// How many checks a script may have.
+pub const MOST_CHECKS: usize = 1_024;
 
 /// How many expressions the unfolded assertions may have.
 pub const MOST_SIZE: u32 = 1_048_576;

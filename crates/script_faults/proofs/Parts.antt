@@ -1,14 +1,15 @@
 -- The first fault of one part is that of the script.
-use Rattle.std.proofs.Common.{◌≡◌, ℕ, List, Bool, true, false, cond, nat_le, length, Option, Some, None}
-use Rattle.script_model.specs.Script.{Command}
+use Rattle.std.proofs.Common.{◌≡◌, ℕ, List, [], ◌∷◌, Bool, true, false, cond, nat_le, length, Option, Some, None}
 use Rattle.script_fault.specs.declared.fault.ScriptFault.{ScriptFault}
 use Rattle.smt_sexp.specs.Lexicon.{TextRead, whole, faulty, read}
 use Rattle.smt_sexp.specs.TextAnswers.{bytes_fault, most_bytes, text_fault, too_many_bytes}
-use Rattle.smt_script.specs.Commands.{CommandsRead, commands, command_fault}
+use Rattle.smt_script.specs.Commands.{CommandsRead, steps, command_fault}
+use Rattle.smt_script.specs.Levels.{Asked, Step}
 use Rattle.smt_script.specs.CommandAnswers.{commands_fault}
 use Rattle.sort_check.specs.Sorts.{Finding}
 use Rattle.sort_check.specs.SortAnswers.{finding_fault}
-use Rattle.script_faults.specs.Faults.{in_text, in_commands, in_sorts, script_fault}
+use Rattle.sort_check.specs.Single.{asked_fault}
+use Rattle.script_faults.specs.Faults.{in_text, in_commands, in_sorts, in_checks, script_fault}
 
 pub text_first : (bound : Option ℕ) (r : TextRead) (x : ScriptFault) → text_fault r ≡ Some x → in_text bound r ≡ Some x
 text_first bound (faulty at f) x e = e
@@ -23,8 +24,13 @@ bytes_first bound bytes x e = bytes-by bound (read bytes) (nat_le (length bytes)
 
 pub commands_first : (bound : Option ℕ) (r : CommandsRead) (x : ScriptFault) → commands_fault r ≡ Some x → in_commands bound r ≡ Some x
 commands_first bound (command_fault at f) x e = e
-commands_first bound (commands cs) x e = cc
+commands_first bound (steps ss) x e = cc
 
-pub sorts_first : (bound : Option ℕ) (script : List Command) (found : Finding) (x : ScriptFault) → finding_fault found ≡ Some x → in_sorts bound script found ≡ Some x
-sorts_first bound script (Some f) x e = e
-sorts_first bound script None x e = cc
+pub sorts_first : (bound : Option ℕ) (ss : List Step) (found : Finding) (x : ScriptFault) → finding_fault found ≡ Some x → in_sorts bound ss found ≡ Some x
+sorts_first bound ss (Some f) x e = e
+sorts_first bound ss None x e = cc
+
+pub checks_first : (bound : Option ℕ) (asked : List Asked) (x : ScriptFault) → asked_fault asked ≡ Some x → in_checks bound asked ≡ Some x
+checks_first bound [] x e = e
+checks_first bound (a ∷ []) x e = cc
+checks_first bound (a ∷ b ∷ later) x e = e

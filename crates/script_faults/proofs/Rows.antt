@@ -1,7 +1,7 @@
 -- Worked examples: scripts with their first faults.
 use Rattle.std.proofs.Common.{◌≡◌, ℕ, List, [], ◌++◌, Some, None, codes, refl}
 use Rattle.script_model.specs.Sexp.{Place}
-use Rattle.script_fault.specs.declared.fault.FaultKind.TheVariants.{Unbalanced, NumberTooWide, UnknownSymbol, DivisorNotConstant, ZeroDivisor, NoBound, BoundTooWide, NoCheck, LeftOut}
+use Rattle.script_fault.specs.declared.fault.FaultKind.TheVariants.{BadCommand, Unbalanced, NumberTooWide, UnknownSymbol, DivisorNotConstant, ZeroDivisor, NoBound, BoundTooWide, NoCheck, LeftOut}
 use Rattle.smt_sexp.specs.TextAnswers.{fault_at}
 use Rattle.script_faults.specs.Faults.{script_fault}
 
@@ -20,8 +20,25 @@ open_parenthesis = refl
 lone_parenthesis : script_fault None (codes "(check-sat))\n") ≡ Some (fault_at (at 1 12) Unbalanced)
 lone_parenthesis = refl
 
-pushed : script_fault None (codes "(push 1)\n(check-sat)\n") ≡ Some (fault_at (at 1 1) LeftOut)
+pushed : script_fault None (codes "(push 1)\n(check-sat)\n") ≡ None
 pushed = refl
+
+popped_too_far : script_fault None (codes "(pop 1)\n(check-sat)\n") ≡ Some (fault_at (at 1 1) BadCommand)
+popped_too_far = refl
+
+second_check : script_fault None (codes "(check-sat)\n(check-sat)\n") ≡ Some (fault_at (at 2 1) LeftOut)
+second_check = refl
+
+popped_name : script_fault None (codes "(push 1)\n(declare-const b Bool)\n(pop 1)\n(assert b)\n(check-sat)\n") ≡ Some (fault_at (at 4 9) (UnknownSymbol (codes "b")))
+popped_name = refl
+
+-- the same name, with another sort
+declared_again : script_fault None (codes "(push 1)\n(declare-const b Real)\n(pop 1)\n(declare-const b Bool)\n(assert b)\n(check-sat)\n") ≡ None
+declared_again = refl
+
+-- what is in force at no check is not unfolded
+never_in_force : script_fault None (codes "(push 1)\n(assert (= (/ 1 0) 1))\n(pop 1)\n(check-sat)\n(assert (= (/ 1 0) 1))\n") ≡ None
+never_in_force = refl
 
 wide_literal : script_fault None (one_real ++ codes "(assert (< x 1000000000000000000000000000000000000000))\n(check-sat)\n") ≡ Some (fault_at (at 2 14) NumberTooWide)
 wide_literal = refl

@@ -3,15 +3,15 @@ use Rattle.std.proofs.Common.{◌≡◌, codes, Option, Some, None, refl}
 use Prim.Native.String.{String}
 use Rattle.script_model.specs.Sexp.{Place}
 use Rattle.smt_sexp.specs.Lexicon.{TextRead, whole, faulty, read}
-use Rattle.smt_script.specs.Commands.{CommandFault, bad_command, wrong_logic, left_out, no_check, CommandsRead, commands, command_fault, commands_of}
+use Rattle.smt_script.specs.Commands.{CommandFault, bad_command, wrong_logic, left_out, no_check, too_many_levels, CommandsRead, steps, command_fault, steps_of}
 use Rattle.script_rows.proofs.Asked.{at}
 
 abbrev fault_in : CommandsRead → Option (Place × CommandFault)
-fault_in (commands cs) = None
+fault_in (steps ss) = None
 fault_in (command_fault at f) = Some (at, f)
 
 abbrev of_read : TextRead → Option (Place × CommandFault)
-of_read (whole es) = fault_in (commands_of es)
+of_read (whole es) = fault_in (steps_of es)
 of_read (faulty at f) = None
 
 abbrev fault : String → Option (Place × CommandFault)
@@ -35,35 +35,28 @@ after_others = refl
 after_check : fault "(check-sat)(set-info :a b)(set-option :c d)(get-model)(exit)" ≡ None
 after_check = refl
 
-assert_after_check : fault "(check-sat)\n(assert true)" ≡ Some (at 2 1, left_out)
+assert_after_check : fault "(check-sat)\n(assert true)" ≡ None
 assert_after_check = refl
 
--- there the head alone decides
-wrong_form_after_check : fault "(check-sat)\n(assert)" ≡ Some (at 2 1, left_out)
+wrong_form_after_check : fault "(check-sat)\n(assert)" ≡ Some (at 2 1, bad_command)
 wrong_form_after_check = refl
 
-second_check : fault "(check-sat)\n(check-sat)" ≡ Some (at 2 1, left_out)
+second_check : fault "(check-sat)\n(check-sat)" ≡ None
 second_check = refl
 
 wrong_exit_after_check : fault "(check-sat)\n(exit 1)" ≡ Some (at 2 1, bad_command)
 wrong_exit_after_check = refl
 
-unknown_after_check : fault "(check-sat)\n(echo \"a\")" ≡ Some (at 2 1, bad_command)
+unknown_after_check : fault "(check-sat)\n(minimize x)" ≡ Some (at 2 1, bad_command)
 unknown_after_check = refl
 
 -- ---- what is left out, and what is no command
 
-push_one : fault "(push 1)\n(check-sat)" ≡ Some (at 1 1, left_out)
-push_one = refl
-
-push_nothing : fault "(push)" ≡ Some (at 1 1, left_out)
-push_nothing = refl
+core : fault "(get-unsat-core)\n(check-sat)" ≡ Some (at 1 1, left_out)
+core = refl
 
 recursive : fault "(define-fun-rec)" ≡ Some (at 1 1, left_out)
 recursive = refl
-
-reset : fault "(reset)" ≡ Some (at 1 1, bad_command)
-reset = refl
 
 -- what is no list, at its first byte
 number_alone : fault "\n 5" ≡ Some (at 2 2, bad_command)
@@ -77,6 +70,61 @@ reserved_head = refl
 
 quoted_head : fault "(|assert| true)(|check-sat|)" ≡ None
 quoted_head = refl
+
+-- ---- levels
+
+push_one : fault "(push 1)\n(check-sat)" ≡ None
+push_one = refl
+
+push_nothing : fault "(push)" ≡ Some (at 1 1, bad_command)
+push_nothing = refl
+
+push_word : fault "(push |1|)" ≡ Some (at 1 1, bad_command)
+push_word = refl
+
+most_pushed : fault "(push 1000)(push 24)(push 0)(check-sat)" ≡ None
+most_pushed = refl
+
+one_more_pushed : fault "(push 1000)(push 24)\n(push 1)" ≡ Some (at 2 1, too_many_levels)
+one_more_pushed = refl
+
+pushed_again : fault "(push 1024)(pop 1000)(push 1000)(check-sat)" ≡ None
+pushed_again = refl
+
+pop_alone : fault "(pop 1)\n(check-sat)" ≡ Some (at 1 1, bad_command)
+pop_alone = refl
+
+one_more_popped : fault "(push 2)\n(pop 3)" ≡ Some (at 2 1, bad_command)
+one_more_popped = refl
+
+popped_after_reset : fault "(push 1)(reset)\n(pop 1)" ≡ Some (at 2 1, bad_command)
+popped_after_reset = refl
+
+popped_after_reset_of_assertions : fault "(push 1)(reset-assertions)\n(pop 1)" ≡ Some (at 2 1, bad_command)
+popped_after_reset_of_assertions = refl
+
+logic_after_reset : fault "(set-logic QF_NRA)(reset)(set-logic QF_LRA)(check-sat)" ≡ None
+logic_after_reset = refl
+
+-- ---- assumptions
+
+no_assumption : fault "(check-sat-assuming ())" ≡ None
+no_assumption = refl
+
+two_assumptions : fault "(check-sat-assuming (p (not q)))" ≡ None
+two_assumptions = refl
+
+nested_assumption : fault "(check-sat-assuming ((not (not p))))" ≡ Some (at 1 1, bad_command)
+nested_assumption = refl
+
+other_assumption : fault "(check-sat-assuming ((and p)))" ≡ Some (at 1 1, bad_command)
+other_assumption = refl
+
+number_assumed : fault "(check-sat-assuming (1))" ≡ Some (at 1 1, bad_command)
+number_assumed = refl
+
+level_of_assumption : fault "(push 1024)\n(check-sat-assuming (p))" ≡ Some (at 2 1, too_many_levels)
+level_of_assumption = refl
 
 -- ---- the logic
 
@@ -100,6 +148,18 @@ no_logic = refl
 
 any_information : fault "(set-info)(set-info 1 2)(set-option (a))(get-model)(check-sat)" ≡ None
 any_information = refl
+
+values : fault "(get-value (x (+ x 1)))(echo \"a\")(get-info :name)(check-sat)" ≡ None
+values = refl
+
+no_values : fault "(get-value ())" ≡ Some (at 1 1, bad_command)
+no_values = refl
+
+value_alone : fault "(get-value x)" ≡ Some (at 1 1, bad_command)
+value_alone = refl
+
+word_echoed : fault "(echo a)" ≡ Some (at 1 1, bad_command)
+word_echoed = refl
 
 wrong_model : fault "(get-model 1)" ≡ Some (at 1 1, bad_command)
 wrong_model = refl

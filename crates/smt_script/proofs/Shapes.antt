@@ -1,12 +1,22 @@
 -- The commands of a form are those of its parts.
 use Rattle.std.proofs.Common.{◌≡◌, refl}
 use Rattle.script_model.specs.Sexp.{Place, numeral, decimal, symbol, reserved, string, keyword, Sexp, leaf, group, Sexps, none, more}
-use Rattle.smt_script.specs.Commands.{Before, says, by_word, one_command, sets_logic, gets_model, declares, declares_function, defines, asserts, checks, exits, parameters}
-use Rattle.smt_script.specs.Forms.{as_symbol, as_any}
-use Rattle.std.specs.Prelude.{true}
-use Rattle.script_model.specs.Script.{check, ineffective}
+use Rattle.smt_script.specs.Levels.{command, resets}
+use Rattle.smt_script.specs.Commands.{Before, says, one_step, by_word, one_command, sets_logic, echoes, gets_model, gets_values, declares, declares_function, defines, asserts, checks, exits, pushes, pops, assumes, drops, restarts, checking, with_end, with_levels, with_nothing, is_negation, parameters}
+use Rattle.smt_script.specs.Forms.{as_symbol, as_any, as_group, as_numeral, as_string}
+use Rattle.std.specs.Prelude.{Bool, true, false, ◌&&◌, codes}
+use Rattle.std.specs.Str.{bytes_eq}
+use Rattle.script_model.specs.Script.{ineffective}
 use Rattle.smt_script.specs.Run.{by_first}
-use Rattle.smt_script.specs.Shapes.{at_last, declares_name, declares_function_name, defines_name, asserts_term, sets_name, shape_of, with_shape}
+use Rattle.smt_script.specs.Shapes.{at_last, declares_name, declares_function_name, defines_name, asserts_term, sets_name, echoes_text, gets_terms, pushes_levels, pops_levels, assumes_literals, negates_name, shape_of, with_shape}
+
+and_true : (b : Bool) → (b && true) ≡ b
+and_true true = refl
+and_true false = refl
+
+and_false : (b : Bool) → (b && false) ≡ false
+and_false true = refl
+and_false false = refl
 
 pub by_declares : (b : Before) (at : Place) (args : Sexps) → declares_name b at (as_symbol args) ≡ by_word b at declares args
 by_declares b at none = refl
@@ -78,17 +88,92 @@ parameters-more (group p (more (leaf q (symbol x)) none)) rest = refl
 parameters-more (group p (more (leaf q (symbol x)) (more s none))) rest = refl
 parameters-more (group p (more (leaf q (symbol x)) (more s (more e items)))) rest = refl
 
-pub by_gets_model : (b : Before) (at : Place) (args : Sexps) → at_last args (says b (ineffective at)) ≡ by_word b at gets_model args
+pub by_echoes : (b : Before) (at : Place) (args : Sexps) → echoes_text b at (as_string args) ≡ by_word b at echoes args
+by_echoes b at none = refl
+by_echoes b at (more (group p items) rest) = refl
+by_echoes b at (more (leaf p (numeral d)) rest) = refl
+by_echoes b at (more (leaf p (decimal d f)) rest) = refl
+by_echoes b at (more (leaf p (symbol l)) rest) = refl
+by_echoes b at (more (leaf p (reserved w)) rest) = refl
+by_echoes b at (more (leaf p (string t)) none) = refl
+by_echoes b at (more (leaf p (string t)) (more e rest)) = refl
+by_echoes b at (more (leaf p (keyword k)) rest) = refl
+
+pub by_pushes : (b : Before) (at : Place) (args : Sexps) → pushes_levels b at (as_numeral args) ≡ by_word b at pushes args
+by_pushes b at none = refl
+by_pushes b at (more (group p items) rest) = refl
+by_pushes b at (more (leaf p (numeral d)) none) = refl
+by_pushes b at (more (leaf p (numeral d)) (more e rest)) = refl
+by_pushes b at (more (leaf p (decimal d f)) rest) = refl
+by_pushes b at (more (leaf p (symbol l)) rest) = refl
+by_pushes b at (more (leaf p (reserved w)) rest) = refl
+by_pushes b at (more (leaf p (string t)) rest) = refl
+by_pushes b at (more (leaf p (keyword k)) rest) = refl
+
+pub by_pops : (b : Before) (at : Place) (args : Sexps) → pops_levels b at (as_numeral args) ≡ by_word b at pops args
+by_pops b at none = refl
+by_pops b at (more (group p items) rest) = refl
+by_pops b at (more (leaf p (numeral d)) none) = refl
+by_pops b at (more (leaf p (numeral d)) (more e rest)) = refl
+by_pops b at (more (leaf p (decimal d f)) rest) = refl
+by_pops b at (more (leaf p (symbol l)) rest) = refl
+by_pops b at (more (leaf p (reserved w)) rest) = refl
+by_pops b at (more (leaf p (string t)) rest) = refl
+by_pops b at (more (leaf p (keyword k)) rest) = refl
+
+pub by_gets_values : (b : Before) (at : Place) (args : Sexps) → gets_terms b at (as_group args) ≡ by_word b at gets_values args
+by_gets_values b at none = refl
+by_gets_values b at (more (leaf p l) rest) = refl
+by_gets_values b at (more (group p none) none) = refl
+by_gets_values b at (more (group p none) (more e rest)) = refl
+by_gets_values b at (more (group p (more t ts)) none) = refl
+by_gets_values b at (more (group p (more t ts)) (more e rest)) = refl
+
+pub by_assumes : (b : Before) (at : Place) (args : Sexps) → assumes_literals b at (as_group args) ≡ by_word b at assumes args
+by_assumes b at none = refl
+by_assumes b at (more (leaf p l) rest) = refl
+by_assumes b at (more (group p es) none) = refl
+by_assumes b at (more (group p es) (more e rest)) = refl
+
+pub by_gets_model : (b : Before) (at : Place) (args : Sexps) → at_last args (says b (one_step (command (ineffective at)))) ≡ by_word b at gets_model args
 by_gets_model b at none = refl
 by_gets_model b at (more e rest) = refl
 
-pub by_checks : (b : Before) (at : Place) (args : Sexps) → at_last args (says (record { logic = b.logic; checked = true; ended = b.ended }) (check at)) ≡ by_word b at checks args
+pub by_checks : (b : Before) (at : Place) (args : Sexps) → at_last args (checking b at) ≡ by_word b at checks args
 by_checks b at none = refl
 by_checks b at (more e rest) = refl
 
-pub by_exits : (b : Before) (at : Place) (args : Sexps) → at_last args (says (record { logic = b.logic; checked = b.checked; ended = true }) (ineffective at)) ≡ by_word b at exits args
+pub by_exits : (b : Before) (at : Place) (args : Sexps) → at_last args (says (with_end b) (one_step (command (ineffective at)))) ≡ by_word b at exits args
 by_exits b at none = refl
 by_exits b at (more e rest) = refl
+
+pub by_drops : (b : Before) (at : Place) (args : Sexps) → at_last args (says (with_levels b 0) (one_step (resets at))) ≡ by_word b at drops args
+by_drops b at none = refl
+by_drops b at (more e rest) = refl
+
+pub by_restarts : (b : Before) (at : Place) (args : Sexps) → at_last args (says (with_nothing b) (one_step (resets at))) ≡ by_word b at restarts args
+by_restarts b at none = refl
+by_restarts b at (more e rest) = refl
+
+-- ---- literals
+
+pub by_negation : (items : Sexps) → negates_name (as_symbol items) ≡ is_negation items
+by_negation none = refl
+by_negation (more (group p items) rest) = refl
+by_negation (more (leaf p (numeral d)) rest) = refl
+by_negation (more (leaf p (decimal d f)) rest) = refl
+by_negation (more (leaf p (reserved w)) rest) = refl
+by_negation (more (leaf p (string t)) rest) = refl
+by_negation (more (leaf p (keyword k)) rest) = refl
+by_negation (more (leaf p (symbol f)) none) = refl
+by_negation (more (leaf p (symbol f)) (more (group q items) rest)) = refl
+by_negation (more (leaf p (symbol f)) (more (leaf q (numeral d)) rest)) = refl
+by_negation (more (leaf p (symbol f)) (more (leaf q (decimal d g)) rest)) = refl
+by_negation (more (leaf p (symbol f)) (more (leaf q (reserved w)) rest)) = refl
+by_negation (more (leaf p (symbol f)) (more (leaf q (string t)) rest)) = refl
+by_negation (more (leaf p (symbol f)) (more (leaf q (keyword k)) rest)) = refl
+by_negation (more (leaf p (symbol f)) (more (leaf q (symbol x)) none)) = and_true (bytes_eq f (codes "not"))
+by_negation (more (leaf p (symbol f)) (more (leaf q (symbol x)) (more e rest))) = and_false (bytes_eq f (codes "not"))
 
 pub by_one : (b : Before) (at : Place) (items : Sexps) → by_first b at (as_symbol items) ≡ one_command b (group at items)
 by_one b at none = refl

@@ -1,23 +1,25 @@
 -- What a reader of commands answers.
-use Rattle.std.specs.Prelude.{◌≡◌, ℕ, true, Option, Some, None, Result, Ok, Err, map}
+use Rattle.std.specs.Prelude.{◌≡◌, ℕ, Option, Some, None, Result, Ok, Err, map}
 use Rattle.script_model.specs.Sexp.{Place}
 use Rattle.smt_sexp.specs.Arena.{rest_of, expression_at}
 use Rattle.smt_sexp.specs.Views.{place_of}
 use Rattle.smt_sexp.specs.declared.sexps.Sexps as arena
 use Rattle.script_fault.specs.declared.place.Place as code
 use Rattle.smt_script.specs.Commands as defined
-use Rattle.smt_script.specs.Commands.{Said, says, fails, CommandFault, bad_command, wrong_logic, left_out, no_check, sort_form, CommandsRead, commands, command_fault}
+use Rattle.smt_script.specs.Commands.{Said, says, fails, CommandFault, bad_command, wrong_logic, left_out, no_check, too_many_levels, too_many_checks, one_step, sort_form, CommandsRead, steps, command_fault}
 use Rattle.smt_script.specs.Forms.{as_any, as_group, Behind}
 use Rattle.smt_script.specs.Shapes.{shape_group}
 use Rattle.script_fault.specs.declared.name.Name as names
 use Rattle.std.specs.Borrow.{Bor}
-use Rattle.smt_script.specs.Views.{form_of, command_of, commands_in, parameter_of}
+use Rattle.smt_script.specs.Levels as levels
+use Rattle.smt_script.specs.Views.{form_of, command_of, steps_in, parameter_of}
 use Rattle.smt_script.specs.declared.words.SortForm.{SortForm}
 use Rattle.smt_script.specs.declared.command.Command.{Command}
-use Rattle.smt_script.specs.declared.command.Script.{Script}
+use Rattle.smt_script.specs.declared.command.Course.{Course}
 use Rattle.script_fault.specs.Answers.{IsFaultOrMemory}
 use Rattle.script_fault.specs.declared.fault.FaultKind.{FaultKind}
-use Rattle.script_fault.specs.declared.fault.FaultKind.TheVariants.{BadCommand, WrongLogic, LeftOut, NoCheck}
+use Rattle.script_fault.specs.declared.fault.FaultKind.TheVariants.{BadCommand, WrongLogic, LeftOut, NoCheck, TooMany}
+use Rattle.script_fault.specs.declared.limit.Limit.TheVariants.{Levels, Checks}
 use Rattle.script_fault.specs.declared.fault.ReadError.{ReadError}
 use Rattle.script_fault.specs.declared.fault.ScriptFault.{ScriptFault}
 use Rattle.smt_sexp.specs.TextAnswers.{fault_at}
@@ -51,6 +53,8 @@ command_kind bad_command = BadCommand
 command_kind wrong_logic = WrongLogic
 command_kind left_out = LeftOut
 command_kind no_check = NoCheck
+command_kind too_many_levels = TooMany Levels
+command_kind too_many_checks = TooMany Checks
 
 -- the fault of a command at this place
 abbrev pub said_fault : Place → Said → Option ScriptFault
@@ -59,19 +63,15 @@ said_fault at (says b c) = None
 
 -- the command that is said, with what comes before the next one, or its fault
 abbrev pub IsCommandAnswer : arena.Sexps → defined.Before → Place → Result Command ReadError → Said → Type 0
-IsCommandAnswer s b at (Ok c) said = said ≡ says b (command_of s c)
+IsCommandAnswer s b at (Ok c) said = said ≡ says b (one_step (levels.command (command_of s c)))
 IsCommandAnswer s b at (Err e) said = IsFaultOrMemory e (said_fault at said)
 
 -- the first fault of commands
 abbrev pub commands_fault : CommandsRead → Option ScriptFault
 commands_fault (command_fault at x) = Some (fault_at at (command_kind x))
-commands_fault (commands cs) = None
+commands_fault (steps ss) = None
 
--- all commands, or their first fault
-abbrev pub IsScriptAnswer : arena.Sexps → Result Script ReadError → CommandsRead → Type 0
-IsScriptAnswer s (Ok script) read = (script.sexps.now ≡ s) × (read ≡ commands (commands_in script))
-IsScriptAnswer s (Err e) read = IsFaultOrMemory e (commands_fault read)
-
--- a logic is set
-abbrev pub with_set : defined.Before → defined.Before
-with_set b = record { logic = true; checked = b.checked; ended = b.ended }
+-- the steps of all commands, or their first fault
+abbrev pub IsCourseAnswer : arena.Sexps → Result Course ReadError → CommandsRead → Type 0
+IsCourseAnswer s (Ok course) read = (course.sexps.now ≡ s) × (read ≡ steps (steps_in course))
+IsCourseAnswer s (Err e) read = IsFaultOrMemory e (commands_fault read)

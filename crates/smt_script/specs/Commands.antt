@@ -1,10 +1,14 @@
 -- The commands of a script's expressions, and their first fault.
-use Rattle.std.specs.Prelude.{ℕ, List, [], ◌∷◌, Bool, true, false, not, ◌&&◌, cond, Option, Some, None, codes}
+use Rattle.std.specs.Prelude.{ℕ, suc, List, [], ◌∷◌, ◌++◌, ◌+◌, ◌-◌, Bool, true, false, not, ◌&&◌, cond, Option, Some, None, nat_le, codes}
+use Rattle.std.specs.Str.{bytes_eq}
+use Rattle.std.specs.Str.Parse.{digits_value}
 use Rattle.dyadic.specs.Point.{Sort, real_sort, bool_sort}
-use Rattle.script_model.specs.Sexp.{Place, place_of, symbol, Sexp, leaf, group, Sexps, none, more}
+use Rattle.script_model.specs.Sexp.{Place, place_of, symbol, numeral, string, Sexp, leaf, group, Sexps, none, more}
 use Rattle.script_model.specs.Reading.{found}
 use Rattle.script_model.specs.Script.{Command, declare, define, claim, check, ineffective, Parameter}
 use Rattle.smt_sexp.specs.Lexicon.{TextRead, whole, faulty, read}
+use Rattle.smt_script.specs.Forms.{is_end}
+use Rattle.smt_script.specs.Levels.{Step, command, opens, closes, resets, asks_values, checks_of, only_script}
 
 pub data CommandFault : Type 0 where
   -- no command, or one in a wrong form
@@ -13,30 +17,28 @@ pub data CommandFault : Type 0 where
   wrong_logic : CommandFault
   -- a command or a sort that is left out of the language
   left_out : CommandFault
-  -- no `check-sat` before the end
+  -- no check before the end
   no_check : CommandFault
+  -- more open levels, or more checks, than there may be
+  too_many_levels too_many_checks : CommandFault
 
 -- ---- words
 
 pub data Word : Type 0 where
-  sets_logic informs gets_model declares declares_function defines asserts checks exits : Word
+  sets_logic informs echoes gets_model gets_values declares declares_function defines asserts checks exits : Word
+  pushes pops assumes drops restarts : Word
   -- known, and left out of the language in every form
   stays_out : Word
 
 abbrev pub command_words : List (List ℕ × Word)
 command_words = (codes "set-logic", sets_logic) ∷ (codes "set-info", informs) ∷ (codes "set-option", informs) ∷ (codes "get-model", gets_model) ∷
+    (codes "get-info", informs) ∷ (codes "echo", echoes) ∷ (codes "get-value", gets_values) ∷
+    (codes "push", pushes) ∷ (codes "pop", pops) ∷ (codes "check-sat-assuming", assumes) ∷
+    (codes "reset-assertions", drops) ∷ (codes "reset", restarts) ∷
     (codes "declare-const", declares) ∷ (codes "declare-fun", declares_function) ∷ (codes "define-fun", defines) ∷
     (codes "assert", asserts) ∷ (codes "check-sat", checks) ∷ (codes "exit", exits) ∷
-    (codes "push", stays_out) ∷ (codes "pop", stays_out) ∷ (codes "get-value", stays_out) ∷ (codes "get-unsat-core", stays_out) ∷
-    (codes "get-proof", stays_out) ∷ (codes "check-sat-assuming", stays_out) ∷ (codes "define-const", stays_out) ∷ (codes "define-sort", stays_out) ∷
+    (codes "get-unsat-core", stays_out) ∷ (codes "get-proof", stays_out) ∷ (codes "define-const", stays_out) ∷ (codes "define-sort", stays_out) ∷
     (codes "define-fun-rec", stays_out) ∷ (codes "define-funs-rec", stays_out) ∷ (codes "declare-datatype", stays_out) ∷ (codes "declare-datatypes", stays_out) ∷ []
-
--- these may follow `check-sat`
-abbrev pub may_follow : Word → Bool
-may_follow informs = true
-may_follow gets_model = true
-may_follow exits = true
-may_follow _ = false
 
 abbrev pub logics : List (List ℕ × Bool)
 logics = (codes "QF_NRA", true) ∷ (codes "QF_LRA", true) ∷ []
@@ -92,20 +94,39 @@ parameters _ = wrong_parameters
 
 -- ---- one command
 
--- what came before a command: a logic, a check, the end of the script
+-- what came before a command: a logic, how many checks, how many levels are open, the end of the script
 pub record Before : Type 0 where
   pub logic : Bool
-  pub checked : Bool
+  pub checks : ℕ
+  pub levels : ℕ
   pub ended : Bool
 
--- a command, with what comes before the next one, or a fault
+-- the steps of a command, with what comes before the next one, or a fault
 pub data Said : Type 0 where
-  says : Before → Command → Said
+  says : Before → List Step → Said
   fails : CommandFault → Said
+
+abbrev pub one_step : Step → List Step
+one_step s = s ∷ []
+
+abbrev pub with_set : Before → Before
+with_set b = record b { logic = true }
+
+abbrev pub with_end : Before → Before
+with_end b = record b { ended = true }
+
+abbrev pub with_check : Before → Before
+with_check b = record b { checks = suc b.checks }
+
+abbrev pub with_levels : Before → ℕ → Before
+with_levels b n = record b { levels = n }
+
+abbrev pub with_nothing : Before → Before
+with_nothing b = record b { logic = false; levels = 0 }
 
 abbrev pub with_logic : Before → Place → Bool → Said
 with_logic b at false = fails wrong_logic
-with_logic b at true = says (record { logic = true; checked = b.checked; ended = b.ended }) (ineffective at)
+with_logic b at true = says (with_set b) (one_step (command (ineffective at)))
 
 abbrev pub is_logic : Option Bool → Bool
 is_logic (Some b) = b
@@ -115,33 +136,90 @@ is_logic None = false
 abbrev pub declaration : Before → Place → List ℕ → Arguments → SortForm → Said
 declaration b at f wrong_arguments s = fails bad_command
 declaration b at f args no_sort = fails bad_command
-declaration b at f no_arguments (one_sort s) = says b (declare at f s)
+declaration b at f no_arguments (one_sort s) = says b (one_step (command (declare at f s)))
 declaration b at f args s = fails left_out
 
 abbrev pub definition : Before → Place → List ℕ → Parameters → SortForm → Sexp → Said
 definition b at f wrong_parameters s body = fails bad_command
 definition b at f params no_sort body = fails bad_command
-definition b at f (known_parameters params) (one_sort s) body = says b (define at f params s body)
+definition b at f (known_parameters params) (one_sort s) body = says b (one_step (command (define at f params s body)))
 definition b at f params s body = fails left_out
+
+-- ---- levels and checks, of each of which there may be 1,024
+
+abbrev pub most_levels : ℕ
+most_levels = 1024
+
+abbrev pub most_checks : ℕ
+most_checks = 1024
+
+abbrev pub has_room : Before → Bool
+has_room b = nat_le (suc b.checks) most_checks
+
+abbrev pub pushing : Before → Place → ℕ → Said
+pushing b at n = cond (nat_le (b.levels + n) most_levels) (says (with_levels b (b.levels + n)) (one_step (opens at n))) (fails too_many_levels)
+
+abbrev pub popping : Before → Place → ℕ → Said
+popping b at n = cond (nat_le n b.levels) (says (with_levels b (b.levels - n)) (one_step (closes at n))) (fails bad_command)
+
+abbrev pub checking : Before → Place → Said
+checking b at = cond (has_room b) (says (with_check b) (one_step (command (check at)))) (fails too_many_checks)
+
+-- `not` and a symbol
+abbrev pub is_negation : Sexps → Bool
+is_negation (more (leaf _ (symbol f)) (more (leaf _ (symbol x)) none)) = bytes_eq f (codes "not")
+is_negation es = false
+
+-- a symbol, or `not` of one
+abbrev pub is_literal : Sexp → Bool
+is_literal (leaf _ (symbol x)) = true
+is_literal (leaf _ l) = false
+is_literal (group _ es) = is_negation es
+
+abbrev pub are_literals : Sexps → Bool
+are_literals none = true
+are_literals (more e rest) = is_literal e && are_literals rest
+
+abbrev pub assumptions : Place → Sexps → List Step
+assumptions at none = []
+assumptions at (more e rest) = command (claim at e) ∷ assumptions at rest
+
+-- a level with an assertion of each literal and a check, which is closed again
+abbrev pub assumed : Place → Sexps → List Step
+assumed at es = (opens at 1 ∷ []) ++ assumptions at es ++ (command (check at) ∷ closes at 1 ∷ [])
+
+-- without literals a plain check
+abbrev pub assuming : Before → Place → Sexps → Said
+assuming b at es = cond (is_end es) (checking b at) (cond (are_literals es)
+    (cond (nat_le (suc b.levels) most_levels)
+    (cond (has_room b) (says (with_check b) (assumed at es)) (fails too_many_checks))
+    (fails too_many_levels))
+    (fails bad_command))
 
 -- the command of this word
 abbrev pub by_word : Before → Place → Word → Sexps → Said
 by_word b at sets_logic (more (leaf _ (symbol l)) none) = cond b.logic (fails bad_command) (with_logic b at (is_logic (found l logics)))
-by_word b at informs args = says b (ineffective at)
-by_word b at gets_model none = says b (ineffective at)
+by_word b at informs args = says b (one_step (command (ineffective at)))
+by_word b at echoes (more (leaf _ (string t)) none) = says b (one_step (command (ineffective at)))
+by_word b at gets_model none = says b (one_step (command (ineffective at)))
+by_word b at gets_values (more (group _ (more e es)) none) = says b (one_step (asks_values at (more e es)))
 by_word b at declares (more (leaf _ (symbol f)) (more s none)) = declaration b at f no_arguments (sort_form s)
 by_word b at declares_function (more (leaf _ (symbol f)) (more (group _ args) (more s none))) = declaration b at f (arguments args) (sort_form s)
 by_word b at defines (more (leaf _ (symbol f)) (more (group _ params) (more s (more body none)))) = definition b at f (parameters params) (sort_form s) body
-by_word b at asserts (more e none) = says b (claim at e)
-by_word b at checks none = says (record { logic = b.logic; checked = true; ended = b.ended }) (check at)
-by_word b at exits none = says (record { logic = b.logic; checked = b.checked; ended = true }) (ineffective at)
+by_word b at asserts (more e none) = says b (one_step (command (claim at e)))
+by_word b at checks none = checking b at
+by_word b at exits none = says (with_end b) (one_step (command (ineffective at)))
+by_word b at pushes (more (leaf _ (numeral digits)) none) = pushing b at (digits_value 10 digits)
+by_word b at pops (more (leaf _ (numeral digits)) none) = popping b at (digits_value 10 digits)
+by_word b at assumes (more (group _ es) none) = assuming b at es
+by_word b at drops none = says (with_levels b 0) (one_step (resets at))
+by_word b at restarts none = says (with_nothing b) (one_step (resets at))
 by_word b at stays_out args = fails left_out
 by_word b at word args = fails bad_command
 
--- after `check-sat` the head alone tells what may not come there
 abbrev pub by_head : Before → Place → Option Word → Sexps → Said
 by_head b at None args = fails bad_command
-by_head b at (Some word) args = cond (b.checked && not (may_follow word)) (fails left_out) (by_word b at word args)
+by_head b at (Some word) args = by_word b at word args
 
 abbrev pub one_command : Before → Sexp → Said
 one_command b (group at (more (leaf _ (symbol w)) args)) = by_head b at (found w command_words) args
@@ -150,7 +228,7 @@ one_command b e = fails bad_command
 -- ---- all commands
 
 pub data CommandsRead : Type 0 where
-  commands : List Command → CommandsRead
+  steps : List Step → CommandsRead
   command_fault : Place → CommandFault → CommandsRead
 
 -- the place of what no command shows
@@ -158,35 +236,46 @@ abbrev pub nowhere : Place
 nowhere = record { line = 0; column = 0 }
 
 abbrev pub at_end : Before → CommandsRead
-at_end b = cond b.checked (commands []) (command_fault nowhere no_check)
+at_end b = cond (nat_le b.checks 0) (command_fault nowhere no_check) (steps [])
 
 abbrev pub joined : Place → Said → CommandsRead → CommandsRead
 joined at (fails f) later = command_fault at f
-joined at (says b c) (commands cs) = commands (c ∷ cs)
-joined at (says b c) (command_fault at' f) = command_fault at' f
+joined at (says b ss) (steps rest) = steps (ss ++ rest)
+joined at (says b ss) (command_fault at' f) = command_fault at' f
 
 abbrev pub next_before : Before → Said → Before
-next_before b (says b' c) = b'
+next_before b (says b' ss) = b'
 next_before b (fails f) = b
 
--- the commands of expressions, or the first fault
-abbrev pub commands_from : Before → List Sexp → CommandsRead
-commands_from b [] = at_end b
-commands_from b (e ∷ rest) = cond b.ended (at_end b) (joined (place_of e) (one_command b e) (commands_from (next_before b (one_command b e)) rest))
+-- the steps of the commands of expressions, or the first fault
+abbrev pub steps_from : Before → List Sexp → CommandsRead
+steps_from b [] = at_end b
+steps_from b (e ∷ rest) = cond b.ended (at_end b) (joined (place_of e) (one_command b e) (steps_from (next_before b (one_command b e)) rest))
 
-abbrev pub commands_of : List Sexp → CommandsRead
-commands_of es = commands_from (record { logic = false; checked = false; ended = false }) es
+abbrev pub at_start : Before
+at_start = record { logic = false; checks = 0; levels = 0; ended = false }
+
+abbrev pub steps_of : List Sexp → CommandsRead
+steps_of es = steps_from at_start es
 
 -- ---- of a text
 
-abbrev pub accepted : CommandsRead → Option (List Command)
-accepted (commands cs) = Some cs
+abbrev pub accepted : CommandsRead → Option (List Step)
+accepted (steps ss) = Some ss
 accepted (command_fault at f) = None
 
-abbrev pub of_read : TextRead → Option (List Command)
-of_read (whole es) = accepted (commands_of es)
+abbrev pub of_read : TextRead → Option (List Step)
+of_read (whole es) = accepted (steps_of es)
 of_read (faulty at f) = None
 
--- the commands of a text that has no fault of its text and its commands
+-- the steps of a text that has no fault of its text and its commands
+abbrev pub course_of : List ℕ → Option (List Step)
+course_of bytes = of_read (read bytes)
+
+abbrev pub with_one_check : Option (List Step) → Option (List Command)
+with_one_check None = None
+with_one_check (Some ss) = only_script (checks_of ss)
+
+-- the script of a text that has one check and no fault of its text and its commands: what is in force at the check
 abbrev pub script_of : List ℕ → Option (List Command)
-script_of bytes = of_read (read bytes)
+script_of bytes = with_one_check (course_of bytes)

@@ -1,6 +1,7 @@
 pub mod Calls
 pub mod Commands
 pub mod Forms
+pub mod Levels
 pub mod Views
 pub mod Words
 pub mod Shapes

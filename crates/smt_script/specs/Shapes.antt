@@ -1,9 +1,12 @@
 -- The commands, one part of their form after the other.
-use Rattle.std.specs.Prelude.{ℕ, List, cond, Option, Some, None}
-use Rattle.script_model.specs.Sexp.{Place, Sexp, leaf, group, Sexps}
-use Rattle.script_model.specs.Script.{claim}
+use Rattle.std.specs.Prelude.{ℕ, List, cond, Bool, true, false, Option, Some, None, ◌&&◌, codes}
+use Rattle.std.specs.Str.{bytes_eq}
+use Rattle.std.specs.Str.Parse.{digits_value}
+use Rattle.script_model.specs.Sexp.{Place, Sexp, leaf, group, Sexps, none, more}
+use Rattle.script_model.specs.Script.{claim, ineffective}
+use Rattle.smt_script.specs.Levels.{command, asks_values}
 use Rattle.script_model.specs.Reading.{found}
-use Rattle.smt_script.specs.Commands.{Before, Said, says, fails, bad_command, SortForm, sort_form, Arguments, no_arguments, arguments, Parameters, wrong_parameters, parameters, with_parameter, declaration, definition, with_logic, is_logic, logics}
+use Rattle.smt_script.specs.Commands.{Before, Said, says, fails, bad_command, SortForm, sort_form, Arguments, no_arguments, arguments, Parameters, wrong_parameters, parameters, with_parameter, declaration, definition, with_logic, is_logic, logics, one_step, pushing, popping, assuming}
 use Rattle.smt_script.specs.Forms.{as_symbol, as_group, as_any, is_end}
 
 abbrev pub at_last : Sexps → Said → Said
@@ -47,12 +50,49 @@ defines_name b at (Some (p, f, rest)) = defines_parameters b at f (as_group rest
 -- a term
 abbrev pub asserts_term : Before → Place → Option (Sexp × Sexps) → Said
 asserts_term b at None = fails bad_command
-asserts_term b at (Some (e, rest)) = at_last rest (says b (claim at e))
+asserts_term b at (Some (e, rest)) = at_last rest (says b (one_step (command (claim at e))))
 
 -- a logic
 abbrev pub sets_name : Before → Place → Option (Place × List ℕ × Sexps) → Said
 sets_name b at None = fails bad_command
 sets_name b at (Some (p, l, rest)) = at_last rest (cond b.logic (fails bad_command) (with_logic b at (is_logic (found l logics))))
+
+-- a text
+abbrev pub echoes_text : Before → Place → Option Sexps → Said
+echoes_text b at None = fails bad_command
+echoes_text b at (Some rest) = at_last rest (says b (one_step (command (ineffective at))))
+
+-- terms
+abbrev pub gets_some : Before → Place → Sexps → Said
+gets_some b at none = fails bad_command
+gets_some b at (more e es) = says b (one_step (asks_values at (more e es)))
+
+abbrev pub gets_terms : Before → Place → Option (Sexps × Sexps) → Said
+gets_terms b at None = fails bad_command
+gets_terms b at (Some (es, rest)) = at_last rest (gets_some b at es)
+
+-- a number of levels
+abbrev pub pushes_levels : Before → Place → Option (List ℕ × Sexps) → Said
+pushes_levels b at None = fails bad_command
+pushes_levels b at (Some (digits, rest)) = at_last rest (pushing b at (digits_value 10 digits))
+
+abbrev pub pops_levels : Before → Place → Option (List ℕ × Sexps) → Said
+pops_levels b at None = fails bad_command
+pops_levels b at (Some (digits, rest)) = at_last rest (popping b at (digits_value 10 digits))
+
+-- literals
+abbrev pub assumes_literals : Before → Place → Option (Sexps × Sexps) → Said
+assumes_literals b at None = fails bad_command
+assumes_literals b at (Some (es, rest)) = at_last rest (assuming b at es)
+
+-- `not`, a symbol, and nothing more
+abbrev pub negates : List ℕ → Option (Place × List ℕ × Sexps) → Bool
+negates f None = false
+negates f (Some (at, x, rest)) = bytes_eq f (codes "not") && is_end rest
+
+abbrev pub negates_name : Option (Place × List ℕ × Sexps) → Bool
+negates_name None = false
+negates_name (Some (at, f, rest)) = negates f (as_symbol rest)
 
 -- ---- parameters
 

@@ -29,9 +29,30 @@ pub enum Command<'a> {
     Ineffective(Place),
 }
 
-/// The commands of a text, up to `(exit)`.
+/// A script with one check.
 #[derive(Debug, Drop)]
 pub struct Script<'a> {
     pub sexps: &'a Sexps,
     pub commands: Vec<Command<'a>>,
+}
+
+/// What a script does, one after the other.
+#[derive(Debug, Drop)]
+pub enum Step<'a> {
+    Command(Command<'a>),
+    /// `push`, with how many levels it opens.
+    Push(Place, usize),
+    /// `pop`, with how many levels it closes.
+    Pop(Place, usize),
+    /// `reset` or `reset-assertions`: nothing is in force, and no level is open.
+    Reset(Place),
+    /// `get-value`, with the place of the first of its terms.
+    Values(Place, usize),
+}
+
+/// The steps of a text, up to `(exit)`. An assumption is a level of its own.
+#[derive(Debug, Drop)]
+pub struct Course<'a> {
+    pub sexps: &'a Sexps,
+    pub steps: Vec<Step<'a>>,
 }

@@ -1,7 +1,7 @@
 // What a form of a command is made of: symbols, groups, any expressions, the end.
 ghost use Rattle.std.specs.Prelude.{◌≡◌, Option};
 ghost use Rattle.smt_sexp.specs.Arena.{rest_of};
-ghost use Rattle.smt_script.specs.Forms.{FindsAny, FindsGroup, FindsSymbol, is_end};
+ghost use Rattle.smt_script.specs.Forms.{FindsAny, FindsGroup, FindsNumeral, FindsString, FindsSymbol, is_end};
 
 use script_fault::{Name, Place};
 use smt_sexp::{Leaf, Seen, Sexps};
@@ -12,6 +12,26 @@ pub(crate) fn symbol(sexps: &Sexps, at: usize) -> Option<(Place, &Name, usize)>
 {
     match sexps.look(at) {
         Seen::Leaf(place, Leaf::Symbol(name), after) => Some((place, name, after)),
+        _ => None,
+    }
+}
+
+/// The digits of the numeral at a place, and the place behind it.
+pub(crate) fn numeral(sexps: &Sexps, at: usize) -> Option<(&Name, usize)>
+    ensures { FindsNumeral sexps.now at result }
+{
+    match sexps.look(at) {
+        Seen::Leaf(_, Leaf::Numeral(digits), after) => Some((digits, after)),
+        _ => None,
+    }
+}
+
+/// The place behind the string at a place.
+pub(crate) fn string(sexps: &Sexps, at: usize) -> Option<usize>
+    ensures { FindsString sexps.now at result }
+{
+    match sexps.look(at) {
+        Seen::Leaf(_, Leaf::String(_), after) => Some(after),
         _ => None,
     }
 }

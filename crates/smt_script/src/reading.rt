@@ -1,61 +1,53 @@
 // The commands of a script's expressions, or their first fault (SMT-LIB 2.6, section 3.9).
-ghost use Rattle.std.specs.Prelude.{◌≡◌, ◌&&◌, not};
-ghost use Rattle.script_model.specs.Sexp as sexp;
+ghost use Rattle.std.specs.Prelude.{◌≡◌};
 ghost use Rattle.smt_sexp.specs.Arena.{listed, rest_of};
-ghost use Rattle.smt_script.specs.Calls.{GivesAfterAny, GivesByWord, GivesGroup, GivesLogic, assertion_said, constant_said, definition_said, function_said, said_alone};
-ghost use Rattle.smt_script.specs.Commands as defined;
-ghost use Rattle.smt_script.specs.Commands.{by_word, commands_of, may_follow};
-ghost use Rattle.smt_script.specs.CommandAnswers.{IsScriptAnswer};
-ghost use Rattle.smt_script.specs.Run.{Steps, after_word, before_of};
-ghost use Rattle.smt_script.specs.Views.{word_of};
+ghost use Rattle.smt_script.specs.Calls.{GivesAfterAny, GivesByWord, GivesGroup, GivesLogic, GivesOne, assertion_said, constant_said, definition_said, echo_said, function_said, said_alone};
+ghost use Rattle.smt_script.specs.Commands.{steps_of};
+ghost use Rattle.smt_script.specs.CommandAnswers.{IsCourseAnswer};
+ghost use Rattle.smt_script.specs.Run.{Steps, before_of};
 
-use crate::forms::{any, ends, group, symbol};
+use crate::forms::{any, ends, group, string, symbol};
+use crate::found::{Before, Found};
+use crate::levels::{add_assumed, assume, check, pop, push, reset, values};
 use crate::lists::{Arguments, Parameters, arguments_from, parameters_from, sort_form};
 use crate::words::{SortForm, Word, is_logic, word_named};
-use crate::{Command, Script};
-use script_fault::{FaultKind, Place, ReadError};
-use smt_sexp::{Leaf, Seen, Sexps};
+use crate::{Command, Course, Step};
+use script_fault::{FaultKind, Limit, Place, ReadError};
+use smt_sexp::{Seen, Sexps};
 use std::alloc::Global;
 
-/// What came before a command.
-#[derive(Clone, Copy, Debug)]
-pub(crate) struct Before {
-    pub(crate) logic: bool,
-    pub(crate) checked: bool,
-    pub(crate) ended: bool,
-}
-
-/// The commands of the expressions of a text, or their first fault.
-pub fn commands(alloc: Global, sexps: &Sexps) -> Result<Script<'_>, ReadError>
-    ensures { IsScriptAnswer sexps.now result (commands_of (listed (rest_of sexps.now 0))) }
+/// What the commands of a text's expressions do, or their first fault.
+pub fn commands(alloc: Global, sexps: &Sexps) -> Result<Course<'_>, ReadError>
+    ensures { IsCourseAnswer sexps.now result (steps_of (listed (rest_of sexps.now 0))) }
 {
-    let mut commands = Vec::new(alloc);
+    let mut steps = Vec::new(alloc);
     let mut before = Before {
         logic: false,
-        checked: false,
+        checks: 0,
+        levels: 0,
         ended: false,
     };
     let mut at = 0;
-    while let Some((next, command, after)) = step(alloc, sexps, before, at)? {
-        commands.push(command)?;
+    while let Some((next, after)) = step(alloc, sexps, before, at, &mut steps)? {
         before = next;
         at = after;
     }
-    if before.checked {
-        Ok(Script { sexps, commands })
+    if before.checks > 0 {
+        Ok(Course { sexps, steps })
     } else {
         Err(ReadError::at(Place { line: 0, column: 0 }, FaultKind::NoCheck))
     }
 }
 
-// The command at a place, with what comes before the next one and the place behind it.
-fn step(
+// Adds the steps of the command at a place: what comes before the next one, and the place behind it.
+fn step<'a>(
     alloc: Global,
-    sexps: &Sexps,
+    sexps: &'a Sexps,
     before: Before,
     at: usize,
-) -> Result<Option<(Before, Command<'_>, usize)>, ReadError>
-    ensures { Steps sexps.now (before_of before) at result }
+    steps: &mut Vec<Step<'a>>,
+) -> Result<Option<(Before, usize)>, ReadError>
+    ensures { Steps sexps.now (before_of before) at steps.old.items steps.new.items result }
 {
     if before.ended {
         return Ok(None);
@@ -64,21 +56,22 @@ fn step(
         Seen::End => Ok(None),
         Seen::Leaf(place, _, _) => Err(bad_command(place)),
         Seen::Group(place, inside, after) => {
-            let (next, command) = command(alloc, sexps, before, place, inside)?;
-            Ok(Some((next, command, after)))
+            let next = command(alloc, sexps, before, place, inside, steps)?;
+            Ok(Some((next, after)))
         }
     }
 }
 
-// The command of a group.
-fn command(
+// Adds the steps of the command of a group.
+fn command<'a>(
     alloc: Global,
-    sexps: &Sexps,
+    sexps: &'a Sexps,
     before: Before,
     place: Place,
     inside: usize,
-) -> Result<(Before, Command<'_>), ReadError>
-    ensures { GivesGroup sexps.now before place inside result }
+    steps: &mut Vec<Step<'a>>,
+) -> Result<Before, ReadError>
+    ensures { GivesGroup sexps.now before place inside steps.old.items steps.new.items result }
 {
     let Some((_, name, at)) = symbol(sexps, inside) else {
         return Err(bad_command(place));
@@ -86,63 +79,85 @@ fn command(
     let Some(word) = word_named(name.as_slice()) else {
         return Err(bad_command(place));
     };
-    if is_late(word, before) {
-        return Err(left_out(place));
+    let (next, found) = by_word(alloc, sexps, before, word, place, at)?;
+    match found {
+        Found::One(step) => steps.push(step)?,
+        Found::Assumed(first) => add_assumed(place, sexps, first, steps)?,
     }
-    let command = by_word(alloc, sexps, before.logic, word, place, at)?;
-    Ok((after_word(word, before), command))
+    Ok(next)
 }
 
-// Whether such a command stands behind `check-sat`, where it may not.
-fn is_late(word: Word, before: Before) -> bool
-    ensures { result ≡ (before.checked && not (may_follow (word_of word))) }
-{
-    before.checked && !word.may_follow()
-}
-
-// What a command of this word leaves for the next one.
-fn after_word(word: Word, before: Before) -> Before
-    ensures { before_of result ≡ after_word (word_of word) (before_of before) }
-{
-    match word {
-        Word::SetsLogic => Before {
-            logic: true,
-            ..before
-        },
-        Word::Checks => Before {
-            checked: true,
-            ..before
-        },
-        Word::Exits => Before {
-            ended: true,
-            ..before
-        },
-        _ => before,
-    }
-}
-
-// The command of a word at its arguments.
+// What the command of a word does at its arguments.
 fn by_word(
     alloc: Global,
     sexps: &Sexps,
-    is_set: bool,
+    before: Before,
     word: Word,
     place: Place,
     at: usize,
-) -> Result<Command<'_>, ReadError>
-    ensures { GivesByWord sexps.now is_set word place at result }
+) -> Result<(Before, Found<'_>), ReadError>
+    ensures { GivesByWord sexps.now before word place at result }
 {
     match word {
-        Word::SetsLogic => set_logic(sexps, is_set, place, at),
-        Word::Informs => Ok(Command::Ineffective(place)),
-        Word::GetsModel => alone(sexps, place, at, Command::Ineffective(place)),
-        Word::Declares => declare_const(sexps, place, at),
-        Word::DeclaresFunction => declare_fun(sexps, place, at),
-        Word::Defines => define_fun(alloc, sexps, place, at),
-        Word::Asserts => assert_term(sexps, place, at),
-        Word::Checks => alone(sexps, place, at, Command::Check(place)),
-        Word::Exits => alone(sexps, place, at, Command::Ineffective(place)),
+        Word::SetsLogic => one(
+            Before {
+                logic: true,
+                ..before
+            },
+            set_logic(sexps, before.logic, place, at),
+        ),
+        Word::Informs => one(before, Ok(Command::Ineffective(place))),
+        Word::Echoes => one(before, echo(sexps, place, at)),
+        Word::GetsModel => one(before, alone(sexps, place, at, Command::Ineffective(place))),
+        Word::GetsValues => values(sexps, before, place, at),
+        Word::Declares => one(before, declare_const(sexps, place, at)),
+        Word::DeclaresFunction => one(before, declare_fun(sexps, place, at)),
+        Word::Defines => one(before, define_fun(alloc, sexps, place, at)),
+        Word::Asserts => one(before, assert_term(sexps, place, at)),
+        Word::Checks => check(sexps, before, place, at),
+        Word::Exits => one(
+            Before {
+                ended: true,
+                ..before
+            },
+            alone(sexps, place, at, Command::Ineffective(place)),
+        ),
+        Word::Pushes => push(sexps, before, place, at),
+        Word::Pops => pop(sexps, before, place, at),
+        Word::Assumes => assume(sexps, before, place, at),
+        Word::Drops => reset(
+            sexps,
+            Before {
+                levels: 0,
+                ..before
+            },
+            place,
+            at,
+        ),
+        Word::Restarts => reset(
+            sexps,
+            Before {
+                logic: false,
+                levels: 0,
+                ..before
+            },
+            place,
+            at,
+        ),
         Word::StaysOut => Err(left_out(place)),
+    }
+}
+
+// One command, with what comes before the next one.
+fn one<'a>(
+    after: Before,
+    command: Result<Command<'a>, ReadError>,
+) -> Result<(Before, Found<'a>), ReadError>
+    ensures { GivesOne after command.entry result }
+{
+    match command {
+        Ok(command) => Ok((after, Found::One(Step::Command(command)))),
+        Err(error) => Err(error),
     }
 }
 
@@ -162,7 +177,7 @@ fn alone<'a>(
     }
 }
 
-fn bad_command(place: Place) -> ReadError
+pub(crate) fn bad_command(place: Place) -> ReadError
     ensures { result ≡ ReadError.Fault (record { at = place; kind = FaultKind.BadCommand }) }
 {
     ReadError::at(place, FaultKind::BadCommand)
@@ -172,6 +187,25 @@ fn left_out(place: Place) -> ReadError
     ensures { result ≡ ReadError.Fault (record { at = place; kind = FaultKind.LeftOut }) }
 {
     ReadError::at(place, FaultKind::LeftOut)
+}
+
+pub(crate) fn too_many(place: Place, what: Limit) -> ReadError
+    ensures { result ≡ ReadError.Fault (record { at = place; kind = FaultKind.TooMany what }) }
+{
+    ReadError::at(place, FaultKind::TooMany(what))
+}
+
+// A text.
+fn echo(sexps: &Sexps, place: Place, at: usize) -> Result<Command<'_>, ReadError>
+    ensures { GivesAfterAny sexps.now place (echo_said sexps.now place at) result }
+{
+    let Some(at) = string(sexps, at) else {
+        return Err(bad_command(place));
+    };
+    if !ends(sexps, at) {
+        return Err(bad_command(place));
+    }
+    Ok(Command::Ineffective(place))
 }
 
 // A logic of those that are read, where none was set before.

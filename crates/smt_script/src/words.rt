@@ -1,9 +1,9 @@
 // The words that begin commands, and those of logics and sorts.
 ghost use Rattle.std.specs.Prelude.{◌≡◌, Option, option_map};
 ghost use Rattle.script_model.specs.Reading.{found};
-ghost use Rattle.smt_script.specs.Commands.{command_words, is_logic, known_sort, logics, may_follow, sort_words};
+ghost use Rattle.smt_script.specs.Commands.{command_words, is_logic, known_sort, logics, sort_words};
 ghost use Rattle.smt_script.specs.Views.{form_of, word_of};
-ghost use Rattle.smt_script.specs.Words.{out_words};
+ghost use Rattle.smt_script.specs.Words.{assertion_words, level_words, out_words};
 
 use crate::Sort;
 
@@ -11,25 +11,26 @@ use crate::Sort;
 #[derive(Clone, Copy, Debug)]
 pub(crate) enum Word {
     SetsLogic,
+    /// Of any form, and without effect.
     Informs,
+    Echoes,
     GetsModel,
+    GetsValues,
     Declares,
     DeclaresFunction,
     Defines,
     Asserts,
     Checks,
     Exits,
+    Pushes,
+    Pops,
+    Assumes,
+    /// Drops what is in force.
+    Drops,
+    /// Drops what is in force, and the logic.
+    Restarts,
     /// Known, and left out of the language in every form.
     StaysOut,
-}
-
-impl Word {
-    /// Whether such a command may follow `check-sat`.
-    pub(crate) fn may_follow(self) -> bool
-        ensures { result ≡ may_follow (word_of self) }
-    {
-        matches!(self, Word::Informs | Word::GetsModel | Word::Exits)
-    }
 }
 
 /// What stands in the place of a sort.
@@ -56,6 +57,44 @@ pub(crate) fn word_named(name: &[u8]) -> Option<Word>
     if name == b"get-model".as_slice() {
         return Some(Word::GetsModel);
     }
+    word_of_levels(name)
+}
+
+// The same of the words that tell, ask and change what is in force.
+fn word_of_levels(name: &[u8]) -> Option<Word>
+    ensures { option_map word_of result ≡ found name.now level_words }
+{
+    if name == b"get-info".as_slice() {
+        return Some(Word::Informs);
+    }
+    if name == b"echo".as_slice() {
+        return Some(Word::Echoes);
+    }
+    if name == b"get-value".as_slice() {
+        return Some(Word::GetsValues);
+    }
+    if name == b"push".as_slice() {
+        return Some(Word::Pushes);
+    }
+    if name == b"pop".as_slice() {
+        return Some(Word::Pops);
+    }
+    if name == b"check-sat-assuming".as_slice() {
+        return Some(Word::Assumes);
+    }
+    if name == b"reset-assertions".as_slice() {
+        return Some(Word::Drops);
+    }
+    if name == b"reset".as_slice() {
+        return Some(Word::Restarts);
+    }
+    word_of_assertions(name)
+}
+
+// The same of the words that declare, define, assert and check.
+fn word_of_assertions(name: &[u8]) -> Option<Word>
+    ensures { option_map word_of result ≡ found name.now assertion_words }
+{
     if name == b"declare-const".as_slice() {
         return Some(Word::Declares);
     }
@@ -81,22 +120,10 @@ pub(crate) fn word_named(name: &[u8]) -> Option<Word>
 fn word_left_out(name: &[u8]) -> Option<Word>
     ensures { option_map word_of result ≡ found name.now out_words }
 {
-    if name == b"push".as_slice() {
-        return Some(Word::StaysOut);
-    }
-    if name == b"pop".as_slice() {
-        return Some(Word::StaysOut);
-    }
-    if name == b"get-value".as_slice() {
-        return Some(Word::StaysOut);
-    }
     if name == b"get-unsat-core".as_slice() {
         return Some(Word::StaysOut);
     }
     if name == b"get-proof".as_slice() {
-        return Some(Word::StaysOut);
-    }
-    if name == b"check-sat-assuming".as_slice() {
         return Some(Word::StaysOut);
     }
     if name == b"define-const".as_slice() {

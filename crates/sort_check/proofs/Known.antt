@@ -16,7 +16,7 @@ same true b f g = sym (f refl)
 same false true f g = g refl
 same false false f g = refl
 
-bytes_symm : (x y : List ℕ) → bytes_eq x y ≡ bytes_eq y x
+pub bytes_symm : (x y : List ℕ) → bytes_eq x y ≡ bytes_eq y x
 bytes_symm x y = same (bytes_eq x y) (bytes_eq y x) (λ h. (bytes_eq-Decides y x).1 (sym ((bytes_eq-Decides x y).0 h))) (λ h. (bytes_eq-Decides x y).1 (sym ((bytes_eq-Decides y x).0 h)))
 
 known_more : (a b : Bool) (n : Named Sorted) (o : Option (Named Sorted)) → (a || (b || is_some o)) ≡ (b || is_some (cond a (Some n) o))

@@ -1,6 +1,13 @@
 pub mod Bindings
 pub mod Calls
+pub mod Checks
 pub mod Failures
+pub mod Following
+pub mod Held
 pub mod Known
+pub mod Lengths
 pub mod Lists
+pub mod Marks
 pub mod Nearest
+pub mod Only
+pub mod Scopes

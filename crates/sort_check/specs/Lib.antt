@@ -1,7 +1,10 @@
 pub mod Calls
 pub mod Forms
+pub mod Levels
 pub mod Locals
 pub mod Sorts
+pub mod Scopes
 pub mod Steps
+pub mod Single
 pub mod SortAnswers
 pub mod Views

@@ -7,10 +7,11 @@ use Rattle.script_fault.specs.declared.fault.ReadError.{ReadError}
 use Rattle.script_fault.specs.declared.fault.ScriptFault.{ScriptFault}
 use Rattle.script_fault.specs.declared.limit.Limit.TheVariants.{Axes}
 use Rattle.smt_sexp.specs.TextAnswers.{fault_at}
-use Rattle.smt_script.specs.Views.{commands_in}
-use Rattle.smt_script.specs.declared.command.Script.{Script}
-use Rattle.sort_check.specs.Sorts.{SortFault, unknown_symbol, redeclared, sort_mismatch, left_out_form, too_many_axes, Finding, sort_fault}
-use Rattle.sort_check.specs.declared.typed.Typed.{Typed}
+use Rattle.smt_script.specs.Views.{steps_in}
+use Rattle.smt_script.specs.declared.command.Course.{Course}
+use Rattle.sort_check.specs.Levels.{course_fault}
+use Rattle.sort_check.specs.Sorts.{SortFault, unknown_symbol, redeclared, sort_mismatch, left_out_form, too_many_axes, Finding}
+use Rattle.sort_check.specs.declared.typed.TypedCourse.{TypedCourse}
 
 abbrev pub sort_kind : SortFault → FaultKind
 sort_kind (unknown_symbol name) = UnknownSymbol name
@@ -24,7 +25,7 @@ abbrev pub finding_fault : Finding → Option ScriptFault
 finding_fault (Some (at, x)) = Some (fault_at at (sort_kind x))
 finding_fault None = None
 
--- the same commands, which have no fault, or their first one
-abbrev pub IsCheckAnswer : Script → Result Typed ReadError → Type 0
-IsCheckAnswer script (Ok typed) = (typed.script ≡ script) × (sort_fault (commands_in script) ≡ None)
-IsCheckAnswer script (Err e) = IsFaultOrMemory e (finding_fault (sort_fault (commands_in script)))
+-- the same steps, which have no fault, or their first one
+abbrev pub IsCheckAnswer : Course → Result TypedCourse ReadError → Type 0
+IsCheckAnswer course (Ok typed) = (typed.course ≡ course) × (course_fault (steps_in course) ≡ None)
+IsCheckAnswer course (Err e) = IsFaultOrMemory e (finding_fault (course_fault (steps_in course)))

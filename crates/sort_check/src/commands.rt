@@ -1,36 +1,98 @@
-// The sorts and names of commands, one after the other.
+// The sorts and names of what a script does, one step after the other.
 ghost use Rattle.std.specs.Prelude.{◌≡◌, ◌≤◌, [], map, OnOk};
 ghost use Rattle.script_model.specs.Sexp as sexp;
 ghost use Rattle.script_model.specs.Reading.{Names};
-ghost use Rattle.smt_script.specs.Views.{command_of, commands_in, parameter_of};
+ghost use Rattle.smt_script.specs.Views.{command_of, parameter_of, step_of, steps_in};
 ghost use Rattle.smt_sexp.specs.Arena.{expression_at};
 ghost use Rattle.smt_sexp.specs.Views.{place_of};
-ghost use Rattle.sort_check.specs.Calls.{FindsAmong, FindsWithin, StepsFrom, wanted_sort};
-ghost use Rattle.sort_check.specs.Sorts.{Sorted, known, new_name, sort_fault, taken_parameter};
+ghost use Rattle.sort_check.specs.Calls.{FindsAmong, FindsWithin, StepsFrom, faults_asked, one_command, wanted_sort};
+ghost use Rattle.sort_check.specs.Levels.{course_fault};
+ghost use Rattle.sort_check.specs.Scopes.{FollowsStep};
+ghost use Rattle.sort_check.specs.Sorts.{Sorted, known, new_name, taken_parameter};
 ghost use Rattle.sort_check.specs.Views.{Knows};
 ghost use Rattle.sort_check.specs.Steps.{FindsFault};
 
-use crate::expressions::expression;
+use crate::expressions::{arguments, expression};
 use crate::locals::{Level, Locals};
 use crate::names::{Known, is_operator, is_same, is_taken};
+use crate::scope::{Scope, stays};
 use crate::stop::{Fault, Stop};
 use script_fault::{MOST_AXES, Name, Place};
-use smt_script::{Command, Parameter, Script, Sort};
+use smt_script::{Command, Course, Parameter, Sort, Step};
 use smt_sexp::{Seen, Sexps};
 use std::alloc::Global;
 use std::collections::HashMap;
 
-/// The first fault of a script's names and sorts.
-pub(crate) fn sorts<'p, 'a>(alloc: Global, script: &'p Script<'a>) -> Result<(), Stop<'a>>
-    ensures { FindsFault result (sort_fault (commands_in script.now)) }
+/// The first fault of the names and sorts of a script.
+pub(crate) fn sorts<'p, 'a>(alloc: Global, course: &'p Course<'a>) -> Result<(), Stop<'a>>
+    ensures { FindsFault result (course_fault (steps_in course.now)) }
 {
-    let mut top: HashMap<&'a [u8], Known<'p, 'a>> = HashMap::new(alloc);
-    let mut count = 0;
-    let mut rest = script.commands.as_slice();
-    while let [command, later @ ..] = rest {
-        count = step(alloc, script.sexps, &mut top, count, command)?;
+    let mut scope = Scope::new(alloc);
+    let mut rest = course.steps.as_slice();
+    while let [first, later @ ..] = rest {
+        follow(alloc, course.sexps, &mut scope, first)?;
         rest = later;
     }
+    Ok(())
+}
+
+// A step from what is in force before it to what is in force behind it.
+fn follow<'p, 'a>(
+    alloc: Global,
+    sexps: &'a Sexps,
+    scope: &mut Scope<'p, 'a>,
+    first: &'p Step<'a>,
+) -> Result<(), Stop<'a>>
+    requires { scope.old.constants ≤ 1024 }
+    ensures { FollowsStep sexps.now scope.old scope.new (step_of sexps.now first.now) result }
+{
+    match first {
+        Step::Command(command) => add(alloc, sexps, scope, command),
+        Step::Push(_, count) => {
+            scope.open(*count)?;
+            Ok(())
+        }
+        Step::Pop(_, count) => {
+            scope.close(*count);
+            Ok(())
+        }
+        Step::Reset(_) => {
+            *scope = Scope::new(alloc);
+            Ok(())
+        }
+        Step::Values(_, terms) => asked(alloc, sexps, &scope.top, *terms),
+    }
+}
+
+// A command, which stays in force where it is a declaration, a definition or an assertion.
+fn add<'p, 'a>(
+    alloc: Global,
+    sexps: &'a Sexps,
+    scope: &mut Scope<'p, 'a>,
+    command: &'p Command<'a>,
+) -> Result<(), Stop<'a>>
+    requires { scope.old.constants ≤ 1024 }
+    ensures { FollowsStep sexps.now scope.old scope.new (one_command sexps.now command.now) result }
+{
+    scope.constants = step(alloc, sexps, &mut scope.top, scope.constants, command)?;
+    if !stays(command) {
+        return Ok(());
+    }
+    scope.force.push(command)?;
+    Ok(())
+}
+
+// The fault of terms that are asked for, which stand from a place on.
+fn asked<'p, 'a>(
+    alloc: Global,
+    sexps: &'a Sexps,
+    top: &HashMap<&'a [u8], Known<'p, 'a>>,
+    terms: usize,
+) -> Result<(), Stop<'a>>
+    ensures { FindsAmong top.now (faults_asked sexps.now terms) result }
+{
+    let locals = Locals::new(alloc);
+    arguments(alloc, sexps, top, &locals, terms)?;
     Ok(())
 }
 

@@ -91,7 +91,7 @@ fn applied<'p, 'a>(
 
 // The sorts of the expressions from a place on.
 #[cycle(expression)]
-fn arguments<'p, 'a>(
+pub(crate) fn arguments<'p, 'a>(
     alloc: Global,
     sexps: &'a Sexps,
     top: &HashMap<&'a [u8], Known<'p, 'a>>,

@@ -1,6 +1,7 @@
 //! The sorts and names of a script.
 //!
-//! `check` answers the same script, all of whose names and sorts fit, or its first fault. No term is built here.
+//! `check` answers the same script, all of whose names and sorts fit, or its first fault; `single` what is in force at its
+//! only check. No term is built here.
 #![tactic(auto)]
 
 ghost use Rattle.sort_check.specs.SortAnswers.{IsCheckAnswer};
@@ -11,23 +12,26 @@ mod fault;
 mod forms;
 mod locals;
 mod names;
+mod one_check;
 mod operators;
+mod scope;
 mod stop;
 mod typed;
 
 pub use forms::{behind, binding, ends, let_form};
+pub use one_check::single;
 pub use operators::{Operator, operator_named};
 use script_fault::ReadError;
-use smt_script::Script;
+use smt_script::Course;
 use std::alloc::Global;
-pub use typed::Typed;
+pub use typed::{Typed, TypedCourse};
 
 /// The same script, or the first fault of its names and sorts.
-pub fn check<'a>(alloc: Global, script: Script<'a>) -> Result<Typed<'a>, ReadError>
-    ensures { IsCheckAnswer script.entry result }
+pub fn check<'a>(alloc: Global, course: Course<'a>) -> Result<TypedCourse<'a>, ReadError>
+    ensures { IsCheckAnswer course.entry result }
 {
-    match commands::sorts(alloc, &script) {
-        Ok(()) => Ok(Typed { script }),
+    match commands::sorts(alloc, &course) {
+        Ok(()) => Ok(TypedCourse { course }),
         Err(stop) => Err(fault::owned(alloc, stop)),
     }
 }

@@ -10,7 +10,7 @@ use Rattle.dyadic.specs.Views.{fraction_of_frac}
 use Rattle.dyadic.specs.declared.frac.Frac.{Frac}
 use Rattle.script_model.specs.Sexp.{Place}
 use Rattle.smt_sexp.specs.Views.{place_of}
-use Rattle.script_fault.specs.declared.limit.Limit.TheVariants.{Bytes, Depth, Axes, Size, Nodes, Atoms, Forms}
+use Rattle.script_fault.specs.declared.limit.Limit.TheVariants.{Bytes, Depth, Axes, Size, Nodes, Atoms, Forms, Levels, Checks}
 use Rattle.script_fault.specs.declared.place.Place as code
 use Rattle.smt_script.specs.Views.{sort_of}
 use Rattle.smt_script.specs.declared.command.Sort as code_sort
@@ -70,6 +70,8 @@ stopped_on claim w f (stop.TooMany Forms) h = ap (goes_on f) h
 stopped_on claim w f (stop.TooMany Bytes) h = h
 stopped_on claim w f (stop.TooMany Depth) h = h
 stopped_on claim w f (stop.TooMany Axes) h = h
+stopped_on claim w f (stop.TooMany Levels) h = h
+stopped_on claim w f (stop.TooMany Checks) h = h
 stopped_on claim w f stop.Memory h = tt
 
 pub emits_then : {X Y : Type 0} (P : X → Type 0) (Q : Y → Type 0) (m m1 m2 : BuilderModel) (es fs : List Event) (k : X) (r : Result Y Stop) → Emits m m1 es (Ok k) P → Emits m1 m2 fs r Q → Emits m m2 (es ++ fs) r Q

@@ -14,7 +14,7 @@ use Rattle.term_build.specs.Built.{BuilderModel, stand_of}
 use Rattle.term_build.specs.declared.stop.Fault.{Fault}
 use Rattle.term_build.specs.declared.stop.Fault.TheVariants.{NumberTooWide, DivisorNotConstant, ZeroDivisor, IllFormed}
 use Rattle.script_fault.specs.declared.limit.Limit.{Limit}
-use Rattle.script_fault.specs.declared.limit.Limit.TheVariants.{Bytes, Depth, Axes, Size, Nodes, Atoms, Forms}
+use Rattle.script_fault.specs.declared.limit.Limit.TheVariants.{Bytes, Depth, Axes, Size, Nodes, Atoms, Forms, Levels, Checks}
 use Rattle.term_build.specs.declared.stop.Stop.{Stop}
 use Rattle.term_build.specs.declared.stop.Stop.TheVariants as stop
 
@@ -33,6 +33,8 @@ IsBeyond claim w Forms = w ≡ stops claim too_many_forms
 IsBeyond claim w Bytes = ⊥
 IsBeyond claim w Depth = ⊥
 IsBeyond claim w Axes = ⊥
+IsBeyond claim w Levels = ⊥
+IsBeyond claim w Checks = ⊥
 
 -- the walk stops so, within the assertion at this place
 abbrev pub StopsAs : Place → Walked → Stop → Type 0

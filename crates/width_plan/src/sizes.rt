@@ -14,10 +14,7 @@ fn end_size(end: Ext) -> Ext
     ensures { ext_of result ≡ end_size (ext_of end) }
 {
     match end {
-        Ext::Fin(number) => Ext::Fin(Dy {
-            negative: false,
-            size: number.size,
-        }),
+        Ext::Fin(number) => Ext::Fin(number.abs()),
         Ext::NegInf => Ext::PosInf,
         Ext::PosInf => Ext::PosInf,
     }

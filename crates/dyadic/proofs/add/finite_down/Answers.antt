@@ -1,7 +1,7 @@
 use Rattle.std.proofs.Common.{◌^◌, subst, lit<, ◌+ℤ◌}
 use Rattle.dyadic.specs.Fraction.{sum_of}
 use Rattle.dyadic.specs.Rounding.{exact}
-use Rattle.dyadic.specs.Views.{units_of, dyadic_of}
+use Rattle.dyadic.specs.Views.{parts_units, parts_dyadic}
 use Rattle.dyadic.specs.InUnits.{IsDownAt}
 use Rattle.dyadic.proofs.Bridge.{down_over, sum_over}
 use Rattle.dyadic.proofs.add.finite_down.Goals as goal
@@ -11,5 +11,5 @@ returns c =
     let a = c.args.a in
     let b = c.args.b in
     let total = c.total_of-total.ensures.total in
-    down_over (sum_of (exact (dyadic_of a)) (exact (dyadic_of b))) (units_of a +ℤ units_of b) 1 (2 ^ 240) c.down.result (sum_over a b)
+    down_over (sum_of (exact (parts_dyadic a)) (exact (parts_dyadic b))) (parts_units a +ℤ parts_units b) 1 (2 ^ 240) c.down.result (sum_over a b)
     (subst (λ z. IsDownAt z 1 c.down.result) total.value (c.down.ensures total.size 1 (lit< tt) (c.whole_bracket.ensures.tight total.size total.part)))

@@ -9,5 +9,6 @@ invariant_of-size c = record { spelled = one_spelling c.power_shift-shift.result
 
 pub returns : goal.returns
 returns c =
-    power_view c.args.exponent c.power_shift-shift.result
+    ap (λ z. record { units = z }) c.signed.ensures
+    ∙ power_view c.args.exponent c.power_shift-shift.result
     (c.power_shift-shift.ensures.value ∙ ap (λ z. z +ℤ pos 120) (to_z-of_z w32 c.args.exponent c.ranges.exponent))

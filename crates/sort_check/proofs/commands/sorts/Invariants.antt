@@ -1,13 +1,13 @@
-use Rattle.std.proofs.Common.{◌≡◌, ◌≤◌, map, length}
-use Rattle.script_model.specs.Reading.{Names}
-use Rattle.smt_script.specs.Views.{command_of, commands_in}
-use Rattle.sort_check.specs.Sorts.{Sorted, sort_fault, sort_fault_from}
-use Rattle.sort_check.specs.Views.{Knows}
+use Rattle.std.proofs.Common.{◌≡◌, map, length}
+use Rattle.smt_script.specs.Levels.{Levels}
+use Rattle.smt_script.specs.Views.{step_of, steps_in}
+use Rattle.sort_check.specs.Levels.{course_fault, course_fault_from}
+use Rattle.sort_check.specs.Scopes.{InForce}
 use Rattle.sort_check.proofs.commands.sorts.Given as goal
 
 abbrev pub invariant-loop-rest : goal.invariant-loop-rest
-invariant-loop-rest l = (l.count ≤ 1024) × (names : Names Sorted) × Knows l.top names ×
-    (sort_fault (commands_in l.script) ≡ sort_fault_from l.count names (map (command_of l.script.sexps.now) l.rest))
+invariant-loop-rest l = (open_levels : Levels) × InForce l.course.sexps.now l.scope open_levels ×
+    (course_fault (steps_in l.course) ≡ course_fault_from open_levels (map (step_of l.course.sexps.now) l.rest))
 
 abbrev pub decreases-loop-rest : goal.decreases-loop-rest
 decreases-loop-rest l = length l.rest
