@@ -32,20 +32,6 @@ fn conjunctions_up_to_two(problem: &Problem, numbers: &[u32]) -> u32 {
     count
 }
 
-// The disjunctions with two children or more that are conjunctions.
-fn disjunctions(alloc: Global, problem: &Problem) -> Result<Vec<u32, Global>, AllocError> {
-    let forms = problem.forms();
-    let mut numbers = Vec::new(alloc);
-    for n in 0..forms.len() {
-        if let FormNode::Or(children) = forms.node(n as u32) {
-            if conjunctions_up_to_two(problem, children) == 2 {
-                numbers.push(n as u32)?;
-            }
-        }
-    }
-    Ok(numbers)
-}
-
 // The atoms that a node reaches through conjunctions alone.
 fn conjuncts(alloc: Global, problem: &Problem, n: u32) -> Result<Vec<u32, Global>, AllocError> {
     let forms = problem.forms();
@@ -69,6 +55,53 @@ fn conjuncts(alloc: Global, problem: &Problem, n: u32) -> Result<Vec<u32, Global
         }
     }
     Ok(atoms)
+}
+
+// Notes that a disjunction has the atom; whether that was noted already.
+fn note(last: &mut [Option<u32>], j: u32, n: u32) -> bool {
+    let j = j as usize;
+    if j >= last.len() {
+        return false;
+    }
+    let is_noted = last[j] == Some(n);
+    last[j] = Some(n);
+    is_noted
+}
+
+// Whether an atom stands in two of the children of disjunction n. `last` has for each atom the last disjunction that has it.
+fn share_an_atom(
+    alloc: Global,
+    problem: &Problem,
+    n: u32,
+    children: &[u32],
+    last: &mut [Option<u32>],
+) -> Result<bool, AllocError> {
+    for child in children {
+        let atoms = conjuncts(alloc, problem, *child)?;
+        for j in &atoms {
+            if note(last, *j, n) {
+                return Ok(true);
+            }
+        }
+    }
+    Ok(false)
+}
+
+// The disjunctions of two conjunctions or more in which two children have an atom in common.
+fn disjunctions(alloc: Global, problem: &Problem) -> Result<Vec<u32, Global>, AllocError> {
+    let forms = problem.forms();
+    let mut last = vec![in alloc; None; problem.atoms().len()]?;
+    let mut numbers = Vec::new(alloc);
+    for n in 0..forms.len() {
+        if let FormNode::Or(children) = forms.node(n as u32) {
+            if conjunctions_up_to_two(problem, children) == 2
+                && share_an_atom(alloc, problem, n as u32, children, &mut last)?
+            {
+                numbers.push(n as u32)?;
+            }
+        }
+    }
+    Ok(numbers)
 }
 
 impl Common {

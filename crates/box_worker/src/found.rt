@@ -84,7 +84,7 @@ fn found_by(
     requires root { LiesInRoot (problem_of problem.now) patch.now.kept.first.space }
     ensures { IfOk result (λ o. IfSome o (IsFoundIn patch.now)) }
 {
-    searches.come_to_box(problem.axes().len());
+    searches.come_to_box(problem);
     for _ in 0..MOST_SEARCHES {
         let Some(start) = searches.next() else {
             return Ok(None);

@@ -11,4 +11,4 @@ pub use lists::{add, at, set, size};
 pub use near::{
     Span, approximate, multiplier, near_fraction, number, span_of_domain, span_of_interval,
 };
-pub use sweep::{coefficients, value_at};
+pub use sweep::{Adjoints, coefficients, value_at};

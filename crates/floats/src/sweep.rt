@@ -1,19 +1,53 @@
-// The coefficients of an atom's term at the centre, by one sweep down over its nodes.
+// The coefficients of terms at a point, by one sweep down over the nodes of each.
 use crate::lists::{add, at};
 use poly_graph::{Graph, Node};
+use std::alloc::{AllocError, Global};
+
+/// For each node the weight that it hands down to its children, and by bits, 64 a word, which nodes are still to do so.
+/// Between sweeps there are none.
+#[derive(Drop)]
+pub struct Adjoints {
+    weights: Vec<f64, Global>,
+    due: Vec<u64, Global>,
+}
+
+impl Adjoints {
+    /// No weights, for the nodes of the graph.
+    pub fn of(alloc: Global, graph: &Graph) -> Result<Adjoints, AllocError> {
+        Ok(Adjoints {
+            weights: vec![in alloc; 0.0; graph.len()]?,
+            due: vec![in alloc; 0; graph.len() / 64 + 1]?,
+        })
+    }
+
+    // Adds to the weight of a node, which then is due.
+    fn add(&mut self, n: u32, weight: f64) {
+        let word = n as usize / 64;
+        if word < self.due.len() {
+            self.due[word] |= 1 << (n % 64);
+        }
+        add(&mut self.weights, n as usize, weight);
+    }
+
+    // The last node among those of this word that are due, and its weight, which is taken from it.
+    fn take(&mut self, word: usize) -> Option<(usize, f64)> {
+        if word >= self.due.len() || self.due[word] == 0 {
+            return None;
+        }
+        let bit = 63_u32.saturating_sub(self.due[word].leading_zeros());
+        self.due[word] ^= 1_u64.wrapping_shl(bit);
+        let n = word.saturating_mul(64).saturating_add(bit as usize);
+        let weight = at(&self.weights, n);
+        if n < self.weights.len() {
+            self.weights[n] = 0.0;
+        }
+        Some((n, weight))
+    }
+}
 
 /// The value of a node, or 0 where there is none.
 pub fn value_at(values: &[f64], n: u32) -> f64 {
     at(values, n as usize)
-}
-
-// Takes the entry away.
-fn take(xs: &mut [f64], n: usize) -> f64 {
-    let x = at(xs, n);
-    if n < xs.len() {
-        xs[n] = 0.0;
-    }
-    x
 }
 
 // The column of a node.
@@ -21,13 +55,13 @@ fn column(of_node: &[Option<usize>], n: usize) -> Option<usize> {
     if n < of_node.len() { of_node[n] } else { None }
 }
 
-// Hands the adjoint of a node to its children, and its own part to the row.
+// Hands the weight of a node to its children, and its own part to the row.
 fn hand_down(
     node: Node,
     weight: f64,
     own: Option<usize>,
     values: &[f64],
-    adjoints: &mut [f64],
+    adjoints: &mut Adjoints,
     row: &mut [f64],
 ) {
     if let Some(c) = own {
@@ -36,40 +70,40 @@ fn hand_down(
     match node {
         Node::Const(_) => {}
         Node::Var(axis) => add(row, axis as usize, weight),
-        Node::Neg(a) => add(adjoints, a as usize, -weight),
+        Node::Neg(a) => adjoints.add(a, -weight),
         Node::Add(a, b) => {
-            add(adjoints, a as usize, weight);
-            add(adjoints, b as usize, weight);
+            adjoints.add(a, weight);
+            adjoints.add(b, weight);
         }
         Node::Mul(a, b) => {
-            add(adjoints, a as usize, weight * value_at(values, b));
-            add(adjoints, b as usize, weight * value_at(values, a));
+            adjoints.add(a, weight * value_at(values, b));
+            adjoints.add(b, weight * value_at(values, a));
         }
-        Node::Sq(a) => add(adjoints, a as usize, 2.0 * weight * value_at(values, a)),
+        Node::Sq(a) => adjoints.add(a, 2.0 * weight * value_at(values, a)),
     }
 }
 
-/// Puts the coefficients of the term into the row, from adjoints that are all 0, and are so again afterwards.
+/// Adds the coefficients of the term to the row: of a node that has a column, at that, and of each axis.
 pub fn coefficients(
     graph: &Graph,
     root: u32,
     values: &[f64],
     of_node: &[Option<usize>],
-    adjoints: &mut [f64],
+    adjoints: &mut Adjoints,
     row: &mut [f64],
 ) {
-    add(adjoints, root as usize, 1.0);
-    let count = if (root as usize) < graph.len() {
-        root as usize + 1
-    } else {
-        0
-    };
-    for above in 0..count {
-        let n = count - 1 - above;
-        let weight = take(adjoints, n);
-        if weight != 0.0 {
-            let own = column(of_node, n);
-            hand_down(graph.node(n as u32), weight, own, values, adjoints, row);
+    adjoints.add(root, 1.0);
+    let words = root as usize / 64 + 1;
+    for above in 0..words {
+        let word = words - 1 - above;
+        for _ in 0..64 {
+            let Some((n, weight)) = adjoints.take(word) else {
+                break;
+            };
+            if n < graph.len() && weight != 0.0 {
+                let own = column(of_node, n);
+                hand_down(graph.node(n as u32), weight, own, values, adjoints, row);
+            }
         }
     }
 }

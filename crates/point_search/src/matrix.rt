@@ -69,17 +69,22 @@ fn copy_row(rows: &[Vec<f64, Global>], i: usize, into: &mut [f64]) {
     }
 }
 
+// Adds so many times a list to a row, from a place on.
+fn add_multiple_from(row: &mut [f64], from: usize, by: f64, other: &[f64]) {
+    for k in from..row.len() {
+        row[k] += by * at(other, k);
+    }
+}
+
 // Clears column i in the rows below row i, whose copy is the line; the right side follows.
 fn clear_below(rows: &mut [Vec<f64, Global>], right: &mut [f64], i: usize, line: &[f64]) {
     let own = at(right, i);
     let pivot = at(line, i);
-    for r in 0..rows.len() {
-        if r > i {
-            let by = -(at(&rows[r], i) / pivot);
-            if by != 0.0 {
-                add_multiple(&mut rows[r], by, line);
-                add(right, r, by * own);
-            }
+    for r in i.saturating_add(1)..rows.len() {
+        let by = -(at(&rows[r], i) / pivot);
+        if by != 0.0 {
+            add_multiple_from(&mut rows[r], i, by, line);
+            add(right, r, by * own);
         }
     }
 }
@@ -99,10 +104,8 @@ fn triangulate(rows: &mut [Vec<f64, Global>], right: &mut [f64], line: &mut [f64
 // The sum of the products of a row's entries after place i.
 fn product_after(row: &[f64], xs: &[f64], i: usize) -> f64 {
     let mut total = 0.0;
-    for k in 0..row.len() {
-        if k > i {
-            total += row[k] * at(xs, k);
-        }
+    for k in i.saturating_add(1)..row.len() {
+        total += row[k] * at(xs, k);
     }
     total
 }

@@ -1,8 +1,8 @@
 // A step of Levenberg and Marquardt on what is missed.
 use crate::bounds::Bounds;
-use crate::matrix::{Matrix, add_entry, add_multiple, add_to_row, entry, solve, zeros};
+use crate::matrix::{Matrix, add_entry, add_multiple, entry, solve, zeros};
 use crate::stand::Stand;
-use floats::{at, coefficients};
+use floats::{Adjoints, at, coefficients};
 use std::alloc::{AllocError, Global};
 
 // The normal equations of the linear least squares at a point.
@@ -12,9 +12,14 @@ struct Equations {
     right: Vec<f64, Global>,
 }
 
-// Adds the coefficients of an atom's term at a point to a row of zeros, by adjoints that are all 0 and are so again
-// afterwards.
-fn put_gradient(bounds: &Bounds, values: &[f64], j: usize, adjoints: &mut [f64], row: &mut [f64]) {
+// Adds the coefficients of an atom's term at a point to a row of zeros.
+fn put_gradient(
+    bounds: &Bounds,
+    values: &[f64],
+    j: usize,
+    adjoints: &mut Adjoints,
+    row: &mut [f64],
+) {
     let atoms = bounds.problem.atoms();
     if j < atoms.len() {
         coefficients(
@@ -36,7 +41,7 @@ pub fn gradient(
     j: usize,
 ) -> Result<Vec<f64, Global>, AllocError> {
     let mut row = vec![in alloc; 0.0; bounds.sides.len()]?;
-    let mut adjoints = vec![in alloc; 0.0; bounds.problem.graph().len()]?;
+    let mut adjoints = Adjoints::of(alloc, bounds.problem.graph())?;
     put_gradient(bounds, values, j, &mut adjoints, &mut row);
     Ok(row)
 }
@@ -51,15 +56,28 @@ fn stay_within(bounds: &Bounds, x: &[f64], excess: f64, row: &mut [f64]) {
     }
 }
 
+// Where entries are not 0.
+fn places(alloc: Global, row: &[f64]) -> Result<Vec<usize, Global>, AllocError> {
+    let mut places = Vec::new(alloc);
+    for i in 0..row.len() {
+        if row[i] != 0.0 {
+            places.push(i)?;
+        }
+    }
+    Ok(places)
+}
+
 impl Equations {
     // Adds the row of a missed atom.
-    fn add(&mut self, row: &[f64], excess: f64) {
-        for i in 0..row.len() {
-            if row[i] != 0.0 {
-                add_to_row(&mut self.rows, i, row[i], row);
+    fn add(&mut self, alloc: Global, row: &[f64], excess: f64) -> Result<(), AllocError> {
+        let places = places(alloc, row)?;
+        for i in &places {
+            for k in &places {
+                add_entry(&mut self.rows, *i, *k, at(row, *i) * at(row, *k));
             }
         }
         add_multiple(&mut self.right, excess, row);
+        Ok(())
     }
 
     // Makes the matrix positive definite.
@@ -81,14 +99,14 @@ fn hold_near(
     alloc: Global,
     bounds: &Bounds,
     stand: &Stand,
-    adjoints: &mut [f64],
+    adjoints: &mut Adjoints,
     equations: &mut Equations,
 ) -> Result<(), AllocError> {
     for j in 0..stand.aim.atoms.len() {
         if stand.is_near(bounds, j) {
             let mut row = vec![in alloc; 0.0; bounds.sides.len()]?;
             put_gradient(bounds, &stand.values, j, adjoints, &mut row);
-            equations.add(&row, 0.0);
+            equations.add(alloc, &row, 0.0)?;
         }
     }
     Ok(())
@@ -106,12 +124,12 @@ fn equations_of(
         rows: zeros(alloc, count)?,
         right: vec![in alloc; 0.0; count]?,
     };
-    let mut adjoints = vec![in alloc; 0.0; bounds.problem.graph().len()]?;
+    let mut adjoints = Adjoints::of(alloc, bounds.problem.graph())?;
     for (j, excess) in &stand.missed {
         let mut row = vec![in alloc; 0.0; count]?;
         put_gradient(bounds, &stand.values, *j, &mut adjoints, &mut row);
         stay_within(bounds, &stand.x, *excess, &mut row);
-        equations.add(&row, *excess);
+        equations.add(alloc, &row, *excess)?;
     }
     if holds_near {
         hold_near(alloc, bounds, stand, &mut adjoints, &mut equations)?;

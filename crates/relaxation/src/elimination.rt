@@ -1,7 +1,7 @@
 // Elimination over the slopes of marked equations at the centre.
 use crate::columns::values;
 use crate::relaxed::{MOST_ATOMS, Weights, asked, margin_of};
-use floats::{Span, at, coefficients, multiplier, set, size, span_of_domain};
+use floats::{Adjoints, Span, at, coefficients, multiplier, set, size, span_of_domain};
 use ival::{Rows, Space};
 use poly_graph::{Kind, Lits, Mark, Problem};
 use std::alloc::{AllocError, Global};
@@ -114,7 +114,7 @@ fn rows_of(
 ) -> Result<Vec<Vec<f64, Global>, Global>, AllocError> {
     let graph = problem.graph();
     let atoms = problem.atoms();
-    let mut adjoints = vec![in alloc; 0.0; graph.len()]?;
+    let mut adjoints = Adjoints::of(alloc, graph)?;
     let mut rows = Vec::new(alloc);
     for r in 0..equations.len() {
         let mut row = vec![in alloc; 0.0; axes.saturating_add(equations.len())]?;
@@ -319,7 +319,7 @@ impl Elimination {
         Ok(weights)
     }
 
-    /// A combination of several equations that may narrow the axis.
+    /// A combination of equations that may narrow the axis.
     pub fn narrowing(&self, alloc: Global, axis: usize) -> Result<Option<Weights>, AllocError> {
         if axis >= self.solved.len() {
             return Ok(None);
@@ -327,7 +327,7 @@ impl Elimination {
         match self.solved[axis] {
             Some(r) if r < self.rows.len() && self.is_worth(&self.rows[r], axis) => {
                 let weights = self.weights(alloc, &self.rows[r])?;
-                Ok(if weights.len() < 2 {
+                Ok(if weights.is_empty() {
                     None
                 } else {
                     Some(weights)

@@ -1,7 +1,7 @@
 // The linear programme of a box's marked atoms.
 use crate::columns::{Columns, columns_after, span_at, under, values};
 use dyadic::{Dy, two_to_minus};
-use floats::{Span, approximate, at, coefficients, multiplier, span_of_domain};
+use floats::{Adjoints, Span, approximate, at, coefficients, multiplier, span_of_domain};
 use ival::{Domain, Rows, Space};
 use linear_program::{Feasibility, LinearProgram, Optimum, Side};
 use poly_graph::{Atom, Kind, Lits, Mark, Problem};
@@ -200,7 +200,7 @@ fn coefficient_rows(
     columns: &Columns,
 ) -> Result<Vec<Vec<f64, Global>, Global>, AllocError> {
     let graph = problem.graph();
-    let mut adjoints = vec![in alloc; 0.0; graph.len()]?;
+    let mut adjoints = Adjoints::of(alloc, graph)?;
     let mut rows = Vec::new(alloc);
     for root in roots {
         let mut row = vec![in alloc; 0.0; columns.spans.len()]?;
