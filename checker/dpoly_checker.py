@@ -8,8 +8,7 @@ the sources in Rattle, so that two readings of that page can be compared (`tests
 of the program and written there. The words are those of the page, which an auditor keeps beside this file; together they take
 more than an hour. The first half reads a script, the second half checks a certificate and stands on its own.
 
-What it does not do: it is not proved. It reads scripts without levels: to it `push`, `pop`, `reset`, `reset-assertions`,
-`check-sat-assuming`, `get-value`, `get-info`, `echo`, and what follows the check, are left out or bad commands. It is slower than `dpoly-check` and holds the certificate in memory. Where an assertion
+What it does not do: it is not proved. It is slower than `dpoly-check` and holds the certificate in memory. Where an assertion
 exceeds one of the limits Nodes, Atoms and Forms and has another fault of its phase besides, it may name the other one. It does
 not know the fault `TooLong` of a certificate, and `-` does not stand for standard input."""
 import re
@@ -38,7 +37,7 @@ TOKEN = re.compile(r'(?P<blank>[ \t\n\r]+|;[^\n\r]*)|(?P<open>\()|(?P<close>\))|
                    rf'|(?P<symbol>{SIMPLE})|\|(?P<quoted>[^|\\]*)\||(?P<string>"[^"]*(?:""[^"]*)*"(?!"))|(?P<keyword>:{WITHIN}+)')
 RESERVED = {'!', '_', 'as', 'let', 'exists', 'forall', 'match', 'par'}
 WIDEST = 10**36
-# Its kind is symbol, reserved, number, string, keyword or list. `at` is the offset of its first byte.
+# Its kind is symbol, reserved, numeral, decimal, string, keyword or list. `at` is the offset of its first byte.
 Expression = namedtuple('Expression', 'kind value at')
 
 
@@ -64,7 +63,7 @@ def read_expressions(script):
             if len(lists) == 1 and [it[:2] for it in items] == [('symbol', 'exit')]:
                 break
         elif kind == 'number':
-            lists[-1][1].append(Expression(kind, number(value, at), at))
+            lists[-1][1].append(Expression('decimal' if '.' in value else 'numeral', number(value, at), at))
             if re.match(WITHIN, text[end : end + 1]):
                 raise ScriptFault('BadByte', end)
         elif kind != 'blank':
@@ -100,17 +99,23 @@ def name_text(name):
 
 
 # ---------------------------------------------------------------- Commands (phase 3)
-LEFT_OUT = set('push pop get-value get-proof get-unsat-core check-sat-assuming define-sort define-const define-fun-rec '
-               'define-funs-rec declare-datatype declare-datatypes'.split())
-BEFORE_CHECK = {'set-logic', 'declare-fun', 'declare-const', 'define-fun', 'assert', 'check-sat'}
+LEFT_OUT = set('get-proof get-unsat-core define-sort define-const define-fun-rec define-funs-rec declare-datatype '
+               'declare-datatypes'.split())
 # What may follow the word of a command, as a pattern of the letters below.
 COMMANDS = {'set-logic': 's', 'declare-const': 's[sl]', 'declare-fun': 's[le][sl]', 'define-fun': 's[le][sl].', 'assert': '.',
-            'check-sat': '', 'get-model': '', 'exit': '', 'set-info': '.*', 'set-option': '.*'}
+            'check-sat': '', 'check-sat-assuming': '[le]', 'push': 'n', 'pop': 'n', 'reset': '', 'reset-assertions': '',
+            'get-value': 'l', 'get-model': '', 'echo': 't', 'exit': '', 'set-info': '.*', 'set-option': '.*', 'get-info': '.*'}
+LETTERS = {'symbol': 's', 'numeral': 'n', 'string': 't'}
+MOST = 1024  # axes and levels at once, and checks
+# What a command does: its word, its place and its arguments. `push` and `pop` have a number; an assumption is a level, with an
+# `assert` of each literal and a `check-sat`.
+Step = namedtuple('Step', 'word at arguments')
 
 
 def letters(items):
-    """A letter for each expression: s for a symbol, l for a list, e for an empty list, x for anything else."""
-    return ''.join('s' if it.kind == 'symbol' else ('l' if it.value else 'e') if it.kind == 'list' else 'x' for it in items)
+    """A letter for each expression: s for a symbol, l for a list, e for an empty list, n for a numeral, t for a string, x for
+    anything else."""
+    return ''.join(LETTERS.get(it.kind, 'x') if it.kind != 'list' else 'l' if it.value else 'e' for it in items)
 
 
 def is_pair(it, second):
@@ -118,29 +123,54 @@ def is_pair(it, second):
     return it.kind == 'list' and re.fullmatch('s' + second, letters(it.value)) is not None
 
 
-def check_commands(commands):
-    """The form of each command, and whether it may come where it does."""
-    seen = set()
+def is_literal(it):
+    """Whether an expression is a symbol, or a list of `not` and a symbol."""
+    return it.kind == 'symbol' or is_pair(it, 's') and it.value[0].value == 'not'
+
+
+def steps_of(commands):
+    """What the commands do, one step after the other: each has to be of its form, and within the limits of levels and checks."""
+    steps, has_logic, levels, checks = [], False, 0, 0
     for command in commands:
-        fault = command_fault(command, seen)
+        fault = command_fault(command, has_logic, levels)
         if fault:
             raise ScriptFault(fault, command.at)
-        seen.add(command.value[0].value)
-    if 'check-sat' not in seen:
+        word, at, rest = command.value[0].value, command.at, command.value[1:]
+        literals = rest[0].value if word == 'check-sat-assuming' else []
+        opened = int(rest[0].value) if word == 'push' else 1 if literals else 0
+        if levels + opened > MOST:
+            raise ScriptFault('TooMany', at, 'Levels')
+        if word in ('check-sat', 'check-sat-assuming'):
+            checks += 1
+            if checks > MOST:
+                raise ScriptFault('TooMany', at, 'Checks')
+            asked = [*(Step('assert', at, [it]) for it in literals), Step('check-sat', at, [])]
+            steps += [Step('push', at, 1), *asked, Step('pop', at, 1)] if literals else asked
+        elif word in ('push', 'pop'):
+            steps.append(Step(word, at, int(rest[0].value)))
+            levels += opened if word == 'push' else -int(rest[0].value)
+        else:
+            steps.append(Step(word, at, rest))
+        has_logic = has_logic and word != 'reset' or word == 'set-logic'
+        levels = 0 if word in ('reset', 'reset-assertions') else levels
+    if not checks:
         raise ScriptFault('NoCheck', None)
+    return steps
 
 
-def command_fault(command, seen):
-    """The name of a command's fault, or None; `seen` has the words of the commands before it."""
+def command_fault(command, has_logic, levels):
+    """The name of the fault of a command's form, or None, where a logic is set or not and so many levels are open."""
     if command.kind != 'list' or letters(command.value[:1]) != 's':
         return 'BadCommand'
     name, rest = command.value[0].value, command.value[1:]
-    if name in LEFT_OUT or 'check-sat' in seen and name in BEFORE_CHECK:
+    if name in LEFT_OUT:
         return 'LeftOut'
-    if name not in COMMANDS or not re.fullmatch(COMMANDS[name], letters(rest)) or name == 'set-logic' and name in seen:
+    if name not in COMMANDS or not re.fullmatch(COMMANDS[name], letters(rest)):
         return 'BadCommand'
     if name == 'set-logic':
-        return None if rest[0].value in ('QF_NRA', 'QF_LRA') else 'WrongLogic'
+        return 'BadCommand' if has_logic else None if rest[0].value in ('QF_NRA', 'QF_LRA') else 'WrongLogic'
+    if name == 'pop' and rest[0].value > levels or name == 'check-sat-assuming' and not all(map(is_literal, rest[0].value)):
+        return 'BadCommand'
     inner = rest[1].value if name in ('declare-fun', 'define-fun') else []
     if name == 'define-fun' and all(is_pair(it, '[sl]') for it in inner):
         inner = [it.value[1] for it in inner]
@@ -170,25 +200,53 @@ def result_sort(name, sorts):
 
 
 class Names:
-    """The top-level names of a script with what they stand for, its axes, and its assertions with their commands' places."""
-    def __init__(self, commands):
+    """What is in force at the only check of a script: the top-level names with what they stand for, the axes, and the assertions
+    with their commands' places."""
+    def __init__(self, steps):
         self.named, self.axes, self.assertions = {}, [], []
-        for command in commands:
-            word, *rest = command.value
-            if word.value in ('declare-const', 'declare-fun'):
-                self.check_new(rest[0].value, self.named, command.at)
-                if len(self.axes) == 1024:
-                    raise ScriptFault('TooMany', command.at, 'Axes')
-                self.named[rest[0].value] = Named(rest[-1].value, len(self.axes), {}, None)
-                self.axes.append(Axis(rest[0].value, rest[-1].value, command.at))
-            elif word.value == 'define-fun':
-                self.check_new(rest[0].value, self.named, command.at)
-                local = self.bound(rest[1].value, lambda of_sort: of_sort.value)
-                self.check_sort(rest[3], local, rest[2].value)
-                self.named[rest[0].value] = Named(rest[2].value, None, local, rest[3])
-            elif word.value == 'assert':
-                self.check_sort(rest[0], {}, 'Bool')
-                self.assertions.append((command.at, rest[0]))
+        levels, asked = [], []  # what was in force before each open level, and at each check
+        for step in steps:
+            if step.word == 'push':
+                levels += [self.in_force()] * step.arguments
+            elif step.word == 'pop' and step.arguments:
+                self.named, self.axes, self.assertions = levels[-step.arguments]
+                self.named, self.axes, self.assertions = self.in_force()  # what is in force at several levels is shared by them
+                del levels[-step.arguments :]
+            elif step.word in ('reset', 'reset-assertions'):
+                self.named, self.axes, self.assertions, levels = {}, [], [], []
+            elif step.word == 'check-sat':
+                asked.append((step.at, self.in_force()))
+            else:
+                self.take(*step)
+        if len(asked) > 1:
+            raise ScriptFault('LeftOut', asked[1][0])
+        self.named, self.axes, self.assertions = asked[0][1]
+
+    def in_force(self):
+        """What is in force, as it is now."""
+        return dict(self.named), list(self.axes), list(self.assertions)
+
+    def take(self, word, at, arguments):
+        """Takes a command that is checked for names and sorts."""
+        if word in ('declare-const', 'declare-fun'):
+            name, sort = arguments[0].value, arguments[-1].value
+            self.check_new(name, self.named, at)
+            if len(self.axes) == MOST:
+                raise ScriptFault('TooMany', at, 'Axes')
+            self.named[name] = Named(sort, len(self.axes), {}, None)
+            self.axes.append(Axis(name, sort, at))
+        elif word == 'define-fun':
+            name, parameters, sort, body = arguments
+            self.check_new(name.value, self.named, at)
+            local = self.bound(parameters.value, lambda of_sort: of_sort.value)
+            self.check_sort(body, local, sort.value)
+            self.named[name.value] = Named(sort.value, None, local, body)
+        elif word == 'assert':
+            self.check_sort(arguments[0], {}, 'Bool')
+            self.assertions.append((at, arguments[0]))
+        elif word == 'get-value':
+            for term in arguments[0].value:
+                self.sort(term, {})
 
     def check_new(self, name, taken, at):
         if name in taken or name in THEORIES:
@@ -209,7 +267,7 @@ class Names:
     def sort(self, expression, local):
         """The sort of an expression; `local` has those of the names of `let` and of parameters."""
         kind, value, at = expression
-        if kind == 'number':
+        if kind in ('numeral', 'decimal'):
             return 'Real'
         head, rest = (value[0], value[1:]) if kind == 'list' and value else (expression, [])
         name = head.value
@@ -344,7 +402,7 @@ class Problem:
         """A task: the value of an expression, which is a tree, a choice or a node; `local` has those of local names."""
         self.count()
         kind, value, at = expression
-        if kind == 'number':
+        if kind in ('numeral', 'decimal'):
             return self.terms.make('constant', value)
         (head, *rest), values = (value if kind == 'list' else [expression]), []
         if head.kind == 'reserved':  # `!` or `let`
@@ -979,9 +1037,7 @@ def check_certificate(problem, lines, bound):
 
 def read_problem(script, bound):
     """The problem of a script, phase after phase."""
-    commands = read_expressions(script)
-    check_commands(commands)
-    return Problem(Names(commands), bound)
+    return Problem(Names(steps_of(read_expressions(script))), bound)
 
 
 def check(script, certificate, bound=None):

@@ -2,6 +2,7 @@ pub mod ByForm
 pub mod Faults
 pub mod Few
 pub mod Finishing
+pub mod Going
 pub mod Lookups
 pub mod Nearest
 pub mod One

@@ -1,6 +1,6 @@
 -- The first fault of a script, by the phase that met it, and the problem of a script without one.
 use Rattle.std.proofs.Common.{◌≡◌, ◌≤◌, ◌∷◌, [], ℕ, suc, List, Bool, cond, Option, Some, None, length, refl, ap, sym, ◌∙◌, subst}
-use Rattle.std.specs.Prelude.{All}
+use Rattle.std.specs.Prelude.{All, MatchResult, Result, Ok, Err}
 use Rattle.std.proofs.lemmas.Bool.{le-leb}
 use Rattle.script_model.specs.Sexp.{Sexp}
 use Rattle.script_model.specs.Script.{Command, Constant, constants_of}
@@ -27,19 +27,19 @@ use Rattle.poly_graph.specs.Problem.{Axis}
 use Rattle.poly_graph.specs.ProblemViews.{Parts, problem_of, IsWhole}
 use Rattle.problem_build.specs.BuildAnswers.{IsBuildingError, IsLean}
 use Rattle.problem_build.proofs.Few.{few_constants}
-use Rattle.script_faults.specs.Faults.{script_fault, in_text, in_commands, in_sorts, in_checks, in_building, most_bytes}
+use Rattle.script_faults.specs.Faults.{script_fault, by_bytes, by_text, by_commands, by_sorts, in_checks, in_each_check, in_building, most_bytes, session_fault}
 use Rattle.script_faults.proofs.Parts.{bytes_first, commands_first, sorts_first, checks_first}
 use Rattle.script_faults.specs.Reader as reader
-use Rattle.script_faults.specs.Reader.{AreLowest, HasProblem, IsInWalkOrder, too_many_bytes, or_none}
+use Rattle.script_faults.specs.Reader.{AreLowest, HasProblem, IsBuiltOf, IsInWalkOrder, too_many_bytes, or_none}
+use Rattle.script_faults.specs.Session.{AreBuilt, HasSession, carried_of, or_no_steps, steps_of_text}
+use Rattle.problem_build.specs.Session.{IsSessionAnswer, problems_of}
+use Rattle.problem_build.specs.declared.session.Session.{Session}
 
 -- ---- a fault of one phase
 
-lifted : (e : ReadError) (o p : Option ScriptFault) → ((x : ScriptFault) → o ≡ Some x → p ≡ Some x) → IsFaultOrMemory e o → IsFaultOrMemory e p
+pub lifted : (e : ReadError) (o p : Option ScriptFault) → ((x : ScriptFault) → o ≡ Some x → p ≡ Some x) → IsFaultOrMemory e o → IsFaultOrMemory e p
 lifted (Fault f) o p g h = g f h
 lifted Memory o p g h = tt
-
-pub bytes_refused : (bound : Option ℕ) (bytes : List ℕ) (e : ReadError) → IsFaultOrMemory e (bytes_fault bytes) → IsFaultOrMemory e (script_fault bound bytes)
-bytes_refused bound bytes e h = lifted e (bytes_fault bytes) (script_fault bound bytes) (bytes_first bound bytes) h
 
 -- the fault of the building of the only script
 in_only : (bound : Option ℕ) (asked : List Asked) (cs : List Command) → only_script asked ≡ Some cs → in_checks bound asked ≡ in_building (building_fault bound cs)
@@ -47,32 +47,43 @@ in_only bound [] cs e = cc
 in_only bound (a ∷ []) cs e = ap (λ (o : Option (List Command)). in_building (building_fault bound (or_none o))) e
 in_only bound (a ∷ b ∷ later) cs e = cc
 
-module _ (bound : Option ℕ) (text : List ℕ) (few : length text ≤ most_bytes) (e : ReadError) where
-  in-bytes : script_fault bound text ≡ in_text bound (read text)
-  in-bytes = ap (λ (b : Bool). cond b (in_text bound (read text)) (Some too_many_bytes)) (le-leb (length text) most_bytes few)
+-- where the last part is this one of the checks
+module _ (last : List Asked → Option ScriptFault) (text : List ℕ) (e : ReadError) where
+  pub bytes_refused : IsFaultOrMemory e (bytes_fault text) → IsFaultOrMemory e (by_bytes last text)
+  bytes_refused h = lifted e (bytes_fault text) (by_bytes last text) (bytes_first last text) h
 
-  module _ (es : List Sexp) (whole_is : read text ≡ whole es) where
-    pub commands_refused : IsFaultOrMemory e (commands_fault (steps_of es)) → IsFaultOrMemory e (script_fault bound text)
-    commands_refused h = lifted e (commands_fault (steps_of es)) (script_fault bound text)
-        (λ x t. in-bytes ∙ ap (in_text bound) whole_is ∙ commands_first bound (steps_of es) x t) h
+  module _ (few : length text ≤ most_bytes) where
+    in-bytes : by_bytes last text ≡ by_text last (read text)
+    in-bytes = ap (λ (b : Bool). cond b (by_text last (read text)) (Some too_many_bytes)) (le-leb (length text) most_bytes few)
 
-    module _ (course : Course) (commands_are : steps_of es ≡ steps (steps_in course)) where
-      pub sorts_refused : IsFaultOrMemory e (finding_fault (course_fault (steps_in course))) → IsFaultOrMemory e (script_fault bound text)
-      sorts_refused h = lifted e (finding_fault (course_fault (steps_in course))) (script_fault bound text)
-          (λ x t. in-bytes ∙ ap (in_text bound) whole_is ∙ ap (in_commands bound) commands_are ∙ sorts_first bound (steps_in course) (course_fault (steps_in course)) x t) h
+    module _ (es : List Sexp) (whole_is : read text ≡ whole es) where
+      pub commands_refused : IsFaultOrMemory e (commands_fault (steps_of es)) → IsFaultOrMemory e (by_bytes last text)
+      commands_refused h = lifted e (commands_fault (steps_of es)) (by_bytes last text)
+          (λ x t. in-bytes ∙ ap (by_text last) whole_is ∙ commands_first last (steps_of es) x t) h
 
-      module _ (typed : Course) (same : typed ≡ course) (sorted : course_fault (steps_in course) ≡ None) where
-        in-asked : script_fault bound text ≡ in_checks bound (checks_of (steps_in typed))
-        in-asked = in-bytes ∙ ap (in_text bound) whole_is ∙ ap (in_commands bound) commands_are ∙ ap (in_sorts bound (steps_in course)) sorted ∙
-            ap (λ (t : Course). in_checks bound (checks_of (steps_in t))) (sym same)
+      module _ (course : Course) (commands_are : steps_of es ≡ steps (steps_in course)) where
+        pub sorts_refused : IsFaultOrMemory e (finding_fault (course_fault (steps_in course))) → IsFaultOrMemory e (by_bytes last text)
+        sorts_refused h = lifted e (finding_fault (course_fault (steps_in course))) (by_bytes last text)
+            (λ x t. in-bytes ∙ ap (by_text last) whole_is ∙ ap (by_commands last) commands_are ∙ sorts_first last (steps_in course) (course_fault (steps_in course)) x t) h
 
-        pub checks_refused : IsFaultOrMemory e (asked_fault (checks_of (steps_in typed))) → IsFaultOrMemory e (script_fault bound text)
-        checks_refused h = lifted e (asked_fault (checks_of (steps_in typed))) (script_fault bound text) (λ x t. in-asked ∙ checks_first bound (checks_of (steps_in typed)) x t) h
+        module _ (typed : Course) (same : typed ≡ course) (sorted : course_fault (steps_in course) ≡ None) where
+          pub in_asked : by_bytes last text ≡ last (checks_of (steps_in typed))
+          in_asked = in-bytes ∙ ap (by_text last) whole_is ∙ ap (by_commands last) commands_are ∙ ap (by_sorts last (steps_in course)) sorted ∙
+              ap (λ (t : Course). last (checks_of (steps_in t))) (sym same)
 
-        module _ (only : Script) (only_is : only_script (checks_of (steps_in typed)) ≡ Some (commands_in only)) where
-          pub building_refused : IsBuildingError e (building_fault bound (commands_in only)) → IsFaultOrMemory e (script_fault bound text)
-          building_refused h = lifted e (in_building (building_fault bound (commands_in only))) (script_fault bound text)
-              (λ x t. in-asked ∙ in_only bound (checks_of (steps_in typed)) (commands_in only) only_is ∙ t) h
+          pub asked_refused : IsFaultOrMemory e (last (checks_of (steps_in typed))) → IsFaultOrMemory e (by_bytes last text)
+          asked_refused h = lifted e (last (checks_of (steps_in typed))) (by_bytes last text) (λ x t. in_asked ∙ t) h
+
+module _ (bound : Option ℕ) (text : List ℕ) (e : ReadError) (few : length text ≤ most_bytes) (es : List Sexp) (whole_is : read text ≡ whole es) (course : Course) (commands_are : steps_of es ≡ steps (steps_in course))
+    (typed : Course) (same : typed ≡ course) (sorted : course_fault (steps_in course) ≡ None) where
+  pub checks_refused : IsFaultOrMemory e (asked_fault (checks_of (steps_in typed))) → IsFaultOrMemory e (script_fault bound text)
+  checks_refused h = lifted e (asked_fault (checks_of (steps_in typed))) (script_fault bound text)
+      (λ x t. in_asked (in_checks bound) text e few es whole_is course commands_are typed same sorted ∙ checks_first bound (checks_of (steps_in typed)) x t) h
+
+  module _ (only : Script) (only_is : only_script (checks_of (steps_in typed)) ≡ Some (commands_in only)) where
+    pub building_refused : IsBuildingError e (building_fault bound (commands_in only)) → IsFaultOrMemory e (script_fault bound text)
+    building_refused h = lifted e (in_building (building_fault bound (commands_in only))) (script_fault bound text)
+        (λ x t. in_asked (in_checks bound) text e few es whole_is course commands_are typed same sorted ∙ in_only bound (checks_of (steps_in typed)) (commands_in only) only_is ∙ t) h
 
 -- ---- a script without a fault
 
@@ -86,6 +97,19 @@ axes-length box axis (c ∷ constants) (a ∷ axes) h = ap suc (axes-length box 
 axes-length box axis [] (a ∷ axes) h = absurd h
 axes-length box axis (c ∷ constants) [] h = absurd h
 
+-- what is built of well-sorted commands
+pub whole_built : (bound : Option ℕ) (cs : List Command) → sort_fault cs ≡ None → (p : Parts) → IsWhole p → IsLean p → IsInWalkOrder cs p.nodes → All (λ (a : Axis). AreLowest a.declared) p.axes →
+    IsProblemOf bound cs (problem_of p) → IsBuiltOf bound cs (problem_of p)
+whole_built bound cs sorted p w l n g built = record {
+  whole = w.problem;
+  problem = built;
+  ends = g;
+  nodes = l.nodes;
+  order = n;
+  axes = subst (λ (n : ℕ). n ≤ 1024) (sym (axes-length (declared_interval bound cs) 0 (constants_of cs) p.axes built.axes)) (few_constants cs sorted);
+  atoms = l.atoms;
+}
+
 module _ (bound : Option ℕ) (text : List ℕ) (es : List Sexp) (course typed : Course) (only : Script) (few : length text ≤ most_bytes) (whole_is : read text ≡ whole es)
     (commands_are : steps_of es ≡ steps (steps_in course)) (same : typed ≡ course) (sorted : course_fault (steps_in course) ≡ None)
     (only_is : only_script (checks_of (steps_in typed)) ≡ Some (commands_in only)) (only_sorted : sort_fault (commands_in only) ≡ None) where
@@ -96,15 +120,26 @@ module _ (bound : Option ℕ) (text : List ℕ) (es : List Sexp) (course typed :
       let only_of : only_script (checks_of (steps_in course)) ≡ Some cs = ap (λ (t : Course). only_script (checks_of (steps_in t))) (sym same) ∙ only_is in
       let are : cs ≡ reader.commands_of text = sym (commands-are text es (steps_in course) cs whole_is commands_are only_of) in
       record {
-        clean = ap (λ (t : Bool). cond t (in_text bound (read text)) (Some too_many_bytes)) (le-leb (length text) most_bytes few) ∙ ap (in_text bound) whole_is ∙ ap (in_commands bound) commands_are ∙
-            ap (in_sorts bound (steps_in course)) sorted ∙ in_only bound (checks_of (steps_in course)) cs only_of ∙ ap in_building built.0;
-        built = record {
-          whole = w.problem;
-          problem = subst (λ (c : List Command). IsProblemOf bound c (problem_of p)) are built.1;
-          ends = g;
-          nodes = l.nodes;
-          order = subst (λ (c : List Command). IsInWalkOrder c p.nodes) are n;
-          axes = subst (λ (n : ℕ). n ≤ 1024) (sym (axes-length (declared_interval bound cs) 0 (constants_of cs) p.axes built.1.axes)) (few_constants cs only_sorted);
-          atoms = l.atoms;
-        };
+        clean = in_asked (in_checks bound) text Memory few es whole_is course commands_are typed same sorted ∙ in_only bound (checks_of (steps_in typed)) cs only_is ∙ ap in_building built.0;
+        built = subst (λ (c : List Command). IsBuiltOf bound c (problem_of p)) are (whole_built bound cs only_sorted p w l n g built.1);
       }
+
+-- ---- a script with any number of checks
+
+steps-are : (text : List ℕ) (es : List Sexp) (ss : List Step) → read text ≡ whole es → steps_of es ≡ steps ss → steps_of_text text ≡ ss
+steps-are text es ss e e' = ap (λ (r : TextRead). or_no_steps (of_read r)) e ∙ ap (λ (r : CommandsRead). or_no_steps (accepted r)) e'
+
+module _ (bound : Option ℕ) (text : List ℕ) (es : List Sexp) (course typed : Course) (few : length text ≤ most_bytes) (whole_is : read text ≡ whole es)
+    (commands_are : steps_of es ≡ steps (steps_in course)) (same : typed ≡ course) (sorted : course_fault (steps_in course) ≡ None) where
+  pub session_had : (session : Session) → IsSessionAnswer bound (steps_in typed) (Ok session) → HasSession bound (problems_of session.problems.items) text
+  session_had session h =
+      let are : steps_in typed ≡ steps_of_text text = ap steps_in same ∙ sym (steps-are text es (steps_in course) whole_is commands_are) in
+      record {
+        clean = in_asked (in_each_check bound) text Memory few es whole_is course commands_are typed same sorted ∙ h.0;
+        built = subst (λ (ss : List Step). AreBuilt bound (checks_of ss) (carried_of ss) (problems_of session.problems.items)) are h.1;
+      }
+
+  pub session_answer : (r : Result Session ReadError) → IsSessionAnswer bound (steps_in typed) r →
+      MatchResult r (λ session. HasSession bound (problems_of session.problems.items) text) (λ e. IsFaultOrMemory e (session_fault bound text))
+  session_answer (Ok session) h = session_had session h
+  session_answer (Err e) h = asked_refused (in_each_check bound) text e few es whole_is course commands_are typed same sorted h

@@ -6,3 +6,4 @@ pub mod Roots
 pub mod Standing
 pub mod BuildAnswers
 pub mod Walking
+pub mod Session

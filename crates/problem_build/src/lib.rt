@@ -1,7 +1,8 @@
 //! The reader's last phase, and the reader as one call.
 //!
 //! `read_problem` answers the problem of a script's bytes, or the first fault of the first phase that has one; `build` does
-//! so for a script whose sorts are checked. The crate reads no file, prints no fault, and simplifies no form.
+//! so for a script whose sorts are checked. `read_session` and `build_all` answer the problems of all checks of a script;
+//! no program calls them yet. The crate reads no file, prints no fault, and simplifies no form.
 #![tactic(auto)]
 
 ghost use Rattle.problem_build.specs.Laws.{SortedIsSound, PartsAreProblem, BuiltIsOne};
@@ -16,12 +17,14 @@ mod locals;
 mod names;
 mod reader;
 mod script;
+mod session;
 mod top;
 mod walk;
 
 pub use assembly::{assemble, root_form};
-pub use reader::{Reader, read_problem};
+pub use reader::{Reader, read_problem, read_session};
 pub use script::build;
+pub use session::{Checked, Session, build_all};
 
 /// A well-sorted script meets no expression without a sort when it is built.
 #[tactic(auto, using(crate::proofs::Sound::sorted_sound))]

@@ -2,10 +2,12 @@
 ghost use Rattle.std.specs.Prelude.{MatchResult};
 ghost use Rattle.poly_graph.specs.ProblemViews.{problem_of};
 ghost use Rattle.script_fault.specs.Answers.{IsFaultOrMemory};
-ghost use Rattle.script_faults.specs.Faults.{script_fault};
+ghost use Rattle.problem_build.specs.Session.{problems_of};
+ghost use Rattle.script_faults.specs.Faults.{script_fault, session_fault};
 ghost use Rattle.script_faults.specs.Reader.{HasProblem};
+ghost use Rattle.script_faults.specs.Session.{HasSession};
 
-use crate::build;
+use crate::{Session, build, build_all};
 use poly_graph::Problem;
 use script_fault::ReadError;
 use script_faults::ScriptReader;
@@ -33,6 +35,23 @@ pub fn read_problem(alloc: Global, bytes: &[u8], bound: Option<u32>) -> Result<P
     // Its type keeps that it is whole.
     let _ = problem.axes();
     Ok(problem)
+}
+
+/// The problems of a script's bytes, where constants without bounds have this one: of each check, what is in force at it.
+///
+/// # Errors
+///
+/// The first fault of the script: of its size, its text, its commands, its names and sorts, or the building of the first
+/// problem that has one.
+pub fn read_session(alloc: Global, bytes: &[u8], bound: Option<u32>) -> Result<Session, ReadError>
+    ensures { MatchResult result
+        (λ session. HasSession bound (problems_of session.problems.items) bytes.now)
+        (λ e. IsFaultOrMemory e (session_fault bound bytes.now)) }
+{
+    let sexps = read(alloc, bytes)?;
+    let course = commands(alloc, &sexps)?;
+    let typed = check(alloc, course)?;
+    build_all(alloc, typed, bound)
 }
 
 /// The reader of scripts: `read_problem`.

@@ -9,7 +9,7 @@ ghost use Rattle.sort_check.specs.Sorts.{sort_fault};
 ghost use Rattle.declared_box.specs.Axes.{constant_of};
 ghost use Rattle.problem_build.specs.Standing.{IsDone};
 ghost use Rattle.script_faults.specs.Reader.{AreLowest, IsInWalkOrder};
-ghost use Rattle.problem_build.specs.BuildAnswers.{IsBuildAnswer, IsLean};
+ghost use Rattle.problem_build.specs.BuildAnswers.{IsBuildAnswer, IsLean, IsWholeAnswer};
 
 use crate::assembly::{assemble, root_form};
 use crate::commands::claims;
@@ -116,6 +116,39 @@ fn finish(
     Ok(assemble(axes, builder, root))
 }
 
+// The problem of a well-sorted script.
+fn build_script(
+    alloc: Global,
+    script: &Script<'_>,
+    bound: Option<u32>,
+) -> Result<Problem, ReadError>
+    requires sorted { sort_fault (commands_in script.now) ≡ None }
+    ensures builds { IsBuildAnswer bound (commands_in script.now) result }
+    ensures lean { IfOk result (λ p. IsLean p) }
+    ensures order { IfOk result (λ p. IsInWalkOrder (commands_in script.now) p.nodes) }
+    ensures ends { IfOk result (λ p. All (λ a. AreLowest a.declared) p.axes) }
+{
+    let sorts = sorts(alloc, script.commands.as_slice())?;
+    let mut maker = Maker::new(alloc, sorts);
+    let made = claims(alloc, script, &mut maker)?;
+    finish(alloc, script, maker, made.as_slice(), bound)
+}
+
+/// The same, which is known to be whole.
+pub(crate) fn build_whole(
+    alloc: Global,
+    script: &Script<'_>,
+    bound: Option<u32>,
+) -> Result<Problem, ReadError>
+    requires sorted { sort_fault (commands_in script.now) ≡ None }
+    ensures { IsWholeAnswer bound (commands_in script.now) result }
+{
+    let problem = build_script(alloc, script, bound)?;
+    // Its type keeps that it is whole.
+    let _ = problem.axes();
+    Ok(problem)
+}
+
 /// The problem of a well-sorted script, where the words give this bound of its constants.
 ///
 /// # Errors
@@ -127,9 +160,5 @@ pub fn build(alloc: Global, typed: Typed<'_>, bound: Option<u32>) -> Result<Prob
     ensures order { IfOk result (λ p. IsInWalkOrder (commands_in typed.entry.script) p.nodes) }
     ensures ends { IfOk result (λ p. All (λ a. AreLowest a.declared) p.axes) }
 {
-    let script = &typed.script;
-    let sorts = sorts(alloc, script.commands.as_slice())?;
-    let mut maker = Maker::new(alloc, sorts);
-    let made = claims(alloc, script, &mut maker)?;
-    finish(alloc, script, maker, made.as_slice(), bound)
+    build_script(alloc, &typed.script, bound)
 }

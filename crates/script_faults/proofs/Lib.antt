@@ -1,4 +1,5 @@
 pub mod Accepted
+pub mod Carried
 pub mod Long
 pub mod Parts
 mod Rows

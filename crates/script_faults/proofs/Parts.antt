@@ -9,26 +9,27 @@ use Rattle.smt_script.specs.CommandAnswers.{commands_fault}
 use Rattle.sort_check.specs.Sorts.{Finding}
 use Rattle.sort_check.specs.SortAnswers.{finding_fault}
 use Rattle.sort_check.specs.Single.{asked_fault}
-use Rattle.script_faults.specs.Faults.{in_text, in_commands, in_sorts, in_checks, script_fault}
+use Rattle.script_faults.specs.Faults.{by_bytes, by_commands, by_sorts, by_text, in_checks}
 
-pub text_first : (bound : Option ℕ) (r : TextRead) (x : ScriptFault) → text_fault r ≡ Some x → in_text bound r ≡ Some x
-text_first bound (faulty at f) x e = e
-text_first bound (whole es) x e = cc
+module _ (last : List Asked → Option ScriptFault) where
+  pub text_first : (r : TextRead) (x : ScriptFault) → text_fault r ≡ Some x → by_text last r ≡ Some x
+  text_first (faulty at f) x e = e
+  text_first (whole es) x e = cc
 
-bytes-by : (bound : Option ℕ) (r : TextRead) (b : Bool) (x : ScriptFault) → cond b (text_fault r) (Some too_many_bytes) ≡ Some x → cond b (in_text bound r) (Some too_many_bytes) ≡ Some x
-bytes-by bound r true x e = text_first bound r x e
-bytes-by bound r false x e = e
+  bytes-by : (r : TextRead) (b : Bool) (x : ScriptFault) → cond b (text_fault r) (Some too_many_bytes) ≡ Some x → cond b (by_text last r) (Some too_many_bytes) ≡ Some x
+  bytes-by r true x e = text_first r x e
+  bytes-by r false x e = e
 
-pub bytes_first : (bound : Option ℕ) (bytes : List ℕ) (x : ScriptFault) → bytes_fault bytes ≡ Some x → script_fault bound bytes ≡ Some x
-bytes_first bound bytes x e = bytes-by bound (read bytes) (nat_le (length bytes) most_bytes) x e
+  pub bytes_first : (bytes : List ℕ) (x : ScriptFault) → bytes_fault bytes ≡ Some x → by_bytes last bytes ≡ Some x
+  bytes_first bytes x e = bytes-by (read bytes) (nat_le (length bytes) most_bytes) x e
 
-pub commands_first : (bound : Option ℕ) (r : CommandsRead) (x : ScriptFault) → commands_fault r ≡ Some x → in_commands bound r ≡ Some x
-commands_first bound (command_fault at f) x e = e
-commands_first bound (steps ss) x e = cc
+  pub commands_first : (r : CommandsRead) (x : ScriptFault) → commands_fault r ≡ Some x → by_commands last r ≡ Some x
+  commands_first (command_fault at f) x e = e
+  commands_first (steps ss) x e = cc
 
-pub sorts_first : (bound : Option ℕ) (ss : List Step) (found : Finding) (x : ScriptFault) → finding_fault found ≡ Some x → in_sorts bound ss found ≡ Some x
-sorts_first bound ss (Some f) x e = e
-sorts_first bound ss None x e = cc
+  pub sorts_first : (ss : List Step) (found : Finding) (x : ScriptFault) → finding_fault found ≡ Some x → by_sorts last ss found ≡ Some x
+  sorts_first ss (Some f) x e = e
+  sorts_first ss None x e = cc
 
 pub checks_first : (bound : Option ℕ) (asked : List Asked) (x : ScriptFault) → asked_fault asked ≡ Some x → in_checks bound asked ≡ Some x
 checks_first bound [] x e = e

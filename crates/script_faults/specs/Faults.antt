@@ -1,5 +1,5 @@
 -- The first fault of a script's bytes, over all that is done with them: its size, its text, its commands, its names
--- and sorts, its checks, of which there may be one, and the building of what is in force at it.
+-- and sorts, its checks, and the building of what is in force at them.
 use Rattle.std.specs.Prelude.{ℕ, List, [], ◌∷◌, length, Option, Some, None, cond, nat_le}
 use Rattle.script_model.specs.Sexp.{Place}
 use Rattle.script_fault.specs.declared.fault.FaultKind.{FaultKind}
@@ -45,23 +45,53 @@ abbrev pub in_building : Option (Place × BuildingFault) → Option ScriptFault
 in_building None = None
 in_building (Some (at, x)) = Some (fault_at at (building_kind x))
 
+-- where the last part is this one of the checks
+abbrev pub by_sorts : (List Asked → Option ScriptFault) → List Step → Finding → Option ScriptFault
+by_sorts last ss (Some (at, x)) = Some (fault_at at (sort_kind x))
+by_sorts last ss None = last (checks_of ss)
+
+abbrev pub by_commands : (List Asked → Option ScriptFault) → CommandsRead → Option ScriptFault
+by_commands last (command_fault at x) = Some (fault_at at (command_kind x))
+by_commands last (steps ss) = by_sorts last ss (course_fault ss)
+
+abbrev pub by_text : (List Asked → Option ScriptFault) → TextRead → Option ScriptFault
+by_text last (faulty at x) = Some (fault_at at (text_kind x))
+by_text last (whole es) = by_commands last (steps_of es)
+
+abbrev pub by_bytes : (List Asked → Option ScriptFault) → List ℕ → Option ScriptFault
+by_bytes last text = cond (nat_le (length text) most_bytes) (by_text last (read text)) (Some too_many_bytes)
+
+-- ---- of a script with one check
+
 -- the building of what is in force at the only check
 abbrev pub in_checks : Option ℕ → List Asked → Option ScriptFault
 in_checks bound (a ∷ []) = in_building (building_fault bound a.script)
 in_checks bound asked = asked_fault asked
 
 abbrev pub in_sorts : Option ℕ → List Step → Finding → Option ScriptFault
-in_sorts bound ss (Some (at, x)) = Some (fault_at at (sort_kind x))
-in_sorts bound ss None = in_checks bound (checks_of ss)
+in_sorts bound ss x = by_sorts (in_checks bound) ss x
 
 abbrev pub in_commands : Option ℕ → CommandsRead → Option ScriptFault
-in_commands bound (command_fault at x) = Some (fault_at at (command_kind x))
-in_commands bound (steps ss) = in_sorts bound ss (course_fault ss)
+in_commands bound r = by_commands (in_checks bound) r
 
 abbrev pub in_text : Option ℕ → TextRead → Option ScriptFault
-in_text bound (faulty at x) = Some (fault_at at (text_kind x))
-in_text bound (whole es) = in_commands bound (steps_of es)
+in_text bound r = by_text (in_checks bound) r
 
--- the first fault of a script, where the words give this bound
+-- the first fault of a script with one check, where the words give this bound; a second check is one
 abbrev pub script_fault : Option ℕ → List ℕ → Option ScriptFault
-script_fault bound text = cond (nat_le (length text) most_bytes) (in_text bound (read text)) (Some too_many_bytes)
+script_fault bound text = by_bytes (in_checks bound) text
+
+-- ---- of a script with any number of checks
+
+abbrev pub first_of : Option ScriptFault → Option ScriptFault → Option ScriptFault
+first_of (Some x) later = Some x
+first_of None later = later
+
+-- the building of what is in force at each check, one after the other
+abbrev pub in_each_check : Option ℕ → List Asked → Option ScriptFault
+in_each_check bound [] = None
+in_each_check bound (a ∷ later) = first_of (in_building (building_fault bound a.script)) (in_each_check bound later)
+
+-- the first fault of such a script, where the words give this bound
+abbrev pub session_fault : Option ℕ → List ℕ → Option ScriptFault
+session_fault bound text = by_bytes (in_each_check bound) text

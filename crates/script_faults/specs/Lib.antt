@@ -1,4 +1,5 @@
 pub mod Faults
 pub mod Laws
 pub mod Reader
+pub mod Session
 pub mod WellSorted

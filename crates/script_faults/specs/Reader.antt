@@ -34,17 +34,21 @@ abbrev pub AreLowest : Declared → Type 0
 AreLowest (real_between l h) = IsGcd (nat_abs l.num) l.den 1 × IsGcd (nat_abs h.num) h.den 1
 AreLowest any_bool = Unit {0}
 
--- p is the problem of a script without fault, where the words give this bound; there is no other
-pub record IsBuilt (bound : Option ℕ) (text : List ℕ) (p : Problem) : Type 0 where
+-- p is the problem of these commands, which have no fault, where the words give this bound; there is no other
+pub record IsBuiltOf (bound : Option ℕ) (script : List Command) (p : Problem) : Type 0 where
   pub whole : IsProblem p
-  pub problem : IsProblemOf bound (commands_of text) p
+  pub problem : IsProblemOf bound script p
   pub ends : All (λ (a : Axis). AreLowest a.declared) p.axes
   -- each node of its terms stands once
   pub nodes : IsGraph p.nodes
-  pub order : IsInWalkOrder (commands_of text) p.nodes
+  pub order : IsInWalkOrder script p.nodes
   -- it is within the reader's limits
   pub axes : length p.axes ≤ 1024
   pub atoms : length p.atoms ≤ most_atoms
+
+-- p is the problem of a script without fault
+abbrev pub IsBuilt : Option ℕ → List ℕ → Problem → Type 0
+IsBuilt bound text p = IsBuiltOf bound (commands_of text) p
 
 -- the script has no fault, and this is its problem
 pub record HasProblem (bound : Option ℕ) (p : Problem) (script : List ℕ) : Type 0 where

@@ -1,10 +1,10 @@
-//! The first fault of a script's bytes, and what a script without one is.
+//! The first fault of a script's bytes, and what a script without one is, with one check or with many.
 //!
 //! No code runs here: each function is a law about the definitions in `specs/`, and its contract is the law. The trait
 //! `ScriptReader` says what a reader of scripts answers; `problem_build` implements it.
 #![tactic(auto)]
 
-ghost use Rattle.script_faults.specs.Laws.{FaultlessIsAccepted};
+ghost use Rattle.script_faults.specs.Laws.{CarriedBegins, FaultlessIsAccepted};
 ghost use Rattle.script_faults.specs.WellSorted.{SortedUnfolds};
 
 mod reader;
@@ -21,4 +21,10 @@ pub fn faultless_is_accepted()
 #[tactic(auto, using(crate::proofs::WellSorted::sorted_unfolds))]
 pub fn sorted_unfolds()
     ensures { SortedUnfolds }
+{}
+
+/// Where all commands of a check are said to be in force at the next one, they begin those of the next one.
+#[tactic(auto, using(crate::proofs::Carried::carried_begins))]
+pub fn carried_begins()
+    ensures { CarriedBegins }
 {}

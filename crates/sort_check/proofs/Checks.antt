@@ -1,8 +1,8 @@
 -- The places of checks, and the first of them.
-use Rattle.std.proofs.Common.{◌≡◌, List, [], ◌∷◌, ◌++◌, Bool, true, false, Option, Some, None, refl, ap, sym, ◌∙◌}
+use Rattle.std.proofs.Common.{◌≡◌, List, [], ◌∷◌, Bool, true, false, Option, Some, None, refl, ap, ◌∙◌}
 use Rattle.script_model.specs.Sexp.{Place}
 use Rattle.script_model.specs.Script.{declare, define, claim, check, ineffective}
-use Rattle.smt_script.specs.Levels.{Asked, Levels, Step, command, opens, closes, resets, asks_values, after_step, asked_from, checks_of, no_levels}
+use Rattle.smt_script.specs.Levels.{Asked, Levels, Step, command, opens, closes, resets, asks_values, asked_from, checks_of, no_levels}
 use Rattle.sort_check.specs.Single.{check_place, second_place}
 
 -- the places of the checks among steps, whatever is in force

@@ -1,5 +1,5 @@
 -- A fault of one step is that of all, and the checks of a script without a fault are of scripts without one.
-use Rattle.std.proofs.Common.{◌≡◌, ◌<◌, List, [], ◌∷◌, None, Some, ap, ◌∙◌, refl, map, length, arith, Global}
+use Rattle.std.proofs.Common.{◌≡◌, ◌<◌, List, [], ◌∷◌, None, ap, ◌∙◌, refl, map, length, arith, Global}
 use Rattle.std.specs.Prelude.{Err}
 use Rattle.std.specs.List.{AllByRecursion}
 use Rattle.script_model.specs.Script.{declare, define, claim, check, ineffective}

@@ -1,25 +1,21 @@
 -- What is in force behind a step of the code.
-use Rattle.std.proofs.Common.{◌≡◌, ℕ, suc, ◌≤◌, ◌+◌, ◌-◌, List, [], ◌∷◌, ◌++◌, true, false, Option, Some, None, map, take, length, refl, ap, sym, ◌∙◌, subst, arith}
+use Rattle.std.proofs.Common.{◌≡◌, ℕ, ◌-◌, List, [], ◌∷◌, ◌++◌, true, false, Some, None, map, take, length, ap, sym, ◌∙◌, subst, arith}
 use Rattle.std.specs.Prelude.{Result, Ok, Err, reverse}
 use Rattle.std.specs.Str.{bytes_eq}
 use Rattle.std.specs.Borrow.{Bor}
 use Rattle.std.specs.HashMap.{UpdatesBy}
 use Rattle.std.proofs.Math.Seq.{take-append_seam}
 use Rattle.std.proofs.lemmas.List.{map-append, take-map, length-map, length-append}
-use Rattle.script_model.specs.Reading.{Names}
 use Rattle.script_model.specs.Script as script
 use Rattle.script_model.specs.Sexp as sexp
-use Rattle.smt_sexp.specs.Arena.{rest_of}
-use Rattle.smt_sexp.specs.Views.{place_of}
 use Rattle.smt_sexp.specs.declared.sexps.Sexps.{Sexps}
-use Rattle.smt_script.specs.Levels.{Levels, Step, after_step, asks_values, closed, command, opened, with_command}
-use Rattle.smt_script.specs.Views.{command_of}
+use Rattle.smt_script.specs.Levels.{Levels, asks_values, closed, command, opened}
 use Rattle.smt_script.specs.declared.command.Command.{Command}
-use Rattle.sort_check.specs.Levels.{names_of, step_fault, terms_fault}
-use Rattle.sort_check.specs.Scopes.{AreMarks, Follows, InForce, IsKnown, command_name, count_of, forced, seen, stays}
-use Rattle.sort_check.specs.Sorts.{Finding, Sorted, sort_fault, sort_fault_from}
+use Rattle.sort_check.specs.Levels.{names_of, terms_fault}
+use Rattle.sort_check.specs.Scopes.{AreMarks, Follows, InForce, IsKnown, command_name, forced, seen, stays}
+use Rattle.sort_check.specs.Sorts.{sort_fault, sort_fault_from}
 use Rattle.sort_check.specs.Steps.{FindsFault, Steps, count_after}
-use Rattle.sort_check.specs.Views.{Knows, fault_of}
+use Rattle.sort_check.specs.Views.{Knows}
 use Rattle.sort_check.specs.declared.scope.Mark.{Mark}
 use Rattle.sort_check.specs.declared.scope.Scope.{Scope}
 use Rattle.sort_check.specs.declared.stop.Stop.{Stop}

@@ -3,11 +3,13 @@ use Rattle.std.proofs.Common.{◌≡◌, ℕ, List, [], ◌∷◌, ◌++◌, tru
 use Rattle.std.specs.Prelude.{reverse}
 use Rattle.std.proofs.Math.Seq.{take-length}
 use Rattle.std.proofs.lemmas.List.{map-append, reverse-append, take-map, length-map, length-append, take-append-le}
+use Rattle.script_model.specs.Sexp as sexp
 use Rattle.script_model.specs.Script as script
 use Rattle.script_model.specs.Script.{check}
 use Rattle.smt_sexp.specs.Views.{place_of}
 use Rattle.smt_sexp.specs.declared.sexps.Sexps.{Sexps}
 use Rattle.script_fault.specs.declared.place.Place.{Place}
+use Rattle.smt_script.specs.Levels as levels
 use Rattle.smt_script.specs.Levels.{Asked, Levels, after_step, asked_from, asked_here, checks_of, closed, command, no_levels, opened, with_command}
 use Rattle.sort_check.specs.Scopes.{stays}
 use Rattle.sort_check.proofs.Marks.{with_stays, without_stays}
@@ -15,8 +17,7 @@ use Rattle.smt_script.specs.Views.{command_of, step_of}
 use Rattle.smt_script.specs.declared.command.Command.{Command}
 use Rattle.smt_script.specs.declared.command.Command.TheVariants as commands
 use Rattle.smt_script.specs.declared.command.Step.{Step}
-use Rattle.smt_script.specs.declared.command.Step.TheVariants as does
-use Rattle.sort_check.specs.Single.{AreLengths, Stacks, first_script}
+use Rattle.sort_check.specs.Single.{AreLengths, Stacks, check_place, first_script}
 
 pub lengthened : (s : Sexps) (force : List Command) (ns : List ℕ) (n : ℕ) (l : Levels) → n ≡ length force → Stacks s force ns l → Stacks s force (ns ++ n ∷ []) (opened 1 l)
 lengthened s force ns n l is h =
@@ -44,7 +45,7 @@ shortened s force force' old new n l is cut h =
       outer = x.2;
     })
 
-lengths_longer : (ns : List ℕ) (inner : List script.Command) (c : script.Command) (outer : List (List script.Command)) → AreLengths ns inner outer → AreLengths ns (inner ++ c ∷ []) outer
+pub lengths_longer : (ns : List ℕ) (inner : List script.Command) (c : script.Command) (outer : List (List script.Command)) → AreLengths ns inner outer → AreLengths ns (inner ++ c ∷ []) outer
 lengths_longer [] inner c [] h = tt
 lengths_longer [] inner c (cs ∷ outer) h = absurd h
 lengths_longer (n ∷ ns) inner c [] h = absurd h
@@ -95,21 +96,40 @@ pub first_left : (s : Sexps) (all old new : List Step) (x : Step) (l : Levels) �
     checks_of (map (step_of s) all) ≡ asked_from l (step_of s x ∷ map (step_of s) (reverse new))
 first_left s all old new x l is h = h ∙ ap (λ xs. asked_from l (map (step_of s) (reverse xs))) is ∙ ap (λ xs. asked_from l (map (step_of s) xs)) (reverse-append new (x ∷ []))
 
-pub step_left : (s : Sexps) (all old new : List Step) (x y : Step) (l : Levels) → old ≡ new ++ x ∷ [] → x ≡ y → asked_here l (step_of s y) ≡ [] → Left s all l old → Left s all (after_step l (step_of s y)) new
-step_left s all old new x y l is same none h =
-    first_left s all old new y l (is ∙ ap (λ z. new ++ z ∷ []) same) h ∙
-    ap (λ first. first ++ asked_from (after_step l (step_of s y)) (map (step_of s) (reverse new))) none
+pub step_left : (s : Sexps) (all old new : List Step) (x : Step) (l : Levels) → old ≡ new ++ x ∷ [] → asked_here l (step_of s x) ≡ [] → Left s all l old → Left s all (after_step l (step_of s x)) new
+step_left s all old new x l is none h =
+    first_left s all old new x l is h ∙ ap (λ first. first ++ asked_from (after_step l (step_of s x)) (map (step_of s) (reverse new))) none
 
-pub check_left : (s : Sexps) (all old new : List Step) (x : Step) (at : Place) (force force' : List Command) (ns : List ℕ) (l : Levels) → old ≡ new ++ x ∷ [] → x ≡ does.Command (commands.Check at) →
+abbrev or_place : Option sexp.Place → sexp.Place → sexp.Place
+or_place None at = at
+or_place (Some p) at = p
+
+-- the place tells the check
+pub check_is : (x : levels.Step) (at : sexp.Place) → check_place x ≡ Some at → x ≡ command (check at)
+check_is (command (check p)) at e = ap (λ o. command (check (or_place o p))) e
+check_is (command (script.declare p f t)) at e = cc
+check_is (command (script.define p f params t body)) at e = cc
+check_is (command (script.claim p e')) at e = cc
+check_is (command (script.ineffective p)) at e = cc
+check_is (levels.opens p n) at e = cc
+check_is (levels.closes p n) at e = cc
+check_is (levels.resets p) at e = cc
+check_is (levels.asks_values p es) at e = cc
+
+pub check_left : (s : Sexps) (all old new : List Step) (x : Step) (at : Place) (force force' : List Command) (ns : List ℕ) (l : Levels) → old ≡ new ++ x ∷ [] → check_place (step_of s x) ≡ Some (place_of at) →
     force' ≡ force ++ commands.Check at ∷ [] → Stacks s force ns l → Left s all l old → Some (map (command_of s) force') ≡ first_script (checks_of (map (step_of s) all))
-check_left s all old new x at force force' ns l is same more h left =
+check_left s all old new x at force force' ns l is here more h left =
     ap (λ cs. Some (map (command_of s) cs)) more ∙ ap Some (map-append (command_of s) force (commands.Check at ∷ [])) ∙ ap (λ xs. Some (xs ++ check (place_of at) ∷ [])) h.inner ∙
-    sym (ap first_script (first_left s all old new (does.Command (commands.Check at)) l (is ∙ ap (λ z. new ++ z ∷ []) same) left))
+    sym (ap first_script (first_left s all old new x l is left ∙ ap (λ y. asked_from l (y ∷ map (step_of s) (reverse new))) (check_is (step_of s x) (place_of at) here)))
 
--- a command that is no check asks nothing
-pub no_check : (s : Sexps) (c : Command) (l : Levels) → ((at : Place) → c ≡ commands.Check at → ⊥) → asked_here l (command (command_of s c)) ≡ []
-no_check s (commands.Declare at x t) l h = refl
-no_check s (commands.Define at f params t body) l h = refl
-no_check s (commands.Assert at body) l h = refl
-no_check s (commands.Check at) l h = absurd (h at refl)
-no_check s (commands.Ineffective at) l h = refl
+-- a step that is no check asks nothing
+pub asks_nothing : (l : Levels) (x : levels.Step) → check_place x ≡ None → asked_here l x ≡ []
+asks_nothing l (command (check p)) e = cc
+asks_nothing l (command (script.declare p f t)) e = refl
+asks_nothing l (command (script.define p f params t body)) e = refl
+asks_nothing l (command (script.claim p e')) e = refl
+asks_nothing l (command (script.ineffective p)) e = refl
+asks_nothing l (levels.opens p n) e = refl
+asks_nothing l (levels.closes p n) e = refl
+asks_nothing l (levels.resets p) e = refl
+asks_nothing l (levels.asks_values p es) e = refl

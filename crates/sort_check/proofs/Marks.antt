@@ -1,5 +1,5 @@
 -- Levels that are opened and closed by marks, and names that are forgotten.
-use Rattle.std.proofs.Common.{◌≡◌, ℕ, suc, ◌≤◌, List, [], ◌∷◌, ◌++◌, Bool, true, false, Option, Some, None, map, take, length, refl, ap, sym, ◌∙◌, subst, arith}
+use Rattle.std.proofs.Common.{◌≡◌, ℕ, ◌≤◌, List, [], ◌∷◌, ◌++◌, true, false, Option, Some, None, take, length, refl, ap, sym, ◌∙◌, subst, arith}
 use Rattle.std.specs.Prelude.{reverse}
 use Rattle.std.proofs.Math.Seq.{take-length}
 use Rattle.std.proofs.lemmas.List.{length-append, reverse-append, take-append-le}
@@ -10,7 +10,7 @@ use Rattle.script_model.specs.Reading.{Names, value, found}
 use Rattle.script_model.specs.Script.{Command, declare, define, claim, check, ineffective}
 use Rattle.smt_script.specs.Levels.{Levels, closed, with_command}
 use Rattle.sort_check.specs.Levels.{names_of}
-use Rattle.sort_check.specs.Scopes.{AreMarks, IsMark, command_name, count_of, stays}
+use Rattle.sort_check.specs.Scopes.{AreMarks, command_name, count_of, stays}
 use Rattle.sort_check.specs.Sorts.{Sorted, of_sort, signature, sort_fault}
 use Rattle.sort_check.specs.Steps.{count_after, named_after}
 use Rattle.sort_check.specs.Views.{Knows}

@@ -1,5 +1,5 @@
 -- The script of a script's only check.
-use Rattle.std.specs.Prelude.{◌≡◌, ℕ, ◌≤◌, List, [], ◌∷◌, map, take, reverse, length, Option, Some, None, Result, Ok, Err, Vec}
+use Rattle.std.specs.Prelude.{◌≡◌, ℕ, ◌≤◌, List, [], ◌∷◌, map, take, reverse, length, Option, Some, None, Result, Ok, Err}
 use Rattle.script_model.specs.Sexp as sexp
 use Rattle.script_model.specs.Script as script
 use Rattle.script_fault.specs.Answers.{IsFaultOrMemory}
@@ -12,10 +12,12 @@ use Rattle.smt_sexp.specs.Views.{place_of}
 use Rattle.smt_sexp.specs.declared.sexps.Sexps.{Sexps}
 use Rattle.smt_script.specs.Commands.{nowhere}
 use Rattle.smt_script.specs.Levels as levels
-use Rattle.smt_script.specs.Levels.{Asked, Levels, checks_of, only_script, with_command}
+use Rattle.smt_script.specs.Levels.{Asked, Levels, after_step, checks_of, only_script, with_command}
 use Rattle.smt_script.specs.Views.{command_of, commands_in, step_of, steps_in}
 use Rattle.smt_script.specs.declared.command.Command.{Command}
+use Rattle.smt_script.specs.declared.command.Script.{Script}
 use Rattle.smt_script.specs.declared.command.Step.{Step}
+use Rattle.sort_check.specs.declared.force.Force.{Force}
 use Rattle.sort_check.specs.declared.typed.Typed.{Typed}
 use Rattle.sort_check.specs.declared.typed.TypedCourse.{TypedCourse}
 
@@ -51,13 +53,13 @@ abbrev pub first_script : List Asked → Option (List script.Command)
 first_script [] = None
 first_script (a ∷ later) = Some a.script
 
-abbrev pub seen_commands : {A : Type 0} → Sexps → Option (Vec Command A) → Option (List script.Command)
-seen_commands s None = None
-seen_commands s (Some cs) = Some (map (command_of s) cs.items)
+abbrev pub seen_script : Option Script → Option (List script.Command)
+seen_script None = None
+seen_script (Some x) = Some (commands_in x)
 
--- what is in force at the first check among steps, with the check
-abbrev pub StandsAtCheck : {A : Type 0} → List Step → Option (Vec Command A) → Type 0
-StandsAtCheck steps r = (s : Sexps) → seen_commands s r ≡ first_script (checks_of (map (step_of s) steps))
+-- what is in force at the first check among steps over these expressions, with the check
+abbrev pub StandsAtCheck : Sexps → List Step → Option Script → Type 0
+StandsAtCheck s steps r = seen_script r ≡ first_script (checks_of (map (step_of s) steps))
 
 -- the lengths, the innermost first, tell how much of what is in force was there before each level
 abbrev pub AreLengths : List ℕ → List script.Command → List (List script.Command) → Type 0
@@ -79,3 +81,13 @@ Closes force old force' new f = (s : Sexps) (l : Levels) → Stacks s force old 
 -- a command is added, where it holds until its level is closed
 abbrev pub Holds : List Command → List Command → Command → Type 0
 Holds old new c = (s : Sexps) (ns : List ℕ) (l : Levels) → Stacks s old ns l → Stacks s new ns (with_command l (command_of s c))
+
+-- nothing is in force, and no level is open
+pub record IsNothing (f : Force) : Type 0 where
+  pub commands : f.script.commands.items ≡ []
+  pub marks : f.marks.items ≡ []
+
+-- from the levels before a step to those behind it
+abbrev pub Takes : Force → Force → Step → Type 0
+Takes old new step = (s : Sexps) (l : Levels) → Stacks s old.script.commands.items old.marks.items l →
+    Stacks s new.script.commands.items new.marks.items (after_step l (step_of s step))

@@ -1,7 +1,7 @@
 //! The sorts and names of a script.
 //!
 //! `check` answers the same script, all of whose names and sorts fit, or its first fault; `single` what is in force at its
-//! only check. No term is built here.
+//! only check; `Force` keeps what is in force while its steps are taken. No term is built here.
 #![tactic(auto)]
 
 ghost use Rattle.sort_check.specs.SortAnswers.{IsCheckAnswer};
@@ -9,6 +9,7 @@ ghost use Rattle.sort_check.specs.SortAnswers.{IsCheckAnswer};
 mod commands;
 mod expressions;
 mod fault;
+mod force;
 mod forms;
 mod locals;
 mod names;
@@ -18,8 +19,9 @@ mod scope;
 mod stop;
 mod typed;
 
+pub use force::Force;
 pub use forms::{behind, binding, ends, let_form};
-pub use one_check::single;
+pub use one_check::{check_place, single};
 pub use operators::{Operator, operator_named};
 use script_fault::ReadError;
 use smt_script::Course;

@@ -2,7 +2,7 @@ use Rattle.std.proofs.Common.{List, ◌≡◌, subst, Global}
 use Rattle.std.proofs.lemmas.Result.{err_from_is_err_and}
 use Rattle.std.specs.Prelude.{Err}
 use Rattle.smt_script.specs.declared.command.Parameter.{Parameter}
-use Rattle.sort_check.specs.Calls.{faults_asked, sorts_of_arguments}
+use Rattle.sort_check.specs.Calls.{sorts_of_arguments}
 use Rattle.sort_check.specs.Forms.{Lists}
 use Rattle.sort_check.specs.Views.{around, sorts_seen}
 use Rattle.sort_check.proofs.Following.{asked_fails, asked_ok}

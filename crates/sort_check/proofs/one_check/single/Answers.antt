@@ -1,7 +1,7 @@
-use Rattle.std.proofs.Common.{◌≡◌, ◌∙◌, Some, None, ap, map, sym}
+use Rattle.std.proofs.Common.{◌≡◌, ◌∙◌, Some, ap, map, sym}
 use Rattle.smt_script.specs.Levels.{checks_of, no_levels, only_script}
-use Rattle.smt_script.specs.Views.{command_of, step_of, steps_in}
-use Rattle.sort_check.specs.Single.{second_place, seen_commands}
+use Rattle.smt_script.specs.Views.{commands_in, step_of, steps_in}
+use Rattle.sort_check.specs.Single.{second_place, seen_script}
 use Rattle.sort_check.proofs.Following.{asked_sorted}
 use Rattle.sort_check.proofs.Only.{only_is, only_sorted, refuses_none, refuses_second}
 use Rattle.sort_check.proofs.one_check.single.Goals as goal
@@ -13,12 +13,12 @@ returns-in-Some c =
     refuses_second (checks_of (steps_in c.args.typed.course)) c.in-Some.place c.at.result c.at.ensures
     (c.in-Some.ensures s ∙ ap (λ xs. second_place (checks_of (map (step_of s) xs))) c.as_slice.ensures.value)
 
-only : (c : In-Some-2) → only_script (checks_of (steps_in c.args.typed.course)) ≡ Some (map (command_of c.args.typed.course.sexps.now) c.in-Some-2.commands.items)
+only : (c : In-Some-2) → only_script (checks_of (steps_in c.args.typed.course)) ≡ Some (commands_in c.in-Some-2.script)
 only c =
     let s = c.args.typed.course.sexps.now in
-    only_is (checks_of (steps_in c.args.typed.course)) (map (command_of s) c.in-Some-2.commands.items)
+    only_is (checks_of (steps_in c.args.typed.course)) (commands_in c.in-Some-2.script)
     (c.in_default.ensures s ∙ ap (λ xs. second_place (checks_of (map (step_of s) xs))) c.as_slice.ensures.value)
-    (ap (seen_commands s) (sym c.in-Some-2.is) ∙ c.in_ok-commands.ensures s)
+    (ap seen_script (sym c.in-Some-2.is) ∙ c.in_ok-script.ensures)
 
 pub returns-in-Some-2 : goal.returns-in-Some-2
 returns-in-Some-2 c = only (goal.at.returns-in-Some-2 c).In-Some-2
@@ -30,5 +30,4 @@ invariant_of-result c = record {
 
 pub returns-in-None : goal.returns-in-None
 returns-in-None c =
-    let s = c.args.typed.course.sexps.now in
-    refuses_none (checks_of (steps_in c.args.typed.course)) c.at-in-None.result c.at-in-None.ensures (ap (seen_commands s) (sym c.in-None.is) ∙ c.in_ok-commands.ensures s)
+    refuses_none (checks_of (steps_in c.args.typed.course)) c.at-in-None.result c.at-in-None.ensures (ap seen_script (sym c.in-None.is) ∙ c.in_ok-script.ensures)

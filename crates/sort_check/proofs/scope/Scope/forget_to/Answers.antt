@@ -1,4 +1,4 @@
-use Rattle.std.proofs.Common.{◌≡◌, ◌≤◌, ◌<◌, ◌-◌, ap, sym, ◌∙◌, arith, length, take}
+use Rattle.std.proofs.Common.{◌≤◌, ◌-◌, ap, sym, ◌∙◌, arith, length, take}
 use Rattle.std.proofs.lemmas.List.{length-take, take-take, take_all}
 use Rattle.sort_check.proofs.scope.Scope.forget_to.Goals as goal
 

@@ -1,10 +1,10 @@
-use Rattle.std.proofs.Common.{◌≡◌, ◌∙◌, sym, subst, arith}
+use Rattle.std.proofs.Common.{◌≡◌, sym, subst, arith}
 use Rattle.smt_script.specs.Levels.{Levels, closed}
 use Rattle.sort_check.specs.Single.{Stacks}
 use Rattle.sort_check.proofs.Lengths.{emptied, no_items, shortened}
 use Rattle.sort_check.proofs.Scopes.{closed_next}
-use Rattle.sort_check.proofs.one_check.close.Goals as goal
-use Rattle.sort_check.proofs.one_check.close.Goals.{in-Some, in_default}
+use Rattle.sort_check.proofs.force.close.Goals as goal
+use Rattle.sort_check.proofs.force.close.Goals.{in-Some, in_default}
 
 pub loop-level-preserved : goal.loop-level-preserved
 loop-level-preserved c = λ s l h.

@@ -3,7 +3,7 @@ use Rattle.smt_script.specs.Levels.{Levels, opened}
 use Rattle.sort_check.specs.Single.{Stacks}
 use Rattle.sort_check.proofs.Lengths.{lengthened_by}
 use Rattle.sort_check.proofs.Scopes.{opened_next}
-use Rattle.sort_check.proofs.one_check.open.Goals as goal
+use Rattle.sort_check.proofs.force.open.Goals as goal
 
 pub loop-level-preserved : goal.loop-level-preserved
 loop-level-preserved c = λ force n s l h.

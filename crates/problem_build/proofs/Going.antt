@@ -1,0 +1,171 @@
+-- The steps of a script with any number of checks, one after the other.
+use Rattle.std.proofs.Common.{◌≡◌, ℕ, suc, List, [], ◌∷◌, ◌++◌, Bool, true, false, ◌&&◌, cond, nat_le, is_some, Option, Some, None, map, length, refl, ap, sym, ◌∙◌, subst, append_assoc, append-nil}
+use Rattle.std.specs.Prelude.{Result, Ok, Err, reverse}
+use Rattle.std.specs.List.{AllByRecursion}
+use Rattle.std.proofs.lemmas.List.{map-append, length-map, reverse-append}
+use Rattle.poly_graph.specs.Problem.{Problem}
+use Rattle.poly_graph.specs.ProblemViews.{Parts, problem_of}
+use Rattle.script_model.specs.Sexp as sexp
+use Rattle.script_model.specs.Script.{check}
+use Rattle.script_fault.specs.Answers.{IsFaultOrMemory}
+use Rattle.script_fault.specs.declared.fault.ReadError.{ReadError}
+use Rattle.script_fault.specs.declared.fault.ScriptFault.{ScriptFault}
+use Rattle.script_fault.specs.declared.place.Place.{Place}
+use Rattle.script_forms.specs.Walk.{building_fault}
+use Rattle.script_faults.specs.Faults.{first_of, in_building, in_each_check}
+use Rattle.script_faults.specs.Reader.{IsBuiltOf}
+use Rattle.script_faults.specs.Session.{AreBuilt, carried_from, carried_of, is_check, stay_in_force}
+use Rattle.smt_sexp.specs.Views.{place_of}
+use Rattle.smt_sexp.specs.declared.sexps.Sexps.{Sexps}
+use Rattle.smt_script.specs.Levels.{Asked, Levels, Step, command, after_step, asked_from, asked_here, checks_of, no_levels}
+use Rattle.smt_script.specs.Views.{command_of, step_of}
+use Rattle.smt_script.specs.declared.command.Command as code
+use Rattle.smt_script.specs.declared.command.Command.TheVariants as commands
+use Rattle.smt_script.specs.declared.command.Step as code_step
+use Rattle.sort_check.specs.Single.{AreLengths, Stacks, check_place}
+use Rattle.sort_check.specs.Levels.{course_fault}
+use Rattle.sort_check.specs.Sorts.{sort_fault}
+use Rattle.sort_check.specs.declared.force.Force.{Force}
+use Rattle.sort_check.proofs.Following.{asked_sorted}
+use Rattle.sort_check.proofs.Lengths.{asks_nothing, check_is, nothing_held}
+use Rattle.problem_build.specs.BuildAnswers.{IsBuildingError}
+use Rattle.problem_build.specs.Session.{Begins, Goes, Stays, WellSorted, checked_of, problems_of, script_at}
+use Rattle.problem_build.specs.declared.session.Checked.{Checked}
+use Rattle.problem_build.specs.declared.session.Going.{Going}
+use Rattle.problem_build.proofs.Reading.{lifted}
+
+-- ---- one problem more
+
+pub one_more : (bound : Option ℕ) (asked : List Asked) (said : List Bool) (ps : List (Problem × Bool)) (a : Asked) (b : Bool) (p : Problem × Bool) →
+    AreBuilt bound asked said ps → IsBuiltOf bound a.script p.0 → p.1 ≡ b → AreBuilt bound (asked ++ a ∷ []) (said ++ b ∷ []) (ps ++ p ∷ [])
+one_more bound [] [] [] a b p h built same = (built, same, tt)
+one_more bound (x ∷ asked) (y ∷ said) (q ∷ ps) a b p h built same = (h.0, h.1, one_more bound asked said ps a b p h.2 built same)
+one_more bound [] [] (q ∷ ps) a b p h built same = absurd h
+one_more bound [] (y ∷ said) [] a b p h built same = absurd h
+one_more bound [] (y ∷ said) (q ∷ ps) a b p h built same = absurd h
+one_more bound (x ∷ asked) [] [] a b p h built same = absurd h
+one_more bound (x ∷ asked) [] (q ∷ ps) a b p h built same = absurd h
+one_more bound (x ∷ asked) (y ∷ said) [] a b p h built same = absurd h
+
+and_true : (a : Bool) → a ≡ (a && true)
+and_true true = refl
+and_true false = refl
+
+and_also : (a b c : Bool) → (a && (b && c)) ≡ ((a && b) && c)
+and_also true b c = refl
+and_also false b c = refl
+
+-- ---- a step that is no check
+
+module _ (l : Levels) (st : Step) (left : List Step) (none : check_place st ≡ None) where
+  asked_behind : asked_from l (st ∷ left) ≡ asked_from (after_step l st) left
+  asked_behind = ap (λ xs. xs ++ asked_from (after_step l st) left) (asks_nothing l st none)
+
+  carried_behind : (b : Bool) → carried_from b l (st ∷ left) ≡ carried_from b (after_step l st) left
+  carried_behind b = ap (λ o. cond (is_some o) (b ∷ carried_from (stay_in_force (length l.inner) l left) l left) (carried_from b (after_step l st) left)) none
+
+  stay_behind : (n : ℕ) → stay_in_force n l (st ∷ left) ≡ (nat_le n (length (after_step l st).inner) && stay_in_force n (after_step l st) left)
+  stay_behind n = ap (λ o. cond (is_some o) true (nat_le n (length (after_step l st).inner) && stay_in_force n (after_step l st) left)) none
+
+pub step_behind : (bound : Option ℕ) (steps left : List Step) (old new : Going) (st : Step) → check_place st ≡ None → (h : Goes bound steps old (st ∷ left)) →
+    Stacks new.force.script.sexps.now new.force.script.commands.items new.force.marks.items (after_step h.open_levels st) → new.problems.items ≡ old.problems.items → new.before ≡ old.before →
+    new.extends ≡ (old.extends && nat_le old.before (length new.force.script.commands.items)) → Goes bound steps new left
+step_behind bound steps left old new st none h stacks problems before extends =
+    let l = h.open_levels in
+    let next = after_step l st in
+    let many : length new.force.script.commands.items ≡ length next.inner = sym (length-map new.force.script.commands.items (command_of new.force.script.sexps.now)) ∙ ap length stacks.inner in
+    let still : (old.extends && stay_in_force old.before l (st ∷ left)) ≡ (new.extends && stay_in_force new.before next left) =
+    ap (λ b. old.extends && b) (stay_behind l st left none old.before) ∙
+    and_also old.extends (nat_le old.before (length next.inner)) (stay_in_force old.before next left) ∙
+    ap (λ n. (old.extends && nat_le old.before n) && stay_in_force old.before next left) (sym many) ∙
+    ap (λ b. b && stay_in_force old.before next left) (sym extends) ∙
+    ap (λ n. new.extends && stay_in_force n next left) (sym before) in
+    record {
+      open_levels = next;
+      stacks = stacks;
+      done = h.done;
+      said = h.said;
+      built = subst (λ (ps : List Checked). AreBuilt bound h.done h.said (problems_of ps)) (sym problems) h.built;
+      asked = h.asked ∙ ap (λ xs. h.done ++ xs) (asked_behind l st left none);
+      carried = h.carried ∙ ap (λ xs. h.said ++ xs) (carried_behind l st left none (old.extends && stay_in_force old.before l (st ∷ left)) ∙ ap (λ b. carried_from b next left) still);
+      clean = h.clean ∙ ap (in_each_check bound) (asked_behind l st left none);
+      sorted = subst (AllByRecursion WellSorted) (asked_behind l st left none) h.sorted;
+    }
+
+-- ---- a check
+
+module _ (bound : Option ℕ) (steps left : List Step) (old : Going) (st : Step) (at : Place) (is : check_place st ≡ Some (place_of at)) (h : Goes bound steps old (st ∷ left)) where
+  here : Goes bound steps old (command (check (place_of at)) ∷ left)
+  here = subst (λ (x : Step). Goes bound steps old (x ∷ left)) (check_is st (place_of at) is) h
+
+  script_is : script_at old.force at ≡ here.open_levels.inner ++ check (place_of at) ∷ []
+  script_is = ap (λ xs. xs ++ check (place_of at) ∷ []) here.stacks.inner
+
+  pub sorted_here : sort_fault (script_at old.force at) ≡ None
+  sorted_here = ap sort_fault script_is ∙ here.sorted.0
+
+  pub refused_here : (e : ReadError) → IsBuildingError e (building_fault bound (script_at old.force at)) → IsFaultOrMemory e (in_each_check bound (checks_of steps))
+  refused_here e bad = lifted e (in_building (building_fault bound (script_at old.force at))) (in_each_check bound (checks_of steps))
+      (λ x t. here.clean ∙ ap (λ o. first_of o (in_each_check bound (asked_from here.open_levels left))) (ap (λ cs. in_building (building_fault bound cs)) (sym script_is) ∙ t)) bad
+
+  pub check_behind : (new : Going) (p : Checked) → (building_fault bound (script_at old.force at) ≡ None) × IsBuiltOf bound (script_at old.force at) (problem_of p.problem) → p.extends ≡ old.extends →
+      Stays old.force new.force → new.problems.items ≡ old.problems.items ++ p ∷ [] → new.before ≡ length new.force.script.commands.items → new.extends ≡ true → Goes bound steps new left
+  check_behind new p built same stays problems before extends =
+      let l = here.open_levels in
+      let a : Asked = record { at = place_of at; script = l.inner ++ check (place_of at) ∷ [] } in
+      let b : Bool = old.extends && true in
+      let inner : map (command_of new.force.script.sexps.now) new.force.script.commands.items ≡ l.inner =
+      ap (λ xs. map (command_of new.force.script.sexps.now) xs) stays.commands ∙ ap (λ s. map (command_of s) old.force.script.commands.items) stays.sexps ∙ here.stacks.inner in
+      let many : new.before ≡ length l.inner = before ∙ sym (length-map new.force.script.commands.items (command_of new.force.script.sexps.now)) ∙ ap length inner in
+      let still : stay_in_force (length l.inner) l left ≡ (new.extends && stay_in_force new.before l left) =
+      ap (λ x. x && stay_in_force (length l.inner) l left) (sym extends) ∙ ap (λ n. new.extends && stay_in_force n l left) (sym many) in
+      record {
+        open_levels = l;
+        stacks = record { inner = inner; outer = subst (λ (ms : List ℕ). AreLengths (reverse ms) l.inner l.outer) (sym stays.marks) here.stacks.outer };
+        done = here.done ++ a ∷ [];
+        said = here.said ++ b ∷ [];
+        built = subst (λ (ps : List (Problem × Bool)). AreBuilt bound (here.done ++ a ∷ []) (here.said ++ b ∷ []) ps) (sym (ap problems_of problems ∙ map-append checked_of old.problems.items (p ∷ [])))
+            (one_more bound here.done here.said (problems_of old.problems.items) a b (checked_of p) here.built
+            (subst (λ cs. IsBuiltOf bound cs (problem_of p.problem)) script_is built.1) (same ∙ and_true old.extends));
+        asked = here.asked ∙ sym (append_assoc here.done (a ∷ []) (asked_from l left));
+        carried = here.carried ∙ sym (append_assoc here.said (b ∷ []) (carried_from (stay_in_force (length l.inner) l left) l left)) ∙ ap (λ x. (here.said ++ b ∷ []) ++ carried_from x l left) still;
+        clean = here.clean ∙ ap (λ cs. first_of (in_building (building_fault bound cs)) (in_each_check bound (asked_from l left))) (sym script_is) ∙
+            ap (λ o. first_of (in_building o) (in_each_check bound (asked_from l left))) built.0;
+        sorted = here.sorted.1;
+      }
+
+-- ---- the first step and the last
+
+pub begun : (bound : Option ℕ) (steps : List Step) (g : Going) → Begins g → course_fault steps ≡ None → Goes bound steps g steps
+begun bound steps g b sorted = record {
+  open_levels = no_levels;
+  stacks = nothing_held g.force.script.sexps.now g.force.script.commands.items g.force.marks.items b.nothing.commands b.nothing.marks;
+  done = [];
+  said = [];
+  built = subst (λ (ps : List Checked). AreBuilt bound [] [] (problems_of ps)) (sym b.problems) tt;
+  asked = refl;
+  carried = ap (λ x. carried_from (x && stay_in_force g.before no_levels steps) no_levels steps) (sym b.extends);
+  clean = refl;
+  sorted = asked_sorted no_levels steps sorted;
+}
+
+pub finished : (bound : Option ℕ) (steps : List Step) (g : Going) → Goes bound steps g [] →
+    (in_each_check bound (checks_of steps) ≡ None) × AreBuilt bound (checks_of steps) (carried_of steps) (problems_of g.problems.items)
+finished bound steps g h = (
+  h.clean,
+  subst (λ (asked : List Asked). AreBuilt bound asked (carried_of steps) (problems_of g.problems.items)) (sym (h.asked ∙ append-nil h.done))
+      (subst (λ (said : List Bool). AreBuilt bound h.done said (problems_of g.problems.items)) (sym (h.carried ∙ append-nil h.said)) h.built),
+)
+
+pub next_left : (s : Sexps) (old new : List code_step.Step) (x : code_step.Step) → old ≡ new ++ x ∷ [] → map (step_of s) (reverse old) ≡ step_of s x ∷ map (step_of s) (reverse new)
+next_left s old new x is = ap (λ xs. map (step_of s) (reverse xs)) is ∙ ap (map (step_of s)) (reverse-append new (x ∷ []))
+
+pub taken : (bound : Option ℕ) (steps : List Step) (g : Going) (s : Sexps) (old new : List code_step.Step) (x : code_step.Step) → g.force.script.sexps.now ≡ s → old ≡ new ++ x ∷ [] →
+    Goes bound steps g (map (step_of s) (reverse old)) → Goes bound steps g (step_of g.force.script.sexps.now x ∷ map (step_of s) (reverse new))
+taken bound steps g s old new x same is h = subst (λ (k : Sexps). Goes bound steps g (step_of k x ∷ map (step_of s) (reverse new))) (sym same)
+    (subst (λ (xs : List Step). Goes bound steps g xs) (next_left s old new x is) h)
+
+-- what is asked, as the code has it
+pub pushed_is : (force : Force) (items : List code.Command) (at : Place) → items ≡ force.script.commands.items ++ commands.Check at ∷ [] →
+    map (command_of force.script.sexps.now) items ≡ script_at force at
+pushed_is force items at is = ap (map (command_of force.script.sexps.now)) is ∙ map-append (command_of force.script.sexps.now) force.script.commands.items (commands.Check at ∷ [])

@@ -1,0 +1,54 @@
+use Rattle.std.proofs.Common.{List, ap, map, subst, sym, ◌∙◌}
+use Rattle.std.specs.Prelude.{reverse}
+use Rattle.std.proofs.lemmas.List.{reverse-reverse}
+use Rattle.std.proofs.lemmas.Result.{err_from_is_err_and}
+use Rattle.sort_check.proofs.Lengths.{no_items}
+use Rattle.smt_script.specs.Levels.{Step}
+use Rattle.smt_script.specs.Views.{step_of, steps_in}
+use Rattle.problem_build.specs.Session.{Goes}
+use Rattle.problem_build.proofs.Going.{begun, finished, taken}
+use Rattle.problem_build.proofs.session.build_all.Goals as goal
+
+pub loop-step-init : goal.loop-step-init
+loop-step-init c =
+    let s = c.args.typed.course.sexps.now in (
+      c.new-going.ensures.sexps,
+      subst (λ (xs : List Step). Goes c.args.bound (steps_in c.args.typed.course) c.new-going.result xs)
+          (ap (map (step_of s)) (sym (reverse-reverse c.args.typed.course.steps.items) ∙ ap reverse (sym c.reverse.ensures.items)))
+          (begun c.args.bound (steps_in c.args.typed.course) c.new-going.result c.new-going.ensures.begins c.args.typed.sorted),
+    )
+
+pub take-requires : goal.take-requires
+take-requires c =
+    let s = c.args.typed.course.sexps.now in
+    let i = c.loop-step.invariant in record {
+      taken = record {
+        steps = steps_in c.args.typed.course;
+        left = map (step_of s) (reverse c.pop.new.self.items);
+        goes = taken c.args.bound (steps_in c.args.typed.course) c.loop-step.going s c.loop-step.left.items c.pop.new.self.items c.in-Some.step i.0 c.in-Some.ensures.items i.1;
+      };
+    }
+
+pub loop-step-preserved : goal.loop-step-preserved
+loop-step-preserved c =
+    let s = c.args.typed.course.sexps.now in
+    let i = c.loop-step.invariant in
+    let next = taken c.args.bound (steps_in c.args.typed.course) c.loop-step.going s c.loop-step.left.items c.pop.new.self.items c.in-Some.step i.0 c.in-Some.ensures.items i.1 in
+    let t = c.in_ok-take.ensures.goes (steps_in c.args.typed.course) (map (step_of s) (reverse c.pop.new.self.items)) next in
+    (t.1 ∙ i.0, t.0)
+
+pub returns-in_err-take : goal.returns-in_err-take
+returns-in_err-take c =
+    let s = c.args.typed.course.sexps.now in
+    let i = c.loop-step.invariant in
+    let next = taken c.args.bound (steps_in c.args.typed.course) c.loop-step.going s c.loop-step.left.items c.pop.new.self.items c.in-Some.step i.0 c.in-Some.ensures.items i.1 in
+    let p = err_from_is_err_and c.from_residual.result c.from_residual.ensures.1 in
+    rw (p.1, p.2) (c.in_err-take.ensures.goes (steps_in c.args.typed.course) (map (step_of s) (reverse c.pop.new.self.items)) next)
+
+pub returns : goal.returns
+returns c =
+    let s = c.args.typed.course.sexps.now in
+    let i = c.loop-step.invariant in
+    let left = c.loop-step.left in
+    finished c.args.bound (steps_in c.args.typed.course) c.loop-step.going
+    (subst (λ xs. Goes c.args.bound (steps_in c.args.typed.course) c.loop-step.going (map (step_of s) (reverse xs))) (no_items left.len left.items left.ok.0 c.in_default.ensures.cases.0) i.1)
