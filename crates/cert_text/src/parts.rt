@@ -89,7 +89,11 @@ fn append_step(text: &mut Vec<u8>, step: &Step) -> Result<(), AllocError>
         Step::Push(atom) => append_counted(text, Counted::Atom(AtomRule::Push), *atom),
         Step::Unit(atom) => append_counted(text, Counted::Atom(AtomRule::Unit), *atom),
         Step::Ban(atom, lemma) => append_ban(text, *atom, *lemma),
-        Step::Combine(combination) => append_combination(text, CombinationRule::Combine, combination),
+        Step::Combine(combination) => append_combination(
+            text,
+            CombinationRule::Combine,
+            combination,
+        ),
     }
 }
 
@@ -99,7 +103,11 @@ fn append_end(text: &mut Vec<u8>, end: &End) -> Result<(), AllocError>
     match end {
         End::Void(atom) => append_counted(text, Counted::Atom(AtomRule::Void), *atom),
         End::VoidNo(atom) => append_counted(text, Counted::Atom(AtomRule::VoidNo), *atom),
-        End::VoidCombine(combination) => append_combination(text, CombinationRule::VoidCombine, combination),
+        End::VoidCombine(combination) => append_combination(
+            text,
+            CombinationRule::VoidCombine,
+            combination,
+        ),
         End::False => append_plain(text, Plain::False),
         End::By(lemma) => append_counted(text, Counted::By, *lemma),
         End::Cut(axis, at) => append_cut(text, *axis, *at),

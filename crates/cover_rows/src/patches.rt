@@ -8,8 +8,8 @@ ghost use Rattle.cover_data.specs.Views.{kept_of};
 
 use crate::made::problem;
 use cert_read::{BoolSet, Line, LineReader};
-use cover_line::{AtomRule, CombinationRule, Rule};
 use cover_book::Book;
+use cover_line::{AtomRule, CombinationRule, Rule};
 use cover_rule::{End, KeptPatch, Lemma, Options, Patch, PatchRefusal, State, Step};
 use ival::{Domain, Range, Space, Truths};
 use poly_graph::{Lits, Mark};
@@ -175,7 +175,9 @@ fn answer_by(book: &Book, lemma: &Lemma, patch: &mut Patch, line: &Line) -> Opti
     ensures margins { patch.new.margins ≡ patch.old.margins }
 {
     match line {
-        Line::Rule(Rule::Ban(j, id)) if *id == lemma.id() && is_atom(book, *j) => Some(patch.ban(*j, lemma)),
+        Line::Rule(Rule::Ban(j, id)) if *id == lemma.id() && is_atom(book, *j) => Some(patch.ban(
+            *j, lemma,
+        )),
         Line::Rule(Rule::By(id)) if *id == lemma.id() => Some(patch.by(lemma)),
         _ => None,
     }
@@ -195,9 +197,15 @@ fn answer(book: &Book, lemma: Option<&Lemma>, patch: &mut Patch, line: &Line) ->
         Line::Rule(Rule::False) => Some(patch.make_false()),
         Line::Rule(Rule::Cut(_, _)) => Some(patch.cut()),
         Line::Rule(Rule::Flip(axis)) if is_axis(book, *axis) => Some(patch.flip(*axis)),
-        Line::Rule(Rule::Combination(CombinationRule::Combine, pairs)) => Some(patch.combine(pairs)),
-        Line::Rule(Rule::Combination(CombinationRule::VoidCombine, pairs)) => Some(patch.void_combine(pairs)),
-        Line::Rule(Rule::Ban(_, _)) | Line::Rule(Rule::By(_)) => answer_by(book, lemma?, patch, line),
+        Line::Rule(Rule::Combination(CombinationRule::Combine, pairs)) => Some(patch.combine(
+            pairs,
+        )),
+        Line::Rule(Rule::Combination(CombinationRule::VoidCombine, pairs)) => Some(
+            patch.void_combine(pairs),
+        ),
+        Line::Rule(Rule::Ban(_, _)) | Line::Rule(Rule::By(_)) => answer_by(
+            book, lemma?, patch, line,
+        ),
         _ => answer_at_atom(book, patch, line),
     }
 }
@@ -355,7 +363,8 @@ fn is_step(line: &Line, step: &Step) -> bool {
         (Line::Rule(Rule::Atom(AtomRule::Unit, j)), Step::Unit(k)) => *j == *k,
         (Line::Rule(Rule::Ban(j, id)), Step::Ban(k, quoted)) => *j == *k && *id == *quoted,
         (Line::Rule(Rule::Atom(AtomRule::Push, j)), Step::Push(k)) => *j == *k,
-        (Line::Rule(Rule::Combination(CombinationRule::Combine, pairs)), Step::Combine(made)) => pairs.as_slice() == made.pairs.as_slice(),
+        (Line::Rule(Rule::Combination(CombinationRule::Combine, pairs)), Step::Combine(made)) =>
+            pairs.as_slice() == made.pairs.as_slice(),
         _ => false,
     }
 }
@@ -387,9 +396,10 @@ fn is_end(line: &Line, end: &End) -> bool {
         (Line::Rule(Rule::Atom(AtomRule::Void, j)), End::Void(k)) => *j == *k,
         (Line::Rule(Rule::Atom(AtomRule::VoidNo, j)), End::VoidNo(k)) => *j == *k,
         (Line::Rule(Rule::By(id)), End::By(quoted)) => *id == *quoted,
-        (Line::Rule(Rule::Combination(CombinationRule::VoidCombine, pairs)), End::VoidCombine(made)) => {
-            pairs.as_slice() == made.pairs.as_slice()
-        }
+        (
+            Line::Rule(Rule::Combination(CombinationRule::VoidCombine, pairs)),
+            End::VoidCombine(made),
+        ) => { pairs.as_slice() == made.pairs.as_slice() }
         _ => false,
     }
 }

@@ -97,11 +97,16 @@ fn is_said(line: &Line, said: &Said) -> bool {
             is_number(*low, least) && is_number(*high, most)
         }
         (Line::RealValue(value), Said::Value(text)) => is_number(*value, text),
-        (Line::Rule(Rule::Cut(axis, place)), Said::Cut(of, text)) => *axis == *of && is_number(*place, text),
+        (Line::Rule(Rule::Cut(axis, place)), Said::Cut(of, text)) => *axis == *of
+            && is_number(*place, text),
         (Line::Yes(atoms), Said::Yes(wanted)) => atoms.as_slice() == *wanted,
         (Line::No(atoms), Said::No(wanted)) => atoms.as_slice() == *wanted,
-        (Line::Rule(Rule::Combination(CombinationRule::Combine, pairs)), Said::Combine(wanted)) => are_pairs(pairs, wanted),
-        (Line::Rule(Rule::Combination(CombinationRule::VoidCombine, pairs)), Said::VoidCombine(wanted)) => are_pairs(pairs, wanted),
+        (Line::Rule(Rule::Combination(CombinationRule::Combine, pairs)), Said::Combine(wanted)) =>
+            are_pairs(pairs, wanted),
+        (
+            Line::Rule(Rule::Combination(CombinationRule::VoidCombine, pairs)),
+            Said::VoidCombine(wanted),
+        ) => are_pairs(pairs, wanted),
         (line, Said::Plain(wanted)) => plain_of(line) == Some(*wanted),
         _ => false,
     }
