@@ -1,16 +1,21 @@
 use Rattle.std.proofs.Common.{◌≡◌, sym, subst, map, IfOk}
 use Rattle.cover_model.specs.Rules.{rule}
-use Rattle.poly_graph.specs.ProblemViews.{problem_of}
-use Rattle.cover_line.specs.Views.{line_of as rule_of}
+use Rattle.cover_line.specs.declared.rule.AtomRule.TheVariants as atom
 use Rattle.cover_line.specs.declared.rule.Rule.{Rule}
+use Rattle.cover_line.specs.declared.rule.Rule.TheVariants as line
+use Rattle.cover_line.specs.Views.{line_of as rule_of}
+use Rattle.poly_graph.specs.ProblemViews.{problem_of}
 use Rattle.cert_check.specs.States.{state_of, lemma_of, loosenings_of}
 use Rattle.cert_check.specs.Steps.{lefts}
 use Rattle.cert_check.proofs.Results.{if_ok}
 use Rattle.cert_check.proofs.rules.rule.Goals as goal
 
-pub returns-in-Case-clause-rule : goal.returns-in-Case-clause-rule
-returns-in-Case-clause-rule c =
-    subst (λ (x : Rule). IfOk c.case.result (λ o. lefts o ≡ rule (problem_of c.args.problem.now) (loosenings_of c.args.s) (map lemma_of c.args.lemmas.now) (state_of c.args.state) (rule_of x))) (sym c.in-Case.is)
+pub returns-in-Atom-Case-default-clause-rule : goal.returns-in-Atom-Case-default-clause-rule
+returns-in-Atom-Case-default-clause-rule c =
+    let is = c.in-Atom-Case-default.is in
+    let of = c.in-Atom-Case-default.field-0-is in
+    let e : c.args.step.now ≡ line.Atom atom.Case c.in-Atom-Case-default.j = cc in
+    subst (λ (x : Rule). IfOk c.case.result (λ o. lefts o ≡ rule (problem_of c.args.problem.now) (loosenings_of c.args.s) (map lemma_of c.args.lemmas.now) (state_of c.args.state) (rule_of x))) (sym e)
     (if_ok c.case.result (λ o h. h c.args.problem.now (loosenings_of c.args.s)) c.case.ensures)
 
 pub returns-in-Cut-clause-rule : goal.returns-in-Cut-clause-rule
