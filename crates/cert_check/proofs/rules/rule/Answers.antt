@@ -1,5 +1,6 @@
-use Rattle.std.proofs.Common.{◌≡◌, sym, subst, map, IfOk}
+use Rattle.std.proofs.Common.{◌≡◌, sym, ap, ◌∙◌, subst, map, IfOk}
 use Rattle.cover_model.specs.Rules.{rule}
+use Rattle.cover_line.specs.declared.rule.AtomRule.{AtomRule}
 use Rattle.cover_line.specs.declared.rule.AtomRule.TheVariants as atom
 use Rattle.cover_line.specs.declared.rule.Rule.{Rule}
 use Rattle.cover_line.specs.declared.rule.Rule.TheVariants as line
@@ -12,9 +13,7 @@ use Rattle.cert_check.proofs.rules.rule.Goals as goal
 
 pub returns-in-Atom-Case-default-clause-rule : goal.returns-in-Atom-Case-default-clause-rule
 returns-in-Atom-Case-default-clause-rule c =
-    let is = c.in-Atom-Case-default.is in
-    let of = c.in-Atom-Case-default.field-0-is in
-    let e : c.args.step.now ≡ line.Atom atom.Case c.in-Atom-Case-default.j = cc in
+    let e : c.args.step.now ≡ line.Atom atom.Case c.in-Atom-Case-default.j = c.in-Atom-Case-default.is ∙ ap (λ (r : AtomRule). line.Atom r c.in-Atom-Case-default.j) c.in-Atom-Case-default.field-0-is in
     subst (λ (x : Rule). IfOk c.case.result (λ o. lefts o ≡ rule (problem_of c.args.problem.now) (loosenings_of c.args.s) (map lemma_of c.args.lemmas.now) (state_of c.args.state) (rule_of x))) (sym e)
     (if_ok c.case.result (λ o h. h c.args.problem.now (loosenings_of c.args.s)) c.case.ensures)
 
