@@ -13,7 +13,8 @@ use Rattle.cert_check.proofs.rules.rule.Goals as goal
 
 pub returns-in-Atom-Case-default-clause-rule : goal.returns-in-Atom-Case-default-clause-rule
 returns-in-Atom-Case-default-clause-rule c =
-    let e : c.args.step.now ≡ line.Atom atom.Case c.in-Atom-Case-default.j = c.in-Atom-Case-default.is ∙ ap (λ (r : AtomRule). line.Atom r c.in-Atom-Case-default.j) c.in-Atom-Case-default.field-0-is in
+    let of : c.in-Atom-Case-default.field-0 ≡ atom.Case = rw c.in-Atom-Case-default.is at c.in-Atom-Case-default.field-0-is in
+    let e : c.args.step.now ≡ line.Atom atom.Case c.in-Atom-Case-default.j = c.in-Atom-Case-default.is ∙ ap (λ (r : AtomRule). line.Atom r c.in-Atom-Case-default.j) of in
     subst (λ (x : Rule). IfOk c.case.result (λ o. lefts o ≡ rule (problem_of c.args.problem.now) (loosenings_of c.args.s) (map lemma_of c.args.lemmas.now) (state_of c.args.state) (rule_of x))) (sym e)
     (if_ok c.case.result (λ o h. h c.args.problem.now (loosenings_of c.args.s)) c.case.ensures)
 
