@@ -3,8 +3,9 @@ use Rattle.std.proofs.Common.{◌≡◌, ℕ, zero, suc, List, [], ◌∷◌, �
 use Rattle.poly_graph.specs.Problem.{Problem}
 use Rattle.cover_model.specs.State.{State, Loosenings}
 use Rattle.cover_model.specs.Rules.{Left, closed, one, two, stays, rule}
-use Rattle.cert_read.specs.CertLine.{CertLine, end_word, rule_line, word_of, Parsed, too_long, bad_line, bad_number, line, parsed}
-use Rattle.cert_model.specs.Due.{CertFault, RuleFails, Standing, at_point, left_open, Due, tree_due, end_due, nothing_due, Next, on, faulty, names_well, rule_of, after_rule, tree_goes_on}
+use Rattle.cover_line.specs.Words.{word_of}
+use Rattle.cert_read.specs.CertLine.{CertLine, end_word, rule_line, Parsed, too_long, bad_line, bad_number, line, parsed}
+use Rattle.cert_model.specs.Due.{CertFault, RuleFails, Standing, at_point, left_open, Due, tree_due, end_due, nothing_due, Next, on, faulty, names_well, after_rule, tree_goes_on}
 use Rattle.cert_model.specs.Accepted.{Course, stopped, reached, next, next_parsed, ruled_line, course, course_next}
 use Rattle.cert_check.specs.Dues.{blanks, lean_left, lean, lean_next, lean_course}
 use Rattle.cert_check.specs.Courses.{leads, after, after_all}
@@ -45,7 +46,7 @@ module _ (p : Problem) (b : Option ℕ) where
   tree-lean : (s : Loosenings) (lemmas : List State) (S : State) (pending : List State) (done : List Standing) (l : CertLine) →
       lean_next (next p b (tree_due s lemmas S pending done) l) ≡ lean_next (next p b (tree_due s lemmas S pending (lean_left done)) l)
   tree-lean s lemmas S pending done (rule_line l) =
-      ruled-lean s lemmas (names_well p (rule_of l)) (rule p s lemmas S (rule_of l)) (RuleFails (word_of l)) (record { state = S; does = rule_of l }) pending done
+      ruled-lean s lemmas (names_well p l) (rule p s lemmas S l) (RuleFails (word_of l)) (record { state = S; does = l }) pending done
   tree-lean s lemmas S pending done _ = refl
 
   end-lean : (s : Loosenings) (left : List Standing) (l : CertLine) → lean_next (next p b (end_due s (left_open left)) l) ≡ lean_next (next p b (end_due s (left_open (lean_left left))) l)

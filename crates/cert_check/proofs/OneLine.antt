@@ -13,7 +13,8 @@ use Rattle.cert_check.specs.declared.due.Due as held
 use Rattle.cert_check.specs.declared.refusal.Refusal.{Refusal}
 use Rattle.cert_check.specs.declared.refusal.Refusal.TheVariants.{BadHeader, BadNumber, RuleFails, Missing, Extra, WrongBound, NotShown, BadLine, LineTooLong, Memory}
 use Rattle.cert_check.specs.Dues.{lean_next, due_of}
-use Rattle.cert_check.specs.Faults.{IsLineRefusal, stop_of, fault_at, refusal_of, rule_word}
+use Rattle.cover_line.specs.Views.{rule_word}
+use Rattle.cert_check.specs.Faults.{IsLineRefusal, stop_of, fault_at, refusal_of}
 use Rattle.cert_check.specs.Courses.{leads, after}
 use Rattle.cert_check.specs.Stages.{IsLed, HasLed}
 use Rattle.cert_check.specs.declared.fault.CertFault.{CertFault}

@@ -1,13 +1,14 @@
 -- A line adds at most one state that stays.
 use Rattle.std.proofs.Common.{◌≡◌, ℕ, suc, ◌+◌, ◌≤◌, List, [], ◌∷◌, ◌++◌, length, Bool, true, false, cond, Option, Some, None, refl, ap, arith, nat_lt, nat_le, nat_eq, ◌&&◌, drop, length-append}
 use Rattle.std.proofs.lemmas.List.{length-replicate}
-use Rattle.cert_read.specs.CertLine.{CertLine, RuleLine, says_both, says_false, says_true, version, margin, delta, bound, cover, point_word, tree_word, end_word, lemma, real_interval, real_value, bool_value, yes_list, no_list, rule_line, crossing, word_of}
+use Rattle.cover_line.specs.Words.{word_of}
+use Rattle.cert_read.specs.CertLine.{CertLine, says_both, says_false, says_true, version, margin, delta, bound, cover, point_word, tree_word, end_word, lemma, real_interval, real_value, bool_value, yes_list, no_list, rule_line, crossing}
 use Rattle.interval_model.specs.Space.{Space}
-use Rattle.cover_model.specs.Rules.{Left, closed, one, two, stays as stays-left, rule}
+use Rattle.cover_model.specs.Rules.{Left, closed, one, two, stays as stays-left, rule, Line}
 use Rattle.cover_model.specs.State.{State, Loosenings, root_state}
 use Rattle.poly_graph.specs.Problem.{Declared, real_between, any_bool, Axis, Problem, crosses}
 use Rattle.poly_graph.specs.ProblemViews.{Parts, problem_of}
-use Rattle.cert_model.specs.Due.{CertFault, BadHeader, BadNumber, RuleFails, Missing, WrongBound, NotShown, Standing, at_point, left_open, Due, version_due, margin_due, delta_due, bound_due, kind_due, next_due, axis_due, yes_due, no_due, lemma_due, root_due, tree_due, coordinate_due, end_due, nothing_due, Next, on, faulty, given, is_version, same_bound, ascends, apart, all_below, state_of, rule_of, names_well, after_rule, after_lemma_rule, tree_goes_on, lemma_goes_on, axis_next, is_crossed_box, coordinate_next, is_shown}
+use Rattle.cert_model.specs.Due.{CertFault, BadHeader, BadNumber, RuleFails, Missing, WrongBound, NotShown, Standing, at_point, left_open, Due, version_due, margin_due, delta_due, bound_due, kind_due, next_due, axis_due, yes_due, no_due, lemma_due, root_due, tree_due, coordinate_due, end_due, nothing_due, Next, on, faulty, given, is_version, same_bound, ascends, apart, all_below, state_of, names_well, after_rule, after_lemma_rule, tree_goes_on, lemma_goes_on, axis_next, is_crossed_box, coordinate_next, is_shown}
 use Rattle.cert_model.specs.Accepted.{most_lemmas, loosenings_fit, ruled_line, lemma_line, tree_line, root_line, no_crossing, axis_line, coordinate_line, next}
 use Rattle.ival.specs.SpaceViews.{space_of}
 use Rattle.cert_check.specs.declared.due.Due as held
@@ -88,19 +89,19 @@ coordinate-line-most n s any_bool axes space (bool_value says_false) = coordinat
 coordinate-line-most n s any_bool axes space (bool_value says_true) = coordinate-most n s axes _
 coordinate-line-most n s a axes space l = tt
 
-lemma-line-most : (p : Problem) (s : Loosenings) (k : ℕ) (lemmas : List State) (L S : State) (pending : List State) (l : RuleLine) → AtMost 1 (lemma_line p s k lemmas L S pending l)
+lemma-line-most : (p : Problem) (s : Loosenings) (k : ℕ) (lemmas : List State) (L S : State) (pending : List State) (l : Line) → AtMost 1 (lemma_line p s k lemmas L S pending l)
 lemma-line-most p s k lemmas L S pending l =
-    let o = rule p s lemmas S (rule_of l) in
-    ruled-most 1 (names_well p (rule_of l)) (after_lemma_rule o (RuleFails (word_of l)) pending (lemma_goes_on s k lemmas L)) (after-lemma-most 1 o (RuleFails (word_of l)) pending s k lemmas L)
+    let o = rule p s lemmas S l in
+    ruled-most 1 (names_well p l) (after_lemma_rule o (RuleFails (word_of l)) pending (lemma_goes_on s k lemmas L)) (after-lemma-most 1 o (RuleFails (word_of l)) pending s k lemmas L)
 
-tree-line-most : (p : Problem) (s : Loosenings) (lemmas : List State) (S : State) (pending : List State) (done : List Standing) (l : RuleLine) → AtMost (suc (length done)) (tree_line p s lemmas S pending done l)
+tree-line-most : (p : Problem) (s : Loosenings) (lemmas : List State) (S : State) (pending : List State) (done : List Standing) (l : Line) → AtMost (suc (length done)) (tree_line p s lemmas S pending done l)
 tree-line-most p s lemmas S pending done l =
-    let o = rule p s lemmas S (rule_of l) in
-    let x : Standing = record { state = S; does = rule_of l } in
-    ruled-most (suc (length done)) (names_well p (rule_of l)) (after_rule o (RuleFails (word_of l)) x pending done (tree_goes_on s lemmas)) (after-most o (RuleFails (word_of l)) x pending done s lemmas)
+    let o = rule p s lemmas S l in
+    let x : Standing = record { state = S; does = l } in
+    ruled-most (suc (length done)) (names_well p l) (after_rule o (RuleFails (word_of l)) x pending done (tree_goes_on s lemmas)) (after-most o (RuleFails (word_of l)) x pending done s lemmas)
 
-root-line-most : (t : Bool) (p : Problem) (s : Loosenings) (lemmas : List State) (l : RuleLine) → AtMost 1 (root_line t p s lemmas l)
-root-line-most true p s lemmas l = ruled-most 1 (names_well p (rule_of l)) (faulty (RuleFails (word_of l))) tt
+root-line-most : (t : Bool) (p : Problem) (s : Loosenings) (lemmas : List State) (l : Line) → AtMost 1 (root_line t p s lemmas l)
+root-line-most true p s lemmas l = ruled-most 1 (names_well p l) (faulty (RuleFails (word_of l))) tt
 root-line-most false p s lemmas l = tree-line-most p s lemmas (root_state p) [] [] l
 
 next-most : (p : Problem) (b : Option ℕ) (d : Due) (l : CertLine) → AtMost (suc (stays d)) (next p b d l)

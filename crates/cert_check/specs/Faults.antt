@@ -1,35 +1,15 @@
 -- The code's faults as the definitions see them.
 use Rattle.std.specs.Prelude.{◌≡◌, ℕ, Option, Some, None}
-use Rattle.cert_read.specs.CertLine.{RuleWord, empty_word, pull_word, unit_word, ban_word, void_word, push_word, void_no_word, false_word, by_word, cut_word, flip_word, case_word, open_word, stuck_word, combine_word, void_combine_word}
+use Rattle.cover_line.specs.Views.{rule_word}
 use Rattle.cert_read.specs.declared.fault.LineFault.{LineFault}
 use Rattle.cert_read.specs.declared.fault.LineFault.TheVariants as unread
 use Rattle.cert_model.specs.Due as due
 use Rattle.cert_model.specs.Due.{Next, faulty}
 use Rattle.cert_model.specs.Accepted.{Course, stopped}
-use Rattle.cert_check.specs.declared.fault.Rule.{Rule}
-use Rattle.cert_check.specs.declared.fault.Rule.TheVariants as word
 use Rattle.cert_check.specs.declared.fault.CertFault.{CertFault}
 use Rattle.cert_check.specs.declared.fault.CertFault.TheVariants as numbered
 use Rattle.cert_check.specs.declared.refusal.Refusal.{Refusal}
 use Rattle.cert_check.specs.declared.refusal.Refusal.TheVariants.{BadHeader, BadNumber, RuleFails, Missing, Extra, WrongBound, NotShown, BadLine, LineTooLong, Memory}
-
-abbrev pub rule_word : Rule → RuleWord
-rule_word word.Empty = empty_word
-rule_word word.Pull = pull_word
-rule_word word.Unit = unit_word
-rule_word word.Ban = ban_word
-rule_word word.Void = void_word
-rule_word word.Push = push_word
-rule_word word.VoidNo = void_no_word
-rule_word word.False = false_word
-rule_word word.By = by_word
-rule_word word.Cut = cut_word
-rule_word word.Flip = flip_word
-rule_word word.Case = case_word
-rule_word word.Open = open_word
-rule_word word.Stuck = stuck_word
-rule_word word.Combine = combine_word
-rule_word word.VoidCombine = void_combine_word
 
 -- where a certificate stops with the fault; nowhere for out of memory
 abbrev pub stop_of : CertFault → Option Course

@@ -2,29 +2,9 @@
 ghost use Rattle.std.specs.Prelude.{◌≡◌};
 ghost use Rattle.cert_check.specs.declared.fault.CertFault.TheVariants.{Memory};
 
+use cover_line::Word;
 use std::alloc::AllocError;
 use thiserror::Error;
-
-/// The first word of a line of a tree.
-#[derive(Clone, Copy, Debug, PartialEq, Eq)]
-pub enum Rule {
-    Empty,
-    Pull,
-    Unit,
-    Ban,
-    Void,
-    Push,
-    VoidNo,
-    False,
-    By,
-    Cut,
-    Flip,
-    Case,
-    Open,
-    Stuck,
-    Combine,
-    VoidCombine,
-}
 
 /// The first fault of a certificate, with the number of its line, from 1 on. Where the input ends too early, that is
 /// one more than the number of lines.
@@ -38,7 +18,7 @@ pub enum CertFault {
     BadNumber { line: u64 },
     /// The rule's condition does not hold, or the rule may not stand in its tree.
     #[error("line {line}: the rule {rule:?} fails")]
-    RuleFails { rule: Rule, line: u64 },
+    RuleFails { rule: Word, line: u64 },
     /// Another line is due.
     #[error("line {line}: a line is missing")]
     Missing { line: u64 },

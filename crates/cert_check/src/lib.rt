@@ -38,5 +38,5 @@ mod tools;
 mod tree;
 
 pub use checker::{Checker, Verdict};
-pub use fault::{CertFault, Rule};
+pub use fault::CertFault;
 pub use feed::Feed;

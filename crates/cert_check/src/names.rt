@@ -1,16 +1,15 @@
 // What a line names.
 ghost use Rattle.std.specs.Prelude.{◌≡◌};
-ghost use Rattle.cert_model.specs.Due.{are_atoms, is_atom, is_axis, names_well, rule_of, Next};
+ghost use Rattle.cert_model.specs.Due.{are_atoms, is_atom, is_axis, names_well, Next};
 ghost use Rattle.cover_model.specs.Views.{multipliers_of};
 ghost use Rattle.cert_model.specs.Accepted.{no_crossing};
 ghost use Rattle.poly_graph.specs.ProblemViews.{problem_of};
 ghost use Rattle.poly_graph.specs.Problem.{crosses};
 ghost use Rattle.cert_check.specs.Faults.{IsLineRefusal};
-ghost use Rattle.cert_check.specs.Steps.{rule_line_of};
+ghost use Rattle.cover_line.specs.Views.{line_of as rule_of};
 
-use crate::fault::Rule;
 use crate::refusal::Refusal;
-use crate::said::Step;
+use cover_line::{Rule, Word};
 use dyadic::Dy;
 use poly_graph::Problem;
 
@@ -41,25 +40,19 @@ fn are_atoms(problem: &Problem, pairs: &[(u32, Dy)]) -> bool
 }
 
 /// Whether the atoms or the axis that the line names are there.
-pub fn names_well(problem: &Problem, step: Step) -> bool
-    ensures { result ≡ names_well (problem_of problem.now) (rule_of (rule_line_of step.entry)) }
+#[tactic(auto, using(cover_line::proofs::Groups::atom_operands, cover_line::proofs::Groups::combination_operands))]
+pub fn names_well(problem: &Problem, step: &Rule) -> bool
+    ensures { result ≡ names_well (problem_of problem.now) (rule_of step.now) }
 {
     match step {
-        Step::Pull(j) => is_atom(problem, j),
-        Step::Unit(j) => is_atom(problem, j),
-        Step::Void(j) => is_atom(problem, j),
-        Step::Push(j) => is_atom(problem, j),
-        Step::VoidNo(j) => is_atom(problem, j),
-        Step::Case(j) => is_atom(problem, j),
-        Step::Stuck(j) => is_atom(problem, j),
-        Step::Ban(j, _) => is_atom(problem, j),
-        Step::Cut(axis, _) => is_axis(problem, axis),
-        Step::Flip(axis) => is_axis(problem, axis),
-        Step::Combine(pairs) => are_atoms(problem, pairs),
-        Step::VoidCombine(pairs) => are_atoms(problem, pairs),
-        Step::By(_) => true,
-        Step::False => true,
-        Step::Open => true,
+        Rule::Atom(_, j) => is_atom(problem, *j),
+        Rule::Combination(_, pairs) => are_atoms(problem, pairs),
+        Rule::Ban(j, _) => is_atom(problem, *j),
+        Rule::Cut(axis, _) => is_axis(problem, *axis),
+        Rule::Flip(axis) => is_axis(problem, *axis),
+        Rule::By(_) => true,
+        Rule::False => true,
+        Rule::Open => true,
     }
 }
 
@@ -77,7 +70,7 @@ pub fn no_crossing(problem: &Problem, axis: u32) -> Refusal
     ensures { IsLineRefusal result (no_crossing (problem_of problem.now) axis) }
 {
     if is_axis(problem, axis) {
-        Refusal::RuleFails(Rule::Empty)
+        Refusal::RuleFails(Word::Empty)
     } else {
         Refusal::BadNumber
     }

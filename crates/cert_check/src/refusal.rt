@@ -3,8 +3,9 @@ ghost use Rattle.std.specs.Prelude.{◌≡◌};
 ghost use Rattle.cert_check.specs.Faults.{fault_at, refusal_of};
 ghost use Rattle.cert_check.specs.declared.refusal.Refusal.TheVariants.{Memory};
 
-use crate::fault::{CertFault, Rule};
+use crate::fault::CertFault;
 use cert_read::LineFault;
+use cover_line::Word;
 use std::alloc::{AllocError, AllocFailed};
 
 /// The fault of a line.
@@ -12,7 +13,7 @@ use std::alloc::{AllocError, AllocFailed};
 pub enum Refusal {
     BadHeader,
     BadNumber,
-    RuleFails(Rule),
+    RuleFails(Word),
     Missing,
     Extra,
     WrongBound,

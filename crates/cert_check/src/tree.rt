@@ -1,30 +1,31 @@
 // The lines of trees.
 ghost use Rattle.std.specs.Prelude.{◌≡◌, ◌<◌, ◌-◌, ◌^◌, ◌++◌, IfOk, IsTrue, Some};
+ghost use Rattle.cover_line.specs.Views.{line_of as rule_of, rule_word};
+ghost use Rattle.cert_read.specs.CertLine.{rule_line};
 ghost use Rattle.cert_read.specs.Views.{line_of};
 ghost use Rattle.cert_model.specs.Due.{CertFault as Fault, names_well, Standing, RuleFails};
 ghost use Rattle.poly_graph.specs.ProblemViews.{Parts, problem_of};
 ghost use Rattle.cert_check.specs.declared.due.Due.TheVariants.{End as EndDue, Lemma as LemmaDue, Root as RootDue, Tree as TreeDue};
-ghost use Rattle.cert_check.specs.Steps.{left_of, line_of_step, step_rule};
+ghost use Rattle.cert_check.specs.Steps.{left_of};
 ghost use Rattle.cert_check.specs.Within.{IsStepInTree};
-ghost use Rattle.cert_check.specs.Faults.{rule_word};
 ghost use Rattle.cert_check.specs.Serving.{Serves};
 ghost use Rattle.cert_check.specs.Behind.{pending_of};
 ghost use Rattle.cert_check.specs.Dues.{after_main_rule, after_rule_of_lemma, IsNext, IsNextAnywhere, IsOutcome, IsSound};
 ghost use Rattle.cert_check.specs.Waiting.{counted_stays, is_stays, IsSoundBehind, IsSoundInLemma, left_states, waiting};
 
 use crate::due::{Cover, Due, Tree, Value};
-use crate::fault::Rule;
 use crate::left::Left;
 use crate::loosenings::Loosenings;
 use crate::names::{crosses, names_well, no_crossing};
 use crate::pending::{Pending, behind, wait};
 use crate::refusal::Refusal;
 use crate::rules::rule;
-use crate::said::{Step, TreeLine, said};
+use crate::said::{TreeLine, said};
 use crate::standing::Lemma;
 use crate::state::State;
 use crate::tools::Tools;
 use cert_read::Line;
+use cover_line::{Rule, Word};
 use poly_graph::{Lits, Problem};
 use std::alloc::{AllocError, Global};
 use truth3::{Root, root_space};
@@ -112,7 +113,7 @@ fn lemma_left(
     lemma: Lemma,
     pending: Pending,
     left: Left,
-    word: Rule,
+    word: Word,
 ) -> Result<Due, Refusal>
     ensures comes { (p : Parts) → IsOutcome p result (after_rule_of_lemma cover lemma
         pending (left_of left) (RuleFails (rule_word word))) }
@@ -139,14 +140,14 @@ fn main_rule(
     cover: Cover,
     tree: Tree,
     stayed: u64,
-    step: Step,
+    step: &Rule,
 ) -> Result<Due, Refusal>
     requires serves { Serves problem.now tools.old }
     requires sound { IsSound problem.now (TreeDue cover tree stayed) }
     requires room { stayed < 2 ^ 64 - 1 }
-    requires names { IsTrue (names_well (problem_of problem.now) (step_rule step)) }
+    requires names { IsTrue (names_well (problem_of problem.now) (rule_of step.now)) }
     ensures comes { IsNext problem.now (TreeDue cover tree stayed)
-        (line_of_step step.entry) result }
+        (rule_line (rule_of step.now)) result }
     ensures sound { IfOk result (IsSound problem.now) }
     ensures serves { Serves problem.now tools.new }
 {
@@ -173,13 +174,13 @@ fn lemma_rule(
     cover: Cover,
     lemma: Lemma,
     tree: Tree,
-    step: Step,
+    step: &Rule,
 ) -> Result<Due, Refusal>
     requires serves { Serves problem.now tools.old }
     requires sound { IsSound problem.now (LemmaDue cover lemma tree) }
-    requires names { IsTrue (names_well (problem_of problem.now) (step_rule step)) }
+    requires names { IsTrue (names_well (problem_of problem.now) (rule_of step.now)) }
     ensures comes { IsNext problem.now (LemmaDue cover lemma tree)
-        (line_of_step step.entry) result }
+        (rule_line (rule_of step.now)) result }
     ensures sound { IfOk result (IsSound problem.now) }
     ensures serves { Serves problem.now tools.new }
 {
@@ -199,7 +200,7 @@ fn lemma_rule(
 }
 
 // The rule of a line inside a tree, which names what is there; else the line's fault.
-fn step_in_tree<'a>(problem: &Problem, line: &'a Line) -> Result<Step<'a>, Refusal>
+fn step_in_tree<'a>(problem: &Problem, line: &'a Line) -> Result<&'a Rule, Refusal>
     ensures { IsStepInTree problem.now (line_of line.now) result }
 {
     match said(line) {
@@ -269,11 +270,11 @@ fn root_rule(
     problem: &Problem,
     tools: &mut Tools,
     cover: Cover,
-    step: Step,
+    step: &Rule,
 ) -> Result<Due, Refusal>
     requires serves { Serves problem.now tools.old }
     requires sound { IsSound problem.now (RootDue cover) }
-    ensures comes { IsNext problem.now (RootDue cover) (line_of_step step.entry) result }
+    ensures comes { IsNext problem.now (RootDue cover) (rule_line (rule_of step.now)) result }
     ensures sound { IfOk result (IsSound problem.now) }
     ensures serves { Serves problem.now tools.new }
 {

@@ -6,9 +6,10 @@ use Rattle.interval_model.specs.Space.{Domain, real_domain, bool_domain, Space}
 use Rattle.poly_graph.specs.Problem.{Declared, real_between, any_bool, Axis, Problem, crosses}
 use Rattle.cover_model.specs.State.{State, Loosenings, root_state}
 use Rattle.cover_model.specs.Rules.{Line, Left, closed, one, two, stays, rule}
-use Rattle.cert_read.specs.CertLine.{says_both, says_false, says_true, RuleLine, CertLine, version, margin, delta, bound, cover, point_word, tree_word, end_word, lemma, real_interval, real_value, bool_value, yes_list, no_list, rule_line, crossing, word_of}
+use Rattle.cover_line.specs.Words.{word_of}
+use Rattle.cert_read.specs.CertLine.{says_both, says_false, says_true, CertLine, version, margin, delta, bound, cover, point_word, tree_word, end_word, lemma, real_interval, real_value, bool_value, yes_list, no_list, rule_line, crossing}
 use Rattle.cert_model.specs.Due
-use Rattle.cert_model.specs.Due.{CertFault, Standing, Value, at_point, left_open, Due, version_due, margin_due, delta_due, bound_due, kind_due, next_due, axis_due, yes_due, no_due, lemma_due, root_due, tree_due, coordinate_due, end_due, nothing_due, Next, on, faulty, given, is_version, same_bound, bool_domain_of, ascends, apart, all_below, state_of, rule_of, names_well, after_rule, after_lemma_rule, tree_goes_on, lemma_goes_on, axis_next, is_crossed_box, coordinate_next, is_shown, extra_after, extra_at_end}
+use Rattle.cert_model.specs.Due.{CertFault, Standing, Value, at_point, left_open, Due, version_due, margin_due, delta_due, bound_due, kind_due, next_due, axis_due, yes_due, no_due, lemma_due, root_due, tree_due, coordinate_due, end_due, nothing_due, Next, on, faulty, given, is_version, same_bound, bool_domain_of, ascends, apart, all_below, state_of, names_well, after_rule, after_lemma_rule, tree_goes_on, lemma_goes_on, axis_next, is_crossed_box, coordinate_next, is_shown, extra_after, extra_at_end}
 use Rattle.cert_model.specs.Accepted.{ruled_line, tree_line, root_line, no_crossing, axis_line, coordinate_line, next, loosenings_fit, most_lemmas, IsAccepted}
 use Rattle.cert_model.specs.Derived.{AreDerived, states_of, IsCover, IsSingle, AreSingle}
 use Rattle.cert_model.proofs.Invariant.{IfOn, holds_at_end}
@@ -85,12 +86,12 @@ module _ (p : Problem) (b : Option ℕ) where
   after-tree s lemmas h S pending done l f g (Some (one S')) e = tree-fine s lemmas h (S' ∷ pending) done (grow_one p s lemmas (root_state p) S S' l pending (states_of done) e g)
   after-tree s lemmas h S pending done l f g (Some (two S' S'')) e = tree-fine s lemmas h (S' ∷ S'' ∷ pending) done (grow_two p s lemmas (root_state p) S S' S'' l pending (states_of done) e g)
 
-  tree-line : (s : Loosenings) (lemmas : List State) → AreDerived p s [] lemmas → (S : State) (pending : List State) (done : List Standing) (l : RuleLine) → Grown p s lemmas (root_state p) (S ∷ pending) (states_of done) →
+  tree-line : (s : Loosenings) (lemmas : List State) → AreDerived p s [] lemmas → (S : State) (pending : List State) (done : List Standing) (l : Line) → Grown p s lemmas (root_state p) (S ∷ pending) (states_of done) →
       FineNext (tree_line p s lemmas S pending done l)
-  tree-line s lemmas h S pending done l g = ruled-keeps (names_well p (rule_of l)) _ (after-tree s lemmas h S pending done (rule_of l) (Due.RuleFails (word_of l)) g (rule p s lemmas S (rule_of l)) refl)
+  tree-line s lemmas h S pending done l g = ruled-keeps (names_well p l) _ (after-tree s lemmas h S pending done l (Due.RuleFails (word_of l)) g (rule p s lemmas S l) refl)
 
-  root-line : (t : Bool) (s : Loosenings) (lemmas : List State) → AreDerived p s [] lemmas → (l : RuleLine) → FineNext (root_line t p s lemmas l)
-  root-line true s lemmas h l = ruled-keeps (names_well p (rule_of l)) (faulty (Due.RuleFails (word_of l))) (tt {0})
+  root-line : (t : Bool) (s : Loosenings) (lemmas : List State) → AreDerived p s [] lemmas → (l : Line) → FineNext (root_line t p s lemmas l)
+  root-line true s lemmas h l = ruled-keeps (names_well p l) (faulty (Due.RuleFails (word_of l))) (tt {0})
   root-line false s lemmas h l = tree-line s lemmas h (root_state p) [] [] l (from_root p s lemmas (root_state p))
 
   -- ---- axes of lemmas and of points
@@ -142,7 +143,7 @@ module _ (p : Problem) (b : Option ℕ) where
   next-fine (no_due s k lemmas space is) (no_list js) h = given-keeps (all_below (length p.atoms) js && ascends js && apart is js) (lemma_due s k lemmas (state_of p space is js) (state_of p space is js) []) Due.BadNumber
       (λ e. (h, from_root p s lemmas (state_of p space is js)))
   next-fine (no_due s k lemmas space is) _ h = tt
-  next-fine (lemma_due s k lemmas L S pending) (rule_line l) h = ruled-keeps (names_well p (rule_of l)) _ (after-lemma s k lemmas h.0 L S pending (rule_of l) (Due.RuleFails (word_of l)) h.1 (rule p s lemmas S (rule_of l)) refl)
+  next-fine (lemma_due s k lemmas L S pending) (rule_line l) h = ruled-keeps (names_well p l) _ (after-lemma s k lemmas h.0 L S pending l (Due.RuleFails (word_of l)) h.1 (rule p s lemmas S l) refl)
   next-fine (lemma_due s k lemmas L S pending) _ h = tt
   next-fine (root_due s lemmas) (crossing i) h = cond-keeps (crosses p i) (on (end_due s (left_open []))) (no_crossing p i) (λ e. record { lemmas = lemmas; derived = h; tree = inl (i, e, refl) }) (tt {0})
   next-fine (root_due s lemmas) (rule_line l) h = root-line (is_crossed_box p) s lemmas h l

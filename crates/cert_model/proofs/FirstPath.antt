@@ -9,7 +9,8 @@ use Rattle.dyadic.proofs.Equal.{both_true}
 use Rattle.poly_graph.specs.Problem.{Problem, first_crossed}
 use Rattle.cover_model.specs.State.{Loosenings, may, root_state}
 use Rattle.cover_model.specs.Rules.{when, closed, make_false}
-use Rattle.cert_read.specs.CertLine.{version, margin, delta, bound, cover, tree_word, end_word, rule_line, false_here, false_word}
+use Rattle.cover_line.specs.Words.{false_word}
+use Rattle.cert_read.specs.CertLine.{version, margin, delta, bound, cover, tree_word, end_word, rule_line}
 use Rattle.cert_read.specs.LineText.{IsCount, IsSpelledBound, IsSpelled}
 use Rattle.cert_model.specs.Due.{left_open, after_rule, RuleFails, BadHeader, WrongBound, tree_goes_on, is_some_axis, version_due, margin_due, bound_due, kind_due, Next, given, is_version, same_bound}
 use Rattle.cert_model.specs.Accepted.{verdict, Verdict, accepted, ended, course_of_lines, course_next, root_line, loosenings_fit, is_header, certificate_text}
@@ -73,13 +74,13 @@ module _ (p : Problem) (b : Option ℕ) (s : Loosenings) where
   by_false x = ended (course_next x 7 (λ d. course_of_lines p b 7 d (end_word ∷ [])))
 
   abbrev by_bound : Bool → Verdict
-  by_bound t = ended (course_next (given t (kind_due s) WrongBound) 4 (λ d. course_of_lines p b 4 d (cover 0 ∷ tree_word ∷ rule_line false_here ∷ end_word ∷ [])))
+  by_bound t = ended (course_next (given t (kind_due s) WrongBound) 4 (λ d. course_of_lines p b 4 d (cover 0 ∷ tree_word ∷ rule_line make_false ∷ end_word ∷ [])))
 
   abbrev by_version : Bool → Verdict
-  by_version t = ended (course_next (given t (margin_due s.version) BadHeader) 1 (λ d. course_of_lines p b 1 d (margin s.margin_bits ∷ delta s.delta_bits ∷ bound b ∷ cover 0 ∷ tree_word ∷ rule_line false_here ∷ end_word ∷ [])))
+  by_version t = ended (course_next (given t (margin_due s.version) BadHeader) 1 (λ d. course_of_lines p b 1 d (margin s.margin_bits ∷ delta s.delta_bits ∷ bound b ∷ cover 0 ∷ tree_word ∷ rule_line make_false ∷ end_word ∷ [])))
 
   abbrev by_header : Bool → Verdict
-  by_header t = ended (course_next (given t (bound_due s) BadHeader) 3 (λ d. course_of_lines p b 3 d (bound b ∷ cover 0 ∷ tree_word ∷ rule_line false_here ∷ end_word ∷ [])))
+  by_header t = ended (course_next (given t (bound_due s) BadHeader) 3 (λ d. course_of_lines p b 3 d (bound b ∷ cover 0 ∷ tree_word ∷ rule_line make_false ∷ end_word ∷ [])))
 
   -- what comes of `false` at the root of a box that is not empty, by the outcome of `may`
   abbrev after_false : Bool → Next
@@ -94,10 +95,10 @@ module _ (p : Problem) (b : Option ℕ) (s : Loosenings) where
   bound-next : by_header true ≡ by_bound (same_bound b b)
   bound-next = refl
 
-  false-next : by_bound true ≡ by_false (root_line (is_some_axis (first_crossed p)) p s [] false_here)
+  false-next : by_bound true ≡ by_false (root_line (is_some_axis (first_crossed p)) p s [] make_false)
   false-next = refl
 
-  may-next : by_false (root_line false p s [] false_here) ≡ by_false (after_false (may p s (root_state p)))
+  may-next : by_false (root_line false p s [] make_false) ≡ by_false (after_false (may p s (root_state p)))
   may-next = refl
 
   pub shortest_accepted : IsSpelledBound b → IsTrue (is_header s) → first_crossed p ≡ None → may p s (root_state p) ≡ false →
@@ -106,5 +107,5 @@ module _ (p : Problem) (b : Option ℕ) (s : Loosenings) where
       let spelled = lines-spelled s b g h in let x = both_true (is_version s.version) (loosenings_fit s.margin_bits s.delta_bits) h in
       text_has_lines p b (shortest_lines s b) spelled (omega (arith, text_length (shortest_lines s b) spelled))
       ∙ version-first ∙ ap by_version x.0 ∙ header-next ∙ ap by_header x.1 ∙ bound-next ∙ ap by_bound (same-bounds b) ∙ false-next
-      ∙ ap (λ (o : Option ℕ). by_false (root_line (is_some_axis o) p s [] false_here)) e
+      ∙ ap (λ (o : Option ℕ). by_false (root_line (is_some_axis o) p s [] make_false)) e
       ∙ may-next ∙ ap (λ (t : Bool). by_false (after_false t)) m

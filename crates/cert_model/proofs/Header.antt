@@ -5,9 +5,10 @@ use Rattle.dyadic.proofs.Equal.{both_true, both_pass}
 use Rattle.poly_graph.specs.Problem.{Declared, real_between, any_bool, Axis, Problem, crosses}
 use Rattle.cover_model.specs.State.{State, Loosenings, root_state}
 use Rattle.interval_model.specs.Space.{Space}
-use Rattle.cover_model.specs.Rules.{Left, closed, one, two, stays, rule}
-use Rattle.cert_read.specs.CertLine.{CertLine, RuleLine, version, margin, delta, bound, cover, point_word, tree_word, end_word, lemma, real_interval, real_value, bool_value, says_false, says_true, yes_list, no_list, rule_line, crossing, word_of}
-use Rattle.cert_model.specs.Due.{CertFault, RuleFails, Standing, Value, Due, version_due, margin_due, delta_due, bound_due, kind_due, next_due, axis_due, yes_due, no_due, lemma_due, root_due, tree_due, coordinate_due, end_due, nothing_due, Next, on, faulty, given, is_version, rule_of, names_well, after_rule, after_lemma_rule, tree_goes_on, lemma_goes_on, axis_next, coordinate_next, is_crossed_box, is_shown, same_bound}
+use Rattle.cover_model.specs.Rules.{Left, closed, one, two, stays, rule, Line}
+use Rattle.cover_line.specs.Words.{word_of}
+use Rattle.cert_read.specs.CertLine.{CertLine, version, margin, delta, bound, cover, point_word, tree_word, end_word, lemma, real_interval, real_value, bool_value, says_false, says_true, yes_list, no_list, rule_line, crossing}
+use Rattle.cert_model.specs.Due.{CertFault, RuleFails, Standing, Value, Due, version_due, margin_due, delta_due, bound_due, kind_due, next_due, axis_due, yes_due, no_due, lemma_due, root_due, tree_due, coordinate_due, end_due, nothing_due, Next, on, faulty, given, is_version, names_well, after_rule, after_lemma_rule, tree_goes_on, lemma_goes_on, axis_next, coordinate_next, is_crossed_box, is_shown, same_bound}
 use Rattle.cert_model.specs.Accepted.{next, loosenings_fit, is_header, ruled_line, tree_line, root_line, axis_line, coordinate_line, IsAccepted, most_lemmas}
 use Rattle.cert_model.proofs.Invariant.{IfOn, holds_at_end}
 
@@ -83,11 +84,11 @@ module _ (p : Problem) (b : Option ℕ) (s : Loosenings) where
   after-tree (Some (one S')) f x lemmas pending done = refl
   after-tree (Some (two S' S'')) f x lemmas pending done = refl
 
-  tree-line : (lemmas : List State) (S : State) (pending : List State) (done : List Standing) (l : RuleLine) → Same s (tree_line p s lemmas S pending done l)
-  tree-line lemmas S pending done l = ruled-same s (names_well p (rule_of l)) _ (after-tree (rule p s lemmas S (rule_of l)) (RuleFails (word_of l)) (record { state = S; does = rule_of l }) lemmas pending done)
+  tree-line : (lemmas : List State) (S : State) (pending : List State) (done : List Standing) (l : Line) → Same s (tree_line p s lemmas S pending done l)
+  tree-line lemmas S pending done l = ruled-same s (names_well p l) _ (after-tree (rule p s lemmas S l) (RuleFails (word_of l)) (record { state = S; does = l }) lemmas pending done)
 
-  root-line : (t : Bool) (lemmas : List State) (l : RuleLine) → Same s (root_line t p s lemmas l)
-  root-line true lemmas l = ruled-same s (names_well p (rule_of l)) (faulty (RuleFails (word_of l))) (tt {0})
+  root-line : (t : Bool) (lemmas : List State) (l : Line) → Same s (root_line t p s lemmas l)
+  root-line true lemmas l = ruled-same s (names_well p l) (faulty (RuleFails (word_of l))) (tt {0})
   root-line false lemmas l = tree-line lemmas (root_state p) [] [] l
 
   axis-line : (k : ℕ) (lemmas : List State) (a : Declared) (axes : List Axis) (space : Space) (l : CertLine) → Same s (axis_line p s k lemmas a axes space l)
@@ -159,7 +160,7 @@ module _ (p : Problem) (b : Option ℕ) where
   next-same (yes_due s k lemmas space) _ = tt
   next-same (no_due s k lemmas space is) (no_list js) = given-same s _ (lemma_due s k lemmas _ _ []) _ refl
   next-same (no_due s k lemmas space is) _ = tt
-  next-same (lemma_due s k lemmas L S pending) (rule_line l) = ruled-same s (names_well p (rule_of l)) _ (after-lemma p b s (rule p s lemmas S (rule_of l)) (RuleFails (word_of l)) k lemmas L pending)
+  next-same (lemma_due s k lemmas L S pending) (rule_line l) = ruled-same s (names_well p l) _ (after-lemma p b s (rule p s lemmas S l) (RuleFails (word_of l)) k lemmas L pending)
   next-same (lemma_due s k lemmas L S pending) _ = tt
   next-same (root_due s lemmas) (crossing i) = cond-same s (crosses p i) (on (end_due s _)) _ refl (tt {0})
   next-same (root_due s lemmas) (rule_line l) = root-line p b s (is_crossed_box p) lemmas l

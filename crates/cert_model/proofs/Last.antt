@@ -3,10 +3,11 @@ use Rattle.std.proofs.Common.{◌≡◌, ℕ, suc, List, [], ◌∷◌, ◌++◌
 use Rattle.poly_graph.specs.Problem.{Declared, real_between, any_bool, Axis, Problem, crosses}
 use Rattle.cover_model.specs.State.{State, Loosenings, root_state}
 use Rattle.interval_model.specs.Space.{Space}
-use Rattle.cover_model.specs.Rules.{Left, closed, one, two, stays, rule}
+use Rattle.cover_model.specs.Rules.{Left, closed, one, two, stays, rule, Line}
+use Rattle.cover_line.specs.Words.{word_of}
 use Rattle.cert_read.specs.Lines.{lines_of, lines_so_far}
-use Rattle.cert_read.specs.CertLine.{CertLine, RuleLine, version, margin, delta, bound, cover, point_word, tree_word, end_word, lemma, real_interval, real_value, bool_value, says_false, says_true, yes_list, no_list, rule_line, crossing, word_of, Parsed, too_long, bad_line, bad_number, line, parsed}
-use Rattle.cert_model.specs.Due.{CertFault, RuleFails, Standing, Value, Due, version_due, margin_due, delta_due, bound_due, kind_due, next_due, axis_due, yes_due, no_due, lemma_due, root_due, tree_due, coordinate_due, end_due, nothing_due, Next, on, faulty, given, is_version, rule_of, names_well, after_rule, after_lemma_rule, tree_goes_on, lemma_goes_on, axis_next, coordinate_next, is_crossed_box, is_shown, same_bound}
+use Rattle.cert_read.specs.CertLine.{CertLine, version, margin, delta, bound, cover, point_word, tree_word, end_word, lemma, real_interval, real_value, bool_value, says_false, says_true, yes_list, no_list, rule_line, crossing, Parsed, too_long, bad_line, bad_number, line, parsed}
+use Rattle.cert_model.specs.Due.{CertFault, RuleFails, Standing, Value, Due, version_due, margin_due, delta_due, bound_due, kind_due, next_due, axis_due, yes_due, no_due, lemma_due, root_due, tree_due, coordinate_due, end_due, nothing_due, Next, on, faulty, given, is_version, names_well, after_rule, after_lemma_rule, tree_goes_on, lemma_goes_on, axis_next, coordinate_next, is_crossed_box, is_shown, same_bound}
 use Rattle.cert_model.specs.Accepted.{next, next_parsed, loosenings_fit, ruled_line, tree_line, root_line, axis_line, coordinate_line, IsAccepted, most_lemmas, most_bytes, Course, stopped, reached, course_next, course, Verdict, accepted, refused, at_end, ended, cut_off, verdict_by}
 use Rattle.cert_model.specs.Derived.{EndsOnce}
 use Rattle.cert_model.proofs.Invariant.{IfOn}
@@ -85,11 +86,11 @@ end-parsed (line end_word) h = refl
 end-parsed _ h = absurd (true≢false (sym h))
 
 module _ (p : Problem) (b : Option ℕ) where
-  tree-line : (s : Loosenings) (lemmas : List State) (S : State) (pending : List State) (done : List Standing) (l : RuleLine) → GoesOn (tree_line p s lemmas S pending done l)
-  tree-line s lemmas S pending done l = ruled-on (names_well p (rule_of l)) _ (after-tree (rule p s lemmas S (rule_of l)) (RuleFails (word_of l)) (record { state = S; does = rule_of l }) s lemmas pending done)
+  tree-line : (s : Loosenings) (lemmas : List State) (S : State) (pending : List State) (done : List Standing) (l : Line) → GoesOn (tree_line p s lemmas S pending done l)
+  tree-line s lemmas S pending done l = ruled-on (names_well p l) _ (after-tree (rule p s lemmas S l) (RuleFails (word_of l)) (record { state = S; does = l }) s lemmas pending done)
 
-  root-line : (t : Bool) (s : Loosenings) (lemmas : List State) (l : RuleLine) → GoesOn (root_line t p s lemmas l)
-  root-line true s lemmas l = ruled-on (names_well p (rule_of l)) (faulty (RuleFails (word_of l))) (tt {0})
+  root-line : (t : Bool) (s : Loosenings) (lemmas : List State) (l : Line) → GoesOn (root_line t p s lemmas l)
+  root-line true s lemmas l = ruled-on (names_well p l) (faulty (RuleFails (word_of l))) (tt {0})
   root-line false s lemmas l = tree-line s lemmas (root_state p) [] [] l
 
   no-axis-end : (s : Loosenings) (k : ℕ) (lemmas : List State) (a : Declared) (axes : List Axis) (space : Space) → IfOn (λ d. is_done d ≡ true) (axis_line p s k lemmas a axes space end_word)
@@ -122,7 +123,7 @@ module _ (p : Problem) (b : Option ℕ) where
   after-line (yes_due s k lemmas space) _ = tt
   after-line (no_due s k lemmas space is) (no_list js) = given-on _ (lemma_due s k lemmas _ _ []) _ false refl
   after-line (no_due s k lemmas space is) _ = tt
-  after-line (lemma_due s k lemmas L S pending) (rule_line l) = ruled-on (names_well p (rule_of l)) _ (after-lemma (rule p s lemmas S (rule_of l)) (RuleFails (word_of l)) s k lemmas L pending)
+  after-line (lemma_due s k lemmas L S pending) (rule_line l) = ruled-on (names_well p l) _ (after-lemma (rule p s lemmas S l) (RuleFails (word_of l)) s k lemmas L pending)
   after-line (lemma_due s k lemmas L S pending) _ = tt
   after-line (root_due s lemmas) (crossing i) = cond-on (crosses p i) (on (end_due s _)) _ refl (tt {0})
   after-line (root_due s lemmas) (rule_line l) = root-line (is_crossed_box p) s lemmas l

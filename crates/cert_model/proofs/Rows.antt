@@ -4,7 +4,7 @@ use Rattle.interval_model.specs.Space.{real_domain, bool_domain}
 use Rattle.cover_model.specs.State.{Loosenings, root_state}
 use Rattle.cover_model.specs.Rules.{open_line}
 use Rattle.cover_model.specs.Honest.{is_honest}
-use Rattle.cert_read.specs.CertLine.{empty_word, pull_word, push_word, void_no_word, combine_word, void_combine_word, by_word, cut_word, case_word, stuck_word, open_word, false_word}
+use Rattle.cover_line.specs.Words.{empty_word, pull_word, push_word, void_no_word, combine_word, void_combine_word, by_word, cut_word, case_word, stuck_word, open_word, false_word}
 use Rattle.cert_model.specs.Due.{BadHeader, BadNumber, RuleFails, Missing, Extra, WrongBound, NotShown, BadLine, at_point, left_open}
 use Rattle.cert_model.specs.Accepted.{Verdict, accepted, refused, verdict}
 use Rattle.cert_model.specs.Standing.{standing, branches}

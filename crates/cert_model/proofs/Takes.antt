@@ -5,33 +5,17 @@ use Rattle.std.proofs.lemmas.List.{map-append}
 use Rattle.std.proofs.lemmas.List.Sums.{sum_by-cons, sum_by-append}
 use Rattle.poly_graph.specs.Problem.{Problem}
 use Rattle.cover_model.specs.State.{State, Loosenings}
-use Rattle.cover_model.specs.Rules.{Line, pull, unit, void, push, void_no, combine, void_combine, ban, make_false, by, cut, flip, case, open_line, stuck, Left, closed, one, two, stays, rule}
+use Rattle.cover_model.specs.Rules.{Line, stuck, Left, closed, one, two, stays, rule}
 use Rattle.cover_model.specs.Honest.{branch_count}
 use Rattle.cover_model.specs.Derivation.{Tree, tree_lines, Lawful, at_closed, at_left, at_step, at_fork}
-use Rattle.cert_read.specs.CertLine.{CertLine, rule_line, word_of}
-use Rattle.cert_model.specs.Due.{RuleFails, Standing, Next, lemma_due, tree_due, names_well, rule_of, after_rule, after_lemma_rule, tree_goes_on, lemma_goes_on}
+use Rattle.cover_line.specs.Words.{word_of}
+use Rattle.cert_read.specs.CertLine.{CertLine, rule_line}
+use Rattle.cert_model.specs.Due.{RuleFails, Standing, Next, lemma_due, tree_due, names_well, after_rule, after_lemma_rule, tree_goes_on, lemma_goes_on}
 use Rattle.cert_model.specs.Accepted.{next, ruled_line, Course, course_next, course_of_lines}
 use Rattle.cert_model.specs.Derived.{states_of}
-use Rattle.cert_model.specs.Written.{line_of, rule_lines, NamesWell, leaf_standing, step_standing, fork_standing, left_standing, tree_standing, tree_branches}
+use Rattle.cert_model.specs.Written.{rule_lines, NamesWell, leaf_standing, step_standing, fork_standing, left_standing, tree_standing, tree_branches}
 use Rattle.cert_model.specs.Standing.{Stands, standing_next, standing_of_lines, branches_of}
 use Rattle.cert_model.proofs.Grown.{states_append}
-
-same-line : (l : Line) → rule_of (line_of l) ≡ l
-same-line (pull j) = refl
-same-line (unit j) = refl
-same-line (void j) = refl
-same-line (push j) = refl
-same-line (void_no j) = refl
-same-line (combine ms) = refl
-same-line (void_combine ms) = refl
-same-line (ban j i) = refl
-same-line make_false = refl
-same-line (by i) = refl
-same-line (cut axis c) = refl
-same-line (flip axis) = refl
-same-line (case j) = refl
-same-line open_line = refl
-same-line (stuck j) = refl
 
 -- all of two lists hold, so all of each
 first-all : (P : Line → Type 0) (xs ys : List Line) → AllByRecursion P (xs ++ ys) → AllByRecursion P xs × AllByRecursion P ys
@@ -40,7 +24,7 @@ first-all P (x ∷ xs) ys h = let e = first-all P xs ys h.1 in ((h.0, e.0), e.1)
 
 rule-lines-append : (xs ys : List Line) (ls : List CertLine) → rule_lines (xs ++ ys) ++ ls ≡ rule_lines xs ++ (rule_lines ys ++ ls)
 rule-lines-append [] ys ls = refl
-rule-lines-append (x ∷ xs) ys ls = ap (λ (zs : List CertLine). rule_line (line_of x) ∷ zs) (rule-lines-append xs ys ls)
+rule-lines-append (x ∷ xs) ys ls = ap (λ (zs : List CertLine). rule_line x ∷ zs) (rule-lines-append xs ys ls)
 
 branches-append : (xs ys : List Stands) → branches_of (xs ++ ys) ≡ branches_of xs + branches_of ys
 branches-append [] ys = omega arith
@@ -59,17 +43,16 @@ module _ (p : Problem) (b : Option ℕ) (s : Loosenings) (lemmas : List State) w
   -- ---- the main tree
 
   abbrev after_main : State → Line → List State → List Standing → Option Left → Next
-  after_main S l pending done o = after_rule o (RuleFails (word_of (line_of l))) (record { state = S; does = l }) pending done (tree_goes_on s lemmas)
+  after_main S l pending done o = after_rule o (RuleFails (word_of l)) (record { state = S; does = l }) pending done (tree_goes_on s lemmas)
 
   main-next : (S : State) (l : Line) (pending : List State) (done : List Standing) → IsTrue (names_well p l) → (o : Option Left) → rule p s lemmas S l ≡ o →
-      next p b (tree_due s lemmas S pending done) (rule_line (line_of l)) ≡ after_main S l pending done o
+      next p b (tree_due s lemmas S pending done) (rule_line l) ≡ after_main S l pending done o
   main-next S l pending done h o e =
-      ap (λ (m : Line). ruled_line (names_well p m) (after_rule (rule p s lemmas S m) (RuleFails (word_of (line_of l))) (record { state = S; does = m }) pending done (tree_goes_on s lemmas))) (same-line l)
-      ∙ ap (λ (t : Bool). ruled_line t (after_main S l pending done (rule p s lemmas S l))) h
+      ap (λ (t : Bool). ruled_line t (after_main S l pending done (rule p s lemmas S l))) h
       ∙ ap (after_main S l pending done) e
 
   main-line : (S : State) (l : Line) (ls : List CertLine) (n : ℕ) (pending : List State) (done : List Standing) → IsTrue (names_well p l) → (o : Option Left) → rule p s lemmas S l ≡ o →
-      course_of_lines p b n (tree_due s lemmas S pending done) (rule_line (line_of l) ∷ ls) ≡ course_next (after_main S l pending done o) (suc n) (λ d. course_of_lines p b (suc n) d ls)
+      course_of_lines p b n (tree_due s lemmas S pending done) (rule_line l ∷ ls) ≡ course_next (after_main S l pending done o) (suc n) (λ d. course_of_lines p b (suc n) d ls)
   main-line S l ls n pending done h o e = ap (λ (x : Next). course_next x (suc n) (λ d. course_of_lines p b (suc n) d ls)) (main-next S l pending done h o e)
 
   -- where the course goes on
@@ -103,11 +86,10 @@ module _ (p : Problem) (b : Option ℕ) (s : Loosenings) (lemmas : List State) w
   stood x = record { loosenings = s; line = x }
 
   stands-line : (S : State) (l : Line) (ls : List CertLine) (pending : List State) (done : List Standing) → IsTrue (names_well p l) → (o : Option Left) → rule p s lemmas S l ≡ o →
-      standing_of_lines p b (tree_due s lemmas S pending done) (rule_line (line_of l) ∷ ls) ≡
+      standing_of_lines p b (tree_due s lemmas S pending done) (rule_line l ∷ ls) ≡
       stood (record { state = S; does = l }) ∷ standing_next (after_main S l pending done o) (λ d. standing_of_lines p b d ls)
   stands-line S l ls pending done h o e =
-      ap (λ (m : Line). stood (record { state = S; does = m }) ∷ standing_next (next p b (tree_due s lemmas S pending done) (rule_line (line_of l))) (λ d. standing_of_lines p b d ls)) (same-line l)
-      ∙ ap (λ (x : Next). stood (record { state = S; does = l }) ∷ standing_next x (λ d. standing_of_lines p b d ls)) (main-next S l pending done h o e)
+      ap (λ (x : Next). stood (record { state = S; does = l }) ∷ standing_next x (λ d. standing_of_lines p b d ls)) (main-next S l pending done h o e)
 
   -- what stands where the course goes on
   abbrev stands_from : List State → List Standing → List CertLine → List Stands
@@ -158,22 +140,21 @@ module _ (p : Problem) (b : Option ℕ) (s : Loosenings) (lemmas : List State) w
 
   module _ (k : ℕ) (L : State) where
     abbrev after_lemma : Line → List State → Option Left → Next
-    after_lemma l pending o = after_lemma_rule o (RuleFails (word_of (line_of l))) pending (lemma_goes_on s k lemmas L)
+    after_lemma l pending o = after_lemma_rule o (RuleFails (word_of l)) pending (lemma_goes_on s k lemmas L)
 
     lemma-next : (S : State) (l : Line) (pending : List State) → IsTrue (names_well p l) → (o : Option Left) → rule p s lemmas S l ≡ o →
-        next p b (lemma_due s k lemmas L S pending) (rule_line (line_of l)) ≡ after_lemma l pending o
+        next p b (lemma_due s k lemmas L S pending) (rule_line l) ≡ after_lemma l pending o
     lemma-next S l pending h o e =
-        ap (λ (m : Line). ruled_line (names_well p m) (after_lemma_rule (rule p s lemmas S m) (RuleFails (word_of (line_of l))) pending (lemma_goes_on s k lemmas L))) (same-line l)
-        ∙ ap (λ (t : Bool). ruled_line t (after_lemma l pending (rule p s lemmas S l))) h
+        ap (λ (t : Bool). ruled_line t (after_lemma l pending (rule p s lemmas S l))) h
         ∙ ap (after_lemma l pending) e
 
     lemma-line : (S : State) (l : Line) (ls : List CertLine) (n : ℕ) (pending : List State) → IsTrue (names_well p l) → (o : Option Left) → rule p s lemmas S l ≡ o →
-        course_of_lines p b n (lemma_due s k lemmas L S pending) (rule_line (line_of l) ∷ ls) ≡ course_next (after_lemma l pending o) (suc n) (λ d. course_of_lines p b (suc n) d ls)
+        course_of_lines p b n (lemma_due s k lemmas L S pending) (rule_line l ∷ ls) ≡ course_next (after_lemma l pending o) (suc n) (λ d. course_of_lines p b (suc n) d ls)
     lemma-line S l ls n pending h o e = ap (λ (x : Next). course_next x (suc n) (λ d. course_of_lines p b (suc n) d ls)) (lemma-next S l pending h o e)
 
     -- the lines of a lemma's tree are none of the main tree
     quiet-line : (S : State) (l : Line) (ls : List CertLine) (pending : List State) → IsTrue (names_well p l) → (o : Option Left) → rule p s lemmas S l ≡ o →
-        standing_of_lines p b (lemma_due s k lemmas L S pending) (rule_line (line_of l) ∷ ls) ≡ standing_next (after_lemma l pending o) (λ d. standing_of_lines p b d ls)
+        standing_of_lines p b (lemma_due s k lemmas L S pending) (rule_line l ∷ ls) ≡ standing_next (after_lemma l pending o) (λ d. standing_of_lines p b d ls)
     quiet-line S l ls pending h o e = ap (λ (x : Next). standing_next x (λ d. standing_of_lines p b d ls)) (lemma-next S l pending h o e)
 
     none-first : (xs ys : List State) → xs ++ ys ≡ [] → (xs ≡ []) × (ys ≡ [])

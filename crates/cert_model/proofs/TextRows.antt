@@ -3,7 +3,7 @@ use Rattle.std.proofs.Common.{◌≡◌, [], ◌∷◌, true, false, map, refl, 
 use Rattle.interval_model.specs.Space.{real_domain, bool_domain}
 use Rattle.cover_model.specs.State.{Loosenings}
 use Rattle.cover_model.specs.Rules.{open_line, stuck}
-use Rattle.cert_read.specs.CertLine.{pull_word}
+use Rattle.cover_line.specs.Words.{pull_word}
 use Rattle.cert_model.specs.Due.{NotShown, RuleFails, Standing, at_point, left_open}
 use Rattle.cert_model.specs.Accepted.{refused, certificate_text}
 use Rattle.cert_model.specs.Laws.{shortest_lines}

@@ -12,7 +12,7 @@ use Rattle.cover_model.specs.Derivation.{Tree, leaf, then, fork, tree_lines, Law
 use Rattle.cert_read.specs.CertLine.{CertLine, line, version, margin, delta, bound, cover, lemma, point_word, tree_word, end_word, yes_list, no_list, crossing}
 use Rattle.cert_model.specs.Due.{BadHeader, BadNumber, Missing, WrongBound, NotShown, Standing, at_point, left_open, is_shown, coordinate_next, Due, version_due, margin_due, delta_due, bound_due, kind_due, next_due, yes_due, no_due, lemma_due, root_due, tree_due, end_due, nothing_due, Next, on, faulty, given, is_version, same_bound, ascends, apart, all_below, state_of, axis_next, is_some_axis}
 use Rattle.cert_model.specs.Accepted.{next, coordinate_line, axis_line, no_crossing, root_line, loosenings_fit, is_header, most_lemmas, course_next, course_of_lines, ended, accepted}
-use Rattle.cert_model.specs.Written.{line_of, rule_lines, NamesWell, left_standing, tree_standing, LemmaTree, lemma_states, domain_line, lemma_lines, lemmas_lines, cover_lines, FitsAxis, FitsAxes, IsLemmaTree, AreLemmaTrees, point_line, point_lines}
+use Rattle.cert_model.specs.Written.{rule_lines, NamesWell, left_standing, tree_standing, LemmaTree, lemma_states, domain_line, lemma_lines, lemmas_lines, cover_lines, FitsAxis, FitsAxes, IsLemmaTree, AreLemmaTrees, point_line, point_lines}
 use Rattle.cert_model.specs.Standing.{Stands, at_root, stands_at, standing_next, standing_of_lines}
 use Rattle.cert_model.specs.Derived.{IsSingle, AreSingle}
 use Rattle.cert_model.proofs.MarkLists.{numbers_ascend, numbers_below, marks_again, lists_apart}
@@ -145,9 +145,9 @@ module _ (p : Problem) (b : Option ℕ) (s : Loosenings) where
   -- where the declared box is not empty, the first line of the tree is as any other
   root-leads : (lemmas : List State) (t : Tree) → first_crossed p ≡ None → (ls : List CertLine) (n : ℕ) →
       course_of_lines p b n (root_due s lemmas) (rule_lines (tree_lines t) ++ ls) ≡ course_of_lines p b n (tree_due s lemmas (root_state p) [] []) (rule_lines (tree_lines t) ++ ls)
-  root-leads lemmas (leaf l) e ls n = ap (λ (o : Option ℕ). course_next (root_line (is_some_axis o) p s lemmas (line_of l)) (suc n) (λ d. course_of_lines p b (suc n) d ls)) e
-  root-leads lemmas (then l t) e ls n = ap (λ (o : Option ℕ). course_next (root_line (is_some_axis o) p s lemmas (line_of l)) (suc n) (λ d. course_of_lines p b (suc n) d (rule_lines (tree_lines t) ++ ls))) e
-  root-leads lemmas (fork l t u) e ls n = ap (λ (o : Option ℕ). course_next (root_line (is_some_axis o) p s lemmas (line_of l)) (suc n) (λ d. course_of_lines p b (suc n) d (rule_lines (tree_lines t ++ tree_lines u) ++ ls))) e
+  root-leads lemmas (leaf l) e ls n = ap (λ (o : Option ℕ). course_next (root_line (is_some_axis o) p s lemmas l) (suc n) (λ d. course_of_lines p b (suc n) d ls)) e
+  root-leads lemmas (then l t) e ls n = ap (λ (o : Option ℕ). course_next (root_line (is_some_axis o) p s lemmas l) (suc n) (λ d. course_of_lines p b (suc n) d (rule_lines (tree_lines t) ++ ls))) e
+  root-leads lemmas (fork l t u) e ls n = ap (λ (o : Option ℕ). course_next (root_line (is_some_axis o) p s lemmas l) (suc n) (λ d. course_of_lines p b (suc n) d (rule_lines (tree_lines t ++ tree_lines u) ++ ls))) e
 
   up-to-tree : (xs : List LemmaTree) → IsTrue (is_header s) → length xs ≤ most_lemmas → AreLemmaTrees p s [] xs → (body : List CertLine) →
       Leads version_due (cover_lines s b xs body) (root_due s (lemma_states xs)) (body ++ (end_word ∷ []))
@@ -160,11 +160,11 @@ module _ (p : Problem) (b : Option ℕ) (s : Loosenings) where
   root-stands : (lemmas : List State) (t : Tree) → first_crossed p ≡ None → (ls : List CertLine) →
       standing_of_lines p b (root_due s lemmas) (rule_lines (tree_lines t) ++ ls) ≡ standing_of_lines p b (tree_due s lemmas (root_state p) [] []) (rule_lines (tree_lines t) ++ ls)
   root-stands lemmas (leaf l) e ls =
-      ap (λ (o : Option ℕ). at_root (is_some_axis o) p s (line_of l) ++ standing_next (root_line (is_some_axis o) p s lemmas (line_of l)) (λ d. standing_of_lines p b d ls)) e
+      ap (λ (o : Option ℕ). at_root (is_some_axis o) p s l ++ standing_next (root_line (is_some_axis o) p s lemmas l) (λ d. standing_of_lines p b d ls)) e
   root-stands lemmas (then l t) e ls =
-      ap (λ (o : Option ℕ). at_root (is_some_axis o) p s (line_of l) ++ standing_next (root_line (is_some_axis o) p s lemmas (line_of l)) (λ d. standing_of_lines p b d (rule_lines (tree_lines t) ++ ls))) e
+      ap (λ (o : Option ℕ). at_root (is_some_axis o) p s l ++ standing_next (root_line (is_some_axis o) p s lemmas l) (λ d. standing_of_lines p b d (rule_lines (tree_lines t) ++ ls))) e
   root-stands lemmas (fork l t u) e ls =
-      ap (λ (o : Option ℕ). at_root (is_some_axis o) p s (line_of l) ++ standing_next (root_line (is_some_axis o) p s lemmas (line_of l)) (λ d. standing_of_lines p b d (rule_lines (tree_lines t ++ tree_lines u) ++ ls))) e
+      ap (λ (o : Option ℕ). at_root (is_some_axis o) p s l ++ standing_next (root_line (is_some_axis o) p s lemmas l) (λ d. standing_of_lines p b d (rule_lines (tree_lines t ++ tree_lines u) ++ ls))) e
 
   -- lemmas with their trees and a lawful tree at the root, written as lines, are accepted with what the tree leaves
   pub cover_accepted : (xs : List LemmaTree) → IsTrue (is_header s) → length xs ≤ most_lemmas → AreLemmaTrees p s [] xs → first_crossed p ≡ None →

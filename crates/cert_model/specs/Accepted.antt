@@ -2,14 +2,15 @@
 use Rattle.std.specs.Prelude.{◌≡◌, ℕ, suc, ◌-◌, ◌^◌, List, [], ◌∷◌, ◌++◌, Bool, true, false, cond, ◌&&◌, Option, nat_eq, nat_lt, nat_le, length, take, map}
 use Rattle.dyadic.specs.Fraction.{at_most}
 use Rattle.dyadic.specs.Rounding.{exact}
+use Rattle.cover_line.specs.Words.{word_of, empty_word}
 use Rattle.cert_read.specs.LineText.{text_of_lines, line_text}
 use Rattle.cert_read.specs.Lines.{lines_of, lines_so_far}
-use Rattle.cert_read.specs.CertLine.{says_both, says_false, says_true, RuleLine, CertLine, version, margin, delta, bound, cover, point_word, tree_word, end_word, lemma, real_interval, real_value, bool_value, yes_list, no_list, rule_line, crossing, word_of, empty_word, Parsed, too_long, bad_line, bad_number, line, parsed}
+use Rattle.cert_read.specs.CertLine.{says_both, says_false, says_true, CertLine, version, margin, delta, bound, cover, point_word, tree_word, end_word, lemma, real_interval, real_value, bool_value, yes_list, no_list, rule_line, crossing, Parsed, too_long, bad_line, bad_number, line, parsed}
 use Rattle.interval_model.specs.Space.{real_domain, bool_domain, Space}
 use Rattle.poly_graph.specs.Problem.{Declared, real_between, any_bool, Axis, Problem, crosses}
 use Rattle.cover_model.specs.State.{State, Loosenings, root_state}
-use Rattle.cover_model.specs.Rules.{rule}
-use Rattle.cert_model.specs.Due.{CertFault, BadHeader, BadNumber, RuleFails, Missing, Extra, WrongBound, NotShown, BadLine, LineTooLong, TooLong, Standing, Value, left_open, Due, version_due, margin_due, delta_due, bound_due, kind_due, next_due, axis_due, yes_due, no_due, lemma_due, root_due, tree_due, coordinate_due, end_due, nothing_due, Next, on, faulty, given, is_version, same_bound, bool_domain_of, ascends, apart, all_below, state_of, rule_of, is_axis, names_well, after_rule, after_lemma_rule, tree_goes_on, lemma_goes_on, axis_next, is_crossed_box, extra_after, extra_at_end, coordinate_next, is_shown}
+use Rattle.cover_model.specs.Rules.{rule, Line}
+use Rattle.cert_model.specs.Due.{CertFault, BadHeader, BadNumber, RuleFails, Missing, Extra, WrongBound, NotShown, BadLine, LineTooLong, TooLong, Standing, Value, left_open, Due, version_due, margin_due, delta_due, bound_due, kind_due, next_due, axis_due, yes_due, no_due, lemma_due, root_due, tree_due, coordinate_due, end_due, nothing_due, Next, on, faulty, given, is_version, same_bound, bool_domain_of, ascends, apart, all_below, state_of, is_axis, names_well, after_rule, after_lemma_rule, tree_goes_on, lemma_goes_on, axis_next, is_crossed_box, extra_after, extra_at_end, coordinate_next, is_shown}
 
 -- ---- a line that is well formed, where something is due
 
@@ -30,17 +31,17 @@ abbrev pub ruled_line : Bool → Next → Next
 ruled_line true x = x
 ruled_line false x = faulty BadNumber
 
-abbrev pub lemma_line : Problem → Loosenings → ℕ → List State → State → State → List State → RuleLine → Next
-lemma_line p s k lemmas L S pending l = ruled_line (names_well p (rule_of l))
-    (after_lemma_rule (rule p s lemmas S (rule_of l)) (RuleFails (word_of l)) pending (lemma_goes_on s k lemmas L))
+abbrev pub lemma_line : Problem → Loosenings → ℕ → List State → State → State → List State → Line → Next
+lemma_line p s k lemmas L S pending l = ruled_line (names_well p l)
+    (after_lemma_rule (rule p s lemmas S l) (RuleFails (word_of l)) pending (lemma_goes_on s k lemmas L))
 
-abbrev pub tree_line : Problem → Loosenings → List State → State → List State → List Standing → RuleLine → Next
-tree_line p s lemmas S pending done l = ruled_line (names_well p (rule_of l))
-    (after_rule (rule p s lemmas S (rule_of l)) (RuleFails (word_of l)) (record { state = S; does = rule_of l }) pending done (tree_goes_on s lemmas))
+abbrev pub tree_line : Problem → Loosenings → List State → State → List State → List Standing → Line → Next
+tree_line p s lemmas S pending done l = ruled_line (names_well p l)
+    (after_rule (rule p s lemmas S l) (RuleFails (word_of l)) (record { state = S; does = l }) pending done (tree_goes_on s lemmas))
 
 -- where the declared box is empty, no line but the one for crossed bounds may stand in the main tree
-abbrev pub root_line : Bool → Problem → Loosenings → List State → RuleLine → Next
-root_line true p s lemmas l = ruled_line (names_well p (rule_of l)) (faulty (RuleFails (word_of l)))
+abbrev pub root_line : Bool → Problem → Loosenings → List State → Line → Next
+root_line true p s lemmas l = ruled_line (names_well p l) (faulty (RuleFails (word_of l)))
 root_line false p s lemmas l = tree_line p s lemmas (root_state p) [] [] l
 
 -- a line for crossed bounds where it may not stand

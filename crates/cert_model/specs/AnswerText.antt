@@ -1,7 +1,7 @@
 -- The texts of the answers.
 use Rattle.std.specs.Prelude.{ℕ, List, [], ◌∷◌, ◌++◌, length, Bool, true, false, cond, ◌||◌, codes, decimal}
 use Rattle.dyadic.specs.NumberText.{number_spelling}
-use Rattle.cert_read.specs.CertLine.{word_text}
+use Rattle.cover_line.specs.Words.{word_text}
 use Rattle.script_model.specs.Symbol.{is_simple_symbol}
 use Rattle.interval_model.specs.Space.{Domain, real_domain, bool_domain, Space}
 use Rattle.poly_graph.specs.Problem.{Axis, Problem}

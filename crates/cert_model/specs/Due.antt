@@ -1,14 +1,15 @@
 -- Faults and values of a certificate, what is due in it, and the tests of one line.
 use Rattle.std.specs.Prelude.{ℕ, List, [], ◌∷◌, ◌++◌, Bool, true, false, not, ◌&&◌, ◌||◌, Option, Some, None, nat_eq, nat_lt, length}
 use Rattle.dyadic.specs.Rounding.{exact}
-use Rattle.cert_read.specs.CertLine.{BoolWord, says_false, says_true, says_both, RuleLine, pull_at, unit_at, void_at, push_at, void_no_at, case_at, stuck_at, by_lemma, ban_by, cut_at, flip_at, combine_at, void_combine_at, false_here, open_here, RuleWord}
+use Rattle.cover_line.specs.Words.{RuleWord, Operands, of_nothing, of_atom, of_lemma, of_atom_lemma, of_axis, of_axis_place, of_multipliers, operands_of}
+use Rattle.cert_read.specs.CertLine.{BoolWord, says_false, says_true, says_both}
 use Rattle.interval_model.specs.Space.{Domain, bool_domain, Space}
 use Rattle.poly_graph.specs.Problem.{Axis, Problem, first_crossed}
 pub use Rattle.cover_model.specs.Fits.{coordinate_of, coordinates, is_near, are_near}
 use Rattle.cover_model.specs.State.{State, Loosenings, delta_of, sure}
 use Rattle.poly_graph.specs.Marks.{member, marks_of}
 use Rattle.cover_model.specs.Combination.{Multipliers}
-use Rattle.cover_model.specs.Rules.{Line, pull, unit, void, push, void_no, combine, void_combine, ban, make_false, by, cut, flip, case, open_line, stuck, Left, closed, one, two, stays}
+use Rattle.cover_model.specs.Rules.{Line, Left, closed, one, two, stays}
 
 pub data CertFault : Type 0 where
   BadHeader BadNumber : CertFault
@@ -101,23 +102,6 @@ state_of p space ys ns = record { space = space; marks = marks_of (length p.atom
 
 -- ---- lines of trees
 
-abbrev pub rule_of : RuleLine → Line
-rule_of (pull_at j) = pull j
-rule_of (unit_at j) = unit j
-rule_of (void_at j) = void j
-rule_of (push_at j) = push j
-rule_of (void_no_at j) = void_no j
-rule_of (combine_at ms) = combine ms
-rule_of (void_combine_at ms) = void_combine ms
-rule_of (case_at j) = case j
-rule_of (stuck_at j) = stuck j
-rule_of (by_lemma i) = by i
-rule_of (ban_by j i) = ban j i
-rule_of (cut_at axis c) = cut axis c
-rule_of (flip_at axis) = flip axis
-rule_of false_here = make_false
-rule_of open_here = open_line
-
 abbrev pub is_atom : Problem → ℕ → Bool
 is_atom p j = nat_lt j (length p.atoms)
 
@@ -128,21 +112,18 @@ abbrev pub are_atoms : Problem → Multipliers → Bool
 are_atoms p [] = true
 are_atoms p ((j, l) ∷ rest) = is_atom p j && are_atoms p rest
 
+abbrev pub are_there : Problem → Operands → Bool
+are_there p of_nothing = true
+are_there p (of_atom j) = is_atom p j
+are_there p (of_lemma i) = true
+are_there p (of_atom_lemma j i) = is_atom p j
+are_there p (of_axis axis) = is_axis p axis
+are_there p (of_axis_place axis c) = is_axis p axis
+are_there p (of_multipliers ms) = are_atoms p ms
+
 -- the atoms or the axis that the line names are there
 abbrev pub names_well : Problem → Line → Bool
-names_well p (pull j) = is_atom p j
-names_well p (unit j) = is_atom p j
-names_well p (void j) = is_atom p j
-names_well p (push j) = is_atom p j
-names_well p (void_no j) = is_atom p j
-names_well p (combine ms) = are_atoms p ms
-names_well p (void_combine ms) = are_atoms p ms
-names_well p (ban j i) = is_atom p j
-names_well p (cut axis c) = is_axis p axis
-names_well p (flip axis) = is_axis p axis
-names_well p (case j) = is_atom p j
-names_well p (stuck j) = is_atom p j
-names_well p _ = true
+names_well p l = are_there p (operands_of l)
 
 -- what comes of a line of the main tree by what its rule leaves; k says what is due by the states that wait and what stayed
 abbrev pub after_rule : Option Left → CertFault → Standing → List State → List Standing → (List State → List Standing → Due) → Next

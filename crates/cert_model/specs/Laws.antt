@@ -7,8 +7,9 @@ use Rattle.poly_graph.specs.Problem.{Problem, IsProblem, sorts_of_problem, in_de
 use Rattle.interval_model.specs.Space.{Space}
 use Rattle.cover_model.specs.State.{State, Loosenings, delta_of, root_state, may, MeetsAt, MeetsForm}
 use Rattle.cover_model.specs.Derivation.{Tree, tree_lines, Lawful, Among, AreLemmas}
+use Rattle.cover_model.specs.Rules.{make_false}
 use Rattle.cert_read.specs.LineText.{IsSpelledBound, IsSpelled}
-use Rattle.cert_read.specs.CertLine.{CertLine, version, margin, delta, bound, cover, tree_word, end_word, rule_line, false_here, crossing}
+use Rattle.cert_read.specs.CertLine.{CertLine, version, margin, delta, bound, cover, tree_word, end_word, rule_line, crossing}
 use Rattle.cert_read.specs.Lines.{lines_of}
 use Rattle.cert_model.specs.Due.{Standing, Value, version_due, at_point, left_open, is_shown, coordinates}
 use Rattle.cert_model.specs.Accepted.{IsAccepted, is_header, course_of_lines, ended, verdict, certificate_text, most_bytes, most_lemmas, accepted}
@@ -61,7 +62,7 @@ TextHasLines = (p : Problem) (bound : Option ℕ) (ls : List CertLine) → AllBy
 
 -- the certificate that has the line `false` for its tree
 abbrev pub shortest_lines : Loosenings → Option ℕ → List CertLine
-shortest_lines s b = version s.version ∷ margin s.margin_bits ∷ delta s.delta_bits ∷ bound b ∷ cover 0 ∷ tree_word ∷ rule_line false_here ∷ end_word ∷ []
+shortest_lines s b = version s.version ∷ margin s.margin_bits ∷ delta s.delta_bits ∷ bound b ∷ cover 0 ∷ tree_word ∷ rule_line make_false ∷ end_word ∷ []
 
 -- Where the declared box is not empty, and the form can't hold at the root, it is accepted.
 abbrev pub ShortestIsAccepted : Type 0

@@ -7,12 +7,13 @@
 -- the least width; a stuck state in a box that is down to the least width, by its first stuck atom. What is accepted need
 -- not be honest: honesty says that the search did not give up early.
 use Rattle.std.specs.Prelude.{ℕ, ◌+◌, List, [], ◌∷◌, ◌++◌, Bool, true, false, Option, IsTrue, All}
+use Rattle.cover_model.specs.Rules.{Line}
 use Rattle.cert_read.specs.Lines.{lines_of}
-use Rattle.cert_read.specs.CertLine.{RuleLine, CertLine, rule_line, Parsed, line, parsed}
+use Rattle.cert_read.specs.CertLine.{CertLine, rule_line, Parsed, line, parsed}
 use Rattle.poly_graph.specs.Problem.{Problem}
 use Rattle.cover_model.specs.State.{State, Loosenings, root_state}
 use Rattle.cover_model.specs.Honest.{is_honest, branch_count}
-use Rattle.cert_model.specs.Due.{Standing, Due, version_due, root_due, tree_due, Next, on, faulty, rule_of, is_crossed_box}
+use Rattle.cert_model.specs.Due.{Standing, Due, version_due, root_due, tree_due, Next, on, faulty, is_crossed_box}
 use Rattle.cert_model.specs.Accepted.{next, next_parsed}
 
 -- a line of the main tree with its state, and the margin and delta of the header
@@ -20,10 +21,10 @@ pub record Stands : Type 0 where
   pub loosenings : Loosenings
   pub line : Standing
 
-abbrev pub stands : Loosenings → State → RuleLine → Stands
-stands s S l = record { loosenings = s; line = record { state = S; does = rule_of l } }
+abbrev pub stands : Loosenings → State → Line → Stands
+stands s S l = record { loosenings = s; line = record { state = S; does = l } }
 
-abbrev pub at_root : Bool → Problem → Loosenings → RuleLine → List Stands
+abbrev pub at_root : Bool → Problem → Loosenings → Line → List Stands
 at_root true p s l = []
 at_root false p s l = stands s (root_state p) l ∷ []
 

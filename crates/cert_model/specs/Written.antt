@@ -1,7 +1,7 @@
 -- Trees as lines of a certificate.
 use Rattle.std.specs.Prelude.{◌≡◌, ℕ, suc, List, [], ◌∷◌, ◌++◌, map, length, true, false, Option, Some, IsTrue, All, sum_by}
 use Rattle.std.specs.List.{AllByRecursion}
-use Rattle.cert_read.specs.CertLine.{says_false, says_true, says_both, RuleLine, pull_at, unit_at, void_at, push_at, void_no_at, case_at, stuck_at, by_lemma, ban_by, cut_at, flip_at, combine_at, void_combine_at, false_here, open_here, CertLine, rule_line, version, margin, delta, bound, cover, lemma, point_word, tree_word, end_word, real_interval, real_value, bool_value, yes_list, no_list}
+use Rattle.cert_read.specs.CertLine.{says_false, says_true, says_both, CertLine, rule_line, version, margin, delta, bound, cover, lemma, point_word, tree_word, end_word, real_interval, real_value, bool_value, yes_list, no_list}
 use Rattle.interval_model.specs.Space.{Domain, real_domain, bool_domain, Space}
 use Rattle.poly_graph.specs.Problem.{Problem}
 pub use Rattle.cover_model.specs.Fits.{FitsAxis, FitsAxes}
@@ -12,25 +12,8 @@ use Rattle.cover_model.specs.Honest.{is_honest, branch_count}
 use Rattle.cover_model.specs.Derivation.{Tree, leaf, then, fork, tree_lines, Lawful}
 use Rattle.cert_model.specs.Due.{Standing, names_well}
 
-abbrev pub line_of : Line → RuleLine
-line_of (pull j) = pull_at j
-line_of (unit j) = unit_at j
-line_of (void j) = void_at j
-line_of (push j) = push_at j
-line_of (void_no j) = void_no_at j
-line_of (combine ms) = combine_at ms
-line_of (void_combine ms) = void_combine_at ms
-line_of (ban j i) = ban_by j i
-line_of make_false = false_here
-line_of (by i) = by_lemma i
-line_of (cut axis c) = cut_at axis c
-line_of (flip axis) = flip_at axis
-line_of (case j) = case_at j
-line_of open_line = open_here
-line_of (stuck j) = stuck_at j
-
 abbrev pub rule_lines : List Line → List CertLine
-rule_lines ls = map (λ l. rule_line (line_of l)) ls
+rule_lines ls = map rule_line ls
 
 -- each line of the tree names atoms and axes that are there
 abbrev pub NamesWell : Problem → Tree → Type 0

@@ -2,7 +2,6 @@ pub mod Ahead
 mod Answered
 mod ByFirst
 mod Counts
-mod Forms
 mod KeywordWords
 mod LineRows
 mod Paired

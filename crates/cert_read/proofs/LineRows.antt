@@ -1,14 +1,15 @@
 -- What some lines say.
 use Rattle.std.proofs.Common.{◌≡◌, [], ◌∷◌, codes, refl, pos, neg_ℤ, None, map, ◌*◌, ◌^◌}
 use Rattle.cert_read.specs.Lines.{lines_of}
-use Rattle.cert_read.specs.CertLine.{parsed, line, bad_line, bad_number, rule_line, false_here, cut_at, combine_at, void_combine_at, version, margin, delta, bound, cover, tree_word, end_word, real_interval, yes_list, no_list, bool_value, says_both}
+use Rattle.cover_line.specs.Line.{make_false, cut, combine, void_combine}
+use Rattle.cert_read.specs.CertLine.{parsed, line, bad_line, bad_number, rule_line, version, margin, delta, bound, cover, tree_word, end_word, real_interval, yes_list, no_list, bool_value, says_both}
 
 whole_certificate : map parsed (lines_of (codes "dpoly 1\nmargin 20\ndelta 10\nbound none\ncover 0\ntree\nfalse\nend\n")) ≡
-    (line (version 1) ∷ line (margin 20) ∷ line (delta 10) ∷ line (bound None) ∷ line (cover 0) ∷ line tree_word ∷ line (rule_line false_here) ∷ line end_word ∷ [])
+    (line (version 1) ∷ line (margin 20) ∷ line (delta 10) ∷ line (bound None) ∷ line (cover 0) ∷ line tree_word ∷ line (rule_line make_false) ∷ line end_word ∷ [])
 whole_certificate = refl
 
 numbers : map parsed (lines_of (codes "margin 020\ncut 1 1b-1\nreal 0 1b0\nyes 4\nno\nreal 2b-1 0\nreal 1b123 0\nreal -3b-2 5b0\ncover 4294967296\ncover 4294967295\nlemma -1")) ≡
-    (bad_number ∷ line (rule_line (cut_at 1 (record { units = pos (2 ^ 119) }))) ∷ line (real_interval (record { units = pos 0 }) (record { units = pos (2 ^ 120) })) ∷
+    (bad_number ∷ line (rule_line (cut 1 (record { units = pos (2 ^ 119) }))) ∷ line (real_interval (record { units = pos 0 }) (record { units = pos (2 ^ 120) })) ∷
     line (yes_list (4 ∷ [])) ∷ line (no_list []) ∷ bad_number ∷ bad_number ∷
     line (real_interval (record { units = neg_ℤ (pos (3 * 2 ^ 118)) }) (record { units = pos (5 * 2 ^ 120) })) ∷ bad_number ∷ line (cover 4294967295) ∷ bad_number ∷ [])
 numbers = refl
@@ -18,7 +19,7 @@ forms : map parsed (lines_of (codes "pull  4\n\nbool both\nbool x\n pull 4\npull
 forms = refl
 
 combinations : map parsed (lines_of (codes "comb 0 1b0\nvoidcomb 7 -3b-2 2 1b-1\ncomb\ncomb 1\ncomb 1 1b0 2\ncomb 1b0 1\nvoidcomb 1 2b0\nvoidcomb 01 1b0 x\n")) ≡
-    (line (rule_line (combine_at ((0, record { units = pos (2 ^ 120) }) ∷ []))) ∷
-    line (rule_line (void_combine_at ((7, record { units = neg_ℤ (pos (3 * 2 ^ 118)) }) ∷ (2, record { units = pos (2 ^ 119) }) ∷ []))) ∷
+    (line (rule_line (combine ((0, record { units = pos (2 ^ 120) }) ∷ []))) ∷
+    line (rule_line (void_combine ((7, record { units = neg_ℤ (pos (3 * 2 ^ 118)) }) ∷ (2, record { units = pos (2 ^ 119) }) ∷ []))) ∷
     bad_line ∷ bad_line ∷ bad_line ∷ bad_number ∷ bad_number ∷ bad_line ∷ [])
 combinations = refl

@@ -9,9 +9,10 @@ use Rattle.std.proofs.lemmas.Bool.Decides.{nat_tests}
 use Rattle.std.proofs.lemmas.List.{drop_more, map-append}
 use Rattle.dyadic.specs.declared.dy.Dy.{Dy}
 use Rattle.dyadic.specs.Rounding.{Dyadic}
-use Rattle.cert_read.specs.CertLine.{count_of, dyadic_of, and_pair, pairs_of, are_paired, has_pairs, paired, with_pairs, bad_line, RuleLine}
+use Rattle.dyadic.specs.Views as dy
+use Rattle.cert_read.specs.CertLine.{count_of, dyadic_of, and_pair, pairs_of, are_paired, has_pairs, paired, with_pairs, bad_line, CertLine}
 use Rattle.cert_read.specs.Lines.{split_at, onto_first, words_of}
-use Rattle.cert_read.specs.Views.{pair_of, pair_list}
+use Rattle.cover_line.specs.Views.{multipliers_of}
 use Rattle.cert_read.proofs.Parts.{split_some}
 
 -- ---- whether words are paired, byte by byte
@@ -88,19 +89,22 @@ pairs_no_number ps v w ws h =
     ap (λ (o : Option Dyadic). joined_pairs ps (and_pair (count_of v) o (pairs_of ws))) h
     ∙ ap (joined_pairs ps) (and_no_number (count_of v) (pairs_of ws))
 
-pub one_more_pair : (xs : List (ℕ × Dy)) (x : ℕ × Dy) → pair_list (xs ++ (x ∷ [])) ≡ pair_list xs ++ (pair_of x ∷ [])
+abbrev pub pair_of : (ℕ × Dy) → (ℕ × Dyadic)
+pair_of x = (x.0, dy.dyadic_of x.1)
+
+pub one_more_pair : (xs : List (ℕ × Dy)) (x : ℕ × Dy) → multipliers_of (xs ++ (x ∷ [])) ≡ multipliers_of xs ++ (pair_of x ∷ [])
 one_more_pair xs x = map-append pair_of xs (x ∷ [])
 
 -- ---- what a line of pairs says
 
-pub paired_line : (f : List (ℕ × Dyadic) → RuleLine) (ws : List (List ℕ)) (o : Option (List (ℕ × Dyadic))) → IsTrue (has_pairs ws) → pairs_of ws ≡ o → paired f ws ≡ with_pairs f o
+pub paired_line : (f : List (ℕ × Dyadic) → CertLine) (ws : List (List ℕ)) (o : Option (List (ℕ × Dyadic))) → IsTrue (has_pairs ws) → pairs_of ws ≡ o → paired f ws ≡ with_pairs f o
 paired_line f ws o h e = ap (λ (t : Bool). cond t (with_pairs f (pairs_of ws)) bad_line) h ∙ ap (with_pairs f) e
 
-pub unpaired_line : (f : List (ℕ × Dyadic) → RuleLine) (ws : List (List ℕ)) → has_pairs ws ≡ false → paired f ws ≡ bad_line
+pub unpaired_line : (f : List (ℕ × Dyadic) → CertLine) (ws : List (List ℕ)) → has_pairs ws ≡ false → paired f ws ≡ bad_line
 unpaired_line f ws h = ap (λ (t : Bool). cond t (with_pairs f (pairs_of ws)) bad_line) h
 
 pub pairs_told : (r : Result (Vec (ℕ × Dy) Global) LineFault) (xs : List ℕ) → are_paired (words_of xs) ≡ true
-    → MatchResult r (λ v. pairs_of (words_of xs) ≡ Some (pair_list v.items)) (λ f. IsUncounted f (pairs_of (words_of xs))) → ArePairs r (words_of xs)
+    → MatchResult r (λ v. pairs_of (words_of xs) ≡ Some (multipliers_of v.items)) (λ f. IsUncounted f (pairs_of (words_of xs))) → ArePairs r (words_of xs)
 pairs_told (Ok v) xs h k = (some_pairs xs ∙ h, k)
 pairs_told (Err BadLine) xs h k = absurd k
 pairs_told (Err BadNumber) xs h k = (some_pairs xs ∙ h, k)

@@ -12,8 +12,10 @@ use Rattle.dyadic.specs.Rounding.{Dyadic}
 use Rattle.dyadic.specs.NumberText.{number_spelling}
 use Rattle.dyadic.proofs.Equal.{both_true, both_pass}
 use Rattle.cert_read.specs.Lines.{all_bytes, is_word, are_words, words_of, is_too_long, longest_line}
-use Rattle.cert_read.specs.CertLine.{BoolWord, says_false, says_true, says_both, RuleLine, pull_at, unit_at, void_at, push_at, void_no_at, case_at, stuck_at, by_lemma, ban_by, cut_at, flip_at, combine_at, void_combine_at, false_here, open_here, CertLine, version, margin, delta, bound, cover, point_word, tree_word, end_word, lemma, real_interval, real_value, bool_value, yes_list, no_list, rule_line, crossing, is_plain, if_below, if_plain, count_of, if_number, dyadic_of, counts_of, and_count, pairs_of, and_pair, are_paired, has_pairs, line, parsed, with_count, with_counts, with_dyadic, with_dyadics, with_both, with_list, of_bound, paired, by_first, if_words, unless_long}
-use Rattle.cert_read.specs.LineText.{spaced, line_words, line_text, rule_words, pair_words, bound_text, bool_text, is_word_byte, IsCount, IsSpelledNumber, IsSpelledPair, AreSpelledPairs, IsSpelledRule, IsSpelledBound, HasSpelling, IsSpelled}
+use Rattle.cover_line.specs.Line.{Multipliers, Line, pull, unit, void, push, void_no, combine, void_combine, ban, make_false, by, cut, flip, case, open_line, stuck}
+use Rattle.cover_line.specs.Words.{RuleWord, empty_word, pull_word, unit_word, ban_word, void_word, push_word, void_no_word, false_word, by_word, cut_word, flip_word, case_word, open_word, stuck_word, combine_word, void_combine_word, word_of, word_text, Operands, of_nothing, of_atom, of_lemma, of_atom_lemma, of_axis, of_axis_place, of_multipliers, operands_of}
+use Rattle.cert_read.specs.CertLine.{BoolWord, says_false, says_true, says_both, CertLine, version, margin, delta, bound, cover, point_word, tree_word, end_word, lemma, real_interval, real_value, bool_value, yes_list, no_list, rule_line, crossing, is_plain, if_below, if_plain, count_of, if_number, dyadic_of, counts_of, and_count, pairs_of, and_pair, are_paired, has_pairs, line, parsed, with_count, with_counts, with_dyadic, with_dyadics, with_both, with_list, bound_in, paired, by_first, if_words, unless_long}
+use Rattle.cert_read.specs.LineText.{spaced, line_words, line_text, rule_words, operand_words, pair_words, bound_text, bool_text, is_word_byte, IsCount, IsSpelledNumber, IsSpelledPair, AreSpelledPairs, AreSpelledOperands, IsSpelledRule, IsSpelledBound, HasSpelling, IsSpelled}
 use Rattle.cert_read.proofs.Paired.{paired_line}
 use Rattle.cert_read.proofs.Pieces.{lacks, AllLack, words_of_spaced, spaced_lacks}
 
@@ -125,22 +127,35 @@ bool-clean says_false = literal (codes "false") refl refl
 bool-clean says_true = literal (codes "true") refl refl
 bool-clean says_both = literal (codes "both") refl refl
 
-rule-clean : (l : RuleLine) → IsSpelledRule l → AreCleanWords (rule_words l)
-rule-clean (pull_at j) h = (literal (codes "pull") refl refl, (decimal-clean j h, tt))
-rule-clean (unit_at j) h = (literal (codes "unit") refl refl, (decimal-clean j h, tt))
-rule-clean (void_at j) h = (literal (codes "void") refl refl, (decimal-clean j h, tt))
-rule-clean (push_at j) h = (literal (codes "push") refl refl, (decimal-clean j h, tt))
-rule-clean (void_no_at j) h = (literal (codes "voidno") refl refl, (decimal-clean j h, tt))
-rule-clean (case_at j) h = (literal (codes "case") refl refl, (decimal-clean j h, tt))
-rule-clean (stuck_at j) h = (literal (codes "stuck") refl refl, (decimal-clean j h, tt))
-rule-clean (by_lemma i) h = (literal (codes "by") refl refl, (decimal-clean i h, tt))
-rule-clean (ban_by j i) h = (literal (codes "ban") refl refl, (decimal-clean j h.0, (decimal-clean i h.1, tt)))
-rule-clean (cut_at axis c) h = (literal (codes "cut") refl refl, (decimal-clean axis h.0, (number-clean c h.1, tt)))
-rule-clean (flip_at axis) h = (literal (codes "flip") refl refl, (decimal-clean axis h, tt))
-rule-clean (combine_at ps) h = (literal (codes "comb") refl refl, pairs-clean ps h.1)
-rule-clean (void_combine_at ps) h = (literal (codes "voidcomb") refl refl, pairs-clean ps h.1)
-rule-clean false_here h = (literal (codes "false") refl refl, tt)
-rule-clean open_here h = (literal (codes "open") refl refl, tt)
+word-clean : (w : RuleWord) → IsCleanWord (word_text w)
+word-clean empty_word = literal (word_text empty_word) refl refl
+word-clean pull_word = literal (word_text pull_word) refl refl
+word-clean unit_word = literal (word_text unit_word) refl refl
+word-clean ban_word = literal (word_text ban_word) refl refl
+word-clean void_word = literal (word_text void_word) refl refl
+word-clean push_word = literal (word_text push_word) refl refl
+word-clean void_no_word = literal (word_text void_no_word) refl refl
+word-clean false_word = literal (word_text false_word) refl refl
+word-clean by_word = literal (word_text by_word) refl refl
+word-clean cut_word = literal (word_text cut_word) refl refl
+word-clean flip_word = literal (word_text flip_word) refl refl
+word-clean case_word = literal (word_text case_word) refl refl
+word-clean open_word = literal (word_text open_word) refl refl
+word-clean stuck_word = literal (word_text stuck_word) refl refl
+word-clean combine_word = literal (word_text combine_word) refl refl
+word-clean void_combine_word = literal (word_text void_combine_word) refl refl
+
+operands-clean : (o : Operands) → AreSpelledOperands o → AreCleanWords (operand_words o)
+operands-clean of_nothing h = tt
+operands-clean (of_atom j) h = (decimal-clean j h, tt)
+operands-clean (of_lemma i) h = (decimal-clean i h, tt)
+operands-clean (of_atom_lemma j i) h = (decimal-clean j h.0, (decimal-clean i h.1, tt))
+operands-clean (of_axis axis) h = (decimal-clean axis h, tt)
+operands-clean (of_axis_place axis c) h = (decimal-clean axis h.0, (number-clean c h.1, tt))
+operands-clean (of_multipliers ps) h = pairs-clean ps h.1
+
+rule-clean : (l : Line) → IsSpelledRule l → AreCleanWords (rule_words l)
+rule-clean l h = (word-clean (word_of l), operands-clean (operands_of l) h)
 
 line-clean : (l : CertLine) → HasSpelling l → AreCleanWords (line_words l)
 line-clean (version n) h = (literal (codes "dpoly") refl refl, (decimal-clean n h, tt))
@@ -158,11 +173,11 @@ line-clean (bool_value w) h = (literal (codes "bool") refl refl, (bool-clean w, 
 line-clean (yes_list js) h = (literal (codes "yes") refl refl, decimals-clean js h)
 line-clean (no_list js) h = (literal (codes "no") refl refl, decimals-clean js h)
 line-clean (rule_line l) h = rule-clean l h
-line-clean (crossing i) h = (literal (codes "empty") refl refl, (decimal-clean i h, tt))
+line-clean (crossing i) h = (word-clean empty_word, (decimal-clean i h, tt))
 
 -- ---- the forms, by their words
 
-bound-says : (b : Option ℕ) → IsSpelledBound b → of_bound (bound_text b) ≡ line (bound b)
+bound-says : (b : Option ℕ) → IsSpelledBound b → bound_in (bound_text b ∷ []) ≡ line (bound b)
 bound-says None h = refl
 bound-says (Some n) h = ap (λ (t : Bool). cond t (line (bound None)) (with_count (λ m. bound (Some m)) (count_of (decimal n)))) (no-word (decimal n) (digits-of n h))
     ∙ ap (λ (o : Option ℕ). with_count (λ m. bound (Some m)) o) (spelled_count n h)
@@ -189,25 +204,25 @@ spelled-some : (ps : List (ℕ × Dyadic)) → 0 < length ps → IsTrue (has_pai
 spelled-some [] h = absurd (omega (arith, h))
 spelled-some ((j, l) ∷ ps) h = words-paired ((j, l) ∷ ps)
 
-pairs-say : (f : List (ℕ × Dyadic) → RuleLine) (ps : List (ℕ × Dyadic)) → AreSpelledPairs ps → paired f (pair_words ps) ≡ line (rule_line (f ps))
+pairs-say : (f : Multipliers → CertLine) (ps : Multipliers) → AreSpelledPairs ps → paired f (pair_words ps) ≡ line (f ps)
 pairs-say f ps h = paired_line f (pair_words ps) (Some ps) (spelled-some ps h.0) (spelled_pairs ps h.1)
 
-rule-says : (l : RuleLine) → IsSpelledRule l → by_first (rule_words l) ≡ line (rule_line l)
-rule-says (pull_at j) h = one-says (λ n. rule_line (pull_at n)) j h
-rule-says (unit_at j) h = one-says (λ n. rule_line (unit_at n)) j h
-rule-says (void_at j) h = one-says (λ n. rule_line (void_at n)) j h
-rule-says (push_at j) h = one-says (λ n. rule_line (push_at n)) j h
-rule-says (void_no_at j) h = one-says (λ n. rule_line (void_no_at n)) j h
-rule-says (case_at j) h = one-says (λ n. rule_line (case_at n)) j h
-rule-says (stuck_at j) h = one-says (λ n. rule_line (stuck_at n)) j h
-rule-says (by_lemma i) h = one-says (λ n. rule_line (by_lemma n)) i h
-rule-says (ban_by j i) h = ap₂ (λ (o : Option ℕ) (q : Option ℕ). with_counts (λ m n. rule_line (ban_by m n)) o q) (spelled_count j h.0) (spelled_count i h.1)
-rule-says (cut_at axis c) h = ap₂ (λ (o : Option ℕ) (q : Option Dyadic). with_both (λ m d. rule_line (cut_at m d)) o q) (spelled_count axis h.0) (spelled-number c h.1)
-rule-says (flip_at axis) h = one-says (λ n. rule_line (flip_at n)) axis h
-rule-says (combine_at ps) h = pairs-say combine_at ps h
-rule-says (void_combine_at ps) h = pairs-say void_combine_at ps h
-rule-says false_here h = refl
-rule-says open_here h = refl
+rule-says : (l : Line) → IsSpelledRule l → by_first (rule_words l) ≡ line (rule_line l)
+rule-says (pull j) h = one-says (λ n. rule_line (pull n)) j h
+rule-says (unit j) h = one-says (λ n. rule_line (unit n)) j h
+rule-says (void j) h = one-says (λ n. rule_line (void n)) j h
+rule-says (push j) h = one-says (λ n. rule_line (push n)) j h
+rule-says (void_no j) h = one-says (λ n. rule_line (void_no n)) j h
+rule-says (case j) h = one-says (λ n. rule_line (case n)) j h
+rule-says (stuck j) h = one-says (λ n. rule_line (stuck n)) j h
+rule-says (by i) h = one-says (λ n. rule_line (by n)) i h
+rule-says (ban j i) h = ap₂ (λ (o : Option ℕ) (q : Option ℕ). with_counts (λ m n. rule_line (ban m n)) o q) (spelled_count j h.0) (spelled_count i h.1)
+rule-says (cut axis c) h = ap₂ (λ (o : Option ℕ) (q : Option Dyadic). with_both (λ m d. rule_line (cut m d)) o q) (spelled_count axis h.0) (spelled-number c h.1)
+rule-says (flip axis) h = one-says (λ n. rule_line (flip n)) axis h
+rule-says (combine ps) h = pairs-say (λ ms. rule_line (combine ms)) ps h
+rule-says (void_combine ps) h = pairs-say (λ ms. rule_line (void_combine ms)) ps h
+rule-says make_false h = refl
+rule-says open_line h = refl
 
 line-says : (l : CertLine) → HasSpelling l → by_first (line_words l) ≡ line l
 line-says (version n) h = one-says version n h
@@ -265,21 +280,7 @@ words-parted [] s h = absurd (omega (arith, s))
 words-parted (w ∷ ws) s h = words_of_spaced w ws (no-spaces (w ∷ ws) h)
 
 has-word : (l : CertLine) → 0 < length (line_words l)
-has-word (rule_line (pull_at j)) = omega arith
-has-word (rule_line (unit_at j)) = omega arith
-has-word (rule_line (void_at j)) = omega arith
-has-word (rule_line (push_at j)) = omega arith
-has-word (rule_line (void_no_at j)) = omega arith
-has-word (rule_line (case_at j)) = omega arith
-has-word (rule_line (stuck_at j)) = omega arith
-has-word (rule_line (by_lemma i)) = omega arith
-has-word (rule_line (ban_by j i)) = omega arith
-has-word (rule_line (cut_at axis c)) = omega arith
-has-word (rule_line (flip_at axis)) = omega arith
-has-word (rule_line (combine_at ps)) = omega arith
-has-word (rule_line (void_combine_at ps)) = omega arith
-has-word (rule_line false_here) = omega arith
-has-word (rule_line open_here) = omega arith
+has-word (rule_line l) = omega arith
 has-word _ = omega arith
 
 -- the spelling of a line says that line

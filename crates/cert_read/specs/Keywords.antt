@@ -1,8 +1,11 @@
 -- The first words of lines, as the code holds them.
-use Rattle.std.specs.Prelude.{ℕ, List, cond, Option, Some, None, codes}
+use Rattle.std.specs.Prelude.{◌≡◌, ℕ, List, ◌∷◌, cond, Option, Some, None, codes}
 use Rattle.std.specs.Str.{bytes_eq}
+use Rattle.cover_line.specs.Words.{word_text}
+use Rattle.cover_line.specs.Views.{rule_word}
 use Rattle.cert_read.specs.declared.keyword.Keyword.{Keyword}
-use Rattle.cert_read.specs.declared.keyword.Keyword.TheVariants.{Version, Margin, Delta, Bound, Cover, Point, Tree, End, Lemma, Real, Bool, Yes, No, Pull, Unit, Void, Push, VoidNo, Case, Stuck, By, Ban, Cut, Flip, False, Open, Empty, Combine, VoidCombine}
+use Rattle.cert_read.specs.declared.keyword.Keyword.TheVariants.{Version, Margin, Delta, Bound, Cover, Point, Tree, End, Lemma, Real, Bool, Yes, No, Rule}
+use Rattle.cert_read.specs.CertLine.{bad_line, by_first}
 
 abbrev pub keyword_text : Keyword → List ℕ
 keyword_text Version = codes "dpoly"
@@ -18,47 +21,11 @@ keyword_text Real = codes "real"
 keyword_text Bool = codes "bool"
 keyword_text Yes = codes "yes"
 keyword_text No = codes "no"
-keyword_text Pull = codes "pull"
-keyword_text Unit = codes "unit"
-keyword_text Void = codes "void"
-keyword_text Push = codes "push"
-keyword_text VoidNo = codes "voidno"
-keyword_text Case = codes "case"
-keyword_text Stuck = codes "stuck"
-keyword_text By = codes "by"
-keyword_text Ban = codes "ban"
-keyword_text Cut = codes "cut"
-keyword_text Flip = codes "flip"
-keyword_text False = codes "false"
-keyword_text Open = codes "open"
-keyword_text Empty = codes "empty"
-keyword_text Combine = codes "comb"
-keyword_text VoidCombine = codes "voidcomb"
+keyword_text (Rule w) = word_text (rule_word w)
 
--- the word that leads a line of a tree
-abbrev pub rule_keyword_of : List ℕ → Option Keyword
-rule_keyword_of w =
-    cond (bytes_eq w (codes "pull")) (Some Pull) (
-    cond (bytes_eq w (codes "unit")) (Some Unit) (
-    cond (bytes_eq w (codes "void")) (Some Void) (
-    cond (bytes_eq w (codes "push")) (Some Push) (
-    cond (bytes_eq w (codes "voidno")) (Some VoidNo) (
-    cond (bytes_eq w (codes "case")) (Some Case) (
-    cond (bytes_eq w (codes "stuck")) (Some Stuck) (
-    cond (bytes_eq w (codes "by")) (Some By) (
-    cond (bytes_eq w (codes "ban")) (Some Ban) (
-    cond (bytes_eq w (codes "cut")) (Some Cut) (
-    cond (bytes_eq w (codes "flip")) (Some Flip) (
-    cond (bytes_eq w (codes "false")) (Some False) (
-    cond (bytes_eq w (codes "open")) (Some Open) (
-    cond (bytes_eq w (codes "empty")) (Some Empty) (
-    cond (bytes_eq w (codes "comb")) (Some Combine) (
-    cond (bytes_eq w (codes "voidcomb")) (Some VoidCombine) (
-    None))))))))))))))))
-
--- the word that leads a line
-abbrev pub keyword_of : List ℕ → Option Keyword
-keyword_of w =
+-- the word that leads a line outside trees
+abbrev pub header_keyword_of : List ℕ → Option Keyword
+header_keyword_of w =
     cond (bytes_eq w (codes "dpoly")) (Some Version) (
     cond (bytes_eq w (codes "margin")) (Some Margin) (
     cond (bytes_eq w (codes "delta")) (Some Delta) (
@@ -72,4 +39,9 @@ keyword_of w =
     cond (bytes_eq w (codes "bool")) (Some Bool) (
     cond (bytes_eq w (codes "yes")) (Some Yes) (
     cond (bytes_eq w (codes "no")) (Some No) (
-    rule_keyword_of w)))))))))))))
+    None)))))))))))))
+
+-- the word that leads a line; none where no line begins so
+abbrev pub IsKeywordIn : List ℕ → Option Keyword → Type 0
+IsKeywordIn w (Some k) = w ≡ keyword_text k
+IsKeywordIn w None = (ws : List (List ℕ)) → by_first (w ∷ ws) ≡ bad_line

@@ -4,7 +4,9 @@ use Rattle.std.specs.List.{AllByRecursion}
 use Rattle.dyadic.specs.Rounding.{Dyadic}
 use Rattle.dyadic.specs.NumberText.{number, number_text, number_spelling}
 use Rattle.cert_read.specs.Lines.{all_bytes, longest_line}
-use Rattle.cert_read.specs.CertLine.{BoolWord, says_false, says_true, says_both, RuleLine, pull_at, unit_at, void_at, push_at, void_no_at, case_at, stuck_at, by_lemma, ban_by, cut_at, flip_at, combine_at, void_combine_at, false_here, open_here, CertLine, version, margin, delta, bound, cover, point_word, tree_word, end_word, lemma, real_interval, real_value, bool_value, yes_list, no_list, rule_line, crossing}
+use Rattle.cover_line.specs.Line.{Multipliers, Line}
+use Rattle.cover_line.specs.Words.{empty_word, word_of, word_text, Operands, of_nothing, of_atom, of_lemma, of_atom_lemma, of_axis, of_axis_place, of_multipliers, operands_of}
+use Rattle.cert_read.specs.CertLine.{BoolWord, says_false, says_true, says_both, CertLine, version, margin, delta, bound, cover, point_word, tree_word, end_word, lemma, real_interval, real_value, bool_value, yes_list, no_list, rule_line, crossing}
 
 -- words parted by one space
 abbrev pub spaced : List (List ℕ) → List ℕ
@@ -27,26 +29,21 @@ bool_text says_true = codes "true"
 bool_text says_both = codes "both"
 
 -- atoms, each with its multiplier
-abbrev pub pair_words : List (ℕ × Dyadic) → List (List ℕ)
+abbrev pub pair_words : Multipliers → List (List ℕ)
 pair_words [] = []
 pair_words ((j, l) ∷ ps) = decimal j ∷ number_spelling l ∷ pair_words ps
 
-abbrev pub rule_words : RuleLine → List (List ℕ)
-rule_words (pull_at j) = codes "pull" ∷ decimal j ∷ []
-rule_words (unit_at j) = codes "unit" ∷ decimal j ∷ []
-rule_words (void_at j) = codes "void" ∷ decimal j ∷ []
-rule_words (push_at j) = codes "push" ∷ decimal j ∷ []
-rule_words (void_no_at j) = codes "voidno" ∷ decimal j ∷ []
-rule_words (case_at j) = codes "case" ∷ decimal j ∷ []
-rule_words (stuck_at j) = codes "stuck" ∷ decimal j ∷ []
-rule_words (by_lemma i) = codes "by" ∷ decimal i ∷ []
-rule_words (ban_by j i) = codes "ban" ∷ decimal j ∷ decimal i ∷ []
-rule_words (cut_at axis c) = codes "cut" ∷ decimal axis ∷ number_spelling c ∷ []
-rule_words (flip_at axis) = codes "flip" ∷ decimal axis ∷ []
-rule_words (combine_at ps) = codes "comb" ∷ pair_words ps
-rule_words (void_combine_at ps) = codes "voidcomb" ∷ pair_words ps
-rule_words false_here = codes "false" ∷ []
-rule_words open_here = codes "open" ∷ []
+abbrev pub operand_words : Operands → List (List ℕ)
+operand_words of_nothing = []
+operand_words (of_atom j) = decimal j ∷ []
+operand_words (of_lemma i) = decimal i ∷ []
+operand_words (of_atom_lemma j i) = decimal j ∷ decimal i ∷ []
+operand_words (of_axis axis) = decimal axis ∷ []
+operand_words (of_axis_place axis c) = decimal axis ∷ number_spelling c ∷ []
+operand_words (of_multipliers ps) = pair_words ps
+
+abbrev pub rule_words : Line → List (List ℕ)
+rule_words l = word_text (word_of l) ∷ operand_words (operands_of l)
 
 abbrev pub line_words : CertLine → List (List ℕ)
 line_words (version n) = codes "dpoly" ∷ decimal n ∷ []
@@ -64,7 +61,7 @@ line_words (bool_value w) = codes "bool" ∷ bool_text w ∷ []
 line_words (yes_list js) = codes "yes" ∷ map decimal js
 line_words (no_list js) = codes "no" ∷ map decimal js
 line_words (rule_line l) = rule_words l
-line_words (crossing i) = codes "empty" ∷ decimal i ∷ []
+line_words (crossing i) = word_text empty_word ∷ decimal i ∷ []
 
 abbrev pub line_text : CertLine → List ℕ
 line_text l = spaced (line_words l)
@@ -86,24 +83,20 @@ IsSpelledNumber d = (number_text (number_spelling d) ≡ number d) × (0 < lengt
 abbrev pub IsSpelledPair : (ℕ × Dyadic) → Type 0
 IsSpelledPair (j, l) = IsCount j × IsSpelledNumber l
 
-abbrev pub AreSpelledPairs : List (ℕ × Dyadic) → Type 0
+abbrev pub AreSpelledPairs : Multipliers → Type 0
 AreSpelledPairs ps = (0 < length ps) × AllByRecursion IsSpelledPair ps
 
-abbrev pub IsSpelledRule : RuleLine → Type 0
-IsSpelledRule (pull_at j) = IsCount j
-IsSpelledRule (unit_at j) = IsCount j
-IsSpelledRule (void_at j) = IsCount j
-IsSpelledRule (push_at j) = IsCount j
-IsSpelledRule (void_no_at j) = IsCount j
-IsSpelledRule (case_at j) = IsCount j
-IsSpelledRule (stuck_at j) = IsCount j
-IsSpelledRule (by_lemma i) = IsCount i
-IsSpelledRule (ban_by j i) = IsCount j × IsCount i
-IsSpelledRule (cut_at axis c) = IsCount axis × IsSpelledNumber c
-IsSpelledRule (flip_at axis) = IsCount axis
-IsSpelledRule (combine_at ps) = AreSpelledPairs ps
-IsSpelledRule (void_combine_at ps) = AreSpelledPairs ps
-IsSpelledRule _ = Unit {0}
+abbrev pub AreSpelledOperands : Operands → Type 0
+AreSpelledOperands of_nothing = Unit {0}
+AreSpelledOperands (of_atom j) = IsCount j
+AreSpelledOperands (of_lemma i) = IsCount i
+AreSpelledOperands (of_atom_lemma j i) = IsCount j × IsCount i
+AreSpelledOperands (of_axis axis) = IsCount axis
+AreSpelledOperands (of_axis_place axis c) = IsCount axis × IsSpelledNumber c
+AreSpelledOperands (of_multipliers ps) = AreSpelledPairs ps
+
+abbrev pub IsSpelledRule : Line → Type 0
+IsSpelledRule l = AreSpelledOperands (operands_of l)
 
 abbrev pub IsSpelledBound : Option ℕ → Type 0
 IsSpelledBound None = Unit {0}

@@ -8,7 +8,7 @@ use Rattle.dyadic.specs.Views as dy
 use Rattle.cert_read.specs.declared.fault.LineFault.{LineFault}
 use Rattle.cert_read.specs.declared.fault.LineFault.TheVariants.{BadLine, BadNumber, Memory}
 use Rattle.cert_read.specs.CertLine.{counts_of, has_pairs, pairs_of}
-use Rattle.cert_read.specs.Views.{pair_list}
+use Rattle.cover_line.specs.Views.{multipliers_of}
 
 -- the number of a word, or that it has none
 abbrev pub IsMeasured : Result Dy LineFault → Option Dyadic → Type 0
@@ -28,7 +28,7 @@ AreCounted (Err f) ws = IsUncounted f (counts_of ws)
 
 -- atoms with their multipliers; a fault is that the words are no pairs, that a number is none, or that memory ran out
 abbrev pub ArePairs : Result (Vec (ℕ × Dy) Global) LineFault → List (List ℕ) → Type 0
-ArePairs (Ok v) ws = IsTrue (has_pairs ws) × (pairs_of ws ≡ Some (pair_list v.items))
+ArePairs (Ok v) ws = IsTrue (has_pairs ws) × (pairs_of ws ≡ Some (multipliers_of v.items))
 ArePairs (Err BadLine) ws = has_pairs ws ≡ false
 ArePairs (Err f) ws = IsTrue (has_pairs ws) × IsUncounted f (pairs_of ws)
 

@@ -1,6 +1,8 @@
 // The first words of lines.
 ghost use Rattle.std.specs.Prelude.{◌≡◌};
-ghost use Rattle.cert_read.specs.Keywords.{keyword_of, rule_keyword_of};
+ghost use Rattle.cert_read.specs.Keywords.{header_keyword_of, IsKeywordIn};
+
+use cover_line::Word;
 
 /// The first word of a line.
 #[derive(Clone, Copy, Debug, PartialEq, Eq)]
@@ -18,27 +20,13 @@ pub(crate) enum Keyword {
     Bool,
     Yes,
     No,
-    Pull,
-    Unit,
-    Void,
-    Push,
-    VoidNo,
-    Case,
-    Stuck,
-    By,
-    Ban,
-    Cut,
-    Flip,
-    False,
-    Open,
-    Empty,
-    Combine,
-    VoidCombine,
+    /// The word of a line of a tree.
+    Rule(Word),
 }
 
-/// The first word that these bytes are.
-pub(crate) fn keyword_in(word: &[u8]) -> Option<Keyword>
-    ensures { result ≡ keyword_of word.now }
+// The first word outside trees that these bytes are.
+fn header_keyword_in(word: &[u8]) -> Option<Keyword>
+    ensures { result ≡ header_keyword_of word.now }
 {
     if word == b"dpoly".as_slice() {
         return Some(Keyword::Version);
@@ -79,60 +67,18 @@ pub(crate) fn keyword_in(word: &[u8]) -> Option<Keyword>
     if word == b"no".as_slice() {
         return Some(Keyword::No);
     }
-    rule_keyword_in(word)
+    None
 }
 
-// The first word of a line of a tree that these bytes are.
-fn rule_keyword_in(word: &[u8]) -> Option<Keyword>
-    ensures { result ≡ rule_keyword_of word.now }
+/// The first word that these bytes are; none where no line begins with them.
+pub(crate) fn keyword_in(word: &[u8]) -> Option<Keyword>
+    ensures { IsKeywordIn word.now result }
 {
-    if word == b"pull".as_slice() {
-        return Some(Keyword::Pull);
+    match header_keyword_in(word) {
+        Some(keyword) => Some(keyword),
+        None => match Word::spelled(word) {
+            Some(word) => Some(Keyword::Rule(word)),
+            None => None,
+        },
     }
-    if word == b"unit".as_slice() {
-        return Some(Keyword::Unit);
-    }
-    if word == b"void".as_slice() {
-        return Some(Keyword::Void);
-    }
-    if word == b"push".as_slice() {
-        return Some(Keyword::Push);
-    }
-    if word == b"voidno".as_slice() {
-        return Some(Keyword::VoidNo);
-    }
-    if word == b"case".as_slice() {
-        return Some(Keyword::Case);
-    }
-    if word == b"stuck".as_slice() {
-        return Some(Keyword::Stuck);
-    }
-    if word == b"by".as_slice() {
-        return Some(Keyword::By);
-    }
-    if word == b"ban".as_slice() {
-        return Some(Keyword::Ban);
-    }
-    if word == b"cut".as_slice() {
-        return Some(Keyword::Cut);
-    }
-    if word == b"flip".as_slice() {
-        return Some(Keyword::Flip);
-    }
-    if word == b"false".as_slice() {
-        return Some(Keyword::False);
-    }
-    if word == b"open".as_slice() {
-        return Some(Keyword::Open);
-    }
-    if word == b"empty".as_slice() {
-        return Some(Keyword::Empty);
-    }
-    if word == b"comb".as_slice() {
-        return Some(Keyword::Combine);
-    }
-    if word == b"voidcomb".as_slice() {
-        return Some(Keyword::VoidCombine);
-    }
-    None
 }

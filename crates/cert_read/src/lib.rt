@@ -8,6 +8,7 @@ mod number;
 mod parse;
 mod place;
 mod reader;
+mod words;
 
 pub use fault::LineFault;
 pub use line::{BoolSet, Line};

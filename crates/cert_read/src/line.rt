@@ -1,4 +1,5 @@
 // What a line says.
+use cover_line::Rule;
 use dyadic::Dy;
 
 /// The values that a Boolean variable may have.
@@ -9,7 +10,7 @@ pub enum BoolSet {
     Both,
 }
 
-/// A line of a certificate, one variant for each form of line. Its first word stands beside it.
+/// A line of a certificate, one variant for each form of line outside trees. Its first word stands beside it.
 #[derive(Debug, Drop, PartialEq, Eq)]
 pub enum Line {
     /// `dpoly`, with the version of the format.
@@ -40,36 +41,8 @@ pub enum Line {
     Yes(Vec<u32>),
     /// `no`, with atoms.
     No(Vec<u32>),
-    /// `pull`, with an atom.
-    Pull(u32),
-    /// `unit`, with an atom.
-    Unit(u32),
-    /// `void`, with an atom.
-    Void(u32),
-    /// `push`, with an atom.
-    Push(u32),
-    /// `voidno`, with an atom.
-    VoidNo(u32),
-    /// `case`, with an atom.
-    Case(u32),
-    /// `stuck`, with an atom.
-    Stuck(u32),
-    /// `by`, with a lemma.
-    By(u32),
-    /// `ban`, with an atom and a lemma.
-    Ban(u32, u32),
-    /// `cut`, with an axis and a place on it.
-    Cut(u32, Dy),
-    /// `flip`, with an axis.
-    Flip(u32),
-    /// `false`.
-    False,
-    /// `open`.
-    Open,
+    /// A line of a tree, but the one for crossed bounds.
+    Rule(Rule),
     /// `empty`, with an axis.
     Empty(u32),
-    /// `comb`, with atoms, each with its multiplier.
-    Combine(Vec<(u32, Dy)>),
-    /// `voidcomb`, with atoms, each with its multiplier.
-    VoidCombine(Vec<(u32, Dy)>),
 }

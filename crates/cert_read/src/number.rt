@@ -5,7 +5,7 @@ ghost use Rattle.cert_read.specs.CertLine.{are_paired, count_of, dyadic_of, pair
 ghost use Rattle.cert_read.specs.Lines.{words_of};
 ghost use Rattle.cert_read.specs.Numbers.{AreCounted, AreDigits, IsMeasured, IsPlain, IsUncounted};
 ghost use Rattle.cert_read.specs.LineAnswers.{IsCounted};
-ghost use Rattle.cert_read.specs.Views.{pair_list};
+ghost use Rattle.cover_line.specs.Views.{multipliers_of};
 
 use crate::LineFault;
 use crate::place::{cut, place_of};
@@ -106,7 +106,7 @@ pub(crate) fn are_paired(text: &[u8]) -> bool
 /// The pairs of a plain number and a number of the grid that words spell, without a word that is left over.
 pub(crate) fn pairs(alloc: Global, text: &[u8]) -> Result<Vec<(u32, Dy)>, LineFault>
     ensures { MatchResult result
-        (λ v. pairs_of (words_of text.now) ≡ Some (pair_list v.items))
+        (λ v. pairs_of (words_of text.now) ≡ Some (multipliers_of v.items))
         (λ f. IsUncounted f (pairs_of (words_of text.now))) }
 {
     let mut pairs = Vec::new(alloc);

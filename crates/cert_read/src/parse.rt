@@ -1,16 +1,21 @@
 // What the bytes of a line say.
-ghost use Rattle.std.specs.Prelude.{◌≡◌, [], ◌∷◌, option_copied};
-ghost use Rattle.cert_read.specs.CertLine.{by_first, of_bool, of_bound, parsed};
+ghost use Rattle.std.specs.Prelude.{◌≡◌, ◌∷◌, option_copied};
+ghost use Rattle.cover_line.specs.Views.{rule_word};
+ghost use Rattle.cover_line.specs.Words.{word_text};
+ghost use Rattle.cert_read.specs.CertLine.{alone, bool_in, bound_in, by_first, parsed, real_in};
 ghost use Rattle.cert_read.specs.Keywords.{keyword_text};
 ghost use Rattle.cert_read.specs.Lines.{are_words, words_of};
 ghost use Rattle.cert_read.specs.Numbers.{AreCounted, ArePairs};
-ghost use Rattle.cert_read.specs.LineAnswers.{IsParse, IsBoolParse};
-ghost use Rattle.cert_read.specs.Words.{HasCount, HasForm, words_behind};
+ghost use Rattle.cert_read.specs.LineAnswers.{AreTwoIn, IsParse, IsBoolParse, IsOneIn, IsPlaceIn};
+ghost use Rattle.cert_read.specs.Views.{line_of};
+ghost use Rattle.cert_read.specs.Words.{words_behind};
 
 use crate::keyword::{Keyword, keyword_in};
 use crate::number::{are_paired, count, counts, dyadic, pairs};
 use crate::place::cut;
+use crate::words::{Words, words_behind};
 use crate::{BoolSet, Line, LineFault};
+use cover_line::{Rule, Word};
 use dyadic::Dy;
 use std::alloc::Global;
 
@@ -61,14 +66,87 @@ fn after_keyword(alloc: Global, word: Keyword, rest: Option<&[u8]>) -> Result<Li
         (by_first (keyword_text word ∷ words_behind (option_copied rest.entry))) }
 {
     match word {
+        Keyword::Version => Ok(Line::Version(number(rest)?)),
+        Keyword::Margin => Ok(Line::Margin(number(rest)?)),
+        Keyword::Delta => Ok(Line::Delta(number(rest)?)),
+        Keyword::Bound => bound(rest),
+        Keyword::Cover => Ok(Line::Cover(number(rest)?)),
+        Keyword::Point => alone(rest, Line::Point),
+        Keyword::Tree => alone(rest, Line::Tree),
+        Keyword::End => alone(rest, Line::End),
+        Keyword::Lemma => Ok(Line::Lemma(number(rest)?)),
+        Keyword::Real => real(rest),
+        Keyword::Bool => Ok(Line::Bool(bool_set(rest)?)),
         Keyword::Yes => Ok(Line::Yes(list(alloc, rest)?)),
         Keyword::No => Ok(Line::No(list(alloc, rest)?)),
-        Keyword::Combine => Ok(Line::Combine(multipliers(alloc, rest)?)),
-        Keyword::VoidCombine => Ok(Line::VoidCombine(multipliers(alloc, rest)?)),
-        _ => match rest {
-            None => alone(word),
-            Some(rest) => with_more(word, rest),
-        },
+        Keyword::Rule(word) => after_rule_word(alloc, word, rest),
+    }
+}
+
+// What a line of a tree says that begins with this word.
+fn after_rule_word(alloc: Global, word: Word, rest: Option<&[u8]>) -> Result<Line, LineFault>
+    ensures { IsParse result
+        (by_first (word_text (rule_word word) ∷ words_behind (option_copied rest.entry))) }
+{
+    match word {
+        Word::Atom(rule) => Ok(Line::Rule(Rule::Atom(rule, number(rest)?))),
+        Word::Combination(rule) => {
+            let pairs = multipliers(alloc, rest)?;
+            Ok(Line::Rule(Rule::Combination(rule, pairs)))
+        }
+        Word::Ban => {
+            let (atom, lemma) = two_numbers(rest)?;
+            Ok(Line::Rule(Rule::Ban(atom, lemma)))
+        }
+        Word::By => Ok(Line::Rule(Rule::By(number(rest)?))),
+        Word::Cut => {
+            let (axis, place) = place(rest)?;
+            Ok(Line::Rule(Rule::Cut(axis, place)))
+        }
+        Word::Flip => Ok(Line::Rule(Rule::Flip(number(rest)?))),
+        Word::False => alone(rest, Line::Rule(Rule::False)),
+        Word::Open => alone(rest, Line::Rule(Rule::Open)),
+        Word::Empty => Ok(Line::Empty(number(rest)?)),
+    }
+}
+
+// The line, which has no more words.
+fn alone(rest: Option<&[u8]>, line: Line) -> Result<Line, LineFault>
+    ensures { IsParse result (alone (line_of line) (words_behind (option_copied rest.entry))) }
+{
+    match words_behind(rest) {
+        Words::Nothing => Ok(line),
+        Words::One(_) | Words::Two(_, _) | Words::More => Err(LineFault::BadLine),
+    }
+}
+
+// The one plain number.
+fn number(rest: Option<&[u8]>) -> Result<u32, LineFault>
+    ensures { IsOneIn result (words_behind (option_copied rest.entry)) }
+{
+    match words_behind(rest) {
+        Words::One(word) => count(word),
+        Words::Nothing | Words::Two(_, _) | Words::More => Err(LineFault::BadLine),
+    }
+}
+
+// The two plain numbers.
+fn two_numbers(rest: Option<&[u8]>) -> Result<(u32, u32), LineFault>
+    ensures { AreTwoIn result (words_behind (option_copied rest.entry)) }
+{
+    match words_behind(rest) {
+        Words::Two(first, second) => Ok((count(first)?, count(second)?)),
+        Words::Nothing | Words::One(_) | Words::More => Err(LineFault::BadLine),
+    }
+}
+
+// The plain number and the number of the grid.
+fn place(rest: Option<&[u8]>) -> Result<(u32, Dy), LineFault>
+    ensures { IsPlaceIn result (words_behind (option_copied rest.entry)) }
+{
+    match words_behind(rest) {
+        Words::Two(first, second) => Ok((count(first)?, dyadic(second)?)),
+        Words::Nothing | Words::One(_) | Words::More => Err(LineFault::BadLine),
     }
 }
 
@@ -95,92 +173,24 @@ fn multipliers(alloc: Global, rest: Option<&[u8]>) -> Result<Vec<(u32, Dy)>, Lin
     pairs(alloc, text)
 }
 
-// What a line says that is one word.
-fn alone(word: Keyword) -> Result<Line, LineFault>
-    requires { HasForm word }
-    ensures { IsParse result (by_first (keyword_text word ∷ [])) }
+// What a line for a Real axis says.
+fn real(rest: Option<&[u8]>) -> Result<Line, LineFault>
+    ensures { IsParse result (real_in (words_behind (option_copied rest.entry))) }
 {
-    match word {
-        Keyword::Point => Ok(Line::Point),
-        Keyword::Tree => Ok(Line::Tree),
-        Keyword::End => Ok(Line::End),
-        Keyword::False => Ok(Line::False),
-        Keyword::Open => Ok(Line::Open),
-        _ => Err(LineFault::BadLine),
-    }
-}
-
-// What a line says that has one or two more words, or more, which no form has.
-fn with_more(word: Keyword, text: &[u8]) -> Result<Line, LineFault>
-    requires { HasForm word }
-    ensures { IsParse result (by_first (keyword_text word ∷ words_of text.now)) }
-{
-    let (first, rest) = cut(text);
-    let Some(rest) = rest else {
-        return with_one(word, first);
-    };
-    let (second, rest) = cut(rest);
-    match rest {
-        None => with_two(word, first, second),
-        Some(_) => Err(LineFault::BadLine),
-    }
-}
-
-// What a line says that has one more word.
-fn with_one(word: Keyword, text: &[u8]) -> Result<Line, LineFault>
-    requires { HasForm word }
-    ensures { IsParse result (by_first (keyword_text word ∷ text.now ∷ [])) }
-{
-    match word {
-        Keyword::Bound => bound(text),
-        Keyword::Real => Ok(Line::RealValue(dyadic(text)?)),
-        Keyword::Bool => Ok(Line::Bool(bool_set(text)?)),
-        _ => with_count(word, text),
-    }
-}
-
-// What a line says that has a plain number.
-fn with_count(word: Keyword, text: &[u8]) -> Result<Line, LineFault>
-    requires { HasCount word }
-    ensures { IsParse result (by_first (keyword_text word ∷ text.now ∷ [])) }
-{
-    match word {
-        Keyword::Version => Ok(Line::Version(count(text)?)),
-        Keyword::Margin => Ok(Line::Margin(count(text)?)),
-        Keyword::Delta => Ok(Line::Delta(count(text)?)),
-        Keyword::Cover => Ok(Line::Cover(count(text)?)),
-        Keyword::Lemma => Ok(Line::Lemma(count(text)?)),
-        Keyword::Pull => Ok(Line::Pull(count(text)?)),
-        Keyword::Unit => Ok(Line::Unit(count(text)?)),
-        Keyword::Void => Ok(Line::Void(count(text)?)),
-        Keyword::Push => Ok(Line::Push(count(text)?)),
-        Keyword::VoidNo => Ok(Line::VoidNo(count(text)?)),
-        Keyword::Case => Ok(Line::Case(count(text)?)),
-        Keyword::Stuck => Ok(Line::Stuck(count(text)?)),
-        Keyword::By => Ok(Line::By(count(text)?)),
-        Keyword::Flip => Ok(Line::Flip(count(text)?)),
-        Keyword::Empty => Ok(Line::Empty(count(text)?)),
-        _ => Err(LineFault::BadLine),
-    }
-}
-
-// What a line says that has two more words.
-fn with_two(word: Keyword, first: &[u8], second: &[u8]) -> Result<Line, LineFault>
-    requires { HasForm word }
-    ensures { IsParse result (by_first (keyword_text word ∷ first.now ∷ second.now ∷ [])) }
-{
-    match word {
-        Keyword::Real => Ok(Line::RealInterval(dyadic(first)?, dyadic(second)?)),
-        Keyword::Ban => Ok(Line::Ban(count(first)?, count(second)?)),
-        Keyword::Cut => Ok(Line::Cut(count(first)?, dyadic(second)?)),
-        _ => Err(LineFault::BadLine),
+    match words_behind(rest) {
+        Words::One(word) => Ok(Line::RealValue(dyadic(word)?)),
+        Words::Two(low, high) => Ok(Line::RealInterval(dyadic(low)?, dyadic(high)?)),
+        Words::Nothing | Words::More => Err(LineFault::BadLine),
     }
 }
 
 // The bound of a line.
-fn bound(text: &[u8]) -> Result<Line, LineFault>
-    ensures { IsParse result (of_bound text.now) }
+fn bound(rest: Option<&[u8]>) -> Result<Line, LineFault>
+    ensures { IsParse result (bound_in (words_behind (option_copied rest.entry))) }
 {
+    let Words::One(text) = words_behind(rest) else {
+        return Err(LineFault::BadLine);
+    };
     if text == b"none".as_slice() {
         return Ok(Line::Bound(None));
     }
@@ -188,9 +198,12 @@ fn bound(text: &[u8]) -> Result<Line, LineFault>
 }
 
 // The values of a line.
-fn bool_set(text: &[u8]) -> Result<BoolSet, LineFault>
-    ensures { IsBoolParse result (of_bool text.now) }
+fn bool_set(rest: Option<&[u8]>) -> Result<BoolSet, LineFault>
+    ensures { IsBoolParse result (bool_in (words_behind (option_copied rest.entry))) }
 {
+    let Words::One(text) = words_behind(rest) else {
+        return Err(LineFault::BadLine);
+    };
     if text == b"false".as_slice() {
         return Ok(BoolSet::False);
     }

@@ -16,7 +16,7 @@ use Rattle.cover_book.proofs.Changed.{lines_after}
 use Rattle.poly_graph.specs.declared.mark.Mark as code
 use Rattle.poly_graph.specs.MarkViews.{mark_of}
 use Rattle.cert_read.specs.CertLine.{CertLine, version, margin, delta, bound, lemma, rule_line}
-use Rattle.cert_model.specs.Written.{domain_line, line_of, rule_lines, lemma_lines, lemmas_lines}
+use Rattle.cert_model.specs.Written.{domain_line, rule_lines, lemma_lines, lemmas_lines}
 use Rattle.cover_book.specs.declared.node.Learned.{Learned}
 use Rattle.cover_book.specs.Views.{learned_of}
 use Rattle.cover_book.specs.Tree.{lemma_tree}
@@ -41,10 +41,10 @@ module _ {X : Type 0} (f : X → CertLine) (xs : List X) (a b : List ℕ) where
   items_appended i h p = subst (λ (ys : List X). HasAppended a (map f ys) b) (take_all i xs h) p
 
 -- the steps, and the end
-pub kept_appended : (xs : List Step) (l : Line) (a b c : List ℕ) → HasAppended a (map (λ (s : Step). rule_line (line_of (step_line s))) xs) b → HasAppended b (rule_line (line_of l) ∷ []) c → HasAppended a (rule_lines (map step_line xs ++ (l ∷ []))) c
+pub kept_appended : (xs : List Step) (l : Line) (a b c : List ℕ) → HasAppended a (map (λ (s : Step). rule_line (step_line s)) xs) b → HasAppended b (rule_line l ∷ []) c → HasAppended a (rule_lines (map step_line xs ++ (l ∷ []))) c
 kept_appended xs l a b c p q =
-    subst (λ (ls : List CertLine). HasAppended a ls c) (sym (rules_append (map step_line xs) (l ∷ []) ∙ ap (λ (ls : List CertLine). ls ++ (rule_line (line_of l) ∷ [])) (sym (map_twice (λ (x : Line). rule_line (line_of x)) step_line xs))))
-    (both_appended a b c (map (λ (s : Step). rule_line (line_of (step_line s))) xs) (rule_line (line_of l) ∷ []) p q)
+    subst (λ (ls : List CertLine). HasAppended a ls c) (sym (rules_append (map step_line xs) (l ∷ []) ∙ ap (λ (ls : List CertLine). ls ++ (rule_line l ∷ [])) (sym (map_twice (λ (x : Line). rule_line x) step_line xs))))
+    (both_appended a b c (map (λ (s : Step). rule_line (step_line s)) xs) (rule_line l ∷ []) p q)
 
 pub header_appended : (s : Loosenings) (o o' : Option ℕ) (a b c d e : List ℕ) → o ≡ o' → HasAppended a (version s.version ∷ []) b → HasAppended b (margin s.margin_bits ∷ []) c → HasAppended c (delta s.delta_bits ∷ []) d → HasAppended d (bound o' ∷ []) e →
     HasAppended a (header_lines s o) e

@@ -4,22 +4,27 @@ use Rattle.std.specs.Prelude.{codes, decimal}
 use Rattle.std.specs.List.{AllByRecursion}
 use Rattle.std.proofs.lemmas.Fmt.{length-decimal-le}
 use Rattle.std.proofs.lemmas.List.{append-nil}
-use Rattle.cover_model.specs.Rules.{Line}
+use Rattle.cover_model.specs.Rules.{Line, ban, cut}
+use Rattle.cover_model.specs.Combination.{Multipliers}
+use Rattle.cover_line.specs.declared.rule.AtomRule.TheVariants as atom
+use Rattle.cover_line.specs.declared.rule.CombinationRule.{CombinationRule}
+use Rattle.cover_line.specs.declared.rule.CombinationRule.TheVariants as combination
+use Rattle.cover_line.specs.declared.word.Word.TheVariants as word
+use Rattle.cover_line.specs.Words.{word_text}
+use Rattle.cover_line.specs.Views.{combination_line, rule_word}
 use Rattle.poly_graph.specs.Marks.{Mark, is_yes, is_no, numbers_from}
 use Rattle.dyadic.specs.Rounding.{Dyadic}
 use Rattle.dyadic.specs.NumberText.{number_spelling}
-use Rattle.cert_read.specs.CertLine.{CertLine, ban_by, cut_at, real_interval, real_value, rule_line}
+use Rattle.cert_read.specs.CertLine.{CertLine, real_interval, real_value, rule_line}
 use Rattle.cert_read.specs.LineText.{spaced, line_text, pair_words, IsCount, IsSpelledNumber, IsSpelledPair, HasSpelling, IsSpelled}
 use Rattle.cert_read.specs.Lines.{longest_line}
 use Rattle.cert_model.specs.Accepted.{certificate_text}
-use Rattle.cert_model.specs.Written.{line_of, rule_lines}
+use Rattle.cert_model.specs.Written.{rule_lines}
 use Rattle.cert_text.specs.declared.keyword.Plain.{Plain}
 use Rattle.cert_text.specs.declared.keyword.Plain.TheVariants as plain
 use Rattle.cert_text.specs.declared.keyword.Counted.{Counted}
 use Rattle.cert_text.specs.declared.keyword.Counted.TheVariants as counted
-use Rattle.cert_text.specs.declared.keyword.Paired.{Paired}
-use Rattle.cert_text.specs.declared.keyword.Paired.TheVariants as paired
-use Rattle.cert_text.specs.Lines.{HasAppended, HasPairs, paired_line, paired_word, paired_off, plain_line, plain_text, counted_line, counted_word, is_marked, marks_word, marks_line, listed, most_atoms}
+use Rattle.cert_text.specs.Lines.{HasAppended, HasPairs, paired_off, plain_line, plain_text, counted_line, counted_word, is_marked, marks_word, marks_line, listed, most_atoms}
 
 -- ---- texts of lines
 
@@ -47,7 +52,7 @@ line_appended a b l h k e = record { written = e; spelled = ((h, k), tt) }
 
 pub rules_append : (xs ys : List Line) → rule_lines (xs ++ ys) ≡ rule_lines xs ++ rule_lines ys
 rules_append [] ys = refl
-rules_append (x ∷ xs) ys = ap (λ (ls : List CertLine). rule_line (line_of x) ∷ ls) (rules_append xs ys)
+rules_append (x ∷ xs) ys = ap (λ (ls : List CertLine). rule_line x ∷ ls) (rules_append xs ys)
 
 -- ---- lines without numbers
 
@@ -100,13 +105,13 @@ counted-text counted.Delta n = refl
 counted-text counted.Bound n = refl
 counted-text counted.Cover n = refl
 counted-text counted.Lemma n = refl
-counted-text counted.Pull n = refl
-counted-text counted.Unit n = refl
-counted-text counted.Void n = refl
-counted-text counted.Push n = refl
-counted-text counted.VoidNo n = refl
-counted-text counted.Case n = refl
-counted-text counted.Stuck n = refl
+counted-text (counted.Atom atom.Pull) n = refl
+counted-text (counted.Atom atom.Unit) n = refl
+counted-text (counted.Atom atom.Void) n = refl
+counted-text (counted.Atom atom.Push) n = refl
+counted-text (counted.Atom atom.VoidNo) n = refl
+counted-text (counted.Atom atom.Case) n = refl
+counted-text (counted.Atom atom.Stuck) n = refl
 counted-text counted.By n = refl
 counted-text counted.Flip n = refl
 counted-text counted.Empty n = refl
@@ -118,13 +123,13 @@ counted-spelled counted.Delta n h = h
 counted-spelled counted.Bound n h = h
 counted-spelled counted.Cover n h = h
 counted-spelled counted.Lemma n h = h
-counted-spelled counted.Pull n h = h
-counted-spelled counted.Unit n h = h
-counted-spelled counted.Void n h = h
-counted-spelled counted.Push n h = h
-counted-spelled counted.VoidNo n h = h
-counted-spelled counted.Case n h = h
-counted-spelled counted.Stuck n h = h
+counted-spelled (counted.Atom atom.Pull) n h = h
+counted-spelled (counted.Atom atom.Unit) n h = h
+counted-spelled (counted.Atom atom.Void) n h = h
+counted-spelled (counted.Atom atom.Push) n h = h
+counted-spelled (counted.Atom atom.VoidNo) n h = h
+counted-spelled (counted.Atom atom.Case) n h = h
+counted-spelled (counted.Atom atom.Stuck) n h = h
 counted-spelled counted.By n h = h
 counted-spelled counted.Flip n h = h
 counted-spelled counted.Empty n h = h
@@ -136,13 +141,13 @@ counted-short counted.Delta = omega arith
 counted-short counted.Bound = omega arith
 counted-short counted.Cover = omega arith
 counted-short counted.Lemma = omega arith
-counted-short counted.Pull = omega arith
-counted-short counted.Unit = omega arith
-counted-short counted.Void = omega arith
-counted-short counted.Push = omega arith
-counted-short counted.VoidNo = omega arith
-counted-short counted.Case = omega arith
-counted-short counted.Stuck = omega arith
+counted-short (counted.Atom atom.Pull) = omega arith
+counted-short (counted.Atom atom.Unit) = omega arith
+counted-short (counted.Atom atom.Void) = omega arith
+counted-short (counted.Atom atom.Push) = omega arith
+counted-short (counted.Atom atom.VoidNo) = omega arith
+counted-short (counted.Atom atom.Case) = omega arith
+counted-short (counted.Atom atom.Stuck) = omega arith
 counted-short counted.By = omega arith
 counted-short counted.Flip = omega arith
 counted-short counted.Empty = omega arith
@@ -168,14 +173,14 @@ pub record IsShortNumber (d : Dyadic) : Type 0 where
   pub spelled : IsSpelledNumber d
   pub short : length (number_spelling d) ≤ 64
 
-pub ban_appended : (j i : ℕ) (a b c d : List ℕ) → IsCount j → IsCount i → b ≡ a ++ (codes "ban" ++ (32 ∷ decimal j)) → c ≡ b ++ (32 ∷ decimal i) → d ≡ c ++ (10 ∷ []) → HasAppended a (rule_line (ban_by j i) ∷ []) d
-ban_appended j i a b c d h k e f g = line_appended a d (rule_line (ban_by j i)) (h, k)
+pub ban_appended : (j i : ℕ) (a b c d : List ℕ) → IsCount j → IsCount i → b ≡ a ++ (codes "ban" ++ (32 ∷ decimal j)) → c ≡ b ++ (32 ∷ decimal i) → d ≡ c ++ (10 ∷ []) → HasAppended a (rule_line (ban j i) ∷ []) d
+ban_appended j i a b c d h k e f g = line_appended a d (rule_line (ban j i)) (h, k)
     (omega (arith, decimal_short j h, decimal_short i k, length-append (decimal j) (32 ∷ decimal i)))
     (g ∙ ap (λ (t : List ℕ). t ++ (10 ∷ [])) (f ∙ ap (λ (t : List ℕ). t ++ (32 ∷ decimal i)) e) ∙ two-words a (codes "ban") (decimal j) (decimal i))
 
 pub cut_appended : (axis : ℕ) (at : Dyadic) (a b c d e : List ℕ) → IsCount axis → IsShortNumber at → b ≡ a ++ (codes "cut" ++ (32 ∷ decimal axis)) → c ≡ b ++ (32 ∷ []) → d ≡ c ++ number_spelling at → e ≡ d ++ (10 ∷ []) →
-    HasAppended a (rule_line (cut_at axis at) ∷ []) e
-cut_appended axis at a b c d e h k p q r s = line_appended a e (rule_line (cut_at axis at)) (h, k.spelled)
+    HasAppended a (rule_line (cut axis at) ∷ []) e
+cut_appended axis at a b c d e h k p q r s = line_appended a e (rule_line (cut axis at)) (h, k.spelled)
     (omega (arith, decimal_short axis h, k.short, length-append (decimal axis) (32 ∷ number_spelling at)))
     (s ∙ ap (λ (t : List ℕ). t ++ (10 ∷ [])) (r ∙ ap (λ (t : List ℕ). t ++ number_spelling at) (q ∙ ap (λ (t : List ℕ). t ++ (32 ∷ [])) p) ∙ append_assoc (a ++ (codes "cut" ++ (32 ∷ decimal axis))) (32 ∷ []) (number_spelling at))
     ∙ two-words a (codes "cut") (decimal axis) (number_spelling at))
@@ -228,24 +233,27 @@ spaced-pairs : (w : List ℕ) (ps : List (ℕ × Dyadic)) → spaced (w ∷ pair
 spaced-pairs w [] = sym (append-nil w)
 spaced-pairs w ((j, l) ∷ ps) = ap (λ (t : List ℕ). w ++ (32 ∷ (decimal j ++ (32 ∷ t)))) (spaced-pairs (number_spelling l) ps)
 
-paired-text : (w : Paired) (ps : List (ℕ × Dyadic)) → line_text (paired_line w ps) ≡ paired_word w ++ paired_off ps
-paired-text paired.Combine ps = spaced-pairs (codes "comb") ps
-paired-text paired.VoidCombine ps = spaced-pairs (codes "voidcomb") ps
+pairs-text : (r : CombinationRule) (ps : Multipliers) → line_text (rule_line (combination_line r ps)) ≡ word_text (rule_word (word.Combination r)) ++ paired_off ps
+pairs-text combination.Combine ps = spaced-pairs (codes "comb") ps
+pairs-text combination.VoidCombine ps = spaced-pairs (codes "voidcomb") ps
 
-paired-spelled : (w : Paired) (ps : List (ℕ × Dyadic)) → 0 < length ps → AllByRecursion IsSpelledPair ps → HasSpelling (paired_line w ps)
-paired-spelled paired.Combine ps h k = (h, k)
-paired-spelled paired.VoidCombine ps h k = (h, k)
+pairs-spelled : (r : CombinationRule) (ps : Multipliers) → 0 < length ps → AllByRecursion IsSpelledPair ps → HasSpelling (rule_line (combination_line r ps))
+pairs-spelled combination.Combine ps h k = (h, k)
+pairs-spelled combination.VoidCombine ps h k = (h, k)
 
-paired-short : (w : Paired) → length (paired_word w) ≤ 16
-paired-short paired.Combine = omega arith
-paired-short paired.VoidCombine = omega arith
+pairs-short : (r : CombinationRule) → length (word_text (rule_word (word.Combination r))) ≤ 16
+pairs-short combination.Combine = omega arith
+pairs-short combination.VoidCombine = omega arith
 
-pub paired_appended : (w : Paired) (ps : List (ℕ × Dyadic)) (a b c d : List ℕ) → 0 < length ps → length ps ≤ 64 → b ≡ a ++ paired_word w → HasPairs b ps c → d ≡ c ++ (10 ∷ []) → HasAppended a (paired_line w ps ∷ []) d
-paired_appended w ps a b c d some few e h f =
-    let text : c ≡ a ++ line_text (paired_line w ps) = h.written ∙ ap (λ (t : List ℕ). t ++ paired_off ps) e ∙ append_assoc a (paired_word w) (paired_off ps) ∙ ap (λ (t : List ℕ). a ++ t) (sym (paired-text w ps)) in
-    line_appended a d (paired_line w ps) (paired-spelled w ps some h.spelled)
-    (omega (arith, few, h.short, paired-short w, ap length (paired-text w ps), length-append (paired_word w) (paired_off ps)))
-    (f ∙ ap (λ (t : List ℕ). t ++ (10 ∷ [])) text ∙ append_assoc a (line_text (paired_line w ps)) (10 ∷ []))
+pub paired_appended : (r : CombinationRule) (ps : Multipliers) (a b c d : List ℕ) → 0 < length ps → length ps ≤ 64 → b ≡ a ++ word_text (rule_word (word.Combination r)) → HasPairs b ps c → d ≡ c ++ (10 ∷ []) →
+    HasAppended a (rule_line (combination_line r ps) ∷ []) d
+paired_appended r ps a b c d some few e h f =
+    let w : List ℕ = word_text (rule_word (word.Combination r)) in
+    let l : CertLine = rule_line (combination_line r ps) in
+    let text : c ≡ a ++ line_text l = h.written ∙ ap (λ (t : List ℕ). t ++ paired_off ps) e ∙ append_assoc a w (paired_off ps) ∙ ap (λ (t : List ℕ). a ++ t) (sym (pairs-text r ps)) in
+    line_appended a d l (pairs-spelled r ps some h.spelled)
+    (omega (arith, few, h.short, pairs-short r, ap length (pairs-text r ps), length-append w (paired_off ps)))
+    (f ∙ ap (λ (t : List ℕ). t ++ (10 ∷ [])) text ∙ append_assoc a (line_text l) (10 ∷ []))
 
 -- ---- lines of marks
 

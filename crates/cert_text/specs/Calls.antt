@@ -12,16 +12,17 @@ use Rattle.poly_graph.specs.ProblemViews.{Parts, problem_of}
 use Rattle.cover_data.specs.Margins.{loosenings_of, margins_of}
 use Rattle.cover_data.specs.declared.combination.Combination.{Combination}
 use Rattle.cover_data.specs.declared.margins.Options.{Options}
-use Rattle.cert_read.specs.CertLine.{CertLine}
+use Rattle.cover_line.specs.declared.rule.CombinationRule.{CombinationRule}
+use Rattle.cover_line.specs.Views.{combination_line}
+use Rattle.cert_read.specs.CertLine.{CertLine, rule_line}
 use Rattle.cert_model.specs.Laws.{point_text}
 use Rattle.cover_book.specs.declared.node.Node.{Node}
 use Rattle.cover_book.specs.Model.{crossed_node}
 use Rattle.cover_book.specs.Views.{node_of}
-use Rattle.cert_text.specs.Lines.{HasAppended, is_marked, listed, paired_line}
+use Rattle.cert_text.specs.Lines.{HasAppended, is_marked, listed}
 use Rattle.cert_text.specs.Means.{IsPointCertificate}
 use Rattle.cert_text.specs.Parts.{HasNothingNext, IsNextTaken, header_lines, node_left}
 use Rattle.cert_text.specs.Stuck.{HasNoStuckState, IsFirstStuckState, IsStuckNode, first_stuck}
-use Rattle.cert_text.specs.declared.keyword.Paired.{Paired}
 
 -- these lines were appended to the text, unless it is out of memory
 abbrev pub Appends : {X : Type 0} → Vec ℕ Global → Vec ℕ Global → List CertLine → Result X AllocError → Type 0
@@ -35,8 +36,8 @@ marked_numbers wanted marks = listed (numbers_from (is_marked wanted) 0 (map mar
 abbrev pub header_of : Options → List CertLine
 header_of o = header_lines (loosenings_of (margins_of o)) o.bound
 
-abbrev pub combination_line : Paired → Combination → CertLine
-combination_line word c = paired_line word (multipliers_of c.pairs.items)
+abbrev pub line_of_combination : CombinationRule → Combination → CertLine
+line_of_combination rule c = rule_line (combination_line rule (multipliers_of c.pairs.items))
 
 -- ---- points
 

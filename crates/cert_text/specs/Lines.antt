@@ -1,7 +1,11 @@
 -- Lines that are appended to a text, and the forms in which the code has them.
 use Rattle.std.specs.Prelude.{◌≡◌, ℕ, ◌*◌, ◌≤◌, List, [], ◌∷◌, ◌++◌, Bool, true, false, Some, None, codes, decimal, length}
 use Rattle.std.specs.List.{AllByRecursion}
-use Rattle.cert_read.specs.CertLine.{says_false, says_true, says_both, pull_at, unit_at, void_at, push_at, void_no_at, case_at, stuck_at, by_lemma, flip_at, combine_at, void_combine_at, false_here, open_here, CertLine, version, margin, delta, bound, cover, point_word, tree_word, end_word, lemma, bool_value, yes_list, no_list, rule_line, crossing}
+use Rattle.cover_model.specs.Rules.{by, flip, make_false, open_line}
+use Rattle.cover_line.specs.declared.word.Word.TheVariants as word
+use Rattle.cover_line.specs.Words.{empty_word, false_word, by_word, flip_word, open_word, word_text}
+use Rattle.cover_line.specs.Views.{atom_line, rule_word}
+use Rattle.cert_read.specs.CertLine.{says_false, says_true, says_both, CertLine, version, margin, delta, bound, cover, point_word, tree_word, end_word, lemma, bool_value, yes_list, no_list, rule_line, crossing}
 use Rattle.cert_read.specs.LineText.{IsSpelled, IsSpelledPair}
 use Rattle.dyadic.specs.Rounding.{Dyadic}
 use Rattle.dyadic.specs.NumberText.{number_spelling}
@@ -11,8 +15,6 @@ use Rattle.cert_text.specs.declared.keyword.Plain.{Plain}
 use Rattle.cert_text.specs.declared.keyword.Plain.TheVariants as plain
 use Rattle.cert_text.specs.declared.keyword.Counted.{Counted}
 use Rattle.cert_text.specs.declared.keyword.Counted.TheVariants as counted
-use Rattle.cert_text.specs.declared.keyword.Paired.{Paired}
-use Rattle.cert_text.specs.declared.keyword.Paired.TheVariants as paired
 
 -- the new text is the old one and these lines behind it, each of which can be spelled
 pub record HasAppended (old : List ℕ) (ls : List CertLine) (new : List ℕ) : Type 0 where
@@ -29,8 +31,8 @@ plain_line plain.End = end_word
 plain_line plain.BoolFalse = bool_value says_false
 plain_line plain.BoolTrue = bool_value says_true
 plain_line plain.BoolBoth = bool_value says_both
-plain_line plain.False = rule_line false_here
-plain_line plain.Open = rule_line open_here
+plain_line plain.False = rule_line make_false
+plain_line plain.Open = rule_line open_line
 
 abbrev pub plain_text : Plain → List ℕ
 plain_text plain.BoundNone = codes "bound none"
@@ -40,8 +42,8 @@ plain_text plain.End = codes "end"
 plain_text plain.BoolFalse = codes "bool false"
 plain_text plain.BoolTrue = codes "bool true"
 plain_text plain.BoolBoth = codes "bool both"
-plain_text plain.False = codes "false"
-plain_text plain.Open = codes "open"
+plain_text plain.False = word_text false_word
+plain_text plain.Open = word_text open_word
 
 -- ---- lines with one plain number
 
@@ -52,15 +54,9 @@ counted_line counted.Delta n = delta n
 counted_line counted.Bound n = bound (Some n)
 counted_line counted.Cover n = cover n
 counted_line counted.Lemma n = lemma n
-counted_line counted.Pull n = rule_line (pull_at n)
-counted_line counted.Unit n = rule_line (unit_at n)
-counted_line counted.Void n = rule_line (void_at n)
-counted_line counted.Push n = rule_line (push_at n)
-counted_line counted.VoidNo n = rule_line (void_no_at n)
-counted_line counted.Case n = rule_line (case_at n)
-counted_line counted.Stuck n = rule_line (stuck_at n)
-counted_line counted.By n = rule_line (by_lemma n)
-counted_line counted.Flip n = rule_line (flip_at n)
+counted_line (counted.Atom r) n = rule_line (atom_line r n)
+counted_line counted.By n = rule_line (by n)
+counted_line counted.Flip n = rule_line (flip n)
 counted_line counted.Empty n = crossing n
 
 abbrev pub counted_word : Counted → List ℕ
@@ -70,26 +66,12 @@ counted_word counted.Delta = codes "delta"
 counted_word counted.Bound = codes "bound"
 counted_word counted.Cover = codes "cover"
 counted_word counted.Lemma = codes "lemma"
-counted_word counted.Pull = codes "pull"
-counted_word counted.Unit = codes "unit"
-counted_word counted.Void = codes "void"
-counted_word counted.Push = codes "push"
-counted_word counted.VoidNo = codes "voidno"
-counted_word counted.Case = codes "case"
-counted_word counted.Stuck = codes "stuck"
-counted_word counted.By = codes "by"
-counted_word counted.Flip = codes "flip"
-counted_word counted.Empty = codes "empty"
+counted_word (counted.Atom r) = word_text (rule_word (word.Atom r))
+counted_word counted.By = word_text by_word
+counted_word counted.Flip = word_text flip_word
+counted_word counted.Empty = word_text empty_word
 
 -- ---- lines of atoms with their multipliers
-
-abbrev pub paired_line : Paired → List (ℕ × Dyadic) → CertLine
-paired_line paired.Combine ps = rule_line (combine_at ps)
-paired_line paired.VoidCombine ps = rule_line (void_combine_at ps)
-
-abbrev pub paired_word : Paired → List ℕ
-paired_word paired.Combine = codes "comb"
-paired_word paired.VoidCombine = codes "voidcomb"
 
 -- each atom and each multiplier with a space before it
 abbrev pub paired_off : List (ℕ × Dyadic) → List ℕ

@@ -9,7 +9,7 @@ use Rattle.cover_book.specs.declared.node.Learned.{Learned}
 use Rattle.cover_book.specs.Model.{NodeModel, live_node, crossed_node, closed_node, parted_node, stuck_node}
 use Rattle.cover_book.specs.Views.{learned_of}
 use Rattle.cover_book.specs.Tree.{TreeOf, lemma_tree}
-use Rattle.cert_read.specs.CertLine.{open_here, CertLine, version, margin, delta, bound, rule_line, crossing}
+use Rattle.cert_read.specs.CertLine.{CertLine, version, margin, delta, bound, rule_line, crossing}
 use Rattle.cert_model.specs.Due.{Standing}
 use Rattle.cert_model.specs.Written.{rule_lines, lemmas_lines}
 use Rattle.cert_text.specs.Lines.{HasAppended, most_atoms}
@@ -35,7 +35,7 @@ learned_lines xs = lemmas_lines 0 (map lemma_tree (map learned_of xs))
 
 -- the lines of a node of a tree
 abbrev pub node_lines : NodeModel → List CertLine
-node_lines (live_node S) = rule_line open_here ∷ []
+node_lines (live_node S) = rule_line open_line ∷ []
 node_lines (crossed_node i) = []
 node_lines (closed_node steps l) = rule_lines (steps ++ (l ∷ []))
 node_lines (parted_node steps l c) = rule_lines (steps ++ (l ∷ []))

@@ -3,14 +3,16 @@ ghost use Rattle.std.specs.Prelude.{◌≡◌, ◌<◌, ◌≤◌, ◌++◌, ◌
 ghost use Rattle.dyadic.specs.NumberText.{number_spelling};
 ghost use Rattle.dyadic.specs.Views.{dyadic_of};
 ghost use Rattle.poly_graph.specs.MarkViews.{mark_of};
-ghost use Rattle.cert_read.specs.CertLine.{ban_by, cut_at, real_interval, real_value, rule_line};
+ghost use Rattle.cover_model.specs.Rules.{ban, cut};
+ghost use Rattle.cert_read.specs.CertLine.{real_interval, real_value, rule_line};
 ghost use Rattle.cert_read.specs.LineText.{IsCount, IsSpelledNumber};
 ghost use Rattle.cover_model.specs.Views.{multipliers_of};
-ghost use Rattle.cert_text.specs.Calls.{Appends, combination_line, marked_numbers};
+ghost use Rattle.cert_text.specs.Calls.{Appends, line_of_combination, marked_numbers};
 ghost use Rattle.cert_text.specs.Lines.{HasPairs, counted_line, is_marked, marks_line, marks_word, most_atoms, plain_line};
 
-use crate::keyword::{Counted, Paired, Plain, counted_bytes, paired_bytes, plain_bytes};
+use crate::keyword::{Counted, Plain, counted_bytes, plain_bytes};
 use cover_data::Combination;
+use cover_line::{CombinationRule, Word};
 use dyadic::{Dy, write_dy};
 use itoa::Buffer;
 use poly_graph::Mark;
@@ -70,18 +72,18 @@ pub(crate) fn append_counted(text: &mut Vec<u8>, word: Counted, n: u32) -> Resul
 
 /// Appends the line that a lemma bans an atom.
 pub(crate) fn append_ban(text: &mut Vec<u8>, atom: u32, lemma: u32) -> Result<(), AllocError>
-    ensures { Appends text.old text.new (rule_line (ban_by atom lemma) ∷ []) result }
+    ensures { Appends text.old text.new (rule_line (ban atom lemma) ∷ []) result }
 {
-    append_word_and_count(text, "ban", atom)?;
+    append_word_and_count(text, Word::Ban.text(), atom)?;
     append_word_and_count(text, "", lemma)?;
     append_break(text)
 }
 
 /// Appends the line that an axis is cut at a number.
 pub(crate) fn append_cut(text: &mut Vec<u8>, axis: u32, at: Dy) -> Result<(), AllocError>
-    ensures { Appends text.old text.new (rule_line (cut_at axis (dyadic_of at)) ∷ []) result }
+    ensures { Appends text.old text.new (rule_line (cut axis (dyadic_of at)) ∷ []) result }
 {
-    append_word_and_count(text, "cut", axis)?;
+    append_word_and_count(text, Word::Cut.text(), axis)?;
     text.extend_from_slice(b" ")?;
     append_number(text, at)?;
     append_break(text)
@@ -130,12 +132,12 @@ fn append_pairs(text: &mut Vec<u8>, pairs: &[(u32, Dy)]) -> Result<(), AllocErro
 /// Appends the line of a combination of atoms.
 pub(crate) fn append_combination(
     text: &mut Vec<u8>,
-    word: Paired,
+    rule: CombinationRule,
     combination: &Combination,
 ) -> Result<(), AllocError>
-    ensures { Appends text.old text.new (combination_line word combination.now ∷ []) result }
+    ensures { Appends text.old text.new (line_of_combination rule combination.now ∷ []) result }
 {
-    text.extend_from_slice(paired_bytes(word).as_bytes())?;
+    text.extend_from_slice(Word::Combination(rule).text().as_bytes())?;
     append_pairs(text, &combination.pairs)?;
     append_break(text)
 }

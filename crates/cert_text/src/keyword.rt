@@ -1,6 +1,8 @@
-// The lines of a certificate that have no number, and the first words of those that have one plain number or pairs.
+// The lines of a certificate that have no number, and the first words of those that have one plain number.
 ghost use Rattle.std.specs.Prelude.{◌≡◌};
-ghost use Rattle.cert_text.specs.Lines.{counted_word, paired_word, plain_text};
+ghost use Rattle.cert_text.specs.Lines.{counted_word, plain_text};
+
+use cover_line::{AtomRule, Word};
 
 /// A line without a number.
 #[derive(Clone, Copy, Debug, PartialEq, Eq)]
@@ -25,23 +27,11 @@ pub(crate) enum Counted {
     Bound,
     Cover,
     Lemma,
-    Pull,
-    Unit,
-    Void,
-    Push,
-    VoidNo,
-    Case,
-    Stuck,
+    /// Of a tree, with an atom.
+    Atom(AtomRule),
     By,
     Flip,
     Empty,
-}
-
-/// The first word of a line of pairs.
-#[derive(Clone, Copy, Debug, PartialEq, Eq)]
-pub(crate) enum Paired {
-    Combine,
-    VoidCombine,
 }
 
 /// The bytes of the line.
@@ -56,8 +46,8 @@ pub(crate) fn plain_bytes(line: Plain) -> &'static str
         Plain::BoolFalse => "bool false",
         Plain::BoolTrue => "bool true",
         Plain::BoolBoth => "bool both",
-        Plain::False => "false",
-        Plain::Open => "open",
+        Plain::False => Word::False.text(),
+        Plain::Open => Word::Open.text(),
     }
 }
 
@@ -72,25 +62,9 @@ pub(crate) fn counted_bytes(word: Counted) -> &'static str
         Counted::Bound => "bound",
         Counted::Cover => "cover",
         Counted::Lemma => "lemma",
-        Counted::Pull => "pull",
-        Counted::Unit => "unit",
-        Counted::Void => "void",
-        Counted::Push => "push",
-        Counted::VoidNo => "voidno",
-        Counted::Case => "case",
-        Counted::Stuck => "stuck",
-        Counted::By => "by",
-        Counted::Flip => "flip",
-        Counted::Empty => "empty",
-    }
-}
-
-/// The bytes of the word.
-pub(crate) fn paired_bytes(word: Paired) -> &'static str
-    ensures { result.now ≡ paired_word word }
-{
-    match word {
-        Paired::Combine => "comb",
-        Paired::VoidCombine => "voidcomb",
+        Counted::Atom(rule) => Word::Atom(rule).text(),
+        Counted::By => Word::By.text(),
+        Counted::Flip => Word::Flip.text(),
+        Counted::Empty => Word::Empty.text(),
     }
 }

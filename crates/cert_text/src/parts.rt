@@ -7,7 +7,7 @@ ghost use Rattle.cover_book.specs.Steps.{most_lemmas};
 ghost use Rattle.cover_book.specs.Tree.{lemma_tree};
 ghost use Rattle.cover_book.specs.Views.{learned_of};
 ghost use Rattle.cert_read.specs.CertLine.{rule_line};
-ghost use Rattle.cert_model.specs.Written.{domain_line, lemma_lines, line_of, point_line, rule_lines};
+ghost use Rattle.cert_model.specs.Written.{domain_line, lemma_lines, point_line, rule_lines};
 ghost use Rattle.cert_text.specs.Calls.{Appends, header_of};
 ghost use Rattle.cert_text.specs.Parts.{HasFewMarks, kept_lines, learned_lines};
 
@@ -15,9 +15,10 @@ use crate::append::{
     append_ban, append_combination, append_counted, append_cut, append_interval, append_marks,
     append_plain, append_value,
 };
-use crate::keyword::{Counted, Paired, Plain};
+use crate::keyword::{Counted, Plain};
 use cover_book::{Learned, Lines};
 use cover_data::{End, Options, State, Step};
+use cover_line::{AtomRule, CombinationRule};
 use ival::{Domain, Space, Truths};
 use std::alloc::AllocError;
 
@@ -81,30 +82,38 @@ pub(crate) fn append_point(text: &mut Vec<u8>, point: &Space) -> Result<(), Allo
 }
 
 fn append_step(text: &mut Vec<u8>, step: &Step) -> Result<(), AllocError>
-    ensures { Appends text.old text.new (rule_line (line_of (step_line step.now)) ∷ []) result }
+    ensures { Appends text.old text.new (rule_line (step_line step.now) ∷ []) result }
 {
     match step {
-        Step::Pull(atom) => append_counted(text, Counted::Pull, *atom),
-        Step::Push(atom) => append_counted(text, Counted::Push, *atom),
-        Step::Unit(atom) => append_counted(text, Counted::Unit, *atom),
+        Step::Pull(atom) => append_counted(text, Counted::Atom(AtomRule::Pull), *atom),
+        Step::Push(atom) => append_counted(text, Counted::Atom(AtomRule::Push), *atom),
+        Step::Unit(atom) => append_counted(text, Counted::Atom(AtomRule::Unit), *atom),
         Step::Ban(atom, lemma) => append_ban(text, *atom, *lemma),
-        Step::Combine(combination) => append_combination(text, Paired::Combine, combination),
+        Step::Combine(combination) => append_combination(
+            text,
+            CombinationRule::Combine,
+            combination,
+        ),
     }
 }
 
 fn append_end(text: &mut Vec<u8>, end: &End) -> Result<(), AllocError>
-    ensures { Appends text.old text.new (rule_line (line_of (end_line end.now)) ∷ []) result }
+    ensures { Appends text.old text.new (rule_line (end_line end.now) ∷ []) result }
 {
     match end {
-        End::Void(atom) => append_counted(text, Counted::Void, *atom),
-        End::VoidNo(atom) => append_counted(text, Counted::VoidNo, *atom),
-        End::VoidCombine(combination) => append_combination(text, Paired::VoidCombine, combination),
+        End::Void(atom) => append_counted(text, Counted::Atom(AtomRule::Void), *atom),
+        End::VoidNo(atom) => append_counted(text, Counted::Atom(AtomRule::VoidNo), *atom),
+        End::VoidCombine(combination) => append_combination(
+            text,
+            CombinationRule::VoidCombine,
+            combination,
+        ),
         End::False => append_plain(text, Plain::False),
         End::By(lemma) => append_counted(text, Counted::By, *lemma),
         End::Cut(axis, at) => append_cut(text, *axis, *at),
         End::Flip(axis) => append_counted(text, Counted::Flip, *axis),
-        End::Case(atom) => append_counted(text, Counted::Case, *atom),
-        End::Stuck(atom) => append_counted(text, Counted::Stuck, *atom),
+        End::Case(atom) => append_counted(text, Counted::Atom(AtomRule::Case), *atom),
+        End::Stuck(atom) => append_counted(text, Counted::Atom(AtomRule::Stuck), *atom),
     }
 }
 

@@ -5,8 +5,9 @@ use Rattle.poly_graph.specs.Problem.{Declared, real_between, any_bool, Axis, Pro
 use Rattle.cover_model.specs.State.{State, Loosenings, root_state}
 use Rattle.interval_model.specs.Space.{Space}
 use Rattle.cover_model.specs.Rules.{Line, pull, unit, void, push, void_no, combine, void_combine, ban, make_false, by, cut, flip, case, open_line, stuck, Left, closed, one, two, stays, rule, has_version_2, in_no_one_sided, is_combination, are_combinable, pulled, voided, narrowing_off, combining}
-use Rattle.cert_read.specs.CertLine.{CertLine, RuleLine, version, margin, delta, bound, cover, point_word, tree_word, end_word, lemma, real_interval, real_value, bool_value, says_false, says_true, yes_list, no_list, rule_line, crossing, word_of, Parsed, too_long, bad_line, bad_number, line, parsed}
-use Rattle.cert_model.specs.Due.{CertFault, BadHeader, BadNumber, WrongBound, Missing, NotShown, RuleFails, Standing, left_open, Due, version_due, margin_due, delta_due, bound_due, kind_due, next_due, axis_due, yes_due, no_due, lemma_due, root_due, tree_due, coordinate_due, end_due, nothing_due, Next, on, faulty, given, is_version, rule_of, names_well, after_rule, after_lemma_rule, tree_goes_on, lemma_goes_on, axis_next, coordinate_next, is_crossed_box, is_shown, same_bound}
+use Rattle.cover_line.specs.Words.{word_of}
+use Rattle.cert_read.specs.CertLine.{CertLine, version, margin, delta, bound, cover, point_word, tree_word, end_word, lemma, real_interval, real_value, bool_value, says_false, says_true, yes_list, no_list, rule_line, crossing, Parsed, too_long, bad_line, bad_number, line, parsed}
+use Rattle.cert_model.specs.Due.{CertFault, BadHeader, BadNumber, WrongBound, Missing, NotShown, RuleFails, Standing, left_open, Due, version_due, margin_due, delta_due, bound_due, kind_due, next_due, axis_due, yes_due, no_due, lemma_due, root_due, tree_due, coordinate_due, end_due, nothing_due, Next, on, faulty, given, is_version, names_well, after_rule, after_lemma_rule, tree_goes_on, lemma_goes_on, axis_next, coordinate_next, is_crossed_box, is_shown, same_bound}
 use Rattle.cert_model.specs.Accepted.{next, next_parsed, loosenings_fit, ruled_line, lemma_line, tree_line, root_line, no_crossing, axis_line, coordinate_line, most_lemmas, Course, stopped, reached, course_next, course, Verdict, accepted, refused, at_end, ended, cut_off}
 use Rattle.cert_upgrade.specs.Upgraded.{in_version_2, version_2_line, behind_first}
 
@@ -141,19 +142,19 @@ module _ (p : Problem) (s : Loosenings) where
       subst (λ (y : Option Left). Raises (after_rule (Some l) f x pending done (tree_goes_on s lemmas)) (after_rule y f x pending done (tree_goes_on (in_version_2 s) lemmas)))
       (sym h) (after-tree-same (Some l) f x lemmas pending done)
 
-  lemma-line : (k : ℕ) (lemmas : List State) (L S : State) (pending : List State) (l : RuleLine) →
+  lemma-line : (k : ℕ) (lemmas : List State) (L S : State) (pending : List State) (l : Line) →
       Raises (lemma_line p s k lemmas L S pending l) (lemma_line p (in_version_2 s) k lemmas L S pending l)
-  lemma-line k lemmas L S pending l = ruled-raises (names_well p (rule_of l)) _ _
-      (after-lemma (rule p s lemmas S (rule_of l)) (rule p (in_version_2 s) lemmas S (rule_of l)) (rule-raises lemmas S (rule_of l)) (RuleFails (word_of l)) k lemmas L pending)
+  lemma-line k lemmas L S pending l = ruled-raises (names_well p l) _ _
+      (after-lemma (rule p s lemmas S l) (rule p (in_version_2 s) lemmas S l) (rule-raises lemmas S l) (RuleFails (word_of l)) k lemmas L pending)
 
-  tree-line : (lemmas : List State) (S : State) (pending : List State) (done : List Standing) (l : RuleLine) →
+  tree-line : (lemmas : List State) (S : State) (pending : List State) (done : List Standing) (l : Line) →
       Raises (tree_line p s lemmas S pending done l) (tree_line p (in_version_2 s) lemmas S pending done l)
-  tree-line lemmas S pending done l = ruled-raises (names_well p (rule_of l)) _ _
-      (after-tree (rule p s lemmas S (rule_of l)) (rule p (in_version_2 s) lemmas S (rule_of l)) (rule-raises lemmas S (rule_of l)) (RuleFails (word_of l))
-      (record { state = S; does = rule_of l }) lemmas pending done)
+  tree-line lemmas S pending done l = ruled-raises (names_well p l) _ _
+      (after-tree (rule p s lemmas S l) (rule p (in_version_2 s) lemmas S l) (rule-raises lemmas S l) (RuleFails (word_of l))
+      (record { state = S; does = l }) lemmas pending done)
 
-  root-line : (t : Bool) (lemmas : List State) (l : RuleLine) → Raises (root_line t p s lemmas l) (root_line t p (in_version_2 s) lemmas l)
-  root-line true lemmas l = ruled-raises (names_well p (rule_of l)) (faulty (RuleFails (word_of l))) (faulty (RuleFails (word_of l))) (tt {0})
+  root-line : (t : Bool) (lemmas : List State) (l : Line) → Raises (root_line t p s lemmas l) (root_line t p (in_version_2 s) lemmas l)
+  root-line true lemmas l = ruled-raises (names_well p l) (faulty (RuleFails (word_of l))) (faulty (RuleFails (word_of l))) (tt {0})
   root-line false lemmas l = tree-line lemmas (root_state p) [] [] l
 
   axis-line : (k : ℕ) (lemmas : List State) (a : Declared) (axes : List Axis) (space : Space) (l : CertLine) →

@@ -3,6 +3,7 @@
 -- form: Moore, Interval Analysis, 1966, without derivatives; with several, Farkas' lemma on the linear parts.)
 use Rattle.std.specs.Prelude.{ℕ, zero, suc, List, [], ◌∷◌, length, Bool, true, false, cond, Option, Some, None, pos, nat_eq, slice_get}
 use Rattle.dyadic.specs.Rounding.{Dyadic, finite}
+pub use Rattle.cover_line.specs.Line.{Multipliers}
 use Rattle.interval_model.specs.Interval.{Interval, between, interval_negated, interval_sum, interval_product, interval_square, inverse_product, inverse_square, misses_nought, met, is_nothing, nothing, everything}
 use Rattle.poly_graph.specs.Term.{Node, variable_node, negate_node, add_node, multiply_node, square_node}
 use Rattle.interval_model.specs.Space.{Space, axis_interval, middle}
@@ -12,10 +13,6 @@ use Rattle.cover_model.specs.Space.{range}
 use Rattle.cover_model.specs.OffRange.{off_range}
 use Rattle.cover_model.specs.Narrowed.{enclosures, set_axis}
 use Rattle.cover_model.specs.NodeEnclosure.{row}
-
--- numbers of atoms, each with its multiplier
-abbrev pub Multipliers : Type 0
-Multipliers = List (ℕ × Dyadic)
 
 abbrev pub only : Dyadic → Interval
 only d = between (finite d) (finite d)

@@ -1,6 +1,7 @@
 -- The lines of a cover, each with its condition on a state and the states that it leaves.
 use Rattle.std.specs.Prelude.{ℕ, List, [], ◌∷◌, length, Bool, true, false, cond, not, ◌&&◌, ◌||◌, Option, Some, None, nat_le, nat_lt, slice_get}
 use Rattle.dyadic.specs.Rounding.{Dyadic}
+pub use Rattle.cover_line.specs.Line.{Line, pull, unit, void, push, void_no, combine, void_combine, ban, make_false, by, cut, flip, case, open_line, stuck}
 use Rattle.interval_model.specs.Interval.{misses_nought}
 use Rattle.poly_graph.specs.Term.{Kind, le, ge, eq}
 use Rattle.interval_model.specs.Space.{Domain, Space, strictly_inside, lower_part, upper_part, is_undecided, keep, changed, test_axis}
@@ -10,20 +11,6 @@ use Rattle.cover_model.specs.State.{State, Loosenings, margin_of, delta_of, in_y
 use Rattle.cover_model.specs.Narrowed.{narrowed_by}
 use Rattle.cover_model.specs.OffRange.{off_range}
 use Rattle.cover_model.specs.Combination.{Multipliers, only, combined}
-
--- numbers of atoms for pull, unit, void, push, void_no, case and stuck; atoms with their multipliers for combine and
--- void_combine; an atom and a lemma for ban; a lemma for by; an axis for cut and flip
-pub data Line : Type 0 where
-  pull unit void push void_no : ℕ → Line
-  combine void_combine : Multipliers → Line
-  ban : ℕ → ℕ → Line
-  make_false : Line
-  by : ℕ → Line
-  cut : ℕ → Dyadic → Line
-  flip : ℕ → Line
-  case : ℕ → Line
-  open_line : Line
-  stuck : ℕ → Line
 
 -- what a rule leaves of a state, where its condition holds
 pub data Left : Type 0 where

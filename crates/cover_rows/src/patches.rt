@@ -9,6 +9,7 @@ ghost use Rattle.cover_data.specs.Views.{kept_of};
 use crate::made::problem;
 use cert_read::{BoolSet, Line, LineReader};
 use cover_book::Book;
+use cover_line::{AtomRule, CombinationRule, Rule};
 use cover_rule::{End, KeptPatch, Lemma, Options, Patch, PatchRefusal, State, Step};
 use ival::{Domain, Range, Space, Truths};
 use poly_graph::{Lits, Mark};
@@ -153,13 +154,13 @@ fn answer_at_atom(book: &Book, patch: &mut Patch, line: &Line) -> Option<Answer>
     ensures margins { patch.new.margins ≡ patch.old.margins }
 {
     match line {
-        Line::Pull(j) if is_atom(book, *j) => Some(patch.pull(*j)),
-        Line::Unit(j) if is_atom(book, *j) => Some(patch.unit(*j)),
-        Line::Void(j) if is_atom(book, *j) => Some(patch.void(*j)),
-        Line::Push(j) if is_atom(book, *j) => Some(patch.push(*j)),
-        Line::VoidNo(j) if is_atom(book, *j) => Some(patch.void_no(*j)),
-        Line::Case(j) if is_atom(book, *j) => Some(patch.case(*j)),
-        Line::Stuck(j) if is_atom(book, *j) => Some(patch.stuck(*j)),
+        Line::Rule(Rule::Atom(AtomRule::Pull, j)) if is_atom(book, *j) => Some(patch.pull(*j)),
+        Line::Rule(Rule::Atom(AtomRule::Unit, j)) if is_atom(book, *j) => Some(patch.unit(*j)),
+        Line::Rule(Rule::Atom(AtomRule::Void, j)) if is_atom(book, *j) => Some(patch.void(*j)),
+        Line::Rule(Rule::Atom(AtomRule::Push, j)) if is_atom(book, *j) => Some(patch.push(*j)),
+        Line::Rule(Rule::Atom(AtomRule::VoidNo, j)) if is_atom(book, *j) => Some(patch.void_no(*j)),
+        Line::Rule(Rule::Atom(AtomRule::Case, j)) if is_atom(book, *j) => Some(patch.case(*j)),
+        Line::Rule(Rule::Atom(AtomRule::Stuck, j)) if is_atom(book, *j) => Some(patch.stuck(*j)),
         _ => None,
     }
 }
@@ -174,8 +175,10 @@ fn answer_by(book: &Book, lemma: &Lemma, patch: &mut Patch, line: &Line) -> Opti
     ensures margins { patch.new.margins ≡ patch.old.margins }
 {
     match line {
-        Line::Ban(j, id) if *id == lemma.id() && is_atom(book, *j) => Some(patch.ban(*j, lemma)),
-        Line::By(id) if *id == lemma.id() => Some(patch.by(lemma)),
+        Line::Rule(Rule::Ban(j, id)) if *id == lemma.id() && is_atom(book, *j) => Some(patch.ban(
+            *j, lemma,
+        )),
+        Line::Rule(Rule::By(id)) if *id == lemma.id() => Some(patch.by(lemma)),
         _ => None,
     }
 }
@@ -191,12 +194,18 @@ fn answer(book: &Book, lemma: Option<&Lemma>, patch: &mut Patch, line: &Line) ->
     ensures margins { patch.new.margins ≡ patch.old.margins }
 {
     match line {
-        Line::False => Some(patch.make_false()),
-        Line::Cut(_, _) => Some(patch.cut()),
-        Line::Flip(axis) if is_axis(book, *axis) => Some(patch.flip(*axis)),
-        Line::Combine(pairs) => Some(patch.combine(pairs)),
-        Line::VoidCombine(pairs) => Some(patch.void_combine(pairs)),
-        Line::Ban(_, _) | Line::By(_) => answer_by(book, lemma?, patch, line),
+        Line::Rule(Rule::False) => Some(patch.make_false()),
+        Line::Rule(Rule::Cut(_, _)) => Some(patch.cut()),
+        Line::Rule(Rule::Flip(axis)) if is_axis(book, *axis) => Some(patch.flip(*axis)),
+        Line::Rule(Rule::Combination(CombinationRule::Combine, pairs)) => Some(patch.combine(
+            pairs,
+        )),
+        Line::Rule(Rule::Combination(CombinationRule::VoidCombine, pairs)) => Some(
+            patch.void_combine(pairs),
+        ),
+        Line::Rule(Rule::Ban(_, _)) | Line::Rule(Rule::By(_)) => answer_by(
+            book, lemma?, patch, line,
+        ),
         _ => answer_at_atom(book, patch, line),
     }
 }
@@ -350,11 +359,12 @@ pub(crate) fn leaves(alloc: Global, patch: Patch, lower: &[&str], upper: &[&str]
 // Whether the line says this step.
 fn is_step(line: &Line, step: &Step) -> bool {
     match (line, step) {
-        (Line::Pull(j), Step::Pull(k)) => *j == *k,
-        (Line::Unit(j), Step::Unit(k)) => *j == *k,
-        (Line::Ban(j, id), Step::Ban(k, quoted)) => *j == *k && *id == *quoted,
-        (Line::Push(j), Step::Push(k)) => *j == *k,
-        (Line::Combine(pairs), Step::Combine(made)) => pairs.as_slice() == made.pairs.as_slice(),
+        (Line::Rule(Rule::Atom(AtomRule::Pull, j)), Step::Pull(k)) => *j == *k,
+        (Line::Rule(Rule::Atom(AtomRule::Unit, j)), Step::Unit(k)) => *j == *k,
+        (Line::Rule(Rule::Ban(j, id)), Step::Ban(k, quoted)) => *j == *k && *id == *quoted,
+        (Line::Rule(Rule::Atom(AtomRule::Push, j)), Step::Push(k)) => *j == *k,
+        (Line::Rule(Rule::Combination(CombinationRule::Combine, pairs)), Step::Combine(made)) =>
+            pairs.as_slice() == made.pairs.as_slice(),
         _ => false,
     }
 }
@@ -382,13 +392,14 @@ fn are_steps(alloc: Global, lines: &[&str], steps: &[Step]) -> bool {
 // Whether the line says this end, which closes a state.
 fn is_end(line: &Line, end: &End) -> bool {
     match (line, end) {
-        (Line::False, End::False) => true,
-        (Line::Void(j), End::Void(k)) => *j == *k,
-        (Line::VoidNo(j), End::VoidNo(k)) => *j == *k,
-        (Line::By(id), End::By(quoted)) => *id == *quoted,
-        (Line::VoidCombine(pairs), End::VoidCombine(made)) => {
-            pairs.as_slice() == made.pairs.as_slice()
-        }
+        (Line::Rule(Rule::False), End::False) => true,
+        (Line::Rule(Rule::Atom(AtomRule::Void, j)), End::Void(k)) => *j == *k,
+        (Line::Rule(Rule::Atom(AtomRule::VoidNo, j)), End::VoidNo(k)) => *j == *k,
+        (Line::Rule(Rule::By(id)), End::By(quoted)) => *id == *quoted,
+        (
+            Line::Rule(Rule::Combination(CombinationRule::VoidCombine, pairs)),
+            End::VoidCombine(made),
+        ) => { pairs.as_slice() == made.pairs.as_slice() }
         _ => false,
     }
 }

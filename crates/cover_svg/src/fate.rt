@@ -4,6 +4,7 @@ ghost use Rattle.cert_read.specs.Views.{line_of};
 ghost use Rattle.cover_svg.specs.Fates.{fate_by};
 
 use cert_read::Line;
+use cover_line::{AtomRule, CombinationRule, Rule};
 
 /// How a branch of the tree ends.
 #[derive(Clone, Copy, Debug, PartialEq, Eq)]
@@ -19,12 +20,16 @@ pub enum Fate {
 pub fn fate_by(line: &Line) -> Option<Fate>
     ensures { result ≡ fate_by (line_of line.now) }
 {
-    match line {
-        Line::Void(_) | Line::VoidNo(_) | Line::VoidCombine(_) => Some(Fate::Void),
-        Line::False => Some(Fate::False),
-        Line::By(_) => Some(Fate::By),
-        Line::Open => Some(Fate::Open),
-        Line::Stuck(_) => Some(Fate::Stuck),
+    let Line::Rule(rule) = line else {
+        return None;
+    };
+    match rule {
+        Rule::Atom(AtomRule::Void, _) | Rule::Atom(AtomRule::VoidNo, _) => Some(Fate::Void),
+        Rule::Combination(CombinationRule::VoidCombine, _) => Some(Fate::Void),
+        Rule::Atom(AtomRule::Stuck, _) => Some(Fate::Stuck),
+        Rule::False => Some(Fate::False),
+        Rule::By(_) => Some(Fate::By),
+        Rule::Open => Some(Fate::Open),
         _ => None,
     }
 }

@@ -17,9 +17,10 @@ use Rattle.cover_model.proofs.Lies.{rule_within}
 use Rattle.cover_model.proofs.Middle.{root_is_upright}
 use Rattle.cover_model.proofs.Within.{space_reflexive, space_through}
 use Rattle.poly_graph.specs.Marks.{marks_within}
+use Rattle.cover_line.specs.Words.{word_of}
 use Rattle.cert_read.specs.Lines.{lines_of, lines_so_far}
-use Rattle.cert_read.specs.CertLine.{RuleLine, CertLine, version, margin, delta, bound, cover, point_word, tree_word, lemma, end_word, rule_line, crossing, real_interval, real_value, bool_value, yes_list, no_list, says_both, says_false, says_true, Parsed, too_long, bad_line, bad_number, line, parsed, word_of}
-use Rattle.cert_model.specs.Due.{CertFault, RuleFails, Standing, Value, at_point, left_open, Due, version_due, margin_due, delta_due, bound_due, kind_due, next_due, axis_due, yes_due, no_due, lemma_due, root_due, tree_due, coordinate_due, end_due, nothing_due, Next, on, faulty, given, rule_of, names_well, after_rule, after_lemma_rule, tree_goes_on, lemma_goes_on, axis_next, coordinate_next, is_crossed_box, is_some_axis, is_shown}
+use Rattle.cert_read.specs.CertLine.{CertLine, version, margin, delta, bound, cover, point_word, tree_word, lemma, end_word, rule_line, crossing, real_interval, real_value, bool_value, yes_list, no_list, says_both, says_false, says_true, Parsed, too_long, bad_line, bad_number, line, parsed}
+use Rattle.cert_model.specs.Due.{CertFault, RuleFails, Standing, Value, at_point, left_open, Due, version_due, margin_due, delta_due, bound_due, kind_due, next_due, axis_due, yes_due, no_due, lemma_due, root_due, tree_due, coordinate_due, end_due, nothing_due, Next, on, faulty, given, names_well, after_rule, after_lemma_rule, tree_goes_on, lemma_goes_on, axis_next, coordinate_next, is_crossed_box, is_some_axis, is_shown}
 use Rattle.cert_model.specs.Accepted.{next, next_parsed, ruled_line, tree_line, root_line, no_crossing, axis_line, coordinate_line, Course, stopped, reached, course_next, course, Verdict, accepted, refused, at_end, ended, cut_off, verdict_by, IsAccepted, most_bytes}
 use Rattle.cert_model.specs.AnswerText.{is_open, has_open, budget_text, unsat_text, solve_text}
 use Rattle.cert_model.specs.Standing.{Stands, stands, at_root, stands_at, standing_next, standing_from, IsHonest}
@@ -104,15 +105,15 @@ module _ (p : Problem) (g : IsProblem p) (b : Option ℕ) (w : ℕ) where
   named : (l : Line) (j : ℕ) → l ≡ stuck j → IsTrue (names_well p l) → j < length p.atoms
   named l j e h = ltb→lt j (length p.atoms) (passes _ (subst (λ (x : Line). IsTrue (names_well p x)) e h))
 
-  tree-step : (s : Loosenings) (lemmas : List State) (S : State) (pending : List State) (done : List Standing) (l : RuleLine) → (Plan s → (first_crossed p ≡ None) × IsGood S × AllGood pending × AllOpen done) →
-      IsTrue (is_honest p w s S (rule_of l)) → IfOn Holds (tree_line p s lemmas S pending done l)
-  tree-step s lemmas S pending done l h honest = go (names_well p (rule_of l)) refl
+  tree-step : (s : Loosenings) (lemmas : List State) (S : State) (pending : List State) (done : List Standing) (l : Line) → (Plan s → (first_crossed p ≡ None) × IsGood S × AllGood pending × AllOpen done) →
+      IsTrue (is_honest p w s S l) → IfOn Holds (tree_line p s lemmas S pending done l)
+  tree-step s lemmas S pending done l h honest = go (names_well p l) refl
     where
-      go : (t : Bool) → names_well p (rule_of l) ≡ t → IfOn Holds (ruled_line t (after_rule (rule p s lemmas S (rule_of l)) (RuleFails (word_of l)) (record { state = S; does = rule_of l }) pending done (tree_goes_on s lemmas)))
+      go : (t : Bool) → names_well p l ≡ t → IfOn Holds (ruled_line t (after_rule (rule p s lemmas S l) (RuleFails (word_of l)) (record { state = S; does = l }) pending done (tree_goes_on s lemmas)))
       go false e = tt
-      go true e = after s lemmas S (record { state = S; does = rule_of l }) pending done (RuleFails (word_of l)) (rule p s lemmas S (rule_of l)) h (rule_within p g s lemmas S (rule_of l))
-          (λ q. let k = h q in rule_upright p s lemmas S k.1.0 (rule_of l) (IsTrue (is_open (rule_of l))) (λ f. ap is_open f)
-          (λ j f x. absurd (not_both (is_stuck_atom p s S j) x (nothing_is_stuck p g k.0 s w q S k.1.0 k.1.1 (small s S (rule_of l) j f honest) j (named (rule_of l) j f e)))))
+      go true e = after s lemmas S (record { state = S; does = l }) pending done (RuleFails (word_of l)) (rule p s lemmas S l) h (rule_within p g s lemmas S l)
+          (λ q. let k = h q in rule_upright p s lemmas S k.1.0 l (IsTrue (is_open l)) (λ f. ap is_open f)
+          (λ j f x. absurd (not_both (is_stuck_atom p s S j) x (nothing_is_stuck p g k.0 s w q S k.1.0 k.1.1 (small s S l j f honest) j (named l j f e)))))
 
   -- ---- any line
 
@@ -165,11 +166,11 @@ module _ (p : Problem) (g : IsProblem p) (b : Option ℕ) (w : ℕ) where
   first-crossing true x y h k = h
   first-crossing false x y h k = k
 
-  root-step : (s : Loosenings) (lemmas : List State) (l : RuleLine) → AreHonest (at_root (is_crossed_box p) p s l) → IfOn Holds (root_line (is_crossed_box p) p s lemmas l)
+  root-step : (s : Loosenings) (lemmas : List State) (l : Line) → AreHonest (at_root (is_crossed_box p) p s l) → IfOn Holds (root_line (is_crossed_box p) p s lemmas l)
   root-step s lemmas l h = go (is_crossed_box p) refl h
     where
       go : (t : Bool) → is_crossed_box p ≡ t → AreHonest (at_root t p s l) → IfOn Holds (root_line t p s lemmas l)
-      go true e h = ruled (names_well p (rule_of l)) (faulty (RuleFails (word_of l))) tt
+      go true e h = ruled (names_well p l) (faulty (RuleFails (word_of l))) tt
       go false e h =
           let n = uncrossed (first_crossed p) e in let u = root_is_upright p g (none-crossed 0 p.axes n) in
           tree-step s lemmas (root_state p) [] [] l (λ q. (n, (u.0, space_reflexive (root_space p)), tt, tt)) (h zero (stands s (root_state p) l) (omega arith))
@@ -194,7 +195,7 @@ module _ (p : Problem) (g : IsProblem p) (b : Option ℕ) (w : ℕ) where
   step (yes_due s n lemmas space) _ h k = tt
   step (no_due s n lemmas space is) (no_list js) h k = given-holds _ _ _ tt
   step (no_due s n lemmas space is) _ h k = tt
-  step (lemma_due s n lemmas L S pending) (rule_line l) h k = ruled (names_well p (rule_of l)) _ (lemma-after s n lemmas L (rule p s lemmas S (rule_of l)) _ pending)
+  step (lemma_due s n lemmas L S pending) (rule_line l) h k = ruled (names_well p l) _ (lemma-after s n lemmas L (rule p s lemmas S l) _ pending)
   step (lemma_due s n lemmas L S pending) _ h k = tt
   step (root_due s lemmas) (crossing i) h k = first-crossing (crosses p i) (on (end_due s (left_open []))) (no_crossing p i) (λ q. tt) tt
   step (root_due s lemmas) (rule_line l) h k = root-step s lemmas l k

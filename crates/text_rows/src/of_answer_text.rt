@@ -5,7 +5,8 @@ ghost use Rattle.poly_graph.specs.ProblemViews.{declared_of};
 ghost use Rattle.text_rows.specs.TriedAnswerText.{nought, one, from_nought_to_one};
 
 use answer_text::*;
-use cert_check::{CertFault, Rule};
+use cert_check::CertFault;
+use cover_line::{AtomRule, CombinationRule, Word};
 use dyadic::{Dy, Frac, read_dy};
 use ival::{Domain, Range, Space, Truths};
 use poly_graph::{Axis, Declared, FormGraph, FormNode, Graph, NoNode, Problem};
@@ -241,28 +242,28 @@ const REFUSALS: &[(Told, &str)] = &[
     ),
     (
         Told::Refused(CertFault::RuleFails {
-            rule: Rule::By,
+            rule: Word::By,
             line: 10,
         }),
         "certificate fault 3 RuleFails by line 10\n",
     ),
     (
         Told::Refused(CertFault::RuleFails {
-            rule: Rule::Pull,
+            rule: Word::Atom(AtomRule::Pull),
             line: 7,
         }),
         "certificate fault 3 RuleFails pull line 7\n",
     ),
     (
         Told::Refused(CertFault::RuleFails {
-            rule: Rule::Combine,
+            rule: Word::Combination(CombinationRule::Combine),
             line: 8,
         }),
         "certificate fault 3 RuleFails comb line 8\n",
     ),
     (
         Told::Refused(CertFault::RuleFails {
-            rule: Rule::VoidCombine,
+            rule: Word::Combination(CombinationRule::VoidCombine),
             line: 9,
         }),
         "certificate fault 3 RuleFails voidcomb line 9\n",

@@ -1,5 +1,5 @@
 use Rattle.std.proofs.Common.{Bool, cond, ap, sym, ◌∙◌}
-use Rattle.cert_read.specs.CertLine.{empty_word}
+use Rattle.cover_line.specs.Words.{empty_word}
 use Rattle.cert_model.specs.Due.{RuleFails, BadNumber, faulty}
 use Rattle.cert_check.proofs.names.no_crossing.Goals as goal
 

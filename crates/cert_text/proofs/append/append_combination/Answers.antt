@@ -15,7 +15,7 @@ returns c =
     let seen : ℕ × Dy → ℕ × Dyadic = λ x. (x.0, dyadic_of x.1) in
     let count : length (map seen pairs) ≡ length pairs = length-map pairs seen in
     on_ok_weaker c.append_break.result
-    (λ e. paired_appended c.args.word (multipliers_of pairs) _ _ _ _ (omega (arith, count, c.args.combination.now.some)) (omega (arith, count, c.args.combination.now.few))
-    (c.in_ok-extend_from_slice.ensures.items ∙ ap (λ (w : List ℕ). c.args.text.now.items ++ w) (c.as_bytes.ensures.value ∙ c.paired_bytes.ensures))
+    (λ e. paired_appended c.args.rule (multipliers_of pairs) _ _ _ _ (omega (arith, count, c.args.combination.now.some)) (omega (arith, count, c.args.combination.now.few))
+    (c.in_ok-extend_from_slice.ensures.items ∙ ap (λ (w : List ℕ). c.args.text.now.items ++ w) (c.as_bytes.ensures.value ∙ c.text.ensures))
     (subst (λ (xs : List (ℕ × Dy)). HasPairs c.extend_from_slice.new.self.items (multipliers_of xs) c.append_pairs.new.text.items) c.deref.ensures.value c.in_ok-append_pairs.ensures) e)
     c.append_break.ensures

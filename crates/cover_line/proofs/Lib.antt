@@ -1,0 +1,2 @@
+mod AllWords
+pub mod Groups

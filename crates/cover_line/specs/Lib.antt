@@ -1,0 +1,4 @@
+pub mod Answers
+pub mod Line
+pub mod Views
+pub mod Words
