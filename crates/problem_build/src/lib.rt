@@ -2,7 +2,7 @@
 //!
 //! `read_problem` answers the problem of a script's bytes, or the first fault of the first phase that has one; `build` does
 //! so for a script whose sorts are checked. `read_session` and `build_all` answer the problems of all checks of a script;
-//! no program calls them yet. The crate reads no file, prints no fault, and simplifies no form.
+//! only rows call them yet. The crate reads no file, prints no fault, and simplifies no form.
 #![tactic(auto)]
 
 ghost use Rattle.problem_build.specs.Laws.{SortedIsSound, PartsAreProblem, BuiltIsOne};
