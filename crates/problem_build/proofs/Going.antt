@@ -1,23 +1,21 @@
 -- The steps of a script with any number of checks, one after the other.
-use Rattle.std.proofs.Common.{◌≡◌, ℕ, suc, List, [], ◌∷◌, ◌++◌, Bool, true, false, ◌&&◌, cond, nat_le, is_some, Option, Some, None, map, length, refl, ap, sym, ◌∙◌, subst, append_assoc, append-nil}
-use Rattle.std.specs.Prelude.{Result, Ok, Err, reverse}
+use Rattle.std.proofs.Common.{◌≡◌, ℕ, List, [], ◌∷◌, ◌++◌, Bool, true, false, ◌&&◌, cond, nat_le, is_some, Option, Some, None, map, length, refl, ap, sym, ◌∙◌, subst, append_assoc, append-nil}
+use Rattle.std.specs.Prelude.{reverse}
 use Rattle.std.specs.List.{AllByRecursion}
 use Rattle.std.proofs.lemmas.List.{map-append, length-map, reverse-append}
 use Rattle.poly_graph.specs.Problem.{Problem}
-use Rattle.poly_graph.specs.ProblemViews.{Parts, problem_of}
-use Rattle.script_model.specs.Sexp as sexp
+use Rattle.poly_graph.specs.ProblemViews.{problem_of}
 use Rattle.script_model.specs.Script.{check}
 use Rattle.script_fault.specs.Answers.{IsFaultOrMemory}
 use Rattle.script_fault.specs.declared.fault.ReadError.{ReadError}
-use Rattle.script_fault.specs.declared.fault.ScriptFault.{ScriptFault}
 use Rattle.script_fault.specs.declared.place.Place.{Place}
 use Rattle.script_forms.specs.Walk.{building_fault}
 use Rattle.script_faults.specs.Faults.{first_of, in_building, in_each_check}
 use Rattle.script_faults.specs.Reader.{IsBuiltOf}
-use Rattle.script_faults.specs.Session.{AreBuilt, carried_from, carried_of, is_check, stay_in_force}
+use Rattle.script_faults.specs.Session.{AreBuilt, carried_from, carried_of, stay_in_force}
 use Rattle.smt_sexp.specs.Views.{place_of}
 use Rattle.smt_sexp.specs.declared.sexps.Sexps.{Sexps}
-use Rattle.smt_script.specs.Levels.{Asked, Levels, Step, command, after_step, asked_from, asked_here, checks_of, no_levels}
+use Rattle.smt_script.specs.Levels.{Asked, Levels, Step, command, after_step, asked_from, checks_of, no_levels}
 use Rattle.smt_script.specs.Views.{command_of, step_of}
 use Rattle.smt_script.specs.declared.command.Command as code
 use Rattle.smt_script.specs.declared.command.Command.TheVariants as commands

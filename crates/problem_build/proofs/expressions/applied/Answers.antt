@@ -1,4 +1,4 @@
-use Rattle.std.proofs.Common.{List, [], Some, None, ap, sym, ◌∙◌, subst, refl}
+use Rattle.std.proofs.Common.{List, [], Some, None, sym, ◌∙◌, subst, refl}
 use Rattle.std.proofs.lemmas.Result.{err_from_is_err_and}
 use Rattle.script_model.specs.Reading.{application, meanings, found, operators}
 use Rattle.script_model.specs.Declared.{bounding}

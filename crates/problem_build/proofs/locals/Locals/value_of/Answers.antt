@@ -1,7 +1,7 @@
-use Rattle.std.proofs.Common.{◌≡◌, ◌+◌, ◌∙◌, arith, ap, sym, refl, suc, length, Some, map, drop, rc_value}
+use Rattle.std.proofs.Common.{◌≡◌, ◌+◌, ◌∙◌, arith, ap, sym, refl, suc, length, Some, rc_value}
 use Rattle.std.specs.Prelude.{slice_get}
 use Rattle.std.proofs.lemmas.Option.{slice_get_read}
-use Rattle.problem_build.specs.Locals.{local_value, all_levels}
+use Rattle.problem_build.specs.Locals.{local_value}
 use Rattle.problem_build.proofs.Nearest.{levels_at, nearest_some, nearest_none}
 use Rattle.problem_build.proofs.locals.Locals.value_of.Goals as goal
 
