@@ -20,3 +20,4 @@ pub mod Taking
 pub mod Tiny
 pub mod VerdictAnswers
 pub mod Waits
+pub mod Narrowings

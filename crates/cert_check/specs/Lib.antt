@@ -12,6 +12,7 @@ pub mod Judged
 pub mod Judgements
 pub mod Laws
 pub mod Lists
+pub mod Narrowing
 pub mod Serving
 pub mod Stages
 pub mod States

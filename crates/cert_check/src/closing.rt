@@ -1,6 +1,6 @@
 // The rules that leave nothing.
-ghost use Rattle.std.specs.Prelude.{◌≡◌, ◌<◌, [], length, map, All};
-ghost use Rattle.cover_model.specs.Rules.{void, void_no, make_false, by};
+ghost use Rattle.std.specs.Prelude.{◌≡◌, [], map, All};
+ghost use Rattle.cover_model.specs.Rules.{make_false, by};
 ghost use Rattle.cover_model.specs.State.{Loosenings as StateLoosenings};
 ghost use Rattle.poly_graph.specs.ProblemViews.{problem_of};
 ghost use Rattle.cert_check.specs.States.{state_of, lemma_of, loosenings_of, Fits};
@@ -9,62 +9,11 @@ ghost use Rattle.cert_check.specs.Serving.{Serves};
 
 use crate::left::Left;
 use crate::loosenings::Loosenings;
-use crate::moves::{can_push, lemma_covers};
+use crate::moves::lemma_covers;
 use crate::standing::Lemma;
 use crate::state::State;
 use crate::tools::Tools;
-use ival::Narrowed;
 use poly_graph::Problem;
-
-/// Closed, where an atom marked yes leaves nothing of the space.
-pub fn void(
-    problem: &Problem,
-    tools: &mut Tools,
-    s: Loosenings,
-    state: State,
-    j: u32,
-) -> Option<Left>
-    requires serves { Serves problem.now tools.old }
-    requires fits { Fits problem.now (state_of state) }
-    requires atom { j < length problem.now.atoms }
-    ensures rule { IsLeftBy (void j) problem.now (loosenings_of s) [] state result }
-    ensures serves { Serves problem.now tools.new }
-{
-    if !state.in_yes(j) {
-        return None;
-    }
-    let mut state = state;
-    match tools.narrow(problem, s.margin, j, &mut state.space) {
-        Narrowed::Empty => Some(Left::Closed),
-        Narrowed::Less => None,
-        Narrowed::Same => None,
-    }
-}
-
-/// Closed, where the off-range of an inequality marked no leaves nothing of the space.
-pub fn void_no(
-    problem: &Problem,
-    tools: &mut Tools,
-    s: Loosenings,
-    state: State,
-    j: u32,
-) -> Option<Left>
-    requires serves { Serves problem.now tools.old }
-    requires fits { Fits problem.now (state_of state) }
-    requires atom { j < length problem.now.atoms }
-    ensures rule { IsLeftBy (void_no j) problem.now (loosenings_of s) [] state result }
-    ensures serves { Serves problem.now tools.new }
-{
-    if !can_push(problem, s, &state, j) {
-        return None;
-    }
-    let mut state = state;
-    match tools.narrow_off(problem, s.margin, j, &mut state.space) {
-        Narrowed::Empty => Some(Left::Closed),
-        Narrowed::Less => None,
-        Narrowed::Same => None,
-    }
-}
 
 /// Closed, where the form can't hold.
 pub fn make_false(problem: &Problem, tools: &mut Tools, s: Loosenings, state: State) -> Option<Left>

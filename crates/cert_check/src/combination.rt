@@ -1,24 +1,20 @@
-// The rules that combine atoms.
-ghost use Rattle.std.specs.Prelude.{◌≡◌, ◌<◌, ◌||◌, [], length, IsTrue};
+// Combinations of atoms.
+ghost use Rattle.std.specs.Prelude.{◌≡◌, ◌<◌, ◌||◌, length, IsTrue};
 ghost use Rattle.dyadic.specs.Views.{dyadic_of};
 ghost use Rattle.interval_model.specs.Interval.{misses_nought};
 ghost use Rattle.cover_model.specs.Combination.{only};
-ghost use Rattle.cover_model.specs.Rules.{are_combinable, are_ordered, can_combine, combine, in_no_one_sided, is_combination, void_combine};
+ghost use Rattle.cover_model.specs.Rules.{are_combinable, are_ordered, can_combine, in_no_one_sided, is_combination};
 ghost use Rattle.cover_model.specs.State.{in_yes};
 ghost use Rattle.cover_model.specs.Views.{multipliers_of};
 ghost use Rattle.cert_model.specs.Due.{are_atoms};
 ghost use Rattle.poly_graph.specs.ProblemViews.{problem_of};
 ghost use Rattle.cert_check.specs.Combinations.{comes_before, is_before};
 ghost use Rattle.cert_check.specs.States.{state_of, loosenings_of, Fits};
-ghost use Rattle.cert_check.specs.Steps.{IsLeftBy};
-ghost use Rattle.cert_check.specs.Serving.{Serves};
 
-use crate::left::Left;
 use crate::loosenings::Loosenings;
 use crate::state::State;
-use crate::tools::{Tools, is_inequality};
+use crate::tools::is_inequality;
 use dyadic::{Dy, Ext, Sign, sign_of};
-use ival::Narrowed;
 use poly_graph::Problem;
 
 // As many atoms may stand in a combination.
@@ -88,8 +84,8 @@ fn are_combinable(problem: &Problem, state: &State, pairs: &[(u32, Dy)]) -> bool
     true
 }
 
-// Whether the atoms may be combined at the state.
-fn can_combine(problem: &Problem, s: Loosenings, state: &State, pairs: &[(u32, Dy)]) -> bool
+/// Whether the atoms may be combined at the state.
+pub fn can_combine(problem: &Problem, s: Loosenings, state: &State, pairs: &[(u32, Dy)]) -> bool
     requires fits { Fits problem.now (state_of state.now) }
     requires atoms { IsTrue (are_atoms (problem_of problem.now) (multipliers_of pairs.now)) }
     ensures { result ≡ can_combine (problem_of problem.now) (loosenings_of s)
@@ -100,56 +96,4 @@ fn can_combine(problem: &Problem, s: Loosenings, state: &State, pairs: &[(u32, D
         && pairs.len() <= MOST
         && are_ordered(pairs)
         && are_combinable(problem, state, pairs)
-}
-
-/// The space narrowed by a combination of marked atoms, where that leaves something.
-pub fn combine(
-    problem: &Problem,
-    tools: &mut Tools,
-    s: Loosenings,
-    state: State,
-    pairs: &[(u32, Dy)],
-) -> Option<Left>
-    requires serves { Serves problem.now tools.old }
-    requires fits { Fits problem.now (state_of state) }
-    requires atoms { IsTrue (are_atoms (problem_of problem.now) (multipliers_of pairs.now)) }
-    ensures rule { IsLeftBy (combine (multipliers_of pairs.now))
-        problem.now (loosenings_of s) [] state result }
-    ensures serves { Serves problem.now tools.new }
-{
-    if !can_combine(problem, s, &state, pairs) {
-        return None;
-    }
-    let mut state = state;
-    match tools.combine(problem, s.margin, &state.lits, pairs, &mut state.space) {
-        Narrowed::Empty => None,
-        Narrowed::Less => Some(Left::One(state)),
-        Narrowed::Same => Some(Left::One(state)),
-    }
-}
-
-/// Closed, where a combination of marked atoms leaves nothing of the space.
-pub fn void_combine(
-    problem: &Problem,
-    tools: &mut Tools,
-    s: Loosenings,
-    state: State,
-    pairs: &[(u32, Dy)],
-) -> Option<Left>
-    requires serves { Serves problem.now tools.old }
-    requires fits { Fits problem.now (state_of state) }
-    requires atoms { IsTrue (are_atoms (problem_of problem.now) (multipliers_of pairs.now)) }
-    ensures rule { IsLeftBy (void_combine (multipliers_of pairs.now))
-        problem.now (loosenings_of s) [] state result }
-    ensures serves { Serves problem.now tools.new }
-{
-    if !can_combine(problem, s, &state, pairs) {
-        return None;
-    }
-    let mut state = state;
-    match tools.combine(problem, s.margin, &state.lits, pairs, &mut state.space) {
-        Narrowed::Empty => Some(Left::Closed),
-        Narrowed::Less => None,
-        Narrowed::Same => None,
-    }
 }

@@ -26,6 +26,7 @@ mod lists;
 mod loosenings;
 mod moves;
 mod names;
+mod narrowing;
 mod next;
 mod pending;
 mod point;

@@ -1,6 +1,6 @@
 // The rules that leave one state.
 ghost use Rattle.std.specs.Prelude.{◌≡◌, ◌<◌, [], length, map, All};
-ghost use Rattle.cover_model.specs.Rules.{pull, push, unit, ban, can_push, lemma_covers};
+ghost use Rattle.cover_model.specs.Rules.{unit, ban, can_push, lemma_covers};
 ghost use Rattle.cover_model.specs.State.{Loosenings as StateLoosenings};
 ghost use Rattle.poly_graph.specs.ProblemViews.{problem_of};
 ghost use Rattle.cert_check.specs.States.{state_of, lemma_of, loosenings_of, Fits};
@@ -13,33 +13,7 @@ use crate::loosenings::Loosenings;
 use crate::standing::Lemma;
 use crate::state::State;
 use crate::tools::{Tools, is_inequality};
-use ival::Narrowed;
 use poly_graph::{Mark, Problem};
-
-/// The space narrowed by an atom marked yes, where that leaves something.
-pub fn pull(
-    problem: &Problem,
-    tools: &mut Tools,
-    s: Loosenings,
-    state: State,
-    j: u32,
-) -> Option<Left>
-    requires serves { Serves problem.now tools.old }
-    requires fits { Fits problem.now (state_of state) }
-    requires atom { j < length problem.now.atoms }
-    ensures rule { IsLeftBy (pull j) problem.now (loosenings_of s) [] state result }
-    ensures serves { Serves problem.now tools.new }
-{
-    if !state.in_yes(j) {
-        return None;
-    }
-    let mut state = state;
-    match tools.narrow(problem, s.margin, j, &mut state.space) {
-        Narrowed::Empty => None,
-        Narrowed::Less => Some(Left::One(state)),
-        Narrowed::Same => Some(Left::One(state)),
-    }
-}
 
 /// Whether the lines of version 2 are read, and the atom is marked no and is an inequality.
 pub fn can_push(problem: &Problem, s: Loosenings, state: &State, j: u32) -> bool
@@ -48,31 +22,6 @@ pub fn can_push(problem: &Problem, s: Loosenings, state: &State, j: u32) -> bool
     ensures { result ≡ can_push (problem_of problem.now) (loosenings_of s) (state_of state.now) j }
 {
     2 <= s.version && state.in_no(j) && is_inequality(problem, j)
-}
-
-/// The space narrowed by the off-range of an inequality marked no, where that leaves something.
-pub fn push(
-    problem: &Problem,
-    tools: &mut Tools,
-    s: Loosenings,
-    state: State,
-    j: u32,
-) -> Option<Left>
-    requires serves { Serves problem.now tools.old }
-    requires fits { Fits problem.now (state_of state) }
-    requires atom { j < length problem.now.atoms }
-    ensures rule { IsLeftBy (push j) problem.now (loosenings_of s) [] state result }
-    ensures serves { Serves problem.now tools.new }
-{
-    if !can_push(problem, s, &state, j) {
-        return None;
-    }
-    let mut state = state;
-    match tools.narrow_off(problem, s.margin, j, &mut state.space) {
-        Narrowed::Empty => None,
-        Narrowed::Less => Some(Left::One(state)),
-        Narrowed::Same => Some(Left::One(state)),
-    }
 }
 
 /// The atom marked yes, where the form can't hold with the atom marked no.

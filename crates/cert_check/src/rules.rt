@@ -8,11 +8,11 @@ ghost use Rattle.cert_check.specs.Steps.{IsLeftBy};
 ghost use Rattle.cert_check.specs.Serving.{Serves};
 
 use crate::branches::{case, cut, flip, stuck};
-use crate::closing::{by, make_false, void, void_no};
-use crate::combination::{combine, void_combine};
+use crate::closing::{by, make_false};
 use crate::left::Left;
 use crate::loosenings::Loosenings;
-use crate::moves::{ban, pull, push, unit};
+use crate::moves::{ban, unit};
+use crate::narrowing::{Narrowing, emptied, narrowed};
 use crate::standing::Lemma;
 use crate::state::State;
 use crate::tools::Tools;
@@ -39,18 +39,26 @@ pub fn rule(
     ensures serves { Serves problem.now tools.new }
 {
     match step {
-        Rule::Atom(AtomRule::Pull, j) => Ok(pull(problem, tools, s, state, *j)),
+        Rule::Atom(AtomRule::Pull, j) => {
+            Ok(narrowed(problem, tools, s, state, Narrowing::Range(*j)))
+        }
         Rule::Atom(AtomRule::Unit, j) => Ok(unit(problem, tools, s, state, *j)),
-        Rule::Atom(AtomRule::Void, j) => Ok(void(problem, tools, s, state, *j)),
-        Rule::Atom(AtomRule::Push, j) => Ok(push(problem, tools, s, state, *j)),
-        Rule::Atom(AtomRule::VoidNo, j) => Ok(void_no(problem, tools, s, state, *j)),
+        Rule::Atom(AtomRule::Void, j) => {
+            Ok(emptied(problem, tools, s, state, Narrowing::Range(*j)))
+        }
+        Rule::Atom(AtomRule::Push, j) => {
+            Ok(narrowed(problem, tools, s, state, Narrowing::OffRange(*j)))
+        }
+        Rule::Atom(AtomRule::VoidNo, j) => {
+            Ok(emptied(problem, tools, s, state, Narrowing::OffRange(*j)))
+        }
         Rule::Atom(AtomRule::Case, j) => case(alloc, state, *j),
         Rule::Atom(AtomRule::Stuck, j) => Ok(stuck(problem, tools, s, state, *j)),
         Rule::Combination(CombinationRule::Combine, pairs) => {
-            Ok(combine(problem, tools, s, state, pairs))
+            Ok(narrowed(problem, tools, s, state, Narrowing::Combination(pairs)))
         }
         Rule::Combination(CombinationRule::VoidCombine, pairs) => {
-            Ok(void_combine(problem, tools, s, state, pairs))
+            Ok(emptied(problem, tools, s, state, Narrowing::Combination(pairs)))
         }
         Rule::Ban(j, i) => Ok(ban(problem, lemmas, state, *j, *i)),
         Rule::By(i) => Ok(by(problem, lemmas, state, *i)),
