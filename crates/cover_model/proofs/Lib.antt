@@ -35,3 +35,4 @@ pub mod Sound
 pub mod Stuck
 pub mod Unnarrowed
 pub mod Within
+pub mod Carried

@@ -1,4 +1,5 @@
 pub mod AxisStep
+pub mod Carried
 pub mod Combination
 pub mod CombinationConstants
 pub mod CombinationLists

@@ -1,6 +1,7 @@
 //! What is proved of the definitions: each function here does nothing, and its contract is a law.
 
 ghost use Rattle.cover_model.specs.Laws.{EnclosureHolds, EnclosureIsIsotone, NarrowingKeeps, NarrowingOffKeeps, NarrowingLiesWithin, MayIsTrue, SureMeans, ShownPointMeets, RuleKeeps, TreeKeeps, ClosedTreeHasNone, RuleLiesWithin, TreeLiesWithin, CoveredPoints, RootHasDeclaredBox, CrossedBoxIsEmpty, MiddleLiesWithin, RootIsUpright, SomeAtomIsStuck, CombiningKeeps, CombiningLiesWithin, SquaresAreCompleted};
+ghost use Rattle.cover_model.specs.Carried.{CarriedLemmaHolds};
 ghost use Rattle.cover_model.specs.CombinationLists.{ListsAreSwept};
 
 /// The enclosure of a term over a space holds the term's value at each point of the space.
@@ -118,4 +119,9 @@ pub fn squares_are_completed()
 /// The sweep over lists, as a program keeps them, is the sweep over the function of their entries.
 pub fn lists_are_swept()
     ensures { ListsAreSwept }
+{}
+
+/// A lemma of a problem is one of each problem that goes on from it: what is asked besides takes no point back.
+pub fn carried_lemmas_hold()
+    ensures { CarriedLemmaHolds }
 {}
