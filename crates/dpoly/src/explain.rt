@@ -1,5 +1,6 @@
 // What standard error says of a run that gave no answer, or one that a hint helps with: for people to read, and promised
 // by no clause.
+use crate::located::assertion_with;
 use check_run::Status;
 use file_desk::{FileDesk, Messages};
 use std::alloc::Global;
@@ -34,7 +35,7 @@ fn messages_of<'a>(alloc: Global, words: &'a [String]) -> Messages<'a> {
 const HINTS: [(&str, &str); 3] = [
     (
         "plan none atom ",
-        "no width of 60 bits or fewer is sure to decide this atom (atoms count from 0, comparisons in the order in which they first appear). A greater delta, a smaller margin, or tighter bounds of its constants may help",
+        "no width of 60 bits or fewer is sure to decide this atom. A greater delta, a smaller margin, or tighter bounds of its constants may help",
     ),
     (
         "plan none axis ",
@@ -46,11 +47,34 @@ const HINTS: [(&str, &str); 3] = [
     ),
 ];
 
+// The number of the atom that an answer names.
+fn atom_named(answer: &str) -> Option<usize> {
+    let (_, behind) = answer.split_once("atom ")?;
+    let number = behind.lines().next()?;
+    number.parse::<usize>().ok()
+}
+
+// Says where the atom that the answer names first stands in the script.
+fn show_atom(rt: &HostRuntime, messages: &Messages<'_>, desk: &FileDesk) {
+    let Some(atom) = atom_named(desk.answer()) else {
+        return;
+    };
+    let Some(script) = messages.script_text(rt, desk) else {
+        return;
+    };
+    if let Some(place) = assertion_with(rt.alloc(), &script, atom) {
+        let (line, column) = (place.line as usize, place.column as usize);
+        let _ = eprintln!(rt; "dpoly: atom {atom} first stands in this assertion, {line}:{column}");
+        messages.show_place(rt, &script, line, column);
+    }
+}
+
 // Says on standard error what would help, where the answer is one of these.
-fn hint(rt: &HostRuntime, answer: &str) {
+fn hint(rt: &HostRuntime, messages: &Messages<'_>, desk: &FileDesk) {
     for (begins, help) in &HINTS {
-        if answer.starts_with(*begins) {
+        if desk.answer().starts_with(*begins) {
             let _ = eprintln!(rt; "dpoly: {help}");
+            show_atom(rt, messages, desk);
         }
     }
 }
@@ -61,7 +85,7 @@ fn hint(rt: &HostRuntime, answer: &str) {
 pub fn explain(rt: &HostRuntime, words: &[String], desk: &FileDesk, status: Status) {
     let messages = messages_of(rt.alloc(), words);
     match status {
-        Status::Answered => hint(rt, desk.answer()),
+        Status::Answered => hint(rt, &messages, desk),
         Status::Usage => {
             if let Ok(text) = usage_text(rt.alloc(), words) {
                 let _ = rt.eprint(text);

@@ -4,6 +4,7 @@
 mod answers;
 mod auto;
 mod explain;
+mod located;
 mod plan;
 mod progress;
 mod solve;

@@ -144,6 +144,22 @@ impl<'a> Messages<'a> {
         }
     }
 
+    /// The script once more: what came from standard input, or its file, which is read again.
+    pub fn script_text(&self, rt: &HostRuntime, desk: &FileDesk) -> Option<Vec<u8>> {
+        if self.script == "-" {
+            Vec::from_slice(rt.alloc(), desk.piped_script()).ok()
+        } else {
+            fs::read(rt, self.script).ok()
+        }
+    }
+
+    /// Shows a line of the script, with a caret under a column of it; both count from 1.
+    pub fn show_place(&self, rt: &HostRuntime, script: &[u8], line: usize, column: usize) {
+        if let Ok(shown) = excerpt(rt.alloc(), script, Spot { line, column }) {
+            let _ = rt.eprint(shown);
+        }
+    }
+
     /// Says which script is refused, for what, and shows its line.
     pub fn script_refused(&self, rt: &HostRuntime, desk: &FileDesk) {
         let text = desk.answer();
@@ -151,17 +167,8 @@ impl<'a> Messages<'a> {
         let Some(at) = spot_in(text) else {
             return;
         };
-        let alloc = rt.alloc();
-        let shown = if self.script == "-" {
-            excerpt(alloc, desk.piped_script(), at)
-        } else {
-            match fs::read(rt, self.script) {
-                Ok(script) => excerpt(alloc, &script, at),
-                Err(_) => return,
-            }
-        };
-        if let Ok(shown) = shown {
-            let _ = rt.eprint(shown);
+        if let Some(script) = self.script_text(rt, desk) {
+            self.show_place(rt, &script, at.line, at.column);
         }
     }
 
