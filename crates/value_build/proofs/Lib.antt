@@ -17,3 +17,4 @@ pub mod Arming
 pub mod Joining
 pub mod Taken
 pub mod Loops
+pub mod Marks

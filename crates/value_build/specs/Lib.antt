@@ -11,3 +11,4 @@ pub mod Claiming
 pub mod Arms
 pub mod Loops
 pub mod Calls
+pub mod Marks
