@@ -9,7 +9,7 @@ ghost use Rattle.clause_rows.specs.TriedCnfBuild.{nought, tried_nodes, tried_ato
 use cnf_build::{Cnf, clauses};
 use dyadic::Frac;
 use poly_graph::{
-    Atom, Axis, Declared, FormGraph, FormNode, Graph, Kind, Node, Problem, is_form_after,
+    Atom, Axis, Declared, FormNode, FormTable, Graph, Kind, Node, NodeTable, Problem, is_form_after,
 };
 use std::alloc::{AllocError, Global};
 use std::test::Fail;
@@ -54,9 +54,9 @@ fn number() -> Frac
 fn graph(alloc: Global) -> Option<Graph>
     ensures { IfSome result (λ g. g ≡ tried_nodes) }
 {
-    let mut graph = Graph::new(alloc);
-    match graph.intern(Node::Const(number())) {
-        Ok(_) => Some(graph),
+    let mut nodes = NodeTable::new(alloc);
+    match nodes.intern(Node::Const(number())) {
+        Ok(_) => Some(nodes.into_graph()),
         Err(_) => None,
     }
 }
@@ -72,7 +72,7 @@ fn is_known(node: &FormNode) -> bool
 }
 
 // Adds the node, where it is one of the problem.
-fn add(forms: &mut FormGraph, node: FormNode) -> Result<(), Fail>
+fn add(forms: &mut FormTable, node: FormNode) -> Result<(), Fail>
     requires { IsTrue (are_known forms.old) }
     ensures ok { OnOk result (IsTrue (are_known forms.new)) }
 {
@@ -107,7 +107,7 @@ fn node_of(alloc: Global, form: Form) -> Result<FormNode, AllocError> {
 }
 
 // Adds these nodes.
-fn add_all(alloc: Global, forms: &mut FormGraph, nodes: &[Form]) -> Result<(), Fail>
+fn add_all(alloc: Global, forms: &mut FormTable, nodes: &[Form]) -> Result<(), Fail>
     requires { IsTrue (are_known forms.old) }
     ensures { OnOk result (IsTrue (are_known forms.new)) }
 {
@@ -119,7 +119,7 @@ fn add_all(alloc: Global, forms: &mut FormGraph, nodes: &[Form]) -> Result<(), F
 
 // A problem of these form nodes, where they are ones of it, and this root.
 fn problem(alloc: Global, nodes: &[Form], root: u32) -> Result<Problem, Fail> {
-    let mut forms = FormGraph::new(alloc);
+    let mut forms = FormTable::new(alloc);
     add_all(alloc, &mut forms, nodes)?;
     if root as usize >= forms.len() {
         return Err(Fail::from("no such root"));
@@ -127,7 +127,8 @@ fn problem(alloc: Global, nodes: &[Form], root: u32) -> Result<Problem, Fail> {
     let Some(graph) = graph(alloc) else {
         return Err(Fail::from("no memory"));
     };
-    Ok(Problem::new(axes(alloc)?, graph, atoms(alloc)?, forms, root))
+    let atoms = atoms(alloc)?;
+    Ok(Problem::new(axes(alloc)?, graph, atoms, forms.into_graph(), root))
 }
 
 /// The clauses of the form with these nodes and this root.

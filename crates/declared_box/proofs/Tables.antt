@@ -1,7 +1,7 @@
 -- What a table's lists are after a node is added at its end.
-use Rattle.std.proofs.Common.{◌≡◌, ℕ, suc, zero, ◌+◌, ◌<◌, List, [], ◌∷◌, ◌++◌, map, length, refl, ap, ap₂, sym, ◌∙◌, subst, arith, length-append, slice_index_or, ◌≤◌, take, drop}
+use Rattle.std.proofs.Common.{◌≡◌, ℕ, suc, zero, ◌+◌, ◌<◌, List, [], ◌∷◌, ◌++◌, map, length, refl, ap, ap₂, sym, ◌∙◌, subst, arith, length-append, append-nil, append_assoc, slice_index_or, ◌≤◌, take, drop}
 use Rattle.std.proofs.Math.Seq.{take-append_seam}
-use Rattle.std.proofs.lemmas.List.{map-append, length-map}
+use Rattle.std.proofs.lemmas.List.{map-append, length-map, take-map, take_all}
 use Rattle.std.specs.Prelude.{Result, Ok, Err, MatchResult}
 use Rattle.std.specs.declared.alloc.AllocError.{AllocError}
 use Rattle.script_model.specs.Declared.{Bound}
@@ -94,3 +94,34 @@ comes_after_more m n (all parts) l o = λ k d h. omega (arith, l, o k d h)
 -- a slice that is written back into all of its vector
 pub written_back : {A : Type 0} (new items : List A) (n : ℕ) → n ≡ length new → take n (new ++ drop (length new) items) ≡ new
 written_back new items n e = subst (λ k. take k (new ++ drop (length new) items) ≡ new) (sym e) (take-append_seam new (drop (length new) items))
+
+-- ---- the first nodes alone
+
+begins : (lists : List (List Bound)) (xs : List Node) → (more : List (List Bound)) × (lists_after lists xs ≡ lists ++ more)
+begins lists [] = ([], sym (append-nil lists))
+begins lists (x ∷ xs) = let t = begins (lists ++ (node_list lists x ∷ [])) xs in (node_list lists x ∷ t.0, t.1 ∙ append_assoc lists (node_list lists x ∷ []) t.0)
+
+lists-begin : (lists : List (List Bound)) (xs : List Node) → take (length lists) (lists_after lists xs) ≡ lists
+lists-begin lists xs = let t = begins lists xs in ap (take (length lists)) t.1 ∙ take-append_seam lists t.0
+
+lists-take : (lists : List (List Bound)) (n : ℕ) (xs : List Node) → lists_after lists (take n xs) ≡ take (length lists + n) (lists_after lists xs)
+lists-take lists n [] = ap (lists_after lists) (take_all n [] (omega arith)) ∙ sym (take_all (length lists + n) lists (omega arith))
+lists-take lists zero (x ∷ xs) = let e : length lists + 0 ≡ length lists = omega arith in sym (ap (λ k. take k (lists_after lists (x ∷ xs))) e ∙ lists-begin lists (x ∷ xs))
+lists-take lists (suc n) (x ∷ xs) =
+    let more = lists ++ (node_list lists x ∷ []) in
+    let e : length more + n ≡ length lists + suc n = omega (arith, length-append lists (node_list lists x ∷ [])) in
+    lists-take more n xs ∙ ap (λ k. take k (lists_after more xs)) e
+
+first-lists : (n : ℕ) (xs : List Node) → bound_lists (take n xs) ≡ take n (bound_lists xs)
+first-lists n xs = let e : 0 + n ≡ n = omega arith in lists-take [] n xs ∙ ap (λ k. take k (bound_lists xs)) e
+
+order-take : (k n : ℕ) (xs : List Node) → AreInOrder k xs → AreInOrder k (take n xs)
+order-take k zero xs h = tt
+order-take k (suc n) [] h = tt
+order-take k (suc n) (x ∷ xs) h = (h.0, order-take (suc k) n xs h.1)
+
+pub order_cut : (nodes new : List BoundNode) (n : ℕ) → new ≡ take n nodes → AreInOrder 0 (map node_of nodes) → AreInOrder 0 (map node_of new)
+order_cut nodes new n e h = subst (AreInOrder 0) (take-map node_of n nodes ∙ ap (map node_of) (sym e)) (order-take 0 n (map node_of nodes) h)
+
+pub lists_cut : (nodes new : List BoundNode) (n : ℕ) (t : List (List Bound)) → new ≡ take n nodes → bound_lists (map node_of nodes) ≡ t → bound_lists (map node_of new) ≡ take n t
+lists_cut nodes new n t e v = ap (λ xs. bound_lists (map node_of xs)) e ∙ ap bound_lists (sym (take-map node_of n nodes)) ∙ first-lists n (map node_of nodes) ∙ ap (take n) v

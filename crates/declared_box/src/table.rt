@@ -1,5 +1,5 @@
 // The bounds of Bool expressions, where expressions share parts.
-ghost use Rattle.std.specs.Prelude.{◌≡◌, ℕ, ◌<◌, [], length, map};
+ghost use Rattle.std.specs.Prelude.{◌≡◌, ℕ, ◌<◌, [], length, map, take};
 ghost use Rattle.std.specs.List.{All};
 ghost use Rattle.declared_box.specs.Calls.{AddsList, AddsNode, bound_on};
 ghost use Rattle.declared_box.specs.Table.{all_of, bound_lists, AreInOrder};
@@ -86,6 +86,13 @@ impl BoundTable {
         ensures { AddsList self.old self.new (all_of self.old parts.items) result }
     {
         add(&mut self.nodes, BoundNode::All(parts))
+    }
+
+    /// Only the first n lists stay.
+    pub fn truncate(&mut self, n: usize)
+        ensures { self.new ≡ take n self.old }
+    {
+        self.nodes.truncate(n);
     }
 
     // The nodes, whose lists these are.

@@ -1,7 +1,7 @@
 // Small graphs, and boxes of two axes over them, by texts of numbers.
 use dyadic::{Dy, Ext, Frac, at_most, read_dy};
 use ival::{Domain, Range, Rows, Space};
-use poly_graph::{Graph, Node, is_after};
+use poly_graph::{Graph, Node, NodeTable, is_after};
 use std::alloc::{AllocError, Global};
 
 /// A node of a graph; a constant is a whole number, or a number of quarters.
@@ -42,22 +42,22 @@ pub(crate) fn node_of(term: Term) -> Node {
 }
 
 // Adds the nodes in this order; none may name a later one.
-fn add_all(graph: &mut Graph, terms: &[Term]) -> Option<()> {
+fn add_all(table: &mut NodeTable, terms: &[Term]) -> Option<()> {
     for term in terms {
         let node = node_of(*term);
-        if !is_after(node, graph.len() as u32) {
+        if !is_after(node, table.len() as u32) {
             return None;
         }
-        graph.intern(node).ok()?;
+        table.intern(node).ok()?;
     }
     Some(())
 }
 
 /// The graph of these nodes.
 pub(crate) fn graph_of(alloc: Global, terms: &[Term]) -> Option<Graph> {
-    let mut graph = Graph::new(alloc);
-    add_all(&mut graph, terms)?;
-    Some(graph)
+    let mut table = NodeTable::new(alloc);
+    add_all(&mut table, terms)?;
+    Some(table.into_graph())
 }
 
 fn number(text: &str) -> Option<Dy> {

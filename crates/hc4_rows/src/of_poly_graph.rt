@@ -18,27 +18,48 @@ const NODES: [(Term, Option<u32>); 6] = [
     (Term::Neg(4), None),
 ];
 
-fn node_number(graph: &mut Graph, node: Node) -> Option<u32> {
-    if !is_after(node, graph.len() as u32) {
+fn node_number(table: &mut NodeTable, node: Node) -> Option<u32> {
+    if !is_after(node, table.len() as u32) {
         return None;
     }
-    graph.intern(node).ok()
+    table.intern(node).ok()
 }
 
 // Whether the nodes get their numbers, which are four.
-fn are_numbered(graph: &mut Graph) -> bool {
+fn are_numbered(table: &mut NodeTable) -> bool {
     for (term, number) in &NODES {
-        if node_number(graph, node_of(*term)) != *number {
+        if node_number(table, node_of(*term)) != *number {
             return false;
         }
     }
-    graph.len() == 4
+    table.len() == 4
 }
 
 #[test]
 fn equal_nodes_are_one(rt: HostRuntime) {
-    let mut graph = Graph::new(rt.alloc());
-    assert!(rt; are_numbered(&mut graph) && is_parent(Node::Add(1, 0), 1));
+    let mut table = NodeTable::new(rt.alloc());
+    assert!(rt; are_numbered(&mut table) && is_parent(Node::Add(1, 0), 1));
+}
+
+// Whether the last two of four nodes are taken back, and one of them gets the next number.
+fn are_taken_back(table: &mut NodeTable) -> bool {
+    table.truncate(2);
+    table.len() == 2 && node_number(table, Node::Add(0, 1)) == Some(2)
+}
+
+// Whether a graph of the table's nodes has as many.
+fn is_joined(alloc: Global, table: &NodeTable) -> bool {
+    match Graph::joined(alloc, &Graph::new(alloc), 0, table.nodes()) {
+        Ok(graph) => graph.len() == table.len(),
+        Err(_) => false,
+    }
+}
+
+#[test]
+fn nodes_are_taken_back(rt: HostRuntime) {
+    let mut table = NodeTable::new(rt.alloc());
+    assert!(rt; are_numbered(&mut table) && are_taken_back(&mut table));
+    assert!(rt; is_joined(rt.alloc(), &table));
 }
 
 // ---- forms
@@ -69,7 +90,7 @@ fn form_node(alloc: Global, form: &Form) -> Result<FormNode, AllocError> {
     }
 }
 
-fn form_number(forms: &mut FormGraph, node: FormNode) -> Option<u32> {
+fn form_number(forms: &mut FormTable, node: FormNode) -> Option<u32> {
     if !is_form_after(&node, forms.len() as u32) {
         return None;
     }
@@ -79,7 +100,7 @@ fn form_number(forms: &mut FormGraph, node: FormNode) -> Option<u32> {
 // Whether the form gets this number.
 fn is_form_numbered(
     alloc: Global,
-    forms: &mut FormGraph,
+    forms: &mut FormTable,
     form: &Form,
     number: Option<u32>,
 ) -> bool {
@@ -90,7 +111,7 @@ fn is_form_numbered(
 }
 
 // Whether the forms get their numbers, which are four.
-fn are_forms_numbered(alloc: Global, forms: &mut FormGraph) -> bool {
+fn are_forms_numbered(alloc: Global, forms: &mut FormTable) -> bool {
     for (form, number) in &FORMS {
         if !is_form_numbered(alloc, forms, form, *number) {
             return false;
@@ -99,10 +120,25 @@ fn are_forms_numbered(alloc: Global, forms: &mut FormGraph) -> bool {
     forms.len() == 4
 }
 
+// Whether the last three of four forms are taken back, and one of them gets the next number.
+fn are_forms_taken_back(forms: &mut FormTable) -> bool {
+    forms.truncate(1);
+    forms.len() == 1 && form_number(forms, FormNode::BoolIs(1, false)) == Some(1)
+}
+
+// Whether a form of the table's nodes has as many.
+fn is_form_joined(alloc: Global, forms: &FormTable) -> bool {
+    match FormGraph::joined(alloc, &FormGraph::new(alloc), 0, forms.nodes()) {
+        Ok(form) => form.len() == forms.len(),
+        Err(_) => false,
+    }
+}
+
 #[test]
 fn equal_forms_are_one(rt: HostRuntime) {
-    let mut forms = FormGraph::new(rt.alloc());
-    assert!(rt; are_forms_numbered(rt.alloc(), &mut forms));
+    let mut forms = FormTable::new(rt.alloc());
+    assert!(rt; are_forms_numbered(rt.alloc(), &mut forms) && are_forms_taken_back(&mut forms));
+    assert!(rt; is_form_joined(rt.alloc(), &forms));
 }
 
 // ---- marks
@@ -142,10 +178,20 @@ fn are_atoms_numbered(table: &mut AtomTable) -> bool {
     table.atoms().len() == 2
 }
 
+// Whether the second atom is taken back, and another gets its number.
+fn is_atom_taken_back(table: &mut AtomTable) -> bool {
+    let atom = Atom {
+        term: 5,
+        kind: Kind::Eq,
+    };
+    table.truncate(1);
+    table.intern(atom) == Ok(1)
+}
+
 #[test]
 fn equal_atoms_are_one(rt: HostRuntime) {
     let mut table = AtomTable::new(rt.alloc());
-    assert!(rt; are_atoms_numbered(&mut table));
+    assert!(rt; are_atoms_numbered(&mut table) && is_atom_taken_back(&mut table));
 }
 
 // ---- parents

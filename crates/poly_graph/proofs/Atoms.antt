@@ -29,26 +29,26 @@ kind-same Ge Ge h = refl
 kind-same Eq Eq h = refl
 kind-same _ _ h = cc
 
-atom-view : (a b : Atom) → same_atom a b ≡ true → atom_of a ≡ atom_of b
-atom-view a b h = let e = both_true (nat_eq a.term b.term) ((kind_eq.ghosts).eq a.kind b.kind) h in
+pub atom_view : (a b : Atom) → same_atom a b ≡ true → atom_of a ≡ atom_of b
+atom_view a b h = let e = both_true (nat_eq a.term b.term) ((kind_eq.ghosts).eq a.kind b.kind) h in
     ap₂ (λ (t : ℕ) (k : Term.Kind). (t, k)) (eqb→eq a.term b.term (passes _ e.0)) (same-kind a.kind b.kind e.1)
 
-view-atom : (a b : Atom) → atom_of a ≡ atom_of b → same_atom a b ≡ true
-view-atom a b h = both_pass (nat_eq a.term b.term) ((kind_eq.ghosts).eq a.kind b.kind) (eq-eqb a.term b.term (ap (λ (p : ℕ × Term.Kind). p.0) h)) (kind-same a.kind b.kind (ap (λ (p : ℕ × Term.Kind). p.1) h))
+pub view_atom : (a b : Atom) → atom_of a ≡ atom_of b → same_atom a b ≡ true
+view_atom a b h = both_pass (nat_eq a.term b.term) ((kind_eq.ghosts).eq a.kind b.kind) (eq-eqb a.term b.term (ap (λ (p : ℕ × Term.Kind). p.0) h)) (kind-same a.kind b.kind (ap (λ (p : ℕ × Term.Kind). p.1) h))
 
 -- ---- the table
 
-table : {S : Type 0} (atoms : List Atom) (numbers : HashMap Atom ℕ S) → IsAtomTable atoms numbers → IsTable atom_of same_atom atom-view view-atom atoms numbers
+table : {S : Type 0} (atoms : List Atom) (numbers : HashMap Atom ℕ S) → IsAtomTable atoms numbers → IsTable atom_of same_atom atom_view view_atom atoms numbers
 table atoms numbers s = record { found = s.found; known = s.known }
 
 pub table_atoms : {S : Type 0} (atoms : List Atom) (numbers : HashMap Atom ℕ S) → IsAtomTable atoms numbers → AreAtoms (map atom_of atoms)
 table_atoms atoms numbers s = record {
   few = omega (arith, length-map atoms atom_of, s.few);
-  once = once atom_of same_atom atom-view view-atom atoms numbers (table atoms numbers s);
+  once = once atom_of same_atom atom_view view_atom atoms numbers (table atoms numbers s);
 }
 
 pub absent_is_new_atom : {S : Type 0} (atoms : List Atom) (numbers : HashMap Atom ℕ S) (q : Atom) → IsAtomTable atoms numbers → get same_atom numbers q ≡ None → IsNewAtom (map atom_of atoms) (atom_of q)
-absent_is_new_atom atoms numbers q s h = absent_new atom_of same_atom atom-view view-atom atoms numbers q (table atoms numbers s) h
+absent_is_new_atom atoms numbers q s h = absent_new atom_of same_atom atom_view view_atom atoms numbers q (table atoms numbers s) h
 
 -- what holds after an atom is added at the end
 pub record AtomAdded {S : Type 0} (value : List (ℕ × Term.Kind)) (new : List Atom) (after : HashMap Atom ℕ S) (atom : ℕ × Term.Kind) (n : ℕ) : Type 0 where
@@ -60,8 +60,8 @@ pub atom_added : {S : Type 0} (atoms new : List Atom) (numbers after : HashMap A
 atom_added atoms new numbers after atom n value is s place few absent items u =
     let images : map atom_of new ≡ value ++ (atom_of atom ∷ []) = ap (map atom_of) items ∙ map_end atom_of atoms atom ∙ ap (λ (more : List (ℕ × Term.Kind)). more ++ (atom_of atom ∷ [])) is in
     let last : n ≡ length value = place ∙ sym (length-map atoms atom_of) ∙ ap (λ (more : List (ℕ × Term.Kind)). length more) is in
-    let t = table_add atom_of same_atom atom-view view-atom atoms numbers after atom atom refl (table atoms numbers s) (sym absent) (subst (λ (k : ℕ). Updates same_atom numbers after atom (Some k)) place u) in
-    let t' : IsTable atom_of same_atom atom-view view-atom new after = subst (λ (more : List Atom). IsTable atom_of same_atom atom-view view-atom more after) (sym items) t in
+    let t = table_add atom_of same_atom atom_view view_atom atoms numbers after atom atom refl (table atoms numbers s) (sym absent) (subst (λ (k : ℕ). Updates same_atom numbers after atom (Some k)) place u) in
+    let t' : IsTable atom_of same_atom atom_view view_atom new after = subst (λ (more : List Atom). IsTable atom_of same_atom atom_view view_atom more after) (sym items) t in
     let longer : length new ≡ length atoms + 1 = ap (λ (more : List Atom). length more) items ∙ length-append atoms (atom ∷ []) in record {
       kept = record { few = omega (arith, longer, place, few); found = t'.found; known = t'.known };
       interned = (

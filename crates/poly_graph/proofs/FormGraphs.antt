@@ -32,13 +32,13 @@ same-picked : (ks : List ℕ) (k : ℕ) (xs ys : List (Form ℕ)) → IsTrue (li
 same-picked [] k xs ys h f = refl
 same-picked (j ∷ ks) k xs ys h f = let e = both_true (nat_lt j k) (list_all (λ i. nat_lt i k) ks) h in ap₂ more_forms (f j (ltb→lt j k (passes _ e.0))) (same-picked ks k xs ys e.1 f)
 
-same-form : (n : FormNode) (k : ℕ) (xs ys : List (Form ℕ)) → IsTrue (form_comes_after k n) → ((i : ℕ) → i < k → form_at xs i ≡ form_at ys i) → node_form xs n ≡ node_form ys n
-same-form yes_node k xs ys h f = refl
-same-form no_node k xs ys h f = refl
-same-form (atom_node j) k xs ys h f = refl
-same-form (bool_node axis v) k xs ys h f = refl
-same-form (all_node ks) k xs ys h f = ap all_form (same-picked ks k xs ys h f)
-same-form (any_node ks) k xs ys h f = ap any_form (same-picked ks k xs ys h f)
+pub same_form : (n : FormNode) (k : ℕ) (xs ys : List (Form ℕ)) → IsTrue (form_comes_after k n) → ((i : ℕ) → i < k → form_at xs i ≡ form_at ys i) → node_form xs n ≡ node_form ys n
+same_form yes_node k xs ys h f = refl
+same_form no_node k xs ys h f = refl
+same_form (atom_node j) k xs ys h f = refl
+same_form (bool_node axis v) k xs ys h f = refl
+same_form (all_node ks) k xs ys h f = ap all_form (same-picked ks k xs ys h f)
+same_form (any_node ks) k xs ys h f = ap any_form (same-picked ks k xs ys h f)
 
 unfolds-from : (nodes : List FormNode) (done : List (Form ℕ)) → IsTrue (forms_in_order (length done) nodes) → (i : ℕ) (n : FormNode) → slice_get nodes i ≡ Some n →
     form_at (forms_after done nodes) (length done + i) ≡ node_form (forms_after done nodes) n
@@ -49,7 +49,7 @@ unfolds-from (m ∷ nodes) done h zero n e =
     ap (λ (k : ℕ). form_at whole k) (omega arith)
     ∙ kept nodes (done ++ (node_form done m ∷ [])) (length done) (omega (arith, longer done (node_form done m)))
     ∙ at-end done (node_form done m)
-    ∙ same-form m (length done) done whole o.0 (λ k l. sym (kept (m ∷ nodes) done k l))
+    ∙ same_form m (length done) done whole o.0 (λ k l. sym (kept (m ∷ nodes) done k l))
     ∙ ap (λ (x : FormNode). node_form whole x) (some-is m n e)
 unfolds-from (m ∷ nodes) done h (suc i) n e =
     let o = both_true (form_comes_after (length done) m) (forms_in_order (suc (length done)) nodes) h in

@@ -34,13 +34,13 @@ kept [] done k h = refl
 kept (n ∷ nodes) done k h = kept nodes (done ++ (node_term done n ∷ [])) k (omega (arith, longer done (node_term done n), h)) ∙ below-end done (node_term done n) k h
 
 -- a node's term is the same over terms that agree below it
-same-term : (n : Node) (k : ℕ) (xs ys : List Term) → IsTrue (comes_after k n) → ((i : ℕ) → i < k → term_at xs i ≡ term_at ys i) → node_term xs n ≡ node_term ys n
-same-term (constant_node q) k xs ys h f = refl
-same-term (variable_node axis) k xs ys h f = refl
-same-term (negate_node a) k xs ys h f = ap negate (f a (ltb→lt a k (passes _ h)))
-same-term (add_node a b) k xs ys h f = let e = both_true (nat_lt a k) (nat_lt b k) h in ap₂ add (f a (ltb→lt a k (passes _ e.0))) (f b (ltb→lt b k (passes _ e.1)))
-same-term (multiply_node a b) k xs ys h f = let e = both_true (nat_lt a k) (nat_lt b k) h in ap₂ multiply (f a (ltb→lt a k (passes _ e.0))) (f b (ltb→lt b k (passes _ e.1)))
-same-term (square_node a) k xs ys h f = ap square (f a (ltb→lt a k (passes _ h)))
+pub same_term : (n : Node) (k : ℕ) (xs ys : List Term) → IsTrue (comes_after k n) → ((i : ℕ) → i < k → term_at xs i ≡ term_at ys i) → node_term xs n ≡ node_term ys n
+same_term (constant_node q) k xs ys h f = refl
+same_term (variable_node axis) k xs ys h f = refl
+same_term (negate_node a) k xs ys h f = ap negate (f a (ltb→lt a k (passes _ h)))
+same_term (add_node a b) k xs ys h f = let e = both_true (nat_lt a k) (nat_lt b k) h in ap₂ add (f a (ltb→lt a k (passes _ e.0))) (f b (ltb→lt b k (passes _ e.1)))
+same_term (multiply_node a b) k xs ys h f = let e = both_true (nat_lt a k) (nat_lt b k) h in ap₂ multiply (f a (ltb→lt a k (passes _ e.0))) (f b (ltb→lt b k (passes _ e.1)))
+same_term (square_node a) k xs ys h f = ap square (f a (ltb→lt a k (passes _ h)))
 
 -- the node that stands i places on
 pub unfolds_from : (nodes : List Node) (done : List Term) → IsTrue (in_order (length done) nodes) → (i : ℕ) (n : Node) → slice_get nodes i ≡ Some n →
@@ -52,7 +52,7 @@ unfolds_from (m ∷ nodes) done h zero n e =
     ap (λ (k : ℕ). term_at whole k) (omega arith)
     ∙ kept nodes (done ++ (node_term done m ∷ [])) (length done) (omega (arith, longer done (node_term done m)))
     ∙ at-end done (node_term done m)
-    ∙ same-term m (length done) done whole o.0 (λ k l. sym (kept (m ∷ nodes) done k l))
+    ∙ same_term m (length done) done whole o.0 (λ k l. sym (kept (m ∷ nodes) done k l))
     ∙ ap (λ (x : Node). node_term whole x) (some_is m n e)
 unfolds_from (m ∷ nodes) done h (suc i) n e =
     let o = both_true (comes_after (length done) m) (in_order (suc (length done)) nodes) h in

@@ -1,6 +1,7 @@
 pub mod Atoms
 pub mod Bools
 pub mod Clones
+pub mod Cuts
 pub mod FormGraphs
 pub mod Forms
 pub mod Graphs

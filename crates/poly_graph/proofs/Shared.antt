@@ -30,23 +30,23 @@ view-frac : (p q : Frac) → fraction_of_frac p ≡ fraction_of_frac q → (int_
 view-frac p q h = both_pass (int_eq p.n q.n) (int_eq p.d q.d) ((Decides-int_eq p.n q.n).1 (ap (λ (f : Fraction). f.num) h))
     ((Decides-int_eq p.d q.d).1 (sym (whole_size p.d p.lowest.positive) ∙ ap (λ (f : Fraction). pos f.den) h ∙ whole_size q.d q.lowest.positive))
 
-same-view : (a b : Node) → same_node a b ≡ true → node_of a ≡ node_of b
-same-view (Const p) (Const q) h = ap Term.constant_node (frac-view p q h)
-same-view (Var i) (Var j) h = ap Term.variable_node (eqb→eq i j (passes _ h))
-same-view (Neg a) (Neg b) h = ap Term.negate_node (eqb→eq a b (passes _ h))
-same-view (Add a b) (Add c d) h = let e = both_true (nat_eq a c) (nat_eq b d) h in ap₂ Term.add_node (eqb→eq a c (passes _ e.0)) (eqb→eq b d (passes _ e.1))
-same-view (Mul a b) (Mul c d) h = let e = both_true (nat_eq a c) (nat_eq b d) h in ap₂ Term.multiply_node (eqb→eq a c (passes _ e.0)) (eqb→eq b d (passes _ e.1))
-same-view (Sq a) (Sq b) h = ap Term.square_node (eqb→eq a b (passes _ h))
-same-view _ _ h = cc
+pub same_view : (a b : Node) → same_node a b ≡ true → node_of a ≡ node_of b
+same_view (Const p) (Const q) h = ap Term.constant_node (frac-view p q h)
+same_view (Var i) (Var j) h = ap Term.variable_node (eqb→eq i j (passes _ h))
+same_view (Neg a) (Neg b) h = ap Term.negate_node (eqb→eq a b (passes _ h))
+same_view (Add a b) (Add c d) h = let e = both_true (nat_eq a c) (nat_eq b d) h in ap₂ Term.add_node (eqb→eq a c (passes _ e.0)) (eqb→eq b d (passes _ e.1))
+same_view (Mul a b) (Mul c d) h = let e = both_true (nat_eq a c) (nat_eq b d) h in ap₂ Term.multiply_node (eqb→eq a c (passes _ e.0)) (eqb→eq b d (passes _ e.1))
+same_view (Sq a) (Sq b) h = ap Term.square_node (eqb→eq a b (passes _ h))
+same_view _ _ h = cc
 
-view-same : (a b : Node) → node_of a ≡ node_of b → same_node a b ≡ true
-view-same (Const p) (Const q) h = view-frac p q cc
-view-same (Var i) (Var j) h = eq-eqb i j cc
-view-same (Neg a) (Neg b) h = eq-eqb a b cc
-view-same (Add a b) (Add c d) h = both_pass (nat_eq a c) (nat_eq b d) (eq-eqb a c cc) (eq-eqb b d cc)
-view-same (Mul a b) (Mul c d) h = both_pass (nat_eq a c) (nat_eq b d) (eq-eqb a c cc) (eq-eqb b d cc)
-view-same (Sq a) (Sq b) h = eq-eqb a b cc
-view-same _ _ h = cc
+pub view_same : (a b : Node) → node_of a ≡ node_of b → same_node a b ≡ true
+view_same (Const p) (Const q) h = view-frac p q cc
+view_same (Var i) (Var j) h = eq-eqb i j cc
+view_same (Neg a) (Neg b) h = eq-eqb a b cc
+view_same (Add a b) (Add c d) h = both_pass (nat_eq a c) (nat_eq b d) (eq-eqb a c cc) (eq-eqb b d cc)
+view_same (Mul a b) (Mul c d) h = both_pass (nat_eq a c) (nat_eq b d) (eq-eqb a c cc) (eq-eqb b d cc)
+view_same (Sq a) (Sq b) h = eq-eqb a b cc
+view_same _ _ h = cc
 
 -- ---- lists with one more at the end
 
@@ -116,16 +116,16 @@ shared_add nodes numbers after node s o few absent u = record {
 
     found-by : (q : Node) (k : ℕ) (t : Bool) → same_node node q ≡ t → cond t (Some (length nodes)) (get same_node numbers q) ≡ Some k → slice_get (map node_of nodes ++ (node_of node ∷ [])) k ≡ Some (node_of q)
     found-by q k true e h = subst (λ (j : ℕ). slice_get (map node_of nodes ++ (node_of node ∷ [])) j ≡ Some (node_of q)) (last ∙ some-same (length nodes) k h)
-        (at-end (map node_of nodes) (node_of node) ∙ ap (λ m. Some m) (same-view node q e))
+        (at-end (map node_of nodes) (node_of node) ∙ ap (λ m. Some m) (same_view node q e))
     found-by q k false e h = before-end (map node_of nodes) (node_of node) k (node_of q) (s.found q k h)
 
     known-by : (q : Node) (k : ℕ) → (slice_get (map node_of nodes) k ≡ Some (node_of q)) ⊎ ((k ≡ length (map node_of nodes)) × (node_of node ≡ node_of q)) → get same_node after q ≡ Some k
     known-by q k (inl e) = other (same_node node q) refl
       where
         other : (t : Bool) → same_node node q ≡ t → get same_node after q ≡ Some k
-        other true h = absurd (absent_is_new nodes numbers node s absent k (e ∙ ap (λ m. Some m) (sym (same-view node q h))))
+        other true h = absurd (absent_is_new nodes numbers node s absent k (e ∙ ap (λ m. Some m) (sym (same_view node q h))))
         other false h = u.2 q h ∙ s.known q k e
-    known-by q k (inr e) = u.0 q ∙ ap (λ t. cond t (Some (length nodes)) (get same_node numbers q)) (view-same node q e.1) ∙ ap (λ m. Some m) (sym (e.0 ∙ last))
+    known-by q k (inr e) = u.0 q ∙ ap (λ t. cond t (Some (length nodes)) (get same_node numbers q)) (view_same node q e.1) ∙ ap (λ m. Some m) (sym (e.0 ∙ last))
 
 pub on_ok : {X E : Type 0} (r : Result X E) (P : Type 0) → false ≡ is_err r → OnOk r P → P
 on_ok (Ok x) P e h = h

@@ -64,9 +64,9 @@ pub length_within : (ns : List FormGraph.FormNode) → length ns ≤ forms_size 
 length_within [] = omega arith
 length_within (n ∷ ns) = omega (arith, length_within ns, some-size n)
 
-size-end : (ns : List FormGraph.FormNode) (n : FormGraph.FormNode) → forms_size (ns ++ (n ∷ [])) ≡ forms_size ns + node_size n
-size-end [] n = omega arith
-size-end (m ∷ ns) n = omega (arith, size-end ns n)
+pub size_end : (ns : List FormGraph.FormNode) (n : FormGraph.FormNode) → forms_size (ns ++ (n ∷ [])) ≡ forms_size ns + node_size n
+size_end [] n = omega arith
+size_end (m ∷ ns) n = omega (arith, size_end ns n)
 
 order-end : (k : ℕ) (ns : List FormGraph.FormNode) (n : FormGraph.FormNode) → IsTrue (forms_in_order k ns) → IsTrue (form_comes_after (k + length ns) n) → IsTrue (forms_in_order k (ns ++ (n ∷ [])))
 order-end k [] n o h = let e : k + 0 ≡ k = omega arith in both_pass (form_comes_after k n) true (subst (λ (j : ℕ). IsTrue (form_comes_after j n)) e h) refl
@@ -107,7 +107,7 @@ form_added nodes new numbers after size more node n value is s o place big few a
     let t = table_add form_node_of same_form_node same_view view_same nodes numbers after node u.key u.alike (table nodes numbers size s) (sym absent) (subst (λ (k : ℕ). Updates same_form_node numbers after u.key (Some k)) place u.updates) in
     let t' : IsTable form_node_of same_form_node same_view view_same new after = subst (λ (ns : List FormNode). IsTable form_node_of same_form_node same_view view_same ns after) (sym items) t in record {
       shared = record {
-        sized = omega (arith, size-is, size-end value (form_node_of node), big) ∙ ap forms_size (sym images);
+        sized = omega (arith, size-is, size_end value (form_node_of node), big) ∙ ap forms_size (sym images);
         few = few;
         ordered = subst (λ (ns : List FormGraph.FormNode). IsTrue (forms_in_order 0 ns)) (sym images)
             (order-end 0 value (form_node_of node) (subst (λ (ns : List FormGraph.FormNode). IsTrue (forms_in_order 0 ns)) is s.ordered) (let start : length value ≡ 0 + length value = omega arith in subst (λ (k : ℕ). IsTrue (form_comes_after k (form_node_of node))) start o));

@@ -1,6 +1,7 @@
 -- A list whose elements stand once, with a table that has the number of each.
-use Rattle.std.proofs.Common.{◌≡◌, ◌⊎◌, inl, inr, ℕ, suc, zero, List, [], ◌∷◌, ◌++◌, map, length, Bool, true, false, cond, Some, None, refl, ap, sym, ◌∙◌, subst}
+use Rattle.std.proofs.Common.{◌≡◌, ◌⊎◌, inl, inr, ℕ, suc, zero, List, [], ◌∷◌, ◌++◌, map, length, Bool, true, false, cond, Some, None, refl, ap, sym, ◌∙◌, subst, arith}
 use Rattle.std.proofs.lemmas.List.{length-map}
+use Rattle.std.proofs.lemmas.Option.{slice_get_within}
 use Rattle.std.specs.Prelude.{slice_get}
 use Rattle.std.specs.HashMap.{HashMap, get, Updates}
 
@@ -70,4 +71,29 @@ module _ {N V S : Type 0} (f : N → V) (eq : N → N → Bool) (same : (a b : N
     table_add = record {
       found = λ q k h. subst (λ (ys : List V). slice_get ys k ≡ Some (f q)) (sym (map_end f xs x)) (found-by q k (eq key q) refl (sym (u.0 q) ∙ h));
       known = λ q k h. known-by q k (there-or-end (map f xs) (f x) k (f q) (subst (λ (ys : List V). slice_get ys k ≡ Some (f q)) (map_end f xs x) h));
+    }
+
+  -- the last element goes, and its number out of the table
+  module _ (xs : List N) (x : N) (numbers after : HashMap N ℕ S) (s : IsTable (xs ++ (x ∷ [])) numbers) (u : Updates eq numbers after x None) where
+    last-is : (q : N) → eq x q ≡ true → get eq numbers q ≡ Some (length (map f xs))
+    last-is q e = s.known q (length (map f xs)) (ap (λ ys. slice_get ys (length (map f xs))) (map_end f xs x) ∙ at_end (map f xs) (f x) ∙ ap (λ m. Some m) (same x q e))
+
+    still-found : (q : N) (k : ℕ) (t : Bool) → eq x q ≡ t → cond t None (get eq numbers q) ≡ Some k → slice_get (map f xs) k ≡ Some (f q)
+    still-found q k true e h = cc
+    still-found q k false e h = elim (there-or-end (map f xs) (f x) k (f q) (subst (λ (ys : List V). slice_get ys k ≡ Some (f q)) (map_end f xs x) (s.found q k h))) [
+      | inl i ↦ i
+      | inr i ↦ let g = back x q i.1 in cc
+    ]
+
+    still-known : (q : N) (k : ℕ) (t : Bool) → eq x q ≡ t → slice_get (map f xs) k ≡ Some (f q) → get eq after q ≡ Some k
+    still-known q k true e h =
+        let there = s.known q k (ap (λ ys. slice_get ys k) (map_end f xs x) ∙ before-end (map f xs) (f x) k (f q) h) in
+        let same-place = some-same k (length (map f xs)) (sym there ∙ last-is q e) in
+        absurd (omega (arith, slice_get_within (map f xs) k (f q) h, same-place))
+    still-known q k false e h = u.2 q e ∙ s.known q k (ap (λ ys. slice_get ys k) (map_end f xs x) ∙ before-end (map f xs) (f x) k (f q) h)
+
+    pub table_cut : IsTable xs after
+    table_cut = record {
+      found = λ q k h. still-found q k (eq x q) refl (sym (u.0 q) ∙ h);
+      known = λ q k h. still-known q k (eq x q) refl h;
     }

@@ -3,7 +3,7 @@ use Rattle.std.specs.Prelude.{ℕ, zero, suc, ◌^◌, ◌<◌, ◌≤◌, ◌�
 use Rattle.std.specs.Int.{IsGcd}
 use Rattle.dyadic.specs.Fraction.{Fraction, IsFraction, zero_fraction, whole, at_most}
 use Rattle.dyadic.specs.Point.{Sort, real_sort, bool_sort, Coordinate, at_fraction, at_bool}
-use Rattle.dyadic.specs.Rounding.{Dyadic, exact, IsOnGrid, Ext, finite, down, up}
+use Rattle.dyadic.specs.Rounding.{Dyadic, exact, IsOnGrid}
 use Rattle.poly_graph.specs.Term.{Term, constant, variable, negate, add, multiply, square, Node, constant_node, variable_node, graph_terms, in_order, Kind, le, Atom}
 use Rattle.poly_graph.specs.Form.{Form, Forms, yes_form, no_form, atom_is, bool_is, all_form, any_form, no_forms, more_forms}
 

@@ -1,5 +1,5 @@
 // Atoms by number, each once.
-ghost use Rattle.std.specs.Prelude.{◌≡◌, ℕ, ◌<◌, ◌^◌, [], ◌∷◌, ◌++◌, length, map, MatchResult, OnOk, OnErr, Some};
+ghost use Rattle.std.specs.Prelude.{◌≡◌, ℕ, ◌<◌, ◌^◌, ◌-◌, [], ◌∷◌, ◌++◌, length, map, take, MatchResult, OnOk, OnErr, Some};
 ghost use Rattle.std.specs.HashMap.{Updates, IsUnchanged};
 ghost use Rattle.poly_graph.specs.Views.{atom_of};
 ghost use Rattle.poly_graph.specs.AtomTable.{same_atom, AreAtoms, AtomInterned, AtomRefused};
@@ -81,6 +81,24 @@ impl AtomTable {
             return Err(NoNode::Memory);
         }
         Ok(n as u32)
+    }
+
+    // The last atom is taken back, if there is one.
+    fn drop_last(&mut self)
+        ensures { self.new ≡ take (length self.old - 1) self.old }
+    {
+        if let Some(atom) = self.atoms.pop() {
+            self.numbers.remove(&atom);
+        }
+    }
+
+    /// Only the first n atoms stay. It takes the time of those that are taken back.
+    pub fn truncate(&mut self, n: usize)
+        ensures { self.new ≡ take n self.old }
+    {
+        while self.atoms().len() > n {
+            self.drop_last();
+        }
     }
 
     /// The atoms, by number; at most 65,536.

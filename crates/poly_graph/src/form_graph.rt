@@ -1,74 +1,29 @@
 // The shared form: each node once, its children before it.
-ghost use Rattle.std.specs.Prelude.{◌≡◌, ◌≤◌, ℕ, ◌<◌, ◌^◌, [], ◌∷◌, ◌++◌, length, map, MatchResult, IfOk, OnOk, OnErr, IsTrue, Some, slice_get};
-ghost use Rattle.std.specs.HashMap.{IsUnchanged};
-ghost use Rattle.poly_graph.specs.FormGraph.{form_comes_after, node_size, most_forms, IsFormGraph, FormInterned};
-ghost use Rattle.poly_graph.specs.FormViews.{form_node_of, PutsLike, FormRefused};
+ghost use Rattle.std.specs.Prelude.{◌≡◌, ◌≤◌, ◌<◌, [], ◌++◌, length, map, take, IfOk, Some, slice_get};
+ghost use Rattle.poly_graph.specs.FormGraph.{most_forms, IsFormGraph};
+ghost use Rattle.poly_graph.specs.FormViews.{form_node_of};
 
 use crate::form_node::FormNode;
-use crate::refused::{Limit, NoNode};
 use std::alloc::{AllocError, Global};
-use std::collections::HashMap;
 use std::marker::Model;
-
-/// As many nodes and places of children as a form may have.
-pub const MOST_FORMS: usize = 1_048_576;
 
 /// A form in which each node stands once, after its children.
 #[derive(Drop)]
 pub struct FormGraph {
     nodes: Vec<FormNode>,
-    numbers: HashMap<FormNode, u32>,
-    size: usize,
 }
 
 impl Model for FormGraph {
     ghost use Rattle.std.specs.Prelude.{List, map};
     ghost use Rattle.poly_graph.specs.FormGraph as form;
-    ghost use Rattle.poly_graph.specs.FormViews.{form_node_of, IsSharedForm};
+    ghost use Rattle.poly_graph.specs.FormGraph.{IsFormGraph};
+    ghost use Rattle.poly_graph.specs.FormViews.{form_node_of};
 
     ghost Value = { List form.FormNode };
 
     ghost view = { λ g. map form_node_of g.nodes.items };
 
-    ghost invariant = { λ g. IsSharedForm g.nodes.items g.numbers g.size };
-}
-
-// A node, and a place for each of its children.
-fn size_of(node: &FormNode) -> usize
-    ensures { result ≡ node_size (form_node_of node.now) }
-{
-    match node {
-        FormNode::And(children) | FormNode::Or(children) => children.len() + 1,
-        _ => 1,
-    }
-}
-
-// The same node once more.
-fn copy_of(node: &FormNode) -> Result<FormNode, AllocError>
-    ensures { IfOk result (λ n. form_node_of n ≡ form_node_of node.now) }
-{
-    node.clone()
-}
-
-// Adds a node with its number at the end, or leaves both as they were.
-fn add(
-    nodes: &mut Vec<FormNode>,
-    numbers: &mut HashMap<FormNode, u32>,
-    node: FormNode,
-    n: u32,
-) -> Result<(), AllocError>
-    ensures items { OnOk result (nodes.new.items ≡ nodes.old.items ++ (node ∷ [])) }
-    ensures numbers { OnOk result (PutsLike numbers.old numbers.new node n) }
-    ensures items_stay { OnErr result (nodes.new.items ≡ nodes.old.items) }
-    ensures numbers_stay { OnErr result (IsUnchanged numbers.old numbers.new) }
-{
-    let key = copy_of(&node)?;
-    nodes.push(node)?;
-    if numbers.insert(key, n).is_err() {
-        let _ = nodes.pop();
-        return Err(AllocError);
-    }
-    Ok(())
+    ghost invariant = { λ g. IsFormGraph (map form_node_of g.nodes.items) };
 }
 
 impl FormGraph {
@@ -78,31 +33,31 @@ impl FormGraph {
     {
         FormGraph {
             nodes: Vec::new(alloc),
-            numbers: HashMap::new(alloc),
-            size: 0,
         }
     }
 
-    /// The number of the node, which is added where it did not stand yet.
-    pub fn intern(&mut self, node: FormNode) -> Result<u32, NoNode>
-        requires { IsTrue (form_comes_after (length self.old) (form_node_of node)) }
-        ensures { MatchResult result
-            (FormInterned self.old self.new (form_node_of node))
-            (FormRefused self.old self.new (form_node_of node)) }
+    /// The form of these nodes.
+    pub(crate) fn of(nodes: Vec<FormNode>) -> Self
+        requires { IsFormGraph (map form_node_of nodes.items) }
+        ensures { result ≡ map form_node_of nodes.items }
     {
-        if let Some(n) = self.numbers.get(&node) {
-            return Ok(*n);
-        }
-        let more = size_of(&node);
-        if more > MOST_FORMS - self.size {
-            return Err(NoNode::TooMany(Limit::Forms));
-        }
-        let n = self.nodes.len() as u32;
-        if add(&mut self.nodes, &mut self.numbers, node, n).is_err() {
-            return Err(NoNode::Memory);
-        }
-        self.size += more;
-        Ok(n)
+        FormGraph { nodes }
+    }
+
+    /// The first `keep` nodes of a form, and then these.
+    pub fn joined(
+        alloc: Global,
+        first: &FormGraph,
+        keep: usize,
+        more: &[FormNode],
+    ) -> Result<Self, AllocError>
+        requires within { keep ≤ length first.now }
+        requires graph { IsFormGraph (take keep first.now ++ map form_node_of more.now) }
+        ensures { IfOk result (λ g. g ≡ take keep first.now ++ map form_node_of more.now) }
+    {
+        let mut nodes = Vec::from_clones(alloc, &first.nodes[..keep])?;
+        nodes.extend_from_slice(more)?;
+        Ok(FormGraph { nodes })
     }
 
     /// The same form once more, in memory of its own.
@@ -110,12 +65,7 @@ impl FormGraph {
         ensures { IfOk result (λ g. g ≡ self.now) }
     {
         let nodes = Vec::from_clones(alloc, &self.nodes)?;
-        let numbers = self.numbers.clone()?;
-        Ok(FormGraph {
-            nodes,
-            numbers,
-            size: self.size,
-        })
+        Ok(FormGraph { nodes })
     }
 
     /// How many nodes there are, at most 1,048,576.

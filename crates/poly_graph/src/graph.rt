@@ -1,58 +1,29 @@
 // The shared graph: each node once, its children before it.
-ghost use Rattle.std.specs.Prelude.{◌≡◌, ℕ, ◌<◌, ◌^◌, [], ◌∷◌, ◌++◌, length, map, MatchResult, IfOk, OnOk, OnErr, IsTrue, Some, slice_get, slice_index_or, ◌↔◌};
-ghost use Rattle.std.specs.HashMap.{Updates, IsUnchanged};
-ghost use Rattle.poly_graph.specs.Term.{comes_after};
+ghost use Rattle.std.specs.Prelude.{◌≡◌, ◌<◌, ◌≤◌, [], ◌++◌, length, map, take, IfOk, IsTrue, Some, slice_get, ◌↔◌};
 ghost use Rattle.poly_graph.specs.Views.{node_of};
-ghost use Rattle.poly_graph.specs.Shared.{same_node, IsGraph, Interned, HaveSameTerm};
-ghost use Rattle.poly_graph.specs.Refused.{NodeRefused};
+ghost use Rattle.poly_graph.specs.Shared.{IsGraph, HaveSameTerm};
 
 use crate::node::Node;
-use crate::refused::{Limit, NoNode};
 use std::alloc::{AllocError, Global};
-use std::collections::HashMap;
 use std::marker::Model;
-
-/// As many nodes as a graph may have.
-pub const MOST_NODES: usize = 1_048_576;
 
 /// A graph in which each node stands once, after its children.
 #[derive(Drop)]
 pub struct Graph {
     nodes: Vec<Node>,
-    numbers: HashMap<Node, u32>,
 }
 
 impl Model for Graph {
     ghost use Rattle.std.specs.Prelude.{List, map};
     ghost use Rattle.poly_graph.specs.Term as term;
     ghost use Rattle.poly_graph.specs.Views.{node_of};
-    ghost use Rattle.poly_graph.specs.Shared.{IsShared};
+    ghost use Rattle.poly_graph.specs.Shared.{IsGraph};
 
     ghost Value = { List term.Node };
 
     ghost view = { λ g. map node_of g.nodes.items };
 
-    ghost invariant = { λ g. IsShared g.nodes.items g.numbers };
-}
-
-// Adds a node with its number at the end, or leaves both as they were.
-fn add(
-    nodes: &mut Vec<Node>,
-    numbers: &mut HashMap<Node, u32>,
-    node: Node,
-    n: u32,
-) -> Result<(), AllocError>
-    ensures items { OnOk result (nodes.new.items ≡ nodes.old.items ++ (node ∷ [])) }
-    ensures numbers { OnOk result (Updates same_node numbers.old numbers.new node (Some n)) }
-    ensures items_stay { OnErr result (nodes.new.items ≡ nodes.old.items) }
-    ensures numbers_stay { OnErr result (IsUnchanged numbers.old numbers.new) }
-{
-    nodes.push(node)?;
-    if numbers.insert(node, n).is_err() {
-        let _ = nodes.pop();
-        return Err(AllocError);
-    }
-    Ok(())
+    ghost invariant = { λ g. IsGraph (map node_of g.nodes.items) };
 }
 
 impl Graph {
@@ -62,28 +33,31 @@ impl Graph {
     {
         Graph {
             nodes: Vec::new(alloc),
-            numbers: HashMap::new(alloc),
         }
     }
 
-    /// The number of the node, which is added where it did not stand yet.
-    pub fn intern(&mut self, node: Node) -> Result<u32, NoNode>
-        requires { IsTrue (comes_after (length self.old) (node_of node)) }
-        ensures { MatchResult result
-            (Interned self.old self.new (node_of node))
-            (NodeRefused self.old self.new (node_of node)) }
+    /// The graph of these nodes.
+    pub(crate) fn of(nodes: Vec<Node>) -> Self
+        requires { IsGraph (map node_of nodes.items) }
+        ensures { result ≡ map node_of nodes.items }
     {
-        if let Some(n) = self.numbers.get(&node) {
-            return Ok(*n);
-        }
-        let n = self.nodes.len();
-        if n >= MOST_NODES {
-            return Err(NoNode::TooMany(Limit::Nodes));
-        }
-        if add(&mut self.nodes, &mut self.numbers, node, n as u32).is_err() {
-            return Err(NoNode::Memory);
-        }
-        Ok(n as u32)
+        Graph { nodes }
+    }
+
+    /// The first `keep` nodes of a graph, and then these.
+    pub fn joined(
+        alloc: Global,
+        first: &Graph,
+        keep: usize,
+        more: &[Node],
+    ) -> Result<Self, AllocError>
+        requires within { keep ≤ length first.now }
+        requires graph { IsGraph (take keep first.now ++ map node_of more.now) }
+        ensures { IfOk result (λ g. g ≡ take keep first.now ++ map node_of more.now) }
+    {
+        let mut nodes = Vec::from_slice(alloc, &first.nodes[..keep])?;
+        nodes.extend_from_slice(more)?;
+        Ok(Graph { nodes })
     }
 
     /// Whether the terms of two nodes are one and the same tree: in a graph where equal nodes are one,
@@ -102,8 +76,7 @@ impl Graph {
         ensures { IfOk result (λ g. g ≡ self.now) }
     {
         let nodes = Vec::from_slice(alloc, &self.nodes)?;
-        let numbers = self.numbers.clone()?;
-        Ok(Graph { nodes, numbers })
+        Ok(Graph { nodes })
     }
 
     /// How many nodes there are, at most 1,048,576.

@@ -4,7 +4,7 @@ ghost use Rattle.sample_problems.specs.Small.{IsSmall};
 
 use cert_check::{CertFault, Feed, Verdict};
 use cover_data::Options;
-use poly_graph::{FormGraph, FormNode, Graph, NoNode, Problem};
+use poly_graph::{FormNode, FormTable, Graph, NoNode, Problem};
 use std::alloc::Global;
 
 /// What a search is asked for where nothing else is said.
@@ -28,13 +28,13 @@ pub fn smallest(alloc: Global) -> Result<Problem, NoNode>
     ensures nodes { IfOk result (λ p. p.nodes ≡ []) }
     ensures atoms { IfOk result (λ p. p.atoms ≡ []) }
 {
-    let mut forms = FormGraph::new(alloc);
+    let mut forms = FormTable::new(alloc);
     let root = forms.intern(FormNode::True)?;
     Ok(Problem::new(
         Vec::new(alloc),
         Graph::new(alloc),
         Vec::new(alloc),
-        forms,
+        forms.into_graph(),
         root,
     ))
 }

@@ -124,12 +124,12 @@ sizes ns = sizes-after ns [] ∙ omega arith
 
 -- ---- nodes of one form are one
 
-in-order-at : (k : ℕ) (ns : List FormNode) → IsTrue (forms_in_order k ns) → (i : ℕ) (n : FormNode) → slice_get ns i ≡ Some n → IsTrue (form_comes_after (k + i) n)
-in-order-at k [] h i n e = cc
-in-order-at k (m ∷ ns) h zero n e = let o = both_true (form_comes_after k m) (forms_in_order (suc k) ns) h in let p : m ≡ n = cc in let q : k ≡ k + 0 = omega arith in
+pub in_order_at : (k : ℕ) (ns : List FormNode) → IsTrue (forms_in_order k ns) → (i : ℕ) (n : FormNode) → slice_get ns i ≡ Some n → IsTrue (form_comes_after (k + i) n)
+in_order_at k [] h i n e = cc
+in_order_at k (m ∷ ns) h zero n e = let o = both_true (form_comes_after k m) (forms_in_order (suc k) ns) h in let p : m ≡ n = cc in let q : k ≡ k + 0 = omega arith in
     subst (λ (j : ℕ). IsTrue (form_comes_after j n)) q (subst (λ (x : FormNode). IsTrue (form_comes_after k x)) p o.0)
-in-order-at k (m ∷ ns) h (suc i) n e = let o = both_true (form_comes_after k m) (forms_in_order (suc k) ns) h in let q : suc k + i ≡ k + suc i = omega arith in
-    subst (λ (j : ℕ). IsTrue (form_comes_after j n)) q (in-order-at (suc k) ns o.1 i n e)
+in_order_at k (m ∷ ns) h (suc i) n e = let o = both_true (form_comes_after k m) (forms_in_order (suc k) ns) h in let q : suc k + i ≡ k + suc i = omega arith in
+    subst (λ (j : ℕ). IsTrue (form_comes_after j n)) q (in_order_at (suc k) ns o.1 i n e)
 
 same-children : (fs : List (Form ℕ)) (j k : ℕ) (xs ys : List ℕ) → IsTrue (list_all (λ i. nat_lt i j) xs) → IsTrue (list_all (λ i. nat_lt i k) ys) → ((x y : ℕ) → x < j → y < k → form_at fs x ≡ form_at fs y → x ≡ y) →
     picked fs xs ≡ picked fs ys → xs ≡ ys
@@ -140,28 +140,28 @@ same-children fs j k (x ∷ xs) (y ∷ ys) o l f h =
 same-children fs j k [] (y ∷ ys) o l f h = cc
 same-children fs j k (x ∷ xs) [] o l f h = cc
 
-same-by-children : (fs : List (Form ℕ)) (j k : ℕ) (m n : FormNode) → IsTrue (form_comes_after j m) → IsTrue (form_comes_after k n) → ((x y : ℕ) → x < j → y < k → form_at fs x ≡ form_at fs y → x ≡ y) →
+pub same_by_children : (fs : List (Form ℕ)) (j k : ℕ) (m n : FormNode) → IsTrue (form_comes_after j m) → IsTrue (form_comes_after k n) → ((x y : ℕ) → x < j → y < k → form_at fs x ≡ form_at fs y → x ≡ y) →
     node_form fs m ≡ node_form fs n → m ≡ n
-same-by-children fs j k yes_node yes_node o l f h = refl
-same-by-children fs j k no_node no_node o l f h = refl
-same-by-children fs j k (atom_node a) (atom_node b) o l f h = ap atom_node cc
-same-by-children fs j k (bool_node a v) (bool_node b w) o l f h = let e : a ≡ b = cc in let g : v ≡ w = cc in ap₂ bool_node e g
-same-by-children fs j k (all_node xs) (all_node ys) o l f h = ap all_node (same-children fs j k xs ys o l f cc)
-same-by-children fs j k (any_node xs) (any_node ys) o l f h = ap any_node (same-children fs j k xs ys o l f cc)
-same-by-children fs j k _ _ o l f h = cc
+same_by_children fs j k yes_node yes_node o l f h = refl
+same_by_children fs j k no_node no_node o l f h = refl
+same_by_children fs j k (atom_node a) (atom_node b) o l f h = ap atom_node cc
+same_by_children fs j k (bool_node a v) (bool_node b w) o l f h = let e : a ≡ b = cc in let g : v ≡ w = cc in ap₂ bool_node e g
+same_by_children fs j k (all_node xs) (all_node ys) o l f h = ap all_node (same-children fs j k xs ys o l f cc)
+same_by_children fs j k (any_node xs) (any_node ys) o l f h = ap any_node (same-children fs j k xs ys o l f cc)
+same_by_children fs j k _ _ o l f h = cc
 
 one-below : (ns : List FormNode) → IsFormGraph ns → (most j k : ℕ) → j < most → j < length ns → k < length ns → form_at (graph_forms ns) j ≡ form_at (graph_forms ns) k → j ≡ k
 one-below ns g zero j k less h i e = absurd (omega (arith, less))
 one-below ns g (suc most) j k less h i e =
     let m = stood ns j h in
     let n = stood ns k i in
-    let after-j = in-order-at 0 ns g.ordered j m.0 m.1 in
-    let after-k = in-order-at 0 ns g.ordered k n.0 n.1 in
-    let same : m.0 ≡ n.0 = same-by-children (graph_forms ns) (0 + j) (0 + k) m.0 n.0 after-j after-k (λ x y l r s. one-below ns g most x y (omega (arith, l, less)) (omega (arith, l, h)) (omega (arith, r, i)) s)
+    let after-j = in_order_at 0 ns g.ordered j m.0 m.1 in
+    let after-k = in_order_at 0 ns g.ordered k n.0 n.1 in
+    let same : m.0 ≡ n.0 = same_by_children (graph_forms ns) (0 + j) (0 + k) m.0 n.0 after-j after-k (λ x y l r s. one-below ns g most x y (omega (arith, l, less)) (omega (arith, l, h)) (omega (arith, r, i)) s)
     (sym (form_node_is_its_kind ns g.ordered j m.0 m.1) ∙ e ∙ form_node_is_its_kind ns g.ordered k n.0 n.1) in
     g.once j k n.0 (m.1 ∙ ap (λ x. Some x) same) n.1
 
-one_form : (ns : List FormNode) → IsFormGraph ns → (j k : ℕ) → j < length ns → k < length ns → form_at (graph_forms ns) j ≡ form_at (graph_forms ns) k → j ≡ k
+pub one_form : (ns : List FormNode) → IsFormGraph ns → (j k : ℕ) → j < length ns → k < length ns → form_at (graph_forms ns) j ≡ form_at (graph_forms ns) k → j ≡ k
 one_form ns g j k h i e = one-below ns g (suc j) j k (omega arith) h i e
 
 -- a new node is a new form
@@ -171,9 +171,9 @@ new-by ns g n o f true h =
     let r = is_at (graph_forms ns) (node_form (graph_forms ns) n) h in
     let below : r.0 < length ns = omega (arith, get_below (graph_forms ns) r.0 (node_form (graph_forms ns) n) r.1, length_forms ns) in
     let m = stood ns r.0 below in
-    let after = in-order-at 0 ns g.ordered r.0 m.0 m.1 in
+    let after = in_order_at 0 ns g.ordered r.0 m.0 m.1 in
     let t : Some (node_form (graph_forms ns) m.0) ≡ Some (node_form (graph_forms ns) n) = sym (form_there ns g r.0 m.0 m.1) ∙ r.1 in
-    absurd (f r.0 (m.1 ∙ ap (λ x. Some x) (same-by-children (graph_forms ns) (0 + r.0) (length ns) m.0 n after o
+    absurd (f r.0 (m.1 ∙ ap (λ x. Some x) (same_by_children (graph_forms ns) (0 + r.0) (length ns) m.0 n after o
     (λ x y l q s. one_form ns g x y (omega (arith, l, below)) q s) (some_form _ _ t))))
   where
     some_form : (x y : Form ℕ) → Some x ≡ Some y → x ≡ y

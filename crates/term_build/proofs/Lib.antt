@@ -1,6 +1,7 @@
 pub mod Lists
 pub mod Trees
 pub mod Makes
+pub mod Marks
 pub mod Emits
 pub mod Settled
 pub mod Shaping

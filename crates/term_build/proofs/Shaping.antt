@@ -365,22 +365,22 @@ descended_items m0 es fs ds m memo stack stack' stack'' f f' g' d n c drawing g 
 
 -- ---- what is asked of sketch, memo and frames
 
-form-extends : (claim : Place) (s s' : Stand) (g : Form ℕ) → make_form claim s g ≡ stands s' → Extends s s'
-form-extends claim s s' g e = reach (make_form claim s g) e (form_reaches claim s g)
+pub form_extends : (claim : Place) (s s' : Stand) (g : Form ℕ) → make_form claim s g ≡ stands s' → Extends s s'
+form_extends claim s s' g e = reach (make_form claim s g) e (form_reaches claim s g)
   where
     reach : (w : Walked) → w ≡ stands s' → Reaches s w → Extends s s'
     reach w e h = subst (λ (v : Walked). Reaches s v) e h
 
 pub finish_extends : (m m1 : BuilderModel) (d : SketchNode) (js : List ℕ) (j : ℕ) → Finishes m m1 d js (Ok j) → Extends (stand_of m) (stand_of m1)
-finish_extends m m1 yes_sketch js j h = form-extends here (stand_of m) (stand_of m1) yes_form (h.0 here)
-finish_extends m m1 no_sketch js j h = form-extends here (stand_of m) (stand_of m1) no_form (h.0 here)
-finish_extends m m1 (choice_sketch p x y) js j h = form-extends here (stand_of m) (stand_of m1) no_form (h.0 here)
+finish_extends m m1 yes_sketch js j h = form_extends here (stand_of m) (stand_of m1) yes_form (h.0 here)
+finish_extends m m1 no_sketch js j h = form_extends here (stand_of m) (stand_of m1) no_form (h.0 here)
+finish_extends m m1 (choice_sketch p x y) js j h = form_extends here (stand_of m) (stand_of m1) no_form (h.0 here)
 finish_extends m m1 (comparison_sketch at l r kind) js j h = extends_to here (stand_of m) (stand_of m1) (form_events (atom_is (comparison_of (stand_of m).trees at l r kind))) (h.0 here)
 finish_extends m m1 (equal_sketch at ks) js j h = extends_to here (stand_of m) (stand_of m1) (form_events (some_equal (stand_of m).trees at ks)) (h.0 here)
 finish_extends m m1 (crowd_sketch v ks) js j h = let e = h.0 in cc
-finish_extends m m1 (bool_sketch axis v) js j h = form-extends here (stand_of m) (stand_of m1) (bool_is axis v) (h.0 here)
-finish_extends m m1 (all_sketch ks) js j h = form-extends here (stand_of m) (stand_of m1) (all_form (picked (stand_of m).forms js)) (h.0 here)
-finish_extends m m1 (any_sketch ks) js j h = form-extends here (stand_of m) (stand_of m1) (any_form (picked (stand_of m).forms js)) (h.0 here)
+finish_extends m m1 (bool_sketch axis v) js j h = form_extends here (stand_of m) (stand_of m1) (bool_is axis v) (h.0 here)
+finish_extends m m1 (all_sketch ks) js j h = form_extends here (stand_of m) (stand_of m1) (all_form (picked (stand_of m).forms js)) (h.0 here)
+finish_extends m m1 (any_sketch ks) js j h = form_extends here (stand_of m) (stand_of m1) (any_form (picked (stand_of m).forms js)) (h.0 here)
 
 there : (m : BuilderModel) (j : ℕ) (g : Form ℕ) → slice_get (stand_of m).forms j ≡ Some g → j < length m.forms
 there m j g h = omega (arith, get_below (stand_of m).forms j g h, length_forms m.forms)

@@ -2,6 +2,7 @@ pub mod Built
 pub mod Calls
 pub mod Does
 pub mod Gathers
+pub mod Marks
 pub mod Settled
 pub mod Shapes
 pub mod Pairs

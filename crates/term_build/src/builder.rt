@@ -1,5 +1,5 @@
 // The builder: its tables, and the steps that fill them.
-ghost use Rattle.std.specs.Prelude.{◌≡◌, ◌^◌, ◌<◌, ◌≤◌, length, map, Err, IsTrue, option_map};
+ghost use Rattle.std.specs.Prelude.{◌≡◌, ◌^◌, ◌<◌, ◌≤◌, length, map, Err, IsTrue, OnErr, OnOk, option_map};
 ghost use Rattle.dyadic.specs.Views.{fraction_of_frac};
 ghost use Rattle.term_build.specs.Steps.{as_constant, as_variable, both_of, constants, node_constant, node_variable, tree_of, two_fractions};
 ghost use Rattle.poly_graph.specs.Term.{comes_after};
@@ -13,16 +13,18 @@ ghost use Rattle.script_forms.specs.Walk.{all_sizes, most_forms};
 ghost use Rattle.script_forms.specs.Work.{reached};
 ghost use Rattle.term_build.specs.Built.{IsFormNode, IsMade, begun, stand_of};
 ghost use Rattle.term_build.specs.Calls.{AsksAtom, DoesEvent, MakesForm, MakesNode, fraction_in};
+ghost use Rattle.term_build.specs.Marks.{counts_in, counts_of, taken, with_sort};
 ghost use Rattle.term_build.specs.declared.stop.Stop.TheVariants.{TooMany};
 ghost use Rattle.script_fault.specs.declared.limit.Limit.TheVariants.{Forms};
 
 use crate::facts::{atoms_are_apart, forms_are_shared, graph_is_shared};
+use crate::mark::Mark;
 use crate::stop::{Stop, limited};
 use dyadic::Frac;
-use poly_graph::{Atom, AtomTable, FormGraph, FormNode, Graph, Kind, Node};
+use poly_graph::{Atom, AtomTable, FormGraph, FormNode, FormTable, Graph, Kind, Node, NodeTable};
 use script_fault::{Limit, MOST_SIZE};
 use smt_script::Sort;
-use std::alloc::Global;
+use std::alloc::{AllocError, Global};
 use std::marker::Model;
 
 /// What is made of a script: the number of expressions that were reached, and each node, atom and node of a form once.
@@ -30,9 +32,9 @@ use std::marker::Model;
 pub struct Builder {
     sorts: Vec<Sort>,
     size: u32,
-    graph: Graph,
+    nodes: NodeTable,
     atoms: AtomTable,
-    forms: FormGraph,
+    forms: FormTable,
 }
 
 impl Model for Builder {
@@ -45,7 +47,7 @@ impl Model for Builder {
     ghost view = { λ b. record {
       sorts = map sort_of b.sorts.items;
       size = b.size;
-      nodes = b.graph;
+      nodes = b.nodes;
       atoms = b.atoms;
       forms = b.forms;
     } };
@@ -53,7 +55,7 @@ impl Model for Builder {
     ghost invariant = { λ b. IsMade (record {
       sorts = map sort_of b.sorts.items;
       size = b.size;
-      nodes = b.graph;
+      nodes = b.nodes;
       atoms = b.atoms;
       forms = b.forms;
     }) };
@@ -94,16 +96,16 @@ impl Builder {
     pub fn new(alloc: Global, sorts: Vec<Sort>) -> Self
         ensures { result ≡ begun (map sort_of sorts.items) }
     {
-        let graph = Graph::new(alloc);
-        graph_is_shared(&graph);
+        let nodes = NodeTable::new(alloc);
+        graph_is_shared(&nodes);
         let atoms = AtomTable::new(alloc);
         atoms_are_apart(&atoms);
-        let forms = FormGraph::new(alloc);
+        let forms = FormTable::new(alloc);
         forms_are_shared(&forms);
         Builder {
             sorts,
             size: 0,
-            graph,
+            nodes,
             atoms,
             forms,
         }
@@ -116,7 +118,68 @@ impl Builder {
         ensures forms { result.2 ≡ self.forms }
         ensures made { IsMade self }
     {
-        (self.graph, self.atoms.into_atoms(), self.forms)
+        (
+            self.nodes.into_graph(),
+            self.atoms.into_atoms(),
+            self.forms.into_graph(),
+        )
+    }
+
+    /// One more constant, of this sort.
+    pub fn add_sort(&mut self, sort: Sort) -> Result<(), AllocError>
+        ensures added { OnOk result (self.new ≡ with_sort self.old (sort_of sort)) }
+        ensures stays { OnErr result (self.new ≡ self.old) }
+    {
+        self.sorts.push(sort)?;
+        Ok(())
+    }
+
+    /// How much is made.
+    pub fn mark(&self) -> Mark
+        ensures counts { counts_in result ≡ counts_of self.now }
+        ensures made { IsMade self.now }
+    {
+        Mark {
+            sorts: self.sorts.len(),
+            size: self.size,
+            nodes: self.nodes.len(),
+            atoms: self.atoms.atoms().len(),
+            forms: self.forms.len(),
+        }
+    }
+
+    /// Goes back to a mark: only what was made before it stays. It takes the time of what is taken back.
+    pub fn undo(&mut self, mark: Mark)
+        requires { IsMade (taken (counts_in mark) self.old) }
+        ensures { self.new ≡ taken (counts_in mark) self.old }
+    {
+        self.sorts.truncate(mark.sorts);
+        self.size = mark.size;
+        self.nodes.truncate(mark.nodes);
+        self.atoms.truncate(mark.atoms);
+        self.forms.truncate(mark.forms);
+    }
+
+    /// The nodes of terms, by number.
+    pub fn nodes(&self) -> &[Node]
+        ensures nodes { map node_of result.now ≡ self.now.nodes }
+        ensures made { IsMade self.now }
+    {
+        self.nodes.nodes()
+    }
+
+    /// The atoms, by number.
+    pub fn atoms(&self) -> &[Atom]
+        ensures { map atom_of result.now ≡ self.now.atoms }
+    {
+        self.atoms.atoms()
+    }
+
+    /// The nodes of the form, by number.
+    pub fn forms(&self) -> &[FormNode]
+        ensures { map form_node_of result.now ≡ self.now.forms }
+    {
+        self.forms.nodes()
     }
 
     /// One more expression is reached.
@@ -139,8 +202,8 @@ impl Builder {
         ensures does { MakesNode self.old self.new (node_of node) result }
         ensures sorts { self.new.sorts ≡ self.old.sorts }
     {
-        let made = self.graph.intern(node);
-        graph_is_shared(&self.graph);
+        let made = self.nodes.intern(node);
+        graph_is_shared(&self.nodes);
         limited(made)
     }
 
@@ -180,7 +243,7 @@ impl Builder {
     pub fn len(&self) -> usize
         ensures { result ≡ length self.now.nodes }
     {
-        self.graph.len()
+        self.nodes.len()
     }
 
     /// The constant that a node is.
@@ -188,7 +251,7 @@ impl Builder {
         requires { k < length self.now.nodes }
         ensures { option_map fraction_of_frac result ≡ as_constant (tree_of self.now k) }
     {
-        constant_of(self.graph.node(k))
+        constant_of(self.nodes.node(k))
     }
 
     /// The axis of the constant of the script that a node is.
@@ -196,7 +259,7 @@ impl Builder {
         requires { k < length self.now.nodes }
         ensures { result ≡ as_variable (tree_of self.now k) }
     {
-        axis_of(self.graph.node(k))
+        axis_of(self.nodes.node(k))
     }
 
     /// The sort of the constant of this axis.
@@ -223,7 +286,7 @@ impl Builder {
         requires second { b < length self.now.nodes }
         ensures { result ≡ same_term (tree_of self.now a) (tree_of self.now b) }
     {
-        graph_is_shared(&self.graph);
+        graph_is_shared(&self.nodes);
         a == b
     }
 }

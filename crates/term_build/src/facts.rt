@@ -4,13 +4,13 @@ ghost use Rattle.poly_graph.specs.AtomTable.{AreAtoms};
 ghost use Rattle.poly_graph.specs.FormGraph.{IsFormGraph};
 ghost use Rattle.poly_graph.specs.Shared.{IsGraph};
 
-use poly_graph::{AtomTable, FormGraph, Graph};
+use poly_graph::{AtomTable, FormTable, NodeTable};
 
 /// Shows that the nodes of terms are shared, each after its children.
-pub(crate) fn graph_is_shared(graph: &Graph)
-    ensures { IsGraph graph.now }
+pub(crate) fn graph_is_shared(nodes: &NodeTable)
+    ensures { IsGraph nodes.now }
 {
-    graph.len();
+    nodes.len();
 }
 
 /// Shows that each atom stands once.
@@ -21,7 +21,7 @@ pub(crate) fn atoms_are_apart(atoms: &AtomTable)
 }
 
 /// Shows that the nodes of forms are shared, each after its children.
-pub(crate) fn forms_are_shared(forms: &FormGraph)
+pub(crate) fn forms_are_shared(forms: &FormTable)
     ensures { IsFormGraph forms.now }
 {
     forms.len();

@@ -9,7 +9,7 @@ use cert_check::CertFault;
 use cover_line::{AtomRule, CombinationRule, Word};
 use dyadic::{Dy, Frac, read_dy};
 use ival::{Domain, Range, Space, Truths};
-use poly_graph::{Axis, Declared, FormGraph, FormNode, Graph, NoNode, Problem};
+use poly_graph::{Axis, Declared, FormNode, FormTable, Graph, NoNode, Problem};
 use script_fault::{FaultKind, Limit, Name, Place, ScriptFault};
 use std::alloc::{AllocError, Global};
 
@@ -38,9 +38,10 @@ fn axes(alloc: Global, names: &[&str]) -> Result<Vec<Axis>, AllocError>
 fn problem_of(alloc: Global, axes: Vec<Axis>) -> Result<Problem, NoNode>
     requires { All (λ a. declared_of a.declared ≡ from_nought_to_one) axes.items }
 {
-    let mut forms = FormGraph::new(alloc);
+    let mut forms = FormTable::new(alloc);
     let root = forms.intern(FormNode::True)?;
-    Ok(Problem::new(axes, Graph::new(alloc), Vec::new(alloc), forms, root))
+    let graph = Graph::new(alloc);
+    Ok(Problem::new(axes, graph, Vec::new(alloc), forms.into_graph(), root))
 }
 
 fn problem(alloc: Global, names: &[&str]) -> Option<Problem> {

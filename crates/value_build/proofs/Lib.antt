@@ -17,4 +17,8 @@ pub mod Arming
 pub mod Joining
 pub mod Taken
 pub mod Loops
+<<<<<<< HEAD
 pub mod RealWorks
+=======
+pub mod Marks
+>>>>>>> h46a

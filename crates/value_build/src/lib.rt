@@ -10,8 +10,10 @@ mod leaves;
 mod lift;
 mod literal;
 mod maker;
+mod mark;
 mod operate;
 mod value;
 
 pub use maker::Maker;
+pub use mark::Mark;
 pub use value::Value;

@@ -1,16 +1,19 @@
-use Rattle.std.proofs.Common.{◌∙◌, subst, List}
+use Rattle.std.proofs.Common.{◌≡◌, List, map, sym, ◌∙◌, subst}
 use Rattle.std.specs.List.{AllZip}
+use Rattle.poly_graph.specs.FormGraph as form
+use Rattle.poly_graph.specs.FormGraph.{IsFormGraph}
 use Rattle.poly_graph.specs.FormViews.{form_node_of}
 use Rattle.poly_graph.specs.declared.form_node.FormNode.{FormNode}
 use Rattle.poly_graph.specs.contracts.form_node.FormNodeClone.TheImpl as form_clone
-use Rattle.poly_graph.proofs.Clones.{map_clones, form_clone_is, form_clone_shared}
+use Rattle.poly_graph.proofs.Clones.{map_clones, form_clone_is}
 use Rattle.poly_graph.proofs.form_graph.FormGraph.try_clone.Goals as goal
 
-clones : (c : goal.In_ok-numbers) → AllZip (form_clone.ghosts).is_clone c.self.inside.nodes.items c.in_ok-nodes.nodes.items
-clones c = subst (λ (ns : List FormNode). AllZip (form_clone.ghosts).is_clone ns c.in_ok-nodes.nodes.items) c.deref.ensures.value c.in_ok-nodes.ensures.items
+same : (c : goal.In_ok-nodes) → map form_node_of c.in_ok-nodes.nodes.items ≡ map form_node_of c.self.inside.nodes.items
+same c = map_clones form_node_of (form_clone.ghosts).is_clone c.self.inside.nodes.items c.in_ok-nodes.nodes.items form_clone_is
+    (subst (λ (ns : List FormNode). AllZip (form_clone.ghosts).is_clone ns c.in_ok-nodes.nodes.items) c.deref.ensures.value c.in_ok-nodes.ensures.items)
 
 pub invariant_of-result : goal.invariant_of-result
-invariant_of-result c = form_clone_shared c.self.inside.nodes.items c.in_ok-nodes.nodes.items c.self.inside.numbers c.in_ok-numbers.numbers c.self.inside.size c.self.invariant (clones c) c.in_ok-numbers.ensures.cases
+invariant_of-result c = subst (λ (ns : List form.FormNode). IsFormGraph ns) (sym (same c)) c.self.invariant
 
 pub returns : goal.returns
-returns c = map_clones form_node_of (form_clone.ghosts).is_clone c.self.inside.nodes.items c.in_ok-nodes.nodes.items form_clone_is (clones c) ∙ c.self.view_is
+returns c = same c ∙ c.self.view_is

@@ -1,6 +1,5 @@
 use Rattle.std.proofs.Common.{ap, eqb→eq, subst}
 use Rattle.poly_graph.specs.Shared.{IsGraph}
-use Rattle.poly_graph.proofs.Shared.{shared_is_graph}
 use Rattle.std.proofs.lemmas.Bool.{eq-eqb}
 use Rattle.std.specs.Bool.{passes}
 use Rattle.poly_graph.specs.Term.{graph_terms}
@@ -11,5 +10,5 @@ use Rattle.poly_graph.proofs.graph.Graph.same_term.Goals as goal
 pub returns : goal.returns
 returns c = (
   λ h. ap (λ k. term_at (graph_terms c.args.self.now) k) (eqb→eq c.args.a c.args.b (passes _ h)),
-  λ h. eq-eqb c.args.a c.args.b (one_number c.args.self.now (subst IsGraph c.self.view_is (shared_is_graph c.self.inside.nodes.items c.self.inside.numbers c.self.invariant)) c.args.a c.args.b c.requires.first c.requires.second h),
+  λ h. eq-eqb c.args.a c.args.b (one_number c.args.self.now (subst IsGraph c.self.view_is c.self.invariant) c.args.a c.args.b c.requires.first c.requires.second h),
 )

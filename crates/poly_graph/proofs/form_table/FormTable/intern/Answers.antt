@@ -1,6 +1,6 @@
 use Rattle.std.proofs.Common.{arith, ◌≤◌, ◌+◌, length}
 use Rattle.poly_graph.proofs.SharedForm.{FormAdded, form_added, shared_length, on_ok}
-use Rattle.poly_graph.proofs.form_graph.FormGraph.intern.Goals as goal
+use Rattle.poly_graph.proofs.form_table.FormTable.intern.Goals as goal
 use Rattle.poly_graph.specs.FormViews.{form_node_of}
 
 pub overflow_cast-n : goal.overflow_cast-n

@@ -1,6 +1,6 @@
 use Rattle.std.proofs.Common.{arith}
 use Rattle.poly_graph.proofs.Shared.{Added, added, on_ok}
-use Rattle.poly_graph.proofs.graph.Graph.intern.Goals as goal
+use Rattle.poly_graph.proofs.node_table.NodeTable.intern.Goals as goal
 use Rattle.poly_graph.specs.Views.{node_of}
 
 now-added : (c : goal.Else-is_err) → Added c.args.self.now c.add.new.nodes.items c.add.new.numbers (node_of c.args.node) c.len-n.result
