@@ -1,13 +1,12 @@
 -- A script without a fault of its sorts declares few constants.
-use Rattle.std.proofs.Common.{◌≡◌, ◌≤◌, ◌<◌, ◌+◌, ◌∷◌, ◌++◌, [], ℕ, suc, List, Bool, true, false, cond, nat_lt, Some, None, length, refl, subst, arith}
+use Rattle.std.proofs.Common.{◌≡◌, ◌≤◌, ◌<◌, ◌+◌, ◌∷◌, ◌++◌, [], ℕ, suc, List, Bool, true, false, cond, nat_lt, Some, None, length, refl, ap, ◌∙◌, arith, length-append}
 use Rattle.std.proofs.lemmas.Bool.{ltb-true}
 use Rattle.std.proofs.lemmas.List.{length-map}
-use Rattle.dyadic.specs.Point.{Sort}
 use Rattle.script_model.specs.Sexp.{Place}
 use Rattle.script_model.specs.Reading.{Names, value}
 use Rattle.script_model.specs.Script.{Command, declare, define, claim, check, ineffective, constants_of, sorts_of, sort_of_constant}
 use Rattle.sort_check.specs.Sorts.{Sorted, of_sort, Finding, too_many_axes, then_on, new_name, room_for, signature, sort_fault_from, sort_fault}
-use Rattle.problem_build.proofs.Standing.{sort_split}
+use Rattle.problem_build.proofs.Standing.{sorts_more}
 
 then-none : (x y : Finding) → then_on x y ≡ None → (x ≡ None) × (y ≡ None)
 then-none None y e = (refl, e)
@@ -37,8 +36,8 @@ few-from n names (ineffective at ∷ rest) h e = few-from n names rest h e
 pub few_constants : (cs : List Command) → sort_fault cs ≡ None → length (constants_of cs) ≤ 1024
 few_constants cs e = let h = few-from 0 [] cs (omega arith) e in omega (arith, h)
 
--- so the number of each is small
-pub few_axes : (cs : List Command) (sorts before rest : List Sort) (s : Sort) (axis : ℕ) → sort_fault cs ≡ None → sorts ≡ sorts_of cs → length before ≡ axis → sorts ≡ before ++ (s ∷ rest) → axis < 1024
-few_axes cs sorts before rest s axis e f g h =
-    let below : axis < length (sorts_of cs) = subst (λ (x : List Sort). axis < length x) f (sort_split s sorts before rest axis g h).1 in
-    omega (arith, below, few_constants cs e, length-map (constants_of cs) sort_of_constant)
+-- so do its first commands
+pub few_before : (cs done rest : List Command) → sort_fault cs ≡ None → cs ≡ done ++ rest → length (sorts_of done) ≤ 1024
+few_before cs done rest e split =
+    let more : length (sorts_of cs) ≡ length (sorts_of done) + length (sorts_of rest) = ap (λ xs. length (sorts_of xs)) split ∙ ap length (sorts_more done rest) ∙ length-append (sorts_of done) (sorts_of rest) in
+    omega (arith, more, few_constants cs e, length-map (constants_of cs) sort_of_constant)

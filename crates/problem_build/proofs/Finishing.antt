@@ -1,12 +1,13 @@
 -- The end of a script's building.
 use Rattle.std.proofs.Common.{◌≡◌, ℕ, ◌<◌, List, [], ◌∷◌, ◌++◌, map, length, true, Option, Some, None, refl, ap, ap₂, sym, ◌∙◌, subst, arith, nat_lt}
-use Rattle.std.specs.Prelude.{Result, Ok, Err}
+use Rattle.std.specs.Prelude.{IfOk, Result, Ok, Err, Vec}
+use Rattle.std.specs.Global.{Global}
 use Rattle.std.specs.List.{list_all}
 use Rattle.dyadic.proofs.Equal.{both_pass}
 use Rattle.std.proofs.lemmas.List.Elements.{All-cons, All-nil}
 use Rattle.script_model.specs.Sexp.{Place}
-use Rattle.script_model.specs.Script.{Command, Constant, constants_of}
-use Rattle.script_model.specs.Declared.{Bounding, bounds_in, concat, BoundFault, no_bound, bound_too_wide, bound_fault, declared_interval}
+use Rattle.script_model.specs.Script.{Command, Constant, constants_of, sort_of_constant}
+use Rattle.script_model.specs.Declared.{Bound, Bounding, bounds_in, concat, BoundFault, no_bound, bound_too_wide, bound_fault, bound_fault_from, declared_interval, script_bounds}
 use Rattle.std.specs.Borrow.{Bor}
 use Rattle.smt_sexp.specs.declared.sexps.Sexps as arena
 use Rattle.script_fault.specs.declared.place.Place as code_place
@@ -20,7 +21,8 @@ use Rattle.poly_graph.specs.Term.{Atom, Node, graph_terms}
 use Rattle.poly_graph.specs.Form.{Form, Forms, form_map, forms_map, all_form}
 use Rattle.poly_graph.specs.FormGraph.{graph_forms}
 use Rattle.poly_graph.specs.Problem.{Axis}
-use Rattle.poly_graph.specs.ProblemViews.{problem_of}
+use Rattle.poly_graph.specs.ProblemViews.{axis_of, problem_of}
+use Rattle.poly_graph.specs.declared.axis.Axis as axis
 use Rattle.script_forms.specs.Terms.{Unfolded}
 use Rattle.script_forms.specs.Unfolded.{truth_of, forms_of}
 use Rattle.script_forms.specs.Atoms.{atom_of, trees, atoms_in_place, number_in}
@@ -43,10 +45,15 @@ use Rattle.value_build.specs.Making.{Making}
 use Rattle.problem_build.specs.Laws.{parts_made}
 use Rattle.problem_build.specs.Roots.{AreFormsOf, Roots}
 use Rattle.problem_build.specs.Standing.{AreClaims, boundings, IsDone}
+use Rattle.problem_build.specs.Progress.{AreAxesOf, HasAxes, IsProblemMade, IsRooted, IsState}
+use Rattle.problem_build.proofs.One.{ends_are_lowest}
+use Rattle.problem_build.proofs.Whole.{whole}
 use Rattle.problem_build.specs.BuildAnswers.{IsBuildingError, found_by}
 use Rattle.script_fault.specs.declared.fault.ReadError.{ReadError}
 use Rattle.script_fault.specs.declared.fault.ReadError.TheVariants as errors
-use Rattle.declared_box.specs.Axes.{bounds_fault, IsBoundsError}
+use Rattle.declared_box.specs.Axes.{bounds_fault, constant_of, IsBoundsError}
+use Rattle.declared_box.specs.Calls.{AnswersBy, AreDeclared, HaveSortsOf}
+use Rattle.declared_box.specs.declared.axes.Constant as code_constant
 use Rattle.script_faults.specs.Faults.{in_building}
 use Rattle.script_faults.specs.Reader.{IsInWalkOrder, trees_made}
 use Rattle.problem_build.proofs.Parts.{parts_problem}
@@ -180,8 +187,42 @@ module _ (script : List Command) (m : Making) (made : List (ℕ × ℕ)) (h : Is
     bounds_refuse bound f r = subst (λ (x : Option (Place × BuildingFault)). IsBuildingError f x)
         (sym (ap (λ w. fault_or w (fault_of_bounds (bound_fault bound script))) walked_all)) (bounds-error f (bound_fault bound script) r)
 
-pub roots_as : (m m' m1 : BuilderModel) (ks ks' : List ℕ) (r : Result ℕ Stop) → m' ≡ m → ks' ≡ ks → Roots m' m1 ks' r → Roots m m1 ks r
-roots_as m m' m1 ks ks' r e f h = subst (λ (x : BuilderModel). Roots x m1 ks r) e (subst (λ (x : List ℕ). Roots m' m1 x r) f h)
+-- ---- the axes
+
+pub axes_answer : (bound : Option ℕ) (script : List Command) (lists : List (List Bound)) (ks : List ℕ) (constants : List code_constant.Constant) (r : Result (Vec axis.Axis Global) ReadError) → map constant_of constants ≡ constants_of script →
+    AnswersBy lists ks bound constants r → IfOk r AreDeclared → IfOk r (HaveSortsOf constants) → AreAxesOf bound script lists ks r
+axes_answer bound script lists ks constants (Ok axes) e answers declared sorts = record {
+  answers = λ same. subst (λ (cs : List Constant). (bound_fault_from (declared_interval bound script) 0 cs ≡ None) × AreAxes (declared_interval bound script) 0 cs (map axis_of axes.items)) e (answers (script_bounds script) same);
+  bounds = declared;
+  sorts = sorts ∙ ap (map sort_of_constant) e;
+  ends = ends_are_lowest axes.items;
+}
+axes_answer bound script lists ks constants (Err f) e answers declared sorts = λ same. subst (λ (cs : List Constant). IsBoundsError f (bound_fault_from (declared_interval bound script) 0 cs)) e (answers (script_bounds script) same)
+
+-- ---- the end
+
+module _ (script : List Command) (m m1 : Making) (made : List (ℕ × ℕ)) (root : ℕ) (h : IsState script m made) (r : IsRooted script m m1 made root) where
+  pub ended_before : AreBefore (length m1.bounds) (map (λ c. c.1) made)
+  ended_before = subst (λ (lists : List (List Bound)). AreBefore (length lists) (map (λ c. c.1) made)) (sym r.bounds) (done_before script m made h.done)
+
+  ended-bounds : SameBounds (all_of m1.bounds (map (λ c. c.1) made)) (script_bounds script)
+  ended-bounds = subst (λ (lists : List (List Bound)). SameBounds (all_of lists (map (λ c. c.1) made)) (script_bounds script)) (sym r.bounds) (done_bounds script m made h.done)
+
+  pub ended_refused : (bound : Option ℕ) (e : ReadError) → AreAxesOf bound script m1.bounds (map (λ c. c.1) made) (Err e) → IsBuildingError e (building_fault bound script)
+  ended_refused bound e a = bounds_refuse script m made h.done m1.made root r.roots bound e (a ended-bounds)
+
+  pub ended : (bound : Option ℕ) (axes : List Axis) → HasAxes bound script m1.bounds (map (λ c. c.1) made) axes → IsProblemMade bound script m1.made axes root
+  ended bound axes a =
+      let answers = a.answers ended-bounds in
+      let builds = builds_so script m made h.done m1.made root r.roots bound axes r.is_made answers.0 answers.1 in
+      record {
+        clean = builds.0;
+        problem = builds.1;
+        whole = whole m1.made axes root r.is_made a.bounds (a.sorts ∙ sym (r.sorts ∙ h.done.sorts)) (root_below script m made h.done m1.made root r.roots);
+        lean = record { nodes = r.is_made.graph; atoms = r.is_made.table.few };
+        order = ordered_so script m made h.done m1.made root r.roots m1.made.nodes refl;
+        ends = a.ends;
+      }
 
 -- ---- lists that are gathered
 

@@ -1,11 +1,12 @@
 -- The steps of a script with any number of checks, one after the other.
-use Rattle.std.proofs.Common.{◌≡◌, ℕ, List, [], ◌∷◌, ◌++◌, Bool, true, false, ◌&&◌, cond, nat_le, is_some, Option, Some, None, map, length, refl, ap, sym, ◌∙◌, subst, append_assoc, append-nil}
+use Rattle.std.proofs.Common.{◌≡◌, ℕ, List, [], ◌∷◌, ◌++◌, Bool, true, false, ◌&&◌, cond, nat_le, is_some, Option, Some, None, map, length, refl, ap, sym, ◌∙◌, ◌≤◌, take, take-take, arith, subst, append_assoc, append-nil, length-append}
 use Rattle.std.specs.Prelude.{reverse}
 use Rattle.std.specs.List.{AllByRecursion}
-use Rattle.std.proofs.lemmas.List.{map-append, length-map, reverse-append}
+use Rattle.std.proofs.lemmas.List.{map-append, length-map, reverse-append, take-append-le}
+use Rattle.std.specs.Prelude.{min}
 use Rattle.poly_graph.specs.Problem.{Problem}
 use Rattle.poly_graph.specs.ProblemViews.{problem_of}
-use Rattle.script_model.specs.Script.{check}
+use Rattle.script_model.specs.Script.{Command, check}
 use Rattle.script_fault.specs.Answers.{IsFaultOrMemory}
 use Rattle.script_fault.specs.declared.fault.ReadError.{ReadError}
 use Rattle.script_fault.specs.declared.place.Place.{Place}
@@ -16,7 +17,7 @@ use Rattle.script_faults.specs.Session.{AreBuilt, carried_from, carried_of, stay
 use Rattle.smt_sexp.specs.Views.{place_of}
 use Rattle.smt_sexp.specs.declared.sexps.Sexps.{Sexps}
 use Rattle.smt_script.specs.Levels.{Asked, Levels, Step, command, after_step, asked_from, checks_of, no_levels}
-use Rattle.smt_script.specs.Views.{command_of, step_of}
+use Rattle.smt_script.specs.Views.{command_of, commands_in, step_of}
 use Rattle.smt_script.specs.declared.command.Command as code
 use Rattle.smt_script.specs.declared.command.Command.TheVariants as commands
 use Rattle.smt_script.specs.declared.command.Step as code_step
@@ -30,6 +31,9 @@ use Rattle.problem_build.specs.BuildAnswers.{IsBuildingError}
 use Rattle.problem_build.specs.Session.{Begins, Goes, Stays, WellSorted, checked_of, problems_of, script_at}
 use Rattle.problem_build.specs.declared.session.Checked.{Checked}
 use Rattle.problem_build.specs.declared.session.Going.{Going}
+use Rattle.script_faults.proofs.Carried.{Stacked, step_first}
+use Rattle.problem_build.specs.Progress.{IsBuiltBy, IsKept}
+use Rattle.problem_build.specs.declared.progress.Progress.{Progress}
 use Rattle.problem_build.proofs.Reading.{lifted}
 
 -- ---- one problem more
@@ -65,10 +69,40 @@ module _ (l : Levels) (st : Step) (left : List Step) (none : check_place st ≡ 
   stay_behind : (n : ℕ) → stay_in_force n l (st ∷ left) ≡ (nat_le n (length (after_step l st).inner) && stay_in_force n (after_step l st) left)
   stay_behind n = ap (λ o. cond (is_some o) true (nat_le n (length (after_step l st).inner) && stay_in_force n (after_step l st) left)) none
 
+-- ---- what stays of what is built
+
+kept-less : (k n : ℕ) (commands : List Command) (p : Progress) → n ≤ k → IsKept k commands p → IsKept n commands p
+kept-less k n commands p less h = record {
+  script = h.script;
+  built = h.built;
+  few = omega (arith, less, h.few);
+  within = omega (arith, less, h.within);
+  same = sym (take-take n k h.script less) ∙ ap (take n) h.same ∙ take-take n k commands less;
+}
+
+kept-step : (n : ℕ) (l : Levels) (st : Step) (p : Progress) → Stacked l → n ≤ length (after_step l st).inner → IsKept n l.inner p → IsKept n (after_step l st).inner p
+kept-step n l st p stacked few h = record {
+  script = h.script;
+  built = h.built;
+  few = h.few;
+  within = few;
+  same = h.same ∙ sym (step_first n l st stacked h.within few);
+}
+
+kept-check : (commands : List Command) (at : Command) (p : Progress) → IsBuiltBy (commands ++ at ∷ []) p → IsKept (length commands) commands p
+kept-check commands at p h = record {
+  script = commands ++ at ∷ [];
+  built = h;
+  few = omega (arith, length-append commands (at ∷ []));
+  within = omega arith;
+  same = take-append-le (length commands) commands (at ∷ []) (omega arith);
+}
+
 pub step_behind : (bound : Option ℕ) (steps left : List Step) (old new : Going) (st : Step) → check_place st ≡ None → (h : Goes bound steps old (st ∷ left)) →
     Stacks new.force.script.sexps.now new.force.script.commands.items new.force.marks.items (after_step h.open_levels st) → new.problems.items ≡ old.problems.items → new.before ≡ old.before →
-    new.extends ≡ (old.extends && nat_le old.before (length new.force.script.commands.items)) → Goes bound steps new left
-step_behind bound steps left old new st none h stacks problems before extends =
+    new.extends ≡ (old.extends && nat_le old.before (length new.force.script.commands.items)) →
+    new.progress ≡ old.progress → new.kept ≡ min old.kept (length new.force.script.commands.items) → Goes bound steps new left
+step_behind bound steps left old new st none h stacks problems before extends progress kept =
     let l = h.open_levels in
     let next = after_step l st in
     let many : length new.force.script.commands.items ≡ length next.inner = sym (length-map new.force.script.commands.items (command_of new.force.script.sexps.now)) ∙ ap length stacks.inner in
@@ -88,6 +122,8 @@ step_behind bound steps left old new st none h stacks problems before extends =
       carried = h.carried ∙ ap (λ xs. h.said ++ xs) (carried_behind l st left none (old.extends && stay_in_force old.before l (st ∷ left)) ∙ ap (λ b. carried_from b next left) still);
       clean = h.clean ∙ ap (in_each_check bound) (asked_behind l st left none);
       sorted = subst (AllByRecursion WellSorted) (asked_behind l st left none) h.sorted;
+      kept = subst (λ (p : Progress). IsKept new.kept next.inner p) (sym progress)
+          (kept-step new.kept l st old.progress (reverse old.force.marks.items, h.stacks.outer) (omega (arith, kept, many)) (kept-less old.kept new.kept l.inner old.progress (omega (arith, kept)) h.kept));
     }
 
 -- ---- a check
@@ -107,8 +143,9 @@ module _ (bound : Option ℕ) (steps left : List Step) (old : Going) (st : Step)
       (λ x t. here.clean ∙ ap (λ o. first_of o (in_each_check bound (asked_from here.open_levels left))) (ap (λ cs. in_building (building_fault bound cs)) (sym script_is) ∙ t)) bad
 
   pub check_behind : (new : Going) (p : Checked) → (building_fault bound (script_at old.force at) ≡ None) × IsBuiltOf bound (script_at old.force at) (problem_of p.problem) → p.extends ≡ old.extends →
-      Stays old.force new.force → new.problems.items ≡ old.problems.items ++ p ∷ [] → new.before ≡ length new.force.script.commands.items → new.extends ≡ true → Goes bound steps new left
-  check_behind new p built same stays problems before extends =
+      Stays old.force new.force → new.problems.items ≡ old.problems.items ++ p ∷ [] → new.before ≡ length new.force.script.commands.items → new.extends ≡ true →
+      IsBuiltBy (script_at old.force at) new.progress → new.kept ≡ new.before → Goes bound steps new left
+  check_behind new p built same stays problems before extends progress kept =
       let l = here.open_levels in
       let a : Asked = record { at = place_of at; script = l.inner ++ check (place_of at) ∷ [] } in
       let b : Bool = old.extends && true in
@@ -130,7 +167,11 @@ module _ (bound : Option ℕ) (steps left : List Step) (old : Going) (st : Step)
         clean = here.clean ∙ ap (λ cs. first_of (in_building (building_fault bound cs)) (in_each_check bound (asked_from l left))) (sym script_is) ∙
             ap (λ o. first_of (in_building o) (in_each_check bound (asked_from l left))) built.0;
         sorted = here.sorted.1;
+        kept = subst (λ (n : ℕ). IsKept n l.inner new.progress) (sym (kept ∙ many)) (kept-check l.inner (check (place_of at)) new.progress (subst (λ (cs : List Command). IsBuiltBy cs new.progress) script_is progress));
       }
+
+  pub kept_here : IsKept old.kept (commands_in old.force.script) old.progress
+  kept_here = subst (λ (cs : List Command). IsKept old.kept cs old.progress) (sym here.stacks.inner) here.kept
 
 -- ---- the first step and the last
 
@@ -145,6 +186,7 @@ begun bound steps g b sorted = record {
   carried = ap (λ x. carried_from (x && stay_in_force g.before no_levels steps) no_levels steps) (sym b.extends);
   clean = refl;
   sorted = asked_sorted no_levels steps sorted;
+  kept = subst (λ (n : ℕ). IsKept n [] g.progress) (sym b.kept) (record { script = []; built = b.progress; few = omega arith; within = omega arith; same = refl });
 }
 
 pub finished : (bound : Option ℕ) (steps : List Step) (g : Going) → Goes bound steps g [] →

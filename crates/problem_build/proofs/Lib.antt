@@ -7,6 +7,7 @@ pub mod Lookups
 pub mod Nearest
 pub mod One
 pub mod Parts
+pub mod Past
 pub mod Reached
 pub mod Reading
 pub mod Rooted

@@ -1,11 +1,11 @@
 -- The commands of a script, one after the other.
-use Rattle.std.proofs.Common.{◌≡◌, ℕ, zero, suc, ◌<◌, ◌≤◌, List, [], ◌∷◌, ◌++◌, map, length, Some, refl, ap, sym, ◌∙◌, subst, arith, append_assoc, append-nil, length-append}
+use Rattle.std.proofs.Common.{◌≡◌, ℕ, zero, suc, ◌<◌, ◌≤◌, List, [], ◌∷◌, ◌++◌, map, length, Some, refl, ap, ap₂, sym, ◌∙◌, subst, arith, append_assoc, append-nil, length-append}
 use Rattle.std.specs.Prelude.{slice_get, Result, Ok, Err}
 use Rattle.std.specs.Borrow.{Bor}
 use Rattle.dyadic.specs.Point.{Sort, real_sort, bool_sort}
 use Rattle.script_model.specs.Sexp.{Place, Sexp}
-use Rattle.script_model.specs.Reading.{Meanings, meaning}
-use Rattle.script_model.specs.Script.{Command, declare, define, claim, claims, sorts_of}
+use Rattle.script_model.specs.Reading.{unknown, Meanings, Named, value, meaning}
+use Rattle.script_model.specs.Script.{Command, Parameter, declare, define, claim, check, ineffective, defined, claims, sorts_of}
 use Rattle.script_model.specs.Declared.{Bounding, bounding, constant_bounding, numbered}
 use Rattle.poly_graph.specs.Problem.{HasSort}
 use Rattle.poly_graph.specs.Form.{form_atoms, form_map}
@@ -13,7 +13,7 @@ use Rattle.script_forms.specs.Terms.{Unfolded}
 use Rattle.script_forms.specs.Unfolded.{truth_of}
 use Rattle.script_forms.specs.Atoms.{atom_of, number_in}
 use Rattle.script_forms.specs.Work.{Work, as_work, outcome_of, assertion_events, form_events}
-use Rattle.script_forms.specs.Walk.{constant_work, claim_places, after_assertions, after_events, goes_on}
+use Rattle.script_forms.specs.Walk.{Stand, Walked, stands, stops, nothing_made, constant_work, works, claim_places, after_assertions, after_events, goes_on}
 use Rattle.smt_sexp.specs.Arena.{expression_at}
 use Rattle.script_fault.specs.declared.name.Name as names
 use Rattle.smt_sexp.specs.declared.sexps.Sexps as arena
@@ -26,15 +26,17 @@ use Rattle.term_build.specs.Settled.{Extends}
 use Rattle.term_build.specs.declared.stop.Stop.{Stop}
 use Rattle.term_build.proofs.Emits.{stops_so, stopped_on, emits_then, emits_more}
 use Rattle.term_build.proofs.Lists.{get_before, get_end, stood}
-use Rattle.term_build.proofs.Settled.{extends_on, numbers_stay, atoms_stay, stay}
-use Rattle.value_build.specs.Making.{Making, Grows, MoreLists, beginning}
+use Rattle.term_build.proofs.Settled.{extends_self, extends_on, numbers_stay, atoms_stay, stay}
+use Rattle.value_build.specs.Making.{Making, Grows, MoreLists}
+use Rattle.value_build.specs.Marks.{with_sort}
 use Rattle.value_build.specs.Values.{IsValue, IsClaim, IsClaimed, Claims}
 use Rattle.value_build.specs.declared.value.Value.{Value}
-use Rattle.value_build.proofs.Growth.{lists_stay, lists_on}
+use Rattle.value_build.proofs.Growth.{lists_self, lists_stay, lists_on}
 use Rattle.problem_build.specs.Names.{known_of, entry_of, top_names, work_names, bound_names_of, KnownFits, TopFits}
-use Rattle.problem_build.specs.Standing.{IsAsserted, Asserts, AreClaims, left_works, left_bounds, boundings, walk_of, Stands, IsDone}
+use Rattle.problem_build.specs.Standing.{IsAsserted, Asserts, AreClaims, left_works, left_bounds, boundings, walk_of, IsTopOf, IsNamed, IsDone, Adds}
 use Rattle.problem_build.specs.Walking.{Fails, IsWorkValue}
 use Rattle.problem_build.proofs.Steps.{fails_on}
+use Rattle.problem_build.specs.declared.top.Known.{Known}
 use Rattle.problem_build.specs.declared.top.Known.TheVariants as known
 use Rattle.problem_build.specs.declared.top.Top.{Top}
 
@@ -79,6 +81,23 @@ sort_split s sorts before rest axis e f = (
   omega (arith, e, ap (λ (x : List Sort). length x) f, length-append before (s ∷ rest)),
 )
 
+-- constants keep their sorts where more are declared
+sort-stays : (s : Sort) (sorts more : List Sort) (axis : ℕ) → HasSort s sorts axis → HasSort s (sorts ++ more) axis
+sort-stays s [] more axis h = absurd h
+sort-stays real_sort (real_sort ∷ sorts) more zero h = tt
+sort-stays bool_sort (bool_sort ∷ sorts) more zero h = tt
+sort-stays real_sort (bool_sort ∷ sorts) more zero h = absurd h
+sort-stays bool_sort (real_sort ∷ sorts) more zero h = absurd h
+sort-stays real_sort (t ∷ sorts) more (suc i) h = sort-stays real_sort sorts more i h
+sort-stays bool_sort (t ∷ sorts) more (suc i) h = sort-stays bool_sort sorts more i h
+
+known-stays : (sorts more : List Sort) (k : Known) → KnownFits sorts k → KnownFits (sorts ++ more) k
+known-stays sorts more (known.Constant axis sort) h = (sort-stays (sort_of sort) sorts more axis h.0, omega (arith, h.1, length-append sorts more))
+known-stays sorts more (known.Function params body) h = tt
+
+pub fits_stay : (sorts more : List Sort) (top : List Top) → TopFits sorts top → TopFits (sorts ++ more) top
+fits_stay sorts more top h i t e = known-stays sorts more t.known (h i t e)
+
 -- ---- claims stay
 
 pub claim_stays : (m m1 : Making) (u : Unfolded) (b : Bounding) (c : ℕ × ℕ) → Extends (stand_of m.made) (stand_of m1.made) → MoreLists m.bounds m1.bounds → IsClaim m u b c → IsClaim m1 u b c
@@ -103,117 +122,258 @@ claims-last m w b c h [] (y ∷ bs) cs k = elim k [ ]
 claims-last m w b c h (x ∷ ws) [] cs k = elim k [ ]
 claims-last m w b c h (x ∷ ws) (y ∷ bs) [] k = elim k [ ]
 
--- ---- the commands
-
-pub begins : (s : arena.Sexps) (script : List Command) → Stands s script script (beginning (sorts_of script)) [] 0 []
-begins s script = record {
-  done = [];
-  bounded = [];
-  works = refl;
-  bounds = refl;
-  walk = refl;
-  claims = tt;
-  fits = λ i t e. cc;
-  sorts = refl;
-  before = [];
-  counted = refl;
-  split = refl;
-}
-
-pub stands_same : (s : arena.Sexps) (script rest : List Command) (m : Making) (top top' : List Top) (axis axis' : ℕ) (made : List (ℕ × ℕ)) → top' ≡ top → axis' ≡ axis → Stands s script rest m top axis made → Stands s script rest m top' axis' made
-stands_same s script rest m top top' axis axis' made e f h = subst (λ (x : List Top). Stands s script rest m x axis' made) (sym e) (subst (λ (x : ℕ). Stands s script rest m top x made) (sym f) h)
-
-pub left_same : (s : arena.Sexps) (script rest rest' : List Command) (m : Making) (top : List Top) (axis : ℕ) (made : List (ℕ × ℕ)) → rest ≡ rest' → Stands s script rest m top axis made → Stands s script rest' m top axis made
-left_same s script rest rest' m top axis made e h = subst (λ (x : List Command). Stands s script x m top axis made) e h
-
-pub begins_so : (s : arena.Sexps) (script rest : List Command) (m : Making) (top : List Top) (made : List (ℕ × ℕ)) → rest ≡ script → m ≡ beginning (sorts_of script) → top ≡ [] → made ≡ [] → Stands s script rest m top 0 made
-begins_so s script rest m top made e f g i = left_same s script script rest m top 0 made (sym e)
-    (subst (λ (x : Making). Stands s script script x top 0 made) (sym f) (stands_same s script script (beginning (sorts_of script)) [] top 0 0 made g refl
-    (subst (λ (x : List (ℕ × ℕ)). Stands s script script (beginning (sorts_of script)) [] 0 x) (sym i) (begins s script))))
+-- ---- the names of the top
 
 pub none_left : {A B : Type 0} (f : A → B) (xs : List A) → length xs < 1 → map f xs ≡ []
 none_left f [] h = refl
 none_left f (x ∷ xs) h = absurd (omega (arith, h))
 
-module _ (s : arena.Sexps) (script rest : List Command) (m : Making) (top : List Top) (axis : ℕ) (made : List (ℕ × ℕ)) where
-  pub declared : (at : Place) (name : Bor names.Name) (sort : code_sort.Sort) → Stands s script (declare at name.now (sort_of sort) ∷ rest) m top axis made →
-      Stands s script rest m (top ++ (record { name = name; known = known.Constant axis sort } ∷ [])) (suc axis) made
-  declared at name sort h =
+pub sorts_more : (script rest : List Command) → sorts_of (script ++ rest) ≡ sorts_of script ++ sorts_of rest
+sorts_more [] rest = refl
+sorts_more (declare at x sort ∷ script) rest = ap (λ ss. sort ∷ ss) (sorts_more script rest)
+sorts_more (define at f params sort body ∷ script) rest = sorts_more script rest
+sorts_more (claim at e ∷ script) rest = sorts_more script rest
+sorts_more (check at ∷ script) rest = sorts_more script rest
+sorts_more (ineffective at ∷ script) rest = sorts_more script rest
+
+-- no command binds a name
+pub top_of_none : (s : arena.Sexps) → IsTopOf s [] []
+top_of_none s = record { works = λ rest. refl; bounds = λ rest. refl; fits = λ i t e. cc }
+
+module _ (s : arena.Sexps) (script : List Command) (c : Command) (top top' : List Top) (h : IsTopOf s script top) where
+  abbrev behind : List Command
+  behind = script ++ (c ∷ [])
+
+  abbrev here : ℕ
+  here = length (sorts_of script)
+
+  module _ (there : ℕ) (counted : length (sorts_of behind) ≡ there) where
+    works-behind : (done : List Work) → ((rest : List Command) → left_works s top here (c ∷ rest) ≡ done ++ left_works s top' there rest) → (works behind ≡ works script ++ done) ×
+        ((rest : List Command) → works (behind ++ rest) ≡ works behind ++ left_works s top' (length (sorts_of behind)) rest)
+    works-behind done e =
+        let one : works behind ≡ works script ++ done = h.works (c ∷ []) ∙ ap (λ ws. works script ++ ws) (e [] ∙ append-nil done) in (
+          one,
+          λ rest. ap works (append_assoc script (c ∷ []) rest) ∙ h.works (c ∷ rest) ∙ ap (λ ws. works script ++ ws) (e rest) ∙
+              sym (append_assoc (works script) done (left_works s top' there rest)) ∙ ap (λ ws. ws ++ left_works s top' there rest) (sym one) ∙
+              ap (λ n. works behind ++ left_works s top' n rest) (sym counted),
+        )
+
+    bounds-behind : (done : List Bounding) → ((rest : List Command) → left_bounds s top here (c ∷ rest) ≡ done ++ left_bounds s top' there rest) → (boundings behind ≡ boundings script ++ done) ×
+        ((rest : List Command) → boundings (behind ++ rest) ≡ boundings behind ++ left_bounds s top' (length (sorts_of behind)) rest)
+    bounds-behind done e =
+        let one : boundings behind ≡ boundings script ++ done = h.bounds (c ∷ []) ∙ ap (λ bs. boundings script ++ bs) (e [] ∙ append-nil done) in (
+          one,
+          λ rest. ap boundings (append_assoc script (c ∷ []) rest) ∙ h.bounds (c ∷ rest) ∙ ap (λ bs. boundings script ++ bs) (e rest) ∙
+              sym (append_assoc (boundings script) done (left_bounds s top' there rest)) ∙ ap (λ bs. bs ++ left_bounds s top' there rest) (sym one) ∙
+              ap (λ n. boundings behind ++ left_bounds s top' n rest) (sym counted),
+        )
+
+  fits-behind : TopFits (sorts_of behind) top
+  fits-behind = subst (λ (ss : List Sort). TopFits ss top) (sym (sorts_more script (c ∷ []))) (fits_stay (sorts_of script) (sorts_of (c ∷ [])) top h.fits)
+
+module _ (s : arena.Sexps) (script : List Command) (top : List Top) (h : IsTopOf s script top) where
+  pub top_declared : (at : Place) (name : Bor names.Name) (sort : code_sort.Sort) (axis : ℕ) → length (sorts_of script) ≡ axis →
+      IsNamed s (script ++ (declare at name.now (sort_of sort) ∷ [])) (top ++ (record { name = name; known = known.Constant axis sort } ∷ [])) (suc axis)
+  top_declared at name sort axis here =
+      let c : Command = declare at name.now (sort_of sort) in
       let t : Top = record { name = name; known = known.Constant axis sort } in
-      let ws = ap (λ ns. claims as_work ns (numbered constant_work (suc axis) (sorts_of rest)) rest) (sym (names_more as_work constant_work s top t)) in
-      let bs = ap (λ ns. claims bounding ns (numbered constant_bounding (suc axis) (sorts_of rest)) rest) (sym (names_more bounding constant_bounding s top t)) in
+      let sorts : sorts_of (script ++ (c ∷ [])) ≡ sorts_of script ++ (sort_of sort ∷ []) = sorts_more script (c ∷ []) in
+      let counted : length (sorts_of (script ++ (c ∷ []))) ≡ suc axis = ap length sorts ∙ omega (arith, here, length-append (sorts_of script) (sort_of sort ∷ [])) in
+      let there : KnownFits (sorts_of (script ++ (c ∷ []))) t.known = sort_split (sort_of sort) (sorts_of (script ++ (c ∷ []))) (sorts_of script) [] axis here sorts in
       record {
-        done = h.done;
-        bounded = h.bounded;
-        works = h.works ∙ ap (λ x. h.done ++ x) ws;
-        bounds = h.bounds ∙ ap (λ x. h.bounded ++ x) bs;
-        walk = h.walk ∙ ap (after_assertions (stand_of m.made) (claim_places rest)) ws;
-        claims = h.claims;
-        fits = fits_more m.made.sorts top t h.fits (sort_split (sort_of sort) m.made.sorts h.before (sorts_of rest) axis h.counted h.split);
-        sorts = h.sorts;
-        before = h.before ++ (sort_of sort ∷ []);
-        counted = omega (arith, h.counted, length-append h.before (sort_of sort ∷ []));
-        split = h.split ∙ sym (append_assoc h.before (sort_of sort ∷ []) (sorts_of rest));
+        names = record {
+          works = (works-behind s script c top (top ++ (t ∷ [])) h (suc axis) counted []
+              (λ rest. ap (λ n. left_works s top n (c ∷ rest)) here ∙ ap (λ ns. claims as_work ns (numbered constant_work (suc axis) (sorts_of rest)) rest) (sym (names_more as_work constant_work s top t)))).1;
+          bounds = (bounds-behind s script c top (top ++ (t ∷ [])) h (suc axis) counted []
+              (λ rest. ap (λ n. left_bounds s top n (c ∷ rest)) here ∙ ap (λ ns. claims bounding ns (numbered constant_bounding (suc axis) (sorts_of rest)) rest) (sym (names_more bounding constant_bounding s top t)))).1;
+          fits = fits_more (sorts_of (script ++ (c ∷ []))) top t (fits-behind s script c top top h) there;
+        };
+        counted = counted;
       }
 
-  pub defined_so : (at : Place) (name : Bor names.Name) (params : List code_parameter.Parameter) (slice : Bor (List code_parameter.Parameter)) (sort : Sort) (body : ℕ) → slice.now ≡ params →
-      Stands s script (define at name.now (map parameter_of params) sort (expression_at s body) ∷ rest) m top axis made →
-      Stands s script rest m (top ++ (record { name = name; known = known.Function slice body } ∷ [])) axis made
-  defined_so at name params slice sort body e h0 =
-      let h = subst (λ (ps : List code_parameter.Parameter). Stands s script (define at name.now (map parameter_of ps) sort (expression_at s body) ∷ rest) m top axis made) (sym e) h0 in
-      let t : Top = record { name = name; known = known.Function slice body } in
-      let ws = ap (λ ns. claims as_work ns (numbered constant_work axis (sorts_of rest)) rest) (sym (names_more as_work constant_work s top t)) in
-      let bs = ap (λ ns. claims bounding ns (numbered constant_bounding axis (sorts_of rest)) rest) (sym (names_more bounding constant_bounding s top t)) in
-      record {
-        done = h.done;
-        bounded = h.bounded;
-        works = h.works ∙ ap (λ x. h.done ++ x) ws;
-        bounds = h.bounds ∙ ap (λ x. h.bounded ++ x) bs;
-        walk = h.walk ∙ ap (after_assertions (stand_of m.made) (claim_places rest)) ws;
-        claims = h.claims;
-        fits = fits_more m.made.sorts top t h.fits tt;
-        sorts = h.sorts;
-        before = h.before;
-        counted = h.counted;
-        split = h.split;
-      }
+  pub top_defined : (at : Place) (name : Bor names.Name) (params : List code_parameter.Parameter) (slice : Bor (List code_parameter.Parameter)) (sort : Sort) (body axis : ℕ) → slice.now ≡ params → length (sorts_of script) ≡ axis →
+      IsNamed s (script ++ (define at name.now (map parameter_of params) sort (expression_at s body) ∷ [])) (top ++ (record { name = name; known = known.Function slice body } ∷ [])) axis
+  top_defined at name params slice sort body axis e here =
+      subst (λ (xs : List code_parameter.Parameter). IsNamed s (script ++ (define at name.now (map parameter_of xs) sort (expression_at s body) ∷ [])) (top ++ (t ∷ [])) axis) e top-defined
+    where
+      t : Top
+      t = record { name = name; known = known.Function slice body }
 
-  module _ (at : Place) (e : Sexp) (h : Stands s script (claim at e ∷ rest) m top axis made) where
+      c : Command
+      c = define at name.now (map parameter_of slice.now) sort (expression_at s body)
+
+      top-defined : IsNamed s (script ++ (c ∷ [])) (top ++ (t ∷ [])) axis
+      top-defined =
+          let counted : length (sorts_of (script ++ (c ∷ []))) ≡ axis = ap length (sorts_more script (c ∷ [])) ∙ omega (arith, here, length-append (sorts_of script) []) in
+          record {
+            names = record {
+              works = (works-behind s script c top (top ++ (t ∷ [])) h axis counted []
+                  (λ rest. ap (λ n. left_works s top n (c ∷ rest)) here ∙ ap (λ ns. claims as_work ns (numbered constant_work axis (sorts_of rest)) rest) (sym (names_more as_work constant_work s top t)))).1;
+              bounds = (bounds-behind s script c top (top ++ (t ∷ [])) h axis counted []
+                  (λ rest. ap (λ n. left_bounds s top n (c ∷ rest)) here ∙ ap (λ ns. claims bounding ns (numbered constant_bounding axis (sorts_of rest)) rest) (sym (names_more bounding constant_bounding s top t)))).1;
+              fits = fits_more (sorts_of (script ++ (c ∷ []))) top t (fits-behind s script c top top h) tt;
+            };
+            counted = counted;
+          }
+
+  -- an assertion, a check and what has no effect bind none
+  module _ (axis : ℕ) (here : length (sorts_of script) ≡ axis) where
+    pub top_claimed : (at : Place) (e : Sexp) → IsNamed s (script ++ (claim at e ∷ [])) top axis
+    top_claimed at e =
+        let c : Command = claim at e in
+        let counted : length (sorts_of (script ++ (c ∷ []))) ≡ axis = ap length (sorts_more script (c ∷ [])) ∙ omega (arith, here, length-append (sorts_of script) []) in
+        record {
+          names = record {
+            works = (works-behind s script c top top h axis counted (meaning as_work (work_names s top (length top)) e ∷ []) (λ rest. ap (λ n. left_works s top n (c ∷ rest)) here)).1;
+            bounds = (bounds-behind s script c top top h axis counted (meaning bounding (bound_names_of s top (length top)) e ∷ []) (λ rest. ap (λ n. left_bounds s top n (c ∷ rest)) here)).1;
+            fits = fits-behind s script c top top h;
+          };
+          counted = counted;
+        }
+
+    pub top_checked : (at : Place) → IsNamed s (script ++ (check at ∷ [])) top axis
+    top_checked at =
+        let c : Command = check at in
+        let counted : length (sorts_of (script ++ (c ∷ []))) ≡ axis = ap length (sorts_more script (c ∷ [])) ∙ omega (arith, here, length-append (sorts_of script) []) in
+        record {
+          names = record {
+            works = (works-behind s script c top top h axis counted [] (λ rest. ap (λ n. left_works s top n (c ∷ rest)) here)).1;
+            bounds = (bounds-behind s script c top top h axis counted [] (λ rest. ap (λ n. left_bounds s top n (c ∷ rest)) here)).1;
+            fits = fits-behind s script c top top h;
+          };
+          counted = counted;
+        }
+
+    pub top_same : (at : Place) → IsNamed s (script ++ (ineffective at ∷ [])) top axis
+    top_same at =
+        let c : Command = ineffective at in
+        let counted : length (sorts_of (script ++ (c ∷ []))) ≡ axis = ap length (sorts_more script (c ∷ [])) ∙ omega (arith, here, length-append (sorts_of script) []) in
+        record {
+          names = record {
+            works = (works-behind s script c top top h axis counted [] (λ rest. ap (λ n. left_works s top n (c ∷ rest)) here)).1;
+            bounds = (bounds-behind s script c top top h axis counted [] (λ rest. ap (λ n. left_bounds s top n (c ∷ rest)) here)).1;
+            fits = fits-behind s script c top top h;
+          };
+          counted = counted;
+        }
+
+-- ---- the walk over some commands, and then over others
+
+claims-many : {V : Type 0} (M : Meanings V) (names : List (List ℕ × Named V)) (vs : List V) (script : List Command) → length (claims M names vs script) ≡ length (claim_places script)
+claims-many M names vs [] = refl
+claims-many M names [] (declare at x sort ∷ rest) = claims-many M ((x, value (M.nothing at (unknown x))) ∷ names) [] rest
+claims-many M names (v ∷ vs) (declare at x sort ∷ rest) = claims-many M ((x, value v) ∷ names) vs rest
+claims-many M names vs (define at f params sort body ∷ rest) = claims-many M ((f, defined M names params body) ∷ names) vs rest
+claims-many M names vs (claim at e ∷ rest) = ap suc (claims-many M names vs rest)
+claims-many M names vs (check at ∷ rest) = claims-many M names vs rest
+claims-many M names vs (ineffective at ∷ rest) = claims-many M names vs rest
+
+places-both : (script rest : List Command) → claim_places (script ++ rest) ≡ claim_places script ++ claim_places rest
+places-both [] rest = refl
+places-both (declare at x sort ∷ script) rest = places-both script rest
+places-both (define at f params sort body ∷ script) rest = places-both script rest
+places-both (claim at e ∷ script) rest = ap (λ ps. at ∷ ps) (places-both script rest)
+places-both (check at ∷ script) rest = places-both script rest
+places-both (ineffective at ∷ script) rest = places-both script rest
+
+goes-both : (w : Walked) (f g h : Stand → Walked) → ((s : Stand) → f s ≡ goes_on h (g s)) → goes_on f w ≡ goes_on h (goes_on g w)
+goes-both (stands s) f g h e = e s
+goes-both (stops at x) f g h e = refl
+
+walk-both : (s : Stand) (places later : List Place) (ws more : List Work) → length ws ≡ length places →
+    after_assertions s (places ++ later) (ws ++ more) ≡ goes_on (λ s'. after_assertions s' later more) (after_assertions s places ws)
+walk-both s [] later [] more e = refl
+walk-both s (at ∷ places) later (w ∷ ws) more e =
+    goes-both (after_events at s (assertion_events w)) (λ s'. after_assertions s' (places ++ later) (ws ++ more)) (λ s'. after_assertions s' places ws) (λ s'. after_assertions s' later more)
+    (λ s'. walk-both s' places later ws more (omega (arith, e)))
+walk-both s [] later (w ∷ ws) more e = absurd (omega (arith, e))
+walk-both s (at ∷ places) later [] more e = absurd (omega (arith, e))
+
+-- ---- one command more is made
+
+module _ (s : arena.Sexps) (script : List Command) (m : Making) (top : List Top) (made : List (ℕ × ℕ)) (h : IsTopOf s script top) (d : IsDone script m made) where
+  walk-behind : (rest : List Command) → walk_of (script ++ rest) ≡ after_assertions (stand_of m.made) (claim_places rest) (left_works s top (length (sorts_of script)) rest)
+  walk-behind rest =
+      ap₂ (after_assertions nothing_made) (places-both script rest) (h.works rest) ∙
+      walk-both nothing_made (claim_places script) (claim_places rest) (works script) (left_works s top (length (sorts_of script)) rest) (claims-many as_work [] (numbered constant_work 0 (sorts_of script)) script) ∙
+      ap (goes_on (λ s'. after_assertions s' (claim_places rest) (left_works s top (length (sorts_of script)) rest))) d.walk
+
+  module _ (c : Command) (none : (sorts : ℕ) → left_works s top sorts (c ∷ []) ≡ []) (still : (sorts : ℕ) → left_bounds s top sorts (c ∷ []) ≡ []) where
+    works-same : works (script ++ (c ∷ [])) ≡ works script
+    works-same = h.works (c ∷ []) ∙ ap (λ ws. works script ++ ws) (none (length (sorts_of script))) ∙ append-nil (works script)
+
+    bounds-same : boundings (script ++ (c ∷ [])) ≡ boundings script
+    bounds-same = h.bounds (c ∷ []) ∙ ap (λ bs. boundings script ++ bs) (still (length (sorts_of script))) ∙ append-nil (boundings script)
+
+    pub made_same : (m1 : Making) → claim_places (c ∷ []) ≡ [] → Extends (stand_of m.made) (stand_of m1.made) → stand_of m1.made ≡ stand_of m.made → MoreLists m.bounds m1.bounds → m1.made.sorts ≡ m.made.sorts ++ sorts_of (c ∷ []) →
+        IsDone (script ++ (c ∷ [])) m1 made
+    made_same m1 places x same l sorts = record {
+      walk = walk-behind (c ∷ []) ∙ ap (λ ps. after_assertions (stand_of m.made) ps (left_works s top (length (sorts_of script)) (c ∷ []))) places ∙ ap stands (sym same);
+      claims = subst (λ (ws : List Work). AreClaims m1 (map outcome_of ws) (boundings (script ++ (c ∷ []))) made) (sym works-same)
+          (subst (λ (bs : List Bounding). AreClaims m1 (map outcome_of (works script)) bs made) (sym bounds-same) (claims_stay m m1 x l (map outcome_of (works script)) (boundings script) made d.claims));
+      sorts = sorts ∙ ap (λ ss. ss ++ sorts_of (c ∷ [])) d.sorts ∙ sym (sorts_more script (c ∷ []));
+    }
+
+  pub made_declared : (at : Place) (x : List ℕ) (sort : Sort) → IsDone (script ++ (declare at x sort ∷ [])) (with_sort m sort) made
+  made_declared at x sort = made_same (declare at x sort) (λ n. refl) (λ n. refl) (with_sort m sort) refl (extends_self (stand_of m.made)) refl (lists_self m.bounds) refl
+
+  pub made_defined : (at : Place) (f : List ℕ) (params : List Parameter) (sort : Sort) (body : Sexp) → IsDone (script ++ (define at f params sort body ∷ [])) m made
+  made_defined at f params sort body = made_same (define at f params sort body) (λ n. refl) (λ n. refl) m refl (extends_self (stand_of m.made)) refl (lists_self m.bounds) (sym (append-nil m.made.sorts))
+
+  pub made_checked : (at : Place) → IsDone (script ++ (check at ∷ [])) m made
+  made_checked at = made_same (check at) (λ n. refl) (λ n. refl) m refl (extends_self (stand_of m.made)) refl (lists_self m.bounds) (sym (append-nil m.made.sorts))
+
+  pub made_ineffective : (at : Place) → IsDone (script ++ (ineffective at ∷ [])) m made
+  made_ineffective at = made_same (ineffective at) (λ n. refl) (λ n. refl) m refl (extends_self (stand_of m.made)) refl (lists_self m.bounds) (sym (append-nil m.made.sorts))
+
+  module _ (at : Place) (e : Sexp) where
     abbrev work : Work
     work = meaning as_work (work_names s top (length top)) e
 
     abbrev bound : Bounding
     bound = meaning bounding (bound_names_of s top (length top)) e
 
-    pub asserted : (m1 : Making) (c : ℕ × ℕ) → Asserts m m1 work bound (Ok c) → m1.made.sorts ≡ m.made.sorts → Stands s script rest m1 top axis (made ++ (c ∷ []))
-    asserted m1 c a sorts = record {
-      done = h.done ++ (work ∷ []);
-      bounded = h.bounded ++ (bound ∷ []);
-      works = h.works ∙ sym (append_assoc h.done (work ∷ []) (left_works s top axis rest));
-      bounds = h.bounds ∙ sym (append_assoc h.bounded (bound ∷ []) (left_bounds s top axis rest));
-      walk = h.walk ∙ ap (goes_on (λ s'. after_assertions s' (claim_places rest) (left_works s top axis rest))) (a.0 at);
-      claims = claims-last m1 work bound c a.1.claim h.done h.bounded made (claims_stay m m1 a.1.stand a.1.lists (map outcome_of h.done) h.bounded made h.claims);
-      fits = subst (λ (x : List Sort). TopFits x top) (sym sorts) h.fits;
-      sorts = sorts ∙ h.sorts;
-      before = h.before;
-      counted = h.counted;
-      split = sorts ∙ h.split;
+    pub made_claimed : (m1 : Making) (c : ℕ × ℕ) → Asserts m m1 work bound (Ok c) → m1.made.sorts ≡ m.made.sorts → IsDone (script ++ (claim at e ∷ [])) m1 (made ++ (c ∷ []))
+    made_claimed m1 c a sorts = record {
+      walk = walk-behind (claim at e ∷ []) ∙ ap (goes_on (λ s'. after_assertions s' [] [])) (a.0 at);
+      claims = subst (λ (ws : List Work). AreClaims m1 (map outcome_of ws) (boundings (script ++ (claim at e ∷ []))) (made ++ (c ∷ []))) (sym (h.works (claim at e ∷ [])))
+          (subst (λ (bs : List Bounding). AreClaims m1 (map outcome_of (works script ++ (work ∷ []))) bs (made ++ (c ∷ []))) (sym (h.bounds (claim at e ∷ [])))
+          (claims-last m1 work bound c a.1.claim (works script) (boundings script) made (claims_stay m m1 a.1.stand a.1.lists (map outcome_of (works script)) (boundings script) made d.claims)));
+      sorts = sorts ∙ d.sorts ∙ sym (append-nil (sorts_of script)) ∙ sym (sorts_more script (claim at e ∷ []));
     }
 
-    pub stopped : (m1 : Making) (stop : Stop) → Asserts m m1 work bound (Err stop) → StopsAs at (walk_of script) stop
-    stopped m1 stop a = stops_so at (walk_of script) _ stop h.walk
-        (stopped_on at (after_events at (stand_of m.made) (assertion_events work)) (λ s'. after_assertions s' (claim_places rest) (left_works s top axis rest)) stop (a at))
+    pub stopped : (rest : List Command) (m1 : Making) (stop : Stop) → Asserts m m1 work bound (Err stop) → StopsAs at (walk_of (script ++ (claim at e ∷ rest))) stop
+    stopped rest m1 stop a = stops_so at (walk_of (script ++ (claim at e ∷ rest))) _ stop (walk-behind (claim at e ∷ rest))
+        (stopped_on at (after_events at (stand_of m.made) (assertion_events work)) (λ s'. after_assertions s' (claim_places rest) (left_works s top (length (sorts_of script)) rest)) stop (a at))
 
-pub ends : (s : arena.Sexps) (script rest : List Command) (m : Making) (top : List Top) (axis : ℕ) (made : List (ℕ × ℕ)) → rest ≡ [] → Stands s script rest m top axis made → IsDone script m made
-ends s script rest m top axis made none h0 =
-    let h = subst (λ (x : List Command). Stands s script x m top axis made) none h0 in
-    let ws = h.works ∙ append-nil h.done in
-    let bs = h.bounds ∙ append-nil h.bounded in
-    record {
-      walk = h.walk;
-      claims = subst (λ (x : List Work). AreClaims m (map outcome_of x) (boundings script) made) (sym ws) (subst (λ (x : List Bounding). AreClaims m (map outcome_of h.done) x made) (sym bs) h.claims);
-      sorts = h.sorts;
-    }
+-- ---- what was made stays
+
+pub adds_nothing : (m : Making) (made : List (ℕ × ℕ)) → Adds m m made made
+adds_nothing m made = record {
+  stand = extends_self (stand_of m.made);
+  lists = lists_self m.bounds;
+  sorts = ([], sym (append-nil m.made.sorts));
+  claims = ([], sym (append-nil made));
+  drawn = λ e. e;
+}
+
+pub adds_sort : (m : Making) (sort : Sort) (made : List (ℕ × ℕ)) → Adds m (with_sort m sort) made made
+adds_sort m sort made = record {
+  stand = extends_self (stand_of m.made);
+  lists = lists_self m.bounds;
+  sorts = (sort ∷ [], refl);
+  claims = ([], sym (append-nil made));
+  drawn = λ e. e;
+}
+
+pub adds_claim : (m m1 : Making) (w : Work) (b : Bounding) (c : ℕ × ℕ) (made : List (ℕ × ℕ)) → IsAsserted m m1 w b c → m1.made.sorts ≡ m.made.sorts → m1.drawn ≡ [] → Adds m m1 made (made ++ (c ∷ []))
+adds_claim m m1 w b c made a sorts drawn = record {
+  stand = a.stand;
+  lists = a.lists;
+  sorts = ([], sorts ∙ sym (append-nil m.made.sorts));
+  claims = (c ∷ [], refl);
+  drawn = λ e. drawn;
+}
 
 -- ---- an assertion
 

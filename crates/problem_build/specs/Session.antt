@@ -15,6 +15,7 @@ use Rattle.smt_script.specs.Views.{commands_in}
 use Rattle.sort_check.specs.Single.{IsNothing, Stacks}
 use Rattle.sort_check.specs.Sorts.{sort_fault}
 use Rattle.sort_check.specs.declared.force.Force.{Force}
+use Rattle.problem_build.specs.Progress.{IsBuiltBy, IsKept}
 use Rattle.problem_build.specs.declared.session.Checked.{Checked}
 use Rattle.problem_build.specs.declared.session.Going.{Going}
 use Rattle.problem_build.specs.declared.session.Session.{Session}
@@ -56,6 +57,7 @@ pub record Goes (bound : Option ℕ) (steps : List Step) (g : Going) (left : Lis
   pub carried : carried_of steps ≡ said ++ carried_from (g.extends && stay_in_force g.before open_levels left) open_levels left
   pub clean : in_each_check bound (checks_of steps) ≡ in_each_check bound (asked_from open_levels left)
   pub sorted : AllByRecursion WellSorted (asked_from open_levels left)
+  pub kept : IsKept g.kept open_levels.inner g.progress
 
 -- this step is the next one
 pub record IsTaken (bound : Option ℕ) (g : Going) (s : Step) : Type 0 where
@@ -73,3 +75,5 @@ pub record Begins (g : Going) : Type 0 where
   pub nothing : IsNothing g.force
   pub problems : g.problems.items ≡ []
   pub extends : g.extends ≡ false
+  pub progress : IsBuiltBy [] g.progress
+  pub kept : g.kept ≡ 0

@@ -1,5 +1,5 @@
 -- How a walk over the commands of a script stands.
-use Rattle.std.specs.Prelude.{◌≡◌, ℕ, List, [], ◌∷◌, ◌++◌, map, length, None, Result, Ok, Err, Vec}
+use Rattle.std.specs.Prelude.{◌≡◌, ℕ, List, [], ◌∷◌, ◌++◌, map, length, Result, Ok, Err}
 use Rattle.dyadic.specs.Point.{Sort}
 use Rattle.script_model.specs.Script.{Command, claims, sorts_of}
 use Rattle.script_model.specs.Declared.{Bounding, bounding, constant_bounding, numbered}
@@ -7,7 +7,6 @@ use Rattle.script_forms.specs.Terms.{Unfolded}
 use Rattle.script_forms.specs.Work.{Work, as_work, outcome_of, assertion_events}
 use Rattle.script_forms.specs.Walk.{Walked, stands, stops, unfolds_not, nothing_made, constant_work, works, claim_places, after_assertions}
 use Rattle.smt_sexp.specs.declared.sexps.Sexps as arena
-use Rattle.sort_check.specs.Sorts.{sort_fault}
 use Rattle.script_faults.specs.WellSorted.{IsSound}
 use Rattle.term_build.specs.Built.{stand_of}
 use Rattle.term_build.specs.Settled.{Extends}
@@ -55,31 +54,16 @@ abbrev pub MeetsSorts : Walked → Type 0
 MeetsSorts (stops at (unfolds_not x)) = IsSound x
 MeetsSorts w = Unit {0}
 
--- what is done of a script, where these commands are left
-pub record Stands (s : arena.Sexps) (script rest : List Command) (m : Making) (top : List Top) (axis : ℕ) (made : List (ℕ × ℕ)) : Type 0 where
-  pub done : List Work
-  pub bounded : List Bounding
-  pub works : works script ≡ done ++ left_works s top axis rest
-  pub bounds : boundings script ≡ bounded ++ left_bounds s top axis rest
-  pub walk : walk_of script ≡ after_assertions (stand_of m.made) (claim_places rest) (left_works s top axis rest)
-  pub claims : AreClaims m (map outcome_of done) bounded made
-  pub fits : TopFits m.made.sorts top
-  pub sorts : m.made.sorts ≡ sorts_of script
-  pub before : List Sort
-  pub counted : length before ≡ axis
-  pub split : m.made.sorts ≡ before ++ sorts_of rest
+-- these names of the top are what the commands of a script bind, and what follows sees them
+pub record IsTopOf (s : arena.Sexps) (script : List Command) (top : List Top) : Type 0 where
+  pub works : (rest : List Command) → works (script ++ rest) ≡ works script ++ left_works s top (length (sorts_of script)) rest
+  pub bounds : (rest : List Command) → boundings (script ++ rest) ≡ boundings script ++ left_bounds s top (length (sorts_of script)) rest
+  pub fits : TopFits (sorts_of script) top
 
--- a well-sorted script is walked over, and this is its next command
-pub record IsNext (s : arena.Sexps) (c : Command) (m : Making) (top : List Top) (axis : ℕ) (made : List (ℕ × ℕ)) : Type 0 where
-  pub script : List Command
-  pub rest : List Command
-  pub sorted : sort_fault script ≡ None
-  pub stand : Stands s script (c ∷ rest) m top axis made
-
--- behind a command the walk stands so, or the script has this fault
-abbrev pub CommandStep : arena.Sexps → List Command → List Command → Making → List Top → List (ℕ × ℕ) → Result ℕ ReadError → Type 0
-CommandStep s script rest m top made (Ok axis) = Stands s script rest m top axis made
-CommandStep s script rest m top made (Err e) = IsBuildingError e (found_by (walk_of script))
+-- the same, with the number of its constants
+pub record IsNamed (s : arena.Sexps) (script : List Command) (top : List Top) (axis : ℕ) : Type 0 where
+  pub names : IsTopOf s script top
+  pub counted : length (sorts_of script) ≡ axis
 
 -- all assertions of a script are done
 pub record IsDone (script : List Command) (m : Making) (made : List (ℕ × ℕ)) : Type 0 where
@@ -87,6 +71,15 @@ pub record IsDone (script : List Command) (m : Making) (made : List (ℕ × ℕ)
   pub claims : AreClaims m (map outcome_of (works script)) (boundings script) made
   pub sorts : m.made.sorts ≡ sorts_of script
 
-abbrev pub Does : {A : Type 0} → List Command → Making → Result (Vec (ℕ × ℕ) A) ReadError → Type 0
-Does script m (Ok made) = IsDone script m made.items
-Does script m (Err e) = IsBuildingError e (found_by (walk_of script))
+-- what was made stays, under its number, and no sketch is begun
+pub record Adds (old new : Making) (made made1 : List (ℕ × ℕ)) : Type 0 where
+  pub stand : Extends (stand_of old.made) (stand_of new.made)
+  pub lists : MoreLists old.bounds new.bounds
+  pub sorts : (more : List Sort) × (new.made.sorts ≡ old.made.sorts ++ more)
+  pub claims : (more : List (ℕ × ℕ)) × (made1 ≡ made ++ more)
+  pub drawn : old.drawn ≡ [] → new.drawn ≡ []
+
+-- behind one command more, of whatever script: it is done, or the script has this fault
+abbrev pub Makes : List Command → Command → Making → Making → List (ℕ × ℕ) → List (ℕ × ℕ) → Result (Unit {0}) ReadError → Type 0
+Makes script c old new made made1 (Ok u) = IsDone (script ++ (c ∷ [])) new made1 × Adds old new made made1
+Makes script c old new made made1 (Err e) = (rest : List Command) → IsBuildingError e (found_by (walk_of (script ++ (c ∷ rest))))

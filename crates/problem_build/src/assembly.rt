@@ -1,33 +1,44 @@
 // A problem of the parts that a builder made.
-ghost use Rattle.std.specs.Prelude.{◌≡◌, ◌<◌, All, length, map};
+ghost use Rattle.std.specs.Prelude.{◌≡◌, ◌<◌, All, IfOk, OnOk, [], length, map};
 ghost use Rattle.poly_graph.specs.Problem as problem;
 ghost use Rattle.poly_graph.specs.Problem.{IsDeclared, sorts_of_axes};
-ghost use Rattle.poly_graph.specs.ProblemViews.{axis_of};
+ghost use Rattle.poly_graph.specs.ProblemViews.{IsWhole, axis_of};
+ghost use Rattle.term_build.specs.Built.{stand_of};
+ghost use Rattle.term_build.specs.Settled.{Extends};
 ghost use Rattle.term_build.specs.Shapes.{AreNumbers};
 ghost use Rattle.problem_build.specs.Laws.{parts_made};
 ghost use Rattle.problem_build.specs.Roots.{Roots};
-ghost use Rattle.problem_build.specs.BuildAnswers.{IsLean};
 
-use poly_graph::{Axis, FormNode, Problem};
+use poly_graph::{Axis, FormGraph, FormNode, Graph, Problem};
+use std::alloc::{AllocError, Global};
 use term_build::{Builder, Stop};
+use value_build::Maker;
 
-/// The problem with these axes, of all that the builder made; its form is the node `root`.
-pub fn assemble(axes: Vec<Axis>, builder: Builder, root: u32) -> Problem
-    requires bounds { All (λ (a : problem.Axis). IsDeclared a.declared) (map axis_of axes.items) }
-    requires sorts { sorts_of_axes (map axis_of axes.items) ≡ builder.sorts }
-    requires rooted { root < length builder.forms }
-    ensures parts { result ≡ parts_made builder (map axis_of axes.items) root }
-    ensures lean { IsLean result }
+/// The problem with these axes, of a copy of all that the builder made; its form is the node `root`.
+pub(crate) fn assemble(
+    alloc: Global,
+    axes: Vec<Axis>,
+    builder: &Builder,
+    root: u32,
+) -> Result<Problem, AllocError>
+    requires { IsWhole (parts_made builder.now (map axis_of axes.items) root) }
+    ensures { IfOk result (λ p. p ≡ parts_made builder.now (map axis_of axes.items) root) }
 {
-    let (graph, atoms, forms) = builder.into_parts();
-    Problem::new(axes, graph, atoms, forms, root)
+    let graph = Graph::joined(alloc, &Graph::new(alloc), 0, builder.nodes())?;
+    let forms = FormGraph::joined(alloc, &FormGraph::new(alloc), 0, builder.forms())?;
+    let atoms = Vec::from_slice(alloc, builder.atoms())?;
+    Ok(Problem::new(axes, graph, atoms, forms, root))
 }
 
 /// The form of a whole script: all of the forms of its assertions, which these nodes are.
-pub fn root_form(builder: &mut Builder, roots: Vec<u32>) -> Result<u32, Stop>
-    requires { AreNumbers (length builder.old.forms) roots.items }
-    ensures does { Roots builder.old builder.new roots.items result }
-    ensures sorts { builder.new.sorts ≡ builder.old.sorts }
+pub(crate) fn root_form(maker: &mut Maker, roots: Vec<u32>) -> Result<u32, Stop>
+    requires { AreNumbers (length maker.old.made.forms) roots.items }
+    ensures does { Roots maker.old.made maker.new.made roots.items result }
+    ensures sorts { maker.new.made.sorts ≡ maker.old.made.sorts }
+    ensures stand { OnOk result
+        (Extends (stand_of maker.old.made) (stand_of maker.new.made)) }
+    ensures empty { maker.new.drawn ≡ [] }
+    ensures bounds { maker.new.bounds ≡ maker.old.bounds }
 {
-    builder.form(FormNode::And(roots))
+    maker.form(FormNode::And(roots))
 }

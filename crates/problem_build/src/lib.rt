@@ -14,14 +14,15 @@ mod fault;
 mod frames;
 mod lets;
 mod locals;
+mod named;
 mod names;
+mod progress;
 mod reader;
 mod script;
 mod session;
 mod top;
 mod walk;
 
-pub use assembly::{assemble, root_form};
 pub use reader::{Reader, read_problem, read_session};
 pub use script::build;
 pub use session::{Checked, Session, build_all};

@@ -1,26 +1,34 @@
 // The problem of a well-sorted script.
-ghost use Rattle.std.specs.Prelude.{◌≡◌, All, IfOk, None, map};
-ghost use Rattle.script_model.specs.Script.{constants_of, sorts_of};
+ghost use Rattle.std.specs.Prelude.{◌≡◌, All, IfOk, None, length, map};
+ghost use Rattle.script_model.specs.Script.{constants_of};
 ghost use Rattle.script_forms.specs.Walk.{claim_places, last_place, nowhere};
-ghost use Rattle.smt_script.specs.Views.{command_of, commands_in, sort_of};
+ghost use Rattle.smt_script.specs.Views.{command_of, commands_in};
 ghost use Rattle.smt_sexp.specs.Views.{place_of};
 ghost use Rattle.smt_sexp.specs.declared.sexps.Sexps as arena;
 ghost use Rattle.sort_check.specs.Sorts.{sort_fault};
 ghost use Rattle.declared_box.specs.Axes.{constant_of};
-ghost use Rattle.problem_build.specs.Standing.{IsDone};
+ghost use Rattle.declared_box.specs.Table.{AreBefore};
+ghost use Rattle.problem_build.specs.Progress.{AreAxesOf, Concludes, IsState, MakesRoot};
 ghost use Rattle.script_faults.specs.Reader.{AreLowest, IsInWalkOrder};
-ghost use Rattle.problem_build.specs.BuildAnswers.{IsBuildAnswer, IsLean, IsWholeAnswer};
+ghost use Rattle.problem_build.specs.BuildAnswers.{IsBuildAnswer, IsLean};
 
-use crate::assembly::{assemble, root_form};
-use crate::commands::claims;
+use crate::assembly::root_form;
 use crate::fault::building_error;
+use crate::progress::Progress;
 use declared_box::{Constant, declare};
-use poly_graph::Problem;
+use poly_graph::{Axis, Problem};
 use script_fault::{Place, ReadError};
-use smt_script::{Command, Script, Sort};
+use smt_script::{Command, Script};
 use sort_check::Typed;
 use std::alloc::{AllocError, Global};
 use value_build::Maker;
+
+/// The axes of a script, and the node of its form.
+#[derive(Drop)]
+pub(crate) struct Ending {
+    pub(crate) axes: Vec<Axis>,
+    pub(crate) root: u32,
+}
 
 // The constants that commands declare, in order.
 fn constants<'a>(alloc: Global, commands: &[Command<'a>]) -> Result<Vec<Constant<'a>>, AllocError>
@@ -40,22 +48,6 @@ fn constants<'a>(alloc: Global, commands: &[Command<'a>]) -> Result<Vec<Constant
         rest = later;
     }
     Ok(constants)
-}
-
-// Their sorts.
-fn sorts(alloc: Global, commands: &[Command<'_>]) -> Result<Vec<Sort>, AllocError>
-    ensures { IfOk result (λ sorts. (s : arena.Sexps) →
-        map sort_of sorts.items ≡ sorts_of (map (command_of s) commands.now)) }
-{
-    let mut sorts = Vec::new(alloc);
-    let mut rest = commands;
-    while let [command, later @ ..] = rest {
-        if let Command::Declare(_, _, sort) = command {
-            sorts.push(*sort)?;
-        }
-        rest = later;
-    }
-    Ok(sorts)
 }
 
 // The place of the last assertion among commands.
@@ -88,32 +80,65 @@ fn seconds(alloc: Global, pairs: &[(u32, u32)]) -> Result<Vec<u32>, AllocError>
     pairs.iter().map(|p| p.1).collect(alloc)
 }
 
-// The problem of a script whose assertions are all done: its whole form, its axes and all that was made.
-fn finish(
+// The form of a script whose assertions are all done, as the last node.
+fn make_root(
     alloc: Global,
     script: &Script<'_>,
-    maker: Maker,
+    maker: &mut Maker,
+    made: &[(u32, u32)],
+) -> Result<u32, ReadError>
+    requires { IsState (commands_in script.now) maker.old made.now }
+    ensures { MakesRoot (commands_in script.now) maker.old maker.new made.now result }
+{
+    let forms = firsts(alloc, made)?;
+    match root_form(maker, forms) {
+        Ok(root) => {
+            // Its type keeps that this may be made.
+            let _ = maker.mark();
+            Ok(root)
+        }
+        Err(stop) => Err(building_error(last_claim(script.commands.as_slice()), stop)),
+    }
+}
+
+// The axes of a script whose form is made.
+fn axes_of(
+    alloc: Global,
+    script: &Script<'_>,
+    maker: &Maker,
     made: &[(u32, u32)],
     bound: Option<u32>,
-) -> Result<Problem, ReadError>
-    requires done { IsDone (commands_in script.now) maker made.now }
-    requires sorted { sort_fault (commands_in script.now) ≡ None }
-    ensures builds { IsBuildAnswer bound (commands_in script.now) result }
-    ensures lean { IfOk result (λ p. IsLean p) }
-    ensures order { IfOk result (λ p. IsInWalkOrder (commands_in script.now) p.nodes) }
-    ensures ends { IfOk result (λ p. All (λ a. AreLowest a.declared) p.axes) }
+) -> Result<Vec<Axis>, ReadError>
+    requires within { AreBefore (length maker.now.bounds) (map (λ p. p.1) made.now) }
+    ensures { AreAxesOf bound (commands_in script.now) maker.now.bounds
+        (map (λ p. p.1) made.now) result }
 {
-    let commands = script.commands.as_slice();
-    let constants = constants(alloc, commands)?;
-    let forms = firsts(alloc, made)?;
+    let constants = constants(alloc, script.commands.as_slice())?;
     let lists = seconds(alloc, made)?;
-    let (mut builder, table) = maker.into_parts();
-    let root = match root_form(&mut builder, forms) {
-        Ok(root) => root,
-        Err(stop) => return Err(building_error(last_claim(commands), stop)),
-    };
-    let axes = declare(alloc, &table, lists.as_slice(), bound, constants.as_slice())?;
-    Ok(assemble(axes, builder, root))
+    declare(
+        alloc,
+        maker.table(),
+        lists.as_slice(),
+        bound,
+        constants.as_slice(),
+    )
+}
+
+/// Ends a script whose assertions are all done: makes its whole form, and answers its axes and that form's node.
+pub(crate) fn conclude(
+    alloc: Global,
+    script: &Script<'_>,
+    maker: &mut Maker,
+    made: &[(u32, u32)],
+    bound: Option<u32>,
+) -> Result<Ending, ReadError>
+    requires done { IsState (commands_in script.now) maker.old made.now }
+    requires sorted { sort_fault (commands_in script.now) ≡ None }
+    ensures { Concludes bound (commands_in script.now) maker.old maker.new made.now result }
+{
+    let root = make_root(alloc, script, maker, made)?;
+    let axes = axes_of(alloc, script, maker, made, bound)?;
+    Ok(Ending { axes, root })
 }
 
 // The problem of a well-sorted script.
@@ -128,25 +153,8 @@ fn build_script(
     ensures order { IfOk result (λ p. IsInWalkOrder (commands_in script.now) p.nodes) }
     ensures ends { IfOk result (λ p. All (λ a. AreLowest a.declared) p.axes) }
 {
-    let sorts = sorts(alloc, script.commands.as_slice())?;
-    let mut maker = Maker::new(alloc, sorts);
-    let made = claims(alloc, script, &mut maker)?;
-    finish(alloc, script, maker, made.as_slice(), bound)
-}
-
-/// The same, which is known to be whole.
-pub(crate) fn build_whole(
-    alloc: Global,
-    script: &Script<'_>,
-    bound: Option<u32>,
-) -> Result<Problem, ReadError>
-    requires sorted { sort_fault (commands_in script.now) ≡ None }
-    ensures { IsWholeAnswer bound (commands_in script.now) result }
-{
-    let problem = build_script(alloc, script, bound)?;
-    // Its type keeps that it is whole.
-    let _ = problem.axes();
-    Ok(problem)
+    let mut progress = Progress::new(alloc);
+    progress.build(alloc, script, bound)
 }
 
 /// The problem of a well-sorted script, where the words give this bound of its constants.

@@ -1,15 +1,16 @@
 // The problems of a script with any number of checks.
 ghost use Rattle.std.specs.Prelude.{◌≡◌, ◌∷◌, [], ◌++◌, List, None, OnOk};
 ghost use Rattle.smt_script.specs.Levels as levels;
-ghost use Rattle.smt_script.specs.Views.{step_of, steps_in};
+ghost use Rattle.smt_script.specs.Views.{commands_in, step_of, steps_in};
 ghost use Rattle.sort_check.specs.Sorts.{sort_fault};
 ghost use Rattle.problem_build.specs.BuildAnswers.{IsWholeAnswer};
+ghost use Rattle.problem_build.specs.Progress.{IsBegun, IsBuiltBy, IsKept};
 ghost use Rattle.problem_build.specs.Session.{Begins, Goes, GoesOn, IsSessionAnswer, IsTaken, Stays, script_at};
 
-use crate::script::build_whole;
+use crate::progress::Progress;
 use poly_graph::Problem;
 use script_fault::{Place, ReadError};
-use smt_script::{Command, Course, Step};
+use smt_script::{Command, Course, Script, Step};
 use smt_sexp::Sexps;
 use sort_check::{Force, TypedCourse, check_place};
 use std::alloc::Global;
@@ -29,13 +30,16 @@ pub struct Session {
 }
 
 // What is in force behind some steps, the problems of their checks, how many commands were in force at the last of these, and
-// whether they still are; before the first one they are not.
+// whether they still are; before the first one they are not. What the last of these built, and how many of its commands were
+// in force ever since.
 #[derive(Drop)]
 pub(crate) struct Going<'a> {
     force: Force<'a>,
     problems: Vec<Checked>,
     before: usize,
     extends: bool,
+    progress: Progress,
+    kept: usize,
 }
 
 impl<'a> Going<'a> {
@@ -49,23 +53,48 @@ impl<'a> Going<'a> {
             problems: Vec::new(alloc),
             before: 0,
             extends: false,
+            progress: Progress::new(alloc),
+            kept: 0,
         }
     }
 }
 
-// The problem of what is in force at a check here.
+// The problem of a script that is begun, which is known to be whole.
+fn build_whole(
+    alloc: Global,
+    progress: &mut Progress,
+    script: &Script<'_>,
+    bound: Option<u32>,
+) -> Result<Problem, ReadError>
+    requires begun { IsBegun (commands_in script.now) progress.old }
+    requires sorted { sort_fault (commands_in script.now) ≡ None }
+    ensures builds { IsWholeAnswer bound (commands_in script.now) result }
+    ensures built { OnOk result (IsBuiltBy (commands_in script.now) progress.new) }
+{
+    let problem = progress.build(alloc, script, bound)?;
+    // Its type keeps that it is whole.
+    let _ = problem.axes();
+    Ok(problem)
+}
+
+// The problem of what is in force at a check here, where so many of the commands that are built stay.
 fn problem_here(
     alloc: Global,
     force: &mut Force<'_>,
+    progress: &mut Progress,
+    kept: usize,
     place: Place,
     bound: Option<u32>,
 ) -> Result<Problem, ReadError>
     requires sorted { sort_fault (script_at force.old place) ≡ None }
+    requires kept { IsKept kept (commands_in force.old.script) progress.old }
     ensures builds { IsWholeAnswer bound (script_at force.old place) result }
     ensures stays { OnOk result (Stays force.old force.new) }
+    ensures built { OnOk result (IsBuiltBy (script_at force.old place) progress.new) }
 {
     force.script.commands.push(Command::Check(place))?;
-    let built = build_whole(alloc, &force.script, bound);
+    progress.back_to(kept);
+    let built = build_whole(alloc, progress, &force.script, bound);
     force.script.commands.pop();
     built
 }
@@ -84,17 +113,26 @@ fn take<'a>(
         GoesOn bound steps left going.old going.new result }
 {
     if let Some(place) = check_place(&step) {
-        let problem = problem_here(alloc, &mut going.force, place, bound)?;
+        let problem = problem_here(
+            alloc,
+            &mut going.force,
+            &mut going.progress,
+            going.kept,
+            place,
+            bound,
+        )?;
         going.problems.push(Checked {
             problem,
             extends: going.extends,
         })?;
         going.before = going.force.script.commands.len();
+        going.kept = going.before;
         going.extends = true;
         return Ok(());
     }
     going.force.take(step)?;
     going.extends = going.extends && going.before <= going.force.script.commands.len();
+    going.kept = going.kept.min(going.force.script.commands.len());
     Ok(())
 }
 

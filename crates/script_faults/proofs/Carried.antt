@@ -12,7 +12,7 @@ use Rattle.script_faults.specs.Session.{AreCarried, BeginsNext, IfSaid, carried_
 -- ---- the levels that are open
 
 -- by lengths, what is in force once a level is closed is a part of what is in force
-abbrev Stacked : Levels → Type 0
+abbrev pub Stacked : Levels → Type 0
 Stacked l = (ns : List ℕ) × AreLengths ns l.inner l.outer
 
 stacked_opened : (n : ℕ) (l : Levels) → Stacked l → Stacked (opened n l)
@@ -69,7 +69,7 @@ reset_first : (m : ℕ) (xs : List Command) → m ≤ 0 → take m [] ≡ take m
 reset_first zero xs h = refl
 reset_first (suc m) xs h = absurd (omega (arith, h))
 
-step_first : (m : ℕ) (l : Levels) (s : Step) → Stacked l → m ≤ length l.inner → m ≤ length (after_step l s).inner → take m (after_step l s).inner ≡ take m l.inner
+pub step_first : (m : ℕ) (l : Levels) (s : Step) → Stacked l → m ≤ length l.inner → m ≤ length (after_step l s).inner → take m (after_step l s).inner ≡ take m l.inner
 step_first m l (command (declare at x t)) h few still = take-append-le m l.inner (declare at x t ∷ []) few
 step_first m l (command (define at f params t body)) h few still = take-append-le m l.inner (define at f params t body ∷ []) few
 step_first m l (command (claim at e)) h few still = take-append-le m l.inner (claim at e ∷ []) few

@@ -1,4 +1,5 @@
 use Rattle.std.proofs.Common.{◌≡◌, ◌&&◌, ap, length, nat_le, refl, subst, sym, ◌∙◌}
+use Rattle.std.specs.Prelude.{min}
 use Rattle.smt_script.specs.Levels.{after_step}
 use Rattle.smt_script.specs.Views.{step_of}
 use Rattle.smt_sexp.specs.declared.sexps.Sexps.{Sexps}
@@ -16,7 +17,7 @@ returns-in-Some c =
     let p : Checked = record { problem = c.in_ok-problem.problem; extends = old.extends } in record {
       goes = λ steps left h. (
         check_behind c.args.bound steps left old (step_of s c.args.step) c.in-Some.place (sym (c.in-Some.ensures s)) h _ p made.builds refl made.stays c.in_ok-push.ensures.items
-            (c.len-going.ensures ∙ c.problem_here.new.force.script.commands.ok.0) refl,
+            (c.len-going.ensures ∙ c.problem_here.new.force.script.commands.ok.0) refl made.built refl,
         made.stays.sexps,
       );
     }
@@ -30,11 +31,12 @@ returns c =
     let still : c.if-going.going ≡ (old.extends && nat_le old.before many) = elim c.if-going.branch [
       | then-going w ↦ w.going-is ∙ ap (nat_le old.before) (w.len.ensures ∙ new.script.commands.ok.0) ∙ ap (λ b. b && nat_le old.before many) (sym w.if-going.true)
       | else-going w ↦ w.going-is ∙ w.if-going.false ∙ ap (λ b. b && nat_le old.before many) (sym w.if-going.false)
-    ] in record {
+    ] in
+    let kept : c.min-going.result ≡ min old.kept many = c.min-going.ensures ∙ ap (min old.kept) (c.len-2.ensures ∙ new.script.commands.ok.0) in record {
       goes = λ steps left h. (
         step_behind c.args.bound steps left old _ (step_of s c.args.step) (sym (c.in_default.ensures s)) h
             (subst (λ (k : Sexps). Stacks k new.script.commands.items new.marks.items (after_step h.open_levels (step_of s c.args.step))) (sym c.in_ok-take.ensures.sexps)
-            (c.in_ok-take.ensures.takes s h.open_levels h.stacks)) refl refl still,
+            (c.in_ok-take.ensures.takes s h.open_levels h.stacks)) refl refl still refl kept,
         c.in_ok-take.ensures.sexps,
       );
     }

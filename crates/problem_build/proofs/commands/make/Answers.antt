@@ -1,0 +1,75 @@
+use Rattle.std.proofs.Common.{◌≡◌, ℕ, List, [], ◌∷◌, ◌++◌, subst, sym, ◌∙◌}
+use Rattle.smt_script.specs.Views.{command_of, sort_of, parameter_of}
+use Rattle.smt_script.specs.declared.command.Command.{Command}
+use Rattle.smt_script.specs.declared.command.Command.TheVariants as commands
+use Rattle.smt_sexp.specs.Arena.{expression_at}
+use Rattle.smt_sexp.specs.Views.{place_of}
+use Rattle.script_model.specs.Script as model
+use Rattle.std.proofs.Common.{map}
+use Rattle.value_build.specs.Making.{Making}
+use Rattle.problem_build.specs.BuildAnswers.{IsBuildingError, found_by}
+use Rattle.problem_build.specs.Names.{work_at, bounding_at}
+use Rattle.problem_build.specs.Standing.{IsDone, Adds, walk_of}
+use Rattle.problem_build.proofs.Standing as standing
+use Rattle.problem_build.proofs.commands.make.Goals as goal
+
+pub returns-in_ok-add_sort-in-Declare : goal.returns-in_ok-add_sort-in-Declare
+returns-in_ok-add_sort-in-Declare c = λ script names done.
+    let d = c.in-Declare in
+    let s = c.args.sexps.now in
+    let m = c.args.maker.now in
+    let made = c.args.claims.now.items in
+    subst (λ (x : Command). IsDone (script ++ (command_of s x ∷ [])) c.add_sort.new.self made × Adds m c.add_sort.new.self made made) (sym d.is)
+    (subst (λ (m1 : Making). IsDone (script ++ (command_of s (commands.Declare d.field-0 d.field-1 d.sort) ∷ [])) m1 made × Adds m m1 made made) (sym c.in_ok-add_sort-in-Declare.ensures.added)
+    (standing.made_declared s script m c.args.top.now made names done (place_of d.field-0) d.field-1.now (sort_of d.sort), standing.adds_sort m (sort_of d.sort) made))
+
+pub returns-in_ok-push-in-Ok : goal.returns-in_ok-push-in-Ok
+returns-in_ok-push-in-Ok c = λ script names done.
+    let d = c.in-Assert in
+    let s = c.args.sexps.now in
+    let m = c.args.maker.now in
+    let m1 = c.assertion.new.maker in
+    let made = c.args.claims.now.items in
+    let e = expression_at s d.body in
+    let a = c.in-Ok.ensures.asserts in
+    subst (λ (x : Command). IsDone (script ++ (command_of s x ∷ [])) m1 c.push.new.self.items × Adds m m1 made c.push.new.self.items) (sym d.is)
+    (subst (λ (xs : List (ℕ × ℕ)). IsDone (script ++ (model.claim (place_of d.place) e ∷ [])) m1 xs × Adds m m1 made xs) (sym c.in_ok-push-in-Ok.ensures.items) (
+      standing.made_claimed s script m c.args.top.now made names done (place_of d.place) e m1 c.in-Ok.made a c.assertion.ensures.sorts,
+      standing.adds_claim m m1 (work_at s c.args.top.now d.body) (bounding_at s c.args.top.now d.body) c.in-Ok.made made a.1 c.assertion.ensures.sorts c.in-Ok.ensures.empty,
+    ))
+
+pub returns-in-Err : goal.returns-in-Err
+returns-in-Err c = λ script names done rest.
+    let d = c.in-Assert in
+    let s = c.args.sexps.now in
+    let e = expression_at s d.body in
+    subst (λ (x : Command). IsBuildingError c.building_error.result (found_by (walk_of (script ++ (command_of s x ∷ rest))))) (sym d.is)
+    (c.building_error.ensures (walk_of (script ++ (model.claim (place_of d.place) e ∷ rest)))
+    (standing.stopped s script c.args.maker.now c.args.top.now c.args.claims.now.items names done (place_of d.place) e rest c.assertion.new.maker c.in-Err.stop c.in-Err.ensures.asserts))
+
+pub returns-in-Define : goal.returns-in-Define
+returns-in-Define c = λ script names done.
+    let d = c.in-Define in
+    let s = c.args.sexps.now in
+    let m = c.args.maker.now in
+    let made = c.args.claims.now.items in
+    subst (λ (x : Command). IsDone (script ++ (command_of s x ∷ [])) m made × Adds m m made made) (sym d.is)
+    (standing.made_defined s script m c.args.top.now made names done (place_of d.field-0) d.field-1.now (map parameter_of d.field-2.items) (sort_of d.field-3) (expression_at s d.field-4), standing.adds_nothing m made)
+
+pub returns-in-Check : goal.returns-in-Check
+returns-in-Check c = λ script names done.
+    let d = c.in-Check in
+    let s = c.args.sexps.now in
+    let m = c.args.maker.now in
+    let made = c.args.claims.now.items in
+    subst (λ (x : Command). IsDone (script ++ (command_of s x ∷ [])) m made × Adds m m made made) (sym d.is)
+    (standing.made_checked s script m c.args.top.now made names done (place_of d.field-0), standing.adds_nothing m made)
+
+pub returns-in-Ineffective : goal.returns-in-Ineffective
+returns-in-Ineffective c = λ script names done.
+    let d = c.in-Ineffective in
+    let s = c.args.sexps.now in
+    let m = c.args.maker.now in
+    let made = c.args.claims.now.items in
+    subst (λ (x : Command). IsDone (script ++ (command_of s x ∷ [])) m made × Adds m m made made) (sym d.is)
+    (standing.made_ineffective s script m c.args.top.now made names done (place_of d.field-0), standing.adds_nothing m made)

@@ -1,0 +1,16 @@
+use Rattle.std.proofs.Common.{◌∷◌, [], List, subst, sym}
+use Rattle.script_model.specs.Script.{Command, check}
+use Rattle.smt_script.specs.Views.{commands_in}
+use Rattle.smt_sexp.specs.Views.{place_of}
+use Rattle.problem_build.specs.Progress.{IsBegun, IsBuiltBy}
+use Rattle.problem_build.proofs.Going.{pushed_is}
+use Rattle.problem_build.proofs.Past.{kept_begins}
+use Rattle.problem_build.proofs.session.problem_here.Goals as goal
+
+pub build_whole-built-requires-clause-begun : goal.build_whole-built-requires-clause-begun
+build_whole-built-requires-clause-begun c =
+    let force = c.args.force.now in
+    let k = c.requires.kept in
+    let built = c.back_to.ensures k.script k.built k.few in
+    subst (λ (cs : List Command). IsBegun cs c.back_to.new.self) (sym (pushed_is force c.push.new.self.items c.args.place c.in_ok-push.ensures.items))
+    (kept_begins c.args.kept (commands_in force.script) (check (place_of c.args.place) ∷ []) c.back_to.new.self (subst (λ (cs : List Command). IsBuiltBy cs c.back_to.new.self) k.same built))
