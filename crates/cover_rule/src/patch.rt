@@ -114,6 +114,22 @@ impl<'a> Patch<'a> {
         Patch::begin_in(alloc, work, problem, margins, state)
     }
 
+    /// The problem.
+    pub fn problem(&self) -> &'a Problem
+        ensures problem { result.now ≡ self.now.problem }
+        ensures numbered { IsNumbered result.now }
+    {
+        self.problem
+    }
+
+    /// The margins.
+    pub fn margins(&self) -> &Margins
+        ensures margins { result.now ≡ self.now.margins }
+        ensures bits { AreMargins result.now }
+    {
+        &self.margins
+    }
+
     /// The state that it has reached.
     pub fn reached(&self) -> &State
         ensures state { result.now ≡ self.now.kept.reached }
