@@ -9,8 +9,9 @@ ghost use Rattle.cover_rule.specs.Refusals.{VoidEnd, VoidNoEnd, VoidCombineEnd, 
 ghost use Rattle.cover_data.specs.Views.{kept_of, end_line};
 ghost use Rattle.cover_rule.specs.Held.{IsHeld, patch_of};
 
-use crate::combining::{can_combine, combining_leaves_nothing};
-use crate::narrowing::{is_no_one_sided, leaves_nothing, off_leaves_nothing};
+use crate::combining::can_combine;
+use crate::narrower::{Narrower, leaves_nothing};
+use crate::narrowing::is_no_one_sided;
 use crate::refusal::PatchRefusal;
 use crate::steps::quote;
 use crate::truth::may_hold;
@@ -51,7 +52,8 @@ pub fn void(
     if !kept.reached.is_yes(j) {
         return Err(PatchRefusal::NotYes);
     }
-    if !leaves_nothing(problem, margins, &kept.reached, j, work) {
+    let by = Narrower::Pull(j);
+    if !leaves_nothing(problem, margins, &kept.reached, by, work) {
         return Err(PatchRefusal::NotFalse);
     }
     end_by(kept, End::Void(j));
@@ -79,7 +81,8 @@ pub fn void_no(
     if !is_no_one_sided(problem, &kept.reached, j) {
         return Err(PatchRefusal::NotNo);
     }
-    if !off_leaves_nothing(problem, margins, &kept.reached, j, work) {
+    let by = Narrower::Push(j);
+    if !leaves_nothing(problem, margins, &kept.reached, by, work) {
         return Err(PatchRefusal::NotFalse);
     }
     end_by(kept, End::VoidNo(j));
@@ -107,7 +110,8 @@ pub fn void_combine(
     if !can_combine(problem, margins, &kept.reached, multipliers) {
         return Err(PatchRefusal::NotCombinable);
     }
-    if !combining_leaves_nothing(problem, margins, &kept.reached, multipliers, work) {
+    let by = Narrower::Combine(multipliers);
+    if !leaves_nothing(problem, margins, &kept.reached, by, work) {
         return Err(PatchRefusal::NotFalse);
     }
     match Combination::new(alloc, multipliers) {
