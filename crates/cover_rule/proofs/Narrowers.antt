@@ -9,7 +9,7 @@ use Rattle.cover_data.specs.declared.margins.Margins.{Margins}
 use Rattle.cover_data.specs.Margins.{loosenings_of}
 use Rattle.cover_rule.specs.declared.narrower.Narrower.{Narrower}
 use Rattle.cover_rule.specs.declared.narrower.Narrower.TheVariants.{Pull, Push, Combine}
-use Rattle.cover_rule.specs.Narrowers.{NamesAtom, CanNarrow, may_narrow, narrows_to}
+use Rattle.cover_rule.specs.Narrowers.{CanNarrow, NamesAtom, may_narrow, narrows_to}
 use Rattle.cover_rule.proofs.Narrowings.{narrowing_within, narrowing_off_within, combining_within}
 
 pub narrows_within : (p : Parts) → IsProblem (problem_of p) → (m : Margins) (S : State) (n : Narrower) (narrow : Space) → narrows_to p m S n ≡ Some narrow → IsTrue (space_within narrow S.space)

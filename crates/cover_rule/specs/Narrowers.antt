@@ -1,9 +1,9 @@
 -- What a space is narrowed by: an atom's range, an atom's off-range, or a combination of atoms.
-use Rattle.std.specs.Prelude.{◌≡◌, ◌≢◌, ◌<◌, ◌≤◌, Option, Some, Bool, length, IsTrue, Result}
+use Rattle.std.specs.Prelude.{◌≡◌, ◌≢◌, ◌<◌, ◌≤◌, Option, Some, Bool, not, length, IsTrue, Result}
 use Rattle.interval_model.specs.Space.{Space}
 use Rattle.poly_graph.specs.ProblemViews.{Parts, problem_of}
 use Rattle.cover_model.specs.State.{State, in_yes, with_space}
-use Rattle.cover_model.specs.Rules.{Line, pull, push, combine, narrowing, narrowing_off, combining, in_no_one_sided, can_combine}
+use Rattle.cover_model.specs.Rules.{Line, pull, push, combine, void, void_no, void_combine, narrowing, narrowing_off, combining, in_no_one_sided, can_combine}
 use Rattle.cover_model.specs.Views.{multipliers_of}
 use Rattle.cover_model.specs.Honest.{is_some_space}
 use Rattle.cover_model.specs.Fits.{FitsAxes}
@@ -12,10 +12,10 @@ use Rattle.cover_data.specs.Margins.{loosenings_of}
 use Rattle.cover_rule.specs.declared.narrower.Narrower.{Narrower}
 use Rattle.cover_rule.specs.declared.narrower.Narrower.TheVariants.{Pull, Push, Combine}
 use Rattle.cover_rule.specs.declared.refusal.PatchRefusal.{PatchRefusal}
-use Rattle.cover_rule.specs.declared.refusal.PatchRefusal.TheVariants.{NotYes, NotNo, NotCombinable, IsVoid, Memory}
+use Rattle.cover_rule.specs.declared.refusal.PatchRefusal.TheVariants.{NotYes, NotNo, NotCombinable, NotFalse, IsVoid, Memory}
 use Rattle.cover_rule.specs.Models.{PatchModel}
 use Rattle.cover_rule.specs.Patch.{problem_in, now_in, space_or, stepped, with_kept}
-use Rattle.cover_rule.specs.Refusals.{if_ended, then_by, unless, PatchAnswer, IfLessStep}
+use Rattle.cover_rule.specs.Refusals.{if_ended, then_by, unless, PatchAnswer, IfLessStep, VoidEnd, VoidNoEnd, VoidCombineEnd}
 
 -- the atom is one of the problem; those of a combination are tested
 abbrev pub NamesAtom : Parts → Narrower → Type 0
@@ -85,3 +85,24 @@ NarrowStep P n Q r = PatchAnswer (narrow_refusal P n) P (narrowed_by P n) Q r
 
 abbrev pub NarrowIfLessStep : PatchModel → Narrower → PatchModel → Result Bool PatchRefusal → Type 0
 NarrowIfLessStep P n Q r = IfLessStep (narrows_in P n) (narrow_refusal P n) P (narrowed_by P n) Q r
+
+-- ---- where it leaves nothing
+
+abbrev pub void_line_of : Narrower → Line
+void_line_of (Pull j) = void j
+void_line_of (Push j) = void_no j
+void_line_of (Combine ms) = void_combine (multipliers_of ms.now)
+
+abbrev pub leaves_some_refusal : PatchModel → Narrower → Option PatchRefusal
+leaves_some_refusal P n = then_by (if_ended P.kept) (then_by (unless (may_narrow P.problem P.margins (now_in P) n) (why_not n)) (unless (not (is_some_space (narrows_in P n))) NotFalse))
+
+-- the end by an atom takes no memory
+abbrev pub TakesMemory : Narrower → Type 0
+TakesMemory (Pull j) = ⊥
+TakesMemory (Push j) = ⊥
+TakesMemory (Combine ms) = Unit {0}
+
+abbrev pub EndByNarrower : PatchModel → Narrower → PatchModel → Result (Unit {0}) PatchRefusal → Type 0
+EndByNarrower P (Pull j) Q r = VoidEnd P j Q r
+EndByNarrower P (Push j) Q r = VoidNoEnd P j Q r
+EndByNarrower P (Combine ms) Q r = VoidCombineEnd P (multipliers_of ms.now) Q r

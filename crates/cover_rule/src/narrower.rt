@@ -1,14 +1,14 @@
 // What a space is narrowed by, and what that leaves of it.
-ghost use Rattle.std.specs.Prelude.{◌≡◌, ◌≢◌, true, not, IfOk};
+ghost use Rattle.std.specs.Prelude.{◌≡◌, ◌≢◌, true, not, IfOk, OnErr};
 ghost use Rattle.poly_graph.specs.ProblemViews.{problem_of};
 ghost use Rattle.cover_model.specs.Fits.{FitsProblem};
 ghost use Rattle.cover_model.specs.Honest.{is_some_space};
 ghost use Rattle.ival.specs.Narrows.{IsNarrowed};
 ghost use Rattle.ival.specs.SpaceViews.{space_of};
 ghost use Rattle.cover_data.specs.Margins.{AreMargins};
-ghost use Rattle.cover_data.specs.Views.{step_line};
+ghost use Rattle.cover_data.specs.Views.{end_line, step_line};
 ghost use Rattle.cover_rule.specs.declared.refusal.PatchRefusal.TheVariants as refusal;
-ghost use Rattle.cover_rule.specs.Narrowers.{NamesAtom, CanNarrow, IsSized, line_of, may_narrow, narrows_to, why_not};
+ghost use Rattle.cover_rule.specs.Narrowers.{NamesAtom, CanNarrow, IsSized, TakesMemory, line_of, may_narrow, narrows_to, void_line_of, why_not};
 ghost use Rattle.cover_rule.specs.Serves.{HasRowsOf, IsReady};
 
 use crate::combining::{can_combine, combine_spare};
@@ -16,7 +16,7 @@ use crate::facts::problem_is_whole;
 use crate::narrowing::{copy_space, is_no_one_sided, narrow_off_spare, narrow_spare};
 use crate::refusal::PatchRefusal;
 use crate::workspace::Workspace;
-use cover_data::{Combination, Margins, State, Step};
+use cover_data::{Combination, End, Margins, State, Step};
 use dyadic::Dy;
 use ival::Narrowed;
 use poly_graph::Problem;
@@ -143,6 +143,21 @@ pub fn step_by(alloc: Global, by: Narrower) -> Result<Step, AllocError>
         Narrower::Push(j) => Ok(Step::Push(j)),
         Narrower::Combine(multipliers) => {
             Ok(Step::Combine(Combination::new(alloc, multipliers)?))
+        }
+    }
+}
+
+/// The end that says that nothing is left.
+pub fn end_by(alloc: Global, by: Narrower) -> Result<End, AllocError>
+    requires { IsSized by }
+    ensures line { IfOk result (λ e. end_line e ≡ void_line_of by.entry) }
+    ensures memory { OnErr result (TakesMemory by.entry) }
+{
+    match by {
+        Narrower::Pull(j) => Ok(End::Void(j)),
+        Narrower::Push(j) => Ok(End::VoidNo(j)),
+        Narrower::Combine(multipliers) => {
+            Ok(End::VoidCombine(Combination::new(alloc, multipliers)?))
         }
     }
 }

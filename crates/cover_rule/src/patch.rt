@@ -336,11 +336,12 @@ impl<'a> Patch<'a> {
         ensures { VoidEnd self.old j self.new result }
     {
         ends::void(
+            self.alloc,
             self.problem,
             &self.margins,
             &mut self.kept,
             &mut self.work,
-            j,
+            Narrower::Pull(j),
         )
     }
 
@@ -349,12 +350,13 @@ impl<'a> Patch<'a> {
         requires { j < length self.old.problem.atoms }
         ensures { VoidNoEnd self.old j self.new result }
     {
-        ends::void_no(
+        ends::void(
+            self.alloc,
             self.problem,
             &self.margins,
             &mut self.kept,
             &mut self.work,
-            j,
+            Narrower::Push(j),
         )
     }
 
@@ -362,13 +364,13 @@ impl<'a> Patch<'a> {
     pub fn void_combine(&mut self, multipliers: &[(u32, Dy)]) -> Result<(), PatchRefusal>
         ensures { VoidCombineEnd self.old (multipliers_of multipliers.now) self.new result }
     {
-        ends::void_combine(
+        ends::void(
             self.alloc,
             self.problem,
             &self.margins,
             &mut self.kept,
             &mut self.work,
-            multipliers,
+            Narrower::Combine(multipliers),
         )
     }
 
