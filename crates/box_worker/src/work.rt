@@ -26,7 +26,7 @@ use crate::learn::{copy, teaches_nothing};
 use crate::open_patch::OpenPatch;
 use crate::preconditions::{close_at, mark_conjuncts, void_any};
 use crate::room::Room;
-use crate::scout::Emptied;
+use crate::scout::{Emptied, Scout};
 use crate::split::split;
 use crate::worked::Worked;
 use cover_rule::{KeptPatch, Lemma, MiddlePoint, Options, Patch, Point, State};
@@ -164,6 +164,28 @@ fn worked(alloc: Global, room: &mut Room, ended: Ended, patch: Patch) -> Result<
     }
 }
 
+// Takes steps on a patch that has just begun; by what nothing is left, where that is met.
+fn take_steps<'a>(
+    alloc: Global,
+    lemmas: &[Lemma],
+    patch: Patch<'a>,
+    scout: Scout,
+) -> (Patch<'a>, Scout, Result<Option<Emptied>, AllocError>)
+    requires begun { patch.kept ≡ run_at patch.kept.first }
+    requires lemmas { AreLemmasFor (problem_in patch) (loosenings_in patch) lemmas.now }
+    ensures { IsOpenFor (open_model lemmas.now patch.entry) result.0 }
+{
+    let open = OpenPatch::new(patch, lemmas);
+    let mut contraction = Contraction { alloc, open, scout };
+    let void = contraction.take_steps();
+    let Contraction {
+        alloc: _,
+        open,
+        scout,
+    } = contraction;
+    (open.into_patch(), scout, void)
+}
+
 // Contracts the state of a patch that has just begun, by the scout that is kept; by what nothing is left, where that is
 // met.
 fn contract<'a>(
@@ -177,17 +199,9 @@ fn contract<'a>(
     ensures { IfOk result (λ r. IsOpenFor (open_model lemmas.now patch.entry) r.0) }
 {
     let scout = heuristics.take_scout(alloc, &patch)?;
-    let open = OpenPatch::new(patch, lemmas);
-    let mut contraction = Contraction { alloc, open, scout };
-    let void = contraction.take_steps();
-    let Contraction {
-        alloc: _,
-        open,
-        scout,
-    } = contraction;
+    let (patch, scout, void) = take_steps(alloc, lemmas, patch, scout);
     heuristics.keep(scout);
-    let void = void?;
-    Ok((open.into_patch(), void))
+    Ok((patch, void?))
 }
 
 // Goes on with a patch that has just begun until it has ended.
