@@ -193,15 +193,35 @@ fn contract<'a>(
     heuristics: &mut Heuristics,
     lemmas: &[Lemma],
     patch: Patch<'a>,
-) -> Result<(Patch<'a>, Option<Emptied>), AllocError>
+) -> (Patch<'a>, Result<Option<Emptied>, AllocError>)
     requires begun { patch.kept ≡ run_at patch.kept.first }
     requires lemmas { AreLemmasFor (problem_in patch) (loosenings_in patch) lemmas.now }
-    ensures { IfOk result (λ r. IsOpenFor (open_model lemmas.now patch.entry) r.0) }
+    ensures { IsOpenFor (open_model lemmas.now patch.entry) result.0 }
 {
-    let scout = heuristics.take_scout(alloc, &patch)?;
-    let (patch, scout, void) = take_steps(alloc, lemmas, patch, scout);
-    heuristics.keep(scout);
-    Ok((patch, void?))
+    match heuristics.take_scout(alloc, &patch) {
+        Ok(scout) => {
+            let (patch, scout, void) = take_steps(alloc, lemmas, patch, scout);
+            heuristics.keep(scout);
+            (patch, void)
+        }
+        Err(error) => (patch, Err(error)),
+    }
+}
+
+// Finishes after a contraction, unless it ran out of memory.
+fn finish_after(
+    alloc: Global,
+    heuristics: &mut Heuristics,
+    void: Result<Option<Emptied>, AllocError>,
+    patch: &mut Patch,
+) -> Result<Ended, AllocError>
+    requires open { patch.old.kept.end ≡ None }
+    requires root { LiesInRoot (problem_in patch.old) patch.old.kept.first.space }
+    ensures continues { IfOk result (λ e. Continues patch.old patch.new) }
+    ensures ended { IfOk result (HasEnded patch.new) }
+{
+    let void = void?;
+    finish(alloc, heuristics, &void, patch)
 }
 
 // Goes on with a patch that has just begun until it has ended.
@@ -223,8 +243,8 @@ fn come_to_end<'a>(
     if let Some(ended) = at_once(alloc, lemmas, &mut patch)? {
         return Ok((patch, ended));
     }
-    let (mut patch, void) = contract(alloc, heuristics, lemmas, patch)?;
-    let ended = finish(alloc, heuristics, &void, &mut patch)?;
+    let (mut patch, void) = contract(alloc, heuristics, lemmas, patch);
+    let ended = finish_after(alloc, heuristics, void, &mut patch)?;
     Ok((patch, ended))
 }
 
