@@ -1,6 +1,5 @@
 // What guides the steps at a state. A heuristic that promises nothing: the patch tests each step.
 use crate::common::Common;
-use crate::facts::problem_is_whole;
 use crate::fallen::{atom_masks, repeating_atoms, take_over};
 use crate::guide::Guide;
 use crate::needs::{Needs, is_set, needs_at};
@@ -217,17 +216,8 @@ impl Scout {
 
     /// Looks at the state that the patch has reached, by the guide; whether the form may hold there.
     pub fn look(&mut self, alloc: Global, patch: &Patch) -> Result<bool, AllocError> {
-        let problem = patch.problem();
-        problem_is_whole(problem);
         match &mut self.guide {
-            Some(guide) => guide.look(
-                alloc,
-                problem,
-                patch.margins(),
-                patch.rows(),
-                patch.reached(),
-                &self.masks,
-            ),
+            Some(guide) => guide.look(alloc, patch, &self.masks),
             None => Ok(true),
         }
     }
@@ -243,15 +233,6 @@ impl Scout {
     /// What is needed at the state that the patch has reached.
     pub fn see(&mut self, alloc: Global, patch: &Patch) -> Result<Needs, AllocError> {
         self.look(alloc, patch)?;
-        let problem = patch.problem();
-        problem_is_whole(problem);
-        needs_at(
-            alloc,
-            problem,
-            patch.margins(),
-            patch.rows(),
-            patch.reached(),
-            &self.guide,
-        )
+        needs_at(alloc, patch, &self.guide)
     }
 }
