@@ -1,6 +1,6 @@
 -- Attempts at a step or an end of a patch, and what stays the same as a patch goes on.
 use Rattle.std.specs.Prelude.{◌≡◌, ℕ, ◌<◌, length, List, [], ◌∷◌, Bool, true, false, not, ◌&&◌, Option, None, IsSome, All, Contains}
-use Rattle.poly_graph.specs.ProblemViews.{Parts, problem_of}
+use Rattle.poly_graph.specs.ProblemViews.{Parts}
 use Rattle.interval_model.specs.Space.{is_undecided, test_axis}
 use Rattle.cover_model.specs.Combination.{Multipliers}
 use Rattle.cover_model.specs.State.{State, undecided}
@@ -72,8 +72,8 @@ pub record IsOpen (q : Parts) (m : Margins) (lemmas : List LemmaModel) (S : Stat
   pub open_end : P.kept.end ≡ None
 
 -- steps that quote no lemma, and perhaps an end
-abbrev pub Repeats : Parts → Margins → PatchModel → PatchModel → Type 0
-Repeats q m P Q = (R : PatchModel) × IsOpen q m [] P.kept.first R × Continues R Q
+abbrev pub Repeats : PatchModel → PatchModel → Type 0
+Repeats P Q = (R : PatchModel) × IsOpen P.problem P.margins [] P.kept.first R × Continues R Q
 
 -- it stays so by a step
 abbrev pub StaysOpen : PatchModel → PatchModel → Type 0
@@ -85,16 +85,16 @@ all_decided S [] = true
 all_decided S (j ∷ js) = not (undecided S j) && all_decided S js
 
 -- each conjunct of the form is marked
-abbrev pub conjuncts_are_decided : Parts → State → Bool
-conjuncts_are_decided p S = all_decided S (conjuncts (problem_of p).form)
+abbrev pub conjuncts_are_decided : PatchModel → Bool
+conjuncts_are_decided P = all_decided (now_in P) (conjuncts (problem_in P).form)
 
 -- no atom that is marked yes leaves nothing of its state
-abbrev pub no_atom_empties : Parts → PatchModel → Bool
-no_atom_empties p P = none_empty (problem_of p) (loosenings_in P) (now_in P)
+abbrev pub no_atom_empties : PatchModel → Bool
+no_atom_empties P = none_empty (problem_in P) (loosenings_in P) (now_in P)
 
 -- each of its Bool axes is decided
-abbrev pub HasNoOpenAxis : Parts → PatchModel → Type 0
-HasNoOpenAxis p P = (i : ℕ) → i < length p.axes → test_axis is_undecided i P.kept.reached.space ≡ false
+abbrev pub HasNoOpenAxis : PatchModel → Type 0
+HasNoOpenAxis P = (i : ℕ) → i < length P.problem.axes → test_axis is_undecided i P.kept.reached.space ≡ false
 
 -- it has not ended, and nothing is left to do at its state but to part it
 pub record IsDue (P : PatchModel) : Type 0 where

@@ -1,5 +1,5 @@
-// Facts that types of other crates keep. A proof here sees them only as what a call ensures, so each is shown by a
-// call that does nothing else.
+// Facts that types of other crates keep, each shown by a call that does nothing else, since a proof here sees them only
+// as what a call ensures; and what a patch says of an atom.
 ghost use Rattle.std.specs.Prelude.{IsTrue};
 ghost use Rattle.interval_model.specs.Space.{is_upright};
 ghost use Rattle.poly_graph.specs.ProblemViews.{IsWhole};
@@ -9,6 +9,7 @@ ghost use Rattle.cover_data.specs.Runs.{IsRun};
 
 use cover_rule::Patch;
 use poly_graph::Problem;
+use truth3::{may_atom, sure_atom};
 
 /// Shows that the atoms and axes which a problem names are there.
 pub fn problem_is_whole(problem: &Problem)
@@ -30,4 +31,22 @@ pub fn space_is_upright(patch: &Patch)
     ensures upright { IsTrue (is_upright patch.now.kept.reached.space) }
 {
     patch.reached().space();
+}
+
+/// Whether atom j may hold at the state that the patch has reached.
+pub fn may_hold_at(patch: &Patch, j: u32) -> bool {
+    let problem = patch.problem();
+    problem_is_whole(problem);
+    let margin_bits = patch.margins().margin_bits;
+    let state = patch.reached();
+    may_atom(problem, patch.rows(), state.space(), state.lits(), margin_bits, j)
+}
+
+/// Whether atom j is sure at the state that the patch has reached.
+pub fn is_sure_at(patch: &Patch, j: u32) -> bool {
+    let problem = patch.problem();
+    problem_is_whole(problem);
+    let delta_bits = patch.margins().delta_bits;
+    let space = patch.reached().space();
+    sure_atom(problem, patch.rows(), space, delta_bits, j)
 }

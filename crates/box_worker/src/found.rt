@@ -1,32 +1,21 @@
 // Points of a box that local searches find.
 ghost use Rattle.std.specs.Prelude.{◌≡◌, IfOk, IfSome};
-ghost use Rattle.poly_graph.specs.ProblemViews.{problem_of};
-ghost use Rattle.cover_data.specs.Margins.{AreMargins};
 ghost use Rattle.cover_rule.specs.Middle.{LiesInRoot};
+ghost use Rattle.cover_rule.specs.Patch.{problem_in};
 ghost use Rattle.box_worker.specs.Ended.{IsFoundIn};
 
 use crate::searches::Searches;
-use cover_rule::{Margins, MiddlePoint, Patch, Point};
+use cover_rule::{MiddlePoint, Patch, Point};
 use ival::Space;
 use point_search::{Start, search_from};
-use poly_graph::Problem;
 use std::alloc::{AllocError, Global};
 
 /// At most so many searches are made in a box.
 const MOST_SEARCHES: u32 = 256;
 
 // The point of a space, where that lies within the space that the patch has reached and the form is sure there.
-fn tried(
-    alloc: Global,
-    problem: &Problem,
-    margins: &Margins,
-    patch: &Patch,
-    space: &Space,
-) -> Result<Option<Point>, AllocError>
-    requires problem { patch.now.problem ≡ problem.now }
-    requires margins { patch.now.margins ≡ margins.now }
-    requires bits { AreMargins margins.now }
-    requires root { LiesInRoot (problem_of problem.now) patch.now.kept.first.space }
+fn tried(alloc: Global, patch: &Patch, space: &Space) -> Result<Option<Point>, AllocError>
+    requires root { LiesInRoot (problem_in patch.now) patch.now.kept.first.space }
     ensures { IfOk result (λ o. IfSome o (IsFoundIn patch.now)) }
 {
     let reached = patch.reached().space();
@@ -36,6 +25,8 @@ fn tried(
     if !space.within(reached) {
         return Ok(None);
     }
+    let problem = patch.problem();
+    let margins = patch.margins();
     Point::of_middle(alloc, problem, margins, space)
 }
 
@@ -43,22 +34,17 @@ fn tried(
 fn found_from(
     alloc: Global,
     searches: &mut Searches,
-    problem: &Problem,
-    margins: &Margins,
     patch: &Patch,
     start: Start,
 ) -> Result<Option<Point>, AllocError>
-    requires problem { patch.now.problem ≡ problem.now }
-    requires margins { patch.now.margins ≡ margins.now }
-    requires bits { AreMargins margins.now }
-    requires root { LiesInRoot (problem_of problem.now) patch.now.kept.first.space }
+    requires root { LiesInRoot (problem_in patch.now) patch.now.kept.first.space }
     ensures { IfOk result (λ o. IfSome o (IsFoundIn patch.now)) }
 {
     let state = patch.reached();
     let search = search_from(
         alloc,
-        problem,
-        margins.delta_bits,
+        patch.problem(),
+        patch.margins().delta_bits,
         state.lits(),
         state.space(),
         start,
@@ -66,7 +52,7 @@ fn found_from(
     searches.note(&search);
     match search.point {
         None => Ok(None),
-        Some(space) => tried(alloc, problem, margins, patch, &space),
+        Some(space) => tried(alloc, patch, &space),
     }
 }
 
@@ -74,22 +60,17 @@ fn found_from(
 fn found_by(
     alloc: Global,
     searches: &mut Searches,
-    problem: &Problem,
-    margins: &Margins,
     patch: &Patch,
 ) -> Result<Option<Point>, AllocError>
-    requires problem { patch.now.problem ≡ problem.now }
-    requires margins { patch.now.margins ≡ margins.now }
-    requires bits { AreMargins margins.now }
-    requires root { LiesInRoot (problem_of problem.now) patch.now.kept.first.space }
+    requires root { LiesInRoot (problem_in patch.now) patch.now.kept.first.space }
     ensures { IfOk result (λ o. IfSome o (IsFoundIn patch.now)) }
 {
-    searches.come_to_box(problem);
+    searches.come_to_box(patch.problem());
     for _ in 0..MOST_SEARCHES {
         let Some(start) = searches.next() else {
             return Ok(None);
         };
-        let found = found_from(alloc, searches, problem, margins, patch, start)?;
+        let found = found_from(alloc, searches, patch, start)?;
         if found.is_some() {
             return Ok(found);
         }
@@ -102,19 +83,14 @@ fn found_by(
 pub fn found_point(
     alloc: Global,
     searches: &mut Searches,
-    problem: &Problem,
-    margins: &Margins,
     patch: &mut Patch,
 ) -> Result<Option<Point>, AllocError>
-    requires problem { patch.old.problem ≡ problem.now }
-    requires margins { patch.old.margins ≡ margins.now }
-    requires bits { AreMargins margins.now }
-    requires root { LiesInRoot (problem_of problem.now) patch.old.kept.first.space }
+    requires root { LiesInRoot (problem_in patch.old) patch.old.kept.first.space }
     ensures found { IfOk result (λ o. IfSome o (IsFoundIn patch.new)) }
     ensures same { patch.new ≡ patch.old }
 {
     if patch.is_sure_at_middle() {
         return Ok(None);
     }
-    found_by(alloc, searches, problem, margins, patch)
+    found_by(alloc, searches, patch)
 }

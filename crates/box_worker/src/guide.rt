@@ -1,22 +1,17 @@
 // What the clauses of a form say at a state: which atoms and Bool values it needs, and which cannot hold. It promises
 // nothing: each line is tested by the patch, so a guide that is wrong costs time, and no answer.
 ghost use Rattle.std.specs.Prelude.{◌≡◌, ◌<◌, length};
-ghost use Rattle.poly_graph.specs.ProblemViews.{problem_of};
-ghost use Rattle.cover_model.specs.Fits.{FitsProblem};
-ghost use Rattle.cover_data.specs.Margins.{AreMargins};
-ghost use Rattle.ival.specs.RowViews.{rows_of};
-ghost use Rattle.truth3.specs.Truth.{HasRows};
 
+use crate::facts::may_hold_at;
 use crate::fallen::changed_axes;
 use clause_search::{Prop, Trail};
 use cnf_build::{Cnf, Literal, Variable, clauses, variable_at};
-use cover_rule::{Margins, State};
-use ival::{Domain, Rows, Space, Truths};
+use cover_rule::{Patch, State};
+use ival::{Domain, Space, Truths};
 use poly_graph::{FormNode, Lits, Mark, Problem};
 use std::alloc::{AllocError, Global};
 use std::marker::Model;
 use std::mem;
-use truth3::may_atom;
 
 /// The clauses of a form, and a trail of what was seen of the last state that was looked at and of what follows from it.
 #[derive(Drop)]
@@ -145,23 +140,15 @@ impl Guide {
     // enclosure is looked at only if it is due.
     fn note_atom(
         &mut self,
-        problem: &Problem,
-        margins: &Margins,
-        rows: &Rows,
-        state: &State,
+        patch: &Patch,
         j: u32,
         is_due: bool,
-    )
-        requires margins { AreMargins margins.now }
-        requires state { FitsProblem (problem_of problem.now) state.now }
-        requires rows { HasRows problem.now state.now.space (rows_of rows.now) }
-    {
-        let lits = state.lits();
-        let is_marked = is_marked(lits, j);
+    ) {
+        let is_marked = is_marked(patch.reached().lits(), j);
         if !is_marked && !is_due {
             return;
         }
-        if !may_atom(problem, rows, state.space(), lits, margins.margin_bits, j) {
+        if !may_hold_at(patch, j) {
             self.assume(Variable::Atom(j), false);
         } else if is_marked {
             self.assume(Variable::Atom(j), true);
@@ -172,27 +159,13 @@ impl Guide {
     // that has changed, all where it is not known which have.
     fn note_atoms(
         &mut self,
-        problem: &Problem,
-        margins: &Margins,
-        rows: &Rows,
-        state: &State,
+        patch: &Patch,
         masks: &[u64],
         changed: Option<u64>,
-    )
-        requires margins { AreMargins margins.now }
-        requires state { FitsProblem (problem_of problem.now) state.now }
-        requires rows { HasRows problem.now state.now.space (rows_of rows.now) }
-    {
+    ) {
         for j in 0..self.cnf.atoms() {
             if self.trail.is_undecided(Variable::Atom(j)) {
-                self.note_atom(
-                    problem,
-                    margins,
-                    rows,
-                    state,
-                    j,
-                    is_due(masks, changed, j as usize),
-                );
+                self.note_atom(patch, j, is_due(masks, changed, j as usize));
             }
         }
     }
@@ -241,24 +214,18 @@ impl Guide {
         Ok(true)
     }
 
-    /// Looks at the state, whose enclosures the rows hold; whether the form may hold there. `masks` has for each atom
-    /// the bits of the axes that it depends on.
+    /// Looks at the state that the patch has reached; whether the form may hold there. `masks` has for each atom the bits
+    /// of the axes that it depends on.
     pub fn look(
         &mut self,
         alloc: Global,
-        problem: &Problem,
-        margins: &Margins,
-        rows: &Rows,
-        state: &State,
+        patch: &Patch,
         masks: &[u64],
-    ) -> Result<bool, AllocError>
-        requires margins { AreMargins margins.now }
-        requires state { FitsProblem (problem_of problem.now) state.now }
-        requires rows { HasRows problem.now state.now.space (rows_of rows.now) }
-    {
+    ) -> Result<bool, AllocError> {
+        let state = patch.reached();
         let changed = self.go_to(alloc, state)?;
         self.note_axes(state.space());
-        self.note_atoms(problem, margins, rows, state, masks, changed);
+        self.note_atoms(patch, masks, changed);
         self.derive()
     }
 }

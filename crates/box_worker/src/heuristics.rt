@@ -1,7 +1,9 @@
 // What choices on boxes rest on.
-use crate::contraction::Scout;
 use crate::patience::Patience;
+use crate::scout::Scout;
 use crate::searches::Searches;
+use cover_rule::Patch;
+use std::alloc::{AllocError, Global};
 use std::mem;
 
 /// Closed runs are not repeated for so many of them in a row at most.
@@ -46,7 +48,7 @@ impl Lessons {
 /// What is kept from box to box for choices alone. It promises nothing.
 #[derive(Drop)]
 pub struct Heuristics {
-    pub scout: Option<Scout>,
+    scout: Option<Scout>,
     pub lessons: Lessons,
     pub searches: Searches,
 }
@@ -59,6 +61,17 @@ impl Heuristics {
             lessons: Lessons::new(),
             searches: Searches::new(),
         }
+    }
+
+    /// The scout that is kept, at the state of the patch; a new one where there is none for the problem.
+    pub fn take_scout(&mut self, alloc: Global, patch: &Patch) -> Result<Scout, AllocError> {
+        if let Some(mut scout) = self.scout.take() {
+            if scout.renew(patch) {
+                return Ok(scout);
+            }
+            drop(scout);
+        }
+        Scout::new(alloc, patch)
     }
 
     /// Keeps the scout for the next box.

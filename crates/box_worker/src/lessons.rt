@@ -1,19 +1,19 @@
 // Lemmas that are wider than the box whose run shows them. Which runs are repeated is a heuristic that promises nothing;
 // that a lemma holds is what the patch ensures.
-ghost use Rattle.std.specs.Prelude.{◌≡◌, [], Some, IfOk, IfSome, length};
+ghost use Rattle.std.specs.Prelude.{◌≡◌, [], None, Some, IfOk, IfSome, length};
 ghost use Rattle.cover_model.specs.Fits.{FitsProblem};
 ghost use Rattle.cover_model.specs.Root.{root_space};
 ghost use Rattle.cover_data.specs.Margins.{AreMargins};
 ghost use Rattle.cover_rule.specs.Serves.{IsNumbered};
 ghost use Rattle.poly_graph.specs.ProblemViews.{problem_of};
-ghost use Rattle.box_worker.specs.Attempts.{Continues, IsOpen, Repeats};
+ghost use Rattle.box_worker.specs.Attempts.{Continues, Repeats, StaysOpen};
 ghost use Rattle.box_worker.specs.Learned.{IsLesson, IsShownFromRoot};
 ghost use Rattle.box_worker.specs.Worked.{margins_of};
 
 use crate::room::Room;
 use crate::{attempt, step};
 use cover_data::{ClosedPatch, Combination, End, KeptPatch, Step};
-use cover_rule::{Margins, Options, Patch, State};
+use cover_rule::{Options, Patch, State};
 use poly_graph::{Lits, Problem};
 use std::alloc::{AllocError, Global};
 use truth3::{Root, root_space};
@@ -91,16 +91,10 @@ fn root_with(alloc: Global, problem: &Problem, marks: Lits) -> Result<Option<Sta
 }
 
 // Takes a step by which a run narrows once more.
-fn repeat_step(
-    problem: &Problem,
-    _margins: &Margins,
-    step: &Step,
-    patch: &mut Patch,
-) -> Result<(), AllocError>
-    requires { IsOpen problem.now _margins.now [] patch.old.kept.first patch.old }
-    ensures { IsOpen problem.now _margins.now [] patch.old.kept.first patch.new }
+fn repeat_step(step: &Step, patch: &mut Patch) -> Result<(), AllocError>
+    ensures { StaysOpen patch.old patch.new }
 {
-    let count = problem.atoms().len();
+    let count = patch.problem().atoms().len();
     match step {
         Step::Pull(j) => {
             if (*j as usize) < count {
@@ -122,27 +116,20 @@ fn repeat_step(
 }
 
 // Takes the steps by which a run narrows once more.
-fn repeat_steps(
-    problem: &Problem,
-    margins: &Margins,
-    steps: &[Step],
-    patch: &mut Patch,
-) -> Result<(), AllocError>
-    requires { IsOpen problem.now margins.now [] patch.old.kept.first patch.old }
-    ensures { IsOpen problem.now margins.now [] patch.old.kept.first patch.new }
+fn repeat_steps(steps: &[Step], patch: &mut Patch) -> Result<(), AllocError>
+    ensures { StaysOpen patch.old patch.new }
 {
     for step in steps {
-        repeat_step(problem, margins, step, patch)?;
+        repeat_step(step, patch)?;
     }
     Ok(())
 }
 
 // Ends the patch as a run ended, where nothing is left by the same atom or combination.
-fn repeat_end(problem: &Problem, end: &Option<End>, patch: &mut Patch) -> Result<(), AllocError>
-    requires { patch.old.problem ≡ problem.now }
+fn repeat_end(end: &Option<End>, patch: &mut Patch) -> Result<(), AllocError>
     ensures { IfOk result (λ u. Continues patch.old patch.new) }
 {
-    let count = problem.atoms().len();
+    let count = patch.problem().atoms().len();
     match end {
         Some(End::Void(j)) => {
             if (*j as usize) < count {
@@ -163,17 +150,13 @@ fn repeat_end(problem: &Problem, end: &Option<End>, patch: &mut Patch) -> Result
 }
 
 // Takes the steps by which a run narrows once more, and ends the patch as the run ended.
-fn repeat(
-    problem: &Problem,
-    margins: &Margins,
-    run: &KeptPatch,
-    patch: &mut Patch,
-) -> Result<(), AllocError>
-    requires { IsOpen problem.now margins.now [] patch.old.kept.first patch.old }
-    ensures { IfOk result (λ u. Repeats problem.now margins.now patch.old patch.new) }
+fn repeat(run: &KeptPatch, patch: &mut Patch) -> Result<(), AllocError>
+    requires quoted { patch.old.kept.quoted ≡ [] }
+    requires open { patch.old.kept.end ≡ None }
+    ensures { IfOk result (λ u. Repeats patch.old patch.new) }
 {
-    repeat_steps(problem, margins, &run.steps, patch)?;
-    repeat_end(problem, &run.end, patch)?;
+    repeat_steps(&run.steps, patch)?;
+    repeat_end(&run.end, patch)?;
     Ok(())
 }
 
@@ -203,10 +186,9 @@ fn shown_at(
         IfSome o (IsShownFromRoot room.old (margins_of options.now))) }
     ensures room { room.new ≡ room.old }
 {
-    let problem = room.problem();
     let margins = options.margins();
     let mut patch = room.begin(alloc, &margins, state)?;
-    repeat(problem, &margins, run, &mut patch)?;
+    repeat(run, &mut patch)?;
     let kept = room.end(patch);
     match kept.closed() {
         Ok(closed) => Ok(Some(closed)),

@@ -79,52 +79,32 @@ fn is_value(space: &Space, axis: usize, value: bool) -> bool {
 }
 
 // Whether nothing is left to do for atom j.
-fn is_atom_done(problem: &Problem, margins: &Margins, rows: &Rows, state: &State, j: u32) -> bool
-    requires margins { AreMargins margins.now }
-    requires state { FitsProblem (problem_of problem.now) state.now }
-    requires rows { HasRows problem.now state.now.space (rows_of rows.now) }
-{
+fn is_atom_done(patch: &Patch, j: u32) -> bool {
+    let state = patch.reached();
     let yes = (j as usize) < state.lits().len() && state.is_yes(j);
-    yes || sure_atom(problem, rows, state.space(), margins.delta_bits, j)
+    yes || is_sure_at(patch, j)
 }
 
 // Whether nothing is left to do for a node that may hold, by what is known of its children.
-fn is_done(
-    problem: &Problem,
-    margins: &Margins,
-    rows: &Rows,
-    state: &State,
-    done: &[bool],
-    node: &FormNode,
-) -> bool
-    requires margins { AreMargins margins.now }
-    requires state { FitsProblem (problem_of problem.now) state.now }
-    requires rows { HasRows problem.now state.now.space (rows_of rows.now) }
-{
+fn is_done(patch: &Patch, done: &[bool], node: &FormNode) -> bool {
     match node {
         FormNode::True => true,
         FormNode::False => false,
-        FormNode::AtomIs(j) => is_atom_done(problem, margins, rows, state, *j),
-        FormNode::BoolIs(axis, v) => is_value(state.space(), *axis as usize, *v),
+        FormNode::AtomIs(j) => is_atom_done(patch, *j),
+        FormNode::BoolIs(axis, v) => is_value(patch.reached().space(), *axis as usize, *v),
         FormNode::And(children) => all_set(done, children),
         FormNode::Or(children) => any_set(done, children),
     }
 }
 
-/// What is needed at the state, whose enclosures the rows hold, by a guide that has looked at it. Without one the form
+/// What is needed at the state that the patch has reached, by a guide that has looked at it. Without one the form
 /// is a conjunction alone, which needs each node.
 pub fn needs_at(
     alloc: Global,
-    problem: &Problem,
-    margins: &Margins,
-    rows: &Rows,
-    state: &State,
+    patch: &Patch,
     guide: &Option<Guide>,
-) -> Result<Needs, AllocError>
-    requires margins { AreMargins margins.now }
-    requires state { FitsProblem (problem_of problem.now) state.now }
-    requires rows { HasRows problem.now state.now.space (rows_of rows.now) }
-{
+) -> Result<Needs, AllocError> {
+    let problem = patch.problem();
     let forms = problem.forms();
     let mut needs = Needs {
         may: vec![in alloc; true; forms.len()]?,
@@ -138,7 +118,7 @@ pub fn needs_at(
         }
         if is_set(&needs.may, n) {
             let node = forms.node(n as u32);
-            let done = is_done(problem, margins, rows, state, &needs.done, node);
+            let done = is_done(patch, &needs.done, node);
             put(&mut needs.done, n, done);
         }
     }

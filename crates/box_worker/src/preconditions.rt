@@ -1,27 +1,23 @@
 // The preconditions of a branch: what has to be done before a state may be split.
 ghost use Rattle.std.specs.Prelude.{◌≡◌, ◌<◌, IfOk, IsTrue, length, true, false, None};
-ghost use Rattle.cover_rule.specs.Serves.{IsNumbered};
 ghost use Rattle.cover_data.specs.Runs.{IsClosed};
 ghost use Rattle.box_worker.specs.Attempts.{Continues, conjuncts_are_decided, no_atom_empties};
 
 use crate::attempt;
-use crate::contraction::Emptied;
 use crate::facts::run_is_lawful;
+use crate::scout::Emptied;
 use cover_rule::Patch;
-use poly_graph::Problem;
 use std::alloc::{AllocError, Global};
 use truth3::{Marks, conjuncts_in_yes};
 
 /// Marks each conjunct that is not marked.
-pub fn mark_conjuncts(alloc: Global, problem: &Problem, patch: &mut Patch) -> Result<(), AllocError>
-    requires problem { patch.old.problem ≡ problem.now }
-    requires numbered { IsNumbered problem.now }
+pub fn mark_conjuncts(alloc: Global, patch: &mut Patch) -> Result<(), AllocError>
     requires open { patch.old.kept.end ≡ None }
     ensures continues { IfOk result (λ u. Continues patch.old patch.new) }
     ensures open { IfOk result (λ u. patch.new.kept.end ≡ None) }
-    ensures decided { IfOk result (λ u.
-        conjuncts_are_decided problem.now patch.new.kept.reached ≡ true) }
+    ensures decided { IfOk result (λ u. conjuncts_are_decided patch.new ≡ true) }
 {
+    let problem = patch.problem();
     let mut marks = Marks::new(alloc, problem)?;
     if conjuncts_in_yes(problem, patch.reached().lits(), &mut marks) {
         return Ok(());
@@ -33,16 +29,15 @@ pub fn mark_conjuncts(alloc: Global, problem: &Problem, patch: &mut Patch) -> Re
 }
 
 /// Ends the patch by the first atom marked yes that leaves nothing.
-pub fn void_any(problem: &Problem, patch: &mut Patch) -> bool
-    requires problem { patch.old.problem ≡ problem.now }
-    requires numbered { IsNumbered problem.now }
+pub fn void_any(patch: &mut Patch) -> bool
     requires open { patch.old.kept.end ≡ None }
     ensures continues { Continues patch.old patch.new }
     ensures closed { result ≡ true → IsClosed patch.new.kept }
     ensures same { result ≡ false → patch.new ≡ patch.old }
-    ensures none { result ≡ false → no_atom_empties problem.now patch.old ≡ true }
+    ensures none { result ≡ false → no_atom_empties patch.old ≡ true }
 {
     run_is_lawful(patch);
+    let problem = patch.problem();
     for j in 0..problem.atoms().len() {
         if attempt::void(patch, j as u32) {
             return true;
@@ -65,15 +60,14 @@ fn void_by(j: u32, patch: &mut Patch) -> bool
 }
 
 // Ends the patch by this atom or combination, where there is such a one that leaves nothing.
-fn void_at(problem: &Problem, by: &Option<Emptied>, patch: &mut Patch) -> Result<bool, AllocError>
-    requires problem { patch.old.problem ≡ problem.now }
+fn void_at(by: &Option<Emptied>, patch: &mut Patch) -> Result<bool, AllocError>
     ensures continues { IfOk result (λ b. Continues patch.old patch.new) }
     ensures closed { IfOk result (λ b. b ≡ true → IsClosed patch.new.kept) }
     ensures same { IfOk result (λ b. b ≡ false → patch.new ≡ patch.old) }
 {
     match by {
         Some(Emptied::Atom(j)) => {
-            if (*j as usize) < problem.atoms().len() {
+            if (*j as usize) < patch.problem().atoms().len() {
                 Ok(void_by(*j, patch))
             } else {
                 Ok(false)
@@ -86,17 +80,12 @@ fn void_at(problem: &Problem, by: &Option<Emptied>, patch: &mut Patch) -> Result
 
 /// Ends the patch by this atom or combination, where there is such a one that leaves nothing, or else where the form
 /// cannot hold.
-pub fn close_at(
-    problem: &Problem,
-    by: &Option<Emptied>,
-    patch: &mut Patch,
-) -> Result<bool, AllocError>
-    requires problem { patch.old.problem ≡ problem.now }
+pub fn close_at(by: &Option<Emptied>, patch: &mut Patch) -> Result<bool, AllocError>
     ensures continues { IfOk result (λ b. Continues patch.old patch.new) }
     ensures closed { IfOk result (λ b. b ≡ true → IsClosed patch.new.kept) }
     ensures same { IfOk result (λ b. b ≡ false → patch.new ≡ patch.old) }
 {
-    if void_at(problem, by, patch)? {
+    if void_at(by, patch)? {
         return Ok(true);
     }
     Ok(attempt::make_false(patch))

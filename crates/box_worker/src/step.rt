@@ -1,13 +1,11 @@
 // Steps of an open patch, by which it stays open.
 ghost use Rattle.std.specs.Prelude.{◌<◌, length};
-ghost use Rattle.poly_graph.specs.ProblemViews.{problem_of};
-ghost use Rattle.cover_data.specs.Margins.{loosenings_of};
-ghost use Rattle.box_worker.specs.Attempts.{IsOpen, StaysOpen};
-ghost use Rattle.box_worker.specs.Worked.{AreLemmasFor};
+ghost use Rattle.box_worker.specs.Attempts.{StaysOpen};
+ghost use Rattle.box_worker.specs.OpenPatch.{IsOpenFor, IsUnderWay, open_model};
 
-use cover_rule::{Lemma, Margins, Patch, PatchRefusal, State};
+use cover_rule::{Lemma, Patch, PatchRefusal, State};
 use dyadic::Dy;
-use poly_graph::{Mark, Problem};
+use poly_graph::Mark;
 use std::alloc::AllocError;
 
 /// What a step came to.
@@ -87,20 +85,12 @@ pub fn unit(patch: &mut Patch, j: u32) -> Result<Outcome, AllocError>
 }
 
 /// Marks atom j no where the lemma at this place of the list covers the state with the atom marked yes.
-pub fn ban(
-    problem: &Problem,
-    margins: &Margins,
-    lemmas: &[Lemma],
-    patch: &mut Patch,
-    j: u32,
-    i: usize,
-) -> Result<Outcome, AllocError>
-    requires atom { j < length problem.now.atoms }
-    requires place { i < length lemmas.now }
-    requires lemmas { AreLemmasFor (problem_of problem.now) (loosenings_of margins.now) lemmas.now }
-    requires open { IsOpen problem.now margins.now lemmas.now patch.old.kept.first patch.old }
-    ensures { IsOpen problem.now margins.now lemmas.now patch.old.kept.first patch.new }
+pub fn ban(patch: &mut Patch, lemmas: &[Lemma], j: u32, place: usize) -> Result<Outcome, AllocError>
+    requires atom { j < length patch.old.problem.atoms }
+    requires place { place < length lemmas.now }
+    requires open { IsUnderWay lemmas.now patch.old }
+    ensures { IsOpenFor (open_model lemmas.now patch.old) patch.new }
 {
-    let answer = patch.ban(j, &lemmas[i]);
+    let answer = patch.ban(j, &lemmas[place]);
     outcome_of(answer.map(|()| true))
 }

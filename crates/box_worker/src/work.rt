@@ -4,45 +4,40 @@ ghost use Rattle.poly_graph.specs.ProblemViews.{problem_of};
 ghost use Rattle.cover_model.specs.State.{sure};
 ghost use Rattle.interval_model.specs.Space.{middle};
 ghost use Rattle.cover_model.specs.Fits.{FitsProblem, IsShownAt};
-ghost use Rattle.cover_data.specs.Margins.{AreMargins, loosenings_of};
+ghost use Rattle.cover_data.specs.Margins.{AreMargins};
 ghost use Rattle.cover_rule.specs.Middle.{LiesInRoot};
-ghost use Rattle.cover_rule.specs.Patch.{run_at};
+ghost use Rattle.cover_rule.specs.Patch.{loosenings_in, problem_in, run_at};
 ghost use Rattle.cover_rule.specs.Serves.{IsNumbered};
-ghost use Rattle.box_worker.specs.Attempts.{Continues, IsOpen};
+ghost use Rattle.box_worker.specs.Attempts.{Continues};
 ghost use Rattle.box_worker.specs.Ended.{AtOnce, ComesToEnd, HasEnded, first_covering};
+ghost use Rattle.box_worker.specs.OpenPatch.{IsOpenFor, open_model};
 ghost use Rattle.box_worker.specs.Worked.{margins_of, AreLemmasFor, AreLemmasAt, AnswersAtOnceFor, IsWorkFor, IsClosedWork, WorkOf};
 ghost use Rattle.cover_data.specs.Runs.{IsClosed};
 ghost use Rattle.cover_data.specs.Views.{kept_of};
 
 use crate::attempt;
 use crate::branching::part;
-use crate::contraction::{Emptied, scout_at, take_steps};
+use crate::contraction::Contraction;
 use crate::ended::Ended;
 use crate::facts::{problem_is_whole, run_is_lawful};
 use crate::found::found_point;
 use crate::heuristics::Heuristics;
 use crate::learn::{copy, teaches_nothing};
+use crate::open_patch::OpenPatch;
 use crate::preconditions::{close_at, mark_conjuncts, void_any};
 use crate::room::Room;
+use crate::scout::{Emptied, Scout};
 use crate::split::split;
 use crate::worked::Worked;
-use cover_rule::{KeptPatch, Lemma, Margins, MiddlePoint, Options, Patch, Point, State};
+use cover_rule::{KeptPatch, Lemma, MiddlePoint, Options, Patch, Point, State};
 use poly_graph::Problem;
 use std::alloc::{AllocError, Global};
 
 // The middle of the state that the patch has reached; none where the form is not sure there.
-fn middle_point(
-    alloc: Global,
-    problem: &Problem,
-    margins: &Margins,
-    patch: &mut Patch,
-) -> Result<Option<Point>, AllocError>
-    requires problem { patch.old.problem ≡ problem.now }
-    requires margins { patch.old.margins ≡ margins.now }
-    requires bits { AreMargins margins.now }
-    requires root { LiesInRoot (problem_of problem.now) patch.old.kept.first.space }
-    ensures middle { let p = problem_of problem.now in
-        let s = loosenings_of margins.now in
+fn middle_point(alloc: Global, patch: &mut Patch) -> Result<Option<Point>, AllocError>
+    requires root { LiesInRoot (problem_in patch.old) patch.old.kept.first.space }
+    ensures middle { let p = problem_in patch.old in
+        let s = loosenings_in patch.old in
         let point = middle patch.old.kept.reached.space in
         IfOk result (λ o. MatchOption o (IsTrue (not (sure p s point)))
         (λ x. (x ≡ point) × IsShownAt p s x)) }
@@ -51,6 +46,8 @@ fn middle_point(
     if !patch.is_sure_at_middle() {
         return Ok(None);
     }
+    let problem = patch.problem();
+    let margins = patch.margins();
     Point::of_middle(alloc, problem, margins, patch.reached().space())
 }
 
@@ -72,25 +69,16 @@ fn first_covering<'a>(lemmas: &'a [Lemma], state: &State) -> Option<&'a Lemma>
 
 // What ends a patch that has just begun before any step: that the form cannot hold, that it is sure at the
 // middle, or that a lemma covers the state.
-fn at_once(
-    alloc: Global,
-    problem: &Problem,
-    margins: &Margins,
-    lemmas: &[Lemma],
-    patch: &mut Patch,
-) -> Result<Option<Ended>, AllocError>
-    requires problem { patch.old.problem ≡ problem.now }
-    requires margins { patch.old.margins ≡ margins.now }
-    requires bits { AreMargins margins.now }
+fn at_once(alloc: Global, lemmas: &[Lemma], patch: &mut Patch) -> Result<Option<Ended>, AllocError>
     requires open { patch.old.kept.end ≡ None }
-    requires root { LiesInRoot (problem_of problem.now) patch.old.kept.first.space }
-    requires lemmas { AreLemmasFor (problem_of problem.now) (loosenings_of margins.now) lemmas.now }
+    requires root { LiesInRoot (problem_in patch.old) patch.old.kept.first.space }
+    requires lemmas { AreLemmasFor (problem_in patch.old) (loosenings_in patch.old) lemmas.now }
     ensures { IfOk result (AtOnce lemmas.now patch.old patch.new) }
 {
     if attempt::make_false(patch) {
         return Ok(Some(Ended::Closed));
     }
-    if let Some(point) = middle_point(alloc, problem, margins, patch)? {
+    if let Some(point) = middle_point(alloc, patch)? {
         return Ok(Some(Ended::Shown(point)));
     }
     let Some(lemma) = first_covering(lemmas, patch.reached()) else {
@@ -108,42 +96,37 @@ fn at_once(
 fn finish(
     alloc: Global,
     heuristics: &mut Heuristics,
-    problem: &Problem,
-    margins: &Margins,
     void: &Option<Emptied>,
     patch: &mut Patch,
 ) -> Result<Ended, AllocError>
-    requires problem { patch.old.problem ≡ problem.now }
-    requires margins { patch.old.margins ≡ margins.now }
-    requires numbered { IsNumbered problem.now }
-    requires bits { AreMargins margins.now }
     requires open { patch.old.kept.end ≡ None }
-    requires root { LiesInRoot (problem_of problem.now) patch.old.kept.first.space }
+    requires root { LiesInRoot (problem_in patch.old) patch.old.kept.first.space }
     ensures continues { IfOk result (λ e. Continues patch.old patch.new) }
     ensures ended { IfOk result (HasEnded patch.new) }
 {
-    if close_at(problem, void, patch)? {
+    if close_at(void, patch)? {
         return Ok(Ended::Closed);
     }
-    mark_conjuncts(alloc, problem, patch)?;
+    mark_conjuncts(alloc, patch)?;
     if attempt::make_false(patch) {
         return Ok(Ended::Closed);
     }
-    if let Some(found) = found_point(alloc, &mut heuristics.searches, problem, margins, patch)? {
+    if let Some(found) = found_point(alloc, &mut heuristics.searches, patch)? {
         return Ok(Ended::Found(found));
     }
-    if split(alloc, heuristics, problem, margins, patch)? {
+    if split(alloc, heuristics, patch)? {
         return Ok(Ended::Parted);
     }
-    if let Some(point) = middle_point(alloc, problem, margins, patch)? {
+    if let Some(point) = middle_point(alloc, patch)? {
         return Ok(Ended::Shown(point));
     }
-    if void_any(problem, patch) {
+    if void_any(patch) {
         return Ok(Ended::Closed);
     }
+    let problem = patch.problem();
     problem_is_whole(problem);
     run_is_lawful(patch);
-    part(problem, patch);
+    part(patch);
     Ok(Ended::Parted)
 }
 
@@ -181,54 +164,88 @@ fn worked(alloc: Global, room: &mut Room, ended: Ended, patch: Patch) -> Result<
     }
 }
 
+// Takes steps on a patch that has just begun; by what nothing is left, where that is met.
+fn take_steps<'a>(
+    alloc: Global,
+    lemmas: &[Lemma],
+    patch: Patch<'a>,
+    scout: Scout,
+) -> (Patch<'a>, Scout, Result<Option<Emptied>, AllocError>)
+    requires begun { patch.kept ≡ run_at patch.kept.first }
+    requires lemmas { AreLemmasFor (problem_in patch) (loosenings_in patch) lemmas.now }
+    ensures { IsOpenFor (open_model lemmas.now patch.entry) result.0 }
+{
+    let open = OpenPatch::new(patch, lemmas);
+    let mut contraction = Contraction { alloc, open, scout };
+    let void = contraction.take_steps();
+    let Contraction {
+        alloc: _,
+        open,
+        scout,
+    } = contraction;
+    (open.into_patch(), scout, void)
+}
+
 // Contracts the state of a patch that has just begun, by the scout that is kept; by what nothing is left, where that is
 // met.
-fn contract(
+fn contract<'a>(
     alloc: Global,
     heuristics: &mut Heuristics,
-    problem: &Problem,
-    margins: &Margins,
     lemmas: &[Lemma],
-    patch: &mut Patch,
-) -> Result<Option<Emptied>, AllocError>
-    requires numbered { IsNumbered problem.now }
-    requires bits { AreMargins margins.now }
-    requires lemmas { AreLemmasFor (problem_of problem.now) (loosenings_of margins.now) lemmas.now }
-    requires open { IsOpen problem.now margins.now lemmas.now patch.old.kept.first patch.old }
-    ensures { IsOpen problem.now margins.now lemmas.now patch.old.kept.first patch.new }
+    patch: Patch<'a>,
+) -> (Patch<'a>, Result<Option<Emptied>, AllocError>)
+    requires begun { patch.kept ≡ run_at patch.kept.first }
+    requires lemmas { AreLemmasFor (problem_in patch) (loosenings_in patch) lemmas.now }
+    ensures { IsOpenFor (open_model lemmas.now patch.entry) result.0 }
 {
-    let mut scout = scout_at(alloc, problem, heuristics.scout.take(), patch)?;
-    let void = take_steps(alloc, problem, margins, lemmas, &mut scout, patch);
-    heuristics.keep(scout);
-    void
+    match heuristics.take_scout(alloc, &patch) {
+        Ok(scout) => {
+            let (patch, scout, void) = take_steps(alloc, lemmas, patch, scout);
+            heuristics.keep(scout);
+            (patch, void)
+        }
+        Err(error) => (patch, Err(error)),
+    }
+}
+
+// Finishes after a contraction, unless it ran out of memory.
+fn finish_after(
+    alloc: Global,
+    heuristics: &mut Heuristics,
+    void: Result<Option<Emptied>, AllocError>,
+    patch: &mut Patch,
+) -> Result<Ended, AllocError>
+    requires open { patch.old.kept.end ≡ None }
+    requires root { LiesInRoot (problem_in patch.old) patch.old.kept.first.space }
+    ensures continues { IfOk result (λ e. Continues patch.old patch.new) }
+    ensures ended { IfOk result (HasEnded patch.new) }
+{
+    let void = void?;
+    finish(alloc, heuristics, &void, patch)
 }
 
 // Goes on with a patch that has just begun until it has ended.
-fn come_to_end(
+fn come_to_end<'a>(
     alloc: Global,
     heuristics: &mut Heuristics,
-    problem: &Problem,
-    margins: &Margins,
     lemmas: &[Lemma],
-    patch: &mut Patch,
-) -> Result<Ended, AllocError>
-    requires problem { patch.old.problem ≡ problem.now }
-    requires margins { patch.old.margins ≡ margins.now }
-    requires numbered { IsNumbered problem.now }
-    requires bits { AreMargins margins.now }
-    requires begun { patch.old.kept ≡ run_at patch.old.kept.first }
-    requires root { LiesInRoot (problem_of problem.now) patch.old.kept.first.space }
-    requires lemmas { AreLemmasFor (problem_of problem.now) (loosenings_of margins.now) lemmas.now }
-    ensures comes { IfOk result
-        (ComesToEnd problem.now margins.now lemmas.now patch.old patch.new) }
-    ensures problem { IfOk result (λ e. patch.new.problem ≡ problem.now) }
-    ensures ended { IfOk result (HasEnded patch.new) }
+    patch: Patch<'a>,
+) -> Result<(Patch<'a>, Ended), AllocError>
+    requires begun { patch.kept ≡ run_at patch.kept.first }
+    requires root { LiesInRoot (problem_in patch) patch.kept.first.space }
+    requires lemmas { AreLemmasFor (problem_in patch) (loosenings_in patch) lemmas.now }
+    ensures comes { let P = patch.entry in IfOk result (λ r.
+        ComesToEnd P.problem P.margins lemmas.now P r.0 r.1) }
+    ensures problem { IfOk result (λ r. r.0.problem ≡ patch.entry.problem) }
+    ensures ended { IfOk result (λ r. HasEnded r.0 r.1) }
 {
-    if let Some(ended) = at_once(alloc, problem, margins, lemmas, patch)? {
-        return Ok(ended);
+    let mut patch = patch;
+    if let Some(ended) = at_once(alloc, lemmas, &mut patch)? {
+        return Ok((patch, ended));
     }
-    let void = contract(alloc, heuristics, problem, margins, lemmas, patch)?;
-    finish(alloc, heuristics, problem, margins, &void, patch)
+    let (mut patch, void) = contract(alloc, heuristics, lemmas, patch);
+    let ended = finish_after(alloc, heuristics, void, &mut patch)?;
+    Ok((patch, ended))
 }
 
 /// Works on the box of a state of the room's problem that lies within the root space, by lawful and honest lines: until
@@ -253,10 +270,8 @@ pub fn work_in(
     ensures room { room.new ≡ room.old }
 {
     let margins = options.margins();
-    let problem = room.problem();
-    let mut patch = room.begin(alloc, &margins, state)?;
-    let heuristics = &mut room.heuristics;
-    let ended = come_to_end(alloc, heuristics, problem, &margins, lemmas, &mut patch)?;
+    let patch = room.begin(alloc, &margins, state)?;
+    let (patch, ended) = come_to_end(alloc, &mut room.heuristics, lemmas, patch)?;
     worked(alloc, room, ended, patch)
 }
 

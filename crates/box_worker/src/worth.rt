@@ -4,7 +4,7 @@ ghost use Rattle.std.specs.Prelude.{◌≡◌};
 use cover_rule::Patch;
 use floats::{Span, span_of_interval};
 use ival::Rows;
-use poly_graph::{Atom, Kind, Problem};
+use poly_graph::{Atom, Kind};
 use std::alloc::{AllocError, Global};
 
 // So much more is expected of an equation: it narrows most, and excludes what the other children say.
@@ -47,18 +47,14 @@ fn worth(atom: &Atom, rows: &Rows, centre_rows: &Rows) -> f64 {
 
 /// What is expected of a branch at each atom: by how much the middle of the state misses it, as a part of its enclosure's
 /// width, and more where it is an equation.
-pub fn worths(
-    alloc: Global,
-    problem: &Problem,
-    patch: &mut Patch,
-) -> Result<Vec<f64, Global>, AllocError>
+pub fn worths(alloc: Global, patch: &mut Patch) -> Result<Vec<f64, Global>, AllocError>
     ensures { patch.new ≡ patch.old }
 {
     patch.find_centre();
     let rows = patch.rows();
     let centre_rows = &patch.centre().rows;
     let mut worths = Vec::new(alloc);
-    for atom in problem.atoms() {
+    for atom in patch.problem().atoms() {
         worths.push(worth(atom, rows, centre_rows))?;
     }
     Ok(worths)

@@ -2,6 +2,7 @@ pub mod Axes
 mod Combinables
 pub mod Helds
 pub mod Knowns
+mod Narrowers
 pub mod Narrowings
 pub mod Points
 pub mod RunSteps

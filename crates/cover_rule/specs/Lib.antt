@@ -2,6 +2,7 @@ pub mod Calls
 pub mod Held
 pub mod Middle
 pub mod Models
+pub mod Narrowers
 pub mod Pairs
 pub mod Parting
 pub mod Patch

@@ -6,7 +6,6 @@ use Rattle.cover_model.specs.State.{State, Loosenings, IsLemma}
 use Rattle.interval_model.specs.Space.{Space}
 use Rattle.cover_model.specs.Combination.{Multipliers}
 use Rattle.cover_model.specs.Rules.{Line, narrowing, narrowing_off, combining}
-use Rattle.cover_model.specs.Fits.{FitsAxes}
 use Rattle.cover_data.specs.Margins.{loosenings_of}
 use Rattle.cover_data.specs.Runs.{IsRun, IsClosed}
 use Rattle.cover_data.specs.Models.{LemmaModel, KeptModel}
@@ -62,23 +61,9 @@ abbrev pub space_or : Space → Option Space → Space
 space_or space None = space
 space_or space (Some narrow) = narrow
 
--- the space that a pull of atom j leaves to the patch
-abbrev pub pulled_space : PatchModel → ℕ → Space
-pulled_space P j = space_or (now_in P).space (narrowing_in P j)
-
-abbrev pub FitsPulled : PatchModel → ℕ → Type 0
-FitsPulled P j = FitsAxes (problem_in P).axes (pulled_space P j)
-
 -- the same by the off-range of atom j
 abbrev pub narrowing_off_in : PatchModel → ℕ → Option Space
 narrowing_off_in P j = narrowing_off (problem_in P) (loosenings_in P) (now_in P) j
-
--- the space that a push of atom j leaves to the patch
-abbrev pub pushed_space : PatchModel → ℕ → Space
-pushed_space P j = space_or (now_in P).space (narrowing_off_in P j)
-
-abbrev pub FitsPushed : PatchModel → ℕ → Type 0
-FitsPushed P j = FitsAxes (problem_in P).axes (pushed_space P j)
 
 -- the same by a combination of atoms
 abbrev pub combining_in : PatchModel → Multipliers → Option Space
@@ -87,6 +72,3 @@ combining_in P ms = combining (problem_in P) (loosenings_in P) (now_in P) ms
 -- the space that a combination leaves to the patch
 abbrev pub combined_space : PatchModel → Multipliers → Space
 combined_space P ms = space_or (now_in P).space (combining_in P ms)
-
-abbrev pub FitsCombined : PatchModel → Multipliers → Type 0
-FitsCombined P ms = FitsAxes (problem_in P).axes (combined_space P ms)

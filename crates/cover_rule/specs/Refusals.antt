@@ -36,19 +36,11 @@ honestly P l = unless (is_honest (problem_in P) P.margins.least_bits (loosenings
 abbrev pub pull_refusal : PatchModel → ℕ → Option PatchRefusal
 pull_refusal P j = then_by (if_ended P.kept) (then_by (unless (in_yes (now_in P) j) NotYes) (unless (is_some_space (narrowing_in P j)) IsVoid))
 
--- a refusal of a pull that is not for memory
-abbrev pub IsPullRefusal : PatchModel → ℕ → PatchRefusal → Type 0
-IsPullRefusal P j e = (pull_refusal P j ≡ Some e) × (e ≢ Memory)
-
 abbrev pub pulled_by : PatchModel → ℕ → PatchModel
 pulled_by P j = with_kept P (stepped P.kept (pull j) P.kept.quoted (with_space (now_in P) (space_or (now_in P).space (narrowing_in P j))))
 
 abbrev pub push_refusal : PatchModel → ℕ → Option PatchRefusal
 push_refusal P j = then_by (if_ended P.kept) (then_by (unless (in_no_one_sided (problem_in P) (now_in P) j) NotNo) (unless (is_some_space (narrowing_off_in P j)) IsVoid))
-
--- a refusal of a push that is not for memory
-abbrev pub IsPushRefusal : PatchModel → ℕ → PatchRefusal → Type 0
-IsPushRefusal P j e = (push_refusal P j ≡ Some e) × (e ≢ Memory)
 
 abbrev pub pushed_by : PatchModel → ℕ → PatchModel
 pushed_by P j = with_kept P (stepped P.kept (push j) P.kept.quoted (with_space (now_in P) (space_or (now_in P).space (narrowing_off_in P j))))
@@ -59,10 +51,6 @@ can_combine_in P ms = can_combine (problem_in P) (loosenings_in P) (now_in P) ms
 
 abbrev pub combine_refusal : PatchModel → Multipliers → Option PatchRefusal
 combine_refusal P ms = then_by (if_ended P.kept) (then_by (unless (can_combine_in P ms) NotCombinable) (unless (is_some_space (combining_in P ms)) IsVoid))
-
--- a refusal of a combination that is not for memory
-abbrev pub IsCombineRefusal : PatchModel → Multipliers → PatchRefusal → Type 0
-IsCombineRefusal P ms e = (combine_refusal P ms ≡ Some e) × (e ≢ Memory)
 
 abbrev pub combined_by : PatchModel → Multipliers → PatchModel
 combined_by P ms = with_kept P (stepped P.kept (combine ms) P.kept.quoted (with_space (now_in P) (combined_space P ms)))

@@ -1,8 +1,7 @@
 // Combinations of marked atoms: which may be made, and what they leave of the space.
-ghost use Rattle.std.specs.Prelude.{◌≡◌, ◌<◌, ◌≤◌, IsTrue, length, not, true};
+ghost use Rattle.std.specs.Prelude.{◌≡◌, ◌<◌, ◌≤◌, IsTrue, length, true};
 ghost use Rattle.poly_graph.specs.ProblemViews.{problem_of};
 ghost use Rattle.cover_model.specs.Fits.{FitsProblem};
-ghost use Rattle.cover_model.specs.Honest.{is_some_space};
 ghost use Rattle.cover_model.specs.Rules.{can_combine, combining};
 ghost use Rattle.cover_model.specs.Views.{multipliers_of};
 ghost use Rattle.ival.specs.Narrows.{IsNarrowed};
@@ -10,7 +9,6 @@ ghost use Rattle.ival.specs.SpaceViews.{space_of};
 ghost use Rattle.cover_data.specs.Margins.{AreMargins, loosenings_of};
 ghost use Rattle.cover_rule.specs.Serves.{HasRowsOf, IsReady};
 
-use crate::narrowing::copy_space;
 use crate::truth::find_centre;
 use crate::workspace::Workspace;
 use combine::combine;
@@ -89,35 +87,4 @@ pub fn combine_spare(
     let narrowed = narrow_combined(problem, margins, state, multipliers, work);
     work.voiding.note(narrowed, state.lits(), multipliers);
     narrowed
-}
-
-/// Whether a combination of atoms that may be made leaves nothing; it is tried only where that is not known.
-pub fn combining_leaves_nothing(
-    problem: &Problem,
-    margins: &Margins,
-    state: &State,
-    multipliers: &[(u32, Dy)],
-    work: &mut Workspace,
-) -> bool
-    requires margins { AreMargins margins.now }
-    requires state { FitsProblem (problem_of problem.now) state.now }
-    requires may { let ms = multipliers_of multipliers.now in
-        IsTrue (can_combine (problem_of problem.now) (loosenings_of margins.now) state.now ms) }
-    requires work { IsReady problem.now margins.now state.now.space work.old }
-    ensures empty { let ms = multipliers_of multipliers.now in
-        let narrow = combining (problem_of problem.now) (loosenings_of margins.now) state.now ms in
-        result ≡ not (is_some_space narrow) }
-    ensures work { IsReady problem.now margins.now state.now.space work.new }
-{
-    if work.voiding.knows(state.lits(), multipliers) {
-        return true;
-    }
-    match combine_spare(problem, margins, state, multipliers, work) {
-        Narrowed::Empty => true,
-        Narrowed::Same => false,
-        Narrowed::Less => {
-            copy_space(state.space(), &mut work.spare);
-            false
-        }
-    }
 }

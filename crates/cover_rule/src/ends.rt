@@ -1,22 +1,20 @@
 // Ends of a patch that close its state, over its parts.
 ghost use Rattle.std.specs.Prelude.{◌≡◌, ◌<◌, [], ◌∷◌, ◌++◌, length};
 ghost use Rattle.poly_graph.specs.ProblemViews.{problem_of};
-ghost use Rattle.cover_model.specs.Views.{multipliers_of};
-ghost use Rattle.cover_model.specs.Rules.{void, void_no, void_combine, make_false};
+ghost use Rattle.cover_model.specs.Rules.{make_false};
 ghost use Rattle.cover_rule.specs.Serves.{IsReady};
+ghost use Rattle.cover_rule.specs.Narrowers.{EndByNarrower, NamesAtom};
 ghost use Rattle.cover_rule.specs.Patch.{ended_by};
-ghost use Rattle.cover_rule.specs.Refusals.{VoidEnd, VoidNoEnd, VoidCombineEnd, FalseEnd, RunLemmaEnd};
+ghost use Rattle.cover_rule.specs.Refusals.{FalseEnd, RunLemmaEnd};
 ghost use Rattle.cover_data.specs.Views.{kept_of, end_line};
 ghost use Rattle.cover_rule.specs.Held.{IsHeld, patch_of};
 
-use crate::combining::{can_combine, combining_leaves_nothing};
-use crate::narrowing::{is_no_one_sided, leaves_nothing, off_leaves_nothing};
+use crate::narrower::{self, Narrower, leaves_nothing, may_narrow, why_not};
 use crate::refusal::PatchRefusal;
 use crate::steps::quote;
 use crate::truth::may_hold;
 use crate::workspace::Workspace;
-use cover_data::{Combination, End, KeptPatch, Lemma, Margins};
-use dyadic::Dy;
+use cover_data::{End, KeptPatch, Lemma, Margins};
 use poly_graph::Problem;
 use std::alloc::Global;
 use std::mem;
@@ -30,89 +28,34 @@ pub fn end_by(kept: &mut KeptPatch, end: End)
     drop(mem::replace(&mut kept.end, Some(end)));
 }
 
-/// Ends the patch by atom j, whose narrowing leaves nothing.
+/// Ends the patch where narrowing leaves nothing, and the marks allow it.
 pub fn void(
-    problem: &Problem,
-    margins: &Margins,
-    kept: &mut KeptPatch,
-    work: &mut Workspace,
-    j: u32,
-) -> Result<(), PatchRefusal>
-    requires held { IsHeld problem.now margins.now kept.old work.old }
-    requires atom { j < length problem.now.atoms }
-    ensures answer { let P = patch_of problem.now margins.now in
-        VoidEnd (P kept.old) j (P kept.new) result }
-    ensures reached { kept.new.reached ≡ kept.old.reached }
-    ensures ready { IsReady problem.now margins.now kept.old.reached.space work.new }
-{
-    if kept.end.is_some() {
-        return Err(PatchRefusal::Ended);
-    }
-    if !kept.reached.is_yes(j) {
-        return Err(PatchRefusal::NotYes);
-    }
-    if !leaves_nothing(problem, margins, &kept.reached, j, work) {
-        return Err(PatchRefusal::NotFalse);
-    }
-    end_by(kept, End::Void(j));
-    Ok(())
-}
-
-/// Ends the patch by atom j, which fails, and whose off-range leaves nothing.
-pub fn void_no(
-    problem: &Problem,
-    margins: &Margins,
-    kept: &mut KeptPatch,
-    work: &mut Workspace,
-    j: u32,
-) -> Result<(), PatchRefusal>
-    requires held { IsHeld problem.now margins.now kept.old work.old }
-    requires atom { j < length problem.now.atoms }
-    ensures answer { let P = patch_of problem.now margins.now in
-        VoidNoEnd (P kept.old) j (P kept.new) result }
-    ensures reached { kept.new.reached ≡ kept.old.reached }
-    ensures ready { IsReady problem.now margins.now kept.old.reached.space work.new }
-{
-    if kept.end.is_some() {
-        return Err(PatchRefusal::Ended);
-    }
-    if !is_no_one_sided(problem, &kept.reached, j) {
-        return Err(PatchRefusal::NotNo);
-    }
-    if !off_leaves_nothing(problem, margins, &kept.reached, j, work) {
-        return Err(PatchRefusal::NotFalse);
-    }
-    end_by(kept, End::VoidNo(j));
-    Ok(())
-}
-
-/// Ends the patch by a combination of marked atoms that leaves nothing.
-pub fn void_combine(
     alloc: Global,
     problem: &Problem,
     margins: &Margins,
     kept: &mut KeptPatch,
     work: &mut Workspace,
-    multipliers: &[(u32, Dy)],
+    by: Narrower,
 ) -> Result<(), PatchRefusal>
     requires held { IsHeld problem.now margins.now kept.old work.old }
+    requires atom { NamesAtom problem.now by }
     ensures answer { let P = patch_of problem.now margins.now in
-        VoidCombineEnd (P kept.old) (multipliers_of multipliers.now) (P kept.new) result }
+        EndByNarrower (P kept.old) by.entry (P kept.new) result }
     ensures reached { kept.new.reached ≡ kept.old.reached }
     ensures ready { IsReady problem.now margins.now kept.old.reached.space work.new }
 {
     if kept.end.is_some() {
         return Err(PatchRefusal::Ended);
     }
-    if !can_combine(problem, margins, &kept.reached, multipliers) {
-        return Err(PatchRefusal::NotCombinable);
+    if !may_narrow(problem, margins, &kept.reached, by) {
+        return Err(why_not(by));
     }
-    if !combining_leaves_nothing(problem, margins, &kept.reached, multipliers, work) {
+    if !leaves_nothing(problem, margins, &kept.reached, by, work) {
         return Err(PatchRefusal::NotFalse);
     }
-    match Combination::new(alloc, multipliers) {
-        Ok(combination) => {
-            end_by(kept, End::VoidCombine(combination));
+    match narrower::end_by(alloc, by) {
+        Ok(end) => {
+            end_by(kept, end);
             Ok(())
         }
         Err(_) => Err(PatchRefusal::Memory),

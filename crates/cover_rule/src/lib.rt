@@ -9,6 +9,7 @@ mod branches;
 mod combining;
 mod ends;
 mod facts;
+mod narrower;
 mod narrowing;
 mod patch;
 mod point;

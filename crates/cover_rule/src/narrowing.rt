@@ -5,7 +5,7 @@ ghost use Rattle.poly_graph.specs.Problem.{atom_at};
 ghost use Rattle.cover_model.specs.Fits.{FitsProblem};
 ghost use Rattle.cover_model.specs.State.{with_space};
 ghost use Rattle.cover_model.specs.Rules.{in_no_one_sided};
-ghost use Rattle.cover_model.specs.Honest.{is_some_space, none_empty};
+ghost use Rattle.cover_model.specs.Honest.{none_empty};
 ghost use Rattle.ival.specs.RowViews.{marks_of, is_marked};
 ghost use Rattle.ival.specs.SpaceViews.{space_of, domain_of};
 ghost use Rattle.ival.specs.Narrows.{IsNarrowed};
@@ -13,7 +13,7 @@ ghost use Rattle.cover_data.specs.Margins.{AreMargins, loosenings_of};
 ghost use Rattle.cover_rule.specs.Calls.{narrowing_at, narrowing_off_at};
 ghost use Rattle.cover_rule.specs.Serves.{HasRowsOf, IsReady, IsNumbered, leaves_some};
 
-use crate::facts::problem_is_whole;
+use crate::narrower::{Narrower, leaves_nothing};
 use crate::workspace::Workspace;
 use cover_data::{Margins, State};
 use cover_model::is_one_sided;
@@ -205,32 +205,6 @@ pub fn narrow_spare(
     narrowed
 }
 
-/// Whether narrowing by atom j leaves nothing.
-pub fn leaves_nothing(
-    problem: &Problem,
-    margins: &Margins,
-    state: &State,
-    j: u32,
-    work: &mut Workspace,
-) -> bool
-    requires margins { AreMargins margins.now }
-    requires atom { j < length problem.now.atoms }
-    requires work { IsReady problem.now margins.now state.now.space work.old }
-    ensures empty { let narrow = narrowing_at problem.now margins.now state.now j in
-        result ≡ not (is_some_space narrow) }
-    ensures work { IsReady problem.now margins.now state.now.space work.new }
-{
-    problem_is_whole(problem);
-    match narrow_spare(problem, margins, state, j, work) {
-        Narrowed::Empty => true,
-        Narrowed::Same => false,
-        Narrowed::Less => {
-            copy_space(state.space(), &mut work.spare);
-            false
-        }
-    }
-}
-
 /// Whether atom j is marked no and is an inequality.
 pub fn is_no_one_sided(problem: &Problem, state: &State, j: u32) -> bool
     requires atom { j < length problem.now.atoms }
@@ -267,32 +241,6 @@ pub fn narrow_off_spare(
     )
 }
 
-/// Whether narrowing by the off-range of atom j leaves nothing.
-pub fn off_leaves_nothing(
-    problem: &Problem,
-    margins: &Margins,
-    state: &State,
-    j: u32,
-    work: &mut Workspace,
-) -> bool
-    requires margins { AreMargins margins.now }
-    requires atom { j < length problem.now.atoms }
-    requires work { IsReady problem.now margins.now state.now.space work.old }
-    ensures empty { let narrow = narrowing_off_at problem.now margins.now state.now j in
-        result ≡ not (is_some_space narrow) }
-    ensures work { IsReady problem.now margins.now state.now.space work.new }
-{
-    problem_is_whole(problem);
-    match narrow_off_spare(problem, margins, state, j, work) {
-        Narrowed::Empty => true,
-        Narrowed::Same => false,
-        Narrowed::Less => {
-            copy_space(state.space(), &mut work.spare);
-            false
-        }
-    }
-}
-
 // Whether narrowing by atom j leaves something; it is tried only where that is not known.
 fn leaves_some(
     problem: &Problem,
@@ -302,12 +250,14 @@ fn leaves_some(
     work: &mut Workspace,
 ) -> bool
     requires margins { AreMargins margins.now }
+    requires state { FitsProblem (problem_of problem.now) state.now }
     requires atom { j < length problem.now.atoms }
     requires work { IsReady problem.now margins.now state.now.space work.old }
     ensures some { result ≡ leaves_some problem.now margins.now state.now.space j }
     ensures work { IsReady problem.now margins.now state.now.space work.new }
 {
-    work.leaves[j as usize] || !leaves_nothing(problem, margins, state, j, work)
+    let by = Narrower::Pull(j);
+    work.leaves[j as usize] || !leaves_nothing(problem, margins, state, by, work)
 }
 
 /// Whether narrowing by no atom that is marked yes leaves nothing.

@@ -13,6 +13,7 @@ ghost use Rattle.cover_rule.specs.Patch.{problem_in, run_at, IsRunOf, IsLemmaSta
 ghost use Rattle.cover_rule.specs.Refusals.{PullStep, PullIfLessStep, PushStep, PushIfLessStep, CombineStep, CombineIfLessStep, UnitStep, BanStep, VoidEnd, VoidNoEnd, VoidCombineEnd, FalseEnd, LemmaEnd, CutEnd, FlipEnd, CaseEnd, StuckEnd};
 ghost use Rattle.cover_data.specs.Views.{kept_of};
 
+use crate::narrower::Narrower;
 use crate::narrowing::{copy_space, forget};
 use crate::refusal::PatchRefusal;
 use crate::truth::{find_centre, is_sure_at_middle};
@@ -114,6 +115,22 @@ impl<'a> Patch<'a> {
         Patch::begin_in(alloc, work, problem, margins, state)
     }
 
+    /// The problem.
+    pub fn problem(&self) -> &'a Problem
+        ensures problem { result.now ≡ self.now.problem }
+        ensures numbered { IsNumbered result.now }
+    {
+        self.problem
+    }
+
+    /// The margins.
+    pub fn margins(&self) -> &Margins
+        ensures margins { result.now ≡ self.now.margins }
+        ensures bits { AreMargins result.now }
+    {
+        &self.margins
+    }
+
     /// The state that it has reached.
     pub fn reached(&self) -> &State
         ensures state { result.now ≡ self.now.kept.reached }
@@ -202,12 +219,13 @@ impl<'a> Patch<'a> {
         requires { j < length self.old.problem.atoms }
         ensures { PullStep self.old j self.new result }
     {
-        steps::pull(
+        steps::narrow(
+            self.alloc,
             self.problem,
             &self.margins,
             &mut self.kept,
             &mut self.work,
-            j,
+            Narrower::Pull(j),
         )
     }
 
@@ -217,12 +235,13 @@ impl<'a> Patch<'a> {
         requires { j < length self.old.problem.atoms }
         ensures { PullIfLessStep self.old j self.new result }
     {
-        steps::pull_if_less(
+        steps::narrow_if_less(
+            self.alloc,
             self.problem,
             &self.margins,
             &mut self.kept,
             &mut self.work,
-            j,
+            Narrower::Pull(j),
         )
     }
 
@@ -232,12 +251,13 @@ impl<'a> Patch<'a> {
         requires { j < length self.old.problem.atoms }
         ensures { PushStep self.old j self.new result }
     {
-        steps::push(
+        steps::narrow(
+            self.alloc,
             self.problem,
             &self.margins,
             &mut self.kept,
             &mut self.work,
-            j,
+            Narrower::Push(j),
         )
     }
 
@@ -247,12 +267,13 @@ impl<'a> Patch<'a> {
         requires { j < length self.old.problem.atoms }
         ensures { PushIfLessStep self.old j self.new result }
     {
-        steps::push_if_less(
+        steps::narrow_if_less(
+            self.alloc,
             self.problem,
             &self.margins,
             &mut self.kept,
             &mut self.work,
-            j,
+            Narrower::Push(j),
         )
     }
 
@@ -261,13 +282,13 @@ impl<'a> Patch<'a> {
     pub fn combine(&mut self, multipliers: &[(u32, Dy)]) -> Result<(), PatchRefusal>
         ensures { CombineStep self.old (multipliers_of multipliers.now) self.new result }
     {
-        steps::combine(
+        steps::narrow(
             self.alloc,
             self.problem,
             &self.margins,
             &mut self.kept,
             &mut self.work,
-            multipliers,
+            Narrower::Combine(multipliers),
         )
     }
 
@@ -275,13 +296,13 @@ impl<'a> Patch<'a> {
     pub fn combine_if_less(&mut self, multipliers: &[(u32, Dy)]) -> Result<bool, PatchRefusal>
         ensures { CombineIfLessStep self.old (multipliers_of multipliers.now) self.new result }
     {
-        steps::combine_if_less(
+        steps::narrow_if_less(
             self.alloc,
             self.problem,
             &self.margins,
             &mut self.kept,
             &mut self.work,
-            multipliers,
+            Narrower::Combine(multipliers),
         )
     }
 
@@ -315,11 +336,12 @@ impl<'a> Patch<'a> {
         ensures { VoidEnd self.old j self.new result }
     {
         ends::void(
+            self.alloc,
             self.problem,
             &self.margins,
             &mut self.kept,
             &mut self.work,
-            j,
+            Narrower::Pull(j),
         )
     }
 
@@ -328,12 +350,13 @@ impl<'a> Patch<'a> {
         requires { j < length self.old.problem.atoms }
         ensures { VoidNoEnd self.old j self.new result }
     {
-        ends::void_no(
+        ends::void(
+            self.alloc,
             self.problem,
             &self.margins,
             &mut self.kept,
             &mut self.work,
-            j,
+            Narrower::Push(j),
         )
     }
 
@@ -341,13 +364,13 @@ impl<'a> Patch<'a> {
     pub fn void_combine(&mut self, multipliers: &[(u32, Dy)]) -> Result<(), PatchRefusal>
         ensures { VoidCombineEnd self.old (multipliers_of multipliers.now) self.new result }
     {
-        ends::void_combine(
+        ends::void(
             self.alloc,
             self.problem,
             &self.margins,
             &mut self.kept,
             &mut self.work,
-            multipliers,
+            Narrower::Combine(multipliers),
         )
     }
 

@@ -1,151 +1,64 @@
 // Steps of a patch, over its parts.
-ghost use Rattle.std.specs.Prelude.{◌≡◌, ◌≢◌, ◌<◌, ◌≤◌, [], ◌∷◌, ◌++◌, length, not, true, false, IsTrue, None, Some, OnOk, OnErr, IfErr, IfNone, OnSome};
+ghost use Rattle.std.specs.Prelude.{◌≡◌, ◌≢◌, ◌<◌, [], ◌∷◌, ◌++◌, length, not, true, false, IsTrue, None, Some, OnOk, OnErr, IfErr, IfNone, OnSome};
 ghost use Rattle.poly_graph.specs.ProblemViews.{problem_of};
 ghost use Rattle.cover_model.specs.Fits.{FitsProblem};
-ghost use Rattle.cover_model.specs.Views.{multipliers_of};
 ghost use Rattle.cover_model.specs.State.{IsLemma, may, undecided, with_yes, with_no, with_space, covers};
 ghost use Rattle.ival.specs.SpaceViews.{space_of};
 ghost use Rattle.cover_data.specs.Margins.{AreMargins, loosenings_of};
-ghost use Rattle.cover_model.specs.Rules.{combine};
 ghost use Rattle.cover_rule.specs.Serves.{HasRowsOf, IsReady, IsNumbered};
-ghost use Rattle.cover_rule.specs.Patch.{stepped, with_step, narrowing_in, pulled_space, FitsPulled, narrowing_off_in, pushed_space, FitsPushed, combining_in, combined_space, FitsCombined};
-ghost use Rattle.cover_rule.specs.Refusals.{PullStep, PullIfLessStep, PushStep, PushIfLessStep, CombineStep, CombineIfLessStep, UnitStep, RunBanStep, IsPullRefusal, pull_refusal, IsPushRefusal, push_refusal, IsCombineRefusal, combine_refusal, unit_refusal, ban_refusal};
+ghost use Rattle.cover_rule.specs.Patch.{stepped, with_step};
+ghost use Rattle.cover_rule.specs.Narrowers.{FitsNarrowed, IsNarrowRefusal, IsSized, NamesAtom, NarrowIfLessStep, NarrowStep, line_of, narrow_refusal, narrowed_space, narrows_in};
+ghost use Rattle.cover_rule.specs.Refusals.{UnitStep, RunBanStep, unit_refusal, ban_refusal};
 ghost use Rattle.cover_rule.specs.declared.refusal.PatchRefusal.TheVariants as refusal;
 ghost use Rattle.cover_data.specs.Views.{kept_of, step_line};
 ghost use Rattle.cover_rule.specs.Held.{IsHeld, patch_of};
 
-use crate::combining::{can_combine, combine_spare};
-use crate::narrowing::{adopt_spare, copy_space, is_no_one_sided, narrow_off_spare, narrow_spare};
+use crate::narrower::{Narrower, may_narrow, narrow_by, step_by, why_not};
+use crate::narrowing::{adopt_spare, copy_space};
 use crate::refusal::PatchRefusal;
 use crate::truth::may_hold;
 use crate::workspace::Workspace;
-use cover_data::{Combination, KeptPatch, Lemma, Margins, State, Step};
-use dyadic::Dy;
+use cover_data::{KeptPatch, Lemma, Margins, State, Step};
 use ival::Narrowed;
 use poly_graph::{Mark, Problem};
 use std::alloc::{AllocError, Global};
 
-// Narrows the spare space by atom j where it may be pulled, and tells whether that is less than the state's space.
+// Narrows the spare space where that may be, and tells whether that leaves less than the state's space.
 fn narrowed(
     problem: &Problem,
     margins: &Margins,
     kept: &KeptPatch,
     work: &mut Workspace,
-    j: u32,
+    by: Narrower,
 ) -> Result<bool, PatchRefusal>
     requires held { IsHeld problem.now margins.now kept.now work.old }
-    requires atom { j < length problem.now.atoms }
-    ensures may { OnOk result (pull_refusal (patch_of problem.now margins.now kept.now) j ≡ None) }
-    ensures refusal { let P = patch_of problem.now margins.now kept.now in
-        IfErr result (λ e. IsPullRefusal P j e) }
-    ensures refused { OnErr result
-        (IsReady problem.now margins.now kept.now.reached.space work.new) }
-    ensures serves { HasRowsOf problem.now margins.now kept.now.reached.space work.new }
-    ensures length { length (space_of work.new.spare) ≡ length kept.now.reached.space }
-    ensures fits { OnOk result (FitsPulled (patch_of problem.now margins.now kept.now) j) }
-    ensures spare { let P = patch_of problem.now margins.now kept.now in
-        OnOk result (space_of work.new.spare ≡ pulled_space P j) }
-    ensures same { let P = patch_of problem.now margins.now kept.now in
-        let space = kept.now.reached.space in
-        result ≡ Ok false →
-        (narrowing_in P j ≡ Some space) × IsReady problem.now margins.now space work.new }
-    ensures less { let P = patch_of problem.now margins.now kept.now in
-        result ≡ Ok true → narrowing_in P j ≢ Some kept.now.reached.space }
-{
-    if kept.end.is_some() {
-        return Err(PatchRefusal::Ended);
-    }
-    if !kept.reached.is_yes(j) {
-        return Err(PatchRefusal::NotYes);
-    }
-    match narrow_spare(problem, margins, &kept.reached, j, work) {
-        Narrowed::Empty => Err(PatchRefusal::IsVoid),
-        Narrowed::Same => Ok(false),
-        Narrowed::Less => Ok(true),
-    }
-}
-
-// Narrows the spare space by the off-range of atom j where it may be pushed, and tells whether that is less than the
-// state's space.
-fn narrowed_off(
-    problem: &Problem,
-    margins: &Margins,
-    kept: &KeptPatch,
-    work: &mut Workspace,
-    j: u32,
-) -> Result<bool, PatchRefusal>
-    requires held { IsHeld problem.now margins.now kept.now work.old }
-    requires atom { j < length problem.now.atoms }
-    ensures may { OnOk result (push_refusal (patch_of problem.now margins.now kept.now) j ≡ None) }
-    ensures refusal { let P = patch_of problem.now margins.now kept.now in
-        IfErr result (λ e. IsPushRefusal P j e) }
-    ensures refused { OnErr result
-        (IsReady problem.now margins.now kept.now.reached.space work.new) }
-    ensures serves { HasRowsOf problem.now margins.now kept.now.reached.space work.new }
-    ensures length { length (space_of work.new.spare) ≡ length kept.now.reached.space }
-    ensures fits { OnOk result (FitsPushed (patch_of problem.now margins.now kept.now) j) }
-    ensures spare { let P = patch_of problem.now margins.now kept.now in
-        OnOk result (space_of work.new.spare ≡ pushed_space P j) }
-    ensures same { let P = patch_of problem.now margins.now kept.now in
-        let space = kept.now.reached.space in
-        result ≡ Ok false →
-        (narrowing_off_in P j ≡ Some space) × IsReady problem.now margins.now space work.new }
-    ensures less { let P = patch_of problem.now margins.now kept.now in
-        result ≡ Ok true → narrowing_off_in P j ≢ Some kept.now.reached.space }
-{
-    if kept.end.is_some() {
-        return Err(PatchRefusal::Ended);
-    }
-    if !is_no_one_sided(problem, &kept.reached, j) {
-        return Err(PatchRefusal::NotNo);
-    }
-    match narrow_off_spare(problem, margins, &kept.reached, j, work) {
-        Narrowed::Empty => Err(PatchRefusal::IsVoid),
-        Narrowed::Same => Ok(false),
-        Narrowed::Less => Ok(true),
-    }
-}
-
-// Narrows the spare space by a combination where its atoms may be combined, and tells whether that is less than the
-// state's space.
-fn combined(
-    problem: &Problem,
-    margins: &Margins,
-    kept: &KeptPatch,
-    work: &mut Workspace,
-    multipliers: &[(u32, Dy)],
-) -> Result<bool, PatchRefusal>
-    requires held { IsHeld problem.now margins.now kept.now work.old }
+    requires atom { NamesAtom problem.now by }
     ensures may { let P = patch_of problem.now margins.now kept.now in
-        OnOk result (combine_refusal P (multipliers_of multipliers.now) ≡ None) }
+        OnOk result (narrow_refusal P by.entry ≡ None) }
     ensures refusal { let P = patch_of problem.now margins.now kept.now in
-        IfErr result (λ e. IsCombineRefusal P (multipliers_of multipliers.now) e) }
+        IfErr result (λ e. IsNarrowRefusal P by.entry e) }
     ensures refused { OnErr result
         (IsReady problem.now margins.now kept.now.reached.space work.new) }
     ensures serves { HasRowsOf problem.now margins.now kept.now.reached.space work.new }
     ensures length { length (space_of work.new.spare) ≡ length kept.now.reached.space }
-    ensures some { OnOk result (0 < length multipliers.now) }
-    ensures few { OnOk result (length multipliers.now ≤ 64) }
-    ensures fits { let P = patch_of problem.now margins.now kept.now in
-        OnOk result (FitsCombined P (multipliers_of multipliers.now)) }
+    ensures size { OnOk result (IsSized by.entry) }
+    ensures fits { OnOk result (FitsNarrowed (patch_of problem.now margins.now kept.now) by.entry) }
     ensures spare { let P = patch_of problem.now margins.now kept.now in
-        OnOk result (space_of work.new.spare ≡ combined_space P (multipliers_of multipliers.now)) }
+        OnOk result (space_of work.new.spare ≡ narrowed_space P by.entry) }
     ensures same { let P = patch_of problem.now margins.now kept.now in
         let space = kept.now.reached.space in
         result ≡ Ok false →
-        (combining_in P (multipliers_of multipliers.now) ≡ Some space) ×
-        IsReady problem.now margins.now space work.new }
+        (narrows_in P by.entry ≡ Some space) × IsReady problem.now margins.now space work.new }
     ensures less { let P = patch_of problem.now margins.now kept.now in
-        result ≡ Ok true →
-        combining_in P (multipliers_of multipliers.now) ≢ Some kept.now.reached.space }
+        result ≡ Ok true → narrows_in P by.entry ≢ Some kept.now.reached.space }
 {
     if kept.end.is_some() {
         return Err(PatchRefusal::Ended);
     }
-    if !can_combine(problem, margins, &kept.reached, multipliers) {
-        return Err(PatchRefusal::NotCombinable);
+    if !may_narrow(problem, margins, &kept.reached, by) {
+        return Err(why_not(by));
     }
-    match combine_spare(problem, margins, &kept.reached, multipliers, work) {
+    match narrow_by(problem, margins, &kept.reached, by, work) {
         Narrowed::Empty => Err(PatchRefusal::IsVoid),
         Narrowed::Same => Ok(false),
         Narrowed::Less => Ok(true),
@@ -191,160 +104,74 @@ fn take_narrowed(
     Ok(())
 }
 
-/// Pulls atom j, which has to be marked yes: leaves of the space what the atom leaves of it.
-pub fn pull(
-    problem: &Problem,
-    margins: &Margins,
-    kept: &mut KeptPatch,
-    work: &mut Workspace,
-    j: u32,
-) -> Result<(), PatchRefusal>
-    requires held { IsHeld problem.now margins.now kept.old work.old }
-    requires atom { j < length problem.now.atoms }
-    ensures answer { let P = patch_of problem.now margins.now in
-        PullStep (P kept.old) j (P kept.new) result }
-    ensures ready { IsReady problem.now margins.now kept.new.reached.space work.new }
-    ensures fits { OnOk result (FitsPulled (patch_of problem.now margins.now kept.old) j) }
-{
-    narrowed(problem, margins, kept, work, j)?;
-    take_narrowed(problem, margins, kept, work, Step::Pull(j))
-}
-
-/// Pulls atom j, which has to be marked yes, where that leaves less of the space; whether it does.
-pub fn pull_if_less(
-    problem: &Problem,
-    margins: &Margins,
-    kept: &mut KeptPatch,
-    work: &mut Workspace,
-    j: u32,
-) -> Result<bool, PatchRefusal>
-    requires held { IsHeld problem.now margins.now kept.old work.old }
-    requires atom { j < length problem.now.atoms }
-    ensures answer { let P = patch_of problem.now margins.now in
-        PullIfLessStep (P kept.old) j (P kept.new) result }
-    ensures ready { IsReady problem.now margins.now kept.new.reached.space work.new }
-    ensures fits { OnOk result (FitsPulled (patch_of problem.now margins.now kept.old) j) }
-{
-    if !narrowed(problem, margins, kept, work, j)? {
-        return Ok(false);
-    }
-    take_narrowed(problem, margins, kept, work, Step::Pull(j))?;
-    Ok(true)
-}
-
-/// Pushes atom j, which has to be marked no and to be an inequality: leaves of the space what its off-range leaves of
-/// it.
-pub fn push(
-    problem: &Problem,
-    margins: &Margins,
-    kept: &mut KeptPatch,
-    work: &mut Workspace,
-    j: u32,
-) -> Result<(), PatchRefusal>
-    requires held { IsHeld problem.now margins.now kept.old work.old }
-    requires atom { j < length problem.now.atoms }
-    ensures answer { let P = patch_of problem.now margins.now in
-        PushStep (P kept.old) j (P kept.new) result }
-    ensures ready { IsReady problem.now margins.now kept.new.reached.space work.new }
-    ensures fits { OnOk result (FitsPushed (patch_of problem.now margins.now kept.old) j) }
-{
-    narrowed_off(problem, margins, kept, work, j)?;
-    take_narrowed(problem, margins, kept, work, Step::Push(j))
-}
-
-/// Pushes atom j, which has to be marked no and to be an inequality, where that leaves less of the space; whether it
-/// does.
-pub fn push_if_less(
-    problem: &Problem,
-    margins: &Margins,
-    kept: &mut KeptPatch,
-    work: &mut Workspace,
-    j: u32,
-) -> Result<bool, PatchRefusal>
-    requires held { IsHeld problem.now margins.now kept.old work.old }
-    requires atom { j < length problem.now.atoms }
-    ensures answer { let P = patch_of problem.now margins.now in
-        PushIfLessStep (P kept.old) j (P kept.new) result }
-    ensures ready { IsReady problem.now margins.now kept.new.reached.space work.new }
-    ensures fits { OnOk result (FitsPushed (patch_of problem.now margins.now kept.old) j) }
-{
-    if !narrowed_off(problem, margins, kept, work, j)? {
-        return Ok(false);
-    }
-    take_narrowed(problem, margins, kept, work, Step::Push(j))?;
-    Ok(true)
-}
-
-// Takes the combination that the spare space was narrowed by; out of memory, all stays.
-fn take_combined(
+// Takes the step by which the spare space was narrowed; out of memory, all stays.
+fn take(
     alloc: Global,
     problem: &Problem,
     margins: &Margins,
     kept: &mut KeptPatch,
     work: &mut Workspace,
-    multipliers: &[(u32, Dy)],
+    by: Narrower,
 ) -> Result<(), PatchRefusal>
-    requires some { 0 < length multipliers.now }
-    requires few { length multipliers.now ≤ 64 }
+    requires size { IsSized by }
     requires numbered { IsNumbered problem.now }
     requires state { FitsProblem (problem_of problem.now) kept.old.reached }
     requires serves { HasRowsOf problem.now margins.now kept.old.reached.space work.old }
     requires length { length (space_of work.old.spare) ≡ length kept.old.reached.space }
     ensures ok { let k = kept_of kept.old in
         let reached = with_space k.reached (space_of work.old.spare) in
-        OnOk result (kept_of kept.new ≡
-        stepped k (combine (multipliers_of multipliers.now)) k.quoted reached) }
+        OnOk result (kept_of kept.new ≡ stepped k (line_of by.entry) k.quoted reached) }
     ensures err { OnErr result (kept_of kept.new ≡ kept_of kept.old) }
     ensures memory { OnErr result (result ≡ Err refusal.Memory) }
     ensures ready { IsReady problem.now margins.now kept.new.reached.space work.new }
 {
-    let Ok(combination) = Combination::new(alloc, multipliers) else {
+    let Ok(step) = step_by(alloc, by) else {
         copy_space(kept.reached.space(), &mut work.spare);
         return Err(PatchRefusal::Memory);
     };
-    take_narrowed(problem, margins, kept, work, Step::Combine(combination))
+    take_narrowed(problem, margins, kept, work, step)
 }
 
-/// Combines marked atoms: leaves of the space what their combination leaves of it.
-pub fn combine(
+/// Narrows the space, where the marks allow it and something is left.
+pub fn narrow(
     alloc: Global,
     problem: &Problem,
     margins: &Margins,
     kept: &mut KeptPatch,
     work: &mut Workspace,
-    multipliers: &[(u32, Dy)],
+    by: Narrower,
 ) -> Result<(), PatchRefusal>
     requires held { IsHeld problem.now margins.now kept.old work.old }
+    requires atom { NamesAtom problem.now by }
     ensures answer { let P = patch_of problem.now margins.now in
-        CombineStep (P kept.old) (multipliers_of multipliers.now) (P kept.new) result }
+        NarrowStep (P kept.old) by.entry (P kept.new) result }
     ensures ready { IsReady problem.now margins.now kept.new.reached.space work.new }
-    ensures fits { let P = patch_of problem.now margins.now kept.old in
-        OnOk result (FitsCombined P (multipliers_of multipliers.now)) }
+    ensures fits { OnOk result (FitsNarrowed (patch_of problem.now margins.now kept.old) by.entry) }
 {
-    combined(problem, margins, kept, work, multipliers)?;
-    take_combined(alloc, problem, margins, kept, work, multipliers)
+    narrowed(problem, margins, kept, work, by)?;
+    take(alloc, problem, margins, kept, work, by)
 }
 
-/// Combines marked atoms, where that leaves less of the space; whether it does.
-pub fn combine_if_less(
+/// Narrows the space where that leaves less of it; whether it does.
+pub fn narrow_if_less(
     alloc: Global,
     problem: &Problem,
     margins: &Margins,
     kept: &mut KeptPatch,
     work: &mut Workspace,
-    multipliers: &[(u32, Dy)],
+    by: Narrower,
 ) -> Result<bool, PatchRefusal>
     requires held { IsHeld problem.now margins.now kept.old work.old }
+    requires atom { NamesAtom problem.now by }
     ensures answer { let P = patch_of problem.now margins.now in
-        CombineIfLessStep (P kept.old) (multipliers_of multipliers.now) (P kept.new) result }
+        NarrowIfLessStep (P kept.old) by.entry (P kept.new) result }
     ensures ready { IsReady problem.now margins.now kept.new.reached.space work.new }
-    ensures fits { let P = patch_of problem.now margins.now kept.old in
-        OnOk result (FitsCombined P (multipliers_of multipliers.now)) }
+    ensures fits { OnOk result (FitsNarrowed (patch_of problem.now margins.now kept.old) by.entry) }
 {
-    if !combined(problem, margins, kept, work, multipliers)? {
+    if !narrowed(problem, margins, kept, work, by)? {
         return Ok(false);
     }
-    take_combined(alloc, problem, margins, kept, work, multipliers)?;
+    take(alloc, problem, margins, kept, work, by)?;
     Ok(true)
 }
 

@@ -1,5 +1,5 @@
 use Rattle.std.proofs.Common.{◌≡◌, ◌∙◌, ap, sym, subst, arith, false, length, IsTrue}
-use Rattle.poly_graph.specs.ProblemViews.{Parts, problem_of}
+use Rattle.poly_graph.specs.ProblemViews.{problem_of}
 use Rattle.interval_model.specs.Space.{is_undecided, test_axis}
 use Rattle.cover_model.specs.Honest.{is_small}
 use Rattle.cover_rule.specs.Models.{PatchModel}
@@ -18,4 +18,4 @@ stick-requires-clause-small c =
     let same : c.flip_any.new.patch ≡ P = c.flip_any.ensures.same c.if-flip_any.false ∙ a.1 in
     subst (λ (X : PatchModel). IsTrue (is_small X.margins.least_bits X.kept.reached.space)) (sym same)
     (small_with_bools P.margins.least_bits P.kept.reached.space (cut_refused P Q (cut_by P) c.requires.due a)
-    (λ i l. ap (λ (X : PatchModel). test_axis is_undecided i X.kept.reached.space) (sym a.1) ∙ c.flip_any.ensures.none c.if-flip_any.false i (omega (arith, l, fits_length (problem_of P.problem).axes P.kept.reached.space c.run_is_lawful.ensures.sound.reached.axes, ap (λ (r : Parts). length r.axes) c.requires.problem))))
+    (λ i l. ap (λ (X : PatchModel). test_axis is_undecided i X.kept.reached.space) (sym a.1) ∙ c.flip_any.ensures.none c.if-flip_any.false i (omega (arith, l, fits_length (problem_of P.problem).axes P.kept.reached.space c.run_is_lawful.ensures.sound.reached.axes, ap (λ (X : PatchModel). length X.problem.axes) a.1))))

@@ -26,7 +26,7 @@ loop-j-preserved c =
 pub unreachable-requires : goal.unreachable-requires
 unreachable-requires c =
     let P = c.args.patch.now in let i = c.loop-j.invariant in
-    let n : length P.problem.atoms ≡ c.loop-j.j = omega (arith, c.loop-j-test.false, c.loop-j.auto.j-end, ap (λ (r : Parts). length r.atoms) c.requires.problem, simp length-map at (ap length c.atoms-j-end.ensures.atoms)) in
-    some_is_stuck P (subst (λ (r : Parts). IsProblem (problem_of r)) (sym c.requires.problem) c.atoms-j-end.ensures.whole.problem)
+    let n : length P.problem.atoms ≡ c.loop-j.j = omega (arith, c.loop-j-test.false, c.loop-j.auto.j-end, ap (λ (r : Parts). length r.atoms) c.problem-problem.ensures.problem, simp length-map at (ap length c.atoms-j-end.ensures.atoms)) in
+    some_is_stuck P (subst (λ (r : Parts). IsProblem (problem_of r)) (c.problem-problem.ensures.problem) c.atoms-j-end.ensures.whole.problem)
     c.space_is_upright.ensures.grid c.space_is_upright.ensures.upright c.requires.due c.requires.small
     (subst (λ (k : ℕ). none_below (problem_of P.problem) (loosenings_of P.margins) P.kept.reached k ≡ true) (sym n) i.below)

@@ -8,5 +8,5 @@ abbrev pub invariant-loop-j : goal.invariant-loop-j
 invariant-loop-j l = record {
   continues : Continues l.initial.patch l.patch;
   open_end : l.patch.kept.end ≡ None;
-  marked : AreMarked (problem_of l.problem) l.patch.kept.reached l.j;
+  marked : AreMarked (problem_of l.initial.patch.problem) l.patch.kept.reached l.j;
 }

@@ -20,8 +20,8 @@ pub first_covering-requires-clause-axes : goal.first_covering-requires-clause-ax
 first_covering-requires-clause-axes c = λ k d l.
     let P = c.args.patch.now in let F = c.make_false.new.patch in let Q = c.middle_point.new.patch in let same : Q ≡ F = c.in_ok-point.ensures.same in
     let a : Attempts (false_refusal P) P (ended_with P make_false) F false = refused (false_refusal P) P (ended_with P make_false) F c.make_false.result c.if-make_false.false c.make_false.ensures in
-    let p = problem_of c.args.problem.now in
-    let e : Q.problem ≡ c.args.problem.now = ap (λ (X : PatchModel). X.problem) (same ∙ a.1) ∙ c.requires.problem in
+    let p = problem_of P.problem in
+    let e : Q.problem ≡ P.problem = ap (λ (X : PatchModel). X.problem) (same ∙ a.1) in
     let f : FitsProblem p Q.kept.reached = subst (λ (r : Parts). FitsProblem (problem_of r) Q.kept.reached) e c.reached.ensures.run.sound.reached in
     let h = c.requires.lemmas k d l in
     fits_length p.axes (get_or c.args.lemmas.now k d).state.space h.0.axes ∙ sym (fits_length p.axes Q.kept.reached.space f.axes) ∙ ap (λ (S : State). length S.space) (sym c.reached.ensures.state)
@@ -30,8 +30,8 @@ pub by-requires-clause-state : goal.by-requires-clause-state
 by-requires-clause-state c =
     let P = c.args.patch.now in let F = c.make_false.new.patch in let Q = c.middle_point.new.patch in let same : Q ≡ F = c.in_ok-point.ensures.same in let L = c.in-Some-first_covering.lemma.now in
     let a : Attempts (false_refusal P) P (ended_with P make_false) F false = refused (false_refusal P) P (ended_with P make_false) F c.make_false.result c.if-make_false.false c.make_false.ensures in
-    let e : Q.problem ≡ c.args.problem.now = ap (λ (X : PatchModel). X.problem) (same ∙ a.1) ∙ c.requires.problem in
-    let h = All-contains (λ (X : LemmaModel). FitsProblem (problem_of c.args.problem.now) X.state × IsLemma (problem_of c.args.problem.now) (loosenings_of c.args.margins.now) X.state) c.args.lemmas.now L c.requires.lemmas
+    let e : Q.problem ≡ P.problem = ap (λ (X : PatchModel). X.problem) (same ∙ a.1) in
+    let h = All-contains (λ (X : LemmaModel). FitsProblem (problem_of P.problem) X.state × IsLemma (problem_of P.problem) (loosenings_of P.margins) X.state) c.args.lemmas.now L c.requires.lemmas
     (covering_is c.args.lemmas.now c.reached.result.now L c.in-Some-first_covering.ensures).0 in
     subst (λ (r : Parts). FitsProblem (problem_of r) L.state) (sym e) h.0
 
@@ -39,12 +39,12 @@ pub by-requires-clause-lemma : goal.by-requires-clause-lemma
 by-requires-clause-lemma c =
     let P = c.args.patch.now in let F = c.make_false.new.patch in let Q = c.middle_point.new.patch in let same : Q ≡ F = c.in_ok-point.ensures.same in let L = c.in-Some-first_covering.lemma.now in
     let a : Attempts (false_refusal P) P (ended_with P make_false) F false = refused (false_refusal P) P (ended_with P make_false) F c.make_false.result c.if-make_false.false c.make_false.ensures in
-    let e : Q.problem ≡ c.args.problem.now = ap (λ (X : PatchModel). X.problem) (same ∙ a.1) ∙ c.requires.problem in
-    let f : Q.margins ≡ c.args.margins.now = ap (λ (X : PatchModel). X.margins) (same ∙ a.1) ∙ c.requires.margins in
-    let h = All-contains (λ (X : LemmaModel). FitsProblem (problem_of c.args.problem.now) X.state × IsLemma (problem_of c.args.problem.now) (loosenings_of c.args.margins.now) X.state) c.args.lemmas.now L c.requires.lemmas
+    let e : Q.problem ≡ P.problem = ap (λ (X : PatchModel). X.problem) (same ∙ a.1) in
+    let f : Q.margins ≡ P.margins = ap (λ (X : PatchModel). X.margins) (same ∙ a.1) in
+    let h = All-contains (λ (X : LemmaModel). FitsProblem (problem_of P.problem) X.state × IsLemma (problem_of P.problem) (loosenings_of P.margins) X.state) c.args.lemmas.now L c.requires.lemmas
     (covering_is c.args.lemmas.now c.reached.result.now L c.in-Some-first_covering.ensures).0 in
     subst (λ (r : Parts). IsLemma (problem_of r) (loosenings_of Q.margins) L.state) (sym e)
-    (subst (λ (x : Margins). IsLemma (problem_of c.args.problem.now) (loosenings_of x) L.state) (sym f) h.1)
+    (subst (λ (x : Margins). IsLemma (problem_of P.problem) (loosenings_of x) L.state) (sym f) h.1)
 
 pub unreachable-requires : goal.unreachable-requires
 unreachable-requires c =

@@ -1,10 +1,9 @@
 use Rattle.std.proofs.Common.{◌≡◌, ◌∙◌, ap, sym, subst}
-use Rattle.cover_data.specs.declared.margins.Margins.{Margins}
 use Rattle.cover_data.specs.Margins.{loosenings_of}
 use Rattle.cover_data.specs.Models.{KeptModel}
 use Rattle.cover_rule.specs.Models.{PatchModel}
 use Rattle.cover_rule.specs.Patch.{run_at}
-use Rattle.poly_graph.specs.ProblemViews.{Parts, problem_of}
+use Rattle.poly_graph.specs.ProblemViews.{problem_of}
 use Rattle.box_worker.specs.Ended.{ComesToEnd}
 use Rattle.box_worker.specs.Worked.{margins_of, AnswersAtOnce, IsWork, WorkOf}
 use Rattle.box_worker.proofs.Works.{margins_are, begun, is_begun, comes_at_once, comes_to_work, if_ok_then}
@@ -15,22 +14,18 @@ come_to_end-requires-clause-begun c = let k = c.in_ok-patch.ensures.kept in k �
 
 pub returns-clause-at_once : goal.returns-clause-at_once
 returns-clause-at_once c =
-    let P = c.in_ok-patch.patch in let Z = c.come_to_end.new.patch in let q = c.args.room.now in let m = margins_of c.args.options.now in let S = c.args.state in let lemmas = c.args.lemmas.now in let ended = c.in_ok-ended.ended in
+    let P = c.in_ok-patch.patch in let Z = c.in_ok-patch-2.patch in let q = c.args.room.now in let m = margins_of c.args.options.now in let S = c.args.state in let lemmas = c.args.lemmas.now in let ended = c.in_ok-patch-2.ended in
     let n : c.margins-margins.result ≡ m = margins_are c.margins-margins.result c.args.options.now c.margins-margins.ensures.delta c.margins-margins.ensures.margin c.margins-margins.ensures.least in
     let b : P ≡ begun q m S = is_begun P q m S c.in_ok-patch.ensures.problem (c.in_ok-patch.ensures.margins ∙ n) c.in_ok-patch.ensures.kept in
     let a : ComesToEnd q m lemmas (begun q m S) Z ended =
-    subst (λ (X : PatchModel). ComesToEnd q m lemmas X Z ended) b
-    (subst (λ (x : Margins). ComesToEnd q x lemmas P Z ended) n
-    (subst (λ (r : Parts). ComesToEnd r c.margins-margins.result lemmas P Z ended) c.problem-problem.ensures c.in_ok-ended.ensures.comes)) in
+    subst (λ (X : PatchModel). ComesToEnd X.problem X.margins lemmas X Z ended) b c.in_ok-patch-2.ensures.comes in
     if_ok_then (WorkOf Z ended) (AnswersAtOnce (problem_of q) (loosenings_of m) lemmas S) c.worked.result (λ w h. comes_at_once q m lemmas S Z ended w a h) c.worked.ensures.work
 
 pub returns-clause-work : goal.returns-clause-work
 returns-clause-work c =
-    let P = c.in_ok-patch.patch in let Z = c.come_to_end.new.patch in let q = c.args.room.now in let m = margins_of c.args.options.now in let S = c.args.state in let lemmas = c.args.lemmas.now in let ended = c.in_ok-ended.ended in
+    let P = c.in_ok-patch.patch in let Z = c.in_ok-patch-2.patch in let q = c.args.room.now in let m = margins_of c.args.options.now in let S = c.args.state in let lemmas = c.args.lemmas.now in let ended = c.in_ok-patch-2.ended in
     let n : c.margins-margins.result ≡ m = margins_are c.margins-margins.result c.args.options.now c.margins-margins.ensures.delta c.margins-margins.ensures.margin c.margins-margins.ensures.least in
     let b : P ≡ begun q m S = is_begun P q m S c.in_ok-patch.ensures.problem (c.in_ok-patch.ensures.margins ∙ n) c.in_ok-patch.ensures.kept in
     let a : ComesToEnd q m lemmas (begun q m S) Z ended =
-    subst (λ (X : PatchModel). ComesToEnd q m lemmas X Z ended) b
-    (subst (λ (x : Margins). ComesToEnd q x lemmas P Z ended) n
-    (subst (λ (r : Parts). ComesToEnd r c.margins-margins.result lemmas P Z ended) c.problem-problem.ensures c.in_ok-ended.ensures.comes)) in
+    subst (λ (X : PatchModel). ComesToEnd X.problem X.margins lemmas X Z ended) b c.in_ok-patch-2.ensures.comes in
     if_ok_then (WorkOf Z ended) (IsWork (problem_of q) m lemmas S) c.worked.result (λ w h. comes_to_work q m lemmas S Z ended w a h) c.worked.ensures.work

@@ -8,13 +8,13 @@ use Rattle.cover_rule.proofs.patch.Patch.pull_if_less.Goals as goal
 
 pub invariant_of-self : goal.invariant_of-self
 invariant_of-self c =
-    let i = c.self.inside in let h = c.self.invariant in let p = i.problem.now in let k = i.kept in let k' = c.pull_if_less.new.kept in let r = c.pull_if_less.result in
+    let i = c.self.inside in let h = c.self.invariant in let p = i.problem.now in let k = i.kept in let k' = c.narrow_if_less.new.kept in let r = c.narrow_if_less.result in
     let P : PatchModel = patch_of p i.margins k in let Q : PatchModel = patch_of p i.margins k' in
-    held_with p i.margins k k' i.work c.pull_if_less.new.work h
-    (run_if_less (narrowing_in P c.args.j) (pull_refusal P c.args.j) P (pulled_by P c.args.j) Q r c.pull_if_less.ensures.answer h.run (λ f e. run_pulled P h.whole h.run c.args.j f e) c.pull_if_less.ensures.fits)
-    c.pull_if_less.ensures.ready
+    held_with p i.margins k k' i.work c.narrow_if_less.new.work h
+    (run_if_less (narrowing_in P c.args.j) (pull_refusal P c.args.j) P (pulled_by P c.args.j) Q r c.narrow_if_less.ensures.answer h.run (λ f e. run_pulled P h.whole h.run c.args.j f e) c.narrow_if_less.ensures.fits)
+    c.narrow_if_less.ensures.ready
 
 pub returns : goal.returns
 returns c =
     let i = c.self.inside in
-    subst (λ (X : PatchModel). PullIfLessStep X c.args.j (patch_of i.problem.now i.margins c.pull_if_less.new.kept) c.pull_if_less.result) c.self.view_is c.pull_if_less.ensures.answer
+    subst (λ (X : PatchModel). PullIfLessStep X c.args.j (patch_of i.problem.now i.margins c.narrow_if_less.new.kept) c.narrow_if_less.result) c.self.view_is c.narrow_if_less.ensures.answer

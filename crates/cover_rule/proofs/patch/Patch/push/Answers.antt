@@ -9,13 +9,13 @@ use Rattle.cover_rule.proofs.patch.Patch.push.Goals as goal
 
 pub invariant_of-self : goal.invariant_of-self
 invariant_of-self c =
-    let i = c.self.inside in let h = c.self.invariant in let p = i.problem.now in let k = i.kept in let k' = c.push.new.kept in let r = c.push.result in
+    let i = c.self.inside in let h = c.self.invariant in let p = i.problem.now in let k = i.kept in let k' = c.narrow.new.kept in let r = c.narrow.result in
     let P : PatchModel = patch_of p i.margins k in let Q : PatchModel = patch_of p i.margins k' in
-    held_with p i.margins k k' i.work c.push.new.work h
-    (run_after (push_refusal P c.args.j) P (pushed_by P c.args.j) Q r (c.push.ensures.answer) h.run (on_ok (FitsAxes (problem_in P).axes (space_or (now_in P).space (narrowing_off_in P c.args.j))) (push_refusal P c.args.j ≡ None → IsRunOf (pushed_by P c.args.j)) r (λ f e. run_pushed P h.whole h.run c.args.j f e) c.push.ensures.fits))
-    (c.push.ensures.ready)
+    held_with p i.margins k k' i.work c.narrow.new.work h
+    (run_after (push_refusal P c.args.j) P (pushed_by P c.args.j) Q r (c.narrow.ensures.answer) h.run (on_ok (FitsAxes (problem_in P).axes (space_or (now_in P).space (narrowing_off_in P c.args.j))) (push_refusal P c.args.j ≡ None → IsRunOf (pushed_by P c.args.j)) r (λ f e. run_pushed P h.whole h.run c.args.j f e) c.narrow.ensures.fits))
+    (c.narrow.ensures.ready)
 
 pub returns : goal.returns
 returns c =
     let i = c.self.inside in
-    subst (λ (X : PatchModel). PushStep X c.args.j (patch_of i.problem.now i.margins c.push.new.kept) c.push.result) c.self.view_is c.push.ensures.answer
+    subst (λ (X : PatchModel). PushStep X c.args.j (patch_of i.problem.now i.margins c.narrow.new.kept) c.narrow.result) c.self.view_is c.narrow.ensures.answer

@@ -11,13 +11,13 @@ use Rattle.cover_rule.proofs.patch.Patch.void_combine.Goals as goal
 
 pub invariant_of-self : goal.invariant_of-self
 invariant_of-self c =
-    let i = c.self.inside in let h = c.self.invariant in let p = i.problem.now in let k = i.kept in let k' = c.void_combine.new.kept in let r = c.void_combine.result in
+    let i = c.self.inside in let h = c.self.invariant in let p = i.problem.now in let k = i.kept in let k' = c.void.new.kept in let r = c.void.result in
     let P : PatchModel = patch_of p i.margins k in let Q : PatchModel = patch_of p i.margins k' in
-    held_with p i.margins k k' i.work c.void_combine.new.work h
-    (run_after (void_combine_refusal P (multipliers_of c.args.multipliers.now)) P (ended_with P (void_combine (multipliers_of c.args.multipliers.now))) Q r (c.void_combine.ensures.answer) h.run (any_ok (void_combine_refusal P (multipliers_of c.args.multipliers.now) ≡ None → IsRunOf (ended_with P (void_combine (multipliers_of c.args.multipliers.now)))) r (λ e. run_void_combined P h.whole h.run (multipliers_of c.args.multipliers.now) e)))
-    (still_ready p i.margins k k' c.void_combine.new.work (ap (λ (S : State). S.space) c.void_combine.ensures.reached) c.void_combine.ensures.ready)
+    held_with p i.margins k k' i.work c.void.new.work h
+    (run_after (void_combine_refusal P (multipliers_of c.args.multipliers.now)) P (ended_with P (void_combine (multipliers_of c.args.multipliers.now))) Q r (c.void.ensures.answer) h.run (any_ok (void_combine_refusal P (multipliers_of c.args.multipliers.now) ≡ None → IsRunOf (ended_with P (void_combine (multipliers_of c.args.multipliers.now)))) r (λ e. run_void_combined P h.whole h.run (multipliers_of c.args.multipliers.now) e)))
+    (still_ready p i.margins k k' c.void.new.work (ap (λ (S : State). S.space) c.void.ensures.reached) c.void.ensures.ready)
 
 pub returns : goal.returns
 returns c =
     let i = c.self.inside in
-    subst (λ (X : PatchModel). VoidCombineEnd X (multipliers_of c.args.multipliers.now) (patch_of i.problem.now i.margins c.void_combine.new.kept) c.void_combine.result) c.self.view_is c.void_combine.ensures.answer
+    subst (λ (X : PatchModel). VoidCombineEnd X (multipliers_of c.args.multipliers.now) (patch_of i.problem.now i.margins c.void.new.kept) c.void.result) c.self.view_is c.void.ensures.answer
