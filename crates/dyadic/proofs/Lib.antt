@@ -6,9 +6,9 @@ pub mod Flips
 pub mod Floors
 pub mod FracFits
 pub mod FracSteps
-pub mod Halves
 pub mod Ints
 pub mod MarginTests
+pub mod Mantissas
 pub mod Margins
 pub mod Middles
 pub mod Nearest
@@ -29,6 +29,7 @@ pub mod RoundsMid
 pub mod RoundsMove
 pub mod RoundsRoots
 pub mod Shapes
+pub mod Shifts
 pub mod Signs
 pub mod SizePositive
 pub mod Sizes

@@ -2,10 +2,6 @@
 use Rattle.dyadic.specs.Rounding.{IsRepresentable}
 use Rattle.std.specs.Prelude.{Bool, true, false, ◌≡◌, ℕ, ◌+◌, ◌*◌, ◌^◌, ◌%◌, ◌≤◌, ◌<◌, min}
 
--- a number of two halves of 32 bits
-abbrev pub joined : ℕ → ℕ → ℕ
-joined high low = high * 2 ^ 32 + low
-
 -- the one spelling of a representable size as odd * 2^shift units: odd is odd, or both are 0
 pub record IsSpelling (odd shift : ℕ) : Type 0 where
   pub few_bits : odd ≤ 2 ^ 62
