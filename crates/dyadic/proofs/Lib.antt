@@ -15,12 +15,12 @@ pub mod Nearest
 pub mod NumberLaws
 mod NumberTextRows
 pub mod Numbers
-pub mod Order
 pub mod OrderTests
 pub mod Products
 pub mod Quotients
 pub mod Ranges
 pub mod Reduced
+pub mod Results
 pub mod Ring
 pub mod RootViews
 pub mod Roots
@@ -35,9 +35,11 @@ pub mod SizePositive
 pub mod Sizes
 pub mod SpelledTexts
 pub mod Spellings
-pub mod Steps
+pub mod StepBounds
 pub mod TextLaws
+pub mod Sums
 pub mod Texts
 pub mod Tight
 pub mod Unique
+pub mod WithinSteps
 pub mod Zeros

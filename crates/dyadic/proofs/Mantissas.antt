@@ -1,13 +1,15 @@
 -- What is true of mantissas in normal form.
-use Rattle.std.proofs.Common.{◌≡◌, ℕ, zero, suc, ◌+◌, ◌*◌, ◌-◌, ◌^◌, ◌<◌, ◌≤◌, arith, refl, sym, ap, ◌∙◌, subst, ⊎_elim, mul-le-mul_right, mul-pos, Bool, true, false, ℤ, pos, negsuc, neg_ℤ, ◌*ℤ◌, ◌≤ℤ◌, ◌<ℤ◌, nat_abs}
+use Rattle.std.proofs.Common.{◌≡◌, ℕ, zero, suc, ◌+◌, ◌*◌, ◌-◌, ◌^◌, ◌<◌, ◌≤◌, arith, refl, sym, ap, ◌∙◌, subst, ⊎_elim, mul-le-mul_right, mul-lt-mul_of_pos_right, mul-pos, Bool, true, false, ℤ, pos, negsuc, neg_ℤ, ◌*ℤ◌, ◌≤ℤ◌, ◌<ℤ◌, nat_abs}
 use Rattle.std.proofs.Math.Nat.{mul-le-mul}
 use Rattle.std.proofs.lemmas.Int.{ints}
-use Rattle.std.proofs.lemmas.Nat.{pow_pos}
+use Rattle.std.proofs.lemmas.Nat.{pow_pos, pow-add}
 use Rattle.std.proofs.lemmas.Bool.{cases_lt}
 use Rattle.dyadic.specs.Mantissa.{IsNormal}
 use Rattle.dyadic.specs.Signed.{signed_of}
-use Rattle.dyadic.proofs.Ints.{neg-*ℤ, nat_abs-neg}
+use Rattle.dyadic.proofs.Ints.{neg-*ℤ}
 use Rattle.dyadic.proofs.Nearest.{pow_le, pow_split}
+use Rattle.dyadic.proofs.StepBounds.{regroup}
+use Rattle.dyadic.proofs.Unique.{size_in_steps}
 
 pub normal_short : (m : ℤ) (s : ℕ) → IsNormal m s → s ≤ 181
 normal_short m s n = ⊎_elim
@@ -16,15 +18,6 @@ normal_short m s n = ⊎_elim
     (let many : 2 ^ 61 * 2 ^ 182 ≤ nat_abs m * 2 ^ s = mul-le-mul (n.many_bits (omega arith)) (pow_le 182 s high) in
     omega (arith, many, n.in_range)))
     (cases_lt s 182)
-
-pub normal_neg : (m : ℤ) (s : ℕ) → IsNormal m s → IsNormal (neg_ℤ m) s
-normal_neg m s n =
-    let e = nat_abs-neg m in
-    record {
-      few_bits = omega (arith, e, n.few_bits);
-      many_bits = λ p. let k = n.many_bits p in omega (arith, e, k);
-      in_range = omega (arith, ap (λ k. k * 2 ^ s) e, n.in_range);
-    }
 
 -- ---- by sign and size
 
@@ -68,3 +61,44 @@ below_units (negsuc n) k p h = let some : 0 < suc n * k = mul-pos (omega arith) 
 pub units_below : (m : ℤ) (k : ℕ) → (m *ℤ pos k) <ℤ pos 0 → m <ℤ pos 0
 units_below (pos n) k h = absurd (omega (arith, ints, h))
 units_below (negsuc n) k h = omega (arith, ints)
+
+-- ---- steps
+
+pub moved_back : (m : ℤ) (shift up : ℕ) → up ≤ shift → (m *ℤ pos (2 ^ up)) *ℤ pos (2 ^ (shift - up)) ≡ m *ℤ pos (2 ^ shift)
+moved_back m shift up within =
+    regroup m (2 ^ up) (2 ^ (shift - up)) ∙ (let e : 2 ^ up * 2 ^ (shift - up) ≡ 2 ^ shift = omega (arith, pow_split up shift within) in ap (λ n. m *ℤ pos n) e)
+
+-- many steps above the range
+pub large_units : (m : ℤ) (s : ℕ) → pos 0 <ℤ m → 2 ^ 61 ≤ nat_abs m → 181 ≤ s → pos (2 ^ 242) ≤ℤ (m *ℤ pos (2 ^ s))
+large_units m s p many high =
+    let size = size_in_steps m s in
+    let all : 2 ^ 61 * 2 ^ 181 ≤ nat_abs m * 2 ^ s = mul-le-mul many (pow_le 181 s high) in
+    let sign = units_above m (2 ^ s) (pow_pos s) p in
+    omega (arith, ints, size, all, sign)
+  where
+    units_above : (m : ℤ) (k : ℕ) → 0 < k → pos 0 <ℤ m → pos 0 <ℤ (m *ℤ pos k)
+    units_above (pos n) k p h = let some : 0 < n * k = mul-pos (omega (arith, ints, h)) p in omega (arith, ints, some)
+    units_above (negsuc n) k p h = absurd (omega (arith, ints, h))
+
+pub low_units : (m : ℤ) (s : ℕ) → m ≤ℤ pos 0 → 2 ^ 61 ≤ nat_abs m → 181 ≤ s → (s ≡ 181 → 2 ^ 61 < nat_abs m) → (m *ℤ pos (2 ^ s)) <ℤ neg_ℤ (pos (2 ^ 242))
+low_units m s p many high other =
+    let size = size_in_steps m s in
+    let sign = below_units m (2 ^ s) (pow_pos s) (omega (arith, ints, p, many)) in
+    let more : 2 ^ 242 < nat_abs m * 2 ^ s = ⊎_elim
+        (λ (same : s < 182).
+        let e : 181 ≡ s = omega arith in
+        let k = other (sym e) in
+        subst (λ x. 2 ^ 242 < nat_abs m * 2 ^ x) e (omega (arith, k)))
+        (λ (above : 182 ≤ s). let all : 2 ^ 61 * 2 ^ 182 ≤ nat_abs m * 2 ^ s = mul-le-mul many (pow_le 182 s above) in omega (arith, all))
+        (cases_lt s 182) in
+    omega (arith, ints, size, more, sign)
+
+-- ---- the order
+
+-- a number of a greater shift has a greater size
+pub smaller : (m n : ℤ) (i j : ℕ) → IsNormal m i → IsNormal n j → i < j → nat_abs (m *ℤ pos (2 ^ i)) < nat_abs (n *ℤ pos (2 ^ j))
+smaller m n i j a b h =
+    let few = mul-lt-mul_of_pos_right a.few_bits (pow_pos i) in
+    let many = mul-le-mul_right (2 ^ j) (b.many_bits (omega (arith, h))) in
+    let power : 2 ^ (i + 1) ≤ 2 ^ j = pow_le (i + 1) j (omega (arith, h)) in
+    omega (arith, size_in_steps m i, size_in_steps n j, few, many, power, pow-add 2 i 1)

@@ -1,5 +1,5 @@
 -- A number has one form.
-use Rattle.std.proofs.Common.{◌≡◌, ℕ, ◌-◌, ◌*◌, ◌^◌, ◌<◌, ◌≤◌, arith, sym, ap, ◌∙◌, ⊎_elim, mul-le-mul_right, ℤ, pos, ◌*ℤ◌, ◌≤ℤ◌, nat_abs}
+use Rattle.std.proofs.Common.{◌≡◌, ℕ, ◌-◌, ◌*◌, ◌^◌, ◌<◌, ◌≤◌, arith, sym, ap, ◌∙◌, ⊎_elim, mul-le-mul_right, ℤ, pos, ◌*ℤ◌, nat_abs}
 use Rattle.std.proofs.Math.Nat.{eq_of_mul-eq-mul_right}
 use Rattle.std.proofs.Math.Bridge.{le_prop}
 use Rattle.std.proofs.lemmas.Int.{ints, unsigned_abs-mul}

@@ -7,6 +7,7 @@ use Rattle.dyadic.specs.declared.dy.Ext.TheVariants.{NegInf, Fin, PosInf}
 use Rattle.dyadic.specs.declared.frac.Frac.{Frac}
 use Rattle.dyadic.specs.Fraction.{Fraction}
 use Rattle.dyadic.specs.Rounding.{Dyadic, Ext as KeptEnd, below_all, finite, above_all}
+use Rattle.dyadic.specs.declared.normal.Normal.{Normal}
 use Rattle.dyadic.specs.declared.parts.Parts.{Parts}
 use Rattle.dyadic.specs.Mantissa.{mantissa}
 use Rattle.dyadic.specs.Size.{units}
@@ -25,6 +26,10 @@ parts_units a = signed_of a.negative (units a.size)
 
 abbrev pub parts_dyadic : Parts → Dyadic
 parts_dyadic a = record { units = parts_units a }
+
+-- the same of a number with its mantissa put together
+abbrev pub normal_units : Normal → ℤ
+normal_units a = a.mantissa *ℤ pos (2 ^ a.shift)
 
 abbrev pub ext_of : Ext → KeptEnd
 ext_of NegInf = below_all

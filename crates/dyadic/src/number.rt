@@ -1,14 +1,15 @@
 // Numbers by their mantissas, by their parts and back, with the other sign, and the number 0.
-ghost use Rattle.std.specs.Prelude.{◌≡◌, ℕ, ◌*◌, ◌^◌, ◌<◌, ◌≤◌, ◌<ℤ◌, ◌*ℤ◌, ◌↔◌, pos, nat_abs, IsTrue};
+ghost use Rattle.std.specs.Prelude.{◌≡◌, ℕ, ◌*◌, ◌^◌, ◌<◌, ◌≤◌, ◌<ℤ◌, ◌*ℤ◌, ◌↔◌, pos, neg_ℤ, nat_abs, IsTrue};
 ghost use Rattle.std.specs.Int.{int_shr};
 ghost use Rattle.dyadic.specs.End.{negated_dyadic, negated_ext};
 ghost use Rattle.dyadic.specs.Mantissa.{IsNormal, mantissa};
 ghost use Rattle.dyadic.specs.Rounding.{Dyadic};
 ghost use Rattle.dyadic.specs.Size.{units};
 ghost use Rattle.dyadic.specs.Signed.{signed_of};
-ghost use Rattle.dyadic.specs.Views.{units_of, parts_units, dyadic_of, ext_of};
+ghost use Rattle.dyadic.specs.Views.{units_of, parts_units, normal_units, dyadic_of, ext_of};
 
 use crate::dy::{Dy, Ext};
+use crate::normal::Normal;
 use crate::parts::Parts;
 use crate::rounding::spelled;
 use crate::size::Size;
@@ -60,15 +61,17 @@ fn with_sign(negative: bool, size: u64) -> i64
     }
 }
 
-// By how many bits an odd part is to be moved up.
-fn spare_bits(size: Size) -> u32
-    requires { 0 < size.odd }
-    ensures within { result ≤ size.shift }
-    ensures short { result < 64 }
-    ensures few { size.odd * 2 ^ result < 2 ^ 62 }
-    ensures many { result < size.shift → 2 ^ 61 ≤ size.odd * 2 ^ result }
+/// By how many bits a size in steps of `2^shift` units can be moved up to 62 bits at most.
+#[inline(always)]
+pub fn spare_bits(size: u64, shift: u32) -> u32
+    requires some { 0 < size }
+    requires few { size < 2 ^ 62 }
+    ensures within { result ≤ shift }
+    ensures short { result ≤ 61 }
+    ensures few { size * 2 ^ result < 2 ^ 62 }
+    ensures many { result < shift → 2 ^ 61 ≤ size * 2 ^ result }
 {
-    (size.odd.leading_zeros() - 2).min(size.shift)
+    (size.leading_zeros() - 2).min(shift)
 }
 
 /// The number of this sign and size.
@@ -79,7 +82,7 @@ pub fn signed(negative: bool, size: Size) -> Dy
     if size.odd == 0 {
         return Dy::ZERO;
     }
-    let up = spare_bits(size);
+    let up = spare_bits(size.odd, size.shift);
     number(with_sign(negative, size.odd << up), size.shift - up)
 }
 
@@ -90,12 +93,30 @@ impl Dy {
         shift: 0,
     };
 
-    /// The number's mantissa.
+    /// The greatest number, 2^122.
+    pub const GREATEST: Dy = Dy {
+        low: 0,
+        high: 1 << 29,
+        shift: 181,
+    };
+
+    // The number's mantissa.
     #[inline(always)]
     pub fn mantissa(self) -> i64
         ensures { result ≡ mantissa self.high self.low }
     {
         i64::from(self.high) * HALF + i64::from(self.low)
+    }
+
+    /// The number with its mantissa put together.
+    #[inline(always)]
+    pub fn normal(self) -> Normal
+        ensures { normal_units result ≡ units_of self }
+    {
+        Normal {
+            mantissa: self.mantissa(),
+            shift: u32::from(self.shift),
+        }
     }
 
     /// Its sign and its size.
@@ -141,6 +162,19 @@ impl Dy {
         ensures { units_of result ≡ pos (nat_abs (units_of self)) }
     {
         if self.is_negative() { self.neg() } else { self }
+    }
+}
+
+impl Normal {
+    /// The opposite.
+    #[inline(always)]
+    pub fn neg(self) -> Normal
+        ensures { normal_units result ≡ neg_ℤ (normal_units self) }
+    {
+        Normal {
+            mantissa: -self.mantissa,
+            shift: self.shift,
+        }
     }
 }
 

@@ -1,5 +1,4 @@
 use Rattle.std.proofs.Common.{◌^◌, arith}
-use Rattle.std.specs.Int.Signed.{shr_z}
 use Rattle.std.proofs.lemmas.Int.{ints}
 use Rattle.dyadic.proofs.Shifts.{shr_below, shr_above, shifted}
 use Rattle.dyadic.proofs.number.low_half.Goals as goal
