@@ -85,12 +85,12 @@ low_units m s p many high other =
     let size = size_in_steps m s in
     let sign = below_units m (2 ^ s) (pow_pos s) (omega (arith, ints, p, many)) in
     let more : 2 ^ 242 < nat_abs m * 2 ^ s = ⊎_elim
-        (λ (same : s < 182).
-        let e : 181 ≡ s = omega arith in
-        let k = other (sym e) in
-        subst (λ x. 2 ^ 242 < nat_abs m * 2 ^ x) e (omega (arith, k)))
-        (λ (above : 182 ≤ s). let all : 2 ^ 61 * 2 ^ 182 ≤ nat_abs m * 2 ^ s = mul-le-mul many (pow_le 182 s above) in omega (arith, all))
-        (cases_lt s 182) in
+    (λ (same : s < 182).
+    let e : 181 ≡ s = omega arith in
+    let k = other (sym e) in
+    subst (λ x. 2 ^ 242 < nat_abs m * 2 ^ x) e (omega (arith, k)))
+    (λ (above : 182 ≤ s). let all : 2 ^ 61 * 2 ^ 182 ≤ nat_abs m * 2 ^ s = mul-le-mul many (pow_le 182 s above) in omega (arith, all))
+    (cases_lt s 182) in
     omega (arith, ints, size, more, sign)
 
 -- ---- the order

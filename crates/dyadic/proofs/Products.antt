@@ -14,4 +14,3 @@ signed_times false false x y = sym (pos-*ℤ-pos x y)
 pub signed_by : (a : Bool) (x k : ℕ) → signed_of a (x * k) ≡ signed_of a x *ℤ pos k
 signed_by true x k = sym (neg-*ℤ (pos x) (pos k) ∙ ap neg_ℤ (pos-*ℤ-pos x k))
 signed_by false x k = sym (pos-*ℤ-pos x k)
-

@@ -1,5 +1,5 @@
 -- Shifts of integers to the right, which round down, and to the left.
-use Rattle.std.proofs.Common.{◌≡◌, ℕ, suc, ◌+◌, ◌*◌, ◌-◌, ◌/◌, ◌%◌, ◌^◌, ◌<◌, ◌≤◌, min, max, arith, sym, ap, ap₂, ◌∙◌,  ⊎_elim, mul-le-mul_right, mul-lt-mul_of_pos_right, ℤ, pos, negsuc, ◌+ℤ◌, ◌*ℤ◌, ◌≤ℤ◌, ◌<ℤ◌, nat_abs}
+use Rattle.std.proofs.Common.{◌≡◌, ℕ, suc, ◌+◌, ◌*◌, ◌-◌, ◌/◌, ◌%◌, ◌^◌, ◌<◌, ◌≤◌, min, max, arith, sym, ap, ap₂, ◌∙◌, ⊎_elim, mul-le-mul_right, mul-lt-mul_of_pos_right, ℤ, pos, negsuc, ◌+ℤ◌, ◌*ℤ◌, ◌≤ℤ◌, ◌<ℤ◌, nat_abs}
 use Rattle.std.proofs.Math.Nat.{mod-lt, mod-eq_of_lt, div-eq_of_lt, lt_of_mul-lt-mul_right}
 use Rattle.std.specs.Int.{leading_zeros, w64, w128}
 use Rattle.std.specs.Int.Signed.{shr_z, mag_shr}

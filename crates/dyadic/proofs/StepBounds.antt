@@ -80,7 +80,7 @@ within_sum w y k j s e large =
           let k0 : 0 ≡ k = omega arith in
           let whole : t ≡ y = subst (λ x. shr_z y (2 ^ x) ≡ y) k0 (shr_one y) in
           let same : y *ℤ pos (2 ^ j) ≡ t *ℤ pos (2 ^ s) =
-              ap (λ z. z *ℤ pos (2 ^ j)) (sym whole) ∙ ap (λ x. t *ℤ pos x) (subst (λ x. 2 ^ j ≡ 2 ^ x * 2 ^ j) k0 (omega arith) ∙ sym e) in
+          ap (λ z. z *ℤ pos (2 ^ j)) (sym whole) ∙ ap (λ x. t *ℤ pos x) (subst (λ x. 2 ^ j ≡ 2 ^ x * 2 ^ j) k0 (omega arith) ∙ sym e) in
           omega (arith, ints, same, both))
           (λ (some_k : 1 ≤ k). absurd (let l = large some some_k in omega (arith, l, few)))
           (cases_lt k 1);

@@ -17,7 +17,7 @@ not_finer : (m n : ℤ) (i j : ℕ) → IsNormal m i → IsNormal n j → i < j 
 not_finer m n i j a b h e =
     let split = pow_split i j (omega arith) in
     let same : nat_abs m * 2 ^ i ≡ nat_abs n * 2 ^ (j - i) * 2 ^ i =
-        omega (arith, size_in_steps m i, size_in_steps n j, ap (λ (z : ℤ). nat_abs z) e, ap (λ k. nat_abs n * k) split) in
+    omega (arith, size_in_steps m i, size_in_steps n j, ap (λ (z : ℤ). nat_abs z) e, ap (λ k. nat_abs n * k) split) in
     let whole : nat_abs m ≡ nat_abs n * 2 ^ (j - i) = eq_of_mul-eq-mul_right (2 ^ i) (pow_pos i) (nat_abs m) (nat_abs n * 2 ^ (j - i)) same in
     let half = pow_split 1 (j - i) (omega arith) in
     let large = mul-le-mul_right (2 ^ (j - i)) (b.many_bits (omega arith)) in

@@ -17,7 +17,7 @@ pub returns-else-shift-eq181 : goal.returns-else-shift-eq181
 returns-else-shift-eq181 c =
     let m = c.args.count in
     let k : m ≤ℤ pos 0 = omega (arith, ints, c.if-count-gt0.false) in
-    elim c.else-shift-eq181.branch
-    [ else-shift-eq181-via-then-shift-eq181+else-count w ↦ below_all_numbers (m *ℤ pos (2 ^ c.args.shift)) (low_units m c.args.shift k c.requires.many c.requires.high (λ _. not_lowest m k c.requires.many (λ e. w.if-count.false (ap (of_z w64) e))))
-    | else-shift-eq181-via-else-shift-eq181 w ↦ below_all_numbers (m *ℤ pos (2 ^ c.args.shift)) (low_units m c.args.shift k c.requires.many c.requires.high (λ e. absurd (w.if-shift-eq181.false e)))
+    elim c.else-shift-eq181.branch [
+      | else-shift-eq181-via-then-shift-eq181+else-count w ↦ below_all_numbers (m *ℤ pos (2 ^ c.args.shift)) (low_units m c.args.shift k c.requires.many c.requires.high (λ _. not_lowest m k c.requires.many (λ e. w.if-count.false (ap (of_z w64) e))))
+      | else-shift-eq181-via-else-shift-eq181 w ↦ below_all_numbers (m *ℤ pos (2 ^ c.args.shift)) (low_units m c.args.shift k c.requires.many c.requires.high (λ e. absurd (w.if-shift-eq181.false e)))
     ]
