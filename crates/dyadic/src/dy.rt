@@ -10,7 +10,7 @@ ghost use Rattle.dyadic.specs.Mantissa.{IsNormal, mantissa};
 pub struct Dy {
     pub low: u32,
     pub high: i32,
-    pub shift: u8,
+    pub shift: u32,
     pub ghost normal: { IsNormal (mantissa high low) shift },
     pub ghost one_low: { low < 2 ^ 32 },
 }

@@ -44,7 +44,7 @@ pub fn number(m: i64, shift: u32) -> Dy
     Dy {
         low: low_half(m),
         high: high_half(m),
-        shift: shift as u8,
+        shift,
     }
 }
 
@@ -115,7 +115,7 @@ impl Dy {
     {
         Normal {
             mantissa: self.mantissa(),
-            shift: u32::from(self.shift),
+            shift: self.shift,
         }
     }
 
@@ -127,7 +127,7 @@ impl Dy {
         let m = self.mantissa();
         Parts {
             negative: m < 0,
-            size: spelled(m.unsigned_abs(), u32::from(self.shift)),
+            size: spelled(m.unsigned_abs(), self.shift),
         }
     }
 
@@ -153,7 +153,7 @@ impl Dy {
     pub fn neg(self) -> Dy
         ensures { dyadic_of result ≡ negated_dyadic (dyadic_of self) }
     {
-        number(-self.mantissa(), u32::from(self.shift))
+        number(-self.mantissa(), self.shift)
     }
 
     /// The number without its sign.

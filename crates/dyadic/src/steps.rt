@@ -87,7 +87,7 @@ fn settled(count: i64, shift: u32) -> Steps
 }
 
 // What steps round down to that the shift alone does not show to be in range.
-#[inline(never)]
+#[inline(always)]
 fn bounded(count: i64, shift: u32) -> Ext
     requires few { nat_abs count < 2 ^ 62 }
     requires many { 2 ^ 61 ≤ nat_abs count }
