@@ -6,10 +6,11 @@ ghost use Rattle.dyadic.specs.End.{end_quotient, rounded_down, rounded_up, end_s
 ghost use Rattle.dyadic.specs.Calls.{IsDivisor};
 ghost use Rattle.dyadic.specs.Views.{ext_of};
 ghost use Rattle.ival.specs.Views.{interval_of, ends_of};
-ghost use Rattle.ival.specs.Sides.{LiesOn, MissesOn, IsFinite, first_of_least, second_of_least, first_of_greatest, second_of_greatest};
+ghost use Rattle.ival.specs.Sides.{LiesOn, MissesOn, IsFinite};
 ghost use Rattle.ival.specs.Corners.{least_quotient, greatest_quotient};
 
 use crate::ends::{Ends, Ival};
+use crate::factors::{greatest_factors, least_factors};
 use crate::side::{Side, is_above, is_below, side_of};
 use dyadic::{Ext, Sign, div_down, div_up, sign_of};
 
@@ -32,74 +33,6 @@ fn divisor_side(divisor: Ends) -> Side
     }
 }
 
-// The end of the first factor whose product is the least, for intervals on these sides that are not both across 0.
-fn first_of_least(first: Side, second: Side, low: Ext, high: Ext) -> Ext
-    ensures { ext_of result ≡ first_of_least first second (ext_of low) (ext_of high) }
-{
-    match (first, second) {
-        (Side::Above, Side::Above) => low,
-        (Side::Above, Side::Below) => high,
-        (Side::Above, Side::Across) => high,
-        (Side::Below, Side::Above) => low,
-        (Side::Below, Side::Below) => high,
-        (Side::Below, Side::Across) => low,
-        (Side::Across, Side::Above) => low,
-        (Side::Across, Side::Below) => high,
-        (Side::Across, Side::Across) => low,
-    }
-}
-
-// The end of the second factor whose product is the least, for intervals on these sides that are not both across 0.
-fn second_of_least(first: Side, second: Side, low: Ext, high: Ext) -> Ext
-    ensures { ext_of result ≡ second_of_least first second (ext_of low) (ext_of high) }
-{
-    match (first, second) {
-        (Side::Above, Side::Above) => low,
-        (Side::Above, Side::Below) => low,
-        (Side::Above, Side::Across) => low,
-        (Side::Below, Side::Above) => high,
-        (Side::Below, Side::Below) => high,
-        (Side::Below, Side::Across) => high,
-        (Side::Across, Side::Above) => high,
-        (Side::Across, Side::Below) => low,
-        (Side::Across, Side::Across) => high,
-    }
-}
-
-// The end of the first factor whose product is the greatest, for intervals on these sides that are not both across 0.
-fn first_of_greatest(first: Side, second: Side, low: Ext, high: Ext) -> Ext
-    ensures { ext_of result ≡ first_of_greatest first second (ext_of low) (ext_of high) }
-{
-    match (first, second) {
-        (Side::Above, Side::Above) => high,
-        (Side::Above, Side::Below) => low,
-        (Side::Above, Side::Across) => high,
-        (Side::Below, Side::Above) => high,
-        (Side::Below, Side::Below) => low,
-        (Side::Below, Side::Across) => low,
-        (Side::Across, Side::Above) => high,
-        (Side::Across, Side::Below) => low,
-        (Side::Across, Side::Across) => low,
-    }
-}
-
-// The end of the second factor whose product is the greatest, for intervals on these sides that are not both across 0.
-fn second_of_greatest(first: Side, second: Side, low: Ext, high: Ext) -> Ext
-    ensures { ext_of result ≡ second_of_greatest first second (ext_of low) (ext_of high) }
-{
-    match (first, second) {
-        (Side::Above, Side::Above) => high,
-        (Side::Above, Side::Below) => high,
-        (Side::Above, Side::Across) => high,
-        (Side::Below, Side::Above) => low,
-        (Side::Below, Side::Below) => low,
-        (Side::Below, Side::Across) => low,
-        (Side::Across, Side::Above) => high,
-        (Side::Across, Side::Below) => low,
-        (Side::Across, Side::Across) => low,
-    }
-}
-
 // The least quotient, rounded down.
 fn least_quotient(a: Ends, first: Side, divisor: Ends, second: Side) -> Ext
     requires first { LiesOn first (end_of (ext_of a.low)) (end_of (ext_of a.high)) }
@@ -107,10 +40,8 @@ fn least_quotient(a: Ends, first: Side, divisor: Ends, second: Side) -> Ext
     ensures { ext_of result ≡
         least_quotient (ext_of a.low) (ext_of a.high) (ext_of divisor.low) (ext_of divisor.high) }
 {
-    div_down(
-        first_of_least(first, second, a.low, a.high),
-        second_of_least(first, second, divisor.high, divisor.low),
-    )
+    let (above, below) = least_factors(first, &a.low, &a.high, second, &divisor.high, &divisor.low);
+    div_down(*above, *below)
 }
 
 // The greatest quotient, rounded up.
@@ -121,10 +52,15 @@ fn greatest_quotient(a: Ends, first: Side, divisor: Ends, second: Side) -> Ext
         greatest_quotient (ext_of a.low) (ext_of a.high)
         (ext_of divisor.low) (ext_of divisor.high) }
 {
-    div_up(
-        first_of_greatest(first, second, a.low, a.high),
-        second_of_greatest(first, second, divisor.high, divisor.low),
-    )
+    let (above, below) = greatest_factors(
+        first,
+        &a.low,
+        &a.high,
+        second,
+        &divisor.high,
+        &divisor.low,
+    );
+    div_up(*above, *below)
 }
 
 // The quotients by an interval without 0.

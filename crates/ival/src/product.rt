@@ -5,55 +5,14 @@ ghost use Rattle.interval_model.specs.Interval.{between, interval_product, inter
 ghost use Rattle.dyadic.specs.End.{rounded_down, rounded_up};
 ghost use Rattle.dyadic.specs.Views.{ext_of};
 ghost use Rattle.ival.specs.Views.{interval_of, ends_of};
-ghost use Rattle.ival.specs.Sides.{LiesOn, first_of_least, second_of_least, first_of_greatest, second_of_greatest};
+ghost use Rattle.ival.specs.Sides.{LiesOn};
 ghost use Rattle.ival.specs.Corners.{least_product, greatest_product, square_from, square_to};
 
 use crate::ends::{Ends, Ival};
+use crate::factors::{greatest_factors, least_factors};
 use crate::interval::{greater, lesser};
 use crate::side::{Side, side_of};
 use dyadic::{Dy, Ext, mul_down, mul_up};
-
-// The ends whose product is the least, for intervals on these sides that are not both across 0.
-#[inline(always)]
-fn least_factors<'a>(a: &'a Ends, first: Side, b: &'a Ends, second: Side) -> (&'a Ext, &'a Ext)
-    ensures first { ext_of result.0.now ≡
-        first_of_least first second (ext_of a.now.low) (ext_of a.now.high) }
-    ensures second { ext_of result.1.now ≡
-        second_of_least first second (ext_of b.now.low) (ext_of b.now.high) }
-{
-    match (first, second) {
-        (Side::Above, Side::Above) => (&a.low, &b.low),
-        (Side::Above, Side::Below) => (&a.high, &b.low),
-        (Side::Above, Side::Across) => (&a.high, &b.low),
-        (Side::Below, Side::Above) => (&a.low, &b.high),
-        (Side::Below, Side::Below) => (&a.high, &b.high),
-        (Side::Below, Side::Across) => (&a.low, &b.high),
-        (Side::Across, Side::Above) => (&a.low, &b.high),
-        (Side::Across, Side::Below) => (&a.high, &b.low),
-        (Side::Across, Side::Across) => (&a.low, &b.high),
-    }
-}
-
-// The ends whose product is the greatest, for intervals on these sides that are not both across 0.
-#[inline(always)]
-fn greatest_factors<'a>(a: &'a Ends, first: Side, b: &'a Ends, second: Side) -> (&'a Ext, &'a Ext)
-    ensures first { ext_of result.0.now ≡
-        first_of_greatest first second (ext_of a.now.low) (ext_of a.now.high) }
-    ensures second { ext_of result.1.now ≡
-        second_of_greatest first second (ext_of b.now.low) (ext_of b.now.high) }
-{
-    match (first, second) {
-        (Side::Above, Side::Above) => (&a.high, &b.high),
-        (Side::Above, Side::Below) => (&a.low, &b.high),
-        (Side::Above, Side::Across) => (&a.high, &b.high),
-        (Side::Below, Side::Above) => (&a.high, &b.low),
-        (Side::Below, Side::Below) => (&a.low, &b.low),
-        (Side::Below, Side::Across) => (&a.low, &b.low),
-        (Side::Across, Side::Above) => (&a.high, &b.high),
-        (Side::Across, Side::Below) => (&a.low, &b.low),
-        (Side::Across, Side::Across) => (&a.low, &b.low),
-    }
-}
 
 // The least product, rounded down, for intervals on these sides.
 fn least_product(a: &Ends, first: Side, b: &Ends, second: Side) -> Ext
@@ -63,7 +22,7 @@ fn least_product(a: &Ends, first: Side, b: &Ends, second: Side) -> Ext
         least_product (ext_of a.now.low) (ext_of a.now.high)
         (ext_of b.now.low) (ext_of b.now.high) }
 {
-    let (one, other) = least_factors(a, first, b, second);
+    let (one, other) = least_factors(first, &a.low, &a.high, second, &b.low, &b.high);
     let product = mul_down(*one, *other);
     match (first, second) {
         (Side::Across, Side::Across) => lesser(product, mul_down(a.high, b.low)),
@@ -79,7 +38,7 @@ fn greatest_product(a: &Ends, first: Side, b: &Ends, second: Side) -> Ext
         greatest_product (ext_of a.now.low) (ext_of a.now.high)
         (ext_of b.now.low) (ext_of b.now.high) }
 {
-    let (one, other) = greatest_factors(a, first, b, second);
+    let (one, other) = greatest_factors(first, &a.low, &a.high, second, &b.low, &b.high);
     let product = mul_up(*one, *other);
     match (first, second) {
         (Side::Across, Side::Across) => greater(product, mul_up(a.high, b.high)),
