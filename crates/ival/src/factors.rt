@@ -6,58 +6,74 @@ ghost use Rattle.ival.specs.Sides.{first_of_least, second_of_least, first_of_gre
 use crate::side::Side;
 use dyadic::Ext;
 
-/// The ends whose product is the least, for intervals on these sides that are not both across 0.
+/// The end of the first factor whose product is the least, for intervals on these sides that are not both across 0.
 #[inline(always)]
-pub fn least_factors<'a>(
-    first: Side,
-    low: &'a Ext,
-    high: &'a Ext,
-    second: Side,
-    other_low: &'a Ext,
-    other_high: &'a Ext,
-) -> (&'a Ext, &'a Ext)
-    ensures first { ext_of result.0.now ≡
-        first_of_least first second (ext_of low.now) (ext_of high.now) }
-    ensures second { ext_of result.1.now ≡
-        second_of_least first second (ext_of other_low.now) (ext_of other_high.now) }
+pub fn first_of_least(first: Side, second: Side, low: Ext, high: Ext) -> Ext
+    ensures { ext_of result ≡ first_of_least first second (ext_of low) (ext_of high) }
 {
     match (first, second) {
-        (Side::Above, Side::Above) => (low, other_low),
-        (Side::Above, Side::Below) => (high, other_low),
-        (Side::Above, Side::Across) => (high, other_low),
-        (Side::Below, Side::Above) => (low, other_high),
-        (Side::Below, Side::Below) => (high, other_high),
-        (Side::Below, Side::Across) => (low, other_high),
-        (Side::Across, Side::Above) => (low, other_high),
-        (Side::Across, Side::Below) => (high, other_low),
-        (Side::Across, Side::Across) => (low, other_high),
+        (Side::Above, Side::Above) => low,
+        (Side::Above, Side::Below) => high,
+        (Side::Above, Side::Across) => high,
+        (Side::Below, Side::Above) => low,
+        (Side::Below, Side::Below) => high,
+        (Side::Below, Side::Across) => low,
+        (Side::Across, Side::Above) => low,
+        (Side::Across, Side::Below) => high,
+        (Side::Across, Side::Across) => low,
     }
 }
 
-/// The ends whose product is the greatest, for intervals on these sides that are not both across 0.
+/// The end of the second factor whose product is the least, for intervals on these sides that are not both across 0.
 #[inline(always)]
-pub fn greatest_factors<'a>(
-    first: Side,
-    low: &'a Ext,
-    high: &'a Ext,
-    second: Side,
-    other_low: &'a Ext,
-    other_high: &'a Ext,
-) -> (&'a Ext, &'a Ext)
-    ensures first { ext_of result.0.now ≡
-        first_of_greatest first second (ext_of low.now) (ext_of high.now) }
-    ensures second { ext_of result.1.now ≡
-        second_of_greatest first second (ext_of other_low.now) (ext_of other_high.now) }
+pub fn second_of_least(first: Side, second: Side, low: Ext, high: Ext) -> Ext
+    ensures { ext_of result ≡ second_of_least first second (ext_of low) (ext_of high) }
 {
     match (first, second) {
-        (Side::Above, Side::Above) => (high, other_high),
-        (Side::Above, Side::Below) => (low, other_high),
-        (Side::Above, Side::Across) => (high, other_high),
-        (Side::Below, Side::Above) => (high, other_low),
-        (Side::Below, Side::Below) => (low, other_low),
-        (Side::Below, Side::Across) => (low, other_low),
-        (Side::Across, Side::Above) => (high, other_high),
-        (Side::Across, Side::Below) => (low, other_low),
-        (Side::Across, Side::Across) => (low, other_low),
+        (Side::Above, Side::Above) => low,
+        (Side::Above, Side::Below) => low,
+        (Side::Above, Side::Across) => low,
+        (Side::Below, Side::Above) => high,
+        (Side::Below, Side::Below) => high,
+        (Side::Below, Side::Across) => high,
+        (Side::Across, Side::Above) => high,
+        (Side::Across, Side::Below) => low,
+        (Side::Across, Side::Across) => high,
+    }
+}
+
+/// The end of the first factor whose product is the greatest, for intervals on these sides that are not both across 0.
+#[inline(always)]
+pub fn first_of_greatest(first: Side, second: Side, low: Ext, high: Ext) -> Ext
+    ensures { ext_of result ≡ first_of_greatest first second (ext_of low) (ext_of high) }
+{
+    match (first, second) {
+        (Side::Above, Side::Above) => high,
+        (Side::Above, Side::Below) => low,
+        (Side::Above, Side::Across) => high,
+        (Side::Below, Side::Above) => high,
+        (Side::Below, Side::Below) => low,
+        (Side::Below, Side::Across) => low,
+        (Side::Across, Side::Above) => high,
+        (Side::Across, Side::Below) => low,
+        (Side::Across, Side::Across) => low,
+    }
+}
+
+/// The end of the second factor whose product is the greatest, for intervals on these sides that are not both across 0.
+#[inline(always)]
+pub fn second_of_greatest(first: Side, second: Side, low: Ext, high: Ext) -> Ext
+    ensures { ext_of result ≡ second_of_greatest first second (ext_of low) (ext_of high) }
+{
+    match (first, second) {
+        (Side::Above, Side::Above) => high,
+        (Side::Above, Side::Below) => high,
+        (Side::Above, Side::Across) => high,
+        (Side::Below, Side::Above) => low,
+        (Side::Below, Side::Below) => low,
+        (Side::Below, Side::Across) => low,
+        (Side::Across, Side::Above) => high,
+        (Side::Across, Side::Below) => low,
+        (Side::Across, Side::Across) => low,
     }
 }

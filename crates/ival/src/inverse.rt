@@ -10,7 +10,7 @@ ghost use Rattle.ival.specs.Sides.{LiesOn, MissesOn, IsFinite};
 ghost use Rattle.ival.specs.Corners.{least_quotient, greatest_quotient};
 
 use crate::ends::{Ends, Ival};
-use crate::factors::{greatest_factors, least_factors};
+use crate::factors::{first_of_greatest, first_of_least, second_of_greatest, second_of_least};
 use crate::side::{Side, is_above, is_below, side_of};
 use dyadic::{Ext, Sign, div_down, div_up, sign_of};
 
@@ -40,8 +40,10 @@ fn least_quotient(a: Ends, first: Side, divisor: Ends, second: Side) -> Ext
     ensures { ext_of result ≡
         least_quotient (ext_of a.low) (ext_of a.high) (ext_of divisor.low) (ext_of divisor.high) }
 {
-    let (above, below) = least_factors(first, &a.low, &a.high, second, &divisor.high, &divisor.low);
-    div_down(*above, *below)
+    div_down(
+        first_of_least(first, second, a.low, a.high),
+        second_of_least(first, second, divisor.high, divisor.low),
+    )
 }
 
 // The greatest quotient, rounded up.
@@ -52,15 +54,10 @@ fn greatest_quotient(a: Ends, first: Side, divisor: Ends, second: Side) -> Ext
         greatest_quotient (ext_of a.low) (ext_of a.high)
         (ext_of divisor.low) (ext_of divisor.high) }
 {
-    let (above, below) = greatest_factors(
-        first,
-        &a.low,
-        &a.high,
-        second,
-        &divisor.high,
-        &divisor.low,
-    );
-    div_up(*above, *below)
+    div_up(
+        first_of_greatest(first, second, a.low, a.high),
+        second_of_greatest(first, second, divisor.high, divisor.low),
+    )
 }
 
 // The quotients by an interval without 0.

@@ -9,21 +9,23 @@ ghost use Rattle.ival.specs.Sides.{LiesOn};
 ghost use Rattle.ival.specs.Corners.{least_product, greatest_product, square_from, square_to};
 
 use crate::ends::{Ends, Ival};
-use crate::factors::{greatest_factors, least_factors};
+use crate::factors::{first_of_greatest, first_of_least, second_of_greatest, second_of_least};
 use crate::interval::{greater, lesser};
 use crate::side::{Side, side_of};
 use dyadic::{Dy, Ext, mul_down, mul_up};
 
 // The least product, rounded down, for intervals on these sides.
-fn least_product(a: &Ends, first: Side, b: &Ends, second: Side) -> Ext
-    requires first { LiesOn first (end_of (ext_of a.now.low)) (end_of (ext_of a.now.high)) }
-    requires second { LiesOn second (end_of (ext_of b.now.low)) (end_of (ext_of b.now.high)) }
+fn least_product(a: Ends, first: Side, b: Ends, second: Side) -> Ext
+    requires first { LiesOn first (end_of (ext_of a.low)) (end_of (ext_of a.high)) }
+    requires second { LiesOn second (end_of (ext_of b.low)) (end_of (ext_of b.high)) }
     ensures { ext_of result ≡
-        least_product (ext_of a.now.low) (ext_of a.now.high)
-        (ext_of b.now.low) (ext_of b.now.high) }
+        least_product (ext_of a.low) (ext_of a.high)
+        (ext_of b.low) (ext_of b.high) }
 {
-    let (one, other) = least_factors(first, &a.low, &a.high, second, &b.low, &b.high);
-    let product = mul_down(*one, *other);
+    let product = mul_down(
+        first_of_least(first, second, a.low, a.high),
+        second_of_least(first, second, b.low, b.high),
+    );
     match (first, second) {
         (Side::Across, Side::Across) => lesser(product, mul_down(a.high, b.low)),
         _ => product,
@@ -31,15 +33,17 @@ fn least_product(a: &Ends, first: Side, b: &Ends, second: Side) -> Ext
 }
 
 // The greatest product, rounded up, for intervals on these sides.
-fn greatest_product(a: &Ends, first: Side, b: &Ends, second: Side) -> Ext
-    requires first { LiesOn first (end_of (ext_of a.now.low)) (end_of (ext_of a.now.high)) }
-    requires second { LiesOn second (end_of (ext_of b.now.low)) (end_of (ext_of b.now.high)) }
+fn greatest_product(a: Ends, first: Side, b: Ends, second: Side) -> Ext
+    requires first { LiesOn first (end_of (ext_of a.low)) (end_of (ext_of a.high)) }
+    requires second { LiesOn second (end_of (ext_of b.low)) (end_of (ext_of b.high)) }
     ensures { ext_of result ≡
-        greatest_product (ext_of a.now.low) (ext_of a.now.high)
-        (ext_of b.now.low) (ext_of b.now.high) }
+        greatest_product (ext_of a.low) (ext_of a.high)
+        (ext_of b.low) (ext_of b.high) }
 {
-    let (one, other) = greatest_factors(first, &a.low, &a.high, second, &b.low, &b.high);
-    let product = mul_up(*one, *other);
+    let product = mul_up(
+        first_of_greatest(first, second, a.low, a.high),
+        second_of_greatest(first, second, b.low, b.high),
+    );
     match (first, second) {
         (Side::Across, Side::Across) => greater(product, mul_up(a.high, b.high)),
         _ => product,
@@ -53,8 +57,8 @@ fn product_of_ends(a: Ends, b: Ends) -> Ends
     let first = side_of(a);
     let second = side_of(b);
     Ends {
-        low: least_product(&a, first, &b, second),
-        high: greatest_product(&a, first, &b, second),
+        low: least_product(a, first, b, second),
+        high: greatest_product(a, first, b, second),
     }
 }
 
