@@ -4,15 +4,15 @@ use Rattle.std.specs.Fmt.{decimal}
 use Rattle.std.specs.Int.{IsInRange}
 use Rattle.std.proofs.lemmas.Bool.Decides.{nat_tests}
 use Rattle.dyadic.specs.declared.dy.Dy.{Dy}
-use Rattle.dyadic.specs.Grid.{IsSpelling, joined}
+use Rattle.dyadic.specs.Grid.{IsSpelling}
 use Rattle.dyadic.specs.Rounding.{Dyadic}
 use Rattle.dyadic.specs.NumberText.{number, not_a_number, number_text, number_spelling}
 use Rattle.dyadic.specs.Text.{minus_sign, spelling, joined_text, IsDigits}
-use Rattle.dyadic.specs.Views.{dyadic_of, parts_of}
+use Rattle.dyadic.specs.Views.{dyadic_of}
 use Rattle.dyadic.proofs.Equal.{both_true, both_pass}
+use Rattle.dyadic.proofs.Floors.{number_on_grid}
 use Rattle.dyadic.proofs.Spellings.{shape_of}
-use Rattle.dyadic.proofs.SpelledTexts.{written_is}
-use Rattle.dyadic.proofs.TextLaws.{written_reads_back}
+use Rattle.dyadic.proofs.TextLaws.{spelling_reads_back, each_spelling}
 use Rattle.cert_read.specs.Lines.{all_bytes}
 use Rattle.cert_read.specs.LineText.{is_word_byte, IsSpelledNumber}
 
@@ -56,8 +56,9 @@ some-bytes (b ∷ bs) d h = omega arith
 
 -- the text of a number of the code
 pub number_spelled : (a : Dy) → IsSpelledNumber (dyadic_of a)
-number_spelled a = (
-  written_reads_back a,
-  some-bytes (number_spelling (dyadic_of a)) (dyadic_of a) (written_reads_back a),
-  subst Clean (written_is (parts_of a)) (spelling-clean a.negative (joined a.high a.low) a.shift a.spelled),
-)
+number_spelled a =
+    let back = spelling_reads_back (dyadic_of a) (number_on_grid a) in (
+      back,
+      some-bytes (number_spelling (dyadic_of a)) (dyadic_of a) back,
+      each_spelling Clean spelling-clean (dyadic_of a) (number_on_grid a),
+    )

@@ -9,10 +9,10 @@ use Rattle.dyadic.specs.declared.dy.Ext.{Ext}
 use Rattle.dyadic.specs.declared.dy.Ext.TheVariants.{NegInf, Fin, PosInf}
 use Rattle.dyadic.specs.declared.frac.Frac.{Frac}
 use Rattle.dyadic.specs.Fraction.{Fraction, IsFraction, sum_of, product_of, quotient_of, over}
-use Rattle.dyadic.specs.Rounding.{exact, down, up}
+use Rattle.dyadic.specs.Rounding.{Dyadic, exact, down, up}
 use Rattle.dyadic.specs.Size.{units}
 use Rattle.dyadic.specs.Signed.{signed_of, IsFloor, IsCeiling, IsBelowGrid, IsAboveGrid}
-use Rattle.dyadic.specs.Views.{units_of, parts_units, dyadic_of, parts_dyadic, ext_of, fraction_of_frac}
+use Rattle.dyadic.specs.Views.{units_of, dyadic_of, parts_dyadic, ext_of, fraction_of_frac}
 use Rattle.dyadic.specs.InUnits.{IsDownAt, IsUpAt}
 use Rattle.dyadic.proofs.Ints.{*ℤ-lt_right, *ℤ-le_right, le_of_*ℤ-le_right, *ℤ_assoc}
 use Rattle.dyadic.proofs.Products.{signed_by}
@@ -71,23 +71,23 @@ up_over q n d k NegInf o f = absurd f
 
 -- ---- the operations
 
-pub sum_over : (a b : Parts) → IsOver (sum_of (exact (parts_dyadic a)) (exact (parts_dyadic b))) (parts_units a +ℤ parts_units b) 1 (2 ^ 240)
+pub sum_over : (x y : Dyadic) → IsOver (sum_of (exact x) (exact y)) (x.units +ℤ y.units) 1 (2 ^ 240)
 unfolding sum_of
-sum_over a b = record { some = lit< tt; factor = lit< tt; above = lemma (parts_units a) (parts_units b); below = refl }
+sum_over x y = record { some = lit< tt; factor = lit< tt; above = lemma x.units y.units; below = refl }
   where
     lemma : (x y : ℤ) → (x *ℤ pos (2 ^ 120) +ℤ y *ℤ pos (2 ^ 120)) *ℤ pos (2 ^ 120) ≡ (x +ℤ y) *ℤ pos (2 ^ 240)
     lemma x y = omega (arith, ints)
 
-pub half_over : (a b : Parts) → IsOver (half_sum (parts_dyadic a) (parts_dyadic b)) (parts_units a +ℤ parts_units b) 2 (2 ^ 240)
+pub half_over : (x y : Dyadic) → IsOver (half_sum x y) (x.units +ℤ y.units) 2 (2 ^ 240)
 unfolding sum_of quotient_of
-half_over a b = record { some = lit< tt; factor = lit< tt; above = lemma (parts_units a) (parts_units b); below = refl }
+half_over x y = record { some = lit< tt; factor = lit< tt; above = lemma x.units y.units; below = refl }
   where
     lemma : (x y : ℤ) → ((x *ℤ pos (2 ^ 120) +ℤ y *ℤ pos (2 ^ 120)) *ℤ pos 1) *ℤ pos (2 ^ 120) ≡ (x +ℤ y) *ℤ pos (2 ^ 240)
     lemma x y = omega (arith, ints)
 
-pub product_over : (a b : Parts) → IsOver (product_of (exact (parts_dyadic a)) (exact (parts_dyadic b))) (parts_units a *ℤ parts_units b) (2 ^ 120) (2 ^ 120)
+pub product_over : (x y : Dyadic) → IsOver (product_of (exact x) (exact y)) (x.units *ℤ y.units) (2 ^ 120) (2 ^ 120)
 unfolding product_of
-product_over a b = record { some = lit< tt; factor = lit< tt; above = refl; below = refl }
+product_over x y = record { some = lit< tt; factor = lit< tt; above = refl; below = refl }
 
 pub frac_over : (f : Frac) → 0 < (fraction_of_frac f).den → IsOver (fraction_of_frac f) (in_units (fraction_of_frac f)) (fraction_of_frac f).den 1
 frac_over f p = record { some = p; factor = lit< tt; above = lemma (in_units (fraction_of_frac f)); below = omega arith }

@@ -1,8 +1,7 @@
 -- The sign of a product, and of an infinity.
-use Rattle.std.proofs.Common.{◌+◌, ◌-◌, ◌≤◌, arith, ◌+ℤ◌, ◌≡◌, ℕ, ◌*◌, sym, ap, ◌∙◌, pos, neg_ℤ, ◌*ℤ◌, Bool, true, false, not}
+use Rattle.std.proofs.Common.{◌≡◌, ℕ, ◌*◌, sym, ap, ◌∙◌, pos, neg_ℤ, ◌*ℤ◌, Bool, true, false, not}
 use Rattle.std.proofs.Math.IntN.{neg_ℤ-neg_ℤ, pos-*ℤ-pos}
 use mathlib.Core.Bool.{beq}
-use Rattle.std.proofs.lemmas.Int.{ints}
 use Rattle.dyadic.proofs.Ints.{neg-*ℤ, *ℤ-neg}
 use Rattle.dyadic.specs.Signed.{signed_of}
 
@@ -15,19 +14,3 @@ signed_times false false x y = sym (pos-*ℤ-pos x y)
 pub signed_by : (a : Bool) (x k : ℕ) → signed_of a (x * k) ≡ signed_of a x *ℤ pos k
 signed_by true x k = sym (neg-*ℤ (pos x) (pos k) ∙ ap neg_ℤ (pos-*ℤ-pos x k))
 signed_by false x k = sym (pos-*ℤ-pos x k)
-
-pub signed_product : (a b : Bool) (x y k : ℕ) → signed_of (not (beq a b)) (x * y * k) ≡ (signed_of a x *ℤ signed_of b y) *ℤ pos k
-signed_product a b x y k = signed_by (not (beq a b)) (x * y) k ∙ ap (λ z. z *ℤ pos k) (signed_times a b x y)
-
--- the sign of a sum
-pub signed_sum : (p q : Bool) (x y : ℕ) → beq p q ≡ true → signed_of p (x + y) ≡ signed_of p x +ℤ signed_of q y
-signed_sum true true x y e = omega (arith, ints)
-signed_sum true false x y e = cc
-signed_sum false true x y e = cc
-signed_sum false false x y e = omega (arith, ints)
-
-pub signed_difference : (p q : Bool) (x y : ℕ) → beq p q ≡ false → y ≤ x → signed_of p (x - y) ≡ signed_of p x +ℤ signed_of q y
-signed_difference true true x y e h = cc
-signed_difference true false x y e h = omega (arith, ints)
-signed_difference false true x y e h = omega (arith, ints)
-signed_difference false false x y e h = cc

@@ -1,10 +1,6 @@
 -- Sizes on the grid: whole numbers of units, where a unit is 2^-120.
 use Rattle.dyadic.specs.Rounding.{IsRepresentable}
-use Rattle.std.specs.Prelude.{Bool, true, false, ◌≡◌, ℕ, ◌+◌, ◌*◌, ◌^◌, ◌%◌, ◌≤◌, ◌<◌, min}
-
--- a number of two halves of 32 bits
-abbrev pub joined : ℕ → ℕ → ℕ
-joined high low = high * 2 ^ 32 + low
+use Rattle.std.specs.Prelude.{◌≡◌, ℕ, ◌*◌, ◌^◌, ◌%◌, ◌≤◌, ◌<◌, min}
 
 -- the one spelling of a representable size as odd * 2^shift units: odd is odd, or both are 0
 pub record IsSpelling (odd shift : ℕ) : Type 0 where
@@ -35,14 +31,6 @@ pub record IsTight (n d low high shift : ℕ) : Type 0 where
   pub above : n ≤ high * 2 ^ shift * d
   pub greatest : (z : ℕ) → IsRepresentable z → z * d ≤ n → z ≤ low * 2 ^ shift
   pub least : (z : ℕ) → IsRepresentable z → n ≤ z * d → high * 2 ^ shift ≤ z
-
--- v units are `whole * 2^shift` and a rest below one step of 2^shift, which is 0 unless `has_rest`
-pub record IsPart (v shift whole : ℕ) (has_rest : Bool) : Type 0 where
-  pub rest : ℕ
-  pub value : v ≡ whole * 2 ^ shift + rest
-  pub below : rest < 2 ^ shift
-  pub some : has_rest ≡ true → 0 < rest
-  pub none : has_rest ≡ false → rest ≡ 0
 
 -- Of the root of n units of units, low * 2^shift and high * 2^shift are a lower and an upper bound,
 -- with no representable size between either of them and the root.

@@ -5,6 +5,7 @@ pub mod Grid
 pub mod InUnits
 pub mod Laws
 pub mod Lowest
+pub mod Mantissa
 pub mod Near
 pub mod NumberText
 pub mod Point

@@ -1,18 +1,11 @@
 -- Whole numbers by sign and size, and the rounding of a fraction of units.
-use Rattle.std.specs.Prelude.{◌≡◌, ℕ, ℤ, pos, ◌*ℤ◌, ◌≤ℤ◌, ◌<ℤ◌, Bool, true, false, nat_abs, neg_ℤ}
+use Rattle.std.specs.Prelude.{ℕ, ℤ, pos, ◌*ℤ◌, ◌≤ℤ◌, ◌<ℤ◌, Bool, true, false, nat_abs, neg_ℤ}
 use Rattle.dyadic.specs.Rounding.{IsRepresentable}
-use Rattle.dyadic.specs.Grid.{IsPart}
 
 -- n or -n
 abbrev pub signed_of : Bool → ℕ → ℤ
 signed_of false n = pos n
 signed_of true n = neg_ℤ (pos n)
-
--- z units have this sign, and their size is so many steps of 2^shift and maybe a rest
-pub record IsTotal (z : ℤ) (negative : Bool) (shift low : ℕ) (has_rest : Bool) : Type 0 where
-  pub size : ℕ
-  pub value : signed_of negative size ≡ z
-  pub part : IsPart size shift low has_rest
 
 -- z units are a number of the grid
 abbrev pub IsKept : ℤ → Type 0

@@ -3,28 +3,29 @@ ghost use Rattle.std.specs.Prelude.{◌≡◌};
 ghost use Rattle.dyadic.specs.Fraction.{sum_of};
 ghost use Rattle.dyadic.specs.Rounding.{exact, down, up, end_of};
 ghost use Rattle.dyadic.specs.End.{end_sum, rounded_down, rounded_up};
-ghost use Rattle.dyadic.specs.Views.{parts_dyadic, ext_of};
+ghost use Rattle.dyadic.specs.Views.{dyadic_of, ext_of};
 ghost use Rattle.dyadic.specs.Calls.{AreAddable};
 
-use crate::bracket::{down, up};
-use crate::dy::Ext;
-use crate::parts::Parts;
-use crate::sum::{total_of, whole_bracket};
+use crate::dy::{Dy, Ext};
+use crate::steps::round_steps;
+use crate::sum::sum_of;
 
 // The sum of two numbers, rounded down.
-fn finite_down(a: Parts, b: Parts) -> Ext
-    ensures { ext_of result ≡ down (sum_of (exact (parts_dyadic a)) (exact (parts_dyadic b))) }
+#[inline(always)]
+fn finite_down(a: Dy, b: Dy) -> Ext
+    ensures { ext_of result ≡ down (sum_of (exact (dyadic_of a)) (exact (dyadic_of b))) }
 {
-    let total = total_of(a, b);
-    down(total.negative, whole_bracket(total))
+    let sum = sum_of(a.normal(), b.normal());
+    round_steps(sum)
 }
 
-// The sum of two numbers, rounded up.
-fn finite_up(a: Parts, b: Parts) -> Ext
-    ensures { ext_of result ≡ up (sum_of (exact (parts_dyadic a)) (exact (parts_dyadic b))) }
+// The sum of two numbers, rounded up: the opposite of the opposites' sum, rounded down.
+#[inline(always)]
+fn finite_up(a: Dy, b: Dy) -> Ext
+    ensures { ext_of result ≡ up (sum_of (exact (dyadic_of a)) (exact (dyadic_of b))) }
 {
-    let total = total_of(a, b);
-    up(total.negative, whole_bracket(total))
+    let sum = sum_of(a.normal().neg(), b.normal().neg());
+    round_steps(sum).neg()
 }
 
 /// The sum, rounded down.
@@ -38,7 +39,7 @@ pub fn add_down(a: Ext, b: Ext) -> Ext
         Ext::Fin(a) => match b {
             Ext::NegInf => Ext::NegInf,
             Ext::PosInf => Ext::PosInf,
-            Ext::Fin(b) => finite_down(a.parts(), b.parts()),
+            Ext::Fin(b) => finite_down(a, b),
         },
     }
 }
@@ -54,7 +55,7 @@ pub fn add_up(a: Ext, b: Ext) -> Ext
         Ext::Fin(a) => match b {
             Ext::NegInf => Ext::NegInf,
             Ext::PosInf => Ext::PosInf,
-            Ext::Fin(b) => finite_up(a.parts(), b.parts()),
+            Ext::Fin(b) => finite_up(a, b),
         },
     }
 }

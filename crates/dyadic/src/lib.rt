@@ -18,6 +18,7 @@ mod frac_steps;
 pub mod laws;
 mod margin;
 mod middle;
+mod normal;
 mod number;
 mod parts;
 mod power;
@@ -29,6 +30,7 @@ mod root;
 mod rounding;
 mod sign;
 mod size;
+mod steps;
 mod sum;
 mod writing;
 

@@ -1,9 +1,8 @@
 // Signs, and the products of infinities by signs.
 ghost use Rattle.std.specs.Prelude.{◌≡◌, ℕ, pos};
-ghost use Rattle.dyadic.specs.Rounding.{end_of, finite};
-ghost use Rattle.dyadic.specs.End.{end_sign, infinite, rounded_down, rounded_up};
-ghost use Rattle.dyadic.specs.Size.{units};
-ghost use Rattle.dyadic.specs.Views.{dyadic_of, ext_of};
+ghost use Rattle.dyadic.specs.Rounding.{end_of};
+ghost use Rattle.dyadic.specs.End.{sign_of, end_sign, infinite, rounded_down, rounded_up};
+ghost use Rattle.dyadic.specs.Views.{units_of, ext_of};
 ghost use Rattle.dyadic.specs.SignView.{sign_view};
 
 use crate::dy::{Dy, Ext};
@@ -16,22 +15,27 @@ pub enum Sign {
     Above,
 }
 
+// The sign of a number.
+#[inline(always)]
+fn number_sign(a: Dy) -> Sign
+    ensures { sign_view result ≡ sign_of (units_of a) }
+{
+    if a.is_negative() {
+        Sign::Below
+    } else if a.is_zero() {
+        Sign::Nought
+    } else {
+        Sign::Above
+    }
+}
+
 /// The sign of an end.
 pub fn sign_of(a: Ext) -> Sign
     ensures { sign_view result ≡ end_sign (end_of (ext_of a)) }
 {
     match a {
         Ext::NegInf => Sign::Below,
-        Ext::Fin(a) => {
-            let a = a.parts();
-            if a.size.odd == 0 {
-                Sign::Nought
-            } else if a.negative {
-                Sign::Below
-            } else {
-                Sign::Above
-            }
-        }
+        Ext::Fin(a) => number_sign(a),
         Ext::PosInf => Sign::Above,
     }
 }

@@ -1,7 +1,7 @@
 -- Numbers are the same where their spellings are.
-use Rattle.std.proofs.Common.{◌≡◌, ℕ, ℤ, Bool, ◌&&◌, ◌*◌, ◌^◌, IsTrue, eqb, eqb-true, eq-eqb, refl, sym, ap, ap₂, subst, true≢false}
-use Rattle.std.proofs.Math.Bool.{beq}
-use Rattle.std.specs.Cmp.{booleans_Decides}
+use Rattle.std.proofs.Common.{◌≡◌, ℕ, ℤ, Bool, ◌&&◌, ◌^◌, pos, ◌*ℤ◌, IsTrue, eqb, eqb-true, eq-eqb, refl, sym, ap, ap₂, subst, true≢false}
+use Rattle.std.specs.Cmp.{signed_Decides}
+use Rattle.std.specs.Ordering.{int_eq}
 use Rattle.dyadic.specs.declared.dy.Dy.{Dy}
 use Rattle.dyadic.specs.contracts.dy.ExtPartialEq.TheImpl as ext_eq
 use Rattle.dyadic.specs.declared.dy.Ext.{Ext}
@@ -13,33 +13,29 @@ use Rattle.ival.specs.contracts.ends.IvalPartialEq.TheImpl as ival_eq
 use Rattle.ival.specs.declared.ends.Ival.{Ival}
 use Rattle.ival.specs.declared.ends.Ival.TheVariants.{Empty, Between}
 use Rattle.ival.specs.Views.{interval_of}
-use Rattle.dyadic.specs.Signed.{signed_of}
-use Rattle.dyadic.specs.Grid.{joined}
+use Rattle.dyadic.specs.Mantissa.{mantissa}
 use Rattle.dyadic.proofs.NumberLaws.{dyadic_injective}
 use Rattle.dyadic.proofs.Equal.{both_true, both_pass}
 use Rattle.interval_model.specs.Space.{real_domain}
 
 abbrev pub same_spelled : Dy → Dy → Bool
-same_spelled a b = eqb a.low b.low && (eqb a.high b.high && (eqb a.shift b.shift && beq a.negative b.negative))
+same_spelled a b = eqb a.low b.low && (int_eq a.high b.high && eqb a.shift b.shift)
 
 pub same_number : (a b : Dy) → IsTrue (same_spelled a b) → dyadic_of a ≡ dyadic_of b
 same_number a b h =
-    let p = both_true (eqb a.low b.low) (eqb a.high b.high && (eqb a.shift b.shift && beq a.negative b.negative)) h in
-    let q = both_true (eqb a.high b.high) (eqb a.shift b.shift && beq a.negative b.negative) p.1 in
-    let r = both_true (eqb a.shift b.shift) (beq a.negative b.negative) q.1 in
+    let p = both_true (eqb a.low b.low) (int_eq a.high b.high && eqb a.shift b.shift) h in
+    let q = both_true (int_eq a.high b.high) (eqb a.shift b.shift) p.1 in
     let low : a.low ≡ b.low = eqb-true a.low b.low p.0 in
-    let high : a.high ≡ b.high = eqb-true a.high b.high q.0 in
-    let shift : a.shift ≡ b.shift = eqb-true a.shift b.shift r.0 in
-    let sign : a.negative ≡ b.negative = (booleans_Decides a.negative b.negative).0 r.1 in
-    ap (λ (z : ℤ). record { units = z }) (ap₂ signed_of sign (ap₂ (λ (m k : ℕ). m * 2 ^ k) (ap₂ joined high low) shift))
+    let high : a.high ≡ b.high = (signed_Decides a.high b.high).0 q.0 in
+    let shift : a.shift ≡ b.shift = eqb-true a.shift b.shift q.1 in
+    ap (λ (z : ℤ). record { units = z }) (ap₂ (λ (m : ℤ) (k : ℕ). m *ℤ pos (2 ^ k)) (ap₂ mantissa high low) shift)
 
 pub spelled_so : (a b : Dy) → dyadic_of a ≡ dyadic_of b → IsTrue (same_spelled a b)
 spelled_so a b e =
     let same : a ≡ b = dyadic_injective a b (ap (λ (d : Dyadic). d.units) e) in
     subst (λ (x : Dy). IsTrue (same_spelled a x)) same
-    (both_pass (eqb a.low a.low) (eqb a.high a.high && (eqb a.shift a.shift && beq a.negative a.negative)) (eq-eqb a.low a.low refl)
-    (both_pass (eqb a.high a.high) (eqb a.shift a.shift && beq a.negative a.negative) (eq-eqb a.high a.high refl)
-    (both_pass (eqb a.shift a.shift) (beq a.negative a.negative) (eq-eqb a.shift a.shift refl) ((booleans_Decides a.negative a.negative).1 refl))))
+    (both_pass (eqb a.low a.low) (int_eq a.high a.high && eqb a.shift a.shift) (eq-eqb a.low a.low refl)
+    (both_pass (int_eq a.high a.high) (eqb a.shift a.shift) ((signed_Decides a.high a.high).1 refl) (eq-eqb a.shift a.shift refl)))
 
 -- ---- intervals that are spelled alike
 

@@ -6,10 +6,11 @@ ghost use Rattle.dyadic.specs.End.{end_quotient, rounded_down, rounded_up, end_s
 ghost use Rattle.dyadic.specs.Calls.{IsDivisor};
 ghost use Rattle.dyadic.specs.Views.{ext_of};
 ghost use Rattle.ival.specs.Views.{interval_of, ends_of};
-ghost use Rattle.ival.specs.Sides.{LiesOn, MissesOn, IsFinite, first_of_least, second_of_least, first_of_greatest, second_of_greatest};
+ghost use Rattle.ival.specs.Sides.{LiesOn, MissesOn, IsFinite};
 ghost use Rattle.ival.specs.Corners.{least_quotient, greatest_quotient};
 
 use crate::ends::{Ends, Ival};
+use crate::factors::{first_of_greatest, first_of_least, second_of_greatest, second_of_least};
 use crate::side::{Side, is_above, is_below, side_of};
 use dyadic::{Ext, Sign, div_down, div_up, sign_of};
 
@@ -29,74 +30,6 @@ fn divisor_side(divisor: Ends) -> Side
         Side::Above
     } else {
         Side::Below
-    }
-}
-
-// The end of the first factor whose product is the least, for intervals on these sides that are not both across 0.
-fn first_of_least(first: Side, second: Side, low: Ext, high: Ext) -> Ext
-    ensures { ext_of result ≡ first_of_least first second (ext_of low) (ext_of high) }
-{
-    match (first, second) {
-        (Side::Above, Side::Above) => low,
-        (Side::Above, Side::Below) => high,
-        (Side::Above, Side::Across) => high,
-        (Side::Below, Side::Above) => low,
-        (Side::Below, Side::Below) => high,
-        (Side::Below, Side::Across) => low,
-        (Side::Across, Side::Above) => low,
-        (Side::Across, Side::Below) => high,
-        (Side::Across, Side::Across) => low,
-    }
-}
-
-// The end of the second factor whose product is the least, for intervals on these sides that are not both across 0.
-fn second_of_least(first: Side, second: Side, low: Ext, high: Ext) -> Ext
-    ensures { ext_of result ≡ second_of_least first second (ext_of low) (ext_of high) }
-{
-    match (first, second) {
-        (Side::Above, Side::Above) => low,
-        (Side::Above, Side::Below) => low,
-        (Side::Above, Side::Across) => low,
-        (Side::Below, Side::Above) => high,
-        (Side::Below, Side::Below) => high,
-        (Side::Below, Side::Across) => high,
-        (Side::Across, Side::Above) => high,
-        (Side::Across, Side::Below) => low,
-        (Side::Across, Side::Across) => high,
-    }
-}
-
-// The end of the first factor whose product is the greatest, for intervals on these sides that are not both across 0.
-fn first_of_greatest(first: Side, second: Side, low: Ext, high: Ext) -> Ext
-    ensures { ext_of result ≡ first_of_greatest first second (ext_of low) (ext_of high) }
-{
-    match (first, second) {
-        (Side::Above, Side::Above) => high,
-        (Side::Above, Side::Below) => low,
-        (Side::Above, Side::Across) => high,
-        (Side::Below, Side::Above) => high,
-        (Side::Below, Side::Below) => low,
-        (Side::Below, Side::Across) => low,
-        (Side::Across, Side::Above) => high,
-        (Side::Across, Side::Below) => low,
-        (Side::Across, Side::Across) => low,
-    }
-}
-
-// The end of the second factor whose product is the greatest, for intervals on these sides that are not both across 0.
-fn second_of_greatest(first: Side, second: Side, low: Ext, high: Ext) -> Ext
-    ensures { ext_of result ≡ second_of_greatest first second (ext_of low) (ext_of high) }
-{
-    match (first, second) {
-        (Side::Above, Side::Above) => high,
-        (Side::Above, Side::Below) => high,
-        (Side::Above, Side::Across) => high,
-        (Side::Below, Side::Above) => low,
-        (Side::Below, Side::Below) => low,
-        (Side::Below, Side::Across) => low,
-        (Side::Across, Side::Above) => high,
-        (Side::Across, Side::Below) => low,
-        (Side::Across, Side::Across) => low,
     }
 }
 

@@ -4,6 +4,7 @@
 mod best;
 mod domain;
 mod ends;
+mod factors;
 mod interval;
 mod inverse;
 mod narrowed;

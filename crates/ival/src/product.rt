@@ -9,32 +9,44 @@ ghost use Rattle.ival.specs.Sides.{LiesOn};
 ghost use Rattle.ival.specs.Corners.{least_product, greatest_product, square_from, square_to};
 
 use crate::ends::{Ends, Ival};
+use crate::factors::{first_of_greatest, first_of_least, second_of_greatest, second_of_least};
 use crate::interval::{greater, lesser};
 use crate::side::{Side, side_of};
 use dyadic::{Dy, Ext, mul_down, mul_up};
 
-// The least product, rounded down, and the greatest, rounded up, for intervals on these sides.
-fn outer_products(a: Ends, first: Side, b: Ends, second: Side) -> (Ext, Ext)
+// The least product, rounded down, for intervals on these sides.
+fn least_product(a: Ends, first: Side, b: Ends, second: Side) -> Ext
     requires first { LiesOn first (end_of (ext_of a.low)) (end_of (ext_of a.high)) }
     requires second { LiesOn second (end_of (ext_of b.low)) (end_of (ext_of b.high)) }
-    ensures least { ext_of result.0 ≡
-        least_product (ext_of a.low) (ext_of a.high) (ext_of b.low) (ext_of b.high) }
-    ensures greatest { ext_of result.1 ≡
-        greatest_product (ext_of a.low) (ext_of a.high) (ext_of b.low) (ext_of b.high) }
+    ensures { ext_of result ≡
+        least_product (ext_of a.low) (ext_of a.high)
+        (ext_of b.low) (ext_of b.high) }
 {
+    let product = mul_down(
+        first_of_least(first, second, a.low, a.high),
+        second_of_least(first, second, b.low, b.high),
+    );
     match (first, second) {
-        (Side::Above, Side::Above) => (mul_down(a.low, b.low), mul_up(a.high, b.high)),
-        (Side::Above, Side::Below) => (mul_down(a.high, b.low), mul_up(a.low, b.high)),
-        (Side::Above, Side::Across) => (mul_down(a.high, b.low), mul_up(a.high, b.high)),
-        (Side::Below, Side::Above) => (mul_down(a.low, b.high), mul_up(a.high, b.low)),
-        (Side::Below, Side::Below) => (mul_down(a.high, b.high), mul_up(a.low, b.low)),
-        (Side::Below, Side::Across) => (mul_down(a.low, b.high), mul_up(a.low, b.low)),
-        (Side::Across, Side::Above) => (mul_down(a.low, b.high), mul_up(a.high, b.high)),
-        (Side::Across, Side::Below) => (mul_down(a.high, b.low), mul_up(a.low, b.low)),
-        (Side::Across, Side::Across) => (
-            lesser(mul_down(a.low, b.high), mul_down(a.high, b.low)),
-            greater(mul_up(a.low, b.low), mul_up(a.high, b.high)),
-        ),
+        (Side::Across, Side::Across) => lesser(product, mul_down(a.high, b.low)),
+        _ => product,
+    }
+}
+
+// The greatest product, rounded up, for intervals on these sides.
+fn greatest_product(a: Ends, first: Side, b: Ends, second: Side) -> Ext
+    requires first { LiesOn first (end_of (ext_of a.low)) (end_of (ext_of a.high)) }
+    requires second { LiesOn second (end_of (ext_of b.low)) (end_of (ext_of b.high)) }
+    ensures { ext_of result ≡
+        greatest_product (ext_of a.low) (ext_of a.high)
+        (ext_of b.low) (ext_of b.high) }
+{
+    let product = mul_up(
+        first_of_greatest(first, second, a.low, a.high),
+        second_of_greatest(first, second, b.low, b.high),
+    );
+    match (first, second) {
+        (Side::Across, Side::Across) => greater(product, mul_up(a.high, b.high)),
+        _ => product,
     }
 }
 
@@ -42,10 +54,11 @@ fn outer_products(a: Ends, first: Side, b: Ends, second: Side) -> (Ext, Ext)
 fn product_of_ends(a: Ends, b: Ends) -> Ends
     ensures { ends_of result ≡ interval_product (ends_of a) (ends_of b) }
 {
-    let products = outer_products(a, side_of(a), b, side_of(b));
+    let first = side_of(a);
+    let second = side_of(b);
     Ends {
-        low: products.0,
-        high: products.1,
+        low: least_product(a, first, b, second),
+        high: greatest_product(a, first, b, second),
     }
 }
 

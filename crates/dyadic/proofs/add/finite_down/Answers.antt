@@ -1,15 +1,6 @@
-use Rattle.std.proofs.Common.{◌^◌, subst, lit<, ◌+ℤ◌}
-use Rattle.dyadic.specs.Fraction.{sum_of}
-use Rattle.dyadic.specs.Rounding.{exact}
-use Rattle.dyadic.specs.Views.{parts_units, parts_dyadic}
-use Rattle.dyadic.specs.InUnits.{IsDownAt}
-use Rattle.dyadic.proofs.Bridge.{down_over, sum_over}
+use Rattle.dyadic.specs.Views.{dyadic_of}
+use Rattle.dyadic.proofs.Results.{sum_down}
 use Rattle.dyadic.proofs.add.finite_down.Goals as goal
 
 pub returns : goal.returns
-returns c =
-    let a = c.args.a in
-    let b = c.args.b in
-    let total = c.total_of-total.ensures.total in
-    down_over (sum_of (exact (parts_dyadic a)) (exact (parts_dyadic b))) (parts_units a +ℤ parts_units b) 1 (2 ^ 240) c.down.result (sum_over a b)
-    (subst (λ z. IsDownAt z 1 c.down.result) total.value (c.down.ensures total.size 1 (lit< tt) (c.whole_bracket.ensures.tight total.size total.part)))
+returns c = sum_down (dyadic_of c.args.a) (dyadic_of c.args.b) _ _ _ _ c.round_steps.result c.normal.ensures c.normal-2.ensures c.sum_of-sum.ensures.within c.round_steps.ensures

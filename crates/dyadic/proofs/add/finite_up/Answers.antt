@@ -1,15 +1,7 @@
-use Rattle.std.proofs.Common.{◌^◌, subst, lit<, ◌+ℤ◌}
-use Rattle.dyadic.specs.Fraction.{sum_of}
-use Rattle.dyadic.specs.Rounding.{exact}
-use Rattle.dyadic.specs.Views.{parts_units, parts_dyadic}
-use Rattle.dyadic.specs.InUnits.{IsUpAt}
-use Rattle.dyadic.proofs.Bridge.{up_over, sum_over}
+use Rattle.std.proofs.Common.{◌∙◌, ap, neg_ℤ}
+use Rattle.dyadic.specs.Views.{dyadic_of}
+use Rattle.dyadic.proofs.Results.{sum_up}
 use Rattle.dyadic.proofs.add.finite_up.Goals as goal
 
 pub returns : goal.returns
-returns c =
-    let a = c.args.a in
-    let b = c.args.b in
-    let total = c.total_of-total.ensures.total in
-    up_over (sum_of (exact (parts_dyadic a)) (exact (parts_dyadic b))) (parts_units a +ℤ parts_units b) 1 (2 ^ 240) c.up.result (sum_over a b)
-    (subst (λ z. IsUpAt z 1 c.up.result) total.value (c.up.ensures total.size 1 (lit< tt) (c.whole_bracket.ensures.tight total.size total.part)))
+returns c = sum_up (dyadic_of c.args.a) (dyadic_of c.args.b) _ _ _ _ c.round_steps.result _ (c.neg.ensures ∙ ap neg_ℤ c.normal.ensures) (c.neg-2.ensures ∙ ap neg_ℤ c.normal-2.ensures) c.sum_of-sum.ensures.within c.round_steps.ensures c.neg-3.ensures

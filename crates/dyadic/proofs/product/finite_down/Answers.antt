@@ -1,19 +1,6 @@
-use Rattle.std.proofs.Common.{◌*◌, ◌^◌, ◌*ℤ◌, subst, lit<}
-use Rattle.dyadic.specs.Fraction.{product_of}
-use Rattle.dyadic.specs.Rounding.{exact}
-use Rattle.dyadic.specs.Size.{units}
-use Rattle.dyadic.specs.Views.{parts_units, parts_dyadic}
-use Rattle.dyadic.specs.InUnits.{IsDownAt}
-use Rattle.dyadic.proofs.Products.{signed_times}
-use Rattle.dyadic.proofs.Bridge.{down_over, product_over}
+use Rattle.dyadic.specs.Views.{dyadic_of}
+use Rattle.dyadic.proofs.Results.{product_down}
 use Rattle.dyadic.proofs.product.finite_down.Goals as goal
 
 pub returns : goal.returns
-returns c =
-    let a = c.args.a in
-    let b = c.args.b in
-    let x = units a.size in
-    let y = units b.size in
-    down_over (product_of (exact (parts_dyadic a)) (exact (parts_dyadic b))) (parts_units a *ℤ parts_units b) (2 ^ 120) (2 ^ 120) c.down.result (product_over a b)
-    (subst (λ z. IsDownAt z (2 ^ 120) c.down.result) (signed_times a.negative b.negative x y)
-    (c.down.ensures (x * y) (2 ^ 120) (lit< tt) c.product_bracket.ensures.tight))
+returns c = product_down (dyadic_of c.args.a) (dyadic_of c.args.b) _ _ _ _ c.round_steps.result c.normal.ensures c.normal-2.ensures c.product_of-product.ensures.within c.round_steps.ensures

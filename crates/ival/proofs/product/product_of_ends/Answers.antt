@@ -8,6 +8,6 @@ use Rattle.ival.proofs.product.product_of_ends.Goals as goal
 pub invariant_of-result : goal.invariant_of-result
 invariant_of-result c = record {
   proper = let l = ext_of c.args.a.low in let h = ext_of c.args.a.high in let m = ext_of c.args.b.low in let k = ext_of c.args.b.high in
-      ends_from (ext_of c.outer_products-products.result.0) (ext_of c.outer_products-products.result.1) (interval_product (between l h) (between m k)) (ap₂ between c.outer_products-products.ensures.least c.outer_products-products.ensures.greatest)
+      ends_from (ext_of c.least_product.result) (ext_of c.greatest_product.result) (interval_product (between l h) (between m k)) (ap₂ between c.least_product.ensures c.greatest_product.ensures)
       (product_proper (between l h) (between m k) (proper_of l h c.args.a.proper) (proper_of m k c.args.b.proper));
 }
