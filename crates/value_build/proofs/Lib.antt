@@ -17,8 +17,5 @@ pub mod Arming
 pub mod Joining
 pub mod Taken
 pub mod Loops
-<<<<<<< HEAD
 pub mod RealWorks
-=======
 pub mod Marks
->>>>>>> h46a
