@@ -1,21 +1,17 @@
 -- From what the code rounds, in units, to the definitions' `down` and `up`.
-use Rattle.std.proofs.Common.{◌≡◌, ℕ, zero, suc, ◌*◌, ◌^◌, ◌<◌, arith, refl, sym, ap, ◌∙◌, subst, lit<, mul-pos, Bool, true, false, not, ℤ, pos, neg_ℤ, ◌+ℤ◌, ◌*ℤ◌, ◌≤ℤ◌, ◌<ℤ◌}
+use Rattle.std.proofs.Common.{◌≡◌, ℕ, ◌*◌, ◌^◌, ◌<◌, arith, refl, sym, ap, ◌∙◌, subst, lit<, mul-pos, Bool, true, false, not, ℤ, pos, neg_ℤ, ◌+ℤ◌, ◌*ℤ◌, ◌≤ℤ◌, ◌<ℤ◌}
 use Rattle.std.proofs.Math.IntN.{pos-*ℤ-pos, neg_ℤ-neg_ℤ}
-use Rattle.std.proofs.Math.Nat.{mul_comm}
 use Rattle.std.proofs.lemmas.Int.{ints}
 use mathlib.Core.Bool.{beq}
-use Rattle.dyadic.specs.declared.parts.Parts.{Parts}
 use Rattle.dyadic.specs.declared.dy.Ext.{Ext}
 use Rattle.dyadic.specs.declared.dy.Ext.TheVariants.{NegInf, Fin, PosInf}
 use Rattle.dyadic.specs.declared.frac.Frac.{Frac}
-use Rattle.dyadic.specs.Fraction.{Fraction, IsFraction, sum_of, product_of, quotient_of, over}
+use Rattle.dyadic.specs.Fraction.{Fraction, IsFraction, sum_of, product_of, quotient_of}
 use Rattle.dyadic.specs.Rounding.{Dyadic, exact, down, up}
-use Rattle.dyadic.specs.Size.{units}
 use Rattle.dyadic.specs.Signed.{signed_of, IsFloor, IsCeiling, IsBelowGrid, IsAboveGrid}
-use Rattle.dyadic.specs.Views.{units_of, dyadic_of, parts_dyadic, ext_of, fraction_of_frac}
+use Rattle.dyadic.specs.Views.{units_of, dyadic_of, ext_of, fraction_of_frac}
 use Rattle.dyadic.specs.InUnits.{IsDownAt, IsUpAt}
 use Rattle.dyadic.proofs.Ints.{*ℤ-lt_right, *ℤ-le_right, le_of_*ℤ-le_right, *ℤ_assoc}
-use Rattle.dyadic.proofs.Products.{signed_by}
 use Rattle.dyadic.proofs.Floors.{number_on_grid}
 use Rattle.dyadic.proofs.RoundsMid.{half_sum}
 use Rattle.dyadic.proofs.Rounds.{in_units, down_from, up_from, down_from_floor, down_from_below, up_from_ceiling, up_from_above}
@@ -97,9 +93,6 @@ frac_over f p = record { some = p; factor = lit< tt; above = lemma (in_units (fr
 
 -- ---- quotients
 
-abbrev pub quotient_sign : Parts → Parts → ℤ
-quotient_sign a b = signed_of (not (beq a.negative b.negative)) (units a.size * 2 ^ 120)
-
 pub unlike_false : (p : Bool) → not (beq p false) ≡ p
 unlike_false true = refl
 unlike_false false = refl
@@ -107,22 +100,3 @@ unlike_false false = refl
 pub unlike_true : (p : Bool) (x : ℕ) → signed_of (not (beq p true)) x ≡ neg_ℤ (signed_of p x)
 unlike_true true x = sym (neg_ℤ-neg_ℤ (pos x))
 unlike_true false x = refl
-
-pub quotient_over : (a b : Parts) → 0 < units b.size → IsOver (quotient_of (exact (parts_dyadic a)) (exact (parts_dyadic b))) (quotient_sign a b) (units b.size) (2 ^ 120)
-unfolding quotient_of
-quotient_over a b p = by b.negative (units b.size) p
-  where
-    by : (q : Bool) (y : ℕ) → 0 < y → IsOver (over (exact (parts_dyadic a)) (signed_of q y) (2 ^ 120)) (signed_of (not (beq a.negative q)) (units a.size * 2 ^ 120)) y (2 ^ 120)
-    by q zero p = absurd (omega arith)
-    by false (suc m) p = record {
-      some = p;
-      factor = lit< tt;
-      above = ap (λ z. z *ℤ pos (2 ^ 120)) (sym (signed_by a.negative (units a.size) (2 ^ 120)) ∙ ap (λ s. signed_of s (units a.size * 2 ^ 120)) (sym (unlike_false a.negative)));
-      below = mul_comm (2 ^ 120) (suc m);
-    }
-    by true (suc m) p = record {
-      some = p;
-      factor = lit< tt;
-      above = ap (λ z. z *ℤ pos (2 ^ 120)) (ap neg_ℤ (sym (signed_by a.negative (units a.size) (2 ^ 120))) ∙ sym (unlike_true a.negative (units a.size * 2 ^ 120)));
-      below = mul_comm (2 ^ 120) (suc m);
-    }

@@ -7,6 +7,7 @@ pub mod Floors
 pub mod FracFits
 pub mod FracSteps
 pub mod Ints
+pub mod LongQuotients
 pub mod MarginTests
 pub mod Mantissas
 pub mod Margins

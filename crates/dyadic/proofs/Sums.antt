@@ -25,16 +25,16 @@ fits_word m h = let f = fits_signed_from_abs w64 m h in f.sfits
 abbrev pub one_sign : ℤ → ℤ → Bool
 one_sign m n = beq (lt_z m (pos 0)) (lt_z n (pos 0))
 
-one_sign_plain : (a b : ℕ) → one_sign (pos a) (pos b) ≡ true
+pub one_sign_plain : (a b : ℕ) → one_sign (pos a) (pos b) ≡ true
 one_sign_plain a b = ap (λ x. beq x (ltb b 0)) (not_below_zero a) ∙ ap (λ x. beq false x) (not_below_zero b)
 
-one_sign_left : (a b : ℕ) → one_sign (negsuc a) (pos b) ≡ false
+pub one_sign_left : (a b : ℕ) → one_sign (negsuc a) (pos b) ≡ false
 one_sign_left a b = ap (λ x. beq true x) (not_below_zero b)
 
-one_sign_right : (a b : ℕ) → one_sign (pos a) (negsuc b) ≡ false
+pub one_sign_right : (a b : ℕ) → one_sign (pos a) (negsuc b) ≡ false
 one_sign_right a b = ap (λ x. beq x true) (not_below_zero a)
 
-no_clash : (b : Bool) → b ≡ true → b ≡ false → ⊥
+pub no_clash : (b : Bool) → b ≡ true → b ≡ false → ⊥
 no_clash b e f = cc
 
 -- a sum of one sign has at least the size of the first number

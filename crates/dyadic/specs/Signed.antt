@@ -1,11 +1,16 @@
 -- Whole numbers by sign and size, and the rounding of a fraction of units.
-use Rattle.std.specs.Prelude.{ℕ, ℤ, pos, ◌*ℤ◌, ◌≤ℤ◌, ◌<ℤ◌, Bool, true, false, nat_abs, neg_ℤ}
+use Rattle.std.specs.Prelude.{ℕ, ℤ, pos, negsuc, ◌*ℤ◌, ◌≤ℤ◌, ◌<ℤ◌, Bool, true, false, nat_abs, neg_ℤ}
 use Rattle.dyadic.specs.Rounding.{IsRepresentable}
 
 -- n or -n
 abbrev pub signed_of : Bool → ℕ → ℤ
 signed_of false n = pos n
 signed_of true n = neg_ℤ (pos n)
+
+-- n or -n, by the sign of another number
+abbrev pub by_sign : ℤ → ℤ → ℤ
+by_sign (pos m) n = n
+by_sign (negsuc m) n = neg_ℤ n
 
 -- z units are a number of the grid
 abbrev pub IsKept : ℤ → Type 0

@@ -1,14 +1,14 @@
-use Rattle.std.proofs.Common.{◌*◌, ◌^◌}
+use Rattle.std.proofs.Common.{◌^◌, ◌*ℤ◌, pos, nat_abs}
 use Rattle.dyadic.specs.Fraction.{quotient_of}
 use Rattle.dyadic.specs.Rounding.{exact}
-use Rattle.dyadic.specs.Size.{units}
-use Rattle.dyadic.specs.Views.{parts_dyadic}
-use Rattle.dyadic.proofs.Bridge.{down_over, quotient_over, quotient_sign}
+use Rattle.dyadic.specs.Signed.{by_sign}
+use Rattle.dyadic.specs.Views.{dyadic_of}
+use Rattle.dyadic.proofs.Bridge.{down_over}
+use Rattle.dyadic.proofs.LongQuotients.{long_over}
 use Rattle.dyadic.proofs.divide.finite_down.Goals as goal
 
 pub returns : goal.returns
 returns c =
-    let a = c.args.a in
-    let b = c.args.b in
-    down_over (quotient_of (exact (parts_dyadic a)) (exact (parts_dyadic b))) (quotient_sign a b) (units b.size) (2 ^ 120) c.down.result (quotient_over a b c.requires)
-    (c.down.ensures (units a.size * 2 ^ 120) (units b.size) c.requires c.divide_bracket.ensures.tight)
+    let x = dyadic_of c.args.a in
+    let y = dyadic_of c.args.b in
+    down_over (quotient_of (exact x) (exact y)) (by_sign y.units x.units *ℤ pos (2 ^ 120)) (nat_abs y.units) (2 ^ 120) c.number_quotient.result (long_over x y c.requires) c.number_quotient.ensures

@@ -1,14 +1,21 @@
-use Rattle.std.proofs.Common.{◌*◌, ◌^◌}
+use Rattle.std.proofs.Common.{◌≡◌, ◌^◌, ◌∙◌, ◌*ℤ◌, pos, neg_ℤ, nat_abs, ap, subst}
 use Rattle.dyadic.specs.Fraction.{quotient_of}
-use Rattle.dyadic.specs.Rounding.{exact}
-use Rattle.dyadic.specs.Size.{units}
-use Rattle.dyadic.specs.Views.{parts_dyadic}
-use Rattle.dyadic.proofs.Bridge.{up_over, quotient_over, quotient_sign}
+use Rattle.dyadic.specs.Rounding.{Dyadic, exact}
+use Rattle.dyadic.specs.InUnits.{IsDownAt}
+use Rattle.dyadic.specs.Signed.{by_sign}
+use Rattle.dyadic.specs.Views.{units_of, dyadic_of}
+use Rattle.dyadic.proofs.Bridge.{up_over}
+use Rattle.dyadic.proofs.Flips.{up_from_flipped, flipped_from}
+use Rattle.dyadic.proofs.LongQuotients.{long_over, by_sign_neg}
 use Rattle.dyadic.proofs.divide.finite_up.Goals as goal
 
 pub returns : goal.returns
 returns c =
-    let a = c.args.a in
-    let b = c.args.b in
-    up_over (quotient_of (exact (parts_dyadic a)) (exact (parts_dyadic b))) (quotient_sign a b) (units b.size) (2 ^ 120) c.up.result (quotient_over a b c.requires)
-    (c.up.ensures (units a.size * 2 ^ 120) (units b.size) c.requires c.divide_bracket.ensures.tight)
+    let x = dyadic_of c.args.a in
+    let y = dyadic_of c.args.b in
+    let r = c.number_quotient.result in
+    let turned : units_of c.neg.result ≡ neg_ℤ x.units = ap (λ (d : Dyadic). d.units) c.neg.ensures in
+    up_over (quotient_of (exact x) (exact y)) (by_sign y.units x.units *ℤ pos (2 ^ 120)) (nat_abs y.units) (2 ^ 120) c.neg-2.result (long_over x y c.requires)
+    (up_from_flipped (by_sign y.units x.units *ℤ pos (2 ^ 120)) (nat_abs y.units) r c.neg-2.result
+    (subst (λ z. IsDownAt z (nat_abs y.units) r) (ap (λ z. by_sign y.units z *ℤ pos (2 ^ 120)) turned ∙ by_sign_neg y.units x.units (2 ^ 120)) c.number_quotient.ensures)
+    (flipped_from r c.neg-2.result c.neg-2.ensures))
