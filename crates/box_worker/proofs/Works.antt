@@ -27,6 +27,7 @@ use Rattle.box_worker.specs.declared.worked.Worked.TheVariants.{Patch, Closed, P
 use Rattle.box_worker.specs.Attempts.{AreAmong}
 use Rattle.box_worker.specs.Ended.{first_covering, leaves_some, is_left, AtOnce, ComesToEnd}
 use Rattle.box_worker.specs.Worked.{margins_of, IsRunFrom, IsLearned, IsMiddleFrom, IsWork, IsClosedBy, IsPointAt, IsLeftOpen, AnswersAtOnce, IsEndPoint, WorkOf, teaches_nothing}
+use Rattle.box_worker.proofs.Open.{none_among}
 
 -- ---- the first lemma that covers
 
@@ -46,9 +47,6 @@ covering_is (M ∷ lemmas) S L e = by-test (covers M.state S) refl e (λ h. cove
     by-test : (t : Bool) → covers M.state S ≡ t → cond t (Some M) (first_covering lemmas S) ≡ Some L → (first_covering lemmas S ≡ Some L → Contains lemmas L × IsTrue (covers L.state S)) → Contains (M ∷ lemmas) L × IsTrue (covers L.state S)
     by-test true q h f = subst (λ (X : LemmaModel). Contains (M ∷ lemmas) X × IsTrue (covers X.state S)) (same M L h) (here M lemmas, q)
     by-test false q h f = let r = f h in (there M L lemmas r.0, r.1)
-
-none-among : (lemmas : List LemmaModel) → AreAmong lemmas []
-none-among lemmas = λ k d l. absurd (omega arith)
 
 one-among : (lemmas : List LemmaModel) (L : LemmaModel) → Contains lemmas L → AreAmong lemmas (L ∷ [])
 one-among lemmas L h zero d l = h
@@ -196,12 +194,12 @@ module _ (q : Parts) (m : Margins) (lemmas : List LemmaModel) (S : State) where
       point (Point y) h = h.2
 
   pub at_once_is : (Q : PatchModel) (e : Ended) (w : Worked) → AtOnce lemmas (begun q m S) Q (Some e) → WorkOf Q e w → Answers w × IsWork (problem_of q) m lemmas S w
-  at_once_is Q ended.Closed w (inl a) h = let k = subst (λ (X : PatchModel). WorkOf X ended.Closed w) a.1 h in (at_once_false w a.0 k, work-of lemmas (ended_with (begun q m S) make_false) ended.Closed w (none-among lemmas) k)
+  at_once_is Q ended.Closed w (inl a) h = let k = subst (λ (X : PatchModel). WorkOf X ended.Closed w) a.1 h in (at_once_false w a.0 k, work-of lemmas (ended_with (begun q m S) make_false) ended.Closed w (none_among lemmas) k)
   at_once_is Q ended.Closed w (inr a) h = let k = subst (λ (X : PatchModel). WorkOf X ended.Closed w) a.3 h in
       (at_once_covered w a.0 a.1 a.2 k, work-of lemmas (covered_by (begun q m S) a.0) ended.Closed w (one-among lemmas a.0 (covering_is lemmas S a.0 a.2).0) k)
   at_once_is Q ended.Parted w a h = absurd a
   at_once_is Q (ended.Found x) w a h = absurd a
-  at_once_is Q (ended.Shown x) w a h = let k = subst (λ (X : PatchModel). WorkOf X (ended.Shown x) w) a.0 h in (at_once_shown w x a.1 a.2 a.3 k, work-of lemmas (begun q m S) (ended.Shown x) w (none-among lemmas) k)
+  at_once_is Q (ended.Shown x) w a h = let k = subst (λ (X : PatchModel). WorkOf X (ended.Shown x) w) a.0 h in (at_once_shown w x a.1 a.2 a.3 k, work-of lemmas (begun q m S) (ended.Shown x) w (none_among lemmas) k)
 
   pub comes_at_once : (Z : PatchModel) (e : Ended) (w : Worked) → ComesToEnd q m lemmas (begun q m S) Z e → WorkOf Z e w → Answers w
   comes_at_once Z e w (inl a) h = (at_once_is Z e w a h).0

@@ -39,7 +39,14 @@ pub fn may_hold_at(patch: &Patch, j: u32) -> bool {
     problem_is_whole(problem);
     let margin_bits = patch.margins().margin_bits;
     let state = patch.reached();
-    may_atom(problem, patch.rows(), state.space(), state.lits(), margin_bits, j)
+    may_atom(
+        problem,
+        patch.rows(),
+        state.space(),
+        state.lits(),
+        margin_bits,
+        j,
+    )
 }
 
 /// Whether atom j is sure at the state that the patch has reached.

@@ -138,12 +138,7 @@ impl Guide {
 
     // Assumes what the state says of atom j, of which nothing is on the trail. Where the atom is not marked, its
     // enclosure is looked at only if it is due.
-    fn note_atom(
-        &mut self,
-        patch: &Patch,
-        j: u32,
-        is_due: bool,
-    ) {
+    fn note_atom(&mut self, patch: &Patch, j: u32, is_due: bool) {
         let is_marked = is_marked(patch.reached().lits(), j);
         if !is_marked && !is_due {
             return;
@@ -157,12 +152,7 @@ impl Guide {
 
     // Assumes what the state says of the atoms of which nothing is on the trail. Those are due that depend on an axis
     // that has changed, all where it is not known which have.
-    fn note_atoms(
-        &mut self,
-        patch: &Patch,
-        masks: &[u64],
-        changed: Option<u64>,
-    ) {
+    fn note_atoms(&mut self, patch: &Patch, masks: &[u64], changed: Option<u64>) {
         for j in 0..self.cnf.atoms() {
             if self.trail.is_undecided(Variable::Atom(j)) {
                 self.note_atom(patch, j, is_due(masks, changed, j as usize));

@@ -1,19 +1,13 @@
 // What the form still needs at a state: a heuristic that promises nothing. A need that is missed costs boxes, and no
 // answer.
 ghost use Rattle.std.specs.Prelude.{◌≡◌, length};
-ghost use Rattle.poly_graph.specs.ProblemViews.{problem_of};
-ghost use Rattle.cover_model.specs.Fits.{FitsProblem};
-ghost use Rattle.cover_data.specs.Margins.{AreMargins};
-ghost use Rattle.ival.specs.RowViews.{rows_of};
-ghost use Rattle.ival.specs.SpaceViews.{space_of};
-ghost use Rattle.truth3.specs.Truth.{HasRows};
 
+use crate::facts::is_sure_at;
 use crate::guide::Guide;
-use cover_rule::{Margins, State};
-use ival::{Domain, Rows, Space, Truths};
-use poly_graph::{FormNode, Problem};
+use cover_rule::Patch;
+use ival::{Domain, Space, Truths};
+use poly_graph::FormNode;
 use std::alloc::{AllocError, Global};
-use truth3::sure_atom;
 
 /// For each node of the form whether it may hold, whether nothing is left to do for it, and whether the form
 /// can't hold without it. They guide the work, and nothing rests on them.
@@ -99,11 +93,7 @@ fn is_done(patch: &Patch, done: &[bool], node: &FormNode) -> bool {
 
 /// What is needed at the state that the patch has reached, by a guide that has looked at it. Without one the form
 /// is a conjunction alone, which needs each node.
-pub fn needs_at(
-    alloc: Global,
-    patch: &Patch,
-    guide: &Option<Guide>,
-) -> Result<Needs, AllocError> {
+pub fn needs_at(alloc: Global, patch: &Patch, guide: &Option<Guide>) -> Result<Needs, AllocError> {
     let problem = patch.problem();
     let forms = problem.forms();
     let mut needs = Needs {

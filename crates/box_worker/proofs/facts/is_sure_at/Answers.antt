@@ -10,7 +10,7 @@ use Rattle.box_worker.proofs.facts.is_sure_at.Goals as goal
 
 pub sure_atom-requires-clause-rows : goal.sure_atom-requires-clause-rows
 sure_atom-requires-clause-rows c =
-    let p = c.problem-problem.result.now in let P = c.args.patch.now in let s = space_of c.space.result.now in
-    let at : P.kept.reached.space ≡ s = sym (c.space.ensures ∙ ap (λ (S : State). S.space) c.reached.ensures.state) in
+    let p = c.problem-problem.result.now in let P = c.args.patch.now in let s = space_of c.space-space.result.now in
+    let at : P.kept.reached.space ≡ s = sym (c.space-space.ensures ∙ ap (λ (S : State). S.space) c.reached.ensures.state) in
     has_rows p c.problem_is_whole.ensures s (rows_of c.rows.result.now)
     (c.rows.ensures ∙ ap (λ (q : Parts). enclosures P.kept.reached.space q.nodes) (sym c.problem-problem.ensures.problem) ∙ ap (λ (x : Space). enclosures x p.nodes) at)
