@@ -18,3 +18,4 @@ pub mod Joining
 pub mod Taken
 pub mod Loops
 pub mod Marks
+pub mod RealWorks

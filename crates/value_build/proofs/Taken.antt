@@ -1,7 +1,7 @@
 -- Which arguments an operator takes, by their sort, and what their links are.
 use Rattle.std.proofs.Common.{◌≡◌, ℕ, suc, ◌<◌, List, [], ◌∷◌, ◌++◌, map, length, Bool, true, false, ◌&&◌, ◌||◌, cond, true≢false, refl, ap, sym, ◌∙◌, subst, arith, nat_le, nat_eq, eqb→eq}
 use Rattle.std.specs.Bool.{passes}
-use Rattle.std.proofs.lemmas.Bool.{leb-true, le-leb}
+use Rattle.std.proofs.lemmas.Bool.{le-leb}
 use Rattle.std.proofs.lemmas.List.{length-map}
 use Rattle.std.specs.Prelude.{Ok}
 use Rattle.dyadic.specs.Fraction.{zero_fraction}
@@ -173,9 +173,6 @@ left-of false h = cc
 
 pub three_taken : (n : ℕ) → nat_eq n 3 || false ≡ true → n ≡ 3
 three_taken n h = eqb→eq n 3 (passes (nat_eq n 3) (left-of (nat_eq n 3) h))
-
-pub two_taken : (n : ℕ) → nat_le 2 n ≡ true → 1 < n
-two_taken n h = omega (arith, leb-true 2 n h)
 
 -- ---- values of one sort
 

@@ -12,3 +12,4 @@ pub mod Arms
 pub mod Loops
 pub mod Calls
 pub mod Marks
+pub mod RealWork

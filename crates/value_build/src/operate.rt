@@ -12,6 +12,7 @@ ghost use Rattle.value_build.specs.Bounds.{AddsList};
 ghost use Rattle.value_build.specs.Calls.{Applies, Chains, ComparesValues, Differ, JoinsLinks, OverArms, PairsDo, TreesDo, TreesMake, ValuesMake, bounds_given, operation_of, takes_arms};
 ghost use Rattle.value_build.specs.Making.{making};
 ghost use Rattle.value_build.specs.Operators.{ArePairs, are_arms, are_bool, are_picked, are_real, bool_distinctness, bool_equality, distinct_from, list_number, node_number, pair_number, takes_of};
+ghost use Rattle.value_build.specs.RealWork.{real_work};
 ghost use Rattle.value_build.specs.Values.{AreKnown};
 
 use crate::arithmetic::{Step, calculate};
@@ -549,6 +550,32 @@ fn pick_arm(sketch: &mut Vec<SketchNode>, values: &[Value]) -> Result<Value, Sto
     }
 }
 
+// What an operator does with Real arguments.
+#[derive(Clone, Copy)]
+enum RealWork {
+    /// A step of arithmetic after the other.
+    Calculate(Step),
+    /// Comparisons of each two arguments that belong together.
+    Compare(Kind, Spread),
+}
+
+// What an operator does with Real arguments; none where it takes no such arguments alone.
+fn real_work(operator: Operator) -> Option<RealWork>
+    ensures { result ≡ real_work operator }
+{
+    match operator {
+        Operator::Minus => Some(RealWork::Calculate(Step::Subtract)),
+        Operator::Plus => Some(RealWork::Calculate(Step::Add)),
+        Operator::Times => Some(RealWork::Calculate(Step::Multiply)),
+        Operator::Divide => Some(RealWork::Calculate(Step::Divide)),
+        Operator::AtMost | Operator::Below => Some(RealWork::Compare(Kind::Le, Spread::Next)),
+        Operator::AtLeast | Operator::Above => Some(RealWork::Compare(Kind::Ge, Spread::Next)),
+        Operator::Equal => Some(RealWork::Compare(Kind::Eq, Spread::Next)),
+        Operator::Distinct => Some(RealWork::Compare(Kind::Eq, Spread::Later)),
+        _ => None,
+    }
+}
+
 // An operator at Real arguments that hold an `ite`.
 fn over_arms(
     alloc: Global,
@@ -569,84 +596,12 @@ fn over_arms(
     ensures sketched { IsSketch builder.new (drawn sketch.new) }
     ensures sorts { builder.new.sorts ≡ builder.old.sorts }
 {
-    match operator {
-        Operator::Minus => calculate_arms(builder, sketch, at, Step::Subtract, values),
-        Operator::Plus => calculate_arms(builder, sketch, at, Step::Add, values),
-        Operator::Times => calculate_arms(builder, sketch, at, Step::Multiply, values),
-        Operator::Divide => calculate_arms(builder, sketch, at, Step::Divide, values),
-        Operator::AtMost => {
-            compare_values(
-                alloc,
-                builder,
-                sketch,
-                bounds,
-                at,
-                Kind::Le,
-                Spread::Next,
-                values,
-            )
+    match real_work(operator) {
+        Some(RealWork::Calculate(step)) => calculate_arms(builder, sketch, at, step, values),
+        Some(RealWork::Compare(kind, spread)) => {
+            compare_values(alloc, builder, sketch, bounds, at, kind, spread, values)
         }
-        Operator::Below => {
-            compare_values(
-                alloc,
-                builder,
-                sketch,
-                bounds,
-                at,
-                Kind::Le,
-                Spread::Next,
-                values,
-            )
-        }
-        Operator::AtLeast => {
-            compare_values(
-                alloc,
-                builder,
-                sketch,
-                bounds,
-                at,
-                Kind::Ge,
-                Spread::Next,
-                values,
-            )
-        }
-        Operator::Above => {
-            compare_values(
-                alloc,
-                builder,
-                sketch,
-                bounds,
-                at,
-                Kind::Ge,
-                Spread::Next,
-                values,
-            )
-        }
-        Operator::Equal => {
-            compare_values(
-                alloc,
-                builder,
-                sketch,
-                bounds,
-                at,
-                Kind::Eq,
-                Spread::Next,
-                values,
-            )
-        }
-        Operator::Distinct => {
-            compare_values(
-                alloc,
-                builder,
-                sketch,
-                bounds,
-                at,
-                Kind::Eq,
-                Spread::Later,
-                values,
-            )
-        }
-        _ => unreachable!(),
+        None => unreachable!(),
     }
 }
 
