@@ -40,8 +40,13 @@ fn problem_of(alloc: Global, axes: Vec<Axis>) -> Result<Problem, NoNode>
 {
     let mut forms = FormTable::new(alloc);
     let root = forms.intern(FormNode::True)?;
-    let graph = Graph::new(alloc);
-    Ok(Problem::new(axes, graph, Vec::new(alloc), forms.into_graph(), root))
+    Ok(Problem::new(
+        axes,
+        Graph::new(alloc),
+        Vec::new(alloc),
+        forms.into_graph(),
+        root,
+    ))
 }
 
 fn problem(alloc: Global, names: &[&str]) -> Option<Problem> {

@@ -19,3 +19,4 @@ pub mod Taken
 pub mod Loops
 pub mod RealWorks
 pub mod Marks
+pub mod RealWorks

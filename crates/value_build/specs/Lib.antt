@@ -13,3 +13,4 @@ pub mod Loops
 pub mod Calls
 pub mod RealWork
 pub mod Marks
+pub mod RealWork

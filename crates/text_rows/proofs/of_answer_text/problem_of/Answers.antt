@@ -1,4 +1,5 @@
-use Rattle.std.proofs.Common.{List, sym, subst}
+use Rattle.std.proofs.Common.{List, [], sym, subst}
+use Rattle.poly_graph.specs.FormGraph.{FormNode}
 use Rattle.poly_graph.specs.Term.{Node}
 use Rattle.poly_graph.specs.ProblemViews.{IsWhole, parts_of}
 use Rattle.poly_graph.specs.declared.node.Atom.{Atom}
@@ -7,6 +8,7 @@ use Rattle.text_rows.proofs.of_answer_text.problem_of.Goals as goal
 
 pub new-requires-3 : goal.new-requires-3
 new-requires-3 c =
-    subst (λ (nodes : List Node). IsWhole (parts_of c.args.axes.items nodes c.new-2.result.items c.intern.new.self c.in_ok-root.root)) (sym c.new.ensures)
-    (subst (λ (atoms : List Atom). IsWhole (parts_of c.args.axes.items _ atoms c.intern.new.self c.in_ok-root.root)) (sym c.new-2.ensures.items)
-    (whole c.args.axes.items _ c.intern.new.self c.in_ok-root.root c.requires c.new-forms.ensures c.in_ok-root.ensures))
+    subst (λ (nodes : List Node). IsWhole (parts_of c.args.axes.items nodes c.new-2.result.items c.into_graph.result c.in_ok-root.root)) (sym c.new.ensures)
+    (subst (λ (atoms : List Atom). IsWhole (parts_of c.args.axes.items [] atoms c.into_graph.result c.in_ok-root.root)) (sym c.new-2.ensures.items)
+    (subst (λ (forms : List FormNode). IsWhole (parts_of c.args.axes.items [] [] forms c.in_ok-root.root)) (sym c.into_graph.ensures)
+    (whole c.args.axes.items _ c.intern.new.self c.in_ok-root.root c.requires c.new-forms.ensures c.in_ok-root.ensures)))
