@@ -9,11 +9,11 @@ use Rattle.poly_graph.specs.declared.axis.Axis as axis
 use Rattle.declared_box.specs.Axes.{IsBoundsError}
 use Rattle.declared_box.specs.Same.{SameBounds}
 use Rattle.declared_box.specs.Table.{all_of}
-use Rattle.poly_graph.specs.ProblemViews.{Parts, IsWhole, problem_of, axis_of}
-use Rattle.script_forms.specs.ProblemOf.{AreAxes, IsProblemOf}
+use Rattle.poly_graph.specs.ProblemViews.{axis_of}
+use Rattle.script_forms.specs.ProblemOf.{AreAxes}
 use Rattle.script_fault.specs.declared.fault.ReadError.{ReadError}
-use Rattle.script_faults.specs.Reader.{AreLowest, IsInWalkOrder}
-use Rattle.term_build.specs.Built.{BuilderModel, IsMade, stand_of}
+use Rattle.script_faults.specs.Reader.{AreLowest}
+use Rattle.term_build.specs.Built.{IsMade, stand_of}
 use Rattle.term_build.specs.Settled.{Extends}
 use Rattle.value_build.specs.Making.{Making}
 use Rattle.value_build.specs.Marks.{counts_in, taken}

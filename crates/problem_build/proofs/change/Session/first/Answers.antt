@@ -1,10 +1,8 @@
-use Rattle.std.proofs.Common.{◌≡◌, ◌<◌, List, [], Some, Bool, length, map, ap, sym, ◌∙◌, subst, arith}
-use Rattle.std.specs.Prelude.{slice_get, IfOk}
+use Rattle.std.proofs.Common.{◌<◌, List, [], Some, length, ap, sym, ◌∙◌, subst, arith}
 use Rattle.std.proofs.lemmas.Option.{slice_get-get_or}
 use Rattle.poly_graph.specs.FormGraph.{FormNode}
 use Rattle.poly_graph.specs.Term.{Node}
-use Rattle.poly_graph.specs.ProblemViews.{Parts}
-use Rattle.problem_build.specs.Changes.{IsChange, changed, made_of, no_parts}
+use Rattle.problem_build.specs.Changes.{IsChange, made_of, no_parts}
 use Rattle.problem_build.proofs.Changed.{change_of, first_change, length_problems}
 use Rattle.problem_build.proofs.change.Session.first.Goals as goal
 

@@ -1,10 +1,8 @@
 use Rattle.std.proofs.Common.{◌≡◌, ◌<◌, ◌+◌, ℕ, suc, List, Some, Bool, length, map, ap, sym, ◌∙◌, subst, arith}
-use Rattle.std.specs.Prelude.{slice_get, IfOk, Result, Ok, Err}
+use Rattle.std.specs.Prelude.{slice_get}
 use Rattle.std.proofs.lemmas.Option.{slice_get-get_or}
-use Rattle.poly_graph.specs.FormGraph.{FormNode}
-use Rattle.poly_graph.specs.Term.{Node, Kind}
 use Rattle.poly_graph.specs.ProblemViews.{Parts}
-use Rattle.problem_build.specs.Changes.{IsChange, changed, made_of, no_parts, problems_from}
+use Rattle.problem_build.specs.Changes.{IsChange, changed, no_parts}
 use Rattle.problem_build.proofs.Changed.{change_of, made_same, next_change, stands_there, length_problems}
 use Rattle.problem_build.proofs.change.Session.next.Goals as goal
 
