@@ -42,10 +42,10 @@ use Rattle.declared_box.specs.Same.{SameBounds}
 use Rattle.declared_box.specs.Table.{all_of, AreBefore}
 use Rattle.declared_box.proofs.Same.{same_bounds_append}
 use Rattle.value_build.specs.Making.{Making}
-use Rattle.problem_build.specs.Laws.{parts_made}
+use Rattle.problem_build.specs.Laws.{IsProblemMade, parts_made}
 use Rattle.problem_build.specs.Roots.{AreFormsOf, Roots}
 use Rattle.problem_build.specs.Standing.{AreClaims, boundings, IsDone}
-use Rattle.problem_build.specs.Progress.{AreAxesOf, HasAxes, IsProblemMade, IsRooted, IsState}
+use Rattle.problem_build.specs.Progress.{AreAxesOf, HasAxes, IsRooted, IsState}
 use Rattle.problem_build.proofs.One.{ends_are_lowest}
 use Rattle.problem_build.proofs.Whole.{whole}
 use Rattle.problem_build.specs.BuildAnswers.{IsBuildingError, found_by}

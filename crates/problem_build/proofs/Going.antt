@@ -5,7 +5,7 @@ use Rattle.std.specs.List.{AllByRecursion}
 use Rattle.std.proofs.lemmas.List.{map-append, length-map, reverse-append, take-append-le}
 use Rattle.std.specs.Prelude.{min}
 use Rattle.poly_graph.specs.Problem.{Problem}
-use Rattle.poly_graph.specs.ProblemViews.{problem_of}
+use Rattle.poly_graph.specs.ProblemViews.{Parts, problem_of}
 use Rattle.script_model.specs.Script.{Command, check}
 use Rattle.script_fault.specs.Answers.{IsFaultOrMemory}
 use Rattle.script_fault.specs.declared.fault.ReadError.{ReadError}
@@ -29,7 +29,9 @@ use Rattle.sort_check.proofs.Following.{asked_sorted}
 use Rattle.sort_check.proofs.Lengths.{asks_nothing, check_is, nothing_held}
 use Rattle.problem_build.specs.BuildAnswers.{IsBuildingError}
 use Rattle.problem_build.specs.Session.{Begins, Goes, Stays, WellSorted, checked_of, problems_of, script_at}
-use Rattle.problem_build.specs.declared.session.Checked.{Checked}
+use Rattle.problem_build.specs.Changes.{AreChanges, Changes, Starts, changed, last_parts, no_parts, problems_from}
+use Rattle.problem_build.proofs.Changed.{changes_more, last_more, problems_more}
+use Rattle.problem_build.specs.declared.change.Checked.{Checked}
 use Rattle.problem_build.specs.declared.session.Going.{Going}
 use Rattle.script_faults.proofs.Carried.{Stacked, step_first}
 use Rattle.problem_build.specs.Progress.{IsBuiltBy, IsKept}
@@ -99,7 +101,7 @@ kept-check commands at p h = record {
 }
 
 pub step_behind : (bound : Option ℕ) (steps left : List Step) (old new : Going) (st : Step) → check_place st ≡ None → (h : Goes bound steps old (st ∷ left)) →
-    Stacks new.force.script.sexps.now new.force.script.commands.items new.force.marks.items (after_step h.open_levels st) → new.problems.items ≡ old.problems.items → new.before ≡ old.before →
+    Stacks new.force.script.sexps.now new.force.script.commands.items new.force.marks.items (after_step h.open_levels st) → new.checks.items ≡ old.checks.items → new.before ≡ old.before →
     new.extends ≡ (old.extends && nat_le old.before (length new.force.script.commands.items)) →
     new.progress ≡ old.progress → new.kept ≡ min old.kept (length new.force.script.commands.items) → Goes bound steps new left
 step_behind bound steps left old new st none h stacks problems before extends progress kept =
@@ -117,7 +119,9 @@ step_behind bound steps left old new st none h stacks problems before extends pr
       stacks = stacks;
       done = h.done;
       said = h.said;
-      built = subst (λ (ps : List Checked). AreBuilt bound h.done h.said (problems_of ps)) (sym problems) h.built;
+      built = subst (λ (cs : List Checked). AreBuilt bound h.done h.said (problems_of (problems_from no_parts cs))) (sym problems) h.built;
+      changes = subst (λ (cs : List Checked). AreChanges no_parts cs) (sym problems) h.changes;
+      last = subst (λ (p : Progress). Starts (last_parts no_parts new.checks.items) p.maker.made) (sym progress) (subst (λ (cs : List Checked). Starts (last_parts no_parts cs) old.progress.maker.made) (sym problems) h.last);
       asked = h.asked ∙ ap (λ xs. h.done ++ xs) (asked_behind l st left none);
       carried = h.carried ∙ ap (λ xs. h.said ++ xs) (carried_behind l st left none (old.extends && stay_in_force old.before l (st ∷ left)) ∙ ap (λ b. carried_from b next left) still);
       clean = h.clean ∙ ap (in_each_check bound) (asked_behind l st left none);
@@ -142,10 +146,10 @@ module _ (bound : Option ℕ) (steps left : List Step) (old : Going) (st : Step)
   refused_here e bad = lifted e (in_building (building_fault bound (script_at old.force at))) (in_each_check bound (checks_of steps))
       (λ x t. here.clean ∙ ap (λ o. first_of o (in_each_check bound (asked_from here.open_levels left))) (ap (λ cs. in_building (building_fault bound cs)) (sym script_is) ∙ t)) bad
 
-  pub check_behind : (new : Going) (p : Checked) → (building_fault bound (script_at old.force at) ≡ None) × IsBuiltOf bound (script_at old.force at) (problem_of p.problem) → p.extends ≡ old.extends →
-      Stays old.force new.force → new.problems.items ≡ old.problems.items ++ p ∷ [] → new.before ≡ length new.force.script.commands.items → new.extends ≡ true →
+  pub check_behind : (new : Going) (c : Checked) → Changes bound (script_at old.force at) (last_parts no_parts old.checks.items) new.progress.maker.made c.change → c.extends ≡ old.extends →
+      Stays old.force new.force → new.checks.items ≡ old.checks.items ++ c ∷ [] → new.before ≡ length new.force.script.commands.items → new.extends ≡ true →
       IsBuiltBy (script_at old.force at) new.progress → new.kept ≡ new.before → Goes bound steps new left
-  check_behind new p built same stays problems before extends progress kept =
+  check_behind new c made same stays problems before extends progress kept =
       let l = here.open_levels in
       let a : Asked = record { at = place_of at; script = l.inner ++ check (place_of at) ∷ [] } in
       let b : Bool = old.extends && true in
@@ -159,13 +163,17 @@ module _ (bound : Option ℕ) (steps left : List Step) (old : Going) (st : Step)
         stacks = record { inner = inner; outer = subst (λ (ms : List ℕ). AreLengths (reverse ms) l.inner l.outer) (sym stays.marks) here.stacks.outer };
         done = here.done ++ a ∷ [];
         said = here.said ++ b ∷ [];
-        built = subst (λ (ps : List (Problem × Bool)). AreBuilt bound (here.done ++ a ∷ []) (here.said ++ b ∷ []) ps) (sym (ap problems_of problems ∙ map-append checked_of old.problems.items (p ∷ [])))
-            (one_more bound here.done here.said (problems_of old.problems.items) a b (checked_of p) here.built
-            (subst (λ cs. IsBuiltOf bound cs (problem_of p.problem)) script_is built.1) (same ∙ and_true old.extends));
+        built = subst (λ (ps : List (Problem × Bool)). AreBuilt bound (here.done ++ a ∷ []) (here.said ++ b ∷ []) ps)
+            (sym (ap (λ cs. problems_of (problems_from no_parts cs)) problems ∙ ap problems_of (problems_more no_parts old.checks.items c) ∙
+            map-append checked_of (problems_from no_parts old.checks.items) ((changed (last_parts no_parts old.checks.items) c.change, c.extends) ∷ [])))
+            (one_more bound here.done here.said (problems_of (problems_from no_parts old.checks.items)) a b (problem_of (changed (last_parts no_parts old.checks.items) c.change), c.extends) here.built
+            (subst (λ cs. IsBuiltOf bound cs (problem_of (changed (last_parts no_parts old.checks.items) c.change))) script_is made.built) (same ∙ and_true old.extends));
+        changes = subst (λ (cs : List Checked). AreChanges no_parts cs) (sym problems) (changes_more no_parts old.checks.items c here.changes made.change);
+        last = subst (λ (p : Parts). Starts p new.progress.maker.made) (sym (ap (last_parts no_parts) problems ∙ last_more no_parts old.checks.items c)) made.starts;
         asked = here.asked ∙ sym (append_assoc here.done (a ∷ []) (asked_from l left));
         carried = here.carried ∙ sym (append_assoc here.said (b ∷ []) (carried_from (stay_in_force (length l.inner) l left) l left)) ∙ ap (λ x. (here.said ++ b ∷ []) ++ carried_from x l left) still;
         clean = here.clean ∙ ap (λ cs. first_of (in_building (building_fault bound cs)) (in_each_check bound (asked_from l left))) (sym script_is) ∙
-            ap (λ o. first_of (in_building o) (in_each_check bound (asked_from l left))) built.0;
+            ap (λ o. first_of (in_building o) (in_each_check bound (asked_from l left))) made.clean;
         sorted = here.sorted.1;
         kept = subst (λ (n : ℕ). IsKept n l.inner new.progress) (sym (kept ∙ many)) (kept-check l.inner (check (place_of at)) new.progress (subst (λ (cs : List Command). IsBuiltBy cs new.progress) script_is progress));
       }
@@ -181,7 +189,9 @@ begun bound steps g b sorted = record {
   stacks = nothing_held g.force.script.sexps.now g.force.script.commands.items g.force.marks.items b.nothing.commands b.nothing.marks;
   done = [];
   said = [];
-  built = subst (λ (ps : List Checked). AreBuilt bound [] [] (problems_of ps)) (sym b.problems) tt;
+  built = subst (λ (cs : List Checked). AreBuilt bound [] [] (problems_of (problems_from no_parts cs))) (sym b.checks) tt;
+  changes = subst (λ (cs : List Checked). AreChanges no_parts cs) (sym b.checks) tt;
+  last = subst (λ (cs : List Checked). Starts (last_parts no_parts cs) g.progress.maker.made) (sym b.checks) b.starts;
   asked = refl;
   carried = ap (λ x. carried_from (x && stay_in_force g.before no_levels steps) no_levels steps) (sym b.extends);
   clean = refl;
@@ -190,11 +200,11 @@ begun bound steps g b sorted = record {
 }
 
 pub finished : (bound : Option ℕ) (steps : List Step) (g : Going) → Goes bound steps g [] →
-    (in_each_check bound (checks_of steps) ≡ None) × AreBuilt bound (checks_of steps) (carried_of steps) (problems_of g.problems.items)
+    (in_each_check bound (checks_of steps) ≡ None) × AreBuilt bound (checks_of steps) (carried_of steps) (problems_of (problems_from no_parts g.checks.items))
 finished bound steps g h = (
   h.clean,
-  subst (λ (asked : List Asked). AreBuilt bound asked (carried_of steps) (problems_of g.problems.items)) (sym (h.asked ∙ append-nil h.done))
-      (subst (λ (said : List Bool). AreBuilt bound h.done said (problems_of g.problems.items)) (sym (h.carried ∙ append-nil h.said)) h.built),
+  subst (λ (asked : List Asked). AreBuilt bound asked (carried_of steps) (problems_of (problems_from no_parts g.checks.items))) (sym (h.asked ∙ append-nil h.done))
+      (subst (λ (said : List Bool). AreBuilt bound h.done said (problems_of (problems_from no_parts g.checks.items))) (sym (h.carried ∙ append-nil h.said)) h.built),
 )
 
 pub next_left : (s : Sexps) (old new : List code_step.Step) (x : code_step.Step) → old ≡ new ++ x ∷ [] → map (step_of s) (reverse old) ≡ step_of s x ∷ map (step_of s) (reverse new)

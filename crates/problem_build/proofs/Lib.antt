@@ -1,4 +1,5 @@
 pub mod ByForm
+pub mod Changed
 pub mod Faults
 pub mod Few
 pub mod Finishing

@@ -1,5 +1,5 @@
 -- What is built of commands, and what is gone back to.
-use Rattle.std.proofs.Common.{◌≡◌, ℕ, suc, ◌≤◌, List, [], ◌∷◌, ◌++◌, take, drop, map, length, refl, ap, sym, ◌∙◌, subst, arith, append_assoc, append-nil, length-append}
+use Rattle.std.proofs.Common.{◌≡◌, ℕ, ◌≤◌, List, [], ◌∷◌, ◌++◌, take, drop, map, length, refl, ap, sym, ◌∙◌, subst, arith, append_assoc, append-nil, length-append}
 use Rattle.std.specs.Prelude.{reverse}
 use Rattle.std.proofs.lemmas.List.{length-map, length-reverse, reverse-append, take-append-drop}
 use Rattle.std.proofs.Math.Seq.{take-append_seam, drop-append_seam}
@@ -16,6 +16,8 @@ use Rattle.value_build.proofs.Marks.{taken_back}
 use Rattle.problem_build.specs.Names.{TopFits}
 use Rattle.problem_build.specs.Standing.{IsDone, IsNamed, Adds}
 use Rattle.problem_build.specs.Progress.{IsState, Went, IsBuiltBy, IsBegun, IsBegunWith, IsRooted}
+use Rattle.problem_build.specs.Changes.{Starts, parts_of_made}
+use Rattle.problem_build.proofs.Changed.{starts_taken}
 use Rattle.problem_build.specs.declared.progress.Before.{Before}
 use Rattle.problem_build.specs.declared.progress.Progress.{Progress}
 use Rattle.problem_build.specs.declared.top.Top.{Top}
@@ -58,6 +60,12 @@ one_went script c before now x m m1 made made1 h now_is mark claims done adds is
     subst (λ (y : Making). Went script (reverse before) y (take x.claims made1)) (sym back) (subst (λ (cs : List (ℕ × ℕ)). Went script (reverse before) m cs) (sym fewer) h) in
     subst (λ (bs : List Before). Went (script ++ c ∷ []) bs m1 made1) (sym (ap reverse now_is ∙ reverse-append before (x ∷ [])))
     (record { done = done; is_made = is; drawn = adds.drawn old.drawn }, (script, c, refl, past))
+
+pub one_starts : (script : List Command) (before : List Before) (x : Before) (m m1 : Making) (made made1 : List (ℕ × ℕ)) → Went script (reverse before) m made →
+    counts_in x.mark ≡ counts_of m → Adds m m1 made made1 → IsMade m1.made → Starts (parts_of_made m1.made) m.made
+one_starts script before x m m1 made made1 h mark adds is =
+    let old = state_of script (reverse before) m made h in
+    starts_taken (counts_in x.mark) m1 m (ap (λ k. taken k m1) mark ∙ taken_back m m1 old.is_made is adds.stand adds.lists adds.sorts.0 adds.sorts.1 old.drawn)
 
 -- ---- back
 

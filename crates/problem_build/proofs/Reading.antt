@@ -33,7 +33,6 @@ use Rattle.script_faults.specs.Reader as reader
 use Rattle.script_faults.specs.Reader.{AreLowest, HasProblem, IsBuiltOf, IsInWalkOrder, too_many_bytes, or_none}
 use Rattle.script_faults.specs.Session.{AreBuilt, HasSession, carried_of, or_no_steps, steps_of_text}
 use Rattle.problem_build.specs.Session.{IsSessionAnswer, problems_of}
-use Rattle.problem_build.specs.declared.session.Session.{Session}
 
 -- ---- a fault of one phase
 
@@ -131,15 +130,15 @@ steps-are text es ss e e' = ap (λ (r : TextRead). or_no_steps (of_read r)) e �
 
 module _ (bound : Option ℕ) (text : List ℕ) (es : List Sexp) (course typed : Course) (few : length text ≤ most_bytes) (whole_is : read text ≡ whole es)
     (commands_are : steps_of es ≡ steps (steps_in course)) (same : typed ≡ course) (sorted : course_fault (steps_in course) ≡ None) where
-  pub session_had : (session : Session) → IsSessionAnswer bound (steps_in typed) (Ok session) → HasSession bound (problems_of session.problems.items) text
+  pub session_had : (session : List (Parts × Bool)) → IsSessionAnswer bound (steps_in typed) (Ok session) → HasSession bound (problems_of session) text
   session_had session h =
       let are : steps_in typed ≡ steps_of_text text = ap steps_in same ∙ sym (steps-are text es (steps_in course) whole_is commands_are) in
       record {
         clean = in_asked (in_each_check bound) text Memory few es whole_is course commands_are typed same sorted ∙ h.0;
-        built = subst (λ (ss : List Step). AreBuilt bound (checks_of ss) (carried_of ss) (problems_of session.problems.items)) are h.1;
+        built = subst (λ (ss : List Step). AreBuilt bound (checks_of ss) (carried_of ss) (problems_of session)) are h.1;
       }
 
-  pub session_answer : (r : Result Session ReadError) → IsSessionAnswer bound (steps_in typed) r →
-      MatchResult r (λ session. HasSession bound (problems_of session.problems.items) text) (λ e. IsFaultOrMemory e (session_fault bound text))
+  pub session_answer : (r : Result (List (Parts × Bool)) ReadError) → IsSessionAnswer bound (steps_in typed) r →
+      MatchResult r (λ session. HasSession bound (problems_of session) text) (λ e. IsFaultOrMemory e (session_fault bound text))
   session_answer (Ok session) h = session_had session h
   session_answer (Err e) h = asked_refused (in_each_check bound) text e few es whole_is course commands_are typed same sorted h

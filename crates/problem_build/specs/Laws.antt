@@ -1,15 +1,16 @@
 -- Why what a builder made is the problem of the script.
-use Rattle.std.specs.Prelude.{◌≡◌, ℕ, List, Option, Some, None}
+use Rattle.std.specs.Prelude.{◌≡◌, ℕ, List, All, Option, Some, None}
 use Rattle.script_model.specs.Sexp.{Place}
 use Rattle.script_model.specs.Script.{Command, constants_of}
 use Rattle.script_model.specs.Declared.{bound_fault, declared_interval}
 use Rattle.poly_graph.specs.Problem.{Axis, Problem}
-use Rattle.poly_graph.specs.ProblemViews.{Parts, problem_of}
+use Rattle.poly_graph.specs.ProblemViews.{Parts, IsWhole, problem_of}
 use Rattle.script_forms.specs.Terms.{ill_formed}
 use Rattle.script_forms.specs.Atoms.{atoms_in_place}
 use Rattle.script_forms.specs.ProblemOf.{AreAxes, IsProblemOf}
 use Rattle.script_forms.specs.Walk.{stands, nothing_made, claim_places, works, after_assertions, after_root, unfolds_not, building_fault}
-use Rattle.script_faults.specs.Reader.{IsBuilt}
+use Rattle.script_faults.specs.Reader.{AreLowest, IsBuilt, IsInWalkOrder}
+use Rattle.problem_build.specs.BuildAnswers.{IsLean}
 use Rattle.sort_check.specs.Sorts.{sort_fault}
 use Rattle.term_build.specs.Built.{BuilderModel, stand_of, IsMade}
 use Rattle.term_build.specs.Sketch.{IsFormOf}
@@ -21,6 +22,15 @@ SortedIsSound = (bound : Option ℕ) (script : List Command) → sort_fault scri
 -- the parts of a problem that a builder made, with these axes, the form's root being this node
 abbrev pub parts_made : BuilderModel → List Axis → ℕ → Parts
 parts_made m axes root = record { axes = axes; nodes = m.nodes; atoms = m.atoms; forms = m.forms; root = root }
+
+-- the script has no fault, and its problem is all that is made, with these axes and this root
+pub record IsProblemMade (bound : Option ℕ) (script : List Command) (m : BuilderModel) (axes : List Axis) (root : ℕ) : Type 0 where
+  pub clean : building_fault bound script ≡ None
+  pub problem : IsProblemOf bound script (problem_of (parts_made m axes root))
+  pub whole : IsWhole (parts_made m axes root)
+  pub lean : IsLean (parts_made m axes root)
+  pub order : IsInWalkOrder script m.nodes
+  pub ends : All (λ (a : Axis). AreLowest a.declared) axes
 
 -- Where a builder walked over all assertions of a script, and then made its form as this node, its parts are the
 -- script's problem, if the axes are those that the script declares and no bound has a fault.

@@ -4,6 +4,7 @@ pub mod Names
 pub mod LetParts
 pub mod Roots
 pub mod Standing
+pub mod Changes
 pub mod Progress
 pub mod BuildAnswers
 pub mod Walking

@@ -9,16 +9,17 @@ use Rattle.poly_graph.specs.declared.axis.Axis as axis
 use Rattle.declared_box.specs.Axes.{IsBoundsError}
 use Rattle.declared_box.specs.Same.{SameBounds}
 use Rattle.declared_box.specs.Table.{all_of}
-use Rattle.poly_graph.specs.ProblemViews.{Parts, IsWhole, problem_of, axis_of}
-use Rattle.script_forms.specs.ProblemOf.{AreAxes, IsProblemOf}
+use Rattle.poly_graph.specs.ProblemViews.{axis_of}
+use Rattle.script_forms.specs.ProblemOf.{AreAxes}
 use Rattle.script_fault.specs.declared.fault.ReadError.{ReadError}
-use Rattle.script_faults.specs.Reader.{AreLowest, IsInWalkOrder}
-use Rattle.term_build.specs.Built.{BuilderModel, IsMade, stand_of}
+use Rattle.script_faults.specs.Reader.{AreLowest}
+use Rattle.term_build.specs.Built.{IsMade, stand_of}
 use Rattle.term_build.specs.Settled.{Extends}
 use Rattle.value_build.specs.Making.{Making}
 use Rattle.value_build.specs.Marks.{counts_in, taken}
-use Rattle.problem_build.specs.BuildAnswers.{IsBuildingError, IsLean, found_by}
-use Rattle.problem_build.specs.Laws.{parts_made}
+use Rattle.problem_build.specs.BuildAnswers.{IsBuildingError, found_by}
+use Rattle.problem_build.specs.Changes.{Starts, parts_of_made}
+use Rattle.problem_build.specs.Laws.{IsProblemMade}
 use Rattle.problem_build.specs.Roots.{Roots}
 use Rattle.problem_build.specs.Standing.{IsDone, IsNamed, walk_of}
 use Rattle.problem_build.specs.declared.top.Top.{Top}
@@ -42,10 +43,10 @@ Went script (b ∷ before) m made = IsState script m made × ((earlier : List Co
 abbrev pub IsBuiltBy : List Command → Progress → Type 0
 IsBuiltBy script p = Went script (reverse p.before.items) p.maker p.claims.items
 
--- behind one command more, of whatever script: it is built, or the script has this fault
-abbrev pub BuildsOne : List Command → Command → Progress → Result (Unit {0}) ReadError → Type 0
-BuildsOne script c p (Ok u) = IsBuiltBy (script ++ (c ∷ [])) p
-BuildsOne script c p (Err e) = (rest : List Command) → IsBuildingError e (found_by (walk_of (script ++ (c ∷ rest))))
+-- behind one command more, of whatever script: it is built, and what was made stays, or the script has this fault
+abbrev pub BuildsOne : List Command → Command → Progress → Progress → Result (Unit {0}) ReadError → Type 0
+BuildsOne script c old p (Ok u) = IsBuiltBy (script ++ (c ∷ [])) p × Starts (parts_of_made p.maker.made) old.maker.made
+BuildsOne script c old p (Err e) = (rest : List Command) → IsBuildingError e (found_by (walk_of (script ++ (c ∷ rest))))
 
 -- the first commands of a script are built
 pub record IsBegun (script : List Command) (p : Progress) : Type 0 where
@@ -70,10 +71,10 @@ pub record IsBegunWith (script : List Command) (s : arena.Sexps) (p : Progress) 
   pub built : IsBuiltBy first p
   pub named : IsNamed s first top axis
 
--- the script is built, or has this fault
-abbrev pub BuildsAll : List Command → Progress → Result (Unit {0}) ReadError → Type 0
-BuildsAll script p (Ok u) = IsBuiltBy script p
-BuildsAll script p (Err e) = IsBuildingError e (found_by (walk_of script))
+-- the script is built, and what was made stays, or it has this fault
+abbrev pub BuildsAll : List Command → Progress → Progress → Result (Unit {0}) ReadError → Type 0
+BuildsAll script old p (Ok u) = IsBuiltBy script p × Starts (parts_of_made p.maker.made) old.maker.made
+BuildsAll script old p (Err e) = IsBuildingError e (found_by (walk_of script))
 
 -- ---- the end of a script
 
@@ -99,15 +100,6 @@ pub record HasAxes (bound : Option ℕ) (script : List Command) (lists : List (L
 abbrev pub AreAxesOf : Option ℕ → List Command → List (List Bound) → List ℕ → Result (Vec axis.Axis Global) ReadError → Type 0
 AreAxesOf bound script lists ks (Ok axes) = HasAxes bound script lists ks (map axis_of axes.items)
 AreAxesOf bound script lists ks (Err e) = SameBounds (all_of lists ks) (script_bounds script) → IsBoundsError e (bound_fault bound script)
-
--- the script has no fault, and its problem is all that is made, with these axes and this root
-pub record IsProblemMade (bound : Option ℕ) (script : List Command) (m : BuilderModel) (axes : List Axis) (root : ℕ) : Type 0 where
-  pub clean : building_fault bound script ≡ None
-  pub problem : IsProblemOf bound script (problem_of (parts_made m axes root))
-  pub whole : IsWhole (parts_made m axes root)
-  pub lean : IsLean (parts_made m axes root)
-  pub order : IsInWalkOrder script m.nodes
-  pub ends : All (λ (a : Axis). AreLowest a.declared) axes
 
 abbrev pub Concludes : Option ℕ → List Command → Making → Making → List (ℕ × ℕ) → Result Ending ReadError → Type 0
 Concludes bound script m m1 made (Ok end) = IsRooted script m m1 made end.root × IsProblemMade bound script m1.made (map axis_of end.axes.items) end.root

@@ -2,7 +2,7 @@
 use Rattle.std.specs.Prelude.{◌≡◌, ℕ, List, [], ◌∷◌, ◌++◌, Bool, false, ◌&&◌, map, None, Option, Result, Ok, Err}
 use Rattle.std.specs.List.{AllByRecursion}
 use Rattle.poly_graph.specs.Problem.{Problem}
-use Rattle.poly_graph.specs.ProblemViews.{problem_of}
+use Rattle.poly_graph.specs.ProblemViews.{Parts, problem_of}
 use Rattle.script_model.specs.Script.{Command, check}
 use Rattle.script_fault.specs.Answers.{IsFaultOrMemory}
 use Rattle.script_fault.specs.declared.fault.ReadError.{ReadError}
@@ -16,20 +16,19 @@ use Rattle.sort_check.specs.Single.{IsNothing, Stacks}
 use Rattle.sort_check.specs.Sorts.{sort_fault}
 use Rattle.sort_check.specs.declared.force.Force.{Force}
 use Rattle.problem_build.specs.Progress.{IsBuiltBy, IsKept}
-use Rattle.problem_build.specs.declared.session.Checked.{Checked}
+use Rattle.problem_build.specs.Changes.{AreChanges, Starts, last_parts, no_parts, problems_from}
 use Rattle.problem_build.specs.declared.session.Going.{Going}
-use Rattle.problem_build.specs.declared.session.Session.{Session}
 
-abbrev pub checked_of : Checked → Problem × Bool
-checked_of c = (problem_of c.problem, c.extends)
+abbrev pub checked_of : Parts × Bool → Problem × Bool
+checked_of c = (problem_of c.0, c.1)
 
 -- the problems, each with whether all commands of the check before are in force at its check
-abbrev pub problems_of : List Checked → List (Problem × Bool)
+abbrev pub problems_of : List (Parts × Bool) → List (Problem × Bool)
 problems_of cs = map checked_of cs
 
 -- the problems of the checks of these steps, or the first fault of the building of one
-abbrev pub IsSessionAnswer : Option ℕ → List Step → Result Session ReadError → Type 0
-IsSessionAnswer bound steps (Ok session) = (in_each_check bound (checks_of steps) ≡ None) × AreBuilt bound (checks_of steps) (carried_of steps) (problems_of session.problems.items)
+abbrev pub IsSessionAnswer : Option ℕ → List Step → Result (List (Parts × Bool)) ReadError → Type 0
+IsSessionAnswer bound steps (Ok session) = (in_each_check bound (checks_of steps) ≡ None) × AreBuilt bound (checks_of steps) (carried_of steps) (problems_of session)
 IsSessionAnswer bound steps (Err e) = IsFaultOrMemory e (in_each_check bound (checks_of steps))
 
 -- ---- step by step
@@ -52,12 +51,14 @@ pub record Goes (bound : Option ℕ) (steps : List Step) (g : Going) (left : Lis
   pub stacks : Stacks g.force.script.sexps.now g.force.script.commands.items g.force.marks.items open_levels
   pub done : List Asked
   pub said : List Bool
-  pub built : AreBuilt bound done said (problems_of g.problems.items)
+  pub built : AreBuilt bound done said (problems_of (problems_from no_parts g.checks.items))
   pub asked : checks_of steps ≡ done ++ asked_from open_levels left
   pub carried : carried_of steps ≡ said ++ carried_from (g.extends && stay_in_force g.before open_levels left) open_levels left
   pub clean : in_each_check bound (checks_of steps) ≡ in_each_check bound (asked_from open_levels left)
   pub sorted : AllByRecursion WellSorted (asked_from open_levels left)
   pub kept : IsKept g.kept open_levels.inner g.progress
+  pub changes : AreChanges no_parts g.checks.items
+  pub last : Starts (last_parts no_parts g.checks.items) g.progress.maker.made
 
 -- this step is the next one
 pub record IsTaken (bound : Option ℕ) (g : Going) (s : Step) : Type 0 where
@@ -73,7 +74,8 @@ GoesOn bound steps left old new (Err e) = IsFaultOrMemory e (in_each_check bound
 -- no step is taken
 pub record Begins (g : Going) : Type 0 where
   pub nothing : IsNothing g.force
-  pub problems : g.problems.items ≡ []
+  pub checks : g.checks.items ≡ []
   pub extends : g.extends ≡ false
   pub progress : IsBuiltBy [] g.progress
+  pub starts : Starts no_parts g.progress.maker.made
   pub kept : g.kept ≡ 0

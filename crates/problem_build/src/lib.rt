@@ -8,6 +8,7 @@
 ghost use Rattle.problem_build.specs.Laws.{SortedIsSound, PartsAreProblem, BuiltIsOne};
 
 mod assembly;
+mod change;
 mod commands;
 mod expressions;
 mod fault;
@@ -23,9 +24,10 @@ mod session;
 mod top;
 mod walk;
 
+pub use change::Session;
 pub use reader::{Reader, read_problem, read_session};
 pub use script::build;
-pub use session::{Checked, Session, build_all};
+pub use session::build_all;
 
 /// A well-sorted script meets no expression without a sort when it is built.
 #[tactic(auto, using(crate::proofs::Sound::sorted_sound))]

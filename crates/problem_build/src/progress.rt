@@ -5,11 +5,14 @@ ghost use Rattle.smt_script.specs.Views.{command_of, commands_in};
 ghost use Rattle.sort_check.specs.Sorts.{sort_fault};
 ghost use Rattle.script_faults.specs.Reader.{AreLowest, IsInWalkOrder};
 ghost use Rattle.problem_build.specs.BuildAnswers.{IsBuildAnswer, IsLean};
+ghost use Rattle.poly_graph.specs.ProblemViews.{Parts};
+ghost use Rattle.problem_build.specs.Changes.{IsChangeAnswer, IsEnded, IsExtent, IsWithin, Starts, no_parts};
 ghost use Rattle.problem_build.specs.Names.{TopFits};
 ghost use Rattle.problem_build.specs.Progress.{BuildsAll, BuildsOne, IsBegun, IsBegunWith, IsBuiltBy};
 ghost use Rattle.problem_build.specs.Standing.{IsTopOf};
 
 use crate::assembly::assemble;
+use crate::change::{Change, Kept};
 use crate::commands::make;
 use crate::named::{Named, first_names};
 use crate::script::conclude;
@@ -40,7 +43,8 @@ pub(crate) struct Progress {
 impl Progress {
     /// Nothing is built.
     pub(crate) fn new(alloc: Global) -> Self
-        ensures { IsBuiltBy [] result }
+        ensures built { IsBuiltBy [] result }
+        ensures starts { Starts no_parts result.maker.made }
     {
         let maker = Maker::new(alloc, Vec::new(alloc));
         // Its type keeps that this may be made.
@@ -55,8 +59,9 @@ impl Progress {
     /// Only so many commands stay built, the first ones. It takes the time of what is taken back.
     pub(crate) fn back_to(&mut self, count: usize)
         requires { (script : List model.Command) × IsBuiltBy script self.old }
-        ensures { (script : List model.Command) → IsBuiltBy script self.old →
+        ensures built { (script : List model.Command) → IsBuiltBy script self.old →
             count ≤ length script → IsBuiltBy (take count script) self.new }
+        ensures starts { (p : Parts) → Starts p self.old.maker.made → Starts p self.new.maker.made }
     {
         while self.before.len() > count {
             let Some(before) = self.before.pop() else {
@@ -78,7 +83,7 @@ impl Progress {
         requires { TopFits self.old.maker.made.sorts top.now }
         ensures { (script : List model.Command) → IsTopOf sexps.now script top.now →
             IsBuiltBy script self.old →
-            BuildsOne script (command_of sexps.now command.now) self.new result }
+            BuildsOne script (command_of sexps.now command.now) self.old self.new result }
     {
         self.before.push(Before {
             mark: self.maker.mark(),
@@ -108,7 +113,7 @@ impl Progress {
             script.now.sexps.now self.old named.old.top named.old.axis }
         requires within { length self.old.before.items ≤ length script.now.commands.items }
         requires sorted { sort_fault (commands_in script.now) ≡ None }
-        ensures { BuildsAll (commands_in script.now) self.new result }
+        ensures { BuildsAll (commands_in script.now) self.old self.new result }
     {
         let mut rest = &script.commands[self.before.len()..];
         while let [command, later @ ..] = rest {
@@ -123,7 +128,7 @@ impl Progress {
     fn go_on(&mut self, alloc: Global, script: &Script<'_>) -> Result<(), ReadError>
         requires begun { IsBegun (commands_in script.now) self.old }
         requires sorted { sort_fault (commands_in script.now) ≡ None }
-        ensures { BuildsAll (commands_in script.now) self.new result }
+        ensures { BuildsAll (commands_in script.now) self.old self.new result }
     {
         let mut named = first_names(alloc, script, self.before.len())?;
         self.add_rest(alloc, script, &mut named)
@@ -174,5 +179,64 @@ impl Progress {
     {
         self.go_on(alloc, script)?;
         self.problem(alloc, script, bound)
+    }
+
+    // How much is made.
+    fn extent(&self) -> Kept
+        ensures { IsExtent result self.now.maker.made }
+    {
+        let builder = self.maker.builder();
+        Kept {
+            nodes: builder.nodes().len(),
+            atoms: builder.atoms().len(),
+            forms: builder.forms().len(),
+        }
+    }
+
+    // What a script that is built adds to so much. What its form adds is taken back.
+    fn change_since(
+        &mut self,
+        alloc: Global,
+        script: &Script<'_>,
+        kept: Kept,
+        bound: Option<u32>,
+    ) -> Result<Change, ReadError>
+        requires built { IsBuiltBy (commands_in script.now) self.old }
+        requires sorted { sort_fault (commands_in script.now) ≡ None }
+        requires within { IsWithin kept self.old.maker.made }
+        ensures stays { OnOk result (IsBuiltBy (commands_in script.now) self.new) }
+        ensures same { OnOk result (self.new.maker ≡ self.old.maker) }
+        ensures changes { IsEnded bound (commands_in script.now)
+            kept self.old.maker.made result }
+    {
+        let mark = self.maker.mark();
+        let end = conclude(
+            alloc,
+            script,
+            &mut self.maker,
+            self.claims.as_slice(),
+            bound,
+        )?;
+        let change = Change::since(alloc, self.maker.builder(), kept, end)?;
+        self.maker.undo(mark);
+        Ok(change)
+    }
+
+    /// Builds what is left of a well-sorted script: what is new beside the problem before.
+    pub(crate) fn change(
+        &mut self,
+        alloc: Global,
+        script: &Script<'_>,
+        bound: Option<u32>,
+    ) -> Result<Change, ReadError>
+        requires begun { IsBegun (commands_in script.now) self.old }
+        requires sorted { sort_fault (commands_in script.now) ≡ None }
+        ensures stays { OnOk result (IsBuiltBy (commands_in script.now) self.new) }
+        ensures changes { (p : Parts) → Starts p self.old.maker.made →
+            IsChangeAnswer bound (commands_in script.now) p self.new.maker.made result }
+    {
+        let kept = self.extent();
+        self.go_on(alloc, script)?;
+        self.change_since(alloc, script, kept, bound)
     }
 }

@@ -45,7 +45,7 @@ pub fn read_problem(alloc: Global, bytes: &[u8], bound: Option<u32>) -> Result<P
 /// problem that has one.
 pub fn read_session(alloc: Global, bytes: &[u8], bound: Option<u32>) -> Result<Session, ReadError>
     ensures { MatchResult result
-        (λ session. HasSession bound (problems_of session.problems.items) bytes.now)
+        (λ session. HasSession bound (problems_of session) bytes.now)
         (λ e. IsFaultOrMemory e (session_fault bound bytes.now)) }
 {
     let sexps = read(alloc, bytes)?;

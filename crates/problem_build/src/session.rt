@@ -3,39 +3,26 @@ ghost use Rattle.std.specs.Prelude.{◌≡◌, ◌∷◌, [], ◌++◌, List, No
 ghost use Rattle.smt_script.specs.Levels as levels;
 ghost use Rattle.smt_script.specs.Views.{commands_in, step_of, steps_in};
 ghost use Rattle.sort_check.specs.Sorts.{sort_fault};
-ghost use Rattle.problem_build.specs.BuildAnswers.{IsWholeAnswer};
-ghost use Rattle.problem_build.specs.Progress.{IsBegun, IsBuiltBy, IsKept};
+ghost use Rattle.poly_graph.specs.ProblemViews.{Parts};
+ghost use Rattle.problem_build.specs.Changes.{IsChangeAnswer, Starts};
+ghost use Rattle.problem_build.specs.Progress.{IsBuiltBy, IsKept};
 ghost use Rattle.problem_build.specs.Session.{Begins, Goes, GoesOn, IsSessionAnswer, IsTaken, Stays, script_at};
 
+use crate::change::{Change, Checked, Session};
 use crate::progress::Progress;
-use poly_graph::Problem;
 use script_fault::{Place, ReadError};
-use smt_script::{Command, Course, Script, Step};
+use smt_script::{Command, Course, Step};
 use smt_sexp::Sexps;
 use sort_check::{Force, TypedCourse, check_place};
 use std::alloc::Global;
 
-/// The problem of what is in force at a check.
-#[derive(Drop)]
-pub struct Checked {
-    pub problem: Problem,
-    /// Whether all commands that were in force at the check before are in force at this one.
-    pub extends: bool,
-}
-
-/// The problems of a script's checks, in order.
-#[derive(Drop)]
-pub struct Session {
-    pub problems: Vec<Checked>,
-}
-
-// What is in force behind some steps, the problems of their checks, how many commands were in force at the last of these, and
+// What is in force behind some steps, what is new at each of their checks, how many commands were in force at the last of these, and
 // whether they still are; before the first one they are not. What the last of these built, and how many of its commands were
 // in force ever since.
 #[derive(Drop)]
 pub(crate) struct Going<'a> {
     force: Force<'a>,
-    problems: Vec<Checked>,
+    checks: Vec<Checked>,
     before: usize,
     extends: bool,
     progress: Progress,
@@ -50,7 +37,7 @@ impl<'a> Going<'a> {
     {
         Going {
             force: Force::new(alloc, sexps),
-            problems: Vec::new(alloc),
+            checks: Vec::new(alloc),
             before: 0,
             extends: false,
             progress: Progress::new(alloc),
@@ -59,47 +46,30 @@ impl<'a> Going<'a> {
     }
 }
 
-// The problem of a script that is begun, which is known to be whole.
-fn build_whole(
-    alloc: Global,
-    progress: &mut Progress,
-    script: &Script<'_>,
-    bound: Option<u32>,
-) -> Result<Problem, ReadError>
-    requires begun { IsBegun (commands_in script.now) progress.old }
-    requires sorted { sort_fault (commands_in script.now) ≡ None }
-    ensures builds { IsWholeAnswer bound (commands_in script.now) result }
-    ensures built { OnOk result (IsBuiltBy (commands_in script.now) progress.new) }
-{
-    let problem = progress.build(alloc, script, bound)?;
-    // Its type keeps that it is whole.
-    let _ = problem.axes();
-    Ok(problem)
-}
-
-// The problem of what is in force at a check here, where so many of the commands that are built stay.
-fn problem_here(
+// What is new in the problem of what is in force at a check here, where so many of the commands that are built stay.
+fn change_here(
     alloc: Global,
     force: &mut Force<'_>,
     progress: &mut Progress,
     kept: usize,
     place: Place,
     bound: Option<u32>,
-) -> Result<Problem, ReadError>
+) -> Result<Change, ReadError>
     requires sorted { sort_fault (script_at force.old place) ≡ None }
     requires kept { IsKept kept (commands_in force.old.script) progress.old }
-    ensures builds { IsWholeAnswer bound (script_at force.old place) result }
+    ensures changes { (p : Parts) → Starts p progress.old.maker.made →
+        IsChangeAnswer bound (script_at force.old place) p progress.new.maker.made result }
     ensures stays { OnOk result (Stays force.old force.new) }
     ensures built { OnOk result (IsBuiltBy (script_at force.old place) progress.new) }
 {
     force.script.commands.push(Command::Check(place))?;
     progress.back_to(kept);
-    let built = build_whole(alloc, progress, &force.script, bound);
+    let change = progress.change(alloc, &force.script, bound);
     force.script.commands.pop();
-    built
+    change
 }
 
-// Takes a step, at a check with the problem of what is in force.
+// Takes a step, at a check with what is new in the problem of what is in force.
 fn take<'a>(
     alloc: Global,
     going: &mut Going<'a>,
@@ -113,7 +83,7 @@ fn take<'a>(
         GoesOn bound steps left going.old going.new result }
 {
     if let Some(place) = check_place(&step) {
-        let problem = problem_here(
+        let change = change_here(
             alloc,
             &mut going.force,
             &mut going.progress,
@@ -121,8 +91,8 @@ fn take<'a>(
             place,
             bound,
         )?;
-        going.problems.push(Checked {
-            problem,
+        going.checks.push(Checked {
+            change,
             extends: going.extends,
         })?;
         going.before = going.force.script.commands.len();
@@ -155,7 +125,5 @@ pub fn build_all(
     while let Some(step) = left.pop() {
         take(alloc, &mut going, step, bound)?;
     }
-    Ok(Session {
-        problems: going.problems,
-    })
+    Ok(Session::of(going.checks))
 }

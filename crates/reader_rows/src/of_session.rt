@@ -31,14 +31,35 @@ fn refusal_of(error: &ReadError) -> Refused {
     }
 }
 
+// The problem of the check of this number, made of those before it, one after the other.
+fn problem_at(alloc: Global, session: &Session, k: usize) -> Option<Problem> {
+    if k >= session.len() {
+        return None;
+    }
+    let mut problem = match session.first(alloc) {
+        Ok(problem) => problem,
+        Err(_) => return None,
+    };
+    for before in 0..k {
+        problem = match session.next(alloc, before, &problem) {
+            Ok(problem) => problem,
+            Err(_) => return None,
+        };
+    }
+    Some(problem)
+}
+
 // Whether these are the counts of a session, problem by problem.
-fn has_counts(session: &Session, wanted: &[Counts]) -> bool {
-    if session.problems.len() != wanted.len() {
+fn has_counts(alloc: Global, session: &Session, wanted: &[Counts]) -> bool {
+    let count = session.len();
+    if count != wanted.len() {
         return false;
     }
-    for (checked, counts) in session.problems.iter().zip(wanted) {
-        let p = &checked.problem;
-        if (p.graph().len(), p.atoms().len(), checked.extends) != *counts {
+    for k in 0..count {
+        let Some(p) = problem_at(alloc, session, k) else {
+            return false;
+        };
+        if (p.graph().len(), p.atoms().len(), session.extends(k)) != wanted[k] {
             return false;
         }
     }
@@ -115,7 +136,7 @@ const SESSIONS: [(&str, &[Counts]); 7] = [
 fn builds_sessions(rt: HostRuntime) {
     for (text, wanted) in &SESSIONS {
         let is_wanted = match read_session(rt.alloc(), text.as_bytes(), None) {
-            Ok(session) => has_counts(&session, wanted),
+            Ok(session) => has_counts(rt.alloc(), &session, wanted),
             Err(_) => false,
         };
         assert_eq!(rt; is_wanted, true, "{text}");
@@ -161,9 +182,9 @@ fn tells_faults_of_sessions(rt: HostRuntime) {
 
 // The problem of a script's last check.
 fn last_problem(alloc: Global, text: &str) -> Option<Problem> {
-    let mut session = read_session(alloc, text.as_bytes(), None).ok()?;
-    let last = session.problems.pop()?;
-    Some(last.problem)
+    let session = read_session(alloc, text.as_bytes(), None).ok()?;
+    let last = session.len().checked_sub(1)?;
+    problem_at(alloc, &session, last)
 }
 
 fn same_terms(p: &Graph, q: &Graph) -> bool {

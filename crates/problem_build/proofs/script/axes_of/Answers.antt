@@ -1,4 +1,4 @@
-use Rattle.std.proofs.Common.{ℕ, List, map, ap, sym, ◌∙◌, subst}
+use Rattle.std.proofs.Common.{ℕ, List, map, ap, ◌∙◌, subst}
 use Rattle.script_model.specs.Script.{constants_of}
 use Rattle.script_model.specs.Declared.{Bound}
 use Rattle.smt_script.specs.Views.{command_of, commands_in}

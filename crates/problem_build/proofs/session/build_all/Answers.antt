@@ -3,9 +3,12 @@ use Rattle.std.specs.Prelude.{reverse}
 use Rattle.std.proofs.lemmas.List.{reverse-reverse}
 use Rattle.std.proofs.lemmas.Result.{err_from_is_err_and}
 use Rattle.sort_check.proofs.Lengths.{no_items}
-use Rattle.smt_script.specs.Levels.{Step}
+use Rattle.std.proofs.Common.{Bool}
+use Rattle.poly_graph.specs.ProblemViews.{Parts}
+use Rattle.script_faults.specs.Session.{AreBuilt, carried_of}
+use Rattle.smt_script.specs.Levels.{Step, checks_of}
 use Rattle.smt_script.specs.Views.{step_of, steps_in}
-use Rattle.problem_build.specs.Session.{Goes}
+use Rattle.problem_build.specs.Session.{Goes, problems_of}
 use Rattle.problem_build.proofs.Going.{begun, finished, taken}
 use Rattle.problem_build.proofs.session.build_all.Goals as goal
 
@@ -50,5 +53,9 @@ returns c =
     let s = c.args.typed.course.sexps.now in
     let i = c.loop-step.invariant in
     let left = c.loop-step.left in
-    finished c.args.bound (steps_in c.args.typed.course) c.loop-step.going
-    (subst (λ xs. Goes c.args.bound (steps_in c.args.typed.course) c.loop-step.going (map (step_of s) (reverse xs))) (no_items left.len left.items left.ok.0 c.in_default.ensures.cases.0) i.1)
+    let all = finished c.args.bound (steps_in c.args.typed.course) c.loop-step.going
+    (subst (λ xs. Goes c.args.bound (steps_in c.args.typed.course) c.loop-step.going (map (step_of s) (reverse xs))) (no_items left.len left.items left.ok.0 c.in_default.ensures.cases.0) i.1) in
+    (all.0, subst (λ (ps : List (Parts × Bool)). AreBuilt c.args.bound (checks_of (steps_in c.args.typed.course)) (carried_of (steps_in c.args.typed.course)) (problems_of ps)) (sym c.of.ensures) all.1)
+
+pub of-requires : goal.of-requires
+of-requires c = c.loop-step.invariant.1.changes

@@ -4,8 +4,10 @@ use Rattle.smt_script.specs.Levels.{after_step}
 use Rattle.smt_script.specs.Views.{step_of}
 use Rattle.smt_sexp.specs.declared.sexps.Sexps.{Sexps}
 use Rattle.sort_check.specs.Single.{Stacks}
-use Rattle.problem_build.specs.declared.session.Checked.{Checked}
-use Rattle.problem_build.proofs.Going.{check_behind, step_behind}
+use Rattle.problem_build.specs.Changes.{last_parts, no_parts}
+use Rattle.problem_build.specs.declared.change.Checked.{Checked}
+use Rattle.std.proofs.lemmas.Result.{err_from_is_err_and}
+use Rattle.problem_build.proofs.Going.{check_behind, refused_here, step_behind}
 use Rattle.problem_build.proofs.session.take.Goals as goal
 use Rattle.problem_build.proofs.session.take.Goals.{then-going, else-going}
 
@@ -13,13 +15,23 @@ pub returns-in-Some : goal.returns-in-Some
 returns-in-Some c =
     let old = c.args.going.now in
     let s = old.force.script.sexps.now in
-    let made = c.in_ok-problem.ensures in
-    let p : Checked = record { problem = c.in_ok-problem.problem; extends = old.extends } in record {
+    let made = c.in_ok-change.ensures in
+    let p : Checked = record { change = c.in_ok-change.change; extends = old.extends } in record {
       goes = λ steps left h. (
-        check_behind c.args.bound steps left old (step_of s c.args.step) c.in-Some.place (sym (c.in-Some.ensures s)) h _ p made.builds refl made.stays c.in_ok-push.ensures.items
-            (c.len-going.ensures ∙ c.problem_here.new.force.script.commands.ok.0) refl made.built refl,
+        check_behind c.args.bound steps left old (step_of s c.args.step) c.in-Some.place (sym (c.in-Some.ensures s)) h _ p (made.changes (last_parts no_parts old.checks.items) h.last) refl made.stays c.in_ok-push.ensures.items
+            (c.len-going.ensures ∙ c.change_here.new.force.script.commands.ok.0) refl made.built refl,
         made.stays.sexps,
       );
+    }
+
+pub returns-in_err-change : goal.returns-in_err-change
+returns-in_err-change c =
+    let old = c.args.going.now in
+    let s = old.force.script.sexps.now in
+    let p = err_from_is_err_and c.from_residual.result c.from_residual.ensures.1 in record {
+      goes = λ steps left h.
+          rw (p.1, p.2) (refused_here c.args.bound steps left old (step_of s c.args.step) c.in-Some.place (sym (c.in-Some.ensures s)) h c.in_err-change.field-0.0
+          (c.in_err-change.ensures.changes (last_parts no_parts old.checks.items) h.last));
     }
 
 pub returns : goal.returns

@@ -1,5 +1,4 @@
-use Rattle.std.proofs.Common.{◌≡◌, ◌≤◌, ℕ, List, length, take, refl, subst, sym, ◌∙◌, arith}
-use Rattle.script_model.specs.Script.{Command}
+use Rattle.std.proofs.Common.{ℕ, take, refl, subst, ◌∙◌, arith}
 use Rattle.smt_script.specs.Views.{commands_in}
 use Rattle.problem_build.specs.Standing.{IsNamed}
 use Rattle.problem_build.proofs.Past as past
