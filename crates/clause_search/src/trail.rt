@@ -27,7 +27,7 @@ pub struct Trail {
 }
 
 impl Trail {
-    ghost use Rattle.clause_search.specs.Trail.{IsTrailOf, CanAssume, AssumesAlso, SameNogoods, HasNogoodMore, SameLiterals, IsEmpty, nogoods_of, stands_on, undecided_on, was_assumed};
+    ghost use Rattle.clause_search.specs.Trail.{IsTrailOf, CanAssume, AssumesAlso, SameNogoods, HasNogoodMore, SameLiterals, IsEmpty, nogoods_of, stands_on, undecided_on};
     ghost use Rattle.clause_search.specs.Answers.{IsPick};
 
     /// An empty trail over these clauses, without nogoods.
@@ -121,13 +121,6 @@ impl Trail {
         ensures { result ≡ undecided_on self.now variable }
     {
         self.values.is_open(variable)
-    }
-
-    /// Whether the literal was assumed.
-    pub fn was_assumed(&self, literal: Literal) -> bool
-        ensures { result ≡ was_assumed self.now literal }
-    {
-        self.assumed.is_true(literal)
     }
 
     /// An atom that is undecided, if there is one.

@@ -1,12 +1,10 @@
 // Patches that have closed their state.
-ghost use Rattle.std.specs.Prelude.{◌≡◌, ◌↔◌, IsTrue, MatchResult, IfOk};
+ghost use Rattle.std.specs.Prelude.{◌≡◌, ◌↔◌, IsTrue, MatchResult};
 ghost use Rattle.cover_data.specs.Runs.{IsClosed};
 ghost use Rattle.cover_data.specs.Views.{kept_of};
 
 use crate::kept::KeptPatch;
-use crate::lemma::Lemma;
 use crate::step::End;
-use std::alloc::{AllocError, Global};
 use std::marker::Model;
 
 /// A kept patch that ended by closing its state, so that no point of its first state meets the form.
@@ -43,14 +41,6 @@ impl ClosedPatch {
     {
         let ClosedPatch { kept } = self;
         kept
-    }
-
-    /// The lemma of this number with the patch's first state.
-    pub fn lemma(&self, alloc: Global, id: u32) -> Result<Lemma, AllocError>
-        ensures { IfOk result (λ l. l ≡ record { id = id; state = self.now.first }) }
-    {
-        let state = self.kept.first.try_clone(alloc)?;
-        Ok(Lemma::new(id, state))
     }
 }
 

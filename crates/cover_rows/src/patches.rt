@@ -335,7 +335,10 @@ fn lemma_of(alloc: Global, book: &Book, patch: Patch, id: u32) -> Option<Lemma>
 {
     let _ = patch.reached();
     match patch.closed() {
-        Ok(closed) => closed.lemma(alloc, id).ok(),
+        Ok(closed) => {
+            let state = closed.kept().first.try_clone(alloc).ok()?;
+            Some(Lemma::new(id, state))
+        }
         Err(_) => None,
     }
 }

@@ -61,7 +61,7 @@ fn renew_and_mark(
     mark_all(parents.of(n as u32), rows);
 }
 
-/// As `refill_by`, with its steps counted: one for each enclosure that is computed, which is done once for each
+/// As `refill`, by way of what stands above what, with its steps counted: one for each enclosure that is computed, which is done once for each
 /// node from which the axis is reached, and for no other.
 pub fn refill_counted<L: Ledger>(
     graph: &Graph,

@@ -140,28 +140,22 @@ fn last_rows(rt: HostRuntime) {
 
 // ---- rows that are renewed
 
-// Whether the rows are renewed upwards, by two ways, as a whole fill computes them, once the first axis was given
-// another domain.
+// Whether the rows are renewed as a whole fill computes them, once the first axis was given another domain.
 fn is_renewed(
-    alloc: Global,
     graph: &Graph,
     space: &mut Space,
     domain: Domain,
     rows: &mut Rows,
     others: &mut Rows,
-) -> Result<bool, AllocError> {
+) -> bool {
     if space.len() < 2 || rows.len() != graph.len() || others.len() != graph.len() {
-        return Ok(false);
+        return false;
     }
-    let above = Above::new(alloc, graph, space.len())?;
-    let mut fresh = Rows::new(alloc, graph.len())?;
     fill(graph, space, rows);
-    fill(graph, space, others);
     space.set(0, domain);
     refill(graph, space, 0, rows);
-    refill_by(graph, space, 0, &above, others);
-    fill(graph, space, &mut fresh);
-    Ok(same_rows(rows, &fresh) && same_rows(others, &fresh))
+    fill(graph, space, others);
+    same_rows(rows, others)
 }
 
 // Whether rows follow a space of which both axes were given another domain.
@@ -184,27 +178,27 @@ fn is_followed(
 }
 
 // Both, from -1 to 2 on each axis to 1/2 to 1.
-fn renews(alloc: Global, bench: &mut Bench) -> bool {
+fn renews(bench: &mut Bench) -> bool {
     let Some(domain) = domain_of(("1b-1", "1b0")) else {
         return false;
     };
     let graph = &bench.graph;
     let rows = &mut bench.rows;
     let others = &mut bench.others;
-    is_renewed(alloc, graph, &mut bench.space, domain, rows, others) == Ok(true)
+    is_renewed(graph, &mut bench.space, domain, rows, others)
         && is_followed(graph, &mut bench.copy, domain, rows, others)
 }
 
 // The same of the rows of this graph.
 fn are_renewed(alloc: Global, terms: &[Term]) -> bool {
     match bench_of(alloc, terms, ("-1b0", "1b1")) {
-        Some(mut bench) => renews(alloc, &mut bench),
+        Some(mut bench) => renews(&mut bench),
         None => false,
     }
 }
 
 #[test]
-fn rows_are_renewed_upwards(rt: HostRuntime) {
+fn rows_are_renewed(rt: HostRuntime) {
     for terms in &GRAPHS {
         assert!(rt; are_renewed(rt.alloc(), terms));
     }

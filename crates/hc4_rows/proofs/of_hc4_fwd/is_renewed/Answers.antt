@@ -11,10 +11,3 @@ refill-requires c = let was = space_of c.args.space.now in record {
   filled = c.fill.ensures.rows;
   others = subst (λ (s : Space). SameBut 0 was s) (sym c.set.ensures.axes) (set_same_but 0 (domain_of c.args.domain) was);
 }
-
-pub refill_by-requires-clause-rows : goal.refill_by-requires-clause-rows
-refill_by-requires-clause-rows c = let was = space_of c.args.space.now in record {
-  was = was;
-  filled = c.fill-2.ensures.rows;
-  others = subst (λ (s : Space). SameBut 0 was s) (sym c.set.ensures.axes) (set_same_but 0 (domain_of c.args.domain) was);
-}
