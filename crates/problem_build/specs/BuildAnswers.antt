@@ -12,7 +12,6 @@ use Rattle.script_fault.specs.declared.fault.FaultKind.{FaultKind}
 use Rattle.script_fault.specs.declared.fault.FaultKind.TheVariants as kinds
 use Rattle.script_fault.specs.declared.fault.ReadError.{ReadError}
 use Rattle.script_faults.specs.Faults.{in_building}
-use Rattle.script_faults.specs.Reader.{IsBuiltOf}
 use Rattle.term_build.specs.declared.stop.Fault.{Fault}
 use Rattle.term_build.specs.declared.stop.Fault.TheVariants.{NumberTooWide, DivisorNotConstant, ZeroDivisor, IllFormed}
 
@@ -41,8 +40,3 @@ pub record IsLean (p : Parts) : Type 0 where
 abbrev pub found_by : Walked → Option (Place × BuildingFault)
 found_by (stops place x) = Some (place, x)
 found_by w = None
-
--- the whole problem of a script without a fault, or its first fault
-abbrev pub IsWholeAnswer : Option ℕ → List Command → Result Parts ReadError → Type 0
-IsWholeAnswer bound script (Ok p) = (building_fault bound script ≡ None) × IsBuiltOf bound script (problem_of p)
-IsWholeAnswer bound script (Err e) = IsBuildingError e (building_fault bound script)
