@@ -365,11 +365,11 @@ spread-some Next f (u ∷ v ∷ us) n = some-more (f u v) _
 spread-some Later f (u ∷ v ∷ us) n = some-more (f u v) _
 
 -- links are Bool, and of two values or more there are some
-pub links_made : (m m1 : BuilderModel) (ds ds1 : List SketchNode) (lists lists1 : List (List Bound)) (s : Spread) (kind : Kind) (at : Place) (vs links : List Value) → LinksEach {X = Unit {0}} m ds lists m1 ds1 lists1 s kind at vs [] links (Ok tt) →
+pub links_made : (m m1 : BuilderModel) (ds ds1 : List SketchNode) (lists lists1 : List (List Bound)) (s : Spread) (kind : Kind) (at : Place) (vs links : List Value) → LinksEach {X = Unit {0}} (making m ds lists) (making m1 ds1 lists1) s kind at vs [] links (Ok tt) →
     are_arms vs ≡ true → AreSomeValues m ds vs → 1 < length vs → (are_bool links ≡ true) × (0 < length links)
 links_made m m1 ds ds1 lists lists1 s kind at vs links h e j n =
     let us = j.1 in let bs = j.2 in
     let k = h us bs [] [] (relist_all m ds j.0 lists us bs vs e j.3) tt in
-    let f = facts (making m1 ds1 lists1) (spread_over s (linked s kind at) us) (spread_over s (link_bounds s kind) bs) links k.1.1.1 in
+    let f = facts (making m1 ds1 lists1) (spread_over s (linked s kind at) us) (spread_over s (link_bounds s kind) bs) links k.1.1 in
     let g = facts (making m ds j.0) us bs vs j.3 in
     (sym f.bools ∙ spread-formulas s kind at us, omega (arith, f.count, g.count, spread-some s (linked s kind at) us (omega (arith, n, g.count))))

@@ -188,15 +188,7 @@ impl Maker {
             (place_of at) (operator_of operator) values.now result }
         ensures sorts { self.new.made.sorts ≡ self.old.made.sorts }
     {
-        operate(
-            alloc,
-            &mut self.builder,
-            &mut self.sketch,
-            &mut self.bounds,
-            at,
-            operator,
-            values,
-        )
+        operate(alloc, self, at, operator, values)
     }
 
     /// The form of an assertion that this value stands for: its node, and the number of the list of its bounds. The
