@@ -32,7 +32,6 @@ use Rattle.value_build.specs.Arithmetic.{events_of_step, operator_of_step, tree_
 use Rattle.value_build.specs.Arms.{ArmsMake, Calculates, Folds, LiftsOne, LiftsTwo, Links, LinksEach, LinksWith, SaysAll, SaysTwo, arm_bounds, events_of_leaf, tree_of_leaf}
 use Rattle.value_build.specs.Bounds.{AddsBounds, bounds_of_kind, chained_bounds, first_bounds, weight_of}
 use Rattle.value_build.specs.Chains.{AddsComparisons, AddsConnected, ComparesEach, ConnectsEach, two_of}
-use Rattle.value_build.specs.Leaves.{MakesSwitch, MakesTree}
 use Rattle.value_build.specs.Making.{Making, Steps}
 use Rattle.value_build.specs.Operators.{ArmsDo, BoolsDo, ComparesAll, DiffersAll, RealsDo, are_arms, are_picked, bool_operation, given_bounds, takes_of}
 use Rattle.value_build.specs.Values.{IsValue}
@@ -66,12 +65,6 @@ MakesLiteral old new digits decimals r =
 
 abbrev pub number_term : Frac → Term
 number_term number = constant (fraction_of_frac number)
-
-abbrev pub MakesLeaf : BuilderModel → Sketch → BuilderModel → Sketch → Term → Result Value Stop → Type 0
-MakesLeaf m s m' s' t r = MakesTree m (drawn s) m' (drawn s') t r
-
-abbrev pub Switches : BuilderModel → Sketch → Sketch → BoundLists → BoundLists → ℕ → Result Value Stop → Type 0
-Switches m s s' lists lists' axis r = MakesSwitch m (drawn s) (drawn s') lists lists' axis r
 
 -- ---- arithmetic of trees
 

@@ -458,12 +458,7 @@ fn compare_values(
 }
 
 // A sum, a difference, a product or a quotient.
-fn calculate_arms(
-    maker: &mut Maker,
-    at: Place,
-    step: Step,
-    values: &[Value],
-) -> Result<Value, Stop>
+fn calculate_arms(maker: &mut Maker, at: Place, step: Step, values: &[Value]) -> Result<Value, Stop>
     requires values { AreSomeValues maker.old.made maker.old.drawn values.now }
     requires arms { are_arms values.now ≡ true }
     requires held { are_real values.now ≡ false }
