@@ -29,7 +29,7 @@ use Rattle.value_build.specs.Bounds.{AddsList, bounds_of_kind, chained_bounds}
 use Rattle.value_build.specs.Chains.{others_of, spread_over}
 use Rattle.value_build.specs.Making.{Making, making, Grows, Steps, MoreLists}
 use Rattle.value_build.specs.Operators.{are_arms}
-use Rattle.value_build.specs.Values.{IsArm, is_tree, is_choice, IsValue, AreValues, AreKnown, Weighs}
+use Rattle.value_build.specs.Values.{IsArm, is_tree, is_choice, IsValue, AreValues, AreKnown, IsKnown, Weighs}
 use Rattle.value_build.specs.declared.arithmetic.Step.{Step}
 use Rattle.value_build.specs.declared.arithmetic.Step.TheVariants.{Add, Subtract, Multiply, Divide}
 use Rattle.value_build.specs.declared.chains.Spread.{Spread}
@@ -354,48 +354,52 @@ with_stop m m1 ds ds1 lists lists1 s kind at v w vs links links1 z one = λ u b 
     go u b [] (c ∷ bs) ls cs i j = elim j [ ]
     go u b (x ∷ us) [] ls cs i j = elim j [ ]
 
--- of arms the lists of bounds do not matter
-pub relist : (m : BuilderModel) (ds : List SketchNode) (lists lists' : List (List Bound)) (u : Unfolded) (b : Bounding) (v : Value) → are_arms (v ∷ []) ≡ true → IsValue (making m ds lists) u b v → IsValue (making m ds lists') u b v
-relist m ds lists lists' u b (values.Real k) e h = h
-relist m ds lists lists' u b (values.Choice k) e h = h
-relist m ds lists lists' u b (values.Bool p n) e h = cc
+-- ---- values that are known
 
-pub relist_all : (m : BuilderModel) (ds : List SketchNode) (lists lists' : List (List Bound)) (us : List Unfolded) (bs : List Bounding) (vs : List Value) → are_arms vs ≡ true → AreValues (making m ds lists) us bs vs → AreValues (making m ds lists') us bs vs
-relist_all m ds lists lists' [] [] [] e h = tt
-relist_all m ds lists lists' (u ∷ us) (b ∷ bs) (v ∷ vs) e h = (relist m ds lists lists' u b v (arms_head v vs e) h.0, relist_all m ds lists lists' us bs vs (arms_tail v vs e) h.1)
-relist_all m ds lists lists' [] [] (v ∷ vs) e h = elim h [ ]
-relist_all m ds lists lists' [] (b ∷ bs) vs e h = elim h [ ]
-relist_all m ds lists lists' (u ∷ us) [] vs e h = elim h [ ]
-relist_all m ds lists lists' (u ∷ us) (b ∷ bs) [] e h = elim h [ ]
+pub first_known : (m : Making) (v : Value) (vs : List Value) → AreKnown m (v ∷ vs) → IsKnown m v
+first_known m v vs h = go h.0 h.1 h.2
+  where
+    go : (us : List Unfolded) (bs : List Bounding) → AreValues m us bs (v ∷ vs) → IsKnown m v
+    go (u ∷ us) (b ∷ bs) k = (u, b, k.0)
+    go [] [] k = elim k [ ]
+    go [] (b ∷ bs) k = elim k [ ]
+    go (u ∷ us) [] k = elim k [ ]
+
+pub later_known : (m : Making) (v : Value) (vs : List Value) → AreKnown m (v ∷ vs) → AreKnown m vs
+later_known m v vs h = go h.0 h.1 h.2
+  where
+    go : (us : List Unfolded) (bs : List Bounding) → AreValues m us bs (v ∷ vs) → AreKnown m vs
+    go (u ∷ us) (b ∷ bs) k = (us, bs, k.1)
+    go [] [] k = elim k [ ]
+    go [] (b ∷ bs) k = elim k [ ]
+    go (u ∷ us) [] k = elim k [ ]
+
+pub stays_known : (old new : Making) (v : Value) → Grows old new → IsKnown old v → IsKnown new v
+stays_known old new v g h = (h.0, h.1, value_stays old new h.0 h.1 v g h.2)
+
+pub stay_known : (old new : Making) (vs : List Value) → Grows old new → AreKnown old vs → AreKnown new vs
+stay_known old new vs g h = (h.0, h.1, values_stay old new h.0 h.1 vs g h.2)
 
 -- what is known behind links
-pub record Linked (m m' : BuilderModel) (ds ds' : List SketchNode) (lists' : List (List Bound)) (links : List Value) : Type 0 where
-  pub stood : Stood m m' ds ds'
-  pub known : AreKnown (making m' ds' lists') links
+pub record Linked (old new : Making) (links : List Value) : Type 0 where
+  pub grows : Grows old new
+  pub known : AreKnown new links
 
-pub link_known : (m m1 : BuilderModel) (ds ds1 : List SketchNode) (lists lists1 : List (List Bound)) (s : Spread) (kind : Kind) (at : Place) (v w y : Value) (links links1 : List Value) → Links (making m ds lists) (making m1 ds1 lists1) s kind at v w (Ok y) →
-    are_arms (v ∷ w ∷ []) ≡ true → IsSomeValue m ds v → IsSomeValue m ds w → AreKnown (making m ds lists) links → links1 ≡ links ++ (y ∷ []) → Linked m m1 ds ds1 lists1 links1
-link_known m m1 ds ds1 lists lists1 s kind at v w y links links1 h e i j l f =
-    let k = h i.1 j.1 i.2 j.2 (relist m ds i.0 lists i.1 i.2 v (arms_head v (w ∷ []) e) i.3) (relist m ds j.0 lists j.1 j.2 w (second-arm v w e) j.3) in record {
-      stood = record { stand = k.1.0.stand; grown = k.1.0.drawn };
+pub link_known : (old new : Making) (s : Spread) (kind : Kind) (at : Place) (v w y : Value) (links links1 : List Value) → Links old new s kind at v w (Ok y) → IsKnown old v → IsKnown old w → AreKnown old links → links1 ≡ links ++ (y ∷ []) → Linked old new links1
+link_known old new s kind at v w y links links1 h i j l f =
+    let k = h i.0 j.0 i.1 j.1 i.2 j.2 in record {
+      grows = k.1.0;
       known = (
-        l.0 ++ (linked s kind at i.1 j.1 ∷ []),
-        l.1 ++ (link_bounds s kind i.2 j.2 ∷ []),
-        subst (λ (zs : List Value). AreValues (making m1 ds1 lists1) (l.0 ++ (linked s kind at i.1 j.1 ∷ [])) (l.1 ++ (link_bounds s kind i.2 j.2 ∷ [])) zs) (sym f)
-            (values-end (making m1 ds1 lists1) l.0 l.1 links (linked s kind at i.1 j.1) (link_bounds s kind i.2 j.2) y (values_stay (making m ds lists) (making m1 ds1 lists1) l.0 l.1 links k.1.0 l.2) k.1.1),
+        l.0 ++ (linked s kind at i.0 j.0 ∷ []),
+        l.1 ++ (link_bounds s kind i.1 j.1 ∷ []),
+        subst (λ (zs : List Value). AreValues new (l.0 ++ (linked s kind at i.0 j.0 ∷ [])) (l.1 ++ (link_bounds s kind i.1 j.1 ∷ [])) zs) (sym f)
+            (values-end new l.0 l.1 links (linked s kind at i.0 j.0) (link_bounds s kind i.1 j.1) y (values_stay old new l.0 l.1 links k.1.0 l.2) k.1.1),
       );
     }
 
-pub with_known : (m m1 : BuilderModel) (ds ds1 : List SketchNode) (lists lists1 : List (List Bound)) (s : Spread) (kind : Kind) (at : Place) (v : Value) (vs links links1 : List Value) → LinksWith {X = Unit {0}} (making m ds lists) (making m1 ds1 lists1) s kind at v vs links links1 (Ok tt) →
-    are_arms (v ∷ vs) ≡ true → IsSomeValue m ds v → AreSomeValues m ds vs → AreKnown (making m ds lists) links → Linked m m1 ds ds1 lists1 links1
-with_known m m1 ds ds1 lists lists1 s kind at v vs links links1 h e i j l =
-    let k = h i.1 i.2 j.1 j.2 l.0 l.1 (relist m ds i.0 lists i.1 i.2 v (arms_head v vs e) i.3) (relist_all m ds j.0 lists j.1 j.2 vs (arms_tail v vs e) j.3) l.2 in record {
-      stood = record { stand = k.1.0.stand; grown = k.1.0.drawn };
-      known = (l.0 ++ map (linked s kind at i.1) j.1, l.1 ++ map (link_bounds s kind i.2) j.2, k.1.1);
-    }
-
-pub value_stood : (m m' : BuilderModel) (ds ds' : List SketchNode) (v : Value) → Stood m m' ds ds' → IsSomeValue m ds v → IsSomeValue m' ds' v
-value_stood m m' ds ds' v s h = (h.0, h.1, h.2, value_stays (making m ds h.0) (making m' ds' h.0) h.1 h.2 v (stood-grows m m' ds ds' h.0 s) h.3)
+pub with_known : (old new : Making) (s : Spread) (kind : Kind) (at : Place) (v : Value) (vs links links1 : List Value) → LinksWith {X = Unit {0}} old new s kind at v vs links links1 (Ok tt) → IsKnown old v → AreKnown old vs → AreKnown old links → Linked old new links1
+with_known old new s kind at v vs links links1 h i j l =
+    let k = h i.0 i.1 j.0 j.1 l.0 l.1 i.2 j.2 l.2 in record { grows = k.1.0; known = (l.0 ++ map (linked s kind at i.0) j.0, l.1 ++ map (link_bounds s kind i.1) j.1, k.1.1) }
 
 pub arms_two : (v w : Value) (vs : List Value) → are_arms (v ∷ w ∷ vs) ≡ true → are_arms (v ∷ w ∷ []) ≡ true
 arms_two (values.Real i) w vs e = arms_head w vs e
@@ -418,8 +422,8 @@ others_values m Next [] (b ∷ bs) vs h = elim h [ ]
 others_values m Next (u ∷ us) [] vs h = elim h [ ]
 others_values m Next (u ∷ us) (b ∷ bs) [] h = elim h [ ]
 
-pub others_some : (m : BuilderModel) (ds : List SketchNode) (s : Spread) (vs : List Value) → AreSomeValues m ds vs → AreSomeValues m ds (others_of s vs)
-others_some m ds s vs h = (h.0, others_of s h.1, others_of s h.2, others_values (making m ds h.0) s h.1 h.2 vs h.3)
+pub others_known : (m : Making) (s : Spread) (vs : List Value) → AreKnown m vs → AreKnown m (others_of s vs)
+others_known m s vs h = (others_of s h.0, others_of s h.1, others_values m s h.0 h.1 vs h.2)
 
 pub others_arms : (s : Spread) (v : Value) (vs : List Value) → are_arms (v ∷ vs) ≡ true → are_arms (v ∷ others_of s vs) ≡ true
 others_arms Later v vs e = e
@@ -480,10 +484,5 @@ each_stop m m1 ds ds1 lists lists1 s kind at v vs links links1 z one = λ us bs 
     go [] (c ∷ bs) ls cs j l = elim j [ ]
     go (x ∷ us) [] ls cs j l = elim j [ ]
 
-pub each_known : (m m1 : BuilderModel) (ds ds1 : List SketchNode) (lists lists1 : List (List Bound)) (s : Spread) (kind : Kind) (at : Place) (vs links : List Value) → LinksEach {X = Unit {0}} (making m ds lists) (making m1 ds1 lists1) s kind at vs [] links (Ok tt) →
-    are_arms vs ≡ true → AreSomeValues m ds vs → Linked m m1 ds ds1 lists1 links
-each_known m m1 ds ds1 lists lists1 s kind at vs links h e j =
-    let k = h j.1 j.2 [] [] (relist_all m ds j.0 lists j.1 j.2 vs e j.3) tt in record {
-      stood = record { stand = k.1.0.stand; grown = k.1.0.drawn };
-      known = (spread_over s (linked s kind at) j.1, spread_over s (link_bounds s kind) j.2, k.1.1);
-    }
+pub each_known : (old new : Making) (s : Spread) (kind : Kind) (at : Place) (vs links : List Value) → LinksEach {X = Unit {0}} old new s kind at vs [] links (Ok tt) → AreKnown old vs → AreKnown new links
+each_known old new s kind at vs links h j = (spread_over s (linked s kind at) j.0, spread_over s (link_bounds s kind) j.1, (h j.0 j.1 [] [] j.2 tt).1.1)

@@ -1,5 +1,5 @@
--- What the calls answer, in values of the code: what a builder has made, a sketch and a table of bounds, as they were and as
--- they are then.
+-- What the calls answer, in values of the code: what is made, or a part of it (what a builder has made, a sketch, a table of
+-- bounds), as it was and as it is then.
 use Rattle.std.specs.Prelude.{◌≡◌, ℕ, List, Bool, false, length, Result, Vec}
 use Rattle.std.specs.Global.{Global}
 use Rattle.std.specs.declared.alloc.AllocError.{AllocError}

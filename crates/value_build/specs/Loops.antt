@@ -6,10 +6,10 @@ use Rattle.term_build.specs.Built.{BuilderModel}
 use Rattle.term_build.specs.Sketch.{SketchNode, IsSketch}
 use Rattle.term_build.specs.declared.sketch.Arm.{Arm}
 use Rattle.term_build.specs.declared.stop.Stop.{Stop}
-use Rattle.value_build.specs.Arms.{IsSomeArm, IsSomeValue, AreSomeValues, Folds, LinksWith, LinksEach}
+use Rattle.value_build.specs.Arms.{IsSomeArm, AreSomeValues, Folds, LinksWith, LinksEach}
 use Rattle.value_build.specs.Making.{Making}
 use Rattle.value_build.specs.Operators.{are_arms}
-use Rattle.value_build.specs.Values.{AreKnown}
+use Rattle.value_build.specs.Values.{AreKnown, IsKnown}
 use Rattle.value_build.specs.declared.arithmetic.Step.{Step}
 use Rattle.value_build.specs.declared.chains.Spread.{Spread}
 use Rattle.value_build.specs.declared.value.Value.{Value}
@@ -26,8 +26,8 @@ pub record IsFoldingArms (at : Place) (s : Step) (m0 m : BuilderModel) (ds0 ds :
 -- a first value with each of others, of which these are left
 pub record IsLinkingWith (s : Spread) (kind : Kind) (at : Place) (v : Value) (old now : Making) (vs0 links0 vs links : List Value) : Type 0 where
   pub sorts : now.made.sorts ≡ old.made.sorts
-  pub first : IsSomeValue now.made now.drawn v
-  pub others : AreSomeValues now.made now.drawn vs
+  pub first : IsKnown now v
+  pub others : AreKnown now vs
   pub known : AreKnown now links
   pub arms : are_arms (v ∷ vs) ≡ true
   pub goes : (new : Making) (links' : List Value) (r : Result (Unit {0}) Stop) → LinksWith now new s kind at v vs links links' r → LinksWith old new s kind at v vs0 links0 links' r
@@ -35,7 +35,7 @@ pub record IsLinkingWith (s : Spread) (kind : Kind) (at : Place) (v : Value) (ol
 -- each value with those that belong with it, where these are left
 pub record IsLinkingEach (s : Spread) (kind : Kind) (at : Place) (old now : Making) (vs0 links0 vs links : List Value) : Type 0 where
   pub sorts : now.made.sorts ≡ old.made.sorts
-  pub values : AreSomeValues now.made now.drawn vs
+  pub values : AreKnown now vs
   pub known : AreKnown now links
   pub arms : are_arms vs ≡ true
   pub goes : (new : Making) (links' : List Value) (r : Result (Unit {0}) Stop) → LinksEach now new s kind at vs links links' r → LinksEach old new s kind at vs0 links0 links' r

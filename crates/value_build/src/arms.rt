@@ -8,7 +8,7 @@ ghost use Rattle.value_build.specs.Arms.{AreSomeValues, IsSomeArm, IsSomeValue, 
 ghost use Rattle.value_build.specs.Bounds.{AddsList};
 ghost use Rattle.value_build.specs.Calls.{FoldsIn, LinksOthers, LinksTwo, LinksValues, Yields, bounds_between};
 ghost use Rattle.value_build.specs.Operators.{are_arms, are_bool};
-ghost use Rattle.value_build.specs.Values.{AreKnown};
+ghost use Rattle.value_build.specs.Values.{AreKnown, IsKnown};
 
 use crate::arithmetic::{Step, is_difference};
 use crate::bounds::chain_bounds;
@@ -147,8 +147,8 @@ fn link(
     first: Value,
     second: Value,
 ) -> Result<Value, Stop>
-    requires first { IsSomeValue maker.old.made maker.old.drawn first }
-    requires second { IsSomeValue maker.old.made maker.old.drawn second }
+    requires first { IsKnown maker.old first }
+    requires second { IsKnown maker.old second }
     requires arms { are_arms (first ∷ second ∷ []) ≡ true }
     ensures does { LinksTwo maker.old maker.new comparing first second result }
     ensures sorts { maker.new.made.sorts ≡ maker.old.made.sorts }
@@ -191,8 +191,8 @@ fn link_with(
     others: &[Value],
     links: &mut Vec<Value>,
 ) -> Result<(), Stop>
-    requires first { IsSomeValue maker.old.made maker.old.drawn first }
-    requires others { AreSomeValues maker.old.made maker.old.drawn others.now }
+    requires first { IsKnown maker.old first }
+    requires others { AreKnown maker.old others.now }
     requires links { AreKnown maker.old links.old.items }
     requires arms { are_arms (first ∷ others.now) ≡ true }
     ensures does { LinksOthers maker.old maker.new comparing
@@ -216,7 +216,7 @@ pub(crate) fn link_each(
     values: &[Value],
     links: &mut Vec<Value>,
 ) -> Result<(), Stop>
-    requires values { AreSomeValues maker.old.made maker.old.drawn values.now }
+    requires values { AreKnown maker.old values.now }
     requires links { AreKnown maker.old links.old.items }
     requires arms { are_arms values.now ≡ true }
     ensures does { LinksValues maker.old maker.new comparing

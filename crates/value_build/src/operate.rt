@@ -8,7 +8,7 @@ ghost use Rattle.term_build.specs.Calls.{drawn};
 ghost use Rattle.term_build.specs.Pairs.{Connects, ConnectsFrom};
 ghost use Rattle.term_build.specs.Sketch.{least_crowd};
 ghost use Rattle.value_build.specs.Arithmetic.{AreNodes};
-ghost use Rattle.value_build.specs.Arms.{AreSomeValues, Joins, PicksOf, only_of};
+ghost use Rattle.value_build.specs.Arms.{Joins, PicksOf, only_of};
 ghost use Rattle.value_build.specs.Bounds.{AddsList};
 ghost use Rattle.value_build.specs.Calls.{Chains, ComparesValues, Differ, OverArms, PairsDo, TreesDo, TreesMake, ValuesMake, bounds_given, operation_of, takes_arms};
 ghost use Rattle.value_build.specs.Operators.{ArePairs, are_arms, are_bool, are_picked, are_real, bool_distinctness, bool_equality, distinct_from, list_number, node_number, pair_number, takes_of};
@@ -445,7 +445,7 @@ fn compare_values(
     values: &[Value],
 ) -> Result<Value, Stop>
     requires several { 1 < length values.now }
-    requires values { AreSomeValues maker.old.made maker.old.drawn values.now }
+    requires values { AreKnown maker.old values.now }
     requires arms { are_arms values.now ≡ true }
     ensures does { ComparesValues maker.old maker.new comparing values.now result }
     ensures sorts { maker.new.made.sorts ≡ maker.old.made.sorts }
@@ -459,7 +459,7 @@ fn compare_values(
 
 // A sum, a difference, a product or a quotient.
 fn calculate_arms(maker: &mut Maker, at: Place, step: Step, values: &[Value]) -> Result<Value, Stop>
-    requires values { AreSomeValues maker.old.made maker.old.drawn values.now }
+    requires values { AreKnown maker.old values.now }
     requires arms { are_arms values.now ≡ true }
     requires held { are_real values.now ≡ false }
     ensures does { ValuesMake maker.old maker.new at step values.now result }

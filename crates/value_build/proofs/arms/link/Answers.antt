@@ -14,28 +14,28 @@ use Rattle.value_build.proofs.Arming.{arms_head, arms_tail, some_arm, link_stop,
 use Rattle.value_build.proofs.arms.link.Goals as goal
 
 pub compare_arms-requires-clause-known : goal.compare_arms-requires-clause-known
-compare_arms-requires-clause-known c = (subst (λ (a : Arm). IsSomeArm c.maker.inside.builder (map sketch_of c.maker.inside.sketch.items) a) (sym c.arm_of-one.ensures) (some_arm c.maker.inside.builder (map sketch_of c.maker.inside.sketch.items) c.args.first (arms_head c.args.first (c.args.second ∷ []) c.requires.arms) (subst (λ (x : Making). IsSomeValue x.made x.drawn c.args.first) (sym c.maker.view_is) c.requires.first)))
+compare_arms-requires-clause-known c = (subst (λ (a : Arm). IsSomeArm c.maker.inside.builder (map sketch_of c.maker.inside.sketch.items) a) (sym c.arm_of-one.ensures) (some_arm c.maker.inside.builder (map sketch_of c.maker.inside.sketch.items) c.args.first (arms_head c.args.first (c.args.second ∷ []) c.requires.arms) (subst (λ (x : Making). IsSomeValue x.made x.drawn c.args.first) (sym c.maker.view_is) (c.args.maker.now.bounds, c.requires.first.0, c.requires.first.1, c.requires.first.2))))
 
 pub compare_arms-requires-clause-second : goal.compare_arms-requires-clause-second
-compare_arms-requires-clause-second c = (subst (λ (a : Arm). IsSomeArm c.maker.inside.builder (map sketch_of c.maker.inside.sketch.items) a) (sym c.arm_of-other.ensures) (some_arm c.maker.inside.builder (map sketch_of c.maker.inside.sketch.items) c.args.second (arms_tail c.args.first (c.args.second ∷ []) c.requires.arms) (subst (λ (x : Making). IsSomeValue x.made x.drawn c.args.second) (sym c.maker.view_is) c.requires.second)))
+compare_arms-requires-clause-second c = (subst (λ (a : Arm). IsSomeArm c.maker.inside.builder (map sketch_of c.maker.inside.sketch.items) a) (sym c.arm_of-other.ensures) (some_arm c.maker.inside.builder (map sketch_of c.maker.inside.sketch.items) c.args.second (arms_tail c.args.first (c.args.second ∷ []) c.requires.arms) (subst (λ (x : Making). IsSomeValue x.made x.drawn c.args.second) (sym c.maker.view_is) (c.args.maker.now.bounds, c.requires.second.0, c.requires.second.1, c.requires.second.2))))
 
 pub pair_bounds-requires-clause-first : goal.pair_bounds-requires-clause-first
-pair_bounds-requires-clause-first c = said_below c.maker.inside.builder c.compare_arms.new.builder (map sketch_of c.maker.inside.sketch.items) (map sketch_of c.compare_arms.new.sketch.items) (kind_of c.args.comparing.kind) (place_of c.args.comparing.at) c.arm_of-one.result c.arm_of-other.result c.arm_of-one.result c.in-Ok.pair c.in-Ok.ensures.does (subst (λ (a : Arm). IsSomeArm c.maker.inside.builder (map sketch_of c.maker.inside.sketch.items) a) (sym c.arm_of-one.ensures) (some_arm c.maker.inside.builder (map sketch_of c.maker.inside.sketch.items) c.args.first (arms_head c.args.first (c.args.second ∷ []) c.requires.arms) (subst (λ (x : Making). IsSomeValue x.made x.drawn c.args.first) (sym c.maker.view_is) c.requires.first))) (subst (λ (a : Arm). IsSomeArm c.maker.inside.builder (map sketch_of c.maker.inside.sketch.items) a) (sym c.arm_of-other.ensures) (some_arm c.maker.inside.builder (map sketch_of c.maker.inside.sketch.items) c.args.second (arms_tail c.args.first (c.args.second ∷ []) c.requires.arms) (subst (λ (x : Making). IsSomeValue x.made x.drawn c.args.second) (sym c.maker.view_is) c.requires.second))) (subst (λ (a : Arm). IsSomeArm c.maker.inside.builder (map sketch_of c.maker.inside.sketch.items) a) (sym c.arm_of-one.ensures) (some_arm c.maker.inside.builder (map sketch_of c.maker.inside.sketch.items) c.args.first (arms_head c.args.first (c.args.second ∷ []) c.requires.arms) (subst (λ (x : Making). IsSomeValue x.made x.drawn c.args.first) (sym c.maker.view_is) c.requires.first)))
+pair_bounds-requires-clause-first c = said_below c.maker.inside.builder c.compare_arms.new.builder (map sketch_of c.maker.inside.sketch.items) (map sketch_of c.compare_arms.new.sketch.items) (kind_of c.args.comparing.kind) (place_of c.args.comparing.at) c.arm_of-one.result c.arm_of-other.result c.arm_of-one.result c.in-Ok.pair c.in-Ok.ensures.does (subst (λ (a : Arm). IsSomeArm c.maker.inside.builder (map sketch_of c.maker.inside.sketch.items) a) (sym c.arm_of-one.ensures) (some_arm c.maker.inside.builder (map sketch_of c.maker.inside.sketch.items) c.args.first (arms_head c.args.first (c.args.second ∷ []) c.requires.arms) (subst (λ (x : Making). IsSomeValue x.made x.drawn c.args.first) (sym c.maker.view_is) (c.args.maker.now.bounds, c.requires.first.0, c.requires.first.1, c.requires.first.2)))) (subst (λ (a : Arm). IsSomeArm c.maker.inside.builder (map sketch_of c.maker.inside.sketch.items) a) (sym c.arm_of-other.ensures) (some_arm c.maker.inside.builder (map sketch_of c.maker.inside.sketch.items) c.args.second (arms_tail c.args.first (c.args.second ∷ []) c.requires.arms) (subst (λ (x : Making). IsSomeValue x.made x.drawn c.args.second) (sym c.maker.view_is) (c.args.maker.now.bounds, c.requires.second.0, c.requires.second.1, c.requires.second.2)))) (subst (λ (a : Arm). IsSomeArm c.maker.inside.builder (map sketch_of c.maker.inside.sketch.items) a) (sym c.arm_of-one.ensures) (some_arm c.maker.inside.builder (map sketch_of c.maker.inside.sketch.items) c.args.first (arms_head c.args.first (c.args.second ∷ []) c.requires.arms) (subst (λ (x : Making). IsSomeValue x.made x.drawn c.args.first) (sym c.maker.view_is) (c.args.maker.now.bounds, c.requires.first.0, c.requires.first.1, c.requires.first.2))))
 
 pub pair_bounds-requires-clause-second : goal.pair_bounds-requires-clause-second
-pair_bounds-requires-clause-second c = said_below c.maker.inside.builder c.compare_arms.new.builder (map sketch_of c.maker.inside.sketch.items) (map sketch_of c.compare_arms.new.sketch.items) (kind_of c.args.comparing.kind) (place_of c.args.comparing.at) c.arm_of-one.result c.arm_of-other.result c.arm_of-other.result c.in-Ok.pair c.in-Ok.ensures.does (subst (λ (a : Arm). IsSomeArm c.maker.inside.builder (map sketch_of c.maker.inside.sketch.items) a) (sym c.arm_of-one.ensures) (some_arm c.maker.inside.builder (map sketch_of c.maker.inside.sketch.items) c.args.first (arms_head c.args.first (c.args.second ∷ []) c.requires.arms) (subst (λ (x : Making). IsSomeValue x.made x.drawn c.args.first) (sym c.maker.view_is) c.requires.first))) (subst (λ (a : Arm). IsSomeArm c.maker.inside.builder (map sketch_of c.maker.inside.sketch.items) a) (sym c.arm_of-other.ensures) (some_arm c.maker.inside.builder (map sketch_of c.maker.inside.sketch.items) c.args.second (arms_tail c.args.first (c.args.second ∷ []) c.requires.arms) (subst (λ (x : Making). IsSomeValue x.made x.drawn c.args.second) (sym c.maker.view_is) c.requires.second))) (subst (λ (a : Arm). IsSomeArm c.maker.inside.builder (map sketch_of c.maker.inside.sketch.items) a) (sym c.arm_of-other.ensures) (some_arm c.maker.inside.builder (map sketch_of c.maker.inside.sketch.items) c.args.second (arms_tail c.args.first (c.args.second ∷ []) c.requires.arms) (subst (λ (x : Making). IsSomeValue x.made x.drawn c.args.second) (sym c.maker.view_is) c.requires.second)))
+pair_bounds-requires-clause-second c = said_below c.maker.inside.builder c.compare_arms.new.builder (map sketch_of c.maker.inside.sketch.items) (map sketch_of c.compare_arms.new.sketch.items) (kind_of c.args.comparing.kind) (place_of c.args.comparing.at) c.arm_of-one.result c.arm_of-other.result c.arm_of-other.result c.in-Ok.pair c.in-Ok.ensures.does (subst (λ (a : Arm). IsSomeArm c.maker.inside.builder (map sketch_of c.maker.inside.sketch.items) a) (sym c.arm_of-one.ensures) (some_arm c.maker.inside.builder (map sketch_of c.maker.inside.sketch.items) c.args.first (arms_head c.args.first (c.args.second ∷ []) c.requires.arms) (subst (λ (x : Making). IsSomeValue x.made x.drawn c.args.first) (sym c.maker.view_is) (c.args.maker.now.bounds, c.requires.first.0, c.requires.first.1, c.requires.first.2)))) (subst (λ (a : Arm). IsSomeArm c.maker.inside.builder (map sketch_of c.maker.inside.sketch.items) a) (sym c.arm_of-other.ensures) (some_arm c.maker.inside.builder (map sketch_of c.maker.inside.sketch.items) c.args.second (arms_tail c.args.first (c.args.second ∷ []) c.requires.arms) (subst (λ (x : Making). IsSomeValue x.made x.drawn c.args.second) (sym c.maker.view_is) (c.args.maker.now.bounds, c.requires.second.0, c.requires.second.1, c.requires.second.2)))) (subst (λ (a : Arm). IsSomeArm c.maker.inside.builder (map sketch_of c.maker.inside.sketch.items) a) (sym c.arm_of-other.ensures) (some_arm c.maker.inside.builder (map sketch_of c.maker.inside.sketch.items) c.args.second (arms_tail c.args.first (c.args.second ∷ []) c.requires.arms) (subst (λ (x : Making). IsSomeValue x.made x.drawn c.args.second) (sym c.maker.view_is) (c.args.maker.now.bounds, c.requires.second.0, c.requires.second.1, c.requires.second.2))))
 
 pub invariant_of-maker : goal.invariant_of-maker
-invariant_of-maker c = said_sketch c.maker.inside.builder c.compare_arms.new.builder (map sketch_of c.maker.inside.sketch.items) (map sketch_of c.compare_arms.new.sketch.items) (kind_of c.args.comparing.kind) (place_of c.args.comparing.at) c.arm_of-one.result c.arm_of-other.result c.in-Ok.pair c.in-Ok.ensures.does (subst (λ (a : Arm). IsSomeArm c.maker.inside.builder (map sketch_of c.maker.inside.sketch.items) a) (sym c.arm_of-one.ensures) (some_arm c.maker.inside.builder (map sketch_of c.maker.inside.sketch.items) c.args.first (arms_head c.args.first (c.args.second ∷ []) c.requires.arms) (subst (λ (x : Making). IsSomeValue x.made x.drawn c.args.first) (sym c.maker.view_is) c.requires.first))) (subst (λ (a : Arm). IsSomeArm c.maker.inside.builder (map sketch_of c.maker.inside.sketch.items) a) (sym c.arm_of-other.ensures) (some_arm c.maker.inside.builder (map sketch_of c.maker.inside.sketch.items) c.args.second (arms_tail c.args.first (c.args.second ∷ []) c.requires.arms) (subst (λ (x : Making). IsSomeValue x.made x.drawn c.args.second) (sym c.maker.view_is) c.requires.second)))
+invariant_of-maker c = said_sketch c.maker.inside.builder c.compare_arms.new.builder (map sketch_of c.maker.inside.sketch.items) (map sketch_of c.compare_arms.new.sketch.items) (kind_of c.args.comparing.kind) (place_of c.args.comparing.at) c.arm_of-one.result c.arm_of-other.result c.in-Ok.pair c.in-Ok.ensures.does (subst (λ (a : Arm). IsSomeArm c.maker.inside.builder (map sketch_of c.maker.inside.sketch.items) a) (sym c.arm_of-one.ensures) (some_arm c.maker.inside.builder (map sketch_of c.maker.inside.sketch.items) c.args.first (arms_head c.args.first (c.args.second ∷ []) c.requires.arms) (subst (λ (x : Making). IsSomeValue x.made x.drawn c.args.first) (sym c.maker.view_is) (c.args.maker.now.bounds, c.requires.first.0, c.requires.first.1, c.requires.first.2)))) (subst (λ (a : Arm). IsSomeArm c.maker.inside.builder (map sketch_of c.maker.inside.sketch.items) a) (sym c.arm_of-other.ensures) (some_arm c.maker.inside.builder (map sketch_of c.maker.inside.sketch.items) c.args.second (arms_tail c.args.first (c.args.second ∷ []) c.requires.arms) (subst (λ (x : Making). IsSomeValue x.made x.drawn c.args.second) (sym c.maker.view_is) (c.args.maker.now.bounds, c.requires.second.0, c.requires.second.1, c.requires.second.2))))
 
 pub invariant_of-maker-in-Next : goal.invariant_of-maker-in-Next
-invariant_of-maker-in-Next c = said_sketch c.maker.inside.builder c.compare_arms.new.builder (map sketch_of c.maker.inside.sketch.items) (map sketch_of c.compare_arms.new.sketch.items) (kind_of c.args.comparing.kind) (place_of c.args.comparing.at) c.arm_of-one.result c.arm_of-other.result c.in-Ok.pair c.in-Ok.ensures.does (subst (λ (a : Arm). IsSomeArm c.maker.inside.builder (map sketch_of c.maker.inside.sketch.items) a) (sym c.arm_of-one.ensures) (some_arm c.maker.inside.builder (map sketch_of c.maker.inside.sketch.items) c.args.first (arms_head c.args.first (c.args.second ∷ []) c.requires.arms) (subst (λ (x : Making). IsSomeValue x.made x.drawn c.args.first) (sym c.maker.view_is) c.requires.first))) (subst (λ (a : Arm). IsSomeArm c.maker.inside.builder (map sketch_of c.maker.inside.sketch.items) a) (sym c.arm_of-other.ensures) (some_arm c.maker.inside.builder (map sketch_of c.maker.inside.sketch.items) c.args.second (arms_tail c.args.first (c.args.second ∷ []) c.requires.arms) (subst (λ (x : Making). IsSomeValue x.made x.drawn c.args.second) (sym c.maker.view_is) c.requires.second)))
+invariant_of-maker-in-Next c = said_sketch c.maker.inside.builder c.compare_arms.new.builder (map sketch_of c.maker.inside.sketch.items) (map sketch_of c.compare_arms.new.sketch.items) (kind_of c.args.comparing.kind) (place_of c.args.comparing.at) c.arm_of-one.result c.arm_of-other.result c.in-Ok.pair c.in-Ok.ensures.does (subst (λ (a : Arm). IsSomeArm c.maker.inside.builder (map sketch_of c.maker.inside.sketch.items) a) (sym c.arm_of-one.ensures) (some_arm c.maker.inside.builder (map sketch_of c.maker.inside.sketch.items) c.args.first (arms_head c.args.first (c.args.second ∷ []) c.requires.arms) (subst (λ (x : Making). IsSomeValue x.made x.drawn c.args.first) (sym c.maker.view_is) (c.args.maker.now.bounds, c.requires.first.0, c.requires.first.1, c.requires.first.2)))) (subst (λ (a : Arm). IsSomeArm c.maker.inside.builder (map sketch_of c.maker.inside.sketch.items) a) (sym c.arm_of-other.ensures) (some_arm c.maker.inside.builder (map sketch_of c.maker.inside.sketch.items) c.args.second (arms_tail c.args.first (c.args.second ∷ []) c.requires.arms) (subst (λ (x : Making). IsSomeValue x.made x.drawn c.args.second) (sym c.maker.view_is) (c.args.maker.now.bounds, c.requires.second.0, c.requires.second.1, c.requires.second.2))))
 
 pub invariant_of-maker-in_err-list-in-Later : goal.invariant_of-maker-in_err-list-in-Later
-invariant_of-maker-in_err-list-in-Later c = said_sketch c.maker.inside.builder c.compare_arms.new.builder (map sketch_of c.maker.inside.sketch.items) (map sketch_of c.compare_arms.new.sketch.items) (kind_of c.args.comparing.kind) (place_of c.args.comparing.at) c.arm_of-one.result c.arm_of-other.result c.in-Ok.pair c.in-Ok.ensures.does (subst (λ (a : Arm). IsSomeArm c.maker.inside.builder (map sketch_of c.maker.inside.sketch.items) a) (sym c.arm_of-one.ensures) (some_arm c.maker.inside.builder (map sketch_of c.maker.inside.sketch.items) c.args.first (arms_head c.args.first (c.args.second ∷ []) c.requires.arms) (subst (λ (x : Making). IsSomeValue x.made x.drawn c.args.first) (sym c.maker.view_is) c.requires.first))) (subst (λ (a : Arm). IsSomeArm c.maker.inside.builder (map sketch_of c.maker.inside.sketch.items) a) (sym c.arm_of-other.ensures) (some_arm c.maker.inside.builder (map sketch_of c.maker.inside.sketch.items) c.args.second (arms_tail c.args.first (c.args.second ∷ []) c.requires.arms) (subst (λ (x : Making). IsSomeValue x.made x.drawn c.args.second) (sym c.maker.view_is) c.requires.second)))
+invariant_of-maker-in_err-list-in-Later c = said_sketch c.maker.inside.builder c.compare_arms.new.builder (map sketch_of c.maker.inside.sketch.items) (map sketch_of c.compare_arms.new.sketch.items) (kind_of c.args.comparing.kind) (place_of c.args.comparing.at) c.arm_of-one.result c.arm_of-other.result c.in-Ok.pair c.in-Ok.ensures.does (subst (λ (a : Arm). IsSomeArm c.maker.inside.builder (map sketch_of c.maker.inside.sketch.items) a) (sym c.arm_of-one.ensures) (some_arm c.maker.inside.builder (map sketch_of c.maker.inside.sketch.items) c.args.first (arms_head c.args.first (c.args.second ∷ []) c.requires.arms) (subst (λ (x : Making). IsSomeValue x.made x.drawn c.args.first) (sym c.maker.view_is) (c.args.maker.now.bounds, c.requires.first.0, c.requires.first.1, c.requires.first.2)))) (subst (λ (a : Arm). IsSomeArm c.maker.inside.builder (map sketch_of c.maker.inside.sketch.items) a) (sym c.arm_of-other.ensures) (some_arm c.maker.inside.builder (map sketch_of c.maker.inside.sketch.items) c.args.second (arms_tail c.args.first (c.args.second ∷ []) c.requires.arms) (subst (λ (x : Making). IsSomeValue x.made x.drawn c.args.second) (sym c.maker.view_is) (c.args.maker.now.bounds, c.requires.second.0, c.requires.second.1, c.requires.second.2))))
 
 pub invariant_of-maker-in-Later : goal.invariant_of-maker-in-Later
-invariant_of-maker-in-Later c = said_sketch c.maker.inside.builder c.compare_arms.new.builder (map sketch_of c.maker.inside.sketch.items) (map sketch_of c.compare_arms.new.sketch.items) (kind_of c.args.comparing.kind) (place_of c.args.comparing.at) c.arm_of-one.result c.arm_of-other.result c.in-Ok.pair c.in-Ok.ensures.does (subst (λ (a : Arm). IsSomeArm c.maker.inside.builder (map sketch_of c.maker.inside.sketch.items) a) (sym c.arm_of-one.ensures) (some_arm c.maker.inside.builder (map sketch_of c.maker.inside.sketch.items) c.args.first (arms_head c.args.first (c.args.second ∷ []) c.requires.arms) (subst (λ (x : Making). IsSomeValue x.made x.drawn c.args.first) (sym c.maker.view_is) c.requires.first))) (subst (λ (a : Arm). IsSomeArm c.maker.inside.builder (map sketch_of c.maker.inside.sketch.items) a) (sym c.arm_of-other.ensures) (some_arm c.maker.inside.builder (map sketch_of c.maker.inside.sketch.items) c.args.second (arms_tail c.args.first (c.args.second ∷ []) c.requires.arms) (subst (λ (x : Making). IsSomeValue x.made x.drawn c.args.second) (sym c.maker.view_is) c.requires.second)))
+invariant_of-maker-in-Later c = said_sketch c.maker.inside.builder c.compare_arms.new.builder (map sketch_of c.maker.inside.sketch.items) (map sketch_of c.compare_arms.new.sketch.items) (kind_of c.args.comparing.kind) (place_of c.args.comparing.at) c.arm_of-one.result c.arm_of-other.result c.in-Ok.pair c.in-Ok.ensures.does (subst (λ (a : Arm). IsSomeArm c.maker.inside.builder (map sketch_of c.maker.inside.sketch.items) a) (sym c.arm_of-one.ensures) (some_arm c.maker.inside.builder (map sketch_of c.maker.inside.sketch.items) c.args.first (arms_head c.args.first (c.args.second ∷ []) c.requires.arms) (subst (λ (x : Making). IsSomeValue x.made x.drawn c.args.first) (sym c.maker.view_is) (c.args.maker.now.bounds, c.requires.first.0, c.requires.first.1, c.requires.first.2)))) (subst (λ (a : Arm). IsSomeArm c.maker.inside.builder (map sketch_of c.maker.inside.sketch.items) a) (sym c.arm_of-other.ensures) (some_arm c.maker.inside.builder (map sketch_of c.maker.inside.sketch.items) c.args.second (arms_tail c.args.first (c.args.second ∷ []) c.requires.arms) (subst (λ (x : Making). IsSomeValue x.made x.drawn c.args.second) (sym c.maker.view_is) (c.args.maker.now.bounds, c.requires.second.0, c.requires.second.1, c.requires.second.2))))
 
 pub returns-in_ok-list-in-Next-clause-does : goal.returns-in_ok-list-in-Next-clause-does
 returns-in_ok-list-in-Next-clause-does c = rw c.in-Next.is (subst (λ (x : Making). Links x (making c.compare_arms.new.builder (map sketch_of c.compare_arms.new.sketch.items) c.pair_bounds.new.bounds) Next (kind_of c.args.comparing.kind) (place_of c.args.comparing.at) c.args.first c.args.second (Ok (values.Bool c.in-Ok.pair c.in_ok-list-in-Next.list))) c.maker.view_is

@@ -15,14 +15,14 @@ pub link_each-requires-clause-links : goal.link_each-requires-clause-links
 link_each-requires-clause-links c = subst (λ (ls : List Value). AreKnown c.args.maker.now ls) (sym c.new-links.ensures.items) ([], [], tt)
 
 pub join_links-requires-clause-some : goal.join_links-requires-clause-some
-join_links-requires-clause-some c = subst (λ (ls : List Value). 0 < length ls) (sym c.as_slice.ensures.value) (links_made c.args.maker.now.made c.link_each.new.maker.made c.args.maker.now.drawn c.link_each.new.maker.drawn c.args.maker.now.bounds c.link_each.new.maker.bounds c.args.comparing.spread (kind_of c.args.comparing.kind) (place_of c.args.comparing.at) c.args.values.now c.link_each.new.links.items (subst (λ (ls : List Value). LinksEach {X = Unit {0}} c.args.maker.now c.link_each.new.maker c.args.comparing.spread (kind_of c.args.comparing.kind) (place_of c.args.comparing.at) c.args.values.now ls c.link_each.new.links.items (Ok tt)) c.new-links.ensures.items c.in-Ok.ensures.does) c.requires.arms c.requires.values c.requires.several).1
+join_links-requires-clause-some c = subst (λ (ls : List Value). 0 < length ls) (sym c.as_slice.ensures.value) (links_made c.args.maker.now c.link_each.new.maker c.args.comparing.spread (kind_of c.args.comparing.kind) (place_of c.args.comparing.at) c.args.values.now c.link_each.new.links.items (subst (λ (ls : List Value). LinksEach {X = Unit {0}} c.args.maker.now c.link_each.new.maker c.args.comparing.spread (kind_of c.args.comparing.kind) (place_of c.args.comparing.at) c.args.values.now ls c.link_each.new.links.items (Ok tt)) c.new-links.ensures.items c.in-Ok.ensures.does) c.requires.values c.requires.several).1
 
 pub join_links-requires-clause-bools : goal.join_links-requires-clause-bools
-join_links-requires-clause-bools c = subst (λ (ls : List Value). are_bool ls ≡ true) (sym c.as_slice.ensures.value) (links_made c.args.maker.now.made c.link_each.new.maker.made c.args.maker.now.drawn c.link_each.new.maker.drawn c.args.maker.now.bounds c.link_each.new.maker.bounds c.args.comparing.spread (kind_of c.args.comparing.kind) (place_of c.args.comparing.at) c.args.values.now c.link_each.new.links.items (subst (λ (ls : List Value). LinksEach {X = Unit {0}} c.args.maker.now c.link_each.new.maker c.args.comparing.spread (kind_of c.args.comparing.kind) (place_of c.args.comparing.at) c.args.values.now ls c.link_each.new.links.items (Ok tt)) c.new-links.ensures.items c.in-Ok.ensures.does) c.requires.arms c.requires.values c.requires.several).0
+join_links-requires-clause-bools c = subst (λ (ls : List Value). are_bool ls ≡ true) (sym c.as_slice.ensures.value) (links_made c.args.maker.now c.link_each.new.maker c.args.comparing.spread (kind_of c.args.comparing.kind) (place_of c.args.comparing.at) c.args.values.now c.link_each.new.links.items (subst (λ (ls : List Value). LinksEach {X = Unit {0}} c.args.maker.now c.link_each.new.maker c.args.comparing.spread (kind_of c.args.comparing.kind) (place_of c.args.comparing.at) c.args.values.now ls c.link_each.new.links.items (Ok tt)) c.new-links.ensures.items c.in-Ok.ensures.does) c.requires.values c.requires.several).0
 
 pub join_links-requires-clause-known : goal.join_links-requires-clause-known
 join_links-requires-clause-known c = subst (λ (ls : List Value). AreKnown c.link_each.new.maker ls) (sym c.as_slice.ensures.value)
-    (each_known c.args.maker.now.made c.link_each.new.maker.made c.args.maker.now.drawn c.link_each.new.maker.drawn c.args.maker.now.bounds c.link_each.new.maker.bounds c.args.comparing.spread (kind_of c.args.comparing.kind) (place_of c.args.comparing.at) c.args.values.now c.link_each.new.links.items (subst (λ (ls : List Value). LinksEach {X = Unit {0}} c.args.maker.now c.link_each.new.maker c.args.comparing.spread (kind_of c.args.comparing.kind) (place_of c.args.comparing.at) c.args.values.now ls c.link_each.new.links.items (Ok tt)) c.new-links.ensures.items c.in-Ok.ensures.does) c.requires.arms c.requires.values).known
+    (each_known c.args.maker.now c.link_each.new.maker c.args.comparing.spread (kind_of c.args.comparing.kind) (place_of c.args.comparing.at) c.args.values.now c.link_each.new.links.items (subst (λ (ls : List Value). LinksEach {X = Unit {0}} c.args.maker.now c.link_each.new.maker c.args.comparing.spread (kind_of c.args.comparing.kind) (place_of c.args.comparing.at) c.args.values.now ls c.link_each.new.links.items (Ok tt)) c.new-links.ensures.items c.in-Ok.ensures.does) c.requires.values)
 
 pub returns-in-Ok-clause-does : goal.returns-in-Ok-clause-does
 returns-in-Ok-clause-does c = says_all c.args.maker.now.made c.link_each.new.maker.made c.join_links.new.maker.made c.args.maker.now.drawn c.link_each.new.maker.drawn c.join_links.new.maker.drawn c.args.maker.now.bounds c.link_each.new.maker.bounds c.join_links.new.maker.bounds c.args.comparing.spread (kind_of c.args.comparing.kind) (place_of c.args.comparing.at) c.args.values.now c.link_each.new.links.items c.join_links.result (subst (λ (ls : List Value). LinksEach {X = Unit {0}} c.args.maker.now c.link_each.new.maker c.args.comparing.spread (kind_of c.args.comparing.kind) (place_of c.args.comparing.at) c.args.values.now ls c.link_each.new.links.items (Ok tt)) c.new-links.ensures.items c.in-Ok.ensures.does)

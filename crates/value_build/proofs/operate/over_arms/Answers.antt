@@ -21,9 +21,3 @@ returns-in-Some-Compare-clause-does c =
     let kind = c.in-Some-Compare.kind in let spread = c.in-Some-Compare.spread in
     let e : real_work c.args.operator ≡ Some (Compare kind spread) = sym c.real_work.ensures ∙ c.in-Some-Compare.is ∙ ap (λ (x : RealWork). Some x) c.in-Some-Compare.field-0-is in
     comparing_arms c.args.maker.now.made c.compare_values.new.maker.made c.args.maker.now.drawn c.compare_values.new.maker.drawn c.args.maker.now.bounds c.compare_values.new.maker.bounds (place_of c.args.at) c.args.values.now c.compare_values.result c.args.operator kind spread e c.requires.arms c.requires.held c.compare_values.ensures.does
-
-pub calculate_arms-requires-clause-values : goal.calculate_arms-requires-clause-values
-calculate_arms-requires-clause-values c = (c.args.maker.now.bounds, c.requires.known.0, c.requires.known.1, c.requires.known.2)
-
-pub compare_values-requires-clause-values : goal.compare_values-requires-clause-values
-compare_values-requires-clause-values c = (c.args.maker.now.bounds, c.requires.known.0, c.requires.known.1, c.requires.known.2)
