@@ -451,10 +451,8 @@ fn compare_values(
     ensures sorts { maker.new.made.sorts ≡ maker.old.made.sorts }
 {
     let mut links = Vec::new(alloc);
-    match link_each(alloc, maker, comparing, values, &mut links) {
-        Ok(()) => join_links(alloc, maker, comparing.spread, links.as_slice()),
-        Err(stop) => Err(stop),
-    }
+    link_each(alloc, maker, comparing, values, &mut links)?;
+    join_links(alloc, maker, comparing.spread, links.as_slice())
 }
 
 // A sum, a difference, a product or a quotient.
