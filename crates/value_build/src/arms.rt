@@ -111,8 +111,7 @@ pub(crate) fn calculate_values(
 
 // ---- comparisons
 
-/// How values are compared: for an operator at this place, by comparisons of this kind, of the values that belong together
-/// so.
+/// How values are compared: the place of the operator, the kind of comparison, and which two values belong together.
 #[derive(Clone, Copy)]
 pub(crate) struct Comparing {
     pub(crate) at: Place,

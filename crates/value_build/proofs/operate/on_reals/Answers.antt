@@ -8,7 +8,6 @@ use Rattle.script_forms.specs.Unfolded.{unfolded_operation}
 use Rattle.term_build.specs.Pairs.{trees_at}
 use Rattle.value_build.specs.Values.{IsValue}
 use Rattle.value_build.proofs.Operating.{equal_done, differ_done, chain_quiet, pairs_quiet}
-use Rattle.value_build.specs.Making.{making}
 use Rattle.value_build.proofs.Taken.{none_real}
 use Rattle.value_build.proofs.operate.on_reals.Goals as goal
 

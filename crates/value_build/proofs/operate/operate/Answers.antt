@@ -5,7 +5,6 @@ use Rattle.sort_check.specs.Views.{operator_of}
 use Rattle.term_build.specs.Built.{stand_of}
 use Rattle.term_build.specs.Pairs.{DrawsEach}
 use Rattle.term_build.specs.declared.connectives.Pair.{Pair}
-use Rattle.value_build.specs.Making.{making}
 use Rattle.value_build.specs.Operators.{takes_of, are_arms, are_bool, are_picked}
 use Rattle.value_build.specs.declared.value.Value.{Value}
 use Rattle.value_build.proofs.Operating.{operate_refused, operate_bools, operate_reals, operate_arms, bools_seen, lists_below, nodes_there}
