@@ -29,7 +29,7 @@ use Rattle.value_build.specs.Bounds.{AddsList, bounds_of_kind, chained_bounds}
 use Rattle.value_build.specs.Chains.{others_of, spread_over}
 use Rattle.value_build.specs.Making.{Making, making, Grows, Steps, MoreLists}
 use Rattle.value_build.specs.Operators.{are_arms}
-use Rattle.value_build.specs.Values.{IsArm, is_tree, is_choice, IsValue, AreValues, AreKnown, Weighs}
+use Rattle.value_build.specs.Values.{IsArm, is_tree, is_choice, IsValue, AreValues, AreKnown, IsKnown, Weighs}
 use Rattle.value_build.specs.declared.arithmetic.Step.{Step}
 use Rattle.value_build.specs.declared.arithmetic.Step.TheVariants.{Add, Subtract, Multiply, Divide}
 use Rattle.value_build.specs.declared.chains.Spread.{Spread}
@@ -86,10 +86,9 @@ later_values m ds v vs h = go h.0 h.1 h.2 h.3
 pub record Stood (m m' : BuilderModel) (ds ds' : List SketchNode) : Type 0 where
   pub stand : Extends (stand_of m) (stand_of m')
   pub grown : Grown ds ds'
-  pub sketch : IsSketch m' ds'
 
 pub stood_lift : (m m1 : BuilderModel) (ds ds1 : List SketchNode) (es : List Event) (u : Unfolded) (x : Arm) → Lifts m ds m1 ds1 es u (Ok x) → Stood m m1 ds ds1
-stood_lift m m1 ds ds1 es u x h = record { stand = emits_grows (IsLifted m1 ds ds1 u) m m1 es x h; grown = h.1.grown; sketch = h.1.sketch }
+stood_lift m m1 ds ds1 es u x h = record { stand = emits_grows (IsLifted m1 ds ds1 u) m m1 es x h; grown = h.1.grown }
 
 stood-grows : (m m' : BuilderModel) (ds ds' : List SketchNode) (lists : List (List Bound)) → Stood m m' ds ds' → Grows (making m ds lists) (making m' ds' lists)
 stood-grows m m' ds ds' lists h = record { stand = h.stand; drawn = h.grown; bounds = lists_self lists }
@@ -142,9 +141,9 @@ folds_stop m m1 ds ds1 at s x v vs z e two = λ lists u us bs h l. go lists u us
     go lists u [] (b ∷ bs) h l = elim l [ ]
     go lists u (w ∷ us) [] h l = elim l [ ]
 
-pub made_arm : (m m1 : BuilderModel) (ds ds1 : List SketchNode) (at : Place) (s : Step) (x x' y : Arm) → LiftsTwo m ds m1 ds1 at s x x' (Ok y) → IsSomeArm m ds x → IsSomeArm m ds x' → IsSomeArm m1 ds1 y × Stood m m1 ds ds1
+pub made_arm : (m m1 : BuilderModel) (ds ds1 : List SketchNode) (at : Place) (s : Step) (x x' y : Arm) → LiftsTwo m ds m1 ds1 at s x x' (Ok y) → IsSomeArm m ds x → IsSomeArm m ds x' → IsSomeArm m1 ds1 y × (Stood m m1 ds ds1 × IsSketch m1 ds1)
 made_arm m m1 ds ds1 at s x x' y two h k = let f = tree_of_step s at in let i = two h.0 k.0 h.1 k.1 in
-    ((step f h.0 k.0, i.1.arm), stood_lift m m1 ds ds1 (step_events (events_of_step s at) h.0 k.0) (step f h.0 k.0) y i)
+    ((step f h.0 k.0, i.1.arm), (stood_lift m m1 ds ds1 (step_events (events_of_step s at) h.0 k.0) (step f h.0 k.0) y i, i.1.sketch))
 
 -- ---- an arithmetic operator
 
@@ -257,30 +256,30 @@ module _ (kind : Kind) (at : Place) (m m1 : BuilderModel) (ds ds1 : List SketchN
       IsPairAnswer m ds m1 ds1 (compare_events u x) (compared kind at u x) r
   said r h u x b c i j = h u x (value_arm m ds lists u b v (arms_head v (w ∷ []) e) i) (value_arm m ds lists x c w (second-arm v w e) j)
 
-  pub link_stop : (s : Spread) (z : Stop) → SaysTwo m ds m1 ds1 kind at (arm_of v) (arm_of w) (Err z) → Links m ds lists m1 ds1 lists s kind at v w (Err z)
-  link_stop s z h = λ u x b c i j claim. said (Err z) h u x b c i j claim
+  pub link_stop : (s : Spread) (ds2 : List SketchNode) (z : Stop) → SaysTwo m ds m1 ds1 kind at (arm_of v) (arm_of w) (Err z) → Links (making m ds lists) (making m1 ds2 lists) s kind at v w (Err z)
+  link_stop s ds2 z h = λ u x b c i j claim. said (Err z) h u x b c i j claim
 
   grows-said : (u : Unfolded) (es : List Event) (p : Pair) → IsPairAnswer m ds m1 ds1 es u (Ok p) → MoreLists lists lists1 → Grows (making m ds lists) (making m1 ds1 lists1)
   grows-said u es p h g = record { stand = emits_grows (IsSaid m1 ds ds1 u) m m1 es p h; drawn = h.1.grown; bounds = g }
 
   pub link_next : (p : Pair) (k : ℕ) → SaysTwo m ds m1 ds1 kind at (arm_of v) (arm_of w) (Ok p) → AddsList lists lists1 (arm_bounds kind (stand_of m1).trees (arm_of v) (arm_of w)) (Ok k) →
-      Links m ds lists m1 ds1 lists1 Next kind at v w (Ok (values.Bool p k))
+      Links (making m ds lists) (making m1 ds1 lists1) Next kind at v w (Ok (values.Bool p k))
   link_next p k h a = λ u x b c i j. let l = said (Ok p) h u x b c i j in
       let g0 : Grows (making m ds lists) (making m1 ds1 lists) = record { stand = emits_grows (IsSaid m1 ds ds1 (compared kind at u x)) m m1 (compare_events u x) p l; drawn = l.1.grown; bounds = lists_self lists } in
       let same = arm-same kind m1 ds1 lists u x b c v w e (value_stays (making m ds lists) (making m1 ds1 lists) u b v g0 i) (value_stays (making m ds lists) (making m1 ds1 lists) x c w g0 j) in (
         (λ claim. l.0 claim),
         (
           grows-said (compared kind at u x) (compare_events u x) p l a.0,
-          (l.1.sketch, (l.1.drawn, (bounds_of_kind kind b c, refl, (a.1, subst (λ (ys : List Bound). SameBounds ys (bounds_of_kind kind b c)) (sym a.2) same)))),
+          (l.1.drawn, (bounds_of_kind kind b c, refl, (a.1, subst (λ (ys : List Bound). SameBounds ys (bounds_of_kind kind b c)) (sym a.2) same))),
         ),
       )
 
-  pub link_later : (p q : Pair) (k : ℕ) → SaysTwo m ds m1 ds1 kind at (arm_of v) (arm_of w) (Ok p) → Negates p q → AddsList lists lists1 [] (Ok k) → Links m ds lists m1 ds1 lists1 Later kind at v w (Ok (values.Bool q k))
+  pub link_later : (p q : Pair) (k : ℕ) → SaysTwo m ds m1 ds1 kind at (arm_of v) (arm_of w) (Ok p) → Negates p q → AddsList lists lists1 [] (Ok k) → Links (making m ds lists) (making m1 ds1 lists1) Later kind at v w (Ok (values.Bool q k))
   link_later p q k h n a = λ u x b c i j. let l = said (Ok p) h u x b c i j in (
     (λ claim. l.0 claim),
     (
       grows-said (compared kind at u x) (compare_events u x) p l a.0,
-      (l.1.sketch, (n (stand_of m1).trees ds1 (compared kind at u x) l.1.drawn, ([], refl, (a.1, subst (λ (ys : List Bound). SameBounds ys []) (sym a.2) tt)))),
+      (n (stand_of m1).trees ds1 (compared kind at u x) l.1.drawn, ([], refl, (a.1, subst (λ (ys : List Bound). SameBounds ys []) (sym a.2) tt))),
     ),
   )
 
@@ -292,6 +291,9 @@ said_below m m1 ds ds1 kind at x y z p h i j l k e =
     let t = tree_parts m ds l.0 k (subst (λ (a : Arm). IsArm m ds l.0 a) e l.1) in
     let g = emits_grows (IsSaid m1 ds ds1 (compared kind at i.0 j.0)) m m1 (compare_events i.0 j.0) p s in
     omega (arith, tree_below m t.0 k t.2, more_nodes m m1 g.trees)
+
+pub said_sketch : (m m1 : BuilderModel) (ds ds1 : List SketchNode) (kind : Kind) (at : Place) (x y : Arm) (p : Pair) → SaysTwo m ds m1 ds1 kind at x y (Ok p) → IsSomeArm m ds x → IsSomeArm m ds y → IsSketch m1 ds1
+said_sketch m m1 ds ds1 kind at x y p h i j = (h i.0 j.0 i.1 j.1).1.sketch
 
 -- ---- several
 
@@ -307,93 +309,97 @@ values-end m (x ∷ us) (c ∷ bs) [] u b v h k = elim h [ ]
 as-lists : (m : Making) (us us' : List Unfolded) (bs bs' : List Bounding) (vs : List Value) → us ≡ us' → bs ≡ bs' → AreValues m us bs vs → AreValues m us' bs' vs
 as-lists m us us' bs bs' vs e f h = subst (λ (xs : List Unfolded). AreValues m xs bs' vs) e (subst (λ (xs : List Bounding). AreValues m us xs vs) f h)
 
-pub with_none : (m : BuilderModel) (ds : List SketchNode) (lists : List (List Bound)) (s : Spread) (kind : Kind) (at : Place) (v : Value) (links : List Value) → IsSketch m ds → LinksWith {X = Unit {0}} m ds lists m ds lists s kind at v [] links links (Ok tt)
-with_none m ds lists s kind at v links k = λ u b us bs ls cs i j l. go u b us bs ls cs j l
+pub with_none : (m : BuilderModel) (ds : List SketchNode) (lists : List (List Bound)) (s : Spread) (kind : Kind) (at : Place) (v : Value) (links : List Value) → LinksWith {X = Unit {0}} (making m ds lists) (making m ds lists) s kind at v [] links links (Ok tt)
+with_none m ds lists s kind at v links = λ u b us bs ls cs i j l. go u b us bs ls cs j l
   where
     go : (u : Unfolded) (b : Bounding) (us : List Unfolded) (bs : List Bounding) (ls : List Unfolded) (cs : List Bounding) → AreValues (making m ds lists) us bs [] → AreValues (making m ds lists) ls cs links →
         Steps {X = Unit {0}} (making m ds lists) (making m ds lists) (together (map (compare_events u) us)) (Ok tt)
-        (λ _. IsSketch m ds × AreValues (making m ds lists) (ls ++ map (linked s kind at u) us) (cs ++ map (link_bounds s kind b) bs) links)
-    go u b [] [] ls cs j l = ((λ claim. refl), (grows_self (making m ds lists), (k, as-lists (making m ds lists) ls (ls ++ []) cs (cs ++ []) links (sym (append-nil ls)) (sym (append-nil cs)) l)))
+        (λ _. AreValues (making m ds lists) (ls ++ map (linked s kind at u) us) (cs ++ map (link_bounds s kind b) bs) links)
+    go u b [] [] ls cs j l = ((λ claim. refl), (grows_self (making m ds lists), as-lists (making m ds lists) ls (ls ++ []) cs (cs ++ []) links (sym (append-nil ls)) (sym (append-nil cs)) l))
     go u b [] (c ∷ bs) ls cs j l = elim j [ ]
     go u b (x ∷ us) [] ls cs j l = elim j [ ]
     go u b (x ∷ us) (c ∷ bs) ls cs j l = elim j [ ]
 
 pub with_on : (m m1 m2 : BuilderModel) (ds ds1 ds2 : List SketchNode) (lists lists1 lists2 : List (List Bound)) (s : Spread) (kind : Kind) (at : Place) (v w y : Value) (vs links links1 links2 : List Value) (r : Result (Unit {0}) Stop) →
-    Links m ds lists m1 ds1 lists1 s kind at v w (Ok y) → links1 ≡ links ++ (y ∷ []) → LinksWith m1 ds1 lists1 m2 ds2 lists2 s kind at v vs links1 links2 r → LinksWith m ds lists m2 ds2 lists2 s kind at v (w ∷ vs) links links2 r
+    Links (making m ds lists) (making m1 ds1 lists1) s kind at v w (Ok y) → links1 ≡ links ++ (y ∷ []) → LinksWith (making m1 ds1 lists1) (making m2 ds2 lists2) s kind at v vs links1 links2 r → LinksWith (making m ds lists) (making m2 ds2 lists2) s kind at v (w ∷ vs) links links2 r
 with_on m m1 m2 ds ds1 ds2 lists lists1 lists2 s kind at v w y vs links links1 links2 r one e rest = λ u b us bs ls cs i j l. go u b us bs ls cs i j l
   where
     go : (u : Unfolded) (b : Bounding) (us : List Unfolded) (bs : List Bounding) (ls : List Unfolded) (cs : List Bounding) → IsValue (making m ds lists) u b v → AreValues (making m ds lists) us bs (w ∷ vs) → AreValues (making m ds lists) ls cs links →
         Steps (making m ds lists) (making m2 ds2 lists2) (together (map (compare_events u) us)) r
-        (λ _. IsSketch m2 ds2 × AreValues (making m2 ds2 lists2) (ls ++ map (linked s kind at u) us) (cs ++ map (link_bounds s kind b) bs) links2)
+        (λ _. AreValues (making m2 ds2 lists2) (ls ++ map (linked s kind at u) us) (cs ++ map (link_bounds s kind b) bs) links2)
     go u b (x ∷ us) (c ∷ bs) ls cs i j l =
         let M = making m ds lists in let M1 = making m1 ds1 lists1 in let M2 = making m2 ds2 lists2 in
         let h = one u x b c i j.0 in let g = h.1.0 in
         let f = linked s kind at u in let d = link_bounds s kind b in
-        let now = subst (λ (zs : List Value). AreValues M1 (ls ++ (f x ∷ [])) (cs ++ (d c ∷ [])) zs) (sym e) (values-end M1 ls cs links (f x) (d c) y (values_stay M M1 ls cs links g l) h.1.1.1) in
+        let now = subst (λ (zs : List Value). AreValues M1 (ls ++ (f x ∷ [])) (cs ++ (d c ∷ [])) zs) (sym e) (values-end M1 ls cs links (f x) (d c) y (values_stay M M1 ls cs links g l) h.1.1) in
         let k = rest u b us bs (ls ++ (f x ∷ [])) (cs ++ (d c ∷ [])) (value_stays M M1 u b v g i) (values_stay M M1 us bs vs g j.1) now in
-        steps_then (λ z. IsSketch m1 ds1 × IsValue M1 (f x) (d c) z) (λ _. IsSketch m2 ds2 × AreValues M2 (ls ++ map f (x ∷ us)) (cs ++ map d (c ∷ bs)) links2) M M1 M2 (compare_events u x) (together (map (compare_events u) us)) y r h
-        (steps_more (λ _. IsSketch m2 ds2 × AreValues M2 ((ls ++ (f x ∷ [])) ++ map f us) ((cs ++ (d c ∷ [])) ++ map d bs) links2) (λ _. IsSketch m2 ds2 × AreValues M2 (ls ++ map f (x ∷ us)) (cs ++ map d (c ∷ bs)) links2) M1 M2 (together (map (compare_events u) us)) r
-        (λ _ p. (p.0, as-lists M2 ((ls ++ (f x ∷ [])) ++ map f us) (ls ++ map f (x ∷ us)) ((cs ++ (d c ∷ [])) ++ map d bs) (cs ++ map d (c ∷ bs)) links2 (append_assoc ls (f x ∷ []) (map f us)) (append_assoc cs (d c ∷ []) (map d bs)) p.1)) k)
+        steps_then (IsValue M1 (f x) (d c)) (λ _. AreValues M2 (ls ++ map f (x ∷ us)) (cs ++ map d (c ∷ bs)) links2) M M1 M2 (compare_events u x) (together (map (compare_events u) us)) y r h
+        (steps_more (λ _. AreValues M2 ((ls ++ (f x ∷ [])) ++ map f us) ((cs ++ (d c ∷ [])) ++ map d bs) links2) (λ _. AreValues M2 (ls ++ map f (x ∷ us)) (cs ++ map d (c ∷ bs)) links2) M1 M2 (together (map (compare_events u) us)) r
+        (λ _ p. as-lists M2 ((ls ++ (f x ∷ [])) ++ map f us) (ls ++ map f (x ∷ us)) ((cs ++ (d c ∷ [])) ++ map d bs) (cs ++ map d (c ∷ bs)) links2 (append_assoc ls (f x ∷ []) (map f us)) (append_assoc cs (d c ∷ []) (map d bs)) p) k)
     go u b [] [] ls cs i j l = elim j [ ]
     go u b [] (c ∷ bs) ls cs i j l = elim j [ ]
     go u b (x ∷ us) [] ls cs i j l = elim j [ ]
 
 pub with_stop : (m m1 : BuilderModel) (ds ds1 : List SketchNode) (lists lists1 : List (List Bound)) (s : Spread) (kind : Kind) (at : Place) (v w : Value) (vs links links1 : List Value) (z : Stop) →
-    Links m ds lists m1 ds1 lists1 s kind at v w (Err z) → LinksWith {X = Unit {0}} m ds lists m1 ds1 lists1 s kind at v (w ∷ vs) links links1 (Err z)
+    Links (making m ds lists) (making m1 ds1 lists1) s kind at v w (Err z) → LinksWith {X = Unit {0}} (making m ds lists) (making m1 ds1 lists1) s kind at v (w ∷ vs) links links1 (Err z)
 with_stop m m1 ds ds1 lists lists1 s kind at v w vs links links1 z one = λ u b us bs ls cs i j l. go u b us bs ls cs i j
   where
     go : (u : Unfolded) (b : Bounding) (us : List Unfolded) (bs : List Bounding) (ls : List Unfolded) (cs : List Bounding) → IsValue (making m ds lists) u b v → AreValues (making m ds lists) us bs (w ∷ vs) →
         Steps {X = Unit {0}} (making m ds lists) (making m1 ds1 lists1) (together (map (compare_events u) us)) (Err z)
-        (λ _. IsSketch m1 ds1 × AreValues (making m1 ds1 lists1) (ls ++ map (linked s kind at u) us) (cs ++ map (link_bounds s kind b) bs) links1)
-    go u b (x ∷ us) (c ∷ bs) ls cs i j = steps_stop (λ y. IsSketch m1 ds1 × IsValue (making m1 ds1 lists1) (linked s kind at u x) (link_bounds s kind b c) y)
-        (λ (_ : Unit {0}). IsSketch m1 ds1 × AreValues (making m1 ds1 lists1) (ls ++ map (linked s kind at u) (x ∷ us)) (cs ++ map (link_bounds s kind b) (c ∷ bs)) links1)
+        (λ _. AreValues (making m1 ds1 lists1) (ls ++ map (linked s kind at u) us) (cs ++ map (link_bounds s kind b) bs) links1)
+    go u b (x ∷ us) (c ∷ bs) ls cs i j = steps_stop (IsValue (making m1 ds1 lists1) (linked s kind at u x) (link_bounds s kind b c))
+        (λ (_ : Unit {0}). AreValues (making m1 ds1 lists1) (ls ++ map (linked s kind at u) (x ∷ us)) (cs ++ map (link_bounds s kind b) (c ∷ bs)) links1)
         (making m ds lists) (making m1 ds1 lists1) (making m1 ds1 lists1) (compare_events u x) (together (map (compare_events u) us)) z (one u x b c i j.0)
     go u b [] [] ls cs i j = elim j [ ]
     go u b [] (c ∷ bs) ls cs i j = elim j [ ]
     go u b (x ∷ us) [] ls cs i j = elim j [ ]
 
--- of arms the lists of bounds do not matter
-pub relist : (m : BuilderModel) (ds : List SketchNode) (lists lists' : List (List Bound)) (u : Unfolded) (b : Bounding) (v : Value) → are_arms (v ∷ []) ≡ true → IsValue (making m ds lists) u b v → IsValue (making m ds lists') u b v
-relist m ds lists lists' u b (values.Real k) e h = h
-relist m ds lists lists' u b (values.Choice k) e h = h
-relist m ds lists lists' u b (values.Bool p n) e h = cc
+-- ---- values that are known
 
-pub relist_all : (m : BuilderModel) (ds : List SketchNode) (lists lists' : List (List Bound)) (us : List Unfolded) (bs : List Bounding) (vs : List Value) → are_arms vs ≡ true → AreValues (making m ds lists) us bs vs → AreValues (making m ds lists') us bs vs
-relist_all m ds lists lists' [] [] [] e h = tt
-relist_all m ds lists lists' (u ∷ us) (b ∷ bs) (v ∷ vs) e h = (relist m ds lists lists' u b v (arms_head v vs e) h.0, relist_all m ds lists lists' us bs vs (arms_tail v vs e) h.1)
-relist_all m ds lists lists' [] [] (v ∷ vs) e h = elim h [ ]
-relist_all m ds lists lists' [] (b ∷ bs) vs e h = elim h [ ]
-relist_all m ds lists lists' (u ∷ us) [] vs e h = elim h [ ]
-relist_all m ds lists lists' (u ∷ us) (b ∷ bs) [] e h = elim h [ ]
+pub first_known : (m : Making) (v : Value) (vs : List Value) → AreKnown m (v ∷ vs) → IsKnown m v
+first_known m v vs h = go h.0 h.1 h.2
+  where
+    go : (us : List Unfolded) (bs : List Bounding) → AreValues m us bs (v ∷ vs) → IsKnown m v
+    go (u ∷ us) (b ∷ bs) k = (u, b, k.0)
+    go [] [] k = elim k [ ]
+    go [] (b ∷ bs) k = elim k [ ]
+    go (u ∷ us) [] k = elim k [ ]
+
+pub later_known : (m : Making) (v : Value) (vs : List Value) → AreKnown m (v ∷ vs) → AreKnown m vs
+later_known m v vs h = go h.0 h.1 h.2
+  where
+    go : (us : List Unfolded) (bs : List Bounding) → AreValues m us bs (v ∷ vs) → AreKnown m vs
+    go (u ∷ us) (b ∷ bs) k = (us, bs, k.1)
+    go [] [] k = elim k [ ]
+    go [] (b ∷ bs) k = elim k [ ]
+    go (u ∷ us) [] k = elim k [ ]
+
+pub stays_known : (old new : Making) (v : Value) → Grows old new → IsKnown old v → IsKnown new v
+stays_known old new v g h = (h.0, h.1, value_stays old new h.0 h.1 v g h.2)
+
+pub stay_known : (old new : Making) (vs : List Value) → Grows old new → AreKnown old vs → AreKnown new vs
+stay_known old new vs g h = (h.0, h.1, values_stay old new h.0 h.1 vs g h.2)
 
 -- what is known behind links
-pub record Linked (m m' : BuilderModel) (ds ds' : List SketchNode) (lists' : List (List Bound)) (links : List Value) : Type 0 where
-  pub stood : Stood m m' ds ds'
-  pub known : AreKnown (making m' ds' lists') links
+pub record Linked (old new : Making) (links : List Value) : Type 0 where
+  pub grows : Grows old new
+  pub known : AreKnown new links
 
-pub link_known : (m m1 : BuilderModel) (ds ds1 : List SketchNode) (lists lists1 : List (List Bound)) (s : Spread) (kind : Kind) (at : Place) (v w y : Value) (links links1 : List Value) → Links m ds lists m1 ds1 lists1 s kind at v w (Ok y) →
-    are_arms (v ∷ w ∷ []) ≡ true → IsSomeValue m ds v → IsSomeValue m ds w → AreKnown (making m ds lists) links → links1 ≡ links ++ (y ∷ []) → Linked m m1 ds ds1 lists1 links1
-link_known m m1 ds ds1 lists lists1 s kind at v w y links links1 h e i j l f =
-    let k = h i.1 j.1 i.2 j.2 (relist m ds i.0 lists i.1 i.2 v (arms_head v (w ∷ []) e) i.3) (relist m ds j.0 lists j.1 j.2 w (second-arm v w e) j.3) in record {
-      stood = record { stand = k.1.0.stand; grown = k.1.0.drawn; sketch = k.1.1.0 };
+pub link_known : (old new : Making) (s : Spread) (kind : Kind) (at : Place) (v w y : Value) (links links1 : List Value) → Links old new s kind at v w (Ok y) → IsKnown old v → IsKnown old w → AreKnown old links → links1 ≡ links ++ (y ∷ []) → Linked old new links1
+link_known old new s kind at v w y links links1 h i j l f =
+    let k = h i.0 j.0 i.1 j.1 i.2 j.2 in record {
+      grows = k.1.0;
       known = (
-        l.0 ++ (linked s kind at i.1 j.1 ∷ []),
-        l.1 ++ (link_bounds s kind i.2 j.2 ∷ []),
-        subst (λ (zs : List Value). AreValues (making m1 ds1 lists1) (l.0 ++ (linked s kind at i.1 j.1 ∷ [])) (l.1 ++ (link_bounds s kind i.2 j.2 ∷ [])) zs) (sym f)
-            (values-end (making m1 ds1 lists1) l.0 l.1 links (linked s kind at i.1 j.1) (link_bounds s kind i.2 j.2) y (values_stay (making m ds lists) (making m1 ds1 lists1) l.0 l.1 links k.1.0 l.2) k.1.1.1),
+        l.0 ++ (linked s kind at i.0 j.0 ∷ []),
+        l.1 ++ (link_bounds s kind i.1 j.1 ∷ []),
+        subst (λ (zs : List Value). AreValues new (l.0 ++ (linked s kind at i.0 j.0 ∷ [])) (l.1 ++ (link_bounds s kind i.1 j.1 ∷ [])) zs) (sym f)
+            (values-end new l.0 l.1 links (linked s kind at i.0 j.0) (link_bounds s kind i.1 j.1) y (values_stay old new l.0 l.1 links k.1.0 l.2) k.1.1),
       );
     }
 
-pub with_known : (m m1 : BuilderModel) (ds ds1 : List SketchNode) (lists lists1 : List (List Bound)) (s : Spread) (kind : Kind) (at : Place) (v : Value) (vs links links1 : List Value) → LinksWith {X = Unit {0}} m ds lists m1 ds1 lists1 s kind at v vs links links1 (Ok tt) →
-    are_arms (v ∷ vs) ≡ true → IsSomeValue m ds v → AreSomeValues m ds vs → AreKnown (making m ds lists) links → Linked m m1 ds ds1 lists1 links1
-with_known m m1 ds ds1 lists lists1 s kind at v vs links links1 h e i j l =
-    let k = h i.1 i.2 j.1 j.2 l.0 l.1 (relist m ds i.0 lists i.1 i.2 v (arms_head v vs e) i.3) (relist_all m ds j.0 lists j.1 j.2 vs (arms_tail v vs e) j.3) l.2 in record {
-      stood = record { stand = k.1.0.stand; grown = k.1.0.drawn; sketch = k.1.1.0 };
-      known = (l.0 ++ map (linked s kind at i.1) j.1, l.1 ++ map (link_bounds s kind i.2) j.2, k.1.1.1);
-    }
-
-pub value_stood : (m m' : BuilderModel) (ds ds' : List SketchNode) (v : Value) → Stood m m' ds ds' → IsSomeValue m ds v → IsSomeValue m' ds' v
-value_stood m m' ds ds' v s h = (h.0, h.1, h.2, value_stays (making m ds h.0) (making m' ds' h.0) h.1 h.2 v (stood-grows m m' ds ds' h.0 s) h.3)
+pub with_known : (old new : Making) (s : Spread) (kind : Kind) (at : Place) (v : Value) (vs links links1 : List Value) → LinksWith {X = Unit {0}} old new s kind at v vs links links1 (Ok tt) → IsKnown old v → AreKnown old vs → AreKnown old links → Linked old new links1
+with_known old new s kind at v vs links links1 h i j l =
+    let k = h i.0 i.1 j.0 j.1 l.0 l.1 i.2 j.2 l.2 in record { grows = k.1.0; known = (l.0 ++ map (linked s kind at i.0) j.0, l.1 ++ map (link_bounds s kind i.1) j.1, k.1.1) }
 
 pub arms_two : (v w : Value) (vs : List Value) → are_arms (v ∷ w ∷ vs) ≡ true → are_arms (v ∷ w ∷ []) ≡ true
 arms_two (values.Real i) w vs e = arms_head w vs e
@@ -416,8 +422,8 @@ others_values m Next [] (b ∷ bs) vs h = elim h [ ]
 others_values m Next (u ∷ us) [] vs h = elim h [ ]
 others_values m Next (u ∷ us) (b ∷ bs) [] h = elim h [ ]
 
-pub others_some : (m : BuilderModel) (ds : List SketchNode) (s : Spread) (vs : List Value) → AreSomeValues m ds vs → AreSomeValues m ds (others_of s vs)
-others_some m ds s vs h = (h.0, others_of s h.1, others_of s h.2, others_values (making m ds h.0) s h.1 h.2 vs h.3)
+pub others_known : (m : Making) (s : Spread) (vs : List Value) → AreKnown m vs → AreKnown m (others_of s vs)
+others_known m s vs h = (others_of s h.0, others_of s h.1, others_values m s h.0 h.1 vs h.2)
 
 pub others_arms : (s : Spread) (v : Value) (vs : List Value) → are_arms (v ∷ vs) ≡ true → are_arms (v ∷ others_of s vs) ≡ true
 others_arms Later v vs e = e
@@ -428,60 +434,55 @@ together-both : (xs ys : List (List Event)) → together (xs ++ ys) ≡ together
 together-both [] ys = refl
 together-both (x ∷ xs) ys = ap (λ l. x ++ l) (together-both xs ys) ∙ sym (append_assoc x (together xs) (together ys))
 
-pub each_none : (m : BuilderModel) (ds : List SketchNode) (lists : List (List Bound)) (s : Spread) (kind : Kind) (at : Place) (links : List Value) → IsSketch m ds → LinksEach {X = Unit {0}} m ds lists m ds lists s kind at [] links links (Ok tt)
-each_none m ds lists s kind at links k = λ us bs ls cs j l. go us bs ls cs j l
+pub each_none : (m : BuilderModel) (ds : List SketchNode) (lists : List (List Bound)) (s : Spread) (kind : Kind) (at : Place) (links : List Value) → LinksEach {X = Unit {0}} (making m ds lists) (making m ds lists) s kind at [] links links (Ok tt)
+each_none m ds lists s kind at links = λ us bs ls cs j l. go us bs ls cs j l
   where
     go : (us : List Unfolded) (bs : List Bounding) (ls : List Unfolded) (cs : List Bounding) → AreValues (making m ds lists) us bs [] → AreValues (making m ds lists) ls cs links →
         Steps {X = Unit {0}} (making m ds lists) (making m ds lists) (together (spread_over s compare_events us)) (Ok tt)
-        (λ _. IsSketch m ds × AreValues (making m ds lists) (ls ++ spread_over s (linked s kind at) us) (cs ++ spread_over s (link_bounds s kind) bs) links)
-    go [] [] ls cs j l = ((λ claim. refl), (grows_self (making m ds lists), (k, as-lists (making m ds lists) ls (ls ++ []) cs (cs ++ []) links (sym (append-nil ls)) (sym (append-nil cs)) l)))
+        (λ _. AreValues (making m ds lists) (ls ++ spread_over s (linked s kind at) us) (cs ++ spread_over s (link_bounds s kind) bs) links)
+    go [] [] ls cs j l = ((λ claim. refl), (grows_self (making m ds lists), as-lists (making m ds lists) ls (ls ++ []) cs (cs ++ []) links (sym (append-nil ls)) (sym (append-nil cs)) l))
     go [] (c ∷ bs) ls cs j l = elim j [ ]
     go (x ∷ us) [] ls cs j l = elim j [ ]
     go (x ∷ us) (c ∷ bs) ls cs j l = elim j [ ]
 
 pub each_on : (m m1 m2 : BuilderModel) (ds ds1 ds2 : List SketchNode) (lists lists1 lists2 : List (List Bound)) (s : Spread) (kind : Kind) (at : Place) (v : Value) (vs links links1 links2 : List Value) (r : Result (Unit {0}) Stop) →
-    LinksWith {X = Unit {0}} m ds lists m1 ds1 lists1 s kind at v (others_of s vs) links links1 (Ok tt) → LinksEach m1 ds1 lists1 m2 ds2 lists2 s kind at vs links1 links2 r → LinksEach m ds lists m2 ds2 lists2 s kind at (v ∷ vs) links links2 r
+    LinksWith {X = Unit {0}} (making m ds lists) (making m1 ds1 lists1) s kind at v (others_of s vs) links links1 (Ok tt) → LinksEach (making m1 ds1 lists1) (making m2 ds2 lists2) s kind at vs links1 links2 r → LinksEach (making m ds lists) (making m2 ds2 lists2) s kind at (v ∷ vs) links links2 r
 each_on m m1 m2 ds ds1 ds2 lists lists1 lists2 s kind at v vs links links1 links2 r one rest = λ us bs ls cs j l. go us bs ls cs j l
   where
     go : (us : List Unfolded) (bs : List Bounding) (ls : List Unfolded) (cs : List Bounding) → AreValues (making m ds lists) us bs (v ∷ vs) → AreValues (making m ds lists) ls cs links →
         Steps (making m ds lists) (making m2 ds2 lists2) (together (spread_over s compare_events us)) r
-        (λ _. IsSketch m2 ds2 × AreValues (making m2 ds2 lists2) (ls ++ spread_over s (linked s kind at) us) (cs ++ spread_over s (link_bounds s kind) bs) links2)
+        (λ _. AreValues (making m2 ds2 lists2) (ls ++ spread_over s (linked s kind at) us) (cs ++ spread_over s (link_bounds s kind) bs) links2)
     go (x ∷ us) (c ∷ bs) ls cs j l =
         let M = making m ds lists in let M1 = making m1 ds1 lists1 in let M2 = making m2 ds2 lists2 in
         let f = linked s kind at in let d = link_bounds s kind in
         let A = map (f x) (others_of s us) in let B = map (d c) (others_of s bs) in
         let h = one x c (others_of s us) (others_of s bs) ls cs j.0 (others_values M s us bs vs j.1) l in
-        let k = rest us bs (ls ++ A) (cs ++ B) (values_stay M M1 us bs vs h.1.0 j.1) h.1.1.1 in
-        let P : Unit {0} → Type 0 = λ _. IsSketch m2 ds2 × AreValues M2 (ls ++ spread_over s f (x ∷ us)) (cs ++ spread_over s d (c ∷ bs)) links2 in
+        let k = rest us bs (ls ++ A) (cs ++ B) (values_stay M M1 us bs vs h.1.0 j.1) h.1.1 in
+        let P : Unit {0} → Type 0 = λ _. AreValues M2 (ls ++ spread_over s f (x ∷ us)) (cs ++ spread_over s d (c ∷ bs)) links2 in
         subst (λ es. Steps M M2 es r P) (sym (together-both (map (compare_events x) (others_of s us)) (spread_over s compare_events us)))
-        (steps_then (λ _. IsSketch m1 ds1 × AreValues M1 (ls ++ A) (cs ++ B) links1) P M M1 M2 (together (map (compare_events x) (others_of s us))) (together (spread_over s compare_events us)) (tt {0}) r h
-        (steps_more (λ _. IsSketch m2 ds2 × AreValues M2 ((ls ++ A) ++ spread_over s f us) ((cs ++ B) ++ spread_over s d bs) links2) P M1 M2 (together (spread_over s compare_events us)) r
-        (λ _ p. (p.0, as-lists M2 ((ls ++ A) ++ spread_over s f us) (ls ++ spread_over s f (x ∷ us)) ((cs ++ B) ++ spread_over s d bs) (cs ++ spread_over s d (c ∷ bs)) links2 (append_assoc ls A (spread_over s f us)) (append_assoc cs B (spread_over s d bs)) p.1)) k))
+        (steps_then (λ _. AreValues M1 (ls ++ A) (cs ++ B) links1) P M M1 M2 (together (map (compare_events x) (others_of s us))) (together (spread_over s compare_events us)) (tt {0}) r h
+        (steps_more (λ _. AreValues M2 ((ls ++ A) ++ spread_over s f us) ((cs ++ B) ++ spread_over s d bs) links2) P M1 M2 (together (spread_over s compare_events us)) r
+        (λ _ p. as-lists M2 ((ls ++ A) ++ spread_over s f us) (ls ++ spread_over s f (x ∷ us)) ((cs ++ B) ++ spread_over s d bs) (cs ++ spread_over s d (c ∷ bs)) links2 (append_assoc ls A (spread_over s f us)) (append_assoc cs B (spread_over s d bs)) p) k))
     go [] [] ls cs j l = elim j [ ]
     go [] (c ∷ bs) ls cs j l = elim j [ ]
     go (x ∷ us) [] ls cs j l = elim j [ ]
 
 pub each_stop : (m m1 : BuilderModel) (ds ds1 : List SketchNode) (lists lists1 : List (List Bound)) (s : Spread) (kind : Kind) (at : Place) (v : Value) (vs links links1 : List Value) (z : Stop) →
-    LinksWith {X = Unit {0}} m ds lists m1 ds1 lists1 s kind at v (others_of s vs) links links1 (Err z) → LinksEach {X = Unit {0}} m ds lists m1 ds1 lists1 s kind at (v ∷ vs) links links1 (Err z)
+    LinksWith {X = Unit {0}} (making m ds lists) (making m1 ds1 lists1) s kind at v (others_of s vs) links links1 (Err z) → LinksEach {X = Unit {0}} (making m ds lists) (making m1 ds1 lists1) s kind at (v ∷ vs) links links1 (Err z)
 each_stop m m1 ds ds1 lists lists1 s kind at v vs links links1 z one = λ us bs ls cs j l. go us bs ls cs j l
   where
     go : (us : List Unfolded) (bs : List Bounding) (ls : List Unfolded) (cs : List Bounding) → AreValues (making m ds lists) us bs (v ∷ vs) → AreValues (making m ds lists) ls cs links →
         Steps {X = Unit {0}} (making m ds lists) (making m1 ds1 lists1) (together (spread_over s compare_events us)) (Err z)
-        (λ _. IsSketch m1 ds1 × AreValues (making m1 ds1 lists1) (ls ++ spread_over s (linked s kind at) us) (cs ++ spread_over s (link_bounds s kind) bs) links1)
+        (λ _. AreValues (making m1 ds1 lists1) (ls ++ spread_over s (linked s kind at) us) (cs ++ spread_over s (link_bounds s kind) bs) links1)
     go (x ∷ us) (c ∷ bs) ls cs j l =
         let M = making m ds lists in let M1 = making m1 ds1 lists1 in
-        let P : Unit {0} → Type 0 = λ _. IsSketch m1 ds1 × AreValues M1 (ls ++ spread_over s (linked s kind at) (x ∷ us)) (cs ++ spread_over s (link_bounds s kind) (c ∷ bs)) links1 in
+        let P : Unit {0} → Type 0 = λ _. AreValues M1 (ls ++ spread_over s (linked s kind at) (x ∷ us)) (cs ++ spread_over s (link_bounds s kind) (c ∷ bs)) links1 in
         subst (λ es. Steps M M1 es (Err z) P) (sym (together-both (map (compare_events x) (others_of s us)) (spread_over s compare_events us)))
-        (steps_stop (λ (_ : Unit {0}). IsSketch m1 ds1 × AreValues M1 (ls ++ map (linked s kind at x) (others_of s us)) (cs ++ map (link_bounds s kind c) (others_of s bs)) links1) P M M1 M1 (together (map (compare_events x) (others_of s us))) (together (spread_over s compare_events us)) z
+        (steps_stop (λ (_ : Unit {0}). AreValues M1 (ls ++ map (linked s kind at x) (others_of s us)) (cs ++ map (link_bounds s kind c) (others_of s bs)) links1) P M M1 M1 (together (map (compare_events x) (others_of s us))) (together (spread_over s compare_events us)) z
         (one x c (others_of s us) (others_of s bs) ls cs j.0 (others_values M s us bs vs j.1) l))
     go [] [] ls cs j l = elim j [ ]
     go [] (c ∷ bs) ls cs j l = elim j [ ]
     go (x ∷ us) [] ls cs j l = elim j [ ]
 
-pub each_known : (m m1 : BuilderModel) (ds ds1 : List SketchNode) (lists lists1 : List (List Bound)) (s : Spread) (kind : Kind) (at : Place) (vs links : List Value) → LinksEach {X = Unit {0}} m ds lists m1 ds1 lists1 s kind at vs [] links (Ok tt) →
-    are_arms vs ≡ true → AreSomeValues m ds vs → Linked m m1 ds ds1 lists1 links
-each_known m m1 ds ds1 lists lists1 s kind at vs links h e j =
-    let k = h j.1 j.2 [] [] (relist_all m ds j.0 lists j.1 j.2 vs e j.3) tt in record {
-      stood = record { stand = k.1.0.stand; grown = k.1.0.drawn; sketch = k.1.1.0 };
-      known = (spread_over s (linked s kind at) j.1, spread_over s (link_bounds s kind) j.2, k.1.1.1);
-    }
+pub each_known : (old new : Making) (s : Spread) (kind : Kind) (at : Place) (vs links : List Value) → LinksEach {X = Unit {0}} old new s kind at vs [] links (Ok tt) → AreKnown old vs → AreKnown new links
+each_known old new s kind at vs links h j = (spread_over s (linked s kind at) j.0, spread_over s (link_bounds s kind) j.1, (h j.0 j.1 [] [] j.2 tt).1.1)

@@ -48,7 +48,7 @@ one-link m u b (values.Bool p n) e h = (h.0, (bounds_in b ++ [], refl, subst (λ
 one-link m u b (values.Real k) e h = cc
 one-link m u b (values.Choice k) e h = cc
 
-pub joins_one : (m : BuilderModel) (ds : List SketchNode) (lists : List (List Bound)) (s : Spread) (links : List Value) (v : Value) → Some v ≡ only_of s links → are_bool links ≡ true → Joins m ds ds lists lists s links (Ok v)
+pub joins_one : (m : BuilderModel) (ds : List SketchNode) (lists : List (List Bound)) (s : Spread) (links : List Value) (v : Value) → Some v ≡ only_of s links → are_bool links ≡ true → Joins (making m ds lists) (making m ds lists) s links (Ok v)
 joins_one m ds lists Next (w ∷ []) v e b = λ us bs h. go us bs h
   where
     same : w ≡ v
@@ -82,29 +82,29 @@ and-true : (x y : Bool) → x ≡ true → y ≡ true → x && y ≡ true
 and-true true y e f = f
 and-true false y e f = e
 
-pub joins_all : (m : BuilderModel) (ds ds' : List SketchNode) (lists lists' : List (List Bound)) (s : Spread) (links : List Value) (ps : List Pair) (ns : List ℕ) (r : Result Value Stop) → ps ≡ map pair_number links → ns ≡ map list_number links →
-    None ≡ only_of s links → are_bool links ≡ true → (length links ≡ 0 → ⊥) → BoolsDo m ds ds' lists lists' conjunction ps ns r → Joins m ds ds' lists lists' s links r
-joins_all m ds ds' lists lists' s links ps ns r e f n b some w = λ us bs h.
+pub joins_all : (m m' : BuilderModel) (ds ds' : List SketchNode) (lists lists' : List (List Bound)) (s : Spread) (links : List Value) (ps : List Pair) (ns : List ℕ) (r : Result Value Stop) → ps ≡ map pair_number links → ns ≡ map list_number links →
+    None ≡ only_of s links → are_bool links ≡ true → (length links ≡ 0 → ⊥) → BoolsDo (making m ds lists) (making m' ds' lists') conjunction ps ns r → Joins (making m ds lists) (making m' ds' lists') s links r
+joins_all m m' ds ds' lists lists' s links ps ns r e f n b some w = λ us bs h.
     let k = bools_seen m ds lists us bs links h b in
     let t = facts (making m ds lists) us bs links h in
-    subst (λ (u : Unfolded). Steps (making m ds lists) (making m ds' lists') [] r (IsValue (making m ds' lists') u (bounds (concat (map bounds_in bs))))) (sym (joined-all s links us n t.count))
+    subst (λ (u : Unfolded). Steps (making m ds lists) (making m' ds' lists') [] r (IsValue (making m' ds' lists') u (bounds (concat (map bounds_in bs))))) (sym (joined-all s links us n t.count))
     (w (record { line = 0; column = 0 }) us bs (subst (λ (qs : List Pair). DrawsEach (stand_of m).trees ds us qs) (sym e) k.0) (subst (λ (js : List ℕ). ListsEach lists js bs) (sym f) k.1)
     (and-true (are_formulas us) (nat_le 1 (length us)) (t.bools ∙ b) (ap (nat_le 1) t.count ∙ some-links links some)))
 
 -- ---- comparisons
 
-pub says_all : (m m1 : BuilderModel) (ds ds1 ds2 : List SketchNode) (lists lists1 lists2 : List (List Bound)) (s : Spread) (kind : Kind) (at : Place) (vs links : List Value) (r : Result Value Stop) →
-    LinksEach {X = Unit {0}} m ds lists m1 ds1 lists1 s kind at vs [] links (Ok tt) → Joins m1 ds1 ds2 lists1 lists2 s links r → SaysAll m ds lists m1 ds2 lists2 s kind at vs r
-says_all m m1 ds ds1 ds2 lists lists1 lists2 s kind at vs links r h w = λ us bs k.
-    let M = making m ds lists in let M1 = making m1 ds1 lists1 in let M2 = making m1 ds2 lists2 in
+pub says_all : (m m1 m2 : BuilderModel) (ds ds1 ds2 : List SketchNode) (lists lists1 lists2 : List (List Bound)) (s : Spread) (kind : Kind) (at : Place) (vs links : List Value) (r : Result Value Stop) →
+    LinksEach {X = Unit {0}} (making m ds lists) (making m1 ds1 lists1) s kind at vs [] links (Ok tt) → Joins (making m1 ds1 lists1) (making m2 ds2 lists2) s links r → SaysAll (making m ds lists) (making m2 ds2 lists2) s kind at vs r
+says_all m m1 m2 ds ds1 ds2 lists lists1 lists2 s kind at vs links r h w = λ us bs k.
+    let M = making m ds lists in let M1 = making m1 ds1 lists1 in let M2 = making m2 ds2 lists2 in
     let P = IsValue M2 (joined s (spread_over s (linked s kind at) us)) (bounds (concat (map bounds_in (spread_over s (link_bounds s kind) bs)))) in
     let i = h us bs [] [] k tt in
     subst (λ es. Steps M M2 es r P) (append-nil (together (spread_over s compare_events us)))
-    (steps_then (λ (_ : Unit {0}). IsSketch m1 ds1 × AreValues M1 (spread_over s (linked s kind at) us) (spread_over s (link_bounds s kind) bs) links) P M M1 M2 (together (spread_over s compare_events us)) [] (tt {0}) r i
-    (w (spread_over s (linked s kind at) us) (spread_over s (link_bounds s kind) bs) i.1.1.1))
+    (steps_then (λ (_ : Unit {0}). AreValues M1 (spread_over s (linked s kind at) us) (spread_over s (link_bounds s kind) bs) links) P M M1 M2 (together (spread_over s compare_events us)) [] (tt {0}) r i
+    (w (spread_over s (linked s kind at) us) (spread_over s (link_bounds s kind) bs) i.1.1))
 
 pub says_stop : (m m1 : BuilderModel) (ds ds1 ds2 : List SketchNode) (lists lists1 lists2 : List (List Bound)) (s : Spread) (kind : Kind) (at : Place) (vs links : List Value) (z : Stop) →
-    LinksEach {X = Unit {0}} m ds lists m1 ds1 lists1 s kind at vs [] links (Err z) → SaysAll m ds lists m1 ds2 lists2 s kind at vs (Err z)
+    LinksEach {X = Unit {0}} (making m ds lists) (making m1 ds1 lists1) s kind at vs [] links (Err z) → SaysAll (making m ds lists) (making m1 ds2 lists2) s kind at vs (Err z)
 says_stop m m1 ds ds1 ds2 lists lists1 lists2 s kind at vs links z h = λ us bs k claim. h us bs [] [] k tt claim
 
 -- the bounds of neighbours, one behind the other
@@ -122,7 +122,7 @@ no-pairs kind [] = refl
 no-pairs kind (b ∷ bs) = no-each kind b bs (pairs (link_bounds Later kind) bs) (no-pairs kind bs)
 
 -- a chain says what its operator says
-pub chain_says : (m m' : BuilderModel) (ds ds' : List SketchNode) (lists lists' : List (List Bound)) (kind : Kind) (at : Place) (vs : List Value) (r : Result Value Stop) → SaysAll m ds lists m' ds' lists' Next kind at vs r →
+pub chain_says : (m m' : BuilderModel) (ds ds' : List SketchNode) (lists lists' : List (List Bound)) (kind : Kind) (at : Place) (vs : List Value) (r : Result Value Stop) → SaysAll (making m ds lists) (making m' ds' lists') Next kind at vs r →
     (us : List Unfolded) (bs : List Bounding) → AreValues (making m ds lists) us bs vs →
     Steps (making m ds lists) (making m' ds' lists') (together (neighbours compare_events us)) r (IsValue (making m' ds' lists') (chain (neighbours (compared kind at) us)) (bounds (concat (neighbours (bounds_of_kind kind) bs))))
 chain_says m m' ds ds' lists lists' kind at vs r h us bs k =
@@ -131,7 +131,7 @@ chain_says m m' ds ds' lists lists' kind at vs r h us bs k =
     (subst (λ (xs : List Bound). Steps M M' (together (spread_over Next compare_events us)) r (IsValue M' (chain (neighbours (compared kind at) us)) (bounds xs))) (ap (λ cs. concat (map bounds_in cs)) (spread_next (link_bounds Next kind) bs) ∙ chained kind bs)
     (subst (λ (xs : List Unfolded). Steps M M' (together (spread_over Next compare_events us)) r (IsValue M' (chain xs) (bounds (concat (map bounds_in (spread_over Next (link_bounds Next kind) bs)))))) (spread_next (linked Next kind at) us) (h us bs k)))
 
-pub pairs_say : (m m' : BuilderModel) (ds ds' : List SketchNode) (lists lists' : List (List Bound)) (at : Place) (vs : List Value) (r : Result Value Stop) → SaysAll m ds lists m' ds' lists' Later eq at vs r →
+pub pairs_say : (m m' : BuilderModel) (ds ds' : List SketchNode) (lists lists' : List (List Bound)) (at : Place) (vs : List Value) (r : Result Value Stop) → SaysAll (making m ds lists) (making m' ds' lists') Later eq at vs r →
     (us : List Unfolded) (bs : List Bounding) → AreValues (making m ds lists) us bs vs →
     Steps (making m ds lists) (making m' ds' lists') (together (pairs compare_events us)) r (IsValue (making m' ds' lists') (and_of (pairs (differ_two at) us)) (bounds []))
 pairs_say m m' ds ds' lists lists' at vs r h us bs k =
@@ -162,14 +162,14 @@ differ-reals at (either c d a b ∷ us) e h = refl
 differ-reals at (formula p n ∷ us) e h = cc
 differ-reals at (refused x ∷ us) e h = cc
 
-pub equal_arms : (m m' : BuilderModel) (ds ds' : List SketchNode) (lists lists' : List (List Bound)) (at : Place) (vs : List Value) (r : Result Value Stop) → are_arms vs ≡ true → SaysAll m ds lists m' ds' lists' Next eq at vs r →
-    ArmsDo m m' ds ds' lists lists' at equality vs r
+pub equal_arms : (m m' : BuilderModel) (ds ds' : List SketchNode) (lists lists' : List (List Bound)) (at : Place) (vs : List Value) (r : Result Value Stop) → are_arms vs ≡ true → SaysAll (making m ds lists) (making m' ds' lists') Next eq at vs r →
+    ArmsDo (making m ds lists) (making m' ds' lists') at equality vs r
 equal_arms m m' ds ds' lists lists' at vs r e h = λ us bs k t. let f = facts (making m ds lists) us bs vs k in
     subst (λ (u : Unfolded). Steps (making m ds lists) (making m' ds' lists') (together (neighbours compare_events us)) r (IsValue (making m' ds' lists') u (bounds (concat (neighbours equal_bounds bs))))) (sym (equal-reals at us (f.reals ∙ e)))
     (chain_says m m' ds ds' lists lists' eq at vs r h us bs k)
 
-pub differ_arms : (m m' : BuilderModel) (ds ds' : List SketchNode) (lists lists' : List (List Bound)) (at : Place) (vs : List Value) (r : Result Value Stop) → are_arms vs ≡ true → are_real vs ≡ false → SaysAll m ds lists m' ds' lists' Later eq at vs r →
-    ArmsDo m m' ds ds' lists lists' at distinctness vs r
+pub differ_arms : (m m' : BuilderModel) (ds ds' : List SketchNode) (lists lists' : List (List Bound)) (at : Place) (vs : List Value) (r : Result Value Stop) → are_arms vs ≡ true → are_real vs ≡ false → SaysAll (making m ds lists) (making m' ds' lists') Later eq at vs r →
+    ArmsDo (making m ds lists) (making m' ds' lists') at distinctness vs r
 differ_arms m m' ds ds' lists lists' at vs r e o h = λ us bs k t. let f = facts (making m ds lists) us bs vs k in
     subst (λ (u : Unfolded). Steps (making m ds lists) (making m' ds' lists') (together (pairs compare_events us)) r (IsValue (making m' ds' lists') u (bounds [])))
     (sym (differ-reals at us (f.reals ∙ e) (hold_is (making m ds lists) us bs vs k ∙ holds vs o e)))
@@ -177,8 +177,8 @@ differ_arms m m' ds ds' lists lists' at vs r e o h = λ us bs k t. let f = facts
 
 -- ---- arithmetic
 
-pub arms_made : (m m' : BuilderModel) (ds ds' : List SketchNode) (at : Place) (s : Step) (v : Value) (vs : List Value) (k : ℕ) → Calculates m ds m' ds' at s v vs (Ok (arm.Choice k)) → ArmsMake m ds m' ds' at (operator_of_step s) (v ∷ vs) (Ok (values.Choice k))
-arms_made m m' ds ds' at s v vs k w = λ lists us bs h. go lists us bs h
+pub arms_made : (m m' : BuilderModel) (ds ds' : List SketchNode) (lists : List (List Bound)) (at : Place) (s : Step) (v : Value) (vs : List Value) (k : ℕ) → Calculates m ds m' ds' at s v vs (Ok (arm.Choice k)) → ArmsMake (making m ds lists) (making m' ds' lists) at (operator_of_step s) (v ∷ vs) (Ok (values.Choice k))
+arms_made m m' ds ds' lists at s v vs k w = λ us bs h. go lists us bs h
   where
     go : (lists : List (List Bound)) (us : List Unfolded) (bs : List Bounding) → AreValues (making m ds lists) us bs (v ∷ vs) →
         Steps (making m ds lists) (making m' ds' lists) (operation_events at (operator_of_step s) us) (Ok (values.Choice k)) (λ x. (j : ℕ) × (x ≡ values.Choice j) × IsArm m' ds' (unfolded_operation at (operator_of_step s) us) (arm.Choice j))
@@ -193,8 +193,8 @@ arms_made m m' ds ds' at s v vs k w = λ lists us bs h. go lists us bs h
     go lists [] (b ∷ bs) h = elim h [ ]
     go lists (u ∷ us) [] h = elim h [ ]
 
-pub arms_stopped : (m m' : BuilderModel) (ds ds' ds'' : List SketchNode) (at : Place) (s : Step) (v : Value) (vs : List Value) (z : Stop) → Calculates m ds m' ds' at s v vs (Err z) → ArmsMake m ds m' ds'' at (operator_of_step s) (v ∷ vs) (Err z)
-arms_stopped m m' ds ds' ds'' at s v vs z w = λ lists us bs h. go lists us bs h
+pub arms_stopped : (m m' : BuilderModel) (ds ds' ds'' : List SketchNode) (lists : List (List Bound)) (at : Place) (s : Step) (v : Value) (vs : List Value) (z : Stop) → Calculates m ds m' ds' at s v vs (Err z) → ArmsMake (making m ds lists) (making m' ds'' lists) at (operator_of_step s) (v ∷ vs) (Err z)
+arms_stopped m m' ds ds' ds'' lists at s v vs z w = λ us bs h. go lists us bs h
   where
     go : (lists : List (List Bound)) (us : List Unfolded) (bs : List Bounding) → AreValues (making m ds lists) us bs (v ∷ vs) →
         Steps (making m ds lists) (making m' ds'' lists) (operation_events at (operator_of_step s) us) (Err z) (λ x. (j : ℕ) × (x ≡ values.Choice j) × IsArm m' ds'' (unfolded_operation at (operator_of_step s) us) (arm.Choice j))
@@ -249,12 +249,12 @@ arms-other Multiply m us bs vs h e = alone-other m times us bs vs h e
 arms-other Subtract m us bs vs h e = ap (computed minus) (unknown m us bs vs h e)
 arms-other Divide m us bs vs h e = ap (computed divide) (unknown m us bs vs h e)
 
-pub arithmetic_arms : (m m' : BuilderModel) (ds ds' : List SketchNode) (lists : List (List Bound)) (at : Place) (s : Step) (vs : List Value) (r : Result Value Stop) → are_arms vs ≡ true → are_real vs ≡ false → ArmsMake m ds m' ds' at (operator_of_step s) vs r →
-    ArmsDo m m' ds ds' lists lists at (operator_of_step s) vs r
-arithmetic_arms m m' ds ds' lists at s vs r e o w = λ us bs k t.
-    let op = operator_of_step s in let M' = making m' ds' lists in
+pub arithmetic_arms : (m m' : BuilderModel) (ds ds' : List SketchNode) (lists lists' : List (List Bound)) (at : Place) (s : Step) (vs : List Value) (r : Result Value Stop) → are_arms vs ≡ true → are_real vs ≡ false → ArmsMake (making m ds lists) (making m' ds' lists') at (operator_of_step s) vs r →
+    ArmsDo (making m ds lists) (making m' ds' lists') at (operator_of_step s) vs r
+arithmetic_arms m m' ds ds' lists lists' at s vs r e o w = λ us bs k t.
+    let op = operator_of_step s in let M' = making m' ds' lists' in
     steps_more (λ v. (j : ℕ) × (v ≡ values.Choice j) × IsArm m' ds' (unfolded_operation at op us) (arm.Choice j)) (IsValue M' (unfolded_operation at op us) (bounding_operation op bs)) (making m ds lists) M' (operation_events at op us) r
-    (λ v p. subst (λ (x : Value). IsValue M' (unfolded_operation at op us) (bounding_operation op bs) x) (sym p.1) (p.2, arms-other s (making m ds lists) us bs vs k (holds vs o e))) (w lists us bs k)
+    (λ v p. subst (λ (x : Value). IsValue M' (unfolded_operation at op us) (bounding_operation op bs) x) (sym p.1) (p.2, arms-other s (making m ds lists) us bs vs k (holds vs o e))) (w us bs k)
 
 -- ---- a Real `ite`
 
@@ -286,7 +286,7 @@ second-real : (x y : Bool) → x || y ≡ true → x ≡ false → y ≡ true
 second-real true y h e = cc
 second-real false y h e = h
 
-pub picked_arms : (m : BuilderModel) (ds ds' : List SketchNode) (lists : List (List Bound)) (at : Place) (vs : List Value) (r : Result Value Stop) → are_bool vs ≡ false → PicksOf ds ds' vs r → ArmsDo m m ds ds' lists lists at choice vs r
+pub picked_arms : (m : BuilderModel) (ds ds' : List SketchNode) (lists : List (List Bound)) (at : Place) (vs : List Value) (r : Result Value Stop) → are_bool vs ≡ false → PicksOf ds ds' vs r → ArmsDo (making m ds lists) (making m ds' lists) at choice vs r
 picked_arms m ds ds' lists at vs (Err e) b h = λ us bs k t claim. subst (λ (z : Stop). StopsAs claim (after_events claim (stand_of m) (operation_events at choice us)) z) (sym h.0) tt
 picked_arms m ds ds' lists at (v ∷ w ∷ x ∷ []) (Ok (values.Choice n)) b h = λ us bs k t. go us bs k t
   where

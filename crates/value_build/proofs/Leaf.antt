@@ -29,14 +29,14 @@ use Rattle.value_build.proofs.Folds.{emits_grows}
 use Rattle.value_build.proofs.Growth.{lists_self}
 use Rattle.value_build.proofs.Operating.{emits_sketch}
 
-pub tree_made : (m m' : BuilderModel) (ds : List SketchNode) (t : Term) (k : ℕ) → Does m m' (λ claim s. make_tree claim s t) (Ok k) (IsTree m' t) → MakesTree m ds m' ds t (Ok (values.Real k))
-tree_made m m' ds t k h = λ lists b w. let e = emits_made m m' t (Ok k) h in (
+pub tree_made : (m m' : BuilderModel) (ds : List SketchNode) (lists : List (List Bound)) (t : Term) (k : ℕ) → Does m m' (λ claim s. make_tree claim s t) (Ok k) (IsTree m' t) → MakesTree (making m ds lists) (making m' ds lists) t (Ok (values.Real k))
+tree_made m m' ds lists t k h = λ b w. let e = emits_made m m' t (Ok k) h in (
   (λ claim. e.0 claim),
   (record { stand = emits_grows (IsTree m' t) m m' (made t ∷ []) k e; drawn = grown_self ds; bounds = lists_self lists }, (t, refl, e.1, w)),
 )
 
-pub tree_not : (m m' : BuilderModel) (ds ds' : List SketchNode) (t : Term) (x : Stop) → Does m m' (λ claim s. make_tree claim s t) (Err x) (IsTree m' t) → MakesTree m ds m' ds' t (Err x)
-tree_not m m' ds ds' t x h = λ lists b w claim. emits_made m m' t (Err x) h claim
+pub tree_not : (m m' : BuilderModel) (ds ds' : List SketchNode) (lists : List (List Bound)) (t : Term) (x : Stop) → Does m m' (λ claim s. make_tree claim s t) (Err x) (IsTree m' t) → MakesTree (making m ds lists) (making m' ds' lists) t (Err x)
+tree_not m m' ds ds' lists t x h = λ b w claim. emits_made m m' t (Err x) h claim
 
 pub tree_sketch : (m m' : BuilderModel) (ds : List SketchNode) (t : Term) (k : ℕ) → Does m m' (λ claim s. make_tree claim s t) (Ok k) (IsTree m' t) → m'.sorts ≡ m.sorts → IsSketch m ds → IsSketch m' ds
 tree_sketch m m' ds t k h s i = emits_sketch (IsTree m' t) m m' ds (made t ∷ []) k (emits_made m m' t (Ok k) h) s i
@@ -69,18 +69,14 @@ one_sort s t (x ∷ sorts) (suc axis) h k = one_sort s t sorts axis (later s x s
     later bool_sort x sorts axis h = h
 
 -- a declared constant is named
-pub names_real : (m m' : BuilderModel) (ds ds' : List SketchNode) (lists : List (List Bound)) (old : Making) (axis : ℕ) (r : Result Value Stop) → making m ds lists ≡ old → HasSort real_sort m.sorts axis → MakesTree m ds m' ds' (variable axis) r → Names old (making m' ds' lists) axis r
-names_real m m' ds ds' lists old axis r e k w = subst (λ (x : Making). Names x (making m' ds' lists) axis r) e
-    (λ sort h. subst (λ (s : Sort). Steps (making m ds lists) (making m' ds' lists) (ending (constant_tree axis s)) r (IsValue (making m' ds' lists) (constant_tree axis s) (constant_bounding axis s))) (one_sort real_sort sort m.sorts axis k h)
-    (w lists (constant_of axis) refl))
+pub names_real : (old new : Making) (axis : ℕ) (r : Result Value Stop) → HasSort real_sort old.made.sorts axis → MakesTree old new (variable axis) r → Names old new axis r
+names_real old new axis r k w = λ sort h. subst (λ (s : Sort). Steps old new (ending (constant_tree axis s)) r (IsValue new (constant_tree axis s) (constant_bounding axis s))) (one_sort real_sort sort old.made.sorts axis k h)
+    (w (constant_of axis) refl)
 
-pub names_switch : (m : BuilderModel) (ds ds' : List SketchNode) (lists lists' : List (List Bound)) (old : Making) (axis : ℕ) (r : Result Value Stop) → making m ds lists ≡ old → HasSort bool_sort m.sorts axis → MakesSwitch m ds ds' lists lists' axis r → Names old (making m ds' lists') axis r
-names_switch m ds ds' lists lists' old axis r e k w = subst (λ (x : Making). Names x (making m ds' lists') axis r) e
-    (λ sort h. subst (λ (s : Sort). Steps (making m ds lists) (making m ds' lists') (ending (constant_tree axis s)) r (IsValue (making m ds' lists') (constant_tree axis s) (constant_bounding axis s))) (one_sort bool_sort sort m.sorts axis k h) w)
+pub names_switch : (old new : Making) (axis : ℕ) (r : Result Value Stop) → HasSort bool_sort old.made.sorts axis → MakesSwitch old new axis r → Names old new axis r
+names_switch old new axis r k w = λ sort h. subst (λ (s : Sort). Steps old new (ending (constant_tree axis s)) r (IsValue new (constant_tree axis s) (constant_bounding axis s))) (one_sort bool_sort sort old.made.sorts axis k h) w
 
 -- a literal
-pub literal_made : (m m' : BuilderModel) (ds ds' : List SketchNode) (lists : List (List Bound)) (old : Making) (q p : Fraction) (r : Result Value Stop) → making m ds lists ≡ old → p ≡ reduced q → IsFraction q → MakesTree m ds m' ds' (constant p) r →
-    let u = term (constant (reduced q)) in Steps old (making m' ds' lists) (ending u) r (IsValue (making m' ds' lists) u (known q))
-literal_made m m' ds ds' lists old q p r e f i w = let s = reduced_same q i in
-    subst (λ (x : Making). Steps x (making m' ds' lists) (ending (term (constant (reduced q)))) r (IsValue (making m' ds' lists) (term (constant (reduced q))) (known q))) e
-    ((subst (λ (x : Fraction). MakesTree m ds m' ds' (constant x) r) f w) lists (known q) (q, refl, is_same q (reduced q) i s.0 s.1))
+pub literal_made : (old new : Making) (q p : Fraction) (r : Result Value Stop) → p ≡ reduced q → IsFraction q → MakesTree old new (constant p) r → let u = term (constant (reduced q)) in Steps old new (ending u) r (IsValue new u (known q))
+literal_made old new q p r f i w = let s = reduced_same q i in
+    (subst (λ (x : Fraction). MakesTree old new (constant x) r) f w) (known q) (q, refl, is_same q (reduced q) i s.0 s.1)

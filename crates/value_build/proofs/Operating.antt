@@ -36,7 +36,7 @@ use Rattle.value_build.specs.Weights.{WeighsEach}
 use Rattle.value_build.specs.Arithmetic.{AreNodes, operator_of_step}
 use Rattle.value_build.specs.Bounds.{AddsList, chained_bounds}
 use Rattle.value_build.specs.Chains.{spread_over, AreTrees, AddsConnected, ComparesEach, ConnectsEach, two_of}
-use Rattle.value_build.specs.Operators.{are_arms, are_picked, ArmsDo, are_real, are_bool, node_number, pair_number, list_number, takes_of, RealsDo, RealsMake, bool_operation, bool_equality, bool_distinctness, distinct_from, given_bounds, ListsEach, BoolsDo}
+use Rattle.value_build.specs.Operators.{are_arms, are_picked, ArmsDo, are_real, are_bool, node_number, pair_number, list_number, takes_of, RealsDo, bool_operation, bool_equality, bool_distinctness, distinct_from, given_bounds, ListsEach, BoolsDo}
 use Rattle.value_build.specs.declared.arithmetic.Step.{Step}
 use Rattle.value_build.specs.declared.chains.Spread.{Spread}
 use Rattle.value_build.specs.declared.chains.Spread.TheVariants.{Next}
@@ -151,10 +151,10 @@ bool_value m ds ds2 lists lists' u b xs ys p k s a same e = (
 pub grown_same : (ds ds' : List SketchNode) → ds' ≡ ds → Grown ds ds'
 grown_same ds ds' e = subst (λ (x : List SketchNode). Grown ds x) (sym e) (grown_self ds)
 
-pub arithmetic_done : (s : Step) (at : Place) (m m' : BuilderModel) (ds : List SketchNode) (ks : List ℕ) (k : ℕ) →
+pub arithmetic_done : (s : Step) (at : Place) (m m' : BuilderModel) (ds : List SketchNode) (lists : List (List Bound)) (ks : List ℕ) (k : ℕ) →
     Emits m m' (operation_events at (operator_of_step s) (trees_at (stand_of m).trees ks)) (Ok k) (IsTreeOf m' (unfolded_operation at (operator_of_step s) (trees_at (stand_of m).trees ks))) →
-    RealsMake m ds m' ds at (operator_of_step s) ks (Ok (values.Real k))
-arithmetic_done s at m m' ds ks k e = λ lists bs h t. (
+    RealsDo (making m ds lists) (making m' ds lists) at (operator_of_step s) ks (Ok (values.Real k))
+arithmetic_done s at m m' ds lists ks k e = λ bs h t. (
   (λ claim. e.0 claim),
   (
     record {
@@ -166,10 +166,10 @@ arithmetic_done s at m m' ds ks k e = λ lists bs h t. (
   ),
 )
 
-pub arithmetic_stopped : (s : Step) (at : Place) (m m' : BuilderModel) (ds ds' : List SketchNode) (ks : List ℕ) (x : Stop) (P : ℕ → Type 0) →
+pub arithmetic_stopped : (s : Step) (at : Place) (m m' : BuilderModel) (ds ds' : List SketchNode) (lists : List (List Bound)) (ks : List ℕ) (x : Stop) (P : ℕ → Type 0) →
     Emits m m' (operation_events at (operator_of_step s) (trees_at (stand_of m).trees ks)) (Err x) P →
-    RealsMake m ds m' ds' at (operator_of_step s) ks (Err x)
-arithmetic_stopped s at m m' ds ds' ks x P e = λ lists bs h t claim. e claim
+    RealsDo (making m ds lists) (making m' ds' lists) at (operator_of_step s) ks (Err x)
+arithmetic_stopped s at m m' ds ds' lists ks x P e = λ bs h t claim. e claim
 
 pub emits_sketch : {X : Type 0} (P : X → Type 0) (m m' : BuilderModel) (ds : List SketchNode) (es : _) (x : X) → Emits m m' es (Ok x) P → m'.sorts ≡ m.sorts → IsSketch m ds → IsSketch m' ds
 emits_sketch P m m' ds es x e s h = sketch_stays m m' ds (more_nodes m m' (emits_grows P m m' es x e).trees) s h
@@ -409,11 +409,11 @@ lists_below lists (n ∷ ns) (b ∷ bs) h = all-first (λ (k : ℕ). k < length 
 lists_below lists [] (b ∷ bs) h = elim h [ ]
 lists_below lists (n ∷ ns) [] h = elim h [ ]
 
-pub operate_bools : (m : BuilderModel) (ds ds' : List SketchNode) (lists lists' : List (List Bound)) (op : Operator) (at : Place) (vs : List Value) (ps : List Pair) (ns : List ℕ) (r : Result Value Stop) → ps ≡ map pair_number vs → ns ≡ map list_number vs → are_bool vs ≡ true →
-    true ≡ takes_of op (are_arms vs) (are_bool vs) (are_picked vs) (length vs) → BoolsDo m ds ds' lists lists' op ps ns r → Operates (making m ds lists) (making m ds' lists') at op vs r
-operate_bools m ds ds' lists lists' op at vs ps ns r e f b t w = λ us bs h.
+pub operate_bools : (m m' : BuilderModel) (ds ds' : List SketchNode) (lists lists' : List (List Bound)) (op : Operator) (at : Place) (vs : List Value) (ps : List Pair) (ns : List ℕ) (r : Result Value Stop) → ps ≡ map pair_number vs → ns ≡ map list_number vs → are_bool vs ≡ true →
+    true ≡ takes_of op (are_arms vs) (are_bool vs) (are_picked vs) (length vs) → BoolsDo (making m ds lists) (making m' ds' lists') op ps ns r → Operates (making m ds lists) (making m' ds' lists') at op vs r
+operate_bools m m' ds ds' lists lists' op at vs ps ns r e f b t w = λ us bs h.
     let s = bools_seen m ds lists us bs vs h b in let k = takes_seen (making m ds lists) op us bs vs true t h in
-    operate_taken (making m ds lists) (making m ds' lists') op at us bs vs r k h
+    operate_taken (making m ds lists) (making m' ds' lists') op at us bs vs r k h
     (w at us bs (subst (λ (qs : List Pair). DrawsEach (stand_of m).trees ds us qs) (sym e) s.0) (subst (λ (js : List ℕ). ListsEach lists js bs) (sym f) s.1) k)
 
 pub operate_reals : (m m' : BuilderModel) (ds ds' : List SketchNode) (lists lists' : List (List Bound)) (op : Operator) (at : Place) (vs : List Value) (ks : List ℕ) (r : Result Value Stop) → ks ≡ map node_number vs → are_real vs ≡ true →
@@ -429,6 +429,6 @@ pub nodes_there : (m : BuilderModel) (ds : List SketchNode) (lists : List (List 
 nodes_there m ds lists vs ks h e b = subst (λ (js : List ℕ). AreNodes m js) (sym e) (reals_seen m ds lists h.0 h.1 vs h.2 b).2
 
 pub operate_arms : (m m' : BuilderModel) (ds ds' : List SketchNode) (lists lists' : List (List Bound)) (op : Operator) (at : Place) (vs : List Value) (r : Result Value Stop) → true ≡ takes_of op (are_arms vs) (are_bool vs) (are_picked vs) (length vs) →
-    ArmsDo m m' ds ds' lists lists' at op vs r → Operates (making m ds lists) (making m' ds' lists') at op vs r
+    ArmsDo (making m ds lists) (making m' ds' lists') at op vs r → Operates (making m ds lists) (making m' ds' lists') at op vs r
 operate_arms m m' ds ds' lists lists' op at vs r t w = λ us bs h. let k = takes_seen (making m ds lists) op us bs vs true t h in
     operate_taken (making m ds lists) (making m' ds' lists') op at us bs vs r k h (w us bs h k)

@@ -21,16 +21,16 @@ use Rattle.term_build.proofs.Emits.{tree_below}
 use Rattle.value_build.specs.Arithmetic.{operator_of_step, tree_of_step}
 use Rattle.value_build.specs.Arms.{terms_of, linked, link_bounds, LinksEach, Calculates, AreSomeValues, hold_choice}
 use Rattle.value_build.specs.Chains.{others_of, spread_over}
-use Rattle.value_build.specs.Making.{making}
+use Rattle.value_build.specs.Making.{Making, making}
 use Rattle.value_build.specs.Operators.{are_arms, are_bool, are_real, are_picked, takes_of, node_number, pair_number}
-use Rattle.value_build.specs.Values.{IsArm, is_tree, is_choice, AreValues}
+use Rattle.value_build.specs.Values.{IsArm, is_tree, is_choice, AreKnown, AreValues}
 use Rattle.value_build.specs.declared.arithmetic.Step.{Step}
 use Rattle.value_build.specs.declared.arithmetic.Step.TheVariants.{Add, Subtract, Multiply, Divide}
 use Rattle.value_build.specs.declared.chains.Spread.{Spread}
 use Rattle.value_build.specs.declared.chains.Spread.TheVariants.{Next, Later}
 use Rattle.value_build.specs.declared.value.Value.{Value}
 use Rattle.value_build.specs.declared.value.Value.TheVariants as values
-use Rattle.value_build.proofs.Arming.{hold_is, relist_all}
+use Rattle.value_build.proofs.Arming.{hold_is}
 use Rattle.value_build.proofs.Lifting.{tree_parts, compared_is}
 use Rattle.value_build.proofs.Operating.{facts}
 
@@ -365,11 +365,9 @@ spread-some Next f (u ∷ v ∷ us) n = some-more (f u v) _
 spread-some Later f (u ∷ v ∷ us) n = some-more (f u v) _
 
 -- links are Bool, and of two values or more there are some
-pub links_made : (m m1 : BuilderModel) (ds ds1 : List SketchNode) (lists lists1 : List (List Bound)) (s : Spread) (kind : Kind) (at : Place) (vs links : List Value) → LinksEach {X = Unit {0}} m ds lists m1 ds1 lists1 s kind at vs [] links (Ok tt) →
-    are_arms vs ≡ true → AreSomeValues m ds vs → 1 < length vs → (are_bool links ≡ true) × (0 < length links)
-links_made m m1 ds ds1 lists lists1 s kind at vs links h e j n =
-    let us = j.1 in let bs = j.2 in
-    let k = h us bs [] [] (relist_all m ds j.0 lists us bs vs e j.3) tt in
-    let f = facts (making m1 ds1 lists1) (spread_over s (linked s kind at) us) (spread_over s (link_bounds s kind) bs) links k.1.1.1 in
-    let g = facts (making m ds j.0) us bs vs j.3 in
+pub links_made : (old new : Making) (s : Spread) (kind : Kind) (at : Place) (vs links : List Value) → LinksEach {X = Unit {0}} old new s kind at vs [] links (Ok tt) → AreKnown old vs → 1 < length vs → (are_bool links ≡ true) × (0 < length links)
+links_made old new s kind at vs links h j n =
+    let us = j.0 in let bs = j.1 in
+    let f = facts new (spread_over s (linked s kind at) us) (spread_over s (link_bounds s kind) bs) links (h us bs [] [] j.2 tt).1.1 in
+    let g = facts old us bs vs j.2 in
     (sym f.bools ∙ spread-formulas s kind at us, omega (arith, f.count, g.count, spread-some s (linked s kind at) us (omega (arith, n, g.count))))

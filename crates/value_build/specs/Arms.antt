@@ -22,7 +22,7 @@ use Rattle.value_build.specs.Weights.{weights}
 use Rattle.value_build.specs.Chains.{spread_over}
 use Rattle.value_build.specs.declared.chains.Spread.{Spread}
 use Rattle.value_build.specs.declared.chains.Spread.TheVariants.{Next, Later}
-use Rattle.value_build.specs.Making.{making, Steps}
+use Rattle.value_build.specs.Making.{Making, making, Steps}
 use Rattle.value_build.specs.Values.{IsArm, IsValue, AreValues}
 use Rattle.value_build.specs.declared.arithmetic.Step.{Step}
 use Rattle.value_build.specs.declared.arithmetic.Step.TheVariants.{Divide}
@@ -145,22 +145,22 @@ abbrev pub link_bounds : Spread → Kind → Bounding → Bounding → Bounding
 link_bounds Next kind b c = bounds (bounds_of_kind kind b c)
 link_bounds Later kind b c = bounds []
 
-abbrev pub Links : BuilderModel → List SketchNode → List (List Bound) → BuilderModel → List SketchNode → List (List Bound) → Spread → Kind → Place → Value → Value → Result Value Stop → Type 0
-Links m ds lists m' ds' lists' s kind at v w r = (u x : Unfolded) (b c : Bounding) → IsValue (making m ds lists) u b v → IsValue (making m ds lists) x c w →
-    Steps (making m ds lists) (making m' ds' lists') (compare_events u x) r (λ y. IsSketch m' ds' × IsValue (making m' ds' lists') (linked s kind at u x) (link_bounds s kind b c) y)
+abbrev pub Links : Making → Making → Spread → Kind → Place → Value → Value → Result Value Stop → Type 0
+Links old new s kind at v w r = (u x : Unfolded) (b c : Bounding) → IsValue old u b v → IsValue old x c w →
+    Steps old new (compare_events u x) r (IsValue new (linked s kind at u x) (link_bounds s kind b c))
 
 -- of a first value with each of others, behind what was linked
-abbrev pub LinksWith : {X : Type 0} → BuilderModel → List SketchNode → List (List Bound) → BuilderModel → List SketchNode → List (List Bound) → Spread → Kind → Place → Value → List Value → List Value → List Value → Result X Stop → Type 0
-LinksWith m ds lists m' ds' lists' s kind at v vs links links' r = (u : Unfolded) (b : Bounding) (us : List Unfolded) (bs : List Bounding) (ls : List Unfolded) (cs : List Bounding) →
-    IsValue (making m ds lists) u b v → AreValues (making m ds lists) us bs vs → AreValues (making m ds lists) ls cs links →
-    Steps (making m ds lists) (making m' ds' lists') (together (map (compare_events u) us)) r
-    (λ _. IsSketch m' ds' × AreValues (making m' ds' lists') (ls ++ map (linked s kind at u) us) (cs ++ map (link_bounds s kind b) bs) links')
+abbrev pub LinksWith : {X : Type 0} → Making → Making → Spread → Kind → Place → Value → List Value → List Value → List Value → Result X Stop → Type 0
+LinksWith old new s kind at v vs links links' r = (u : Unfolded) (b : Bounding) (us : List Unfolded) (bs : List Bounding) (ls : List Unfolded) (cs : List Bounding) →
+    IsValue old u b v → AreValues old us bs vs → AreValues old ls cs links →
+    Steps old new (together (map (compare_events u) us)) r
+    (λ _. AreValues new (ls ++ map (linked s kind at u) us) (cs ++ map (link_bounds s kind b) bs) links')
 
-abbrev pub LinksEach : {X : Type 0} → BuilderModel → List SketchNode → List (List Bound) → BuilderModel → List SketchNode → List (List Bound) → Spread → Kind → Place → List Value → List Value → List Value → Result X Stop → Type 0
-LinksEach m ds lists m' ds' lists' s kind at vs links links' r = (us : List Unfolded) (bs : List Bounding) (ls : List Unfolded) (cs : List Bounding) →
-    AreValues (making m ds lists) us bs vs → AreValues (making m ds lists) ls cs links →
-    Steps (making m ds lists) (making m' ds' lists') (together (spread_over s compare_events us)) r
-    (λ _. IsSketch m' ds' × AreValues (making m' ds' lists') (ls ++ spread_over s (linked s kind at) us) (cs ++ spread_over s (link_bounds s kind) bs) links')
+abbrev pub LinksEach : {X : Type 0} → Making → Making → Spread → Kind → Place → List Value → List Value → List Value → Result X Stop → Type 0
+LinksEach old new s kind at vs links links' r = (us : List Unfolded) (bs : List Bounding) (ls : List Unfolded) (cs : List Bounding) →
+    AreValues old us bs vs → AreValues old ls cs links →
+    Steps old new (together (spread_over s compare_events us)) r
+    (λ _. AreValues new (ls ++ spread_over s (linked s kind at) us) (cs ++ spread_over s (link_bounds s kind) bs) links')
 
 -- ---- a Real `ite`
 
@@ -186,17 +186,17 @@ abbrev pub joined : Spread → List Unfolded → Unfolded
 joined Next us = chain us
 joined Later us = and_of us
 
-abbrev pub Joins : BuilderModel → List SketchNode → List SketchNode → List (List Bound) → List (List Bound) → Spread → List Value → Result Value Stop → Type 0
-Joins m ds ds' lists lists' s links r = (us : List Unfolded) (bs : List Bounding) → AreValues (making m ds lists) us bs links →
-    Steps (making m ds lists) (making m ds' lists') [] r (IsValue (making m ds' lists') (joined s us) (bounds (concat (map bounds_in bs))))
+abbrev pub Joins : Making → Making → Spread → List Value → Result Value Stop → Type 0
+Joins old new s links r = (us : List Unfolded) (bs : List Bounding) → AreValues old us bs links →
+    Steps old new [] r (IsValue new (joined s us) (bounds (concat (map bounds_in bs))))
 
 -- comparisons of each two that belong together
-abbrev pub SaysAll : BuilderModel → List SketchNode → List (List Bound) → BuilderModel → List SketchNode → List (List Bound) → Spread → Kind → Place → List Value → Result Value Stop → Type 0
-SaysAll m ds lists m' ds' lists' s kind at vs r = (us : List Unfolded) (bs : List Bounding) → AreValues (making m ds lists) us bs vs →
-    Steps (making m ds lists) (making m' ds' lists') (together (spread_over s compare_events us)) r
-    (IsValue (making m' ds' lists') (joined s (spread_over s (linked s kind at) us)) (bounds (concat (map bounds_in (spread_over s (link_bounds s kind) bs)))))
+abbrev pub SaysAll : Making → Making → Spread → Kind → Place → List Value → Result Value Stop → Type 0
+SaysAll old new s kind at vs r = (us : List Unfolded) (bs : List Bounding) → AreValues old us bs vs →
+    Steps old new (together (spread_over s compare_events us)) r
+    (IsValue new (joined s (spread_over s (linked s kind at) us)) (bounds (concat (map bounds_in (spread_over s (link_bounds s kind) bs)))))
 
--- an arithmetic operator, whatever the lists of bounds are
-abbrev pub ArmsMake : BuilderModel → List SketchNode → BuilderModel → List SketchNode → Place → Operator → List Value → Result Value Stop → Type 0
-ArmsMake m ds m' ds' at op vs r = (lists : List (List Bound)) (us : List Unfolded) (bs : List Bounding) → AreValues (making m ds lists) us bs vs →
-    Steps (making m ds lists) (making m' ds' lists) (operation_events at op us) r (λ v. (k : ℕ) × (v ≡ values.Choice k) × IsArm m' ds' (unfolded_operation at op us) (arm.Choice k))
+-- an arithmetic operator
+abbrev pub ArmsMake : Making → Making → Place → Operator → List Value → Result Value Stop → Type 0
+ArmsMake old new at op vs r = (us : List Unfolded) (bs : List Bounding) → AreValues old us bs vs →
+    Steps old new (operation_events at op us) r (λ v. (k : ℕ) × (v ≡ values.Choice k) × IsArm new.made new.drawn (unfolded_operation at op us) (arm.Choice k))

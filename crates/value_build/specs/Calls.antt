@@ -1,5 +1,5 @@
--- What the calls answer, in values of the code: what a builder has made, a sketch and a table of bounds, as they were and as
--- they are then.
+-- What the calls answer, in values of the code: what is made, or a part of it (what a builder has made, a sketch, a table of
+-- bounds), as it was and as it is then.
 use Rattle.std.specs.Prelude.{◌≡◌, ℕ, List, Bool, false, length, Result, Vec}
 use Rattle.std.specs.Global.{Global}
 use Rattle.std.specs.declared.alloc.AllocError.{AllocError}
@@ -29,15 +29,15 @@ use Rattle.term_build.specs.declared.stop.Stop.{Stop}
 use Rattle.declared_box.specs.Views.{side_of}
 use Rattle.declared_box.specs.declared.table.Side.{Side}
 use Rattle.value_build.specs.Arithmetic.{events_of_step, operator_of_step, tree_of_step}
-use Rattle.value_build.specs.Arms.{ArmsMake, Calculates, Folds, Joins, LiftsOne, LiftsTwo, Links, LinksEach, LinksWith, SaysAll, SaysTwo, arm_bounds, events_of_leaf, tree_of_leaf}
+use Rattle.value_build.specs.Arms.{ArmsMake, Calculates, Folds, LiftsOne, LiftsTwo, Links, LinksEach, LinksWith, SaysAll, SaysTwo, arm_bounds, events_of_leaf, tree_of_leaf}
 use Rattle.value_build.specs.Bounds.{AddsBounds, bounds_of_kind, chained_bounds, first_bounds, weight_of}
 use Rattle.value_build.specs.Chains.{AddsComparisons, AddsConnected, ComparesEach, ConnectsEach, two_of}
-use Rattle.value_build.specs.Leaves.{MakesSwitch, MakesTree}
-use Rattle.value_build.specs.Making.{Making, Steps, making}
-use Rattle.value_build.specs.Operators.{ArmsDo, BoolsDo, ComparesAll, DiffersAll, RealsDo, RealsMake, are_arms, are_picked, bool_operation, given_bounds, takes_of}
-use Rattle.value_build.specs.Values.{IsValue, Operates}
+use Rattle.value_build.specs.Making.{Making, Steps}
+use Rattle.value_build.specs.Operators.{ArmsDo, BoolsDo, ComparesAll, DiffersAll, RealsDo, are_arms, are_picked, bool_operation, given_bounds, takes_of}
+use Rattle.value_build.specs.Values.{IsValue}
 use Rattle.value_build.specs.Weights.{weights}
 use Rattle.value_build.specs.declared.arithmetic.Step.{Step}
+use Rattle.value_build.specs.declared.arms.Comparing.{Comparing}
 use Rattle.value_build.specs.declared.bounds.Weight.{Weight}
 use Rattle.value_build.specs.declared.chains.Spread.{Spread}
 use Rattle.value_build.specs.declared.lift.Leaf.{Leaf}
@@ -65,12 +65,6 @@ MakesLiteral old new digits decimals r =
 
 abbrev pub number_term : Frac → Term
 number_term number = constant (fraction_of_frac number)
-
-abbrev pub MakesLeaf : BuilderModel → Sketch → BuilderModel → Sketch → Term → Result Value Stop → Type 0
-MakesLeaf m s m' s' t r = MakesTree m (drawn s) m' (drawn s') t r
-
-abbrev pub Switches : BuilderModel → Sketch → Sketch → BoundLists → BoundLists → ℕ → Result Value Stop → Type 0
-Switches m s s' lists lists' axis r = MakesSwitch m (drawn s) (drawn s') lists lists' axis r
 
 -- ---- arithmetic of trees
 
@@ -108,11 +102,11 @@ FoldsIn m s m' s' at step first rest r = Folds m (drawn s) m' (drawn s') (place_
 abbrev pub Yields : BuilderModel → Sketch → BuilderModel → Sketch → Place → Step → Value → List Value → Result Arm Stop → Type 0
 Yields m s m' s' at step first rest r = Calculates m (drawn s) m' (drawn s') (place_of at) step first rest r
 
-abbrev pub ValuesMake : BuilderModel → Sketch → BuilderModel → Sketch → Place → Step → List Value → Result Value Stop → Type 0
-ValuesMake m s m' s' at step values r = ArmsMake m (drawn s) m' (drawn s') (place_of at) (operator_of_step step) values r
+abbrev pub ValuesMake : Making → Making → Place → Step → List Value → Result Value Stop → Type 0
+ValuesMake old new at step values r = ArmsMake old new (place_of at) (operator_of_step step) values r
 
-abbrev pub TreesMake : BuilderModel → Sketch → BuilderModel → Sketch → Place → Step → List ℕ → Result Value Stop → Type 0
-TreesMake m s m' s' at step nodes r = RealsMake m (drawn s) m' (drawn s') (place_of at) (operator_of_step step) nodes r
+abbrev pub TreesMake : Making → Making → Place → Step → List ℕ → Result Value Stop → Type 0
+TreesMake old new at step nodes r = RealsDo old new (place_of at) (operator_of_step step) nodes r
 
 -- ---- bounds of comparisons
 
@@ -160,36 +154,33 @@ abbrev pub ConnectsSpread : Spread → Sketch → Sketch → List Pair → Resul
 ConnectsSpread spread s s' pairs r = ConnectsEach (λ ps. ps.items) spread (two_of spread) (drawn s) (drawn s') pairs r
 
 -- a chain of comparisons
-abbrev pub Chains : BuilderModel → Sketch → Sketch → BoundLists → BoundLists → Kind → Place → List ℕ → Result Value Stop → Type 0
-Chains m s s' lists lists' kind at nodes r = ComparesAll m (drawn s) (drawn s') lists lists' (kind_of kind) (place_of at) nodes r
+abbrev pub Chains : Making → Making → Kind → Place → List ℕ → Result Value Stop → Type 0
+Chains old new kind at nodes r = ComparesAll old new (kind_of kind) (place_of at) nodes r
 
 -- that each two differ
-abbrev pub Differ : BuilderModel → Sketch → Sketch → BoundLists → BoundLists → Place → List ℕ → Result Value Stop → Type 0
-Differ m s s' lists lists' at nodes r = DiffersAll m (drawn s) (drawn s') lists lists' (place_of at) nodes r
+abbrev pub Differ : Making → Making → Place → List ℕ → Result Value Stop → Type 0
+Differ old new at nodes r = DiffersAll old new (place_of at) nodes r
 
 -- ---- comparisons of arms
 
 abbrev pub SaysArms : BuilderModel → Sketch → BuilderModel → Sketch → Kind → Place → Arm → Arm → Result Pair Stop → Type 0
 SaysArms m s m' s' kind at arm second r = SaysTwo m (drawn s) m' (drawn s') (kind_of kind) (place_of at) arm second r
 
-abbrev pub LinksTwo : BuilderModel → Sketch → BoundLists → BuilderModel → Sketch → BoundLists → Spread → Kind → Place → Value → Value → Result Value Stop → Type 0
-LinksTwo m s lists m' s' lists' spread kind at first second r = Links m (drawn s) lists m' (drawn s') lists' spread (kind_of kind) (place_of at) first second r
+abbrev pub LinksTwo : Making → Making → Comparing → Value → Value → Result Value Stop → Type 0
+LinksTwo old new how first second r = Links old new how.spread (kind_of how.kind) (place_of how.at) first second r
 
 -- of a first value with each of others, behind the links before
-abbrev pub LinksOthers : {X : Type 0} → BuilderModel → Sketch → BoundLists → BuilderModel → Sketch → BoundLists → Spread → Kind → Place → Value → List Value → Vec Value Global → Vec Value Global → Result X Stop → Type 0
-LinksOthers m s lists m' s' lists' spread kind at first others links links' r =
-    LinksWith m (drawn s) lists m' (drawn s') lists' spread (kind_of kind) (place_of at) first others links.items links'.items r
+abbrev pub LinksOthers : {X : Type 0} → Making → Making → Comparing → Value → List Value → Vec Value Global → Vec Value Global → Result X Stop → Type 0
+LinksOthers old new how first others links links' r =
+    LinksWith old new how.spread (kind_of how.kind) (place_of how.at) first others links.items links'.items r
 
 -- of each two values that belong together, behind the links before
-abbrev pub LinksValues : {X : Type 0} → BuilderModel → Sketch → BoundLists → BuilderModel → Sketch → BoundLists → Spread → Kind → Place → List Value → Vec Value Global → Vec Value Global → Result X Stop → Type 0
-LinksValues m s lists m' s' lists' spread kind at values links links' r =
-    LinksEach m (drawn s) lists m' (drawn s') lists' spread (kind_of kind) (place_of at) values links.items links'.items r
+abbrev pub LinksValues : {X : Type 0} → Making → Making → Comparing → List Value → Vec Value Global → Vec Value Global → Result X Stop → Type 0
+LinksValues old new how values links links' r =
+    LinksEach old new how.spread (kind_of how.kind) (place_of how.at) values links.items links'.items r
 
-abbrev pub JoinsLinks : BuilderModel → Sketch → Sketch → BoundLists → BoundLists → Spread → List Value → Result Value Stop → Type 0
-JoinsLinks m s s' lists lists' spread links r = Joins m (drawn s) (drawn s') lists lists' spread links r
-
-abbrev pub ComparesValues : BuilderModel → Sketch → BoundLists → BuilderModel → Sketch → BoundLists → Spread → Kind → Place → List Value → Result Value Stop → Type 0
-ComparesValues m s lists m' s' lists' spread kind at values r = SaysAll m (drawn s) lists m' (drawn s') lists' spread (kind_of kind) (place_of at) values r
+abbrev pub ComparesValues : Making → Making → Comparing → List Value → Result Value Stop → Type 0
+ComparesValues old new how values r = SaysAll old new how.spread (kind_of how.kind) (place_of how.at) values r
 
 -- ---- operators
 
@@ -201,14 +192,11 @@ operation_of operator us = bool_operation (operator_of operator) us
 abbrev pub takes_arms : Operator → List Value → Bool
 takes_arms operator values = takes_of (operator_of operator) (are_arms values) false (are_picked values) (length values)
 
-abbrev pub TreesDo : BuilderModel → Sketch → BoundLists → BuilderModel → Sketch → BoundLists → Place → Operator → List ℕ → Result Value Stop → Type 0
-TreesDo m s lists m' s' lists' at operator nodes r = RealsDo (making m (drawn s) lists) (making m' (drawn s') lists') (place_of at) (operator_of operator) nodes r
+abbrev pub TreesDo : Making → Making → Place → Operator → List ℕ → Result Value Stop → Type 0
+TreesDo old new at operator nodes r = RealsDo old new (place_of at) (operator_of operator) nodes r
 
-abbrev pub PairsDo : BuilderModel → Sketch → Sketch → BoundLists → BoundLists → Operator → List Pair → Numbers → Result Value Stop → Type 0
-PairsDo m s s' lists lists' operator pairs numbers r = BoolsDo m (drawn s) (drawn s') lists lists' (operator_of operator) pairs numbers.items r
+abbrev pub PairsDo : Making → Making → Operator → List Pair → Numbers → Result Value Stop → Type 0
+PairsDo old new operator pairs numbers r = BoolsDo old new (operator_of operator) pairs numbers.items r
 
-abbrev pub OverArms : BuilderModel → Sketch → BoundLists → BuilderModel → Sketch → BoundLists → Place → Operator → List Value → Result Value Stop → Type 0
-OverArms m s lists m' s' lists' at operator values r = ArmsDo m m' (drawn s) (drawn s') lists lists' (place_of at) (operator_of operator) values r
-
-abbrev pub Applies : BuilderModel → Sketch → BoundLists → BuilderModel → Sketch → BoundLists → Place → Operator → List Value → Result Value Stop → Type 0
-Applies m s lists m' s' lists' at operator values r = Operates (making m (drawn s) lists) (making m' (drawn s') lists') (place_of at) (operator_of operator) values r
+abbrev pub OverArms : Making → Making → Place → Operator → List Value → Result Value Stop → Type 0
+OverArms old new at operator values r = ArmsDo old new (place_of at) (operator_of operator) values r

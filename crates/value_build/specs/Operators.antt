@@ -15,7 +15,7 @@ use Rattle.term_build.specs.Pairs.{DrawsEach, compared, trees_at, same_of}
 use Rattle.term_build.specs.declared.connectives.Pair.{Pair}
 use Rattle.term_build.specs.declared.stop.Stop.{Stop}
 use Rattle.declared_box.specs.Table.{all_of}
-use Rattle.value_build.specs.Making.{Making, making, Steps}
+use Rattle.value_build.specs.Making.{Making, Steps}
 use Rattle.value_build.specs.Values.{IsValue, AreValues, Lists}
 use Rattle.value_build.specs.Weights.{WeighsEach}
 use Rattle.value_build.specs.Bounds.{chained_bounds}
@@ -81,19 +81,15 @@ abbrev pub RealsDo : Making → Making → Place → Operator → List ℕ → R
 RealsDo old new at op ks r = (bs : List Bounding) → WeighsEach (stand_of old.made).trees ks bs → takes op (trees_at (stand_of old.made).trees ks) ≡ true →
     Steps old new (operation_events at op (trees_at (stand_of old.made).trees ks)) r (IsValue new (unfolded_operation at op (trees_at (stand_of old.made).trees ks)) (bounding_operation op bs))
 
--- whatever the lists of bounds are
-abbrev pub RealsMake : BuilderModel → List SketchNode → BuilderModel → List SketchNode → Place → Operator → List ℕ → Result Value Stop → Type 0
-RealsMake m ds m' ds' at op ks r = (lists : List (List Bound)) → RealsDo (making m ds lists) (making m' ds' lists) at op ks r
-
 -- a chain of comparisons
-abbrev pub ComparesAll : BuilderModel → List SketchNode → List SketchNode → List (List Bound) → List (List Bound) → Kind → Place → List ℕ → Result Value Stop → Type 0
-ComparesAll m ds ds' lists lists' kind at ks r = (bs : List Bounding) → WeighsEach (stand_of m).trees ks bs →
-    Steps (making m ds lists) (making m ds' lists') [] r (IsValue (making m ds' lists') (chain (neighbours (compared kind at) (trees_at (stand_of m).trees ks))) (bounds (chained_bounds kind bs)))
+abbrev pub ComparesAll : Making → Making → Kind → Place → List ℕ → Result Value Stop → Type 0
+ComparesAll old new kind at ks r = (bs : List Bounding) → WeighsEach (stand_of old.made).trees ks bs →
+    Steps old new [] r (IsValue new (chain (neighbours (compared kind at) (trees_at (stand_of old.made).trees ks))) (bounds (chained_bounds kind bs)))
 
 -- that each two differ
-abbrev pub DiffersAll : BuilderModel → List SketchNode → List SketchNode → List (List Bound) → List (List Bound) → Place → List ℕ → Result Value Stop → Type 0
-DiffersAll m ds ds' lists lists' at ks r =
-    Steps (making m ds lists) (making m ds' lists') [] r (IsValue (making m ds' lists') (different (pairs (compared eq at) (trees_at (stand_of m).trees ks))) (bounds []))
+abbrev pub DiffersAll : Making → Making → Place → List ℕ → Result Value Stop → Type 0
+DiffersAll old new at ks r =
+    Steps old new [] r (IsValue new (different (pairs (compared eq at) (trees_at (stand_of old.made).trees ks))) (bounds []))
 
 -- ---- Bool arguments
 
@@ -136,12 +132,12 @@ ListsEach lists (n ∷ ns) (b ∷ bs) = ((xs : List Bound) × (b ≡ bounds xs) 
 ListsEach lists _ _ = ⊥
 
 -- an operator is applied to what these pairs and lists are
-abbrev pub BoolsDo : BuilderModel → List SketchNode → List SketchNode → List (List Bound) → List (List Bound) → Operator → List Pair → List ℕ → Result Value Stop → Type 0
-BoolsDo m ds ds' lists lists' op ps ns r = (at : Place) (us : List Unfolded) (bs : List Bounding) → DrawsEach (stand_of m).trees ds us ps → ListsEach lists ns bs → takes op us ≡ true →
-    Steps (making m ds lists) (making m ds' lists') (operation_events at op us) r (IsValue (making m ds' lists') (unfolded_operation at op us) (bounding_operation op bs))
+abbrev pub BoolsDo : Making → Making → Operator → List Pair → List ℕ → Result Value Stop → Type 0
+BoolsDo old new op ps ns r = (at : Place) (us : List Unfolded) (bs : List Bounding) → DrawsEach (stand_of old.made).trees old.drawn us ps → ListsEach old.bounds ns bs → takes op us ≡ true →
+    Steps old new (operation_events at op us) r (IsValue new (unfolded_operation at op us) (bounding_operation op bs))
 
 -- ---- Real arguments that hold an `ite`, or the arguments of one
 
-abbrev pub ArmsDo : BuilderModel → BuilderModel → List SketchNode → List SketchNode → List (List Bound) → List (List Bound) → Place → Operator → List Value → Result Value Stop → Type 0
-ArmsDo m m' ds ds' lists lists' at op vs r = (us : List Unfolded) (bs : List Bounding) → AreValues (making m ds lists) us bs vs → takes op us ≡ true →
-    Steps (making m ds lists) (making m' ds' lists') (operation_events at op us) r (IsValue (making m' ds' lists') (unfolded_operation at op us) (bounding_operation op bs))
+abbrev pub ArmsDo : Making → Making → Place → Operator → List Value → Result Value Stop → Type 0
+ArmsDo old new at op vs r = (us : List Unfolded) (bs : List Bounding) → AreValues old us bs vs → takes op us ≡ true →
+    Steps old new (operation_events at op us) r (IsValue new (unfolded_operation at op us) (bounding_operation op bs))

@@ -7,15 +7,15 @@ ghost use Rattle.value_build.specs.Arithmetic.{is_difference};
 ghost use Rattle.value_build.specs.Arms.{AreSomeValues, IsSomeArm, IsSomeValue, Picks, arm_of, hold_choice, is_quotient};
 ghost use Rattle.value_build.specs.Bounds.{AddsList};
 ghost use Rattle.value_build.specs.Calls.{FoldsIn, LinksOthers, LinksTwo, LinksValues, Yields, bounds_between};
-ghost use Rattle.value_build.specs.Making.{making};
 ghost use Rattle.value_build.specs.Operators.{are_arms, are_bool};
-ghost use Rattle.value_build.specs.Values.{AreKnown};
+ghost use Rattle.value_build.specs.Values.{AreKnown, IsKnown};
 
 use crate::arithmetic::{Step, is_difference};
 use crate::bounds::chain_bounds;
 use crate::chains::{Spread, others_of};
 use crate::lift::{Leaf, compare_arms, lift_one, lift_two};
-use crate::operate::no_bounds;
+use crate::maker::Maker;
+use crate::operate::{give_up, no_bounds};
 use crate::value::Value;
 use declared_box::BoundTable;
 use poly_graph::Kind;
@@ -111,6 +111,14 @@ pub(crate) fn calculate_values(
 
 // ---- comparisons
 
+/// How values are compared: the place of the operator, the kind of comparison, and which two values belong together.
+#[derive(Clone, Copy)]
+pub(crate) struct Comparing {
+    pub(crate) at: Place,
+    pub(crate) kind: Kind,
+    pub(crate) spread: Spread,
+}
+
 // The bounds of a comparison of two arms, as a list of its own: of trees alone there are any.
 fn pair_bounds(
     alloc: Global,
@@ -133,34 +141,42 @@ fn pair_bounds(
 // What two values that belong together say: that they compare so, or that they differ.
 fn link(
     alloc: Global,
-    builder: &mut Builder,
-    sketch: &mut Vec<SketchNode>,
-    bounds: &mut BoundTable,
-    at: Place,
-    kind: Kind,
-    spread: Spread,
+    maker: &mut Maker,
+    comparing: Comparing,
     first: Value,
     second: Value,
 ) -> Result<Value, Stop>
-    requires first { IsSomeValue builder.old (drawn sketch.old) first }
-    requires second { IsSomeValue builder.old (drawn sketch.old) second }
+    requires first { IsKnown maker.old first }
+    requires second { IsKnown maker.old second }
     requires arms { are_arms (first ∷ second ∷ []) ≡ true }
-    requires sketched { IsSketch builder.old (drawn sketch.old) }
-    ensures does { LinksTwo builder.old sketch.old bounds.old builder.new sketch.new bounds.new
-        spread kind at first second result }
-    ensures sorts { builder.new.sorts ≡ builder.old.sorts }
+    ensures does { LinksTwo maker.old maker.new comparing first second result }
+    ensures sorts { maker.new.made.sorts ≡ maker.old.made.sorts }
 {
+    let kind = comparing.kind;
     let one = arm_of(first);
     let other = arm_of(second);
-    let pair = compare_arms(alloc, builder, sketch, at, kind, one, other)?;
-    match spread {
-        Spread::Next => {
-            let list = pair_bounds(alloc, builder, bounds, kind, one, other)?;
-            Ok(Value::Bool(pair, list))
-        }
-        Spread::Later => {
-            let list = no_bounds(alloc, bounds)?;
-            Ok(Value::Bool(pair.not(), list))
+    match compare_arms(
+        &mut maker.builder,
+        &mut maker.sketch,
+        comparing.at,
+        kind,
+        one,
+        other,
+    ) {
+        Ok(pair) => match comparing.spread {
+            Spread::Next => {
+                let (builder, bounds) = (&maker.builder, &mut maker.bounds);
+                let list = pair_bounds(alloc, builder, bounds, kind, one, other)?;
+                Ok(Value::Bool(pair, list))
+            }
+            Spread::Later => {
+                let list = no_bounds(alloc, &mut maker.bounds)?;
+                Ok(Value::Bool(pair.not(), list))
+            }
+        },
+        Err(stop) => {
+            give_up(&mut maker.sketch);
+            Err(stop)
         }
     }
 }
@@ -168,30 +184,23 @@ fn link(
 // The same of a first value and each of others, after what was linked.
 fn link_with(
     alloc: Global,
-    builder: &mut Builder,
-    sketch: &mut Vec<SketchNode>,
-    bounds: &mut BoundTable,
-    at: Place,
-    kind: Kind,
-    spread: Spread,
+    maker: &mut Maker,
+    comparing: Comparing,
     first: Value,
     others: &[Value],
     links: &mut Vec<Value>,
 ) -> Result<(), Stop>
-    requires first { IsSomeValue builder.old (drawn sketch.old) first }
-    requires others { AreSomeValues builder.old (drawn sketch.old) others.now }
-    requires links { AreKnown (making builder.old (drawn sketch.old) bounds.old) links.old.items }
+    requires first { IsKnown maker.old first }
+    requires others { AreKnown maker.old others.now }
+    requires links { AreKnown maker.old links.old.items }
     requires arms { are_arms (first ∷ others.now) ≡ true }
-    requires sketched { IsSketch builder.old (drawn sketch.old) }
-    ensures does { LinksOthers builder.old sketch.old bounds.old builder.new sketch.new bounds.new
-        spread kind at first others.now links.old links.new result }
-    ensures sorts { builder.new.sorts ≡ builder.old.sorts }
+    ensures does { LinksOthers maker.old maker.new comparing
+        first others.now links.old links.new result }
+    ensures sorts { maker.new.made.sorts ≡ maker.old.made.sorts }
 {
     let mut left = others;
     while let Some((other, later)) = left.split_first() {
-        let made = link(
-            alloc, builder, sketch, bounds, at, kind, spread, first, *other,
-        )?;
+        let made = link(alloc, maker, comparing, first, *other)?;
         links.push(made)?;
         left = later;
     }
@@ -201,29 +210,22 @@ fn link_with(
 /// The same of each two values that belong together.
 pub(crate) fn link_each(
     alloc: Global,
-    builder: &mut Builder,
-    sketch: &mut Vec<SketchNode>,
-    bounds: &mut BoundTable,
-    at: Place,
-    kind: Kind,
-    spread: Spread,
+    maker: &mut Maker,
+    comparing: Comparing,
     values: &[Value],
     links: &mut Vec<Value>,
 ) -> Result<(), Stop>
-    requires values { AreSomeValues builder.old (drawn sketch.old) values.now }
-    requires links { AreKnown (making builder.old (drawn sketch.old) bounds.old) links.old.items }
+    requires values { AreKnown maker.old values.now }
+    requires links { AreKnown maker.old links.old.items }
     requires arms { are_arms values.now ≡ true }
-    requires sketched { IsSketch builder.old (drawn sketch.old) }
-    ensures does { LinksValues builder.old sketch.old bounds.old builder.new sketch.new bounds.new
-        spread kind at values.now links.old links.new result }
-    ensures sorts { builder.new.sorts ≡ builder.old.sorts }
+    ensures does { LinksValues maker.old maker.new comparing
+        values.now links.old links.new result }
+    ensures sorts { maker.new.made.sorts ≡ maker.old.made.sorts }
 {
     let mut left = values;
     while let Some((first, later)) = left.split_first() {
-        let others = others_of(spread, later);
-        link_with(
-            alloc, builder, sketch, bounds, at, kind, spread, *first, others, links,
-        )?;
+        let others = others_of(comparing.spread, later);
+        link_with(alloc, maker, comparing, *first, others, links)?;
         left = later;
     }
     Ok(())

@@ -3,74 +3,53 @@ ghost use Rattle.std.specs.Prelude.{◌≡◌};
 ghost use Rattle.dyadic.specs.Point.{bool_sort, real_sort};
 ghost use Rattle.poly_graph.specs.Problem.{HasSort};
 ghost use Rattle.poly_graph.specs.Term.{variable};
-ghost use Rattle.term_build.specs.Calls.{drawn};
-ghost use Rattle.term_build.specs.Sketch.{IsSketch};
-ghost use Rattle.value_build.specs.Calls.{MakesLeaf, Switches, number_term};
+ghost use Rattle.value_build.specs.Calls.{number_term};
+ghost use Rattle.value_build.specs.Leaves.{MakesSwitch, MakesTree};
 
+use crate::maker::Maker;
 use crate::operate::{give_up, no_bounds};
 use crate::value::Value;
-use declared_box::BoundTable;
 use dyadic::Frac;
 use poly_graph::Node;
 use std::alloc::Global;
-use term_build::{Builder, Pair, SketchNode, Stop};
+use term_build::{Pair, Stop};
 
 /// A constant number.
-pub(crate) fn number(
-    builder: &mut Builder,
-    sketch: &mut Vec<SketchNode>,
-    number: Frac,
-) -> Result<Value, Stop>
-    requires sketched { IsSketch builder.old (drawn sketch.old) }
-    ensures does { MakesLeaf builder.old sketch.old builder.new sketch.new
-        (number_term number) result }
-    ensures sketched { IsSketch builder.new (drawn sketch.new) }
-    ensures sorts { builder.new.sorts ≡ builder.old.sorts }
+pub(crate) fn number(maker: &mut Maker, number: Frac) -> Result<Value, Stop>
+    ensures does { MakesTree maker.old maker.new (number_term number) result }
+    ensures sorts { maker.new.made.sorts ≡ maker.old.made.sorts }
 {
-    match builder.make(Node::Const(number)) {
+    match maker.builder.make(Node::Const(number)) {
         Ok(node) => Ok(Value::Real(node)),
         Err(stop) => {
-            give_up(sketch);
+            give_up(&mut maker.sketch);
             Err(stop)
         }
     }
 }
 
 /// A Real constant of the script.
-pub(crate) fn real(
-    builder: &mut Builder,
-    sketch: &mut Vec<SketchNode>,
-    axis: u32,
-) -> Result<Value, Stop>
-    requires sort { HasSort real_sort builder.old.sorts axis }
-    requires sketched { IsSketch builder.old (drawn sketch.old) }
-    ensures does { MakesLeaf builder.old sketch.old builder.new sketch.new (variable axis) result }
-    ensures sketched { IsSketch builder.new (drawn sketch.new) }
-    ensures sorts { builder.new.sorts ≡ builder.old.sorts }
+pub(crate) fn real(maker: &mut Maker, axis: u32) -> Result<Value, Stop>
+    requires { HasSort real_sort maker.old.made.sorts axis }
+    ensures does { MakesTree maker.old maker.new (variable axis) result }
+    ensures sorts { maker.new.made.sorts ≡ maker.old.made.sorts }
 {
-    match builder.make(Node::Var(axis)) {
+    match maker.builder.make(Node::Var(axis)) {
         Ok(node) => Ok(Value::Real(node)),
         Err(stop) => {
-            give_up(sketch);
+            give_up(&mut maker.sketch);
             Err(stop)
         }
     }
 }
 
 /// A Bool constant of the script.
-pub(crate) fn switch(
-    alloc: Global,
-    builder: &Builder,
-    sketch: &mut Vec<SketchNode>,
-    bounds: &mut BoundTable,
-    axis: u32,
-) -> Result<Value, Stop>
-    requires sort { HasSort bool_sort builder.now.sorts axis }
-    requires sketched { IsSketch builder.now (drawn sketch.old) }
-    ensures does { Switches builder.now sketch.old sketch.new bounds.old bounds.new axis result }
-    ensures sketched { IsSketch builder.now (drawn sketch.new) }
+pub(crate) fn switch(alloc: Global, maker: &mut Maker, axis: u32) -> Result<Value, Stop>
+    requires { HasSort bool_sort maker.old.made.sorts axis }
+    ensures does { MakesSwitch maker.old maker.new axis result }
+    ensures sorts { maker.new.made.sorts ≡ maker.old.made.sorts }
 {
-    let pair = Pair::bool_is(sketch, axis)?;
-    let list = no_bounds(alloc, bounds)?;
+    let pair = Pair::bool_is(&mut maker.sketch, axis)?;
+    let list = no_bounds(alloc, &mut maker.bounds)?;
     Ok(Value::Bool(pair, list))
 }

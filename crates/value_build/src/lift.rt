@@ -127,19 +127,18 @@ fn spread(
     sketch: &[SketchNode],
     at: Place,
     task: Option<Leaf>,
-    first: Arm,
-    second: Arm,
+    meeting: Meeting,
 ) -> Result<Vec<Entry>, Stop>
-    requires first { IsSomeArm builder.old (map sketch_of sketch.now) first }
-    requires second { IsSomeArm builder.old (map sketch_of sketch.now) second }
+    requires first { IsSomeArm builder.old (map sketch_of sketch.now) meeting.first }
+    requires second { IsSomeArm builder.old (map sketch_of sketch.now) meeting.second }
     requires sketched { IsSketch builder.old (map sketch_of sketch.now) }
     ensures does { Spreads builder.old builder.new (map sketch_of sketch.now) task (place_of at)
-        first second result }
+        meeting.first meeting.second result }
     ensures sketched { OnOk result (IsSketch builder.new (map sketch_of sketch.now)) }
     ensures sorts { builder.new.sorts ≡ builder.old.sorts }
 {
     let mut left = VecDeque::new(alloc);
-    left.push_front(Meeting { first, second })?;
+    left.push_front(meeting)?;
     let mut entries = Vec::new(alloc);
     while let Some(meeting) = left.pop_front() {
         let entry = look(builder, sketch, at, task, meeting, &mut left)?;
@@ -258,15 +257,11 @@ pub(crate) fn lift_one(
     ensures sorts { builder.new.sorts ≡ builder.old.sorts }
 {
     let alloc = *sketch.allocator();
-    let entries = spread(
-        alloc,
-        builder,
-        sketch,
-        at,
-        Some(leaf),
-        Arm::Tree(first),
-        arm,
-    )?;
+    let meeting = Meeting {
+        first: Arm::Tree(first),
+        second: arm,
+    };
+    let entries = spread(alloc, builder, sketch, at, Some(leaf), meeting)?;
     Ok(gather_arms(sketch, entries)?)
 }
 
@@ -287,21 +282,13 @@ pub(crate) fn lift_two(
     ensures sorts { builder.new.sorts ≡ builder.old.sorts }
 {
     let alloc = *sketch.allocator();
-    let entries = spread(
-        alloc,
-        builder,
-        sketch,
-        at,
-        Some(Leaf::Of(step)),
-        arm,
-        second,
-    )?;
+    let meeting = Meeting { first: arm, second };
+    let entries = spread(alloc, builder, sketch, at, Some(Leaf::Of(step)), meeting)?;
     Ok(gather_arms(sketch, entries)?)
 }
 
 /// The comparison of each arm of a first one with each of a second one.
 pub(crate) fn compare_arms(
-    alloc: Global,
     builder: &mut Builder,
     sketch: &mut Vec<SketchNode>,
     at: Place,
@@ -316,6 +303,8 @@ pub(crate) fn compare_arms(
         kind at arm second result }
     ensures sorts { builder.new.sorts ≡ builder.old.sorts }
 {
-    let entries = spread(alloc, builder, sketch, at, None, arm, second)?;
+    let alloc = *sketch.allocator();
+    let meeting = Meeting { first: arm, second };
+    let entries = spread(alloc, builder, sketch, at, None, meeting)?;
     Ok(gather_pairs(alloc, sketch, at, kind, entries)?)
 }

@@ -153,7 +153,7 @@ impl Maker {
         let Some(q) = literal_number(digits, decimals) else {
             return Err(Stop::Memory);
         };
-        number(&mut self.builder, &mut self.sketch, q)
+        number(self, q)
     }
 
     /// A declared constant, by its axis.
@@ -162,15 +162,9 @@ impl Maker {
         ensures does { Names self.old self.new axis result }
         ensures sorts { self.new.made.sorts ≡ self.old.made.sorts }
     {
-        match self.builder.sort_at(axis) {
-            Sort::Real => real(&mut self.builder, &mut self.sketch, axis),
-            Sort::Bool => switch(
-                alloc,
-                &self.builder,
-                &mut self.sketch,
-                &mut self.bounds,
-                axis,
-            ),
+        match self.builder().sort_at(axis) {
+            Sort::Real => real(self, axis),
+            Sort::Bool => switch(alloc, self, axis),
         }
     }
 
@@ -188,15 +182,7 @@ impl Maker {
             (place_of at) (operator_of operator) values.now result }
         ensures sorts { self.new.made.sorts ≡ self.old.made.sorts }
     {
-        operate(
-            alloc,
-            &mut self.builder,
-            &mut self.sketch,
-            &mut self.bounds,
-            at,
-            operator,
-            values,
-        )
+        operate(alloc, self, at, operator, values)
     }
 
     /// The form of an assertion that this value stands for: its node, and the number of the list of its bounds. The

@@ -2,30 +2,31 @@
 ghost use Rattle.std.specs.Prelude.{◌≡◌, ℕ, ◌<◌, ◌≤◌, true, false, [], length, map, IfOk};
 ghost use Rattle.std.specs.List.{All};
 ghost use Rattle.script_forms.specs.Unfolded.{choice_form, not_first};
+ghost use Rattle.smt_sexp.specs.Views.{place_of};
 ghost use Rattle.sort_check.specs.Views.{operator_of};
 ghost use Rattle.term_build.specs.Calls.{drawn};
 ghost use Rattle.term_build.specs.Pairs.{Connects, ConnectsFrom};
-ghost use Rattle.term_build.specs.Sketch.{IsSketch, least_crowd};
+ghost use Rattle.term_build.specs.Sketch.{least_crowd};
 ghost use Rattle.value_build.specs.Arithmetic.{AreNodes};
-ghost use Rattle.value_build.specs.Arms.{AreSomeValues, PicksOf, only_of};
+ghost use Rattle.value_build.specs.Arms.{Joins, PicksOf, only_of};
 ghost use Rattle.value_build.specs.Bounds.{AddsList};
-ghost use Rattle.value_build.specs.Calls.{Applies, Chains, ComparesValues, Differ, JoinsLinks, OverArms, PairsDo, TreesDo, TreesMake, ValuesMake, bounds_given, operation_of, takes_arms};
-ghost use Rattle.value_build.specs.Making.{making};
+ghost use Rattle.value_build.specs.Calls.{Chains, ComparesValues, Differ, OverArms, PairsDo, TreesDo, TreesMake, ValuesMake, bounds_given, operation_of, takes_arms};
 ghost use Rattle.value_build.specs.Operators.{ArePairs, are_arms, are_bool, are_picked, are_real, bool_distinctness, bool_equality, distinct_from, list_number, node_number, pair_number, takes_of};
 ghost use Rattle.value_build.specs.RealWork.{real_work};
-ghost use Rattle.value_build.specs.Values.{AreKnown};
+ghost use Rattle.value_build.specs.Values.{AreKnown, Operates};
 
 use crate::arithmetic::{Step, calculate};
-use crate::arms::{calculate_values, link_each, pick};
+use crate::arms::{Comparing, calculate_values, link_each, pick};
 use crate::bounds::chain_bounds;
 use crate::chains::{Spread, compare_each, connect_each, connect_with};
+use crate::maker::Maker;
 use crate::value::Value;
 use declared_box::BoundTable;
 use poly_graph::Kind;
 use script_fault::Place;
 use sort_check::Operator;
 use std::alloc::{AllocError, Global};
-use term_build::{Arm, Builder, Fault, LEAST_CROWD, Pair, SketchNode, Stop};
+use term_build::{Arm, Fault, LEAST_CROWD, Pair, SketchNode, Stop};
 
 /// The sketch is given up, as where the builder stopped.
 pub(crate) fn give_up(sketch: &mut Vec<SketchNode>)
@@ -190,25 +191,16 @@ fn takes(operator: Operator, reals: bool, bools: bool, picked: bool, count: usiz
 // ---- Real arguments
 
 // A sum, a difference, a product or a quotient.
-fn arithmetic(
-    builder: &mut Builder,
-    sketch: &mut Vec<SketchNode>,
-    at: Place,
-    step: Step,
-    nodes: &[u32],
-) -> Result<Value, Stop>
+fn arithmetic(maker: &mut Maker, at: Place, step: Step, nodes: &[u32]) -> Result<Value, Stop>
     requires some { 0 < length nodes.now }
-    requires nodes { AreNodes builder.old nodes.now }
-    requires sketched { IsSketch builder.old (drawn sketch.old) }
-    ensures does { TreesMake builder.old sketch.old builder.new sketch.new
-        at step nodes.now result }
-    ensures sketched { IsSketch builder.new (drawn sketch.new) }
-    ensures sorts { builder.new.sorts ≡ builder.old.sorts }
+    requires nodes { AreNodes maker.old.made nodes.now }
+    ensures does { TreesMake maker.old maker.new at step nodes.now result }
+    ensures sorts { maker.new.made.sorts ≡ maker.old.made.sorts }
 {
-    match calculate(builder, at, step, nodes) {
+    match calculate(&mut maker.builder, at, step, nodes) {
         Ok(node) => Ok(Value::Real(node)),
         Err(stop) => {
-            give_up(sketch);
+            give_up(&mut maker.sketch);
             Err(stop)
         }
     }
@@ -217,75 +209,57 @@ fn arithmetic(
 // A chain of comparisons.
 fn compare(
     alloc: Global,
-    builder: &Builder,
-    sketch: &mut Vec<SketchNode>,
-    bounds: &mut BoundTable,
+    maker: &mut Maker,
     at: Place,
     nodes: &[u32],
     kind: Kind,
 ) -> Result<Value, Stop>
-    requires nodes { AreNodes builder.now nodes.now }
-    requires sketched { IsSketch builder.now (drawn sketch.old) }
-    ensures does { Chains builder.now sketch.old sketch.new bounds.old bounds.new
-        kind at nodes.now result }
-    ensures sketched { IsSketch builder.now (drawn sketch.new) }
+    requires { AreNodes maker.old.made nodes.now }
+    ensures does { Chains maker.old maker.new kind at nodes.now result }
+    ensures sorts { maker.new.made.sorts ≡ maker.old.made.sorts }
 {
-    let links = compare_each(alloc, sketch, at, nodes, kind, Spread::Next)?;
-    let pair = Pair::chain(alloc, sketch, &links)?;
-    let list = chain_bounds(alloc, builder, bounds, nodes, kind)?;
+    let links = compare_each(alloc, &mut maker.sketch, at, nodes, kind, Spread::Next)?;
+    let pair = Pair::chain(alloc, &mut maker.sketch, &links)?;
+    let list = chain_bounds(alloc, &maker.builder, &mut maker.bounds, nodes, kind)?;
     Ok(Value::Bool(pair, list))
 }
 
 // That trees differ, each from every other.
-fn differ(
-    alloc: Global,
-    builder: &Builder,
-    sketch: &mut Vec<SketchNode>,
-    bounds: &mut BoundTable,
-    at: Place,
-    nodes: &[u32],
-) -> Result<Value, Stop>
-    requires nodes { AreNodes builder.now nodes.now }
-    requires sketched { IsSketch builder.now (drawn sketch.old) }
-    ensures does { Differ builder.now sketch.old sketch.new bounds.old bounds.new
-        at nodes.now result }
-    ensures sketched { IsSketch builder.now (drawn sketch.new) }
+fn differ(alloc: Global, maker: &mut Maker, at: Place, nodes: &[u32]) -> Result<Value, Stop>
+    requires { AreNodes maker.old.made nodes.now }
+    ensures does { Differ maker.old maker.new at nodes.now result }
+    ensures sorts { maker.new.made.sorts ≡ maker.old.made.sorts }
 {
-    let pair = Pair::different(alloc, sketch, at, nodes)?;
-    let list = no_bounds(alloc, bounds)?;
+    let pair = Pair::different(alloc, &mut maker.sketch, at, nodes)?;
+    let list = no_bounds(alloc, &mut maker.bounds)?;
     Ok(Value::Bool(pair, list))
 }
 
 // An operator at Real arguments.
 fn on_reals(
     alloc: Global,
-    builder: &mut Builder,
-    sketch: &mut Vec<SketchNode>,
-    bounds: &mut BoundTable,
+    maker: &mut Maker,
     at: Place,
     operator: Operator,
     nodes: &[u32],
 ) -> Result<Value, Stop>
     requires some { 0 < length nodes.now }
     requires takes { takes_of (operator_of operator) true false false (length nodes.now) ≡ true }
-    requires nodes { AreNodes builder.old nodes.now }
-    requires sketched { IsSketch builder.old (drawn sketch.old) }
-    ensures does { TreesDo builder.old sketch.old bounds.old builder.new sketch.new bounds.new
-        at operator nodes.now result }
-    ensures sketched { IsSketch builder.new (drawn sketch.new) }
-    ensures sorts { builder.new.sorts ≡ builder.old.sorts }
+    requires nodes { AreNodes maker.old.made nodes.now }
+    ensures does { TreesDo maker.old maker.new at operator nodes.now result }
+    ensures sorts { maker.new.made.sorts ≡ maker.old.made.sorts }
 {
     match operator {
-        Operator::Minus => arithmetic(builder, sketch, at, Step::Subtract, nodes),
-        Operator::Plus => arithmetic(builder, sketch, at, Step::Add, nodes),
-        Operator::Times => arithmetic(builder, sketch, at, Step::Multiply, nodes),
-        Operator::Divide => arithmetic(builder, sketch, at, Step::Divide, nodes),
-        Operator::AtMost => compare(alloc, builder, sketch, bounds, at, nodes, Kind::Le),
-        Operator::Below => compare(alloc, builder, sketch, bounds, at, nodes, Kind::Le),
-        Operator::AtLeast => compare(alloc, builder, sketch, bounds, at, nodes, Kind::Ge),
-        Operator::Above => compare(alloc, builder, sketch, bounds, at, nodes, Kind::Ge),
-        Operator::Equal => compare(alloc, builder, sketch, bounds, at, nodes, Kind::Eq),
-        Operator::Distinct => differ(alloc, builder, sketch, bounds, at, nodes),
+        Operator::Minus => arithmetic(maker, at, Step::Subtract, nodes),
+        Operator::Plus => arithmetic(maker, at, Step::Add, nodes),
+        Operator::Times => arithmetic(maker, at, Step::Multiply, nodes),
+        Operator::Divide => arithmetic(maker, at, Step::Divide, nodes),
+        Operator::AtMost => compare(alloc, maker, at, nodes, Kind::Le),
+        Operator::Below => compare(alloc, maker, at, nodes, Kind::Le),
+        Operator::AtLeast => compare(alloc, maker, at, nodes, Kind::Ge),
+        Operator::Above => compare(alloc, maker, at, nodes, Kind::Ge),
+        Operator::Equal => compare(alloc, maker, at, nodes, Kind::Eq),
+        Operator::Distinct => differ(alloc, maker, at, nodes),
         _ => unreachable!(),
     }
 }
@@ -414,23 +388,19 @@ fn connect_bounds(
 // An operator at Bool arguments.
 fn on_bools(
     alloc: Global,
-    builder: &Builder,
-    sketch: &mut Vec<SketchNode>,
-    bounds: &mut BoundTable,
+    maker: &mut Maker,
     operator: Operator,
     pairs: &[Pair],
     lists: Vec<u32>,
 ) -> Result<Value, Stop>
     requires takes { takes_of (operator_of operator) false true false (length pairs.now) ≡ true }
-    requires lists { All (λ (k : ℕ). k < length bounds.old) lists.items }
-    requires drawn { ArePairs builder.now (drawn sketch.old) pairs.now }
-    requires sketched { IsSketch builder.now (drawn sketch.old) }
-    ensures does { PairsDo builder.now sketch.old sketch.new bounds.old bounds.new
-        operator pairs.now lists result }
-    ensures sketched { IsSketch builder.now (drawn sketch.new) }
+    requires lists { All (λ (k : ℕ). k < length maker.old.bounds) lists.items }
+    requires drawn { ArePairs maker.old.made maker.old.drawn pairs.now }
+    ensures does { PairsDo maker.old maker.new operator pairs.now lists result }
+    ensures sorts { maker.new.made.sorts ≡ maker.old.made.sorts }
 {
-    let pair = connect(alloc, sketch, operator, pairs)?;
-    let list = connect_bounds(alloc, bounds, operator, lists)?;
+    let pair = connect(alloc, &mut maker.sketch, operator, pairs)?;
+    let list = connect_bounds(alloc, &mut maker.bounds, operator, lists)?;
     Ok(Value::Bool(pair, list))
 }
 
@@ -449,85 +419,65 @@ fn only_of(spread: Spread, links: &[Value]) -> Option<Value>
 // What several links say together: all of them, or the only one of a chain.
 fn join_links(
     alloc: Global,
-    builder: &Builder,
-    sketch: &mut Vec<SketchNode>,
-    bounds: &mut BoundTable,
+    maker: &mut Maker,
     spread: Spread,
     links: &[Value],
 ) -> Result<Value, Stop>
     requires some { 0 < length links.now }
     requires bools { are_bool links.now ≡ true }
-    requires known { AreKnown (making builder.now (drawn sketch.old) bounds.old) links.now }
-    requires sketched { IsSketch builder.now (drawn sketch.old) }
-    ensures does { JoinsLinks builder.now sketch.old sketch.new bounds.old bounds.new
-        spread links.now result }
-    ensures sketched { IsSketch builder.now (drawn sketch.new) }
+    requires known { AreKnown maker.old links.now }
+    ensures does { Joins maker.old maker.new spread links.now result }
+    ensures sorts { maker.new.made.sorts ≡ maker.old.made.sorts }
 {
     if let Some(value) = only_of(spread, links) {
         return Ok(value);
     }
     let pairs = pair_numbers(alloc, links)?;
     let lists = list_numbers(alloc, links)?;
-    on_bools(alloc, builder, sketch, bounds, Operator::And, &pairs, lists)
+    on_bools(alloc, maker, Operator::And, &pairs, lists)
 }
 
 // Comparisons of each two values that belong together.
 fn compare_values(
     alloc: Global,
-    builder: &mut Builder,
-    sketch: &mut Vec<SketchNode>,
-    bounds: &mut BoundTable,
-    at: Place,
-    kind: Kind,
-    spread: Spread,
+    maker: &mut Maker,
+    comparing: Comparing,
     values: &[Value],
 ) -> Result<Value, Stop>
     requires several { 1 < length values.now }
-    requires values { AreSomeValues builder.old (drawn sketch.old) values.now }
+    requires values { AreKnown maker.old values.now }
     requires arms { are_arms values.now ≡ true }
-    requires sketched { IsSketch builder.old (drawn sketch.old) }
-    ensures does { ComparesValues builder.old sketch.old bounds.old
-        builder.new sketch.new bounds.new spread kind at values.now result }
-    ensures sketched { IsSketch builder.new (drawn sketch.new) }
-    ensures sorts { builder.new.sorts ≡ builder.old.sorts }
+    ensures does { ComparesValues maker.old maker.new comparing values.now result }
+    ensures sorts { maker.new.made.sorts ≡ maker.old.made.sorts }
 {
     let mut links = Vec::new(alloc);
-    match link_each(
-        alloc, builder, sketch, bounds, at, kind, spread, values, &mut links,
-    ) {
-        Ok(()) => join_links(alloc, builder, sketch, bounds, spread, links.as_slice()),
-        Err(stop) => {
-            give_up(sketch);
-            Err(stop)
-        }
-    }
+    link_each(alloc, maker, comparing, values, &mut links)?;
+    join_links(alloc, maker, comparing.spread, links.as_slice())
 }
 
 // A sum, a difference, a product or a quotient.
-fn calculate_arms(
-    builder: &mut Builder,
-    sketch: &mut Vec<SketchNode>,
-    at: Place,
-    step: Step,
-    values: &[Value],
-) -> Result<Value, Stop>
-    requires values { AreSomeValues builder.old (drawn sketch.old) values.now }
+fn calculate_arms(maker: &mut Maker, at: Place, step: Step, values: &[Value]) -> Result<Value, Stop>
+    requires values { AreKnown maker.old values.now }
     requires arms { are_arms values.now ≡ true }
     requires held { are_real values.now ≡ false }
-    requires sketched { IsSketch builder.old (drawn sketch.old) }
-    ensures does { ValuesMake builder.old sketch.old builder.new sketch.new
-        at step values.now result }
-    ensures sketched { IsSketch builder.new (drawn sketch.new) }
-    ensures sorts { builder.new.sorts ≡ builder.old.sorts }
+    ensures does { ValuesMake maker.old maker.new at step values.now result }
+    ensures sorts { maker.new.made.sorts ≡ maker.old.made.sorts }
 {
     let Some((first, rest)) = values.split_first() else {
         unreachable!()
     };
-    match calculate_values(builder, sketch, at, step, *first, rest) {
+    match calculate_values(
+        &mut maker.builder,
+        &mut maker.sketch,
+        at,
+        step,
+        *first,
+        rest,
+    ) {
         Ok(Arm::Choice(k)) => Ok(Value::Choice(k)),
         Ok(Arm::Tree(_)) => unreachable!(),
         Err(stop) => {
-            give_up(sketch);
+            give_up(&mut maker.sketch);
             Err(stop)
         }
     }
@@ -579,27 +529,22 @@ fn real_work(operator: Operator) -> Option<RealWork>
 // An operator at Real arguments that hold an `ite`.
 fn over_arms(
     alloc: Global,
-    builder: &mut Builder,
-    sketch: &mut Vec<SketchNode>,
-    bounds: &mut BoundTable,
+    maker: &mut Maker,
     at: Place,
     operator: Operator,
     values: &[Value],
 ) -> Result<Value, Stop>
-    requires known { AreKnown (making builder.old (drawn sketch.old) bounds.old) values.now }
-    requires sketched { IsSketch builder.old (drawn sketch.old) }
+    requires known { AreKnown maker.old values.now }
     requires arms { are_arms values.now ≡ true }
     requires held { are_real values.now ≡ false }
     requires takes { takes_of (operator_of operator) true false false (length values.now) ≡ true }
-    ensures does { OverArms builder.old sketch.old bounds.old builder.new sketch.new bounds.new
-        at operator values.now result }
-    ensures sketched { IsSketch builder.new (drawn sketch.new) }
-    ensures sorts { builder.new.sorts ≡ builder.old.sorts }
+    ensures does { OverArms maker.old maker.new at operator values.now result }
+    ensures sorts { maker.new.made.sorts ≡ maker.old.made.sorts }
 {
     match real_work(operator) {
-        Some(RealWork::Calculate(step)) => calculate_arms(builder, sketch, at, step, values),
+        Some(RealWork::Calculate(step)) => calculate_arms(maker, at, step, values),
         Some(RealWork::Compare(kind, spread)) => {
-            compare_values(alloc, builder, sketch, bounds, at, kind, spread, values)
+            compare_values(alloc, maker, Comparing { at, kind, spread }, values)
         }
         None => unreachable!(),
     }
@@ -608,45 +553,36 @@ fn over_arms(
 // An operator at Real arguments that hold an `ite`, or `ite` at Real arms.
 fn on_arms(
     alloc: Global,
-    builder: &mut Builder,
-    sketch: &mut Vec<SketchNode>,
-    bounds: &mut BoundTable,
+    maker: &mut Maker,
     at: Place,
     operator: Operator,
     values: &[Value],
 ) -> Result<Value, Stop>
-    requires known { AreKnown (making builder.old (drawn sketch.old) bounds.old) values.now }
-    requires sketched { IsSketch builder.old (drawn sketch.old) }
+    requires known { AreKnown maker.old values.now }
     requires held { are_real values.now ≡ false }
     requires apart { are_bool values.now ≡ false }
     requires takes { takes_arms operator values.now ≡ true }
-    ensures does { OverArms builder.old sketch.old bounds.old builder.new sketch.new bounds.new
-        at operator values.now result }
-    ensures sketched { IsSketch builder.new (drawn sketch.new) }
-    ensures sorts { builder.new.sorts ≡ builder.old.sorts }
+    ensures does { OverArms maker.old maker.new at operator values.now result }
+    ensures sorts { maker.new.made.sorts ≡ maker.old.made.sorts }
 {
     if let Operator::Choice = operator {
-        return pick_arm(sketch, values);
+        return pick_arm(&mut maker.sketch, values);
     }
-    over_arms(alloc, builder, sketch, bounds, at, operator, values)
+    over_arms(alloc, maker, at, operator, values)
 }
 
 /// An operator at values.
 pub(crate) fn operate(
     alloc: Global,
-    builder: &mut Builder,
-    sketch: &mut Vec<SketchNode>,
-    bounds: &mut BoundTable,
+    maker: &mut Maker,
     at: Place,
     operator: Operator,
     values: &[Value],
 ) -> Result<Value, Stop>
-    requires known { AreKnown (making builder.old (drawn sketch.old) bounds.old) values.now }
-    requires sketched { IsSketch builder.old (drawn sketch.old) }
-    ensures does { Applies builder.old sketch.old bounds.old builder.new sketch.new bounds.new
-        at operator values.now result }
-    ensures sketched { IsSketch builder.new (drawn sketch.new) }
-    ensures sorts { builder.new.sorts ≡ builder.old.sorts }
+    requires { AreKnown maker.old values.now }
+    ensures does { Operates maker.old maker.new
+        (place_of at) (operator_of operator) values.now result }
+    ensures sorts { maker.new.made.sorts ≡ maker.old.made.sorts }
 {
     let bools = are_bool(values);
     let picked = are_picked(values);
@@ -656,11 +592,11 @@ pub(crate) fn operate(
     if bools {
         let pairs = pair_numbers(alloc, values)?;
         let lists = list_numbers(alloc, values)?;
-        return on_bools(alloc, builder, sketch, bounds, operator, &pairs, lists);
+        return on_bools(alloc, maker, operator, &pairs, lists);
     }
     if are_real(values) {
         let nodes = node_numbers(alloc, values)?;
-        return on_reals(alloc, builder, sketch, bounds, at, operator, &nodes);
+        return on_reals(alloc, maker, at, operator, &nodes);
     }
-    on_arms(alloc, builder, sketch, bounds, at, operator, values)
+    on_arms(alloc, maker, at, operator, values)
 }

@@ -1,14 +1,20 @@
-use Rattle.std.proofs.Common.{map}
+use Rattle.std.proofs.Common.{map, subst}
 use Rattle.poly_graph.specs.Term.{variable}
 use Rattle.term_build.specs.Shapes.{sketch_of}
+use Rattle.std.specs.Prelude.{Ok, Err}
+use Rattle.value_build.specs.Leaves.{MakesTree}
+use Rattle.value_build.specs.Making.{Making, making}
+use Rattle.value_build.specs.declared.value.Value.TheVariants as values
 use Rattle.value_build.proofs.Leaf.{tree_made, tree_not, tree_sketch}
 use Rattle.value_build.proofs.leaves.real.Goals as goal
 
 pub returns-in-Ok-clause-does : goal.returns-in-Ok-clause-does
-returns-in-Ok-clause-does c = tree_made c.args.builder.now c.make.new.self (map sketch_of c.args.sketch.now.items) (variable c.args.axis) c.in-Ok.node c.in-Ok.ensures.does
+returns-in-Ok-clause-does c = subst (λ (x : Making). MakesTree x (making c.make.new.self (map sketch_of c.maker.inside.sketch.items) c.maker.inside.bounds) (variable c.args.axis) (Ok (values.Real c.in-Ok.node))) c.maker.view_is
+    (tree_made c.maker.inside.builder c.make.new.self (map sketch_of c.maker.inside.sketch.items) c.maker.inside.bounds (variable c.args.axis) c.in-Ok.node c.in-Ok.ensures.does)
 
-pub returns-in-Ok-clause-sketched : goal.returns-in-Ok-clause-sketched
-returns-in-Ok-clause-sketched c = tree_sketch c.args.builder.now c.make.new.self (map sketch_of c.args.sketch.now.items) (variable c.args.axis) c.in-Ok.node c.in-Ok.ensures.does c.in-Ok.ensures.sorts c.requires.sketched
+pub invariant_of-maker : goal.invariant_of-maker
+invariant_of-maker c = tree_sketch c.maker.inside.builder c.make.new.self (map sketch_of c.maker.inside.sketch.items) (variable c.args.axis) c.in-Ok.node c.in-Ok.ensures.does c.in-Ok.ensures.sorts c.maker.invariant
 
 pub returns-in-Err-clause-does : goal.returns-in-Err-clause-does
-returns-in-Err-clause-does c = tree_not c.args.builder.now c.make.new.self (map sketch_of c.args.sketch.now.items) (map sketch_of c.give_up.new.sketch.items) (variable c.args.axis) c.in-Err.stop c.in-Err.ensures.does
+returns-in-Err-clause-does c = subst (λ (x : Making). MakesTree x (making c.make.new.self (map sketch_of c.give_up.new.sketch.items) c.maker.inside.bounds) (variable c.args.axis) (Err c.in-Err.stop)) c.maker.view_is
+    (tree_not c.maker.inside.builder c.make.new.self (map sketch_of c.maker.inside.sketch.items) (map sketch_of c.give_up.new.sketch.items) c.maker.inside.bounds (variable c.args.axis) c.in-Err.stop c.in-Err.ensures.does)

@@ -5,7 +5,7 @@ use Rattle.value_build.specs.Meetings.{IsSpreading, turns_left}
 use Rattle.value_build.proofs.lift.spread.Given as goal
 
 abbrev pub invariant-loop-meeting : goal.invariant-loop-meeting
-invariant-loop-meeting l = IsSpreading l.fn.builder l.builder (map sketch_of l.sketch) l.task (place_of l.at) l.fn.first l.fn.second l.entries.items l.left.items
+invariant-loop-meeting l = IsSpreading l.fn.builder l.builder (map sketch_of l.sketch) l.task (place_of l.at) l.fn.meeting.first l.fn.meeting.second l.entries.items l.left.items
 
 abbrev pub decreases-loop-meeting : goal.decreases-loop-meeting
 decreases-loop-meeting l = turns_left l.builder l.left.items
