@@ -1,10 +1,8 @@
 -- What parts, an expansion and a combination leave of a space.
 use Rattle.std.specs.Prelude.{◌≡◌, ℕ, ◌<◌, List, map, length, All, Some, None}
-use Rattle.dyadic.specs.declared.dy.Dy.{Dy}
 use Rattle.dyadic.specs.Rounding.{Dyadic, two_to_minus}
 use Rattle.interval_model.specs.Interval.{Interval, interval_sum}
 use Rattle.interval_model.specs.Space as model
-use Rattle.poly_graph.specs.Marks.{Mark}
 use Rattle.poly_graph.specs.ProblemViews as problem
 use Rattle.cover_model.specs.Combination.{left_to, parts_range, tightened, with_intervals, left_of_space, combined}
 use Rattle.cover_model.specs.Narrowed.{enclosures}
@@ -17,6 +15,7 @@ use Rattle.ival.specs.Narrows.{IsNarrowed}
 use Rattle.ival.specs.RowViews.{rows_of}
 use Rattle.ival.specs.SpaceViews.{space_of}
 use Rattle.ival.specs.Views.{interval_of}
+use Rattle.combine.specs.declared.combination.Combination.{Combination}
 use Rattle.combine.specs.declared.gathered.Gathered.{Gathered}
 use Rattle.combine.specs.declared.part.Part.{Part}
 use Rattle.combine.specs.Parts.{part_of, expansion_of, IsPart, AreParts, IsMeasured}
@@ -58,15 +57,15 @@ IsNarrowedByExpansion g centre allowed old new =
 
 -- ---- a combination
 
--- the pairs name atoms of the problem
-abbrev pub NameAtoms : problem.Parts → List (ℕ × Dy) → Type 0
-NameAtoms p ms = All (λ (x : ℕ × Dyadic). x.0 < length p.atoms) (multipliers_of ms)
+-- the combination names atoms of its problem
+abbrev pub NamesAtoms : Combination → Type 0
+NamesAtoms c = All (λ (x : ℕ × Dyadic). x.0 < length c.problem.now.atoms) (multipliers_of c.multipliers.now)
 
 -- the rows are the enclosures over the space
 abbrev pub EncloseOver : problem.Parts → Space → Rows → Type 0
 EncloseOver p space rows = rows_of rows ≡ enclosures (space_of space) p.nodes
 
--- the new space is what the combination of these atoms, marked so and loosened by 2 to the power of minus `loosen`, leaves of the old one
-abbrev pub IsNarrowedByCombination : problem.Parts → ℕ → List Mark → List (ℕ × Dy) → Space → Space → Narrowed → Type 0
-IsNarrowedByCombination p loosen marks ms old new =
-    IsNarrowed (space_of old) (space_of new) (combined (problem.problem_of p) (two_to_minus loosen) marks (space_of old) (multipliers_of ms))
+-- the new space is what the combination, loosened by 2 to the power of minus `loosen`, leaves of the old one
+abbrev pub IsNarrowedByCombination : Combination → Space → Space → Narrowed → Type 0
+IsNarrowedByCombination c old new =
+    IsNarrowed (space_of old) (space_of new) (combined (problem.problem_of c.problem.now) (two_to_minus c.loosen) c.lits.now (space_of old) (multipliers_of c.multipliers.now))

@@ -5,7 +5,6 @@ use Rattle.dyadic.specs.Rounding.{two_to_minus}
 use Rattle.dyadic.specs.Views.{dyadic_of}
 use Rattle.interval_model.specs.Interval.{Interval, interval_sum, interval_product}
 use Rattle.poly_graph.specs.declared.node.Node.{Node}
-use Rattle.poly_graph.specs.Marks.{Mark}
 use Rattle.poly_graph.specs.Problem.{atom_at}
 use Rattle.poly_graph.specs.Term
 use Rattle.poly_graph.specs.ProblemViews.{Parts, problem_of}
@@ -19,6 +18,7 @@ use Rattle.ival.specs.declared.row_parts.Rows.{Rows}
 use Rattle.ival.specs.Options.{option_at}
 use Rattle.ival.specs.RowViews.{rows_of}
 use Rattle.ival.specs.Views.{interval_of}
+use Rattle.combine.specs.declared.combination.Combination.{Combination}
 
 -- the rows stand for these adjoints
 abbrev pub StandsFor : Rows → Adjoints → Type 0
@@ -46,21 +46,21 @@ abbrev pub IsRootHanded : Parts → ℕ → Dy → Rows → Rows → Type 0
 IsRootHanded p j m old new = IsHanded (atom_at (problem_of p) j).0 (only (dyadic_of m)) old new
 
 -- the range with that of the atom's term at the centre, times the multiplier
-abbrev pub central_with : Parts → Rows → ℕ → Dy → Ival → Interval
-central_with p centre_rows j m i = interval_sum (interval_of i) (interval_product (only (dyadic_of m)) (row (rows_of centre_rows) (atom_at (problem_of p) j).0))
+abbrev pub central_with : Combination → Rows → ℕ → Dy → Ival → Interval
+central_with c centre_rows j m i = interval_sum (interval_of i) (interval_product (only (dyadic_of m)) (row (rows_of centre_rows) (atom_at (problem_of c.problem.now) j).0))
 
 -- where the atom's value lies by its mark
-abbrev pub range_by_mark : Parts → ℕ → List Mark → ℕ → Interval
-range_by_mark p loosen marks = marked_range (problem_of p) (two_to_minus loosen) marks
+abbrev pub range_by_mark : Combination → ℕ → Interval
+range_by_mark c = marked_range (problem_of c.problem.now) (two_to_minus c.loosen) c.lits.now
 
-abbrev pub allowed_with : Parts → ℕ → List Mark → ℕ → Dy → Ival → Interval
-allowed_with p loosen marks j m i = interval_sum (interval_of i) (interval_product (only (dyadic_of m)) (range_by_mark p loosen marks j))
+abbrev pub allowed_with : Combination → ℕ → Dy → Ival → Interval
+allowed_with c j m i = interval_sum (interval_of i) (interval_product (only (dyadic_of m)) (range_by_mark c j))
 
-abbrev pub adjoints_of : Parts → List (ℕ × Dy) → Adjoints
-adjoints_of p ms = root_adjoints (problem_of p) (multipliers_of ms)
+abbrev pub adjoints_of : Combination → Adjoints
+adjoints_of c = root_adjoints (problem_of c.problem.now) (multipliers_of c.multipliers.now)
 
-abbrev pub central_of : Parts → Rows → List (ℕ × Dy) → Interval
-central_of p centre_rows ms = central_range (problem_of p) (rows_of centre_rows) (multipliers_of ms)
+abbrev pub central_of : Combination → Rows → Interval
+central_of c centre_rows = central_range (problem_of c.problem.now) (rows_of centre_rows) (multipliers_of c.multipliers.now)
 
-abbrev pub allowed_of : Parts → ℕ → List Mark → List (ℕ × Dy) → Interval
-allowed_of p loosen marks ms = allowed_range (range_by_mark p loosen marks) (multipliers_of ms)
+abbrev pub allowed_of : Combination → Interval
+allowed_of c = allowed_range (range_by_mark c) (multipliers_of c.multipliers.now)

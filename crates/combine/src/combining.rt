@@ -3,17 +3,16 @@ ghost use Rattle.std.specs.Prelude.{◌≡◌, ◌≤◌, length, vec_len};
 ghost use Rattle.interval_model.specs.Space.{middle};
 ghost use Rattle.ival.specs.SpaceViews.{space_of};
 ghost use Rattle.combine.specs.Combined.{IsMeasuredOver, IsNarrowedByExpansion};
-ghost use Rattle.combine.specs.Combined.{NameAtoms, EncloseOver, IsNarrowedByCombination};
+ghost use Rattle.combine.specs.Combined.{NamesAtoms, EncloseOver, IsNarrowedByCombination};
 ghost use Rattle.combine.specs.Rooms.{FitsRoom};
 
 use crate::axes::narrow;
+use crate::combination::{Combination, Enclosures};
 use crate::gathered::Gathered;
 use crate::room::Room;
 use crate::roots::hand_roots;
 use crate::sweep::sweep;
-use dyadic::Dy;
 use ival::{Ival, Narrowed, Rows, Space};
-use poly_graph::{Lits, Problem};
 
 // Leaves of the space what the allowed range leaves of it, by the expansion.
 fn narrow_by(
@@ -37,49 +36,40 @@ fn narrow_by(
     narrow(parts, centre, allowed, gathered.rest, lefts, space)
 }
 
-/// Leaves of the space what the combination of these atoms leaves of it, each with its multiplier, and tells whether that
-/// is less; where it is nothing the space stays as it was (the mean value form: Moore 1966; Farkas' lemma). An atom
-/// counts with its range, loosened by 2 to the power of minus `loosen`, or where it is marked no with its off-range; the
-/// marks are not tested. The rows are the enclosures over the space; `centre` is its middle, with the enclosures over
-/// that. The room is one for the problem, whatever stands in it.
+/// Leaves of the space what the combination leaves of it, and tells whether that is less; where it is nothing the space
+/// stays as it was (the mean value form: Moore 1966; Farkas' lemma). The marks are not tested. The rows are the
+/// enclosures over the space; `centre` is its middle, with the enclosures over that. The room is one for the problem,
+/// whatever stands in it.
 pub fn combine(
-    problem: &Problem,
-    loosen: u32,
-    lits: &Lits,
-    multipliers: &[(u32, Dy)],
+    combination: &Combination<'_>,
     rows: &Rows,
     centre: &Space,
     centre_rows: &Rows,
     room: &mut Room,
     space: &mut Space,
 ) -> Narrowed
-    requires loosen { loosen ≤ 120 }
-    requires atoms { NameAtoms problem.now multipliers.now }
-    requires lits { length lits.now ≡ length problem.now.atoms }
-    requires rows { EncloseOver problem.now space.old rows.now }
+    requires loosen { combination.now.loosen ≤ 120 }
+    requires atoms { NamesAtoms combination.now }
+    requires lits { length combination.now.lits.now ≡ length combination.now.problem.now.atoms }
+    requires rows { EncloseOver combination.now.problem.now space.old rows.now }
     requires centre { space_of centre.now ≡ middle (space_of space.old) }
-    requires centre_rows { EncloseOver problem.now centre.now centre_rows.now }
-    requires room { FitsRoom problem.now.nodes room.old }
-    ensures narrowed { IsNarrowedByCombination problem.now loosen lits.now multipliers.now
-        space.old space.new result }
-    ensures room { FitsRoom problem.now.nodes room.new }
+    requires centre_rows { EncloseOver combination.now.problem.now centre.now centre_rows.now }
+    requires room { FitsRoom combination.now.problem.now.nodes room.old }
+    ensures narrowed { IsNarrowedByCombination combination.now space.old space.new result }
+    ensures room { FitsRoom combination.now.problem.now.nodes room.new }
 {
-    let ranges = hand_roots(
-        problem,
-        loosen,
-        lits,
-        multipliers,
-        centre_rows,
-        &mut room.adjoints,
-    );
+    let ranges = hand_roots(combination, centre_rows, &mut room.adjoints);
     room.squares.clear_marks();
     room.gathered.begin(ranges.central);
-    sweep(
-        problem.graph(),
-        rows,
-        centre_rows,
+    let enclosures = Enclosures {
         space,
+        rows,
         centre,
+        centre_rows,
+    };
+    sweep(
+        combination.problem.graph(),
+        &enclosures,
         &mut room.adjoints,
         &mut room.squares,
         &mut room.gathered,

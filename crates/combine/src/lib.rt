@@ -10,6 +10,7 @@
 #![tactic(auto)]
 
 mod axes;
+mod combination;
 mod combining;
 mod expand;
 mod gathered;
@@ -22,5 +23,6 @@ mod roots;
 mod sweep;
 mod tighten;
 
+pub use combination::Combination;
 pub use combining::combine;
 pub use room::Room;

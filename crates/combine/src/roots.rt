@@ -9,16 +9,17 @@ ghost use Rattle.poly_graph.specs.ProblemViews.{problem_of};
 ghost use Rattle.poly_graph.specs.Views.{atom_of, kind_of};
 ghost use Rattle.ival.specs.Views.{interval_of};
 ghost use Rattle.ival.specs.RowViews.{rows_of};
-ghost use Rattle.combine.specs.Combined.{NameAtoms};
+ghost use Rattle.combine.specs.Combined.{NamesAtoms};
 ghost use Rattle.combine.specs.Hands.{StandsFor, adjoints_of, central_of, allowed_of};
 ghost use Rattle.combine.specs.Hands.{IsRootHanded, central_with, allowed_with, range_by_mark};
 
+use crate::combination::Combination;
 use crate::hand::hand;
 use crate::ranges::only;
 use cover_model::{off_range_ends, range_ends};
 use dyadic::Dy;
 use ival::{Ival, Rows};
-use poly_graph::{Atom, Kind, Lits, Mark, Problem};
+use poly_graph::{Atom, Kind, Mark, Problem};
 
 /// The ranges of a combination: at the centre, and what its atoms allow to it.
 #[derive(Clone, Copy)]
@@ -56,46 +57,45 @@ fn kind_off_range(kind: Kind, loosen: u32) -> Ival
 }
 
 // Where the value of atom j's term lies, by the atom's mark.
-fn marked_range(problem: &Problem, loosen: u32, lits: &Lits, j: u32) -> Ival
-    requires loosen { loosen ≤ 120 }
-    requires atom { j < length problem.now.atoms }
-    requires lits { length lits.now ≡ length problem.now.atoms }
-    ensures { interval_of result ≡ range_by_mark problem.now loosen lits.now j }
+fn marked_range(combination: &Combination<'_>, j: u32) -> Ival
+    requires loosen { combination.now.loosen ≤ 120 }
+    requires atom { j < length combination.now.problem.now.atoms }
+    requires lits { length combination.now.lits.now ≡ length combination.now.problem.now.atoms }
+    ensures { interval_of result ≡ range_by_mark combination.now j }
 {
-    let kind = atom_at(problem, j).kind;
-    match lits.mark(j) {
-        Mark::No => kind_off_range(kind, loosen),
-        Mark::Yes | Mark::Neither => kind_range(kind, loosen),
+    let kind = atom_at(combination.problem, j).kind;
+    match combination.lits.mark(j) {
+        Mark::No => kind_off_range(kind, combination.loosen),
+        Mark::Yes | Mark::Neither => kind_range(kind, combination.loosen),
     }
 }
 
 // Hands the root of atom j this multiplier, and adds what it adds to the ranges.
 fn hand_root(
-    problem: &Problem,
-    loosen: u32,
-    lits: &Lits,
+    combination: &Combination<'_>,
     j: u32,
     multiplier: Dy,
     centre_rows: &Rows,
     ranges: Ranges,
     adjoints: &mut Rows,
 ) -> Ranges
-    requires loosen { loosen ≤ 120 }
-    requires atom { j < length problem.now.atoms }
-    requires lits { length lits.now ≡ length problem.now.atoms }
-    requires centre_rows { length (rows_of centre_rows.now) ≡ length problem.now.nodes }
-    requires adjoints { length (rows_of adjoints.old) ≡ length problem.now.nodes }
-    ensures root { IsRootHanded problem.now j multiplier adjoints.old adjoints.new }
+    requires loosen { combination.now.loosen ≤ 120 }
+    requires atom { j < length combination.now.problem.now.atoms }
+    requires lits { length combination.now.lits.now ≡ length combination.now.problem.now.atoms }
+    requires centre_rows { length (rows_of centre_rows.now) ≡
+        length combination.now.problem.now.nodes }
+    requires adjoints { length (rows_of adjoints.old) ≡ length combination.now.problem.now.nodes }
+    ensures root { IsRootHanded combination.now.problem.now j multiplier adjoints.old adjoints.new }
     ensures central { interval_of result.central ≡
-        central_with problem.now centre_rows.now j multiplier ranges.central }
+        central_with combination.now centre_rows.now j multiplier ranges.central }
     ensures allowed { interval_of result.allowed ≡
-        allowed_with problem.now loosen lits.now j multiplier ranges.allowed }
-    ensures count { length (rows_of adjoints.new) ≡ length problem.now.nodes }
+        allowed_with combination.now j multiplier ranges.allowed }
+    ensures count { length (rows_of adjoints.new) ≡ length combination.now.problem.now.nodes }
 {
     let factor = only(multiplier);
-    let root = atom_at(problem, j).term;
+    let root = atom_at(combination.problem, j).term;
     let value = centre_rows.get(root as usize);
-    let range = marked_range(problem, loosen, lits, j);
+    let range = marked_range(combination, j);
     hand(root, factor, adjoints);
     Ranges {
         central: ranges.central.add(factor.mul(value)),
@@ -104,43 +104,27 @@ fn hand_root(
 }
 
 /// Hands each root its multipliers, and gives the ranges.
-pub fn hand_roots(
-    problem: &Problem,
-    loosen: u32,
-    lits: &Lits,
-    multipliers: &[(u32, Dy)],
-    centre_rows: &Rows,
-    adjoints: &mut Rows,
-) -> Ranges
-    requires loosen { loosen ≤ 120 }
-    requires atoms { NameAtoms problem.now multipliers.now }
-    requires lits { length lits.now ≡ length problem.now.atoms }
-    requires centre_rows { length (rows_of centre_rows.now) ≡ length problem.now.nodes }
-    requires adjoints { length (rows_of adjoints.old) ≡ length problem.now.nodes }
-    ensures roots { StandsFor adjoints.new (adjoints_of problem.now multipliers.now) }
-    ensures central { interval_of result.central ≡
-        central_of problem.now centre_rows.now multipliers.now }
-    ensures allowed { interval_of result.allowed ≡
-        allowed_of problem.now loosen lits.now multipliers.now }
-    ensures count { length (rows_of adjoints.new) ≡ length problem.now.nodes }
+pub fn hand_roots(combination: &Combination<'_>, centre_rows: &Rows, adjoints: &mut Rows) -> Ranges
+    requires loosen { combination.now.loosen ≤ 120 }
+    requires atoms { NamesAtoms combination.now }
+    requires lits { length combination.now.lits.now ≡ length combination.now.problem.now.atoms }
+    requires centre_rows { length (rows_of centre_rows.now) ≡
+        length combination.now.problem.now.nodes }
+    requires adjoints { length (rows_of adjoints.old) ≡ length combination.now.problem.now.nodes }
+    ensures roots { StandsFor adjoints.new (adjoints_of combination.now) }
+    ensures central { interval_of result.central ≡ central_of combination.now centre_rows.now }
+    ensures allowed { interval_of result.allowed ≡ allowed_of combination.now }
+    ensures count { length (rows_of adjoints.new) ≡ length combination.now.problem.now.nodes }
 {
     adjoints.clear_marks();
     let mut ranges = Ranges {
         central: only(Dy::ZERO),
         allowed: only(Dy::ZERO),
     };
+    let multipliers = combination.multipliers;
     for k in (0..multipliers.len()).rev() {
         let pair = multipliers[k];
-        ranges = hand_root(
-            problem,
-            loosen,
-            lits,
-            pair.0,
-            pair.1,
-            centre_rows,
-            ranges,
-            adjoints,
-        );
+        ranges = hand_root(combination, pair.0, pair.1, centre_rows, ranges, adjoints);
     }
     ranges
 }

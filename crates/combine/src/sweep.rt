@@ -6,10 +6,11 @@ ghost use Rattle.combine.specs.Combined.{IsMeasuredOver};
 ghost use Rattle.combine.specs.Visits.{IsSwept};
 ghost use Rattle.combine.specs.Parts.{needed_below};
 
+use crate::combination::Enclosures;
 use crate::expand::expand;
 use crate::gathered::Gathered;
 use crate::hand::{hand_down, hand_square};
-use ival::{Ival, Rows, Space};
+use ival::{Ival, Rows};
 use poly_graph::Graph;
 
 // What stands in this place, if it is marked.
@@ -28,24 +29,23 @@ fn standing(rows: &Rows, place: usize) -> Option<Ival>
 /// adjoint are visited.
 pub fn sweep(
     graph: &Graph,
-    rows: &Rows,
-    centre_rows: &Rows,
-    space: &Space,
-    centre: &Space,
+    enclosures: &Enclosures<'_>,
     adjoints: &mut Rows,
     squares: &mut Rows,
     gathered: &mut Gathered,
 )
-    requires rows { length (rows_of rows.now) ≡ length graph.now }
-    requires centre_rows { length (rows_of centre_rows.now) ≡ length graph.now }
+    requires rows { length (rows_of enclosures.now.rows.now) ≡ length graph.now }
+    requires centre_rows { length (rows_of enclosures.now.centre_rows.now) ≡ length graph.now }
     requires adjoints { length (rows_of adjoints.old) ≡ length graph.now }
     requires squares { length (rows_of squares.old) ≡ length graph.now }
     requires under { (k : ℕ) → option_at adjoints.old k ≡ None → option_at squares.old k ≡ None }
     requires room { needed_below graph.now (length graph.now) ≤ gathered.old.first }
-    requires measured { IsMeasuredOver space.now centre.now gathered.old }
-    ensures expansion { IsSwept graph.now rows.now centre_rows.now
+    requires measured { IsMeasuredOver enclosures.now.space.now enclosures.now.centre.now
+        gathered.old }
+    ensures expansion { IsSwept graph.now enclosures.now
         adjoints.old squares.old gathered.old gathered.new }
-    ensures measured { IsMeasuredOver space.now centre.now gathered.new }
+    ensures measured { IsMeasuredOver enclosures.now.space.now enclosures.now.centre.now
+        gathered.new }
     ensures room { vec_len gathered.new.parts ≡ vec_len gathered.old.parts }
     ensures adjoints { length (rows_of adjoints.new) ≡ length graph.now }
     ensures squares { length (rows_of squares.new) ≡ length graph.now }
@@ -56,19 +56,9 @@ pub fn sweep(
         let linear = adjoints.get(n);
         let square = standing(squares, n);
         let node = graph.node(n as u32);
-        hand_down(graph, node, linear, centre_rows, adjoints);
+        hand_down(graph, node, linear, enclosures.centre_rows, adjoints);
         hand_square(node, linear, squares);
-        expand(
-            node,
-            n,
-            linear,
-            square,
-            rows,
-            centre_rows,
-            space,
-            centre,
-            gathered,
-        );
+        expand(node, n, linear, square, enclosures, gathered);
         place = n;
     }
 }

@@ -9,7 +9,7 @@ use crate::made::problem;
 use crate::patches::{line_of, state_of};
 use crate::points::is_space;
 use cert_read::Line;
-use combine::combine;
+use combine::{Combination, combine};
 use cover_line::{CombinationRule, Rule};
 use cover_rule::State;
 use dyadic::Dy;
@@ -86,11 +86,14 @@ fn by_search(
     let mut space = state.space().try_clone(alloc).ok()?;
     let at = expand(alloc, problem, &space)?;
     let mut room = combine::Room::new(alloc, problem).ok()?;
-    let answer = combine(
+    let combination = Combination {
         problem,
-        20,
-        state.lits(),
-        pairs,
+        loosen: 20,
+        lits: state.lits(),
+        multipliers: pairs,
+    };
+    let answer = combine(
+        &combination,
         &at.rows,
         &at.centre,
         &at.at_centre,

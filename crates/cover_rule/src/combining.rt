@@ -11,7 +11,7 @@ ghost use Rattle.cover_rule.specs.Serves.{HasRowsOf, IsReady};
 
 use crate::truth::find_centre;
 use crate::workspace::Workspace;
-use combine::combine;
+use combine::{Combination, combine};
 use cover_data::{Margins, State};
 use dyadic::Dy;
 use ival::Narrowed;
@@ -52,11 +52,14 @@ fn narrow_combined(
     ensures work { HasRowsOf problem.now margins.now state.now.space work.new }
 {
     find_centre(problem, state.space(), &mut work.centre);
-    combine(
+    let combination = Combination {
         problem,
-        margins.margin_bits,
-        state.lits(),
+        loosen: margins.margin_bits,
+        lits: state.lits(),
         multipliers,
+    };
+    combine(
+        &combination,
         &work.rows,
         &work.centre.middle,
         &work.centre.rows,

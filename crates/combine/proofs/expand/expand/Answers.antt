@@ -10,7 +10,7 @@ use Rattle.combine.proofs.expand.expand.Goals as goal
 
 pub returns : goal.returns
 returns c =
-    let es = rows_of c.args.rows.now in let cs = rows_of c.args.centre_rows.now in let g = c.args.gathered.now in let parts = map part_of (parts_in g) in
+    let es = rows_of c.args.enclosures.now.rows.now in let cs = rows_of c.args.enclosures.now.centre_rows.now in let g = c.args.gathered.now in let parts = map part_of (parts_in g) in
     let m = c.requires.measured in
     record {
       expansion = sym (expanded_other c.args.node c.in_default.not-Var es cs c.args.n (Some (interval_of c.args.linear)) (option_of c.args.square) (expansion_of g)

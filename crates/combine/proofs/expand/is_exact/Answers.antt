@@ -6,12 +6,12 @@ use Rattle.combine.proofs.expand.is_exact.Goals as goal
 
 pub returns-then-is_fixed : goal.returns-then-is_fixed
 returns-then-is_fixed c h =
-    let rows = c.args.rows.now in let centre_rows = c.args.centre_rows.now in
-    exact_first (interval_of c.args.linear) (difference_at rows centre_rows c.args.a) (difference_at rows centre_rows c.args.b) (sym c.is_empty.ensures ∙ c.if-is_empty.false)
+    let e = c.args.enclosures.now in
+    exact_first (interval_of c.args.linear) (difference_at e c.args.a) (difference_at e c.args.b) (sym c.is_empty.ensures ∙ c.if-is_empty.false)
     (c.is_fixed.ensures c.if-is_fixed.true) (c.has_values.ensures h)
 
 pub returns-then-is_fixed-2 : goal.returns-then-is_fixed-2
 returns-then-is_fixed-2 c h =
-    let rows = c.args.rows.now in let centre_rows = c.args.centre_rows.now in
-    exact_second (interval_of c.args.linear) (difference_at rows centre_rows c.args.a) (difference_at rows centre_rows c.args.b) (sym c.is_empty.ensures ∙ c.if-is_empty.false)
+    let e = c.args.enclosures.now in
+    exact_second (interval_of c.args.linear) (difference_at e c.args.a) (difference_at e c.args.b) (sym c.is_empty.ensures ∙ c.if-is_empty.false)
     (c.is_fixed-2.ensures c.if-is_fixed-2.true) (c.has_values-then-is_fixed-2.ensures h)

@@ -12,7 +12,7 @@ use Rattle.combine.proofs.expand.with_product.Goals as goal
 
 pub returns-then-is_exact : goal.returns-then-is_exact
 returns-then-is_exact c parts =
-    let es = rows_of c.args.rows.now in let cs = rows_of c.args.centre_rows.now in let rest = interval_of c.args.rest in
+    let es = rows_of c.args.enclosures.now.rows.now in let cs = rows_of c.args.enclosures.now.centre_rows.now in let rest = interval_of c.args.rest in
     ap (λ (n : Node). product_rest es cs (Some (interval_of c.args.linear)) (node_of n) (expansion_with parts rest)) c.in-Mul.is
     ∙ ap (λ (i : Interval). expansion_with parts (interval_sum rest i)) (c.is_exact.ensures c.if-is_exact.true)
     ∙ ap (expansion_with parts) (sum_nought rest (interval_kept c.args.rest))

@@ -16,26 +16,26 @@ use Rattle.combine.proofs.roots.hand_roots.Goals as goal
 
 pub loop-k-init : goal.loop-k-init
 loop-k-init c =
-    let p = problem_of c.args.problem.now in let ms = c.args.multipliers.now in let cs = rows_of c.args.centre_rows.now in let cleared = c.clear_marks.new.self in
+    let p = problem_of c.args.combination.now.problem.now in let ms = c.args.combination.now.multipliers.now in let cs = rows_of c.args.centre_rows.now in let cleared = c.clear_marks.new.self in
     let none = sym (no_pairs ms) in
     record {
       roots = λ s. no_option cleared s (c.clear_marks.ensures.marks s) ∙ ap (λ (xs : Multipliers). root_adjoints p xs s) none;
       central = c.only.ensures ∙ ap (central_range p cs) none;
-      allowed = c.only-2.ensures ∙ ap (allowed_range (marked_range p (two_to_minus c.args.loosen) c.args.lits.now)) none;
+      allowed = c.only-2.ensures ∙ ap (allowed_range (marked_range p (two_to_minus c.args.combination.now.loosen) c.args.combination.now.lits.now)) none;
       count = ap length c.clear_marks.ensures.rows ∙ c.requires.adjoints;
     }
 
 pub hand_root-ranges-requires-clause-atom : goal.hand_root-ranges-requires-clause-atom
 hand_root-ranges-requires-clause-atom c =
-    let ms = c.args.multipliers.now in let k : ℕ = c.loop-k.k - 1 in let pair = c.index-multipliers-k.result in
+    let ms = c.args.combination.now.multipliers.now in let k : ℕ = c.loop-k.k - 1 in let pair = c.index-multipliers-k.result in
     let inside : k < length ms = omega (arith, c.loop-k.auto.k, c.loop-k-test.true) in let d : ℕ × Dyadic = (pair.0, dyadic_of pair.1) in
     let there = c.requires.atoms k d (omega (arith, inside, length_pairs ms)) in
     omega (arith, there, ap (λ (x : ℕ × Dyadic). x.0) (pair_at ms k pair d inside c.index-multipliers-k.is))
 
 pub loop-k-preserved : goal.loop-k-preserved
 loop-k-preserved c =
-    let p = problem_of c.args.problem.now in let ms = c.args.multipliers.now in let cs = rows_of c.args.centre_rows.now in
-    let ranges = marked_range p (two_to_minus c.args.loosen) c.args.lits.now in
+    let p = problem_of c.args.combination.now.problem.now in let ms = c.args.combination.now.multipliers.now in let cs = rows_of c.args.centre_rows.now in
+    let ranges = marked_range p (two_to_minus c.args.combination.now.loosen) c.args.combination.now.lits.now in
     let k : ℕ = c.loop-k.k - 1 in let pair = c.index-multipliers-k.result in let m = dyadic_of pair.1 in let rest = drop c.loop-k.k (multipliers_of ms) in
     let inside : k < length ms = omega (arith, c.loop-k.auto.k, c.loop-k-test.true) in
     let after : suc k ≡ c.loop-k.k = omega (arith, c.loop-k-test.true) in

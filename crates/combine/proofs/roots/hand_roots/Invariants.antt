@@ -11,8 +11,8 @@ use Rattle.combine.proofs.roots.hand_roots.Given as goal
 -- the pairs from this place on are handed to their roots
 abbrev pub invariant-loop-k : goal.invariant-loop-k
 invariant-loop-k l = record {
-  roots : (s : ℕ) → option_at l.adjoints s ≡ root_adjoints (problem_of l.problem) (drop l.k (multipliers_of l.multipliers)) s;
-  central : interval_of l.ranges.central ≡ central_range (problem_of l.problem) (rows_of l.centre_rows) (drop l.k (multipliers_of l.multipliers));
-  allowed : interval_of l.ranges.allowed ≡ allowed_range (marked_range (problem_of l.problem) (two_to_minus l.loosen) l.lits) (drop l.k (multipliers_of l.multipliers));
-  count : length (rows_of l.adjoints) ≡ length l.problem.nodes;
+  roots : (s : ℕ) → option_at l.adjoints s ≡ root_adjoints (problem_of l.combination.problem.now) (drop l.k (multipliers_of l.combination.multipliers.now)) s;
+  central : interval_of l.ranges.central ≡ central_range (problem_of l.combination.problem.now) (rows_of l.centre_rows) (drop l.k (multipliers_of l.combination.multipliers.now));
+  allowed : interval_of l.ranges.allowed ≡ allowed_range (marked_range (problem_of l.combination.problem.now) (two_to_minus l.combination.loosen) l.combination.lits.now) (drop l.k (multipliers_of l.combination.multipliers.now));
+  count : length (rows_of l.adjoints) ≡ length l.combination.problem.now.nodes;
 }

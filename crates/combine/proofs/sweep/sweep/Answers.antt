@@ -36,7 +36,7 @@ expand-requires-clause-room c =
 pub loop-n-preserved : goal.loop-n-preserved
 loop-n-preserved c =
     let next = c.in-Some.ensures in let n = c.in-Some.n in let p = c.loop-n.place in let nodes = c.args.graph.now in
-    let es = rows_of c.args.rows.now in let cs = rows_of c.args.centre_rows.now in
+    let es = rows_of c.args.enclosures.now.rows.now in let cs = rows_of c.args.enclosures.now.centre_rows.now in
     let before = c.loop-n.invariant in let adjoints = c.loop-n.adjoints in let squares = c.loop-n.squares in
     let w = interval_of c.get-linear.result in let node = node_of c.node-node.result in let e = expansion_of c.loop-n.gathered in
     let none : (k : ℕ) → suc n ≤ k → k < p → option_at adjoints k ≡ None = λ k a b. no_option adjoints k (next.between k (omega arith) b) in
@@ -57,6 +57,6 @@ loop-n-preserved c =
 
 pub returns-clause-expansion : goal.returns-clause-expansion
 returns-clause-expansion c =
-    let nodes = c.args.graph.now in let es = rows_of c.args.rows.now in let cs = rows_of c.args.centre_rows.now in let p = c.loop-n.place in
+    let nodes = c.args.graph.now in let es = rows_of c.args.enclosures.now.rows.now in let cs = rows_of c.args.enclosures.now.centre_rows.now in let p = c.loop-n.place in
     let none : (k : ℕ) → 0 ≤ k → k < p → option_at c.loop-n.adjoints k ≡ None = λ k a b. no_option c.loop-n.adjoints k (c.in_default.ensures k b) in
     sym (c.loop-n.invariant.same ∙ skipped nodes es cs p p 0 (option_at c.loop-n.adjoints) (option_at c.loop-n.squares) (expansion_of c.loop-n.gathered) (omega arith) none (λ k a b. c.loop-n.invariant.under k (none k a b)))

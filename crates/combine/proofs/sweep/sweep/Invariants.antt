@@ -14,10 +14,10 @@ invariant-loop-n l = record {
   squares : length (rows_of l.squares) ≡ length l.graph;
   under : (k : ℕ) → option_at l.adjoints k ≡ None → option_at l.squares k ≡ None;
   needed : needed_below l.graph l.place ≤ l.gathered.first;
-  measured : IsMeasured (space_of l.space) (space_of l.centre) l.gathered;
+  measured : IsMeasured (space_of l.enclosures.space.now) (space_of l.enclosures.centre.now) l.gathered;
   room : vec_len l.gathered.parts ≡ vec_len l.initial.gathered.parts;
-  same : swept l.graph (rows_of l.rows) (rows_of l.centre_rows) (length l.graph) (option_at l.initial.adjoints) (option_at l.initial.squares) (expansion_of l.initial.gathered)
-      ≡ swept l.graph (rows_of l.rows) (rows_of l.centre_rows) l.place (option_at l.adjoints) (option_at l.squares) (expansion_of l.gathered);
+  same : swept l.graph (rows_of l.enclosures.rows.now) (rows_of l.enclosures.centre_rows.now) (length l.graph) (option_at l.initial.adjoints) (option_at l.initial.squares) (expansion_of l.initial.gathered)
+      ≡ swept l.graph (rows_of l.enclosures.rows.now) (rows_of l.enclosures.centre_rows.now) l.place (option_at l.adjoints) (option_at l.squares) (expansion_of l.gathered);
 }
 
 abbrev pub decreases-loop-n : goal.decreases-loop-n
