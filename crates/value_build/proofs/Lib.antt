@@ -17,6 +17,5 @@ pub mod Arming
 pub mod Joining
 pub mod Taken
 pub mod Loops
-pub mod RealWorks
 pub mod Marks
 pub mod RealWorks

@@ -11,6 +11,5 @@ pub mod Claiming
 pub mod Arms
 pub mod Loops
 pub mod Calls
-pub mod RealWork
 pub mod Marks
 pub mod RealWork
