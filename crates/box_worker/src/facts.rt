@@ -8,8 +8,8 @@ ghost use Rattle.cover_rule.specs.Patch.{problem_in};
 ghost use Rattle.cover_data.specs.Runs.{IsRun};
 
 use cover_rule::Patch;
+use form_truth::{may_atom, sure_atom};
 use poly_graph::Problem;
-use truth3::{may_atom, sure_atom};
 
 /// Shows that the atoms and axes which a problem names are there.
 pub fn problem_is_whole(problem: &Problem)

@@ -4,8 +4,7 @@ ghost use Rattle.std.specs.Prelude.{◌≡◌, ◌<◌, length};
 
 use crate::facts::may_hold_at;
 use crate::fallen::changed_axes;
-use clause_search::{Prop, Trail};
-use cnf_build::{Cnf, Literal, Variable, clauses, variable_at};
+use clause_search::{Cnf, Literal, Prop, Trail, Variable, clauses, variable_at};
 use cover_rule::{Patch, State};
 use ival::{Domain, Space, Truths};
 use poly_graph::{FormNode, Lits, Mark, Problem};
@@ -22,7 +21,7 @@ pub struct Guide {
 }
 
 impl Model for Guide {
-    ghost use Rattle.cnf_build.specs.Clauses as clauses;
+    ghost use Rattle.clause_search.specs.Clauses as clauses;
     ghost use Rattle.clause_search.specs.Trail.{IsTrailOf};
 
     ghost Value = { clauses.Cnf };

@@ -14,9 +14,9 @@ use crate::room::Room;
 use crate::{attempt, step};
 use cover_data::{ClosedPatch, Combination, End, KeptPatch, Step};
 use cover_rule::{Options, Patch, State};
+use form_truth::{Root, root_space};
 use poly_graph::{Lits, Problem};
 use std::alloc::{AllocError, Global};
-use truth3::{Root, root_space};
 
 /// A run of more steps is not repeated.
 const MOST_STEPS: usize = 64;

@@ -7,8 +7,8 @@ use crate::attempt;
 use crate::facts::run_is_lawful;
 use crate::scout::Emptied;
 use cover_rule::Patch;
+use form_truth::{Marks, conjuncts_in_yes};
 use std::alloc::{AllocError, Global};
-use truth3::{Marks, conjuncts_in_yes};
 
 /// Marks each conjunct that is not marked.
 pub fn mark_conjuncts(alloc: Global, patch: &mut Patch) -> Result<(), AllocError>

@@ -13,7 +13,7 @@ use Rattle.poly_graph.specs.Problem.{atom_at, no_place}
 use Rattle.cover_model.specs.State.{atom_enclosure}
 use Rattle.poly_graph.specs.ProblemViews.{Parts, problem_of, IsWhole}
 use Rattle.cover_model.proofs.NodeEnclosures.{row_of_term}
-use Rattle.truth3.specs.Truth.{HasRows}
+use Rattle.form_truth.specs.Truth.{HasRows}
 use Rattle.cover_model.specs.Space.{range}
 use Rattle.cert_check.specs.declared.judged.Judged.{Judged}
 use Rattle.cert_check.specs.Judged.{AreJudged, AreJudgedOver}

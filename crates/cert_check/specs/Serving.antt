@@ -3,7 +3,7 @@ use Rattle.std.specs.Prelude.{◌≡◌, length, vec_len}
 use Rattle.poly_graph.specs.ProblemViews.{Parts}
 use Rattle.ival.specs.SpaceViews.{space_of}
 use Rattle.ival.specs.RowViews.{rows_of}
-use Rattle.plain_combine.specs.Suits.{Suits}
+use Rattle.plain_eval.specs.Suits.{Suits}
 use Rattle.plain_eval.specs.Rows.{AreEnclosures}
 use Rattle.plain_eval.specs.Upward.{IsUpward}
 use Rattle.cert_check.specs.Judged.{AreJudged}

@@ -1,7 +1,7 @@
 // The middle of a space, with what a combination needs there.
 ghost use Rattle.std.specs.Prelude.{◌≡◌, ◌<◌, ◌≤◌, All, length, IfOk};
 ghost use Rattle.cover_model.specs.Narrowed.{enclosures};
-ghost use Rattle.plain_combine.specs.Calls.{IsCombined};
+ghost use Rattle.plain_eval.specs.Calls.{IsCombined};
 ghost use Rattle.plain_eval.specs.Rows.{AreEnclosures};
 ghost use Rattle.plain_eval.specs.Upward.{IsUpward};
 ghost use Rattle.ival.specs.RowViews.{rows_of};
@@ -10,8 +10,7 @@ ghost use Rattle.cert_check.specs.Serving.{IsCentre};
 
 use dyadic::Dy;
 use ival::{Domain, Narrowed, Rows, Space, Truths};
-use plain_combine::{Room, combine_plain};
-use plain_eval::{Upward, follow};
+use plain_eval::{Room, Upward, combine_plain, follow};
 use poly_graph::{Lits, Problem};
 use std::alloc::{AllocError, Global};
 

@@ -6,13 +6,13 @@ ghost use Rattle.poly_graph.specs.FormViews.{form_node_of};
 ghost use Rattle.interval_model.specs.Space.{allows};
 ghost use Rattle.cover_model.specs.State.{domain_allows, state_of};
 ghost use Rattle.ival.specs.SpaceViews.{domain_of, space_of};
-ghost use Rattle.truth3.specs.Truth.{atom_may_hold, form_may_hold, is_true, node_may_hold};
+ghost use Rattle.form_truth.specs.Truth.{atom_may_hold, form_may_hold, is_true, node_may_hold};
 ghost use Rattle.cert_check.specs.Judged.{AreJudgedOver};
 
 use crate::judged::Judged;
+use form_truth::Marks;
 use ival::{Domain, Space, Truths};
 use poly_graph::{FormNode, Lits, Mark, Problem};
-use truth3::Marks;
 
 // Whether all of these hold.
 fn all_hold(truths: &[bool], numbers: &[u32]) -> bool

@@ -5,10 +5,10 @@ ghost use Rattle.poly_graph.specs.ProblemViews.{problem_of};
 ghost use Rattle.ival.specs.RowViews.{rows_of, marks_of, is_marked};
 ghost use Rattle.cert_check.specs.Judged.{AreJudged, atom_misses, is_missing, row_misses};
 
+use form_truth::kind_range;
 use ival::Rows;
 use poly_graph::{Atom, Problem};
 use std::alloc::{AllocError, Global};
-use truth3::kind_range;
 
 /// For each atom whether its enclosure misses its range at a margin of so many bits.
 #[derive(Drop)]

@@ -4,7 +4,7 @@ ghost use Rattle.cover_model.specs.Rules.{is_one_sided};
 ghost use Rattle.cover_model.specs.Space.{range};
 ghost use Rattle.cover_model.specs.State.{may};
 ghost use Rattle.cover_model.specs.Narrowed.{enclosures};
-ghost use Rattle.plain_combine.specs.Calls.{IsCombined};
+ghost use Rattle.plain_eval.specs.Calls.{IsCombined};
 ghost use Rattle.plain_eval.specs.Rows.{AreEnclosures};
 ghost use Rattle.poly_graph.specs.Problem.{atom_at};
 ghost use Rattle.poly_graph.specs.ProblemViews.{problem_of};
@@ -12,7 +12,7 @@ ghost use Rattle.poly_graph.specs.Views.{atom_of};
 ghost use Rattle.ival.specs.Views.{interval_of};
 ghost use Rattle.ival.specs.RowViews.{rows_of};
 ghost use Rattle.ival.specs.SpaceViews.{space_of};
-ghost use Rattle.truth3.specs.Truth.{HasRows, pruning};
+ghost use Rattle.form_truth.specs.Truth.{HasRows, pruning};
 ghost use Rattle.cert_check.specs.States.{state_of};
 ghost use Rattle.cert_check.specs.Judgements.{enclosure_over, is_sure_atom_over, is_sure_over, IsNarrowedByAtom, IsNarrowedOff, misses_over};
 ghost use Rattle.cert_check.specs.Serving.{Serves};
@@ -23,11 +23,11 @@ use crate::judged::Judged;
 use crate::state::State;
 use cover_model::is_one_sided;
 use dyadic::Dy;
+use form_truth::{Marks, kind_range, sure};
 use ival::{Ival, Narrowed, Rows, Space};
 use plain_eval::{Upward, enclose, follow, narrow_enclosed, narrow_off_enclosed};
 use poly_graph::{Atom, Graph, Lits, Problem};
 use std::alloc::{AllocError, Global};
-use truth3::{Marks, kind_range, sure};
 
 /// Rows and truth values for the nodes of a problem, made once. The rows are the enclosures over the space that was
 /// looked at last, and the atoms are judged by them, so that a line costs what stands above the axes that changed

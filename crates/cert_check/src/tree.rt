@@ -26,9 +26,9 @@ use crate::state::State;
 use crate::tools::Tools;
 use cert_read::Line;
 use cover_line::{Rule, Word};
+use form_truth::{Root, root_space};
 use poly_graph::{Lits, Problem};
 use std::alloc::{AllocError, Global};
-use truth3::{Root, root_space};
 
 // The tree whose next state is the first of these; none where there is no state.
 fn next_state(alloc: Global, pending: Pending) -> Result<Option<Tree>, AllocError>

@@ -1,7 +1,7 @@
 -- The width that a plan names is enough for `solve`.
 use Rattle.std.proofs.Common.{◌≡◌, ◌++◌, inl, inr, ℕ, List, Option, Some, None, refl, ap, sym, subst, ◌∙◌}
-use Rattle.words.specs.declared.request.Options.{Options}
-use Rattle.words.specs.Words.{Plan, Solve}
+use Rattle.command_line.specs.declared.request.Options.{Options}
+use Rattle.command_line.specs.Words.{Plan, Solve}
 use Rattle.poly_graph.specs.Problem.{Problem}
 use Rattle.cert_model.specs.Due.{Value, at_point, left_open}
 use Rattle.cert_model.specs.AnswerText.{solve_text, unsat_text, delta_sat_text, budget_text}
@@ -9,9 +9,9 @@ use Rattle.width_plan.specs.Plan as width
 use Rattle.width_plan.specs.Plan.{IsPlan, least_bits, no_atom, no_axis}
 use Rattle.plan_law.proofs.Course.{never_answers_width}
 use Rattle.script_fault.specs.declared.fault.ScriptFault.{ScriptFault}
-use Rattle.answer_text.specs.ScriptFaults.{fault_text}
-use Rattle.script_faults.specs.Faults.{script_fault}
-use Rattle.script_faults.specs.Reader.{IsBuilt}
+use Rattle.check_run.specs.ScriptFaults.{fault_text}
+use Rattle.script_reading.specs.Faults.{script_fault}
+use Rattle.script_reading.specs.Reader.{IsBuilt}
 use Rattle.check_run.specs.Answer.{loosenings_of, IsAnswer}
 use Rattle.check_run.specs.Course.{Course}
 use Rattle.check_run.specs.Can.{CanSolve, CanBy, OfProblem}

@@ -1,7 +1,7 @@
 -- The refusal of a script for a fault.
 use Rattle.std.proofs.Common.{ℕ, List, Some, ap, sym}
 use Rattle.script_fault.specs.declared.fault.ScriptFault.{ScriptFault}
-use Rattle.answer_text.specs.ScriptFaults.{fault_text}
+use Rattle.check_run.specs.ScriptFaults.{fault_text}
 use Rattle.check_run.specs.declared.script.Halt.{Halt}
 use Rattle.check_run.specs.declared.script.Halt.TheVariants as halt
 use Rattle.check_run.specs.Script.{HasText, IsHaltOfFault}

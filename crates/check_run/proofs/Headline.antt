@@ -4,8 +4,8 @@ use Rattle.std.specs.Prelude.{IsSomeAnd}
 use Rattle.std.proofs.lemmas.List.{append_cancel_left}
 use Rattle.desk.specs.declared.desk.Port.TheVariants.{CertIn}
 use Rattle.desk.specs.Sight.{Sight}
-use Rattle.words.specs.declared.request.Options.{Options}
-use Rattle.words.specs.Words.{Solve, Check, Upgrade, Demo, Plan, Command, solve, check, demo, upgrade, plan}
+use Rattle.command_line.specs.declared.request.Options.{Options}
+use Rattle.command_line.specs.Words.{Solve, Check, Upgrade, Demo, Plan, Command, solve, check, demo, upgrade, plan}
 use Rattle.gen_script.specs.Demo.{demo_script}
 use Rattle.poly_graph.specs.Problem.{Problem}
 use Rattle.interval_model.specs.Space.{Space}
@@ -15,10 +15,10 @@ use Rattle.cert_model.specs.Accepted.{Verdict, accepted, refused, verdict, IsAcc
 use Rattle.cert_model.specs.AnswerText.{solve_text, check_text, unsat_text, delta_sat_text, budget_text, width_text, has_open}
 use Rattle.headline.proofs.Headline.{unsat_is, delta_sat_is}
 use Rattle.script_fault.specs.declared.fault.ScriptFault.{ScriptFault}
-use Rattle.script_faults.specs.Faults.{script_fault}
+use Rattle.script_reading.specs.Faults.{script_fault}
 use Rattle.check_run.specs.declared.status.Status.{Status}
 use Rattle.check_run.specs.declared.status.Status.TheVariants.{Answered, CertRefused, ScriptRefused}
-use Rattle.script_faults.specs.Reader.{commands_of, IsBuilt}
+use Rattle.script_reading.specs.Reader.{commands_of, IsBuilt}
 use Rattle.check_run.specs.Answer.{loosenings_of, IsAnswer}
 use Rattle.check_run.specs.Course.{Course, behind, appended}
 use Rattle.check_run.specs.Can.{CanSolve, CanCheck, CanUpgrade, CanUpgradeBy, CanPlan, CanBy, OfProblem, Can, verdict_course}

@@ -7,3 +7,6 @@ pub mod Reading
 pub mod Running
 pub mod Shown
 pub mod Verdicts
+pub mod Lines
+pub mod Symbols
+pub mod Texts

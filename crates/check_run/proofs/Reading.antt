@@ -3,9 +3,9 @@ use Rattle.std.proofs.Common.{◌≡◌, ◌≤◌, ◌<◌, ℕ, List, [], Opti
 use Rattle.std.specs.Prelude.{option_map}
 use Rattle.desk.specs.Sight.{Sight}
 use Rattle.script_fault.specs.declared.fault.ScriptFault.{ScriptFault}
-use Rattle.answer_text.specs.ScriptFaults.{fault_text}
-use Rattle.script_faults.specs.Faults.{most_bytes, script_fault}
-use Rattle.script_faults.proofs.Long.{long_fault}
+use Rattle.check_run.specs.ScriptFaults.{fault_text}
+use Rattle.script_reading.specs.Faults.{most_bytes, script_fault}
+use Rattle.script_reading.proofs.Long.{long_fault}
 use Rattle.check_run.specs.declared.script.Halt.{Halt}
 use Rattle.check_run.specs.declared.script.Halt.TheVariants as halt
 use Rattle.check_run.specs.Course.{Quiet}

@@ -3,12 +3,12 @@ use Rattle.std.proofs.Common.{◌≡◌, ◌≤◌, ℕ, List, [], ◌∷◌, Op
 use Rattle.std.specs.Prelude.{option_map}
 use Rattle.desk.specs.declared.desk.Port.TheVariants.{Script}
 use Rattle.desk.specs.Sight.{Sight, SideFailed}
-use Rattle.words.specs.Words.{Demo, Command, demo}
+use Rattle.command_line.specs.Words.{Demo, Command, demo}
 use Rattle.gen_script.specs.Demo.{demo_script}
 use Rattle.poly_graph.specs.Problem.{Problem}
 use Rattle.script_fault.specs.declared.fault.ScriptFault.{ScriptFault}
-use Rattle.answer_text.specs.ScriptFaults.{fault_text}
-use Rattle.script_faults.specs.Faults.{most_bytes, script_fault}
+use Rattle.check_run.specs.ScriptFaults.{fault_text}
+use Rattle.script_reading.specs.Faults.{most_bytes, script_fault}
 use Rattle.check_run.specs.declared.status.Status.{Status}
 use Rattle.check_run.specs.declared.status.Status.TheVariants.{Answered, CertRefused, ScriptRefused, Usage, InFailed, OutFailed, NoMemory}
 use Rattle.check_run.specs.declared.script.Halt.{Halt}
@@ -17,7 +17,7 @@ use Rattle.check_run.specs.Course.{Start, Course, says, behind, appended, Quiet,
 use Rattle.check_run.specs.Can.{CanDemo, CanBy, CanFrom, OfProblem, Can}
 use Rattle.check_run.specs.Run.{HasCause, ReadsScript, ScriptIsRead, run_of}
 use Rattle.check_run.specs.Parts.{After}
-use Rattle.script_faults.specs.Reader.{HasProblem}
+use Rattle.script_reading.specs.Reader.{HasProblem}
 use Rattle.check_run.specs.Script.{HasFaultText, script_start, Fetches, Halts, HaltEnds}
 use Rattle.check_run.proofs.Ending.{take_first, ends_behind, run_behind, widen}
 

@@ -1,13 +1,13 @@
 -- What each status shows, of a run that ends on one of its courses.
 use Rattle.std.proofs.Common.{◌≡◌, inl, inr, ℕ, List, Option, Some, None, sym, subst, ◌∙◌}
 use Rattle.desk.specs.Sight.{Sight}
-use Rattle.words.specs.declared.request.Options.{Options}
-use Rattle.words.specs.Words.{Command, solve, check, demo, upgrade, plan}
+use Rattle.command_line.specs.declared.request.Options.{Options}
+use Rattle.command_line.specs.Words.{Command, solve, check, demo, upgrade, plan}
 use Rattle.gen_script.specs.Demo.{demo_script}
 use Rattle.poly_graph.specs.Problem.{Problem}
 use Rattle.cert_model.specs.Accepted.{Verdict, accepted, refused, verdict}
 use Rattle.script_fault.specs.declared.fault.ScriptFault.{ScriptFault}
-use Rattle.script_faults.specs.Faults.{script_fault}
+use Rattle.script_reading.specs.Faults.{script_fault}
 use Rattle.check_run.specs.declared.status.Status.{Status}
 use Rattle.check_run.specs.declared.status.Status.TheVariants.{Answered, CertRefused, ScriptRefused, Usage, InFailed, OutFailed, NoMemory}
 use Rattle.check_run.specs.Course.{Course, Went, Ends, at_its_end, out_failed, no_memory, RunEnds, on_course, in_failed, no_memory_yet}

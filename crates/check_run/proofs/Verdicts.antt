@@ -19,7 +19,7 @@ use Rattle.cert_check.specs.declared.checker.Verdict.TheVariants.{Unsat, Point, 
 use Rattle.cert_check.specs.declared.fault.CertFault.{CertFault}
 use Rattle.cert_check.specs.Courses.{IsVerdict}
 use Rattle.cert_check.specs.Faults.{stop_of}
-use Rattle.answer_text.specs.Stops.{stop_text}
+use Rattle.check_run.specs.Stops.{stop_text}
 use Rattle.cert_check.specs.declared.feed.Feed.{Feed}
 use Rattle.check_run.specs.declared.status.Status.{Status}
 use Rattle.check_run.specs.declared.status.Status.TheVariants.{Answered, CertRefused, InFailed, NoMemory}

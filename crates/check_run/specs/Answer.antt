@@ -1,6 +1,6 @@
 -- The certificate that answers a problem, whoever's search found it.
 use Rattle.std.specs.Prelude.{◌≡◌, ◌≤◌, ℕ, List, IsTrue}
-use Rattle.words.specs.declared.request.Options.{Options}
+use Rattle.command_line.specs.declared.request.Options.{Options}
 use Rattle.poly_graph.specs.Problem.{Problem}
 use Rattle.cover_model.specs.State.{Loosenings}
 use Rattle.cert_model.specs.Due.{Standing, Value, at_point, left_open}

@@ -1,8 +1,8 @@
 -- The courses that a run may take.
 use Rattle.std.specs.Prelude.{◌≡◌, ℕ, List, [], ◌∷◌, Option, Some, None, codes, length}
 use Rattle.desk.specs.declared.desk.Port.TheVariants.{Script, CertIn}
-use Rattle.words.specs.declared.request.Options.{Options}
-use Rattle.words.specs.Words.{Command, solve, check, demo, upgrade, plan}
+use Rattle.command_line.specs.declared.request.Options.{Options}
+use Rattle.command_line.specs.Words.{Command, solve, check, demo, upgrade, plan}
 use Rattle.gen_script.specs.Demo.{demo_script}
 use Rattle.poly_graph.specs.Problem.{Problem}
 use Rattle.width_plan.specs.Plan as width
@@ -13,10 +13,10 @@ use Rattle.cert_model.specs.AnswerText.{solve_text, verdict_text, demo_text}
 use Rattle.cert_upgrade.specs.Upgraded.{upgraded, in_version_2}
 use Rattle.check_run.specs.declared.status.Status.TheVariants.{Answered, CertRefused, ScriptRefused, Usage}
 use Rattle.script_fault.specs.declared.fault.ScriptFault.{ScriptFault}
-use Rattle.answer_text.specs.Plans.{least_bits_text, no_atom_text, no_axis_text}
-use Rattle.answer_text.specs.ScriptFaults.{fault_text}
-use Rattle.script_faults.specs.Faults.{script_fault}
-use Rattle.script_faults.specs.Reader.{IsBuilt}
+use Rattle.check_run.specs.Plans.{least_bits_text, no_atom_text, no_axis_text}
+use Rattle.check_run.specs.ScriptFaults.{fault_text}
+use Rattle.script_reading.specs.Faults.{script_fault}
+use Rattle.script_reading.specs.Reader.{IsBuilt}
 use Rattle.check_run.specs.Answer.{loosenings_of, IsAnswer}
 use Rattle.check_run.specs.Course.{Start, Course, says, gives, behind}
 

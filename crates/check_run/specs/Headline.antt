@@ -1,8 +1,8 @@
 -- What the answers of a run say of its script.
 use Rattle.std.specs.Prelude.{◌≡◌, ◌++◌, ℕ, List, [], Option, Some, None, IsSomeAnd, codes}
 use Rattle.desk.specs.Sight.{Sight}
-use Rattle.words.specs.declared.request.Options.{Options}
-use Rattle.words.specs.Words.{Command, Plan, Solve, solve, check, demo, upgrade, plan}
+use Rattle.command_line.specs.declared.request.Options.{Options}
+use Rattle.command_line.specs.Words.{Command, Plan, Solve, solve, check, demo, upgrade, plan}
 use Rattle.gen_script.specs.Demo.{demo_script}
 use Rattle.dyadic.specs.Rounding.{exact}
 use Rattle.script_model.specs.Script.{Satisfies}
@@ -17,7 +17,7 @@ use Rattle.cert_model.specs.AnswerText.{text_line, unsat_text, delta_sat_text, c
 use Rattle.cert_upgrade.specs.Upgraded.{upgraded, in_version_2}
 use Rattle.headline.specs.Laws.{HasNoPoint}
 use Rattle.headline.specs.Near.{IsNearDeclaredBox}
-use Rattle.script_faults.specs.Reader.{commands_of, IsBuilt}
+use Rattle.script_reading.specs.Reader.{commands_of, IsBuilt}
 use Rattle.check_run.specs.Answer.{loosenings_of}
 use Rattle.check_run.specs.declared.status.Status.TheVariants.{Answered, CertRefused}
 use Rattle.check_run.specs.Course.{Course, appended}

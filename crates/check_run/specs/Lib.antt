@@ -7,3 +7,8 @@ pub mod Parts
 pub mod Run
 pub mod Script
 pub mod Statuses
+pub mod Loosened
+pub mod Plans
+pub mod ScriptFaults
+pub mod Shown
+pub mod Stops

@@ -4,17 +4,17 @@ use Rattle.std.specs.Option.{option_map}
 use Rattle.std.specs.declared.alloc.Global.{Global}
 use Rattle.std.specs.declared.string.String.{String}
 use Rattle.desk.specs.Sight.{Sight, SideFailed}
-use Rattle.words.specs.Words.{Command, Solve, Check, Demo, Upgrade, Plan, command_of, solve, check, demo, upgrade, plan}
-use Rattle.words.specs.Seen.{seen, seen_solve, seen_check, seen_demo, seen_upgrade, seen_plan}
-use Rattle.words.specs.declared.request.Request.{Request}
-use Rattle.words.specs.declared.request.SolveWords.{SolveWords}
-use Rattle.words.specs.declared.request.CheckWords.{CheckWords}
-use Rattle.words.specs.declared.request.DemoWords.{DemoWords}
-use Rattle.words.specs.declared.request.UpgradeWords.{UpgradeWords}
-use Rattle.words.specs.declared.request.PlanWords.{PlanWords}
+use Rattle.command_line.specs.Words.{Command, Solve, Check, Demo, Upgrade, Plan, command_of, solve, check, demo, upgrade, plan}
+use Rattle.command_line.specs.Seen.{seen, seen_solve, seen_check, seen_demo, seen_upgrade, seen_plan}
+use Rattle.command_line.specs.declared.request.Request.{Request}
+use Rattle.command_line.specs.declared.request.SolveWords.{SolveWords}
+use Rattle.command_line.specs.declared.request.CheckWords.{CheckWords}
+use Rattle.command_line.specs.declared.request.DemoWords.{DemoWords}
+use Rattle.command_line.specs.declared.request.UpgradeWords.{UpgradeWords}
+use Rattle.command_line.specs.declared.request.PlanWords.{PlanWords}
 use Rattle.check_run.specs.declared.status.Status.{Status}
 use Rattle.check_run.specs.declared.status.Status.TheVariants.{Answered, CertRefused, ScriptRefused, Usage, InFailed, OutFailed, NoMemory}
-use Rattle.script_faults.specs.Faults.{most_bytes}
+use Rattle.script_reading.specs.Faults.{most_bytes}
 use Rattle.check_run.specs.Course.{Course, Went, Stopped, Quiet, RunEnds}
 use Rattle.check_run.specs.Can.{Can, in_starts}
 

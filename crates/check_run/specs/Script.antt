@@ -7,9 +7,9 @@ use Rattle.poly_graph.specs.ProblemViews.{Parts}
 use Rattle.check_run.specs.declared.script.Halt.{Halt}
 use Rattle.check_run.specs.declared.script.Halt.TheVariants as halt
 use Rattle.script_fault.specs.declared.fault.ScriptFault.{ScriptFault}
-use Rattle.answer_text.specs.ScriptFaults.{fault_text}
-use Rattle.script_faults.specs.Faults.{most_bytes, script_fault}
-use Rattle.script_faults.specs.Reader.{HasProblem, too_many_bytes}
+use Rattle.check_run.specs.ScriptFaults.{fault_text}
+use Rattle.script_reading.specs.Faults.{most_bytes, script_fault}
+use Rattle.script_reading.specs.Reader.{HasProblem, too_many_bytes}
 use Rattle.check_run.specs.declared.status.Status.{Status}
 use Rattle.check_run.specs.declared.status.Status.TheVariants.{ScriptRefused, InFailed, NoMemory}
 use Rattle.check_run.specs.Course.{Start, Quiet, says, Ends}

@@ -6,7 +6,7 @@ ghost use Rattle.check_run.specs.Run.{CheckHasCause, IsReadToEnd, SameIn, Upgrad
 
 use crate::ports::say;
 use crate::status::Status;
-use answer_text::{cert_fault, confirmed_delta_sat, confirmed_unsat, left_open};
+use crate::{cert_fault, confirmed_delta_sat, confirmed_unsat, left_open};
 use cert_check::{CertFault, Feed, Verdict};
 use desk::{Denied, Desk, Port};
 use poly_graph::Problem;

@@ -1,7 +1,7 @@
 // Whole texts on a run's ports.
 ghost use Rattle.std.specs.Prelude.{◌≡◌, ◌≤◌, ◌<◌, [], OnOk, IfOk, IfSome, IsErrOf, length, option_map};
 ghost use Rattle.desk.specs.Sight.{IsOut, with_bytes, with_start, SideFailed, faults_on};
-ghost use Rattle.script_faults.specs.Faults.{most_bytes};
+ghost use Rattle.script_reading.specs.Faults.{most_bytes};
 ghost use Rattle.check_run.specs.Course.{Ends, Quiet, says, gives};
 ghost use Rattle.check_run.specs.Run.{SameIn};
 ghost use Rattle.check_run.specs.Parts.{PutStops, After};

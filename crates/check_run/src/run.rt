@@ -4,10 +4,10 @@ ghost use Rattle.check_run.specs.Run.{CertIsRead, check_run, HasCause, HasCourse
 use crate::check::check_problem;
 use crate::script::{end_halted, fetch_problem};
 use crate::status::Status;
+use command_line::CheckWords;
 use desk::Desk;
-use script_faults::ScriptReader;
+use script_reading::ScriptReader;
 use std::alloc::Global;
-use words::CheckWords;
 
 /// Checks a certificate of a script: reads both from their ports, and answers the verdict.
 pub fn run_check<S: ScriptReader, D: Desk>(

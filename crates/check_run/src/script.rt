@@ -2,8 +2,8 @@
 ghost use Rattle.std.specs.Prelude.{◌≡◌, IfOk, MatchResult, Option};
 ghost use Rattle.poly_graph.specs.ProblemViews.{problem_of};
 ghost use Rattle.script_fault.specs.Answers.{IsFaultOrMemory};
-ghost use Rattle.answer_text.specs.ScriptFaults.{fault_text};
-ghost use Rattle.script_faults.specs.Reader.{HasProblem};
+ghost use Rattle.check_run.specs.ScriptFaults.{fault_text};
+ghost use Rattle.script_reading.specs.Reader.{HasProblem};
 ghost use Rattle.check_run.specs.Run.{SameIn};
 ghost use Rattle.check_run.specs.Script.{Fetches, HaltEnds, Halts, HasText, IsHaltOfFault, IsTooLong, IsWithin, IsHaltOfScript};
 
@@ -12,7 +12,7 @@ use crate::status::Status;
 use desk::{Desk, ReadAll};
 use poly_graph::Problem;
 use script_fault::{FaultKind, Limit, Place, ReadError, ScriptFault};
-use script_faults::ScriptReader;
+use script_reading::ScriptReader;
 use std::alloc::Global;
 
 /// Why a run ends before its script has a problem: the text of the script's first fault, a port that failed, or out of
@@ -28,7 +28,7 @@ pub enum Halt {
 fn fault_refusal(alloc: Global, fault: &ScriptFault) -> Halt
     ensures { HasText (fault_text fault.now) result }
 {
-    match answer_text::script_fault(alloc, fault) {
+    match crate::script_fault(alloc, fault) {
         Ok(text) => Halt::Refused(text),
         Err(_) => Halt::Memory,
     }

@@ -1,7 +1,7 @@
 -- What follows after a literal is assumed.
 use Rattle.std.proofs.Common.{◌≡◌, ◌∙◌, ◌⊎◌, inl, inr, sym, subst, List, false, true≢false, not, IsTrue}
 use Rattle.poly_graph.proofs.Bools.{not_both}
-use Rattle.cnf_build.specs.declared.literal.Literal.{Literal}
+use Rattle.clause_search.specs.declared.literal.Literal.{Literal}
 use Rattle.clause_search.specs.declared.table.Table.{Table}
 use Rattle.clause_search.specs.Table.{opposite, value_at, value_for, is_true, is_false, is_undecided, SetsOne}
 use Rattle.clause_search.specs.Entailed.{Entails, HasNoModel}

@@ -4,10 +4,10 @@ use Rattle.std.specs.Prelude.{Contains, All, slice_get}
 use Rattle.std.proofs.lemmas.Option.{slice_get_within}
 use Rattle.std.proofs.lemmas.List.{map-set, get_or-map}
 use Rattle.std.proofs.lemmas.Bool.{cases_lt}
-use Rattle.cnf_build.specs.declared.literal.Variable.{Variable}
-use Rattle.cnf_build.specs.declared.literal.Variable.TheVariants.{Atom, BoolIs, Helper}
-use Rattle.cnf_build.specs.declared.literal.Literal.{Literal}
-use Rattle.cnf_build.specs.Clauses.{Cnf, IsVariableIn}
+use Rattle.clause_search.specs.declared.literal.Variable.{Variable}
+use Rattle.clause_search.specs.declared.literal.Variable.TheVariants.{Atom, BoolIs, Helper}
+use Rattle.clause_search.specs.declared.literal.Literal.{Literal}
+use Rattle.clause_search.specs.Clauses.{Cnf, IsVariableIn}
 use Rattle.clause_search.specs.Lists.{place_of, code_of, list_at, KeepsLists, AreListed, AreListedBelow}
 
 -- after a write, a place has what was written, or what it had

@@ -9,10 +9,10 @@ use Rattle.poly_graph.specs.Problem.{Problem}
 use Rattle.poly_graph.specs.ProblemViews.{Parts, problem_of}
 use Rattle.poly_graph.specs.Marks.{Mark, marked_yes, marked_no, unmarked, mark_at, is_yes, is_no, is_unmarked, undecided_in}
 use Rattle.cover_model.specs.State.{State, Loosenings, margin_of, in_yes, in_no, misses, undecided, with_no, may, may_atom, domain_allows}
-use Rattle.cnf_build.specs.declared.literal.Variable.{Variable}
-use Rattle.cnf_build.specs.declared.literal.Variable.TheVariants.{Atom, BoolIs, Helper}
-use Rattle.cnf_build.specs.Clauses.{Cnf, Assignment, IsFormOf, literal_truth, clauses_truth}
-use Rattle.cnf_build.specs.Encoding.{literal}
+use Rattle.clause_search.specs.declared.literal.Variable.{Variable}
+use Rattle.clause_search.specs.declared.literal.Variable.TheVariants.{Atom, BoolIs, Helper}
+use Rattle.clause_search.specs.Clauses.{Cnf, Assignment, IsFormOf, literal_truth, clauses_truth}
+use Rattle.clause_search.specs.Encoding.{literal}
 use Rattle.clause_search.specs.declared.table.Value.{Value}
 use Rattle.clause_search.specs.declared.table.Value.TheVariants.{Open, True, False}
 use Rattle.clause_search.specs.declared.table.Table.{Table}

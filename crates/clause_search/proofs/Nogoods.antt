@@ -4,7 +4,7 @@ use Rattle.std.proofs.Math.Seq.{drop-cons}
 use Rattle.std.proofs.Math.ListN.{drop_of_length-le}
 use Rattle.std.proofs.lemmas.List.{append-nil}
 use Rattle.poly_graph.specs.Marks.{Mark, mark_at, unmarked}
-use Rattle.cnf_build.specs.declared.literal.Literal.{Literal}
+use Rattle.clause_search.specs.declared.literal.Literal.{Literal}
 use Rattle.clause_search.specs.Nogood.{said_of, with_said, literals_from}
 
 from-first : (j : ℕ) (m : Mark) (rest xs : List Mark) → xs ≡ m ∷ rest → literals_from j xs ≡ with_said (said_of j m) (literals_from (suc j) rest)

@@ -5,11 +5,11 @@ use Rattle.std.specs.List.{list_any}
 use Rattle.std.proofs.lemmas.Bool.{cases_lt}
 use Rattle.std.proofs.lemmas.Option.{unwrap_or-slice_get}
 use Rattle.std.proofs.lemmas.List.{get_or_past}
-use Rattle.cnf_build.specs.declared.literal.Variable.{Variable}
-use Rattle.cnf_build.specs.declared.literal.Variable.TheVariants.{Atom, Helper}
-use Rattle.cnf_build.specs.declared.literal.Literal.{Literal}
-use Rattle.cnf_build.specs.Clauses.{Cnf}
-use Rattle.cnf_build.specs.Encoding.{literal}
+use Rattle.clause_search.specs.declared.literal.Variable.{Variable}
+use Rattle.clause_search.specs.declared.literal.Variable.TheVariants.{Atom, Helper}
+use Rattle.clause_search.specs.declared.literal.Literal.{Literal}
+use Rattle.clause_search.specs.Clauses.{Cnf}
+use Rattle.clause_search.specs.Encoding.{literal}
 use Rattle.clause_search.specs.declared.table.Value.TheVariants.{Open}
 use Rattle.clause_search.specs.declared.table.Table.{Table}
 use Rattle.clause_search.specs.declared.trail.Trail.{Trail}

@@ -4,10 +4,10 @@ use Rattle.std.specs.Prelude.{Contains, All, slice_get}
 use Rattle.std.proofs.Math.ListN.{drop_of_length-le}
 use Rattle.std.proofs.lemmas.Option.{slice_get_within, slice_get-get_or}
 use Rattle.std.proofs.lemmas.List.Elements.{All-contains, All-push, All-weaker}
-use Rattle.cnf_build.specs.declared.literal.Variable.TheVariants.{Atom}
-use Rattle.cnf_build.specs.declared.literal.Literal.{Literal}
-use Rattle.cnf_build.specs.Encoding.{literal}
-use Rattle.cnf_build.specs.Clauses.{Cnf}
+use Rattle.clause_search.specs.declared.literal.Variable.TheVariants.{Atom}
+use Rattle.clause_search.specs.declared.literal.Literal.{Literal}
+use Rattle.clause_search.specs.Encoding.{literal}
+use Rattle.clause_search.specs.Clauses.{Cnf}
 use Rattle.clause_search.specs.declared.table.Table.{Table}
 use Rattle.clause_search.specs.declared.watches.Watches.{Watches}
 use Rattle.clause_search.specs.Table.{opposite, value_at, value_for, stands, is_true, is_false, is_undecided, SetsOne}

@@ -1,9 +1,9 @@
 -- A table after one literal is made true, and a table where nothing is known.
 use Rattle.std.proofs.Common.{◌≡◌, ◌∙◌, ◌⊎◌, inl, inr, refl, sym, ap, ap₂, subst, Bool, true, false, not, IsTrue, true≢false}
 use Rattle.poly_graph.proofs.Bools.{not_both}
-use Rattle.cnf_build.specs.declared.literal.Variable.{Variable}
-use Rattle.cnf_build.specs.declared.literal.Literal.{Literal}
-use Rattle.cnf_build.specs.Encoding.{literal}
+use Rattle.clause_search.specs.declared.literal.Variable.{Variable}
+use Rattle.clause_search.specs.declared.literal.Literal.{Literal}
+use Rattle.clause_search.specs.Encoding.{literal}
 use Rattle.clause_search.specs.declared.table.Value.{Value}
 use Rattle.clause_search.specs.declared.table.Value.TheVariants.{Open, True, False}
 use Rattle.clause_search.specs.declared.table.Table.{Table}

@@ -4,8 +4,8 @@ use Rattle.std.specs.Prelude.{All, Contains}
 use Rattle.std.proofs.lemmas.List.Elements.{All-nil, All-cons, All-contains, All-head, All-tail}
 use Rattle.poly_graph.proofs.Bools.{either_true, not_both}
 use Rattle.dyadic.proofs.Equal.{both_true}
-use Rattle.cnf_build.specs.declared.literal.Literal.{Literal}
-use Rattle.cnf_build.specs.Clauses.{Assignment, variable_truth, literal_truth, clause_truth, clauses_truth}
+use Rattle.clause_search.specs.declared.literal.Literal.{Literal}
+use Rattle.clause_search.specs.Clauses.{Assignment, variable_truth, literal_truth, clause_truth, clauses_truth}
 use Rattle.clause_search.specs.declared.table.Table.{Table}
 use Rattle.clause_search.specs.Table.{opposite, is_true}
 use Rattle.clause_search.specs.Entailed.{IsModel, Entails, HasNoModel}

@@ -6,8 +6,8 @@ use Rattle.std.proofs.lemmas.Bool.{cases_lt}
 use Rattle.std.proofs.lemmas.Option.{slice_get_within, unwrap_or-slice_get}
 use Rattle.std.proofs.lemmas.List.Elements.{All-contains}
 use Rattle.poly_graph.proofs.Bools.{not_both}
-use Rattle.cnf_build.specs.declared.literal.Literal.{Literal}
-use Rattle.cnf_build.specs.Clauses.{Cnf, IsVariableIn}
+use Rattle.clause_search.specs.declared.literal.Literal.{Literal}
+use Rattle.clause_search.specs.Clauses.{Cnf, IsVariableIn}
 use Rattle.clause_search.specs.declared.table.Table.{Table}
 use Rattle.clause_search.specs.Table.{value_at, is_true, is_false}
 use Rattle.clause_search.specs.Found.{LeavesOne, AllFalse, UnitAmong, ConflictAmong}

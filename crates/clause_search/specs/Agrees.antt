@@ -2,8 +2,8 @@
 use Rattle.std.specs.Prelude.{ℕ, Bool, true, false, not, ◌||◌, IsTrue}
 use Rattle.poly_graph.specs.Problem.{Problem}
 use Rattle.cover_model.specs.State.{State, Loosenings, margin_of, in_yes, in_no, misses, domain_allows}
-use Rattle.cnf_build.specs.declared.literal.Variable.TheVariants.{Atom, BoolIs}
-use Rattle.cnf_build.specs.Encoding.{literal}
+use Rattle.clause_search.specs.declared.literal.Variable.TheVariants.{Atom, BoolIs}
+use Rattle.clause_search.specs.Encoding.{literal}
 use Rattle.clause_search.specs.declared.table.Table.{Table}
 use Rattle.clause_search.specs.declared.trail.Trail.{Trail}
 use Rattle.clause_search.specs.Table.{is_true}

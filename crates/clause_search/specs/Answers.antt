@@ -3,10 +3,10 @@ use Rattle.std.specs.Prelude.{◌≡◌, ◌⊎◌, ℕ, ◌<◌, List, All, Boo
 use Rattle.std.specs.List.{list_all, list_any}
 use Rattle.poly_graph.specs.ProblemViews.{Parts, problem_of}
 use Rattle.cover_model.specs.State.{State, Loosenings, undecided, with_no, may}
-use Rattle.cnf_build.specs.declared.literal.Variable.TheVariants.{Atom}
-use Rattle.cnf_build.specs.declared.literal.Literal.{Literal}
-use Rattle.cnf_build.specs.Clauses.{Cnf, IsFormOf}
-use Rattle.cnf_build.specs.Encoding.{literal}
+use Rattle.clause_search.specs.declared.literal.Variable.TheVariants.{Atom}
+use Rattle.clause_search.specs.declared.literal.Literal.{Literal}
+use Rattle.clause_search.specs.Clauses.{Cnf, IsFormOf}
+use Rattle.clause_search.specs.Encoding.{literal}
 use Rattle.clause_search.specs.declared.prop.Prop.{Prop}
 use Rattle.clause_search.specs.declared.prop.Prop.TheVariants.{Forced, Conflict, Rest}
 use Rattle.clause_search.specs.declared.trail.Trail.{Trail}

@@ -1,7 +1,7 @@
 -- What follows from clauses and assumed literals.
 use Rattle.std.specs.Prelude.{List, IsTrue}
-use Rattle.cnf_build.specs.declared.literal.Literal.{Literal}
-use Rattle.cnf_build.specs.Clauses.{Assignment, literal_truth, clauses_truth}
+use Rattle.clause_search.specs.declared.literal.Literal.{Literal}
+use Rattle.clause_search.specs.Clauses.{Assignment, literal_truth, clauses_truth}
 use Rattle.clause_search.specs.declared.table.Table.{Table}
 use Rattle.clause_search.specs.Table.{is_true}
 

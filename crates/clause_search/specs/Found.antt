@@ -1,7 +1,7 @@
 -- What a clause says beside the literals that are known.
 use Rattle.std.specs.Prelude.{◌≡◌, ◌≢◌, ◌⊎◌, List, All, not, IsTrue, Contains, Option, Some, None}
-use Rattle.cnf_build.specs.declared.literal.Literal.{Literal}
-use Rattle.cnf_build.specs.Clauses.{Cnf, IsVariableIn}
+use Rattle.clause_search.specs.declared.literal.Literal.{Literal}
+use Rattle.clause_search.specs.Clauses.{Cnf, IsVariableIn}
 use Rattle.clause_search.specs.declared.table.Table.{Table}
 use Rattle.clause_search.specs.declared.clause.Found.{Found}
 use Rattle.clause_search.specs.declared.clause.Found.TheVariants.{Settled, Unit as Single, Conflict}

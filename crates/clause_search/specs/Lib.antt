@@ -9,3 +9,6 @@ pub mod Places
 pub mod Table
 pub mod Trail
 pub mod Watches
+pub mod Clauses
+pub mod Encoding
+pub mod Kept

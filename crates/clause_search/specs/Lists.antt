@@ -2,10 +2,10 @@
 use Rattle.std.specs.Prelude.{◌≡◌, ℕ, ◌+◌, ◌*◌, ◌<◌, List, [], map, All, Contains, cond, Some, slice_get, slice_index_or, vec_len}
 use Rattle.std.specs.declared.vec.Vec.{Vec}
 use Rattle.std.specs.declared.alloc.Global.{Global}
-use Rattle.cnf_build.specs.declared.literal.Variable.{Variable}
-use Rattle.cnf_build.specs.declared.literal.Variable.TheVariants.{Atom, BoolIs, Helper}
-use Rattle.cnf_build.specs.declared.literal.Literal.{Literal}
-use Rattle.cnf_build.specs.Clauses.{Cnf}
+use Rattle.clause_search.specs.declared.literal.Variable.{Variable}
+use Rattle.clause_search.specs.declared.literal.Variable.TheVariants.{Atom, BoolIs, Helper}
+use Rattle.clause_search.specs.declared.literal.Literal.{Literal}
+use Rattle.clause_search.specs.Clauses.{Cnf}
 use Rattle.clause_search.specs.Table.{bool_place}
 
 abbrev pub place_of : ℕ → ℕ → Variable → ℕ

@@ -1,9 +1,9 @@
 -- The literals that marks say.
 use Rattle.std.specs.Prelude.{ℕ, suc, List, [], ◌∷◌, true, false, Option, Some, None}
 use Rattle.poly_graph.specs.Marks.{Mark, marked_yes, marked_no, unmarked}
-use Rattle.cnf_build.specs.declared.literal.Variable.TheVariants.{Atom}
-use Rattle.cnf_build.specs.declared.literal.Literal.{Literal}
-use Rattle.cnf_build.specs.Encoding.{literal}
+use Rattle.clause_search.specs.declared.literal.Variable.TheVariants.{Atom}
+use Rattle.clause_search.specs.declared.literal.Literal.{Literal}
+use Rattle.clause_search.specs.Encoding.{literal}
 
 -- what the mark says of atom j
 abbrev pub said_of : ℕ → Mark → Option Literal

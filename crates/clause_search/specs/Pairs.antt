@@ -1,6 +1,6 @@
 -- The two watched literals of a clause.
 use Rattle.std.specs.Prelude.{◌≡◌, ◌≢◌, ◌⊎◌, List, Contains, not, IsTrue, Some}
-use Rattle.cnf_build.specs.declared.literal.Literal.{Literal}
+use Rattle.clause_search.specs.declared.literal.Literal.{Literal}
 use Rattle.clause_search.specs.declared.table.Table.{Table}
 use Rattle.clause_search.specs.declared.clause.Choice.{Choice}
 use Rattle.clause_search.specs.declared.clause.Choice.TheVariants.{Watch, Unit as Single, Conflict}

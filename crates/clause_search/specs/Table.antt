@@ -1,8 +1,8 @@
 -- What is known of each variable.
 use Rattle.std.specs.Prelude.{◌≡◌, ◌⊎◌, ℕ, ◌+◌, ◌*◌, ◌<◌, Bool, true, false, not, cond, slice_index_or, vec_len, count_by}
-use Rattle.cnf_build.specs.declared.literal.Variable.{Variable}
-use Rattle.cnf_build.specs.declared.literal.Variable.TheVariants.{Atom, BoolIs, Helper}
-use Rattle.cnf_build.specs.declared.literal.Literal.{Literal}
+use Rattle.clause_search.specs.declared.literal.Variable.{Variable}
+use Rattle.clause_search.specs.declared.literal.Variable.TheVariants.{Atom, BoolIs, Helper}
+use Rattle.clause_search.specs.declared.literal.Literal.{Literal}
 use Rattle.clause_search.specs.declared.table.Value.{Value}
 use Rattle.clause_search.specs.declared.table.Value.TheVariants.{Open, True, False}
 use Rattle.clause_search.specs.declared.table.Table.{Table}

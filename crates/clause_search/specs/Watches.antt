@@ -2,8 +2,8 @@
 use Rattle.std.specs.Prelude.{◌≡◌, ℕ, ◌+◌, ◌<◌, ◌≤◌, List, drop, length, All, Contains, IsTrue, Some, slice_get, vec_len}
 use Rattle.std.specs.declared.vec.Vec.{Vec}
 use Rattle.std.specs.declared.alloc.Global.{Global}
-use Rattle.cnf_build.specs.declared.literal.Literal.{Literal}
-use Rattle.cnf_build.specs.Clauses.{Cnf}
+use Rattle.clause_search.specs.declared.literal.Literal.{Literal}
+use Rattle.clause_search.specs.Clauses.{Cnf}
 use Rattle.clause_search.specs.declared.table.Table.{Table}
 use Rattle.clause_search.specs.declared.watches.Watches.{Watches}
 use Rattle.clause_search.specs.declared.clause.Found.{Found}

@@ -4,8 +4,8 @@ ghost use Rattle.clause_search.specs.Found.{IsOther, IsFree, NoneFree};
 ghost use Rattle.clause_search.specs.Pairs.{Chooses, Rewatches};
 ghost use Rattle.clause_search.specs.Table.{is_false};
 
+use crate::Literal;
 use crate::table::Table;
-use cnf_build::Literal;
 
 /// What a clause, or all clauses, say.
 #[derive(Clone, Copy)]

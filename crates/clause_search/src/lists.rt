@@ -1,10 +1,10 @@
 // A list of clauses for each literal.
 ghost use Rattle.std.specs.Prelude.{◌≡◌, ◌+◌, ◌*◌, ◌<◌, ◌^◌, ℕ, All, Contains, IfOk, OnOk, OnErr, vec_len, length, slice_index_or};
-ghost use Rattle.cnf_build.specs.Clauses.{IsVariableIn};
+ghost use Rattle.clause_search.specs.Clauses.{IsVariableIn};
 ghost use Rattle.clause_search.specs.Lists.{code_of, place_of, list_at, KeepsLists, IsListedFor};
 
 use crate::table::bool_place;
-use cnf_build::{Literal, Variable};
+use crate::{Literal, Variable};
 use std::alloc::{AllocError, Global};
 
 // The number of a variable among atoms, then Bool values, then helpers.

@@ -6,7 +6,7 @@ ghost use Rattle.poly_graph.specs.MarkViews.{mark_of};
 ghost use Rattle.clause_search.specs.Table.{is_true};
 
 use crate::table::Table;
-use cnf_build::{Literal, Variable};
+use crate::{Literal, Variable};
 use poly_graph::{Lits, Mark};
 use std::alloc::{AllocError, Global};
 

@@ -8,7 +8,7 @@ use crate::clause::Found;
 use crate::nogood::any_true;
 use crate::prop::Prop;
 use crate::trail::Trail;
-use cnf_build::{Cnf, Literal, Variable};
+use crate::{Cnf, Literal, Variable};
 use std::alloc::AllocError;
 
 impl Trail {

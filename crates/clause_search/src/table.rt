@@ -2,7 +2,7 @@
 ghost use Rattle.std.specs.Prelude.{◌≡◌, ◌+◌, ◌*◌, ℕ, replicate, slice_index_or, All, IfOk, vec_len, length};
 ghost use Rattle.clause_search.specs.Table.{value_at, is_true, is_false, is_undecided, bool_place, value_for, IsKept, SetsOne, SameCounts, HasCounts, HasOneLessOpen, AreOpen};
 
-use cnf_build::{Literal, Variable};
+use crate::{Literal, Variable};
 use std::alloc::{AllocError, Global};
 
 /// What is known of a variable.

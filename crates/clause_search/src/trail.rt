@@ -1,12 +1,12 @@
 // What was assumed, and what follows from it.
 ghost use Rattle.std.specs.Prelude.{◌≡◌, [], ◌∷◌, ◌++◌, ℕ, ◌<◌, ◌↔◌, length, IfOk, OnOk, OnErr, IsTrue};
-ghost use Rattle.cnf_build.specs.Clauses as clauses;
+ghost use Rattle.clause_search.specs.Clauses as clauses;
 ghost use Rattle.clause_search.specs.Places.{HasPlaces};
 
 use crate::nogood::literals_of;
 use crate::table::Table;
 use crate::watches::Watches;
-use cnf_build::{Cnf, Literal, Variable};
+use crate::{Cnf, Literal, Variable};
 use poly_graph::Lits;
 use std::alloc::{AllocError, Global};
 

@@ -1,7 +1,7 @@
 // Two watched literals a clause (Moskewicz, Madigan, Zhao, Zhang, Malik 2001), over fixed lists of the
 // clauses of each literal: a clause is looked into only for a watched literal, and nothing is ever moved.
 ghost use Rattle.std.specs.Prelude.{◌≡◌, ◌≢◌, ◌<◌, ◌≤◌, ◌+◌, ℕ, length, IfOk, IsTrue, Some, slice_get, vec_len};
-ghost use Rattle.cnf_build.specs.Clauses as clauses;
+ghost use Rattle.clause_search.specs.Clauses as clauses;
 ghost use Rattle.clause_search.specs.declared.table.Table.{Table};
 ghost use Rattle.clause_search.specs.Table.{opposite, is_false, is_undecided, value_for, SetsOne};
 ghost use Rattle.clause_search.specs.Lists.{AreListed};
@@ -9,7 +9,7 @@ ghost use Rattle.clause_search.specs.Lists.{AreListed};
 use crate::clause::{Choice, Found, choose, rewatch};
 use crate::lists::{add_clause, clause_at, code_of, empty_lists, list_len};
 use crate::table::Table;
-use cnf_build::{Cnf, Literal, Variable};
+use crate::{Cnf, Literal, Variable};
 use std::alloc::{AllocError, Global};
 
 /// Which clauses are to be looked at.

@@ -5,7 +5,7 @@
 //! Analysis, 1966), with several atoms Farkas' lemma on their linear parts. What the atoms' ranges allow to the
 //! combination, less the range of the other parts, narrows each axis.
 //!
-//! The sweep visits only what stands under the atoms. The crate chooses no multipliers, encloses nothing (`hc4_fwd` does
+//! The sweep visits only what stands under the atoms. The crate chooses no multipliers, encloses nothing (`hc4` does
 //! both over the space and over its middle), and does not repeat its narrowing. The checker has a sweep of its own.
 #![tactic(auto)]
 

@@ -1,5 +1,5 @@
 // What a sweep begins with: the adjoints of the roots, the combination's range at the centre and its allowed range.
-// The checker has the same for itself (`plain_combine`, start): it shares no code with the search.
+// The checker has the same for itself (`plain_eval`, start): it shares no code with the search.
 ghost use Rattle.std.specs.Prelude.{◌≡◌, ◌<◌, ◌≤◌, length};
 ghost use Rattle.dyadic.specs.Rounding.{two_to_minus};
 ghost use Rattle.cover_model.specs.OffRange.{off_range};

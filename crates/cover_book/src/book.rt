@@ -21,11 +21,11 @@ use crate::node::{Learned, Lines, Node};
 use crate::refusal::{BookRefusal, Kids};
 use crate::verdict::BookVerdict;
 use cover_data::{ClosedPatch, End, KeptPatch, Lemma, Options, Point, State, StoredState};
+use form_truth::{Root, root_space};
 use poly_graph::{Lits, Problem};
 use std::alloc::{AllocError, Global};
 use std::marker::Model;
 use std::mem;
-use truth3::{Root, root_space};
 
 /// A book has at most so many lemmas.
 pub const MOST_LEMMAS: usize = 1_048_576;

@@ -13,9 +13,9 @@ use combine::{Combination, combine};
 use cover_line::{CombinationRule, Rule};
 use cover_rule::State;
 use dyadic::Dy;
-use hc4_fwd::fill;
+use hc4::fill;
 use ival::{Narrowed, Rows, Space};
-use plain_combine::combine_plain;
+use plain_eval::combine_plain;
 use poly_graph::Problem;
 use std::alloc::Global;
 
@@ -115,7 +115,7 @@ fn by_checker(
 {
     let mut space = state.space().try_clone(alloc).ok()?;
     let at = expand(alloc, problem, &space)?;
-    let mut room = plain_combine::Room::new(alloc, problem.graph()).ok()?;
+    let mut room = plain_eval::Room::new(alloc, problem.graph()).ok()?;
     let answer = combine_plain(
         problem,
         20,

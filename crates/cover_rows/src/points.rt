@@ -8,11 +8,11 @@ ghost use Rattle.cover_model.specs.Fits.{IsShownAt};
 use crate::patches::{book_of, is_state};
 use cover_book::Book;
 use cover_rule::{MiddlePoint, Point, State, midpoint_sure};
+use form_truth::Marks;
 use ival::{Rows, Space};
 use poly_graph::{Lits, Problem};
 use sample_problems::scripts::{BOOL, CIRCLE, OUTSIDE, SWAPPED};
 use std::alloc::Global;
-use truth3::Marks;
 
 // No number of the unit interval has the square -1.
 pub(crate) const NO_ROOT: &str = "(declare-const x Real)

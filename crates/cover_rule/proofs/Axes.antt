@@ -12,7 +12,7 @@ use Rattle.cover_model.specs.Narrowed.{enclosures}
 use Rattle.cover_model.specs.NodeEnclosure.{row}
 use Rattle.cover_model.specs.Fits.{FitsAxes}
 use Rattle.poly_graph.proofs.Graphs.{length_terms}
-use Rattle.truth3.specs.Truth.{HasRows}
+use Rattle.form_truth.specs.Truth.{HasRows}
 
 -- the first so many axes of a space, and what stood there before of the others
 abbrev pub blend : ℕ → Space → Space → Space

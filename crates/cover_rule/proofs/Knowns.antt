@@ -11,8 +11,8 @@ use Rattle.cover_model.specs.State.{margin_of}
 use Rattle.cover_model.specs.Narrowed.{enclosures}
 use Rattle.cover_model.specs.NodeEnclosure.{row}
 use Rattle.ival.specs.RowViews.{is_marked}
-use Rattle.hc4_fwd.specs.Apart.{IsApart}
-use Rattle.hc4_fwd.proofs.Leaves.{leaves_same}
+use Rattle.hc4.specs.Apart.{IsApart}
+use Rattle.hc4.proofs.Leaves.{leaves_same}
 use Rattle.interval_model.specs.Space.{Space}
 use Rattle.poly_graph.specs.ProblemViews.{Parts, problem_of}
 use Rattle.cover_model.specs.State.{State}

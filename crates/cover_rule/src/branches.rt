@@ -25,9 +25,9 @@ use crate::truth::is_not_shown;
 use crate::workspace::Workspace;
 use cover_data::{End, KeptPatch, Margins, State};
 use dyadic::mid;
+use form_truth::may_atom;
 use ival::{Domain, Range, Space, Truths};
 use poly_graph::Problem;
-use truth3::may_atom;
 
 // Whether nothing is left to do at the state but to part it.
 fn is_due(problem: &Problem, margins: &Margins, state: &State, work: &mut Workspace) -> bool

@@ -30,7 +30,7 @@ pub fn can_combine(
     ensures some { result ≡ true → 0 < length multipliers.now }
     ensures few { result ≡ true → length multipliers.now ≤ 64 }
 {
-    truth3::can_combine(problem, state.lits(), multipliers)
+    form_truth::can_combine(problem, state.lits(), multipliers)
 }
 
 // Narrows the spare space, a copy of the state's, by a combination of atoms that may be made.

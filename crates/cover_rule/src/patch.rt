@@ -21,7 +21,7 @@ use crate::workspace::{Centre, Workspace};
 use crate::{branches, ends, steps};
 use cover_data::{ClosedPatch, KeptPatch, Lemma, Margins, State};
 use dyadic::Dy;
-use hc4_fwd::follow;
+use hc4::follow;
 use ival::Rows;
 use poly_graph::Problem;
 use std::alloc::{AllocError, Global};

@@ -8,10 +8,10 @@ ghost use Rattle.cover_rule.specs.Middle.{LiesInRoot, IsMiddlePoint};
 
 use crate::truth::midpoint_sure;
 use cover_data::{Margins, Point};
+use form_truth::Marks;
 use ival::{Rows, Space};
 use poly_graph::Problem;
 use std::alloc::{AllocError, Global};
-use truth3::Marks;
 
 /// Points that are the middle of a space.
 pub trait MiddlePoint: Sized {

@@ -11,8 +11,8 @@ use crate::facts::problem_is_whole;
 use crate::narrowing::none_leaves_nothing;
 use crate::workspace::Workspace;
 use cover_data::{Margins, State};
+use form_truth::{conjuncts_in_yes, may_atom, sure_atom};
 use poly_graph::Problem;
-use truth3::{conjuncts_in_yes, may_atom, sure_atom};
 
 /// Whether atom j may hold at the state, and does not surely hold.
 pub fn is_stuck_atom(

@@ -15,10 +15,10 @@ ghost use Rattle.cover_rule.specs.Serves.{HasCentre, IsCentre, HasRowsOf, sure_a
 use crate::facts::problem_is_whole;
 use crate::workspace::{Centre, Workspace};
 use cover_data::{Margins, State};
-use hc4_fwd::{fill, follow};
+use form_truth::{Marks, may, sure};
+use hc4::{fill, follow};
 use ival::{Rows, Space};
 use poly_graph::Problem;
-use truth3::{Marks, may, sure};
 
 /// Whether the form may hold at the state.
 pub fn may_hold(problem: &Problem, margins: &Margins, state: &State, work: &mut Workspace) -> bool

@@ -7,11 +7,11 @@ ghost use Rattle.cover_rule.specs.Serves.{HasCentreRoom};
 
 use crate::voiding::Voiding;
 use combine::Room;
-use hc4_fwd::fill;
+use form_truth::Marks;
+use hc4::fill;
 use ival::{Rows, Space};
 use poly_graph::Problem;
 use std::alloc::{AllocError, Global};
-use truth3::Marks;
 
 /// The middle of a space, and the enclosures over it.
 #[derive(Drop)]

@@ -7,11 +7,11 @@ use crate::frame::{Axes, Frame, frame_of};
 use crate::picture::Picture;
 use cert_check::Checker;
 use cert_read::{Line, LineFault, LineReader};
+use form_truth::{Root, root_space};
 use ival::Space;
 use poly_graph::Problem;
 use problem_build::read_problem;
 use std::alloc::{AllocError, Global};
-use truth3::{Root, root_space};
 
 // The lines of a certificate.
 fn lines_of(alloc: Global, cert: &[u8]) -> Result<LineReader, Fault> {

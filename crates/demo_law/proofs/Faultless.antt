@@ -20,7 +20,7 @@ use Rattle.smt_script.specs.Commands.{CommandsRead, Said, joined, says, one_step
 use Rattle.smt_script.specs.Levels.{command}
 use Rattle.sort_check.proofs.Scopes.{plain_fault}
 use Rattle.smt_sexp.specs.Lexicon.{read}
-use Rattle.script_faults.specs.Faults.{in_text, in_commands, in_sorts, in_checks, in_building, most_bytes}
+use Rattle.script_reading.specs.Faults.{in_text, in_commands, in_sorts, in_checks, in_building, most_bytes}
 use Rattle.gen_script.specs.Demo.{next_number, coefficient, atom_line, atom_lines, demo_script, head, tail}
 use Rattle.dyadic.specs.Fraction.{negated, at_most}
 use Rattle.smt_sexp.specs.TextAnswers.{too_many_bytes}

@@ -1,7 +1,7 @@
 -- That the demo's script has no fault.
 use Rattle.std.specs.Prelude.{◌≡◌, ◌≤◌, ℕ, Option, None}
 use Rattle.gen_script.specs.Demo.{demo_script}
-use Rattle.script_faults.specs.Faults.{script_fault}
+use Rattle.script_reading.specs.Faults.{script_fault}
 
 -- at every seed and size, whatever bound the words give
 abbrev pub DemoIsFaultless : Type 0

@@ -1,6 +1,6 @@
 //! The demo's script has no fault.
 //!
-//! No code runs here: the function is a law about the definitions of `gen_script` and `script_faults`, and its contract
+//! No code runs here: the function is a law about the definitions of `gen_script` and `script_reading`, and its contract
 //! is the law. That the search for such a script leaves nothing is not shown.
 #![tactic(auto)]
 

@@ -1,6 +1,6 @@
 -- The demo's script is never refused.
 use Rattle.std.proofs.Common.{◌≡◌, ◌≤◌, ℕ, List, Option, None, subst}
-use Rattle.script_faults.specs.Faults.{script_fault}
+use Rattle.script_reading.specs.Faults.{script_fault}
 use Rattle.check_run.specs.Script.{HasFaultText}
 use Rattle.gen_script.specs.Demo.{demo_script}
 use Rattle.demo_law.proofs.Faultless.{demo_is_faultless}

@@ -1,7 +1,7 @@
 -- From a certificate to the end of a run.
 use Rattle.std.proofs.Common.{◌≡◌, ℕ, List, [], length, refl, subst, ◌∙◌}
 use Rattle.desk.specs.Sight.{Sight}
-use Rattle.words.specs.declared.request.Options.{Options}
+use Rattle.command_line.specs.declared.request.Options.{Options}
 use Rattle.poly_graph.specs.Problem.{Problem}
 use Rattle.cert_model.specs.Due.{Value, left_open}
 use Rattle.cert_model.specs.AnswerText.{solve_text, demo_text}

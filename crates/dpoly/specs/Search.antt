@@ -1,6 +1,6 @@
 -- What a search is asked for, and what is answered of the book that it left.
 use Rattle.std.specs.Prelude.{◌≡◌, ◌≢◌, ℕ, List, []}
-use Rattle.words.specs.declared.request.Options.{Options}
+use Rattle.command_line.specs.declared.request.Options.{Options}
 use Rattle.poly_graph.specs.Problem.{Problem}
 use Rattle.cover_model.specs.Derivation.{Tree}
 use Rattle.cert_model.specs.Due.{Standing, Value, left_open}

@@ -1,6 +1,6 @@
 // From the book that a search left to its certificate and its answer.
 ghost use Rattle.std.specs.Prelude.{◌≡◌, [], None, Some, IfOk};
-ghost use Rattle.words.specs.declared.request.Options.{Options};
+ghost use Rattle.command_line.specs.declared.request.Options.{Options};
 ghost use Rattle.cert_model.specs.Due.{left_open};
 ghost use Rattle.cover_book.specs.Keeps.{IsBook};
 ghost use Rattle.cover_book.specs.Model.{problem_in};
@@ -10,10 +10,10 @@ ghost use Rattle.check_run.specs.Answer.{IsAnswer};
 ghost use Rattle.dpoly.specs.Search.{search_options as options_of, IsLeftBy, IsSearchAnswer, SaysLeft};
 
 use cert_text::{first_stuck, write_cover, write_point};
+use command_line::Options;
 use cover_book::{Book, BookVerdict};
 use cover_rule::Point;
 use std::alloc::{AllocError, Global};
-use words::Options;
 
 /// A certificate, and the answer's text.
 #[derive(Debug, Drop)]
@@ -56,7 +56,7 @@ fn tell_point(
 {
     let problem = book.problem();
     let cert = write_point(alloc, problem, book.options(), point)?;
-    let text = answer_text::delta_sat(alloc, problem, options.delta_bits, point.space())?;
+    let text = check_run::delta_sat(alloc, problem, options.delta_bits, point.space())?;
     Ok(SearchAnswer { cert, text })
 }
 
@@ -67,7 +67,7 @@ fn width_text(alloc: Global, book: &Book) -> Result<Vec<u8>, AllocError>
 {
     let problem = book.problem();
     match first_stuck(alloc, book)? {
-        Some(found) => answer_text::width(alloc, problem, found.state.space(), found.atom),
+        Some(found) => check_run::width(alloc, problem, found.state.space(), found.atom),
         None => unreachable!(),
     }
 }
@@ -80,9 +80,9 @@ fn left_text(alloc: Global, book: &Book, options: &Options) -> Result<Vec<u8>, A
 {
     book_is_sound(book);
     match book.verdict() {
-        BookVerdict::UnknownBudget => answer_text::budget(alloc, u64::from(options.budget)),
+        BookVerdict::UnknownBudget => check_run::budget(alloc, u64::from(options.budget)),
         BookVerdict::UnknownWidth => width_text(alloc, book),
-        BookVerdict::Unsat => answer_text::unsat(alloc, options.margin_bits),
+        BookVerdict::Unsat => check_run::unsat(alloc, options.margin_bits),
         BookVerdict::DeltaSat | BookVerdict::NotYet => unreachable!(),
     }
 }

@@ -2,9 +2,9 @@
 // by no clause.
 use crate::located::assertion_with;
 use check_run::Status;
+use command_line::{Request, read_words, usage_text};
 use file_desk::{FileDesk, Messages};
 use std::alloc::Global;
-use words::{Request, read_words, usage_text};
 
 // The messages of a run on one script and one certificate.
 fn messages<'a>(script: &'a str, cert: &'a str) -> Messages<'a> {

@@ -7,8 +7,7 @@ ghost use Rattle.check_run.specs.Can.{CanPlan, plan_text};
 ghost use Rattle.check_run.specs.Run.{PlanHasCause, SameIn};
 ghost use Rattle.dpoly.specs.Plan.{IsPlanText};
 
-use answer_text::{plan_least_bits, plan_no_atom, plan_no_axis};
-use check_run::{Status, say};
+use check_run::{Status, plan_least_bits, plan_no_atom, plan_no_axis, say};
 use desk::Desk;
 use poly_graph::Problem;
 use std::alloc::{AllocError, Global};

@@ -1,6 +1,6 @@
 // `solve` and `demo`, from a problem to their answers.
 ghost use Rattle.std.specs.Prelude.{◌≡◌, [], IfOk, length};
-ghost use Rattle.words.specs.Words.{AreOptions};
+ghost use Rattle.command_line.specs.Words.{AreOptions};
 ghost use Rattle.poly_graph.specs.ProblemViews.{problem_of};
 ghost use Rattle.cert_model.specs.AnswerText.{demo_text};
 ghost use Rattle.cert_model.specs.Due.{left_open};
@@ -13,6 +13,7 @@ ghost use Rattle.dpoly.specs.Search.{IsLeftBy, IsSearchAnswer};
 
 use crate::answers::{SearchAnswer, search_options, tell, whole_cover};
 use check_run::{Status, finish};
+use command_line::Options;
 use cover_book::{Book, BookVerdict};
 use desk::Desk;
 use poly_graph::Problem;
@@ -20,7 +21,6 @@ use solve_core::Gate;
 use std::alloc::{AllocError, Global};
 use std::sync::Wait;
 use std::thread::Threads;
-use words::Options;
 
 // The book that a search for the problem leaves.
 fn search<R: Threads + Wait + Sync, G: Gate + Sync>(
@@ -120,7 +120,7 @@ pub fn solve_demo<R: Threads + Wait + Sync, D: Desk, G: Gate + Sync>(
     ensures cause { DemoHasCause (D.sight desk.old) (D.sight desk.new) result }
 {
     match covered(rt, alloc, problem, &options, gate) {
-        Ok(cert) => match answer_text::demo(
+        Ok(cert) => match check_run::demo(
             alloc,
             script.len() as u64,
             problem.atoms().len() as u64,

@@ -1,7 +1,7 @@
 // The run of the whole program.
 ghost use Rattle.std.specs.Prelude.{◌≡◌, None};
-ghost use Rattle.words.specs.Words.{AreOptions, IsDemo, IsInRange, IsPlan};
-ghost use Rattle.words.specs.Seen.{seen, seen_demo, seen_plan};
+ghost use Rattle.command_line.specs.Words.{AreOptions, IsDemo, IsInRange, IsPlan};
+ghost use Rattle.command_line.specs.Seen.{seen, seen_demo, seen_plan};
 ghost use Rattle.check_run.specs.Run.{asked_run, CertIsRead, command_in, demo_run, HasCause, HasCourse, plan_run, run, SameIn, ScriptIsRead, solve_run, StatusIsDue, StatusIsShown, upgrade_run};
 ghost use Rattle.check_run.specs.Headline.{DeltaSatIsTrue, PlanIsTrue, RefusalIsTrue, UnsatIsTrue, UpgradeIsTrue};
 
@@ -9,6 +9,7 @@ use crate::plan::plan_problem;
 use crate::solve::{solve_demo, solve_problem};
 use crate::upgrade::upgrade_problem;
 use check_run::{Halt, Status, end_halted, fetch_problem, read_script, run_check, say};
+use command_line::{DemoWords, PlanWords, Refused, Request, SolveWords, UpgradeWords, read_words};
 use desk::Desk;
 use gen_script::make;
 use problem_build::Reader;
@@ -16,7 +17,6 @@ use solve_core::Gate;
 use std::alloc::Global;
 use std::sync::Wait;
 use std::thread::Threads;
-use words::{DemoWords, PlanWords, Refused, Request, SolveWords, UpgradeWords, read_words};
 
 // Solves a script: its certificate, and then the answer.
 fn run_solve<R: Threads + Wait + Sync, D: Desk, G: Gate + Sync>(

@@ -3,7 +3,7 @@ use Rattle.std.specs.Prelude.{List, Option, map, option_map, string_bytes}
 use Rattle.std.specs.declared.alloc.Global.{Global}
 use Rattle.std.specs.declared.string.String.{String}
 use Rattle.desk.specs.Sight.{Sight}
-use Rattle.words.specs.Words.{Command, check, checker_of}
+use Rattle.command_line.specs.Words.{Command, check, checker_of}
 use Rattle.check_run.specs.declared.status.Status.{Status}
 use Rattle.check_run.specs.Run.{Run, run_of}
 

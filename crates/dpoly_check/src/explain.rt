@@ -1,8 +1,8 @@
 // What standard error says of a run that gave no answer: for people to read, and promised by no clause.
 use check_run::Status;
+use command_line::{checker_usage_text, read_checker_words};
 use file_desk::{FileDesk, Messages};
 use std::alloc::Global;
-use words::{checker_usage_text, read_checker_words};
 
 // The messages of the run that the words ask for.
 fn messages_of<'a>(alloc: Global, words: &'a [String]) -> Messages<'a> {

@@ -5,10 +5,10 @@ ghost use Rattle.check_run.specs.Headline.{DeltaSatIsTrue, RefusalIsTrue, UnsatI
 ghost use Rattle.dpoly_check.specs.Checker.{command_in, run};
 
 use check_run::{Status, run_check, say};
+use command_line::{Refused, read_checker_words};
 use desk::Desk;
 use problem_build::Reader;
 use std::alloc::Global;
-use words::{Refused, read_checker_words};
 
 /// Runs the whole checker: the words of its call, of which the first is its name, over the ports of a desk.
 ///

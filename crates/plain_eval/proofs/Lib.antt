@@ -3,3 +3,9 @@ pub mod Leaves
 pub mod Sweeping
 pub mod Skipped
 pub mod Upwards
+pub mod Atoms
+pub mod Finishing
+pub mod Giving
+pub mod PassedAxes
+pub mod Passing
+pub mod CombinedSweeps

@@ -4,3 +4,8 @@ pub mod Renewed
 pub mod Rows
 pub mod Settled
 pub mod Upward
+pub mod Calls
+pub mod Parts
+pub mod Passes
+pub mod Rest
+pub mod Suits

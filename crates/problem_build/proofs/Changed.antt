@@ -18,7 +18,7 @@ use Rattle.poly_graph.specs.ProblemViews.{Parts, IsWhole, axis_of, parts_of, pro
 use Rattle.poly_graph.specs.Shared.{IsGraph}
 use Rattle.script_model.specs.Script.{Command}
 use Rattle.script_fault.specs.declared.fault.ReadError.{ReadError}
-use Rattle.script_faults.specs.Reader.{IsBuiltOf}
+use Rattle.script_reading.specs.Reader.{IsBuiltOf}
 use Rattle.sort_check.specs.Sorts.{sort_fault}
 use Rattle.term_build.specs.Built.{BuilderModel}
 use Rattle.value_build.specs.Making.{Making}

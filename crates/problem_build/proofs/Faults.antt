@@ -6,7 +6,7 @@ use Rattle.script_fault.specs.declared.limit.Limit.{Limit}
 use Rattle.script_fault.specs.declared.limit.Limit.TheVariants.{Bytes, Depth, Axes, Size, Nodes, Atoms, Forms, Levels, Checks}
 use Rattle.smt_sexp.specs.TextAnswers.{fault_at}
 use Rattle.script_forms.specs.Walk.{Walked, stops, unfolds_not}
-use Rattle.script_faults.specs.Faults.{in_building}
+use Rattle.script_reading.specs.Faults.{in_building}
 use Rattle.term_build.specs.Does.{IsBeyond, fault_of}
 use Rattle.term_build.specs.declared.stop.Fault.{Fault}
 use Rattle.term_build.specs.declared.stop.Fault.TheVariants.{NumberTooWide, DivisorNotConstant, ZeroDivisor, IllFormed}

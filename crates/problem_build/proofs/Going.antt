@@ -11,9 +11,9 @@ use Rattle.script_fault.specs.Answers.{IsFaultOrMemory}
 use Rattle.script_fault.specs.declared.fault.ReadError.{ReadError}
 use Rattle.script_fault.specs.declared.place.Place.{Place}
 use Rattle.script_forms.specs.Walk.{building_fault}
-use Rattle.script_faults.specs.Faults.{first_of, in_building, in_each_check}
-use Rattle.script_faults.specs.Reader.{IsBuiltOf}
-use Rattle.script_faults.specs.Session.{AreBuilt, carried_from, carried_of, stay_in_force}
+use Rattle.script_reading.specs.Faults.{first_of, in_building, in_each_check}
+use Rattle.script_reading.specs.Reader.{IsBuiltOf}
+use Rattle.script_reading.specs.Session.{AreBuilt, carried_from, carried_of, stay_in_force}
 use Rattle.smt_sexp.specs.Views.{place_of}
 use Rattle.smt_sexp.specs.declared.sexps.Sexps.{Sexps}
 use Rattle.smt_script.specs.Levels.{Asked, Levels, Step, command, after_step, asked_from, checks_of, no_levels}
@@ -33,7 +33,7 @@ use Rattle.problem_build.specs.Changes.{AreChanges, Changes, Starts, changed, la
 use Rattle.problem_build.proofs.Changed.{changes_more, last_more, problems_more}
 use Rattle.problem_build.specs.declared.change.Checked.{Checked}
 use Rattle.problem_build.specs.declared.session.Going.{Going}
-use Rattle.script_faults.proofs.Carried.{Stacked, step_first}
+use Rattle.script_reading.proofs.Carried.{Stacked, step_first}
 use Rattle.problem_build.specs.Progress.{IsBuiltBy, IsKept}
 use Rattle.problem_build.specs.declared.progress.Progress.{Progress}
 use Rattle.problem_build.proofs.Reading.{lifted}

@@ -29,7 +29,7 @@ use Rattle.poly_graph.specs.declared.axis.Declared.TheVariants as declared
 use Rattle.poly_graph.proofs.Graphs.{unfolds, length_terms, in_order_at}
 use Rattle.poly_graph.proofs.Same.{one_number}
 use Rattle.script_forms.specs.ProblemOf.{IsEnd, IsDeclaredBy, AreAxes}
-use Rattle.script_faults.specs.Reader.{AreLowest, IsBuilt, commands_of}
+use Rattle.script_reading.specs.Reader.{AreLowest, IsBuilt, commands_of}
 use Rattle.term_build.proofs.Lists.{index_get, all_head, all_tail}
 use Rattle.term_build.proofs.Trees.{same_node}
 

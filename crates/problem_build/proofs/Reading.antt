@@ -27,11 +27,11 @@ use Rattle.poly_graph.specs.Problem.{Axis}
 use Rattle.poly_graph.specs.ProblemViews.{Parts, problem_of, IsWhole}
 use Rattle.problem_build.specs.BuildAnswers.{IsBuildingError, IsLean}
 use Rattle.problem_build.proofs.Few.{few_constants}
-use Rattle.script_faults.specs.Faults.{script_fault, by_bytes, by_text, by_commands, by_sorts, in_checks, in_each_check, in_building, most_bytes, session_fault}
-use Rattle.script_faults.proofs.Parts.{bytes_first, commands_first, sorts_first, checks_first}
-use Rattle.script_faults.specs.Reader as reader
-use Rattle.script_faults.specs.Reader.{AreLowest, HasProblem, IsBuiltOf, IsInWalkOrder, too_many_bytes, or_none}
-use Rattle.script_faults.specs.Session.{AreBuilt, HasSession, carried_of, or_no_steps, steps_of_text}
+use Rattle.script_reading.specs.Faults.{script_fault, by_bytes, by_text, by_commands, by_sorts, in_checks, in_each_check, in_building, most_bytes, session_fault}
+use Rattle.script_reading.proofs.Parts.{bytes_first, commands_first, sorts_first, checks_first}
+use Rattle.script_reading.specs.Reader as reader
+use Rattle.script_reading.specs.Reader.{AreLowest, HasProblem, IsBuiltOf, IsInWalkOrder, too_many_bytes, or_none}
+use Rattle.script_reading.specs.Session.{AreBuilt, HasSession, carried_of, or_no_steps, steps_of_text}
 use Rattle.problem_build.specs.Session.{IsSessionAnswer, problems_of}
 
 -- ---- a fault of one phase

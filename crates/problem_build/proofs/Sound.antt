@@ -9,9 +9,9 @@ use Rattle.script_forms.specs.Atoms.{unfolding_fault, number_in, atoms_in_place}
 use Rattle.script_forms.specs.Walk.{Stand, Walked, stands, stops, BuildingFault, unfolds_not, too_large, too_many_nodes, too_many_atoms, too_many_forms, lacks_bound, bound_beyond, goes_on, after_root, after_assertions, nothing_made, claim_places, works, walked, fault_or, fault_of_bounds, building_fault, if_room, has_form, with_form, all_sizes, form_size, most_forms, last_place, nowhere}
 use Rattle.script_forms.proofs.Walks.{Walks, assertions_walk}
 use Rattle.sort_check.specs.Sorts.{sort_fault}
-use Rattle.script_faults.specs.WellSorted.{IfSound}
+use Rattle.script_reading.specs.WellSorted.{IfSound}
 use Rattle.problem_build.specs.Standing.{MeetsSorts}
-use Rattle.script_faults.proofs.WellSorted.{sorted_unfolds}
+use Rattle.script_reading.proofs.WellSorted.{sorted_unfolds}
 
 -- the walk over the assertions
 claims-sorted : (script : List Command) (w : Walked) → Walks script w → IfSound (unfolding_fault script) → MeetsSorts w

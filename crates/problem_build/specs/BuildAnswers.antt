@@ -11,7 +11,7 @@ use Rattle.script_fault.specs.Answers.{IsFaultOrMemory}
 use Rattle.script_fault.specs.declared.fault.FaultKind.{FaultKind}
 use Rattle.script_fault.specs.declared.fault.FaultKind.TheVariants as kinds
 use Rattle.script_fault.specs.declared.fault.ReadError.{ReadError}
-use Rattle.script_faults.specs.Faults.{in_building}
+use Rattle.script_reading.specs.Faults.{in_building}
 use Rattle.term_build.specs.declared.stop.Fault.{Fault}
 use Rattle.term_build.specs.declared.stop.Fault.TheVariants.{NumberTooWide, DivisorNotConstant, ZeroDivisor, IllFormed}
 

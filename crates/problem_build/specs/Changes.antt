@@ -9,7 +9,7 @@ use Rattle.poly_graph.specs.Views.{atom_of, node_of}
 use Rattle.script_model.specs.Script.{Command}
 use Rattle.script_forms.specs.Walk.{building_fault}
 use Rattle.script_fault.specs.declared.fault.ReadError.{ReadError}
-use Rattle.script_faults.specs.Reader.{IsBuiltOf}
+use Rattle.script_reading.specs.Reader.{IsBuiltOf}
 use Rattle.term_build.specs.Built.{BuilderModel}
 use Rattle.problem_build.specs.BuildAnswers.{IsBuildingError}
 use Rattle.problem_build.specs.Laws.{IsProblemMade}

@@ -7,8 +7,8 @@ use Rattle.script_model.specs.Script.{Command, check}
 use Rattle.script_fault.specs.Answers.{IsFaultOrMemory}
 use Rattle.script_fault.specs.declared.fault.ReadError.{ReadError}
 use Rattle.script_fault.specs.declared.place.Place.{Place}
-use Rattle.script_faults.specs.Faults.{in_each_check}
-use Rattle.script_faults.specs.Session.{AreBuilt, carried_from, carried_of, stay_in_force}
+use Rattle.script_reading.specs.Faults.{in_each_check}
+use Rattle.script_reading.specs.Session.{AreBuilt, carried_from, carried_of, stay_in_force}
 use Rattle.smt_sexp.specs.Views.{place_of}
 use Rattle.smt_script.specs.Levels.{Asked, Levels, Step, asked_from, checks_of}
 use Rattle.smt_script.specs.Views.{commands_in}

@@ -7,7 +7,7 @@ use Rattle.script_forms.specs.Terms.{Unfolded}
 use Rattle.script_forms.specs.Work.{Work, as_work, outcome_of, assertion_events}
 use Rattle.script_forms.specs.Walk.{Walked, stands, stops, unfolds_not, nothing_made, constant_work, works, claim_places, after_assertions}
 use Rattle.smt_sexp.specs.declared.sexps.Sexps as arena
-use Rattle.script_faults.specs.WellSorted.{IsSound}
+use Rattle.script_reading.specs.WellSorted.{IsSound}
 use Rattle.term_build.specs.Built.{stand_of}
 use Rattle.term_build.specs.Settled.{Extends}
 use Rattle.term_build.specs.Steps.{Emits}

@@ -3,14 +3,14 @@ ghost use Rattle.std.specs.Prelude.{MatchResult};
 ghost use Rattle.poly_graph.specs.ProblemViews.{problem_of};
 ghost use Rattle.script_fault.specs.Answers.{IsFaultOrMemory};
 ghost use Rattle.problem_build.specs.Session.{problems_of};
-ghost use Rattle.script_faults.specs.Faults.{script_fault, session_fault};
-ghost use Rattle.script_faults.specs.Reader.{HasProblem};
-ghost use Rattle.script_faults.specs.Session.{HasSession};
+ghost use Rattle.script_reading.specs.Faults.{script_fault, session_fault};
+ghost use Rattle.script_reading.specs.Reader.{HasProblem};
+ghost use Rattle.script_reading.specs.Session.{HasSession};
 
 use crate::{Session, build, build_all};
 use poly_graph::Problem;
 use script_fault::ReadError;
-use script_faults::ScriptReader;
+use script_reading::ScriptReader;
 use smt_script::commands;
 use smt_sexp::read;
 use sort_check::{check, single};

@@ -9,7 +9,7 @@ ghost use Rattle.sort_check.specs.Sorts.{sort_fault};
 ghost use Rattle.declared_box.specs.Axes.{constant_of};
 ghost use Rattle.declared_box.specs.Table.{AreBefore};
 ghost use Rattle.problem_build.specs.Progress.{AreAxesOf, Concludes, IsState, MakesRoot};
-ghost use Rattle.script_faults.specs.Reader.{AreLowest, IsInWalkOrder};
+ghost use Rattle.script_reading.specs.Reader.{AreLowest, IsInWalkOrder};
 ghost use Rattle.problem_build.specs.BuildAnswers.{IsBuildAnswer, IsLean};
 
 use crate::assembly::root_form;

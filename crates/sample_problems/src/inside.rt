@@ -4,9 +4,9 @@ ghost use Rattle.cover_model.specs.Fits.{FitsProblem};
 ghost use Rattle.poly_graph.specs.ProblemViews.{problem_of};
 
 use cover_data::State;
+use form_truth::{Root, root_space};
 use poly_graph::Problem;
 use std::alloc::Global;
-use truth3::{Root, root_space};
 
 /// Whether the state is one of the problem, within the declared box.
 pub fn lies_within(alloc: Global, problem: &Problem, state: &State) -> bool

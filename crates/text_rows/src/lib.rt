@@ -8,8 +8,8 @@ mod of_cert_read;
 #[cfg(test)]
 mod of_check_run;
 #[cfg(test)]
+mod of_command_line;
+#[cfg(test)]
 mod of_desk;
 #[cfg(test)]
 mod of_gen_script;
-#[cfg(test)]
-mod of_words;

@@ -4,8 +4,8 @@ ghost use Rattle.dyadic.specs.Views.{fraction_of_frac};
 ghost use Rattle.poly_graph.specs.ProblemViews.{declared_of};
 ghost use Rattle.text_rows.specs.TriedAnswerText.{nought, one, from_nought_to_one};
 
-use answer_text::*;
 use cert_check::CertFault;
+use check_run::*;
 use cover_line::{AtomRule, CombinationRule, Word};
 use dyadic::{Dy, Frac, read_dy};
 use ival::{Domain, Range, Space, Truths};

@@ -17,11 +17,11 @@ ghost use Rattle.width_plan.specs.Search.{IsGap, FirstMisfit, FirstFar};
 use crate::sizes::interval_size;
 use crate::widths::fill_widths;
 use dyadic::{Ext, add_down, at_most, pow2, two_to_minus};
-use hc4_fwd::fill;
+use form_truth::{Root, root_space};
+use hc4::fill;
 use ival::{Domain, Ends, Ival, Rows, Space};
 use poly_graph::Problem;
 use std::alloc::{AllocError, Global};
-use truth3::{Root, root_space};
 
 /// What a search needs so that no atom can stay undecided.
 #[derive(Clone, Copy, Debug, PartialEq, Eq)]

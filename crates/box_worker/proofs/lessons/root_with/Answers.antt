@@ -7,7 +7,7 @@ use Rattle.interval_model.specs.Space.{Space, space_within}
 use Rattle.ival.specs.SpaceViews.{space_of}
 use Rattle.poly_graph.specs.Problem.{first_crossed}
 use Rattle.poly_graph.specs.ProblemViews.{problem_of}
-use Rattle.truth3.specs.Roots.{IsRoot}
+use Rattle.form_truth.specs.Roots.{IsRoot}
 use Rattle.box_worker.proofs.lessons.root_with.Goals as goal
 
 pub returns-in-Space-clause-fits : goal.returns-in-Space-clause-fits

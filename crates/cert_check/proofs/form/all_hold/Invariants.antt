@@ -1,6 +1,6 @@
 use Rattle.std.proofs.Common.{◌≡◌, drop, length, IsTrue, nat_lt}
 use Rattle.std.specs.List.{list_all}
-use Rattle.truth3.specs.Truth.{is_true}
+use Rattle.form_truth.specs.Truth.{is_true}
 use Rattle.cert_check.proofs.form.all_hold.Given as goal
 
 -- what is left to look at decides

@@ -1,7 +1,7 @@
 use Rattle.std.proofs.Common.{◌<◌, ◌≤◌, ◌∙◌, length, ap, sym, arith}
 use Rattle.interval_model.specs.Space.{Domain, allows}
 use Rattle.ival.specs.SpaceViews.{space_of, domain_of}
-use Rattle.truth3.proofs.Axes.{allowed_at, none_past}
+use Rattle.form_truth.proofs.Axes.{allowed_at, none_past}
 use Rattle.cert_check.proofs.form.axis_allows.Goals as goal
 
 pub returns-then-axis-len : goal.returns-then-axis-len

@@ -8,8 +8,8 @@ use Rattle.poly_graph.specs.Problem.{sorts_of_problem}
 use Rattle.cover_model.specs.State.{may_atom, domain_allows, state_of}
 use Rattle.poly_graph.specs.ProblemViews.{problem_of}
 use Rattle.ival.specs.SpaceViews.{space_of}
-use Rattle.truth3.specs.Truth.{of_atoms, node_truth, pruning}
-use Rattle.truth3.proofs.FormTruth.{same_truth, form_comes_later, form_comes_at, truths_next, test_within}
+use Rattle.form_truth.specs.Truth.{of_atoms, node_truth, pruning}
+use Rattle.form_truth.proofs.FormTruth.{same_truth, form_comes_later, form_comes_at, truths_next, test_within}
 use Rattle.cert_check.proofs.form.may_hold.Goals as goal
 
 pub may_node-holds-requires-clause-order : goal.may_node-holds-requires-clause-order

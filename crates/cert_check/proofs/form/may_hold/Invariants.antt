@@ -4,7 +4,7 @@ use Rattle.poly_graph.specs.FormGraph.{form_at, graph_forms}
 use Rattle.cover_model.specs.State.{may_atom, domain_allows, state_of}
 use Rattle.poly_graph.specs.ProblemViews.{problem_of}
 use Rattle.ival.specs.SpaceViews.{space_of}
-use Rattle.truth3.specs.Truth.{is_true, of_atoms, pruning}
+use Rattle.form_truth.specs.Truth.{is_true, of_atoms, pruning}
 use Rattle.cert_check.proofs.form.may_hold.Given as goal
 
 -- the truths so far are those of the nodes' forms

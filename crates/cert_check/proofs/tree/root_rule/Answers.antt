@@ -5,9 +5,9 @@ use Rattle.poly_graph.specs.Views.{atom_of}
 use Rattle.poly_graph.specs.ProblemViews.{problem_of}
 use Rattle.cert_model.specs.Due.{Next, is_some_axis}
 use Rattle.cert_model.specs.Accepted.{root_line, tree_line}
-use Rattle.truth3.specs.declared.root.Root.{Root}
+use Rattle.form_truth.specs.declared.root.Root.{Root}
 use Rattle.ival.specs.SpaceViews.{space_of}
-use Rattle.truth3.specs.Roots.{IsRoot}
+use Rattle.form_truth.specs.Roots.{IsRoot}
 use Rattle.cert_check.specs.States.{loosenings_of}
 use Rattle.cover_line.specs.Views.{line_of as rule_of}
 use Rattle.cert_check.specs.Dues.{IsOutcome, states_of}

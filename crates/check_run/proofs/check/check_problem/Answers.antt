@@ -1,6 +1,6 @@
 use Rattle.std.proofs.Common.{ℕ, List, [], ◌∷◌, Some, Ok, Err, IfSome, subst}
 use Rattle.desk.specs.declared.desk.Port.TheVariants.{CertIn}
-use Rattle.words.specs.Words.{check}
+use Rattle.command_line.specs.Words.{check}
 use Rattle.poly_graph.specs.ProblemViews.{problem_of}
 use Rattle.cert_model.specs.Accepted.{verdict}
 use Rattle.check_run.specs.declared.check.Unconfirmed.{Unconfirmed}

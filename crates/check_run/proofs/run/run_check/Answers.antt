@@ -1,7 +1,7 @@
 use Rattle.std.proofs.Common.{ℕ, List, [], ◌∷◌, Some, ◌∙◌}
 use Rattle.desk.specs.declared.desk.Port.TheVariants.{CertIn}
-use Rattle.words.specs.Words.{check}
-use Rattle.words.specs.Seen.{seen_check}
+use Rattle.command_line.specs.Words.{check}
+use Rattle.command_line.specs.Seen.{seen_check}
 use Rattle.poly_graph.specs.ProblemViews.{problem_of}
 use Rattle.check_run.specs.Course.{RunEnds}
 use Rattle.check_run.specs.Can.{CanCheck}

@@ -1,5 +1,5 @@
 use Rattle.std.proofs.Common.{◌⊎◌, ℕ, ◌<◌, IsTrue, get_or}
-use Rattle.cnf_build.specs.declared.literal.Literal.{Literal}
+use Rattle.clause_search.specs.declared.literal.Literal.{Literal}
 use Rattle.clause_search.specs.Table.{is_false}
 use Rattle.clause_search.specs.Found.{IsOther}
 use Rattle.clause_search.proofs.clause.find_free.Given as goal

@@ -1,6 +1,6 @@
 use Rattle.std.proofs.Common.{◌≡◌, take, Vec, Global, false}
 use Rattle.std.specs.List.{list_all, list_any}
-use Rattle.cnf_build.specs.declared.literal.Literal.{Literal}
+use Rattle.clause_search.specs.declared.literal.Literal.{Literal}
 use Rattle.clause_search.specs.Table.{is_true}
 use Rattle.clause_search.proofs.nogood.any_true.Given as goal
 

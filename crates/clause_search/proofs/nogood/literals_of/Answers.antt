@@ -1,7 +1,7 @@
 use Rattle.std.proofs.Common.{◌∙◌, Vec, Global, ◌≤◌, ◌<◌, length, ap, arith}
 use Rattle.poly_graph.specs.MarkViews.{mark_of}
 use Rattle.clause_search.proofs.Nogoods.{after_none, after_some, all_read}
-use Rattle.cnf_build.specs.declared.literal.Literal.{Literal}
+use Rattle.clause_search.specs.declared.literal.Literal.{Literal}
 use Rattle.clause_search.specs.Nogood.{literals_of}
 use Rattle.clause_search.proofs.nogood.literals_of.Goals as goal
 use Rattle.clause_search.proofs.nogood.literals_of.Goals.{in-Some+in_ok-push-in-Some, in-None}

@@ -6,8 +6,8 @@ use Rattle.poly_graph.specs.Marks.{Mark}
 use Rattle.cover_model.specs.State.{may_atom, misses, margin_of, state_of}
 use Rattle.ival.specs.RowViews.{rows_of}
 use Rattle.ival.specs.SpaceViews.{space_of}
-use Rattle.truth3.specs.Truth.{pruning}
-use Rattle.truth3.proofs.FormTruth.{test_within}
+use Rattle.form_truth.specs.Truth.{pruning}
+use Rattle.form_truth.proofs.FormTruth.{test_within}
 use Rattle.cover_data.specs.Margins.{loosenings_of}
 use Rattle.cover_rule.proofs.Axes.{has_rows}
 use Rattle.cover_data.proofs.Withins.{not_no}

@@ -5,7 +5,7 @@ use Rattle.poly_graph.specs.Term.{Node}
 use Rattle.cover_model.specs.Narrowed.{enclosures}
 use Rattle.cover_model.specs.State.{State}
 use Rattle.ival.specs.RowViews.{rows_of, marks_of}
-use Rattle.hc4_fwd.specs.Apart.{IsApart}
+use Rattle.hc4.specs.Apart.{IsApart}
 use Rattle.cover_rule.proofs.Knowns.{still_known}
 use Rattle.cover_rule.proofs.narrowing.adopt_spare.Goals as goal
 

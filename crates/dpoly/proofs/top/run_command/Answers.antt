@@ -1,6 +1,6 @@
 use Rattle.std.proofs.Common.{Some, subst, sym}
-use Rattle.words.specs.declared.request.Request.{Request}
-use Rattle.words.specs.Seen.{seen}
+use Rattle.command_line.specs.declared.request.Request.{Request}
+use Rattle.command_line.specs.Seen.{seen}
 use Rattle.check_run.specs.Run.{HasCourse, run_of}
 use Rattle.dpoly.proofs.top.run_command.Goals as goal
 

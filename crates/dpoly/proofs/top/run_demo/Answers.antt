@@ -1,9 +1,9 @@
 use Rattle.std.proofs.Common.{ℕ, List, [], subst, ◌∙◌}
-use Rattle.words.specs.Seen.{seen_demo}
+use Rattle.command_line.specs.Seen.{seen_demo}
 use Rattle.poly_graph.specs.ProblemViews.{problem_of}
 use Rattle.check_run.specs.Course.{RunEnds}
 use Rattle.check_run.specs.Can.{CanDemo}
-use Rattle.script_faults.specs.Reader.{HasProblem}
+use Rattle.script_reading.specs.Reader.{HasProblem}
 use Rattle.check_run.proofs.Running.{demo_problem}
 use Rattle.check_run.specs.declared.script.Halt.{Halt}
 use Rattle.check_run.specs.Script.{IsHaltOfScript}

@@ -1,5 +1,5 @@
 use Rattle.std.proofs.Common.{◌≡◌, ap, Err, ℕ, List, Option, None, refl, subst, sym}
-use Rattle.words.specs.Words.{Command}
+use Rattle.command_line.specs.Words.{Command}
 use Rattle.check_run.specs.Course.{says, on_course}
 use Rattle.check_run.specs.Can.{usage_text}
 use Rattle.check_run.specs.Run.{command_in, HasCourse, run_of}

@@ -1,6 +1,6 @@
 use Rattle.std.proofs.Common.{ℕ, List, [], ◌∷◌, Some, Err, subst}
 use Rattle.desk.specs.declared.desk.Port.TheVariants.{CertIn}
-use Rattle.words.specs.Words.{upgrade}
+use Rattle.command_line.specs.Words.{upgrade}
 use Rattle.poly_graph.specs.ProblemViews.{problem_of}
 use Rattle.check_run.specs.declared.check.Unconfirmed.{Unconfirmed}
 use Rattle.check_run.specs.Course.{RunEnds}

@@ -1,6 +1,6 @@
 use Rattle.std.proofs.Common.{◌≡◌, ap, Err, ℕ, List, Option, None, refl, subst, sym}
 use Rattle.std.specs.Option.{option_map}
-use Rattle.words.specs.Words.{Command, check}
+use Rattle.command_line.specs.Words.{Command, check}
 use Rattle.check_run.specs.Course.{says, on_course}
 use Rattle.check_run.specs.Can.{usage_text}
 use Rattle.check_run.specs.Run.{HasCause, HasCourse, ScriptIsRead, CertIsRead, run_of}

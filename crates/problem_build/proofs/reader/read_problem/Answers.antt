@@ -1,6 +1,6 @@
 use Rattle.std.proofs.lemmas.Result.{err_from_is_err_and}
 use Rattle.smt_sexp.specs.Arena.{rest_of, listed}
-use Rattle.script_faults.specs.Faults.{in_checks}
+use Rattle.script_reading.specs.Faults.{in_checks}
 use Rattle.problem_build.proofs.Reading.{bytes_refused, commands_refused, sorts_refused, checks_refused, building_refused, problem_had}
 use Rattle.problem_build.proofs.reader.read_problem.Goals as goal
 

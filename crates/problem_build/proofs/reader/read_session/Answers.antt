@@ -1,6 +1,6 @@
 use Rattle.std.proofs.lemmas.Result.{err_from_is_err_and}
 use Rattle.smt_sexp.specs.Arena.{rest_of, listed}
-use Rattle.script_faults.specs.Faults.{in_each_check}
+use Rattle.script_reading.specs.Faults.{in_each_check}
 use Rattle.problem_build.proofs.Reading.{bytes_refused, commands_refused, sorts_refused, session_answer}
 use Rattle.problem_build.proofs.reader.read_session.Goals as goal
 

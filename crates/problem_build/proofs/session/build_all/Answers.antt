@@ -5,7 +5,7 @@ use Rattle.std.proofs.lemmas.Result.{err_from_is_err_and}
 use Rattle.sort_check.proofs.Lengths.{no_items}
 use Rattle.std.proofs.Common.{Bool}
 use Rattle.poly_graph.specs.ProblemViews.{Parts}
-use Rattle.script_faults.specs.Session.{AreBuilt, carried_of}
+use Rattle.script_reading.specs.Session.{AreBuilt, carried_of}
 use Rattle.smt_script.specs.Levels.{Step, checks_of}
 use Rattle.smt_script.specs.Views.{step_of, steps_in}
 use Rattle.problem_build.specs.Session.{Goes, problems_of}

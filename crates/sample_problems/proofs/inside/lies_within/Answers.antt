@@ -7,7 +7,7 @@ use Rattle.poly_graph.specs.ProblemViews.{problem_of}
 use Rattle.interval_model.specs.Space.{Space, space_within}
 use Rattle.poly_graph.specs.Views.{atom_of}
 use Rattle.ival.specs.SpaceViews.{space_of}
-use Rattle.truth3.specs.Roots.{IsRoot}
+use Rattle.form_truth.specs.Roots.{IsRoot}
 use Rattle.cover_rule.proofs.Points.{fits_root}
 use Rattle.sample_problems.proofs.inside.lies_within.Goals as goal
 

@@ -3,7 +3,7 @@ use Rattle.cover_model.specs.State.{may}
 use Rattle.poly_graph.specs.ProblemViews.{problem_of}
 use Rattle.ival.specs.RowViews.{rows_of}
 use Rattle.ival.specs.SpaceViews.{space_of}
-use Rattle.truth3.specs.Truth.{pruning}
+use Rattle.form_truth.specs.Truth.{pruning}
 use Rattle.cert_check.specs.States.{state_of}
 use Rattle.cert_check.proofs.Rows.{judged_over}
 use Rattle.cert_check.proofs.tools.Tools.may.Goals as goal

@@ -1,6 +1,6 @@
 use Rattle.std.proofs.Common.{◌∙◌, ap, sym, Vec, Global}
 use Rattle.std.specs.List.{list_any, list_all}
-use Rattle.cnf_build.specs.declared.literal.Literal.{Literal}
+use Rattle.clause_search.specs.declared.literal.Literal.{Literal}
 use Rattle.clause_search.specs.Table.{is_true}
 use Rattle.clause_search.specs.Answers.{is_met}
 use Rattle.clause_search.proofs.Propagations.{any_map}

@@ -1,5 +1,5 @@
 use Rattle.std.proofs.Common.{ℕ, ◌<◌, not, IsTrue}
-use Rattle.cnf_build.specs.declared.literal.Variable.TheVariants.{Atom}
+use Rattle.clause_search.specs.declared.literal.Variable.TheVariants.{Atom}
 use Rattle.clause_search.specs.Table.{is_undecided}
 use Rattle.clause_search.proofs.trail.Trail.pick.Given as goal
 

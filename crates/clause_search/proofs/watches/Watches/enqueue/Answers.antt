@@ -1,7 +1,7 @@
 use Rattle.std.proofs.Common.{◌++◌, ◌∷◌, [], sym, subst, ap, length, List, IsTrue, ◌≡◌, arith}
 use Rattle.std.specs.Prelude.{All}
 use Rattle.std.proofs.lemmas.List.{length-append}
-use Rattle.cnf_build.specs.declared.literal.Literal.{Literal}
+use Rattle.clause_search.specs.declared.literal.Literal.{Literal}
 use Rattle.clause_search.specs.Table.{is_true}
 use Rattle.clause_search.specs.Watches.{IsPending, AllGuarded}
 use Rattle.clause_search.proofs.Queue.{pushed_guarded, pushed_true}

@@ -10,7 +10,7 @@ use Rattle.ival.specs.declared.row_parts.Rows.{Rows}
 use Rattle.ival.specs.declared.space.Space.{Space as CodeSpace}
 use Rattle.ival.specs.RowViews.{rows_of}
 use Rattle.ival.specs.SpaceViews.{space_of}
-use Rattle.truth3.specs.declared.marks.Marks.{Marks}
+use Rattle.form_truth.specs.declared.marks.Marks.{Marks}
 use Rattle.combine.specs.Rooms.{FitsRoom}
 use Rattle.cover_rule.proofs.Axes.{fits_length}
 use Rattle.cover_rule.proofs.Knowns.{nothing_known}

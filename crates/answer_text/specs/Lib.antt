@@ -1,5 +1,0 @@
-pub mod Loosened
-pub mod Plans
-pub mod ScriptFaults
-pub mod Shown
-pub mod Stops

@@ -1,5 +1,0 @@
-use Rattle.clause_search.specs.Trail.{IsTrailOf}
-use Rattle.clause_rows.proofs.of_clause_search.are_answered.Given as goal
-
-abbrev pub invariant-loop-step : goal.invariant-loop-step
-invariant-loop-step l = IsTrailOf l.cnf l.trail

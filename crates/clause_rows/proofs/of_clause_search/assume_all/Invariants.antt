@@ -1,5 +1,0 @@
-use Rattle.clause_search.specs.Trail.{IsTrailOf}
-use Rattle.clause_rows.proofs.of_clause_search.assume_all.Given as goal
-
-abbrev pub invariant-loop-k : goal.invariant-loop-k
-invariant-loop-k l = IsTrailOf l.cnf l.trail

@@ -1,5 +1,0 @@
-use Rattle.clause_search.specs.Trail.{IsTrailOf}
-use Rattle.clause_rows.proofs.of_clause_search.count_rests.Given as goal
-
-abbrev pub invariant-loop-bits : goal.invariant-loop-bits
-invariant-loop-bits l = IsTrailOf l.cnf l.trail

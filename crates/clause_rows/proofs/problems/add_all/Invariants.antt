@@ -1,6 +1,0 @@
-use Rattle.std.proofs.Common.{IsTrue}
-use Rattle.clause_rows.specs.TriedCnfBuild.{are_known}
-use Rattle.clause_rows.proofs.problems.add_all.Given as goal
-
-abbrev pub invariant-loop-node : goal.invariant-loop-node
-invariant-loop-node l = IsTrue (are_known l.forms)

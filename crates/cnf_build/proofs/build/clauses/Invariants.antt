@@ -1,6 +1,0 @@
-use Rattle.std.proofs.Common.{◌≡◌}
-use Rattle.cnf_build.specs.Encoding.{first_clauses}
-use Rattle.cnf_build.proofs.build.clauses.Given as goal
-
-abbrev pub invariant-loop-k : goal.invariant-loop-k
-invariant-loop-k l = l.made ≡ first_clauses l.problem l.k

@@ -1,0 +1,265 @@
+ghost use Rattle.std.specs.Prelude.{◌≡◌, ◌≢◌, ◌&&◌, [], IfOk, IsErrOf, None, Some, codes, option_and_then, option_map};
+ghost use Rattle.std.specs.Str.{bytes_eq};
+ghost use Rattle.clap.specs.Words.{fault_of, first_of, found_of, kind_of, one_of, rows_of};
+ghost use Rattle.command_line.specs.Program.{checker, program};
+ghost use Rattle.command_line.specs.Words.{check_of, checker_of, chosen, command_of, demo_of, long_number_in, number_in, number_of, options_of, IsInRange, plan_of, solve_of, upgrade_of};
+ghost use Rattle.command_line.specs.Seen.{AreCheckerMatchesOf, AreMatchesOf, seen, seen_check, seen_demo, seen_plan, seen_solve, seen_upgrade, texts_of};
+
+use crate::program::{checker_command, program_command};
+use crate::request::{
+    CheckWords, DemoWords, Options, PlanWords, Request, SolveWords, UpgradeWords, usual_options,
+};
+use clap::error::ErrorKind;
+use clap::{ArgMatches, Error};
+use std::alloc::Global;
+
+/// Why words are refused: they are not the program's, or there was no memory to read them.
+#[derive(Clone, Copy, Debug, PartialEq, Eq)]
+pub enum Refused {
+    Usage,
+    Memory,
+}
+
+// What the parser makes of the words.
+fn parse<'a>(alloc: Global, words: &'a [String]) -> Result<ArgMatches<'a>, Refused>
+    ensures ok { IfOk result (AreMatchesOf words.entry.now) }
+    ensures usage { IsErrOf result Refused.Usage →
+        fault_of program (texts_of words.entry.now) ≢ [] }
+{
+    let Ok(command) = program_command(alloc) else {
+        return Err(Refused::Memory);
+    };
+    match command.try_get_matches_from(words) {
+        Ok(matches) => Ok(matches),
+        Err(error) => Err(refusal(&error)),
+    }
+}
+
+// What the parser makes of the words of the checker's call.
+fn parse_checker<'a>(alloc: Global, words: &'a [String]) -> Result<ArgMatches<'a>, Refused>
+    ensures ok { IfOk result (AreCheckerMatchesOf words.entry.now) }
+    ensures usage { IsErrOf result Refused.Usage →
+        fault_of checker (texts_of words.entry.now) ≢ [] }
+{
+    let Ok(command) = checker_command(alloc) else {
+        return Err(Refused::Memory);
+    };
+    match command.try_get_matches_from(words) {
+        Ok(matches) => Ok(matches),
+        Err(error) => Err(refusal(&error)),
+    }
+}
+
+// Words are refused apart where there was no memory to read them.
+fn refusal(error: &Error) -> Refused
+    ensures usage { result ≡ Refused.Usage → kind_of error.now ≢ ErrorKind.OutOfMemory }
+{
+    match error.kind() {
+        ErrorKind::OutOfMemory => Refused::Memory,
+        _ => Refused::Usage,
+    }
+}
+
+// What was given for an option or a place, as a number.
+fn whole_number(matches: &ArgMatches<'_>, id: &str) -> Option<u32>
+    ensures { result ≡
+        option_and_then (number_of 32) (one_of id.now (rows_of (found_of matches.now))) }
+{
+    matches.get_one::<u32>(id)
+}
+
+// The number in the range that was given for an option or a place.
+fn number(matches: &ArgMatches<'_>, id: &str, least: u32, most: u32) -> Option<u32>
+    ensures { result ≡ number_in least most id.now (rows_of (found_of matches.now)) }
+{
+    let number = whole_number(matches, id)?;
+    if least <= number && number <= most {
+        Some(number)
+    } else {
+        None
+    }
+}
+
+// The number below 2 ^ 64 that was given for a place.
+fn long_number(matches: &ArgMatches<'_>, id: &str) -> Option<u64>
+    ensures { result ≡ long_number_in id.now (rows_of (found_of matches.now)) }
+{
+    matches.get_one::<u64>(id)
+}
+
+// The word that stands for a place.
+fn text<'a>(matches: &ArgMatches<'a>, id: &str) -> Option<&'a str>
+    ensures { option_map (λ s. s.now) result ≡ first_of id.now (rows_of (found_of matches.now)) }
+{
+    matches.get_str(id)
+}
+
+fn solve_options(matches: &ArgMatches<'_>) -> Option<Options>
+    ensures { result ≡ options_of (rows_of (found_of matches.now)) }
+{
+    let delta_bits = number(matches, "delta-bits", 1, 30)?;
+    let margin_bits = number(matches, "margin-bits", 2, 60)?;
+    let least_bits = number(matches, "least-bits", 0, 60)?;
+    let budget = number(matches, "budget", 0, 1048576)?;
+    let workers = number(matches, "workers", 1, 64)?;
+    let bound = number(matches, "bound", 1, 4294967295);
+    if delta_bits < margin_bits {
+        Some(Options {
+            delta_bits,
+            margin_bits,
+            least_bits,
+            budget,
+            workers,
+            bound,
+        })
+    } else {
+        None
+    }
+}
+
+fn solve_words<'a>(matches: &ArgMatches<'a>) -> Option<SolveWords<'a>>
+    ensures { option_map seen_solve result ≡ solve_of (rows_of (found_of matches.now)) }
+{
+    let script = text(matches, "script")?;
+    let cert = text(matches, "cert")?;
+    let options = solve_options(matches)?;
+    Some(SolveWords {
+        script,
+        cert,
+        options,
+    })
+}
+
+// Whether the script and the certificate both come from standard input.
+fn are_both_piped(script: &str, cert: &str) -> bool
+    ensures { result ≡ (bytes_eq script.now (codes "-") && bytes_eq cert.now (codes "-")) }
+{
+    script == "-" && cert == "-"
+}
+
+fn check_words<'a>(matches: &ArgMatches<'a>) -> Option<CheckWords<'a>>
+    ensures { option_map seen_check result ≡ check_of (rows_of (found_of matches.now)) }
+{
+    let script = text(matches, "script")?;
+    let cert = text(matches, "cert")?;
+    let bound = number(matches, "bound", 1, 4294967295);
+    if are_both_piped(script, cert) {
+        return None;
+    }
+    Some(CheckWords {
+        script,
+        cert,
+        bound,
+    })
+}
+
+fn demo_words<'a>(matches: &ArgMatches<'a>) -> Option<DemoWords<'a>>
+    ensures { option_map seen_demo result ≡ demo_of (rows_of (found_of matches.now)) }
+{
+    let seed = long_number(matches, "seed")?;
+    let size = number(matches, "size", 1, 10000)?;
+    let cert = text(matches, "cert")?;
+    let workers = number(matches, "workers", 1, 64)?;
+    Some(DemoWords {
+        seed,
+        size,
+        cert,
+        options: usual_options(workers),
+    })
+}
+
+fn upgrade_words<'a>(matches: &ArgMatches<'a>) -> Option<UpgradeWords<'a>>
+    ensures { option_map seen_upgrade result ≡ upgrade_of (rows_of (found_of matches.now)) }
+{
+    let script = text(matches, "script")?;
+    let cert = text(matches, "cert")?;
+    let out = text(matches, "out")?;
+    let bound = number(matches, "bound", 1, 4294967295);
+    if are_both_piped(script, cert) {
+        return None;
+    }
+    Some(UpgradeWords {
+        script,
+        cert,
+        out,
+        bound,
+    })
+}
+
+fn plan_words<'a>(matches: &ArgMatches<'a>) -> Option<PlanWords<'a>>
+    ensures { option_map seen_plan result ≡ plan_of (rows_of (found_of matches.now)) }
+{
+    let script = text(matches, "script")?;
+    let delta_bits = number(matches, "delta-bits", 1, 30)?;
+    let margin_bits = number(matches, "margin-bits", 2, 60)?;
+    let bound = number(matches, "bound", 1, 4294967295);
+    if delta_bits >= margin_bits {
+        return None;
+    }
+    Some(PlanWords {
+        script,
+        delta_bits,
+        margin_bits,
+        bound,
+    })
+}
+
+// What the subcommand of this name asks for.
+fn choose<'a>(name: &str, matches: &ArgMatches<'a>) -> Option<Request<'a>>
+    ensures { option_map seen result ≡ chosen (name.now, rows_of (found_of matches.now)) }
+{
+    if name == "solve" {
+        Some(Request::Solve(solve_words(matches)?))
+    } else if name == "check" {
+        Some(Request::Check(check_words(matches)?))
+    } else if name == "demo" {
+        Some(Request::Demo(demo_words(matches)?))
+    } else if name == "upgrade" {
+        Some(Request::Upgrade(upgrade_words(matches)?))
+    } else if name == "plan" {
+        Some(Request::Plan(plan_words(matches)?))
+    } else {
+        None
+    }
+}
+
+/// Reads the words of a call; the first of them is the program's name.
+///
+/// Refused for usage exactly where `command_of` has nothing, `--help` and the like included. Out of memory is a refusal of
+/// its own.
+pub fn read_words<'a>(alloc: Global, words: &'a [String]) -> Result<Request<'a>, Refused>
+    ensures ok { IfOk result (λ asked. command_of (texts_of words.entry.now) ≡ Some (seen asked)) }
+    ensures range { IfOk result (λ asked. IsInRange (seen asked)) }
+    ensures usage { IsErrOf result Refused.Usage → command_of (texts_of words.entry.now) ≡ None }
+{
+    let matches = match parse(alloc, words) {
+        Ok(matches) => matches,
+        Err(refused) => return Err(refused),
+    };
+    let Some((name, inner)) = matches.subcommand() else {
+        return Err(Refused::Usage);
+    };
+    match choose(name, inner) {
+        Some(asked) => Ok(asked),
+        None => Err(Refused::Usage),
+    }
+}
+
+/// Reads the words of a call of the checker; the first of them is its name.
+///
+/// Refused for usage exactly where `checker_of` has nothing, `--help` and the like included. Out of memory is a refusal of
+/// its own.
+pub fn read_checker_words<'a>(alloc: Global, words: &'a [String]) -> Result<CheckWords<'a>, Refused>
+    ensures ok { IfOk result (λ asks.
+        checker_of (texts_of words.entry.now) ≡ Some (seen_check asks)) }
+    ensures usage { IsErrOf result Refused.Usage → checker_of (texts_of words.entry.now) ≡ None }
+{
+    let matches = match parse_checker(alloc, words) {
+        Ok(matches) => matches,
+        Err(refused) => return Err(refused),
+    };
+    match check_words(&matches) {
+        Some(asked) => Ok(asked),
+        None => Err(Refused::Usage),
+    }
+}

@@ -1,0 +1,11 @@
+use Rattle.std.proofs.Common.{◌≡◌, drop, length, IsTrue, nat_lt}
+use Rattle.std.specs.List.{list_all, list_any}
+use Rattle.form_truth.specs.Truth.{is_true}
+use Rattle.form_truth.proofs.nodes.any_holds.Given as goal
+
+-- what is left to look at decides
+abbrev pub invariant-loop-k : goal.invariant-loop-k
+invariant-loop-k l = record {
+  inside : IsTrue (list_all (λ k. nat_lt k (length l.truths)) (drop l.k-index l.numbers));
+  rest : list_any (is_true l.truths) l.numbers ≡ list_any (is_true l.truths) (drop l.k-index l.numbers);
+}

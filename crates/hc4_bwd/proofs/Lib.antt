@@ -1,3 +1,0 @@
-pub mod Pushes
-pub mod Sweeping
-pub mod Skipped

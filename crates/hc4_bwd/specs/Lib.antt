@@ -1,3 +1,0 @@
-pub mod Pushed
-pub mod Sweeps
-pub mod Narrowing

@@ -1,4 +1,0 @@
-pub mod Leaves
-pub mod Reaches
-pub mod Upwards
-pub mod Counts

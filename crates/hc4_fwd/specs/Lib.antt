@@ -1,5 +1,0 @@
-pub mod Reached
-pub mod Above
-pub mod Apart
-pub mod ReachedCount
-pub mod Renewed

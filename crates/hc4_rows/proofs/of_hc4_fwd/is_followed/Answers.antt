@@ -1,5 +1,0 @@
-use Rattle.ival.specs.SpaceViews.{space_of}
-use Rattle.hc4_rows.proofs.of_hc4_fwd.is_followed.Goals as goal
-
-pub follow-requires : goal.follow-requires
-follow-requires c = record { rows = record { was = space_of c.args.space.now; filled = c.fill.ensures.rows } }

@@ -1,3 +1,0 @@
-pub mod DeltaSat
-pub mod Problems
-pub mod Unsat

@@ -1,2 +1,0 @@
-//! Texts with their certificates: what is said of scripts and certificates can be met.
-#![tactic(auto)]

@@ -1,0 +1,10 @@
+pub mod Asked
+pub mod Boxes
+pub mod Commands
+pub mod Problems
+pub mod Tokens
+pub mod Sorts
+pub mod Unfolds
+pub mod DeltaSat
+pub mod Decided
+pub mod Unsat

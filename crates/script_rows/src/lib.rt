@@ -1,2 +1,0 @@
-//! Worked examples of the definitions of scripts: each is a theorem by computation, in `proofs/`.
-#![tactic(auto)]
