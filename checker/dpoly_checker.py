@@ -199,35 +199,41 @@ def result_sort(name, sorts):
     return 'Bool' if kind and (name in ('and', 'or') or (count == 1 if name == 'not' else count > 1)) else None
 
 
+# What is in force somewhere in a script: the top-level names with what they stand for, the axes, the assertions with their
+# commands' places, and how many commands these are.
+Force = namedtuple('Force', 'named axes assertions count')
+# What is in force at a check, and whether all commands in force at the check before are so up to this one.
+Check = namedtuple('Check', 'named axes assertions extends')
+
+
 class Names:
-    """What is in force at the only check of a script: the top-level names with what they stand for, the axes, and the assertions
-    with their commands' places."""
+    """The names and sorts of a script, step by step; `checks` has its checks."""
     def __init__(self, steps):
-        self.named, self.axes, self.assertions = {}, [], []
-        levels, asked = [], []  # what was in force before each open level, and at each check
+        self.named, self.axes, self.assertions, self.count = {}, [], [], 0
+        self.checks, levels, before, extends = [], [], 0, False  # what was in force before each open level
         for step in steps:
             if step.word == 'push':
                 levels += [self.in_force()] * step.arguments
             elif step.word == 'pop' and step.arguments:
-                self.named, self.axes, self.assertions = levels[-step.arguments]
-                self.named, self.axes, self.assertions = self.in_force()  # what is in force at several levels is shared by them
+                self.named, self.axes, self.assertions, self.count = levels[-step.arguments]
+                self.named, self.axes, self.assertions, _ = self.in_force()  # what is in force at several levels is shared by them
                 del levels[-step.arguments :]
             elif step.word in ('reset', 'reset-assertions'):
-                self.named, self.axes, self.assertions, levels = {}, [], [], []
+                self.named, self.axes, self.assertions, self.count, levels = {}, [], [], 0, []
             elif step.word == 'check-sat':
-                asked.append((step.at, self.in_force()))
+                self.checks.append(Check(*self.in_force()[:3], extends))
+                before, extends = self.count, True
             else:
                 self.take(*step)
-        if len(asked) > 1:
-            raise ScriptFault('LeftOut', asked[1][0])
-        self.named, self.axes, self.assertions = asked[0][1]
+            extends = extends and self.count >= before
 
     def in_force(self):
         """What is in force, as it is now."""
-        return dict(self.named), list(self.axes), list(self.assertions)
+        return Force(dict(self.named), list(self.axes), list(self.assertions), self.count)
 
     def take(self, word, at, arguments):
         """Takes a command that is checked for names and sorts."""
+        self.count += word in ('declare-const', 'declare-fun', 'define-fun', 'assert')
         if word in ('declare-const', 'declare-fun'):
             name, sort = arguments[0].value, arguments[-1].value
             self.check_new(name, self.named, at)
@@ -371,11 +377,11 @@ def run(task):
 
 
 class Problem:
-    """The terms, atoms and forms of a script, and its declared box. An atom is a pair of a term and a kind, '<=', '>=' or '='.
+    """The terms, atoms and forms of what is in force at a check, and its declared box. An atom is a pair of a term and a kind, '<=', '>=' or '='.
     A form is a tuple: ('true',), ('false',), ('atom', J), ('bool', axis, value), ('all', forms) or ('any', forms), where forms
-    are numbers, parts before wholes. The last form is that of the script."""
+    are numbers, parts before wholes. The last form is that of all assertions."""
     def __init__(self, names, bound):
-        self.names, self.terms, self.atoms, self.forms, self.memo, self.size = names, Terms(), {}, {}, {}, 0
+        self.names, self.extends, self.terms, self.atoms, self.forms, self.memo, self.size = names, names.extends, Terms(), {}, {}, {}, 0
         nodes, truths, self.places, self.command = [], [], 0, None
         for self.command, expression in names.assertions:  # the terms of an assertion are made before those of its atoms
             nodes.append(run(self.unfold(expression, {})))
@@ -795,9 +801,10 @@ RULES = ATOM_RULES | AXIS_RULES | {'false', 'by', 'open'}
 
 
 class Cover:
-    """The cover of a certificate of some version; margin and delta are ends."""
-    def __init__(self, problem, version, margin, delta):
-        self.problem, self.version, self.margin, self.delta, self.lemmas = problem, version, margin, delta, []
+    """The cover of a certificate of some version, or of a part, with the lemmas that it keeps; margin and delta are ends."""
+    def __init__(self, problem, version, margin, delta, kept=()):
+        self.problem, self.version, self.margin, self.delta = problem, version, margin, delta
+        self.lemmas, self.first = list(kept), len(kept)
         self.axes, self.atoms, self.declared = problem.names.axes, problem.atoms, problem.declared
 
     def value(self, atom, state):
@@ -906,7 +913,7 @@ class Cover:
 
     def read_lemma(self, lines, number):
         """Reads a lemma: its state and its tree."""
-        if lines.due('lemma', 1, number > 0) != [number]:
+        if lines.due('lemma', 1, number > self.first) != [number]:
             raise CertificateFault('BadNumber')
         space, marks = [], {}
         for axis in range(len(self.axes)):
@@ -924,9 +931,9 @@ class Cover:
 
     def read_cover(self, lines, many):
         """Reads the lines of a cover; the number of its open and stuck states."""
-        for number in range(many):
+        for number in range(self.first, many):
             self.read_lemma(lines, number)
-        lines.due('tree', 0, many > 0)
+        lines.due('tree', 0, many > self.first)
         count = self.read_tree(lines, self.root(), True)
         lines.due('end', 0, True)
         return count
@@ -949,7 +956,7 @@ class Cover:
 
 # ---------------------------------------------------------------- Certificates
 # What follows the word of a line: N a number below 2^32, D a number of the grid, B a bound or `none`, T a key of DOMAINS.
-SHAPES = {**dict.fromkeys('dpoly margin delta cover lemma empty pull unit void push voidno by flip case stuck'.split(), 'N'),
+SHAPES = {**dict.fromkeys('dpoly margin delta checks cover keep lemma empty pull unit void push voidno by flip case stuck'.split(), 'N'),
           **dict.fromkeys('point tree end false open'.split(), ''), 'ban': 'NN', 'cut': 'ND', 'bound': 'B', 'bool': 'T'}
 
 
@@ -1010,41 +1017,70 @@ class Lines:
         return found
 
 
-def check_certificate(problem, lines, bound):
-    """The answer to a certificate that is accepted."""
+def kept_lemmas(before, cover, problem, lines, many):
+    """The lemmas that a part keeps of the one before, which was of the problem `before` and has the cover `cover`, if it was one:
+    what `keep` says behind the number of lemmas."""
+    [count] = lines.due('keep', 1)
+    may = cover.lemmas if cover and problem.extends and not before.empty and not problem.empty else []
+    if count > min(many, len(may)):
+        raise CertificateFault('RuleFails', 'keep')
+    root = Cover(problem, 3, 0, 0).root().space
+    return [State(it.space + root[len(it.space) :], it.marks) for it in may[:count]]
+
+
+def check_part(problem, version, loosenings, word, values, lines, kept):
+    """The cover of a part, None for a point, and the answer; `word` and `values` are its first line, `kept` gives its lemmas."""
+    margin, delta = loosenings
+    if word == 'point':
+        Cover(problem, version, UNIT >> margin, UNIT >> delta).read_point(lines)
+        return None, f'confirmed delta-sat\ndelta 1b-{delta}\n'
+    if values[0] > 1048576:
+        raise CertificateFault('BadHeader')
+    cover = Cover(problem, version, UNIT >> margin, UNIT >> delta, kept(values[0]))
+    count = cover.read_cover(lines, values[0])
+    return cover, f'open {count}\n' if count else f'confirmed unsat\nmargin 1b-{margin}\n'
+
+
+def check_certificate(problems, lines, bound):
+    """The answer to a certificate that is accepted, of the problems of a script's checks: a text for each, in order."""
+    several = len(problems) > 1
     version = lines.header('dpoly')[1][0]
-    if version not in (1, 2):
+    if version not in ((3,) if several else (1, 2)):
         raise CertificateFault('BadHeader')
     margin, delta = lines.header('margin')[1][0], lines.header('delta')[1][0]
     if not (1 <= delta <= 30 and delta < margin <= 60):
         raise CertificateFault('BadHeader')
     if lines.header('bound')[1] != [bound]:
         raise CertificateFault('WrongBound')
-    word, values = lines.header('cover', 'point')
-    cover = Cover(problem, version, UNIT >> margin, UNIT >> delta)
-    if word == 'point':
-        cover.read_point(lines)
-        answer = f'confirmed delta-sat\ndelta 1b-{delta}\n'
-    else:
-        if values[0] > 1048576:
-            raise CertificateFault('BadHeader')
-        count = cover.read_cover(lines, values[0])
-        answer = f'open {count}\n' if count else f'confirmed unsat\nmargin 1b-{margin}\n'
+    if several and lines.header('checks')[1] != [len(problems)]:
+        raise CertificateFault('BadHeader')
+    answers, cover, before = [], None, None
+    for problem in problems:
+        if several:
+            found = lines.take()
+            if not found or found[0] not in ('cover', 'point'):
+                raise CertificateFault('Missing')
+            cover, answer = check_part(problem, version, (margin, delta), *found, lines,
+                                       lambda many: kept_lemmas(before, cover, problem, lines, many))
+        else:
+            cover, answer = check_part(problem, version, (margin, delta), *lines.header('cover', 'point'), lines, lambda many: ())
+        answers.append(answer)
+        before = problem
     if lines.take():
         raise CertificateFault('Extra')
-    return answer
+    return ''.join(answers)
 
 
-def read_problem(script, bound):
-    """The problem of a script, phase after phase."""
-    return Problem(Names(steps_of(read_expressions(script))), bound)
+def read_problems(script, bound):
+    """The problems of a script's checks, phase after phase, the last phases check after check."""
+    return [Problem(it, bound) for it in Names(steps_of(read_expressions(script))).checks]
 
 
 def check(script, certificate, bound=None):
     """The exit status of a check and its text on standard output."""
     lines = Lines(certificate)
     try:
-        return 0, check_certificate(read_problem(script, bound), lines, bound)
+        return 0, check_certificate(read_problems(script, bound), lines, bound)
     except ScriptFault as fault:
         name, at, *detail = fault.args
         line, column = (0, 0) if at is None else (script.count(b'\n', 0, at) + 1, at - script.rfind(b'\n', 0, at))

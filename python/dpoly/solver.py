@@ -147,7 +147,7 @@ def solve_script(
     seconds: Optional[float] = None,
     programs: Optional[Programs] = None,
 ) -> Answer:
-    """As `solve`, for an SMT-LIB script in the program's language."""
+    """As `solve`, for an SMT-LIB script in the program's language, with one check."""
     options = options_of(margin_bits, delta_bits, least_bits, budget, bound, workers)
     text = script.encode() if isinstance(script, str) else script
     return run(text, options, bound, check, seconds, programs or find_programs())
@@ -172,6 +172,8 @@ def run(script: bytes, options: List[str], bound: Optional[int], check: bool, se
         said = call([programs.solver, "solve", *options, question, kept], script, seconds)
         with open(kept, "rb") as file:
             certificate = file.read()
+        if certificate.startswith(b"dpoly 3\n"):
+            raise DpolyError("the script has several checks, and solve_script answers one")
         confirmed = None
         if check:
             words = ["--bound", str(bound)] if bound is not None else []

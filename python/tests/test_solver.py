@@ -10,6 +10,7 @@ from dpoly import (
     Bool,
     CertificateError,
     DeltaSat,
+    DpolyError,
     If,
     Or,
     ProgramError,
@@ -87,6 +88,11 @@ class Answers(unittest.TestCase):
 
 
 class Failures(unittest.TestCase):
+    def test_several_checks_are_refused(self):
+        with self.assertRaises(DpolyError) as caught:
+            solve_script("(check-sat)(assert false)(check-sat)")
+        self.assertIn("several checks", str(caught.exception))
+
     def test_a_refused_script_shows_its_place(self):
         with self.assertRaises(ScriptError) as caught:
             solve_script("(declare-const x Real)\n(assert (< x zz))\n(check-sat)")

@@ -24,6 +24,7 @@ later_same b w = record {
   book = w;
   problem = refl;
   options = refl;
+  kept = refl;
   grows = record { count = le_refl (length b.nodes); lasting = λ i x at over. at };
 }
 
@@ -32,6 +33,7 @@ later_step b m m' c r l h s = let same = step_keeps_problem m c r m' s in record
   book = step_keeps_book m l.book c h r m' s;
   problem = same.0 ∙ l.problem;
   options = same.1 ∙ l.options;
+  kept = same.2 ∙ l.kept;
   grows = grows_again b m m' l.grows (step_grows m c r m' s);
 }
 

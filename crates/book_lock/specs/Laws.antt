@@ -14,11 +14,12 @@ use Rattle.book_lock.specs.Shared.{BookSeat, view, IsReply}
 abbrev pub IsBookHistory : BookModel → List (Entry Call Reply) → BookModel → Type 0
 IsBookHistory = IsHistory MayBeCalled BookStep
 
--- a book of the same problem and options, in which no number was used again and each node has left being live at most once
+-- a book of the same problem and options, which opened with the same lemmas, in which no number was used again and each node has left being live at most once
 pub record IsBookAfter (b b' : BookModel) : Type 0 where
   pub book : IsBook b'
   pub problem : b'.problem ≡ b.problem
   pub options : b'.options ≡ b.options
+  pub kept : b'.kept ≡ b.kept
   pub grows : IsLaterBook b b'
 
 -- A history leads to a later book.

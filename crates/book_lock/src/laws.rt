@@ -2,8 +2,8 @@
 
 ghost use Rattle.book_lock.specs.Laws.{HistoryKeepsBook, HistoryHasBooks, ReplyIsOfBook};
 
-/// The calls of a history lead to a book of the same problem and options, in which each node has left being live at most
-/// once, and of which all holds that holds of books.
+/// The calls of a history lead to a book of the same problem and options, which opened with the same lemmas, in which each
+/// node has left being live at most once, and of which all holds that holds of books.
 pub fn histories_keep_books()
     ensures { HistoryKeepsBook }
 {}

@@ -1,5 +1,5 @@
 -- The lines that narrow a space, read as one.
-use Rattle.std.proofs.Common.{◌≡◌, refl, List, cond, Option, None}
+use Rattle.std.proofs.Common.{◌≡◌, refl, List, cond, None}
 use Rattle.poly_graph.specs.Problem.{Problem}
 use Rattle.cover_model.specs.State.{State, Loosenings}
 use Rattle.cover_model.specs.Rules.{rule, pulled, voided}

@@ -1,26 +1,33 @@
 -- A line adds at most one state that stays.
-use Rattle.std.proofs.Common.{◌≡◌, ℕ, suc, ◌+◌, ◌≤◌, List, [], ◌∷◌, ◌++◌, length, Bool, true, false, cond, Option, Some, None, refl, ap, arith, nat_lt, nat_le, nat_eq, ◌&&◌, drop, length-append}
+use Rattle.std.proofs.Common.{◌≡◌, ℕ, suc, ◌+◌, ◌≤◌, List, [], ◌∷◌, ◌++◌, length, Bool, true, false, cond, Option, Some, None, refl, ap, arith, nat_lt, nat_le, nat_eq, ◌&&◌, drop, take, length-append}
 use Rattle.std.proofs.lemmas.List.{length-replicate}
 use Rattle.cover_line.specs.Words.{word_of}
-use Rattle.cert_read.specs.CertLine.{CertLine, says_both, says_false, says_true, version, margin, delta, bound, cover, point_word, tree_word, end_word, lemma, real_interval, real_value, bool_value, yes_list, no_list, rule_line, crossing}
+use Rattle.cert_read.specs.CertLine.{CertLine, says_both, says_false, says_true, version, margin, delta, bound, checks, cover, keep, point_word, tree_word, end_word, lemma, real_interval, real_value, bool_value, yes_list, no_list, rule_line, crossing}
 use Rattle.interval_model.specs.Space.{Space}
 use Rattle.cover_model.specs.Rules.{Left, closed, one, two, stays as stays-left, rule, Line}
 use Rattle.cover_model.specs.State.{State, Loosenings, root_state}
 use Rattle.poly_graph.specs.Problem.{Declared, real_between, any_bool, Axis, Problem, crosses}
 use Rattle.poly_graph.specs.ProblemViews.{Parts, problem_of}
-use Rattle.cert_model.specs.Due.{CertFault, BadHeader, BadNumber, RuleFails, Missing, WrongBound, NotShown, Standing, at_point, left_open, Due, version_due, margin_due, delta_due, bound_due, kind_due, next_due, axis_due, yes_due, no_due, lemma_due, root_due, tree_due, coordinate_due, end_due, nothing_due, Next, on, faulty, given, is_version, same_bound, ascends, apart, all_below, state_of, names_well, after_rule, after_lemma_rule, tree_goes_on, lemma_goes_on, axis_next, is_crossed_box, coordinate_next, is_shown}
+use Rattle.cert_model.specs.Due.{CertFault, BadHeader, BadNumber, RuleFails, KeepFails, Missing, Extra, WrongBound, NotShown, NextOf, Value, Standing, at_point, left_open, Due, version_due, margin_due, delta_due, bound_due, kind_due, next_due, axis_due, yes_due, no_due, lemma_due, root_due, tree_due, coordinate_due, end_due, nothing_due, Next, on, faulty, given, is_version, same_bound, ascends, apart, all_below, state_of, names_well, after_rule, after_lemma_rule, tree_goes_on, lemma_goes_on, axis_next, is_crossed_box, coordinate_next, is_shown}
 use Rattle.cert_model.specs.Accepted.{most_lemmas, loosenings_fit, ruled_line, lemma_line, tree_line, root_line, no_crossing, axis_line, coordinate_line, next}
 use Rattle.ival.specs.SpaceViews.{space_of}
 use Rattle.cert_check.specs.declared.due.Due as held
 use Rattle.cert_check.specs.declared.due.Due.TheVariants as due
 use Rattle.cert_check.specs.declared.due.Value.TheVariants as kept
-use Rattle.cert_check.specs.Dues.{blank, lean, lean_next, due_of}
-use Rattle.cert_check.specs.Stays.{stays_in}
+use Rattle.problem_session.specs.Session.{problems_of}
+use Rattle.cert_model.specs.Session.{Part, SessionDue, SessionNext, header_due, checks_due, part_due, keep_due, first_due, inside_due, all_done, is_session_version, first_part, next_part, in_header, inside, in_part, none_complete, session_next}
+use Rattle.cert_check.specs.declared.part.Part as code
+use Rattle.cert_check.specs.declared.work.Work as work
+use Rattle.cert_check.specs.declared.work.Work.TheVariants as held-work
+use Rattle.cert_check.specs.Dues.{blank, lean, next_map, due_of}
+use Rattle.cert_check.specs.Stays.{stays_in, stays_in_work}
+use Rattle.cert_check.specs.Work.{Work, alone, together, Checks, work_next, lean_work}
+use Rattle.cert_check.specs.Works.{work_of}
 
 abbrev stays : Due → ℕ
 stays (tree_due s lemmas S pending done) = length done
-stays (end_due s (left_open left)) = length left
-stays (nothing_due s (left_open left)) = length left
+stays (end_due s lemmas (left_open left)) = length left
+stays (nothing_due s lemmas (left_open left)) = length left
 stays d = 0
 
 abbrev AtMost : ℕ → Next → Type 0
@@ -130,47 +137,144 @@ next-most p b (no_due s k lemmas space is) l = tt
 next-most p b (lemma_due s k lemmas L S pending) (rule_line l) = lemma-line-most p s k lemmas L S pending l
 next-most p b (lemma_due s k lemmas L S pending) (crossing i) = tt
 next-most p b (lemma_due s k lemmas L S pending) l = tt
-next-most p b (root_due s lemmas) (crossing i) = cond-most 1 (crosses p i) (on (end_due s (left_open []))) (no_crossing p i) (omega arith) tt
+next-most p b (root_due s lemmas) (crossing i) = cond-most 1 (crosses p i) (on (end_due s lemmas (left_open []))) (no_crossing p i) (omega arith) tt
 next-most p b (root_due s lemmas) (rule_line l) = root-line-most (is_crossed_box p) p s lemmas l
 next-most p b (root_due s lemmas) l = tt
 next-most p b (tree_due s lemmas S pending done) (rule_line l) = tree-line-most p s lemmas S pending done l
 next-most p b (tree_due s lemmas S pending done) (crossing i) = tt
 next-most p b (tree_due s lemmas S pending done) l = tt
 next-most p b (coordinate_due s a axes space) l = coordinate-line-most 1 s a.declared axes space l
-next-most p b (end_due s (at_point x)) end_word = given-most 1 (is_shown p s (at_point x)) (nothing_due s (at_point x)) NotShown (omega arith)
-next-most p b (end_due s (left_open x)) end_word = given-most (suc (length x)) (is_shown p s (left_open x)) (nothing_due s (left_open x)) NotShown (omega arith)
-next-most p b (end_due s v) (rule_line l) = tt
-next-most p b (end_due s v) (crossing i) = tt
-next-most p b (end_due s v) l = tt
-next-most p b (nothing_due s v) l = tt
+next-most p b (end_due s lemmas (at_point x)) end_word = given-most 1 (is_shown p s (at_point x)) (nothing_due s lemmas (at_point x)) NotShown (omega arith)
+next-most p b (end_due s lemmas (left_open x)) end_word = given-most (suc (length x)) (is_shown p s (left_open x)) (nothing_due s lemmas (left_open x)) NotShown (omega arith)
+next-most p b (end_due s lemmas v) (rule_line l) = tt
+next-most p b (end_due s lemmas v) (crossing i) = tt
+next-most p b (end_due s lemmas v) l = tt
+next-most p b (nothing_due s lemmas v) l = tt
 
 -- ---- as the code counts
 
 lean-same : (d : Due) → stays (lean d) ≡ stays d
 lean-same (tree_due s lemmas S pending done) = length-replicate (length done) blank
-lean-same (end_due s (left_open left)) = length-replicate (length left) blank
-lean-same (nothing_due s (left_open left)) = length-replicate (length left) blank
-lean-same (end_due s (at_point x)) = refl
-lean-same (nothing_due s (at_point x)) = refl
+lean-same (end_due s lemmas (left_open left)) = length-replicate (length left) blank
+lean-same (nothing_due s lemmas (left_open left)) = length-replicate (length left) blank
+lean-same (end_due s lemmas (at_point x)) = refl
+lean-same (nothing_due s lemmas (at_point x)) = refl
 lean-same d = refl
 
 held-same : (p : Parts) (d : held.Due) → stays (due_of p d) ≡ stays_in d
 held-same p (due.Tree c t n) = length-replicate n blank
 held-same p (due.End s n) = length-replicate n blank
-held-same p (due.Nothing s (kept.Left n)) = length-replicate n blank
+held-same p (due.Nothing s (kept.Left Ls n)) = length-replicate n blank
 held-same p (due.Nothing s (kept.Point x)) = refl
 held-same p (due.Axis c space) = axis-none _ _ _ (drop (length (space_of space)) p.axes) (space_of space)
 held-same p (due.Coordinate s space) = coordinate-none _ (drop (length (space_of space)) p.axes) (space_of space)
 held-same p d = refl
 
-led-most : (n : ℕ) (x : Next) (d : Due) → AtMost n x → lean_next x ≡ on d → stays d ≤ n
-led-most n (on e) d h k = let same : lean e ≡ d = cc in omega (arith, h, ap stays same, lean-same e)
-led-most n (faulty f) d h k = cc
+-- ---- of one check or of several
 
-pub next_stays : (p : Parts) (b : Option ℕ) (d d' : held.Due) (l : CertLine) → lean_next (next (problem_of p) b (due_of p d) l) ≡ on (due_of p d') → stays_in d' ≤ stays_in d + 1
-next_stays p b d d' l e = omega (
+abbrev work-stays : Work → ℕ
+work-stays (alone d) = stays d
+work-stays (together (header_due d)) = stays d
+work-stays (together (inside_due t d)) = stays d
+work-stays (together d) = 0
+
+abbrev WorkAtMost : ℕ → NextOf Work → Type 0
+WorkAtMost n (on w) = work-stays w ≤ n
+WorkAtMost n (faulty f) = Unit {0}
+
+abbrev SessionAtMost : ℕ → SessionNext → Type 0
+SessionAtMost n (on d) = work-stays (together d) ≤ n
+SessionAtMost n (faulty f) = Unit {0}
+
+given-session : (n : ℕ) (t : Bool) (d : SessionDue) (f : CertFault) → work-stays (together d) ≤ n → SessionAtMost n (given t d f)
+given-session n true d f h = h
+given-session n false d f h = tt
+
+header-most : (n : ℕ) (x : Next) → AtMost n x → SessionAtMost n (in_header x)
+header-most n (on (kind_due s)) h = omega arith
+header-most n (on _) h = h
+header-most n (faulty f) h = tt
+
+behind-none : (s : Loosenings) (p : Problem) (lemmas : List State) (values : List Value) (later : List (Problem × Bool)) → work-stays (together (next_part s p lemmas values later)) ≡ 0
+behind-none s p lemmas values [] = refl
+behind-none s p lemmas values ((q, e) ∷ later) = refl
+
+inside-most : (n : ℕ) (t : Part) (d : Due) → stays d ≤ n → work-stays (together (inside t d)) ≤ n
+inside-most n t (nothing_due s lemmas v) h = omega (arith, behind-none s t.problem lemmas (t.values ++ (v ∷ [])) t.later)
+inside-most n t _ h = h
+
+part-most : (n : ℕ) (t : Part) (x : Next) → AtMost n x → SessionAtMost n (in_part t x)
+part-most n t (on d) h = inside-most n t d h
+part-most n t (faulty f) h = tt
+
+none-most : (n : ℕ) (x : Next) → AtMost n x → AtMost n (none_complete x)
+none-most n (on d) h = h
+none-most n (faulty Extra) h = tt
+none-most n (faulty _) h = tt
+
+module _ (p : Problem) (later : List (Problem × Bool)) (b : Option ℕ) where
+  version-most : (l : CertLine) → SessionAtMost 1 (session_next p later b (header_due version_due) l)
+  version-most (version n) = given-session 1 (is_session_version n) (header_due (margin_due n)) BadHeader (omega arith)
+  version-most _ = tt
+
+  checks-most : (s : Loosenings) (l : CertLine) → SessionAtMost 1 (session_next p later b (checks_due s) l)
+  checks-most s (checks c) = given-session 1 (nat_eq c (suc (length later))) (part_due s (first_part p later)) BadHeader (omega arith)
+  checks-most s _ = tt
+
+  part-line-most : (s : Loosenings) (t : Part) (l : CertLine) → SessionAtMost 1 (session_next p later b (part_due s t) l)
+  part-line-most s t (cover k) = given-session 1 (nat_le k most_lemmas) (keep_due s k t) BadHeader (omega arith)
+  part-line-most s t point_word = part-most 1 t (next t.problem b (kind_due s) point_word) (next-most t.problem b (kind_due s) point_word)
+  part-line-most s t _ = tt
+
+  keep-line-most : (s : Loosenings) (k : ℕ) (t : Part) (l : CertLine) → SessionAtMost 1 (session_next p later b (keep_due s k t) l)
+  keep-line-most s k t (keep q) = given-session 1 (nat_le q k && nat_le q (length t.may_keep)) (first_due s k (take q t.may_keep) t) KeepFails (omega arith)
+  keep-line-most s k t _ = tt
+
+  session-most : (d : SessionDue) (l : CertLine) → SessionAtMost (suc (work-stays (together d))) (session_next p later b d l)
+  session-most (header_due version_due) l = version-most l
+  session-most (header_due d) l = header-most (suc (stays d)) (next p b d l) (next-most p b d l)
+  session-most (checks_due s) l = checks-most s l
+  session-most (part_due s t) l = part-line-most s t l
+  session-most (keep_due s k t) l = keep-line-most s k t l
+  session-most (first_due s k kept t) l =
+      part-most 1 t (none_complete (next t.problem b (next_due s k kept) l)) (none-most 1 (next t.problem b (next_due s k kept) l) (next-most t.problem b (next_due s k kept) l))
+  session-most (inside_due t d) l = part-most (suc (stays d)) t (next t.problem b d l) (next-most t.problem b d l)
+  session-most (all_done s values) l = tt
+
+module _ (c : Checks) where
+  alone-most : (n : ℕ) (x : Next) → AtMost n x → WorkAtMost n (next_map (λ (e : Due). alone e) x)
+  alone-most n (on d) h = h
+  alone-most n (faulty f) h = tt
+
+  together-most : (n : ℕ) (x : SessionNext) → SessionAtMost n x → WorkAtMost n (next_map (λ (e : SessionDue). together e) x)
+  together-most n (on d) h = h
+  together-most n (faulty f) h = tt
+
+  work-most : (w : Work) (l : CertLine) → WorkAtMost (suc (work-stays w)) (work_next c w l)
+  work-most (alone d) l = alone-most (suc (stays d)) (next (problem_of c.problem) c.bound d l) (next-most (problem_of c.problem) c.bound d l)
+  work-most (together d) l = together-most (suc (work-stays (together d))) (session_next (problem_of c.problem) (problems_of c.later) c.bound d l)
+      (session-most (problem_of c.problem) (problems_of c.later) c.bound d l)
+
+lean-work-same : (w : Work) → work-stays (lean_work w) ≡ work-stays w
+lean-work-same (alone d) = lean-same d
+lean-work-same (together (header_due d)) = lean-same d
+lean-work-same (together (inside_due t d)) = lean-same d
+lean-work-same (together _) = refl
+
+held-work-same : (t : code.Part) (w : work.Work) → work-stays (work_of t w) ≡ stays_in_work w
+held-work-same t (held-work.Alone d) = held-same t.problem d
+held-work-same t (held-work.Header d) = held-same t.problem d
+held-work-same t (held-work.Inside d) = held-same t.problem d
+held-work-same t _ = refl
+
+led-most : (n : ℕ) (x : NextOf Work) (w : Work) → WorkAtMost n x → next_map lean_work x ≡ on w → work-stays w ≤ n
+led-most n (on e) w h k = let same : lean_work e ≡ w = cc in omega (arith, h, ap work-stays same, lean-work-same e)
+led-most n (faulty f) w h k = cc
+
+pub next_stays : (c : Checks) (old new : code.Part) (w w' : work.Work) (l : CertLine) → next_map lean_work (work_next c (work_of old w) l) ≡ on (work_of new w') → stays_in_work w' ≤ stays_in_work w + 1
+next_stays c old new w w' l e = omega (
   arith,
-  led-most (suc (stays (due_of p d))) (next (problem_of p) b (due_of p d) l) (due_of p d') (next-most (problem_of p) b (due_of p d) l) e,
-  held-same p d,
-  held-same p d',
+  led-most (suc (work-stays (work_of old w))) (work_next c (work_of old w) l) (work_of new w') (work-most c (work_of old w) l) e,
+  held-work-same old w,
+  held-work-same new w',
 )

@@ -1,8 +1,6 @@
 -- Lines that are taken one after the other from a reader.
 use Rattle.std.proofs.Common.{◌≡◌, ◌⊎◌, ℕ, ◌+◌, List, [], ◌∷◌, ◌++◌, map, length, drop, cond, Bool, false, Option, Some, None, Result, Ok, Err, refl, ap, sym, ◌∙◌, subst, inl, inr, append_assoc, append-nil}
 use Rattle.std.specs.Prelude.{option_map}
-use Rattle.poly_graph.specs.Problem.{Problem}
-use Rattle.poly_graph.specs.ProblemViews.{Parts, problem_of}
 use Rattle.cert_read.specs.CertLine.{CertLine, Parsed, line, parsed}
 use Rattle.cert_read.specs.State.{Reading}
 use Rattle.cert_read.specs.declared.line.Line.{Line}
@@ -11,85 +9,81 @@ use Rattle.cert_read.specs.Lines.{lines_of, lines_so_far, is_too_long}
 use Rattle.cert_read.specs.LineAnswers.{IsFault}
 use Rattle.cert_read.specs.Views.{line_of}
 use Rattle.cert_read.specs.Reading.{lines_ahead, behind, IsNextLine}
-use Rattle.cert_model.specs.Accepted.{Course, stopped, reached}
+use Rattle.cert_model.specs.Accepted.{stopped, reached}
 use Rattle.cert_check.specs.declared.fault.CertFault.{CertFault}
 use Rattle.cert_check.specs.Checked.{Checked}
-use Rattle.cert_check.specs.Faults.{stop_of}
-use Rattle.cert_check.specs.Courses.{after_all, IsCourseAnswer, IsUnderWay, Takes, IsFed}
+use Rattle.cert_check.specs.Courses.{after_all, stops_at, IsCourseAnswer, IsUnderWay, Takes, IsFed}
+use Rattle.cert_check.specs.Work.{Checks, WorkCourse}
 use Rattle.cert_check.proofs.Led.{after_append, stays_stopped}
 use Rattle.cert_check.proofs.Firsts.{Passes, passes_line, formed_is_short}
 use Rattle.cert_check.proofs.Fed.{fed_line}
 use Rattle.cert_check.proofs.VerdictAnswers.{stopped_somewhere}
 
-module _ (p : Problem) (b : Option ℕ) where
-  abbrev pub led_on : List Parsed → Option Course → Option Course
-  led_on ls o = option_map (λ (c : Course). after_all p b c ls) o
+module _ (k : Checks) where
+  abbrev pub led_on : List Parsed → Option WorkCourse → Option WorkCourse
+  led_on ls o = option_map (λ (c : WorkCourse). after_all k c ls) o
 
-  abbrev pub Leads : Option Course → List Parsed → Option Course → Type 0
+  abbrev pub Leads : Option WorkCourse → List Parsed → Option WorkCourse → Type 0
   Leads o ls n = (n ≡ None) ⊎ (n ≡ led_on ls o)
 
-  led-twice : (o : Option Course) (xs ys : List Parsed) → led_on ys (led_on xs o) ≡ led_on (xs ++ ys) o
+  led-twice : (o : Option WorkCourse) (xs ys : List Parsed) → led_on ys (led_on xs o) ≡ led_on (xs ++ ys) o
   led-twice None xs ys = refl
-  led-twice (Some c) xs ys = ap (λ (d : Course). Some d) (sym (after_append p b c xs ys))
+  led-twice (Some c) xs ys = ap (λ (d : WorkCourse). Some d) (sym (after_append k c xs ys))
 
-  pub leads_twice : (o m n : Option Course) (xs ys : List Parsed) → Leads o xs m → Leads m ys n → Leads o (xs ++ ys) n
+  pub leads_twice : (o m n : Option WorkCourse) (xs ys : List Parsed) → Leads o xs m → Leads m ys n → Leads o (xs ++ ys) n
   leads_twice o m n xs ys g (inl h) = inl h
   leads_twice o m n xs ys (inl g) (inr h) = inl (h ∙ ap (led_on ys) g)
   leads_twice o m n xs ys (inr g) (inr h) = inr (h ∙ ap (led_on ys) g ∙ led-twice o xs ys)
 
-  stays-led : (c : Course) (f : CertFault) (ls : List Parsed) → Some c ≡ stop_of f → led_on ls (Some c) ≡ Some c
-  stays-led (stopped g n) f ls e = ap (λ (d : Course). Some d) (stays_stopped p b g n ls)
+  stays-led : (c : WorkCourse) (f : CertFault) (ls : List Parsed) → Some c ≡ stops_at f → led_on ls (Some c) ≡ Some c
+  stays-led (stopped g n) f ls e = ap (λ (d : WorkCourse). Some d) (stays_stopped k g n ls)
   stays-led (reached d n) f ls e = absurd (stopped_somewhere f d n (sym e))
 
   -- after a fault the lines behind change nothing
-  over-all : (o n : Option Course) (xs ys : List Parsed) (f : CertFault) → n ≡ led_on xs o → n ≡ stop_of f → Leads o (xs ++ ys) n
+  over-all : (o n : Option WorkCourse) (xs ys : List Parsed) (f : CertFault) → n ≡ led_on xs o → n ≡ stops_at f → Leads o (xs ++ ys) n
   over-all None n xs ys f e h = inl e
   over-all (Some c) n xs ys f e h =
-      inr (e ∙ sym (stays-led (after_all p b c xs) f ys (sym e ∙ h)) ∙ led-twice (Some c) xs ys)
+      inr (e ∙ sym (stays-led (after_all k c xs) f ys (sym e ∙ h)) ∙ led-twice (Some c) xs ys)
 
-  pub leads_over : (o n : Option Course) (xs ys : List Parsed) (f : CertFault) → Leads o xs n → n ≡ stop_of f → Leads o (xs ++ ys) n
+  pub leads_over : (o n : Option WorkCourse) (xs ys : List Parsed) (f : CertFault) → Leads o xs n → n ≡ stops_at f → Leads o (xs ++ ys) n
   leads_over o n xs ys f (inl e) h = inl e
   leads_over o n xs ys f (inr e) h = over-all o n xs ys f e h
 
 -- of the lines that were ahead some are taken, and the others are ahead
 pub record Taking (old : Checked) (ahead : Reading) (now : Checked) (left : Reading) : Type 0 where
   pub taken : List Parsed
-  pub problem : now.problem ≡ old.problem
-  pub bound : now.bound ≡ old.bound
+  pub checks : now.checks ≡ old.checks
   pub lines : map parsed (lines_ahead ahead) ≡ taken ++ map parsed (lines_ahead left)
-  pub course : Leads (problem_of old.problem) old.bound old.course taken now.course
+  pub course : Leads old.checks old.course taken now.course
   pub ended : left.ended ≡ ahead.ended
   pub fed : (bytes : List ℕ) → ahead.ended ≡ false → IsFed bytes old ahead.unread → (now.course ≡ None) ⊎ IsFed bytes now left.unread
 
-none-yet : (p : Problem) (b : Option ℕ) (o : Option Course) → o ≡ option_map (λ (c : Course). after_all p b c []) o
-none-yet p b None = refl
-none-yet p b (Some c) = refl
+none-yet : (k : Checks) (o : Option WorkCourse) → o ≡ option_map (λ (c : WorkCourse). after_all k c []) o
+none-yet k None = refl
+none-yet k (Some c) = refl
 
 pub taking_none : (c : Checked) (r : Reading) → Taking c r c r
 taking_none c r = record {
   taken = [];
-  problem = refl;
-  bound = refl;
+  checks = refl;
   lines = refl;
-  course = inr (none-yet (problem_of c.problem) c.bound c.course);
+  course = inr (none-yet c.checks c.course);
   ended = refl;
   fed = λ bytes e f. inr f;
 }
 
 -- the lines that one more leads from the old checker on
-leads-line : (old now new : Checked) (xs ys : List Parsed) (r : Result (Unit {0}) CertFault) → now.problem ≡ old.problem → now.bound ≡ old.bound →
-    Leads (problem_of old.problem) old.bound old.course xs now.course → Takes now ys new r → Leads (problem_of old.problem) old.bound old.course (xs ++ ys) new.course
-leads-line old now new xs ys r e f g t =
-    leads_twice (problem_of old.problem) old.bound old.course now.course new.course xs ys g
-    (subst (λ (b : Option ℕ). Leads (problem_of old.problem) b now.course ys new.course) f (subst (λ (q : Parts). Leads (problem_of q) now.bound now.course ys new.course) e t.course))
+leads-line : (old now new : Checked) (xs ys : List Parsed) (r : Result (Unit {0}) CertFault) → now.checks ≡ old.checks →
+    Leads old.checks old.course xs now.course → Takes now ys new r → Leads old.checks old.course (xs ++ ys) new.course
+leads-line old now new xs ys r e g t =
+    leads_twice old.checks old.course now.course new.course xs ys g (subst (λ (k : Checks). Leads k now.course ys new.course) e t.course)
 
 module _ (old : Checked) (ahead : Reading) (now : Checked) (left : Reading) (t : Taking old ahead now left) where
   -- no line is ahead any more
   pub taken_all : (r : Result (Unit {0}) CertFault) → lines_ahead left ≡ [] → IsCourseAnswer now.course r → Takes old (map parsed (lines_ahead ahead)) now r
   taken_all r e a = record {
-    problem = t.problem;
-    bound = t.bound;
-    course = subst (λ (ls : List Parsed). Leads (problem_of old.problem) old.bound old.course ls now.course)
+    checks = t.checks;
+    course = subst (λ (ls : List Parsed). Leads old.checks old.course ls now.course)
         (sym (t.lines ∙ ap (λ (ls : List (List ℕ)). t.taken ++ map parsed ls) e ∙ append-nil t.taken)) t.course;
     answers = a;
   }
@@ -101,17 +95,16 @@ module _ (old : Checked) (ahead : Reading) (now : Checked) (left : Reading) (t :
     -- a line has a fault
     pub taken_fault : (f : CertFault) → Takes now (parsed l ∷ []) new (Err f) → Takes old (map parsed (lines_ahead ahead)) new (Err f)
     taken_fault f k = record {
-      problem = k.problem ∙ t.problem;
-      bound = k.bound ∙ t.bound;
-      course = subst (λ (ks : List Parsed). Leads (problem_of old.problem) old.bound old.course ks new.course) (sym all-lines)
-          (leads_over (problem_of old.problem) old.bound old.course new.course (t.taken ++ (parsed l ∷ [])) (map parsed ls) f
-          (leads-line old now new t.taken (parsed l ∷ []) (Err f) t.problem t.bound t.course k) k.answers);
+      checks = k.checks ∙ t.checks;
+      course = subst (λ (ks : List Parsed). Leads old.checks old.course ks new.course) (sym all-lines)
+          (leads_over old.checks old.course new.course (t.taken ++ (parsed l ∷ [])) (map parsed ls) f
+          (leads-line old now new t.taken (parsed l ∷ []) (Err f) t.checks t.course k) k.answers);
       answers = k.answers;
     }
 
     module _ (next : Reading) (form : CertLine) (says : parsed l ≡ line form) (passed : next ≡ behind l left) (rest : lines_ahead next ≡ ls) (k : Takes now (parsed l ∷ []) new (Ok tt)) where
       next-fed : (bytes : List ℕ) → ahead.ended ≡ false → (now.course ≡ None) ⊎ IsFed bytes now left.unread → (new.course ≡ None) ⊎ IsFed bytes new next.unread
-      next-fed bytes e (inl h) = inl (elim k.course [ inl g ↦ g | inr g ↦ g ∙ ap (led_on (problem_of now.problem) now.bound (parsed l ∷ [])) h ])
+      next-fed bytes e (inl h) = inl (elim k.course [ inl g ↦ g | inr g ↦ g ∙ ap (led_on now.checks (parsed l ∷ [])) h ])
       next-fed bytes e (inr f) =
           let so-far : lines_so_far left.unread ≡ l ∷ ls = sym (ap (λ (t : Bool). cond t (lines_of left.unread) (lines_so_far left.unread)) (t.ended ∙ e)) ∙ here in
           let short : is_too_long l ≡ false = formed_is_short l (line form) says (λ h. cc) in
@@ -122,15 +115,14 @@ module _ (old : Checked) (ahead : Reading) (now : Checked) (left : Reading) (t :
       pub taken_line : Taking old ahead new next
       taken_line = record {
         taken = t.taken ++ (parsed l ∷ []);
-        problem = k.problem ∙ t.problem;
-        bound = k.bound ∙ t.bound;
+        checks = k.checks ∙ t.checks;
         lines = all-lines ∙ ap (λ (ks : List (List ℕ)). (t.taken ++ (parsed l ∷ [])) ++ map parsed ks) (sym rest);
-        course = leads-line old now new t.taken (parsed l ∷ []) (Ok tt) t.problem t.bound t.course k;
+        course = leads-line old now new t.taken (parsed l ∷ []) (Ok tt) t.checks t.course k;
         ended = ap (λ (r : Reading). r.ended) passed ∙ t.ended;
         fed = λ bytes e f. next-fed bytes e (t.fed bytes e f);
       }
 
-under-way : (c : Option Course) → IsUnderWay c → c ≡ None → ⊥
+under-way : (c : Option WorkCourse) → IsUnderWay c → c ≡ None → ⊥
 under-way None h e = h
 under-way (Some c) h e = cc
 

@@ -66,11 +66,11 @@ module _ (s : Loosenings) (lemmas : List State) (l : Left) (f : CertFault) (x : 
   same-count : lean_left (blanks n ++ stayed l x) ≡ blanks m
   same-count = ap blanks (stayed-count n l x ∙ sym count)
 
-  pub main_done : left_states l ++ pending ≡ [] → lean_next (after_rule (Some l) f x pending (blanks n) (tree_goes_on s lemmas)) ≡ on (end_due s (left_open (blanks m)))
+  pub main_done : left_states l ++ pending ≡ [] → lean_next (after_rule (Some l) f x pending (blanks n) (tree_goes_on s lemmas)) ≡ on (end_due s lemmas (left_open (blanks m)))
   main_done e =
       ap lean_next (after-left l f x pending (blanks n) (tree_goes_on s lemmas))
       ∙ ap (λ (ps : List State). lean_next (on (tree_goes_on s lemmas ps (blanks n ++ stayed l x)))) e
-      ∙ ap (λ (d : List Standing). on (end_due s (left_open d))) same-count
+      ∙ ap (λ (d : List Standing). on (end_due s lemmas (left_open d))) same-count
 
   pub main_on : (S : State) (rest : List State) → left_states l ++ pending ≡ S ∷ rest →
       lean_next (after_rule (Some l) f x pending (blanks n) (tree_goes_on s lemmas)) ≡ on (tree_due s lemmas S rest (blanks m))

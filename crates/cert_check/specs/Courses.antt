@@ -1,7 +1,5 @@
 -- Where lines lead a checker, line by line, and what it answers.
 use Rattle.std.specs.Prelude.{◌≡◌, ◌⊎◌, ℕ, suc, List, [], ◌∷◌, ◌++◌, length, Bool, false, not, Option, Some, None, Result, Ok, Err, IsTrue, OnOk, nat_eq, option_map}
-use Rattle.poly_graph.specs.Problem.{Problem}
-use Rattle.poly_graph.specs.ProblemViews.{problem_of}
 use Rattle.interval_model.specs.Space.{Space}
 use Rattle.cover_model.specs.State.{Loosenings}
 use Rattle.cert_read.specs.CertLine.{Parsed}
@@ -9,48 +7,53 @@ use Rattle.cert_read.specs.LineText.{text_of_lines}
 use Rattle.cert_read.specs.Lines.{all_bytes}
 use Rattle.cert_read.specs.State.{Reading}
 use Rattle.cert_read.specs.Reading.{lines_ahead}
-use Rattle.cert_model.specs.Due.{Value, at_point, left_open, Due, version_due, lemma_due, root_due, tree_due, nothing_due, Next, on, faulty}
-use Rattle.cert_model.specs.Accepted.{Course, stopped, reached, Verdict, accepted, refused, next_parsed, course, ended, cut_off}
+use Rattle.cert_model.specs.Due.{Value, at_point, left_open, Due, lemma_due, root_due, tree_due, nothing_due, NextOf, on, faulty}
+use Rattle.cert_model.specs.Accepted.{stopped, reached, VerdictOf, Verdict, accepted, refused, cut_off}
+use Rattle.cert_model.specs.Session.{inside_due, SessionVerdict}
 use Rattle.cert_check.specs.declared.checker.Verdict as told
 use Rattle.cert_check.specs.declared.checker.Verdict.TheVariants.{Unsat, Point, Left}
 use Rattle.cert_check.specs.declared.fault.CertFault.{CertFault}
 use Rattle.cert_check.specs.declared.fault.CertFault.TheVariants.{Memory}
 use Rattle.cert_check.specs.Checked.{Checked}
-use Rattle.cert_check.specs.Dues.{lean_next, lean_course}
+use Rattle.cert_check.specs.Dues.{next_map}
 use Rattle.cert_check.specs.Faults.{stop_of}
+use Rattle.cert_check.specs.Work.{Work, alone, together, WorkCourse, Checks, course_map, lean_work, work_step, work_course, work_ended}
 
 -- ---- one more line
 
 -- with the line's number
-abbrev pub leads : ℕ → Next → Course
+abbrev pub leads : ℕ → NextOf Work → WorkCourse
 leads n (on d) = reached d n
 leads n (faulty f) = stopped f n
 
--- without the states that stay
-abbrev pub after : Problem → Option ℕ → Course → Parsed → Course
-after p b (stopped f n) l = stopped f n
-after p b (reached d n) l = leads (suc n) (lean_next (next_parsed p b d l))
+-- without what the code does not keep
+abbrev pub after : Checks → WorkCourse → Parsed → WorkCourse
+after c (stopped f n) l = stopped f n
+after c (reached d n) l = leads (suc n) (next_map lean_work (work_step c d l))
 
-abbrev pub after_all : Problem → Option ℕ → Course → List Parsed → Course
-after_all p b c [] = c
-after_all p b c (l ∷ ls) = after_all p b (after p b c l) ls
+abbrev pub after_all : Checks → WorkCourse → List Parsed → WorkCourse
+after_all c x [] = x
+after_all c x (l ∷ ls) = after_all c (after c x l) ls
 
 -- ---- what a checker answers
 
-abbrev pub IsUnderWay : Option Course → Type 0
+abbrev pub IsUnderWay : Option WorkCourse → Type 0
 IsUnderWay (Some (reached d n)) = Unit {0}
 IsUnderWay c = ⊥
 
+-- where a checker stops with the fault; nowhere for out of memory
+abbrev pub stops_at : CertFault → Option WorkCourse
+stops_at f = option_map (course_map (λ (d : Due). alone d)) (stop_of f)
+
 -- the fault where the course stopped, or out of memory
-abbrev pub IsCourseAnswer : Option Course → Result (Unit {0}) CertFault → Type 0
+abbrev pub IsCourseAnswer : Option WorkCourse → Result (Unit {0}) CertFault → Type 0
 IsCourseAnswer c (Ok _) = IsUnderWay c
-IsCourseAnswer c (Err f) = c ≡ stop_of f
+IsCourseAnswer c (Err f) = c ≡ stops_at f
 
 -- lines are taken, in order, and answered; out of memory may come at any
 pub record Takes (old : Checked) (ls : List Parsed) (new : Checked) (r : Result (Unit {0}) CertFault) : Type 0 where
-  pub problem : new.problem ≡ old.problem
-  pub bound : new.bound ≡ old.bound
-  pub course : (new.course ≡ None) ⊎ (new.course ≡ option_map (λ c. after_all (problem_of old.problem) old.bound c ls) old.course)
+  pub checks : new.checks ≡ old.checks
+  pub course : (new.course ≡ None) ⊎ (new.course ≡ option_map (λ c. after_all old.checks c ls) old.course)
   pub answers : IsCourseAnswer new.course r
 
 -- ---- verdicts
@@ -60,20 +63,32 @@ verdict_of s (at_point space) = Point s.delta_bits
 verdict_of s (left_open []) = Unsat s.margin_bits
 verdict_of s (left_open (x ∷ left)) = Left (length (x ∷ left))
 
+-- the fault with its line
+abbrev pub IsRefusal : {V : Type 0} → VerdictOf V → CertFault → Type 0
+IsRefusal (accepted s v) e = ⊥
+IsRefusal (refused f n) e = Some (stopped f n) ≡ stop_of e
+
 abbrev pub IsVerdict : Verdict → Result told.Verdict CertFault → Type 0
 IsVerdict (accepted s v) (Ok w) = w ≡ verdict_of s v
-IsVerdict (refused f n) (Err e) = Some (stopped f n) ≡ stop_of e
-IsVerdict v r = ⊥
+IsVerdict v (Ok w) = ⊥
+IsVerdict v (Err e) = IsRefusal v e
+
+-- that of the first check
+abbrev pub IsFirstVerdict : SessionVerdict → Result told.Verdict CertFault → Type 0
+IsFirstVerdict (accepted s []) r = Unit {0}
+IsFirstVerdict (accepted s (v ∷ values)) (Ok w) = w ≡ verdict_of s v
+IsFirstVerdict v (Ok w) = ⊥
+IsFirstVerdict v (Err e) = IsRefusal v e
 
 -- the input ends
-abbrev pub Finishes : Option Course → Result told.Verdict CertFault → Type 0
+abbrev pub Finishes : Option WorkCourse → Result told.Verdict CertFault → Type 0
 Finishes None r = r ≡ Err Memory
-Finishes (Some c) r = IsVerdict (ended c) r
+Finishes (Some c) r = IsFirstVerdict (work_ended c) r
 
 -- the input goes on where no more of it is read
-abbrev pub IsCutOff : Option Course → CertFault → Type 0
+abbrev pub IsCutOff : Option WorkCourse → CertFault → Type 0
 IsCutOff None f = f ≡ Memory
-IsCutOff (Some c) f = IsVerdict (cut_off c) (Err f)
+IsCutOff (Some c) f = IsRefusal (cut_off {D = Work} {V = Value} c) f
 
 -- ---- states in work
 
@@ -83,20 +98,30 @@ in_work (root_due s lemmas) = 1
 in_work (tree_due s lemmas S pending done) = suc (length pending)
 in_work d = 0
 
-abbrev pub states_in_work : Option Course → ℕ
-states_in_work (Some (reached d n)) = in_work d
+abbrev pub work_states : Work → ℕ
+work_states (alone d) = in_work d
+work_states (together (inside_due t d)) = in_work d
+work_states w = 0
+
+abbrev pub states_in_work : Option WorkCourse → ℕ
+states_in_work (Some (reached w n)) = work_states w
 states_in_work c = 0
 
 -- ---- what a certificate describes, for whoever draws it
 
 -- the box where the next line of the main tree stands, behind the first one
-abbrev pub box_in : Option Course → Option Space
-box_in (Some (reached (tree_due s lemmas S pending done) n)) = Some S.space
+abbrev pub box_due : Due → Option Space
+box_due (tree_due s lemmas S pending done) = Some S.space
+box_due d = None
+
+abbrev pub box_in : Option WorkCourse → Option Space
+box_in (Some (reached (alone d) n)) = box_due d
+box_in (Some (reached (together (inside_due t d)) n)) = box_due d
 box_in c = None
 
--- the point of a certificate that is whole
-abbrev pub point_in : Option Course → Option Space
-point_in (Some (reached (nothing_due s (at_point space)) n)) = Some space
+-- the point of a certificate of one check that is whole
+abbrev pub point_in : Option WorkCourse → Option Space
+point_in (Some (reached (alone (nothing_due s lemmas (at_point space))) n)) = Some space
 point_in c = None
 
 -- ---- bytes
@@ -107,8 +132,8 @@ AreWhole [] = Unit {0}
 AreWhole (l ∷ ls) = IsTrue (all_bytes (λ b. not (nat_eq b 10)) l) × AreWhole ls
 
 -- where the lines led, from the first one on
-abbrev pub led_by : Checked → List (List ℕ) → Option Course
-led_by c ls = Some (lean_course (course (problem_of c.problem) c.bound 0 version_due ls))
+abbrev pub led_by : Checked → List (List ℕ) → Option WorkCourse
+led_by c ls = Some (course_map lean_work (work_course c.checks ls))
 
 -- of the bytes that were fed so far the checker has taken some lines, and the rest is not answered yet
 pub record IsFed (bytes : List ℕ) (c : Checked) (unread : List ℕ) : Type 0 where

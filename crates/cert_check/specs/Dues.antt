@@ -7,8 +7,8 @@ use Rattle.cert_read.specs.CertLine.{CertLine}
 use Rattle.poly_graph.specs.ProblemViews.{Parts, problem_of}
 use Rattle.ival.specs.declared.space.Space.{Space}
 use Rattle.ival.specs.SpaceViews.{space_of, capacity_of}
-use Rattle.cert_model.specs.Due.{Standing, Value, at_point, left_open, Due, version_due, margin_due, delta_due, bound_due, kind_due, next_due, yes_due, no_due, lemma_due, root_due, tree_due, end_due, nothing_due, Next, on, faulty, axis_next, coordinate_next, all_below, CertFault, after_rule, after_lemma_rule, tree_goes_on, lemma_goes_on}
-use Rattle.cert_model.specs.Accepted.{Course, stopped, reached, next}
+use Rattle.cert_model.specs.Due.{Standing, Value, at_point, left_open, Due, version_due, margin_due, delta_due, bound_due, kind_due, next_due, yes_due, no_due, lemma_due, root_due, tree_due, end_due, nothing_due, NextOf, Next, on, faulty, axis_next, coordinate_next, all_below, CertFault, after_rule, after_lemma_rule, tree_goes_on, lemma_goes_on}
+use Rattle.cert_model.specs.Accepted.{next}
 use Rattle.cert_check.specs.declared.standing.Lemma as code
 use Rattle.cert_check.specs.declared.pending.Pending.{Pending}
 use Rattle.cert_check.specs.declared.loosenings.Loosenings.{Loosenings}
@@ -41,17 +41,16 @@ lean_value (left_open left) = left_open (lean_left left)
 -- without the states that stay
 abbrev pub lean : Due → Due
 lean (tree_due s lemmas S pending done) = tree_due s lemmas S pending (lean_left done)
-lean (end_due s v) = end_due s (lean_value v)
-lean (nothing_due s v) = nothing_due s (lean_value v)
+lean (end_due s lemmas v) = end_due s lemmas (lean_value v)
+lean (nothing_due s lemmas v) = nothing_due s lemmas (lean_value v)
 lean d = d
 
-abbrev pub lean_next : Next → Next
-lean_next (on d) = on (lean d)
-lean_next (faulty f) = faulty f
+abbrev pub next_map : {D E : Type 0} → (D → E) → NextOf D → NextOf E
+next_map f (on d) = on (f d)
+next_map f (faulty g) = faulty g
 
-abbrev pub lean_course : Course → Course
-lean_course (stopped f n) = stopped f n
-lean_course (reached d n) = reached (lean d) n
+abbrev pub lean_next : Next → Next
+lean_next x = next_map lean x
 
 -- ---- views
 
@@ -60,7 +59,12 @@ states_of Ls = map lemma_of Ls
 
 abbrev pub value_of : value.Value → Value
 value_of (kept.Point space) = at_point (space_of space)
-value_of (kept.Left n) = left_open (blanks n)
+value_of (kept.Left Ls n) = left_open (blanks n)
+
+-- the lemmas of a cover; a point has none
+abbrev pub lemmas_of : value.Value → List code.Lemma
+lemmas_of (kept.Point space) = []
+lemmas_of (kept.Left Ls n) = Ls.items
 
 abbrev pub due_of : Parts → held.Due → Due
 due_of p due.Version = version_due
@@ -75,8 +79,8 @@ due_of p (due.Lemma c L t) = lemma_due (loosenings_of c.loosenings) c.count (sta
 due_of p (due.Root c) = root_due (loosenings_of c.loosenings) (states_of c.lemmas.items)
 due_of p (due.Tree c t n) = tree_due (loosenings_of c.loosenings) (states_of c.lemmas.items) (state_of t.state) (pending_of t.pending) (blanks n)
 due_of p (due.Coordinate s space) = coordinate_next (loosenings_of s) (drop (length (space_of space)) p.axes) (space_of space)
-due_of p (due.End s n) = end_due (loosenings_of s) (left_open (blanks n))
-due_of p (due.Nothing s v) = nothing_due (loosenings_of s) (value_of v)
+due_of p (due.End c n) = end_due (loosenings_of c.loosenings) (states_of c.lemmas.items) (left_open (blanks n))
+due_of p (due.Nothing s v) = nothing_due (loosenings_of s) (states_of (lemmas_of v)) (value_of v)
 
 -- ---- what holds of the states in work
 
@@ -100,6 +104,8 @@ IsSound p (due.Lemma c L t) = AllFit p c.lemmas.items × Fits p (lemma_of L) × 
 IsSound p (due.Root c) = AllFit p c.lemmas.items
 IsSound p (due.Tree c t n) = AllFit p c.lemmas.items × IsTree p t
 IsSound p (due.Coordinate s space) = HasRoom p (length (space_of space)) (capacity_of space)
+IsSound p (due.End c n) = AllFit p c.lemmas.items
+IsSound p (due.Nothing s v) = AllFit p (lemmas_of v)
 IsSound p d = Unit {0}
 
 -- ---- what comes of a line
@@ -131,7 +137,7 @@ yes_of c space = yes_due (loosenings_of c.loosenings) c.count (states_of c.lemma
 
 -- `end` of a point whose space is whole
 abbrev pub end_of_point : Loosenings → Space → Due
-end_of_point s space = end_due (loosenings_of s) (at_point (space_of space))
+end_of_point s space = end_due (loosenings_of s) [] (at_point (space_of space))
 
 -- the first line of the tree of a lemma with this state
 abbrev pub begun_lemma : Cover → code.Lemma → Next

@@ -7,6 +7,7 @@ pub mod Combinations
 pub mod Courses
 pub mod Dues
 pub mod Faults
+pub mod FormCode
 pub mod Feeding
 pub mod Judged
 pub mod Judgements
@@ -14,9 +15,12 @@ pub mod Laws
 pub mod Lists
 pub mod Narrowing
 pub mod Serving
+pub mod Sessions
 pub mod Stages
 pub mod States
 pub mod Stays
 pub mod Steps
 pub mod Waiting
 pub mod Within
+pub mod Work
+pub mod Works

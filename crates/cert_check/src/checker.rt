@@ -1,30 +1,36 @@
 // The checker.
-ghost use Rattle.std.specs.Prelude.{◌≡◌, ℕ, ◌<◌, ◌≤◌, ◌-◌, ◌^◌, [], ◌∷◌, Some, None, Err, map, IfOk, OnOk, MatchOption};
+ghost use Rattle.std.specs.Prelude.{◌≡◌, ℕ, ◌<◌, ◌≤◌, ◌-◌, ◌^◌, [], ◌∷◌, drop, map, IfOk, OnOk, MatchOption, Some, None, Err};
 ghost use Rattle.cert_read.specs.CertLine.{line as FormLine, Parsed, parsed};
 ghost use Rattle.cert_read.specs.Reading.{lines_ahead};
 ghost use Rattle.cert_read.specs.LineAnswers.{IsFault};
 ghost use Rattle.cert_read.specs.Views.{line_of};
 ghost use Rattle.cert_model.specs.Accepted.{reached};
+ghost use Rattle.cert_model.specs.SessionLaws.{IsSession};
+ghost use Rattle.problem_session.specs.Session.{problems_of};
 ghost use Rattle.poly_graph.specs.ProblemViews.{Parts};
 ghost use Rattle.ival.specs.SpaceViews.{space_of};
 ghost use Rattle.cert_check.specs.declared.checker.Stage.TheVariants.{InWork};
 ghost use Rattle.cert_check.specs.Checked.{fresh_checker};
-ghost use Rattle.cert_check.specs.States.{loosenings_of};
-ghost use Rattle.cert_check.specs.Dues.{due_of, IsSound, value_of};
-ghost use Rattle.cert_check.specs.Serving.{Serves};
+ghost use Rattle.cert_check.specs.Dues.{due_of};
 ghost use Rattle.cert_check.specs.Stages.{IsFaultAfter, IsOneMore, IsSoundStage, IsStageAfter};
-ghost use Rattle.cert_check.specs.Stays.{StaysWithin, stays_in};
-ghost use Rattle.cert_check.specs.Courses.{IsCourseAnswer, AreLinesTaken, Finishes, in_work, box_in, point_in, IsCutOff, IsFedOn, states_in_work, Takes, verdict_of};
+ghost use Rattle.cert_check.specs.Stays.{StaysWithin, stays_in_work};
+ghost use Rattle.cert_check.specs.Courses.{IsCourseAnswer, AreLinesTaken, Finishes, in_work, box_due, box_in, point_in, IsCutOff, IsFedOn, states_in_work, Takes, work_states};
+ghost use Rattle.cert_check.specs.Sessions.{FinishesAll, IsFreshFor};
+ghost use Rattle.cert_check.specs.Work.{started};
+ghost use Rattle.cert_check.specs.declared.part.Part.{Part as PartInWork};
+ghost use Rattle.cert_check.specs.Works.{AreSameChecks, IsFirst, IsPart, IsSoundWork, checks_of, work_of};
 
 use crate::due::{Due, Value};
+use crate::ending::{all_endings, first_ending};
 use crate::fault::CertFault;
-use crate::loosenings::Loosenings;
-use crate::next::next;
+use crate::part::Part;
+use crate::parts::work_line;
 use crate::refusal::unread;
-use crate::tools::Tools;
+use crate::work::Work;
 use cert_read::{Line, LineFault, LineReader};
 use ival::Space;
 use poly_graph::Problem;
+use problem_session::Session;
 use std::alloc::{AllocError, Global};
 use std::marker::Model;
 use std::mem;
@@ -43,30 +49,35 @@ pub enum Verdict {
 // What is due, or the fault that is answered for good.
 #[derive(Drop)]
 pub enum Stage {
-    InWork(Due),
+    InWork(Work),
     Stopped(CertFault),
 }
 
-/// Goes through the lines of a certificate once. It keeps the lemmas, the state in work and those that wait behind it.
+/// Goes through the lines of a certificate once, of one check or of several. It keeps the lemmas, the state in work and
+/// those that wait behind it; of several checks the problem in work alone, and the lemmas of the part before until they
+/// are kept or dropped.
 ///
 /// After a fault, running out of memory included, every later call answers the same fault. More than 2^64 - 2 lines,
 /// which have more bytes than a certificate may have, are answered as out of memory.
 #[derive(Drop)]
-pub struct Checker {
+pub struct Checker<'a> {
     alloc: Global,
-    problem: Problem,
+    part: Part<'a>,
     bound: Option<u32>,
-    tools: Tools,
     stage: Stage,
     lines: u64,
 }
 
-impl Model for Checker {
+impl<'a> Model for Checker<'a> {
     ghost use Rattle.cert_check.specs.Checked.{Checked};
 
     ghost Value = { Checked };
 
     ghost use Rattle.cert_check.specs.Checking.{checked_of, IsSoundChecker};
+    ghost use Rattle.std.specs.Coded.{codes};
+    ghost use Rattle.cert_check.specs.FormCode.{form_code};
+
+    ghost coded = { Prim.hlevel (codes, form_code) };
 
     ghost view = { checked_of };
 
@@ -76,24 +87,8 @@ impl Model for Checker {
 // A checker takes at most so many lines.
 const MOST_LINES: u64 = u64::MAX - 1;
 
-// The verdict where the input ends after so many lines.
-fn ending(due: &Due, lines: u64) -> Result<Verdict, CertFault>
-    requires { lines < 2 ^ 64 - 1 }
-    ensures { (p : Parts) → Finishes (Some (reached (due_of p due.now) lines)) result }
-{
-    match due {
-        Due::Nothing(s, value) => Ok(said_by(*s, value)),
-        Due::Version => Err(CertFault::BadHeader { line: lines + 1 }),
-        Due::Margin(_) => Err(CertFault::BadHeader { line: lines + 1 }),
-        Due::Delta(_, _) => Err(CertFault::BadHeader { line: lines + 1 }),
-        Due::Bound(_) => Err(CertFault::BadHeader { line: lines + 1 }),
-        Due::Kind(_) => Err(CertFault::BadHeader { line: lines + 1 }),
-        _ => Err(CertFault::Missing { line: lines + 1 }),
-    }
-}
-
 // How many states of a tree are kept.
-fn in_work(due: &Due) -> usize
+fn states_in(due: &Due) -> usize
     ensures { (p : Parts) → result ≡ in_work (due_of p due.now) }
 {
     match due {
@@ -106,7 +101,7 @@ fn in_work(due: &Due) -> usize
 
 // The box where the next line of the main tree stands, behind the first one.
 fn box_in(due: &Due) -> Option<&Space>
-    ensures { (p : Parts) (n : ℕ) → let o = box_in (Some (reached (due_of p due.now) n)) in
+    ensures { (p : Parts) → let o = box_due (due_of p due.now) in
         MatchOption result (o ≡ None) (λ space. o ≡ Some (space_of space.now)) }
 {
     match due {
@@ -115,58 +110,66 @@ fn box_in(due: &Due) -> Option<&Space>
     }
 }
 
-// The point of a certificate that is whole.
-fn point_in(due: &Due) -> Option<&Space>
-    ensures { (p : Parts) (n : ℕ) → let o = point_in (Some (reached (due_of p due.now) n)) in
+// How many states of the tree in work are kept.
+fn states_in_work(work: &Work) -> usize
+    ensures { (t : Part) → result ≡ work_states (work_of t work.now) }
+{
+    match work {
+        Work::Alone(due) => states_in(due),
+        Work::Inside(due) => states_in(due),
+        _ => 0,
+    }
+}
+
+// The box where the next line of the main tree in work stands, behind the first one.
+fn box_in_work(work: &Work) -> Option<&Space>
+    ensures { (t : Part) (n : ℕ) → let o = box_in (Some (reached (work_of t work.now) n)) in
         MatchOption result (o ≡ None) (λ space. o ≡ Some (space_of space.now)) }
 {
-    match due {
-        Due::Nothing(_, Value::Point(point)) => Some(point),
+    match work {
+        Work::Alone(due) => box_in(due),
+        Work::Inside(due) => box_in(due),
         _ => None,
     }
 }
 
-// What the value of a certificate says.
-fn said_by(s: Loosenings, value: &Value) -> Verdict
-    ensures { result ≡ verdict_of (loosenings_of s) (value_of value.now) }
+// The point of a certificate of one check that is whole.
+fn point_in_work(work: &Work) -> Option<&Space>
+    ensures { (t : Part) (n : ℕ) → let o = point_in (Some (reached (work_of t work.now) n)) in
+        MatchOption result (o ≡ None) (λ space. o ≡ Some (space_of space.now)) }
 {
-    match value {
-        Value::Point(_) => Verdict::Point(s.delta),
-        Value::Left(left) => {
-            if *left == 0 {
-                Verdict::Unsat(s.margin)
-            } else {
-                Verdict::Left(*left)
-            }
-        }
+    match work {
+        Work::Alone(Due::Nothing(_, Value::Point(point))) => Some(point),
+        _ => None,
     }
 }
 
 // What is in work, or answered for good, after the line that is due and follows so many others.
-#[tactic(auto, using(crate::proofs::OneLine::due_leads, crate::proofs::OneLine::refused_leads))]
-fn stage_of_due(
+#[tactic(auto, using(crate::proofs::OneLine::work_leads, crate::proofs::OneLine::refused_leads))]
+fn stage_of_work(
     alloc: Global,
-    problem: &Problem,
     bound: Option<u32>,
-    tools: &mut Tools,
-    due: Due,
+    part: &mut Part<'_>,
+    work: Work,
     lines: u64,
     line: &Line,
 ) -> Stage
-    requires serves { Serves problem.now tools.old }
-    requires sound { IsSound problem.now due }
+    requires part { IsPart part.old }
+    requires sound { IsSoundWork part.old work }
     requires few { lines < 2 ^ 64 - 1 }
-    requires stays { stays_in due ≤ lines }
-    ensures course { IsStageAfter problem.now bound (InWork due) lines (line_of line.now) result }
-    ensures sound { IsSoundStage problem.now result }
+    requires stays { stays_in_work work ≤ lines }
+    ensures course { IsStageAfter part.old bound (InWork work) lines (line_of line.now)
+        part.new result }
+    ensures part { IsPart part.new }
+    ensures sound { IsSoundStage part.new result }
     ensures stays { (n : ℕ) → IsOneMore lines n → StaysWithin n result }
-    ensures serves { Serves problem.now tools.new }
+    ensures checks { AreSameChecks part.old part.new }
 {
     if lines >= MOST_LINES {
         return Stage::Stopped(CertFault::Memory);
     }
-    match next(alloc, problem, bound, tools, due, line) {
-        Ok(due) => Stage::InWork(due),
+    match work_line(alloc, bound, part, work, line) {
+        Ok(work) => Stage::InWork(work),
         Err(refusal) => Stage::Stopped(refusal.at(lines + 1)),
     }
 }
@@ -175,24 +178,24 @@ fn stage_of_due(
 #[tactic(auto, using(crate::proofs::OneLine::stays_over))]
 fn stage_after(
     alloc: Global,
-    problem: &Problem,
     bound: Option<u32>,
-    tools: &mut Tools,
+    part: &mut Part<'_>,
     stage: Stage,
     lines: u64,
     line: &Line,
 ) -> Stage
-    requires serves { Serves problem.now tools.old }
-    requires sound { IsSoundStage problem.now stage }
+    requires part { IsPart part.old }
+    requires sound { IsSoundStage part.old stage }
     requires few { lines < 2 ^ 64 - 1 }
     requires stays { StaysWithin lines stage }
-    ensures course { IsStageAfter problem.now bound stage lines (line_of line.now) result }
-    ensures sound { IsSoundStage problem.now result }
+    ensures course { IsStageAfter part.old bound stage lines (line_of line.now) part.new result }
+    ensures part { IsPart part.new }
+    ensures sound { IsSoundStage part.new result }
     ensures stays { (n : ℕ) → IsOneMore lines n → StaysWithin n result }
-    ensures serves { Serves problem.now tools.new }
+    ensures checks { AreSameChecks part.old part.new }
 {
     match stage {
-        Stage::InWork(due) => stage_of_due(alloc, problem, bound, tools, due, lines, line),
+        Stage::InWork(work) => stage_of_work(alloc, bound, part, work, lines, line),
         Stage::Stopped(fault) => Stage::Stopped(fault),
     }
 }
@@ -201,11 +204,27 @@ fn stage_after(
 #[tactic(auto, using(crate::proofs::OneLine::unread_leads, crate::proofs::OneLine::stays_over))]
 fn fault_after(stage: &Stage, fault: LineFault, lines: u64) -> CertFault
     requires { lines < 2 ^ 64 - 1 }
-    ensures { (x : Parsed) → IsFault fault x → IsFaultAfter stage.now lines x result }
+    ensures { (x : Parsed) → IsFault fault x →
+        (t : Part) → IsFaultAfter t stage.now lines x result }
 {
     match stage {
         Stage::InWork(_) => unread(fault).at(lines + 1),
         Stage::Stopped(fault) => *fault,
+    }
+}
+
+// What is due at first.
+#[tactic(auto, using(crate::proofs::Fed::one_starts, crate::proofs::Fed::several_start))]
+fn first_work(session: &Session) -> Work
+    requires { IsSession (problems_of session.now) }
+    ensures due { (t : PartInWork) → work_of t result ≡ started (drop 1 session.now) }
+    ensures sound { (t : PartInWork) → IsFirst t → IsSoundWork t result }
+    ensures stays { stays_in_work result ≡ 0 }
+{
+    if session.len() == 1 {
+        Work::Alone(Due::Version)
+    } else {
+        Work::Header(Due::Version)
     }
 }
 
@@ -228,21 +247,48 @@ fn one_more(lines: u64) -> u64
     }
 }
 
-impl Checker {
-    /// A checker of certificates for the problem, where `bound` is the bound of the words. It has a copy of the problem.
-    pub fn new(alloc: Global, problem: &Problem, bound: Option<u32>) -> Result<Checker, AllocError>
+impl<'a> Checker<'a> {
+    /// A checker of certificates of one check, for the problem, where `bound` is the bound of the words. It has a copy of
+    /// the problem.
+    pub fn new(
+        alloc: Global,
+        problem: &Problem,
+        bound: Option<u32>,
+    ) -> Result<Checker<'a>, AllocError>
         ensures { IfOk result (λ c. c ≡ fresh_checker problem.now bound) }
     {
-        let tools = Tools::new(alloc, problem)?;
-        let problem = problem.try_clone(alloc)?;
-        Ok(Checker {
+        let part = Part::new(alloc, problem.try_clone(alloc)?, None)?;
+        Ok(Checker::begin(alloc, part, bound, Work::Alone(Due::Version)))
+    }
+
+    /// A checker of certificates for the checks of a session. With one check all is as `new` has it.
+    pub fn new_session(
+        alloc: Global,
+        session: &'a Session,
+        bound: Option<u32>,
+    ) -> Result<Checker<'a>, AllocError>
+        requires { IsSession (problems_of session.now) }
+        ensures { IfOk result (IsFreshFor session.now bound) }
+    {
+        let part = Part::new(alloc, session.first(alloc)?, Some(session))?;
+        Ok(Checker::begin(alloc, part, bound, first_work(session)))
+    }
+
+    // A checker that took no line yet.
+    fn begin(alloc: Global, part: Part<'a>, bound: Option<u32>, first: Work) -> Checker<'a>
+        requires part { IsPart part }
+        requires sound { IsSoundWork part first }
+        requires stays { stays_in_work first ≡ 0 }
+        ensures checks { result.checks ≡ checks_of part.entry bound }
+        ensures course { result.course ≡ Some (reached (work_of part.entry first) 0) }
+    {
+        Checker {
             alloc,
-            problem,
+            part,
             bound,
-            tools,
-            stage: Stage::InWork(Due::Version),
+            stage: Stage::InWork(first),
             lines: 0,
-        })
+        }
     }
 
     // The fault that is answered for good, if there is one.
@@ -262,9 +308,8 @@ impl Checker {
         let stage = mem::replace(&mut self.stage, Stage::Stopped(CertFault::Memory));
         let stage = stage_after(
             self.alloc,
-            &self.problem,
             self.bound,
-            &mut self.tools,
+            &mut self.part,
             stage,
             self.lines,
             line,
@@ -303,12 +348,22 @@ impl Checker {
         }
     }
 
-    /// The verdict, where the input ends here.
+    /// The verdict of the first check, where the input ends here: with one check that of the certificate.
     pub fn finish(&self) -> Result<Verdict, CertFault>
         ensures { Finishes self.now.course result }
     {
         match &self.stage {
-            Stage::InWork(due) => ending(due, self.lines),
+            Stage::InWork(work) => first_ending(work, &self.part.values, self.lines),
+            Stage::Stopped(fault) => Err(*fault),
+        }
+    }
+
+    /// The verdicts, one for each check, where the input ends here.
+    pub fn finish_all(&self) -> Result<Vec<Verdict>, CertFault>
+        ensures { FinishesAll self.now.course result }
+    {
+        match &self.stage {
+            Stage::InWork(work) => all_endings(self.alloc, work, &self.part.values, self.lines),
             Stage::Stopped(fault) => Err(*fault),
         }
     }
@@ -328,7 +383,7 @@ impl Checker {
         ensures { result ≡ states_in_work self.now.course }
     {
         match &self.stage {
-            Stage::InWork(due) => in_work(due),
+            Stage::InWork(work) => states_in_work(work),
             Stage::Stopped(_) => 0,
         }
     }
@@ -340,18 +395,18 @@ impl Checker {
             MatchOption result (o ≡ None) (λ space. o ≡ Some (space_of space.now)) }
     {
         match &self.stage {
-            Stage::InWork(due) => box_in(due),
+            Stage::InWork(work) => box_in_work(work),
             Stage::Stopped(_) => None,
         }
     }
 
-    /// The point of a certificate that was taken whole; none of a cover, and before its last line.
+    /// The point of a certificate of one check that was taken whole; none of a cover, and before its last line.
     pub fn point(&self) -> Option<&Space>
         ensures { let o = point_in self.now.course in
             MatchOption result (o ≡ None) (λ space. o ≡ Some (space_of space.now)) }
     {
         match &self.stage {
-            Stage::InWork(due) => point_in(due),
+            Stage::InWork(work) => point_in_work(work),
             Stage::Stopped(_) => None,
         }
     }

@@ -27,8 +27,8 @@ pub struct Tree {
 #[derive(Drop)]
 pub enum Value {
     Point(Space),
-    /// The number of states that stay open or stuck.
-    Left(u64),
+    /// The lemmas of a cover, and the number of its states that stay open or stuck.
+    Left(Vec<Lemma>, u64),
 }
 
 /// What is due: the five lines of a header, then the lines of a cover or of a point. A space that is not whole has the
@@ -57,7 +57,7 @@ pub enum Due {
     /// The next axis of a point, or `end` where the point is whole.
     Coordinate(Loosenings, Space),
     /// `end`, where so many states of a cover stayed.
-    End(Loosenings, u64),
+    End(Cover, u64),
     /// Nothing.
     Nothing(Loosenings, Value),
 }

@@ -19,6 +19,9 @@ pub enum CertFault {
     /// The rule's condition does not hold, or the rule may not stand in its tree.
     #[error("line {line}: the rule {rule:?} fails")]
     RuleFails { rule: Word, line: u64 },
+    /// The lemmas of the part before that `keep` names may not be kept.
+    #[error("line {line}: the lemmas may not be kept")]
+    KeepFails { line: u64 },
     /// Another line is due.
     #[error("line {line}: a line is missing")]
     Missing { line: u64 },

@@ -1,12 +1,16 @@
 // A certificate that comes by pieces.
-ghost use Rattle.std.specs.Prelude.{◌≡◌, ◌≤◌, ◌<◌, ◌+◌, ◌^◌, [], IfOk, OnOk, length};
+ghost use Rattle.std.specs.Prelude.{◌≡◌, ◌≤◌, ◌<◌, ◌+◌, ◌^◌, [], false, IfOk, OnOk, length};
 ghost use Rattle.cert_model.specs.Accepted.{most_bytes};
-ghost use Rattle.cert_check.specs.Feeding.{bytes_taken, HasTaken, IsFedPiece, IsVerdictOfTaken};
+ghost use Rattle.cert_model.specs.SessionLaws.{IsSession};
+ghost use Rattle.problem_session.specs.Session.{problems_of};
+ghost use Rattle.cert_check.specs.Feeding.{bytes_taken, HasTaken, IsEnded, IsFedPiece, IsSessionVerdictOfTaken, IsVerdictOfTaken};
+ghost use Rattle.cert_check.specs.Sessions.{HasTakenSession};
 
 use crate::checker::{Checker, Verdict};
 use crate::fault::CertFault;
 use cert_read::LineReader;
 use poly_graph::Problem;
+use problem_session::Session;
 use std::alloc::{AllocError, Global};
 
 // A certificate has at most so many bytes.
@@ -15,23 +19,44 @@ const MOST_BYTES: u64 = u64::MAX;
 /// A checker with the reader of its lines, and how many bytes they were fed: at most 2^64 - 1, the limit of a
 /// certificate.
 #[derive(Drop)]
-pub struct Feed {
-    checker: Checker,
+pub struct Feed<'a> {
+    checker: Checker<'a>,
     reader: LineReader,
     taken: u64,
 }
 
-impl Feed {
-    /// A checker that was fed nothing, of certificates for the problem, where `bound` is the bound of the words.
-    pub fn new(alloc: Global, problem: &Problem, bound: Option<u32>) -> Result<Feed, AllocError>
-        ensures { IfOk result (HasTaken problem.now bound []) }
+impl<'a> Feed<'a> {
+    // The checker, which was fed nothing.
+    fn begin(alloc: Global, checker: Checker<'a>) -> Feed<'a>
+        ensures checker { result.checker ≡ checker.entry }
+        ensures reader { result.reader ≡ record { unread = []; ended = false } }
+        ensures taken { result.taken ≡ 0 }
     {
-        let checker = Checker::new(alloc, problem, bound)?;
-        Ok(Feed {
+        Feed {
             checker,
             reader: LineReader::new(alloc),
             taken: 0,
-        })
+        }
+    }
+
+    /// A checker that was fed nothing, of certificates of one check, for the problem, where `bound` is the bound of the
+    /// words.
+    pub fn new(alloc: Global, problem: &Problem, bound: Option<u32>) -> Result<Feed<'a>, AllocError>
+        ensures { IfOk result (HasTaken problem.now bound []) }
+    {
+        Ok(Feed::begin(alloc, Checker::new(alloc, problem, bound)?))
+    }
+
+    /// A checker that was fed nothing, of certificates for the checks of a session.
+    pub fn new_session(
+        alloc: Global,
+        session: &'a Session,
+        bound: Option<u32>,
+    ) -> Result<Feed<'a>, AllocError>
+        requires { IsSession (problems_of session.now) }
+        ensures { IfOk result (HasTakenSession session.now bound []) }
+    {
+        Ok(Feed::begin(alloc, Checker::new_session(alloc, session, bound)?))
     }
 
     // Takes a piece with which the certificate is not too long.
@@ -72,14 +97,30 @@ impl Feed {
         }
     }
 
-    /// The verdict, where the certificate ends here.
+    // Takes the last line, where the certificate ends here.
+    fn take_rest(&mut self)
+        ensures { IsEnded self.old self.new.checker }
+    {
+        self.reader.end();
+        // A fault of the last lines is answered again.
+        let _ = self.checker.take(&mut self.reader);
+    }
+
+    /// The verdict of a certificate of one check, where it ends here.
     pub fn end(&mut self) -> Result<Verdict, CertFault>
         ensures { IsVerdictOfTaken self.old result }
     {
         let _taken = self.taken;
-        self.reader.end();
-        // A fault of the last lines is answered again.
-        let _ = self.checker.take(&mut self.reader);
+        self.take_rest();
         self.checker.finish()
+    }
+
+    /// The verdicts, one for each check, where the certificate ends here.
+    pub fn end_all(&mut self) -> Result<Vec<Verdict>, CertFault>
+        ensures { IsSessionVerdictOfTaken self.old result }
+    {
+        let _taken = self.taken;
+        self.take_rest();
+        self.checker.finish_all()
     }
 }

@@ -16,8 +16,8 @@ use ival::Space;
 use poly_graph::Problem;
 use std::alloc::Global;
 
-// A certificate has at most so many lemmas.
-const MOST_LEMMAS: u32 = 1_048_576;
+/// A certificate has at most so many lemmas.
+pub const MOST_LEMMAS: u32 = 1_048_576;
 
 // What is due after this version.
 fn after_version(version: u32) -> Result<Due, Refusal>
@@ -118,8 +118,8 @@ pub fn bound_line(s: Loosenings, bound: Option<u32>, line: &Line) -> Result<Due,
     }
 }
 
-// The first axis of a point.
-fn point(alloc: Global, problem: &Problem, s: Loosenings) -> Result<Due, Refusal>
+/// The first axis of a point.
+pub fn point(alloc: Global, problem: &Problem, s: Loosenings) -> Result<Due, Refusal>
     ensures comes { IsNext problem.now (KindDue s) PointLine result }
     ensures sound { IfOk result (IsSound problem.now) }
 {

@@ -1,6 +1,6 @@
 // What a line names.
 ghost use Rattle.std.specs.Prelude.{◌≡◌};
-ghost use Rattle.cert_model.specs.Due.{are_atoms, is_atom, is_axis, names_well, Next};
+ghost use Rattle.cert_model.specs.Due.{are_atoms, is_atom, is_axis, is_crossed_box, names_well, Next};
 ghost use Rattle.cover_model.specs.Views.{multipliers_of};
 ghost use Rattle.cert_model.specs.Accepted.{no_crossing};
 ghost use Rattle.poly_graph.specs.ProblemViews.{problem_of};
@@ -63,6 +63,20 @@ pub fn crosses(problem: &Problem, axis: u32) -> bool
     let axes = problem.axes();
     let axis = axis as usize;
     axis < axes.len() && axes[axis].declared.is_crossed()
+}
+
+/// Whether the declared bounds of some axis cross.
+#[tactic(auto, using(crate::proofs::Crossed::crossed_here, crate::proofs::Crossed::crossed_next, crate::proofs::Crossed::crossed_none))]
+pub fn is_crossed_box(problem: &Problem) -> bool
+    ensures { result ≡ is_crossed_box (problem_of problem.now) }
+{
+    let axes = problem.axes();
+    for axis in 0..axes.len() {
+        if axes[axis].declared.is_crossed() {
+            return true;
+        }
+    }
+    false
 }
 
 /// The fault of a line for crossed bounds where it may not stand.

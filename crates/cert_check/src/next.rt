@@ -49,7 +49,7 @@ pub fn next(
             tree_line(alloc, problem, tools, cover, tree, stayed, line)
         }
         Due::Coordinate(s, space) => point_line(problem, tools, s, space, line),
-        Due::End(s, stayed) => end_line(s, stayed, line),
+        Due::End(cover, stayed) => end_line(cover, stayed, line),
         Due::Nothing(_, _) => Err(Refusal::Extra),
     }
 }

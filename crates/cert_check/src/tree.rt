@@ -100,7 +100,7 @@ fn main_left(
 {
     let stayed = count_stays(stayed, &left);
     match leave(alloc, pending, left)? {
-        None => Ok(Due::End(cover.loosenings, stayed)),
+        None => Ok(Due::End(cover, stayed)),
         Some(tree) => Ok(Due::Tree(cover, tree, stayed)),
     }
 }
@@ -318,7 +318,7 @@ pub fn root_line(
         TreeLine::Rule(step) => root_rule(alloc, problem, tools, cover, step),
         TreeLine::Crossing(axis) => {
             if crosses(problem, axis) {
-                Ok(Due::End(cover.loosenings, 0))
+                Ok(Due::End(cover, 0))
             } else {
                 Err(no_crossing(problem, axis))
             }
@@ -331,12 +331,12 @@ pub fn root_line(
 }
 
 /// `end` of a cover.
-pub fn end_line(s: Loosenings, stayed: u64, line: &Line) -> Result<Due, Refusal>
-    ensures comes { IsNextAnywhere (EndDue s stayed) (line_of line.now) result }
-    ensures sound { (p : Parts) → IfOk result (IsSound p) }
+pub fn end_line(cover: Cover, stayed: u64, line: &Line) -> Result<Due, Refusal>
+    ensures comes { IsNextAnywhere (EndDue cover stayed) (line_of line.now) result }
+    ensures sound { (p : Parts) → IsSound p (EndDue cover stayed) → IfOk result (IsSound p) }
 {
     match said(line) {
-        TreeLine::End => Ok(Due::Nothing(s, Value::Left(stayed))),
+        TreeLine::End => Ok(Due::Nothing(cover.loosenings, Value::Left(cover.lemmas, stayed))),
         TreeLine::Rule(_) => Err(Refusal::Extra),
         TreeLine::Crossing(_) => Err(Refusal::Extra),
         TreeLine::Lemma(_) => Err(Refusal::Missing),

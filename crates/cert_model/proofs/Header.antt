@@ -1,16 +1,16 @@
 -- The version, margin and delta of an accepted certificate's header.
 use Rattle.std.proofs.Common.{◌≡◌, ℕ, ◌<◌, ◌≤◌, List, [], ◌∷◌, ◌++◌, Bool, true, false, ◌&&◌, ◌||◌, cond, IsTrue, Option, Some, None, refl, sym, subst, nat_eq, nat_lt, nat_le, length, arith, true≢false, ltb→lt, leb→le, eqb→eq}
 use Rattle.std.specs.Bool.{passes}
-use Rattle.dyadic.proofs.Equal.{both_true, both_pass}
+use Rattle.dyadic.proofs.Equal.{both_true}
 use Rattle.poly_graph.specs.Problem.{Declared, real_between, any_bool, Axis, Problem, crosses}
 use Rattle.cover_model.specs.State.{State, Loosenings, root_state}
 use Rattle.interval_model.specs.Space.{Space}
 use Rattle.cover_model.specs.Rules.{Left, closed, one, two, stays, rule, Line}
 use Rattle.cover_line.specs.Words.{word_of}
 use Rattle.cert_read.specs.CertLine.{CertLine, version, margin, delta, bound, cover, point_word, tree_word, end_word, lemma, real_interval, real_value, bool_value, says_false, says_true, yes_list, no_list, rule_line, crossing}
-use Rattle.cert_model.specs.Due.{CertFault, RuleFails, Standing, Value, Due, version_due, margin_due, delta_due, bound_due, kind_due, next_due, axis_due, yes_due, no_due, lemma_due, root_due, tree_due, coordinate_due, end_due, nothing_due, Next, on, faulty, given, is_version, names_well, after_rule, after_lemma_rule, tree_goes_on, lemma_goes_on, axis_next, coordinate_next, is_crossed_box, is_shown, same_bound}
-use Rattle.cert_model.specs.Accepted.{next, loosenings_fit, is_header, ruled_line, tree_line, root_line, axis_line, coordinate_line, IsAccepted, most_lemmas}
-use Rattle.cert_model.proofs.Invariant.{IfOn, holds_at_end}
+use Rattle.cert_model.specs.Due.{CertFault, BadHeader, RuleFails, Standing, Value, Due, version_due, margin_due, delta_due, bound_due, kind_due, next_due, axis_due, yes_due, no_due, lemma_due, root_due, tree_due, coordinate_due, end_due, nothing_due, Next, on, faulty, given, is_version, names_well, after_rule, after_lemma_rule, tree_goes_on, lemma_goes_on, axis_next, coordinate_next, is_crossed_box, is_shown, same_bound}
+use Rattle.cert_model.specs.Accepted.{next, loosenings_fit, ruled_line, tree_line, root_line, axis_line, coordinate_line, IsAccepted, most_lemmas}
+use Rattle.cert_model.proofs.Invariant.{IfOn, given_on, holds_at_end}
 
 -- a version that is read
 pub version_limits : (v : ℕ) → IsTrue (is_version v) → (1 ≤ v) × (v ≤ 2)
@@ -33,12 +33,12 @@ known (lemma_due s k lemmas L S pending) = Some s
 known (root_due s lemmas) = Some s
 known (tree_due s lemmas S pending done) = Some s
 known (coordinate_due s a axes space) = Some s
-known (end_due s v) = Some s
-known (nothing_due s v) = Some s
+known (end_due s lemmas v) = Some s
+known (nothing_due s lemmas v) = Some s
 known d = None
 
 -- they stay as they are
-abbrev Same : Loosenings → Next → Type 0
+abbrev pub Same : Loosenings → Next → Type 0
 Same s x = IfOn (λ d. known d ≡ Some s) x
 
 given-same : (s : Loosenings) (t : Bool) (d : Due) (f : CertFault) → known d ≡ Some s → Same s (given t d f)
@@ -102,115 +102,112 @@ module _ (p : Problem) (b : Option ℕ) (s : Loosenings) where
   coordinate-line any_bool axes space (bool_value says_true) = coordinate-same axes _
   coordinate-line _ axes space _ = tt
 
-abbrev Fits : Option Loosenings → Type 0
-Fits None = Unit {0}
-Fits (Some s) = IsTrue (is_header s)
-
--- where the version alone is known, it is one that is read
-abbrev FitsDue : Due → Type 0
-FitsDue (margin_due v) = IsTrue (is_version v)
-FitsDue (delta_due v m) = IsTrue (is_version v)
-FitsDue d = Fits (known d)
-
-given-fits : (v m d : ℕ) (f : CertFault) → IsTrue (is_version v) → IfOn FitsDue (given (loosenings_fit m d) (bound_due (record { margin_bits = m; delta_bits = d; version = v })) f)
-given-fits v m d f k = by (loosenings_fit m d) (λ h. h)
-  where
-    by : (t : Bool) → (IsTrue t → IsTrue (loosenings_fit m d)) → IfOn FitsDue (given t (bound_due (record { margin_bits = m; delta_bits = d; version = v })) f)
-    by true h = both_pass (is_version v) (loosenings_fit m d) k (h refl)
-    by false h = tt
-
--- what is due where the loosenings are known fits where they do
-due-fits : (s : Loosenings) (d : Due) → known d ≡ Some s → IsTrue (is_header s) → FitsDue d
-due-fits s version_due e h = tt
-due-fits s (margin_due v) e h = cc
-due-fits s (delta_due v m) e h = cc
-due-fits s (bound_due t) e h = subst Fits (sym e) h
-due-fits s (kind_due t) e h = subst Fits (sym e) h
-due-fits s (next_due t k lemmas) e h = subst Fits (sym e) h
-due-fits s (axis_due t k lemmas a axes space) e h = subst Fits (sym e) h
-due-fits s (yes_due t k lemmas space) e h = subst Fits (sym e) h
-due-fits s (no_due t k lemmas space js) e h = subst Fits (sym e) h
-due-fits s (lemma_due t k lemmas L S pending) e h = subst Fits (sym e) h
-due-fits s (root_due t lemmas) e h = subst Fits (sym e) h
-due-fits s (tree_due t lemmas S pending done) e h = subst Fits (sym e) h
-due-fits s (coordinate_due t a axes space) e h = subst Fits (sym e) h
-due-fits s (end_due t v) e h = subst Fits (sym e) h
-due-fits s (nothing_due t v) e h = subst Fits (sym e) h
-
 -- of what comes next, where the margin and delta are known
-abbrev AllSame : Option Loosenings → Next → Type 0
+abbrev pub AllSame : Option Loosenings → Next → Type 0
 AllSame None x = Unit {0}
 AllSame (Some s) x = Same s x
 
 module _ (p : Problem) (b : Option ℕ) where
-  next-same : (d : Due) (l : CertLine) → AllSame (known d) (next p b d l)
-  next-same version_due l = tt
-  next-same (margin_due v) l = tt
-  next-same (delta_due v m) l = tt
-  next-same (bound_due s) (bound n) = given-same s (same_bound n b) (kind_due s) _ refl
-  next-same (bound_due s) _ = tt
-  next-same (kind_due s) (cover k) = given-same s (nat_le k most_lemmas) (next_due s k []) _ refl
-  next-same (kind_due s) point_word = coordinate-same p b s p.axes []
-  next-same (kind_due s) _ = tt
-  next-same (next_due s k lemmas) (lemma i) = cond-same s (nat_lt (length lemmas) k) _ _ (given-same s (nat_eq i (length lemmas)) (axis_next s k lemmas p.axes []) _ (axis-same p b s k lemmas p.axes [])) (tt {0})
-  next-same (next_due s k lemmas) tree_word = given-same s (nat_eq (length lemmas) k) (root_due s lemmas) _ refl
-  next-same (next_due s k lemmas) _ = tt
-  next-same (axis_due s k lemmas a axes space) l = axis-line p b s k lemmas a.declared axes space l
-  next-same (yes_due s k lemmas space) (yes_list js) = given-same s _ (no_due s k lemmas space js) _ refl
-  next-same (yes_due s k lemmas space) _ = tt
-  next-same (no_due s k lemmas space is) (no_list js) = given-same s _ (lemma_due s k lemmas _ _ []) _ refl
-  next-same (no_due s k lemmas space is) _ = tt
-  next-same (lemma_due s k lemmas L S pending) (rule_line l) = ruled-same s (names_well p l) _ (after-lemma p b s (rule p s lemmas S l) (RuleFails (word_of l)) k lemmas L pending)
-  next-same (lemma_due s k lemmas L S pending) _ = tt
-  next-same (root_due s lemmas) (crossing i) = cond-same s (crosses p i) (on (end_due s _)) _ refl (tt {0})
-  next-same (root_due s lemmas) (rule_line l) = root-line p b s (is_crossed_box p) lemmas l
-  next-same (root_due s lemmas) _ = tt
-  next-same (tree_due s lemmas S pending done) (rule_line l) = tree-line p b s lemmas S pending done l
-  next-same (tree_due s lemmas S pending done) _ = tt
-  next-same (coordinate_due s a axes space) l = coordinate-line p b s a.declared axes space l
-  next-same (end_due s v) end_word = given-same s (is_shown p s v) (nothing_due s v) _ refl
-  next-same (end_due s v) _ = tt
-  next-same (nothing_due s v) _ = tt
+  pub next_same : (d : Due) (l : CertLine) → AllSame (known d) (next p b d l)
+  next_same version_due l = tt
+  next_same (margin_due v) l = tt
+  next_same (delta_due v m) l = tt
+  next_same (bound_due s) (bound n) = given-same s (same_bound n b) (kind_due s) _ refl
+  next_same (bound_due s) _ = tt
+  next_same (kind_due s) (cover k) = given-same s (nat_le k most_lemmas) (next_due s k []) _ refl
+  next_same (kind_due s) point_word = coordinate-same p b s p.axes []
+  next_same (kind_due s) _ = tt
+  next_same (next_due s k lemmas) (lemma i) = cond-same s (nat_lt (length lemmas) k) _ _ (given-same s (nat_eq i (length lemmas)) (axis_next s k lemmas p.axes []) _ (axis-same p b s k lemmas p.axes [])) (tt {0})
+  next_same (next_due s k lemmas) tree_word = given-same s (nat_eq (length lemmas) k) (root_due s lemmas) _ refl
+  next_same (next_due s k lemmas) _ = tt
+  next_same (axis_due s k lemmas a axes space) l = axis-line p b s k lemmas a.declared axes space l
+  next_same (yes_due s k lemmas space) (yes_list js) = given-same s _ (no_due s k lemmas space js) _ refl
+  next_same (yes_due s k lemmas space) _ = tt
+  next_same (no_due s k lemmas space is) (no_list js) = given-same s _ (lemma_due s k lemmas _ _ []) _ refl
+  next_same (no_due s k lemmas space is) _ = tt
+  next_same (lemma_due s k lemmas L S pending) (rule_line l) = ruled-same s (names_well p l) _ (after-lemma p b s (rule p s lemmas S l) (RuleFails (word_of l)) k lemmas L pending)
+  next_same (lemma_due s k lemmas L S pending) _ = tt
+  next_same (root_due s lemmas) (crossing i) = cond-same s (crosses p i) (on (end_due s lemmas _)) _ refl (tt {0})
+  next_same (root_due s lemmas) (rule_line l) = root-line p b s (is_crossed_box p) lemmas l
+  next_same (root_due s lemmas) _ = tt
+  next_same (tree_due s lemmas S pending done) (rule_line l) = tree-line p b s lemmas S pending done l
+  next_same (tree_due s lemmas S pending done) _ = tt
+  next_same (coordinate_due s a axes space) l = coordinate-line p b s a.declared axes space l
+  next_same (end_due s lemmas v) end_word = given-same s (is_shown p s v) (nothing_due s lemmas v) _ refl
+  next_same (end_due s lemmas v) _ = tt
+  next_same (nothing_due s lemmas v) _ = tt
+
+-- limits of the loosenings, by a condition on the version
+module _ (V : ℕ → Type 0) where
+  abbrev pub Fits : Option Loosenings → Type 0
+  Fits None = Unit {0}
+  Fits (Some s) = V s.version × IsTrue (loosenings_fit s.margin_bits s.delta_bits)
+
+  -- where the version alone is known, the condition holds of it; and of each version that is read
+  abbrev pub FitsDue : Due → Type 0
+  FitsDue version_due = (v : ℕ) → IsTrue (is_version v) → V v
+  FitsDue (margin_due v) = V v
+  FitsDue (delta_due v m) = V v
+  FitsDue d = Fits (known d)
+
+  -- what is due where the loosenings are known fits where they do
+  due-fits : (s : Loosenings) (d : Due) → known d ≡ Some s → Fits (Some s) → FitsDue d
+  due-fits s version_due e h = cc
+  due-fits s (margin_due v) e h = cc
+  due-fits s (delta_due v m) e h = cc
+  due-fits s (bound_due t) e h = subst Fits (sym e) h
+  due-fits s (kind_due t) e h = subst Fits (sym e) h
+  due-fits s (next_due t k lemmas) e h = subst Fits (sym e) h
+  due-fits s (axis_due t k lemmas a axes space) e h = subst Fits (sym e) h
+  due-fits s (yes_due t k lemmas space) e h = subst Fits (sym e) h
+  due-fits s (no_due t k lemmas space js) e h = subst Fits (sym e) h
+  due-fits s (lemma_due t k lemmas L S pending) e h = subst Fits (sym e) h
+  due-fits s (root_due t lemmas) e h = subst Fits (sym e) h
+  due-fits s (tree_due t lemmas S pending done) e h = subst Fits (sym e) h
+  due-fits s (coordinate_due t a axes space) e h = subst Fits (sym e) h
+  due-fits s (end_due t lemmas v) e h = subst Fits (sym e) h
+  due-fits s (nothing_due t lemmas v) e h = subst Fits (sym e) h
 
   keep-fit : (s : Loosenings) (x : Next) → Same s x → Fits (Some s) → IfOn FitsDue x
   keep-fit s (on d) e h = due-fits s d e h
   keep-fit s (faulty f) e h = tt
 
-  margin-next : (v : ℕ) (f : CertFault) → IfOn FitsDue (given (is_version v) (margin_due v) f)
-  margin-next v f = by (is_version v) (λ h. h)
-    where
-      by : (t : Bool) → (IsTrue t → IsTrue (is_version v)) → IfOn FitsDue (given t (margin_due v) f)
-      by true h = h refl
-      by false h = tt
+  module _ (p : Problem) (b : Option ℕ) where
+    pub next_fits : (d : Due) (l : CertLine) → FitsDue d → IfOn FitsDue (next p b d l)
+    next_fits version_due (version n) h = given_on FitsDue (is_version n) (margin_due n) BadHeader (λ e. h n e)
+    next_fits version_due _ h = tt
+    next_fits (margin_due v) (margin m) h = h
+    next_fits (margin_due v) _ h = tt
+    next_fits (delta_due v m) (delta n) h = given_on FitsDue (loosenings_fit m n) (bound_due (record { margin_bits = m; delta_bits = n; version = v })) BadHeader (λ e. (h, e))
+    next_fits (delta_due v m) _ h = tt
+    next_fits (bound_due s) l h = keep-fit s (next p b (bound_due s) l) (next_same p b (bound_due s) l) h
+    next_fits (kind_due s) l h = keep-fit s (next p b (kind_due s) l) (next_same p b (kind_due s) l) h
+    next_fits (next_due s k lemmas) l h = keep-fit s (next p b (next_due s k lemmas) l) (next_same p b (next_due s k lemmas) l) h
+    next_fits (axis_due s k lemmas a axes space) l h = keep-fit s (next p b (axis_due s k lemmas a axes space) l) (next_same p b (axis_due s k lemmas a axes space) l) h
+    next_fits (yes_due s k lemmas space) l h = keep-fit s (next p b (yes_due s k lemmas space) l) (next_same p b (yes_due s k lemmas space) l) h
+    next_fits (no_due s k lemmas space js) l h = keep-fit s (next p b (no_due s k lemmas space js) l) (next_same p b (no_due s k lemmas space js) l) h
+    next_fits (lemma_due s k lemmas L S pending) l h = keep-fit s (next p b (lemma_due s k lemmas L S pending) l) (next_same p b (lemma_due s k lemmas L S pending) l) h
+    next_fits (root_due s lemmas) l h = keep-fit s (next p b (root_due s lemmas) l) (next_same p b (root_due s lemmas) l) h
+    next_fits (tree_due s lemmas S pending done) l h = keep-fit s (next p b (tree_due s lemmas S pending done) l) (next_same p b (tree_due s lemmas S pending done) l) h
+    next_fits (coordinate_due s a axes space) l h = keep-fit s (next p b (coordinate_due s a axes space) l) (next_same p b (coordinate_due s a axes space) l) h
+    next_fits (end_due s lemmas v) l h = keep-fit s (next p b (end_due s lemmas v) l) (next_same p b (end_due s lemmas v) l) h
+    next_fits (nothing_due s lemmas v) l h = keep-fit s (next p b (nothing_due s lemmas v) l) (next_same p b (nothing_due s lemmas v) l) h
 
-  next-fits : (d : Due) (l : CertLine) → FitsDue d → IfOn FitsDue (next p b d l)
-  next-fits version_due (version n) h = margin-next n _
-  next-fits version_due _ h = tt
-  next-fits (margin_due v) (margin m) h = h
-  next-fits (margin_due v) _ h = tt
-  next-fits (delta_due v m) (delta n) h = given-fits v m n _ h
-  next-fits (delta_due v m) _ h = tt
-  next-fits (bound_due s) l h = keep-fit s (next p b (bound_due s) l) (next-same (bound_due s) l) h
-  next-fits (kind_due s) l h = keep-fit s (next p b (kind_due s) l) (next-same (kind_due s) l) h
-  next-fits (next_due s k lemmas) l h = keep-fit s (next p b (next_due s k lemmas) l) (next-same (next_due s k lemmas) l) h
-  next-fits (axis_due s k lemmas a axes space) l h = keep-fit s (next p b (axis_due s k lemmas a axes space) l) (next-same (axis_due s k lemmas a axes space) l) h
-  next-fits (yes_due s k lemmas space) l h = keep-fit s (next p b (yes_due s k lemmas space) l) (next-same (yes_due s k lemmas space) l) h
-  next-fits (no_due s k lemmas space js) l h = keep-fit s (next p b (no_due s k lemmas space js) l) (next-same (no_due s k lemmas space js) l) h
-  next-fits (lemma_due s k lemmas L S pending) l h = keep-fit s (next p b (lemma_due s k lemmas L S pending) l) (next-same (lemma_due s k lemmas L S pending) l) h
-  next-fits (root_due s lemmas) l h = keep-fit s (next p b (root_due s lemmas) l) (next-same (root_due s lemmas) l) h
-  next-fits (tree_due s lemmas S pending done) l h = keep-fit s (next p b (tree_due s lemmas S pending done) l) (next-same (tree_due s lemmas S pending done) l) h
-  next-fits (coordinate_due s a axes space) l h = keep-fit s (next p b (coordinate_due s a axes space) l) (next-same (coordinate_due s a axes space) l) h
-  next-fits (end_due s v) l h = keep-fit s (next p b (end_due s v) l) (next-same (end_due s v) l) h
-  next-fits (nothing_due s v) l h = keep-fit s (next p b (nothing_due s v) l) (next-same (nothing_due s v) l) h
+pub loosening_limits : (m d : ℕ) → IsTrue (loosenings_fit m d) → (1 ≤ d) × (d ≤ 30) × (d < m) × (m ≤ 60)
+loosening_limits m d h =
+    let x = both_true (nat_le 1 d && nat_le d 30 && nat_lt d m) (nat_le m 60) h in
+    let y = both_true (nat_le 1 d && nat_le d 30) (nat_lt d m) x.0 in
+    let z = both_true (nat_le 1 d) (nat_le d 30) y.0 in
+    (leb→le 1 d (passes _ z.0), leb→le d 30 (passes _ z.1), ltb→lt d m (passes _ y.1), leb→le m 60 (passes _ x.1))
 
-  -- the version, margin and delta of accepted bytes are in their limits
-  pub header_fits : (bytes : List ℕ) (s : Loosenings) (v : Value) → IsAccepted p b bytes s v →
-      (1 ≤ s.delta_bits) × (s.delta_bits ≤ 30) × (s.delta_bits < s.margin_bits) × (s.margin_bits ≤ 60) × (1 ≤ s.version) × (s.version ≤ 2)
-  header_fits bytes s v e =
-      let all : IsTrue (is_header s) = holds_at_end p b FitsDue tt next-fits bytes s v e in
-      let w = both_true (is_version s.version) (loosenings_fit s.margin_bits s.delta_bits) all in
-      let x = both_true (nat_le 1 s.delta_bits && nat_le s.delta_bits 30 && nat_lt s.delta_bits s.margin_bits) (nat_le s.margin_bits 60) w.1 in
-      let y = both_true (nat_le 1 s.delta_bits && nat_le s.delta_bits 30) (nat_lt s.delta_bits s.margin_bits) x.0 in
-      let z = both_true (nat_le 1 s.delta_bits) (nat_le s.delta_bits 30) y.0 in
-      let n = version_limits s.version w.0 in
-      (leb→le 1 s.delta_bits (passes _ z.0), leb→le s.delta_bits 30 (passes _ z.1), ltb→lt s.delta_bits s.margin_bits (passes _ y.1), leb→le s.margin_bits 60 (passes _ x.1), n.0, n.1)
+-- the header of accepted bytes
+pub accepted_fits : (p : Problem) (b : Option ℕ) (bytes : List ℕ) (s : Loosenings) (v : Value) → IsAccepted p b bytes s v → IsTrue (is_version s.version) × IsTrue (loosenings_fit s.margin_bits s.delta_bits)
+accepted_fits p b bytes s v e = (holds_at_end p b (FitsDue (λ v. IsTrue (is_version v))) (λ v h. h) (next_fits (λ v. IsTrue (is_version v)) p b) bytes s v e).1
+
+-- the version, margin and delta of accepted bytes are in their limits
+pub header_fits : (p : Problem) (b : Option ℕ) (bytes : List ℕ) (s : Loosenings) (v : Value) → IsAccepted p b bytes s v →
+    (1 ≤ s.delta_bits) × (s.delta_bits ≤ 30) × (s.delta_bits < s.margin_bits) × (s.margin_bits ≤ 60) × (1 ≤ s.version) × (s.version ≤ 2)
+header_fits p b bytes s v e =
+    let all = accepted_fits p b bytes s v e in
+    let h = loosening_limits s.margin_bits s.delta_bits all.1 in let n = version_limits s.version all.0 in
+    (h.0, h.1, h.2, h.3, n.0, n.1)

@@ -13,7 +13,7 @@ use Rattle.cert_model.specs.Derived.{EndsOnce}
 use Rattle.cert_model.proofs.Invariant.{IfOn}
 
 abbrev pub is_done : Due → Bool
-is_done (nothing_due s v) = true
+is_done (nothing_due s lemmas v) = true
 is_done d = false
 
 -- something is due
@@ -125,16 +125,16 @@ module _ (p : Problem) (b : Option ℕ) where
   after-line (no_due s k lemmas space is) _ = tt
   after-line (lemma_due s k lemmas L S pending) (rule_line l) = ruled-on (names_well p l) _ (after-lemma (rule p s lemmas S l) (RuleFails (word_of l)) s k lemmas L pending)
   after-line (lemma_due s k lemmas L S pending) _ = tt
-  after-line (root_due s lemmas) (crossing i) = cond-on (crosses p i) (on (end_due s _)) _ refl (tt {0})
+  after-line (root_due s lemmas) (crossing i) = cond-on (crosses p i) (on (end_due s lemmas _)) _ refl (tt {0})
   after-line (root_due s lemmas) (rule_line l) = root-line (is_crossed_box p) s lemmas l
   after-line (root_due s lemmas) _ = tt
   after-line (tree_due s lemmas S pending done) (rule_line l) = tree-line s lemmas S pending done l
   after-line (tree_due s lemmas S pending done) _ = tt
   after-line (coordinate_due s a axes space) end_word = no-coordinate-end s a.declared axes space
   after-line (coordinate_due s a axes space) l = coordinate-line s a.declared axes space l
-  after-line (end_due s v) end_word = given-on (is_shown p s v) (nothing_due s v) _ true refl
-  after-line (end_due s v) _ = tt
-  after-line (nothing_due s v) _ = tt
+  after-line (end_due s lemmas v) end_word = given-on (is_shown p s v) (nothing_due s lemmas v) _ true refl
+  after-line (end_due s lemmas v) _ = tt
+  after-line (nothing_due s lemmas v) _ = tt
 
   after-parsed : (d : Due) (x : Parsed) → IfOn (λ d'. is_done d' ≡ is_end_parsed x) (next_parsed p b d x)
   after-parsed d too_long = tt
@@ -148,15 +148,15 @@ module _ (p : Problem) (b : Option ℕ) where
   course_done (stopped f n) = false
   course_done (reached d n) = is_done d
 
-  no-line-after : (s : Loosenings) (v : Value) (x : Parsed) (n : ℕ) (k : Due → Course) → course_done (course_next (next_parsed p b (nothing_due s v) x) n k) ≡ false
-  no-line-after s v too_long n k = refl
-  no-line-after s v bad_line n k = refl
-  no-line-after s v bad_number n k = refl
-  no-line-after s v (line l) n k = refl
+  no-line-after : (s : Loosenings) (lemmas : List State) (v : Value) (x : Parsed) (n : ℕ) (k : Due → Course) → course_done (course_next (next_parsed p b (nothing_due s lemmas v) x) n k) ≡ false
+  no-line-after s lemmas v too_long n k = refl
+  no-line-after s lemmas v bad_line n k = refl
+  no-line-after s lemmas v bad_number n k = refl
+  no-line-after s lemmas v (line l) n k = refl
 
   nothing-after : (ls : List (List ℕ)) (n : ℕ) (d : Due) → is_done d ≡ true → course_done (course p b n d ls) ≡ true → ls ≡ []
   nothing-after [] n d h e = refl
-  nothing-after (l ∷ ls) n (nothing_due s v) h e = absurd (true≢false (sym e ∙ no-line-after s v (parsed l) (suc n) _))
+  nothing-after (l ∷ ls) n (nothing_due s lemmas v) h e = absurd (true≢false (sym e ∙ no-line-after s lemmas v (parsed l) (suc n) _))
   nothing-after (l ∷ ls) n _ h e = absurd (true≢false (sym h))
 
   with-more : (l : List ℕ) (ls : List (List ℕ)) → (parsed l ≡ line end_word → ⊥) → EndsOnce ls → EndsOnce (l ∷ ls)
@@ -182,7 +182,7 @@ module _ (p : Problem) (b : Option ℕ) where
   is_accepted (refused f n) = false
 
   end-done : (d : Due) (n : ℕ) → is_accepted (at_end d n) ≡ true → is_done d ≡ true
-  end-done (nothing_due s v) n e = refl
+  end-done (nothing_due s lemmas v) n e = refl
   end-done _ n e = absurd (true≢false (sym e))
 
   ended-done : (c : Course) → is_accepted (ended c) ≡ true → course_done c ≡ true

@@ -1,3 +1,4 @@
+pub mod Carries
 pub mod Derives
 pub mod FirstPath
 pub mod Grown
@@ -9,8 +10,15 @@ pub mod MarkLists
 pub mod Means
 pub mod Problems
 mod Rows
+pub mod SessionHeader
+pub mod SessionLeads
+pub mod SessionMeans
+mod SessionRows
+pub mod SessionTexts
+pub mod SessionWrites
 pub mod Spells
 pub mod Takes
 pub mod Texts
 mod TextRows
+pub mod Versions
 pub mod Writes

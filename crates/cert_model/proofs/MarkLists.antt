@@ -13,8 +13,8 @@ either-way P false a b = b
 same-number : (c : ℕ) → nat_eq c c ≡ true
 same-number c = elim (eqb_tells c c) [ inl h ↦ h.0 | inr h ↦ absurd (h.1 refl) ]
 
-other-number : (b c : ℕ) → (b ≡ c → ⊥) → nat_eq b c ≡ false
-other-number b c h = elim (eqb_tells b c) [ inl e ↦ absurd (h e.1) | inr e ↦ e.0 ]
+pub other_number : (b c : ℕ) → (b ≡ c → ⊥) → nat_eq b c ≡ false
+other_number b c h = elim (eqb_tells b c) [ inl e ↦ absurd (h e.1) | inr e ↦ e.0 ]
 
 abbrev test_at : (Mark → Bool) → List Mark → ℕ → Bool
 test_at test [] k = false
@@ -29,7 +29,7 @@ module _ (test : Mark → Bool) where
   none-before : (marks : List Mark) (j k : ℕ) → k < j → member k (numbers_from test j marks) ≡ false
   none-before [] j k h = refl
   none-before (m ∷ marks) j k h = either-way (λ t. member k (numbers_by t j marks) ≡ false) (test m)
-      (ap₂ (λ (x : Bool) (y : Bool). x || y) (other-number j k (λ e. omega (arith, e, h))) (none-before marks (suc j) k (omega (arith, h))))
+      (ap₂ (λ (x : Bool) (y : Bool). x || y) (other_number j k (λ e. omega (arith, e, h))) (none-before marks (suc j) k (omega (arith, h))))
       (none-before marks (suc j) k (omega (arith, h)))
 
   member-first : (t : Bool) (j : ℕ) (marks : List Mark) → member j (numbers_by t j marks) ≡ t
@@ -37,7 +37,7 @@ module _ (test : Mark → Bool) where
   member-first false j marks = none-before marks (suc j) j (omega arith)
 
   member-later : (t : Bool) (j k : ℕ) (marks : List Mark) → j < k → member k (numbers_by t j marks) ≡ member k (numbers_from test (suc j) marks)
-  member-later true j k marks h = ap (λ (x : Bool). x || member k (numbers_from test (suc j) marks)) (other-number j k (λ e. omega (arith, e, h)))
+  member-later true j k marks h = ap (λ (x : Bool). x || member k (numbers_from test (suc j) marks)) (other_number j k (λ e. omega (arith, e, h)))
   member-later false j k marks h = refl
 
   member-at : (marks : List Mark) (j k : ℕ) → member (j + k) (numbers_from test j marks) ≡ test_at test marks k
@@ -106,3 +106,10 @@ apart-from ns (m ∷ marks) j n = either-way (λ t. is_yes m ≡ t → apart (nu
 -- they have no number in common
 pub lists_apart : (marks : List Mark) → apart (yes_of marks) (no_of marks) ≡ true
 lists_apart marks = apart-from (no_of marks) marks 0 (from-start is_no marks)
+
+marks-length : (j n : ℕ) (ys ns : List ℕ) → length (marks_from j n ys ns) ≡ n
+marks-length j zero ys ns = refl
+marks-length j (suc n) ys ns = ap suc (marks-length (suc j) n ys ns)
+
+pub marks_length : (n : ℕ) (ys ns : List ℕ) → length (marks_of n ys ns) ≡ n
+marks_length n ys ns = marks-length 0 n ys ns

@@ -12,33 +12,35 @@ use Rattle.cover_model.specs.Derivation.{Among, AreLemmas}
 use Rattle.cover_model.proofs.May.{sure_means}
 use Rattle.cover_model.proofs.Sound.{tree_keeps, none_left}
 use Rattle.cover_model.proofs.Root.{root_has, crossed_is_empty}
-use Rattle.cert_model.specs.Due.{Standing, at_point, left_open, coordinate_of, coordinates, is_near, are_near}
+use Rattle.cert_model.specs.Due.{Standing, at_point, left_open, coordinate_of, coordinates, is_near, are_near, is_shown}
 use Rattle.cert_model.specs.Accepted.{IsAccepted}
 use Rattle.cert_model.specs.Derived.{AreDerived, states_of, IsTree, IsCover, IsNear, AreNear, IsSingle, AreSingle}
-use Rattle.cert_model.proofs.Derives.{accepted_is}
+use Rattle.cert_model.proofs.Derives.{derived_grow, accepted_is}
 
 -- ---- covers
 
 pub cover_derived : (p : Problem) (bound : Option ℕ) (bytes : List ℕ) (s : Loosenings) (left : List Standing) → IsAccepted p bound bytes s (left_open left) → IsCover p s left
-cover_derived p bound bytes s left e = (accepted_is p bound bytes s (left_open left) e).0
+cover_derived p bound bytes s left e =
+    let a = accepted_is p bound (λ s lemmas. AreDerived p s [] lemmas) (derived_grow p) bytes s (left_open left) e in
+    record { lemmas = a.0; derived = a.1.0; tree = a.1.1 }
 
 module _ (p : Problem) (g : IsProblem p) (s : Loosenings) where
   none-yet : AreLemmas p s []
   none-yet i L e = cc
 
-  one-more : (lemmas : List State) (L : State) → AreLemmas p s lemmas → IsLemma p s L → AreLemmas p s (lemmas ++ (L ∷ []))
-  one-more [] L h k zero K e = subst (λ (M : State). IsLemma p s M) (ap (λ (o : Option State). unwrap_or o L) e) k
-  one-more [] L h k (suc i) K e = cc
-  one-more (M ∷ lemmas) L h k zero K e = h zero K e
-  one-more (M ∷ lemmas) L h k (suc i) K e = one-more lemmas L (λ j N d. h (suc j) N d) k i K e
+  pub one_more : (lemmas : List State) (L : State) → AreLemmas p s lemmas → IsLemma p s L → AreLemmas p s (lemmas ++ (L ∷ []))
+  one_more [] L h k zero K e = subst (λ (M : State). IsLemma p s M) (ap (λ (o : Option State). unwrap_or o L) e) k
+  one_more [] L h k (suc i) K e = cc
+  one_more (M ∷ lemmas) L h k zero K e = h zero K e
+  one_more (M ∷ lemmas) L h k (suc i) K e = one_more lemmas L (λ j N d. h (suc j) N d) k i K e
 
-  lemmas-after : (before lemmas : List State) → AreLemmas p s before → AreDerived p s before lemmas → AreLemmas p s (before ++ lemmas)
-  lemmas-after before [] h d = subst (λ (ls : List State). AreLemmas p s ls) (sym (Rattle.std.proofs.Common.append-nil before)) h
-  lemmas-after before (L ∷ lemmas) h d = subst (λ (ls : List State). AreLemmas p s ls) (Rattle.std.proofs.Common.append_assoc before (L ∷ []) lemmas)
-      (lemmas-after (before ++ (L ∷ [])) lemmas (one-more before L h (none_left p s g before h d.0.1)) d.1)
+  pub lemmas_after : (before lemmas : List State) → AreLemmas p s before → AreDerived p s before lemmas → AreLemmas p s (before ++ lemmas)
+  lemmas_after before [] h d = subst (λ (ls : List State). AreLemmas p s ls) (sym (Rattle.std.proofs.Common.append-nil before)) h
+  lemmas_after before (L ∷ lemmas) h d = subst (λ (ls : List State). AreLemmas p s ls) (Rattle.std.proofs.Common.append_assoc before (L ∷ []) lemmas)
+      (lemmas_after (before ++ (L ∷ [])) lemmas (one_more before L h (none_left p s g before h d.0.1)) d.1)
 
   pub derived_lemmas : (lemmas : List State) → AreDerived p s [] lemmas → AreLemmas p s lemmas
-  derived_lemmas lemmas d = lemmas-after [] lemmas none-yet d
+  derived_lemmas lemmas d = lemmas_after [] lemmas none-yet d
 
   pub tree_catches : (lemmas : List State) → AreLemmas p s lemmas → (left : List Standing) → IsTree p s lemmas left →
       (point : List Coordinate) → IsPoint (sorts_of_problem p) point → IsTrue (in_declared_box p point) → MeetsForm p s point → Among p s point (states_of left)
@@ -99,10 +101,15 @@ near_all d (a ∷ axes) (c ∷ point) e = let h = both_true (is_near d a.declare
 near_all d [] (c ∷ point) e = absurd (true≢false (sym e))
 near_all d (a ∷ axes) [] e = absurd (true≢false (sym e))
 
+pub shown_means : (p : Problem) → IsProblem p → (s : Loosenings) (space : Space) → AreSingle p.axes space → IsTrue (is_shown p s (at_point space)) →
+    IsPoint (sorts_of_problem p) (coordinates space) × MeetsAt p (delta_of s) (coordinates space) × AreNear (exact (delta_of s)) p.axes (coordinates space)
+shown_means p g s space single shown =
+    let h = both_true (sure p s space) (are_near (exact (delta_of s)) p.axes (coordinates space)) shown in
+    let q : IsPoint (sorts_of_problem p) (coordinates space) = single_sorted p.axes space single in
+    (q, sure_means p g (delta_of s) space (coordinates space) q (single_inside p.axes space single) h.0, near_all (exact (delta_of s)) p.axes (coordinates space) h.1)
+
 pub point_means : (p : Problem) → IsProblem p → (bound : Option ℕ) (bytes : List ℕ) (s : Loosenings) (space : Space) → IsAccepted p bound bytes s (at_point space) →
     IsPoint (sorts_of_problem p) (coordinates space) × MeetsAt p (delta_of s) (coordinates space) × AreNear (exact (delta_of s)) p.axes (coordinates space)
 point_means p g bound bytes s space e =
-    let a = accepted_is p bound bytes s (at_point space) e in
-    let h = both_true (sure p s space) (are_near (exact (delta_of s)) p.axes (coordinates space)) a.1 in
-    let q : IsPoint (sorts_of_problem p) (coordinates space) = single_sorted p.axes space a.0 in
-    (q, sure_means p g (delta_of s) space (coordinates space) q (single_inside p.axes space a.0) h.0, near_all (exact (delta_of s)) p.axes (coordinates space) h.1)
+    let a = accepted_is p bound (λ s lemmas. AreDerived p s [] lemmas) (derived_grow p) bytes s (at_point space) e in
+    shown_means p g s space a.1.1 a.1.2

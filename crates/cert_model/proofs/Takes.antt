@@ -5,7 +5,7 @@ use Rattle.std.proofs.lemmas.List.{map-append}
 use Rattle.std.proofs.lemmas.List.Sums.{sum_by-cons, sum_by-append}
 use Rattle.poly_graph.specs.Problem.{Problem}
 use Rattle.cover_model.specs.State.{State, Loosenings}
-use Rattle.cover_model.specs.Rules.{Line, stuck, Left, closed, one, two, stays, rule}
+use Rattle.cover_model.specs.Rules.{Line, Left, closed, one, two, stays, rule}
 use Rattle.cover_model.specs.Honest.{branch_count}
 use Rattle.cover_model.specs.Derivation.{Tree, tree_lines, Lawful, at_closed, at_left, at_step, at_fork}
 use Rattle.cover_line.specs.Words.{word_of}

@@ -10,7 +10,7 @@ use Rattle.interval_model.specs.Space.{real_domain, bool_domain, Space}
 use Rattle.poly_graph.specs.Problem.{Declared, real_between, any_bool, Axis, Problem, crosses}
 use Rattle.cover_model.specs.State.{State, Loosenings, root_state}
 use Rattle.cover_model.specs.Rules.{rule, Line}
-use Rattle.cert_model.specs.Due.{CertFault, BadHeader, BadNumber, RuleFails, Missing, Extra, WrongBound, NotShown, BadLine, LineTooLong, TooLong, Standing, Value, left_open, Due, version_due, margin_due, delta_due, bound_due, kind_due, next_due, axis_due, yes_due, no_due, lemma_due, root_due, tree_due, coordinate_due, end_due, nothing_due, Next, on, faulty, given, is_version, same_bound, bool_domain_of, ascends, apart, all_below, state_of, is_axis, names_well, after_rule, after_lemma_rule, tree_goes_on, lemma_goes_on, axis_next, is_crossed_box, extra_after, extra_at_end, coordinate_next, is_shown}
+use Rattle.cert_model.specs.Due.{CertFault, BadHeader, BadNumber, RuleFails, Missing, Extra, WrongBound, NotShown, BadLine, LineTooLong, TooLong, Standing, Value, left_open, Due, version_due, margin_due, delta_due, bound_due, kind_due, next_due, axis_due, yes_due, no_due, lemma_due, root_due, tree_due, coordinate_due, end_due, nothing_due, Next, on, faulty, given, is_version, same_bound, bool_domain_of, ascends, apart, all_below, state_of, is_axis, names_well, after_rule, after_lemma_rule, tree_goes_on, lemma_goes_on, axis_next, is_crossed_box, extra_after, extra_at_end, coordinate_next, is_shown, NextOf}
 
 -- ---- a line that is well formed, where something is due
 
@@ -89,51 +89,67 @@ next p b (no_due s k lemmas space is) l = faulty Missing
 next p b (lemma_due s k lemmas L S pending) (rule_line l) = lemma_line p s k lemmas L S pending l
 next p b (lemma_due s k lemmas L S pending) (crossing i) = no_crossing p i
 next p b (lemma_due s k lemmas L S pending) l = faulty Missing
-next p b (root_due s lemmas) (crossing i) = cond (crosses p i) (on (end_due s (left_open []))) (no_crossing p i)
+next p b (root_due s lemmas) (crossing i) = cond (crosses p i) (on (end_due s lemmas (left_open []))) (no_crossing p i)
 next p b (root_due s lemmas) (rule_line l) = root_line (is_crossed_box p) p s lemmas l
 next p b (root_due s lemmas) l = faulty Missing
 next p b (tree_due s lemmas S pending done) (rule_line l) = tree_line p s lemmas S pending done l
 next p b (tree_due s lemmas S pending done) (crossing i) = no_crossing p i
 next p b (tree_due s lemmas S pending done) l = faulty Missing
 next p b (coordinate_due s a axes space) l = coordinate_line s a.declared axes space l
-next p b (end_due s v) end_word = given (is_shown p s v) (nothing_due s v) NotShown
-next p b (end_due s v) (rule_line l) = faulty (extra_at_end v)
-next p b (end_due s v) (crossing i) = faulty (extra_at_end v)
-next p b (end_due s v) l = faulty Missing
-next p b (nothing_due s v) l = faulty Extra
+next p b (end_due s lemmas v) end_word = given (is_shown p s v) (nothing_due s lemmas v) NotShown
+next p b (end_due s lemmas v) (rule_line l) = faulty (extra_at_end v)
+next p b (end_due s lemmas v) (crossing i) = faulty (extra_at_end v)
+next p b (end_due s lemmas v) l = faulty Missing
+next p b (nothing_due s lemmas v) l = faulty Extra
+
+-- what comes of a line that is read, by what comes of one that is well formed
+abbrev pub parsed_by : {D : Type 0} → (CertLine → NextOf D) → Parsed → NextOf D
+parsed_by f too_long = faulty LineTooLong
+parsed_by f bad_line = faulty BadLine
+parsed_by f bad_number = faulty BadNumber
+parsed_by f (line l) = f l
 
 abbrev pub next_parsed : Problem → Option ℕ → Due → Parsed → Next
-next_parsed p b d too_long = faulty LineTooLong
-next_parsed p b d bad_line = faulty BadLine
-next_parsed p b d bad_number = faulty BadNumber
-next_parsed p b d (line l) = next p b d l
+next_parsed p b d l = parsed_by (next p b d) l
 
 -- ---- all lines
 
 -- where some lines lead: to a fault of a line, or to what is due after the last of them, with their number
-pub data Course : Type 0 where
-  stopped : CertFault → ℕ → Course
-  reached : Due → ℕ → Course
+pub data CourseOf (D : Type 0) : Type 0 where
+  stopped : CertFault → ℕ → CourseOf D
+  reached : D → ℕ → CourseOf D
 
-abbrev pub course_next : Next → ℕ → (Due → Course) → Course
+abbrev pub Course : Type 0
+Course = CourseOf Due
+
+abbrev pub course_next : {D : Type 0} → NextOf D → ℕ → (D → CourseOf D) → CourseOf D
 course_next (faulty f) n k = stopped f n
 course_next (on d) n k = k d
 
 -- of lines that follow n others, where d is due
+abbrev pub course_by : {D : Type 0} → (D → Parsed → NextOf D) → ℕ → D → List (List ℕ) → CourseOf D
+course_by step n d [] = reached d n
+course_by step n d (l ∷ ls) = course_next (step d (parsed l)) (suc n) (λ d'. course_by step (suc n) d' ls)
+
 abbrev pub course : Problem → Option ℕ → ℕ → Due → List (List ℕ) → Course
-course p b n d [] = reached d n
-course p b n d (l ∷ ls) = course_next (next_parsed p b d (parsed l)) (suc n) (λ d'. course p b (suc n) d' ls)
+course p b n d ls = course_by (next_parsed p b) n d ls
 
 -- the same of lines that are well formed
-abbrev pub course_of_lines : Problem → Option ℕ → ℕ → Due → List CertLine → Course
-course_of_lines p b n d [] = reached d n
-course_of_lines p b n d (l ∷ ls) = course_next (next p b d l) (suc n) (λ d'. course_of_lines p b (suc n) d' ls)
+abbrev pub lines_course : {D : Type 0} → (D → CertLine → NextOf D) → ℕ → D → List CertLine → CourseOf D
+lines_course step n d [] = reached d n
+lines_course step n d (l ∷ ls) = course_next (step d l) (suc n) (λ d'. lines_course step (suc n) d' ls)
 
-pub data Verdict : Type 0 where
+abbrev pub course_of_lines : Problem → Option ℕ → ℕ → Due → List CertLine → Course
+course_of_lines p b n d ls = lines_course (next p b) n d ls
+
+pub data VerdictOf (V : Type 0) : Type 0 where
   -- with the margin and delta of its header
-  accepted : Loosenings → Value → Verdict
+  accepted : Loosenings → V → VerdictOf V
   -- with the number of the line
-  refused : CertFault → ℕ → Verdict
+  refused : CertFault → ℕ → VerdictOf V
+
+abbrev pub Verdict : Type 0
+Verdict = VerdictOf Value
 
 -- the input ends where this is due
 abbrev pub missing : Due → CertFault
@@ -145,15 +161,19 @@ missing (kind_due s) = BadHeader
 missing d = Missing
 
 abbrev pub at_end : Due → ℕ → Verdict
-at_end (nothing_due s v) n = accepted s v
+at_end (nothing_due s lemmas v) n = accepted s v
 at_end d n = refused (missing d) (suc n)
 
+-- the input ends; `finish` says of what is due then
+abbrev pub ended_by : {D V : Type 0} → (D → ℕ → VerdictOf V) → CourseOf D → VerdictOf V
+ended_by finish (stopped f n) = refused f n
+ended_by finish (reached d n) = finish d n
+
 abbrev pub ended : Course → Verdict
-ended (stopped f n) = refused f n
-ended (reached d n) = at_end d n
+ended c = ended_by at_end c
 
 -- the input goes on where no more of it is read
-abbrev pub cut_off : Course → Verdict
+abbrev pub cut_off : {D V : Type 0} → CourseOf D → VerdictOf V
 cut_off (stopped f n) = refused f n
 cut_off (reached d n) = refused TooLong 0
 
@@ -161,9 +181,13 @@ cut_off (reached d n) = refused TooLong 0
 abbrev pub most_bytes : ℕ
 most_bytes = 2 ^ 64 - 1
 
+-- the verdict of bytes, by where lines lead and what the end of the input says then; the Bool says whether they are few enough
+abbrev pub verdict_of : {D V : Type 0} → (List (List ℕ) → CourseOf D) → (CourseOf D → VerdictOf V) → Bool → List ℕ → VerdictOf V
+verdict_of lead finish true bytes = finish (lead (lines_of bytes))
+verdict_of lead finish false bytes = cut_off (lead (lines_so_far (take most_bytes bytes)))
+
 abbrev pub verdict_by : Bool → Problem → Option ℕ → List ℕ → Verdict
-verdict_by true p b bytes = ended (course p b 0 version_due (lines_of bytes))
-verdict_by false p b bytes = cut_off (course p b 0 version_due (lines_so_far (take most_bytes bytes)))
+verdict_by few p b bytes = verdict_of (λ ls. course p b 0 version_due ls) ended few bytes
 
 abbrev pub verdict : Problem → Option ℕ → List ℕ → Verdict
 verdict p b bytes = verdict_by (nat_le (length bytes) most_bytes) p b bytes

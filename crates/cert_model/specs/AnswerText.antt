@@ -7,7 +7,7 @@ use Rattle.interval_model.specs.Space.{Domain, real_domain, bool_domain, Space}
 use Rattle.poly_graph.specs.Problem.{Axis, Problem}
 use Rattle.cover_model.specs.State.{State, Loosenings}
 use Rattle.cover_model.specs.Rules.{Line, open_line, stuck}
-use Rattle.cert_model.specs.Due.{CertFault, BadHeader, BadNumber, RuleFails, Missing, Extra, WrongBound, NotShown, BadLine, LineTooLong, TooLong, Standing, Value, at_point, left_open}
+use Rattle.cert_model.specs.Due.{CertFault, BadHeader, BadNumber, RuleFails, KeepFails, Missing, Extra, WrongBound, NotShown, BadLine, LineTooLong, TooLong, Standing, Value, at_point, left_open}
 use Rattle.cert_model.specs.Accepted.{Verdict, accepted, refused}
 
 abbrev pub text_line : List ℕ → List ℕ
@@ -101,6 +101,7 @@ abbrev pub fault_text : CertFault → List ℕ
 fault_text BadHeader = codes "1 BadHeader"
 fault_text BadNumber = codes "2 BadNumber"
 fault_text (RuleFails w) = codes "3 RuleFails " ++ word_text w
+fault_text KeepFails = codes "3 RuleFails keep"
 fault_text Missing = codes "4 Missing"
 fault_text Extra = codes "5 Extra"
 fault_text WrongBound = codes "6 WrongBound"

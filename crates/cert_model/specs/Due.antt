@@ -15,6 +15,8 @@ pub data CertFault : Type 0 where
   BadHeader BadNumber : CertFault
   -- with the first word of the line
   RuleFails : RuleWord → CertFault
+  -- the lemmas that `keep` names may not be kept; it is told as a rule that fails
+  KeepFails : CertFault
   Missing Extra WrongBound NotShown BadLine LineTooLong TooLong : CertFault
 
 -- A line of a tree with its standing: the state where it is written, a box with the marks of the atoms, which the lines
@@ -51,16 +53,20 @@ pub data Due : Type 0 where
   tree_due : Loosenings → List State → State → List State → List Standing → Due
   -- the axes of the point to come, and the domains that stand
   coordinate_due : Loosenings → Axis → List Axis → Space → Due
-  end_due : Loosenings → Value → Due
+  -- the value, with the states of the lemmas
+  end_due : Loosenings → List State → Value → Due
   -- after the last line
-  nothing_due : Loosenings → Value → Due
+  nothing_due : Loosenings → List State → Value → Due
 
--- what comes of a line
-pub data Next : Type 0 where
-  on : Due → Next
-  faulty : CertFault → Next
+-- what comes of a line: what is due then, or its fault
+pub data NextOf (D : Type 0) : Type 0 where
+  on : D → NextOf D
+  faulty : CertFault → NextOf D
 
-abbrev pub given : Bool → Due → CertFault → Next
+abbrev pub Next : Type 0
+Next = NextOf Due
+
+abbrev pub given : {D : Type 0} → Bool → D → CertFault → NextOf D
 given true d f = on d
 given false d f = faulty f
 
@@ -142,7 +148,7 @@ after_lemma_rule (Some (one S')) f pending k = on (k (S' ∷ pending))
 after_lemma_rule (Some (two S' S'')) f pending k = on (k (S' ∷ S'' ∷ pending))
 
 abbrev pub tree_goes_on : Loosenings → List State → List State → List Standing → Due
-tree_goes_on s lemmas [] done = end_due s (left_open done)
+tree_goes_on s lemmas [] done = end_due s lemmas (left_open done)
 tree_goes_on s lemmas (S ∷ pending) done = tree_due s lemmas S pending done
 
 abbrev pub lemma_goes_on : Loosenings → ℕ → List State → State → List State → Due
@@ -173,7 +179,7 @@ extra_at_end (left_open left) = Extra
 -- ---- points
 
 abbrev pub coordinate_next : Loosenings → List Axis → Space → Due
-coordinate_next s [] space = end_due s (at_point space)
+coordinate_next s [] space = end_due s [] (at_point space)
 coordinate_next s (a ∷ axes) space = coordinate_due s a axes space
 
 -- the form is sure over a point, and each of its Real coordinates lies within delta of the declared bounds

@@ -1,5 +1,5 @@
 -- The laws of accepted certificates.
-use Rattle.std.specs.Prelude.{◌≡◌, ℕ, ◌<◌, ◌≤◌, List, [], ◌∷◌, Option, None, false, IsTrue, length, map}
+use Rattle.std.specs.Prelude.{◌≡◌, ℕ, ◌+◌, ◌<◌, ◌≤◌, List, [], ◌∷◌, ◌++◌, Option, None, false, IsTrue, length, map}
 use Rattle.std.specs.List.{AllByRecursion}
 use Rattle.dyadic.specs.Point.{Coordinate, IsPoint}
 use Rattle.dyadic.specs.Rounding.{exact}
@@ -92,14 +92,15 @@ PointIsAccepted = (p : Problem) (b : Option ℕ) (s : Loosenings) → IsTrue (is
 abbrev pub CanBeWritten : List CertLine → Type 0
 CanBeWritten ls = AllByRecursion IsSpelled ls × (length (certificate_text ls) ≤ most_bytes)
 
--- lemmas with their trees, and a tree at the root of a declared box that is not empty, which follow the rules
-pub record IsLawfulCover (p : Problem) (s : Loosenings) (lemmas : List LemmaTree) (t : Tree) : Type 0 where
+-- lemmas with their trees, which follow those that are kept, and a tree at the root of a declared box that is not empty, which follow
+-- the rules
+pub record IsLawfulCover (p : Problem) (s : Loosenings) (kept : List State) (lemmas : List LemmaTree) (t : Tree) : Type 0 where
   pub loosenings : IsTrue (is_header s)
-  pub count : length lemmas ≤ most_lemmas
-  pub lemma_trees : AreLemmaTrees p s [] lemmas
+  pub count : length kept + length lemmas ≤ most_lemmas
+  pub lemma_trees : AreLemmaTrees p s kept lemmas
   pub not_crossed : first_crossed p ≡ None
   pub left : List State
-  pub lawful : Lawful p s (lemma_states lemmas) (root_state p) t left
+  pub lawful : Lawful p s (kept ++ lemma_states lemmas) (root_state p) t left
   pub names : NamesWell p t
 
 abbrev pub tree_text : Loosenings → Option ℕ → List LemmaTree → Tree → List ℕ
@@ -111,24 +112,24 @@ crossing_text s b lemmas i = certificate_text (cover_lines s b lemmas (crossing 
 abbrev pub point_text : Loosenings → Option ℕ → Space → List ℕ
 point_text s b space = certificate_text (point_lines s b space)
 
--- A lawful cover's text is accepted with what its tree leaves.
+-- The text of a lawful cover that keeps no lemmas is accepted with what its tree leaves.
 abbrev pub TreeTextIsAccepted : Type 0
-TreeTextIsAccepted = (p : Problem) (b : Option ℕ) (s : Loosenings) (lemmas : List LemmaTree) (t : Tree) → IsLawfulCover p s lemmas t → CanBeWritten (cover_lines s b lemmas (rule_lines (tree_lines t))) →
+TreeTextIsAccepted = (p : Problem) (b : Option ℕ) (s : Loosenings) (lemmas : List LemmaTree) (t : Tree) → IsLawfulCover p s [] lemmas t → CanBeWritten (cover_lines s b lemmas (rule_lines (tree_lines t))) →
     IsAccepted p b (tree_text s b lemmas t) s (left_open (left_standing p s (lemma_states lemmas) (root_state p) t))
 
 -- The lines of its main tree stand where the tree has them.
 abbrev pub TreeTextStands : Type 0
-TreeTextStands = (p : Problem) (b : Option ℕ) (s : Loosenings) (lemmas : List LemmaTree) (t : Tree) → IsLawfulCover p s lemmas t → CanBeWritten (cover_lines s b lemmas (rule_lines (tree_lines t))) →
+TreeTextStands = (p : Problem) (b : Option ℕ) (s : Loosenings) (lemmas : List LemmaTree) (t : Tree) → IsLawfulCover p s [] lemmas t → CanBeWritten (cover_lines s b lemmas (rule_lines (tree_lines t))) →
     standing p b (tree_text s b lemmas t) ≡ map (λ (x : Standing). record { loosenings = s; line = x }) (tree_standing p s (lemma_states lemmas) (root_state p) t)
 
 -- So the text is honest where the tree is.
 abbrev pub TreeTextIsHonest : Type 0
-TreeTextIsHonest = (p : Problem) (b : Option ℕ) (s : Loosenings) (lemmas : List LemmaTree) (t : Tree) → IsLawfulCover p s lemmas t → CanBeWritten (cover_lines s b lemmas (rule_lines (tree_lines t))) →
+TreeTextIsHonest = (p : Problem) (b : Option ℕ) (s : Loosenings) (lemmas : List LemmaTree) (t : Tree) → IsLawfulCover p s [] lemmas t → CanBeWritten (cover_lines s b lemmas (rule_lines (tree_lines t))) →
     (w : ℕ) → IsHonestTree p w s (lemma_states lemmas) (root_state p) t → IsHonest p b w (tree_text s b lemmas t)
 
 -- And it has as many branches.
 abbrev pub TreeTextBranches : Type 0
-TreeTextBranches = (p : Problem) (b : Option ℕ) (s : Loosenings) (lemmas : List LemmaTree) (t : Tree) → IsLawfulCover p s lemmas t → CanBeWritten (cover_lines s b lemmas (rule_lines (tree_lines t))) →
+TreeTextBranches = (p : Problem) (b : Option ℕ) (s : Loosenings) (lemmas : List LemmaTree) (t : Tree) → IsLawfulCover p s [] lemmas t → CanBeWritten (cover_lines s b lemmas (rule_lines (tree_lines t))) →
     branches p b (tree_text s b lemmas t) ≡ tree_branches t
 
 -- The text for an axis whose bounds cross is accepted with nothing left, and no line of it stands at a state.

@@ -3,5 +3,7 @@ pub mod AnswerText
 pub mod Derived
 pub mod Due
 pub mod Laws
+pub mod Session
+pub mod SessionLaws
 pub mod Standing
 pub mod Written

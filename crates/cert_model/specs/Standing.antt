@@ -13,7 +13,7 @@ use Rattle.cert_read.specs.CertLine.{CertLine, rule_line, Parsed, line, parsed}
 use Rattle.poly_graph.specs.Problem.{Problem}
 use Rattle.cover_model.specs.State.{State, Loosenings, root_state}
 use Rattle.cover_model.specs.Honest.{is_honest, branch_count}
-use Rattle.cert_model.specs.Due.{Standing, Due, version_due, root_due, tree_due, Next, on, faulty, is_crossed_box}
+use Rattle.cert_model.specs.Due.{Standing, Due, version_due, root_due, tree_due, NextOf, on, faulty, is_crossed_box}
 use Rattle.cert_model.specs.Accepted.{next, next_parsed}
 
 -- a line of the main tree with its state, and the margin and delta of the header
@@ -34,18 +34,25 @@ stands_at p (root_due s lemmas) (line (rule_line l)) = at_root (is_crossed_box p
 stands_at p (tree_due s lemmas S pending done) (line (rule_line l)) = stands s S l ∷ []
 stands_at p _ _ = []
 
-abbrev pub standing_next : Next → (Due → List Stands) → List Stands
+abbrev pub standing_next : {D : Type 0} → NextOf D → (D → List Stands) → List Stands
 standing_next (faulty f) k = []
 standing_next (on d) k = k d
 
-abbrev pub standing_from : Problem → Option ℕ → Due → List (List ℕ) → List Stands
-standing_from p b d [] = []
-standing_from p b d (l ∷ ls) = stands_at p d (parsed l) ++ standing_next (next_parsed p b d (parsed l)) (λ d'. standing_from p b d' ls)
+-- the lines of a main tree from where d is due, where `stood` says which line is one
+abbrev pub standing_by : {D : Type 0} → (D → Parsed → NextOf D) → (D → Parsed → List Stands) → D → List (List ℕ) → List Stands
+standing_by step stood d [] = []
+standing_by step stood d (l ∷ ls) = stood d (parsed l) ++ standing_next (step d (parsed l)) (λ d'. standing_by step stood d' ls)
 
 -- the same of lines that are well formed
+abbrev pub lines_standing : {D : Type 0} → (D → CertLine → NextOf D) → (D → Parsed → List Stands) → D → List CertLine → List Stands
+lines_standing step stood d [] = []
+lines_standing step stood d (l ∷ ls) = stood d (line l) ++ standing_next (step d l) (λ d'. lines_standing step stood d' ls)
+
+abbrev pub standing_from : Problem → Option ℕ → Due → List (List ℕ) → List Stands
+standing_from p b d ls = standing_by (next_parsed p b) (stands_at p) d ls
+
 abbrev pub standing_of_lines : Problem → Option ℕ → Due → List CertLine → List Stands
-standing_of_lines p b d [] = []
-standing_of_lines p b d (l ∷ ls) = stands_at p d (line l) ++ standing_next (next p b d l) (λ d'. standing_of_lines p b d' ls)
+standing_of_lines p b d ls = lines_standing (next p b) (stands_at p) d ls
 
 -- the lines of the main tree, in order, each where it stands
 abbrev pub standing : Problem → Option ℕ → List ℕ → List Stands

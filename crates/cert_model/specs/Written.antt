@@ -7,7 +7,7 @@ use Rattle.poly_graph.specs.Problem.{Problem}
 pub use Rattle.cover_model.specs.Fits.{FitsAxis, FitsAxes}
 use Rattle.cover_model.specs.State.{State, Loosenings}
 use Rattle.poly_graph.specs.Marks.{yes_of, no_of}
-use Rattle.cover_model.specs.Rules.{Line, pull, unit, void, push, void_no, combine, void_combine, ban, make_false, by, cut, flip, case, open_line, stuck, Left, one, two, stays, rule}
+use Rattle.cover_model.specs.Rules.{Line, Left, one, two, stays, rule}
 use Rattle.cover_model.specs.Honest.{is_honest, branch_count}
 use Rattle.cover_model.specs.Derivation.{Tree, leaf, then, fork, tree_lines, Lawful}
 use Rattle.cert_model.specs.Due.{Standing, names_well}

@@ -1,10 +1,11 @@
-//! What a certificate's bytes are to a problem: accepted with a value, or refused with a first fault; honest
-//! certificates; the texts of the answers.
+//! What a certificate's bytes are to a problem, or to the problems of several checks: accepted with a value for each,
+//! or refused with a first fault; honest certificates; the texts of the answers.
 //!
 //! No code runs here: each function is a law about the definitions in `specs/`, and its contract is the law.
 #![tactic(auto)]
 
 ghost use Rattle.cert_model.specs.Laws.{HeaderFits, EndIsLast, CoverIsDerived, LemmasHaveNoPoint, CoverCatches, EmptyCoverMeans, PointMeans, TextHasLines, ShortestIsAccepted, CoverIsAccepted, CrossingIsAccepted, PointIsAccepted, TreeTextIsAccepted, TreeTextStands, TreeTextIsHonest, TreeTextBranches, CrossingText, PointText};
+ghost use Rattle.cert_model.specs.SessionLaws.{SessionMeans, SessionHeaderFits, SessionTextHasLines, SessionTextIsAccepted, SessionTextStands, LawfulInVersion3, HonestInVersion3};
 
 /// The margin and delta of an accepted certificate are in their limits.
 pub fn header_fits()
@@ -87,4 +88,35 @@ pub fn crossing_text_is_accepted()
 /// The text of a point that is shown is accepted with the point, and has no line at a state.
 pub fn point_text_is_accepted()
     ensures { PointText }
+{}
+
+/// The values of an accepted session hold, one for each check: a point meets its form at delta; each point of the
+/// declared box that meets the form at the margin is one of a state that is left. The lemmas that a part keeps hold of
+/// its problem.
+pub fn session_means()
+    ensures { SessionMeans }
+{}
+
+/// The version, margin and delta of an accepted session are in their limits.
+pub fn session_header_fits()
+    ensures { SessionHeaderFits }
+{}
+
+/// The verdict of a session's text is that of its lines.
+pub fn session_text_has_lines()
+    ensures { SessionTextHasLines }
+{}
+
+/// The text of parts that follow the rules is accepted with their values, and the lines of each main tree stand where the
+/// tree has them.
+pub fn session_text_is_accepted()
+    ensures accepted { SessionTextIsAccepted }
+    ensures standing { SessionTextStands }
+{}
+
+/// A part that follows the rules in version 2 does so in version 3, with the same value and standing; its lines are as
+/// honest.
+pub fn version_3_reads_version_2()
+    ensures lawful { LawfulInVersion3 }
+    ensures honest { HonestInVersion3 }
 {}

@@ -16,8 +16,10 @@ pub data BoolWord : Type 0 where
 pub data CertLine : Type 0 where
   version margin delta : ℕ → CertLine
   bound : Option ℕ → CertLine
-  -- the number of lemmas
-  cover : ℕ → CertLine
+  -- the number of checks
+  checks : ℕ → CertLine
+  -- the number of lemmas, and how many of them are those of the part before
+  cover keep : ℕ → CertLine
   point_word tree_word end_word : CertLine
   lemma : ℕ → CertLine
   real_interval : Dyadic → Dyadic → CertLine
@@ -176,7 +178,7 @@ entry name (e ∷ rest) = cond (bytes_eq name e.0) (Some e.1) (entry name rest)
 
 abbrev pub header_forms : List (List ℕ × (List (List ℕ) → Parsed))
 header_forms =
-    (codes "dpoly", counted version) ∷ (codes "margin", counted margin) ∷ (codes "delta", counted delta) ∷ (codes "bound", bound_in) ∷ (codes "cover", counted cover) ∷
+    (codes "dpoly", counted version) ∷ (codes "margin", counted margin) ∷ (codes "delta", counted delta) ∷ (codes "bound", bound_in) ∷ (codes "checks", counted checks) ∷ (codes "cover", counted cover) ∷ (codes "keep", counted keep) ∷
     (codes "point", alone point_word) ∷ (codes "tree", alone tree_word) ∷ (codes "end", alone end_word) ∷ (codes "lemma", counted lemma) ∷
     (codes "real", real_in) ∷ (codes "bool", bool_in) ∷ (codes "yes", listed yes_list) ∷ (codes "no", listed no_list) ∷ (word_text empty_word, counted crossing) ∷ []
 

@@ -4,7 +4,7 @@ use Rattle.std.specs.Str.{bytes_eq}
 use Rattle.cover_line.specs.Words.{word_text}
 use Rattle.cover_line.specs.Views.{rule_word}
 use Rattle.cert_read.specs.declared.keyword.Keyword.{Keyword}
-use Rattle.cert_read.specs.declared.keyword.Keyword.TheVariants.{Version, Margin, Delta, Bound, Cover, Point, Tree, End, Lemma, Real, Bool, Yes, No, Rule}
+use Rattle.cert_read.specs.declared.keyword.Keyword.TheVariants.{Version, Margin, Delta, Bound, Checks, Cover, Keep, Point, Tree, End, Lemma, Real, Bool, Yes, No, Rule}
 use Rattle.cert_read.specs.CertLine.{bad_line, by_first}
 
 abbrev pub keyword_text : Keyword → List ℕ
@@ -12,7 +12,9 @@ keyword_text Version = codes "dpoly"
 keyword_text Margin = codes "margin"
 keyword_text Delta = codes "delta"
 keyword_text Bound = codes "bound"
+keyword_text Checks = codes "checks"
 keyword_text Cover = codes "cover"
+keyword_text Keep = codes "keep"
 keyword_text Point = codes "point"
 keyword_text Tree = codes "tree"
 keyword_text End = codes "end"
@@ -30,7 +32,9 @@ header_keyword_of w =
     cond (bytes_eq w (codes "margin")) (Some Margin) (
     cond (bytes_eq w (codes "delta")) (Some Delta) (
     cond (bytes_eq w (codes "bound")) (Some Bound) (
+    cond (bytes_eq w (codes "checks")) (Some Checks) (
     cond (bytes_eq w (codes "cover")) (Some Cover) (
+    cond (bytes_eq w (codes "keep")) (Some Keep) (
     cond (bytes_eq w (codes "point")) (Some Point) (
     cond (bytes_eq w (codes "tree")) (Some Tree) (
     cond (bytes_eq w (codes "end")) (Some End) (
@@ -39,7 +43,7 @@ header_keyword_of w =
     cond (bytes_eq w (codes "bool")) (Some Bool) (
     cond (bytes_eq w (codes "yes")) (Some Yes) (
     cond (bytes_eq w (codes "no")) (Some No) (
-    None)))))))))))))
+    None)))))))))))))))
 
 -- the word that leads a line; none where no line begins so
 abbrev pub IsKeywordIn : List ℕ → Option Keyword → Type 0

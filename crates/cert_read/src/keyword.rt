@@ -11,7 +11,9 @@ pub(crate) enum Keyword {
     Margin,
     Delta,
     Bound,
+    Checks,
     Cover,
+    Keep,
     Point,
     Tree,
     End,
@@ -40,8 +42,14 @@ fn header_keyword_in(word: &[u8]) -> Option<Keyword>
     if word == b"bound".as_slice() {
         return Some(Keyword::Bound);
     }
+    if word == b"checks".as_slice() {
+        return Some(Keyword::Checks);
+    }
     if word == b"cover".as_slice() {
         return Some(Keyword::Cover);
+    }
+    if word == b"keep".as_slice() {
+        return Some(Keyword::Keep);
     }
     if word == b"point".as_slice() {
         return Some(Keyword::Point);

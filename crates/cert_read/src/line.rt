@@ -21,8 +21,12 @@ pub enum Line {
     Delta(u32),
     /// `bound`, with the bound of the words, or `none`.
     Bound(Option<u32>),
+    /// `checks`, with the number of checks.
+    Checks(u32),
     /// `cover`, with the number of lemmas.
     Cover(u32),
+    /// `keep`, with the number of lemmas of the part before that stay.
+    Keep(u32),
     /// `point`.
     Point,
     /// `tree`.

@@ -75,15 +75,15 @@ more-lemmas k (y ∷ xs) (suc i) x h e =
     ∙ sym (append_assoc first (lemmas_lines (suc k) (map lemma_tree (map learned_of (take i xs)))) (lemma_lines (k + suc i) (lemma_tree (learned_of x))))
 
 -- the lines of one more lemma
-pub lemma_appended : (xs : List Learned) (a b c : List ℕ) (i : ℕ) (x : Learned) → i < length xs → x ≡ get_or xs i x → HasAppended a (learned_lines (take i xs)) b → HasAppended b (lemma_lines i (lemma_tree (learned_of x))) c →
-    HasAppended a (learned_lines (take (i + 1) xs)) c
-lemma_appended xs a b c i x h e p q =
-    let next : suc i ≡ i + 1 = omega arith in let same : 0 + i ≡ i = omega arith in
-    subst (λ (n : ℕ). HasAppended a (learned_lines (take n xs)) c) next
-    (subst (λ (ls : List CertLine). HasAppended a ls c) (sym (more-lemmas 0 xs i x h e ∙ ap (λ (j : ℕ). learned_lines (take i xs) ++ lemma_lines j (lemma_tree (learned_of x))) same)) (both_appended a b c (learned_lines (take i xs)) (lemma_lines i (lemma_tree (learned_of x))) p q))
+pub lemma_appended : (k : ℕ) (xs : List Learned) (a b c : List ℕ) (i : ℕ) (x : Learned) → i < length xs → x ≡ get_or xs i x → HasAppended a (learned_lines k (take i xs)) b →
+    HasAppended b (lemma_lines (k + i) (lemma_tree (learned_of x))) c → HasAppended a (learned_lines k (take (i + 1) xs)) c
+lemma_appended k xs a b c i x h e p q =
+    let next : suc i ≡ i + 1 = omega arith in
+    subst (λ (n : ℕ). HasAppended a (learned_lines k (take n xs)) c) next
+    (subst (λ (ls : List CertLine). HasAppended a ls c) (sym (more-lemmas k xs i x h e)) (both_appended a b c (learned_lines k (take i xs)) (lemma_lines (k + i) (lemma_tree (learned_of x))) p q))
 
-pub lemmas_appended : (xs : List Learned) (a b : List ℕ) (i : ℕ) → length xs ≤ i → HasAppended a (learned_lines (take i xs)) b → HasAppended a (learned_lines xs) b
-lemmas_appended xs a b i h p = subst (λ (ys : List Learned). HasAppended a (learned_lines ys) b) (take_all i xs h) p
+pub lemmas_appended : (k : ℕ) (xs : List Learned) (a b : List ℕ) (i : ℕ) → length xs ≤ i → HasAppended a (learned_lines k (take i xs)) b → HasAppended a (learned_lines k xs) b
+lemmas_appended k xs a b i h p = subst (λ (ys : List Learned). HasAppended a (learned_lines k ys) b) (take_all i xs h) p
 
 pub item_has : {X : Type 0} (P : X → Type 0) (xs : List X) (i : ℕ) (x : X) → i < length xs → x ≡ get_or xs i x → AllByRecursion P xs → P x
 item_has P [] i x h e g = absurd (omega (arith, h))

@@ -4,6 +4,8 @@ pub mod Forest
 pub mod Items
 pub mod Numbers
 pub mod Proved
+pub mod Sessions
+pub mod SessionTexts
 pub mod Spelling
 pub mod Searched
 pub mod Leftovers

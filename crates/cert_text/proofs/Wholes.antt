@@ -1,5 +1,5 @@
 -- The whole texts: a header, a body and an end, behind one another.
-use Rattle.std.proofs.Common.{◌≡◌, inl, inr, ℕ, zero, suc, ◌<◌, ◌≤◌, ◌^◌, List, [], ◌∷◌, ◌++◌, map, length, get_or, append_assoc, Option, Some, IsTrue, true≢false, ap, sym, ◌∙◌, subst, arith}
+use Rattle.std.proofs.Common.{◌≡◌, inl, inr, ℕ, zero, suc, ◌<◌, ◌≤◌, ◌^◌, List, [], ◌∷◌, ◌++◌, map, length, get_or, Option, Some, IsTrue, true≢false, ap, sym, ◌∙◌, subst, arith}
 use Rattle.std.specs.Prelude.{slice_get}
 use Rattle.std.specs.List.{AllByRecursion}
 use Rattle.std.proofs.lemmas.List.{length-map}
@@ -8,19 +8,20 @@ use Rattle.dyadic.proofs.Equal.{both_pass}
 use Rattle.interval_model.specs.Space.{Space}
 use Rattle.poly_graph.specs.Problem.{Axis, Problem, crossed_in, first_crossed}
 use Rattle.cover_model.specs.State.{State, Loosenings, root_state}
-use Rattle.cover_model.specs.Derivation.{Tree, tree_lines}
+use Rattle.cover_model.specs.Derivation.{Tree}
 use Rattle.cert_read.specs.CertLine.{CertLine, cover, point_word, tree_word, end_word, crossing}
 use Rattle.cover_model.specs.Fits.{IsShownAt}
 use Rattle.cert_model.specs.Accepted.{IsAccepted, loosenings_fit, most_bytes}
 use Rattle.cert_model.specs.Due.{Standing, at_point, left_open}
 use Rattle.cert_model.specs.Laws.{CanBeWritten}
+use Rattle.cert_model.specs.SessionLaws.{WrittenEnd, written_tree, written_crossing, end_lines}
 use Rattle.cert_model.specs.Standing.{standing, IsHonest, branches}
-use Rattle.cert_model.specs.Written.{LemmaTree, AreLemmaTrees, rule_lines, lemmas_lines, cover_lines, point_line, point_lines}
+use Rattle.cert_model.specs.Written.{AreLemmaTrees, cover_lines, point_line, point_lines}
 use Rattle.cover_data.specs.declared.margins.Margins.{Margins}
 use Rattle.cover_data.specs.declared.margins.Options.{Options}
 use Rattle.cover_data.specs.Margins.{AreMargins, loosenings_of}
 use Rattle.cover_book.specs.declared.node.Learned.{Learned}
-use Rattle.cover_book.specs.Model.{NodeModel, crossed_node, BookModel, LearnedLemma, problem_in, margins_of, loosenings_in}
+use Rattle.cover_book.specs.Model.{NodeModel, crossed_node, BookModel, LearnedLemma, lemma_count, problem_in, margins_of, loosenings_in}
 use Rattle.cover_book.specs.declared.node.Node.{Node}
 use Rattle.cover_book.specs.declared.node.Node.TheVariants.{Live, Crossed, Closed, Parted, Stuck}
 use Rattle.cover_book.specs.Views.{learned_of, node_of}
@@ -31,7 +32,8 @@ use Rattle.cover_book.proofs.Meaning.{book_has_tree}
 use Rattle.cover_book.proofs.Opens.{first_crosses}
 use Rattle.cert_text.specs.Texts.{book_lines, crossed_lines, book_text, crossed_text}
 use Rattle.cert_text.specs.Lines.{HasAppended, most_atoms}
-use Rattle.cert_text.specs.Parts.{header_lines, HasFewMarks, learned_lines, HasAppendedTree, HasAppendedCover, IsCountedCrossing}
+use Rattle.cert_text.specs.Session.{IsEndOf, body_lines, HasAppendedBody}
+use Rattle.cert_text.specs.Parts.{header_lines, whole_point, HasFewMarks, learned_lines, HasAppendedTree, HasAppendedCover, IsCountedCrossing}
 use Rattle.cert_text.specs.Means.{EndsHonestly, IsTreeText, IsCrossedText, IsCertificateOf}
 use Rattle.cert_text.proofs.Spelling.{both_appended}
 use Rattle.cert_text.proofs.Counted.{few_numbers}
@@ -44,8 +46,8 @@ few-marks p s before [] h g = tt
 few-marks p s before (x ∷ xs) h g = (omega (arith, h, g.0.marks), few-marks p s (before ++ (x.state ∷ [])) xs h g.1)
 
 pub marks_few : (b : BookModel) → IsBook b → (xs : List Learned) → map learned_of xs ≡ b.lemmas → AllByRecursion HasFewMarks xs
-marks_few b w xs e = few-marks (problem_in b) (loosenings_in b) [] xs w.limits.atoms
-    (subst (λ (ys : List LearnedLemma). AreLemmaTrees (problem_in b) (loosenings_in b) [] (map lemma_tree ys)) (sym e) w.lemmas)
+marks_few b w xs e = few-marks (problem_in b) (loosenings_in b) b.kept xs w.limits.atoms
+    (subst (λ (ys : List LearnedLemma). AreLemmaTrees (problem_in b) (loosenings_in b) b.kept (map lemma_tree ys)) (sym e) w.lemmas)
 
 crossed-within : (axes : List Axis) (i : ℕ) → IsTrue (crossed_in axes i) → i < length axes
 crossed-within [] i h = absurd (true≢false (sym h))
@@ -65,47 +67,51 @@ crossing_counts b w nodes e i f = elim w.nodes [
   | inr h ↦ absurd (never-crossed b h i (sym e ∙ f))
 ]
 
--- ---- the parts behind one another
+-- ---- the body
 
--- what the code wrote: all but the body
-pub record IsWrittenRound (s : Loosenings) (bound : Option ℕ) (lemmas : List LemmaTree) (body ended text : List ℕ) : Type 0 where
-  pub head : HasAppended [] (header_lines s bound ++ (cover (length lemmas) ∷ (lemmas_lines 0 lemmas ++ (tree_word ∷ [])))) body
-  pub foot : HasAppended ended (end_word ∷ []) text
-  pub short : length text ≤ most_bytes
+body-end : (b : BookModel) → IsBook b → (old new : List ℕ) → HasAppendedCover old b.nodes new → (e : WrittenEnd) × IsEndOf b e × HasAppended old (end_lines e) new
+body-end b w old new a = elim w.nodes [
+  | inl h ↦ (written_crossing h.axis, h.first, a.crossing h.axis h.nodes)
+  | inr h ↦ by-tree (book_has_tree b w h.not_crossed)
+]
+  where
+    by-tree : ((t : Tree) × (left : List Standing) × IsTreeOfBook b t left) → (e : WrittenEnd) × IsEndOf b e × HasAppended old (end_lines e) new
+    by-tree f = (written_tree f.0, (f.1, f.2), a.tree f.0 f.2.numbers f.1 f.2.is_tree (few_numbers b f.0 f.1 f.2))
+
+pub body_appended : (b : BookModel) → IsBook b → (xs : List Learned) (q : ℕ) (t0 t1 t2 t3 t4 : List ℕ) → map learned_of xs ≡ b.lemmas → q ≡ length b.kept →
+    HasAppended t0 (learned_lines q xs) t1 → HasAppended t1 (tree_word ∷ []) t2 → HasAppendedCover t2 b.nodes t3 → HasAppended t3 (end_word ∷ []) t4 → HasAppendedBody t0 b t4
+body_appended b w xs q t0 t1 t2 t3 t4 these first l t c e =
+    let f = body-end b w t2 t3 c in
+    let all : HasAppended t0 (body_lines q (map lemma_tree (map learned_of xs)) f.0) t4 =
+    both_appended t0 t1 t4 (learned_lines q xs) (tree_word ∷ (end_lines f.0 ++ (end_word ∷ []))) l
+    (both_appended t1 t2 t4 (tree_word ∷ []) (end_lines f.0 ++ (end_word ∷ [])) t (both_appended t2 t3 t4 (end_lines f.0) (end_word ∷ []) f.2 e)) in
+    (f.0, f.1, subst (λ (n : ℕ). HasAppended t0 (body_lines n (lemma_trees b) f.0) t4) first (subst (λ (ys : List LearnedLemma). HasAppended t0 (body_lines q (map lemma_tree ys) f.0) t4) these all))
+
+-- ---- the certificate of a book that opened with no lemmas
 
 can-be : (ls : List CertLine) (text : List ℕ) → HasAppended [] ls text → length text ≤ most_bytes → CanBeWritten ls
 can-be ls text a h = (a.spelled, subst (λ (t : List ℕ). length t ≤ most_bytes) a.written h)
 
-module _ (b : BookModel) (w : IsBook b) (body ended text : List ℕ) (r : IsWrittenRound (loosenings_in b) b.options.bound (lemma_trees b) body ended text) where
-  whole : (ls : List CertLine) → HasAppended body ls ended → HasAppended [] (cover_lines (loosenings_in b) b.options.bound (lemma_trees b) ls) text
-  whole ls a = subst (λ (ms : List CertLine). HasAppended [] ms text) (regroup (lemmas_lines 0 (lemma_trees b)))
-      (both_appended [] body text _ (ls ++ (end_word ∷ [])) r.head (both_appended body ended text ls (end_word ∷ []) a r.foot))
-    where
-      regroup : (xs : List CertLine) → (header_lines (loosenings_in b) b.options.bound ++ (cover (length (lemma_trees b)) ∷ (xs ++ (tree_word ∷ [])))) ++ (ls ++ (end_word ∷ [])) ≡
-          header_lines (loosenings_in b) b.options.bound ++ (cover (length (lemma_trees b)) ∷ (xs ++ (tree_word ∷ (ls ++ (end_word ∷ [])))))
-      regroup xs = ap (λ (ms : List CertLine). header_lines (loosenings_in b) b.options.bound ++ (cover (length (lemma_trees b)) ∷ ms)) (append_assoc xs (tree_word ∷ []) (ls ++ (end_word ∷ [])))
-
-  tree-text : (t : Tree) (left : List Standing) → IsTreeOfBook b t left → HasAppended body (rule_lines (tree_lines t)) ended → IsTreeText b text
-  tree-text t left i a =
-      let all : HasAppended [] (book_lines b t) text = whole (rule_lines (tree_lines t)) a in
-      let can : CanBeWritten (book_lines b t) = can-be (book_lines b t) text all r.short in
+module _ (b : BookModel) (w : IsBook b) (none : b.kept ≡ []) (text : List ℕ) (short : length text ≤ most_bytes) where
+  tree-text : (t : Tree) (left : List Standing) → IsTreeOfBook b t left → HasAppended [] (book_lines b t) text → IsTreeText b text
+  tree-text t left i all =
+      let can : CanBeWritten (book_lines b t) = can-be (book_lines b t) text all short in
       let same : book_text b t ≡ text = sym all.written in
       record {
         tree = t;
         left = left;
         is_tree = i;
         text = all.written;
-        accepted = subst (λ (x : List ℕ). IsAccepted (problem_in b) b.options.bound x (loosenings_in b) (left_open left)) same (book_text_is_accepted b t left i can);
-        branches = subst (λ (x : List ℕ). branches (problem_in b) b.options.bound x ≡ b.branches) same (book_text_branches b t left i can);
-        ends_honestly = subst (EndsHonestly b) same (book_text_ends_honestly b t left i can);
-        honest = λ f. subst (IsHonest (problem_in b) b.options.bound b.options.least_bits) same (book_text_is_honest b w t left i can f);
+        accepted = subst (λ (x : List ℕ). IsAccepted (problem_in b) b.options.bound x (loosenings_in b) (left_open left)) same (book_text_is_accepted b t left i none can);
+        branches = subst (λ (x : List ℕ). branches (problem_in b) b.options.bound x ≡ b.branches) same (book_text_branches b t left i none can);
+        ends_honestly = subst (EndsHonestly b) same (book_text_ends_honestly b t left i none can);
+        honest = λ f. subst (IsHonest (problem_in b) b.options.bound b.options.least_bits) same (book_text_is_honest b w t left i none can f);
       }
 
-  crossed-text : (i : ℕ) → first_crossed (problem_in b) ≡ Some i → HasAppended body (crossing i ∷ []) ended → IsCrossedText b text
-  crossed-text i e a =
-      let all : HasAppended [] (crossed_lines b i) text = whole (crossing i ∷ []) a in
+  crossed-text : (i : ℕ) → first_crossed (problem_in b) ≡ Some i → HasAppended [] (crossed_lines b i) text → IsCrossedText b text
+  crossed-text i e all =
       let same : crossed_text b i ≡ text = sym all.written in
-      let law = crossed_text_is_accepted b w i e (can-be (crossed_lines b i) text all r.short) in
+      let law = crossed_text_is_accepted b w none i e (can-be (crossed_lines b i) text all short) in
       record {
         axis = i;
         first = e;
@@ -114,15 +120,23 @@ module _ (b : BookModel) (w : IsBook b) (body ended text : List ℕ) (r : IsWrit
         standing = subst (λ (x : List ℕ). standing (problem_in b) b.options.bound x ≡ []) same law.1;
       }
 
-  by-tree : ((t : Tree) × (left : List Standing) × IsTreeOfBook b t left) → HasAppendedTree body b.nodes ended → IsTreeText b text
-  by-tree f a = tree-text f.0 f.1 f.2 (a f.0 f.2.numbers f.1 f.2.is_tree (few_numbers b f.0 f.1 f.2))
+  by-end : (e : WrittenEnd) → IsEndOf b e → HasAppended [] (cover_lines (loosenings_in b) b.options.bound (lemma_trees b) (end_lines e)) text → IsCertificateOf b text
+  by-end (written_tree t) i a = inr (tree-text t i.0 i.1 a)
+  by-end (written_crossing i) e a = inl (crossed-text i e a)
 
-  -- so the text is the book's certificate
-  pub certificate : HasAppendedCover body b.nodes ended → IsCertificateOf b text
-  certificate a = elim w.nodes [
-    | inl h ↦ inl (crossed-text h.axis h.first (a.crossing h.axis h.nodes))
-    | inr h ↦ inr (by-tree (book_has_tree b w h.not_crossed) a.tree)
-  ]
+  -- what the code wrote is the book's certificate
+  pub certificate : (o : Options) (k : ℕ) (t0 t1 t2 : List ℕ) → t0 ≡ [] → o ≡ b.options → k ≡ lemma_count b → HasAppended t0 (header_lines (loosenings_of (margins_of o)) o.bound) t1 → HasAppended t1 (cover k ∷ []) t2 →
+      HasAppendedBody t2 b text → IsCertificateOf b text
+  certificate o k t0 t1 t2 start same count h c f =
+      let many : k ≡ length (lemma_trees b) = omega (arith, count, length-map b.lemmas lemma_tree, ap (λ (xs : List State). length xs) none) in
+      let first : length b.kept ≡ 0 = ap (λ (xs : List State). length xs) none in
+      let body : HasAppended t2 (body_lines 0 (lemma_trees b) f.0) text = subst (λ (n : ℕ). HasAppended t2 (body_lines n (lemma_trees b) f.0) text) first f.2 in
+      let all : HasAppended t0 (header_lines (loosenings_of (margins_of o)) o.bound ++ (cover k ∷ body_lines 0 (lemma_trees b) f.0)) text =
+      both_appended t0 t1 text (header_lines (loosenings_of (margins_of o)) o.bound) _ h (both_appended t1 t2 text (cover k ∷ []) (body_lines 0 (lemma_trees b) f.0) c body) in
+      by-end f.0 f.1
+      (subst (λ (n : ℕ). HasAppended [] (header_lines (loosenings_in b) b.options.bound ++ (cover n ∷ body_lines 0 (lemma_trees b) f.0)) text) many
+      (subst (λ (p : Options). HasAppended [] (header_lines (loosenings_of (margins_of p)) p.bound ++ (cover k ∷ body_lines 0 (lemma_trees b) f.0)) text) same
+      (subst (λ (a : List ℕ). HasAppended a (header_lines (loosenings_of (margins_of o)) o.bound ++ (cover k ∷ body_lines 0 (lemma_trees b) f.0)) text) start all)))
 
 -- ---- points
 
@@ -130,36 +144,19 @@ margins-fit : (m : Margins) → AreMargins m → IsTrue (loosenings_fit m.margin
 margins-fit m h =
     both_pass _ _ (both_pass _ _ (both_pass _ _ (le-leb 1 m.delta_bits h.some_delta) (le-leb m.delta_bits 30 h.few_delta)) (le-leb (suc m.delta_bits) m.margin_bits h.above_delta)) (le-leb m.margin_bits 60 h.few_margin)
 
-pub point_written : (s : Loosenings) (bound : Option ℕ) (space space' : Space) (old a b c text : List ℕ) → old ≡ [] → space' ≡ space → HasAppended old (header_lines s bound) a → HasAppended a (point_word ∷ []) b →
-    HasAppended b (map point_line space') c → HasAppended c (end_word ∷ []) text → HasAppended [] (point_lines s bound space) text
-point_written s bound space space' old a b c text none same h p x e =
+pub whole_point_appended : (space : Space) (a b c d : List ℕ) → HasAppended a (point_word ∷ []) b → HasAppended b (map point_line space) c → HasAppended c (end_word ∷ []) d → HasAppended a (whole_point space) d
+whole_point_appended space a b c d p x e = both_appended a b d (point_word ∷ []) _ p (both_appended b c d (map point_line space) (end_word ∷ []) x e)
+
+pub point_written : (s : Loosenings) (bound : Option ℕ) (space space' : Space) (old a text : List ℕ) → old ≡ [] → space' ≡ space → HasAppended old (header_lines s bound) a → HasAppended a (whole_point space') text →
+    HasAppended [] (point_lines s bound space) text
+point_written s bound space space' old a text none same h x =
     subst (λ (o : List ℕ). HasAppended o (point_lines s bound space) text) none
-    (subst (λ (y : Space). HasAppended old (point_lines s bound y) text) same
-    (both_appended old a text (header_lines s bound) _ h (both_appended a b text (point_word ∷ []) _ p (both_appended b c text (map point_line space') (end_word ∷ []) x e))))
+    (subst (λ (y : Space). HasAppended old (point_lines s bound y) text) same (both_appended old a text (header_lines s bound) (whole_point space') h x))
 
 pub point_means : (p : Problem) (m : Margins) (bound : Option ℕ) (space : Space) (text : List ℕ) → HasAppended [] (point_lines (loosenings_of m) bound space) text → length text ≤ most_bytes → AreMargins m →
     IsShownAt p (loosenings_of m) space → IsAccepted p bound text (loosenings_of m) (at_point space)
 point_means p m bound space text a h k g = subst (λ (x : List ℕ). IsAccepted p bound x (loosenings_of m) (at_point space)) (sym a.written)
     (point_text_is_accepted p bound (loosenings_of m) (margins-fit m k) space g (can-be (point_lines (loosenings_of m) bound space) text a h))
-
--- ---- round the body
-
-pub written_round : (b : BookModel) (o : Options) (xs : List Learned) (k : ℕ) (t0 t1 t2 t3 t4 t5 text : List ℕ) → t0 ≡ [] → o ≡ b.options → map learned_of xs ≡ b.lemmas → k ≡ length xs →
-    HasAppended t0 (header_lines (loosenings_of (margins_of o)) o.bound) t1 → HasAppended t1 (cover k ∷ []) t2 → HasAppended t2 (learned_lines xs) t3 → HasAppended t3 (tree_word ∷ []) t4 → HasAppended t5 (end_word ∷ []) text → length text ≤ most_bytes →
-    IsWrittenRound (loosenings_in b) b.options.bound (lemma_trees b) t4 t5 text
-written_round b o xs k t0 t1 t2 t3 t4 t5 text none same these count h c l t e short =
-    let trees : List LemmaTree = map lemma_tree (map learned_of xs) in
-    let many : k ≡ length trees = omega (arith, count, length-map xs learned_of, length-map (map learned_of xs) lemma_tree) in
-    let head : HasAppended t0 (header_lines (loosenings_of (margins_of o)) o.bound ++ (cover k ∷ (lemmas_lines 0 trees ++ (tree_word ∷ [])))) t4 =
-    both_appended t0 t1 t4 (header_lines (loosenings_of (margins_of o)) o.bound) _ h (both_appended t1 t2 t4 (cover k ∷ []) _ c (both_appended t2 t3 t4 (learned_lines xs) (tree_word ∷ []) l t)) in
-    record {
-      head = subst (λ (ys : List LearnedLemma). HasAppended [] (header_lines (loosenings_in b) b.options.bound ++ (cover (length (map lemma_tree ys)) ∷ (lemmas_lines 0 (map lemma_tree ys) ++ (tree_word ∷ [])))) t4) these
-          (subst (λ (n : ℕ). HasAppended [] (header_lines (loosenings_in b) b.options.bound ++ (cover n ∷ (lemmas_lines 0 trees ++ (tree_word ∷ [])))) t4) many
-          (subst (λ (p : Options). HasAppended [] (header_lines (loosenings_of (margins_of p)) p.bound ++ (cover k ∷ (lemmas_lines 0 trees ++ (tree_word ∷ [])))) t4) same
-          (subst (λ (a : List ℕ). HasAppended a (header_lines (loosenings_of (margins_of o)) o.bound ++ (cover k ∷ (lemmas_lines 0 trees ++ (tree_word ∷ [])))) t4) none head)));
-      foot = e;
-      short = short;
-    }
 
 -- ---- what is appended to the body
 

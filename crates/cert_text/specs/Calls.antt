@@ -32,9 +32,9 @@ Appends old new ls r = OnOk r (HasAppended old.items ls new.items)
 abbrev pub marked_numbers : Bool → List Mark → List ℕ
 marked_numbers wanted marks = listed (numbers_from (is_marked wanted) 0 (map mark_of marks))
 
--- the lines of the version, the margin, the delta and the bound
-abbrev pub header_of : Options → List CertLine
-header_of o = header_lines (loosenings_of (margins_of o)) o.bound
+-- the lines of this version, and of the margin, the delta and the bound
+abbrev pub header_of : ℕ → Options → List CertLine
+header_of v o = header_lines (record (loosenings_of (margins_of o)) { version = v }) o.bound
 
 abbrev pub line_of_combination : CombinationRule → Combination → CertLine
 line_of_combination rule c = rule_line (combination_line rule (multipliers_of c.pairs.items))

@@ -3,5 +3,6 @@ pub mod Laws
 pub mod Lines
 pub mod Means
 pub mod Parts
+pub mod Session
 pub mod Stuck
 pub mod Texts

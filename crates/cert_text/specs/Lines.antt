@@ -5,7 +5,7 @@ use Rattle.cover_model.specs.Rules.{by, flip, make_false, open_line}
 use Rattle.cover_line.specs.declared.word.Word.TheVariants as word
 use Rattle.cover_line.specs.Words.{empty_word, false_word, by_word, flip_word, open_word, word_text}
 use Rattle.cover_line.specs.Views.{atom_line, rule_word}
-use Rattle.cert_read.specs.CertLine.{says_false, says_true, says_both, CertLine, version, margin, delta, bound, cover, point_word, tree_word, end_word, lemma, bool_value, yes_list, no_list, rule_line, crossing}
+use Rattle.cert_read.specs.CertLine.{says_false, says_true, says_both, CertLine, version, margin, delta, bound, checks, cover, keep, point_word, tree_word, end_word, lemma, bool_value, yes_list, no_list, rule_line, crossing}
 use Rattle.cert_read.specs.LineText.{IsSpelled, IsSpelledPair}
 use Rattle.dyadic.specs.Rounding.{Dyadic}
 use Rattle.dyadic.specs.NumberText.{number_spelling}
@@ -52,7 +52,9 @@ counted_line counted.Version n = version n
 counted_line counted.Margin n = margin n
 counted_line counted.Delta n = delta n
 counted_line counted.Bound n = bound (Some n)
+counted_line counted.Checks n = checks n
 counted_line counted.Cover n = cover n
+counted_line counted.Keep n = keep n
 counted_line counted.Lemma n = lemma n
 counted_line (counted.Atom r) n = rule_line (atom_line r n)
 counted_line counted.By n = rule_line (by n)
@@ -64,7 +66,9 @@ counted_word counted.Version = codes "dpoly"
 counted_word counted.Margin = codes "margin"
 counted_word counted.Delta = codes "delta"
 counted_word counted.Bound = codes "bound"
+counted_word counted.Checks = codes "checks"
 counted_word counted.Cover = codes "cover"
+counted_word counted.Keep = codes "keep"
 counted_word counted.Lemma = codes "lemma"
 counted_word (counted.Atom r) = word_text (rule_word (word.Atom r))
 counted_word counted.By = word_text by_word

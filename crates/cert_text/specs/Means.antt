@@ -17,9 +17,12 @@ use Rattle.cover_book.specs.Steps.{IsLive}
 use Rattle.cover_book.specs.Laws.{IsTreeOfBook}
 use Rattle.cert_text.specs.Texts.{book_text, crossed_text}
 
--- each line of the main tree but an open one is honest
+-- each of these lines but an open one is honest
+abbrev pub AreHonestButOpen : BookModel → List Stands → Type 0
+AreHonestButOpen b lines = All (λ (x : Stands). (x.line.does ≡ open_line → ⊥) → IsTrue (is_honest (problem_in b) b.options.least_bits x.loosenings x.line.state x.line.does)) lines
+
 abbrev pub EndsHonestly : BookModel → List ℕ → Type 0
-EndsHonestly b text = All (λ (x : Stands). (x.line.does ≡ open_line → ⊥) → IsTrue (is_honest (problem_in b) b.options.least_bits x.loosenings x.line.state x.line.does)) (standing (problem_in b) b.options.bound text)
+EndsHonestly b text = AreHonestButOpen b (standing (problem_in b) b.options.bound text)
 
 -- the text of a tree of the book: it is accepted, its value is the states that stay, in the tree's order, and it is honest where the live nodes are
 pub record IsTreeText (b : BookModel) (bytes : List ℕ) : Type 0 where

@@ -1,5 +1,6 @@
 -- The parts of a certificate, as the code writes them.
 use Rattle.std.specs.Prelude.{◌≡◌, ℕ, ◌+◌, ◌<◌, ◌≤◌, ◌^◌, ◌⊎◌, List, [], ◌∷◌, ◌++◌, map, length, Option, Some, slice_get}
+use Rattle.interval_model.specs.Space.{Space}
 use Rattle.cover_model.specs.State.{Loosenings}
 use Rattle.cover_model.specs.Rules.{Line, open_line}
 use Rattle.cover_model.specs.Derivation.{Tree, tree_lines}
@@ -9,9 +10,9 @@ use Rattle.cover_book.specs.declared.node.Learned.{Learned}
 use Rattle.cover_book.specs.Model.{NodeModel, live_node, crossed_node, closed_node, parted_node, stuck_node}
 use Rattle.cover_book.specs.Views.{learned_of}
 use Rattle.cover_book.specs.Tree.{TreeOf, lemma_tree}
-use Rattle.cert_read.specs.CertLine.{CertLine, version, margin, delta, bound, rule_line, crossing}
+use Rattle.cert_read.specs.CertLine.{CertLine, version, margin, delta, bound, point_word, end_word, rule_line, crossing}
 use Rattle.cert_model.specs.Due.{Standing}
-use Rattle.cert_model.specs.Written.{rule_lines, lemmas_lines}
+use Rattle.cert_model.specs.Written.{rule_lines, lemmas_lines, point_line}
 use Rattle.cert_text.specs.Lines.{HasAppended, most_atoms}
 
 abbrev pub header_lines : Loosenings → Option ℕ → List CertLine
@@ -27,9 +28,15 @@ kept_lines ls = map step_line ls.steps.items ++ (end_line ls.end ∷ [])
 abbrev pub HasFewMarks : Learned → Type 0
 HasFewMarks x = length x.state.marks ≤ most_atoms
 
--- the lines of these lemmas, numbered from 0
-abbrev pub learned_lines : List Learned → List CertLine
-learned_lines xs = lemmas_lines 0 (map lemma_tree (map learned_of xs))
+-- the lines of these lemmas, numbered from this on
+abbrev pub learned_lines : ℕ → List Learned → List CertLine
+learned_lines first xs = lemmas_lines first (map lemma_tree (map learned_of xs))
+
+-- ---- points
+
+-- the lines of a point, from the first to the end
+abbrev pub whole_point : Space → List CertLine
+whole_point space = point_word ∷ (map point_line space ++ (end_word ∷ []))
 
 -- ---- nodes
 

@@ -7,7 +7,7 @@ use Rattle.cert_model.specs.Accepted.{certificate_text}
 use Rattle.cover_book.specs.Model.{BookModel, loosenings_in}
 use Rattle.cover_book.specs.Tree.{lemma_trees}
 
--- the lines of a book's certificate with this tree: all lemmas that it keeps, then the tree
+-- the lines of a book's certificate with this tree: all lemmas that it learned, then the tree
 abbrev pub book_lines : BookModel → Tree → List CertLine
 book_lines b t = cover_lines (loosenings_in b) b.options.bound (lemma_trees b) (rule_lines (tree_lines t))
 

@@ -1,7 +1,8 @@
 //! Certificates of books and of points, as text, and the first box in which a book is stuck.
 //!
-//! Its main call is [`write_cover`]: the lemmas of a book, then its tree, in the form that the checker reads
-//! ([`laws`] says what such a text means). The crate checks nothing and writes to no file.
+//! Its main calls are [`write_cover`], the lemmas of a book, then its tree, in the form that the checker reads ([`laws`]
+//! says what such a text means), and [`write_session`], the books of several checks. The crate checks nothing and writes
+//! to no file.
 #![tactic(auto)]
 
 mod append;
@@ -11,9 +12,11 @@ mod keyword;
 pub mod laws;
 mod parts;
 mod point;
+mod session;
 mod stuck;
 mod walk;
 
 pub use cover::write_cover;
 pub use point::write_point;
+pub use session::write_session;
 pub use stuck::{StuckBox, first_stuck};

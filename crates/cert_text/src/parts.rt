@@ -1,5 +1,5 @@
 // The parts of a certificate.
-ghost use Rattle.std.specs.Prelude.{◌≡◌, ◌≤◌, ◌∷◌, [], length, map};
+ghost use Rattle.std.specs.Prelude.{◌≡◌, ◌≤◌, ◌+◌, ◌∷◌, [], length, map};
 ghost use Rattle.std.specs.List.{AllByRecursion};
 ghost use Rattle.ival.specs.SpaceViews.{domain_of, space_of};
 ghost use Rattle.cover_data.specs.Views.{step_line, end_line};
@@ -22,14 +22,21 @@ use cover_line::{AtomRule, CombinationRule};
 use ival::{Domain, Space, Truths};
 use std::alloc::AllocError;
 
-// The version of the format that is written.
-const VERSION: u32 = 2;
+/// The version of the format for one check.
+pub(crate) const VERSION: u32 = 2;
+
+/// The version of the format for several checks.
+pub(crate) const SESSION_VERSION: u32 = 3;
 
 /// Appends the version, the margin, the delta and the bound.
-pub(crate) fn append_header(text: &mut Vec<u8>, options: &Options) -> Result<(), AllocError>
-    ensures { Appends text.old text.new (header_of options.now) result }
+pub(crate) fn append_header(
+    text: &mut Vec<u8>,
+    version: u32,
+    options: &Options,
+) -> Result<(), AllocError>
+    ensures { Appends text.old text.new (header_of version options.now) result }
 {
-    append_counted(text, Counted::Version, VERSION)?;
+    append_counted(text, Counted::Version, version)?;
     append_counted(text, Counted::Margin, options.margin_bits)?;
     append_counted(text, Counted::Delta, options.delta_bits)?;
     match options.bound {
@@ -157,14 +164,18 @@ fn append_lemma(text: &mut Vec<u8>, id: u32, lemma: &Learned) -> Result<(), Allo
     append_lemma_at(text, id, lemma, &state)
 }
 
-/// Appends the lemmas, in the order of their numbers.
-pub(crate) fn append_lemmas(text: &mut Vec<u8>, lemmas: &[Learned]) -> Result<(), AllocError>
-    requires few { length lemmas.now ≤ most_lemmas }
+/// Appends the lemmas, in the order of their numbers, of which the first has this one.
+pub(crate) fn append_lemmas(
+    text: &mut Vec<u8>,
+    first: usize,
+    lemmas: &[Learned],
+) -> Result<(), AllocError>
+    requires few { first + length lemmas.now ≤ most_lemmas }
     requires marks { AllByRecursion HasFewMarks lemmas.now }
-    ensures { Appends text.old text.new (learned_lines lemmas.now) result }
+    ensures { Appends text.old text.new (learned_lines first lemmas.now) result }
 {
-    for id in 0..lemmas.len() {
-        append_lemma(text, id as u32, &lemmas[id])?;
+    for i in 0..lemmas.len() {
+        append_lemma(text, (first + i) as u32, &lemmas[i])?;
     }
     Ok(())
 }

@@ -1,11 +1,11 @@
 -- The lines of a text without its first, as bytes.
-use Rattle.std.proofs.Common.{◌≡◌, ◌+◌, ◌-◌, ◌<◌, ℕ, zero, suc, get_or, length, arith, codes, List, [], ◌∷◌, ◌++◌, Bool, true, false, not, cond, refl, ap, sym, ◌∙◌, nat_eq, eqb→eq, true≢false, append_assoc}
+use Rattle.std.proofs.Common.{◌≡◌, ◌+◌, ◌-◌, ◌<◌, ℕ, zero, suc, get_or, length, arith, List, [], ◌∷◌, ◌++◌, Bool, true, false, not, cond, refl, ap, sym, ◌∙◌, nat_eq, eqb→eq, true≢false, append_assoc}
 use Rattle.std.specs.Bool.{passes}
 use Rattle.dyadic.proofs.Equal.{both_pass}
 use Rattle.cert_read.specs.Lines.{split_at, onto_first, without_last_empty, lines_of}
 use Rattle.cert_read.specs.LineText.{text_of_lines}
 use Rattle.cert_read.proofs.Pieces.{AllLack, lacks}
-use Rattle.cert_upgrade.specs.Upgraded.{behind_first, upgraded}
+use Rattle.cert_upgrade.specs.Upgraded.{newest_line, behind_first, upgraded}
 use Rattle.cert_upgrade.specs.Breaks.{behind_break, with_break}
 
 -- ---- no line has a break
@@ -142,9 +142,11 @@ lacks_so xs h = by (nat_eq (get_or xs (length xs - 1) 0) 10) refl where
   by true e = ends_so xs (length xs - 1) (omega arith) (is_ten _ e)
   by false e = ends_not xs (length xs - 1) (omega arith) (λ k. true≢false (sym (ap (λ (n : ℕ). nat_eq n 10) k) ∙ e))
 
--- the first line, what follows the first break, and a break where one is wanted
-pub written_so : (cert rest first text : List ℕ) (t : Bool) → rest ≡ behind_break cert → with_break rest ≡ cond t (rest ++ (10 ∷ [])) rest → first ≡ codes "dpoly 2\n" → text ≡ cond t ((first ++ rest) ++ (10 ∷ [])) (first ++ rest) → text ≡ upgraded cert
-written_so cert rest first text true e k f h =
-    h ∙ append_assoc first rest (10 ∷ []) ∙ ap (λ (x : List ℕ). x ++ (rest ++ (10 ∷ []))) f ∙ ap (λ (x : List ℕ). codes "dpoly 2\n" ++ x) (sym k ∙ behind_text cert rest e)
-written_so cert rest first text false e k f h =
-    h ∙ ap (λ (x : List ℕ). x ++ rest) f ∙ ap (λ (x : List ℕ). codes "dpoly 2\n" ++ x) (sym k ∙ behind_text cert rest e)
+-- the first line with its break, what follows the first break, and a break where one is wanted
+pub written_so : (checks : ℕ) (cert rest first text : List ℕ) (t : Bool) → rest ≡ behind_break cert → with_break rest ≡ cond t (rest ++ (10 ∷ [])) rest → first ≡ newest_line checks ++ (10 ∷ []) →
+    text ≡ cond t ((first ++ rest) ++ (10 ∷ [])) (first ++ rest) → text ≡ upgraded checks cert
+written_so checks cert rest first text t e k f h = by t k h ∙ ap (λ (x : List ℕ). x ++ with_break rest) f ∙ append_assoc (newest_line checks) (10 ∷ []) (with_break rest)
+    ∙ ap (λ (x : List ℕ). newest_line checks ++ (10 ∷ x)) (behind_text cert rest e) where
+      by : (u : Bool) → with_break rest ≡ cond u (rest ++ (10 ∷ [])) rest → text ≡ cond u ((first ++ rest) ++ (10 ∷ [])) (first ++ rest) → text ≡ first ++ with_break rest
+      by true j g = g ∙ append_assoc first rest (10 ∷ []) ∙ ap (λ (x : List ℕ). first ++ x) (sym j)
+      by false j g = g ∙ ap (λ (x : List ℕ). first ++ x) (sym j)

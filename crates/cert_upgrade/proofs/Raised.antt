@@ -9,7 +9,10 @@ use Rattle.cover_line.specs.Words.{word_of}
 use Rattle.cert_read.specs.CertLine.{CertLine, version, margin, delta, bound, cover, point_word, tree_word, end_word, lemma, real_interval, real_value, bool_value, says_false, says_true, yes_list, no_list, rule_line, crossing, Parsed, too_long, bad_line, bad_number, line, parsed}
 use Rattle.cert_model.specs.Due.{CertFault, BadHeader, BadNumber, WrongBound, Missing, NotShown, RuleFails, Standing, left_open, Due, version_due, margin_due, delta_due, bound_due, kind_due, next_due, axis_due, yes_due, no_due, lemma_due, root_due, tree_due, coordinate_due, end_due, nothing_due, Next, on, faulty, given, is_version, names_well, after_rule, after_lemma_rule, tree_goes_on, lemma_goes_on, axis_next, coordinate_next, is_crossed_box, is_shown, same_bound}
 use Rattle.cert_model.specs.Accepted.{next, next_parsed, loosenings_fit, ruled_line, lemma_line, tree_line, root_line, no_crossing, axis_line, coordinate_line, most_lemmas, Course, stopped, reached, course_next, course, Verdict, accepted, refused, at_end, ended, cut_off}
-use Rattle.cert_upgrade.specs.Upgraded.{in_version_2, version_2_line, behind_first}
+use Rattle.cert_upgrade.specs.Upgraded.{in_newest, newest_line, behind_first}
+
+abbrev pub in_version_2 : Loosenings → Loosenings
+in_version_2 s = in_newest 1 s
 
 -- the same under version 2
 abbrev pub raised : Due → Due
@@ -26,8 +29,8 @@ raised (lemma_due s k lemmas L S pending) = lemma_due (in_version_2 s) k lemmas 
 raised (root_due s lemmas) = root_due (in_version_2 s) lemmas
 raised (tree_due s lemmas S pending done) = tree_due (in_version_2 s) lemmas S pending done
 raised (coordinate_due s a axes space) = coordinate_due (in_version_2 s) a axes space
-raised (end_due s v) = end_due (in_version_2 s) v
-raised (nothing_due s v) = nothing_due (in_version_2 s) v
+raised (end_due s lemmas v) = end_due (in_version_2 s) lemmas v
+raised (nothing_due s lemmas v) = nothing_due (in_version_2 s) lemmas v
 
 -- the first line was taken
 abbrev pub IsPast : Due → Type 0
@@ -191,15 +194,15 @@ module _ (p : Problem) (b : Option ℕ) where
   next-raises (no_due s k lemmas space is) _ past = tt
   next-raises (lemma_due s k lemmas L S pending) (rule_line l) past = lemma-line p s k lemmas L S pending l
   next-raises (lemma_due s k lemmas L S pending) _ past = tt
-  next-raises (root_due s lemmas) (crossing i) past = cond-raises (crosses p i) (on (end_due s (left_open []))) (no_crossing p i) (on (end_due (in_version_2 s) (left_open []))) (no_crossing p i) (refl, tt) (tt {0})
+  next-raises (root_due s lemmas) (crossing i) past = cond-raises (crosses p i) (on (end_due s lemmas (left_open []))) (no_crossing p i) (on (end_due (in_version_2 s) lemmas (left_open []))) (no_crossing p i) (refl, tt) (tt {0})
   next-raises (root_due s lemmas) (rule_line l) past = root-line p s (is_crossed_box p) lemmas l
   next-raises (root_due s lemmas) _ past = tt
   next-raises (tree_due s lemmas S pending done) (rule_line l) past = tree-line p s lemmas S pending done l
   next-raises (tree_due s lemmas S pending done) _ past = tt
   next-raises (coordinate_due s a axes space) l past = coordinate-line p s a.declared axes space l
-  next-raises (end_due s v) end_word past = given-raises (is_shown p s v) (nothing_due s v) (nothing_due (in_version_2 s) v) NotShown NotShown refl tt
-  next-raises (end_due s v) _ past = tt
-  next-raises (nothing_due s v) _ past = tt
+  next-raises (end_due s lemmas v) end_word past = given-raises (is_shown p s v) (nothing_due s lemmas v) (nothing_due (in_version_2 s) lemmas v) NotShown NotShown refl tt
+  next-raises (end_due s lemmas v) _ past = tt
+  next-raises (nothing_due s lemmas v) _ past = tt
 
   parsed-raises : (d : Due) (l : Parsed) → IsPast d → Raises (next_parsed p b d l) (next_parsed p b (raised d) l)
   parsed-raises d too_long past = tt
@@ -215,7 +218,7 @@ module _ (p : Problem) (b : Option ℕ) where
   RaisesVerdict (refused f n) y = Unit {0}
 
   end-raises : (d : Due) (n m : ℕ) → RaisesVerdict (at_end d n) (at_end (raised d) m)
-  end-raises (nothing_due s v) n m = refl
+  end-raises (nothing_due s lemmas v) n m = refl
   end-raises _ n m = tt
 
   on-raises : (x y : Next) (n m : ℕ) (k k' : Due → Course) → Raises x y → ((d : Due) → IsPast d → RaisesVerdict (ended (k d)) (ended (k' (raised d)))) →
@@ -243,7 +246,7 @@ module _ (p : Problem) (b : Option ℕ) where
   first-raises (line l) ls = line-raises l ls
 
   -- the lines of an upgraded certificate are accepted where the lines are
-  pub lines_raise : (ls : List (List ℕ)) → RaisesVerdict (ended (course p b 0 version_due ls)) (ended (course p b 0 version_due (version_2_line ∷ behind_first ls)))
+  pub lines_raise : (ls : List (List ℕ)) → RaisesVerdict (ended (course p b 0 version_due ls)) (ended (course p b 0 version_due (newest_line 1 ∷ behind_first ls)))
   lines_raise [] = tt
   lines_raise (l ∷ ls) = first-raises (parsed l) ls
 

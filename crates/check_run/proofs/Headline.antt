@@ -1,5 +1,5 @@
 -- What the answers of a run say of its script.
-use Rattle.std.proofs.Common.{◌≡◌, ℕ, List, [], ◌∷◌, ◌++◌, Bool, true, false, get_or, nat_eq, Option, Some, None, refl, ap, sym, subst, ◌∙◌}
+use Rattle.std.proofs.Common.{◌≡◌, ℕ, List, [], ◌∷◌, ◌++◌, Bool, true, false, get_or, length, nat_eq, Option, Some, None, refl, ap, sym, subst, ◌∙◌, append-nil}
 use Rattle.std.specs.Prelude.{IsSomeAnd}
 use Rattle.std.proofs.lemmas.List.{append_cancel_left}
 use Rattle.desk.specs.declared.desk.Port.TheVariants.{CertIn}
@@ -11,22 +11,26 @@ use Rattle.poly_graph.specs.Problem.{Problem}
 use Rattle.interval_model.specs.Space.{Space}
 use Rattle.cover_model.specs.State.{Loosenings}
 use Rattle.cert_model.specs.Due.{Standing, Value, at_point, left_open}
-use Rattle.cert_model.specs.Accepted.{Verdict, accepted, refused, verdict, IsAccepted}
+use Rattle.cert_model.specs.Accepted.{accepted, refused, IsAccepted}
 use Rattle.cert_model.specs.AnswerText.{solve_text, check_text, unsat_text, delta_sat_text, budget_text, width_text, has_open}
+use Rattle.cert_model.specs.Session.{AreAccepted, SessionVerdict, session_verdict}
 use Rattle.headline.proofs.Headline.{unsat_is, delta_sat_is}
 use Rattle.script_fault.specs.declared.fault.ScriptFault.{ScriptFault}
-use Rattle.script_reading.specs.Faults.{script_fault}
+use Rattle.script_reading.specs.Faults.{session_fault}
+use Rattle.script_reading.specs.Session.{HasSession}
 use Rattle.check_run.specs.declared.status.Status.{Status}
 use Rattle.check_run.specs.declared.status.Status.TheVariants.{Answered, CertRefused, ScriptRefused}
 use Rattle.script_reading.specs.Reader.{commands_of, IsBuilt}
-use Rattle.check_run.specs.Answer.{loosenings_of, IsAnswer}
+use Rattle.check_run.specs.Answer.{loosenings_for, loosenings_of, solve_texts, AreAnswers, IsAnswer}
 use Rattle.check_run.specs.Course.{Course, behind, appended}
-use Rattle.check_run.specs.Can.{CanSolve, CanCheck, CanUpgrade, CanUpgradeBy, CanPlan, CanBy, OfProblem, Can, verdict_course}
+use Rattle.check_run.specs.Can.{CanSolve, CanCheck, CanUpgrade, CanUpgradeBy, CanPlan, CanBy, OfSession, Can, check_texts, verdict_course}
 use Rattle.check_run.specs.Run.{Run, HasCourse, HasInput, IsShown}
 use Rattle.check_run.proofs.Shown.{status_is_shown}
 use Rattle.check_run.proofs.Apart.{apart}
-use Rattle.check_run.proofs.Enough.{BuiltIsOne, is_enough}
-use Rattle.check_run.specs.Headline.{IsWritten, IsUnsat, IsTrueUnsat, UnsatIsTrue, IsDeltaSat, IsTrueDeltaSat, DeltaSatIsTrue, IsRefusedCert, IsTrueRefusal, RefusalIsTrue, IsUpgraded, IsTrueUpgrade, UpgradeIsTrue, IsPlanned, IsTruePlan, PlanIsTrue, delta_sat_word, confirmed_unsat_word, confirmed_delta_sat_word}
+use Rattle.check_run.proofs.Enough.{SessionIsOne, are_enough, texts_one}
+use Rattle.check_run.proofs.Means.{values_true}
+use Rattle.check_run.proofs.Single.{one_problem, one_value}
+use Rattle.check_run.specs.Headline.{IsWritten, IsSolved, IsConfirmed, IsTrueAnswer, AnswersAreTrue, HasOneCheck, IsUnsat, IsTrueUnsat, UnsatIsTrue, IsDeltaSat, IsTrueDeltaSat, DeltaSatIsTrue, IsRefusedCert, IsTrueRefusal, RefusalIsTrue, IsUpgraded, IsTrueUpgrade, UpgradeIsTrue, IsPlanned, IsTruePlan, PlanIsTrue, delta_sat_word, confirmed_unsat_word, confirmed_delta_sat_word}
 
 -- ---- texts that differ
 
@@ -69,26 +73,62 @@ confirms-delta-sat s rest (left_open (x ∷ left)) e = absurd (apart _ _ 0 e ref
 refused-not : (x : Status) → x ≡ ScriptRefused → x ≡ Answered → ⊥
 refused-not x e f = let same : ◌≡◌ {A = Status} ScriptRefused Answered = sym e ∙ f in cc
 
--- of a script without fault, whose problem goes on so
-record Problem-goes (bound : Option ℕ) (script : List ℕ) (goes : Problem → Course → Type 0) (tail : Course) : Type 0 where
-  p : Problem
-  built : IsBuilt bound script p
-  can : goes p tail
+-- of a script without fault, whose problems go on so
+record Session-goes (bound : Option ℕ) (script : List ℕ) (goes : List (Problem × Bool) → Course → Type 0) (tail : Course) : Type 0 where
+  ps : List (Problem × Bool)
+  has : HasSession bound ps script
+  can : goes ps tail
 
-goes-on : (bound : Option ℕ) (script : List ℕ) (goes : Problem → Course → Type 0) (f : Option ScriptFault) (tail : Course) → CanBy f (OfProblem bound script goes) tail → tail.status ≡ Answered → Problem-goes bound script goes tail
+goes-on : (bound : Option ℕ) (script : List ℕ) (goes : List (Problem × Bool) → Course → Type 0) (f : Option ScriptFault) (tail : Course) → CanBy f (OfSession bound script goes) tail → tail.status ≡ Answered → Session-goes bound script goes tail
 goes-on bound script goes (Some f) tail can e = absurd (refused-not tail.status (ap (λ (c : Course). c.status) can) e)
-goes-on bound script goes None tail can e = record { p = can.0; built = can.1; can = can.2 }
+goes-on bound script goes None tail can e = record { ps = can.0; has = can.1; can = can.2 }
 
--- a certificate that was written, with its value and the text that was answered
-record Solved-so (p : Problem) (o : Options) (course : Course) : Type 0 where
+-- ---- the answers of solve
+
+solve-so : (words : Solve) (script cert_in : List ℕ) (old new : Sight) → IsShown (Some (solve words)) script cert_in old new Answered → IsSolved words.options script old new
+solve-so words script cert_in old new (course, can, status, went) =
+    let o : Options = words.options in
+    let tail : Course = can.0 in
+    let status_is : tail.status ≡ Answered = sym (ap (λ (c : Course). c.status) can.2) ∙ status in
+    let on = goes-on o.bound script (λ ps. CanSolve ps o words.cert) (session_fault o.bound script) tail can.1 status_is in
+    let so = on.can in
+    record {
+      problems = on.ps;
+      session = on.has;
+      cert = so.0;
+      values = so.1;
+      written = went.cert ∙ ap (λ (c : Course). appended old.cert_out c.cert) can.2 ∙ ap (λ (c : Course). appended old.cert_out c.cert) so.3;
+      answers = so.2;
+      answer = went.answer ∙ ap (λ (c : Course). appended old.answer c.answer) can.2 ∙ ap (λ (c : Course). appended old.answer c.answer) so.3;
+      say = values_true o.bound script on.ps on.has so.0 (loosenings_for (length on.ps) o) so.1 so.2.accepted;
+    }
+
+-- of a script with one check
+record Solved-one (o : Options) (script : List ℕ) (old new : Sight) : Type 0 where
+  p : Problem
+  built : IsBuilt o.bound script p
   cert : List ℕ
   value : Value
-  is : IsAnswer p o cert value
-  cert_is : course.cert ≡ cert
-  answer_is : course.answer ≡ solve_text p o.budget (loosenings_of o) value
+  written : new.cert_out ≡ appended old.cert_out cert
+  accepts : IsAccepted p o.bound cert (loosenings_of o) value
+  answer : new.answer ≡ appended old.answer (solve_text p o.budget (loosenings_of o) value)
 
-solved-so : (p : Problem) (o : Options) (name : List ℕ) (course : Course) → CanSolve p o name course → course.status ≡ Answered → Solved-so p o course
-solved-so p o name course can e = record { cert = can.0; value = can.1; is = can.2; cert_is = ap (λ (c : Course). c.cert) can.3; answer_is = ap (λ (c : Course). c.answer) can.3 }
+solved-one : (o : Options) (script : List ℕ) (old new : Sight) → HasOneCheck script → IsSolved o script old new → Solved-one o script old new
+solved-one o script old new single so =
+    let x = one_problem o.bound script single so.problems so.session in
+    let few : loosenings_for (length so.problems) o ≡ loosenings_of o = ap (λ (ys : List (Problem × Bool)). loosenings_for (length ys) o) x.only in
+    let accepts = subst (λ (s : Loosenings). AreAccepted ((x.problem, x.extends) ∷ []) o.bound so.cert s so.values) few
+    (subst (λ (ys : List (Problem × Bool)). AreAccepted ys o.bound so.cert (loosenings_for (length so.problems) o) so.values) x.only so.answers.accepted) in
+    let y = one_value x.problem x.extends o.bound so.cert (loosenings_of o) so.values accepts in
+    record {
+      p = x.problem;
+      built = x.built;
+      cert = so.cert;
+      value = y.value;
+      written = so.written;
+      accepts = y.accepts;
+      answer = so.answer ∙ ap (appended old.answer) (ap (λ (s : Loosenings). solve_texts o.budget s so.problems so.values) few ∙ texts_one o.budget (loosenings_of o) so.problems so.values x.problem x.extends y.value x.only y.only);
+    }
 
 -- ---- unsat
 
@@ -104,19 +144,12 @@ unsat-so o script p old new cert built written accepts = record {
 }
 
 solve-unsat : (words : Solve) (script cert_in : List ℕ) (old new : Sight) → IsShown (Some (solve words)) script cert_in old new Answered → IsTrueUnsat (Some (solve words)) script cert_in old new
-solve-unsat words script cert_in old new (course, can, status, went) wrote =
+solve-unsat words script cert_in old new shows single wrote =
     let o : Options = words.options in
-    let tail : Course = can.0 in
-    let status_is : tail.status ≡ Answered = sym (ap (λ (c : Course). c.status) can.2) ∙ status in
-    let on = goes-on o.bound script (λ p. CanSolve p o words.cert) (script_fault o.bound script) tail can.1 status_is in
-    let so = solved-so on.p o words.cert tail on.can status_is in
-    let answer : course.answer ≡ solve_text on.p o.budget (loosenings_of o) so.value = ap (λ (c : Course). c.answer) can.2 ∙ so.answer_is in
-    let cert : course.cert ≡ so.cert = ap (λ (c : Course). c.cert) can.2 ∙ so.cert_is in
-    let text : unsat_text (loosenings_of o) ≡ solve_text on.p o.budget (loosenings_of o) so.value =
-    written-is old.answer new.answer (unsat_text (loosenings_of o)) course.answer wrote went.answer ∙ answer in
-    let P : Value → Type 0 = λ v. IsAccepted on.p o.bound so.cert (loosenings_of o) v in
-    unsat-so o script on.p old new so.cert on.built (went.cert ∙ ap (λ (c : List ℕ). appended old.cert_out c) cert)
-    (subst P (says-unsat on.p (loosenings_of o) o.budget so.value text) so.is.accepted)
+    let s : Loosenings = loosenings_of o in
+    let so = solved-one o script old new single (solve-so words script cert_in old new shows) in
+    let text : unsat_text s ≡ solve_text so.p o.budget s so.value = written-is old.answer new.answer (unsat_text s) (solve_text so.p o.budget s so.value) wrote so.answer in
+    unsat-so o script so.p old new so.cert so.built so.written (subst (λ (v : Value). IsAccepted so.p o.bound so.cert s v) (says-unsat so.p s o.budget so.value text) so.accepts)
 
 demo-unsat : (words : Demo) (script cert_in : List ℕ) (old new : Sight) → IsShown (Some (demo words)) script cert_in old new Answered → IsTrueUnsat (Some (demo words)) script cert_in old new
 demo-unsat words script cert_in old new (course, can, status, went) =
@@ -125,40 +158,62 @@ demo-unsat words script cert_in old new (course, can, status, went) =
 
 -- ---- what is checked
 
-record Checked-so (p : Problem) (bound : Option ℕ) (cert_in : List ℕ) (course : Course) : Type 0 where
-  s : Loosenings
-  value : Value
-  accepts : IsAccepted p bound cert_in s value
-  answer_is : course.answer ≡ check_text s value
-
 certificate-refused-not : (x : Status) → x ≡ CertRefused → x ≡ Answered → ⊥
 certificate-refused-not x e f = let same : ◌≡◌ {A = Status} CertRefused Answered = sym e ∙ f in cc
 
-checked-by : (p : Problem) (bound : Option ℕ) (name cert_in : List ℕ) (course : Course) (v : Verdict) → verdict p bound cert_in ≡ v → course ≡ behind ((CertIn, name) ∷ []) (verdict_course v) → course.status ≡ Answered →
-    Checked-so p bound cert_in course
-checked-by p bound name cert_in course (accepted s value) e can status = record { s = s; value = value; accepts = e; answer_is = ap (λ (c : Course). c.answer) can }
-checked-by p bound name cert_in course (refused f n) e can status = absurd (certificate-refused-not course.status (ap (λ (c : Course). c.status) can) status)
-
-record Check-goes (words : Check) (script cert_in : List ℕ) (answer : List ℕ) : Type 0 where
-  p : Problem
-  built : IsBuilt words.bound script p
+record Checked-so (ps : List (Problem × Bool)) (bound : Option ℕ) (cert_in : List ℕ) (course : Course) : Type 0 where
   s : Loosenings
-  value : Value
-  accepts : IsAccepted p words.bound cert_in s value
-  answer_is : answer ≡ check_text s value
+  values : List Value
+  accepts : AreAccepted ps bound cert_in s values
+  answer_is : course.answer ≡ check_texts s values
 
-check-goes : (words : Check) (script cert_in : List ℕ) (course : Course) → Can (Some (check words)) script cert_in course → course.status ≡ Answered → Check-goes words script cert_in course.answer
-check-goes words script cert_in course can status =
+checked-by : (ps : List (Problem × Bool)) (bound : Option ℕ) (name cert_in : List ℕ) (course : Course) (v : SessionVerdict) → session_verdict ps bound cert_in ≡ v → course ≡ behind ((CertIn, name) ∷ []) (verdict_course v) →
+    course.status ≡ Answered → Checked-so ps bound cert_in course
+checked-by ps bound name cert_in course (accepted s values) e can status = record { s = s; values = values; accepts = e; answer_is = ap (λ (c : Course). c.answer) can }
+checked-by ps bound name cert_in course (refused f n) e can status = absurd (certificate-refused-not course.status (ap (λ (c : Course). c.status) can) status)
+
+check-so : (words : Check) (script cert_in : List ℕ) (old new : Sight) → IsShown (Some (check words)) script cert_in old new Answered → IsConfirmed words.bound script cert_in old new
+check-so words script cert_in old new (course, can, status, went) =
     let tail : Course = can.0 in
     let status_is : tail.status ≡ Answered = sym (ap (λ (c : Course). c.status) can.2) ∙ status in
-    let on = goes-on words.bound script (λ p. CanCheck p words.bound words.cert cert_in) (script_fault words.bound script) tail can.1 status_is in
-    let so = checked-by on.p words.bound words.cert cert_in tail (verdict on.p words.bound cert_in) refl on.can status_is in
-    record { p = on.p; built = on.built; s = so.s; value = so.value; accepts = so.accepts; answer_is = ap (λ (c : Course). c.answer) can.2 ∙ so.answer_is }
+    let on = goes-on words.bound script (λ ps. CanCheck ps words.bound words.cert cert_in) (session_fault words.bound script) tail can.1 status_is in
+    let so = checked-by on.ps words.bound words.cert cert_in tail (session_verdict on.ps words.bound cert_in) refl on.can status_is in
+    record {
+      problems = on.ps;
+      session = on.has;
+      loosenings = so.s;
+      values = so.values;
+      accepted = so.accepts;
+      answer = went.answer ∙ ap (λ (c : Course). appended old.answer c.answer) can.2 ∙ ap (appended old.answer) so.answer_is;
+      say = values_true words.bound script on.ps on.has cert_in so.s so.values so.accepts;
+    }
+
+record Checked-one (bound : Option ℕ) (script cert_in : List ℕ) (old new : Sight) : Type 0 where
+  p : Problem
+  built : IsBuilt bound script p
+  s : Loosenings
+  value : Value
+  accepts : IsAccepted p bound cert_in s value
+  answer : new.answer ≡ appended old.answer (check_text s value)
+
+checked-one : (bound : Option ℕ) (script cert_in : List ℕ) (old new : Sight) → HasOneCheck script → IsConfirmed bound script cert_in old new → Checked-one bound script cert_in old new
+checked-one bound script cert_in old new single so =
+    let s : Loosenings = so.loosenings in
+    let x = one_problem bound script single so.problems so.session in
+    let y = one_value x.problem x.extends bound cert_in s so.values (subst (λ (ys : List (Problem × Bool)). AreAccepted ys bound cert_in s so.values) x.only so.accepted) in
+    record {
+      p = x.problem;
+      built = x.built;
+      s = s;
+      value = y.value;
+      accepts = y.accepts;
+      answer = so.answer ∙ ap (appended old.answer) (ap (check_texts s) y.only ∙ append-nil (check_text s y.value));
+    }
 
 check-unsat : (words : Check) (script cert_in : List ℕ) (old new : Sight) → IsShown (Some (check words)) script cert_in old new Answered → IsTrueUnsat (Some (check words)) script cert_in old new
-check-unsat words script cert_in old new (course, can, status, went) rest wrote =
-    let so = check-goes words script cert_in course can status in
-    let text : confirmed_unsat_word ++ rest ≡ check_text so.s so.value = written-is old.answer new.answer (confirmed_unsat_word ++ rest) course.answer wrote went.answer ∙ so.answer_is in
+check-unsat words script cert_in old new shows single rest wrote =
+    let so = checked-one words.bound script cert_in old new single (check-so words script cert_in old new shows) in
+    let text : confirmed_unsat_word ++ rest ≡ check_text so.s so.value = written-is old.answer new.answer (confirmed_unsat_word ++ rest) (check_text so.s so.value) wrote so.answer in
     let none : so.value ≡ left_open [] = confirms-unsat so.s rest so.value text in
     let P : Value → Type 0 = λ v. IsAccepted so.p words.bound cert_in so.s v in
     let W : List ℕ → Type 0 = λ t. IsWritten t old new in
@@ -183,29 +238,25 @@ unsat-true (Some (demo words)) script cert_in old new shows = demo-unsat words s
 
 -- ---- delta-sat
 
-delta-so : (bound : Option ℕ) (script : List ℕ) (p : Problem) (cert : List ℕ) (s : Loosenings) (space : Space) → IsBuilt bound script p → IsAccepted p bound cert s (at_point space) → IsDeltaSat bound script s space
+delta-so : (bound : Option ℕ) (script : List ℕ) (p : Problem) (cert : List ℕ) (s : Loosenings) (space : Space) → IsBuilt bound script p → IsAccepted p bound cert s (at_point space) → IsDeltaSat bound (commands_of script) s space
 delta-so bound script p cert s space built accepts =
     let means = delta_sat_is bound (commands_of script) p built.whole built.problem cert s space accepts in record { satisfies = means.0; near = means.1 }
 
 solve-delta : (words : Solve) (script cert_in : List ℕ) (old new : Sight) → IsShown (Some (solve words)) script cert_in old new Answered → IsTrueDeltaSat (Some (solve words)) script cert_in old new
-solve-delta words script cert_in old new (course, can, status, went) rest wrote =
+solve-delta words script cert_in old new shows single rest wrote =
     let o : Options = words.options in
     let s : Loosenings = loosenings_of o in
-    let tail : Course = can.0 in
-    let status_is : tail.status ≡ Answered = sym (ap (λ (c : Course). c.status) can.2) ∙ status in
-    let on = goes-on o.bound script (λ p. CanSolve p o words.cert) (script_fault o.bound script) tail can.1 status_is in
-    let so = solved-so on.p o words.cert tail on.can status_is in
-    let answer : course.answer ≡ solve_text on.p o.budget s so.value = ap (λ (c : Course). c.answer) can.2 ∙ so.answer_is in
-    let text : delta_sat_word ++ rest ≡ solve_text on.p o.budget s so.value = written-is old.answer new.answer (delta_sat_word ++ rest) course.answer wrote went.answer ∙ answer in
-    let point = says-delta-sat on.p s o.budget rest so.value text in
-    let P : Value → Type 0 = λ v. IsAccepted on.p o.bound so.cert s v in
+    let so = solved-one o script old new single (solve-so words script cert_in old new shows) in
+    let text : delta_sat_word ++ rest ≡ solve_text so.p o.budget s so.value = written-is old.answer new.answer (delta_sat_word ++ rest) (solve_text so.p o.budget s so.value) wrote so.answer in
+    let point = says-delta-sat so.p s o.budget rest so.value text in
+    let P : Value → Type 0 = λ v. IsAccepted so.p o.bound so.cert s v in
     let W : List ℕ → Type 0 = λ t. IsWritten t old new in
-    (on.p, point.0, on.built, subst W (text ∙ ap (λ (v : Value). solve_text on.p o.budget s v) point.1) wrote, delta-so o.bound script on.p so.cert s point.0 on.built (subst P point.1 so.is.accepted))
+    (so.p, point.0, so.built, subst W (text ∙ ap (λ (v : Value). solve_text so.p o.budget s v) point.1) wrote, delta-so o.bound script so.p so.cert s point.0 so.built (subst P point.1 so.accepts))
 
 check-delta : (words : Check) (script cert_in : List ℕ) (old new : Sight) → IsShown (Some (check words)) script cert_in old new Answered → IsTrueDeltaSat (Some (check words)) script cert_in old new
-check-delta words script cert_in old new (course, can, status, went) rest wrote =
-    let so = check-goes words script cert_in course can status in
-    let text : confirmed_delta_sat_word ++ rest ≡ check_text so.s so.value = written-is old.answer new.answer (confirmed_delta_sat_word ++ rest) course.answer wrote went.answer ∙ so.answer_is in
+check-delta words script cert_in old new shows single rest wrote =
+    let so = checked-one words.bound script cert_in old new single (check-so words script cert_in old new shows) in
+    let text : confirmed_delta_sat_word ++ rest ≡ check_text so.s so.value = written-is old.answer new.answer (confirmed_delta_sat_word ++ rest) (check_text so.s so.value) wrote so.answer in
     let point = confirms-delta-sat so.s rest so.value text in
     let P : Value → Type 0 = λ v. IsAccepted so.p words.bound cert_in so.s v in
     let W : List ℕ → Type 0 = λ t. IsWritten t old new in
@@ -237,39 +288,39 @@ answered-not x e f = let same : ◌≡◌ {A = Status} Answered CertRefused = sy
 script-refused-not : (x : Status) → x ≡ ScriptRefused → x ≡ CertRefused → ⊥
 script-refused-not x e f = let same : ◌≡◌ {A = Status} ScriptRefused CertRefused = sym e ∙ f in cc
 
-refused-by : (words : Check) (script cert_in : List ℕ) (old new : Sight) (p : Problem) (course : Course) (v : Verdict) → IsBuilt words.bound script p → verdict p words.bound cert_in ≡ v → course ≡ behind ((CertIn, words.cert) ∷ []) (verdict_course v)
-    → course.status ≡ CertRefused → new.answer ≡ appended old.answer course.answer → IsRefusedCert words.bound script cert_in old new
-refused-by words script cert_in old new p course (accepted s value) built e can status wrote = absurd (answered-not course.status (ap (λ (c : Course). c.status) can) status)
-refused-by words script cert_in old new p course (refused f n) built e can status wrote = record {
-  problem = p;
-  built = built;
+refused-by : (words : Check) (script cert_in : List ℕ) (old new : Sight) (ps : List (Problem × Bool)) (course : Course) (v : SessionVerdict) → HasSession words.bound ps script → session_verdict ps words.bound cert_in ≡ v →
+    course ≡ behind ((CertIn, words.cert) ∷ []) (verdict_course v) → course.status ≡ CertRefused → new.answer ≡ appended old.answer course.answer → IsRefusedCert words.bound script cert_in old new
+refused-by words script cert_in old new ps course (accepted s values) has e can status wrote = absurd (answered-not course.status (ap (λ (c : Course). c.status) can) status)
+refused-by words script cert_in old new ps course (refused f n) has e can status wrote = record {
+  problems = ps;
+  session = has;
   fault = f;
   line = n;
   refuses = e;
   written = wrote ∙ ap (λ (c : Course). appended old.answer c.answer) can;
 }
 
-check-refused : (words : Check) (script cert_in : List ℕ) (old new : Sight) (tail : Course) (f : Option ScriptFault) → CanBy f (OfProblem words.bound script (λ p. CanCheck p words.bound words.cert cert_in)) tail
+check-refused : (words : Check) (script cert_in : List ℕ) (old new : Sight) (tail : Course) (f : Option ScriptFault) → CanBy f (OfSession words.bound script (λ ps. CanCheck ps words.bound words.cert cert_in)) tail
     → tail.status ≡ CertRefused → new.answer ≡ appended old.answer tail.answer → IsRefusedCert words.bound script cert_in old new
 check-refused words script cert_in old new tail (Some f) can status wrote = absurd (script-refused-not tail.status (ap (λ (c : Course). c.status) can) status)
 check-refused words script cert_in old new tail None can status wrote =
-    refused-by words script cert_in old new can.0 tail (verdict can.0 words.bound cert_in) can.1 refl can.2 status wrote
+    refused-by words script cert_in old new can.0 tail (session_verdict can.0 words.bound cert_in) can.1 refl can.2 status wrote
 
 -- of `upgrade`, which writes nothing then
-upgrade-refused-by : (words : Upgrade) (script cert_in : List ℕ) (old new : Sight) (p : Problem) (tail : Course) (v : Verdict) → IsBuilt words.bound script p → verdict p words.bound cert_in ≡ v → CanUpgradeBy v p words.bound words.out cert_in tail
+upgrade-refused-by : (words : Upgrade) (script cert_in : List ℕ) (old new : Sight) (ps : List (Problem × Bool)) (tail : Course) (v : SessionVerdict) → HasSession words.bound ps script → session_verdict ps words.bound cert_in ≡ v → CanUpgradeBy v ps words.bound words.out cert_in tail
     → tail.status ≡ CertRefused → new.answer ≡ appended old.answer tail.answer → new.cert_out ≡ appended old.cert_out tail.cert → IsTrueRefusal (Some (upgrade words)) script cert_in old new
-upgrade-refused-by words script cert_in old new p tail (accepted s value) built e can status wrote none = absurd (answered-not tail.status (ap (λ (c : Course). c.status) can.1) status)
-upgrade-refused-by words script cert_in old new p tail (refused f n) built e can status wrote none = (
-  record { problem = p; built = built; fault = f; line = n; refuses = e; written = wrote ∙ ap (λ (c : Course). appended old.answer c.answer) can },
+upgrade-refused-by words script cert_in old new ps tail (accepted s values) has e can status wrote none = absurd (answered-not tail.status (ap (λ (c : Course). c.status) can.1) status)
+upgrade-refused-by words script cert_in old new ps tail (refused f n) has e can status wrote none = (
+  record { problems = ps; session = has; fault = f; line = n; refuses = e; written = wrote ∙ ap (λ (c : Course). appended old.answer c.answer) can },
   none ∙ ap (λ (c : Course). appended old.cert_out c.cert) can,
 )
 
-upgrade-refused : (words : Upgrade) (script cert_in : List ℕ) (old new : Sight) (tail : Course) (f : Option ScriptFault) → CanBy f (OfProblem words.bound script (λ p. CanUpgrade p words.bound words.cert words.out cert_in)) tail
+upgrade-refused : (words : Upgrade) (script cert_in : List ℕ) (old new : Sight) (tail : Course) (f : Option ScriptFault) → CanBy f (OfSession words.bound script (λ ps. CanUpgrade ps words.bound words.cert words.out cert_in)) tail
     → tail.status ≡ CertRefused → new.answer ≡ appended old.answer tail.answer → new.cert_out ≡ appended old.cert_out tail.cert → IsTrueRefusal (Some (upgrade words)) script cert_in old new
 upgrade-refused words script cert_in old new tail (Some f) can status wrote none = absurd (script-refused-not tail.status (ap (λ (c : Course). c.status) can) status)
 upgrade-refused words script cert_in old new tail None can status wrote none =
     let is = can.2 in
-    upgrade-refused-by words script cert_in old new can.0 is.0 (verdict can.0 words.bound cert_in) can.1 refl is.1 (sym (ap (λ (c : Course). c.status) is.2) ∙ status)
+    upgrade-refused-by words script cert_in old new can.0 is.0 (session_verdict can.0 words.bound cert_in) can.1 refl is.1 (sym (ap (λ (c : Course). c.status) is.2) ∙ status)
     (wrote ∙ ap (λ (c : Course). appended old.answer c.answer) is.2) (none ∙ ap (λ (c : Course). appended old.cert_out c.cert) is.2)
 
 refusal-true : (command : Option Command) (script cert_in : List ℕ) (old new : Sight) → IsShown command script cert_in old new CertRefused → IsTrueRefusal command script cert_in old new
@@ -279,32 +330,32 @@ refusal-true (Some (demo words)) script cert_in old new shows = tt
 refusal-true (Some (plan words)) script cert_in old new shows = tt
 refusal-true (Some (check words)) script cert_in old new (course, can, status, went) =
     let tail : Course = can.0 in
-    check-refused words script cert_in old new tail (script_fault words.bound script) can.1 (sym (ap (λ (c : Course). c.status) can.2) ∙ status)
+    check-refused words script cert_in old new tail (session_fault words.bound script) can.1 (sym (ap (λ (c : Course). c.status) can.2) ∙ status)
     (went.answer ∙ ap (λ (c : Course). appended old.answer c.answer) can.2)
 refusal-true (Some (upgrade words)) script cert_in old new (course, can, status, went) =
     let tail : Course = can.0 in
-    upgrade-refused words script cert_in old new tail (script_fault words.bound script) can.1 (sym (ap (λ (c : Course). c.status) can.2) ∙ status)
+    upgrade-refused words script cert_in old new tail (session_fault words.bound script) can.1 (sym (ap (λ (c : Course). c.status) can.2) ∙ status)
     (went.answer ∙ ap (λ (c : Course). appended old.answer c.answer) can.2) (went.cert ∙ ap (λ (c : Course). appended old.cert_out c.cert) can.2)
 
 -- ---- certificates that are written anew
 
-upgraded-by : (words : Upgrade) (script cert_in : List ℕ) (old new : Sight) (p : Problem) (tail : Course) (v : Verdict) → IsBuilt words.bound script p → verdict p words.bound cert_in ≡ v → CanUpgradeBy v p words.bound words.out cert_in tail
+upgraded-by : (words : Upgrade) (script cert_in : List ℕ) (old new : Sight) (ps : List (Problem × Bool)) (tail : Course) (v : SessionVerdict) → HasSession words.bound ps script → session_verdict ps words.bound cert_in ≡ v → CanUpgradeBy v ps words.bound words.out cert_in tail
     → tail.status ≡ Answered → new.cert_out ≡ appended old.cert_out tail.cert → IsUpgraded words.bound script cert_in old new
-upgraded-by words script cert_in old new p tail (accepted s value) built e can status wrote = record {
-  problem = p;
-  built = built;
+upgraded-by words script cert_in old new ps tail (accepted s values) has e can status wrote = record {
+  problems = ps;
+  session = has;
   loosenings = s;
-  value = value;
+  values = values;
   accepted = e;
   written = wrote ∙ ap (λ (c : Course). appended old.cert_out c.cert) can.1;
   again = can.0;
 }
-upgraded-by words script cert_in old new p tail (refused f n) built e can status wrote = absurd (certificate-refused-not tail.status (ap (λ (c : Course). c.status) can) status)
+upgraded-by words script cert_in old new ps tail (refused f n) has e can status wrote = absurd (certificate-refused-not tail.status (ap (λ (c : Course). c.status) can) status)
 
-upgraded-of : (words : Upgrade) (script cert_in : List ℕ) (old new : Sight) (p : Problem) (tail : Course) → IsBuilt words.bound script p → CanUpgrade p words.bound words.cert words.out cert_in tail
+upgraded-of : (words : Upgrade) (script cert_in : List ℕ) (old new : Sight) (ps : List (Problem × Bool)) (tail : Course) → HasSession words.bound ps script → CanUpgrade ps words.bound words.cert words.out cert_in tail
     → tail.status ≡ Answered → new.cert_out ≡ appended old.cert_out tail.cert → IsUpgraded words.bound script cert_in old new
-upgraded-of words script cert_in old new p tail built can status wrote =
-    upgraded-by words script cert_in old new p can.0 (verdict p words.bound cert_in) built refl can.1 (sym (ap (λ (c : Course). c.status) can.2) ∙ status)
+upgraded-of words script cert_in old new ps tail has can status wrote =
+    upgraded-by words script cert_in old new ps can.0 (session_verdict ps words.bound cert_in) has refl can.1 (sym (ap (λ (c : Course). c.status) can.2) ∙ status)
     (wrote ∙ ap (λ (c : Course). appended old.cert_out c.cert) can.2)
 
 upgrade-true : (command : Option Command) (script cert_in : List ℕ) (old new : Sight) → IsShown command script cert_in old new Answered → IsTrueUpgrade command script cert_in old new
@@ -316,27 +367,27 @@ upgrade-true (Some (plan words)) script cert_in old new shows = tt
 upgrade-true (Some (upgrade words)) script cert_in old new (course, can, status, went) =
     let tail : Course = can.0 in
     let status_is : tail.status ≡ Answered = sym (ap (λ (c : Course). c.status) can.2) ∙ status in
-    let on = goes-on words.bound script (λ p. CanUpgrade p words.bound words.cert words.out cert_in) (script_fault words.bound script) tail can.1 status_is in
-    upgraded-of words script cert_in old new on.p tail on.built on.can status_is (went.cert ∙ ap (λ (c : Course). appended old.cert_out c.cert) can.2)
+    let on = goes-on words.bound script (λ ps. CanUpgrade ps words.bound words.cert words.out cert_in) (session_fault words.bound script) tail can.1 status_is in
+    upgraded-of words script cert_in old new on.ps tail on.has on.can status_is (went.cert ∙ ap (λ (c : Course). appended old.cert_out c.cert) can.2)
 
 -- ---- plans
 
-plan-so : BuiltIsOne → (words : Plan) (script cert_in : List ℕ) (old new : Sight) → IsShown (Some (plan words)) script cert_in old new Answered → IsPlanned words script old new
+plan-so : SessionIsOne → (words : Plan) (script cert_in : List ℕ) (old new : Sight) → IsShown (Some (plan words)) script cert_in old new Answered → IsPlanned words script old new
 plan-so one words script cert_in old new (course, can, status, went) =
     let tail : Course = can.0 in
     let status_is : tail.status ≡ Answered = sym (ap (λ (c : Course). c.status) can.2) ∙ status in
-    let on = goes-on words.bound script (λ p. CanPlan p words.delta_bits words.margin_bits) (script_fault words.bound script) tail can.1 status_is in
+    let on = goes-on words.bound script (λ ps. CanPlan ps words.delta_bits words.margin_bits) (session_fault words.bound script) tail can.1 status_is in
     let is = on.can in
     record {
-      problem = on.p;
-      built = on.built;
-      answer = is.0;
-      plan = is.1;
+      problems = on.ps;
+      session = on.has;
+      answers = is.0;
+      plans = is.1;
       written = went.answer ∙ ap (λ (c : Course). appended old.answer c.answer) can.2 ∙ ap (λ (c : Course). appended old.answer c.answer) is.2;
-      enough = is_enough one words script on.p on.built is.0 is.1;
+      enough = are_enough one words script on.ps on.has is.0 is.1;
     }
 
-plan-true : BuiltIsOne → (command : Option Command) (script cert_in : List ℕ) (old new : Sight) → IsShown command script cert_in old new Answered → IsTruePlan command script cert_in old new
+plan-true : SessionIsOne → (command : Option Command) (script cert_in : List ℕ) (old new : Sight) → IsShown command script cert_in old new Answered → IsTruePlan command script cert_in old new
 plan-true one None script cert_in old new shows = tt
 plan-true one (Some (solve words)) script cert_in old new shows = tt
 plan-true one (Some (check words)) script cert_in old new shows = tt
@@ -344,11 +395,24 @@ plan-true one (Some (demo words)) script cert_in old new shows = tt
 plan-true one (Some (upgrade words)) script cert_in old new shows = tt
 plan-true one (Some (plan words)) script cert_in old new shows = plan-so one words script cert_in old new shows
 
+-- ---- all answers
+
+answer-true : (command : Option Command) (script cert_in : List ℕ) (old new : Sight) → IsShown command script cert_in old new Answered → IsTrueAnswer command script cert_in old new
+answer-true None script cert_in old new shows = tt
+answer-true (Some (solve words)) script cert_in old new shows = solve-so words script cert_in old new shows
+answer-true (Some (check words)) script cert_in old new shows = check-so words script cert_in old new shows
+answer-true (Some (demo words)) script cert_in old new shows = tt
+answer-true (Some (upgrade words)) script cert_in old new shows = tt
+answer-true (Some (plan words)) script cert_in old new shows = tt
+
 -- ---- of whole runs
 
 -- the status of a run that ends with it shows what its row says
 shown-with : (r : Run) (status : Status) → HasCourse r → (script cert_in : List ℕ) → HasInput r.command r.old script cert_in → r.status ≡ status → IsShown r.command script cert_in r.old r.new status
 shown-with r status course script cert_in tells e = subst (λ (s : Status). IsShown r.command script cert_in r.old r.new s) e (status_is_shown r course script cert_in tells)
+
+pub answers_are_true : (r : Run) → HasCourse r → AnswersAreTrue r
+answers_are_true r course script cert_in tells e = answer-true r.command script cert_in r.old r.new (shown-with r Answered course script cert_in tells e)
 
 pub unsat_is_true : (r : Run) → HasCourse r → UnsatIsTrue r
 unsat_is_true r course script cert_in tells e = unsat-true r.command script cert_in r.old r.new (shown-with r Answered course script cert_in tells e)
@@ -362,5 +426,5 @@ refusal_is_true r course script cert_in tells e = refusal-true r.command script 
 pub upgrade_is_true : (r : Run) → HasCourse r → UpgradeIsTrue r
 upgrade_is_true r course script cert_in tells e = upgrade-true r.command script cert_in r.old r.new (shown-with r Answered course script cert_in tells e)
 
-pub plan_is_true : BuiltIsOne → (r : Run) → HasCourse r → PlanIsTrue r
+pub plan_is_true : SessionIsOne → (r : Run) → HasCourse r → PlanIsTrue r
 plan_is_true one r course script cert_in tells e = plan-true one r.command script cert_in r.old r.new (shown-with r Answered course script cert_in tells e)

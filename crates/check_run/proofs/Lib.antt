@@ -10,3 +10,6 @@ pub mod Verdicts
 pub mod Lines
 pub mod Symbols
 pub mod Texts
+pub mod Means
+pub mod Single
+pub mod Within

@@ -4,7 +4,7 @@ use Rattle.std.specs.Prelude.{option_map}
 use Rattle.desk.specs.Sight.{Sight}
 use Rattle.script_fault.specs.declared.fault.ScriptFault.{ScriptFault}
 use Rattle.check_run.specs.ScriptFaults.{fault_text}
-use Rattle.script_reading.specs.Faults.{most_bytes, script_fault}
+use Rattle.script_reading.specs.Faults.{most_bytes, session_fault}
 use Rattle.script_reading.proofs.Long.{long_fault}
 use Rattle.check_run.specs.declared.script.Halt.{Halt}
 use Rattle.check_run.specs.declared.script.Halt.TheVariants as halt
@@ -24,7 +24,7 @@ pub fetches_long : (bound : Option ℕ) (name : List ℕ) (old new : Sight) (h :
 fetches_long bound name old new (halt.Refused text) after long is = record {
   after = after;
   read = over (λ held. most_bytes < length held) (λ script. length script ≤ most_bytes → new.script ≡ Some []) old.script (λ script l short. absurd (omega arith)) long;
-  has = over (λ held. most_bytes < length held) (λ script. HasFaultText (script_fault bound script) text.items) old.script
+  has = over (λ held. most_bytes < length held) (λ script. HasFaultText (session_fault bound script) text.items) old.script
       (λ script l. ap (λ (f : Option ScriptFault). option_map fault_text f) (long_fault bound script l) ∙ ap (λ (t : List ℕ). Some t) (sym is)) long;
 }
 fetches_long bound name old new halt.Failed after long is = absurd is

@@ -1,5 +1,5 @@
 -- A run from its script on.
-use Rattle.std.proofs.Common.{◌≡◌, ◌≤◌, ℕ, List, [], ◌∷◌, Option, Some, None, length, refl, ap, sym, subst, ◌∙◌, min, IfSome}
+use Rattle.std.proofs.Common.{◌≡◌, ◌≤◌, ℕ, List, [], ◌∷◌, Bool, Option, Some, None, length, refl, ap, sym, subst, ◌∙◌, min, IfSome}
 use Rattle.std.specs.Prelude.{option_map}
 use Rattle.desk.specs.declared.desk.Port.TheVariants.{Script}
 use Rattle.desk.specs.Sight.{Sight, SideFailed}
@@ -8,26 +8,27 @@ use Rattle.gen_script.specs.Demo.{demo_script}
 use Rattle.poly_graph.specs.Problem.{Problem}
 use Rattle.script_fault.specs.declared.fault.ScriptFault.{ScriptFault}
 use Rattle.check_run.specs.ScriptFaults.{fault_text}
-use Rattle.script_reading.specs.Faults.{most_bytes, script_fault}
+use Rattle.script_reading.specs.Faults.{most_bytes, session_fault}
 use Rattle.check_run.specs.declared.status.Status.{Status}
 use Rattle.check_run.specs.declared.status.Status.TheVariants.{Answered, CertRefused, ScriptRefused, Usage, InFailed, OutFailed, NoMemory}
 use Rattle.check_run.specs.declared.script.Halt.{Halt}
 use Rattle.check_run.specs.declared.script.Halt.TheVariants as halt
 use Rattle.check_run.specs.Course.{Start, Course, says, behind, appended, Quiet, Ends, at_its_end, out_failed, no_memory, RunEnds, on_course, in_failed, no_memory_yet}
-use Rattle.check_run.specs.Can.{CanDemo, CanBy, CanFrom, OfProblem, Can}
+use Rattle.check_run.specs.Can.{CanDemo, CanBy, CanFrom, OfSession, Can}
 use Rattle.check_run.specs.Run.{HasCause, ReadsScript, ScriptIsRead, run_of}
 use Rattle.check_run.specs.Parts.{After}
 use Rattle.script_reading.specs.Reader.{HasProblem}
+use Rattle.script_reading.specs.Session.{HasSession}
 use Rattle.check_run.specs.Script.{HasFaultText, script_start, Fetches, Halts, HaltEnds}
 use Rattle.check_run.proofs.Ending.{take_first, ends_behind, run_behind, widen}
 
 -- ---- what a course is behind its script
 
-by_problem : (bound : Option ℕ) (script : List ℕ) (p : Problem) (goes : Problem → Course → Type 0) → HasProblem bound p script → (course : Course) → goes p course →
-    CanBy (script_fault bound script) (OfProblem bound script goes) course
-by_problem bound script p goes has course can =
-    let P : Option ScriptFault → Type 0 = λ f. CanBy f (OfProblem bound script goes) course in
-    subst P (sym has.clean) (p, has.built, can)
+by_session : (bound : Option ℕ) (script : List ℕ) (ps : List (Problem × Bool)) (goes : List (Problem × Bool) → Course → Type 0) → HasSession bound ps script → (course : Course) → goes ps course →
+    CanBy (session_fault bound script) (OfSession bound script goes) course
+by_session bound script ps goes has course can =
+    let P : Option ScriptFault → Type 0 = λ f. CanBy f (OfSession bound script goes) course in
+    subst P (sym has.clean) (ps, has, can)
 
 by_text : (f : Option ScriptFault) (text : List ℕ) (goes : Course → Type 0) → option_map fault_text f ≡ Some text → CanBy f goes (says ScriptRefused text)
 by_text None text goes e = cc
@@ -39,13 +40,13 @@ told P o script e h = let Q : Option (List ℕ) → Type 0 = λ x. IfSome x P in
 
 -- ---- the ends of a run behind its script
 
-module _ (bound : Option ℕ) (name script : List ℕ) (goes : Problem → Course → Type 0) (ins : List Start) (old mid new : Sight) (status : Status) where
-  pub run_problem : (p : Problem) → Fetches bound name p old mid → old.script ≡ Some script → RunEnds (goes p) ins mid new status →
-      RunEnds (CanFrom name (script_fault bound script) (OfProblem bound script goes)) ((Script, name) ∷ ins) old new status
-  run_problem p fetched e ends =
-      let has = told (HasProblem bound p) old.script script e fetched.has in
-      run_behind (goes p) (CanFrom name (script_fault bound script) (OfProblem bound script goes)) (Script, name) ins old mid new status fetched.after
-      (λ tail can. (tail, by_problem bound script p goes has tail can, refl)) ends
+module _ (bound : Option ℕ) (name script : List ℕ) (goes : List (Problem × Bool) → Course → Type 0) (ins : List Start) (old mid new : Sight) (status : Status) where
+  pub run_session : (ps : List (Problem × Bool)) → Fetches bound name ps old mid → old.script ≡ Some script → RunEnds (goes ps) ins mid new status →
+      RunEnds (CanFrom name (session_fault bound script) (OfSession bound script goes)) ((Script, name) ∷ ins) old new status
+  run_session ps fetched e ends =
+      let has = told (HasSession bound ps) old.script script e fetched.has in
+      run_behind (goes ps) (CanFrom name (session_fault bound script) (OfSession bound script goes)) (Script, name) ins old mid new status fetched.after
+      (λ tail can. (tail, by_session bound script ps goes has tail can, refl)) ends
 
   quiet_more : Quiet (script_start name) old new → Quiet ((Script, name) ∷ ins) old new
   quiet_more quiet = record {
@@ -56,11 +57,11 @@ module _ (bound : Option ℕ) (name script : List ℕ) (goes : Problem → Cours
   }
 
   pub run_halted : (h : Halt) → Halts bound name h old mid → old.script ≡ Some script → HaltEnds h mid new status →
-      RunEnds (CanFrom name (script_fault bound script) (OfProblem bound script goes)) ((Script, name) ∷ ins) old new status
+      RunEnds (CanFrom name (session_fault bound script) (OfSession bound script goes)) ((Script, name) ∷ ins) old new status
   run_halted (halt.Refused text) fetched e ends =
-      let has = told (λ s. HasFaultText (script_fault bound s) text.items) old.script script e fetched.has in
+      let has = told (λ s. HasFaultText (session_fault bound s) text.items) old.script script e fetched.has in
       on_course (behind (script_start name) (says ScriptRefused text.items))
-      (says ScriptRefused text.items, by_text (script_fault bound script) text.items (OfProblem bound script goes) has, refl)
+      (says ScriptRefused text.items, by_text (session_fault bound script) text.items (OfSession bound script goes) has, refl)
       (ends_behind (script_start name) (says ScriptRefused text.items) old mid new status fetched.after ends)
   run_halted halt.Failed halted e ends =
       let S : Sight → Type 0 = λ d. SideFailed old.in_faults d.in_faults in let Q : Sight → Type 0 = λ d. Quiet (script_start name) old d in
@@ -107,8 +108,8 @@ cause_halted command bound name halt.Memory old mid new status reads halted ends
 
 -- ---- that the script was read
 
-pub read_fetched : (command : Option Command) (bound : Option ℕ) (name : List ℕ) (p : Problem) (old mid new : Sight) (status : Status) → Fetches bound name p old mid → new.script ≡ mid.script → ScriptIsRead (run_of command old new status)
-read_fetched command bound name p old mid new status fetched same reads script e short failed memory = same ∙ told (λ s. mid.script ≡ Some []) old.script script e fetched.read
+pub read_fetched : (command : Option Command) (bound : Option ℕ) (name : List ℕ) (ps : List (Problem × Bool)) (old mid new : Sight) (status : Status) → Fetches bound name ps old mid → new.script ≡ mid.script → ScriptIsRead (run_of command old new status)
+read_fetched command bound name ps old mid new status fetched same reads script e short failed memory = same ∙ told (λ s. mid.script ≡ Some []) old.script script e fetched.read
 
 pub read_halted : (command : Option Command) (bound : Option ℕ) (name : List ℕ) (h : Halt) (old mid new : Sight) (status : Status) → Halts bound name h old mid → HaltEnds h mid new status → new.script ≡ mid.script → ScriptIsRead (run_of command old new status)
 read_halted command bound name (halt.Refused text) old mid new status halted ends same reads script e short failed memory = same ∙ told (λ s. length s ≤ most_bytes → mid.script ≡ Some []) old.script script e halted.read short

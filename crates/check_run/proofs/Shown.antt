@@ -1,17 +1,18 @@
 -- What each status shows, of a run that ends on one of its courses.
-use Rattle.std.proofs.Common.{◌≡◌, inl, inr, ℕ, List, Option, Some, None, sym, subst, ◌∙◌}
+use Rattle.std.proofs.Common.{◌≡◌, inl, inr, ℕ, List, Bool, Option, Some, None, sym, subst, ◌∙◌}
 use Rattle.desk.specs.Sight.{Sight}
 use Rattle.command_line.specs.declared.request.Options.{Options}
 use Rattle.command_line.specs.Words.{Command, solve, check, demo, upgrade, plan}
 use Rattle.gen_script.specs.Demo.{demo_script}
 use Rattle.poly_graph.specs.Problem.{Problem}
-use Rattle.cert_model.specs.Accepted.{Verdict, accepted, refused, verdict}
+use Rattle.cert_model.specs.Accepted.{accepted, refused}
+use Rattle.cert_model.specs.Session.{SessionVerdict, session_verdict}
 use Rattle.script_fault.specs.declared.fault.ScriptFault.{ScriptFault}
-use Rattle.script_reading.specs.Faults.{script_fault}
+use Rattle.script_reading.specs.Faults.{session_fault}
 use Rattle.check_run.specs.declared.status.Status.{Status}
 use Rattle.check_run.specs.declared.status.Status.TheVariants.{Answered, CertRefused, ScriptRefused, Usage, InFailed, OutFailed, NoMemory}
 use Rattle.check_run.specs.Course.{Course, Went, Ends, at_its_end, out_failed, no_memory, RunEnds, on_course, in_failed, no_memory_yet}
-use Rattle.check_run.specs.Can.{CanSolve, CanCheck, CanUpgrade, CanUpgradeBy, CanDemo, CanPlan, CanBy, OfProblem, Can, in_starts, verdict_course}
+use Rattle.check_run.specs.Can.{CanSolve, CanCheck, CanUpgrade, CanUpgradeBy, CanDemo, CanPlan, CanBy, OfSession, Can, in_starts, verdict_course}
 use Rattle.check_run.specs.Run.{Run, HasCourse, IsShown, IsDue, run_of, StatusIsDue, StatusIsShown}
 
 -- a status that is told by an answer
@@ -27,25 +28,25 @@ IsSaid NoMemory = ⊥
 said-same : (a b : Course) → a ≡ b → IsSaid b.status → IsSaid a.status
 said-same a b e h = let P : Course → Type 0 = λ c. IsSaid c.status in subst P (sym e) h
 
-said-solve : (p : Problem) (o : Options) (name : List ℕ) (course : Course) → CanSolve p o name course → IsSaid course.status
-said-solve p o name course can = said-same course _ can.3 tt
+said-solve : (ps : List (Problem × Bool)) (o : Options) (name : List ℕ) (course : Course) → CanSolve ps o name course → IsSaid course.status
+said-solve ps o name course can = said-same course _ can.3 tt
 
 said-demo : (p : Problem) (o : Options) (name bytes : List ℕ) (course : Course) → CanDemo p o name bytes course → IsSaid course.status
 said-demo p o name bytes course can = said-same course _ can.2 tt
 
-said-verdict : (v : Verdict) → IsSaid (verdict_course v).status
-said-verdict (accepted s value) = tt
+said-verdict : (v : SessionVerdict) → IsSaid (verdict_course v).status
+said-verdict (accepted s values) = tt
 said-verdict (refused f n) = tt
 
-said-upgrade-by : (v : Verdict) (p : Problem) (bound : Option ℕ) (out cert_in : List ℕ) (course : Course) → CanUpgradeBy v p bound out cert_in course → IsSaid course.status
-said-upgrade-by (accepted s value) p bound out cert_in course can = said-same course _ can.1 tt
-said-upgrade-by (refused f n) p bound out cert_in course can = said-same course _ can tt
+said-upgrade-by : (v : SessionVerdict) (ps : List (Problem × Bool)) (bound : Option ℕ) (out cert_in : List ℕ) (course : Course) → CanUpgradeBy v ps bound out cert_in course → IsSaid course.status
+said-upgrade-by (accepted s values) ps bound out cert_in course can = said-same course _ can.1 tt
+said-upgrade-by (refused f n) ps bound out cert_in course can = said-same course _ can tt
 
-said-upgrade : (p : Problem) (bound : Option ℕ) (name out cert_in : List ℕ) (course : Course) → CanUpgrade p bound name out cert_in course → IsSaid course.status
-said-upgrade p bound name out cert_in course can = said-same course _ can.2 (said-upgrade-by (verdict p bound cert_in) p bound out cert_in can.0 can.1)
+said-upgrade : (ps : List (Problem × Bool)) (bound : Option ℕ) (name out cert_in : List ℕ) (course : Course) → CanUpgrade ps bound name out cert_in course → IsSaid course.status
+said-upgrade ps bound name out cert_in course can = said-same course _ can.2 (said-upgrade-by (session_verdict ps bound cert_in) ps bound out cert_in can.0 can.1)
 
-said-by : (bound : Option ℕ) (script : List ℕ) (goes : Problem → Course → Type 0) → ((p : Problem) (course : Course) → goes p course → IsSaid course.status) →
-    (f : Option ScriptFault) (course : Course) → CanBy f (OfProblem bound script goes) course → IsSaid course.status
+said-by : (bound : Option ℕ) (script : List ℕ) (goes : List (Problem × Bool) → Course → Type 0) → ((ps : List (Problem × Bool)) (course : Course) → goes ps course → IsSaid course.status) →
+    (f : Option ScriptFault) (course : Course) → CanBy f (OfSession bound script goes) course → IsSaid course.status
 said-by bound script goes said (Some f) course can = said-same course _ can tt
 said-by bound script goes said None course can = said can.0 course can.2
 
@@ -53,13 +54,13 @@ said-by bound script goes said None course can = said can.0 course can.2
 said : (command : Option Command) (script cert_in : List ℕ) (course : Course) → Can command script cert_in course → IsSaid course.status
 said None script cert_in course can = said-same course _ can tt
 said (Some (solve words)) script cert_in course can = said-same course _ can.2
-    (said-by words.options.bound script (λ p. CanSolve p words.options words.cert) (λ p c h. said-solve p words.options words.cert c h) (script_fault words.options.bound script) can.0 can.1)
+    (said-by words.options.bound script (λ ps. CanSolve ps words.options words.cert) (λ ps c h. said-solve ps words.options words.cert c h) (session_fault words.options.bound script) can.0 can.1)
 said (Some (check words)) script cert_in course can = said-same course _ can.2
-    (said-by words.bound script (λ p. CanCheck p words.bound words.cert cert_in) (λ p c h. said-same c _ h (said-verdict (verdict p words.bound cert_in))) (script_fault words.bound script) can.0 can.1)
+    (said-by words.bound script (λ ps. CanCheck ps words.bound words.cert cert_in) (λ ps c h. said-same c _ h (said-verdict (session_verdict ps words.bound cert_in))) (session_fault words.bound script) can.0 can.1)
 said (Some (upgrade words)) script cert_in course can = said-same course _ can.2
-    (said-by words.bound script (λ p. CanUpgrade p words.bound words.cert words.out cert_in) (λ p c h. said-upgrade p words.bound words.cert words.out cert_in c h) (script_fault words.bound script) can.0 can.1)
+    (said-by words.bound script (λ ps. CanUpgrade ps words.bound words.cert words.out cert_in) (λ ps c h. said-upgrade ps words.bound words.cert words.out cert_in c h) (session_fault words.bound script) can.0 can.1)
 said (Some (plan words)) script cert_in course can = said-same course _ can.2
-    (said-by words.bound script (λ p. CanPlan p words.delta_bits words.margin_bits) (λ p c h. said-same c _ h.2 tt) (script_fault words.bound script) can.0 can.1)
+    (said-by words.bound script (λ ps. CanPlan ps words.delta_bits words.margin_bits) (λ ps c h. said-same c _ h.2 tt) (session_fault words.bound script) can.0 can.1)
 said (Some (demo words)) script cert_in course can = said-demo can.0 words.options words.cert (demo_script words.seed words.size) course can.2
 
 module _ (command : Option Command) (script cert_in : List ℕ) (old new : Sight) where

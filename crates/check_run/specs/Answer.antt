@@ -1,16 +1,24 @@
--- The certificate that answers a problem, whoever's search found it.
-use Rattle.std.specs.Prelude.{◌≡◌, ◌≤◌, ℕ, List, IsTrue}
+-- The certificate that answers a script's checks, whoever's search found it.
+use Rattle.std.specs.Prelude.{◌≡◌, ◌≤◌, ℕ, suc, List, [], ◌∷◌, ◌++◌, Bool, IsTrue, length}
 use Rattle.command_line.specs.declared.request.Options.{Options}
 use Rattle.poly_graph.specs.Problem.{Problem}
 use Rattle.cover_model.specs.State.{Loosenings}
 use Rattle.cert_model.specs.Due.{Standing, Value, at_point, left_open}
 use Rattle.cert_model.specs.Accepted.{IsAccepted}
-use Rattle.cert_model.specs.AnswerText.{has_open}
+use Rattle.cert_model.specs.AnswerText.{has_open, solve_text}
+use Rattle.cert_model.specs.Session.{AreAccepted, IsHonestPart, part_branches}
 use Rattle.cert_model.specs.Standing.{IsHonest, branches}
+use Rattle.cert_upgrade.specs.Upgraded.{newest}
 
--- the margin and delta of the words
+-- the margin and delta of the words, in the newest version for so many checks
+abbrev pub loosenings_for : ℕ → Options → Loosenings
+loosenings_for n options = record { margin_bits = options.margin_bits; delta_bits = options.delta_bits; version = newest n }
+
+-- for one check
 abbrev pub loosenings_of : Options → Loosenings
-loosenings_of options = record { margin_bits = options.margin_bits; delta_bits = options.delta_bits; version = 2 }
+loosenings_of options = loosenings_for 1 options
+
+-- ---- one check
 
 -- The cover is honest at the least width; it has at most as many branches as the budget, and exactly as many where a state is open.
 pub record IsHonestCover (p : Problem) (options : Options) (cert : List ℕ) (left : List Standing) : Type 0 where
@@ -26,3 +34,32 @@ IsFound p options cert (left_open left) = IsHonestCover p options cert left
 pub record IsAnswer (p : Problem) (options : Options) (cert : List ℕ) (value : Value) : Type 0 where
   pub accepted : IsAccepted p options.bound cert (loosenings_of options) value
   pub found : IsFound p options cert value
+
+-- ---- any number of checks
+
+-- Part k, one of p, is honest at the least width; it has at most as many branches as the budget, and exactly as many where a state is open.
+pub record IsHonestPartOf (ps : List (Problem × Bool)) (options : Options) (cert : List ℕ) (k : ℕ) (p : Problem) (left : List Standing) : Type 0 where
+  pub honest : IsHonestPart ps options.bound options.least_bits cert k p
+  pub within : part_branches ps options.bound cert k ≤ options.budget
+  pub spent : IsTrue (has_open left) → part_branches ps options.bound cert k ≡ options.budget
+
+abbrev pub IsFoundPart : List (Problem × Bool) → Options → List ℕ → ℕ → Problem → Value → Type 0
+IsFoundPart ps options cert k p (at_point space) = Unit {0}
+IsFoundPart ps options cert k p (left_open left) = IsHonestPartOf ps options cert k p left
+
+-- the parts from k on, one for each of these problems, have these values
+abbrev pub AreFoundFrom : List (Problem × Bool) → Options → List ℕ → ℕ → List (Problem × Bool) → List Value → Type 0
+AreFoundFrom ps options cert k [] [] = Unit {0}
+AreFoundFrom ps options cert k ((p, e) ∷ later) (v ∷ values) = IsFoundPart ps options cert k p v × AreFoundFrom ps options cert (suc k) later values
+AreFoundFrom ps options cert k _ _ = ⊥
+
+-- The certificate is accepted with the words' bound, margin and delta, and has these values, one for each problem: a point, or what an
+-- honest cover leaves. The budget is for each check.
+pub record AreAnswers (ps : List (Problem × Bool)) (options : Options) (cert : List ℕ) (values : List Value) : Type 0 where
+  pub accepted : AreAccepted ps options.bound cert (loosenings_for (length ps) options) values
+  pub found : AreFoundFrom ps options cert 0 ps values
+
+-- the answers of solve, one after the other
+abbrev pub solve_texts : ℕ → Loosenings → List (Problem × Bool) → List Value → List ℕ
+solve_texts budget s ((p, e) ∷ ps) (v ∷ values) = solve_text p budget s v ++ solve_texts budget s ps values
+solve_texts budget s _ _ = []

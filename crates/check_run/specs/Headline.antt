@@ -1,28 +1,90 @@
 -- What the answers of a run say of its script.
-use Rattle.std.specs.Prelude.{◌≡◌, ◌++◌, ℕ, List, [], Option, Some, None, IsSomeAnd, codes}
+use Rattle.std.specs.Prelude.{◌≡◌, ◌++◌, ℕ, suc, List, [], ◌∷◌, Bool, Option, Some, None, IsSomeAnd, codes, length, slice_get}
 use Rattle.desk.specs.Sight.{Sight}
 use Rattle.command_line.specs.declared.request.Options.{Options}
 use Rattle.command_line.specs.Words.{Command, Plan, Solve, solve, check, demo, upgrade, plan}
 use Rattle.gen_script.specs.Demo.{demo_script}
 use Rattle.dyadic.specs.Rounding.{exact}
+use Rattle.script_model.specs.Script as script_model
 use Rattle.script_model.specs.Script.{Satisfies}
 use Rattle.poly_graph.specs.Problem.{Problem}
 use Rattle.interval_model.specs.Space.{Space}
 use Rattle.width_plan.specs.Plan as width
-use Rattle.width_plan.specs.Plan.{IsPlan, least_bits}
+use Rattle.width_plan.specs.Plan.{least_bits}
 use Rattle.cover_model.specs.State.{Loosenings, margin_of, delta_of}
 use Rattle.cert_model.specs.Due.{CertFault, Value, at_point, left_open, coordinates}
-use Rattle.cert_model.specs.Accepted.{IsAccepted, refused, verdict}
-use Rattle.cert_model.specs.AnswerText.{text_line, unsat_text, delta_sat_text, check_text, verdict_text}
-use Rattle.cert_upgrade.specs.Upgraded.{upgraded, in_version_2}
+use Rattle.cert_model.specs.Accepted.{IsAccepted, refused}
+use Rattle.cert_model.specs.AnswerText.{text_line, unsat_text, delta_sat_text, check_text, solve_text, verdict_text}
+use Rattle.cert_model.specs.Session.{AreAccepted, session_verdict}
+use Rattle.cert_upgrade.specs.Upgraded.{in_newest, upgraded}
 use Rattle.headline.specs.Laws.{HasNoPoint}
 use Rattle.headline.specs.Near.{IsNearDeclaredBox}
+use Rattle.smt_script.specs.Levels.{Asked, checks_of}
 use Rattle.script_reading.specs.Reader.{commands_of, IsBuilt}
-use Rattle.check_run.specs.Answer.{loosenings_of}
+use Rattle.script_reading.specs.Session.{HasSession, steps_of_text}
+use Rattle.check_run.specs.Answer.{loosenings_for, loosenings_of, solve_texts, AreAnswers}
 use Rattle.check_run.specs.declared.status.Status.TheVariants.{Answered, CertRefused}
 use Rattle.check_run.specs.Course.{Course, appended}
-use Rattle.check_run.specs.Can.{Can, plan_text}
+use Rattle.check_run.specs.Can.{Can, ArePlans, check_texts, plan_texts}
 use Rattle.check_run.specs.Run.{Run, OnInput}
+
+-- the checks of a script, each with the commands that are in force at it
+abbrev pub asked_in : List ℕ → List Asked
+asked_in script = checks_of (steps_of_text script)
+
+-- ---- any number of checks
+
+-- The point satisfies the commands, each atom loosened by delta, and lies within delta of their declared box.
+pub record IsDeltaSat (bound : Option ℕ) (commands : List script_model.Command) (s : Loosenings) (space : Space) : Type 0 where
+  pub satisfies : Satisfies (exact (delta_of s)) (coordinates space) commands
+  pub near : IsNearDeclaredBox (exact (delta_of s)) bound commands (coordinates space)
+
+-- What a value says of the commands in force at its check: that they hold nowhere in their declared box, each atom loosened by the margin,
+-- or that the point is one of theirs. Where something is left it says nothing.
+abbrev pub IsTrueValue : Option ℕ → Loosenings → List script_model.Command → Value → Type 0
+IsTrueValue bound s commands (at_point space) = IsDeltaSat bound commands s space
+IsTrueValue bound s commands (left_open []) = HasNoPoint bound commands (exact (margin_of s))
+IsTrueValue bound s commands (left_open (x ∷ left)) = Unit {0}
+
+-- so each of these values, one for each check
+abbrev pub AreTrueValues : Option ℕ → Loosenings → List Asked → List Value → Type 0
+AreTrueValues bound s [] [] = Unit {0}
+AreTrueValues bound s (a ∷ asked) (v ∷ values) = IsTrueValue bound s a.script v × AreTrueValues bound s asked values
+AreTrueValues bound s _ _ = ⊥
+
+-- What was written as certificate answers the problems of the script's checks, the answer is the texts of its values, one after the other,
+-- and what each says of its check is so.
+pub record IsSolved (options : Options) (script : List ℕ) (old new : Sight) : Type 0 where
+  pub problems : List (Problem × Bool)
+  pub session : HasSession options.bound problems script
+  pub cert : List ℕ
+  pub values : List Value
+  pub written : new.cert_out ≡ appended old.cert_out cert
+  pub answers : AreAnswers problems options cert values
+  pub answer : new.answer ≡ appended old.answer (solve_texts options.budget (loosenings_for (length problems) options) problems values)
+  pub say : AreTrueValues options.bound (loosenings_for (length problems) options) (asked_in script) values
+
+-- The certificate is accepted for the problems of the script's checks, the answer is the texts of its values, one after the other, and what
+-- each says of its check is so.
+pub record IsConfirmed (bound : Option ℕ) (script cert_in : List ℕ) (old new : Sight) : Type 0 where
+  pub problems : List (Problem × Bool)
+  pub session : HasSession bound problems script
+  pub loosenings : Loosenings
+  pub values : List Value
+  pub accepted : AreAccepted problems bound cert_in loosenings values
+  pub answer : new.answer ≡ appended old.answer (check_texts loosenings values)
+  pub say : AreTrueValues bound loosenings (asked_in script) values
+
+-- `solve` and `check` answer where that is so.
+abbrev pub IsTrueAnswer : Option Command → List ℕ → List ℕ → Sight → Sight → Type 0
+IsTrueAnswer (Some (solve words)) script cert_in old new = IsSolved words.options script old new
+IsTrueAnswer (Some (check words)) script cert_in old new = IsConfirmed words.bound script cert_in old new
+IsTrueAnswer _ script cert_in old new = Unit {0}
+
+-- ---- one check
+
+abbrev pub HasOneCheck : List ℕ → Type 0
+HasOneCheck script = (a : Asked) × (asked_in script ≡ a ∷ [])
 
 -- this text was written as answer, where the desk shows the answer's bytes
 abbrev pub IsWritten : List ℕ → Sight → Sight → Type 0
@@ -48,26 +110,21 @@ pub record IsConfirmedUnsat (bound : Option ℕ) (script cert_in : List ℕ) (s 
 abbrev pub confirmed_unsat_word : List ℕ
 confirmed_unsat_word = text_line (codes "confirmed unsat")
 
--- The answer is `unsat` at the margin of the words, or `demo`'s, or confirms it at some margin: so it is.
+-- The answer is `unsat` at the margin of the words, or `demo`'s, or confirms it at some margin: so it is, of a script with one check.
 abbrev pub IsTrueUnsat : Option Command → List ℕ → List ℕ → Sight → Sight → Type 0
 IsTrueUnsat (Some (solve words)) script cert_in old new =
-    IsWritten (unsat_text (loosenings_of words.options)) old new → IsUnsat words.options script old new
+    HasOneCheck script → IsWritten (unsat_text (loosenings_of words.options)) old new → IsUnsat words.options script old new
 IsTrueUnsat (Some (check words)) script cert_in old new =
-    (rest : List ℕ) → IsWritten (confirmed_unsat_word ++ rest) old new →
+    HasOneCheck script → (rest : List ℕ) → IsWritten (confirmed_unsat_word ++ rest) old new →
     (s : Loosenings) × IsWritten (check_text s (left_open [])) old new × IsConfirmedUnsat words.bound script cert_in s
 IsTrueUnsat (Some (demo words)) script cert_in old new = IsUnsat words.options (demo_script words.seed words.size) old new
 IsTrueUnsat (Some (upgrade words)) script cert_in old new = Unit {0}
 IsTrueUnsat (Some (plan words)) script cert_in old new = Unit {0}
 IsTrueUnsat None script cert_in old new = Unit {0}
 
--- The point satisfies the script, each atom loosened by delta, and lies within delta of the declared box.
-pub record IsDeltaSat (bound : Option ℕ) (script : List ℕ) (s : Loosenings) (space : Space) : Type 0 where
-  pub satisfies : Satisfies (exact (delta_of s)) (coordinates space) (commands_of script)
-  pub near : IsNearDeclaredBox (exact (delta_of s)) bound (commands_of script) (coordinates space)
-
 -- The certificate is accepted as this point, which is one of the script.
 pub record IsConfirmedPoint (bound : Option ℕ) (script cert_in : List ℕ) (s : Loosenings) (space : Space) : Type 0 where
-  pub point : IsDeltaSat bound script s space
+  pub point : IsDeltaSat bound (commands_of script) s space
   pub problem : Problem
   pub built : IsBuilt bound script problem
   pub accepted : IsAccepted problem bound cert_in s (at_point space)
@@ -78,24 +135,26 @@ delta_sat_word = text_line (codes "delta-sat")
 abbrev pub confirmed_delta_sat_word : List ℕ
 confirmed_delta_sat_word = text_line (codes "confirmed delta-sat")
 
--- The answer is `delta-sat` with a point, or confirms such a one: the point is one.
+-- The answer is `delta-sat` with a point, or confirms such a one: the point is one of the script, which has one check.
 abbrev pub IsTrueDeltaSat : Option Command → List ℕ → List ℕ → Sight → Sight → Type 0
 IsTrueDeltaSat (Some (solve words)) script cert_in old new =
-    (rest : List ℕ) → IsWritten (delta_sat_word ++ rest) old new →
+    HasOneCheck script → (rest : List ℕ) → IsWritten (delta_sat_word ++ rest) old new →
     (p : Problem) × (space : Space) × IsBuilt words.options.bound script p × IsWritten (delta_sat_text p (loosenings_of words.options) space) old new
-    × IsDeltaSat words.options.bound script (loosenings_of words.options) space
+    × IsDeltaSat words.options.bound (commands_of script) (loosenings_of words.options) space
 IsTrueDeltaSat (Some (check words)) script cert_in old new =
-    (rest : List ℕ) → IsWritten (confirmed_delta_sat_word ++ rest) old new →
+    HasOneCheck script → (rest : List ℕ) → IsWritten (confirmed_delta_sat_word ++ rest) old new →
     (s : Loosenings) × (space : Space) × IsWritten (check_text s (at_point space)) old new × IsConfirmedPoint words.bound script cert_in s space
 IsTrueDeltaSat _ script cert_in old new = Unit {0}
 
--- The certificate has this fault at this line, by the script's problem, and the answer says it.
+-- ---- certificates that are refused, or written again
+
+-- The certificate has this fault at this line, by the problems of the script's checks, and the answer says it.
 pub record IsRefusedCert (bound : Option ℕ) (script cert_in : List ℕ) (old new : Sight) : Type 0 where
-  pub problem : Problem
-  pub built : IsBuilt bound script problem
+  pub problems : List (Problem × Bool)
+  pub session : HasSession bound problems script
   pub fault : CertFault
   pub line : ℕ
-  pub refuses : verdict problem bound cert_in ≡ refused fault line
+  pub refuses : session_verdict problems bound cert_in ≡ refused fault line
   pub written : new.answer ≡ appended old.answer (verdict_text (refused fault line))
 
 -- A certificate that is refused has a fault; `upgrade` writes none then.
@@ -105,20 +164,23 @@ IsTrueRefusal (Some (upgrade words)) script cert_in old new =
     IsRefusedCert words.bound script cert_in old new × (new.cert_out ≡ appended old.cert_out [])
 IsTrueRefusal _ script cert_in old new = Unit {0}
 
--- The certificate is accepted, and what was written is accepted in version 2 with the same value: the same lines behind the first.
+-- The certificate is accepted, and what was written is accepted in the newest version for so many checks, with the same values: the same
+-- lines behind the first.
 pub record IsUpgraded (bound : Option ℕ) (script cert_in : List ℕ) (old new : Sight) : Type 0 where
-  pub problem : Problem
-  pub built : IsBuilt bound script problem
+  pub problems : List (Problem × Bool)
+  pub session : HasSession bound problems script
   pub loosenings : Loosenings
-  pub value : Value
-  pub accepted : IsAccepted problem bound cert_in loosenings value
-  pub written : new.cert_out ≡ appended old.cert_out (upgraded cert_in)
-  pub again : IsAccepted problem bound (upgraded cert_in) (in_version_2 loosenings) value
+  pub values : List Value
+  pub accepted : AreAccepted problems bound cert_in loosenings values
+  pub written : new.cert_out ≡ appended old.cert_out (upgraded (length problems) cert_in)
+  pub again : AreAccepted problems bound (upgraded (length problems) cert_in) (in_newest (length problems) loosenings) values
 
 -- `upgrade` answers where that is so.
 abbrev pub IsTrueUpgrade : Option Command → List ℕ → List ℕ → Sight → Sight → Type 0
 IsTrueUpgrade (Some (upgrade words)) script cert_in old new = IsUpgraded words.bound script cert_in old new
 IsTrueUpgrade _ script cert_in old new = Unit {0}
+
+-- ---- plans
 
 -- The options of `solve` are those of the plan, with this least width.
 pub record AreOptionsAt (words : Plan) (bits : ℕ) (options : Options) : Type 0 where
@@ -130,24 +192,36 @@ pub record AreOptionsAt (words : Plan) (bits : ℕ) (options : Options) : Type 0
 abbrev pub unknown_width_word : List ℕ
 unknown_width_word = text_line (codes "unknown width")
 
--- With them no course of `solve` on the script answers `unknown width`, whatever the budget and the workers.
+-- With them no course of `solve` on the script, which has one check, answers `unknown width`, whatever the budget and the workers.
 abbrev pub NeverUnknownWidth : Plan → ℕ → List ℕ → Type 0
 NeverUnknownWidth words bits script =
-    (asked : Solve) → AreOptionsAt words bits asked.options → (cert_in : List ℕ) (course : Course) → Can (Some (solve asked)) script cert_in course →
+    HasOneCheck script → (asked : Solve) → AreOptionsAt words bits asked.options → (cert_in : List ℕ) (course : Course) → Can (Some (solve asked)) script cert_in course →
     (rest : List ℕ) → course.answer ≡ unknown_width_word ++ rest → ⊥
 
-abbrev pub IsEnough : Plan → List ℕ → width.Answer → Type 0
-IsEnough words script (least_bits bits) = NeverUnknownWidth words bits script
-IsEnough words script _ = Unit {0}
+-- With them no certificate that answers the script has, for check k, a value that is told as `unknown width`.
+abbrev pub NeverUnknownWidthAt : Plan → ℕ → List ℕ → ℕ → Type 0
+NeverUnknownWidthAt words bits script k =
+    (options : Options) → AreOptionsAt words bits options → (problems : List (Problem × Bool)) → HasSession options.bound problems script → (cert : List ℕ) (values : List Value) →
+    AreAnswers problems options cert values → (p : Problem) (e : Bool) (v : Value) → slice_get problems k ≡ Some (p, e) → slice_get values k ≡ Some v →
+    (rest : List ℕ) → solve_text p options.budget (loosenings_for (length problems) options) v ≡ unknown_width_word ++ rest → ⊥
 
--- The answer is the plan of the script's problem, for the delta and the margin of the words. The width that it names is enough.
+abbrev pub IsEnoughAt : Plan → List ℕ → ℕ → width.Answer → Type 0
+IsEnoughAt words script k (least_bits bits) = NeverUnknownWidthAt words bits script k × NeverUnknownWidth words bits script
+IsEnoughAt words script k _ = Unit {0}
+
+-- so for each check from k on
+abbrev pub AreEnoughFrom : Plan → List ℕ → ℕ → List width.Answer → Type 0
+AreEnoughFrom words script k [] = Unit {0}
+AreEnoughFrom words script k (answer ∷ answers) = IsEnoughAt words script k answer × AreEnoughFrom words script (suc k) answers
+
+-- The answer is the plans of the problems of the script's checks, for the delta and the margin of the words. The width that each names is enough.
 pub record IsPlanned (words : Plan) (script : List ℕ) (old new : Sight) : Type 0 where
-  pub problem : Problem
-  pub built : IsBuilt words.bound script problem
-  pub answer : width.Answer
-  pub plan : IsPlan problem words.delta_bits words.margin_bits answer
-  pub written : new.answer ≡ appended old.answer (plan_text answer)
-  pub enough : IsEnough words script answer
+  pub problems : List (Problem × Bool)
+  pub session : HasSession words.bound problems script
+  pub answers : List width.Answer
+  pub plans : ArePlans problems words.delta_bits words.margin_bits answers
+  pub written : new.answer ≡ appended old.answer (plan_texts answers)
+  pub enough : AreEnoughFrom words script 0 answers
 
 -- `plan` answers where that is so.
 abbrev pub IsTruePlan : Option Command → List ℕ → List ℕ → Sight → Sight → Type 0
@@ -155,6 +229,10 @@ IsTruePlan (Some (plan words)) script cert_in old new = IsPlanned words script o
 IsTruePlan _ script cert_in old new = Unit {0}
 
 -- ---- runs
+
+-- where `solve` or `check` answers, the answer is the texts of a certificate's values, and what each says of its check is so
+abbrev pub AnswersAreTrue : Run → Type 0
+AnswersAreTrue r = OnInput r (λ script cert_in. r.status ≡ Answered → IsTrueAnswer r.command script cert_in r.old r.new)
 
 -- where the run answers `unsat`, or confirms it, the script holds nowhere in its declared box
 abbrev pub UnsatIsTrue : Run → Type 0
@@ -168,10 +246,11 @@ DeltaSatIsTrue r = OnInput r (λ script cert_in. r.status ≡ Answered → IsTru
 abbrev pub RefusalIsTrue : Run → Type 0
 RefusalIsTrue r = OnInput r (λ script cert_in. r.status ≡ CertRefused → IsTrueRefusal r.command script cert_in r.old r.new)
 
--- where `upgrade` answers, the certificate is accepted, and so is what was written, in version 2 with the same value
+-- where `upgrade` answers, the certificate is accepted, and so is what was written, with the same values
 abbrev pub UpgradeIsTrue : Run → Type 0
 UpgradeIsTrue r = OnInput r (λ script cert_in. r.status ≡ Answered → IsTrueUpgrade r.command script cert_in r.old r.new)
 
--- where `plan` answers, it is the plan of the script's problem, and `solve` with the width that it names never answers `unknown width`
+-- where `plan` answers, it is the plans of the problems of the script's checks, and with the width that one names `solve` never answers
+-- `unknown width` of its check
 abbrev pub PlanIsTrue : Run → Type 0
 PlanIsTrue r = OnInput r (λ script cert_in. r.status ≡ Answered → IsTruePlan r.command script cert_in r.old r.new)

@@ -1,5 +1,6 @@
--- What is answered of a script that has no problem, and of one that has.
-use Rattle.std.specs.Prelude.{◌≡◌, ◌≤◌, ℕ, List, [], ◌∷◌, Option, Some, IfSome, option_map, length}
+-- What is answered of a script that has a fault, and of one that has none.
+use Rattle.std.specs.Prelude.{◌≡◌, ◌≤◌, ℕ, List, [], ◌∷◌, Bool, Option, Some, IfSome, option_map, length}
+use Rattle.std.specs.List.{AllByRecursion}
 use Rattle.desk.specs.declared.desk.Port.TheVariants.{Script}
 use Rattle.desk.specs.Sight.{Sight, SideFailed}
 use Rattle.poly_graph.specs.Problem.{Problem}
@@ -8,8 +9,9 @@ use Rattle.check_run.specs.declared.script.Halt.{Halt}
 use Rattle.check_run.specs.declared.script.Halt.TheVariants as halt
 use Rattle.script_fault.specs.declared.fault.ScriptFault.{ScriptFault}
 use Rattle.check_run.specs.ScriptFaults.{fault_text}
-use Rattle.script_reading.specs.Faults.{most_bytes, script_fault}
-use Rattle.script_reading.specs.Reader.{HasProblem, too_many_bytes}
+use Rattle.script_reading.specs.Faults.{most_bytes, session_fault}
+use Rattle.script_reading.specs.Reader.{too_many_bytes}
+use Rattle.script_reading.specs.Session.{HasSession}
 use Rattle.check_run.specs.declared.status.Status.{Status}
 use Rattle.check_run.specs.declared.status.Status.TheVariants.{ScriptRefused, InFailed, NoMemory}
 use Rattle.check_run.specs.Course.{Start, Quiet, says, Ends}
@@ -20,18 +22,21 @@ pub record IsWithin (p : Parts) : Type 0 where
   pub axes : length p.axes ≤ 1024
   pub atoms : length p.atoms ≤ 65536
 
+abbrev pub AreWithin : List (Parts × Bool) → Type 0
+AreWithin session = AllByRecursion (λ (p : Parts × Bool). IsWithin p.0) session
+
 -- the fault is one with this text
 abbrev pub HasFaultText : Option ScriptFault → List ℕ → Type 0
 HasFaultText fault text = option_map fault_text fault ≡ Some text
 
--- why bytes have no problem: their first fault, by its text, or out of memory, since no port fails
+-- why bytes have no problems: their first fault, by its text, or out of memory, since no port fails
 abbrev pub IsHaltOfFault : Option ScriptFault → Halt → Type 0
 IsHaltOfFault fault (halt.Refused text) = HasFaultText fault text.items
 IsHaltOfFault fault halt.Failed = ⊥
 IsHaltOfFault fault halt.Memory = Unit {0}
 
 abbrev pub IsHaltOfScript : Option ℕ → List ℕ → Halt → Type 0
-IsHaltOfScript bound script h = IsHaltOfFault (script_fault bound script) h
+IsHaltOfScript bound script h = IsHaltOfFault (session_fault bound script) h
 
 -- a refusal with this text
 abbrev pub HasText : List ℕ → Halt → Type 0
@@ -43,16 +48,16 @@ abbrev pub script_start : List ℕ → List Start
 script_start name = (Script, name) ∷ []
 
 -- a script was read from its port, to its end
-pub record Fetches (bound : Option ℕ) (name : List ℕ) (p : Problem) (old new : Sight) : Type 0 where
+pub record Fetches (bound : Option ℕ) (name : List ℕ) (ps : List (Problem × Bool)) (old new : Sight) : Type 0 where
   pub after : After (script_start name) old new
   pub read : IfSome old.script (λ script. new.script ≡ Some [])
-  pub has : IfSome old.script (HasProblem bound p)
+  pub has : IfSome old.script (HasSession bound ps)
 
 -- it was read, to its end where it is not too long, and has a fault
 pub record FetchesFault (bound : Option ℕ) (name text : List ℕ) (old new : Sight) : Type 0 where
   pub after : After (script_start name) old new
   pub read : IfSome old.script (λ script. length script ≤ most_bytes → new.script ≡ Some [])
-  pub has : IfSome old.script (λ script. HasFaultText (script_fault bound script) text)
+  pub has : IfSome old.script (λ script. HasFaultText (session_fault bound script) text)
 
 abbrev pub Halts : Option ℕ → List ℕ → Halt → Sight → Sight → Type 0
 Halts bound name (halt.Refused text) old new = FetchesFault bound name text.items old new

@@ -1,7 +1,9 @@
-// `check`, from a problem to the verdict of a certificate.
+// `check`, from the problems of a script's checks to the verdicts of a certificate.
 ghost use Rattle.std.specs.Prelude.{◌≡◌, [], Err, IfOk, Ok};
-ghost use Rattle.cert_check.specs.Feeding.{HasTaken};
-ghost use Rattle.check_run.specs.Check.{EndsOnCheck, EndsOnFault, EndsOnVerdict, IsConfirmation, IsReadFor, IsVerdictFor};
+ghost use Rattle.problem_session.specs.Session.{problems_of};
+ghost use Rattle.cert_model.specs.SessionLaws.{IsSession};
+ghost use Rattle.cert_check.specs.Sessions.{HasTakenSession};
+ghost use Rattle.check_run.specs.Check.{AreConfirmations, EndsOnCheck, EndsOnFault, EndsOnVerdict, IsConfirmation, IsReadFor, IsVerdictFor};
 ghost use Rattle.check_run.specs.Run.{CheckHasCause, IsReadToEnd, SameIn, UpgradeHasCause};
 
 use crate::ports::say;
@@ -9,7 +11,7 @@ use crate::status::Status;
 use crate::{cert_fault, confirmed_delta_sat, confirmed_unsat, left_open};
 use cert_check::{CertFault, Feed, Verdict};
 use desk::{Denied, Desk, Port};
-use poly_graph::Problem;
+use problem_session::Session;
 use std::alloc::{AllocError, Global};
 
 // The most bytes of a certificate that are read at once.
@@ -22,15 +24,15 @@ pub enum Unconfirmed {
     Failed,
 }
 
-// The verdict of the certificate on its port by a feed that was fed nothing; it is read up to its first fault.
-fn verdict_by<D: Desk>(
+// The verdicts of the certificate on its port by a feed that was fed nothing; it is read up to its first fault.
+fn verdicts_by<D: Desk>(
     desk: &mut D,
-    problem: &Problem,
+    session: &Session,
     bound: Option<u32>,
-    feed: &mut Feed,
-) -> Result<Verdict, Unconfirmed>
-    requires { HasTaken problem.now bound [] feed.old }
-    ensures told { IsVerdictFor problem.now bound (D.sight desk.old) result }
+    feed: &mut Feed<'_>,
+) -> Result<Vec<Verdict>, Unconfirmed>
+    requires { HasTakenSession session.now bound [] feed.old }
+    ensures told { IsVerdictFor session.now bound (D.sight desk.old) result }
     ensures leaves { IsReadFor result (D.sight desk.old) (D.sight desk.new) }
 {
     let mut buffer = [0u8; ROOM];
@@ -40,8 +42,8 @@ fn verdict_by<D: Desk>(
             Err(_) => return Err(Unconfirmed::Failed),
         };
         if n == 0 {
-            match feed.end() {
-                Ok(verdict) => return Ok(verdict),
+            match feed.end_all() {
+                Ok(verdicts) => return Ok(verdicts),
                 Err(fault) => return Err(Unconfirmed::Fault(fault)),
             }
         }
@@ -52,23 +54,24 @@ fn verdict_by<D: Desk>(
     }
 }
 
-// The verdict of the certificate on its port, which is read up to its first fault.
-fn read_verdict<D: Desk>(
+// The verdicts of the certificate on its port, which is read up to its first fault.
+fn read_verdicts<D: Desk>(
     alloc: Global,
     desk: &mut D,
-    problem: &Problem,
+    session: &Session,
     bound: Option<u32>,
-) -> Result<Verdict, Unconfirmed>
-    ensures told { IsVerdictFor problem.now bound (D.sight desk.old) result }
+) -> Result<Vec<Verdict>, Unconfirmed>
+    requires { IsSession (problems_of session.now) }
+    ensures told { IsVerdictFor session.now bound (D.sight desk.old) result }
     ensures leaves { IsReadFor result (D.sight desk.old) (D.sight desk.new) }
 {
-    match Feed::new(alloc, problem, bound) {
-        Ok(mut feed) => verdict_by(desk, problem, bound, &mut feed),
+    match Feed::new_session(alloc, session, bound) {
+        Ok(mut feed) => verdicts_by(desk, session, bound, &mut feed),
         Err(_) => Err(Unconfirmed::Fault(CertFault::Memory)),
     }
 }
 
-// What a certificate without a fault shows.
+// What a certificate without a fault shows of one check.
 fn shown(alloc: Global, verdict: Verdict) -> Result<Vec<u8>, AllocError>
     ensures { IfOk result (λ text. IsConfirmation verdict text.items) }
 {
@@ -79,13 +82,25 @@ fn shown(alloc: Global, verdict: Verdict) -> Result<Vec<u8>, AllocError>
     }
 }
 
+// What it shows of all of them, one after the other.
+fn all_shown(alloc: Global, verdicts: &[Verdict]) -> Result<Vec<u8>, AllocError>
+    ensures { IfOk result (λ text. AreConfirmations verdicts.now text.items) }
+{
+    let mut text = Vec::new(alloc);
+    for verdict in verdicts {
+        let one = shown(alloc, *verdict)?;
+        text.extend_from_slice(&one)?;
+    }
+    Ok(text)
+}
+
 // Confirms a certificate.
-fn confirm<D: Desk>(alloc: Global, desk: &mut D, verdict: Verdict) -> Status
-    ensures ends { EndsOnVerdict (Ok verdict) (D.sight desk.old) (D.sight desk.new) result }
+fn confirm<D: Desk>(alloc: Global, desk: &mut D, verdicts: Vec<Verdict>) -> Status
+    ensures ends { EndsOnVerdict (Ok verdicts) (D.sight desk.old) (D.sight desk.new) result }
     ensures same { SameIn (D.sight desk.old) (D.sight desk.new) }
     ensures cause { CheckHasCause (D.sight desk.old) (D.sight desk.new) result }
 {
-    match shown(alloc, verdict) {
+    match all_shown(alloc, &verdicts) {
         Ok(text) => say(desk, Status::Answered, &text),
         Err(_) => Status::NoMemory,
     }
@@ -106,15 +121,16 @@ pub fn refuse<D: Desk>(alloc: Global, desk: &mut D, fault: CertFault) -> Status
     }
 }
 
-/// Checks the certificate on its port, which is read by pieces and never held whole, for a problem.
-pub fn check_problem<D: Desk>(
+/// Checks the certificate on its port, which is read by pieces and never held whole, for the checks of a session.
+pub fn check_session<D: Desk>(
     alloc: Global,
     desk: &mut D,
     name: &str,
-    problem: &Problem,
+    session: &Session,
     bound: Option<u32>,
 ) -> Status
-    ensures ends { EndsOnCheck problem.now bound name.now
+    requires { IsSession (problems_of session.now) }
+    ensures ends { EndsOnCheck session.now bound name.now
         (D.sight desk.old) (D.sight desk.new) result }
     ensures cause { CheckHasCause (D.sight desk.old) (D.sight desk.new) result }
     ensures script { (D.sight desk.new).script ≡ (D.sight desk.old).script }
@@ -125,8 +141,8 @@ pub fn check_problem<D: Desk>(
         Err(Denied::Failed) => return Status::InFailed,
         Err(Denied::Memory) => return Status::NoMemory,
     }
-    match read_verdict(alloc, desk, problem, bound) {
-        Ok(verdict) => confirm(alloc, desk, verdict),
+    match read_verdicts(alloc, desk, session, bound) {
+        Ok(verdicts) => confirm(alloc, desk, verdicts),
         Err(Unconfirmed::Fault(fault)) => refuse(alloc, desk, fault),
         Err(Unconfirmed::Failed) => Status::InFailed,
     }

@@ -1,7 +1,7 @@
 //! What holds of a run over ports, the texts of answers, and the run of `check`, which `dpoly` and `dpoly-check` share.
 //!
 //! `run_check` reads a script and a certificate from a desk, checks, and answers. It is given the reader of scripts, so this
-//! crate stands below the one that reads them. `fetch_problem`, `end_halted`, `say` and `finish` are the parts from which the
+//! crate stands below the one that reads them. `fetch_session`, `end_halted`, `say` and `finish` are the parts from which the
 //! other commands are made. Each answer has one text, byte by byte, which a call here gives or reports out of memory. The
 //! definitions in `specs/` are those of the contracts of both programs: courses, causes, texts, and what an answer says of
 //! its script. No search is done here.
@@ -20,13 +20,13 @@ mod script_refused;
 mod solved;
 mod status;
 
-pub use check::{ROOM, Unconfirmed, check_problem, refuse};
+pub use check::{ROOM, Unconfirmed, check_session, refuse};
 pub use checked::{confirmed_delta_sat, confirmed_unsat, left_open};
 pub use planned::{plan_least_bits, plan_no_atom, plan_no_axis};
 pub use ports::{finish, say};
 pub use refused::cert_fault;
 pub use run::run_check;
-pub use script::{Halt, end_halted, fetch_problem, read_script};
+pub use script::{Halt, end_halted, fetch_session};
 pub use script_refused::script_fault;
 pub use solved::{budget, delta_sat, demo, unsat, width};
 pub use status::Status;

@@ -1,8 +1,8 @@
 // `check`, from its words to its end.
 ghost use Rattle.check_run.specs.Run.{CertIsRead, check_run, HasCause, HasCourse, ScriptIsRead};
 
-use crate::check::check_problem;
-use crate::script::{end_halted, fetch_problem};
+use crate::check::check_session;
+use crate::script::{end_halted, fetch_session};
 use crate::status::Status;
 use command_line::CheckWords;
 use desk::Desk;
@@ -28,8 +28,8 @@ pub fn run_check<S: ScriptReader, D: Desk>(
         cert,
         bound,
     } = asked;
-    match fetch_problem(reader, alloc, desk, script, bound) {
-        Ok(problem) => check_problem(alloc, desk, cert, &problem, bound),
+    match fetch_session(reader, alloc, desk, script, bound) {
+        Ok(session) => check_session(alloc, desk, cert, &session, bound),
         Err(stop) => end_halted(desk, stop),
     }
 }

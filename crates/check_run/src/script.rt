@@ -1,21 +1,22 @@
-// A script's problem, from its port.
+// The problems of a script's checks, from its port.
 ghost use Rattle.std.specs.Prelude.{◌≡◌, IfOk, MatchResult, Option};
-ghost use Rattle.poly_graph.specs.ProblemViews.{problem_of};
+ghost use Rattle.problem_session.specs.Session.{problems_of};
+ghost use Rattle.cert_model.specs.SessionLaws.{IsSession};
 ghost use Rattle.script_fault.specs.Answers.{IsFaultOrMemory};
 ghost use Rattle.check_run.specs.ScriptFaults.{fault_text};
-ghost use Rattle.script_reading.specs.Reader.{HasProblem};
+ghost use Rattle.script_reading.specs.Session.{HasSession};
 ghost use Rattle.check_run.specs.Run.{SameIn};
-ghost use Rattle.check_run.specs.Script.{Fetches, HaltEnds, Halts, HasText, IsHaltOfFault, IsTooLong, IsWithin, IsHaltOfScript};
+ghost use Rattle.check_run.specs.Script.{AreWithin, Fetches, HaltEnds, Halts, HasText, IsHaltOfFault, IsTooLong, IsHaltOfScript};
 
 use crate::ports::{fetch, say};
 use crate::status::Status;
 use desk::{Desk, ReadAll};
-use poly_graph::Problem;
+use problem_session::Session;
 use script_fault::{FaultKind, Limit, Place, ReadError, ScriptFault};
 use script_reading::ScriptReader;
 use std::alloc::Global;
 
-/// Why a run ends before its script has a problem: the text of the script's first fault, a port that failed, or out of
+/// Why a run ends before its script has problems: the text of the script's first fault, a port that failed, or out of
 /// memory.
 #[derive(Debug, Drop)]
 pub enum Halt {
@@ -56,41 +57,44 @@ fn too_long(alloc: Global) -> Halt
     fault_refusal(alloc, &fault)
 }
 
-/// The problem of a script's bytes, which a search takes.
-pub fn read_script<S: ScriptReader>(
+// The problems of a script's bytes, which a search takes.
+fn read_script<S: ScriptReader>(
     reader: &S,
     alloc: Global,
     bytes: &[u8],
     bound: Option<u32>,
-) -> Result<Problem, Halt>
+) -> Result<Session, Halt>
     ensures script { MatchResult result
-        (λ p. HasProblem bound (problem_of p) bytes.now)
+        (λ session. HasSession bound (problems_of session) bytes.now)
         (λ halt. IsHaltOfScript bound bytes.now halt) }
-    ensures within { IfOk result (λ p. IsWithin p) }
+    ensures goes_on { IfOk result (λ session. IsSession (problems_of session)) }
+    ensures within { IfOk result (λ session. AreWithin session) }
 {
     match reader.read_script(alloc, bytes, bound) {
-        Ok(problem) => Ok(problem),
+        Ok(session) => Ok(session),
         Err(error) => Err(refusal(alloc, &error)),
     }
 }
 
-/// The problem of the script on its port, which a search takes.
-pub fn fetch_problem<S: ScriptReader, D: Desk>(
+/// The problems of the checks of the script on its port, which a search takes.
+pub fn fetch_session<S: ScriptReader, D: Desk>(
     reader: &S,
     alloc: Global,
     desk: &mut D,
     name: &str,
     bound: Option<u32>,
-) -> Result<Problem, Halt>
+) -> Result<Session, Halt>
     ensures script { MatchResult result
-        (λ p. Fetches bound name.now (problem_of p) (D.sight desk.old) (D.sight desk.new))
+        (λ session. Fetches bound name.now
+        (problems_of session) (D.sight desk.old) (D.sight desk.new))
         (λ halt. Halts bound name.now halt (D.sight desk.old) (D.sight desk.new)) }
-    ensures within { IfOk result (λ p. IsWithin p) }
+    ensures goes_on { IfOk result (λ session. IsSession (problems_of session)) }
+    ensures within { IfOk result (λ session. AreWithin session) }
     ensures other { (D.sight desk.new).cert_in ≡ (D.sight desk.old).cert_in }
 {
     match fetch(alloc, desk, name) {
         Ok(bytes) => match read_script(reader, alloc, &bytes, bound) {
-            Ok(problem) => Ok(problem),
+            Ok(session) => Ok(session),
             Err(halt) => Err(halt),
         },
         Err(ReadAll::Failed) => Err(Halt::Failed),
@@ -99,7 +103,7 @@ pub fn fetch_problem<S: ScriptReader, D: Desk>(
     }
 }
 
-/// Ends a run whose script has no problem.
+/// Ends a run whose script has no problems.
 pub fn end_halted<D: Desk>(desk: &mut D, halt: Halt) -> Status
     ensures ends { HaltEnds halt (D.sight desk.old) (D.sight desk.new) result }
     ensures same { SameIn (D.sight desk.old) (D.sight desk.new) }

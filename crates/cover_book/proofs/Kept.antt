@@ -24,14 +24,15 @@ use Rattle.cover_book.specs.declared.calls.Call.TheVariants.{Commit, Learn, Find
 use Rattle.cover_book.specs.declared.calls.Reply.TheVariants.{Committed, Learned, Found, LiveState, Lemmas, Refused}
 use Rattle.cover_book.specs.declared.refusal.BookRefusal.TheVariants.{Memory}
 use Rattle.cover_book.specs.declared.refusal.Kids.{Kids}
-use Rattle.cover_book.specs.Model.{LearnedLemma, NodeModel, live_node, crossed_node, parted_node, BookModel, problem_in, margins_of, loosenings_in, lemma_states_in}
+use Rattle.cover_book.specs.Model.{LearnedLemma, NodeModel, live_node, crossed_node, parted_node, BookModel, problem_in, margins_of, loosenings_in, lemma_states_in, lemma_count}
 use Rattle.cover_book.specs.Steps.{IsLive, most_lemmas, ends_in_branch, ended_node, parted_book, committed_book, CommitStep, with_lemma, learned_book, LemmaStep, PointStep}
-use Rattle.cover_book.specs.Tree.{lemma_tree, lemma_trees}
+use Rattle.cover_book.specs.Tree.{lemma_tree, lemma_trees, cover_lemmas}
 use Rattle.cover_book.specs.Keeps.{IsNodeOf, IsCovered, IsCrossed, IsBook}
 use Rattle.cover_book.specs.Laws.{StepKeepsBook}
 use Rattle.cover_book.proofs.Lists.{all_append}
 use Rattle.cover_book.proofs.Changed.{lines_after}
 use Rattle.cover_book.proofs.Naming.{run_names}
+use Rattle.cover_book.proofs.Lookups.{more_states}
 use Rattle.cover_book.proofs.Nodes.{node_still}
 use Rattle.cover_book.proofs.Commit.{parted_keeps, two_ends}
 
@@ -70,6 +71,7 @@ parts-keep : (b : BookModel) → IsBook b → (n : ℕ) (k : KeptModel) (l : Lin
 parts-keep b w n k l e a None c h = record {
   whole = w.whole;
   limits = w.limits;
+  kept = w.kept;
   lemmas = w.lemmas;
   lemma_grids = w.lemma_grids;
   few_lemmas = w.few_lemmas;
@@ -81,6 +83,7 @@ parts-keep b w n k l e a None c h = record {
 parts-keep b w n k l e a (Some o) c h = record {
   whole = w.whole;
   limits = w.limits;
+  kept = w.kept;
   lemmas = w.lemmas;
   lemma_grids = w.lemma_grids;
   few_lemmas = w.few_lemmas;
@@ -106,22 +109,22 @@ states-of-trees : (xs : List LearnedLemma) → lemma_states (map lemma_tree xs) 
 states-of-trees [] = refl
 states-of-trees (x ∷ xs) = ap (λ (ys : List State). x.state ∷ ys) (states-of-trees xs)
 
-pub same_states : (b : BookModel) → lemma_states (lemma_trees b) ≡ lemma_states_in b
-same_states b = states-of-trees b.lemmas
+pub same_states : (b : BookModel) → cover_lemmas b ≡ lemma_states_in b
+same_states b = ap (λ (ys : List State). b.kept ++ ys) (states-of-trees b.lemmas)
 
 one-more : (p : Problem) (s : Loosenings) (before : List State) (xs : List LemmaTree) (x : LemmaTree) → AreLemmaTrees p s before xs → IsLemmaTree p s (before ++ lemma_states xs) x → AreLemmaTrees p s before (xs ++ (x ∷ []))
 one-more p s before [] x h k = (subst (λ (ys : List State). IsLemmaTree p s ys x) (append-nil before) k, tt)
 one-more p s before (y ∷ xs) x h k = (h.0, one-more p s (before ++ (y.state ∷ [])) xs x h.1 (subst (λ (ys : List State). IsLemmaTree p s ys x) (sym (append_assoc before (y.state ∷ []) (lemma_states xs))) k))
 
 module _ (b : BookModel) (w : IsBook b) (k : KeptModel) (r : IsRun (problem_in b) (margins_of b.options) k) (known : AreKept (lemma_states_in b) k.quoted) (grid : IsGridSpace k.first.space) (reached : IsGridSpace k.reached.space)
-    (room : length b.lemmas < most_lemmas) (l : Line) (e : k.end ≡ Some l) (c : IsClosed k) where
+    (room : lemma_count b < most_lemmas) (l : Line) (e : k.end ≡ Some l) (c : IsClosed k) where
   abbrev new : LearnedLemma
   new = record { state = k.first; steps = k.steps; end = l }
 
   closing : IsTrue (is_closing l)
   closing = subst (λ (o : Option Line). IsTrue (closes o)) e c
 
-  new-tree : IsLemmaTree (problem_in b) (loosenings_in b) (lemma_states (lemma_trees b)) (lemma_tree new)
+  new-tree : IsLemmaTree (problem_in b) (loosenings_in b) (cover_lemmas b) (lemma_tree new)
   new-tree = let names = run_names (problem_in b) w.whole.problem (margins_of b.options) (lemma_states_in b) k r reached known in record {
     fits = r.sound.first.axes;
     marks = r.sound.first.marks;
@@ -131,9 +134,6 @@ module _ (b : BookModel) (w : IsBook b) (k : KeptModel) (r : IsRun (problem_in b
         (all_append (λ (m : Line). IsTrue (names_well (problem_in b) m)) k.steps (l ∷ []) names.steps (subst (λ (o : Option Line). IfSome o (λ (m : Line). IsTrue (names_well (problem_in b) m))) e names.end, tt));
   }
 
-  more-states : lemma_states_in b ++ (k.first ∷ []) ≡ lemma_states_in (with_lemma b new)
-  more-states = sym (map-append (λ (x : LearnedLemma). x.state) b.lemmas (new ∷ []))
-
   covered-still : IsCovered b → IsCovered (with_lemma b new)
   covered-still h = record {
     not_crossed = h.not_crossed;
@@ -141,7 +141,7 @@ module _ (b : BookModel) (w : IsBook b) (k : KeptModel) (r : IsRun (problem_in b
     count = h.count;
     root = h.root;
     fits = h.fits;
-    each = λ n S x f g. subst (λ (ys : List State). IsNodeOf (problem_in b) (margins_of b.options) ys h.firsts S x) more-states
+    each = λ n S x f g. subst (λ (ys : List State). IsNodeOf (problem_in b) (margins_of b.options) ys h.firsts S x) (more_states b new)
         (node_still (problem_in b) (margins_of b.options) (lemma_states_in b) (k.first ∷ []) h.firsts S x (h.each n S x f g));
     tree = h.tree;
     numbers = h.numbers;
@@ -155,7 +155,8 @@ module _ (b : BookModel) (w : IsBook b) (k : KeptModel) (r : IsRun (problem_in b
   lemma_keeps = record {
     whole = w.whole;
     limits = w.limits;
-    lemmas = subst (AreLemmaTrees (problem_in b) (loosenings_in b) []) (sym (map-append lemma_tree b.lemmas (new ∷ []))) (one-more (problem_in b) (loosenings_in b) [] (lemma_trees b) (lemma_tree new) w.lemmas new-tree);
+    kept = w.kept;
+    lemmas = subst (AreLemmaTrees (problem_in b) (loosenings_in b) b.kept) (sym (map-append lemma_tree b.lemmas (new ∷ []))) (one-more (problem_in b) (loosenings_in b) b.kept (lemma_trees b) (lemma_tree new) w.lemmas new-tree);
     lemma_grids = All-push (λ (x : LearnedLemma). IsGridSpace x.state.space) b.lemmas new w.lemma_grids grid;
     few_lemmas = omega (arith, length-append b.lemmas (new ∷ []), room);
     budget = w.budget;
@@ -178,6 +179,7 @@ find-keeps : (b : BookModel) → IsBook b → (n : ℕ) (x : Space) → IsShownA
 find-keeps b w n x h b' s = subst IsBook (sym s.book) (record {
   whole = w.whole;
   limits = w.limits;
+  kept = w.kept;
   lemmas = w.lemmas;
   lemma_grids = w.lemma_grids;
   few_lemmas = w.few_lemmas;

@@ -1,28 +1,54 @@
 -- Nodes and lemmas that are looked up by number.
-use Rattle.std.proofs.Common.{◌≡◌, ℕ, zero, suc, ◌+◌, ◌<◌, ◌≤◌, List, [], ◌∷◌, map, length, get_or, Bool, true, false, Option, Some, None, IsTrue, drop, cond, refl, ap, sym, ◌∙◌, true≢false, arith}
+use Rattle.std.proofs.Common.{◌≡◌, ℕ, zero, suc, ◌+◌, ◌-◌, ◌<◌, ◌≤◌, List, [], ◌∷◌, ◌++◌, map, length, get_or, Bool, true, false, Option, Some, None, IsTrue, drop, cond, refl, ap, sym, ◌∙◌, true≢false, length-append, append_assoc, arith}
 use Rattle.std.specs.Prelude.{slice_get}
 use Rattle.std.proofs.Math.Seq.{drop-cons, drop-nil}
 use Rattle.std.proofs.Math.ListN.{drop_of_length-le}
-use Rattle.std.proofs.lemmas.List.{drop-map}
+use Rattle.std.proofs.lemmas.List.{drop-map, length-map, map-append}
 use Rattle.cover_model.specs.State.{State}
 use Rattle.cover_book.specs.declared.node.Node.{Node}
 use Rattle.cover_book.specs.declared.node.Learned.{Learned}
-use Rattle.cover_book.specs.Model.{LearnedLemma, NodeModel, BookModel}
+use Rattle.cover_book.specs.Model.{LearnedLemma, NodeModel, BookModel, lemma_states_in, lemma_count}
+use Rattle.cover_book.specs.Steps.{with_lemma}
 use Rattle.cover_book.specs.Verdict.{is_live, first_live, live_after, live_numbers, live_numbers_after}
 use Rattle.cover_book.specs.Views.{node_of, learned_of}
+use Rattle.cover_book.proofs.Lists.{some_at}
 
-abbrev pub states : List Learned → List State
-states xs = map (λ (y : LearnedLemma). y.state) (map learned_of xs)
+-- the states of all lemmas of these
+abbrev pub states : List State → List Learned → List State
+states kept xs = kept ++ map (λ (y : LearnedLemma). y.state) (map learned_of xs)
 
-pub kept_some : (xs : List Learned) (i : ℕ) (x : Learned) → i < length xs → x ≡ get_or xs i x → slice_get (states xs) i ≡ Some x.state
-kept_some [] i x h e = absurd (omega (arith, h))
-kept_some (y ∷ xs) zero x h e = ap (λ (z : Learned). Some z.state) (sym e)
-kept_some (y ∷ xs) (suc i) x h e = kept_some xs i x (omega (arith, h)) e
+pub states_count : (b : BookModel) → length (lemma_states_in b) ≡ lemma_count b
+states_count b = omega (arith, length-append b.kept (map (λ (y : LearnedLemma). y.state) b.lemmas), length-map b.lemmas (λ (y : LearnedLemma). y.state))
 
-pub kept_none : (xs : List Learned) (i : ℕ) → length xs ≤ i → slice_get (states xs) i ≡ None
-kept_none [] i h = refl
-kept_none (y ∷ xs) zero h = absurd (omega (arith, h))
-kept_none (y ∷ xs) (suc i) h = kept_none xs i (omega (arith, h))
+-- one lemma more
+pub more_states : (b : BookModel) (x : LearnedLemma) → lemma_states_in b ++ (x.state ∷ []) ≡ lemma_states_in (with_lemma b x)
+more_states b x = append_assoc b.kept (map (λ (y : LearnedLemma). y.state) b.lemmas) (x.state ∷ [])
+    ∙ ap (λ (ys : List State). b.kept ++ ys) (sym (map-append (λ (y : LearnedLemma). y.state) b.lemmas (x ∷ [])))
+
+learned-some : (xs : List Learned) (i : ℕ) (x : Learned) → i < length xs → x ≡ get_or xs i x → slice_get (states [] xs) i ≡ Some x.state
+learned-some [] i x h e = absurd (omega (arith, h))
+learned-some (y ∷ xs) zero x h e = ap (λ (z : Learned). Some z.state) (sym e)
+learned-some (y ∷ xs) (suc i) x h e = learned-some xs i x (omega (arith, h)) e
+
+learned-none : (xs : List Learned) (i : ℕ) → length xs ≤ i → slice_get (states [] xs) i ≡ None
+learned-none [] i h = refl
+learned-none (y ∷ xs) zero h = absurd (omega (arith, h))
+learned-none (y ∷ xs) (suc i) h = learned-none xs i (omega (arith, h))
+
+behind : (kept : List State) (xs : List Learned) (i : ℕ) → length kept ≤ i → slice_get (states kept xs) i ≡ slice_get (states [] xs) (i - length kept)
+behind [] xs i h = let e : i ≡ i - 0 = omega arith in ap (slice_get (states [] xs)) e
+behind (T ∷ kept) xs zero h = absurd (omega (arith, h))
+behind (T ∷ kept) xs (suc i) h = let e : i - length kept ≡ suc i - suc (length kept) = omega arith in behind kept xs i (omega (arith, h)) ∙ ap (slice_get (states [] xs)) e
+
+pub learned_state : (kept : List State) (xs : List Learned) (i : ℕ) (x : Learned) → length kept ≤ i → i - length kept < length xs → x ≡ get_or xs (i - length kept) x → slice_get (states kept xs) i ≡ Some x.state
+learned_state kept xs i x k h e = behind kept xs i k ∙ learned-some xs (i - length kept) x h e
+
+pub no_state : (kept : List State) (xs : List Learned) (i : ℕ) → length kept ≤ i → length xs ≤ i - length kept → slice_get (states kept xs) i ≡ None
+no_state kept xs i k h = behind kept xs i k ∙ learned-none xs (i - length kept) h
+
+-- each number below the count is that of a lemma
+pub no_gap : (b : BookModel) (i : ℕ) → i < lemma_count b → slice_get (lemma_states_in b) i ≡ None → ⊥
+no_gap b i h e = let there = some_at (lemma_states_in b) i (omega (arith, states_count b, h)) in let w : Some there.0 ≡ None = sym there.1 ∙ e in cc
 
 pub node_some : (xs : List Node) (i : ℕ) (x : Node) → i < length xs → x ≡ get_or xs i x → slice_get (map node_of xs) i ≡ Some (node_of x)
 node_some [] i x h e = absurd (omega (arith, h))

@@ -2,14 +2,14 @@
 use Rattle.std.proofs.Common.{◌≡◌, inl, inr, ℕ, zero, suc, List, [], ◌∷◌, ◌++◌, Some, None, IsTrue, All, refl, ap, sym, ◌∙◌, subst, arith}
 use Rattle.std.specs.Prelude.{slice_get}
 use Rattle.std.specs.List.{AllByRecursion}
-use Rattle.std.proofs.lemmas.Option.{slice_get_within}
+use Rattle.std.proofs.lemmas.Option.{slice_get_within, get_or_from_slice_get}
 use Rattle.std.proofs.lemmas.Bool.{le-leb}
 use Rattle.std.proofs.lemmas.List.{length-map}
 use Rattle.std.proofs.lemmas.List.Elements.{All-from_recursion}
 use Rattle.dyadic.specs.Point.{Coordinate}
 use Rattle.dyadic.proofs.Equal.{both_true, both_pass}
 use Rattle.poly_graph.specs.Problem.{Problem, first_crossed}
-use Rattle.cover_model.specs.State.{State, Loosenings, IsPointOf, root_state, covers}
+use Rattle.cover_model.specs.State.{State, Loosenings, IsPointOf, IsLemma, root_state, covers}
 use Rattle.interval_model.specs.Space.{space_within}
 use Rattle.poly_graph.specs.Marks.{marks_within}
 use Rattle.cover_model.specs.Rules.{open_line}
@@ -24,10 +24,10 @@ use Rattle.cert_model.specs.Due.{Standing}
 use Rattle.cert_model.specs.Derived.{AreDerived, states_of}
 use Rattle.cert_model.specs.Written.{LemmaTree, lemma_states, AreLemmaTrees, left_standing, tree_standing}
 use Rattle.cert_model.specs.Laws.{IsLawfulCover}
-use Rattle.cert_model.proofs.Means.{derived_lemmas}
+use Rattle.cert_model.proofs.Means.{lemmas_after}
 use Rattle.cover_book.specs.Model.{NodeModel, live_node, crossed_node, stuck_node, BookModel, problem_in, margins_of, loosenings_in, lemma_states_in}
 use Rattle.cover_book.specs.Tree.{TreeOf, of_live, of_closed, of_stuck, of_parted, lemma_trees, lemma_tree}
-use Rattle.cover_book.specs.Keeps.{IsCovered, IsCrossed, IsBook}
+use Rattle.cover_book.specs.Keeps.{IsCovered, IsCrossed, IsKeptLemma, IsBook}
 use Rattle.cover_book.specs.Laws.{IsLeft, BookCatches, NodesLieWithin, IsTreeOfBook, BookHasTree, TreeIsHonest}
 use Rattle.cover_book.proofs.Lists.{some_at, all_append}
 use Rattle.cover_book.proofs.Facts.{IsGood, node_good}
@@ -40,10 +40,14 @@ derived : (p : Problem) (s : Loosenings) (before : List State) (xs : List LemmaT
 derived p s before [] h = tt
 derived p s before (x ∷ xs) h = ((x.tree, h.0.lawful), derived p s (before ++ (x.state ∷ [])) xs h.1)
 
--- no point of a kept lemma's state meets the form
+kept-hold : (p : Problem) (s : Loosenings) (kept : List State) → All (IsKeptLemma p s) kept → AreLemmas p s kept
+kept-hold p s kept h i L e = subst (IsLemma p s) (get_or_from_slice_get kept i L L e) (h i L (slice_get_within kept i L e)).lemma
+
+-- no point of a lemma's state meets the form
 pub lemmas_hold : (b : BookModel) → IsBook b → AreLemmas (problem_in b) (loosenings_in b) (lemma_states_in b)
 lemmas_hold b w = subst (AreLemmas (problem_in b) (loosenings_in b)) (same_states b)
-    (derived_lemmas (problem_in b) w.whole.problem (loosenings_in b) (lemma_states (lemma_trees b)) (derived (problem_in b) (loosenings_in b) [] (lemma_trees b) w.lemmas))
+    (lemmas_after (problem_in b) w.whole.problem (loosenings_in b) b.kept (lemma_states (lemma_trees b)) (kept-hold (problem_in b) (loosenings_in b) b.kept w.kept)
+    (derived (problem_in b) (loosenings_in b) b.kept (lemma_trees b) w.lemmas))
 
 -- ---- live and stuck nodes
 
@@ -119,7 +123,7 @@ module _ (b : BookModel) (w : IsBook b) (h : IsCovered b) where
   abbrev its_good : IsGood (problem_in b) (margins_of b.options) (lemma_states_in b) but_open (λ x q i. λ r. i) (root_state (problem_in b)) h.tree h.left
   its_good = node_good b w.whole h but_open (λ x q i. λ r. i) (λ n S e. λ r. absurd (r refl)) h.is_tree (root_state (problem_in b)) h.root
 
-  lawful-cover : IsLawfulCover (problem_in b) (loosenings_in b) (lemma_trees b) h.tree
+  lawful-cover : IsLawfulCover (problem_in b) (loosenings_in b) b.kept (lemma_trees b) h.tree
   lawful-cover = record {
     loosenings = fits_limits b w;
     count = omega (arith, length-map b.lemmas lemma_tree, w.few_lemmas);

@@ -18,7 +18,7 @@ use Rattle.cover_book.specs.declared.node.Learned.{Learned}
 use Rattle.cover_book.specs.declared.node.Lines.{Lines}
 use Rattle.cover_book.specs.declared.node.Node.{Node}
 use Rattle.cover_book.specs.declared.node.Node.TheVariants.{Live}
-use Rattle.cover_book.specs.Model.{LearnedLemma, NodeModel, live_node, closed_node, parted_node, stuck_node, BookModel}
+use Rattle.cover_book.specs.Model.{LearnedLemma, NodeModel, live_node, closed_node, parted_node, stuck_node, BookModel, lemma_count}
 use Rattle.cover_book.specs.Views.{node_of, learned_of}
 use Rattle.cover_book.specs.Steps.{QuotesKnownLemmas, most_lemmas, learned_book, LemmaStep, MayCommit, CommitStep, with_nodes, parted_book, committed_book, kids_of, kids_by}
 
@@ -82,13 +82,14 @@ with_lemmas b lemmas = record {
   problem = b.problem;
   options = b.options;
   nodes = b.nodes;
+  kept = b.kept;
   lemmas = lemmas;
   branches = b.branches;
   point = b.point;
 }
 
-pub stored_lemma : (b : BookModel) (P : KeptPatch) (e : End) → P.end ≡ Some e → QuotesKnownLemmas b (kept_of P).quoted → length b.lemmas < most_lemmas → IsGridSpace P.first.space → IsGridSpace P.reached.space →
-    (lemmas : List LearnedLemma) → lemmas ≡ b.lemmas ++ (record { state = P.first; steps = map step_line P.steps.items; end = end_line e } ∷ []) → LemmaStep b (kept_of P) (length b.lemmas) (with_lemmas b lemmas)
+pub stored_lemma : (b : BookModel) (P : KeptPatch) (e : End) → P.end ≡ Some e → QuotesKnownLemmas b (kept_of P).quoted → lemma_count b < most_lemmas → IsGridSpace P.first.space → IsGridSpace P.reached.space →
+    (lemmas : List LearnedLemma) → lemmas ≡ b.lemmas ++ (record { state = P.first; steps = map step_line P.steps.items; end = end_line e } ∷ []) → LemmaStep b (kept_of P) (lemma_count b) (with_lemmas b lemmas)
 stored_lemma b P e f known room grid reached lemmas g = record {
   known = known;
   room = room;

@@ -4,7 +4,7 @@ use Rattle.poly_graph.specs.Problem.{Problem, first_crossed}
 use Rattle.poly_graph.specs.ProblemViews.{IsWhole}
 use Rattle.interval_model.specs.Space.{Space}
 use Rattle.cover_model.specs.Space.{IsGridSpace}
-use Rattle.cover_model.specs.State.{State, root_state, covers}
+use Rattle.cover_model.specs.State.{State, Loosenings, IsLemma, root_state, covers}
 use Rattle.cover_model.specs.Rules.{Line, open_line}
 use Rattle.cover_model.specs.Derivation.{Tree}
 use Rattle.cover_model.specs.Fits.{FitsProblem, IsShownAt}
@@ -13,7 +13,7 @@ use Rattle.cover_data.specs.Models.{KeptModel}
 use Rattle.cover_data.specs.Runs.{AreKept, is_closing, children, IsRun}
 use Rattle.cert_model.specs.Due.{Standing}
 use Rattle.cert_model.specs.Written.{AreLemmaTrees, tree_branches}
-use Rattle.cover_book.specs.Model.{LearnedLemma, NodeModel, live_node, crossed_node, closed_node, parted_node, stuck_node, BookModel, problem_in, margins_of, loosenings_in, lemma_states_in}
+use Rattle.cover_book.specs.Model.{LearnedLemma, NodeModel, live_node, crossed_node, closed_node, parted_node, stuck_node, BookModel, problem_in, margins_of, loosenings_in, lemma_states_in, lemma_count}
 use Rattle.cover_book.specs.Limits.{IsWithinLimits}
 use Rattle.cover_book.specs.Steps.{most_lemmas}
 use Rattle.cover_book.specs.Tree.{TreeOf, occurrences, lemma_trees}
@@ -59,12 +59,20 @@ pub record IsCrossed (b : BookModel) : Type 0 where
   pub nodes : b.nodes ≡ crossed_node axis ∷ []
   pub branches : b.branches ≡ 0
 
+-- a lemma that a book may open with: a state of the problem, whose numbers are kept ones, of which no point meets the form at the margin
+pub record IsKeptLemma (p : Problem) (s : Loosenings) (L : State) : Type 0 where
+  pub fits : FitsProblem p L
+  pub grid : IsGridSpace L.space
+  pub lemma : IsLemma p s L
+
+-- the lemmas that were learned follow from those that the book opened with
 pub record IsBook (b : BookModel) : Type 0 where
   pub whole : IsWhole b.problem
   pub limits : IsWithinLimits b.problem b.options
-  pub lemmas : AreLemmaTrees (problem_in b) (loosenings_in b) [] (lemma_trees b)
+  pub kept : All (IsKeptLemma (problem_in b) (loosenings_in b)) b.kept
+  pub lemmas : AreLemmaTrees (problem_in b) (loosenings_in b) b.kept (lemma_trees b)
   pub lemma_grids : All (λ (x : LearnedLemma). IsGridSpace x.state.space) b.lemmas
-  pub few_lemmas : length b.lemmas ≤ most_lemmas
+  pub few_lemmas : lemma_count b ≤ most_lemmas
   pub budget : b.branches ≤ b.options.budget
   pub count : length b.nodes ≡ suc (b.branches + b.branches)
   pub point : IfSome b.point (λ (x : Space). IsShownAt (problem_in b) (loosenings_in b) x × IsGridSpace x)

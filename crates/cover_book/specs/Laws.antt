@@ -2,8 +2,9 @@
 use Rattle.std.specs.Prelude.{◌≡◌, ◌<◌, ◌⊎◌, ℕ, ◌≤◌, List, All, length, false, Some, None, IsTrue, slice_get}
 use Rattle.dyadic.specs.Point.{Coordinate, IsPoint}
 use Rattle.poly_graph.specs.Problem.{sorts_of_problem, in_declared_box, first_crossed}
+use Rattle.poly_graph.specs.ProblemViews.{Parts, IsWhole, problem_of}
+use Rattle.cover_model.specs.Carried.{GoesOnFrom}
 use Rattle.cover_model.specs.Root.{root_space}
-use Rattle.poly_graph.specs.ProblemViews.{Parts, IsWhole}
 use Rattle.cover_model.specs.State.{State, IsPointOf, MeetsForm, root_state}
 use Rattle.interval_model.specs.Space.{space_within}
 use Rattle.cover_model.specs.Rules.{Line, open_line}
@@ -12,14 +13,14 @@ use Rattle.cover_model.specs.Derivation.{Tree}
 use Rattle.cover_model.specs.Fits.{FitsProblem}
 use Rattle.cover_data.specs.declared.margins.Options.{Options}
 use Rattle.cert_model.specs.Due.{Standing}
-use Rattle.cert_model.specs.Written.{lemma_states, left_standing, tree_standing, tree_branches, IsHonestTree}
+use Rattle.cert_model.specs.Written.{left_standing, tree_standing, tree_branches, IsHonestTree}
 use Rattle.cert_model.specs.Laws.{IsLawfulCover}
 use Rattle.cover_book.specs.declared.calls.Call.{Call}
 use Rattle.cover_book.specs.declared.calls.Reply.{Reply}
-use Rattle.cover_book.specs.Model.{NodeModel, stuck_node, BookModel, problem_in, loosenings_in, opening}
+use Rattle.cover_book.specs.Model.{NodeModel, stuck_node, BookModel, problem_in, loosenings_in, opening, opening_with, kept_from}
 use Rattle.cover_book.specs.Verdict.{is_live}
 use Rattle.cover_book.specs.Steps.{MayBeCalled, BookStep, IsLive}
-use Rattle.cover_book.specs.Tree.{TreeOf, occurrences, lemma_trees}
+use Rattle.cover_book.specs.Tree.{TreeOf, occurrences, lemma_trees, cover_lemmas}
 use Rattle.cover_book.specs.Limits.{IsWithinLimits}
 use Rattle.cover_book.specs.Keeps.{IsBook}
 
@@ -27,13 +28,18 @@ use Rattle.cover_book.specs.Keeps.{IsBook}
 abbrev pub OpeningIsBook : Type 0
 OpeningIsBook = (p : Parts) (o : Options) → IsWhole p → IsWithinLimits p o → IsBook (opening p o)
 
+-- So does one with the lemmas of a book whose problem the new one goes on from.
+abbrev pub CarriedIsBook : Type 0
+CarriedIsBook = (b : BookModel) → IsBook b → (q : Parts) → IsWhole q → IsWithinLimits q b.options → GoesOnFrom (problem_in b) (problem_of q) →
+    IsBook (opening_with q b.options (kept_from b q))
+
 -- Every call keeps it one.
 abbrev pub StepKeepsBook : Type 0
 StepKeepsBook = (b : BookModel) → IsBook b → (c : Call) → MayBeCalled b c → (r : Reply) (b' : BookModel) → BookStep b c r b' → IsBook b'
 
--- No call changes the problem or the options.
+-- No call changes the problem, the options, or the lemmas that the book opened with.
 abbrev pub StepKeepsProblem : Type 0
-StepKeepsProblem = (b : BookModel) (c : Call) (r : Reply) (b' : BookModel) → BookStep b c r b' → (b'.problem ≡ b.problem) × (b'.options ≡ b.options)
+StepKeepsProblem = (b : BookModel) (c : Call) (r : Reply) (b' : BookModel) → BookStep b c r b' → (b'.problem ≡ b.problem) × (b'.options ≡ b.options) × (b'.kept ≡ b.kept)
 
 -- So the condition of a call outlasts every call.
 abbrev pub ConditionLasts : Type 0
@@ -66,14 +72,14 @@ NodesLieWithin = (b : BookModel) → IsBook b → (n : ℕ) (S : State) → IsLe
 pub record IsTreeOfBook (b : BookModel) (t : Tree) (left : List Standing) : Type 0 where
   pub numbers : List ℕ
   pub is_tree : TreeOf b.nodes 0 t numbers left
-  pub lawful : IsLawfulCover (problem_in b) (loosenings_in b) (lemma_trees b) t
-  pub stands : left_standing (problem_in b) (loosenings_in b) (lemma_states (lemma_trees b)) (root_state (problem_in b)) t ≡ left
+  pub lawful : IsLawfulCover (problem_in b) (loosenings_in b) b.kept (lemma_trees b) t
+  pub stands : left_standing (problem_in b) (loosenings_in b) (cover_lemmas b) (root_state (problem_in b)) t ≡ left
   pub branches : tree_branches t ≡ b.branches
   -- each node is one of the tree, once
   pub once : (n : ℕ) → n < length b.nodes → occurrences n numbers ≡ 1
   -- each line but an open one is honest
   pub honest : All (λ (x : Standing). (x.does ≡ open_line → ⊥) → IsTrue (is_honest (problem_in b) b.options.least_bits (loosenings_in b) x.state x.does))
-      (tree_standing (problem_in b) (loosenings_in b) (lemma_states (lemma_trees b)) (root_state (problem_in b)) t)
+      (tree_standing (problem_in b) (loosenings_in b) (cover_lemmas b) (root_state (problem_in b)) t)
 
 -- Where the declared box is not empty, the book has a lawful tree, of as many branch lines as it counts, all of whose lines but the open ones are honest.
 abbrev pub BookHasTree : Type 0
@@ -83,4 +89,4 @@ BookHasTree = (b : BookModel) → IsBook b → first_crossed (problem_in b) ≡ 
 abbrev pub TreeIsHonest : Type 0
 TreeIsHonest = (b : BookModel) → IsBook b → (t : Tree) (left : List Standing) → IsTreeOfBook b t left →
     ((n : ℕ) (S : State) → IsLive b n S → IsTrue (not_shown (problem_in b) (loosenings_in b) S)) →
-    IsHonestTree (problem_in b) b.options.least_bits (loosenings_in b) (lemma_states (lemma_trees b)) (root_state (problem_in b)) t
+    IsHonestTree (problem_in b) b.options.least_bits (loosenings_in b) (cover_lemmas b) (root_state (problem_in b)) t

@@ -5,6 +5,7 @@ pub mod Laws
 pub mod Limits
 pub mod Model
 pub mod Names
+pub mod Session
 pub mod Steps
 pub mod Tree
 pub mod Verdict

@@ -1,5 +1,5 @@
 -- The book of a cover as plain data: its nodes, its lemmas, its branches and its point.
-use Rattle.std.specs.Prelude.{ℕ, suc, List, [], ◌∷◌, map, Option, Some, None}
+use Rattle.std.specs.Prelude.{ℕ, suc, ◌+◌, List, [], ◌∷◌, ◌++◌, length, map, true, cond, is_some, Option, Some, None}
 use Rattle.interval_model.specs.Space.{Space}
 use Rattle.poly_graph.specs.Problem.{Problem, first_crossed}
 use Rattle.poly_graph.specs.ProblemViews.{Parts, problem_of}
@@ -9,6 +9,7 @@ use Rattle.cover_data.specs.declared.margins.Options.{Options}
 pub use Rattle.cover_data.specs.Margins.{margins_of}
 use Rattle.cover_data.specs.Margins.{loosenings_of}
 use Rattle.cover_data.specs.Models.{LemmaModel}
+use Rattle.cert_model.specs.Session.{kept_by}
 
 -- a state that no point which meets the form is of, with the lines that close it: steps, and the end
 pub record LearnedLemma : Type 0 where
@@ -28,11 +29,13 @@ pub data NodeModel : Type 0 where
   -- in the state that the steps reach
   stuck_node : List Line → Line → State → NodeModel
 
--- nodes and lemmas by their numbers
+-- Nodes by their numbers, and lemmas: the states of those that the book opened with have the first numbers, in order, and those that were
+-- learned since have the next.
 pub record BookModel : Type 0 where
   pub problem : Parts
   pub options : Options
   pub nodes : List NodeModel
+  pub kept : List State
   pub lemmas : List LearnedLemma
   pub branches : ℕ
   pub point : Option Space
@@ -48,15 +51,19 @@ loosenings_in b = loosenings_of (margins_of b.options)
 -- ---- lemmas
 
 abbrev pub lemma_states_in : BookModel → List State
-lemma_states_in b = map (λ (x : LearnedLemma). x.state) b.lemmas
+lemma_states_in b = b.kept ++ map (λ (x : LearnedLemma). x.state) b.lemmas
 
-abbrev pub numbered_from : ℕ → List LearnedLemma → List LemmaModel
+-- how many lemmas there are
+abbrev pub lemma_count : BookModel → ℕ
+lemma_count b = length b.kept + length b.lemmas
+
+abbrev pub numbered_from : ℕ → List State → List LemmaModel
 numbered_from i [] = []
-numbered_from i (x ∷ xs) = record { id = i; state = x.state } ∷ numbered_from (suc i) xs
+numbered_from i (L ∷ lemmas) = record { id = i; state = L } ∷ numbered_from (suc i) lemmas
 
 -- the lemmas with their numbers
 abbrev pub numbered : BookModel → List LemmaModel
-numbered b = numbered_from 0 b.lemmas
+numbered b = numbered_from 0 (lemma_states_in b)
 
 -- ---- the book as it opens
 
@@ -64,13 +71,22 @@ abbrev pub first_node : Option ℕ → State → NodeModel
 first_node None S = live_node S
 first_node (Some i) S = crossed_node i
 
--- node 0 is live in the root state; where bounds cross, it is closed by the first axis whose bounds do
-abbrev pub opening : Parts → Options → BookModel
-opening p o = record {
+-- with these lemmas, node 0 is live in the root state; where bounds cross, it is closed by the first axis whose bounds do
+abbrev pub opening_with : Parts → Options → List State → BookModel
+opening_with p o kept = record {
   problem = p;
   options = o;
   nodes = first_node (first_crossed (problem_of p)) (root_state (problem_of p)) ∷ [];
+  kept = kept;
   lemmas = [];
   branches = 0;
   point = None;
 }
+
+abbrev pub opening : Parts → Options → BookModel
+opening p o = opening_with p o []
+
+-- The lemmas of a book as states of a problem that goes on from its own, each new axis having its whole domain in them. There are none where
+-- the book keeps a point, or where a declared box is empty.
+abbrev pub kept_from : BookModel → Parts → List State
+kept_from b q = cond (is_some b.point) [] (kept_by true (problem_in b) (lemma_states_in b) (problem_of q))

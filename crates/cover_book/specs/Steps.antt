@@ -16,7 +16,7 @@ use Rattle.cover_book.specs.declared.refusal.BookRefusal.{BookRefusal}
 use Rattle.cover_book.specs.declared.refusal.BookRefusal.TheVariants.{NotOpen, OtherState, UnknownLemma, BudgetSpent, LemmasFull, PointKept, Memory}
 use Rattle.cover_book.specs.declared.refusal.Kids.{Kids}
 use Rattle.cover_book.specs.declared.refusal.Kids.TheVariants as kids
-use Rattle.cover_book.specs.Model.{LearnedLemma, NodeModel, live_node, closed_node, parted_node, stuck_node, BookModel, problem_in, margins_of, loosenings_in, lemma_states_in, numbered}
+use Rattle.cover_book.specs.Model.{LearnedLemma, NodeModel, live_node, closed_node, parted_node, stuck_node, BookModel, problem_in, margins_of, loosenings_in, lemma_states_in, lemma_count, numbered}
 
 -- ---- the condition of a call, which depends on what no call changes
 
@@ -72,6 +72,7 @@ with_nodes b nodes branches = record {
   problem = b.problem;
   options = b.options;
   nodes = nodes;
+  kept = b.kept;
   lemmas = b.lemmas;
   branches = branches;
   point = b.point;
@@ -120,6 +121,7 @@ with_lemma b x = record {
   problem = b.problem;
   options = b.options;
   nodes = b.nodes;
+  kept = b.kept;
   lemmas = b.lemmas ++ (x ∷ []);
   branches = b.branches;
   point = b.point;
@@ -131,10 +133,10 @@ learned_book b k (Some l) = with_lemma b (record { state = k.first; steps = k.st
 
 pub record LemmaStep (b : BookModel) (k : KeptModel) (i : ℕ) (b' : BookModel) : Type 0 where
   pub known : QuotesKnownLemmas b k.quoted
-  pub room : length b.lemmas < most_lemmas
+  pub room : lemma_count b < most_lemmas
   pub grid : IsGridSpace k.first.space
   pub reached : IsGridSpace k.reached.space
-  pub number : i ≡ length b.lemmas
+  pub number : i ≡ lemma_count b
   pub book : b' ≡ learned_book b k k.end
 
 abbrev pub with_point : BookModel → Space → BookModel
@@ -142,6 +144,7 @@ with_point b x = record {
   problem = b.problem;
   options = b.options;
   nodes = b.nodes;
+  kept = b.kept;
   lemmas = b.lemmas;
   branches = b.branches;
   point = Some x;
@@ -159,7 +162,7 @@ abbrev pub IsOutOfMemory : BookModel → BookModel → BookRefusal → Type 0
 IsOutOfMemory b b' e = (e ≡ Memory) × (b' ≡ b)
 
 abbrev pub IsQuotedRefusal : BookModel → List LemmaModel → BookRefusal → Type 0
-IsQuotedRefusal b quoted (UnknownLemma i count) = IsFirstUnknown b quoted i × (count ≡ length b.lemmas)
+IsQuotedRefusal b quoted (UnknownLemma i count) = IsFirstUnknown b quoted i × (count ≡ lemma_count b)
 IsQuotedRefusal b quoted e = ⊥
 
 abbrev pub IsPointKeptRefusal : BookModel → BookRefusal → Type 0
@@ -170,15 +173,15 @@ IsPointKeptRefusal b e = ⊥
 abbrev pub IsCommitRefusal : BookModel → ℕ → KeptModel → BookRefusal → Type 0
 IsCommitRefusal b n k (NotOpen m) = (m ≡ n) × ((S : State) → IsLive b n S → ⊥)
 IsCommitRefusal b n k (OtherState S) = IsLive b n S × (k.first ≢ S)
-IsCommitRefusal b n k (UnknownLemma i count) = IsLive b n k.first × IsFirstUnknown b k.quoted i × (count ≡ length b.lemmas)
+IsCommitRefusal b n k (UnknownLemma i count) = IsLive b n k.first × IsFirstUnknown b k.quoted i × (count ≡ lemma_count b)
 IsCommitRefusal b n k (BudgetSpent count) = IsLive b n k.first × QuotesKnownLemmas b k.quoted × IsTrue (ends_in_branch k.end) × (b.options.budget ≤ b.branches) × (count ≡ b.branches)
 IsCommitRefusal b n k LemmasFull = ⊥
 IsCommitRefusal b n k (PointKept x) = IsLive b n k.first × QuotesKnownLemmas b k.quoted × HasBudgetFor b k.end × (b.point ≡ Some x)
 IsCommitRefusal b n k Memory = Unit {0}
 
 abbrev pub IsLemmaRefusal : BookModel → KeptModel → BookRefusal → Type 0
-IsLemmaRefusal b k (UnknownLemma i count) = IsFirstUnknown b k.quoted i × (count ≡ length b.lemmas)
-IsLemmaRefusal b k LemmasFull = QuotesKnownLemmas b k.quoted × (most_lemmas ≤ length b.lemmas)
+IsLemmaRefusal b k (UnknownLemma i count) = IsFirstUnknown b k.quoted i × (count ≡ lemma_count b)
+IsLemmaRefusal b k LemmasFull = QuotesKnownLemmas b k.quoted × (most_lemmas ≤ lemma_count b)
 IsLemmaRefusal b k Memory = Unit {0}
 IsLemmaRefusal b k e = ⊥
 

@@ -5,7 +5,7 @@ use Rattle.cover_model.specs.Rules.{Line, open_line}
 use Rattle.cover_model.specs.Derivation.{Tree, leaf, fork}
 use Rattle.cover_data.specs.Runs.{tree_after}
 use Rattle.cert_model.specs.Due.{Standing}
-use Rattle.cert_model.specs.Written.{LemmaTree}
+use Rattle.cert_model.specs.Written.{LemmaTree, lemma_states}
 use Rattle.cover_book.specs.Model.{LearnedLemma, NodeModel, live_node, closed_node, parted_node, stuck_node, BookModel}
 
 -- the tree of a node: its lines, and those of its parts, an open line for a live node; with the numbers of the nodes that it is made of, and, in
@@ -29,3 +29,7 @@ lemma_tree x = record { state = x.state; tree = tree_after x.steps (leaf x.end) 
 
 abbrev pub lemma_trees : BookModel → List LemmaTree
 lemma_trees b = map lemma_tree b.lemmas
+
+-- the states of all lemmas, as a certificate has them
+abbrev pub cover_lemmas : BookModel → List State
+cover_lemmas b = b.kept ++ lemma_states (lemma_trees b)

@@ -1,15 +1,17 @@
 // The book of a cover.
-ghost use Rattle.std.specs.Prelude.{◌≡◌, ◌↔◌, ◌<◌, ◌^◌, IfOk, IfSome, IsSome, MatchOption, MatchResult, IsTrue, length, map, slice_set, vec_len};
+ghost use Rattle.std.specs.Prelude.{◌≡◌, ◌↔◌, ◌<◌, ◌≤◌, ◌^◌, All, IfOk, IfSome, IsSome, MatchOption, MatchResult, IsTrue, length, map, slice_get, slice_set, vec_len};
 ghost use Rattle.std.specs.List.{list_any};
 ghost use Rattle.std.specs.Vec.{vec_capacity};
+ghost use Rattle.poly_graph.specs.ProblemViews.{problem_of};
+ghost use Rattle.cover_data.specs.Margins.{loosenings_of};
 ghost use Rattle.cover_data.specs.Runs.{CanPart};
 ghost use Rattle.cover_data.specs.Views.{kept_of, end_of};
 ghost use Rattle.cover_book.specs.Calls.{IsLearnedOf, IsOpeningOf, IsOutcomeOf, KeepsLemma, PartsNode, StoresLemma, StoresPatch, TestsCommit, TestsQuoted};
 ghost use Rattle.cover_book.specs.Limits.{IsWithinLimits};
-ghost use Rattle.cover_book.specs.Model.{opening};
+ghost use Rattle.cover_book.specs.Model.{lemma_count, lemma_states_in, margins_of, opening, opening_with};
 ghost use Rattle.cover_book.specs.Verdict.{verdict_of, is_live, is_stuck, live_after};
 ghost use Rattle.cover_book.specs.Views.{learned_of, node_of};
-ghost use Rattle.cover_book.specs.Keeps.{IsBook};
+ghost use Rattle.cover_book.specs.Keeps.{IsBook, IsKeptLemma};
 ghost use Rattle.cover_book.specs.Steps.{BookStep, QuotesKnownLemmas, IsPointKeptRefusal, MayCommit, MayBeCalled, ResultStep, most_lemmas, ends_in_branch};
 ghost use Rattle.cover_book.specs.declared.calls.Call.TheVariants as call;
 ghost use Rattle.cover_book.specs.declared.calls.Reply.TheVariants as reply;
@@ -31,12 +33,14 @@ use std::mem;
 pub const MOST_LEMMAS: usize = 1_048_576;
 
 /// The boxes of a cover by number, those that are open with their states and the others with what was committed to
-/// them; the lemmas that were learned, by number; how many branches there are; and the point that was found.
+/// them; the states of the lemmas that it opened with, and the lemmas that were learned, numbered on; how many branches
+/// there are; and the point that was found.
 #[derive(Drop)]
 pub struct Book {
     problem: Problem,
     options: Options,
     nodes: Vec<Node>,
+    kept: Vec<StoredState>,
     lemmas: Vec<Learned>,
     branches: u32,
     point: Option<Point>,
@@ -55,6 +59,7 @@ impl Model for Book {
       problem = b.problem;
       options = b.options;
       nodes = map node_of b.nodes.items;
+      kept = b.kept.items;
       lemmas = map learned_of b.lemmas.items;
       branches = b.branches;
       point = b.point;
@@ -64,6 +69,7 @@ impl Model for Book {
       problem = b.problem;
       options = b.options;
       nodes = map node_of b.nodes.items;
+      kept = b.kept.items;
       lemmas = map learned_of b.lemmas.items;
       branches = b.branches;
       point = b.point;
@@ -221,6 +227,22 @@ impl Book {
         requires { IsWithinLimits problem options }
         ensures { IfOk result (λ b. b ≡ opening problem options) }
     {
+        Book::opened(alloc, problem, options, Vec::new(alloc))
+    }
+
+    /// The book with node 0 alone, as `new` has it, and with these lemmas.
+    pub(crate) fn opened(
+        alloc: Global,
+        problem: Problem,
+        options: Options,
+        kept: Vec<StoredState>,
+    ) -> Result<Book, AllocError>
+        requires limits { IsWithinLimits problem options }
+        requires few { length kept.items ≤ most_lemmas }
+        requires kept { let s = loosenings_of (margins_of options) in
+            All (IsKeptLemma (problem_of problem) s) kept.items }
+        ensures { IfOk result (λ b. b ≡ opening_with problem options kept.items) }
+    {
         let node = opening_node(alloc, &problem)?;
         let mut nodes = Vec::new(alloc);
         nodes.push(node)?;
@@ -228,6 +250,7 @@ impl Book {
             problem,
             options,
             nodes,
+            kept,
             lemmas: Vec::new(alloc),
             branches: 0,
             point: None,
@@ -266,7 +289,15 @@ impl Book {
         &self.nodes
     }
 
-    /// The lemmas that were learned, by number.
+    /// The states of the lemmas that it opened with, by number.
+    pub fn kept(&self) -> &[StoredState]
+        ensures kept { result.now ≡ self.now.kept }
+        ensures book { IsBook self.now }
+    {
+        &self.kept
+    }
+
+    /// The lemmas that were learned; their numbers follow those that it opened with.
     pub fn lemmas(&self) -> &[Learned]
         ensures lemmas { map learned_of result.now ≡ self.now.lemmas }
         ensures book { IsBook self.now }
@@ -294,16 +325,42 @@ impl Book {
         }
     }
 
+    /// How many lemmas there are: those that it opened with, and those that were learned.
+    pub fn lemma_count(&self) -> u32
+        ensures count { result ≡ lemma_count self.now }
+        ensures few { result ≤ most_lemmas }
+        ensures book { IsBook self.now }
+    {
+        (self.kept.len() + self.lemmas.len()) as u32
+    }
+
+    /// The state of the lemma of this number.
+    pub(crate) fn lemma_state(&self, id: usize) -> Option<&StoredState>
+        ensures { let there = slice_get (lemma_states_in self.now) id in
+            MatchOption result (there ≡ None) (λ s. there ≡ Some s.now) }
+    {
+        if id < self.kept.len() {
+            return Some(&self.kept[id]);
+        }
+        match self.lemmas.get(id - self.kept.len()) {
+            Some(lemma) => Some(&lemma.state),
+            None => None,
+        }
+    }
+
     /// The lemmas of this number and later ones.
     pub fn lemmas_from(&self, from: u32) -> Result<Vec<Lemma>, AllocError>
         ensures { IfOk result (λ v.
             BookStep self.now (call.LemmasFrom from) (reply.Lemmas v) self.now) }
     {
-        let count = self.lemmas.len();
+        let count = self.lemma_count() as usize;
         let first = (from as usize).min(count);
         let mut copies = Vec::new(*self.nodes.allocator());
         for id in first..count {
-            let state = self.lemmas[id].state.state(*self.nodes.allocator())?;
+            let Some(lemma) = self.lemma_state(id) else {
+                unreachable!();
+            };
+            let state = lemma.state(*self.nodes.allocator())?;
             copies.push(Lemma::new(id as u32, state))?;
         }
         Ok(copies)
@@ -313,8 +370,8 @@ impl Book {
     fn knows(&self, lemma: &Lemma) -> bool
         ensures { IsTrue result ↔ KeepsLemma self.now lemma.now }
     {
-        match self.lemmas.get(lemma.id() as usize) {
-            Some(kept) => kept.state.is_same(lemma.state()),
+        match self.lemma_state(lemma.id() as usize) {
+            Some(state) => state.is_same(lemma.state()),
             None => false,
         }
     }
@@ -325,7 +382,7 @@ impl Book {
     {
         for lemma in quoted {
             if !self.knows(lemma) {
-                return Err(BookRefusal::UnknownLemma(lemma.id(), self.lemmas.len() as u32));
+                return Err(BookRefusal::UnknownLemma(lemma.id(), self.lemma_count()));
             }
         }
         Ok(())
@@ -413,9 +470,10 @@ impl Book {
     fn keep_lemma(&mut self, patch: KeptPatch) -> Result<u32, BookRefusal>
         requires meets { MayBeCalled self.old (call.Learn (kept_of patch)) }
         requires known { QuotesKnownLemmas self.old (kept_of patch).quoted }
-        requires room { length self.old.lemmas < most_lemmas }
+        requires room { lemma_count self.old < most_lemmas }
         ensures { StoresLemma self.old patch self.new result }
     {
+        let id = self.lemma_count();
         on_grid(&patch.first);
         on_grid(&patch.reached);
         if self.lemmas.reserve(1).is_err() {
@@ -424,7 +482,6 @@ impl Book {
         let Ok(lemma) = learned(*self.nodes.allocator(), patch, latest_state(&self.lemmas)) else {
             return Err(BookRefusal::Memory);
         };
-        let id = self.lemmas.len() as u32;
         self.lemmas.push_reserved(lemma);
         Ok(id)
     }
@@ -437,7 +494,7 @@ impl Book {
     {
         let kept = patch.into_kept();
         self.test_quoted(&kept.quoted)?;
-        if self.lemmas.len() >= MOST_LEMMAS {
+        if self.lemma_count() as usize >= MOST_LEMMAS {
             return Err(BookRefusal::LemmasFull);
         }
         self.keep_lemma(kept)

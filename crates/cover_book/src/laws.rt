@@ -1,8 +1,8 @@
 //! What is proved of books: each function here does nothing, and its contract is a law.
 
-ghost use Rattle.cover_book.specs.Laws.{OpeningIsBook, StepKeepsBook, StepKeepsProblem, ConditionLasts, StepGrows, BookCatches, NodesLieWithin, BookHasTree, TreeIsHonest};
+ghost use Rattle.cover_book.specs.Laws.{OpeningIsBook, CarriedIsBook, StepKeepsBook, StepKeepsProblem, ConditionLasts, StepGrows, BookCatches, NodesLieWithin, BookHasTree, TreeIsHonest};
 
-/// No call changes the problem or the options.
+/// No call changes the problem, the options, or the lemmas that the book opened with.
 pub fn steps_keep_problem()
     ensures { StepKeepsProblem }
 {}
@@ -15,6 +15,11 @@ pub fn conditions_last()
 /// A book opens as one: its nodes are those of a tree, its lemmas are derived.
 pub fn opening_is_book()
     ensures { OpeningIsBook }
+{}
+
+/// So does one with the lemmas of a book whose problem the new one goes on from.
+pub fn carried_is_book()
+    ensures { CarriedIsBook }
 {}
 
 /// Every call keeps it one.

@@ -53,13 +53,12 @@ fn draw_boxes(
             Ok(None) => return Ok(()),
             Err(fault) => return Err(Fault::Unconfirmed(checker.refuse(fault))),
         };
-        let space = if at_root {
-            Some(root)
-        } else {
-            checker.box_at()
-        };
-        if let (Some(fate), Some(space)) = (fate_by(&line), space) {
-            picture.add_box(frame, space, fate)?;
+        if let Some(fate) = fate_by(&line) {
+            if at_root {
+                picture.add_box(frame, root, fate)?;
+            } else if let Some(space) = checker.box_at() {
+                picture.add_box(frame, space, fate)?;
+            }
         }
         at_root = line == Line::Tree;
         checker.line(&line)?;

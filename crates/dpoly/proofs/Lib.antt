@@ -3,3 +3,4 @@ pub mod Planning
 pub mod Solving
 pub mod SearchAnswers
 pub mod Upgrading
+pub mod SessionAnswers

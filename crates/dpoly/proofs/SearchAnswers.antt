@@ -67,8 +67,8 @@ live-there [] e = absurd (true≢false (sym e))
 live-there (x ∷ nodes) e = live-first x nodes (is_live x) refl e (live-there nodes)
 
 -- a book that says that a node is live has one
-one-is-live : (b : BookModel) → has_live b ≡ true → (n : ℕ) × (S : State) × IsLive b n S
-one-is-live b e = live-there b.nodes e
+pub one_is_live : (b : BookModel) → has_live b ≡ true → (n : ℕ) × (S : State) × IsLive b n S
+one_is_live b e = live-there b.nodes e
 
 -- ---- verdicts
 
@@ -214,7 +214,7 @@ module _ (b : BookModel) (w : IsBook b) (o : Options) (by : IsLeftBy o b) (n : b
       budget = ap (λ (x : cover.Options). x.budget) by.asked
 
       spent : (l : Bool) → has_live b ≡ l → IsTrue (has_open c.left) → branches (problem_in b) o.bound cert ≡ o.budget
-      spent true e f = let x = one-is-live b e in omega (arith, many, budget, w.budget, (by.due n x.0 x.1 x.2).spent)
+      spent true e f = let x = one_is_live b e in omega (arith, many, budget, w.budget, (by.due n x.0 x.1 x.2).spent)
       spent false e f = absurd (true≢false (sym f ∙ (left_tells_of_nodes b w c.tree c.left c.is_tree).live ∙ e))
 
   some-none : (i : ℕ) → first_crossed (problem_in b) ≡ Some i → first_crossed (problem_in b) ≡ None → ⊥

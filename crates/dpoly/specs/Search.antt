@@ -1,5 +1,6 @@
 -- What a search is asked for, and what is answered of the book that it left.
-use Rattle.std.specs.Prelude.{◌≡◌, ◌≢◌, ℕ, List, []}
+use Rattle.std.specs.Prelude.{◌≡◌, ◌≢◌, ◌++◌, ℕ, List, [], ◌∷◌, Bool, length}
+use Rattle.std.specs.List.{AllByRecursion}
 use Rattle.command_line.specs.declared.request.Options.{Options}
 use Rattle.poly_graph.specs.Problem.{Problem}
 use Rattle.cover_model.specs.Derivation.{Tree}
@@ -13,7 +14,9 @@ use Rattle.cover_book.specs.Laws.{IsTreeOfBook}
 use Rattle.cover_book.specs.Verdict.{verdict_of}
 use Rattle.solve_core.specs.Left.{LeavesDue}
 use Rattle.dpoly.specs.declared.answers.SearchAnswer.{SearchAnswer}
-use Rattle.check_run.specs.Answer.{loosenings_of, IsAnswer}
+use Rattle.cert_model.specs.Standing.{Stands}
+use Rattle.cert_text.specs.Session.{TellsOf}
+use Rattle.check_run.specs.Answer.{loosenings_for, loosenings_of, solve_texts, AreAnswers, IsAnswer}
 
 -- the words' options, as a search takes them
 abbrev pub search_options : Options → cover.Options
@@ -37,8 +40,37 @@ pub record SaysLeft (options : Options) (b : BookModel) (text : List ℕ) : Type
   pub tree : (t : Tree) (left : List Standing) → IsTreeOfBook b t left → text ≡ solve_text (problem_in b) options.budget (loosenings_of options) (left_open left)
   pub crossed : IsCrossed b → text ≡ solve_text (problem_in b) options.budget (loosenings_of options) (left_open [])
 
+-- the text is that of each value which tells of the book
+abbrev pub SaysOf : Options → BookModel → List ℕ → Type 0
+SaysOf options b text = (v : Value) (lines : List Stands) → TellsOf b v lines → text ≡ solve_text (problem_in b) options.budget (loosenings_of options) v
+
+-- these values tell of the books
+abbrev pub AreTold : List BookModel → List Value → Type 0
+AreTold [] [] = Unit {0}
+AreTold (b ∷ books) (v ∷ values) = ((lines : List Stands) × TellsOf b v lines) × AreTold books values
+AreTold _ _ = ⊥
+
+-- their texts, one after the other
+abbrev pub book_texts : Options → List BookModel → List Value → List ℕ
+book_texts options (b ∷ books) (v ∷ values) = solve_text (problem_in b) options.budget (loosenings_of options) v ++ book_texts options books values
+book_texts options _ _ = []
+
+-- the text is those of the values that tell of the books
+abbrev pub SayOf : Options → List BookModel → List ℕ → Type 0
+SayOf options books text = (values : List Value) → AreTold books values → text ≡ book_texts options books values
+
+-- searches with these options left the books
+abbrev pub AreLeftBy : Options → List BookModel → Type 0
+AreLeftBy options books = AllByRecursion (IsLeftBy options) books
+
 -- the certificate answers the problem, and the text is that of its value
 pub record IsSearchAnswer (p : Problem) (options : Options) (told : SearchAnswer) : Type 0 where
   pub value : Value
   pub answer : IsAnswer p options told.cert.items value
   pub text : told.text.items ≡ solve_text p options.budget (loosenings_of options) value
+
+-- the certificate answers the problems, and the text is those of its values
+pub record AreSearchAnswers (ps : List (Problem × Bool)) (options : Options) (told : SearchAnswer) : Type 0 where
+  pub values : List Value
+  pub answers : AreAnswers ps options told.cert.items values
+  pub text : told.text.items ≡ solve_texts options.budget (loosenings_for (length ps) options) ps values

@@ -1,21 +1,24 @@
-// From the book that a search left to its certificate and its answer.
-ghost use Rattle.std.specs.Prelude.{◌≡◌, [], None, Some, IfOk};
+// From the books that searches left to their certificate and their answers.
+ghost use Rattle.std.specs.Prelude.{◌≡◌, [], ◌∷◌, Bool, List, None, Some, IfOk};
 ghost use Rattle.command_line.specs.declared.request.Options.{Options};
 ghost use Rattle.cert_model.specs.Due.{left_open};
 ghost use Rattle.cover_book.specs.Keeps.{IsBook};
 ghost use Rattle.cover_book.specs.Model.{problem_in};
+ghost use Rattle.cover_book.specs.Session.{AreBooksOf};
+ghost use Rattle.poly_graph.specs.ProblemViews.{Parts};
+ghost use Rattle.problem_session.specs.Session.{problems_of};
 ghost use Rattle.cover_book.specs.Verdict.{verdict_of};
 ghost use Rattle.cover_book.specs.declared.verdict.BookVerdict.TheVariants as verdict;
 ghost use Rattle.check_run.specs.Answer.{IsAnswer};
-ghost use Rattle.dpoly.specs.Search.{search_options as options_of, IsLeftBy, IsSearchAnswer, SaysLeft};
+ghost use Rattle.dpoly.specs.Search.{search_options as options_of, AreLeftBy, AreSearchAnswers, IsLeftBy, IsSearchAnswer, SayOf, SaysLeft, SaysOf};
 
-use cert_text::{first_stuck, write_cover, write_point};
+use cert_text::{first_stuck, write_cover, write_point, write_session};
 use command_line::Options;
 use cover_book::{Book, BookVerdict};
 use cover_rule::Point;
 use std::alloc::{AllocError, Global};
 
-/// A certificate, and the answer's text.
+/// A certificate, and the text of the answers.
 #[derive(Debug, Drop)]
 pub struct SearchAnswer {
     pub cert: Vec<u8>,
@@ -89,7 +92,8 @@ fn left_text(alloc: Global, book: &Book, options: &Options) -> Result<Vec<u8>, A
 
 /// The certificate of a book that a search left, and its answer.
 pub fn tell(alloc: Global, book: &Book, options: &Options) -> Result<SearchAnswer, AllocError>
-    requires { IsLeftBy options.now book.now }
+    requires left { IsLeftBy options.now book.now }
+    requires alone { book.now.kept ≡ [] }
     ensures { IfOk result (λ told. IsSearchAnswer (problem_in book.now) options.now told) }
 {
     book_is_sound(book);
@@ -103,9 +107,54 @@ pub fn tell(alloc: Global, book: &Book, options: &Options) -> Result<SearchAnswe
     }
 }
 
+// The text of a book's answer.
+fn text_of(alloc: Global, book: &Book, options: &Options) -> Result<Vec<u8>, AllocError>
+    requires { IsLeftBy options.now book.now }
+    ensures { IfOk result (λ text. SaysOf options.now book.now text.items) }
+{
+    book_is_sound(book);
+    match book.point() {
+        Some(point) => {
+            let problem = book.problem();
+            check_run::delta_sat(alloc, problem, options.delta_bits, point.space())
+        }
+        None => left_text(alloc, book, options),
+    }
+}
+
+// The texts of the answers of books, one after the other.
+fn texts_of(alloc: Global, books: &[Book], options: &Options) -> Result<Vec<u8>, AllocError>
+    requires { AreLeftBy options.now books.now }
+    ensures { IfOk result (λ text. SayOf options.now books.now text.items) }
+{
+    let mut text = Vec::new(alloc);
+    for book in books {
+        let one = text_of(alloc, book, options)?;
+        text.extend_from_slice(&one)?;
+    }
+    Ok(text)
+}
+
+/// The certificate of the books that searches left at two checks or more, and their answers.
+pub fn tell_all(
+    alloc: Global,
+    books: &[Book],
+    options: &Options,
+) -> Result<SearchAnswer, AllocError>
+    requires { AreLeftBy options.now books.now }
+    ensures { (c d : Parts × Bool) (later : List (Parts × Bool)) →
+        AreBooksOf (options_of options.now) [] (c ∷ d ∷ later) books.now →
+        IfOk result (λ told. AreSearchAnswers (problems_of (c ∷ d ∷ later)) options.now told) }
+{
+    let cert = write_session(alloc, books)?;
+    let text = texts_of(alloc, books, options)?;
+    Ok(SearchAnswer { cert, text })
+}
+
 /// The certificate of a book that leaves nothing.
 pub fn whole_cover(alloc: Global, book: &Book) -> Result<Vec<u8>, AllocError>
-    requires { verdict_of book.now ≡ verdict.Unsat }
+    requires unsat { verdict_of book.now ≡ verdict.Unsat }
+    requires alone { book.now.kept ≡ [] }
     ensures { IfOk result (λ cert. (options : Options) → IsLeftBy options book.now →
         IsAnswer (problem_in book.now) options cert.items (left_open [])) }
 {

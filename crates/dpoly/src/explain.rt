@@ -31,7 +31,7 @@ fn messages_of<'a>(alloc: Global, words: &'a [String]) -> Messages<'a> {
     }
 }
 
-// What would help, behind an answer that leaves a question open.
+// What would help, behind an answer that leaves a question open, by the first line of it.
 const HINTS: [(&str, &str); 3] = [
     (
         "plan none atom ",
@@ -42,39 +42,111 @@ const HINTS: [(&str, &str); 3] = [
         "this constant (they count from 0, in the order of declaration) has a bound so large that its numbers stand too far apart for the width that the atoms need. Tighter bounds, a greater delta or a smaller margin may help",
     ),
     (
-        "unknown width\n",
+        "unknown width",
         "`dpoly plan`, with the same script and options, tells with which `--least-bits` this answer never comes",
     ),
 ];
 
-// The number of the atom that an answer names.
-fn atom_named(answer: &str) -> Option<usize> {
-    let (_, behind) = answer.split_once("atom ")?;
-    let number = behind.lines().next()?;
+// The first lines of answers: each whole, or up to a number.
+const FIRST_LINES: [&str; 5] = [
+    "unsat",
+    "delta-sat",
+    "unknown width",
+    "unknown budget ",
+    "plan ",
+];
+
+// Whether the line is the first one of a check's answer. A line of an axis has a number or a truth behind its name.
+fn begins_answer(line: &str) -> bool {
+    for first in &FIRST_LINES {
+        if line == *first || first.ends_with(" ") && line.starts_with(*first) {
+            return true;
+        }
+    }
+    false
+}
+
+// The number of the atom that a line names.
+fn atom_named(line: &str) -> Option<usize> {
+    let (_, number) = line.split_once("atom ")?;
     number.parse::<usize>().ok()
 }
 
-// Says where the atom that the answer names first stands in the script.
-fn show_atom(rt: &HostRuntime, messages: &Messages<'_>, desk: &FileDesk) {
-    let Some(atom) = atom_named(desk.answer()) else {
+// A check by its number, from 0 on, of so many.
+#[derive(Clone, Copy)]
+struct Which {
+    check: usize,
+    checks: usize,
+}
+
+// Says of which check the next line is, where there are several.
+fn show_check(rt: &HostRuntime, which: Which) {
+    if which.checks > 1 {
+        let number = which.check.saturating_add(1);
+        let _ = eprintln!(rt; "dpoly: check {number} of {}:", which.checks);
+    }
+}
+
+// Says where the atom that a line names first stands in the script.
+fn show_atom(rt: &HostRuntime, messages: &Messages<'_>, desk: &FileDesk, line: &str, check: usize) {
+    let Some(atom) = atom_named(line) else {
         return;
     };
     let Some(script) = messages.script_text(rt, desk) else {
         return;
     };
-    if let Some(place) = assertion_with(rt.alloc(), &script, atom) {
+    if let Some(place) = assertion_with(rt.alloc(), &script, check, atom) {
         let (line, column) = (place.line as usize, place.column as usize);
         let _ = eprintln!(rt; "dpoly: atom {atom} first stands in this assertion, {line}:{column}");
         messages.show_place(rt, &script, line, column);
     }
 }
 
-// Says on standard error what would help, where the answer is one of these.
-fn hint(rt: &HostRuntime, messages: &Messages<'_>, desk: &FileDesk) {
+// Says what would help with the answer that begins with this line.
+fn show_hint(rt: &HostRuntime, line: &str, which: Which) {
     for (begins, help) in &HINTS {
-        if desk.answer().starts_with(*begins) {
+        if line.starts_with(*begins) {
+            show_check(rt, which);
             let _ = eprintln!(rt; "dpoly: {help}");
-            show_atom(rt, messages, desk);
+        }
+    }
+}
+
+// How many checks are answered.
+fn answers_in(answer: &str) -> usize {
+    let mut count = 0usize;
+    for line in answer.lines() {
+        if begins_answer(line) {
+            count = count.saturating_add(1);
+        }
+    }
+    count
+}
+
+// Says on standard error what would help, behind each answer that leaves a question open.
+fn hint(rt: &HostRuntime, messages: &Messages<'_>, desk: &FileDesk) {
+    let checks = answers_in(desk.answer());
+    let mut begun = 0usize;
+    let mut names_atom = false;
+    for line in desk.answer().lines() {
+        let check = begun.saturating_sub(1);
+        if names_atom {
+            show_atom(rt, messages, desk, line, check);
+        }
+        names_atom = line == "unknown width";
+        if begins_answer(line) {
+            show_hint(
+                rt,
+                line,
+                Which {
+                    check: begun,
+                    checks,
+                },
+            );
+            if line.starts_with("plan none atom ") {
+                show_atom(rt, messages, desk, line, begun);
+            }
+            begun = begun.saturating_add(1);
         }
     }
 }

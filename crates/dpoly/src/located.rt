@@ -1,25 +1,70 @@
 // In which assertion of a script an atom first stands: for people to read, and promised by no clause.
 ghost use Rattle.std.specs.Prelude.{◌≤◌, length};
 
-use problem_build::read_problem;
+use problem_build::read_session;
+use problem_session::Session;
 use script_fault::{Place, ReadError};
 use smt_script::{Command, Step, commands};
 use smt_sexp::read;
-use std::alloc::Global;
+use std::alloc::{AllocError, Global};
 
-// The places of a script's assertions, in order; none where some are taken back.
-fn assertions(alloc: Global, script: &[u8]) -> Result<Option<Vec<Place>>, ReadError> {
-    let sexps = read(alloc, script)?;
-    let course = commands(alloc, &sexps)?;
-    let mut places = Vec::new(alloc);
-    for step in &course.steps {
+// The places of the assertions that are in force, in order, and how many there were as each open level was opened.
+#[derive(Drop)]
+struct InForce {
+    places: Vec<Place>,
+    levels: Vec<usize>,
+}
+
+impl InForce {
+    fn take(&mut self, step: &Step<'_>) -> Result<(), AllocError> {
         match step {
-            Step::Command(Command::Assert(place, _)) => places.push(*place)?,
+            Step::Command(Command::Assert(place, _)) => self.places.push(*place)?,
             Step::Command(_) | Step::Values(_, _) => {}
-            Step::Push(_, _) | Step::Pop(_, _) | Step::Reset(_) => return Ok(None),
+            Step::Push(_, count) => self.open(*count)?,
+            Step::Pop(_, count) => self.close(*count),
+            Step::Reset(_) => {
+                self.places.truncate(0);
+                self.levels.truncate(0);
+            }
+        }
+        Ok(())
+    }
+
+    fn open(&mut self, count: usize) -> Result<(), AllocError> {
+        for _level in 0..count {
+            self.levels.push(self.places.len())?;
+        }
+        Ok(())
+    }
+
+    fn close(&mut self, count: usize) {
+        for _level in 0..count {
+            if let Some(length) = self.levels.pop() {
+                self.places.truncate(length);
+            }
         }
     }
-    Ok(Some(places))
+}
+
+// The places of the assertions in force at the check of this number, from 0 on, in order.
+fn assertions(alloc: Global, script: &[u8], check: usize) -> Result<Vec<Place>, ReadError> {
+    let sexps = read(alloc, script)?;
+    let course = commands(alloc, &sexps)?;
+    let mut force = InForce {
+        places: Vec::new(alloc),
+        levels: Vec::new(alloc),
+    };
+    let mut before = 0usize;
+    for step in &course.steps {
+        if let Step::Command(Command::Check(_)) = step {
+            if before == check {
+                break;
+            }
+            before = before.saturating_add(1);
+        }
+        force.take(step)?;
+    }
+    Ok(force.places)
 }
 
 // How many bytes stand before the place.
@@ -34,11 +79,23 @@ fn offset_of(script: &[u8], at: Place) -> usize
     offset.min(script.len())
 }
 
-// How many atoms the script has before the place; the bound is no matter.
+// How many atoms are in force before the place; the bound is no matter.
 fn atoms_before(alloc: Global, script: &[u8], at: Place) -> Result<usize, ReadError> {
     let mut text = Vec::from_slice(alloc, &script[..offset_of(script, at)])?;
     text.extend_from_slice(b"(check-sat)")?;
-    let problem = read_problem(alloc, &text, Some(1))?;
+    let session = read_session(alloc, &text, Some(1))?;
+    atoms_at_last(alloc, &session)
+}
+
+// How many atoms the problem of the last check has.
+fn atoms_at_last(alloc: Global, session: &Session) -> Result<usize, ReadError> {
+    if session.len() == 0 {
+        return Ok(0);
+    }
+    let mut problem = session.first(alloc)?;
+    for k in 1..session.len() {
+        problem = session.next(alloc, k - 1, &problem)?;
+    }
     Ok(problem.atoms().len())
 }
 
@@ -63,9 +120,9 @@ fn last_before(
     Ok(rest.first().copied())
 }
 
-/// The assertion in which the atom of this number first stands; none where the script takes assertions back, or cannot be
-/// read once more.
-pub fn assertion_with(alloc: Global, script: &[u8], atom: usize) -> Option<Place> {
-    let places = assertions(alloc, script).ok()??;
+/// The assertion in which the atom of this number first stands, among those in force at the check of this number, from 0
+/// on; none where the script cannot be read once more.
+pub fn assertion_with(alloc: Global, script: &[u8], check: usize, atom: usize) -> Option<Place> {
+    let places = assertions(alloc, script, check).ok()?;
     last_before(alloc, script, &places, atom).ok()?
 }

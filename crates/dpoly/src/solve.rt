@@ -1,4 +1,4 @@
-// `solve` and `demo`, from a problem to their answers.
+// `solve` and `demo`, from problems to their answers.
 ghost use Rattle.std.specs.Prelude.{◌≡◌, [], IfOk, length};
 ghost use Rattle.command_line.specs.Words.{AreOptions};
 ghost use Rattle.poly_graph.specs.ProblemViews.{problem_of};
@@ -8,15 +8,19 @@ ghost use Rattle.check_run.specs.Answer.{IsAnswer};
 ghost use Rattle.check_run.specs.Course.{RunEnds};
 ghost use Rattle.check_run.specs.Can.{CanSolve, CanDemo};
 ghost use Rattle.check_run.specs.Run.{DemoHasCause, SameIn, SolveHasCause};
-ghost use Rattle.check_run.specs.Script.{IsWithin};
-ghost use Rattle.dpoly.specs.Search.{IsLeftBy, IsSearchAnswer};
+ghost use Rattle.check_run.specs.Script.{AreWithin, IsWithin};
+ghost use Rattle.cert_model.specs.SessionLaws.{IsSession};
+ghost use Rattle.cover_book.specs.Session.{AreBooksOf};
+ghost use Rattle.problem_session.specs.Session.{problems_of};
+ghost use Rattle.dpoly.specs.Search.{search_options as options_of, AreLeftBy, AreSearchAnswers, IsLeftBy, IsSearchAnswer};
 
-use crate::answers::{SearchAnswer, search_options, tell, whole_cover};
+use crate::answers::{SearchAnswer, search_options, tell, tell_all, whole_cover};
 use check_run::{Status, finish};
 use command_line::Options;
 use cover_book::{Book, BookVerdict};
 use desk::Desk;
 use poly_graph::Problem;
+use problem_session::Session;
 use solve_core::Gate;
 use std::alloc::{AllocError, Global};
 use std::sync::Wait;
@@ -34,6 +38,7 @@ fn search<R: Threads + Wait + Sync, G: Gate + Sync>(
     requires within { IsWithin problem.now }
     ensures problem { IfOk result (λ b. b.problem ≡ problem.now) }
     ensures left { IfOk result (λ b. IsLeftBy options.now b) }
+    ensures alone { IfOk result (λ b. b.kept ≡ []) }
 {
     let asked = search_options(options);
     solve_core::solve(rt, alloc, problem, &asked, gate)
@@ -78,24 +83,66 @@ fn covered<R: Threads + Wait + Sync, G: Gate + Sync>(
     }
 }
 
-/// Solves a problem: its certificate under a name, and the answer.
-pub fn solve_problem<R: Threads + Wait + Sync, D: Desk, G: Gate + Sync>(
+// The books that searches leave at the checks of a session.
+fn search_all<R: Threads + Wait + Sync, G: Gate + Sync>(
+    rt: &R,
+    alloc: Global,
+    session: &Session,
+    options: &Options,
+    gate: &G,
+) -> Result<Vec<Book>, AllocError>
+    requires options { AreOptions options.now }
+    requires session { IsSession (problems_of session.now) }
+    requires within { AreWithin session.now }
+    ensures books { IfOk result (λ v.
+        AreBooksOf (options_of options.now) [] session.now v.items) }
+    ensures left { IfOk result (λ v. AreLeftBy options.now v.items) }
+{
+    let asked = search_options(options);
+    solve_core::solve_all(rt, alloc, session, &asked, gate)
+}
+
+// The certificate of the checks of a session, and their answers.
+fn all_solved<R: Threads + Wait + Sync, G: Gate + Sync>(
+    rt: &R,
+    alloc: Global,
+    session: &Session,
+    options: &Options,
+    gate: &G,
+) -> Result<SearchAnswer, AllocError>
+    requires options { AreOptions options.now }
+    requires session { IsSession (problems_of session.now) }
+    requires within { AreWithin session.now }
+    ensures { IfOk result (λ told.
+        AreSearchAnswers (problems_of session.now) options.now told) }
+{
+    if session.len() == 1 {
+        let problem = session.first(alloc)?;
+        return solved(rt, alloc, &problem, options, gate);
+    }
+    let books = search_all(rt, alloc, session, options, gate)?;
+    tell_all(alloc, &books, options)
+}
+
+/// Solves the checks of a session: their certificate under a name, and the answers.
+pub fn solve_session<R: Threads + Wait + Sync, D: Desk, G: Gate + Sync>(
     rt: &R,
     alloc: Global,
     desk: &mut D,
     name: &str,
-    problem: &Problem,
+    session: &Session,
     options: Options,
     gate: &G,
 ) -> Status
     requires options { AreOptions options }
-    requires within { IsWithin problem.now }
-    ensures ends { RunEnds (CanSolve (problem_of problem.now) options name.now) []
+    requires session { IsSession (problems_of session.now) }
+    requires within { AreWithin session.now }
+    ensures ends { RunEnds (CanSolve (problems_of session.now) options name.now) []
         (D.sight desk.old) (D.sight desk.new) result }
     ensures same { SameIn (D.sight desk.old) (D.sight desk.new) }
     ensures cause { SolveHasCause (D.sight desk.old) (D.sight desk.new) result }
 {
-    match solved(rt, alloc, problem, &options, gate) {
+    match all_solved(rt, alloc, session, &options, gate) {
         Ok(told) => finish(desk, name, &told.cert, &told.text),
         Err(_) => Status::NoMemory,
     }

@@ -3,22 +3,23 @@ ghost use Rattle.std.specs.Prelude.{◌≡◌, None};
 ghost use Rattle.command_line.specs.Words.{AreOptions, IsDemo, IsInRange, IsPlan};
 ghost use Rattle.command_line.specs.Seen.{seen, seen_demo, seen_plan};
 ghost use Rattle.check_run.specs.Run.{asked_run, CertIsRead, command_in, demo_run, HasCause, HasCourse, plan_run, run, SameIn, ScriptIsRead, solve_run, StatusIsDue, StatusIsShown, upgrade_run};
-ghost use Rattle.check_run.specs.Headline.{DeltaSatIsTrue, PlanIsTrue, RefusalIsTrue, UnsatIsTrue, UpgradeIsTrue};
+ghost use Rattle.check_run.specs.Headline.{AnswersAreTrue, DeltaSatIsTrue, PlanIsTrue, RefusalIsTrue, UnsatIsTrue, UpgradeIsTrue};
 
-use crate::plan::plan_problem;
-use crate::solve::{solve_demo, solve_problem};
-use crate::upgrade::upgrade_problem;
-use check_run::{Halt, Status, end_halted, fetch_problem, read_script, run_check, say};
+use crate::plan::plan_session;
+use crate::solve::{solve_demo, solve_session};
+use crate::upgrade::upgrade_session;
+use check_run::{Status, end_halted, fetch_session, run_check, say};
 use command_line::{DemoWords, PlanWords, Refused, Request, SolveWords, UpgradeWords, read_words};
 use desk::Desk;
 use gen_script::make;
-use problem_build::Reader;
+use problem_build::{Reader, read_problem};
+use script_fault::ReadError;
 use solve_core::Gate;
 use std::alloc::Global;
 use std::sync::Wait;
 use std::thread::Threads;
 
-// Solves a script: its certificate, and then the answer.
+// Solves a script: its certificate, and then the answers of its checks.
 fn run_solve<R: Threads + Wait + Sync, D: Desk, G: Gate + Sync>(
     rt: &R,
     alloc: Global,
@@ -38,13 +39,13 @@ fn run_solve<R: Threads + Wait + Sync, D: Desk, G: Gate + Sync>(
         cert,
         options,
     } = asked;
-    match fetch_problem(&Reader, alloc, desk, script, options.bound) {
-        Ok(problem) => solve_problem(rt, alloc, desk, cert, &problem, options, gate),
+    match fetch_session(&Reader, alloc, desk, script, options.bound) {
+        Ok(session) => solve_session(rt, alloc, desk, cert, &session, options, gate),
         Err(stop) => end_halted(desk, stop),
     }
 }
 
-// Writes a certificate of a script in version 2.
+// Writes a certificate of a script in the newest version.
 fn run_upgrade<D: Desk>(alloc: Global, desk: &mut D, asked: UpgradeWords<'_>) -> Status
     ensures cause { HasCause
         (upgrade_run asked.entry (D.sight desk.old) (D.sight desk.new) result) }
@@ -61,13 +62,13 @@ fn run_upgrade<D: Desk>(alloc: Global, desk: &mut D, asked: UpgradeWords<'_>) ->
         out,
         bound,
     } = asked;
-    match fetch_problem(&Reader, alloc, desk, script, bound) {
-        Ok(problem) => upgrade_problem(alloc, desk, cert, out, &problem, bound),
+    match fetch_session(&Reader, alloc, desk, script, bound) {
+        Ok(session) => upgrade_session(alloc, desk, cert, out, &session, bound),
         Err(stop) => end_halted(desk, stop),
     }
 }
 
-// Tells the least width that a script needs.
+// Tells the least width that each check of a script needs.
 fn run_plan<D: Desk>(alloc: Global, desk: &mut D, asked: PlanWords<'_>) -> Status
     requires { IsPlan (seen_plan asked) }
     ensures cause { HasCause (plan_run asked.entry (D.sight desk.old) (D.sight desk.new) result) }
@@ -81,8 +82,8 @@ fn run_plan<D: Desk>(alloc: Global, desk: &mut D, asked: PlanWords<'_>) -> Statu
         margin_bits,
         bound,
     } = asked;
-    match fetch_problem(&Reader, alloc, desk, script, bound) {
-        Ok(problem) => plan_problem(alloc, desk, &problem, delta_bits, margin_bits),
+    match fetch_session(&Reader, alloc, desk, script, bound) {
+        Ok(session) => plan_session(alloc, desk, &session, delta_bits, margin_bits),
         Err(stop) => end_halted(desk, stop),
     }
 }
@@ -109,11 +110,10 @@ fn run_demo<R: Threads + Wait + Sync, D: Desk, G: Gate + Sync>(
     let Ok(script) = make(alloc, seed, size) else {
         return Status::NoMemory;
     };
-    match read_script(&Reader, alloc, &script, options.bound) {
+    match read_problem(alloc, &script, options.bound) {
         Ok(problem) => solve_demo(rt, alloc, desk, cert, &script, &problem, options, gate),
-        Err(Halt::Memory) => Status::NoMemory,
-        Err(Halt::Refused(_)) => unreachable!(),
-        Err(Halt::Failed) => unreachable!(),
+        Err(ReadError::Memory) => Status::NoMemory,
+        Err(ReadError::Fault(_)) => unreachable!(),
     }
 }
 
@@ -144,11 +144,12 @@ fn run_command<R: Threads + Wait + Sync, D: Desk, G: Gate + Sync>(
 
 /// Runs the whole program: the words of its call, of which the first is its name, over the ports of a desk.
 ///
-/// `solve SCRIPT CERT` reads a script and writes a certificate of it, and then the answer. `check SCRIPT CERT` reads a
-/// script and a certificate, and answers whether the certificate is accepted, and what it shows. `upgrade SCRIPT CERT OUT`
-/// does so too, and writes a certificate that is accepted in version 2 of its format. `demo SEED SIZE CERT` makes a script,
-/// solves it, and answers how large it was. `plan SCRIPT` reads a script, and answers with which least width `solve` never
-/// answers `unknown width`. The gate is called when work on a box begins and ends.
+/// `solve SCRIPT CERT` reads a script and writes a certificate of its checks, and then their answers, one after the other.
+/// `check SCRIPT CERT` reads a script and a certificate, and answers whether the certificate is accepted, and what it shows
+/// of each check. `upgrade SCRIPT CERT OUT` does so too, and writes a certificate that is accepted in the newest version of
+/// its format. `demo SEED SIZE CERT` makes a script, solves it, and answers how large it was. `plan SCRIPT` reads a script,
+/// and answers of each check with which least width `solve` never answers `unknown width` of it. The gate is called when
+/// work on a box begins and ends.
 pub fn run_top<R: Threads + Wait + Sync, D: Desk, G: Gate + Sync>(
     rt: &R,
     alloc: Global,
@@ -168,16 +169,20 @@ pub fn run_top<R: Threads + Wait + Sync, D: Desk, G: Gate + Sync>(
     ensures shows { StatusIsShown (run words.now (D.sight desk.old) (D.sight desk.new) result) }
     ensures complete { StatusIsDue (run words.now (D.sight desk.old) (D.sight desk.new) result) }
 
-    // What is answered is true of the script, and a certificate that is refused has the fault that is answered. What is
-    // written again is accepted with the value of the certificate that was read.
+    // What is answered of each check of the script is true of what is in force at it. Of a script with one check the text
+    // alone tells what it says.
+    ensures answers { AnswersAreTrue (run words.now (D.sight desk.old) (D.sight desk.new) result) }
     ensures unsat { UnsatIsTrue (run words.now (D.sight desk.old) (D.sight desk.new) result) }
     ensures delta_sat { DeltaSatIsTrue
         (run words.now (D.sight desk.old) (D.sight desk.new) result) }
+
+    // A certificate that is refused has the fault that is answered. What is written again is accepted with the values of
+    // the certificate that was read.
     ensures refused { RefusalIsTrue (run words.now (D.sight desk.old) (D.sight desk.new) result) }
     ensures upgraded { UpgradeIsTrue (run words.now (D.sight desk.old) (D.sight desk.new) result) }
 
-    // What is planned is the plan of the script's problem, and with the width that it names no run of `solve` on this
-    // script answers `unknown width`.
+    // What is planned is the plan of each check's problem, and with the width that it names no run of `solve` on this
+    // script answers `unknown width` of the check.
     ensures planned { PlanIsTrue (run words.now (D.sight desk.old) (D.sight desk.new) result) }
 {
     match read_words(alloc, words) {

@@ -1,6 +1,9 @@
-// `upgrade`, from a problem to a certificate in version 2.
+// `upgrade`, from the problems of a script's checks to a certificate in the newest version.
 ghost use Rattle.std.specs.Prelude.{◌≡◌, [], ◌++◌, ◌+◌, ◌<◌, ◌^◌, OnOk, length};
-ghost use Rattle.cert_check.specs.Feeding.{bytes_taken, HasTaken, IsFedPiece};
+ghost use Rattle.problem_session.specs.Session.{problems_of};
+ghost use Rattle.cert_model.specs.SessionLaws.{IsSession};
+ghost use Rattle.cert_check.specs.Feeding.{bytes_taken, IsFedPiece};
+ghost use Rattle.cert_check.specs.Sessions.{HasTakenSession};
 ghost use Rattle.check_run.specs.Run.{IsReadToEnd, SameIn, UpgradeHasCause};
 ghost use Rattle.dpoly.specs.Upgrade.{EndsOnUpgrade, EndsOnUpgraded, IsKeptFor, IsReadAsKept};
 
@@ -8,11 +11,11 @@ use cert_check::{CertFault, Feed};
 use cert_upgrade::upgrade;
 use check_run::{ROOM, Status, Unconfirmed, finish, refuse};
 use desk::{Denied, Desk, Port};
-use poly_graph::Problem;
+use problem_session::Session;
 use std::alloc::Global;
 
 // Feeds a piece, and keeps it.
-fn feed_and_keep(feed: &mut Feed, kept: &mut Vec<u8>, piece: &[u8]) -> Result<(), CertFault>
+fn feed_and_keep(feed: &mut Feed<'_>, kept: &mut Vec<u8>, piece: &[u8]) -> Result<(), CertFault>
     ensures goes { IsFedPiece feed.old piece.now feed.new result }
     ensures kept { OnOk result (kept.new.items ≡ kept.old.items ++ piece.now) }
     ensures more { OnOk result (bytes_taken feed.new ≡ bytes_taken feed.old + length piece.now) }
@@ -32,12 +35,12 @@ fn feed_and_keep(feed: &mut Feed, kept: &mut Vec<u8>, piece: &[u8]) -> Result<()
 fn kept_by<D: Desk>(
     alloc: Global,
     desk: &mut D,
-    problem: &Problem,
+    session: &Session,
     bound: Option<u32>,
-    feed: &mut Feed,
+    feed: &mut Feed<'_>,
 ) -> Result<Vec<u8>, Unconfirmed>
-    requires { HasTaken problem.now bound [] feed.old }
-    ensures told { IsKeptFor problem.now bound (D.sight desk.old) result }
+    requires { HasTakenSession session.now bound [] feed.old }
+    ensures told { IsKeptFor session.now bound (D.sight desk.old) result }
     ensures leaves { IsReadAsKept result (D.sight desk.old) (D.sight desk.new) }
 {
     let mut kept = Vec::new(alloc);
@@ -48,7 +51,7 @@ fn kept_by<D: Desk>(
             Err(_) => return Err(Unconfirmed::Failed),
         };
         if n == 0 {
-            match feed.end() {
+            match feed.end_all() {
                 Ok(_) => return Ok(kept),
                 Err(fault) => return Err(Unconfirmed::Fault(fault)),
             }
@@ -64,41 +67,50 @@ fn kept_by<D: Desk>(
 fn read_kept<D: Desk>(
     alloc: Global,
     desk: &mut D,
-    problem: &Problem,
+    session: &Session,
     bound: Option<u32>,
 ) -> Result<Vec<u8>, Unconfirmed>
-    ensures told { IsKeptFor problem.now bound (D.sight desk.old) result }
+    requires { IsSession (problems_of session.now) }
+    ensures told { IsKeptFor session.now bound (D.sight desk.old) result }
     ensures leaves { IsReadAsKept result (D.sight desk.old) (D.sight desk.new) }
 {
-    match Feed::new(alloc, problem, bound) {
-        Ok(mut feed) => kept_by(alloc, desk, problem, bound, &mut feed),
+    match Feed::new_session(alloc, session, bound) {
+        Ok(mut feed) => kept_by(alloc, desk, session, bound, &mut feed),
         Err(_) => Err(Unconfirmed::Fault(CertFault::Memory)),
     }
 }
 
-// Writes an accepted certificate in version 2, and says so.
-fn write_upgraded<D: Desk>(alloc: Global, desk: &mut D, name: &str, kept: &[u8]) -> Status
-    ensures ends { EndsOnUpgraded name.now kept.now (D.sight desk.old) (D.sight desk.new) result }
+// Writes an accepted certificate of so many checks in the newest version, and says so.
+fn write_upgraded<D: Desk>(
+    alloc: Global,
+    desk: &mut D,
+    name: &str,
+    kept: &[u8],
+    checks: usize,
+) -> Status
+    ensures ends { EndsOnUpgraded checks name.now kept.now
+        (D.sight desk.old) (D.sight desk.new) result }
     ensures same { SameIn (D.sight desk.old) (D.sight desk.new) }
     ensures cause { UpgradeHasCause (D.sight desk.old) (D.sight desk.new) result }
 {
-    match upgrade(alloc, kept) {
+    match upgrade(alloc, kept, checks) {
         Ok(text) => finish(desk, name, &text, b"upgraded\n"),
         Err(_) => Status::NoMemory,
     }
 }
 
-/// Checks the certificate on its port for a problem, and keeps it; where it is accepted, writes it in version 2 under a
-/// name.
-pub fn upgrade_problem<D: Desk>(
+/// Checks the certificate on its port for the checks of a session, and keeps it; where it is accepted, writes it under a
+/// name in the newest version.
+pub fn upgrade_session<D: Desk>(
     alloc: Global,
     desk: &mut D,
     cert: &str,
     out: &str,
-    problem: &Problem,
+    session: &Session,
     bound: Option<u32>,
 ) -> Status
-    ensures ends { EndsOnUpgrade problem.now bound cert.now out.now
+    requires { IsSession (problems_of session.now) }
+    ensures ends { EndsOnUpgrade session.now bound cert.now out.now
         (D.sight desk.old) (D.sight desk.new) result }
     ensures cause { UpgradeHasCause (D.sight desk.old) (D.sight desk.new) result }
     ensures script { (D.sight desk.new).script ≡ (D.sight desk.old).script }
@@ -109,8 +121,8 @@ pub fn upgrade_problem<D: Desk>(
         Err(Denied::Failed) => return Status::InFailed,
         Err(Denied::Memory) => return Status::NoMemory,
     }
-    match read_kept(alloc, desk, problem, bound) {
-        Ok(kept) => write_upgraded(alloc, desk, out, &kept),
+    match read_kept(alloc, desk, session, bound) {
+        Ok(kept) => write_upgraded(alloc, desk, out, &kept, session.len()),
         Err(Unconfirmed::Fault(fault)) => refuse(alloc, desk, fault),
         Err(Unconfirmed::Failed) => Status::InFailed,
     }

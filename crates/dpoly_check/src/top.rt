@@ -1,7 +1,7 @@
 // The run of the whole checker.
 ghost use Rattle.std.specs.Prelude.{◌≡◌, None};
 ghost use Rattle.check_run.specs.Run.{CertIsRead, HasCause, SameIn, ScriptIsRead, StatusIsDue, StatusIsShown};
-ghost use Rattle.check_run.specs.Headline.{DeltaSatIsTrue, RefusalIsTrue, UnsatIsTrue};
+ghost use Rattle.check_run.specs.Headline.{AnswersAreTrue, DeltaSatIsTrue, RefusalIsTrue, UnsatIsTrue};
 ghost use Rattle.dpoly_check.specs.Checker.{command_in, run};
 
 use check_run::{Status, run_check, say};
@@ -12,8 +12,8 @@ use std::alloc::Global;
 
 /// Runs the whole checker: the words of its call, of which the first is its name, over the ports of a desk.
 ///
-/// `SCRIPT CERT` reads a script and a certificate, and answers whether the certificate is accepted, and what it shows. What
-/// is promised is what `dpoly` promises of `check`, by the same definitions.
+/// `SCRIPT CERT` reads a script and a certificate, and answers whether the certificate is accepted, and what it shows of
+/// each check of the script. What is promised is what `dpoly` promises of `check`, by the same definitions.
 pub fn run_top<D: Desk>(alloc: Global, words: &[String], desk: &mut D) -> Status
     // Whatever the desk shows: a status has its cause, refused words read nothing, and a script, and a certificate that
     // is confirmed, are read to their ends.
@@ -27,7 +27,9 @@ pub fn run_top<D: Desk>(alloc: Global, words: &[String], desk: &mut D) -> Status
     ensures shows { StatusIsShown (run words.now (D.sight desk.old) (D.sight desk.new) result) }
     ensures complete { StatusIsDue (run words.now (D.sight desk.old) (D.sight desk.new) result) }
 
-    // What is confirmed is true of the script, and a certificate that is refused has the fault that is answered.
+    // What is confirmed of each check of the script is true of what is in force at it; of a script with one check the
+    // text alone tells what it says. A certificate that is refused has the fault that is answered.
+    ensures answers { AnswersAreTrue (run words.now (D.sight desk.old) (D.sight desk.new) result) }
     ensures unsat { UnsatIsTrue (run words.now (D.sight desk.old) (D.sight desk.new) result) }
     ensures delta_sat { DeltaSatIsTrue
         (run words.now (D.sight desk.old) (D.sight desk.new) result) }

@@ -76,11 +76,16 @@ module _ (d : Fraction) (good : IsFraction d) where
 exact-is-good : (d : Dyadic) → IsFraction (exact d)
 exact-is-good d = Rattle.std.proofs.Common.lit< tt
 
+-- of a problem of the script
+pub near_is : (bound : Option ℕ) (script : List Command) (p : Problem) → IsProblemOf bound script p → (d : Dyadic) (point : List Coordinate) → IsPoint (sorts_of_problem p) point → AreNear (exact d) p.axes point →
+    IsNearDeclaredBox (exact d) bound script point
+near_is bound script p t d point i n = near-box (exact d) (exact-is-good d) (declared_interval bound script) 0 (constants_of script) p.axes point t.axes i n
+
 pub delta_sat_is : (bound : Option ℕ) (script : List Command) (p : Problem) → IsProblem p → IsProblemOf bound script p → (bytes : List ℕ) (s : Loosenings) (space : Space) →
     IsAccepted p bound bytes s (at_point space) →
     Satisfies (exact (delta_of s)) (coordinates space) script × IsNearDeclaredBox (exact (delta_of s)) bound script (coordinates space)
 delta_sat_is bound script p g t bytes s space e =
     let h = point_means p g bound bytes s space e in (
       (problem_means bound script p t (exact (delta_of s)) (coordinates space) h.0).0 h.1,
-      near-box (exact (delta_of s)) (exact-is-good (delta_of s)) (declared_interval bound script) 0 (constants_of script) p.axes (coordinates space) t.axes h.0 h.2,
+      near_is bound script p t (delta_of s) (coordinates space) h.0 h.2,
     )

@@ -1,5 +1,5 @@
 -- Along an honest certificate at the least width of a plan no state is stuck.
-use Rattle.std.proofs.Common.{◌≡◌, ◌⊎◌, inl, inr, ℕ, suc, zero, ◌<◌, List, [], ◌∷◌, ◌++◌, length, Bool, true, false, not, ◌&&◌, ◌||◌, cond, IsTrue, Option, Some, None, refl, ap, sym, subst, true≢false, arith, nat_eq, nat_lt, nat_le, take, ltb→lt}
+use Rattle.std.proofs.Common.{◌≡◌, ◌⊎◌, inl, inr, ℕ, suc, zero, ◌<◌, List, [], ◌∷◌, ◌++◌, length, Bool, true, false, not, ◌&&◌, ◌||◌, cond, IsTrue, Option, Some, None, refl, ap, sym, subst, true≢false, arith, nat_eq, nat_lt, nat_le, ltb→lt}
 use Rattle.std.specs.Prelude.{All}
 use Rattle.std.specs.Bool.{passes}
 use Rattle.dyadic.specs.Fraction.{at_most}
@@ -18,13 +18,13 @@ use Rattle.cover_model.proofs.Middle.{root_is_upright}
 use Rattle.cover_model.proofs.Within.{space_reflexive, space_through}
 use Rattle.poly_graph.specs.Marks.{marks_within}
 use Rattle.cover_line.specs.Words.{word_of}
-use Rattle.cert_read.specs.Lines.{lines_of, lines_so_far}
-use Rattle.cert_read.specs.CertLine.{CertLine, version, margin, delta, bound, cover, point_word, tree_word, lemma, end_word, rule_line, crossing, real_interval, real_value, bool_value, yes_list, no_list, says_both, says_false, says_true, Parsed, too_long, bad_line, bad_number, line, parsed}
+use Rattle.cert_read.specs.CertLine.{CertLine, version, margin, delta, bound, cover, point_word, tree_word, lemma, end_word, rule_line, crossing, real_interval, real_value, bool_value, yes_list, no_list, says_both, says_false, says_true, line}
 use Rattle.cert_model.specs.Due.{CertFault, RuleFails, Standing, Value, at_point, left_open, Due, version_due, margin_due, delta_due, bound_due, kind_due, next_due, axis_due, yes_due, no_due, lemma_due, root_due, tree_due, coordinate_due, end_due, nothing_due, Next, on, faulty, given, names_well, after_rule, after_lemma_rule, tree_goes_on, lemma_goes_on, axis_next, coordinate_next, is_crossed_box, is_some_axis, is_shown}
-use Rattle.cert_model.specs.Accepted.{next, next_parsed, ruled_line, tree_line, root_line, no_crossing, axis_line, coordinate_line, Course, stopped, reached, course_next, course, Verdict, accepted, refused, at_end, ended, cut_off, verdict_by, IsAccepted, most_bytes}
+use Rattle.cert_model.specs.Accepted.{next, ruled_line, tree_line, root_line, no_crossing, axis_line, coordinate_line, Verdict, at_end, IsAccepted, most_bytes}
 use Rattle.cert_model.specs.AnswerText.{is_open, has_open, budget_text, unsat_text, solve_text}
-use Rattle.cert_model.specs.Standing.{Stands, stands, at_root, stands_at, standing_next, standing_from, IsHonest}
-use Rattle.cert_model.proofs.Invariant.{IfOn}
+use Rattle.cert_model.specs.Standing.{Stands, stands, at_root, stands_at, IsHonest}
+use Rattle.cert_model.proofs.Invariant.{IfOn, IfAccepted}
+use Rattle.plan_law.proofs.Along.{honest_verdict}
 use Rattle.width_plan.specs.Plan.{IsPlan, least_bits}
 use Rattle.width_plan.proofs.Stuck.{nothing_is_stuck}
 use Rattle.plan_law.specs.Laws.{LeavesNoneStuck, NeverAnswersWidth}
@@ -47,32 +47,32 @@ uncrossed None e = refl
 uncrossed (Some i) e = cc
 
 module _ (p : Problem) (g : IsProblem p) (b : Option ℕ) (w : ℕ) where
-  abbrev Plan : Loosenings → Type 0
+  abbrev pub Plan : Loosenings → Type 0
   Plan s = IsPlan p s.delta_bits s.margin_bits (least_bits w)
 
-  abbrev IsGood : State → Type 0
+  abbrev pub IsGood : State → Type 0
   IsGood S = IsTrue (is_upright S.space) × IsTrue (space_within S.space (root_space p))
 
-  abbrev AllGood : List State → Type 0
+  abbrev pub AllGood : List State → Type 0
   AllGood [] = Unit {0}
   AllGood (S ∷ rest) = IsGood S × AllGood rest
 
-  abbrev AllOpen : List Standing → Type 0
+  abbrev pub AllOpen : List Standing → Type 0
   AllOpen [] = Unit {0}
   AllOpen (x ∷ rest) = IsTrue (is_open x.does) × AllOpen rest
 
-  abbrev IsOpenValue : Value → Type 0
+  abbrev pub IsOpenValue : Value → Type 0
   IsOpenValue (at_point space) = Unit {0}
   IsOpenValue (left_open left) = AllOpen left
 
   -- what holds of what is due
-  abbrev Holds : Due → Type 0
+  abbrev pub Holds : Due → Type 0
   Holds (tree_due s lemmas S pending done) = Plan s → (first_crossed p ≡ None) × IsGood S × AllGood pending × AllOpen done
-  Holds (end_due s v) = Plan s → IsOpenValue v
-  Holds (nothing_due s v) = Plan s → IsOpenValue v
+  Holds (end_due s lemmas v) = Plan s → IsOpenValue v
+  Holds (nothing_due s lemmas v) = Plan s → IsOpenValue v
   Holds _ = Unit {0}
 
-  abbrev AreHonest : List Stands → Type 0
+  abbrev pub AreHonest : List Stands → Type 0
   AreHonest xs = All (λ (x : Stands). IsTrue (is_honest p w x.loosenings x.line.state x.line.does)) xs
 
   all-more : (xs : List Standing) (x : Standing) → AllOpen xs → IsTrue (is_open x.does) → AllOpen (xs ++ (x ∷ []))
@@ -175,99 +175,56 @@ module _ (p : Problem) (g : IsProblem p) (b : Option ℕ) (w : ℕ) where
           let n = uncrossed (first_crossed p) e in let u = root_is_upright p g (none-crossed 0 p.axes n) in
           tree-step s lemmas (root_state p) [] [] l (λ q. (n, (u.0, space_reflexive (root_space p)), tt, tt)) (h zero (stands s (root_state p) l) (omega arith))
 
-  step : (d : Due) (l : CertLine) → Holds d → AreHonest (stands_at p d (line l)) → IfOn Holds (next p b d l)
-  step version_due (version n) h k = given-holds _ (margin_due n) _ tt
-  step version_due _ h k = tt
-  step (margin_due v) (margin m) h k = tt
-  step (margin_due v) _ h k = tt
-  step (delta_due v m) (delta d) h k = given-holds _ _ _ tt
-  step (delta_due v m) _ h k = tt
-  step (bound_due s) (bound n) h k = given-holds _ (kind_due s) _ tt
-  step (bound_due s) _ h k = tt
-  step (kind_due s) (cover n) h k = given-holds _ (next_due s n []) _ tt
-  step (kind_due s) point_word h k = coordinate-next s p.axes []
-  step (kind_due s) _ h k = tt
-  step (next_due s n lemmas) (lemma i) h k = by-cond (nat_lt (length lemmas) n) _ _ (given-holds (nat_eq i (length lemmas)) (axis_next s n lemmas p.axes []) _ (axis-next s n lemmas p.axes []))
-  step (next_due s n lemmas) tree_word h k = given-holds _ (root_due s lemmas) _ tt
-  step (next_due s n lemmas) _ h k = tt
-  step (axis_due s n lemmas a axes space) l h k = axis-step s n lemmas a.declared axes space l
-  step (yes_due s n lemmas space) (yes_list js) h k = given-holds _ (no_due s n lemmas space js) _ tt
-  step (yes_due s n lemmas space) _ h k = tt
-  step (no_due s n lemmas space is) (no_list js) h k = given-holds _ _ _ tt
-  step (no_due s n lemmas space is) _ h k = tt
-  step (lemma_due s n lemmas L S pending) (rule_line l) h k = ruled (names_well p l) _ (lemma-after s n lemmas L (rule p s lemmas S l) _ pending)
-  step (lemma_due s n lemmas L S pending) _ h k = tt
-  step (root_due s lemmas) (crossing i) h k = first-crossing (crosses p i) (on (end_due s (left_open []))) (no_crossing p i) (λ q. tt) tt
-  step (root_due s lemmas) (rule_line l) h k = root-step s lemmas l k
-  step (root_due s lemmas) _ h k = tt
-  step (tree_due s lemmas S pending done) (rule_line l) h k = tree-step s lemmas S pending done l h (k zero (stands s S l) (omega arith))
-  step (tree_due s lemmas S pending done) _ h k = tt
-  step (coordinate_due s a axes space) l h k = coordinate-step s a.declared axes space l
-  step (end_due s v) end_word h k = given-holds (is_shown p s v) (nothing_due s v) _ h
-  step (end_due s v) _ h k = tt
-  step (nothing_due s v) _ h k = tt
+  pub line_holds : (d : Due) (l : CertLine) → Holds d → AreHonest (stands_at p d (line l)) → IfOn Holds (next p b d l)
+  line_holds version_due (version n) h k = given-holds _ (margin_due n) _ tt
+  line_holds version_due _ h k = tt
+  line_holds (margin_due v) (margin m) h k = tt
+  line_holds (margin_due v) _ h k = tt
+  line_holds (delta_due v m) (delta d) h k = given-holds _ _ _ tt
+  line_holds (delta_due v m) _ h k = tt
+  line_holds (bound_due s) (bound n) h k = given-holds _ (kind_due s) _ tt
+  line_holds (bound_due s) _ h k = tt
+  line_holds (kind_due s) (cover n) h k = given-holds _ (next_due s n []) _ tt
+  line_holds (kind_due s) point_word h k = coordinate-next s p.axes []
+  line_holds (kind_due s) _ h k = tt
+  line_holds (next_due s n lemmas) (lemma i) h k = by-cond (nat_lt (length lemmas) n) _ _ (given-holds (nat_eq i (length lemmas)) (axis_next s n lemmas p.axes []) _ (axis-next s n lemmas p.axes []))
+  line_holds (next_due s n lemmas) tree_word h k = given-holds _ (root_due s lemmas) _ tt
+  line_holds (next_due s n lemmas) _ h k = tt
+  line_holds (axis_due s n lemmas a axes space) l h k = axis-step s n lemmas a.declared axes space l
+  line_holds (yes_due s n lemmas space) (yes_list js) h k = given-holds _ (no_due s n lemmas space js) _ tt
+  line_holds (yes_due s n lemmas space) _ h k = tt
+  line_holds (no_due s n lemmas space is) (no_list js) h k = given-holds _ _ _ tt
+  line_holds (no_due s n lemmas space is) _ h k = tt
+  line_holds (lemma_due s n lemmas L S pending) (rule_line l) h k = ruled (names_well p l) _ (lemma-after s n lemmas L (rule p s lemmas S l) _ pending)
+  line_holds (lemma_due s n lemmas L S pending) _ h k = tt
+  line_holds (root_due s lemmas) (crossing i) h k = first-crossing (crosses p i) (on (end_due s lemmas (left_open []))) (no_crossing p i) (λ q. tt) tt
+  line_holds (root_due s lemmas) (rule_line l) h k = root-step s lemmas l k
+  line_holds (root_due s lemmas) _ h k = tt
+  line_holds (tree_due s lemmas S pending done) (rule_line l) h k = tree-step s lemmas S pending done l h (k zero (stands s S l) (omega arith))
+  line_holds (tree_due s lemmas S pending done) _ h k = tt
+  line_holds (coordinate_due s a axes space) l h k = coordinate-step s a.declared axes space l
+  line_holds (end_due s lemmas v) end_word h k = given-holds (is_shown p s v) (nothing_due s lemmas v) _ h
+  line_holds (end_due s lemmas v) _ h k = tt
+  line_holds (nothing_due s lemmas v) _ h k = tt
 
   -- ---- all lines
 
-  parsed-step : (d : Due) (l : Parsed) → Holds d → AreHonest (stands_at p d l) → IfOn Holds (next_parsed p b d l)
-  parsed-step d too_long h k = tt
-  parsed-step d bad_line h k = tt
-  parsed-step d bad_number h k = tt
-  parsed-step d (line l) h k = step d l h k
+  end-holds : (d : Due) (n : ℕ) → Holds d → IfAccepted (λ t v. Plan t → IsOpenValue v) (at_end d n)
+  end-holds (nothing_due s lemmas v) n h = h
+  end-holds _ n h = tt
 
-  first-part : (xs ys : List Stands) → AreHonest (xs ++ ys) → AreHonest xs
-  first-part [] ys h k x l = absurd (omega arith)
-  first-part (x ∷ xs) ys h zero y l = h zero y (omega arith)
-  first-part (x ∷ xs) ys h (suc k) y l = first-part xs ys (λ i z m. h (suc i) z (omega arith)) k y (omega arith)
-
-  second-part : (xs ys : List Stands) → AreHonest (xs ++ ys) → AreHonest ys
-  second-part [] ys h = h
-  second-part (x ∷ xs) ys h = second-part xs ys (λ i z m. h (suc i) z (omega arith))
-
-  abbrev Reaches : Course → Type 0
-  Reaches (stopped f n) = Unit {0}
-  Reaches (reached d n) = Holds d
-
-  on-reaches : (x : Next) (n : ℕ) (k : Due → Course) (m : Due → List Stands) → IfOn Holds x → AreHonest (standing_next x m) → ((d : Due) → Holds d → AreHonest (m d) → Reaches (k d)) → Reaches (course_next x n k)
-  on-reaches (on d) n k m h a f = f d h a
-  on-reaches (faulty f') n k m h a f = tt
-
-  course-reaches : (ls : List (List ℕ)) (n : ℕ) (d : Due) → Holds d → AreHonest (standing_from p b d ls) → Reaches (course p b n d ls)
-  course-reaches [] n d h a = h
-  course-reaches (l ∷ ls) n d h a =
-      on-reaches (next_parsed p b d (parsed l)) (suc n) _ (λ d'. standing_from p b d' ls) (parsed-step d (parsed l) h (first-part (stands_at p d (parsed l)) _ a)) (second-part (stands_at p d (parsed l)) _ a)
-      (λ d' h' a'. course-reaches ls (suc n) d' h' a')
-
-  abbrev Shows : Verdict → Type 0
-  Shows (accepted s v) = Holds (nothing_due s v)
-  Shows (refused f n) = Unit {0}
-
-  end-shows : (d : Due) (n : ℕ) → Holds d → Shows (at_end d n)
-  end-shows (nothing_due s v) n h = h
-  end-shows _ n h = tt
-
-  ended-shows : (c : Course) → Reaches c → Shows (ended c)
-  ended-shows (stopped f n) h = tt
-  ended-shows (reached d n) h = end-shows d n h
-
-  cut-shows : (c : Course) → Shows (cut_off c)
-  cut-shows (stopped f n) = tt
-  cut-shows (reached d n) = tt
-
-  by-shows : (t : Bool) (bytes : List ℕ) → IsHonest p b w bytes → Shows (verdict_by t p b bytes)
-  by-shows true bytes a = ended-shows (course p b 0 version_due (lines_of bytes)) (course-reaches (lines_of bytes) 0 version_due tt a)
-  by-shows false bytes a = cut-shows (course p b 0 version_due (lines_so_far (take most_bytes bytes)))
-
-  some-open : (left : List Standing) → AllOpen left → (left ≡ []) ⊎ IsTrue (has_open left)
-  some-open [] h = inl refl
-  some-open (x ∷ rest) h = inr (first (is_open x.does) (has_open rest) h.0)
+  pub some_open : (left : List Standing) → AllOpen left → (left ≡ []) ⊎ IsTrue (has_open left)
+  some_open [] h = inl refl
+  some_open (x ∷ rest) h = inr (first (is_open x.does) (has_open rest) h.0)
     where
       first : (a c : Bool) → IsTrue a → IsTrue (a || c)
       first true c h = refl
       first false c h = absurd (true≢false (sym h))
 
   pub none_stuck : (cert : List ℕ) (s : Loosenings) (left : List Standing) → Plan s → IsAccepted p b cert s (left_open left) → IsHonest p b w cert → (left ≡ []) ⊎ IsTrue (has_open left)
-  none_stuck cert s left q e a = some-open left (subst (λ (v : Verdict). Shows v) e (by-shows (nat_le (length cert) most_bytes) cert a) q)
+  none_stuck cert s left q e a =
+      let shown = honest_verdict (next p b) (stands_at p) (λ x. IsTrue (is_honest p w x.loosenings x.line.state x.line.does)) Holds line_holds (λ t v. Plan t → IsOpenValue v) at_end end-holds (nat_le (length cert) most_bytes) version_due tt cert a in
+      some_open left (subst (λ (v : Verdict). IfAccepted (λ t u. Plan t → IsOpenValue u) v) e shown q)
 
 pub leaves_none_stuck : LeavesNoneStuck
 leaves_none_stuck p g given_bound cert s left bits plan e a = none_stuck p g given_bound bits cert s left plan e a
@@ -278,11 +235,11 @@ pick : (t : Bool) (a c : List ℕ) → IsTrue t → cond t a c ≡ a
 pick true a c e = refl
 pick false a c e = absurd (true≢false (sym e))
 
-text-of : (p : Problem) (budget : ℕ) (s : Loosenings) (left : List Standing) → (left ≡ []) ⊎ IsTrue (has_open left) →
+pub text_of : (p : Problem) (budget : ℕ) (s : Loosenings) (left : List Standing) → (left ≡ []) ⊎ IsTrue (has_open left) →
     (solve_text p budget s (left_open left) ≡ unsat_text s) ⊎ (solve_text p budget s (left_open left) ≡ budget_text budget)
-text-of p budget s [] h = inl refl
-text-of p budget s (x ∷ rest) (inl e) = cc
-text-of p budget s (x ∷ rest) (inr e) = inr (pick (has_open (x ∷ rest)) (budget_text budget) _ e)
+text_of p budget s [] h = inl refl
+text_of p budget s (x ∷ rest) (inl e) = cc
+text_of p budget s (x ∷ rest) (inr e) = inr (pick (has_open (x ∷ rest)) (budget_text budget) _ e)
 
 pub never_answers_width : NeverAnswersWidth
-never_answers_width p g given_bound cert s left bits budget plan e a = text-of p budget s left (leaves_none_stuck p g given_bound cert s left bits plan e a)
+never_answers_width p g given_bound cert s left bits budget plan e a = text_of p budget s left (leaves_none_stuck p g given_bound cert s left bits plan e a)

@@ -1,2 +1,4 @@
+pub mod Along
 pub mod Course
+pub mod Parts
 pub mod Upright

@@ -2,7 +2,7 @@
 //! Definitions and a law alone.
 #![tactic(auto)]
 
-ghost use Rattle.plan_law.specs.Laws.{LeavesNoneStuck, NeverAnswersWidth};
+ghost use Rattle.plan_law.specs.Laws.{LeavesNoneStuck, NeverAnswersWidth, PartLeavesNoneStuck, PartNeverAnswersWidth};
 
 /// An accepted certificate whose main tree is honest at the least width of a plan, for its own margin and delta, leaves
 /// nothing or a state that is open. So `solve` with this least width never answers `unknown width`, whatever its budget,
@@ -10,4 +10,10 @@ ghost use Rattle.plan_law.specs.Laws.{LeavesNoneStuck, NeverAnswersWidth};
 pub fn plans_leave_none_stuck()
     ensures stuck { LeavesNoneStuck }
     ensures answer { NeverAnswersWidth }
+{}
+
+/// The same of each part of a certificate of several checks.
+pub fn plans_leave_none_stuck_in_parts()
+    ensures stuck { PartLeavesNoneStuck }
+    ensures answer { PartNeverAnswersWidth }
 {}

@@ -28,10 +28,12 @@ use Rattle.sort_check.specs.declared.force.Force.{Force}
 use Rattle.sort_check.proofs.Following.{asked_sorted}
 use Rattle.sort_check.proofs.Lengths.{asks_nothing, check_is, nothing_held}
 use Rattle.problem_build.specs.BuildAnswers.{IsBuildingError}
-use Rattle.problem_build.specs.Session.{Begins, Goes, Stays, WellSorted, checked_of, problems_of, script_at}
-use Rattle.problem_build.specs.Changes.{AreChanges, Changes, Starts, changed, last_parts, no_parts, problems_from}
+use Rattle.problem_session.specs.Session.{checked_of, problems_of}
+use Rattle.problem_build.specs.Session.{Begins, Goes, Stays, WellSorted, script_at}
+use Rattle.problem_session.specs.Changes.{AreChanges, changed, no_parts, problems_from}
+use Rattle.problem_build.specs.Changes.{Changes, Starts, last_parts}
 use Rattle.problem_build.proofs.Changed.{changes_more, last_more, problems_more}
-use Rattle.problem_build.specs.declared.change.Checked.{Checked}
+use Rattle.problem_session.specs.declared.change.Checked.{Checked}
 use Rattle.problem_build.specs.declared.session.Going.{Going}
 use Rattle.script_reading.proofs.Carried.{Stacked, step_first}
 use Rattle.problem_build.specs.Progress.{IsBuiltBy, IsKept}

@@ -1,5 +1,5 @@
 -- A script has one problem.
-use Rattle.std.proofs.Common.{◌≡◌, ℕ, suc, ◌+◌, ◌*◌, ◌/◌, ◌<◌, ℤ, pos, ◌*ℤ◌, ◌≤ℤ◌, List, [], ◌∷◌, map, length, IsTrue, Option, Some, None, refl, ap, ap₂, sym, ◌∙◌, subst, arith, slice_index_or}
+use Rattle.std.proofs.Common.{◌≡◌, ℕ, suc, ◌+◌, ◌*◌, ◌/◌, ◌<◌, ℤ, pos, ◌*ℤ◌, ◌≤ℤ◌, List, [], ◌∷◌, map, length, Bool, IsTrue, Option, Some, None, refl, ap, ap₂, sym, ◌∙◌, subst, arith, slice_index_or}
 use Rattle.std.specs.Prelude.{All, slice_get, nat_abs}
 use Rattle.std.specs.Int.{IsGcd}
 use Rattle.std.proofs.lemmas.Int.{ints, unsigned_abs-mul}
@@ -29,7 +29,9 @@ use Rattle.poly_graph.specs.declared.axis.Declared.TheVariants as declared
 use Rattle.poly_graph.proofs.Graphs.{unfolds, length_terms, in_order_at}
 use Rattle.poly_graph.proofs.Same.{one_number}
 use Rattle.script_forms.specs.ProblemOf.{IsEnd, IsDeclaredBy, AreAxes}
-use Rattle.script_reading.specs.Reader.{AreLowest, IsBuilt, commands_of}
+use Rattle.smt_script.specs.Levels.{Asked, checks_of}
+use Rattle.script_reading.specs.Reader.{AreLowest, IsBuilt, IsBuiltOf, commands_of}
+use Rattle.script_reading.specs.Session.{AreBuilt, HasSession, carried_of, steps_of_text}
 use Rattle.term_build.proofs.Lists.{index_get, all_head, all_tail}
 use Rattle.term_build.proofs.Trees.{same_node}
 
@@ -156,12 +158,28 @@ parts-one p q a n t f =
     ∙ ap (λ (x : List (ℕ × Kind)). record { axes = q.axes; nodes = q.nodes; atoms = x; form = p.form }) t
     ∙ ap (λ (x : Form ℕ). record { axes = q.axes; nodes = q.nodes; atoms = q.atoms; form = x }) f
 
-pub built_one : (bound : Option ℕ) (text : List ℕ) (p q : Problem) → IsBuilt bound text p → IsBuilt bound text q → p ≡ q
-built_one bound text p q b c =
-    let script : List Command = commands_of text in
+pub built_of_one : (bound : Option ℕ) (script : List Command) (p q : Problem) → IsBuiltOf bound script p → IsBuiltOf bound script q → p ≡ q
+built_of_one bound script p q b c =
     let axes : p.axes ≡ q.axes = axes-one (declared_interval bound script) 0 (constants_of script) p.axes q.axes (ends_are_fractions bound script) b.problem.axes c.problem.axes b.ends c.ends in
     let nodes : p.nodes ≡ q.nodes = nodes-one p.nodes q.nodes b.nodes c.nodes (b.order ∙ sym c.order) in
     let count : length p.atoms ≡ length q.atoms = b.problem.count ∙ sym c.problem.count in
     parts-one p q axes nodes
     (atoms-one p q b.whole c.whole nodes c.nodes count (λ j l. b.problem.atoms j l ∙ sym (c.problem.atoms j (omega (arith, l, count)))))
     (b.problem.form ∙ sym c.problem.form)
+
+pub built_one : (bound : Option ℕ) (text : List ℕ) (p q : Problem) → IsBuilt bound text p → IsBuilt bound text q → p ≡ q
+built_one bound text p q b c = built_of_one bound (commands_of text) p q b c
+
+-- ---- all checks
+
+all-one : (bound : Option ℕ) (asked : List Asked) (said : List Bool) (ps qs : List (Problem × Bool)) → AreBuilt bound asked said ps → AreBuilt bound asked said qs → ps ≡ qs
+all-one bound [] [] [] [] f g = refl
+all-one bound [] [] [] (q ∷ qs) f g = absurd g
+all-one bound (a ∷ asked) (x ∷ said) (p ∷ ps) [] f g = absurd g
+all-one bound (a ∷ asked) (x ∷ said) (p ∷ ps) (q ∷ qs) f g =
+    let one : p ≡ q = ap₂ (λ (y : Problem) (b : Bool). (y, b)) (built_of_one bound a.script p.0 q.0 f.0 g.0) (f.1 ∙ sym g.1) in
+    ap₂ (λ (y : Problem × Bool) (ys : List (Problem × Bool)). y ∷ ys) one (all-one bound asked said ps qs f.2 g.2)
+all-one bound _ _ _ qs f g = absurd f
+
+pub session_one : (bound : Option ℕ) (text : List ℕ) (ps qs : List (Problem × Bool)) → HasSession bound ps text → HasSession bound qs text → ps ≡ qs
+session_one bound text ps qs f g = all-one bound (checks_of (steps_of_text text)) (carried_of (steps_of_text text)) ps qs f.built g.built

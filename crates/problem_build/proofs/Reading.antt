@@ -32,7 +32,8 @@ use Rattle.script_reading.proofs.Parts.{bytes_first, commands_first, sorts_first
 use Rattle.script_reading.specs.Reader as reader
 use Rattle.script_reading.specs.Reader.{AreLowest, HasProblem, IsBuiltOf, IsInWalkOrder, too_many_bytes, or_none}
 use Rattle.script_reading.specs.Session.{AreBuilt, HasSession, carried_of, or_no_steps, steps_of_text}
-use Rattle.problem_build.specs.Session.{IsSessionAnswer, problems_of}
+use Rattle.problem_session.specs.Session.{problems_of}
+use Rattle.problem_build.specs.Session.{IsSessionAnswer}
 
 -- ---- a fault of one phase
 

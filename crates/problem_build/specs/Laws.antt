@@ -1,5 +1,5 @@
 -- Why what a builder made is the problem of the script.
-use Rattle.std.specs.Prelude.{◌≡◌, ℕ, List, All, Option, Some, None}
+use Rattle.std.specs.Prelude.{◌≡◌, ℕ, List, Bool, All, Option, Some, None}
 use Rattle.script_model.specs.Sexp.{Place}
 use Rattle.script_model.specs.Script.{Command, constants_of}
 use Rattle.script_model.specs.Declared.{bound_fault, declared_interval}
@@ -10,6 +10,7 @@ use Rattle.script_forms.specs.Atoms.{atoms_in_place}
 use Rattle.script_forms.specs.ProblemOf.{AreAxes, IsProblemOf}
 use Rattle.script_forms.specs.Walk.{stands, nothing_made, claim_places, works, after_assertions, after_root, unfolds_not, building_fault}
 use Rattle.script_reading.specs.Reader.{AreLowest, IsBuilt, IsInWalkOrder}
+use Rattle.script_reading.specs.Session.{HasSession}
 use Rattle.problem_build.specs.BuildAnswers.{IsLean}
 use Rattle.sort_check.specs.Sorts.{sort_fault}
 use Rattle.term_build.specs.Built.{BuilderModel, stand_of, IsMade}
@@ -42,3 +43,7 @@ PartsAreProblem = (bound : Option ℕ) (script : List Command) (m m1 : BuilderMo
 -- A script has one problem.
 abbrev pub BuiltIsOne : Type 0
 BuiltIsOne = (bound : Option ℕ) (text : List ℕ) (p q : Problem) → IsBuilt bound text p → IsBuilt bound text q → p ≡ q
+
+-- Each of its checks has one problem, and of each one thing is said.
+abbrev pub SessionIsOne : Type 0
+SessionIsOne = (bound : Option ℕ) (text : List ℕ) (ps qs : List (Problem × Bool)) → HasSession bound ps text → HasSession bound qs text → ps ≡ qs

@@ -1,8 +1,7 @@
 -- The problems of a script with any number of checks.
-use Rattle.std.specs.Prelude.{◌≡◌, ℕ, List, [], ◌∷◌, ◌++◌, Bool, false, ◌&&◌, map, None, Option, Result, Ok, Err}
+use Rattle.std.specs.Prelude.{◌≡◌, ℕ, List, [], ◌∷◌, ◌++◌, Bool, false, ◌&&◌, None, Option, Result, Ok, Err}
 use Rattle.std.specs.List.{AllByRecursion}
-use Rattle.poly_graph.specs.Problem.{Problem}
-use Rattle.poly_graph.specs.ProblemViews.{Parts, problem_of}
+use Rattle.poly_graph.specs.ProblemViews.{Parts}
 use Rattle.script_model.specs.Script.{Command, check}
 use Rattle.script_fault.specs.Answers.{IsFaultOrMemory}
 use Rattle.script_fault.specs.declared.fault.ReadError.{ReadError}
@@ -16,15 +15,10 @@ use Rattle.sort_check.specs.Single.{IsNothing, Stacks}
 use Rattle.sort_check.specs.Sorts.{sort_fault}
 use Rattle.sort_check.specs.declared.force.Force.{Force}
 use Rattle.problem_build.specs.Progress.{IsBuiltBy, IsKept}
-use Rattle.problem_build.specs.Changes.{AreChanges, Starts, last_parts, no_parts, problems_from}
+use Rattle.problem_session.specs.Changes.{AreChanges, no_parts, problems_from}
+use Rattle.problem_session.specs.Session.{problems_of}
+use Rattle.problem_build.specs.Changes.{Starts, last_parts}
 use Rattle.problem_build.specs.declared.session.Going.{Going}
-
-abbrev pub checked_of : Parts × Bool → Problem × Bool
-checked_of c = (problem_of c.0, c.1)
-
--- the problems, each with whether all commands of the check before are in force at its check
-abbrev pub problems_of : List (Parts × Bool) → List (Problem × Bool)
-problems_of cs = map checked_of cs
 
 -- the problems of the checks of these steps, or the first fault of the building of one
 abbrev pub IsSessionAnswer : Option ℕ → List Step → Result (List (Parts × Bool)) ReadError → Type 0

@@ -1,11 +1,11 @@
 //! The reader's last phase, and the reader as one call.
 //!
-//! `read_problem` answers the problem of a script's bytes, or the first fault of the first phase that has one; `build` does
-//! so for a script whose sorts are checked. `read_session` and `build_all` answer the problems of all checks of a script;
-//! only rows call them yet. The crate reads no file, prints no fault, and simplifies no form.
+//! `read_session` answers the problems of all checks of a script's bytes, or the first fault of the first phase that has
+//! one; `build_all` does so for a script whose sorts are checked. `read_problem` and `build` do so for a script that may
+//! have one check. The crate reads no file, prints no fault, and simplifies no form.
 #![tactic(auto)]
 
-ghost use Rattle.problem_build.specs.Laws.{SortedIsSound, PartsAreProblem, BuiltIsOne};
+ghost use Rattle.problem_build.specs.Laws.{SortedIsSound, PartsAreProblem, BuiltIsOne, SessionIsOne};
 
 mod assembly;
 mod change;
@@ -24,7 +24,6 @@ mod session;
 mod top;
 mod walk;
 
-pub use change::Session;
 pub use reader::{Reader, read_problem, read_session};
 pub use script::build;
 pub use session::build_all;
@@ -44,4 +43,10 @@ pub fn parts_are_problem()
 #[tactic(auto, using(crate::proofs::One::built_one))]
 pub fn built_is_one()
     ensures { BuiltIsOne }
+{}
+
+/// Each check of a script has one problem.
+#[tactic(auto, using(crate::proofs::One::session_one))]
+pub fn session_is_one()
+    ensures { SessionIsOne }
 {}

@@ -6,18 +6,20 @@ ghost use Rattle.sort_check.specs.Sorts.{sort_fault};
 ghost use Rattle.script_reading.specs.Reader.{AreLowest, IsInWalkOrder};
 ghost use Rattle.problem_build.specs.BuildAnswers.{IsBuildAnswer, IsLean};
 ghost use Rattle.poly_graph.specs.ProblemViews.{Parts};
-ghost use Rattle.problem_build.specs.Changes.{IsChangeAnswer, IsEnded, IsExtent, IsWithin, Starts, no_parts};
+ghost use Rattle.problem_session.specs.Changes.{no_parts};
+ghost use Rattle.problem_build.specs.Changes.{IsChangeAnswer, IsEnded, IsExtent, IsWithin, Starts};
 ghost use Rattle.problem_build.specs.Names.{TopFits};
 ghost use Rattle.problem_build.specs.Progress.{BuildsAll, BuildsOne, IsBegun, IsBegunWith, IsBuiltBy};
 ghost use Rattle.problem_build.specs.Standing.{IsTopOf};
 
 use crate::assembly::assemble;
-use crate::change::{Change, Kept};
+use crate::change::made_since;
 use crate::commands::make;
 use crate::named::{Named, first_names};
 use crate::script::conclude;
 use crate::top::TopTable;
 use poly_graph::Problem;
+use problem_session::{Change, Kept};
 use script_fault::ReadError;
 use smt_script::{Command, Script};
 use smt_sexp::Sexps;
@@ -217,7 +219,7 @@ impl Progress {
             self.claims.as_slice(),
             bound,
         )?;
-        let change = Change::since(alloc, self.maker.builder(), kept, end)?;
+        let change = made_since(alloc, self.maker.builder(), kept, end)?;
         self.maker.undo(mark);
         Ok(change)
     }

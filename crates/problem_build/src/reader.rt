@@ -2,13 +2,14 @@
 ghost use Rattle.std.specs.Prelude.{MatchResult};
 ghost use Rattle.poly_graph.specs.ProblemViews.{problem_of};
 ghost use Rattle.script_fault.specs.Answers.{IsFaultOrMemory};
-ghost use Rattle.problem_build.specs.Session.{problems_of};
+ghost use Rattle.problem_session.specs.Session.{problems_of};
 ghost use Rattle.script_reading.specs.Faults.{script_fault, session_fault};
 ghost use Rattle.script_reading.specs.Reader.{HasProblem};
 ghost use Rattle.script_reading.specs.Session.{HasSession};
 
-use crate::{Session, build, build_all};
+use crate::{build, build_all};
 use poly_graph::Problem;
+use problem_session::Session;
 use script_fault::ReadError;
 use script_reading::ScriptReader;
 use smt_script::commands;
@@ -54,7 +55,7 @@ pub fn read_session(alloc: Global, bytes: &[u8], bound: Option<u32>) -> Result<S
     build_all(alloc, typed, bound)
 }
 
-/// The reader of scripts: `read_problem`.
+/// The reader of scripts: `read_session`.
 #[derive(Clone, Copy, Debug, PartialEq, Eq)]
 pub struct Reader;
 
@@ -64,7 +65,7 @@ impl ScriptReader for Reader {
         alloc: Global,
         bytes: &[u8],
         bound: Option<u32>,
-    ) -> Result<Problem, ReadError> {
-        read_problem(alloc, bytes, bound)
+    ) -> Result<Session, ReadError> {
+        read_session(alloc, bytes, bound)
     }
 }

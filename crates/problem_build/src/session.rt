@@ -8,8 +8,8 @@ ghost use Rattle.problem_build.specs.Changes.{IsChangeAnswer, Starts};
 ghost use Rattle.problem_build.specs.Progress.{IsBuiltBy, IsKept};
 ghost use Rattle.problem_build.specs.Session.{Begins, Goes, GoesOn, IsSessionAnswer, IsTaken, Stays, script_at};
 
-use crate::change::{Change, Checked, Session};
 use crate::progress::Progress;
+use problem_session::{Change, Checked, Session};
 use script_fault::{Place, ReadError};
 use smt_script::{Command, Course, Step};
 use smt_sexp::Sexps;

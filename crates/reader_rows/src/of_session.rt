@@ -1,5 +1,6 @@
 use poly_graph::{FormGraph, Graph, Problem};
 use problem_build::*;
+use problem_session::Session;
 use script_fault::{FaultKind, Place, ReadError};
 use std::alloc::Global;
 

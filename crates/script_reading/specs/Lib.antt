@@ -1,5 +1,6 @@
 pub mod Faults
 pub mod Laws
+pub mod Problems
 pub mod Reader
 pub mod Session
 pub mod WellSorted

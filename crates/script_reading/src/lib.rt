@@ -5,6 +5,7 @@
 #![tactic(auto)]
 
 ghost use Rattle.script_reading.specs.Laws.{CarriedBegins, FaultlessIsAccepted};
+ghost use Rattle.script_reading.specs.Problems.{BegunGoesOn, SessionGoesOn};
 ghost use Rattle.script_reading.specs.WellSorted.{SortedUnfolds};
 
 mod reader;
@@ -27,4 +28,14 @@ pub fn sorted_unfolds()
 #[tactic(auto, using(crate::proofs::Carried::carried_begins))]
 pub fn carried_begins()
     ensures { CarriedBegins }
+{}
+
+/// The problem of a check goes on from that of the check before, where all commands of the one before are in force at it.
+pub fn begun_goes_on()
+    ensures { BegunGoesOn }
+{}
+
+/// There is a check, and each problem goes on from the one before where all commands of that one's check are in force.
+pub fn session_goes_on()
+    ensures { SessionGoesOn }
 {}

@@ -1,22 +1,22 @@
 -- The lemmas that a book gives.
-use Rattle.std.proofs.Common.{◌≡◌, ℕ, zero, suc, append-nil, ◌++◌, List, [], ◌∷◌, All, drop, map, Some, refl, ap, sym, ◌∙◌, subst}
+use Rattle.std.proofs.Common.{◌≡◌, ℕ, zero, suc, ◌+◌, append-nil, ◌++◌, List, [], ◌∷◌, All, drop, Some, refl, ap, sym, ◌∙◌, subst, arith}
 use Rattle.std.specs.Prelude.{slice_get}
-use Rattle.std.proofs.lemmas.List.Elements.{All-nil, All-cons, All-drop}
+use Rattle.std.specs.List.{AllByRecursion}
+use Rattle.std.proofs.lemmas.List.Elements.{All-nil, All-cons, All-drop, recursion_from_All}
 use Rattle.poly_graph.specs.Problem.{Problem}
 use Rattle.poly_graph.specs.ProblemViews.{Parts}
 use Rattle.cover_model.specs.State.{State, Loosenings, IsLemma}
 use Rattle.cover_model.specs.Fits.{FitsProblem}
 use Rattle.cover_data.specs.declared.margins.Margins.{Margins}
 use Rattle.cover_data.specs.Models.{LemmaModel}
-use Rattle.cert_model.specs.Written.{AreLemmaTrees}
+use Rattle.cover_data.specs.Runs.{AreKept}
 use Rattle.cover_book.specs.declared.calls.Call.{Call}
 use Rattle.cover_book.specs.declared.calls.Call.TheVariants.{LemmasFrom}
 use Rattle.cover_book.specs.declared.calls.Reply.{Reply}
 use Rattle.cover_book.specs.declared.calls.Reply.TheVariants.{Lemmas}
-use Rattle.cover_book.specs.Keeps.{IsBook}
-use Rattle.cover_book.specs.Model.{BookModel, LearnedLemma, problem_in, margins_of, loosenings_in, numbered, numbered_from}
-use Rattle.cover_book.specs.Tree.{lemma_tree}
-use Rattle.cover_book.proofs.Meaning.{lemmas_hold}
+use Rattle.cover_book.specs.Keeps.{IsBook, IsKeptLemma}
+use Rattle.cover_book.specs.Model.{BookModel, problem_in, margins_of, loosenings_in, lemma_states_in, numbered, numbered_from}
+use Rattle.cover_book.proofs.Carries.{all_lemmas}
 use Rattle.book_lock.specs.declared.shared.SharedBook.{SharedBook}
 use Rattle.book_lock.specs.Shared.{BookSeat, first_of, IsSeatOf, IsReply}
 use Rattle.book_lock.proofs.Histories.{reply_is_of_book}
@@ -28,15 +28,32 @@ use Rattle.solve_core.proofs.Together.{part_stays}
 abbrev Holds : Problem → Loosenings → LemmaModel → Type 0
 Holds p s L = FitsProblem p L.state × IsLemma p s L.state
 
-each-holds : (p : Problem) (s : Loosenings) (before : List State) (xs : List LearnedLemma) (i : ℕ) → AreLemmaTrees p s before (map lemma_tree xs) →
-    ((j : ℕ) (S : State) → slice_get (map (λ (x : LearnedLemma). x.state) xs) j ≡ Some S → IsLemma p s S) → AreLemmasFor p s (numbered_from i xs)
-each-holds p s before [] i h k = All-nil (Holds p s)
-each-holds p s before (x ∷ xs) i h k = All-cons (Holds p s) (record { id = i; state = x.state }) (numbered_from (suc i) xs) (record { axes = h.0.fits; marks = h.0.marks }, k zero x.state refl)
-    (each-holds p s (before ++ (x.state ∷ [])) xs (suc i) h.1 (λ j S e. k (suc j) S e))
+each-holds : (p : Problem) (s : Loosenings) (xs : List State) (i : ℕ) → AllByRecursion (IsKeptLemma p s) xs → AreLemmasFor p s (numbered_from i xs)
+each-holds p s [] i h = All-nil (Holds p s)
+each-holds p s (L ∷ xs) i h = All-cons (Holds p s) (record { id = i; state = L }) (numbered_from (suc i) xs) (h.0.fits, h.0.lemma) (each-holds p s xs (suc i) h.1)
 
 -- the lemmas of a book are states of its problem of which no point meets the form
 pub numbered_hold : (b : BookModel) → IsBook b → AreLemmasFor (problem_in b) (loosenings_in b) (numbered b)
-numbered_hold b w = each-holds (problem_in b) (loosenings_in b) [] b.lemmas zero w.lemmas (lemmas_hold b w)
+numbered_hold b w = let P = IsKeptLemma (problem_in b) (loosenings_in b) in each-holds (problem_in b) (loosenings_in b) (lemma_states_in b) zero (recursion_from_All P (lemma_states_in b) (all_lemmas b w))
+
+-- it keeps them under their numbers
+abbrev Kept : List State → LemmaModel → Type 0
+Kept states l = slice_get states l.id ≡ Some l.state
+
+each-kept : (states xs : List State) (i : ℕ) → ((j : ℕ) (S : State) → slice_get xs j ≡ Some S → slice_get states (i + j) ≡ Some S) → AreKept states (numbered_from i xs)
+each-kept states [] i h = All-nil (Kept states)
+each-kept states (L ∷ xs) i h =
+    let here : i + zero ≡ i = omega arith in
+    All-cons (Kept states) (record { id = i; state = L }) (numbered_from (suc i) xs) (subst (λ (k : ℕ). slice_get states k ≡ Some L) here (h zero L refl))
+    (each-kept states xs (suc i) (λ j S e. let next : i + suc j ≡ suc i + j = omega arith in subst (λ (k : ℕ). slice_get states k ≡ Some S) next (h (suc j) S e)))
+
+-- from a number on, too
+pub handed_hold : (b : BookModel) → IsBook b → (k : ℕ) (lemmas : List LemmaModel) → lemmas ≡ drop k (numbered b) → AreLemmasFor (problem_in b) (loosenings_in b) lemmas
+handed_hold b w k lemmas e = subst (AreLemmasFor (problem_in b) (loosenings_in b)) (sym e) (All-drop (Holds (problem_in b) (loosenings_in b)) k (numbered b) (numbered_hold b w))
+
+pub handed_kept : (b : BookModel) (k : ℕ) (lemmas : List LemmaModel) → lemmas ≡ drop k (numbered b) → AreKept (lemma_states_in b) lemmas
+handed_kept b k lemmas e = let xs = lemma_states_in b in
+    subst (AreKept xs) (sym e) (All-drop (Kept xs) k (numbered b) (each-kept xs xs zero (λ j S h. let z : j ≡ zero + j = omega arith in subst (λ (i : ℕ). slice_get xs i ≡ Some S) z h)))
 
 -- so a shared book gives lemmas of its problem
 pub given_lemmas : (p : Parts) (m : Margins) (s : SharedBook) (seat seat' : BookSeat) (i : ℕ) (v : _) → IsAsker p m s seat → IsReply seat (LemmasFrom i) (Lemmas v) seat' → All (IsLemmaOf p m) v.items

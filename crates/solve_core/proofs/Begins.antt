@@ -2,15 +2,14 @@
 use Rattle.std.proofs.Common.{◌≡◌, inl, ℕ, zero, suc, ◌+◌, List, [], ◌∷◌, drop, Some, refl, ap, sym, ◌∙◌, subst, arith}
 use Rattle.std.specs.Prelude.{slice_get}
 use Rattle.std.specs.List.{Contains}
-use Rattle.std.proofs.lemmas.List.Elements.{All-nil, Contains-append_right}
+use Rattle.std.proofs.lemmas.List.Elements.{Contains-append_right}
 use Rattle.cover_model.specs.State.{State}
-use Rattle.cover_data.specs.Models.{LemmaModel}
-use Rattle.cover_data.specs.Runs.{AreKept}
-use Rattle.cover_book.specs.Model.{NodeModel, live_node, crossed_node, closed_node, parted_node, stuck_node, BookModel, problem_in, loosenings_in, lemma_states_in}
+use Rattle.cover_book.specs.Keeps.{IsBook}
+use Rattle.cover_book.specs.Model.{NodeModel, live_node, crossed_node, closed_node, parted_node, stuck_node, BookModel, numbered}
 use Rattle.cover_book.specs.Verdict.{live_numbers, live_numbers_after}
-use Rattle.box_worker.specs.Worked.{AreLemmasFor}
 use Rattle.solve_core.specs.declared.search.Search.{Search}
 use Rattle.solve_core.specs.Search.{EachWaits, IsSearch}
+use Rattle.solve_core.proofs.Asked.{handed_hold, handed_kept}
 
 -- one more at the front
 further : (xs : List ℕ) (y n : ℕ) → Contains xs n → Contains (y ∷ xs) n
@@ -44,10 +43,10 @@ all_wait b waiting e n S h =
     let f : waiting ≡ live_numbers 0 b.nodes = e ∙ ap (live_numbers 0) (none-dropped b.nodes) in
     inl (subst (λ (ns : List ℕ). Contains ns n) (sym f) c)
 
--- a search with no lemmas
-pub begun : (s : Search) → s.lemmas.items ≡ [] → (waiting : List ℕ) → EachWaits s.book waiting → IsSearch s waiting
-begun s e waiting h = record {
+-- a search with lemmas of the book
+pub begun : (s : Search) → IsBook s.book → (k : ℕ) → s.lemmas.items ≡ drop k (numbered s.book) → (waiting : List ℕ) → EachWaits s.book waiting → IsSearch s waiting
+begun s w k e waiting h = record {
   waits = λ _. h;
-  kept = subst (AreKept (lemma_states_in s.book)) (sym e) (All-nil (λ (l : LemmaModel). slice_get (lemma_states_in s.book) l.id ≡ Some l.state));
-  usable = subst (AreLemmasFor (problem_in s.book) (loosenings_in s.book)) (sym e) (λ k d h. absurd (omega (arith, h)));
+  kept = handed_kept s.book k s.lemmas.items e;
+  usable = handed_hold s.book w k s.lemmas.items e;
 }

@@ -3,6 +3,7 @@ pub mod Begins
 pub mod Ends
 pub mod Left
 pub mod Reached
+pub mod Sessions
 pub mod Together
 pub mod Visits
 pub mod Waits

@@ -1,7 +1,6 @@
 -- A search after a call on its book.
 use Rattle.std.proofs.Common.{◌≡◌, ◌⊎◌, inl, inr, ℕ, zero, suc, ◌+◌, List, [], ◌∷◌, ◌++◌, All, drop, length, Option, Some, None, Result, Ok, Err, IsTrue, refl, ap, sym, ◌∙◌, subst, true≢false, arith}
 use Rattle.std.specs.Prelude.{slice_get, IsSome, OnOk}
-use Rattle.std.proofs.lemmas.List.{map-append, length-map}
 use Rattle.std.proofs.lemmas.List.Elements.{All-weaker, All-drop, All-head, All-tail, All-append, All-cons, All-nil}
 use Rattle.interval_model.specs.Space.{Space}
 use Rattle.cover_model.specs.State.{State, IsLemma}
@@ -18,10 +17,11 @@ use Rattle.cover_book.specs.declared.calls.Reply.TheVariants.{Committed, Learned
 use Rattle.cover_book.specs.declared.refusal.BookRefusal.{BookRefusal}
 use Rattle.cover_book.specs.declared.refusal.BookRefusal.TheVariants.{NotOpen, OtherState, UnknownLemma, BudgetSpent, LemmasFull, PointKept, Memory}
 use Rattle.cover_book.specs.declared.refusal.Kids.{Kids}
-use Rattle.cover_book.specs.Model.{LearnedLemma, BookModel, problem_in, margins_of, loosenings_in, lemma_states_in}
+use Rattle.cover_book.specs.Model.{LearnedLemma, BookModel, problem_in, margins_of, loosenings_in, lemma_states_in, lemma_count}
 use Rattle.cover_book.specs.Steps.{MayBeCalled, IsLive, IsFirstUnknown, IsCommitRefusal, CommitStep, LemmaStep, PointStep, with_lemma, learned_book}
 use Rattle.cover_book.proofs.Grown.{step_keeps_problem}
 use Rattle.cover_book.proofs.Lists.{get_left, get_right}
+use Rattle.cover_book.proofs.Lookups.{states_count, more_states}
 use Rattle.box_worker.specs.Worked.{AreLemmasFor}
 use Rattle.solve_core.specs.declared.search.Search.{Search}
 use Rattle.solve_core.specs.Reaches.{Reaches}
@@ -74,7 +74,7 @@ module _ (s : Search) (n : ℕ) (P : KeptPatch) (h : CanCommit s n P) where
       let w : CommitLeaves s.book n c s'.book = leaves c s'.book k in
       same_search s' s'.book (s.waiting.items ++ kid_list c) s.lemmas.items refl e f (record {
         waits = λ _. waits_after s.book s'.book n c s.waiting.items same w (h.at.search.waits h.at.no_point);
-        kept = kept_still s.book s'.book s.lemmas.items w.lemmas h.at.search.kept;
+        kept = kept_still s.book s'.book s.lemmas.items same w.lemmas h.at.search.kept;
         usable = usable_still s.book s'.book s.lemmas.items same h.at.search.usable;
       })
 
@@ -113,16 +113,16 @@ closed-end (Some l) h = (l, refl)
 
 more-kept : (b : BookModel) (x : LearnedLemma) (lemmas : List LemmaModel) → AreKept (lemma_states_in b) lemmas → AreKept (lemma_states_in (with_lemma b x)) lemmas
 more-kept b x lemmas h = All-weaker (λ (l : LemmaModel). slice_get (lemma_states_in b) l.id ≡ Some l.state) (λ (l : LemmaModel). slice_get (lemma_states_in (with_lemma b x)) l.id ≡ Some l.state)
-    (λ l e. subst (λ (ys : List State). slice_get ys l.id ≡ Some l.state) (sym (map-append (λ (y : LearnedLemma). y.state) b.lemmas (x ∷ []))) (get_left (lemma_states_in b) (x.state ∷ []) l.id l.state e)) lemmas h
+    (λ l e. subst (λ (ys : List State). slice_get ys l.id ≡ Some l.state) (more_states b x) (get_left (lemma_states_in b) (x.state ∷ []) l.id l.state e)) lemmas h
 
-new-kept : (b : BookModel) (x : LearnedLemma) → slice_get (lemma_states_in (with_lemma b x)) (length b.lemmas) ≡ Some x.state
-new-kept b x = subst (λ (ys : List State). slice_get ys (length b.lemmas) ≡ Some x.state) (sym (map-append (λ (y : LearnedLemma). y.state) b.lemmas (x ∷ [])))
-    (let e : length b.lemmas ≡ length (lemma_states_in b) + 0 = omega (arith, length-map b.lemmas (λ (y : LearnedLemma). y.state)) in
+new-kept : (b : BookModel) (x : LearnedLemma) → slice_get (lemma_states_in (with_lemma b x)) (lemma_count b) ≡ Some x.state
+new-kept b x = subst (λ (ys : List State). slice_get ys (lemma_count b) ≡ Some x.state) (more_states b x)
+    (let e : lemma_count b ≡ length (lemma_states_in b) + 0 = omega (arith, states_count b) in
     ap (slice_get (lemma_states_in b ++ (x.state ∷ []))) e ∙ get_right (lemma_states_in b) (x.state ∷ []) 0)
 
 learned-under : (b : BookModel) (x : LearnedLemma) (waiting : List ℕ) (lemmas : List LemmaModel) → IsUnderWay b waiting lemmas → IsUnderWay (with_lemma b x) waiting lemmas
 learned-under b x waiting lemmas h = record {
-  waits = λ q n S k. elim (h.waits q n S k) [ inl c ↦ inl c | inr w ↦ inr (left_still b (with_lemma b x) S (refl, refl) (omega arith) w) ];
+  waits = λ q n S k. elim (h.waits q n S k) [ inl c ↦ inl c | inr w ↦ inr (left_still b (with_lemma b x) S (refl, refl, refl) (omega arith) w) ];
   kept = more-kept b x lemmas h.kept;
   usable = h.usable;
 }
@@ -138,8 +138,8 @@ module _ (s : Search) (k : KeptModel) (h : CanLearn s k) where
       let x : LearnedLemma = record { state = k.first; steps = k.steps; end = l.0 } in
       let b : s'.book ≡ with_lemma s.book x = w.book ∙ ap (learned_book s.book k) l.1 in
       let u : IsUnderWay (with_lemma s.book x) s.waiting.items s.lemmas.items = learned-under s.book x s.waiting.items s.lemmas.items h.search in
-      let L : LemmaModel = record { id = length s.book.lemmas; state = k.first } in
-      let same : record { id = i; state = S } ≡ L = ap (λ (j : ℕ). record { id = j; state = S }) w.number ∙ ap (λ (T : State). record { id = length s.book.lemmas; state = T }) q in
+      let L : LemmaModel = record { id = lemma_count s.book; state = k.first } in
+      let same : record { id = i; state = S } ≡ L = ap (λ (j : ℕ). record { id = j; state = S }) w.number ∙ ap (λ (T : State). record { id = lemma_count s.book; state = T }) q in
       let kept : AreKept (lemma_states_in (with_lemma s.book x)) (L ∷ []) = All-cons (λ (m : LemmaModel). slice_get (lemma_states_in (with_lemma s.book x)) m.id ≡ Some m.state) L [] (new-kept s.book x) (All-nil (λ (m : LemmaModel). slice_get (lemma_states_in (with_lemma s.book x)) m.id ≡ Some m.state)) in
       let usable : AreLemmasFor (problem_in s.book) (loosenings_in s.book) (L ∷ []) =
       All-cons (λ (m : LemmaModel). FitsProblem (problem_in s.book) m.state × IsLemma (problem_in s.book) (loosenings_in s.book) m.state) L []

@@ -21,7 +21,7 @@ use Rattle.solve_core.proofs.Left.{IsKid, CommitLeaves}
 
 -- the same problem and options
 abbrev pub Same : BookModel → BookModel → Type 0
-Same b b' = (b'.problem ≡ b.problem) × (b'.options ≡ b.options)
+Same b b' = (b'.problem ≡ b.problem) × (b'.options ≡ b.options) × (b'.kept ≡ b.kept)
 
 -- what speaks of them alone
 pub carried : (F : Parts → Options → Type 0) (b b' : BookModel) → Same b b' → F b.problem b.options → F b'.problem b'.options
@@ -36,8 +36,9 @@ left_still b b' S e h w = record {
 pub usable_still : (b b' : BookModel) (lemmas : List LemmaModel) → Same b b' → AreLemmasFor (problem_in b) (loosenings_in b) lemmas → AreLemmasFor (problem_in b') (loosenings_in b') lemmas
 usable_still b b' lemmas e h = carried (λ p o. AreLemmasFor (problem_of p) (loosenings_of (margins_of o)) lemmas) b b' e h
 
-pub kept_still : (b b' : BookModel) (lemmas : List LemmaModel) → b'.lemmas ≡ b.lemmas → AreKept (lemma_states_in b) lemmas → AreKept (lemma_states_in b') lemmas
-kept_still b b' lemmas e h = subst (λ (xs : List LearnedLemma). AreKept (map (λ (x : LearnedLemma). x.state) xs) lemmas) (sym e) h
+pub kept_still : (b b' : BookModel) (lemmas : List LemmaModel) → Same b b' → b'.lemmas ≡ b.lemmas → AreKept (lemma_states_in b) lemmas → AreKept (lemma_states_in b') lemmas
+kept_still b b' lemmas same e h = subst (λ (ks : List State). AreKept (ks ++ map (λ (x : LearnedLemma). x.state) b'.lemmas) lemmas) (sym same.2)
+    (subst (λ (xs : List LearnedLemma). AreKept (b.kept ++ map (λ (x : LearnedLemma). x.state) xs) lemmas) (sym e) h)
 
 -- quoted lemmas are kept where those are of which they are taken
 pub kept_among : (states : List State) (lemmas quoted : List LemmaModel) → AreKept states lemmas → All (λ (l : LemmaModel). Contains lemmas l) quoted → AreKept states quoted

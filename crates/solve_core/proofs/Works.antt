@@ -114,7 +114,7 @@ module _ (s : Search) (n : ℕ) (S : State) (at : IsAt s n S) (w : Worked) (h : 
         search = g;
         run = carried (λ p o. IsRun (problem_of p) (margins_of o) k) s.book s'.book same i.run;
         closed = i.closed;
-        quoted = kept_still s.book s'.book k.quoted l (kept_among (lemma_states_in s.book) s.lemmas.items k.quoted at.search.kept i.among);
+        quoted = kept_still s.book s'.book k.quoted same l (kept_among (lemma_states_in s.book) s.lemmas.items k.quoted at.search.kept i.among);
       }
 
   from-root : (k : KeptModel) → IsShownFromRoot s.book.problem (margins_of s.book.options) k → (s' : Search) → IsSearch s' s'.waiting.items → Reaches s.book s'.book → CanLearn s' k

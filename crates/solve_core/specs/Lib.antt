@@ -4,3 +4,4 @@ pub mod Search
 pub mod Workers
 pub mod Askers
 pub mod Members
+pub mod Solved

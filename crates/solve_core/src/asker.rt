@@ -16,16 +16,12 @@ pub struct BookLemmas<'a> {
 }
 
 impl<'a> BookLemmas<'a> {
-    /// Asks from the first lemma on.
-    pub fn new(shared: &'a SharedBook, seat: BookSeat) -> BookLemmas<'a>
+    /// Asks from the lemma of this number on.
+    pub fn new(shared: &'a SharedBook, seat: BookSeat, from: u32) -> BookLemmas<'a>
         ensures shared { result.shared.now ≡ shared.now }
         ensures seat { result.seat ≡ seat }
     {
-        BookLemmas {
-            shared,
-            seat,
-            from: 0,
-        }
+        BookLemmas { shared, seat, from }
     }
 }
 

@@ -1,13 +1,19 @@
 // The search: by many workers on one book, and then by the caller alone.
-ghost use Rattle.std.specs.Prelude.{◌≡◌, ◌≢◌, ◌<◌, true, false, IfOk, OnOk};
+ghost use Rattle.std.specs.Prelude.{◌≡◌, ◌≢◌, ◌<◌, ◌≤◌, ◌-◌, true, false, cond, length, All, IfOk, OnOk, []};
+ghost use Rattle.poly_graph.specs.ProblemViews.{problem_of};
+ghost use Rattle.problem_session.specs.Session.{problems_of};
+ghost use Rattle.cover_model.specs.Carried.{GoesOnFrom};
+ghost use Rattle.cert_model.specs.SessionLaws.{IsSession};
 ghost use Rattle.cover_book.specs.Limits.{IsWithinLimits};
-ghost use Rattle.cover_book.specs.Model.{opening};
+ghost use Rattle.cover_book.specs.Model.{kept_from, opening, opening_with, problem_in};
 ghost use Rattle.cover_book.specs.Keeps.{IsBook};
+ghost use Rattle.cover_book.specs.Session.{AreBooksOf};
 ghost use Rattle.cover_book.specs.Verdict.{verdict_of};
 ghost use Rattle.cover_book.specs.declared.verdict.BookVerdict.TheVariants as verdict;
 ghost use Rattle.solve_core.specs.Reaches.{Reaches};
 ghost use Rattle.solve_core.specs.Left.{LeavesDue};
 ghost use Rattle.solve_core.specs.Search.{IsSearch, work_left};
+ghost use Rattle.solve_core.specs.Solved.{IsSolved, IsCheckWithin, IsProblemAt, IsNextBook};
 
 use crate::gate::Gate;
 use crate::search::Search;
@@ -16,6 +22,7 @@ use box_worker::Room;
 use cover_book::Book;
 use cover_data::Options;
 use poly_graph::Problem;
+use problem_session::Session;
 use std::alloc::{AllocError, Global};
 use std::marker::Brand;
 use std::sync::Wait;
@@ -144,11 +151,37 @@ fn finish<G: Gate>(
     Ok(search.into_book())
 }
 
+// Searches on from a book of the problem. Where the options have more than one worker, so many of them, 64 at most,
+// search on it side by side, once the caller has made two boxes, and the caller goes on alone from what they leave.
+fn search_from<R: Threads + Wait + Sync, G: Gate + Sync>(
+    rt: &R,
+    alloc: Global,
+    book: Book,
+    problem: &Problem,
+    options: &Options,
+    gate: &G,
+) -> Result<Book, AllocError>
+    requires problem { book.problem ≡ problem.now }
+    requires options { book.options ≡ options.now }
+    ensures reached { IfOk result (λ b. Reaches book b) }
+    ensures verdict { IfOk result (λ b. verdict_of b ≢ verdict.NotYet) }
+    ensures left { IfOk result (λ b. LeavesDue b) }
+    ensures book { IfOk result (λ b. IsBook b) }
+{
+    let workers = options.workers.min(MOST_WORKERS);
+    if workers < 2 {
+        return finish(alloc, book, problem, gate);
+    }
+    let begun = start(alloc, book, problem, gate)?;
+    let book = search_together::<Brand, R, G>(rt, alloc, begun, problem, options, workers, gate);
+    finish(alloc, book, problem, gate)
+}
+
 /// Searches for a point of the problem, or for a cover of its declared box, from the opening book on. Where the options
-/// have more than one worker, so many of them, 64 at most, search on one book side by side, once the caller has made two
-/// boxes. Then the caller goes on alone from what they leave, until a point is kept, no node is live, or the budget is used up and nothing but a branch
-/// is left to be done at each live node. With one worker the caller does all of it. The gate is called before and after
-/// the work on each node.
+/// have more than one worker, so many of them, 64 at most, search on one book side by side, once the caller has made
+/// two boxes. Then the caller goes on alone from what they leave, until a point is kept, no node is live, or the budget
+/// is used up and nothing but a branch is left to be done at each live node. With one worker the caller does all of it.
+/// The gate is called before and after the work on each node.
 pub fn solve<R: Threads + Wait + Sync, G: Gate + Sync>(
     rt: &R,
     alloc: Global,
@@ -169,11 +202,89 @@ pub fn solve<R: Threads + Wait + Sync, G: Gate + Sync>(
 {
     let copy = problem.try_clone(alloc)?;
     let book = Book::new(alloc, copy, *options)?;
-    let workers = options.workers.min(MOST_WORKERS);
-    if workers < 2 {
-        return finish(alloc, book, problem, gate);
+    search_from(rt, alloc, book, problem, options, gate)
+}
+
+// The book that opens the search at the check behind that of the old book, whose problem this is: with the lemmas of
+// the old one, where it goes on from that.
+fn opened(alloc: Global, old: &Book, problem: Problem, goes_on: bool) -> Result<Book, AllocError>
+    requires limits { IsWithinLimits problem old.now.options }
+    requires on { goes_on ≡ true → GoesOnFrom (problem_in old.now) (problem_of problem) }
+    ensures { let kept = cond goes_on (kept_from old.now problem) [] in
+        IfOk result (λ b. b ≡ opening_with problem old.now.options kept) }
+{
+    if goes_on {
+        Book::carry(alloc, old, problem)
+    } else {
+        Book::new(alloc, problem, *old.options())
     }
-    let begun = start(alloc, book, problem, gate)?;
-    let book = search_together::<Brand, R, G>(rt, alloc, begun, problem, options, workers, gate);
-    finish(alloc, book, problem, gate)
+}
+
+// Searches at the check of this number, where the old book is of the check before.
+fn solve_next<R: Threads + Wait + Sync, G: Gate + Sync>(
+    rt: &R,
+    alloc: Global,
+    session: &Session,
+    k: usize,
+    old: &Book,
+    gate: &G,
+) -> Result<Book, AllocError>
+    requires session { IsSession (problems_of session.now) }
+    requires limits { All (IsCheckWithin old.now.options) session.now }
+    requires first { 1 ≤ k }
+    requires within { k < length session.now }
+    requires old { IsProblemAt session.now (k - 1) old.now.problem }
+    ensures { IfOk result (IsNextBook session.now (k - 1) old.now) }
+{
+    let problem = session.next(alloc, k - 1, old.problem())?;
+    let copy = problem.try_clone(alloc)?;
+    let book = opened(alloc, old, copy, session.extends(k))?;
+    search_from(rt, alloc, book, &problem, old.options(), gate)
+}
+
+// Searches at each check, and appends the books.
+fn solve_each<R: Threads + Wait + Sync, G: Gate + Sync>(
+    rt: &R,
+    alloc: Global,
+    session: &Session,
+    options: &Options,
+    gate: &G,
+    books: &mut Vec<Book>,
+) -> Result<(), AllocError>
+    requires session { IsSession (problems_of session.now) }
+    requires limits { All (IsCheckWithin options.now) session.now }
+    requires none { books.old.items ≡ [] }
+    ensures books { OnOk result (AreBooksOf options.now [] session.now books.new.items) }
+    ensures solved { OnOk result (All IsSolved books.new.items) }
+{
+    let problem = session.first(alloc)?;
+    let book = solve(rt, alloc, &problem, options, gate)?;
+    books.push(book)?;
+    for k in 1..session.len() {
+        let book = solve_next(rt, alloc, session, k, &books[k - 1], gate)?;
+        books.push(book)?;
+    }
+    Ok(())
+}
+
+/// Searches at each check of a script, in order, as `solve` does. Where all commands of the check before are in force, the
+/// search begins with the lemmas of the book before.
+pub fn solve_all<R: Threads + Wait + Sync, G: Gate + Sync>(
+    rt: &R,
+    alloc: Global,
+    session: &Session,
+    options: &Options,
+    gate: &G,
+) -> Result<Vec<Book>, AllocError>
+    requires session { IsSession (problems_of session.now) }
+    requires limits { All (IsCheckWithin options.now) session.now }
+    // The books are those of the checks, each with the lemmas that it may keep of the one before.
+    ensures books { IfOk result (λ v. AreBooksOf options.now [] session.now v.items) }
+
+    // Calls on each as it opened lead to it, and it has an answer.
+    ensures solved { IfOk result (λ v. All IsSolved v.items) }
+{
+    let mut books = Vec::new(alloc);
+    solve_each(rt, alloc, session, options, gate, &mut books)?;
+    Ok(books)
 }

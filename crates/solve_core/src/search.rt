@@ -1,6 +1,7 @@
 // A search on its way.
 ghost use Rattle.std.specs.Prelude.{◌≡◌, ◌≢◌, ◌∷◌, [], ◌++◌, ◌≤◌, ◌-◌, drop, length, OnOk, IfOk, IfSome, IsNone, None};
 ghost use Rattle.cover_data.specs.Views.{kept_of};
+ghost use Rattle.cover_book.specs.Keeps.{IsBook};
 ghost use Rattle.cover_book.specs.Verdict.{live_numbers_after};
 ghost use Rattle.box_worker.specs.Learned.{IsLesson};
 ghost use Rattle.box_worker.specs.Worked.{margins_of};
@@ -55,6 +56,13 @@ fn unless_memory(refusal: BookRefusal) -> Result<(), AllocError>
     }
 }
 
+/// The number of the first lemma of the book that is handed on: no more than the latest ones are.
+pub fn first_handed(book: &Book) -> u32
+    ensures { IsBook book.now }
+{
+    book.lemma_count().saturating_sub(MOST_HANDED as u32)
+}
+
 /// Leaves out the oldest lemmas where there are more than may be handed on.
 pub fn keep_latest(lemmas: &mut Vec<Lemma>)
     ensures { lemmas.new.items ≡ drop (length lemmas.old.items - 64) lemmas.old.items }
@@ -64,17 +72,18 @@ pub fn keep_latest(lemmas: &mut Vec<Lemma>)
 }
 
 impl Search {
-    /// A search that goes on from a book: each live node waits.
+    /// A search that goes on from a book: each live node waits, and the book's latest lemmas are handed on.
     pub fn resume(alloc: Global, book: Book) -> Result<Search, AllocError>
         ensures search { IfOk result (λ s. IsSearch s s.waiting.items) }
         ensures book { IfOk result (λ s. s.book ≡ book) }
     {
         let learns = has_choice(book.problem());
         let waiting = live_nodes(alloc, &book)?;
+        let lemmas = book.lemmas_from(first_handed(&book))?;
         Ok(Search {
             book,
             waiting,
-            lemmas: Vec::new(alloc),
+            lemmas,
             learns,
         })
     }

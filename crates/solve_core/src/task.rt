@@ -1,5 +1,5 @@
 // What the workers of one search share.
-ghost use Rattle.std.specs.Prelude.{◌≡◌, IfOk, IfSome};
+ghost use Rattle.std.specs.Prelude.{◌≡◌, All, IfOk, IfSome};
 ghost use Rattle.cover_book.specs.Keeps.{IsBook};
 ghost use Rattle.cover_book.specs.Steps.{MayBeCalled};
 ghost use Rattle.cover_book.specs.declared.calls.Call.TheVariants.{Learn};
@@ -58,6 +58,15 @@ impl<J: Subject> Task<'_, J> {
     {
         if let Some(shelf) = &self.shelf {
             let _ = shelf.post(rt, lemma.id(), lemma);
+        }
+    }
+
+    /// Puts lemmas on the shelf, the latest one last.
+    pub fn post_all<R: Wait>(&self, rt: &R, lemmas: Vec<Lemma>)
+        requires { All (IsLemmaOf J.problem J.margins) lemmas.items }
+    {
+        for lemma in lemmas {
+            self.post(rt, lemma);
         }
     }
 }

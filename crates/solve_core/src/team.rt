@@ -5,18 +5,19 @@ ghost use Rattle.steal_pool.specs.Pool.{AllStay};
 ghost use Rattle.cover_book.specs.Keeps.{IsBook};
 ghost use Rattle.cover_book.specs.Model.{margins_of};
 ghost use Rattle.book_lock.specs.Shared.{IsSeatOf, first_of, view};
+ghost use Rattle.lemma_shelf.specs.Lemmas.{IsLemmaOf};
 ghost use Rattle.solve_core.specs.Reaches.{Reaches};
 ghost use Rattle.solve_core.specs.Members.{IsMemberOf, HasSeatsOf};
 
 use crate::asker::BookLemmas;
 use crate::gate::Gate;
 use crate::member::Member;
-use crate::search::has_choice;
+use crate::search::{first_handed, has_choice};
 use crate::task::Task;
 use crate::worker::Worker;
 use book_lock::{BookSeat, SharedBook};
 use cover_book::Book;
-use cover_data::Options;
+use cover_data::{Lemma, Options};
 use lemma_shelf::{Shelf, Subject};
 use poly_graph::Problem;
 use std::alloc::{AllocError, Global};
@@ -34,13 +35,25 @@ fn offer_all(hand: &mut Hand, nodes: &[u32])
     }
 }
 
-// A worker for each hand, with two parts of the seat. The one that is made last has number 0 and offers the nodes.
+// The live nodes of a book, and the lemmas of it that are handed on.
+fn at_hand(alloc: Global, book: &Book) -> Result<(Vec<u32>, Vec<Lemma>), AllocError>
+    ensures { IfOk result (λ x.
+        All (IsLemmaOf book.now.problem (margins_of book.now.options)) x.1.items) }
+{
+    let nodes = book.live_nodes().collect::<Vec<u32>>(alloc)?;
+    let lemmas = book.lemmas_from(first_handed(book))?;
+    Ok((nodes, lemmas))
+}
+
+// A worker for each hand, with two parts of the seat, which asks for lemmas from this number on. The one that is made
+// last has number 0 and offers the nodes.
 fn enlist<'a>(
     alloc: Global,
     shared: &'a SharedBook,
     lead: &mut BookSeat,
     hands: Vec<Hand>,
     nodes: &[u32],
+    from: u32,
 ) -> Result<Vec<Member<'a>>, AllocError>
     requires few { vec_len hands ≤ 64 }
     requires stay { AllStay hands.items }
@@ -63,7 +76,7 @@ fn enlist<'a>(
         let seat = shared.split_seat(lead);
         let worker = Worker::new(alloc, hands.len() as u32, hand, seat);
         let second = shared.split_seat(lead);
-        let asker = BookLemmas::new(shared, second);
+        let asker = BookLemmas::new(shared, second, from);
         team.push_reserved(Member { worker, asker });
     }
     Ok(team)
@@ -115,10 +128,10 @@ fn dismiss(shared: &SharedBook, lead: &mut BookSeat, team: Vec<Member>)
     }
 }
 
-/// Has so many workers search on the book side by side. What they leave live is for the caller to go on with: they
-/// stop where a point is kept, where all boxes that they know of are done or wait because the budget is spent, and where
-/// memory runs out. Where there is no memory for them the book is as it was. The subject is the problem at the margins of
-/// the options.
+/// Has so many workers search on the book side by side, with its latest lemmas at hand. What they leave live is for the
+/// caller to go on with: they stop where a point is kept, where all boxes that they know of are done or wait because
+/// the budget is spent, and where memory runs out. Where there is no memory for them the book is as it was. The subject
+/// is the problem at the margins of the options.
 pub fn search_together<J: Subject + Send + Sync, R: Threads + Wait + Sync, G: Gate + Sync>(
     rt: &R,
     alloc: Global,
@@ -135,7 +148,7 @@ pub fn search_together<J: Subject + Send + Sync, R: Threads + Wait + Sync, G: Ga
     requires subject_margins { J.margins ≡ margins_of options.now }
     ensures { Reaches book result }
 {
-    let Ok(nodes) = book.live_nodes().collect::<Vec<u32>>(alloc) else {
+    let Ok((nodes, lemmas)) = at_hand(alloc, &book) else {
         return book;
     };
     if nodes.is_empty() {
@@ -144,11 +157,12 @@ pub fn search_together<J: Subject + Send + Sync, R: Threads + Wait + Sync, G: Ga
     let Ok(hands) = Pool::new(alloc, workers as usize) else {
         return book;
     };
+    let from = first_handed(&book);
     let (shared, mut lead) = match SharedBook::share(alloc, book, 2 * workers + 1) {
         Ok(parts) => parts,
         Err(book) => return book,
     };
-    if let Ok(mut team) = enlist(alloc, &shared, &mut lead, hands, &nodes) {
+    if let Ok(mut team) = enlist(alloc, &shared, &mut lead, hands, &nodes, from) {
         let task = Task {
             shared: &shared,
             problem,
@@ -156,6 +170,7 @@ pub fn search_together<J: Subject + Send + Sync, R: Threads + Wait + Sync, G: Ga
             learns: has_choice(problem),
             shelf: Shelf::<J>::new(alloc).ok(),
         };
+        task.post_all(rt, lemmas);
         run_team(rt, alloc, &task, gate, team.as_mut_slice());
         dismiss(&shared, &mut lead, team);
     }

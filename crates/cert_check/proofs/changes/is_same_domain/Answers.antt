@@ -1,4 +1,4 @@
-use Rattle.std.proofs.Common.{◌≡◌, sym, ◌∙◌, ap, ap₂}
+use Rattle.std.proofs.Common.{sym, ◌∙◌, ap, ap₂}
 use Rattle.interval_model.specs.Space.{real_domain}
 use Rattle.ival.specs.SpaceViews.{domain_of}
 use Rattle.ival.proofs.Equality.{same_number}

@@ -69,6 +69,3 @@ returns-in-Coordinate-clause-comes c = let p = c.args.problem.now in
 pub returns-in-End-clause-comes : goal.returns-in-End-clause-comes
 returns-in-End-clause-comes c = let p = c.args.problem.now in
     subst (λ (d : Due). IsOutcome p c.end_line.result (next (problem_of p) c.args.bound (due_of p d) (line_of c.args.line.now))) (sym c.in-End.is) (c.end_line.ensures.comes p c.args.bound)
-
-pub returns-in-End-clause-sound : goal.returns-in-End-clause-sound
-returns-in-End-clause-sound c = c.end_line.ensures.sound c.args.problem.now

@@ -1,4 +1,10 @@
+use Rattle.problem_session.specs.Session.{problems_of}
+use Rattle.script_reading.proofs.Pairs.{session_goes_on}
+use Rattle.check_run.proofs.Within.{session_within}
 use Rattle.check_run.proofs.script.read_script.Goals as goal
 
+pub returns-in-Ok-clause-goes_on : goal.returns-in-Ok-clause-goes_on
+returns-in-Ok-clause-goes_on g c = session_goes_on c.args.bound c.args.bytes.now (problems_of c.in-Ok.session) c.in-Ok.ensures
+
 pub returns-in-Ok-clause-within : goal.returns-in-Ok-clause-within
-returns-in-Ok-clause-within g c = record { axes = c.in-Ok.ensures.built.axes; atoms = c.in-Ok.ensures.built.atoms }
+returns-in-Ok-clause-within g c = session_within c.args.bound c.args.bytes.now c.in-Ok.session c.in-Ok.ensures

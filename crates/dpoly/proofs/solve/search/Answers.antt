@@ -1,6 +1,9 @@
 use Rattle.std.proofs.Common.{rules, subst, sym}
 use Rattle.cover_data.specs.declared.margins.Options.{Options}
 use Rattle.cover_book.specs.Limits.{IsWithinLimits}
+use Rattle.std.proofs.lemmas.Result.{IfOk-weaker}
+use Rattle.cover_book.specs.Model.{BookModel}
+use Rattle.solve_core.proofs.Reached.{reaches_same}
 use Rattle.dpoly.proofs.SearchAnswers.{limits}
 use Rattle.dpoly.proofs.solve.search.Goals as goal
 
@@ -9,3 +12,6 @@ solve-requires g c =
     let h : IsWithinLimits c.args.problem.now c.search_options-asked.result =
     subst (λ (o : Options). IsWithinLimits c.args.problem.now o) (sym c.search_options-asked.ensures) (limits c.args.problem.now c.args.options.now c.requires.options c.requires.within) in
     search (rules, h)
+
+pub returns-clause-alone : goal.returns-clause-alone
+returns-clause-alone g c = IfOk-weaker _ _ _ (λ (b : BookModel) h. (reaches_same h).2) c.solve.ensures.reached

@@ -2,26 +2,26 @@ use Rattle.std.proofs.Common.{ℕ, List, [], ◌∷◌, Some, ◌∙◌}
 use Rattle.desk.specs.declared.desk.Port.TheVariants.{CertIn}
 use Rattle.command_line.specs.Words.{upgrade}
 use Rattle.command_line.specs.Seen.{seen_upgrade}
-use Rattle.poly_graph.specs.ProblemViews.{problem_of}
+use Rattle.problem_session.specs.Session.{problems_of}
 use Rattle.check_run.specs.Course.{RunEnds}
 use Rattle.check_run.specs.Can.{CanUpgrade}
 use Rattle.check_run.specs.Script.{script_start}
-use Rattle.check_run.proofs.Running.{cause_behind, run_problem, run_halted, told}
+use Rattle.check_run.proofs.Running.{cause_behind, run_session, run_halted, told}
 use Rattle.dpoly.proofs.top.run_upgrade.Goals as goal
 
 pub returns-in-Ok-clause-course : goal.returns-in-Ok-clause-course
 returns-in-Ok-clause-course g c script cert_in tells =
-    let ends = told (λ (cert : List ℕ). RunEnds (CanUpgrade (problem_of c.in-Ok.problem) c.args.asked.bound c.args.asked.cert.now c.args.asked.out.now cert) ((CertIn, c.args.asked.cert.now) ∷ [])
-    (g.D.Desk.sight c.fetch_problem.new.desk) (g.D.Desk.sight c.upgrade_problem.new.desk) c.upgrade_problem.result) _ cert_in (c.in-Ok.ensures.other ∙ tells.1) c.upgrade_problem.ensures.ends in
-    run_problem c.args.asked.bound c.args.asked.script.now script (λ p. CanUpgrade p c.args.asked.bound c.args.asked.cert.now c.args.asked.out.now cert_in) ((CertIn, c.args.asked.cert.now) ∷ []) _ _ _ _
-    (problem_of c.in-Ok.problem) c.in-Ok.ensures.script tells.0 ends
+    let ends = told (λ (cert : List ℕ). RunEnds (CanUpgrade (problems_of c.in-Ok.session) c.args.asked.bound c.args.asked.cert.now c.args.asked.out.now cert) ((CertIn, c.args.asked.cert.now) ∷ [])
+    (g.D.Desk.sight c.fetch_session.new.desk) (g.D.Desk.sight c.upgrade_session.new.desk) c.upgrade_session.result) _ cert_in (c.in-Ok.ensures.other ∙ tells.1) c.upgrade_session.ensures.ends in
+    run_session c.args.asked.bound c.args.asked.script.now script (λ ps. CanUpgrade ps c.args.asked.bound c.args.asked.cert.now c.args.asked.out.now cert_in) ((CertIn, c.args.asked.cert.now) ∷ []) _ _ _ _
+    (problems_of c.in-Ok.session) c.in-Ok.ensures.script tells.0 ends
 
 pub returns-in-Err-clause-course : goal.returns-in-Err-clause-course
 returns-in-Err-clause-course g c script cert_in tells =
-    run_halted c.args.asked.bound c.args.asked.script.now script (λ p. CanUpgrade p c.args.asked.bound c.args.asked.cert.now c.args.asked.out.now cert_in) ((CertIn, c.args.asked.cert.now) ∷ []) _ _ _ _
+    run_halted c.args.asked.bound c.args.asked.script.now script (λ ps. CanUpgrade ps c.args.asked.bound c.args.asked.cert.now c.args.asked.out.now cert_in) ((CertIn, c.args.asked.cert.now) ∷ []) _ _ _ _
     c.in-Err.stop c.in-Err.ensures.script tells.0 c.end_halted.ensures.ends
 
 pub returns-in-Ok-clause-cause : goal.returns-in-Ok-clause-cause
 returns-in-Ok-clause-cause g c =
-    cause_behind (Some (upgrade (seen_upgrade c.args.asked))) (script_start c.args.asked.script.now) (g.D.Desk.sight c.args.desk.now) (g.D.Desk.sight c.fetch_problem.new.desk)
-    (g.D.Desk.sight c.upgrade_problem.new.desk) c.upgrade_problem.result c.in-Ok.ensures.script.after (c.upgrade_problem.ensures.cause (seen_upgrade c.args.asked))
+    cause_behind (Some (upgrade (seen_upgrade c.args.asked))) (script_start c.args.asked.script.now) (g.D.Desk.sight c.args.desk.now) (g.D.Desk.sight c.fetch_session.new.desk)
+    (g.D.Desk.sight c.upgrade_session.new.desk) c.upgrade_session.result c.in-Ok.ensures.script.after (c.upgrade_session.ensures.cause (seen_upgrade c.args.asked))

@@ -11,25 +11,25 @@ loop-n-init g c = kept_start _ _ _ _ _ c.requires c.new-kept.ensures.items
 pub returns-in-Err-clause-leaves : goal.returns-in-Err-clause-leaves
 returns-in-Err-clause-leaves g c = read_fails _ _ _ _ _ c.loop-n.invariant.checked.read c.in-Err.ensures.failed
 
-pub returns-in-Ok-end-clause-told : goal.returns-in-Ok-end-clause-told
-returns-in-Ok-end-clause-told g c =
+pub returns-in-Ok-end_all-clause-told : goal.returns-in-Ok-end_all-clause-told
+returns-in-Ok-end_all-clause-told g c =
     let room : 0 < length c.read.new.into = grind (arith, common_steps) in
-    kept_end _ _ _ _ _ _ _ _ _ c.in-Ok-end.field-0 c.if-n-eq0.true room c.loop-n.invariant c.in-Ok.ensures.ok c.in-Ok-end.ensures
+    kept_end _ _ _ _ _ _ _ _ _ c.in-Ok-end_all.field-0 c.if-n-eq0.true room c.loop-n.invariant c.in-Ok.ensures.ok c.in-Ok-end_all.ensures
 
-pub returns-in-Ok-end-clause-leaves : goal.returns-in-Ok-end-clause-leaves
-returns-in-Ok-end-clause-leaves g c =
+pub returns-in-Ok-end_all-clause-leaves : goal.returns-in-Ok-end_all-clause-leaves
+returns-in-Ok-end_all-clause-leaves g c =
     let room : 0 < length c.read.new.into = grind (arith, common_steps) in (
       read_some _ _ _ _ (read_step _ _ _ _ _ _ _ c.loop-n.invariant.checked.read c.in-Ok.ensures.ok),
       check_whole _ _ _ _ _ _ _ _ c.if-n-eq0.true room c.loop-n.invariant.checked c.in-Ok.ensures.ok,
     )
 
-pub returns-in-Err-end-clause-told : goal.returns-in-Err-end-clause-told
-returns-in-Err-end-clause-told g c =
+pub returns-in-Err-end_all-clause-told : goal.returns-in-Err-end_all-clause-told
+returns-in-Err-end_all-clause-told g c =
     let room : 0 < length c.read.new.into = grind (arith, common_steps) in
-    check_end _ _ _ _ _ _ _ _ (Err c.in-Err-end.fault) c.if-n-eq0.true room c.loop-n.invariant.checked c.in-Ok.ensures.ok c.in-Err-end.ensures
+    check_end _ _ _ _ _ _ _ _ (Err c.in-Err-end_all.fault) c.if-n-eq0.true room c.loop-n.invariant.checked c.in-Ok.ensures.ok c.in-Err-end_all.ensures
 
-pub returns-in-Err-end-clause-leaves : goal.returns-in-Err-end-clause-leaves
-returns-in-Err-end-clause-leaves g c = read_some _ _ _ _ (read_step _ _ _ _ _ _ _ c.loop-n.invariant.checked.read c.in-Ok.ensures.ok)
+pub returns-in-Err-end_all-clause-leaves : goal.returns-in-Err-end_all-clause-leaves
+returns-in-Err-end_all-clause-leaves g c = read_some _ _ _ _ (read_step _ _ _ _ _ _ _ c.loop-n.invariant.checked.read c.in-Ok.ensures.ok)
 
 pub loop-n-preserved : goal.loop-n-preserved
 loop-n-preserved g c = kept_step _ _ _ _ _ _ _ _ _ _ _ c.loop-n.invariant c.in-Ok.ensures.ok c.in-Ok-feed_and_keep.ensures.goes c.in-Ok-feed_and_keep.ensures.kept

@@ -4,7 +4,7 @@ use Rattle.dpoly.proofs.Upgrading.{KeptSoFar}
 use Rattle.dpoly.proofs.upgrade.kept_by.Given as goal
 
 abbrev pub invariant-loop-n : goal.invariant-loop-n
-invariant-loop-n g l = KeptSoFar l.problem l.fn.bound l.feed l.kept.items (g.D.Desk.sight l.fn.desk) (g.D.Desk.sight l.desk)
+invariant-loop-n g l = KeptSoFar l.session l.fn.bound l.feed l.kept.items (g.D.Desk.sight l.fn.desk) (g.D.Desk.sight l.desk)
 
 abbrev pub decreases-loop-n : goal.decreases-loop-n
 decreases-loop-n g l = 18446744073709551615 - bytes_taken l.feed

@@ -6,7 +6,7 @@ use Rattle.check_run.specs.Can.{usage_text}
 use Rattle.check_run.specs.Run.{HasCause, HasCourse, ScriptIsRead, CertIsRead, run_of}
 use Rattle.check_run.specs.declared.status.Status.TheVariants.{Usage}
 use Rattle.check_run.proofs.Shown.{status_is_due, status_is_shown}
-use Rattle.check_run.proofs.Headline.{unsat_is_true, delta_sat_is_true, refusal_is_true}
+use Rattle.check_run.proofs.Headline.{answers_are_true, unsat_is_true, delta_sat_is_true, refusal_is_true}
 use Rattle.dpoly_check.specs.Checker.{command_in}
 use Rattle.dpoly_check.proofs.top.run_top.Goals as goal
 
@@ -17,6 +17,10 @@ returns-in-Ok-clause-shows g c =
 pub returns-in-Ok-clause-complete : goal.returns-in-Ok-clause-complete
 returns-in-Ok-clause-complete g c =
     status_is_due _ (subst (λ (o : Option Command). HasCourse (run_of o (g.D.Desk.sight c.args.desk.now) (g.D.Desk.sight c.run_check.new.desk) c.run_check.result)) (sym (ap (option_map (λ asked. check asked)) c.in-Ok.ensures.ok)) c.run_check.ensures.course)
+
+pub returns-in-Ok-clause-answers : goal.returns-in-Ok-clause-answers
+returns-in-Ok-clause-answers g c =
+    answers_are_true _ (subst (λ (o : Option Command). HasCourse (run_of o (g.D.Desk.sight c.args.desk.now) (g.D.Desk.sight c.run_check.new.desk) c.run_check.result)) (sym (ap (option_map (λ asked. check asked)) c.in-Ok.ensures.ok)) c.run_check.ensures.course)
 
 pub returns-in-Ok-clause-unsat : goal.returns-in-Ok-clause-unsat
 returns-in-Ok-clause-unsat g c =

@@ -8,7 +8,8 @@ use Rattle.poly_graph.specs.ProblemViews.{Parts}
 use Rattle.script_reading.specs.Session.{AreBuilt, carried_of}
 use Rattle.smt_script.specs.Levels.{Step, checks_of}
 use Rattle.smt_script.specs.Views.{step_of, steps_in}
-use Rattle.problem_build.specs.Session.{Goes, problems_of}
+use Rattle.problem_session.specs.Session.{problems_of}
+use Rattle.problem_build.specs.Session.{Goes}
 use Rattle.problem_build.proofs.Going.{begun, finished, taken}
 use Rattle.problem_build.proofs.session.build_all.Goals as goal
 

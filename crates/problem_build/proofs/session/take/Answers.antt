@@ -4,8 +4,9 @@ use Rattle.smt_script.specs.Levels.{after_step}
 use Rattle.smt_script.specs.Views.{step_of}
 use Rattle.smt_sexp.specs.declared.sexps.Sexps.{Sexps}
 use Rattle.sort_check.specs.Single.{Stacks}
-use Rattle.problem_build.specs.Changes.{last_parts, no_parts}
-use Rattle.problem_build.specs.declared.change.Checked.{Checked}
+use Rattle.problem_session.specs.Changes.{no_parts}
+use Rattle.problem_build.specs.Changes.{last_parts}
+use Rattle.problem_session.specs.declared.change.Checked.{Checked}
 use Rattle.std.proofs.lemmas.Result.{err_from_is_err_and}
 use Rattle.problem_build.proofs.Going.{check_behind, refused_here, step_behind}
 use Rattle.problem_build.proofs.session.take.Goals as goal

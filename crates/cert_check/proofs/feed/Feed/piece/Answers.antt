@@ -4,11 +4,11 @@ use Rattle.cert_check.proofs.Feeding.{first_faulty, piece_too_long}
 use Rattle.cert_check.proofs.feed.Feed.piece.Goals as goal
 
 pub returns-in-Ok-clause-goes : goal.returns-in-Ok-clause-goes
-returns-in-Ok-clause-goes c p bound bytes has =
+returns-in-Ok-clause-goes c session bound bytes has =
     let few : c.args.self.now.taken ≤ most_bytes = omega (arith, c.in-Ok.ensures.fits, c.in-Ok.ensures.more) in
     let beyond : most_bytes - c.args.self.now.taken < length c.args.piece.now = omega (arith, c.if-piece-left.false) in
-    piece_too_long p bound bytes c.args.piece.now (most_bytes - c.args.self.now.taken) c.too_long.result c.args.self.now c.within-2.new.self
-    has (c.in-Ok.ensures.goes p bound bytes has) few refl beyond c.too_long.ensures
+    piece_too_long session bound bytes c.args.piece.now (most_bytes - c.args.self.now.taken) c.too_long.result c.args.self.now c.within-2.new.self
+    has (c.in-Ok.ensures.goes session bound bytes has) few refl beyond c.too_long.ensures
 
 pub returns-in-Err-clause-goes : goal.returns-in-Err-clause-goes
-returns-in-Err-clause-goes c p bound bytes has = first_faulty p bound bytes c.args.piece.now _ c.in-Err.fault (c.in-Err.ensures.goes p bound bytes has)
+returns-in-Err-clause-goes c session bound bytes has = first_faulty session bound bytes c.args.piece.now _ c.in-Err.fault (c.in-Err.ensures.goes session bound bytes has)

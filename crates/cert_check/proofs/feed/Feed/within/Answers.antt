@@ -3,11 +3,11 @@ use Rattle.cert_check.proofs.Feeding.{piece_taken, piece_faulty}
 use Rattle.cert_check.proofs.feed.Feed.within.Goals as goal
 
 pub returns-in-Ok-take-clause-goes : goal.returns-in-Ok-take-clause-goes
-returns-in-Ok-take-clause-goes c p bound bytes has =
-    piece_taken p bound bytes c.args.piece.now c.args.self.now (record { checker = c.take.new.self; reader = c.take.new.reader; taken = c.args.self.now.taken + length c.args.piece.now }) c.feed.new.self
+returns-in-Ok-take-clause-goes c session bound bytes has =
+    piece_taken session bound bytes c.args.piece.now c.args.self.now (record { checker = c.take.new.self; reader = c.take.new.reader; taken = c.args.self.now.taken + length c.args.piece.now }) c.feed.new.self
     c.in-Ok-take.field-0 has c.in-Ok.ensures.ok c.in-Ok-take.ensures.lines c.in-Ok-take.ensures.at c.in-Ok-take.ensures.fed c.in-Ok-take.ensures.ended refl
 
 pub returns-in-Err-take-clause-goes : goal.returns-in-Err-take-clause-goes
-returns-in-Err-take-clause-goes c p bound bytes has =
-    piece_faulty p bound bytes c.args.piece.now c.args.self.now (record { checker = c.take.new.self; reader = c.take.new.reader; taken = c.args.self.now.taken }) c.feed.new.self
+returns-in-Err-take-clause-goes c session bound bytes has =
+    piece_faulty session bound bytes c.args.piece.now c.args.self.now (record { checker = c.take.new.self; reader = c.take.new.reader; taken = c.args.self.now.taken }) c.feed.new.self
     c.in-Err-take.fault has c.requires c.in-Ok.ensures.ok c.in-Err-take.ensures.lines c.in-Err-take.ensures.at

@@ -1,7 +1,6 @@
-use Rattle.std.proofs.Common.{◌≡◌, ◌++◌, map, drop}
-use Rattle.cover_book.specs.Model.{numbered_from}
-use Rattle.cover_book.specs.Views.{learned_of}
+use Rattle.std.proofs.Common.{◌≡◌, ◌++◌, drop}
+use Rattle.cover_book.specs.Model.{numbered_from, numbered, lemma_states_in}
 use Rattle.cover_book.proofs.book.Book.lemmas_from.Given as goal
 
 abbrev pub invariant-loop-id : goal.invariant-loop-id
-invariant-loop-id l = l.copies.items ++ numbered_from l.id (map learned_of (drop l.id l.self-inside.lemmas.items)) ≡ drop l.from (numbered_from 0 (map learned_of l.self-inside.lemmas.items))
+invariant-loop-id l = l.copies.items ++ numbered_from l.id (drop l.id (lemma_states_in l.self)) ≡ drop l.from (numbered l.self)

@@ -50,8 +50,8 @@ returns-clause-changes c =
       shared = c.in_ok-end.ensures.0.is_made.shared;
     }
 
-pub since-requires : goal.since-requires
-since-requires c =
+pub made_since-requires : goal.made_since-requires
+made_since-requires c =
     let script = commands_in c.args.script.now in
     let m = c.args.self.now.maker in
     let state = subst (λ (xs : List (ℕ × ℕ)). IsState script m xs) (sym c.as_slice.ensures.value) (past.built_state script c.args.self.now c.requires.built) in

@@ -1,9 +1,0 @@
-use Rattle.std.proofs.Common.{◌≡◌, ◌+◌, arith}
-use Rattle.cert_read.specs.Views.{line_of}
-use Rattle.cert_check.proofs.Stays.{next_stays}
-use Rattle.cert_check.proofs.checker.stage_of_due.Goals as goal
-
-pub returns-in-Ok-clause-stays : goal.returns-in-Ok-clause-stays
-returns-in-Ok-clause-stays c n h =
-    let more : n ≡ c.args.lines + 1 = h (omega arith) in
-    omega (arith, more, c.requires.stays, next_stays c.args.problem.now c.args.bound c.args.due c.in-Ok.due (line_of c.args.line.now) c.in-Ok.ensures.comes)

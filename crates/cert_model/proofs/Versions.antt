@@ -1,0 +1,111 @@
+-- What follows the rules in version 2 does so in version 3.
+use Rattle.std.proofs.Common.{◌≡◌, ℕ, zero, suc, List, [], ◌∷◌, ◌++◌, Bool, true, not, ◌&&◌, ◌||◌, cond, Option, Some, None, refl, ap, ap₂, sym, ◌∙◌, nat_le}
+use Rattle.poly_graph.specs.Marks.{Mark, is_yes}
+use Rattle.poly_graph.specs.Problem.{Problem}
+use Rattle.cover_model.specs.State.{State, Loosenings, margin_of, with_no, may, misses, root_state}
+use Rattle.interval_model.specs.Space.{widest}
+use Rattle.cover_model.specs.Rules.{Line, push, void_no, combine, void_combine, cut, flip, case, stuck, Left, one, two, rule, in_no_one_sided, is_combination, are_combinable, pulled, voided, narrowing, narrowing_off, combining, is_stuck_atom}
+use Rattle.cover_model.specs.Honest.{is_honest, is_some_space, none_empty_from, none_below, not_shown, settled, all_in_yes, conjuncts, is_small, is_wide, is_middle_at}
+use Rattle.cover_model.specs.Derivation.{Tree, leaf, then, fork, Lawful, at_closed, at_left, at_step, at_fork}
+use Rattle.cert_model.specs.Due.{Standing, left_open}
+use Rattle.cert_model.specs.Written.{leaf_standing, step_standing, fork_standing, left_standing, tree_standing, LemmaTree, AreLemmaTrees, lemma_states}
+use Rattle.cert_model.specs.SessionLaws.{in_version_3, WrittenEnd, written_tree, written_crossing, WrittenPart, written_cover, written_point, value_of_end, value_of_part, standing_of_end, standing_of_part, IsLawfulEnd, IsLawfulPart}
+
+-- what stands behind a line, by what stands behind the states that it leaves
+step-same : (o : Option Left) (k j : State → List Standing) → ((S : State) → k S ≡ j S) → step_standing o k ≡ step_standing o j
+step-same (Some (one S)) k j h = h S
+step-same _ k j h = refl
+
+fork-same : (o : Option Left) (k k' j j' : State → List Standing) → ((S : State) → k S ≡ j S) → ((S : State) → k' S ≡ j' S) → fork_standing o k k' ≡ fork_standing o j j'
+fork-same (Some (two S S')) k k' j j' h g = ap₂ (λ (xs : List Standing) (ys : List Standing). xs ++ ys) (h S) (g S')
+fork-same _ k k' j j' h g = refl
+
+module _ (p : Problem) (s : Loosenings) (e : s.version ≡ 2) where
+  third : nat_le 2 s.version ≡ true
+  third = ap (nat_le 2) e
+
+  pub rule_same : (lemmas : List State) (S : State) (l : Line) → rule p (in_version_3 s) lemmas S l ≡ rule p s lemmas S l
+  rule_same lemmas S (push j) = ap (λ (t : Bool). cond (t && in_no_one_sided p S j) (pulled S (narrowing_off p s S j)) None) (sym third)
+  rule_same lemmas S (void_no j) = ap (λ (t : Bool). cond (t && in_no_one_sided p S j) (voided (narrowing_off p s S j)) None) (sym third)
+  rule_same lemmas S (combine ms) = ap (λ (t : Bool). cond (t && is_combination ms && are_combinable p S ms) (pulled S (combining p s S ms)) None) (sym third)
+  rule_same lemmas S (void_combine ms) = ap (λ (t : Bool). cond (t && is_combination ms && are_combinable p S ms) (voided (combining p s S ms)) None) (sym third)
+  rule_same lemmas S _ = refl
+
+  module _ (lemmas : List State) where
+    pub lawful_same : {S : State} {t : Tree} {rest : List State} → Lawful p s lemmas S t rest → Lawful p (in_version_3 s) lemmas S t rest
+    lawful_same (at_closed {S = S} {l = l} h) = at_closed (rule_same lemmas S l ∙ h)
+    lawful_same (at_left {S = S} {l = l} h) = at_left (rule_same lemmas S l ∙ h)
+    lawful_same (at_step {S = S} {l = l} h r) = at_step (rule_same lemmas S l ∙ h) (lawful_same r)
+    lawful_same (at_fork {S = S} {l = l} h r r') = at_fork (rule_same lemmas S l ∙ h) (lawful_same r) (lawful_same r')
+
+    left-same : (S : State) (t : Tree) → left_standing p (in_version_3 s) lemmas S t ≡ left_standing p s lemmas S t
+    left-same S (leaf l) = ap (leaf_standing S l) (rule_same lemmas S l)
+    left-same S (then l t) =
+        ap (λ (o : Option Left). step_standing o (λ X. left_standing p (in_version_3 s) lemmas X t)) (rule_same lemmas S l)
+        ∙ step-same (rule p s lemmas S l) _ _ (λ X. left-same X t)
+    left-same S (fork l t u) =
+        ap (λ (o : Option Left). fork_standing o (λ X. left_standing p (in_version_3 s) lemmas X t) (λ X. left_standing p (in_version_3 s) lemmas X u)) (rule_same lemmas S l)
+        ∙ fork-same (rule p s lemmas S l) _ _ _ _ (λ X. left-same X t) (λ X. left-same X u)
+
+    tree-same : (S : State) (t : Tree) → tree_standing p (in_version_3 s) lemmas S t ≡ tree_standing p s lemmas S t
+    tree-same S (leaf l) = refl
+    tree-same S (then l t) = ap (λ (xs : List Standing). record { state = S; does = l } ∷ xs)
+        (ap (λ (o : Option Left). step_standing o (λ X. tree_standing p (in_version_3 s) lemmas X t)) (rule_same lemmas S l)
+        ∙ step-same (rule p s lemmas S l) _ _ (λ X. tree-same X t))
+    tree-same S (fork l t u) = ap (λ (xs : List Standing). record { state = S; does = l } ∷ xs)
+        (ap (λ (o : Option Left). fork_standing o (λ X. tree_standing p (in_version_3 s) lemmas X t) (λ X. tree_standing p (in_version_3 s) lemmas X u)) (rule_same lemmas S l)
+        ∙ fork-same (rule p s lemmas S l) _ _ _ _ (λ X. tree-same X t) (λ X. tree-same X u))
+
+    end-lawful : (x : WrittenEnd) → IsLawfulEnd p s lemmas x → IsLawfulEnd p (in_version_3 s) lemmas x
+    end-lawful (written_tree t) h = (h.0, (h.1.0, lawful_same h.1.1), h.2)
+    end-lawful (written_crossing i) h = h
+
+    end-value : (x : WrittenEnd) → value_of_end (in_version_3 s) p lemmas x ≡ value_of_end s p lemmas x
+    end-value (written_tree t) = ap left_open (left-same (root_state p) t)
+    end-value (written_crossing i) = refl
+
+    end-standing : (x : WrittenEnd) → standing_of_end (in_version_3 s) p lemmas x ≡ standing_of_end s p lemmas x
+    end-standing (written_tree t) = tree-same (root_state p) t
+    end-standing (written_crossing i) = refl
+
+  lemma-trees-same : (before : List State) (xs : List LemmaTree) → AreLemmaTrees p s before xs → AreLemmaTrees p (in_version_3 s) before xs
+  lemma-trees-same before [] h = tt
+  lemma-trees-same before (x ∷ xs) h =
+      (record { fits = h.0.fits; marks = h.0.marks; lawful = lawful_same before h.0.lawful; names = h.0.names }, lemma-trees-same (before ++ (x.state ∷ [])) xs h.1)
+
+  part-lawful : (may_keep : List State) (x : WrittenPart) → IsLawfulPart s p may_keep x → IsLawfulPart (in_version_3 s) p may_keep x
+  part-lawful may_keep (written_cover kept lemmas end) h = (h.0, h.1, lemma-trees-same kept lemmas h.2, end-lawful (kept ++ lemma_states lemmas) end h.3)
+  part-lawful may_keep (written_point space) h = h
+
+  part-value : (x : WrittenPart) → value_of_part (in_version_3 s) p x ≡ value_of_part s p x
+  part-value (written_cover kept lemmas end) = end-value (kept ++ lemma_states lemmas) end
+  part-value (written_point space) = refl
+
+  part-standing : (x : WrittenPart) → standing_of_part (in_version_3 s) p x ≡ standing_of_part s p x
+  part-standing (written_cover kept lemmas end) = end-standing (kept ++ lemma_states lemmas) end
+  part-standing (written_point space) = refl
+
+pub lawful_in_version_3 : (s : Loosenings) → s.version ≡ 2 → (p : Problem) (may_keep : List State) (x : WrittenPart) → IsLawfulPart s p may_keep x →
+    IsLawfulPart (in_version_3 s) p may_keep x × (value_of_part (in_version_3 s) p x ≡ value_of_part s p x) × (standing_of_part (in_version_3 s) p x ≡ standing_of_part s p x)
+lawful_in_version_3 s e p may_keep x h = (part-lawful p s e may_keep x h, part-value p s e x, part-standing p s e x)
+
+-- ---- honesty
+
+module _ (s : Loosenings) (p : Problem) where
+  empty-same : (S : State) (j : ℕ) (marks : List Mark) → none_empty_from p (in_version_3 s) S j marks ≡ none_empty_from p s S j marks
+  empty-same S j [] = refl
+  empty-same S j (m ∷ marks) = ap (λ (t : Bool). (not (is_yes m) || is_some_space (narrowing p s S j)) && t) (empty-same S (suc j) marks)
+
+  settled-same : (S : State) → settled p (in_version_3 s) S ≡ settled p s S
+  settled-same S = ap (λ (t : Bool). all_in_yes S (conjuncts p.form) && t) (empty-same S 0 S.marks)
+
+  below-same : (S : State) (j : ℕ) → none_below p (in_version_3 s) S j ≡ none_below p s S j
+  below-same S zero = refl
+  below-same S (suc j) = ap (λ (t : Bool). not (is_stuck_atom p s S j) && t) (below-same S j)
+
+  pub honest_in_version_3 : (w : ℕ) (S : State) (l : Line) → is_honest p w (in_version_3 s) S l ≡ is_honest p w s S l
+  honest_in_version_3 w S (cut axis c) = ap (λ (t : Bool). not_shown p s S && t && is_wide w axis (widest S.space) && is_middle_at axis c S.space) (settled-same S)
+  honest_in_version_3 w S (flip axis) = ap (λ (t : Bool). not_shown p s S && t) (settled-same S)
+  honest_in_version_3 w S (case j) = ap (λ (t : Bool). not_shown p s S && t && may p s (with_no S j) && not (misses p (margin_of s) S.space j)) (settled-same S)
+  honest_in_version_3 w S (stuck j) = ap₂ (λ (t : Bool) (u : Bool). not_shown p s S && t && is_small w S.space && u) (settled-same S) (below-same S j)
+  honest_in_version_3 w S _ = refl

@@ -1,0 +1,59 @@
+-- A script with one check has one problem, and its certificates one value.
+use Rattle.std.proofs.Common.{◌≡◌, ℕ, suc, zero, List, [], ◌∷◌, Bool, Option, Some, None, refl, ap, sym, ◌∙◌, subst}
+use Rattle.poly_graph.specs.Problem.{Problem}
+use Rattle.cover_model.specs.State.{Loosenings}
+use Rattle.cert_model.specs.Due.{Value}
+use Rattle.cert_model.specs.Accepted.{accepted, refused, Verdict, IsAccepted, verdict}
+use Rattle.cert_model.specs.Session.{AreAccepted, SessionVerdict, one_verdict, session_verdict}
+use Rattle.script_model.specs.Script.{Command}
+use Rattle.smt_script.specs.Commands.{course_of, script_of, with_one_check}
+use Rattle.smt_script.specs.Levels.{Asked, Step, checks_of, only_script}
+use Rattle.script_reading.specs.Reader.{IsBuilt, IsBuiltOf, commands_of, or_none}
+use Rattle.script_reading.specs.Session.{AreBuilt, HasSession, carried_of, or_no_steps, steps_of_text}
+use Rattle.check_run.specs.Headline.{HasOneCheck, asked_in}
+
+-- ---- the script
+
+commands-by : (o : Option (List Step)) (a : Asked) → checks_of (or_no_steps o) ≡ a ∷ [] → or_none (with_one_check o) ≡ a.script
+commands-by None a e = cc
+commands-by (Some ss) a e = ap (λ (asked : List Asked). or_none (only_script asked)) e
+
+-- the commands of the script are those in force at its check
+commands_are : (script : List ℕ) (a : Asked) → asked_in script ≡ a ∷ [] → commands_of script ≡ a.script
+commands_are script a e = commands-by (course_of script) a e
+
+-- ---- its problem
+
+pub record OneProblem (bound : Option ℕ) (script : List ℕ) (ps : List (Problem × Bool)) : Type 0 where
+  pub problem : Problem
+  pub extends : Bool
+  pub only : ps ≡ (problem, extends) ∷ []
+  pub built : IsBuilt bound script problem
+
+one-of : (bound : Option ℕ) (script : List ℕ) (a : Asked) → commands_of script ≡ a.script → (said : List Bool) (ps : List (Problem × Bool)) → AreBuilt bound (a ∷ []) said ps → OneProblem bound script ps
+one-of bound script a e (x ∷ []) ((p, y) ∷ []) h = record { problem = p; extends = y; only = refl; built = subst (λ (cs : List Command). IsBuiltOf bound cs p) (sym e) h.0 }
+one-of bound script a e [] ps h = absurd h
+one-of bound script a e (x ∷ said) [] h = absurd h
+one-of bound script a e (x ∷ y ∷ said) (p ∷ ps) h = absurd h.2
+one-of bound script a e (x ∷ []) (p ∷ q ∷ ps) h = absurd h.2
+
+pub one_problem : (bound : Option ℕ) (script : List ℕ) → HasOneCheck script → (ps : List (Problem × Bool)) → HasSession bound ps script → OneProblem bound script ps
+one_problem bound script single ps has =
+    let a : Asked = single.0 in
+    one-of bound script a (commands_are script a single.1) (carried_of (steps_of_text script)) ps (subst (λ (asked : List Asked). AreBuilt bound asked (carried_of (steps_of_text script)) ps) single.1 has.built)
+
+-- ---- its value
+
+pub record OneValue (p : Problem) (bound : Option ℕ) (cert : List ℕ) (s : Loosenings) (values : List Value) : Type 0 where
+  pub value : Value
+  pub only : values ≡ value ∷ []
+  pub accepts : IsAccepted p bound cert s value
+
+one-by : (p : Problem) (bound : Option ℕ) (cert : List ℕ) (s : Loosenings) (values : List Value) (w : Verdict) → verdict p bound cert ≡ w → one_verdict w ≡ accepted s values → OneValue p bound cert s values
+one-by p bound cert s values (accepted s' v) e h =
+    let same : s' ≡ s = cc in let only : v ∷ [] ≡ values = cc in
+    record { value = v; only = sym only; accepts = e ∙ ap (λ (x : Loosenings). accepted x v) same }
+one-by p bound cert s values (refused f n) e h = cc
+
+pub one_value : (p : Problem) (x : Bool) (bound : Option ℕ) (cert : List ℕ) (s : Loosenings) (values : List Value) → AreAccepted ((p, x) ∷ []) bound cert s values → OneValue p bound cert s values
+one_value p x bound cert s values e = one-by p bound cert s values (verdict p bound cert) refl e

@@ -1,7 +1,0 @@
-use Rattle.dpoly.proofs.Solving.{solved}
-use Rattle.dpoly.proofs.solve.solve_problem.Goals as goal
-
-pub returns-in-Ok-clause-ends : goal.returns-in-Ok-clause-ends
-returns-in-Ok-clause-ends g c =
-    let told = c.in-Ok.ensures in
-    solved _ c.args.options c.args.name.now _ c.in-Ok.told.cert.items _ _ told.value _ _ _ told.answer c.deref.ensures.value told.text c.deref-in-Ok.ensures.value c.finish.ensures.ends

@@ -1,0 +1,138 @@
+-- The books of the checks of a script, one after the other.
+use Rattle.std.proofs.Common.{◌≡◌, ℕ, zero, suc, ◌<◌, ◌≤◌, List, [], ◌∷◌, ◌++◌, map, length, take, Bool, true, cond, Some, Result, Ok, Err, IfOk, All, refl, ap, sym, ◌∙◌, subst, arith}
+use Rattle.std.specs.Prelude.{slice_get}
+use Rattle.std.proofs.lemmas.Option.{slice_get_within, get_or_from_slice_get}
+use Rattle.std.proofs.lemmas.List.{length-take}
+use Rattle.poly_graph.specs.ProblemViews.{Parts, problem_of}
+use Rattle.problem_session.specs.Session.{problems_of}
+use Rattle.cover_model.specs.Carried.{GoesOnFrom}
+use Rattle.cover_model.specs.State.{State}
+use Rattle.cover_data.specs.declared.margins.Options.{Options}
+use Rattle.cert_model.specs.SessionLaws.{GoOn, IsSession}
+use Rattle.cover_book.specs.Keeps.{IsBook}
+use Rattle.cover_book.specs.Limits.{IsWithinLimits}
+use Rattle.cover_book.specs.Model.{BookModel, opening_with, kept_from}
+use Rattle.cover_book.specs.Session.{next_kept, AreBooksOf}
+use Rattle.cover_book.specs.Verdict.{verdict_of}
+use Rattle.cover_book.specs.declared.verdict.BookVerdict.TheVariants as verdict
+use Rattle.solve_core.specs.Left.{LeavesDue}
+use Rattle.solve_core.specs.Reaches.{Reaches}
+use Rattle.solve_core.specs.Solved.{IsSolved, IsCheckWithin, IsProblemAt, IsNextBook}
+use Rattle.solve_core.proofs.Reached.{reaches_same}
+
+abbrev Check : Type 0
+Check = Parts × Bool
+
+-- ---- checks by number
+
+-- a check by its problem and by whether it goes on
+pub both_at : (ps : List Check) (k : ℕ) (p : Parts) (e : Bool) → slice_get (map (λ (c : Check). c.0) ps) k ≡ Some p → slice_get (map (λ (c : Check). c.1) ps) k ≡ Some e → slice_get ps k ≡ Some (p, e)
+both_at [] k p e h g = cc
+both_at (c ∷ ps) zero p e h g = let x : c.0 ≡ p = cc in let y : c.1 ≡ e = cc in ap (λ (q : Parts). Some (q, c.1)) x ∙ ap (λ (f : Bool). Some (p, f)) y
+both_at (c ∷ ps) (suc k) p e h g = both_at ps k p e h g
+
+pub problem_at : (ps : List Check) (k : ℕ) (p : Parts) → IsProblemAt ps k p → slice_get (map (λ (c : Check). c.0) ps) k ≡ Some p
+problem_at [] k p h = let e = h.1 in cc
+problem_at (c ∷ ps) zero p h = let e : c ≡ (p, h.0) = let f = h.1 in cc in ap (λ (d : Check). Some d.0) e
+problem_at (c ∷ ps) (suc k) p h = problem_at ps k p h
+
+pub first_at : (ps : List Check) (p : Parts) → slice_get (map (λ (c : Check). c.0) ps) zero ≡ Some p → IsProblemAt ps zero p
+first_at [] p h = cc
+first_at (c ∷ ps) p h = let e : c.0 ≡ p = cc in (c.1, ap (λ (q : Parts). Some (q, c.1)) e)
+
+pub some_check : (ps : List Check) → IsSession (problems_of ps) → 0 < length ps
+some_check [] h = elim h [ ]
+some_check (c ∷ ps) h = omega arith
+
+go-on : (x : Check) (later : List Check) → GoOn (problem_of x.0) (problems_of later) → (k : ℕ) (y z : Check) → slice_get (x ∷ later) k ≡ Some y → slice_get later k ≡ Some z → z.1 ≡ true → GoesOnFrom (problem_of y.0) (problem_of z.0)
+go-on x [] h k y z e f t = cc
+go-on x (w ∷ later) h zero y z e f t = let u : x ≡ y = cc in let v : w ≡ z = cc in
+    subst (λ (c : Check). GoesOnFrom (problem_of c.0) (problem_of z.0)) u (subst (λ (c : Check). c.1 ≡ true → GoesOnFrom (problem_of x.0) (problem_of c.0)) v h.1 t)
+go-on x (w ∷ later) h (suc k) y z e f t = go-on w later h.2 k y z e f t
+
+-- where a check goes on, its problem does so from the one before
+pub goes_on_at : (ps : List Check) → IsSession (problems_of ps) → (k : ℕ) (p q : Parts) (e : Bool) → IsProblemAt ps k p → slice_get ps (suc k) ≡ Some (q, e) → e ≡ true → GoesOnFrom (problem_of p) (problem_of q)
+goes_on_at [] h k p q e a b t = elim h [ ]
+goes_on_at (x ∷ later) h k p q e a b t = go-on x later h k (p, a.0) (q, e) a.1 b t
+
+pub within_at : (o : Options) (ps : List Check) → All (IsCheckWithin o) ps → (k : ℕ) (q : Parts) (e : Bool) → slice_get ps k ≡ Some (q, e) → IsWithinLimits q o
+within_at o ps h k q e f = subst (IsCheckWithin o) (get_or_from_slice_get ps k (q, e) (q, e) f) (h k (q, e) (slice_get_within ps k (q, e) f))
+
+-- ---- lists that grow
+
+pub take_next : {X : Type 0} (xs : List X) (i : ℕ) (x : X) → slice_get xs i ≡ Some x → take i xs ++ (x ∷ []) ≡ take (suc i) xs
+take_next [] i x e = cc
+take_next (y ∷ xs) zero x e = let q : x ≡ y = cc in ap (λ z. z ∷ []) q
+take_next (y ∷ xs) (suc i) x e = ap (λ ys. y ∷ ys) (take_next xs i x e)
+
+from-first : {X : Type 0} (xs : List X) (n i : ℕ) (x : X) → slice_get (take n xs) i ≡ Some x → slice_get xs i ≡ Some x
+from-first [] zero i x e = cc
+from-first [] (suc n) i x e = cc
+from-first (y ∷ xs) zero i x e = cc
+from-first (y ∷ xs) (suc n) zero x e = e
+from-first (y ∷ xs) (suc n) (suc i) x e = from-first xs n i x e
+
+-- ---- books
+
+book-at : (o : Options) (kept : List State) (ps : List Check) (books : List BookModel) → AreBooksOf o kept ps books → (i : ℕ) (b : BookModel) → slice_get books i ≡ Some b → IsProblemAt ps i b.problem × (b.options ≡ o)
+book-at o kept [] [] h i b e = cc
+book-at o kept [] (c ∷ books) h i b e = elim h [ ]
+book-at o kept ((q, f) ∷ ps) [] h i b e = elim h [ ]
+book-at o kept ((q, f) ∷ ps) (c ∷ books) h zero b e = let x : c ≡ b = cc in subst (λ (d : BookModel). IsProblemAt ((q, f) ∷ ps) zero d.problem × (d.options ≡ o)) x ((f, ap (λ (r : Parts). Some (r, f)) (sym h.1)), h.2)
+book-at o kept ((q, f) ∷ ps) (c ∷ books) h (suc i) b e = book-at o (next_kept c ps) ps books h.4 i b e
+
+-- the book of a check, where these are the books of the first checks
+pub book_at : (o : Options) (ps : List Check) (n : ℕ) (books : List BookModel) → AreBooksOf o [] (take n ps) books → (i : ℕ) (b : BookModel) → slice_get books i ≡ Some b → IsProblemAt ps i b.problem × (b.options ≡ o)
+book_at o ps n books h i b e = let k = book-at o [] (take n ps) books h i b e in ((k.0.0, from-first ps n i (b.problem, k.0.0) k.0.1), k.1)
+
+pub books_count : (o : Options) (kept : List State) (ps : List Check) (books : List BookModel) → AreBooksOf o kept ps books → length books ≡ length ps
+books_count o kept [] [] h = refl
+books_count o kept [] (c ∷ books) h = elim h [ ]
+books_count o kept ((q, f) ∷ ps) [] h = elim h [ ]
+books_count o kept ((q, f) ∷ ps) (c ∷ books) h = ap suc (books_count o (next_kept c ps) ps books h.4)
+
+-- there are as many as checks that they are of
+pub first_count : (o : Options) (ps : List Check) (n : ℕ) (books : List BookModel) → AreBooksOf o [] (take n ps) books → n ≤ length ps → length books ≡ n
+first_count o ps n books h m = omega (arith, books_count o [] (take n ps) books h, length-take n ps, m)
+
+one-more : (o : Options) (kept : List State) (ps : List Check) (books : List BookModel) (last b : BookModel) (q : Parts) (e : Bool) → AreBooksOf o kept ps books → (i : ℕ) → suc i ≡ length books → slice_get books i ≡ Some last →
+    IsBook b → b.problem ≡ q → b.options ≡ o → b.kept ≡ cond e (kept_from last q) [] → AreBooksOf o kept (ps ++ ((q, e) ∷ [])) (books ++ (b ∷ []))
+one-more o kept [] [] last b q e h i n at w p r k = absurd (omega (arith, n))
+one-more o kept [] (c ∷ books) last b q e h i n at w p r k = elim h [ ]
+one-more o kept ((q', e') ∷ ps) [] last b q e h i n at w p r k = elim h [ ]
+one-more o kept ((q', e') ∷ []) (c ∷ []) last b q e h zero n at w p r k = let x : last ≡ c = cc in
+    (h.0, h.1, h.2, h.3, (w, p, r, subst (λ (d : BookModel). b.kept ≡ cond e (kept_from d q) []) x k, tt))
+one-more o kept ((q', e') ∷ []) (c ∷ []) last b q e h (suc i) n at w p r k = absurd (omega (arith, n))
+one-more o kept ((q', e') ∷ []) (c ∷ d ∷ books) last b q e h i n at w p r k = elim h.4 [ ]
+one-more o kept ((q', e') ∷ (q'', e'') ∷ ps) (c ∷ []) last b q e h i n at w p r k = elim h.4 [ ]
+one-more o kept ((q', e') ∷ (q'', e'') ∷ ps) (c ∷ d ∷ books) last b q e h zero n at w p r k = absurd (omega (arith, n))
+one-more o kept ((q', e') ∷ (q'', e'') ∷ ps) (c ∷ d ∷ books) last b q e h (suc i) n at w p r k =
+    (h.0, h.1, h.2, h.3, one-more o (cond e'' (kept_from c q'') []) ((q'', e'') ∷ ps) (d ∷ books) last b q e h.4 i (omega (arith, n)) at w p r k)
+
+-- the book of the next check behind those of the first ones
+pub next_book : (o : Options) (ps : List Check) (i : ℕ) (books : List BookModel) (last b : BookModel) → AreBooksOf o [] (take (suc i) ps) books → suc i ≤ length ps → slice_get books i ≡ Some last → last.options ≡ o → IsNextBook ps i last b →
+    AreBooksOf o [] (take (suc (suc i)) ps) (books ++ (b ∷ []))
+next_book o ps i books last b h m at same x =
+    let n : suc i ≡ length books = sym (first_count o ps (suc i) books h m) in
+    subst (λ (qs : List Check). AreBooksOf o [] qs (books ++ (b ∷ []))) (take_next ps (suc i) (b.problem, x.goes_on) x.check)
+    (one-more o [] (take (suc i) ps) books last b b.problem x.goes_on h i n at x.book refl (x.options ∙ same) x.kept)
+
+pub first_book : (o : Options) (ps : List Check) (b : BookModel) → IsProblemAt ps zero b.problem → IsBook b → b.options ≡ o → b.kept ≡ [] → AreBooksOf o [] (take 1 ps) (b ∷ [])
+first_book o [] b at w e k = let f = at.1 in cc
+first_book o (c ∷ ps) b at w e k = let q : (b.problem, at.0) ≡ c = let f = at.1 in cc in (w, ap (λ (d : Check). d.0) q, e, k, tt)
+
+-- ---- what a search leaves
+
+pub solved_from : (c b : BookModel) (p : Parts) (o : Options) (kept : List State) → c ≡ opening_with p o kept → Reaches c b → (verdict_of b ≡ verdict.NotYet → ⊥) → LeavesDue b → IsSolved b
+solved_from c b p o kept e r v l =
+    let from : Reaches (opening_with p o kept) b = subst (λ (d : BookModel). Reaches d b) e r in
+    let same = reaches_same from in record {
+      reached = subst (λ (q : Parts). Reaches (opening_with q b.options b.kept) b) (sym same.0) (subst (λ (x : Options). Reaches (opening_with p x b.kept) b) (sym same.1) (subst (λ (xs : List State). Reaches (opening_with p o xs) b) (sym same.2) from));
+      verdict = v;
+      left = l;
+    }
+
+-- what four facts of an answer give
+pub ok_by : {X E : Type 0} (A B C D F : X → Type 0) (r : Result X E) → ((x : X) → A x → B x → C x → D x → F x) → IfOk r A → IfOk r B → IfOk r C → IfOk r D → IfOk r F
+ok_by A B C D F (Ok x) f a b c d = f x a b c d
+ok_by A B C D F (Err e) f a b c d = tt
