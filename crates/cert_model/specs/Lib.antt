@@ -3,8 +3,6 @@ pub mod AnswerText
 pub mod Derived
 pub mod Due
 pub mod Laws
-pub mod Resumed
-pub mod ResumedLaws
 pub mod Session
 pub mod SessionLaws
 pub mod Standing

@@ -10,7 +10,7 @@ use Rattle.cert_model.specs.Accepted.{IsAccepted, most_lemmas}
 use Rattle.cert_model.specs.Laws.{CanBeWritten}
 use Rattle.cert_model.specs.Standing.{IsHonest, branches}
 use Rattle.cert_model.specs.Written.{left_standing, tree_standing, IsHonestTree, tree_branches, LemmaTree, AreLemmaTrees}
-use Rattle.cert_model.specs.Resumed.{Refines, grafted, CoverRead, IsCoverRead, in_version_2, all_lemmas, resumed_lines, resumed_text, IsGraft, AreGrafts, each_left, joined}
+use Rattle.cert_resumed.specs.Resumed.{Refines, grafted, CoverRead, IsCoverRead, in_version_2, all_lemmas, resumed_lines, resumed_text, IsGraft, AreGrafts, each_left, joined}
 
 -- Lines whose leaving ones are replaced by trees refine them.
 abbrev pub GraftRefines : Type 0
