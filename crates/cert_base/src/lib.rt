@@ -1,0 +1,1 @@
+//! A cover read back from its certificate.

@@ -1,0 +1,1 @@
+//! Covers that go on from others: the search over what stayed open.
