@@ -2,3 +2,4 @@ pub mod Numbers
 pub mod ProgramLemmas
 pub mod Ranges
 pub mod Rows
+pub mod Shares

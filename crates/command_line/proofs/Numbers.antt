@@ -2,6 +2,7 @@
 use Rattle.std.proofs.Common.{◌≡◌, ◌∙◌, ◌<◌, ◌^◌, ◌&&◌, Bool, true, false, ap, sym, refl, List, [], ◌∷◌, ℕ, Option, Some, None, Result, Ok, Err, nat_lt, arith}
 use Rattle.std.specs.Prelude.{option_and_then}
 use Rattle.std.specs.List.{list_all}
+use Rattle.std.specs.Result.{result_ok}
 use Rattle.std.specs.Char.{digit_value}
 use Rattle.std.specs.Str.Parse.{AllDigits, IsNumeral, ParsesUnsigned, without_leading_plus, digits_value}
 use Rattle.std.proofs.lemmas.Bool.Decides.{nat_tests}
@@ -63,3 +64,8 @@ pub reads_option : {E : Type 0} (bits : ℕ) (o : Option Text) (r : Option ℕ) 
     → (o ≡ None → r ≡ None) → ((t : Text) → o ≡ Some t → ReadsOne gives t r) → r ≡ option_and_then (number_of bits) o
 reads_option bits None r gives parses none value = none refl
 reads_option bits (Some t) r gives parses none value = reads bits t r gives parses (value t refl)
+
+-- the number that a text is parsed to
+pub parsed_number : {E : Type 0} (bits : ℕ) (t : Text) (r : Result ℕ E) → ParsesUnsigned bits 10 t r → (o : Option ℕ) → o ≡ result_ok r → o ≡ number_of bits t
+parsed_number bits t (Ok v) h o e = e ∙ (ap (λ n. Some n) h.1 ∙ sym (some_number bits t (number_true bits t h.0)))
+parsed_number bits t (Err x) h o e = e ∙ sym (no_number bits t (λ b. h (true_number bits t b)))

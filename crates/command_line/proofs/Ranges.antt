@@ -8,7 +8,7 @@ use Rattle.clap.specs.Words.{Row, Text, fault_of, first_of, one_of, subcommand_o
 use Rattle.clap.specs.Walk.{is_empty}
 use Rattle.command_line.specs.declared.request.Options.{Options}
 use Rattle.command_line.specs.Program.{program}
-use Rattle.command_line.specs.Words.{Command, Solve, Check, Demo, Upgrade, Plan, solve, check, demo, upgrade, plan, AreOptions, IsBound, IsDemo, IsPlan, IsInRange, is_number, number_of, number_in, long_number_in, within, ordered, parted, parted_upgrade, ordered_plan, usual, options_of, solve_of, check_of, demo_of, upgrade_of, plan_of, chosen, command_of}
+use Rattle.command_line.specs.Words.{Command, Solve, Check, Demo, Upgrade, Plan, Share, Resume, solve, check, demo, upgrade, plan, resume, AreOptions, IsBound, IsDemo, IsPlan, IsShare, IsResume, IsInRange, is_number, number_of, number_in, long_number_in, within, ordered, parted, parted_upgrade, ordered_plan, ordered_share, parts_of, share_by, share_of, share_in, parted_resume, usual, options_of, solve_of, check_of, demo_of, upgrade_of, plan_of, resume_of, chosen, command_of}
 use Rattle.command_line.proofs.Numbers.{and_first, and_second, true_less}
 
 -- a chain that gives a value gave one before
@@ -187,6 +187,64 @@ plan_in_range rows asked h = by_script (first_of (codes "script") rows) h where
         bound = is_bound _ rows refl;
       })
 
+is_share : (h v : Share) → ordered_share h ≡ Some v → IsShare v
+is_share h v e =
+    let p = passed (nat_le 1 h.number && (nat_le h.number h.count && nat_le h.count 1000000)) h v e in
+    let rest = and_second _ _ p.0 in
+    subst IsShare p.1 (record {
+      number_least = true_at_most 1 h.number (and_first _ _ p.0);
+      number_most = true_at_most h.number h.count (and_first _ _ rest);
+      count_most = true_at_most h.count 1000000 (and_second _ _ rest);
+    })
+
+share_by_is : (number count : Text) (v : Share) → share_by number count ≡ Some v → IsShare v
+share_by_is number count v h = by_parts (number_of 32 number) (number_of 32 count) h where
+  by_parts : (i n : Option ℕ) → option_and_then (λ i. option_and_then (λ n. ordered_share (record { number = i; count = n })) n) i ≡ Some v → IsShare v
+  by_parts None n e = cc
+  by_parts (Some i) None e = cc
+  by_parts (Some i) (Some n) e = is_share (record { number = i; count = n }) v e
+
+share_is : (text : Text) (v : Share) → share_of text ≡ Some v → IsShare v
+share_is text v h = let x = chained (λ (x : Text × Text). share_by x.0 x.1) (parts_of text) v h in share_by_is x.value.0 x.value.1 v x.gives
+
+share_in_range : (rows : List Row) (v : Share) → share_in rows ≡ Some v → IsShare v
+share_in_range rows v h = let text = chained share_of (first_of (codes "part") rows) v h in share_is text.value v text.gives
+
+parted_resume_is : (c v : Resume) → parted_resume c ≡ Some v → c ≡ v
+parted_resume_is c v h = by_test (bytes_eq c.script (codes "-") && bytes_eq c.cert (codes "-")) h where
+  by_test : (b : Bool) → ◌≡◌ {A = Option Resume} (if b then None else Some c) (Some v) → c ≡ v
+  by_test true e = cc
+  by_test false e = cc
+
+resume_in_range : (rows : List Row) (asked : Resume) → resume_of rows ≡ Some asked → IsResume asked
+resume_in_range rows asked h =
+    by_parts (first_of (codes "script") rows) (first_of (codes "cert") rows) (first_of (codes "out") rows) (share_in rows)
+    (number_in 0 60 (codes "least-bits") rows) (number_in 0 1048576 (codes "budget") rows) (number_in 1 64 (codes "workers") rows) refl refl refl refl h where
+      by_parts : (script cert out : Option Text) (share : Option Share) (least budget workers : Option ℕ) → share_in rows ≡ share
+          → number_in 0 60 (codes "least-bits") rows ≡ least → number_in 0 1048576 (codes "budget") rows ≡ budget → number_in 1 64 (codes "workers") rows ≡ workers
+          → option_and_then (λ script. option_and_then (λ cert. option_and_then (λ out. option_and_then (λ share.
+          option_and_then (λ least. option_and_then (λ budget. option_and_then (λ workers.
+          parted_resume (record { script = script; cert = cert; out = out; share = share; least_bits = least; budget = budget; workers = workers }))
+          workers) budget) least) share) out) cert) script ≡ Some asked → IsResume asked
+      by_parts None cert out share least budget workers sh lh bh wh e = cc
+      by_parts (Some script) None out share least budget workers sh lh bh wh e = cc
+      by_parts (Some script) (Some cert) None share least budget workers sh lh bh wh e = cc
+      by_parts (Some script) (Some cert) (Some out) None least budget workers sh lh bh wh e = cc
+      by_parts (Some script) (Some cert) (Some out) (Some share) None budget workers sh lh bh wh e = cc
+      by_parts (Some script) (Some cert) (Some out) (Some share) (Some least) None workers sh lh bh wh e = cc
+      by_parts (Some script) (Some cert) (Some out) (Some share) (Some least) (Some budget) None sh lh bh wh e = cc
+      by_parts (Some script) (Some cert) (Some out) (Some share) (Some least) (Some budget) (Some workers) sh lh bh wh e =
+          let l = between 0 60 (codes "least-bits") rows least lh in
+          let b = between 0 1048576 (codes "budget") rows budget bh in
+          let w = between 1 64 (codes "workers") rows workers wh in
+          subst IsResume (parted_resume_is (record { script = script; cert = cert; out = out; share = share; least_bits = least; budget = budget; workers = workers }) asked e) (record {
+            share = share_in_range rows share sh;
+            least_most = l.at_most;
+            budget_most = b.at_most;
+            workers_least = w.at_least;
+            workers_most = w.at_most;
+          })
+
 -- what a choice of two subcommands gives
 taken : (f : Solve → Command) (o : Option Solve) (c : Command) → option_map f o ≡ Some c → Chained (λ x. Some (f x)) o c
 taken f None c h = cc
@@ -208,31 +266,43 @@ taken_plan : (f : Plan → Command) (o : Option Plan) (c : Command) → option_m
 taken_plan f None c h = cc
 taken_plan f (Some x) c h = record { value = x; was = refl; gives = h }
 
+taken_resume : (f : Resume → Command) (o : Option Resume) (c : Command) → option_map f o ≡ Some c → Chained (λ x. Some (f x)) o c
+taken_resume f None c h = cc
+taken_resume f (Some x) c h = record { value = x; was = refl; gives = h }
+
 -- What is chosen is in its range.
 pub chosen_in_range : (entered : Text × List Row) (c : Command) → chosen entered ≡ Some c → IsInRange c
 chosen_in_range entered c h = first (bytes_eq entered.0 (codes "solve")) h where
   some_is : (d : Command) → ◌≡◌ {A = Option Command} (Some d) (Some c) → IsInRange d → IsInRange c
   some_is d e r = let is : d ≡ c = cc in subst IsInRange is r
 
-  fifth : (b : Bool) → ◌≡◌ {A = Option Command} (if b then option_map (λ asked. plan asked) (plan_of entered.1) else None) (Some c) → IsInRange c
+  sixth : (b : Bool) → ◌≡◌ {A = Option Command} (if b then option_map (λ asked. resume asked) (resume_of entered.1) else None) (Some c) → IsInRange c
+  sixth true e = let t = taken_resume (λ asked. resume asked) (resume_of entered.1) c e in some_is (resume t.value) t.gives (resume_in_range entered.1 t.value t.was)
+  sixth false e = cc
+
+  fifth : (b : Bool) → ◌≡◌ {A = Option Command} (if b then option_map (λ asked. plan asked) (plan_of entered.1)
+      else (if bytes_eq entered.0 (codes "resume") then option_map (λ asked. resume asked) (resume_of entered.1) else None)) (Some c) → IsInRange c
   fifth true e = let t = taken_plan (λ asked. plan asked) (plan_of entered.1) c e in some_is (plan t.value) t.gives (plan_in_range entered.1 t.value t.was)
-  fifth false e = cc
+  fifth false e = sixth (bytes_eq entered.0 (codes "resume")) e
 
   fourth : (b : Bool) → ◌≡◌ {A = Option Command} (if b then option_map (λ asked. upgrade asked) (upgrade_of entered.1)
-      else (if bytes_eq entered.0 (codes "plan") then option_map (λ asked. plan asked) (plan_of entered.1) else None)) (Some c) → IsInRange c
+      else (if bytes_eq entered.0 (codes "plan") then option_map (λ asked. plan asked) (plan_of entered.1)
+      else (if bytes_eq entered.0 (codes "resume") then option_map (λ asked. resume asked) (resume_of entered.1) else None))) (Some c) → IsInRange c
   fourth true e = let t = taken_upgrade (λ asked. upgrade asked) (upgrade_of entered.1) c e in some_is (upgrade t.value) t.gives (upgrade_in_range entered.1 t.value t.was)
   fourth false e = fifth (bytes_eq entered.0 (codes "plan")) e
 
   third : (b : Bool) → ◌≡◌ {A = Option Command} (if b then option_map (λ asked. demo asked) (demo_of entered.1)
       else (if bytes_eq entered.0 (codes "upgrade") then option_map (λ asked. upgrade asked) (upgrade_of entered.1)
-      else (if bytes_eq entered.0 (codes "plan") then option_map (λ asked. plan asked) (plan_of entered.1) else None))) (Some c) → IsInRange c
+      else (if bytes_eq entered.0 (codes "plan") then option_map (λ asked. plan asked) (plan_of entered.1)
+      else (if bytes_eq entered.0 (codes "resume") then option_map (λ asked. resume asked) (resume_of entered.1) else None)))) (Some c) → IsInRange c
   third true e = let t = taken_demo (λ asked. demo asked) (demo_of entered.1) c e in some_is (demo t.value) t.gives (demo_in_range entered.1 t.value t.was)
   third false e = fourth (bytes_eq entered.0 (codes "upgrade")) e
 
   second : (b : Bool) → ◌≡◌ {A = Option Command} (if b then option_map (λ asked. check asked) (check_of entered.1)
       else (if bytes_eq entered.0 (codes "demo") then option_map (λ asked. demo asked) (demo_of entered.1)
       else (if bytes_eq entered.0 (codes "upgrade") then option_map (λ asked. upgrade asked) (upgrade_of entered.1)
-      else (if bytes_eq entered.0 (codes "plan") then option_map (λ asked. plan asked) (plan_of entered.1) else None)))) (Some c) → IsInRange c
+      else (if bytes_eq entered.0 (codes "plan") then option_map (λ asked. plan asked) (plan_of entered.1)
+      else (if bytes_eq entered.0 (codes "resume") then option_map (λ asked. resume asked) (resume_of entered.1) else None))))) (Some c) → IsInRange c
   second true e = let t = taken_check (λ asked. check asked) (check_of entered.1) c e in some_is (check t.value) t.gives (check_in_range entered.1 t.value t.was)
   second false e = third (bytes_eq entered.0 (codes "demo")) e
 
@@ -240,7 +310,8 @@ chosen_in_range entered c h = first (bytes_eq entered.0 (codes "solve")) h where
       else (if bytes_eq entered.0 (codes "check") then option_map (λ asked. check asked) (check_of entered.1)
       else (if bytes_eq entered.0 (codes "demo") then option_map (λ asked. demo asked) (demo_of entered.1)
       else (if bytes_eq entered.0 (codes "upgrade") then option_map (λ asked. upgrade asked) (upgrade_of entered.1)
-      else (if bytes_eq entered.0 (codes "plan") then option_map (λ asked. plan asked) (plan_of entered.1) else None))))) (Some c) → IsInRange c
+      else (if bytes_eq entered.0 (codes "plan") then option_map (λ asked. plan asked) (plan_of entered.1)
+      else (if bytes_eq entered.0 (codes "resume") then option_map (λ asked. resume asked) (resume_of entered.1) else None)))))) (Some c) → IsInRange c
   first true e = let t = taken (λ asked. solve asked) (solve_of entered.1) c e in some_is (solve t.value) t.gives (solve_in_range entered.1 t.value t.was)
   first false e = second (bytes_eq entered.0 (codes "check")) e
 

@@ -2,7 +2,7 @@
 use Rattle.std.proofs.Common.{◌≡◌, refl, [], ◌∷◌, Some, None, codes}
 use Rattle.clap.proofs.OnLiterals.{clap_on_literals}
 use Rattle.command_line.specs.Program.{checker, program}
-use Rattle.command_line.specs.Words.{number_of, usual, checker_of, command_of, solve, check, demo, upgrade, plan}
+use Rattle.command_line.specs.Words.{number_of, parts_of, usual, checker_of, command_of, solve, check, demo, upgrade, plan, resume}
 
 -- the usual options
 usual_solve : command_of (codes "dpoly" ∷ codes "solve" ∷ codes "s" ∷ codes "c" ∷ []) ≡ Some (solve (record { script = codes "s"; cert = codes "c"; options = usual 1 }))
@@ -155,3 +155,33 @@ plan_with_options = refl
 plan_of_wider_margin : command_of (codes "dpoly" ∷ codes "plan" ∷ codes "s" ∷ codes "--margin-bits" ∷ codes "10" ∷ []) ≡ None
 unfolding program clap_on_literals number_of
 plan_of_wider_margin = refl
+
+-- going on from a certificate: the whole, and a part
+resume_whole : command_of (codes "dpoly" ∷ codes "resume" ∷ codes "s" ∷ codes "c" ∷ codes "o" ∷ []) ≡ Some (resume (record { script = codes "s"; cert = codes "c"; out = codes "o"; share = record { number = 1; count = 1 }; least_bits = 20; budget = 65536; workers = 1 }))
+unfolding program clap_on_literals number_of parts_of
+resume_whole = refl
+
+resume_part : command_of (codes "dpoly" ∷ codes "resume" ∷ codes "s" ∷ codes "c" ∷ codes "o" ∷ codes "--part" ∷ codes "3/64" ∷ codes "--budget=7" ∷ codes "--workers" ∷ codes "2" ∷ []) ≡ Some (resume (record { script = codes "s"; cert = codes "c"; out = codes "o"; share = record { number = 3; count = 64 }; least_bits = 20; budget = 7; workers = 2 }))
+unfolding program clap_on_literals number_of parts_of
+resume_part = refl
+
+-- no part of a count, and no two numbers
+part_zero : command_of (codes "dpoly" ∷ codes "resume" ∷ codes "s" ∷ codes "c" ∷ codes "o" ∷ codes "--part" ∷ codes "0/4" ∷ []) ≡ None
+unfolding program clap_on_literals number_of parts_of
+part_zero = refl
+
+part_above : command_of (codes "dpoly" ∷ codes "resume" ∷ codes "s" ∷ codes "c" ∷ codes "o" ∷ codes "--part" ∷ codes "5/4" ∷ []) ≡ None
+unfolding program clap_on_literals number_of parts_of
+part_above = refl
+
+part_alone : command_of (codes "dpoly" ∷ codes "resume" ∷ codes "s" ∷ codes "c" ∷ codes "o" ∷ codes "--part" ∷ codes "4" ∷ []) ≡ None
+unfolding program clap_on_literals number_of parts_of
+part_alone = refl
+
+part_of_three : command_of (codes "dpoly" ∷ codes "resume" ∷ codes "s" ∷ codes "c" ∷ codes "o" ∷ codes "--part" ∷ codes "1/2/3" ∷ []) ≡ None
+unfolding program clap_on_literals number_of parts_of
+part_of_three = refl
+
+both_piped : command_of (codes "dpoly" ∷ codes "resume" ∷ codes "-" ∷ codes "-" ∷ codes "o" ∷ []) ≡ None
+unfolding program clap_on_literals number_of parts_of
+both_piped = refl

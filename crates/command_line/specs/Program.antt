@@ -3,9 +3,9 @@ use Rattle.std.specs.Prelude.{ℕ, true, pos, List, [], ◌∷◌, Some, codes}
 use Rattle.clap.specs.Words.{App, Rule, Text, new_app, new_rule, with_rule, with_subcommand}
 use Rattle.clap.specs.declared.builder.value_parser.ValueParser.TheVariants as parser
 use Rattle.command_line.specs.declared.program.Part.{Part}
-use Rattle.command_line.specs.declared.program.Part.TheVariants.{Script, Cert, Out, Seed, Size, Delta, Margin, Least, Budget, Bound, Workers}
+use Rattle.command_line.specs.declared.program.Part.TheVariants.{Script, Cert, Out, Seed, Size, Delta, Margin, Least, Budget, Bound, Workers, Share}
 use Rattle.command_line.specs.declared.program.Name.{Name}
-use Rattle.command_line.specs.declared.program.Name.TheVariants.{Solve, Check, Demo, Upgrade, Plan}
+use Rattle.command_line.specs.declared.program.Name.TheVariants.{Solve, Check, Demo, Upgrade, Plan, Resume}
 
 -- a word that has to be there
 abbrev pub word_rule : Text → Rule
@@ -37,6 +37,10 @@ bound_rule = number_rule (codes "bound") 1 4294967295 []
 abbrev pub workers_rule : Rule
 workers_rule = number_rule (codes "workers") 1 64 (codes "1" ∷ [])
 
+-- `--part I/N`, a text
+abbrev pub share_rule : Rule
+share_rule = record (new_rule (codes "part")) { long = Some (codes "part"); defaults = codes "1/1" ∷ [] }
+
 abbrev pub seed_rule : Rule
 seed_rule = record (word_rule (codes "seed")) { parser = Some (parser.Unsigned 0 18446744073709551615) }
 
@@ -56,6 +60,7 @@ rule_in Least = least_rule
 rule_in Budget = budget_rule
 rule_in Bound = bound_rule
 rule_in Workers = workers_rule
+rule_in Share = share_rule
 
 -- a command with these parts behind those that it has
 abbrev pub with_parts : App → List Part → App
@@ -77,6 +82,7 @@ app_in Check = check_named (codes "check")
 app_in Demo = with_parts (new_app (codes "demo")) (Seed ∷ Size ∷ Cert ∷ Workers ∷ [])
 app_in Upgrade = with_parts (new_app (codes "upgrade")) (Script ∷ Cert ∷ Out ∷ Bound ∷ [])
 app_in Plan = with_parts (new_app (codes "plan")) (Script ∷ Delta ∷ Margin ∷ Bound ∷ [])
+app_in Resume = with_parts (new_app (codes "resume")) (Script ∷ Cert ∷ Out ∷ Share ∷ Least ∷ Budget ∷ Workers ∷ [])
 
 -- the command before its subcommands are added, one of which has to be given
 abbrev pub new_program : App
@@ -89,4 +95,4 @@ with_commands app (name ∷ names) = with_commands (with_subcommand app (app_in 
 
 -- the whole command
 unfoldable pub program : App
-program = with_commands new_program (Solve ∷ Check ∷ Demo ∷ Upgrade ∷ Plan ∷ [])
+program = with_commands new_program (Solve ∷ Check ∷ Demo ∷ Upgrade ∷ Plan ∷ Resume ∷ [])

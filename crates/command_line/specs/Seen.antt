@@ -10,10 +10,12 @@ use Rattle.command_line.specs.declared.request.CheckWords.{CheckWords}
 use Rattle.command_line.specs.declared.request.DemoWords.{DemoWords}
 use Rattle.command_line.specs.declared.request.UpgradeWords.{UpgradeWords}
 use Rattle.command_line.specs.declared.request.PlanWords.{PlanWords}
+use Rattle.command_line.specs.declared.request.Share.{Share}
+use Rattle.command_line.specs.declared.request.ResumeWords.{ResumeWords}
 use Rattle.command_line.specs.declared.request.Request.{Request}
-use Rattle.command_line.specs.declared.request.Request.TheVariants.{Solve, Check, Demo, Upgrade, Plan}
+use Rattle.command_line.specs.declared.request.Request.TheVariants.{Solve, Check, Demo, Upgrade, Plan, Resume}
 use Rattle.command_line.specs.Words as words
-use Rattle.command_line.specs.Words.{Command, solve, check, demo, upgrade, plan}
+use Rattle.command_line.specs.Words.{Command, solve, check, demo, upgrade, plan, resume}
 
 abbrev pub seen_solve : SolveWords → words.Solve
 seen_solve asked = record { script = asked.script.now; cert = asked.cert.now; options = asked.options }
@@ -30,12 +32,27 @@ seen_upgrade asked = record { script = asked.script.now; cert = asked.cert.now; 
 abbrev pub seen_plan : PlanWords → words.Plan
 seen_plan asked = record { script = asked.script.now; delta_bits = asked.delta_bits; margin_bits = asked.margin_bits; bound = asked.bound }
 
+abbrev pub seen_share : Share → words.Share
+seen_share h = record { number = h.number; count = h.count }
+
+abbrev pub seen_resume : ResumeWords → words.Resume
+seen_resume asked = record {
+  script = asked.script.now;
+  cert = asked.cert.now;
+  out = asked.out.now;
+  share = seen_share asked.share;
+  least_bits = asked.least_bits;
+  budget = asked.budget;
+  workers = asked.workers;
+}
+
 abbrev pub seen : Request → Command
 seen (Solve asked) = solve (seen_solve asked)
 seen (Check asked) = check (seen_check asked)
 seen (Demo asked) = demo (seen_demo asked)
 seen (Upgrade asked) = upgrade (seen_upgrade asked)
 seen (Plan asked) = plan (seen_plan asked)
+seen (Resume asked) = resume (seen_resume asked)
 
 -- the bytes of each word
 abbrev pub texts_of : List (String Global) → List Text

@@ -1,7 +1,7 @@
 -- What the program's words ask for, by the parser's own definitions.
-use Rattle.std.specs.Prelude.{◌&&◌, ◌^◌, ◌<◌, ◌≤◌, IfSome, ℕ, Bool, List, Option, Some, None, codes, nat_lt, nat_le, length, if◌then◌else◌, option_and_then, option_map}
+use Rattle.std.specs.Prelude.{◌&&◌, ◌==◌, ◌^◌, ◌<◌, ◌≤◌, IfSome, ℕ, Bool, List, Option, Some, None, codes, nat_lt, nat_le, length, if◌then◌else◌, option_and_then, option_map}
 use Rattle.std.specs.Str.{bytes_eq}
-use Rattle.std.specs.List.{list_all}
+use Rattle.std.specs.List.{list_all, position_or_len, before_first, after_first}
 use Rattle.std.specs.Char.{digit_value}
 use Rattle.std.specs.Str.Parse.{without_leading_plus, digits_value}
 use Rattle.clap.specs.Walk.{is_empty}
@@ -131,12 +131,63 @@ plan_of rows =
     ordered_plan (record { script = script; delta_bits = delta; margin_bits = margin; bound = number_in 1 4294967295 (codes "bound") rows }))
     (number_in 2 60 (codes "margin-bits") rows)) (number_in 1 30 (codes "delta-bits") rows)) (first_of (codes "script") rows)
 
+-- the share `number` of so many, from 1 on
+pub record Share : Type 0 where
+  pub number : ℕ
+  pub count : ℕ
+
+abbrev pub is_slash : ℕ → Bool
+is_slash b = b == 47
+
+-- from 1 to the count, which is at most 1,000,000
+abbrev pub ordered_share : Share → Option Share
+ordered_share h = if nat_le 1 h.number && (nat_le h.number h.count && nat_le h.count 1000000) then Some h else None
+
+-- the share that two texts write
+abbrev pub share_by : Text → Text → Option Share
+share_by number count =
+    option_and_then (λ i. option_and_then (λ n. ordered_share (record { number = i; count = n })) (number_of 32 count)) (number_of 32 number)
+
+-- what stands before the first slash, and behind it
+unfoldable pub parts_of : Text → Option (Text × Text)
+parts_of text = if nat_lt (position_or_len is_slash text) (length text) then Some (before_first is_slash text, after_first is_slash text) else None
+
+-- the share that a text writes: two numbers, one before its first slash and one behind
+abbrev pub share_of : Text → Option Share
+share_of text = option_and_then (λ (x : Text × Text). share_by x.0 x.1) (parts_of text)
+
+abbrev pub share_in : List Row → Option Share
+share_in rows = option_and_then share_of (first_of (codes "part") rows)
+
+-- what `resume` is asked for: the script, the certificate that is read, the one that is written, and how the search goes on
+pub record Resume : Type 0 where
+  pub script : Text
+  pub cert : Text
+  pub out : Text
+  pub share : Share
+  pub least_bits : ℕ
+  pub budget : ℕ
+  pub workers : ℕ
+
+-- not both from standard input
+abbrev pub parted_resume : Resume → Option Resume
+parted_resume asked = if bytes_eq asked.script (codes "-") && bytes_eq asked.cert (codes "-") then None else Some asked
+
+abbrev pub resume_of : List Row → Option Resume
+resume_of rows =
+    option_and_then (λ script. option_and_then (λ cert. option_and_then (λ out. option_and_then (λ share.
+    option_and_then (λ least. option_and_then (λ budget. option_and_then (λ workers.
+    parted_resume (record { script = script; cert = cert; out = out; share = share; least_bits = least; budget = budget; workers = workers }))
+    (number_in 1 64 (codes "workers") rows)) (number_in 0 1048576 (codes "budget") rows)) (number_in 0 60 (codes "least-bits") rows))
+    (share_in rows)) (first_of (codes "out") rows)) (first_of (codes "cert") rows)) (first_of (codes "script") rows)
+
 pub data Command : Type 0 where
   solve : Solve → Command
   check : Check → Command
   demo : Demo → Command
   upgrade : Upgrade → Command
   plan : Plan → Command
+  resume : Resume → Command
 
 -- what the subcommand and what was found for it ask for
 abbrev pub chosen : Text × List Row → Option Command
@@ -145,7 +196,8 @@ chosen entered =
     else (if bytes_eq entered.0 (codes "check") then option_map (λ asked. check asked) (check_of entered.1)
     else (if bytes_eq entered.0 (codes "demo") then option_map (λ asked. demo asked) (demo_of entered.1)
     else (if bytes_eq entered.0 (codes "upgrade") then option_map (λ asked. upgrade asked) (upgrade_of entered.1)
-    else (if bytes_eq entered.0 (codes "plan") then option_map (λ asked. plan asked) (plan_of entered.1) else None))))
+    else (if bytes_eq entered.0 (codes "plan") then option_map (λ asked. plan asked) (plan_of entered.1)
+    else (if bytes_eq entered.0 (codes "resume") then option_map (λ asked. resume asked) (resume_of entered.1) else None)))))
 
 -- What words ask for; none where they are refused, for whatever cause but that memory ran out.
 abbrev pub command_of : List Text → Option Command
@@ -186,6 +238,20 @@ pub record IsPlan (asked : Plan) : Type 0 where
   pub margin_most : asked.margin_bits ≤ 60
   pub bound : IsBound asked.bound
 
+-- The share is one of its count.
+pub record IsShare (h : Share) : Type 0 where
+  pub number_least : 1 ≤ h.number
+  pub number_most : h.number ≤ h.count
+  pub count_most : h.count ≤ 1000000
+
+-- The share and the options are in their ranges.
+pub record IsResume (asked : Resume) : Type 0 where
+  pub share : IsShare asked.share
+  pub least_most : asked.least_bits ≤ 60
+  pub budget_most : asked.budget ≤ 1048576
+  pub workers_least : 1 ≤ asked.workers
+  pub workers_most : asked.workers ≤ 64
+
 -- All that is asked for is in its range.
 abbrev pub IsInRange : Command → Type 0
 IsInRange (solve asked) = AreOptions asked.options
@@ -193,3 +259,4 @@ IsInRange (check asked) = IsBound asked.bound
 IsInRange (demo asked) = IsDemo asked
 IsInRange (upgrade asked) = IsBound asked.bound
 IsInRange (plan asked) = IsPlan asked
+IsInRange (resume asked) = IsResume asked

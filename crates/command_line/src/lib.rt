@@ -7,5 +7,8 @@ mod request;
 mod usage;
 
 pub use read::{Refused, read_checker_words, read_words};
-pub use request::{CheckWords, DemoWords, Options, PlanWords, Request, SolveWords, UpgradeWords};
+pub use request::{
+    CheckWords, DemoWords, Options, PlanWords, Request, ResumeWords, Share, SolveWords,
+    UpgradeWords,
+};
 pub use usage::{checker_usage_text, usage_text};

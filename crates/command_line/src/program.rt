@@ -1,7 +1,7 @@
 ghost use Rattle.std.specs.Prelude.{◌≡◌, IfOk, false};
 ghost use Rattle.clap.specs.Words.{rule_of, app_of, new_app};
 ghost use Rattle.clap.specs.declared.builder.command.Command.TheViews.{out-Command as fields_of};
-ghost use Rattle.command_line.specs.Program.{delta_rule, margin_rule, least_rule, budget_rule, bound_rule, workers_rule, word_rule, seed_rule, size_rule, rule_in, with_parts, app_in, with_commands, checker, program};
+ghost use Rattle.command_line.specs.Program.{delta_rule, margin_rule, least_rule, budget_rule, bound_rule, workers_rule, share_rule, word_rule, seed_rule, size_rule, rule_in, with_parts, app_in, with_commands, checker, program};
 
 use clap::{Arg, Command, value_parser};
 use std::alloc::{AllocError, Global};
@@ -22,6 +22,7 @@ pub enum Part {
     Budget,
     Bound,
     Workers,
+    Share,
 }
 
 /// A subcommand of the program.
@@ -32,6 +33,7 @@ pub enum Name {
     Demo,
     Upgrade,
     Plan,
+    Resume,
 }
 
 fn delta_option<'a>(alloc: Global) -> Arg<'a>
@@ -99,6 +101,18 @@ fn workers_option<'a>(alloc: Global) -> Arg<'a>
         .default_value("1")
 }
 
+fn share_option<'a>(alloc: Global) -> Arg<'a>
+    ensures rule { rule_of result ≡ share_rule }
+    ensures local { result.global ≡ false }
+{
+    Arg::new(alloc, "part")
+        .long("part")
+        .help(
+            "I/N: of the open states, counted from 1, number I and each Nth behind it; 1 <= I <= N <= 1000000",
+        )
+        .default_value("1/1")
+}
+
 // A word that has to be there.
 fn word<'a>(alloc: Global, id: &'a str) -> Arg<'a>
     ensures rule { rule_of result ≡ word_rule id.entry.now }
@@ -141,6 +155,7 @@ fn arg_of<'a>(alloc: Global, part: Part) -> Arg<'a>
         Part::Budget => budget_option(alloc),
         Part::Bound => bound_option(alloc),
         Part::Workers => workers_option(alloc),
+        Part::Share => share_option(alloc),
     }
 }
 
@@ -187,6 +202,16 @@ const DEMO: [Part; 4] = [Part::Seed, Part::Size, Part::Cert, Part::Workers];
 const UPGRADE: [Part; 4] = [Part::Script, Part::Cert, Part::Out, Part::Bound];
 
 const PLAN: [Part; 4] = [Part::Script, Part::Delta, Part::Margin, Part::Bound];
+
+const RESUME: [Part; 7] = [
+    Part::Script,
+    Part::Cert,
+    Part::Out,
+    Part::Share,
+    Part::Least,
+    Part::Budget,
+    Part::Workers,
+];
 
 fn solve_command<'a>(alloc: Global) -> Result<Command<'a>, AllocError>
     ensures app { IfOk result (λ c. app_of c ≡ app_in Name.Solve) }
@@ -253,6 +278,19 @@ fn plan_command<'a>(alloc: Global) -> Result<Command<'a>, AllocError>
     with_parts(alloc, command, &PLAN)
 }
 
+fn resume_command<'a>(alloc: Global) -> Result<Command<'a>, AllocError>
+    ensures app { IfOk result (λ c. app_of c ≡ app_in Name.Resume) }
+    ensures local { IfOk result (λ c. (fields_of c).has_globals ≡ false) }
+{
+    let command = described(
+        alloc,
+        "resume",
+        "Checks a certificate of a script, goes on where it is open, and writes the whole",
+        "Example: dpoly resume braking.smt2 braking.cert braking.more.cert",
+    );
+    with_parts(alloc, command, &RESUME)
+}
+
 // The checker's command, as the definitions have it.
 pub fn checker_command<'a>(alloc: Global) -> Result<Command<'a>, AllocError>
     ensures app { IfOk result (λ c. app_of c ≡ checker) }
@@ -277,6 +315,7 @@ fn subcommand_of<'a>(alloc: Global, name: Name) -> Result<Command<'a>, AllocErro
         Name::Demo => demo_command(alloc),
         Name::Upgrade => upgrade_command(alloc),
         Name::Plan => plan_command(alloc),
+        Name::Resume => resume_command(alloc),
     }
 }
 
@@ -297,12 +336,13 @@ fn with_commands<'a>(
     Ok(command)
 }
 
-const NAMES: [Name; 5] = [
+const NAMES: [Name; 6] = [
     Name::Solve,
     Name::Check,
     Name::Demo,
     Name::Upgrade,
     Name::Plan,
+    Name::Resume,
 ];
 
 // The program's command, as the definitions have it.

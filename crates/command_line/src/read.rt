@@ -2,12 +2,13 @@ ghost use Rattle.std.specs.Prelude.{◌≡◌, ◌≢◌, ◌&&◌, [], IfOk, Is
 ghost use Rattle.std.specs.Str.{bytes_eq};
 ghost use Rattle.clap.specs.Words.{fault_of, first_of, found_of, kind_of, one_of, rows_of};
 ghost use Rattle.command_line.specs.Program.{checker, program};
-ghost use Rattle.command_line.specs.Words.{check_of, checker_of, chosen, command_of, demo_of, long_number_in, number_in, number_of, options_of, IsInRange, plan_of, solve_of, upgrade_of};
-ghost use Rattle.command_line.specs.Seen.{AreCheckerMatchesOf, AreMatchesOf, seen, seen_check, seen_demo, seen_plan, seen_solve, seen_upgrade, texts_of};
+ghost use Rattle.command_line.specs.Words.{check_of, checker_of, chosen, command_of, demo_of, long_number_in, number_in, number_of, options_of, IsInRange, ordered_share, parts_of, plan_of, resume_of, share_by, share_of, share_in, solve_of, upgrade_of};
+ghost use Rattle.command_line.specs.Seen.{AreCheckerMatchesOf, AreMatchesOf, seen, seen_check, seen_demo, seen_plan, seen_resume, seen_share, seen_solve, seen_upgrade, texts_of};
 
 use crate::program::{checker_command, program_command};
 use crate::request::{
-    CheckWords, DemoWords, Options, PlanWords, Request, SolveWords, UpgradeWords, usual_options,
+    CheckWords, DemoWords, Options, PlanWords, Request, ResumeWords, Share, SolveWords,
+    UpgradeWords, usual_options,
 };
 use clap::error::ErrorKind;
 use clap::{ArgMatches, Error};
@@ -204,6 +205,80 @@ fn plan_words<'a>(matches: &ArgMatches<'a>) -> Option<PlanWords<'a>>
     })
 }
 
+// The number that the text writes.
+fn numeral(text: &str) -> Option<u32>
+    ensures { result ≡ number_of 32 text.now }
+{
+    text.parse::<u32>().ok()
+}
+
+// What stands before the first slash, and behind it.
+fn parts(text: &str) -> Option<(&str, &str)>
+    ensures { option_map (λ x. (x.0.now, x.1.now)) result ≡ parts_of text.now }
+{
+    text.split_once('/')
+}
+
+// The share of these numbers.
+fn ordered(number: u32, count: u32) -> Option<Share>
+    ensures { option_map seen_share result
+        ≡ ordered_share (record { number = number; count = count }) }
+{
+    if 1 <= number && number <= count && count <= 1_000_000 {
+        Some(Share { number, count })
+    } else {
+        None
+    }
+}
+
+// The share whose numbers the texts write.
+fn share_by(number: &str, count: &str) -> Option<Share>
+    ensures { option_map seen_share result ≡ share_by number.now count.now }
+{
+    let number = numeral(number)?;
+    let count = numeral(count)?;
+    ordered(number, count)
+}
+
+// The share that the text writes, as I/N.
+fn share(text: &str) -> Option<Share>
+    ensures { option_map seen_share result ≡ share_of text.now }
+{
+    let (number, count) = parts(text)?;
+    share_by(number, count)
+}
+
+// The share that was given.
+fn share_word(matches: &ArgMatches<'_>) -> Option<Share>
+    ensures { option_map seen_share result ≡ share_in (rows_of (found_of matches.now)) }
+{
+    share(text(matches, "part")?)
+}
+
+fn resume_words<'a>(matches: &ArgMatches<'a>) -> Option<ResumeWords<'a>>
+    ensures { option_map seen_resume result ≡ resume_of (rows_of (found_of matches.now)) }
+{
+    let script = text(matches, "script")?;
+    let cert = text(matches, "cert")?;
+    let out = text(matches, "out")?;
+    let share = share_word(matches)?;
+    let least_bits = number(matches, "least-bits", 0, 60)?;
+    let budget = number(matches, "budget", 0, 1048576)?;
+    let workers = number(matches, "workers", 1, 64)?;
+    if are_both_piped(script, cert) {
+        return None;
+    }
+    Some(ResumeWords {
+        script,
+        cert,
+        out,
+        share,
+        least_bits,
+        budget,
+        workers,
+    })
+}
+
 // What the subcommand of this name asks for.
 fn choose<'a>(name: &str, matches: &ArgMatches<'a>) -> Option<Request<'a>>
     ensures { option_map seen result ≡ chosen (name.now, rows_of (found_of matches.now)) }
@@ -218,6 +293,8 @@ fn choose<'a>(name: &str, matches: &ArgMatches<'a>) -> Option<Request<'a>>
         Some(Request::Upgrade(upgrade_words(matches)?))
     } else if name == "plan" {
         Some(Request::Plan(plan_words(matches)?))
+    } else if name == "resume" {
+        Some(Request::Resume(resume_words(matches)?))
     } else {
         None
     }

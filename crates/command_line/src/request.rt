@@ -68,6 +68,32 @@ pub struct PlanWords<'a> {
     pub bound: Option<u32>,
 }
 
+/// Which of the states that stay in a cover are searched: of them, counted from 0 in the order of their lines, those whose
+/// number is `number - 1` modulo `count`.
+#[derive(Clone, Copy, Debug, PartialEq, Eq)]
+pub struct Share {
+    /// From 1 to `count`.
+    pub number: u32,
+    /// At most 1,000,000.
+    pub count: u32,
+}
+
+/// What `resume` is asked for: the names of the script, of the certificate that is read, and of the one that is written.
+/// Margin, delta and bound are those of the certificate.
+#[derive(Clone, Copy, Debug, PartialEq, Eq)]
+pub struct ResumeWords<'a> {
+    pub script: &'a str,
+    pub cert: &'a str,
+    pub out: &'a str,
+    pub share: Share,
+    /// As for `solve`.
+    pub least_bits: u32,
+    /// How many boxes may be cut at most beyond those of the certificate; from 0 to 1,048,576.
+    pub budget: u32,
+    /// As for `solve`.
+    pub workers: u32,
+}
+
 /// What the words ask for. A name `-` stands for standard input or output.
 #[derive(Clone, Copy, Debug, PartialEq, Eq)]
 pub enum Request<'a> {
@@ -76,6 +102,7 @@ pub enum Request<'a> {
     Demo(DemoWords<'a>),
     Upgrade(UpgradeWords<'a>),
     Plan(PlanWords<'a>),
+    Resume(ResumeWords<'a>),
 }
 
 // The options where none is given but the number of workers.

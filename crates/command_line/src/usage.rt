@@ -13,6 +13,8 @@ const NOT_BELOW: &str =
 const ONE_INPUT: &str =
     "error: the script and the certificate cannot both come from standard input\n";
 
+const NO_SHARE: &str = "error: '--part' wants I/N, two numbers with 1 <= I <= N <= 1000000\n";
+
 // Whether the words ask for the version alone.
 fn asks_version(words: &[String]) -> bool {
     match words {
@@ -25,6 +27,10 @@ fn asks_version(words: &[String]) -> bool {
 fn second_refusal(matches: &ArgMatches<'_>) -> &'static str {
     match matches.subcommand() {
         Some(("check", _)) | Some(("upgrade", _)) => ONE_INPUT,
+        Some(("resume", inner)) => match (inner.get_str("script"), inner.get_str("cert")) {
+            (Some("-"), Some("-")) => ONE_INPUT,
+            _ => NO_SHARE,
+        },
         _ => NOT_BELOW,
     }
 }
