@@ -3,14 +3,15 @@ use Rattle.std.specs.Prelude.{◌≡◌, ℕ, List, [], Option, Result, Ok, Err,
 use Rattle.poly_graph.specs.Problem.{Problem}
 use Rattle.ival.specs.SpaceViews.{space_of}
 use Rattle.ival.specs.declared.space.Space.{Space}
-use Rattle.cover_model.specs.State.{State, Loosenings}
+use Rattle.cover_model.specs.State.{Loosenings}
+use Rattle.cover_line.specs.Views.{line_of as rule_of}
 use Rattle.cert_read.specs.Views.{line_of}
-use Rattle.cert_model.specs.Due.{Standing, at_point, left_open}
+use Rattle.cert_model.specs.Due.{at_point, left_open}
 use Rattle.cert_model.specs.Accepted.{IsAccepted, verdict}
-use Rattle.cert_model.specs.Written.{rule_lines}
 use Rattle.cert_resumed.specs.Resumed.{CoverRead, IsCoverRead}
 use Rattle.cert_check.specs.declared.fault.CertFault.{CertFault}
 use Rattle.cert_check.specs.Feeding.{IsRefusalOrMemory}
+use Rattle.cert_base.specs.Gathered.{standing_states}
 use Rattle.cert_base.specs.declared.base.Base.{Base}
 use Rattle.cert_base.specs.declared.base.Read.{Read}
 use Rattle.cert_base.specs.declared.base.Read.TheVariants as reads
@@ -18,15 +19,12 @@ use Rattle.cert_base.specs.declared.base.Read.TheVariants as reads
 abbrev pub loosenings_of : Base → Loosenings
 loosenings_of b = record { margin_bits = b.margin; delta_bits = b.delta; version = b.version }
 
-abbrev pub standing_states : List Standing → List State
-standing_states xs = map (λ (x : Standing). x.state) xs
-
 -- the base has what was read of the cover
 pub record IsBaseOf (c : CoverRead) (b : Base) : Type 0 where
   pub loosenings : loosenings_of b ≡ c.loosenings
   pub lemma_lines : map line_of b.lemma_lines.items ≡ c.lemma_lines
   pub lemmas : b.lemmas.items ≡ c.lemmas
-  pub main : map line_of b.main.items ≡ rule_lines c.main
+  pub main : map rule_of b.main.items ≡ c.main
   pub left : b.left.items ≡ standing_states c.left
 
 -- the bytes are accepted as a cover that leaves something, of which this is the base

@@ -1,6 +1,7 @@
 // What is read back from a certificate.
 use cert_read::Line;
 use cover_data::{State, StoredState};
+use cover_line::Rule;
 use ival::Space;
 
 /// A cover as it was read back from its certificate: what a certificate that goes on from it repeats, and where it goes
@@ -19,8 +20,8 @@ pub struct Base {
     pub lemma_lines: Vec<Line>,
     /// The states of the lemmas, by number.
     pub lemmas: Vec<StoredState>,
-    /// The lines of the main tree, each of which is a rule's.
-    pub main: Vec<Line>,
+    /// The lines of the main tree.
+    pub main: Vec<Rule>,
     /// The states that stay open or stuck, one for each `open` and `stuck` of the main tree, in their order.
     pub left: Vec<State>,
 }

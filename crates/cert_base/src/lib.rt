@@ -5,6 +5,8 @@
 #![tactic(auto)]
 
 mod base;
+mod gathered;
+mod place;
 mod read;
 
 pub use base::{Base, Read};
