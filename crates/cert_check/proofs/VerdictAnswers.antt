@@ -227,19 +227,19 @@ module _ (c : Checks) where
 
 -- ---- the laws
 
-memory-alone : (f : code.CertFault) → stops_at f ≡ None → f ≡ numbered.Memory
-memory-alone (numbered.BadHeader n) e = cc
-memory-alone (numbered.BadNumber n) e = cc
-memory-alone (numbered.RuleFails w n) e = cc
-memory-alone (numbered.KeepFails n) e = cc
-memory-alone (numbered.Missing n) e = cc
-memory-alone (numbered.Extra n) e = cc
-memory-alone (numbered.WrongBound n) e = cc
-memory-alone (numbered.NotShown n) e = cc
-memory-alone (numbered.BadLine n) e = cc
-memory-alone (numbered.LineTooLong n) e = cc
-memory-alone (numbered.TooLong n) e = cc
-memory-alone numbered.Memory e = refl
+pub memory_alone : (f : code.CertFault) → stops_at f ≡ None → f ≡ numbered.Memory
+memory_alone (numbered.BadHeader n) e = cc
+memory_alone (numbered.BadNumber n) e = cc
+memory_alone (numbered.RuleFails w n) e = cc
+memory_alone (numbered.KeepFails n) e = cc
+memory_alone (numbered.Missing n) e = cc
+memory_alone (numbered.Extra n) e = cc
+memory_alone (numbered.WrongBound n) e = cc
+memory_alone (numbered.NotShown n) e = cc
+memory_alone (numbered.BadLine n) e = cc
+memory_alone (numbered.LineTooLong n) e = cc
+memory_alone (numbered.TooLong n) e = cc
+memory_alone numbered.Memory e = refl
 
 some-same : {A : Type 0} {x y : A} → Some x ≡ Some y → x ≡ y
 some-same e = cc
@@ -312,7 +312,7 @@ fault-at c bytes rest f h (reached d n) e k = absurd (stopped_somewhere f d n e)
 
 pub fault_is_told : FaultIsTold
 fault_is_told c bytes rest f h at a = elim at [
-  | inl e ↦ inl (memory-alone f (sym a ∙ e))
+  | inl e ↦ inl (memory_alone f (sym a ∙ e))
   | inr e ↦ inr (fault-at c bytes rest f h (course_map lean_work (work_course c.checks (lines_so_far bytes))) (sym a ∙ e) refl)
 ]
 

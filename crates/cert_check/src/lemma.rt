@@ -21,7 +21,7 @@ use crate::state::State;
 use cert_read::{BoolSet, Line};
 use ival::{Domain, Range, Space, Truths};
 use poly_graph::{Declared, Lits, Problem};
-use std::alloc::Global;
+use std::alloc::{AllocError, Global};
 
 // The first axis of the next lemma.
 fn first_axis(alloc: Global, problem: &Problem, cover: Cover, number: u32) -> Result<Due, Refusal>
@@ -213,5 +213,17 @@ pub fn no_line(
             }
         }
         _ => Err(Refusal::Missing),
+    }
+}
+
+impl Lemma {
+    /// The marks of its state.
+    pub fn marks(&self, alloc: Global) -> Result<Lits, AllocError>
+        ensures { IfOk result (λ m. m ≡ (lemma_of self.now).marks) }
+    {
+        match marks(alloc, self.atoms, &self.yes, &self.no)? {
+            Some(marks) => Ok(marks),
+            None => unreachable!(),
+        }
     }
 }
