@@ -66,7 +66,7 @@ stopped_behind starts tail old mid new after stopped = record {
   ];
 }
 
-quiet_behind : (starts ins : List Start) (old mid new : Sight) → After starts old mid → Quiet ins mid new → Quiet (starts ++ ins) old new
+pub quiet_behind : (starts ins : List Start) (old mid new : Sight) → After starts old mid → Quiet ins mid new → Quiet (starts ++ ins) old new
 quiet_behind starts ins old mid new after quiet = record {
   starts_made = length starts + quiet.starts_made;
   starts_are = quiet.starts_are ∙ ap (λ o. appended o (take quiet.starts_made ins)) after.starts_are

@@ -5,7 +5,7 @@ use Rattle.std.proofs.lemmas.List.{append_cancel_left}
 use Rattle.desk.specs.declared.desk.Port.TheVariants.{CertIn}
 use Rattle.desk.specs.Sight.{Sight}
 use Rattle.command_line.specs.declared.request.Options.{Options}
-use Rattle.command_line.specs.Words.{Solve, Check, Upgrade, Demo, Plan, Command, solve, check, demo, upgrade, plan}
+use Rattle.command_line.specs.Words.{Solve, Check, Upgrade, Demo, Plan, Command, solve, check, demo, upgrade, plan, resume}
 use Rattle.gen_script.specs.Demo.{demo_script}
 use Rattle.poly_graph.specs.Problem.{Problem}
 use Rattle.interval_model.specs.Space.{Space}
@@ -26,52 +26,14 @@ use Rattle.check_run.specs.Course.{Course, behind, appended}
 use Rattle.check_run.specs.Can.{CanSolve, CanCheck, CanUpgrade, CanUpgradeBy, CanPlan, CanBy, OfSession, Can, check_texts, verdict_course}
 use Rattle.check_run.specs.Run.{Run, HasCourse, HasInput, IsShown}
 use Rattle.check_run.proofs.Shown.{status_is_shown}
-use Rattle.check_run.proofs.Apart.{apart}
+use Rattle.check_run.proofs.Differ.{written-is, says-unsat, says-delta-sat, confirms-unsat, confirms-delta-sat, refused-not, certificate-refused-not, answered-not, script-refused-not, delta-so}
 use Rattle.check_run.proofs.Enough.{SessionIsOne, are_enough, texts_one}
 use Rattle.check_run.proofs.Means.{values_true}
+use Rattle.check_run.proofs.Resumes.{resume-so, resume-unsat, resume-delta, resume-refused}
 use Rattle.check_run.proofs.Single.{one_problem, one_value}
 use Rattle.check_run.specs.Headline.{IsWritten, IsSolved, IsConfirmed, IsTrueAnswer, AnswersAreTrue, HasOneCheck, IsUnsat, IsTrueUnsat, UnsatIsTrue, IsDeltaSat, IsTrueDeltaSat, DeltaSatIsTrue, IsRefusedCert, IsTrueRefusal, RefusalIsTrue, IsUpgraded, IsTrueUpgrade, UpgradeIsTrue, IsPlanned, IsTruePlan, PlanIsTrue, delta_sat_word, confirmed_unsat_word, confirmed_delta_sat_word}
 
--- ---- texts that differ
-
--- an answer that was written is the one that is read there
-written-is : (told : Option (List ℕ)) (new : Option (List ℕ)) (text answer : List ℕ) → IsSomeAnd told (λ before. new ≡ Some (before ++ text)) → new ≡ appended told answer → text ≡ answer
-written-is None new text answer h e = absurd h
-written-is (Some before) new text answer h e = append_cancel_left before text answer (let same : ◌≡◌ {A = Option (List ℕ)} (Some (before ++ text)) (Some (before ++ answer)) = sym h ∙ e in cc)
-
--- so does it of what is answered where something is left
-apart-left : (p : Problem) (s : Loosenings) (budget : ℕ) (x : Standing) (rest : List Standing) (t : List ℕ) (k : ℕ) → t ≡ solve_text p budget s (left_open (x ∷ rest)) →
-    nat_eq (get_or t k 0) (get_or (budget_text budget) k 0) ≡ false → ((j : ℕ) → nat_eq (get_or t k 0) (get_or (width_text p x.state j) k 0) ≡ false) →
-    (b : Bool) → has_open (x ∷ rest) ≡ b → ⊥
-apart-left p s budget x rest t k e f g true h = let e' = rw h at e in apart _ _ k e' f
-apart-left p s budget x rest t k e f g false h = let e' = rw h at e in apart _ _ k e' (g _)
-
--- unsat is said of a cover that leaves nothing alone
-says-unsat : (p : Problem) (s : Loosenings) (budget : ℕ) (v : Value) → unsat_text s ≡ solve_text p budget s v → v ≡ left_open []
-says-unsat p s budget (at_point space) e = absurd (apart (unsat_text s) (delta_sat_text p s space) 0 e refl)
-says-unsat p s budget (left_open []) e = refl
-says-unsat p s budget (left_open (x ∷ rest)) e = absurd (apart-left p s budget x rest (unsat_text s) 2 e refl (λ j. refl) (has_open (x ∷ rest)) refl)
-
--- delta-sat is said of a point alone
-says-delta-sat : (p : Problem) (s : Loosenings) (budget : ℕ) (rest : List ℕ) (v : Value) → delta_sat_word ++ rest ≡ solve_text p budget s v → (space : Space) × (v ≡ at_point space)
-says-delta-sat p s budget rest (at_point space) e = (space, refl)
-says-delta-sat p s budget rest (left_open []) e = absurd (apart _ _ 0 e refl)
-says-delta-sat p s budget rest (left_open (x ∷ left)) e = absurd (apart-left p s budget x left (delta_sat_word ++ rest) 0 e refl (λ j. refl) (has_open (x ∷ left)) refl)
-
-confirms-unsat : (s : Loosenings) (rest : List ℕ) (v : Value) → confirmed_unsat_word ++ rest ≡ check_text s v → v ≡ left_open []
-confirms-unsat s rest (at_point space) e = absurd (apart _ _ 10 e refl)
-confirms-unsat s rest (left_open []) e = refl
-confirms-unsat s rest (left_open (x ∷ left)) e = absurd (apart _ _ 0 e refl)
-
-confirms-delta-sat : (s : Loosenings) (rest : List ℕ) (v : Value) → confirmed_delta_sat_word ++ rest ≡ check_text s v → (space : Space) × (v ≡ at_point space)
-confirms-delta-sat s rest (at_point space) e = (space, refl)
-confirms-delta-sat s rest (left_open []) e = absurd (apart _ _ 10 e refl)
-confirms-delta-sat s rest (left_open (x ∷ left)) e = absurd (apart _ _ 0 e refl)
-
 -- ---- the courses of a run that answers
-
-refused-not : (x : Status) → x ≡ ScriptRefused → x ≡ Answered → ⊥
-refused-not x e f = let same : ◌≡◌ {A = Status} ScriptRefused Answered = sym e ∙ f in cc
 
 -- of a script without fault, whose problems go on so
 record Session-goes (bound : Option ℕ) (script : List ℕ) (goes : List (Problem × Bool) → Course → Type 0) (tail : Course) : Type 0 where
@@ -158,9 +120,6 @@ demo-unsat words script cert_in old new (course, can, status, went) =
 
 -- ---- what is checked
 
-certificate-refused-not : (x : Status) → x ≡ CertRefused → x ≡ Answered → ⊥
-certificate-refused-not x e f = let same : ◌≡◌ {A = Status} CertRefused Answered = sym e ∙ f in cc
-
 record Checked-so (ps : List (Problem × Bool)) (bound : Option ℕ) (cert_in : List ℕ) (course : Course) : Type 0 where
   s : Loosenings
   values : List Value
@@ -235,12 +194,9 @@ unsat-true (Some (check words)) script cert_in old new shows = check-unsat words
 unsat-true (Some (upgrade words)) script cert_in old new shows = tt
 unsat-true (Some (plan words)) script cert_in old new shows = tt
 unsat-true (Some (demo words)) script cert_in old new shows = demo-unsat words script cert_in old new shows
+unsat-true (Some (resume words)) script cert_in old new shows = resume-unsat words script cert_in old new shows
 
 -- ---- delta-sat
-
-delta-so : (bound : Option ℕ) (script : List ℕ) (p : Problem) (cert : List ℕ) (s : Loosenings) (space : Space) → IsBuilt bound script p → IsAccepted p bound cert s (at_point space) → IsDeltaSat bound (commands_of script) s space
-delta-so bound script p cert s space built accepts =
-    let means = delta_sat_is bound (commands_of script) p built.whole built.problem cert s space accepts in record { satisfies = means.0; near = means.1 }
 
 solve-delta : (words : Solve) (script cert_in : List ℕ) (old new : Sight) → IsShown (Some (solve words)) script cert_in old new Answered → IsTrueDeltaSat (Some (solve words)) script cert_in old new
 solve-delta words script cert_in old new shows single rest wrote =
@@ -279,14 +235,9 @@ delta-sat-true (Some (check words)) script cert_in old new shows = check-delta w
 delta-sat-true (Some (upgrade words)) script cert_in old new shows = tt
 delta-sat-true (Some (plan words)) script cert_in old new shows = tt
 delta-sat-true (Some (demo words)) script cert_in old new shows = tt
+delta-sat-true (Some (resume words)) script cert_in old new shows = resume-delta words script cert_in old new shows
 
 -- ---- certificates that are refused
-
-answered-not : (x : Status) → x ≡ Answered → x ≡ CertRefused → ⊥
-answered-not x e f = let same : ◌≡◌ {A = Status} Answered CertRefused = sym e ∙ f in cc
-
-script-refused-not : (x : Status) → x ≡ ScriptRefused → x ≡ CertRefused → ⊥
-script-refused-not x e f = let same : ◌≡◌ {A = Status} ScriptRefused CertRefused = sym e ∙ f in cc
 
 refused-by : (words : Check) (script cert_in : List ℕ) (old new : Sight) (ps : List (Problem × Bool)) (course : Course) (v : SessionVerdict) → HasSession words.bound ps script → session_verdict ps words.bound cert_in ≡ v →
     course ≡ behind ((CertIn, words.cert) ∷ []) (verdict_course v) → course.status ≡ CertRefused → new.answer ≡ appended old.answer course.answer → IsRefusedCert words.bound script cert_in old new
@@ -328,6 +279,7 @@ refusal-true None script cert_in old new shows = tt
 refusal-true (Some (solve words)) script cert_in old new shows = tt
 refusal-true (Some (demo words)) script cert_in old new shows = tt
 refusal-true (Some (plan words)) script cert_in old new shows = tt
+refusal-true (Some (resume words)) script cert_in old new shows = resume-refused words script cert_in old new shows
 refusal-true (Some (check words)) script cert_in old new (course, can, status, went) =
     let tail : Course = can.0 in
     check-refused words script cert_in old new tail (session_fault words.bound script) can.1 (sym (ap (λ (c : Course). c.status) can.2) ∙ status)
@@ -364,6 +316,7 @@ upgrade-true (Some (solve words)) script cert_in old new shows = tt
 upgrade-true (Some (check words)) script cert_in old new shows = tt
 upgrade-true (Some (demo words)) script cert_in old new shows = tt
 upgrade-true (Some (plan words)) script cert_in old new shows = tt
+upgrade-true (Some (resume words)) script cert_in old new shows = tt
 upgrade-true (Some (upgrade words)) script cert_in old new (course, can, status, went) =
     let tail : Course = can.0 in
     let status_is : tail.status ≡ Answered = sym (ap (λ (c : Course). c.status) can.2) ∙ status in
@@ -393,6 +346,7 @@ plan-true one (Some (solve words)) script cert_in old new shows = tt
 plan-true one (Some (check words)) script cert_in old new shows = tt
 plan-true one (Some (demo words)) script cert_in old new shows = tt
 plan-true one (Some (upgrade words)) script cert_in old new shows = tt
+plan-true one (Some (resume words)) script cert_in old new shows = tt
 plan-true one (Some (plan words)) script cert_in old new shows = plan-so one words script cert_in old new shows
 
 -- ---- all answers
@@ -404,6 +358,7 @@ answer-true (Some (check words)) script cert_in old new shows = check-so words s
 answer-true (Some (demo words)) script cert_in old new shows = tt
 answer-true (Some (upgrade words)) script cert_in old new shows = tt
 answer-true (Some (plan words)) script cert_in old new shows = tt
+answer-true (Some (resume words)) script cert_in old new shows = resume-so words script cert_in old new shows
 
 -- ---- of whole runs
 

@@ -1,9 +1,12 @@
 pub mod Apart
+pub mod Boths
+pub mod Differ
 pub mod Ending
 pub mod Enough
 pub mod Faulty
 pub mod Headline
 pub mod Reading
+pub mod Resumes
 pub mod Running
 pub mod Shown
 pub mod Verdicts

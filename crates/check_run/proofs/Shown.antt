@@ -2,17 +2,18 @@
 use Rattle.std.proofs.Common.{◌≡◌, inl, inr, ℕ, List, Bool, Option, Some, None, sym, subst, ◌∙◌}
 use Rattle.desk.specs.Sight.{Sight}
 use Rattle.command_line.specs.declared.request.Options.{Options}
-use Rattle.command_line.specs.Words.{Command, solve, check, demo, upgrade, plan}
+use Rattle.command_line.specs.Words.{Command, Resume, solve, check, demo, upgrade, plan, resume}
 use Rattle.gen_script.specs.Demo.{demo_script}
 use Rattle.poly_graph.specs.Problem.{Problem}
-use Rattle.cert_model.specs.Accepted.{accepted, refused}
+use Rattle.cert_model.specs.Accepted.{Verdict, accepted, refused, verdict}
 use Rattle.cert_model.specs.Session.{SessionVerdict, session_verdict}
 use Rattle.script_fault.specs.declared.fault.ScriptFault.{ScriptFault}
-use Rattle.script_reading.specs.Faults.{session_fault}
+use Rattle.script_reading.specs.Faults.{script_fault, session_fault}
 use Rattle.check_run.specs.declared.status.Status.{Status}
 use Rattle.check_run.specs.declared.status.Status.TheVariants.{Answered, CertRefused, ScriptRefused, Usage, InFailed, OutFailed, NoMemory}
 use Rattle.check_run.specs.Course.{Course, Went, Ends, at_its_end, out_failed, no_memory, RunEnds, on_course, in_failed, no_memory_yet}
-use Rattle.check_run.specs.Can.{CanSolve, CanCheck, CanUpgrade, CanUpgradeBy, CanDemo, CanPlan, CanBy, OfSession, Can, in_starts, verdict_course}
+use Rattle.check_run.specs.Can.{CanSolve, CanCheck, CanUpgrade, CanUpgradeBy, CanDemo, CanPlan, CanBy, OfProblem, OfSession, Can, in_starts, verdict_course}
+use Rattle.check_run.specs.Resumed.{CanResume, CanResumeBy, header_bound}
 use Rattle.check_run.specs.Run.{Run, HasCourse, IsShown, IsDue, run_of, StatusIsDue, StatusIsShown}
 
 -- a status that is told by an answer
@@ -45,6 +46,14 @@ said-upgrade-by (refused f n) ps bound out cert_in course can = said-same course
 said-upgrade : (ps : List (Problem × Bool)) (bound : Option ℕ) (name out cert_in : List ℕ) (course : Course) → CanUpgrade ps bound name out cert_in course → IsSaid course.status
 said-upgrade ps bound name out cert_in course can = said-same course _ can.2 (said-upgrade-by (session_verdict ps bound cert_in) ps bound out cert_in can.0 can.1)
 
+said-resume-by : (v : Verdict) (p : Problem) (b : Option ℕ) (words : Resume) (cert_in : List ℕ) (course : Course) → CanResumeBy v p b words cert_in course → IsSaid course.status
+said-resume-by (accepted s w) p b words cert_in course can = said-same course _ can.3 tt
+said-resume-by (refused f n) p b words cert_in course can = said-same course _ can tt
+
+said-resume : (words : Resume) (script cert_in : List ℕ) (f : Option ScriptFault) (course : Course) → CanBy f (OfProblem (header_bound cert_in) script (λ p. CanResume p (header_bound cert_in) words cert_in)) course → IsSaid course.status
+said-resume words script cert_in (Some f) course can = said-same course _ can tt
+said-resume words script cert_in None course can = said-resume-by (verdict can.0 (header_bound cert_in) cert_in) can.0 (header_bound cert_in) words cert_in course can.2
+
 said-by : (bound : Option ℕ) (script : List ℕ) (goes : List (Problem × Bool) → Course → Type 0) → ((ps : List (Problem × Bool)) (course : Course) → goes ps course → IsSaid course.status) →
     (f : Option ScriptFault) (course : Course) → CanBy f (OfSession bound script goes) course → IsSaid course.status
 said-by bound script goes said (Some f) course can = said-same course _ can tt
@@ -61,6 +70,7 @@ said (Some (upgrade words)) script cert_in course can = said-same course _ can.2
     (said-by words.bound script (λ ps. CanUpgrade ps words.bound words.cert words.out cert_in) (λ ps c h. said-upgrade ps words.bound words.cert words.out cert_in c h) (session_fault words.bound script) can.0 can.1)
 said (Some (plan words)) script cert_in course can = said-same course _ can.2
     (said-by words.bound script (λ ps. CanPlan ps words.delta_bits words.margin_bits) (λ ps c h. said-same c _ h.2 tt) (session_fault words.bound script) can.0 can.1)
+said (Some (resume words)) script cert_in course can = said-same course _ can.2 (said-resume words script cert_in (script_fault (header_bound cert_in) script) can.0 can.1)
 said (Some (demo words)) script cert_in course can = said-demo can.0 words.options words.cert (demo_script words.seed words.size) course can.2
 
 module _ (command : Option Command) (script cert_in : List ℕ) (old new : Sight) where

@@ -2,7 +2,7 @@
 use Rattle.std.specs.Prelude.{◌≡◌, ℕ, List, [], ◌∷◌, ◌++◌, Bool, Option, Some, None, codes, length}
 use Rattle.desk.specs.declared.desk.Port.TheVariants.{Script, CertIn}
 use Rattle.command_line.specs.declared.request.Options.{Options}
-use Rattle.command_line.specs.Words.{Command, solve, check, demo, upgrade, plan}
+use Rattle.command_line.specs.Words.{Command, solve, check, demo, upgrade, plan, resume}
 use Rattle.gen_script.specs.Demo.{demo_script}
 use Rattle.poly_graph.specs.Problem.{Problem}
 use Rattle.cover_model.specs.State.{Loosenings}
@@ -17,11 +17,12 @@ use Rattle.check_run.specs.declared.status.Status.TheVariants.{Answered, CertRef
 use Rattle.script_fault.specs.declared.fault.ScriptFault.{ScriptFault}
 use Rattle.check_run.specs.Plans.{least_bits_text, no_atom_text, no_axis_text}
 use Rattle.check_run.specs.ScriptFaults.{fault_text}
-use Rattle.script_reading.specs.Faults.{session_fault}
+use Rattle.script_reading.specs.Faults.{script_fault, session_fault}
 use Rattle.script_reading.specs.Reader.{IsBuilt}
 use Rattle.script_reading.specs.Session.{HasSession}
 use Rattle.check_run.specs.Answer.{loosenings_for, solve_texts, AreAnswers, IsAnswer}
 use Rattle.check_run.specs.Course.{Start, Course, says, gives, behind}
+use Rattle.check_run.specs.Resumed.{CanResume, header_bound}
 
 abbrev pub usage_text : List ℕ
 usage_text = codes "usage fault\n"
@@ -104,6 +105,14 @@ OfProblem bound script goes_on course = (p : Problem) × IsBuilt bound script p 
 abbrev pub OfSession : Option ℕ → List ℕ → (List (Problem × Bool) → Course → Type 0) → Course → Type 0
 OfSession bound script goes_on course = (ps : List (Problem × Bool)) × HasSession bound ps script × goes_on ps course
 
+-- the starts of a script's and a certificate's port, which are both read first
+abbrev pub both_starts : List ℕ → List ℕ → List Start
+both_starts script cert = (Script, script) ∷ (CertIn, cert) ∷ []
+
+-- the same behind the starts of both ports
+abbrev pub CanFromBoth : List ℕ → List ℕ → Option ScriptFault → (Course → Type 0) → Course → Type 0
+CanFromBoth script cert fault goes_on course = (tail : Course) × CanBy fault goes_on tail × (course ≡ behind (both_starts script cert) tail)
+
 -- the courses of a run on what the script's and the certificate's ports held
 abbrev pub Can : Option Command → List ℕ → List ℕ → Course → Type 0
 Can None script cert_in course = course ≡ says Usage usage_text
@@ -119,6 +128,9 @@ Can (Some (upgrade words)) script cert_in course =
 Can (Some (plan words)) script cert_in course =
     CanFrom words.script (session_fault words.bound script)
     (OfSession words.bound script (λ ps. CanPlan ps words.delta_bits words.margin_bits)) course
+Can (Some (resume words)) script cert_in course =
+    CanFromBoth words.script words.cert (script_fault (header_bound cert_in) script)
+    (OfProblem (header_bound cert_in) script (λ p. CanResume p (header_bound cert_in) words cert_in)) course
 Can (Some (demo words)) script cert_in course =
     OfProblem words.options.bound (demo_script words.seed words.size) (λ p. CanDemo p words.options words.cert (demo_script words.seed words.size)) course
 
@@ -129,4 +141,5 @@ in_starts (Some (solve words)) = (Script, words.script) ∷ []
 in_starts (Some (check words)) = (Script, words.script) ∷ (CertIn, words.cert) ∷ []
 in_starts (Some (upgrade words)) = (Script, words.script) ∷ (CertIn, words.cert) ∷ []
 in_starts (Some (plan words)) = (Script, words.script) ∷ []
+in_starts (Some (resume words)) = both_starts words.script words.cert
 in_starts (Some (demo words)) = []

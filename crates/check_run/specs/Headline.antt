@@ -2,7 +2,7 @@
 use Rattle.std.specs.Prelude.{◌≡◌, ◌++◌, ℕ, suc, List, [], ◌∷◌, Bool, Option, Some, None, IsSomeAnd, codes, length, slice_get}
 use Rattle.desk.specs.Sight.{Sight}
 use Rattle.command_line.specs.declared.request.Options.{Options}
-use Rattle.command_line.specs.Words.{Command, Plan, Solve, solve, check, demo, upgrade, plan}
+use Rattle.command_line.specs.Words.{Command, Plan, Resume, Solve, solve, check, demo, upgrade, plan, resume}
 use Rattle.gen_script.specs.Demo.{demo_script}
 use Rattle.dyadic.specs.Rounding.{exact}
 use Rattle.script_model.specs.Script as script_model
@@ -13,19 +13,20 @@ use Rattle.width_plan.specs.Plan as width
 use Rattle.width_plan.specs.Plan.{least_bits}
 use Rattle.cover_model.specs.State.{Loosenings, margin_of, delta_of}
 use Rattle.cert_model.specs.Due.{CertFault, Value, at_point, left_open, coordinates}
-use Rattle.cert_model.specs.Accepted.{IsAccepted, refused}
+use Rattle.cert_model.specs.Accepted.{IsAccepted, refused, verdict}
 use Rattle.cert_model.specs.AnswerText.{text_line, unsat_text, delta_sat_text, check_text, solve_text, verdict_text}
 use Rattle.cert_model.specs.Session.{AreAccepted, session_verdict}
 use Rattle.cert_upgrade.specs.Upgraded.{in_newest, upgraded}
 use Rattle.headline.specs.Laws.{HasNoPoint}
 use Rattle.headline.specs.Near.{IsNearDeclaredBox}
 use Rattle.smt_script.specs.Levels.{Asked, checks_of}
-use Rattle.script_reading.specs.Reader.{commands_of, IsBuilt}
+use Rattle.script_reading.specs.Reader.{commands_of, HasProblem, IsBuilt}
 use Rattle.script_reading.specs.Session.{HasSession, steps_of_text}
 use Rattle.check_run.specs.Answer.{loosenings_for, loosenings_of, solve_texts, AreAnswers}
 use Rattle.check_run.specs.declared.status.Status.TheVariants.{Answered, CertRefused}
 use Rattle.check_run.specs.Course.{Course, appended}
 use Rattle.check_run.specs.Can.{Can, ArePlans, check_texts, plan_texts}
+use Rattle.check_run.specs.Resumed.{IsMore, header_bound}
 use Rattle.check_run.specs.Run.{Run, OnInput}
 
 -- the checks of a script, each with the commands that are in force at it
@@ -75,10 +76,26 @@ pub record IsConfirmed (bound : Option ℕ) (script cert_in : List ℕ) (old new
   pub answer : new.answer ≡ appended old.answer (check_texts loosenings values)
   pub say : AreTrueValues bound loosenings (asked_in script) values
 
--- `solve` and `check` answer where that is so.
+-- What was written as certificate goes on from the one that was read, which is accepted for the problem of the script's only check; the answer tells of
+-- what is left, and what its value says of the check is so.
+pub record IsResumed (words : Resume) (script cert_in : List ℕ) (old new : Sight) : Type 0 where
+  pub problem : Problem
+  pub has : HasProblem (header_bound cert_in) problem script
+  pub loosenings : Loosenings
+  pub read : Value
+  pub accepted : IsAccepted problem (header_bound cert_in) cert_in loosenings read
+  pub cert : List ℕ
+  pub text : List ℕ
+  pub written : new.cert_out ≡ appended old.cert_out cert
+  pub more : IsMore problem (header_bound cert_in) words cert_in loosenings read cert text
+  pub answer : new.answer ≡ appended old.answer text
+  pub say : IsTrueValue (header_bound cert_in) (in_newest 1 loosenings) (commands_of script) more.value
+
+-- `solve`, `check` and `resume` answer where that is so.
 abbrev pub IsTrueAnswer : Option Command → List ℕ → List ℕ → Sight → Sight → Type 0
 IsTrueAnswer (Some (solve words)) script cert_in old new = IsSolved words.options script old new
 IsTrueAnswer (Some (check words)) script cert_in old new = IsConfirmed words.bound script cert_in old new
+IsTrueAnswer (Some (resume words)) script cert_in old new = IsResumed words script cert_in old new
 IsTrueAnswer _ script cert_in old new = Unit {0}
 
 -- ---- one check
@@ -107,10 +124,22 @@ pub record IsConfirmedUnsat (bound : Option ℕ) (script cert_in : List ℕ) (s 
   pub built : IsBuilt bound script problem
   pub accepted : IsAccepted problem bound cert_in s (left_open [])
 
+-- What was written as certificate is accepted as a cover that leaves nothing, so the script holds nowhere in its declared box, each atom loosened by the margin.
+pub record IsResumedUnsat (bound : Option ℕ) (script : List ℕ) (s : Loosenings) (old new : Sight) : Type 0 where
+  pub no_point : HasNoPoint bound (commands_of script) (exact (margin_of s))
+  pub problem : Problem
+  pub built : IsBuilt bound script problem
+  pub cert : List ℕ
+  pub written : new.cert_out ≡ appended old.cert_out cert
+  pub accepted : IsAccepted problem bound cert s (left_open [])
+
+abbrev pub unsat_word : List ℕ
+unsat_word = text_line (codes "unsat")
+
 abbrev pub confirmed_unsat_word : List ℕ
 confirmed_unsat_word = text_line (codes "confirmed unsat")
 
--- The answer is `unsat` at the margin of the words, or `demo`'s, or confirms it at some margin: so it is, of a script with one check.
+-- The answer is `unsat` at the margin of the words, or `demo`'s, or at the margin of the certificate that was read, or confirms it at some margin: so it is, of a script with one check.
 abbrev pub IsTrueUnsat : Option Command → List ℕ → List ℕ → Sight → Sight → Type 0
 IsTrueUnsat (Some (solve words)) script cert_in old new =
     HasOneCheck script → IsWritten (unsat_text (loosenings_of words.options)) old new → IsUnsat words.options script old new
@@ -120,6 +149,9 @@ IsTrueUnsat (Some (check words)) script cert_in old new =
 IsTrueUnsat (Some (demo words)) script cert_in old new = IsUnsat words.options (demo_script words.seed words.size) old new
 IsTrueUnsat (Some (upgrade words)) script cert_in old new = Unit {0}
 IsTrueUnsat (Some (plan words)) script cert_in old new = Unit {0}
+IsTrueUnsat (Some (resume words)) script cert_in old new =
+    (rest : List ℕ) → IsWritten (unsat_word ++ rest) old new →
+    (s : Loosenings) × IsWritten (unsat_text s) old new × IsResumedUnsat (header_bound cert_in) script s old new
 IsTrueUnsat None script cert_in old new = Unit {0}
 
 -- The certificate is accepted as this point, which is one of the script.
@@ -144,6 +176,10 @@ IsTrueDeltaSat (Some (solve words)) script cert_in old new =
 IsTrueDeltaSat (Some (check words)) script cert_in old new =
     HasOneCheck script → (rest : List ℕ) → IsWritten (confirmed_delta_sat_word ++ rest) old new →
     (s : Loosenings) × (space : Space) × IsWritten (check_text s (at_point space)) old new × IsConfirmedPoint words.bound script cert_in s space
+IsTrueDeltaSat (Some (resume words)) script cert_in old new =
+    (rest : List ℕ) → IsWritten (delta_sat_word ++ rest) old new →
+    (p : Problem) × (s : Loosenings) × (space : Space) × IsBuilt (header_bound cert_in) script p × IsWritten (delta_sat_text p s space) old new
+    × IsDeltaSat (header_bound cert_in) (commands_of script) s space
 IsTrueDeltaSat _ script cert_in old new = Unit {0}
 
 -- ---- certificates that are refused, or written again
@@ -157,11 +193,22 @@ pub record IsRefusedCert (bound : Option ℕ) (script cert_in : List ℕ) (old n
   pub refuses : session_verdict problems bound cert_in ≡ refused fault line
   pub written : new.answer ≡ appended old.answer (verdict_text (refused fault line))
 
--- A certificate that is refused has a fault; `upgrade` writes none then.
+-- The same by the problem of its only check, where the certificate names the bound.
+pub record IsRefusedToResume (script cert_in : List ℕ) (old new : Sight) : Type 0 where
+  pub problem : Problem
+  pub has : HasProblem (header_bound cert_in) problem script
+  pub fault : CertFault
+  pub line : ℕ
+  pub refuses : verdict problem (header_bound cert_in) cert_in ≡ refused fault line
+  pub written : new.answer ≡ appended old.answer (verdict_text (refused fault line))
+
+-- A certificate that is refused has a fault; `upgrade` and `resume` write none then.
 abbrev pub IsTrueRefusal : Option Command → List ℕ → List ℕ → Sight → Sight → Type 0
 IsTrueRefusal (Some (check words)) script cert_in old new = IsRefusedCert words.bound script cert_in old new
 IsTrueRefusal (Some (upgrade words)) script cert_in old new =
     IsRefusedCert words.bound script cert_in old new × (new.cert_out ≡ appended old.cert_out [])
+IsTrueRefusal (Some (resume words)) script cert_in old new =
+    IsRefusedToResume script cert_in old new × (new.cert_out ≡ appended old.cert_out [])
 IsTrueRefusal _ script cert_in old new = Unit {0}
 
 -- The certificate is accepted, and what was written is accepted in the newest version for so many checks, with the same values: the same

@@ -1,9 +1,11 @@
 pub mod Answer
+pub mod Both
 pub mod Can
 pub mod Check
 pub mod Course
 pub mod Headline
 pub mod Parts
+pub mod Resumed
 pub mod Run
 pub mod Script
 pub mod Statuses

@@ -4,14 +4,15 @@ use Rattle.std.specs.Option.{option_map}
 use Rattle.std.specs.declared.alloc.Global.{Global}
 use Rattle.std.specs.declared.string.String.{String}
 use Rattle.desk.specs.Sight.{Sight, SideFailed}
-use Rattle.command_line.specs.Words.{Command, Solve, Check, Demo, Upgrade, Plan, command_of, solve, check, demo, upgrade, plan}
-use Rattle.command_line.specs.Seen.{seen, seen_solve, seen_check, seen_demo, seen_upgrade, seen_plan}
+use Rattle.command_line.specs.Words.{Command, Solve, Check, Demo, Upgrade, Plan, Resume, command_of, solve, check, demo, upgrade, plan, resume}
+use Rattle.command_line.specs.Seen.{seen, seen_solve, seen_check, seen_demo, seen_upgrade, seen_plan, seen_resume}
 use Rattle.command_line.specs.declared.request.Request.{Request}
 use Rattle.command_line.specs.declared.request.SolveWords.{SolveWords}
 use Rattle.command_line.specs.declared.request.CheckWords.{CheckWords}
 use Rattle.command_line.specs.declared.request.DemoWords.{DemoWords}
 use Rattle.command_line.specs.declared.request.UpgradeWords.{UpgradeWords}
 use Rattle.command_line.specs.declared.request.PlanWords.{PlanWords}
+use Rattle.command_line.specs.declared.request.ResumeWords.{ResumeWords}
 use Rattle.check_run.specs.declared.status.Status.{Status}
 use Rattle.check_run.specs.declared.status.Status.TheVariants.{Answered, CertRefused, ScriptRefused, Usage, InFailed, OutFailed, NoMemory}
 use Rattle.script_reading.specs.Faults.{most_bytes}
@@ -51,6 +52,9 @@ upgrade_run words = run_of (Some (upgrade (seen_upgrade words)))
 abbrev pub plan_run : PlanWords → Sight → Sight → Status → Run
 plan_run words = run_of (Some (plan (seen_plan words)))
 
+abbrev pub resume_run : ResumeWords → Sight → Sight → Status → Run
+resume_run words = run_of (Some (resume (seen_resume words)))
+
 abbrev pub demo_run : DemoWords → Sight → Sight → Status → Run
 demo_run words = run_of (Some (demo (seen_demo words)))
 
@@ -60,6 +64,7 @@ asked_run words = run_of (Some (seen words))
 abbrev pub ReadsCert : Option Command → Type 0
 ReadsCert (Some (check words)) = Unit {0}
 ReadsCert (Some (upgrade words)) = Unit {0}
+ReadsCert (Some (resume words)) = Unit {0}
 ReadsCert _ = ⊥
 
 abbrev pub ReadsScript : Option Command → Type 0
@@ -67,6 +72,7 @@ ReadsScript (Some (solve words)) = Unit {0}
 ReadsScript (Some (check words)) = Unit {0}
 ReadsScript (Some (upgrade words)) = Unit {0}
 ReadsScript (Some (plan words)) = Unit {0}
+ReadsScript (Some (resume words)) = Unit {0}
 ReadsScript _ = ⊥
 
 -- ---- what holds whatever the desk shows
@@ -98,6 +104,9 @@ UpgradeHasCause old new status = (words : Upgrade) → HasCause (run_of (Some (u
 abbrev pub PlanHasCause : Sight → Sight → Status → Type 0
 PlanHasCause old new status = (words : Plan) → HasCause (run_of (Some (plan words)) old new status)
 
+abbrev pub ResumeHasCause : Sight → Sight → Status → Type 0
+ResumeHasCause old new status = (words : Resume) → HasCause (run_of (Some (resume words)) old new status)
+
 abbrev pub DemoHasCause : Sight → Sight → Status → Type 0
 DemoHasCause old new status = (words : Demo) → HasCause (run_of (Some (demo words)) old new status)
 
@@ -117,7 +126,7 @@ ScriptIsRead r =
 abbrev pub IsReadToEnd : Sight → Sight → Type 0
 IsReadToEnd old new = new.cert_in ≡ option_map (λ cert. []) old.cert_in
 
--- a certificate that is confirmed, or written again, was read to its end
+-- a certificate that is confirmed, written again, or goes on, was read to its end
 abbrev pub CertIsRead : Run → Type 0
 CertIsRead r = ReadsCert r.command → r.status ≡ Answered → IsReadToEnd r.old r.new
 
@@ -129,6 +138,7 @@ HasInput (Some (solve words)) d script cert_in = d.script ≡ Some script
 HasInput (Some (check words)) d script cert_in = (d.script ≡ Some script) × (d.cert_in ≡ Some cert_in)
 HasInput (Some (upgrade words)) d script cert_in = (d.script ≡ Some script) × (d.cert_in ≡ Some cert_in)
 HasInput (Some (plan words)) d script cert_in = d.script ≡ Some script
+HasInput (Some (resume words)) d script cert_in = (d.script ≡ Some script) × (d.cert_in ≡ Some cert_in)
 HasInput _ d script cert_in = Unit {0}
 
 abbrev pub OnInput : Run → (List ℕ → List ℕ → Type 0) → Type 0

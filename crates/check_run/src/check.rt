@@ -4,7 +4,7 @@ ghost use Rattle.problem_session.specs.Session.{problems_of};
 ghost use Rattle.cert_model.specs.SessionLaws.{IsSession};
 ghost use Rattle.cert_check.specs.Sessions.{HasTakenSession};
 ghost use Rattle.check_run.specs.Check.{AreConfirmations, EndsOnCheck, EndsOnFault, EndsOnVerdict, IsConfirmation, IsReadFor, IsVerdictFor};
-ghost use Rattle.check_run.specs.Run.{CheckHasCause, IsReadToEnd, SameIn, UpgradeHasCause};
+ghost use Rattle.check_run.specs.Run.{CheckHasCause, IsReadToEnd, ResumeHasCause, SameIn, UpgradeHasCause};
 
 use crate::ports::say;
 use crate::status::Status;
@@ -110,6 +110,7 @@ fn confirm<D: Desk>(alloc: Global, desk: &mut D, verdicts: Vec<Verdict>) -> Stat
 pub fn refuse<D: Desk>(alloc: Global, desk: &mut D, fault: CertFault) -> Status
     ensures ends { EndsOnVerdict (Err fault) (D.sight desk.old) (D.sight desk.new) result }
     ensures refuses { EndsOnFault fault (D.sight desk.old) (D.sight desk.new) result }
+    ensures resume { ResumeHasCause (D.sight desk.old) (D.sight desk.new) result }
     ensures upgrade { UpgradeHasCause (D.sight desk.old) (D.sight desk.new) result }
     ensures same { SameIn (D.sight desk.old) (D.sight desk.new) }
     ensures cause { CheckHasCause (D.sight desk.old) (D.sight desk.new) result }

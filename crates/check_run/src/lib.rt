@@ -8,6 +8,7 @@
 #![tactic(auto)]
 
 mod axes;
+mod both;
 mod check;
 mod checked;
 mod name;
@@ -20,13 +21,14 @@ mod script_refused;
 mod solved;
 mod status;
 
+pub use both::{Inputs, Unread, fetch_both, header_bound};
 pub use check::{ROOM, Unconfirmed, check_session, refuse};
 pub use checked::{confirmed_delta_sat, confirmed_unsat, left_open};
 pub use planned::{plan_least_bits, plan_no_atom, plan_no_axis};
 pub use ports::{finish, say};
 pub use refused::cert_fault;
 pub use run::run_check;
-pub use script::{Halt, end_halted, fetch_session};
+pub use script::{Halt, end_halted, fetch_session, refusal, too_long};
 pub use script_refused::script_fault;
-pub use solved::{budget, delta_sat, demo, unsat, width};
+pub use solved::{budget, delta_sat, demo, part, unsat, width};
 pub use status::Status;

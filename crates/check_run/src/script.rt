@@ -35,8 +35,8 @@ fn fault_refusal(alloc: Global, fault: &ScriptFault) -> Halt
     }
 }
 
-// Why a script is not read.
-fn refusal(alloc: Global, error: &ReadError) -> Halt
+/// Why a script is not read.
+pub fn refusal(alloc: Global, error: &ReadError) -> Halt
     ensures { (found : Option ScriptFault) → IsFaultOrMemory error.now found →
         IsHaltOfFault found result }
 {
@@ -46,8 +46,8 @@ fn refusal(alloc: Global, error: &ReadError) -> Halt
     }
 }
 
-// The refusal of a script that is too long.
-fn too_long(alloc: Global) -> Halt
+/// The refusal of a script that is too long.
+pub fn too_long(alloc: Global) -> Halt
     ensures { IsTooLong result }
 {
     let fault = ScriptFault {

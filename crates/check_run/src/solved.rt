@@ -4,6 +4,7 @@ ghost use Rattle.poly_graph.specs.ProblemViews.{problem_of};
 ghost use Rattle.poly_graph.specs.Marks.{Mark};
 ghost use Rattle.ival.specs.SpaceViews.{space_of};
 ghost use Rattle.cert_model.specs.AnswerText.{budget_text, delta_sat_text, demo_text, unsat_text, width_text};
+ghost use Rattle.check_run.specs.Resumed.{part_text};
 ghost use Rattle.check_run.specs.Loosened.{AtDelta, AtMargin};
 
 use crate::axes::{Shown, append_axes};
@@ -33,6 +34,23 @@ pub fn delta_sat(
     let mut text = head.into_bytes();
     append_axes(&mut text, problem.axes(), point, Shown::Value)?;
     Ok(text)
+}
+
+/// Nothing is left in the share `number` of `count`, and `others` states are open in others.
+pub fn part(
+    alloc: Global,
+    number: u32,
+    count: u32,
+    others: u64,
+    margin_bits: u32,
+) -> Result<Vec<u8>, AllocError>
+    ensures { IfOk result (λ text. AtMargin margin_bits (λ s.
+        text.items ≡ part_text (record { number = number; count = count }) others s)) }
+{
+    let text = format!(in alloc;
+        "part {number}/{count}\nopen {others}\nmargin 1b-{margin_bits}\n"
+    )?;
+    Ok(text.into_bytes())
 }
 
 /// The budget of branches was spent before an answer was found.
