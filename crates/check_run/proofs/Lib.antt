@@ -7,6 +7,7 @@ pub mod Faulty
 pub mod Headline
 pub mod Reading
 pub mod Resumes
+pub mod RunBoth
 pub mod Running
 pub mod Shown
 pub mod Verdicts

@@ -9,6 +9,8 @@ use Rattle.check_run.specs.declared.both.Inputs.{Inputs}
 use Rattle.check_run.specs.declared.both.Unread.{Unread}
 use Rattle.check_run.specs.declared.both.Unread.TheVariants as unread
 use Rattle.desk.specs.declared.desk.Port.TheVariants.{CertIn}
+use Rattle.check_run.specs.declared.status.Status.{Status}
+use Rattle.check_run.specs.declared.status.Status.TheVariants.{InFailed, NoMemory}
 use Rattle.check_run.specs.Course.{Course, Quiet}
 use Rattle.check_run.specs.Can.{both_starts, CanBy, OfProblem}
 use Rattle.check_run.specs.Parts.{After}
@@ -64,3 +66,8 @@ CanGoOn words script cert_in = CanBy (script_fault (header_bound cert_in) script
 abbrev pub IsPassed : List (List ℕ) → List (List ℕ) → Bool → Type 0
 IsPassed old new true = behind_line old ≡ Some new
 IsPassed old new false = behind_line old ≡ None
+
+-- the status of a run that ends so
+abbrev pub status_of : Unread → Status
+status_of unread.Failed = InFailed
+status_of unread.Memory = NoMemory

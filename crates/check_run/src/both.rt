@@ -1,10 +1,11 @@
 // A script and a certificate, both read whole before anything is done with them.
 ghost use Rattle.std.specs.Prelude.{◌≡◌, IfOk, MatchResult, Ok};
-ghost use Rattle.check_run.specs.Both.{FetchesBoth, FetchesCert, FetchesScript, HaltsBoth, HaltsCert, HaltsScript, IsPassed};
+ghost use Rattle.check_run.specs.Both.{FetchesBoth, FetchesCert, FetchesScript, HaltsBoth, HaltsCert, HaltsScript, IsPassed, status_of};
 ghost use Rattle.check_run.specs.Resumed.{first_bound, fourth_bound, header_bound};
 ghost use Rattle.cert_read.specs.Reading.{lines_ahead};
 
 use crate::ports::fetch;
+use crate::status::Status;
 use cert_read::{Line, LineFault, LineReader};
 use desk::{Denied, Desk, Port, ReadAll, read_all};
 use std::alloc::{AllocError, Global};
@@ -22,6 +23,18 @@ pub struct Inputs {
 pub enum Unread {
     Failed,
     Memory,
+}
+
+impl Unread {
+    /// The status of a run that ends so.
+    pub fn status(self) -> Status
+        ensures { result ≡ status_of self }
+    {
+        match self {
+            Unread::Failed => Status::InFailed,
+            Unread::Memory => Status::NoMemory,
+        }
+    }
 }
 
 // The script on its port, or none where it is too long.
