@@ -1,3 +1,4 @@
+pub mod Grafts
 pub mod Grows
 pub mod Parses
 mod Refined
