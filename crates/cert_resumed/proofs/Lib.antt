@@ -1,5 +1,9 @@
 pub mod Grafts
 pub mod Grows
+pub mod Known
+pub mod LemmaStates
 pub mod Parses
 mod Refined
+pub mod Resumes
 pub mod Sections
+pub mod Stays
