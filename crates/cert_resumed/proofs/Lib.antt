@@ -1,6 +1,7 @@
 pub mod Grafts
 pub mod Grows
 pub mod Known
+pub mod Leaving
 pub mod LemmaStates
 pub mod Parses
 mod Refined
