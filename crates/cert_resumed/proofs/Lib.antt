@@ -1,3 +1,4 @@
+pub mod Fitting
 pub mod Grafts
 pub mod Grows
 pub mod Known
@@ -8,3 +9,4 @@ mod Refined
 pub mod Resumes
 pub mod Sections
 pub mod Stays
+pub mod Within
