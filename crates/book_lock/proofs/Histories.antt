@@ -25,6 +25,7 @@ later_same b w = record {
   problem = refl;
   options = refl;
   kept = refl;
+  root = refl;
   grows = record { count = le_refl (length b.nodes); lasting = λ i x at over. at };
 }
 
@@ -34,6 +35,7 @@ later_step b m m' c r l h s = let same = step_keeps_problem m c r m' s in record
   problem = same.0 ∙ l.problem;
   options = same.1 ∙ l.options;
   kept = same.2 ∙ l.kept;
+  root = same.3 ∙ l.root;
   grows = grows_again b m m' l.grows (step_grows m c r m' s);
 }
 

@@ -20,6 +20,7 @@ pub record IsBookAfter (b b' : BookModel) : Type 0 where
   pub problem : b'.problem ≡ b.problem
   pub options : b'.options ≡ b.options
   pub kept : b'.kept ≡ b.kept
+  pub root : b'.root ≡ b.root
   pub grows : IsLaterBook b b'
 
 -- A history leads to a later book.

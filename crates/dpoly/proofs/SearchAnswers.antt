@@ -221,7 +221,7 @@ module _ (b : BookModel) (w : IsBook b) (o : Options) (by : IsLeftBy o b) (n : b
   some-none i e f = cc
 
   no-tree-crossed : IsCrossed b → IsTreeText b cert → ⊥
-  no-tree-crossed h c = some-none h.axis h.first c.is_tree.lawful.not_crossed
+  no-tree-crossed h c = some-none h.axis h.first c.is_tree.not_crossed
 
   pub cover_is : IsCertificateOf b cert → IsCover o b cert
   cover_is (inl c) = elim w.nodes [

@@ -43,7 +43,7 @@ pub left_by : (o : Options) (kept : List State) (session : List (Parts × Bool))
 left_by o kept session [] h s = tt
 left_by o kept ((q, e) ∷ later) (b ∷ books) h s =
     let here : IsSolved b = s 0 b (omega arith) in
-    (record { asked = h.2; ended = here.verdict; due = here.left }, left_by o (next_kept b later) later books h.4 (λ k d l. s (suc k) d (omega (arith, l))))
+    (record { asked = h.2; ended = here.verdict; due = here.left }, left_by o (next_kept b later) later books h.5 (λ k d l. s (suc k) d (omega (arith, l))))
 left_by o kept [] (b ∷ books) h s = absurd h
 
 -- what holds of an answer for two reasons
@@ -214,7 +214,7 @@ module _ (o : Options) (ps : List (Problem × Bool)) (cert : List ℕ) where
       let here : k + 0 ≡ k = omega arith in
       let tells = subst (λ (i : ℕ). TellsOf b v (session_standing ps o.bound cert i)) here (f 0 b v refl refl) in (
         subst (λ (r : Parts). IsFoundPart ps o cert k (problem_of r) v) h.1 (found-part b h.0 o left.0 ps cert k v tells),
-        found-all (suc k) (next_kept b later) later books values h.4 left.1 (omega (arith, e))
+        found-all (suc k) (next_kept b later) later books values h.5 left.1 (omega (arith, e))
             (λ j c y at is. let next : k + suc j ≡ suc k + j = omega arith in subst (λ (i : ℕ). TellsOf c y (session_standing ps o.bound cert i)) next (f (suc j) c y at is)),
       )
   found-all k kept [] (b ∷ books) values h left e f = absurd h
@@ -232,7 +232,7 @@ same-texts n o kept [] [] [] h = refl
 same-texts n o kept [] [] (v ∷ values) h = refl
 same-texts n o kept ((q, x) ∷ later) (b ∷ books) [] h = refl
 same-texts n o kept ((q, x) ∷ later) (b ∷ books) (v ∷ values) h =
-    ap₂ (λ (s t : List ℕ). s ++ t) (ap (λ (r : Parts). solve_text (problem_of r) o.budget (loosenings_of o) v) h.1 ∙ same-text n o (problem_of q) v) (same-texts n o (next_kept b later) later books values h.4)
+    ap₂ (λ (s t : List ℕ). s ++ t) (ap (λ (r : Parts). solve_text (problem_of r) o.budget (loosenings_of o) v) h.1 ∙ same-text n o (problem_of q) v) (same-texts n o (next_kept b later) later books values h.5)
 same-texts n o kept [] (b ∷ books) values h = absurd h
 same-texts n o kept (c ∷ later) [] values h = absurd h
 

@@ -12,7 +12,7 @@ use Rattle.cover_book.specs.Model.{BookModel, problem_in}
 use Rattle.cover_book.specs.Keeps.{IsCrossed}
 use Rattle.cover_book.specs.Laws.{IsTreeOfBook}
 use Rattle.cover_book.specs.Verdict.{verdict_of}
-use Rattle.solve_core.specs.Left.{LeavesDue}
+use Rattle.cover_book.specs.Left.{LeavesDue}
 use Rattle.dpoly.specs.declared.answers.SearchAnswer.{SearchAnswer}
 use Rattle.cert_model.specs.Standing.{Stands}
 use Rattle.cert_text.specs.Session.{TellsOf}

@@ -9,7 +9,7 @@ use Rattle.cover_book.specs.declared.verdict.BookVerdict.TheVariants.{DeltaSat, 
 use Rattle.cover_book.specs.Model.{NodeModel, live_node, crossed_node, closed_node, parted_node, stuck_node, BookModel}
 use Rattle.cover_book.specs.Verdict.{is_live, has_live, has_stuck, may_branch, verdict_of}
 use Rattle.solve_core.specs.declared.search.Search.{Search}
-use Rattle.solve_core.specs.Left.{IsLeftLive, LeavesDue}
+use Rattle.cover_book.specs.Left.{IsLeftLive, LeavesDue}
 use Rattle.solve_core.specs.Search.{EachWaits, IsSearch, IsOver}
 
 none-contained : (n : ℕ) → Contains [] n → ⊥

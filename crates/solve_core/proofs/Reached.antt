@@ -14,9 +14,9 @@ pub reaches_through : {b c : BookModel} → Reaches b c → {d : BookModel} → 
 reaches_through h stays = h
 reaches_through h (calls c call reply k m s) = calls c call reply (reaches_through h k) m s
 
-pub reaches_same : {b c : BookModel} → Reaches b c → (c.problem ≡ b.problem) × (c.options ≡ b.options) × (c.kept ≡ b.kept)
-reaches_same stays = (refl, refl, refl)
-reaches_same (calls {d = d} c call reply k m s) = let e = reaches_same k in let f = step_keeps_problem c call reply d s in (f.0 ∙ e.0, f.1 ∙ e.1, f.2 ∙ e.2)
+pub reaches_same : {b c : BookModel} → Reaches b c → (c.problem ≡ b.problem) × (c.options ≡ b.options) × (c.kept ≡ b.kept) × (c.root ≡ b.root)
+reaches_same stays = (refl, refl, refl, refl)
+reaches_same (calls {d = d} c call reply k m s) = let e = reaches_same k in let f = step_keeps_problem c call reply d s in (f.0 ∙ e.0, f.1 ∙ e.1, f.2 ∙ e.2, f.3 ∙ e.3)
 
 pub same_reaches : {b b' : BookModel} → b' ≡ b → Reaches b b'
 same_reaches {b = b} e = subst (Reaches b) (sym e) stays

@@ -11,11 +11,11 @@ use Rattle.cover_data.specs.declared.margins.Options.{Options}
 use Rattle.cert_model.specs.SessionLaws.{GoOn, IsSession}
 use Rattle.cover_book.specs.Keeps.{IsBook}
 use Rattle.cover_book.specs.Limits.{IsWithinLimits}
-use Rattle.cover_book.specs.Model.{BookModel, opening_with, kept_from}
+use Rattle.cover_book.specs.Model.{BookModel, IsOfRoot, opening_with, kept_from}
 use Rattle.cover_book.specs.Session.{next_kept, AreBooksOf}
 use Rattle.cover_book.specs.Verdict.{verdict_of}
 use Rattle.cover_book.specs.declared.verdict.BookVerdict.TheVariants as verdict
-use Rattle.solve_core.specs.Left.{LeavesDue}
+use Rattle.cover_book.specs.Left.{LeavesDue}
 use Rattle.solve_core.specs.Reaches.{Reaches}
 use Rattle.solve_core.specs.Solved.{IsSolved, IsCheckWithin, IsProblemAt, IsNextBook}
 use Rattle.solve_core.proofs.Reached.{reaches_same}
@@ -79,7 +79,7 @@ book-at o kept [] [] h i b e = cc
 book-at o kept [] (c ∷ books) h i b e = elim h [ ]
 book-at o kept ((q, f) ∷ ps) [] h i b e = elim h [ ]
 book-at o kept ((q, f) ∷ ps) (c ∷ books) h zero b e = let x : c ≡ b = cc in subst (λ (d : BookModel). IsProblemAt ((q, f) ∷ ps) zero d.problem × (d.options ≡ o)) x ((f, ap (λ (r : Parts). Some (r, f)) (sym h.1)), h.2)
-book-at o kept ((q, f) ∷ ps) (c ∷ books) h (suc i) b e = book-at o (next_kept c ps) ps books h.4 i b e
+book-at o kept ((q, f) ∷ ps) (c ∷ books) h (suc i) b e = book-at o (next_kept c ps) ps books h.5 i b e
 
 -- the book of a check, where these are the books of the first checks
 pub book_at : (o : Options) (ps : List Check) (n : ℕ) (books : List BookModel) → AreBooksOf o [] (take n ps) books → (i : ℕ) (b : BookModel) → slice_get books i ≡ Some b → IsProblemAt ps i b.problem × (b.options ≡ o)
@@ -89,25 +89,25 @@ pub books_count : (o : Options) (kept : List State) (ps : List Check) (books : L
 books_count o kept [] [] h = refl
 books_count o kept [] (c ∷ books) h = elim h [ ]
 books_count o kept ((q, f) ∷ ps) [] h = elim h [ ]
-books_count o kept ((q, f) ∷ ps) (c ∷ books) h = ap suc (books_count o (next_kept c ps) ps books h.4)
+books_count o kept ((q, f) ∷ ps) (c ∷ books) h = ap suc (books_count o (next_kept c ps) ps books h.5)
 
 -- there are as many as checks that they are of
 pub first_count : (o : Options) (ps : List Check) (n : ℕ) (books : List BookModel) → AreBooksOf o [] (take n ps) books → n ≤ length ps → length books ≡ n
 first_count o ps n books h m = omega (arith, books_count o [] (take n ps) books h, length-take n ps, m)
 
 one-more : (o : Options) (kept : List State) (ps : List Check) (books : List BookModel) (last b : BookModel) (q : Parts) (e : Bool) → AreBooksOf o kept ps books → (i : ℕ) → suc i ≡ length books → slice_get books i ≡ Some last →
-    IsBook b → b.problem ≡ q → b.options ≡ o → b.kept ≡ cond e (kept_from last q) [] → AreBooksOf o kept (ps ++ ((q, e) ∷ [])) (books ++ (b ∷ []))
-one-more o kept [] [] last b q e h i n at w p r k = absurd (omega (arith, n))
-one-more o kept [] (c ∷ books) last b q e h i n at w p r k = elim h [ ]
-one-more o kept ((q', e') ∷ ps) [] last b q e h i n at w p r k = elim h [ ]
-one-more o kept ((q', e') ∷ []) (c ∷ []) last b q e h zero n at w p r k = let x : last ≡ c = cc in
-    (h.0, h.1, h.2, h.3, (w, p, r, subst (λ (d : BookModel). b.kept ≡ cond e (kept_from d q) []) x k, tt))
-one-more o kept ((q', e') ∷ []) (c ∷ []) last b q e h (suc i) n at w p r k = absurd (omega (arith, n))
-one-more o kept ((q', e') ∷ []) (c ∷ d ∷ books) last b q e h i n at w p r k = elim h.4 [ ]
-one-more o kept ((q', e') ∷ (q'', e'') ∷ ps) (c ∷ []) last b q e h i n at w p r k = elim h.4 [ ]
-one-more o kept ((q', e') ∷ (q'', e'') ∷ ps) (c ∷ d ∷ books) last b q e h zero n at w p r k = absurd (omega (arith, n))
-one-more o kept ((q', e') ∷ (q'', e'') ∷ ps) (c ∷ d ∷ books) last b q e h (suc i) n at w p r k =
-    (h.0, h.1, h.2, h.3, one-more o (cond e'' (kept_from c q'') []) ((q'', e'') ∷ ps) (d ∷ books) last b q e h.4 i (omega (arith, n)) at w p r k)
+    IsBook b → b.problem ≡ q → b.options ≡ o → b.kept ≡ cond e (kept_from last q) [] → IsOfRoot b → AreBooksOf o kept (ps ++ ((q, e) ∷ [])) (books ++ (b ∷ []))
+one-more o kept [] [] last b q e h i n at w p r k t = absurd (omega (arith, n))
+one-more o kept [] (c ∷ books) last b q e h i n at w p r k t = elim h [ ]
+one-more o kept ((q', e') ∷ ps) [] last b q e h i n at w p r k t = elim h [ ]
+one-more o kept ((q', e') ∷ []) (c ∷ []) last b q e h zero n at w p r k t = let x : last ≡ c = cc in
+    (h.0, h.1, h.2, h.3, h.4, (w, p, r, subst (λ (d : BookModel). b.kept ≡ cond e (kept_from d q) []) x k, t, tt))
+one-more o kept ((q', e') ∷ []) (c ∷ []) last b q e h (suc i) n at w p r k t = absurd (omega (arith, n))
+one-more o kept ((q', e') ∷ []) (c ∷ d ∷ books) last b q e h i n at w p r k t = elim h.5 [ ]
+one-more o kept ((q', e') ∷ (q'', e'') ∷ ps) (c ∷ []) last b q e h i n at w p r k t = elim h.5 [ ]
+one-more o kept ((q', e') ∷ (q'', e'') ∷ ps) (c ∷ d ∷ books) last b q e h zero n at w p r k t = absurd (omega (arith, n))
+one-more o kept ((q', e') ∷ (q'', e'') ∷ ps) (c ∷ d ∷ books) last b q e h (suc i) n at w p r k t =
+    (h.0, h.1, h.2, h.3, h.4, one-more o (cond e'' (kept_from c q'') []) ((q'', e'') ∷ ps) (d ∷ books) last b q e h.5 i (omega (arith, n)) at w p r k t)
 
 -- the book of the next check behind those of the first ones
 pub next_book : (o : Options) (ps : List Check) (i : ℕ) (books : List BookModel) (last b : BookModel) → AreBooksOf o [] (take (suc i) ps) books → suc i ≤ length ps → slice_get books i ≡ Some last → last.options ≡ o → IsNextBook ps i last b →
@@ -115,13 +115,17 @@ pub next_book : (o : Options) (ps : List Check) (i : ℕ) (books : List BookMode
 next_book o ps i books last b h m at same x =
     let n : suc i ≡ length books = sym (first_count o ps (suc i) books h m) in
     subst (λ (qs : List Check). AreBooksOf o [] qs (books ++ (b ∷ []))) (take_next ps (suc i) (b.problem, x.goes_on) x.check)
-    (one-more o [] (take (suc i) ps) books last b b.problem x.goes_on h i n at x.book refl (x.options ∙ same) x.kept)
+    (one-more o [] (take (suc i) ps) books last b b.problem x.goes_on h i n at x.book refl (x.options ∙ same) x.kept x.root)
 
-pub first_book : (o : Options) (ps : List Check) (b : BookModel) → IsProblemAt ps zero b.problem → IsBook b → b.options ≡ o → b.kept ≡ [] → AreBooksOf o [] (take 1 ps) (b ∷ [])
-first_book o [] b at w e k = let f = at.1 in cc
-first_book o (c ∷ ps) b at w e k = let q : (b.problem, at.0) ≡ c = let f = at.1 in cc in (w, ap (λ (d : Check). d.0) q, e, k, tt)
+pub first_book : (o : Options) (ps : List Check) (b : BookModel) → IsProblemAt ps zero b.problem → IsBook b → b.options ≡ o → b.kept ≡ [] → IsOfRoot b → AreBooksOf o [] (take 1 ps) (b ∷ [])
+first_book o [] b at w e k t = let f = at.1 in cc
+first_book o (c ∷ ps) b at w e k t = let q : (b.problem, at.0) ≡ c = let f = at.1 in cc in (w, ap (λ (d : Check). d.0) q, e, k, t, tt)
 
 -- ---- what a search leaves
+
+-- a book that opened in the root state is one of the whole box
+pub of_root : (b : BookModel) → IsSolved b → IsOfRoot b
+of_root b s = (reaches_same s.reached).3
 
 pub solved_from : (c b : BookModel) (p : Parts) (o : Options) (kept : List State) → c ≡ opening_with p o kept → Reaches c b → (verdict_of b ≡ verdict.NotYet → ⊥) → LeavesDue b → IsSolved b
 solved_from c b p o kept e r v l =

@@ -25,7 +25,7 @@ use Rattle.cover_book.proofs.Lookups.{states_count, more_states}
 use Rattle.box_worker.specs.Worked.{AreLemmasFor}
 use Rattle.solve_core.specs.declared.search.Search.{Search}
 use Rattle.solve_core.specs.Reaches.{Reaches}
-use Rattle.solve_core.specs.Left.{IsLeftLive}
+use Rattle.cover_book.specs.Left.{IsLeftLive}
 use Rattle.solve_core.specs.Search.{IsUnderWay, IsSearch, CanFind, CanCommit, CanLearn, CanHand}
 use Rattle.solve_core.proofs.Reached.{one_call}
 use Rattle.solve_core.proofs.Left.{commit_leaves, CommitLeaves}

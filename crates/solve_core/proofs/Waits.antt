@@ -15,13 +15,13 @@ use Rattle.cover_book.specs.declared.refusal.Kids.TheVariants as kids
 use Rattle.cover_book.specs.Model.{LearnedLemma, BookModel, problem_in, margins_of, loosenings_in, lemma_states_in}
 use Rattle.cover_book.specs.Steps.{IsLive}
 use Rattle.box_worker.specs.Worked.{AreLemmasFor}
-use Rattle.solve_core.specs.Left.{IsLeftLive}
+use Rattle.cover_book.specs.Left.{IsLeftLive}
 use Rattle.solve_core.specs.Search.{EachWaits}
 use Rattle.solve_core.proofs.Left.{IsKid, CommitLeaves}
 
 -- the same problem and options
 abbrev pub Same : BookModel → BookModel → Type 0
-Same b b' = (b'.problem ≡ b.problem) × (b'.options ≡ b.options) × (b'.kept ≡ b.kept)
+Same b b' = (b'.problem ≡ b.problem) × (b'.options ≡ b.options) × (b'.kept ≡ b.kept) × (b'.root ≡ b.root)
 
 -- what speaks of them alone
 pub carried : (F : Parts → Options → Type 0) (b b' : BookModel) → Same b b' → F b.problem b.options → F b'.problem b'.options

@@ -1,5 +1,4 @@
 pub mod Reaches
-pub mod Left
 pub mod Search
 pub mod Workers
 pub mod Askers

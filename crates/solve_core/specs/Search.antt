@@ -13,7 +13,7 @@ use Rattle.cover_book.specs.Model.{BookModel, problem_in, margins_of, loosenings
 use Rattle.cover_book.specs.Steps.{IsLive, ends_in_branch}
 use Rattle.box_worker.specs.Worked.{AreLemmasFor}
 use Rattle.solve_core.specs.declared.search.Search.{Search}
-use Rattle.solve_core.specs.Left.{IsLeftLive}
+use Rattle.cover_book.specs.Left.{IsLeftLive}
 
 -- each live node waits, or is left live
 abbrev pub EachWaits : BookModel → List ℕ → Type 0

@@ -5,9 +5,9 @@ use Rattle.cover_data.specs.declared.margins.Options.{Options}
 use Rattle.cover_book.specs.declared.verdict.BookVerdict.TheVariants as verdict
 use Rattle.cover_book.specs.Keeps.{IsBook}
 use Rattle.cover_book.specs.Limits.{IsWithinLimits}
-use Rattle.cover_book.specs.Model.{BookModel, opening_with, kept_from}
+use Rattle.cover_book.specs.Model.{BookModel, IsOfRoot, opening_with, kept_from}
 use Rattle.cover_book.specs.Verdict.{verdict_of}
-use Rattle.solve_core.specs.Left.{LeavesDue}
+use Rattle.cover_book.specs.Left.{LeavesDue}
 use Rattle.solve_core.specs.Reaches.{Reaches}
 
 -- calls on the book as it opened lead to it, and it has an answer
@@ -30,5 +30,6 @@ pub record IsNextBook (session : List (Parts × Bool)) (k : ℕ) (old b : BookMo
   pub check : slice_get session (suc k) ≡ Some (b.problem, goes_on)
   pub options : b.options ≡ old.options
   pub kept : b.kept ≡ cond goes_on (kept_from old b.problem) []
+  pub root : IsOfRoot b
   pub book : IsBook b
   pub solved : IsSolved b

@@ -11,7 +11,7 @@ ghost use Rattle.cover_book.specs.Session.{AreBooksOf};
 ghost use Rattle.cover_book.specs.Verdict.{verdict_of};
 ghost use Rattle.cover_book.specs.declared.verdict.BookVerdict.TheVariants as verdict;
 ghost use Rattle.solve_core.specs.Reaches.{Reaches};
-ghost use Rattle.solve_core.specs.Left.{LeavesDue};
+ghost use Rattle.cover_book.specs.Left.{LeavesDue};
 ghost use Rattle.solve_core.specs.Search.{IsSearch, work_left};
 ghost use Rattle.solve_core.specs.Solved.{IsSolved, IsCheckWithin, IsProblemAt, IsNextBook};
 
@@ -175,6 +175,31 @@ fn search_from<R: Threads + Wait + Sync, G: Gate + Sync>(
     let begun = start(alloc, book, problem, gate)?;
     let book = search_together::<Brand, R, G>(rt, alloc, begun, problem, options, workers, gate);
     finish(alloc, book, problem, gate)
+}
+
+/// Searches on from a book as it stands, by its own options, as `solve` does from the opening book.
+pub fn search_on<R: Threads + Wait + Sync, G: Gate + Sync>(
+    rt: &R,
+    alloc: Global,
+    book: Book,
+    gate: &G,
+) -> Result<Book, AllocError>
+    // The book stays one of the same problem, options, first lemmas and first state, and calls on it lead to what is
+    // answered.
+    ensures problem { IfOk result (λ b. b.problem ≡ book.problem) }
+    ensures options { IfOk result (λ b. b.options ≡ book.options) }
+    ensures kept { IfOk result (λ b. b.kept ≡ book.kept) }
+    ensures root { IfOk result (λ b. b.root ≡ book.root) }
+    ensures book { IfOk result (λ b. IsBook b) }
+    ensures reached { IfOk result (λ b. Reaches book b) }
+
+    // It has an answer.
+    ensures verdict { IfOk result (λ b. verdict_of b ≢ verdict.NotYet) }
+    ensures left { IfOk result (λ b. LeavesDue b) }
+{
+    let problem = book.problem().try_clone(alloc)?;
+    let options = *book.options();
+    search_from(rt, alloc, book, &problem, &options, gate)
 }
 
 /// Searches for a point of the problem, or for a cover of its declared box, from the opening book on. Where the options

@@ -2,7 +2,7 @@ use Rattle.std.proofs.Common.{◌≡◌, sym, subst}
 use Rattle.cover_book.specs.Model.{BookModel}
 use Rattle.cover_book.specs.declared.verdict.BookVerdict.TheVariants as verdict
 use Rattle.cover_book.specs.Verdict.{verdict_of}
-use Rattle.solve_core.specs.Left.{LeavesDue}
+use Rattle.cover_book.specs.Left.{LeavesDue}
 use Rattle.solve_core.proofs.Ends.{not_not_yet}
 use Rattle.solve_core.proofs.run.finish.Goals as goal
 

@@ -9,7 +9,7 @@ use Rattle.cover_book.specs.Model.{BookModel, opening}
 use Rattle.cover_book.specs.Session.{AreBooksOf}
 use Rattle.solve_core.specs.Solved.{IsSolved, IsCheckWithin, IsProblemAt, IsNextBook}
 use Rattle.solve_core.proofs.Reached.{reaches_same}
-use Rattle.solve_core.proofs.Sessions.{first_at, within_at, first_book, book_at, first_count, next_book, solved_from}
+use Rattle.solve_core.proofs.Sessions.{first_at, within_at, first_book, book_at, first_count, next_book, of_root, solved_from}
 use Rattle.solve_core.proofs.run.solve_each.Goals as goal
 
 pub solve-requires-after_bounds : goal.solve-requires-after_bounds
@@ -23,7 +23,7 @@ loop-k-init g c =
     let one : c.push.new.self.items ≡ b ∷ [] = c.in_ok-push.ensures.items ∙ ap (λ (bs : List BookModel). bs ++ (b ∷ [])) c.requires.none in
     let solved : IsSolved b = solved_from (opening p o) b p o [] refl is.reached is.verdict is.left in record {
       some = omega arith;
-      books = subst (AreBooksOf o [] (take 1 ps)) (sym one) (first_book o ps b at is.book is.options (reaches_same is.reached).2);
+      books = subst (AreBooksOf o [] (take 1 ps)) (sym one) (first_book o ps b at is.book is.options (reaches_same is.reached).2 (of_root b solved));
       solved = subst (All IsSolved) (sym one) (All-cons IsSolved b [] solved (All-nil IsSolved));
     }
 

@@ -8,11 +8,11 @@ use Rattle.cover_book.specs.Limits.{IsWithinLimits}
 use Rattle.cover_book.specs.Model.{BookModel, problem_in, kept_from, opening_with}
 use Rattle.cover_book.specs.Verdict.{verdict_of}
 use Rattle.cover_book.specs.declared.verdict.BookVerdict.TheVariants as verdict
-use Rattle.solve_core.specs.Left.{LeavesDue}
+use Rattle.cover_book.specs.Left.{LeavesDue}
 use Rattle.solve_core.specs.Reaches.{Reaches}
 use Rattle.solve_core.specs.Solved.{IsNextBook}
 use Rattle.solve_core.proofs.Reached.{reaches_same}
-use Rattle.solve_core.proofs.Sessions.{both_at, goes_on_at, within_at, solved_from, ok_by}
+use Rattle.solve_core.proofs.Sessions.{both_at, goes_on_at, within_at, of_root, solved_from, ok_by}
 use Rattle.solve_core.proofs.run.solve_next.Goals as goal
 
 pub opened-requires-clause-limits : goal.opened-requires-clause-limits
@@ -37,12 +37,14 @@ returns g c =
     ok_by (Reaches c.in_ok-book.book) (λ (b : BookModel). verdict_of b ≡ verdict.NotYet → ⊥) LeavesDue IsBook (IsNextBook ps (k - 1) old) c.search_from.result
     (λ b r v l w.
     let same = reaches_same r in
+    let solved = solved_from c.in_ok-book.book b c.in_ok-copy.copy old.options (cond on (kept_from old c.in_ok-copy.copy) []) made r v l in
     let p : b.problem ≡ problem = same.0 ∙ ap (λ (d : BookModel). d.problem) made ∙ c.in_ok-copy.ensures in
     record {
       goes_on = on;
       check = at ∙ ap (λ (x : Parts). Some (x, on)) (sym p);
       options = same.1 ∙ ap (λ (d : BookModel). d.options) made;
       kept = same.2 ∙ ap (λ (d : BookModel). d.kept) made ∙ ap (λ (x : Parts). cond on (kept_from old x) []) (c.in_ok-copy.ensures ∙ sym p);
+      root = of_root b solved;
       book = w;
-      solved = solved_from c.in_ok-book.book b c.in_ok-copy.copy old.options (cond on (kept_from old c.in_ok-copy.copy) []) made r v l;
+      solved = solved;
     }) c.search_from.ensures.reached c.search_from.ensures.verdict c.search_from.ensures.left c.search_from.ensures.book

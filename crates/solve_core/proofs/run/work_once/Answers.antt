@@ -1,5 +1,5 @@
 use Rattle.std.proofs.Common.{refl, sym, subst}
-use Rattle.solve_core.specs.Left.{LeavesDue}
+use Rattle.cover_book.specs.Left.{LeavesDue}
 use Rattle.solve_core.proofs.Ends.{leaves_due}
 use Rattle.solve_core.proofs.Reached.{same_reaches}
 use Rattle.solve_core.proofs.run.work_once.Goals as goal
