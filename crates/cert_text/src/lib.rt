@@ -10,6 +10,7 @@ mod cover;
 mod facts;
 mod keyword;
 pub mod laws;
+mod line;
 mod parts;
 mod point;
 mod session;
@@ -17,6 +18,7 @@ mod stuck;
 mod walk;
 
 pub use cover::write_cover;
+pub use line::append_line;
 pub use point::write_point;
 pub use session::write_session;
 pub use stuck::{StuckBox, first_stuck};
