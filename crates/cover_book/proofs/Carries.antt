@@ -14,7 +14,6 @@ use Rattle.poly_graph.specs.ProblemViews.{Parts, IsWhole, problem_of}
 use Rattle.cover_model.specs.Carried.{GoesOnFrom, carried}
 use Rattle.cover_model.specs.Fits.{FitsAxes, FitsProblem}
 use Rattle.cover_model.specs.Root.{root_domain, root_space}
-use Rattle.cover_model.specs.Space.{IsGridSpace}
 use Rattle.cover_model.specs.State.{State, Loosenings}
 use Rattle.cover_model.proofs.Carried.{carried_lemma_holds}
 use Rattle.cert_model.specs.Due.{is_some_axis, is_crossed_box}
@@ -28,7 +27,7 @@ use Rattle.cover_book.specs.Keeps.{IsKeptLemma, IsBook}
 use Rattle.cover_book.specs.Laws.{CarriedIsBook}
 use Rattle.cover_book.proofs.Lookups.{states_count}
 use Rattle.cover_book.proofs.Meaning.{lemmas_hold}
-use Rattle.cover_book.proofs.Opens.{root_grid, opens_as_book}
+use Rattle.cover_book.proofs.Opens.{opens_as_book}
 
 -- ---- all lemmas of a book are such as another one may open with
 
@@ -41,18 +40,9 @@ all-fit b w = let p = problem_in b in let s = loosenings_in b in All-append (Fit
     (All-weaker (IsKeptLemma p s) (FitsProblem p) (λ L h. h.fits) b.kept w.kept)
     (All-from_recursion (FitsProblem p) (map (λ (x : LearnedLemma). x.state) b.lemmas) (learned-fit p s b.kept b.lemmas w.lemmas))
 
-abbrev OnGrid : State → Type 0
-OnGrid S = IsGridSpace S.space
-
-all-on-grid : (b : BookModel) → IsBook b → All OnGrid (lemma_states_in b)
-all-on-grid b w = All-append OnGrid b.kept (map (λ (x : LearnedLemma). x.state) b.lemmas)
-    (All-weaker (IsKeptLemma (problem_in b) (loosenings_in b)) OnGrid (λ L h. h.grid) b.kept w.kept)
-    (All-map OnGrid (λ (x : LearnedLemma). x.state) b.lemmas w.lemma_grids)
-
 pub all_lemmas : (b : BookModel) → IsBook b → All (IsKeptLemma (problem_in b) (loosenings_in b)) (lemma_states_in b)
 all_lemmas b w = λ k d h. record {
   fits = all-fit b w k d h;
-  grid = all-on-grid b w k d h;
   lemma = lemmas_hold b w k _ (slice_get-get_or (lemma_states_in b) k d h);
 }
 
@@ -69,20 +59,10 @@ sorts-count : (axes : List Axis) → length (sorts_of_axes axes) ≡ length axes
 sorts-count [] = refl
 sorts-count (a ∷ axes) = ap suc (sorts-count axes)
 
-grid-append : (xs ys : Space) → IsGridSpace xs → IsGridSpace ys → IsGridSpace (xs ++ ys)
-grid-append [] ys g h = h
-grid-append (d ∷ xs) ys g h = (g.0, grid-append xs ys g.1 h)
-
-grid-drop : (n : ℕ) (xs : Space) → IsGridSpace xs → IsGridSpace (drop n xs)
-grid-drop zero xs g = g
-grid-drop (suc n) [] g = g
-grid-drop (suc n) (d ∷ xs) g = grid-drop n xs g.1
-
 module _ (p q : Problem) (is_p : IsProblem p) (is_q : IsProblem q) (on : GoesOnFrom p q) (s : Loosenings) (not_crossed : first_crossed q ≡ None) where
   carried-keeps : (L : State) → IsKeptLemma p s L → IsKeptLemma q s (carried q L)
   carried-keeps L h = record {
     fits = carried_fits p q is_q on not_crossed L h.fits;
-    grid = grid-append L.space (drop (length L.space) (root_space q)) h.grid (grid-drop (length L.space) (root_space q) (root_grid q is_q not_crossed));
     lemma = carried_lemma_holds p q is_p on s L h.fits h.lemma;
   }
 

@@ -21,25 +21,25 @@ use Rattle.cover_book.specs.Steps.{MayBeCalled, IsLive, with_nodes, ended_node, 
 use Rattle.cover_book.specs.Laws.{StepKeepsProblem, ConditionLasts, StepGrows, IsLaterBook}
 use Rattle.cover_book.proofs.Lists.{get_left, set_other}
 
--- ---- the problem, the options and the lemmas that the book opened with
+-- ---- the problem, the options, and what the book opened with
 
 abbrev Same : BookModel → BookModel → Type 0
-Same b b' = (b'.problem ≡ b.problem) × (b'.options ≡ b.options) × (b'.kept ≡ b.kept)
+Same b b' = (b'.problem ≡ b.problem) × (b'.options ≡ b.options) × (b'.kept ≡ b.kept) × (b'.root ≡ b.root)
 
 same-parted : (b : BookModel) (n : ℕ) (k : KeptModel) (l : Line) (o : Option (State × State)) → Same b (parted_book b n k l o)
-same-parted b n k l None = (refl, refl, refl)
-same-parted b n k l (Some (S, T)) = (refl, refl, refl)
+same-parted b n k l None = (refl, refl, refl, refl)
+same-parted b n k l (Some (S, T)) = (refl, refl, refl, refl)
 
 same-committed_book : (b : BookModel) (n : ℕ) (k : KeptModel) (o : Option Line) → Same b (committed_book b n k o)
-same-committed_book b n k None = (refl, refl, refl)
+same-committed_book b n k None = (refl, refl, refl, refl)
 same-committed_book b n k (Some l) = same-parted b n k l (children l k.reached)
 
 same-learned_book : (b : BookModel) (k : KeptModel) (o : Option Line) → Same b (learned_book b k o)
-same-learned_book b k None = (refl, refl, refl)
-same-learned_book b k (Some l) = (refl, refl, refl)
+same-learned_book b k None = (refl, refl, refl, refl)
+same-learned_book b k (Some l) = (refl, refl, refl, refl)
 
 same-as : (b c : BookModel) → c ≡ b → Same b c
-same-as b c e = (ap (λ (x : BookModel). x.problem) e, ap (λ (x : BookModel). x.options) e, ap (λ (x : BookModel). x.kept) e)
+same-as b c e = (ap (λ (x : BookModel). x.problem) e, ap (λ (x : BookModel). x.options) e, ap (λ (x : BookModel). x.kept) e, ap (λ (x : BookModel). x.root) e)
 
 same-by : (b c b' : BookModel) → b' ≡ c → Same b c → Same b b'
 same-by b c b' e h = subst (Same b) (sym e) h
@@ -49,7 +49,7 @@ step_keeps_problem b (Commit n P) (Committed c) b' s = same-by b (committed_book
 step_keeps_problem b (Commit n P) (Refused e) b' s = same-as b b' s.1
 step_keeps_problem b (Learn k) (Learned i) b' s = same-by b (learned_book b k k.end) b' s.book (same-learned_book b k k.end)
 step_keeps_problem b (Learn k) (Refused e) b' s = same-as b b' s.1
-step_keeps_problem b (Find n x) Found b' s = same-by b _ b' s.book (refl, refl, refl)
+step_keeps_problem b (Find n x) Found b' s = same-by b _ b' s.book (refl, refl, refl, refl)
 step_keeps_problem b (Find n x) (Refused e) b' s = same-as b b' s.1
 step_keeps_problem b (StateOf n) (LiveState S) b' s = same-as b b' s.1
 step_keeps_problem b (StateOf n) (Refused e) b' s = same-as b b' s.1

@@ -23,12 +23,11 @@ use Rattle.cert_model.specs.Accepted.{loosenings_fit}
 use Rattle.cert_model.specs.Due.{Standing}
 use Rattle.cert_model.specs.Derived.{AreDerived, states_of}
 use Rattle.cert_model.specs.Written.{LemmaTree, lemma_states, AreLemmaTrees, left_standing, tree_standing}
-use Rattle.cert_model.specs.Laws.{IsLawfulCover}
 use Rattle.cert_model.proofs.Means.{lemmas_after}
 use Rattle.cover_book.specs.Model.{NodeModel, live_node, crossed_node, stuck_node, BookModel, problem_in, margins_of, loosenings_in, lemma_states_in}
-use Rattle.cover_book.specs.Tree.{TreeOf, of_live, of_closed, of_stuck, of_parted, lemma_trees, lemma_tree}
+use Rattle.cover_book.specs.Tree.{TreeOf, of_live, of_closed, of_stuck, of_parted, lemma_trees, lemma_tree, cover_lemmas}
 use Rattle.cover_book.specs.Keeps.{IsCovered, IsCrossed, IsKeptLemma, IsBook}
-use Rattle.cover_book.specs.Laws.{IsLeft, BookCatches, NodesLieWithin, IsTreeOfBook, BookHasTree, TreeIsHonest}
+use Rattle.cover_book.specs.Laws.{IsLeft, BookCatches, NodesLieWithin, IsTreeOfBook, BookHasTree, TreeIsHonest, RootedTreeIsCover}
 use Rattle.cover_book.proofs.Lists.{some_at, all_append}
 use Rattle.cover_book.proofs.Facts.{IsGood, node_good}
 use Rattle.cover_book.proofs.Kept.{never_live, same_states}
@@ -70,14 +69,15 @@ among-some b point (x ∷ xs) h (later a) = among-some b point xs h.1 a
 abbrev Any : Standing → Type 0
 Any x = Unit {0}
 
-any-good : (b : BookModel) (w : IsBook b) (h : IsCovered b) → Lawful (problem_in b) (loosenings_in b) (lemma_states_in b) (root_state (problem_in b)) h.tree (states_of h.left)
-any-good b w h = (node_good b w.whole h Any (λ x q i. tt) (λ n S e. tt) h.is_tree (root_state (problem_in b)) h.root).lawful
+any-good : (b : BookModel) (w : IsBook b) (h : IsCovered b) → Lawful (problem_in b) (loosenings_in b) (lemma_states_in b) b.root h.tree (states_of h.left)
+any-good b w h = (node_good b w.whole h Any (λ x q i. tt) (λ n S e. tt) h.is_tree b.root h.root).lawful
 
 pub book_catches : BookCatches
-book_catches b w point q i m = elim w.nodes [
+book_catches b w r point q i m = elim w.nodes [
   | inl c ↦ absurd (crossed_is_empty (problem_in b) c.axis point q (first_crosses (problem_in b) c.axis c.first) i)
   | inr h ↦ among-some b point h.left (each-stays b h.is_tree)
-      (tree_keeps (problem_in b) (loosenings_in b) w.whole.problem (lemma_states_in b) (lemmas_hold b w) (any-good b w h) point (root_has (problem_in b) w.whole.problem (loosenings_in b) point q i) m)
+      (tree_keeps (problem_in b) (loosenings_in b) w.whole.problem (lemma_states_in b) (lemmas_hold b w) (any-good b w h) point
+      (subst (λ (S : State). IsPointOf (problem_in b) (loosenings_in b) S point) (sym r) (root_has (problem_in b) w.whole.problem (loosenings_in b) point q i)) m)
 ]
 
 -- ---- within the root
@@ -120,30 +120,25 @@ module _ (b : BookModel) (w : IsBook b) (h : IsCovered b) where
   abbrev but_open : Standing → Type 0
   but_open x = (x.does ≡ open_line → ⊥) → IsTrue (is_honest (problem_in b) b.options.least_bits (loosenings_in b) x.state x.does)
 
-  abbrev its_good : IsGood (problem_in b) (margins_of b.options) (lemma_states_in b) but_open (λ x q i. λ r. i) (root_state (problem_in b)) h.tree h.left
-  its_good = node_good b w.whole h but_open (λ x q i. λ r. i) (λ n S e. λ r. absurd (r refl)) h.is_tree (root_state (problem_in b)) h.root
-
-  lawful-cover : IsLawfulCover (problem_in b) (loosenings_in b) b.kept (lemma_trees b) h.tree
-  lawful-cover = record {
-    loosenings = fits_limits b w;
-    count = omega (arith, length-map b.lemmas lemma_tree, w.few_lemmas);
-    lemma_trees = w.lemmas;
-    not_crossed = h.not_crossed;
-    left = states_of h.left;
-    lawful = subst (λ (ys : List State). Lawful (problem_in b) (loosenings_in b) ys (root_state (problem_in b)) h.tree (states_of h.left)) (sym (same_states b)) its_good.lawful;
-    names = its_good.names;
-  }
+  abbrev its_good : IsGood (problem_in b) (margins_of b.options) (lemma_states_in b) but_open (λ x q i. λ r. i) b.root h.tree h.left
+  its_good = node_good b w.whole h but_open (λ x q i. λ r. i) (λ n S e. λ r. absurd (r refl)) h.is_tree b.root h.root
 
   covered-tree : IsTreeOfBook b h.tree h.left
   covered-tree = record {
     numbers = h.numbers;
     is_tree = h.is_tree;
-    lawful = lawful-cover;
-    stands = ap (λ (ys : List State). left_standing (problem_in b) (loosenings_in b) ys (root_state (problem_in b)) h.tree) (same_states b) ∙ its_good.left;
+    loosenings = fits_limits b w;
+    few = omega (arith, length-map b.lemmas lemma_tree, w.few_lemmas);
+    lemmas = w.lemmas;
+    not_crossed = h.not_crossed;
+    states = states_of h.left;
+    lawful = subst (λ (ys : List State). Lawful (problem_in b) (loosenings_in b) ys b.root h.tree (states_of h.left)) (sym (same_states b)) its_good.lawful;
+    names = its_good.names;
+    stands = ap (λ (ys : List State). left_standing (problem_in b) (loosenings_in b) ys b.root h.tree) (same_states b) ∙ its_good.left;
     branches = h.branches;
     once = h.once;
-    honest = subst (λ (ys : List State). All but_open (tree_standing (problem_in b) (loosenings_in b) ys (root_state (problem_in b)) h.tree)) (sym (same_states b))
-        (All-from_recursion but_open (tree_standing (problem_in b) (loosenings_in b) (lemma_states_in b) (root_state (problem_in b)) h.tree) its_good.all);
+    honest = subst (λ (ys : List State). All but_open (tree_standing (problem_in b) (loosenings_in b) ys b.root h.tree)) (sym (same_states b))
+        (All-from_recursion but_open (tree_standing (problem_in b) (loosenings_in b) (lemma_states_in b) b.root h.tree) its_good.all);
   }
 
 some-none : (p : Problem) (i : ℕ) → first_crossed p ≡ Some i → first_crossed p ≡ None → ⊥
@@ -154,10 +149,21 @@ book_has_tree b w e = elim w.nodes [ inl c ↦ absurd (some-none (problem_in b) 
 
 pub tree_is_honest : TreeIsHonest
 tree_is_honest b w t left i f = elim w.nodes [
-  | inl c ↦ absurd (some-none (problem_in b) c.axis c.first i.lawful.not_crossed)
+  | inl c ↦ absurd (some-none (problem_in b) c.axis c.first i.not_crossed)
   | inr h ↦
       let P : Standing → Type 0 = λ (x : Standing). IsTrue (is_honest (problem_in b) b.options.least_bits (loosenings_in b) x.state x.does) in
-      subst (λ (ys : List State). All P (tree_standing (problem_in b) (loosenings_in b) ys (root_state (problem_in b)) t)) (sym (same_states b))
-      (All-from_recursion P (tree_standing (problem_in b) (loosenings_in b) (lemma_states_in b) (root_state (problem_in b)) t)
-      (node_good b w.whole h P (λ x q j. j) f i.is_tree (root_state (problem_in b)) h.root).all)
+      subst (λ (ys : List State). All P (tree_standing (problem_in b) (loosenings_in b) ys b.root t)) (sym (same_states b))
+      (All-from_recursion P (tree_standing (problem_in b) (loosenings_in b) (lemma_states_in b) b.root t)
+      (node_good b w.whole h P (λ x q j. j) f i.is_tree b.root h.root).all)
 ]
+
+pub rooted_tree_is_cover : RootedTreeIsCover
+rooted_tree_is_cover b t left r i = record {
+  loosenings = i.loosenings;
+  count = i.few;
+  lemma_trees = i.lemmas;
+  not_crossed = i.not_crossed;
+  left = i.states;
+  lawful = subst (λ (S : State). Lawful (problem_in b) (loosenings_in b) (cover_lemmas b) S t i.states) r i.lawful;
+  names = i.names;
+}

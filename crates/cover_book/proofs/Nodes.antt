@@ -151,7 +151,7 @@ module _ (b : BookModel) (h : IsCovered b) (n : ℕ) (S : State) (was : slice_ge
       not_crossed = h.not_crossed;
       firsts = firsts;
       count = count-after;
-      root = get_left h.firsts fresh 0 (root_state (problem_in b)) h.root;
+      root = get_left h.firsts fresh 0 b.root h.root;
       fits = fits-after fits;
       each = each-after k;
       tree = grown.tree;

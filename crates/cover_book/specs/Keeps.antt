@@ -1,4 +1,4 @@
--- What holds of every book: its runs are lawful, its tree covers the root, and its nodes are those of the tree.
+-- What holds of every book: its runs are lawful, its tree covers the state in which it opened, and its nodes are those of the tree.
 use Rattle.std.specs.Prelude.{◌≡◌, ◌⊎◌, ℕ, suc, ◌+◌, ◌<◌, ◌≤◌, List, [], ◌∷◌, All, length, false, Some, None, IfSome, IsTrue, slice_get}
 use Rattle.poly_graph.specs.Problem.{Problem, first_crossed}
 use Rattle.poly_graph.specs.ProblemViews.{IsWhole}
@@ -37,12 +37,12 @@ IsNodeOf p m lemmas firsts S (closed_node steps l) = HasRun p m lemmas S steps l
 IsNodeOf p m lemmas firsts S (stuck_node steps l T) = (h : HasRun p m lemmas S steps l) × (h.run.reached ≡ T) × (is_closing l ≡ false) × (children l T ≡ None)
 IsNodeOf p m lemmas firsts S (parted_node steps l c) = (h : HasRun p m lemmas S steps l) × (T : State) × (U : State) × (children l h.run.reached ≡ Some (T, U)) × (slice_get firsts c ≡ Some T) × (slice_get firsts (suc c) ≡ Some U)
 
--- the declared box is not empty: the nodes are those of a tree that begins at the root, each once, and it has as many branch lines as are counted
+-- the declared box is not empty: the nodes are those of a tree that begins in the book's first state, each once, and it has as many branch lines as are counted
 pub record IsCovered (b : BookModel) : Type 0 where
   pub not_crossed : first_crossed (problem_in b) ≡ None
   pub firsts : List State
   pub count : length firsts ≡ length b.nodes
-  pub root : slice_get firsts 0 ≡ Some (root_state (problem_in b))
+  pub root : slice_get firsts 0 ≡ Some b.root
   pub fits : (n : ℕ) (S : State) → slice_get firsts n ≡ Some S → FitsProblem (problem_in b) S × IsTrue (covers (root_state (problem_in b)) S)
   pub each : (n : ℕ) (S : State) (x : NodeModel) → slice_get firsts n ≡ Some S → slice_get b.nodes n ≡ Some x → IsNodeOf (problem_in b) (margins_of b.options) (lemma_states_in b) firsts S x
   pub tree : Tree
@@ -59,10 +59,9 @@ pub record IsCrossed (b : BookModel) : Type 0 where
   pub nodes : b.nodes ≡ crossed_node axis ∷ []
   pub branches : b.branches ≡ 0
 
--- a lemma that a book may open with: a state of the problem, whose numbers are kept ones, of which no point meets the form at the margin
+-- a lemma that a book may open with: a state of the problem of which no point meets the form at the margin
 pub record IsKeptLemma (p : Problem) (s : Loosenings) (L : State) : Type 0 where
   pub fits : FitsProblem p L
-  pub grid : IsGridSpace L.space
   pub lemma : IsLemma p s L
 
 -- the lemmas that were learned follow from those that the book opened with

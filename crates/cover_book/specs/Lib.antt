@@ -2,6 +2,7 @@ pub mod Calls
 pub mod Ending
 pub mod Keeps
 pub mod Laws
+pub mod Left
 pub mod Limits
 pub mod Model
 pub mod Names

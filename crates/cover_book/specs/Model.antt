@@ -1,5 +1,5 @@
 -- The book of a cover as plain data: its nodes, its lemmas, its branches and its point.
-use Rattle.std.specs.Prelude.{ℕ, suc, ◌+◌, List, [], ◌∷◌, ◌++◌, length, map, true, cond, is_some, Option, Some, None}
+use Rattle.std.specs.Prelude.{◌≡◌, ℕ, suc, ◌+◌, List, [], ◌∷◌, ◌++◌, length, map, true, cond, is_some, Option, Some, None}
 use Rattle.interval_model.specs.Space.{Space}
 use Rattle.poly_graph.specs.Problem.{Problem, first_crossed}
 use Rattle.poly_graph.specs.ProblemViews.{Parts, problem_of}
@@ -29,11 +29,12 @@ pub data NodeModel : Type 0 where
   -- in the state that the steps reach
   stuck_node : List Line → Line → State → NodeModel
 
--- Nodes by their numbers, and lemmas: the states of those that the book opened with have the first numbers, in order, and those that were
--- learned since have the next.
+-- The state in which node 0 begins; nodes by their numbers; and lemmas: the states of those that the book opened with have the first numbers, in
+-- order, and those that were learned since have the next.
 pub record BookModel : Type 0 where
   pub problem : Parts
   pub options : Options
+  pub root : State
   pub nodes : List NodeModel
   pub kept : List State
   pub lemmas : List LearnedLemma
@@ -47,6 +48,10 @@ problem_in b = problem_of b.problem
 
 abbrev pub loosenings_in : BookModel → Loosenings
 loosenings_in b = loosenings_of (margins_of b.options)
+
+-- the book is one of the whole declared box
+abbrev pub IsOfRoot : BookModel → Type 0
+IsOfRoot b = b.root ≡ root_state (problem_in b)
 
 -- ---- lemmas
 
@@ -76,7 +81,21 @@ abbrev pub opening_with : Parts → Options → List State → BookModel
 opening_with p o kept = record {
   problem = p;
   options = o;
+  root = root_state (problem_of p);
   nodes = first_node (first_crossed (problem_of p)) (root_state (problem_of p)) ∷ [];
+  kept = kept;
+  lemmas = [];
+  branches = 0;
+  point = None;
+}
+
+-- with these lemmas, node 0 is live in this state
+abbrev pub opening_at : Parts → Options → List State → State → BookModel
+opening_at p o kept S = record {
+  problem = p;
+  options = o;
+  root = S;
+  nodes = live_node S ∷ [];
   kept = kept;
   lemmas = [];
   branches = 0;

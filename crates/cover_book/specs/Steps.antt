@@ -71,6 +71,7 @@ abbrev pub with_nodes : BookModel → List NodeModel → ℕ → BookModel
 with_nodes b nodes branches = record {
   problem = b.problem;
   options = b.options;
+  root = b.root;
   nodes = nodes;
   kept = b.kept;
   lemmas = b.lemmas;
@@ -120,6 +121,7 @@ abbrev pub with_lemma : BookModel → LearnedLemma → BookModel
 with_lemma b x = record {
   problem = b.problem;
   options = b.options;
+  root = b.root;
   nodes = b.nodes;
   kept = b.kept;
   lemmas = b.lemmas ++ (x ∷ []);
@@ -143,6 +145,7 @@ abbrev pub with_point : BookModel → Space → BookModel
 with_point b x = record {
   problem = b.problem;
   options = b.options;
+  root = b.root;
   nodes = b.nodes;
   kept = b.kept;
   lemmas = b.lemmas;

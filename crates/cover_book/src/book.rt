@@ -33,12 +33,13 @@ use std::mem;
 pub const MOST_LEMMAS: usize = 1_048_576;
 
 /// The boxes of a cover by number, those that are open with their states and the others with what was committed to
-/// them; the states of the lemmas that it opened with, and the lemmas that were learned, numbered on; how many branches
-/// there are; and the point that was found.
+/// them; the state in which it opened, where that is not the root state; the states of the lemmas that it opened with,
+/// and the lemmas that were learned, numbered on; how many branches there are; and the point that was found.
 #[derive(Drop)]
 pub struct Book {
     problem: Problem,
     options: Options,
+    root: Option<StoredState>,
     nodes: Vec<Node>,
     kept: Vec<StoredState>,
     lemmas: Vec<Learned>,
@@ -52,12 +53,13 @@ impl Model for Book {
 
     ghost Value = { BookModel };
 
-    ghost use Rattle.cover_book.specs.Views.{node_of, learned_of};
+    ghost use Rattle.cover_book.specs.Views.{first_state, node_of, learned_of};
     ghost use Rattle.cover_book.specs.Keeps.{IsBook};
 
     ghost view = { λ b. record {
       problem = b.problem;
       options = b.options;
+      root = first_state b.problem b.root;
       nodes = map node_of b.nodes.items;
       kept = b.kept.items;
       lemmas = map learned_of b.lemmas.items;
@@ -68,6 +70,7 @@ impl Model for Book {
     ghost invariant = { λ b. IsBook (record {
       problem = b.problem;
       options = b.options;
+      root = first_state b.problem b.root;
       nodes = map node_of b.nodes.items;
       kept = b.kept.items;
       lemmas = map learned_of b.lemmas.items;
@@ -249,6 +252,7 @@ impl Book {
         Ok(Book {
             problem,
             options,
+            root: None,
             nodes,
             kept,
             lemmas: Vec::new(alloc),

@@ -1,8 +1,8 @@
 //! What is proved of books: each function here does nothing, and its contract is a law.
 
-ghost use Rattle.cover_book.specs.Laws.{OpeningIsBook, CarriedIsBook, StepKeepsBook, StepKeepsProblem, ConditionLasts, StepGrows, BookCatches, NodesLieWithin, BookHasTree, TreeIsHonest};
+ghost use Rattle.cover_book.specs.Laws.{OpeningIsBook, CarriedIsBook, RootedIsBook, LemmasMayBeKept, StepKeepsBook, StepKeepsProblem, ConditionLasts, StepGrows, BookCatches, NodesLieWithin, BookHasTree, TreeIsHonest, RootedTreeIsCover};
 
-/// No call changes the problem, the options, or the lemmas that the book opened with.
+/// No call changes the problem, the options, or what the book opened with.
 pub fn steps_keep_problem()
     ensures { StepKeepsProblem }
 {}
@@ -22,6 +22,16 @@ pub fn carried_is_book()
     ensures { CarriedIsBook }
 {}
 
+/// So does one that opens in any state within the root, with lemmas of its problem.
+pub fn rooted_is_book()
+    ensures { RootedIsBook }
+{}
+
+/// All lemmas of a book are such as another one of its problem may open with.
+pub fn lemmas_may_be_kept()
+    ensures { LemmasMayBeKept }
+{}
+
 /// Every call keeps it one.
 pub fn steps_keep_book()
     ensures { StepKeepsBook }
@@ -32,7 +42,8 @@ pub fn steps_grow()
     ensures { StepGrows }
 {}
 
-/// Each point of the declared box that meets the form at the margin is one of a live or stuck node's state.
+/// Each point of the declared box that meets the form at the margin is one of a live or stuck node's state, in a book of
+/// the whole box.
 pub fn book_catches()
     ensures { BookCatches }
 {}
@@ -50,4 +61,9 @@ pub fn book_has_tree()
 /// It is honest where the live nodes are.
 pub fn tree_is_honest()
     ensures { TreeIsHonest }
+{}
+
+/// The tree of a book of the whole box is a lawful cover.
+pub fn rooted_tree_is_cover()
+    ensures { RootedTreeIsCover }
 {}
