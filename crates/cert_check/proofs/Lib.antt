@@ -22,6 +22,7 @@ pub mod Results
 pub mod Rows
 pub mod RuleFits
 pub mod Sessions
+pub mod Stands
 pub mod Stays
 pub mod Taking
 pub mod Tiny

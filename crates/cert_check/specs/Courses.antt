@@ -1,7 +1,7 @@
 -- Where lines lead a checker, line by line, and what it answers.
 use Rattle.std.specs.Prelude.{◌≡◌, ◌⊎◌, ℕ, suc, List, [], ◌∷◌, ◌++◌, length, Bool, false, not, Option, Some, None, Result, Ok, Err, IsTrue, OnOk, nat_eq, option_map}
 use Rattle.interval_model.specs.Space.{Space}
-use Rattle.cover_model.specs.State.{Loosenings}
+use Rattle.cover_model.specs.State.{State, Loosenings}
 use Rattle.cert_read.specs.CertLine.{Parsed}
 use Rattle.cert_read.specs.LineText.{text_of_lines}
 use Rattle.cert_read.specs.Lines.{all_bytes}
@@ -107,7 +107,27 @@ abbrev pub states_in_work : Option WorkCourse → ℕ
 states_in_work (Some (reached w n)) = work_states w
 states_in_work c = 0
 
--- ---- what a certificate describes, for whoever draws it
+-- ---- what a certificate describes, for whoever draws it or goes on from it
+
+-- where the next line of the main tree stands: no such line is due, or it stands at the root or in this state
+pub data Stand : Type 0 where
+  elsewhere at_root : Stand
+  at_state : State → Stand
+
+abbrev pub stand_due : Due → Stand
+stand_due (root_due s lemmas) = at_root
+stand_due (tree_due s lemmas S pending done) = at_state S
+stand_due d = elsewhere
+
+abbrev pub stand_in : Option WorkCourse → Stand
+stand_in (Some (reached (alone d) n)) = stand_due d
+stand_in (Some (reached (together (inside_due t d)) n)) = stand_due d
+stand_in c = elsewhere
+
+-- the loosenings and the states of the lemmas of a cover of one check that is whole
+abbrev pub cover_in : Option WorkCourse → Option (Loosenings × List State)
+cover_in (Some (reached (alone (nothing_due s lemmas (left_open left))) n)) = Some (s, lemmas)
+cover_in c = None
 
 -- the box where the next line of the main tree stands, behind the first one
 abbrev pub box_due : Due → Option Space

@@ -17,6 +17,7 @@ pub mod Narrowing
 pub mod Serving
 pub mod Sessions
 pub mod Stages
+pub mod Stands
 pub mod States
 pub mod Stays
 pub mod Steps

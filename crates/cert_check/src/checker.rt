@@ -14,8 +14,9 @@ ghost use Rattle.cert_check.specs.Checked.{fresh_checker};
 ghost use Rattle.cert_check.specs.Dues.{due_of};
 ghost use Rattle.cert_check.specs.Stages.{IsFaultAfter, IsOneMore, IsSoundStage, IsStageAfter};
 ghost use Rattle.cert_check.specs.Stays.{StaysWithin, stays_in_work};
-ghost use Rattle.cert_check.specs.Courses.{IsCourseAnswer, AreLinesTaken, Finishes, in_work, box_due, box_in, point_in, IsCutOff, IsFedOn, states_in_work, Takes, work_states};
+ghost use Rattle.cert_check.specs.Courses.{IsCourseAnswer, AreLinesTaken, Finishes, in_work, box_in, cover_in, point_in, stand_in, IsCutOff, IsFedOn, states_in_work, Takes, work_states};
 ghost use Rattle.cert_check.specs.Sessions.{FinishesAll, IsFreshFor};
+ghost use Rattle.cert_check.specs.Stands.{stand_of, whole_cover_of};
 ghost use Rattle.cert_check.specs.Work.{started};
 ghost use Rattle.cert_check.specs.declared.part.Part.{Part as PartInWork};
 ghost use Rattle.cert_check.specs.Works.{AreSameChecks, IsFirst, IsPart, IsSoundWork, checks_of, work_of};
@@ -26,6 +27,7 @@ use crate::fault::CertFault;
 use crate::part::Part;
 use crate::parts::work_line;
 use crate::refusal::unread;
+use crate::stand::{Stand, WholeCover, cover_in_work, stand_in_work};
 use crate::work::Work;
 use cert_read::{Line, LineFault, LineReader};
 use ival::Space;
@@ -99,17 +101,6 @@ fn states_in(due: &Due) -> usize
     }
 }
 
-// The box where the next line of the main tree stands, behind the first one.
-fn box_in(due: &Due) -> Option<&Space>
-    ensures { (p : Parts) → let o = box_due (due_of p due.now) in
-        MatchOption result (o ≡ None) (λ space. o ≡ Some (space_of space.now)) }
-{
-    match due {
-        Due::Tree(_, tree, _) => Some(&tree.state.space),
-        _ => None,
-    }
-}
-
 // How many states of the tree in work are kept.
 fn states_in_work(work: &Work) -> usize
     ensures { (t : Part) → result ≡ work_states (work_of t work.now) }
@@ -118,18 +109,6 @@ fn states_in_work(work: &Work) -> usize
         Work::Alone(due) => states_in(due),
         Work::Inside(due) => states_in(due),
         _ => 0,
-    }
-}
-
-// The box where the next line of the main tree in work stands, behind the first one.
-fn box_in_work(work: &Work) -> Option<&Space>
-    ensures { (t : Part) (n : ℕ) → let o = box_in (Some (reached (work_of t work.now) n)) in
-        MatchOption result (o ≡ None) (λ space. o ≡ Some (space_of space.now)) }
-{
-    match work {
-        Work::Alone(due) => box_in(due),
-        Work::Inside(due) => box_in(due),
-        _ => None,
     }
 }
 
@@ -390,12 +369,35 @@ impl<'a> Checker<'a> {
 
     /// The box where the next line of the main tree stands; none for its first line, which stands at the root, and where
     /// no line of that tree is due.
+    #[tactic(auto, using(crate::proofs::Stands::boxes_stand))]
     pub fn box_at(&self) -> Option<&Space>
         ensures { let o = box_in self.now.course in
             MatchOption result (o ≡ None) (λ space. o ≡ Some (space_of space.now)) }
     {
+        match self.stand() {
+            Stand::Elsewhere => None,
+            Stand::Root => None,
+            Stand::At(space, _) => Some(space),
+        }
+    }
+
+    /// Where the next line of the main tree stands.
+    pub fn stand(&self) -> Stand<'_>
+        ensures { stand_of result ≡ stand_in self.now.course }
+    {
         match &self.stage {
-            Stage::InWork(work) => box_in_work(work),
+            Stage::InWork(work) => stand_in_work(work),
+            Stage::Stopped(_) => Stand::Elsewhere,
+        }
+    }
+
+    /// The header and the lemmas of a cover of one check that was taken whole; none of a point, and before its last line.
+    pub fn cover(&self) -> Option<WholeCover<'_>>
+        ensures { let o = cover_in self.now.course in
+            MatchOption result (o ≡ None) (λ c. o ≡ Some (whole_cover_of c)) }
+    {
+        match &self.stage {
+            Stage::InWork(work) => cover_in_work(work),
             Stage::Stopped(_) => None,
         }
     }
