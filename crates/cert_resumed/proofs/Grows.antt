@@ -1,0 +1,125 @@
+-- More lemmas, and version 2, change nothing of what a rule leaves.
+use Rattle.std.proofs.Common.{◌≡◌, ℕ, zero, suc, List, [], ◌∷◌, ◌++◌, Bool, true, false, not, ◌&&◌, ◌||◌, cond, Option, Some, None, IsTrue, refl, ap, ap₂, sym, ◌∙◌, subst, nat_le, slice_get}
+use Rattle.poly_graph.specs.Problem.{Problem}
+use Rattle.cover_model.specs.State.{State, Loosenings, undecided, with_yes, with_no, covers}
+use Rattle.cover_model.specs.Rules.{Line, pull, unit, void, push, void_no, combine, void_combine, ban, make_false, by, cut, flip, case, open_line, stuck, Left, closed, one, two, stays, rule, when, lemma_covers, has_version_2, in_no_one_sided, is_combination, are_combinable, pulled, voided, narrowing_off, combining}
+use Rattle.cover_model.specs.Derivation.{Tree, leaf, then, fork, Lawful, at_closed, at_left, at_step, at_fork}
+use Rattle.cert_model.specs.Due.{Standing}
+use Rattle.cert_model.specs.Written.{leaf_standing, step_standing, fork_standing, left_standing, tree_standing}
+use Rattle.cert_resumed.specs.Resumed.{in_version_2}
+
+-- where the one leaves something, the other leaves the same
+abbrev SameIfSome : Option Left → Option Left → Type 0
+SameIfSome None y = Unit {0}
+SameIfSome (Some x) y = y ≡ Some x
+
+same-left : (o : Option Left) → SameIfSome o o
+same-left None = tt
+same-left (Some x) = refl
+
+along : (o u : Option Left) → SameIfSome o u → (x : Left) → o ≡ Some x → u ≡ Some x
+along o u h x e = subst (λ (w : Option Left). SameIfSome w u) e h
+
+-- ---- version 2
+
+gated : (t u : Bool) (o : Option Left) → SameIfSome (cond (t && u) o None) (cond (true && u) o None)
+gated true u o = same-left (cond (true && u) o None)
+gated false u o = tt
+
+gated-twice : (t u w : Bool) (o : Option Left) → SameIfSome (cond (t && u && w) o None) (cond (true && u && w) o None)
+gated-twice true u w o = same-left (cond (true && u && w) o None)
+gated-twice false u w o = tt
+
+-- ---- more lemmas
+
+covers-more : (lemmas more : List State) (i : ℕ) (S : State) → IsTrue (lemma_covers lemmas i S) → IsTrue (lemma_covers (lemmas ++ more) i S)
+covers-more [] more i S h = cc
+covers-more (L ∷ lemmas) more zero S h = h
+covers-more (L ∷ lemmas) more (suc i) S h = covers-more lemmas more i S h
+
+when-more : (t u : Bool) (x : Left) → (IsTrue t → IsTrue u) → SameIfSome (when t x) (when u x)
+when-more true u x h = ap (λ (w : Bool). when w x) (h refl)
+when-more false u x h = tt
+
+both-more : (a t u : Bool) (x : Left) → (IsTrue t → IsTrue u) → SameIfSome (when (a && t) x) (when (a && u) x)
+both-more true t u x h = when-more t u x h
+both-more false t u x h = tt
+
+module _ (p : Problem) (s : Loosenings) where
+  version-same : (lemmas : List State) (S : State) (l : Line) → SameIfSome (rule p s lemmas S l) (rule p (in_version_2 s) lemmas S l)
+  version-same lemmas S (push j) = gated (has_version_2 s) (in_no_one_sided p S j) (pulled S (narrowing_off p s S j))
+  version-same lemmas S (void_no j) = gated (has_version_2 s) (in_no_one_sided p S j) (voided (narrowing_off p s S j))
+  version-same lemmas S (combine ms) = gated-twice (has_version_2 s) (is_combination ms) (are_combinable p S ms) (pulled S (combining p s S ms))
+  version-same lemmas S (void_combine ms) = gated-twice (has_version_2 s) (is_combination ms) (are_combinable p S ms) (voided (combining p s S ms))
+  version-same lemmas S (pull j) = same-left (rule p s lemmas S (pull j))
+  version-same lemmas S (unit j) = same-left (rule p s lemmas S (unit j))
+  version-same lemmas S (void j) = same-left (rule p s lemmas S (void j))
+  version-same lemmas S (ban j i) = same-left (rule p s lemmas S (ban j i))
+  version-same lemmas S make_false = same-left (rule p s lemmas S make_false)
+  version-same lemmas S (by i) = same-left (rule p s lemmas S (by i))
+  version-same lemmas S (cut axis c) = same-left (rule p s lemmas S (cut axis c))
+  version-same lemmas S (flip axis) = same-left (rule p s lemmas S (flip axis))
+  version-same lemmas S (case j) = same-left (rule p s lemmas S (case j))
+  version-same lemmas S open_line = same-left (rule p s lemmas S open_line)
+  version-same lemmas S (stuck j) = same-left (rule p s lemmas S (stuck j))
+
+  lemmas-same : (lemmas more : List State) (S : State) (l : Line) → SameIfSome (rule p s lemmas S l) (rule p s (lemmas ++ more) S l)
+  lemmas-same lemmas more S (ban j i) = both-more (undecided S j) (lemma_covers lemmas i (with_yes S j)) (lemma_covers (lemmas ++ more) i (with_yes S j)) (one (with_no S j)) (covers-more lemmas more i (with_yes S j))
+  lemmas-same lemmas more S (by i) = when-more (lemma_covers lemmas i S) (lemma_covers (lemmas ++ more) i S) closed (covers-more lemmas more i S)
+  lemmas-same lemmas more S (push j) = same-left (rule p s lemmas S (push j))
+  lemmas-same lemmas more S (void_no j) = same-left (rule p s lemmas S (void_no j))
+  lemmas-same lemmas more S (combine ms) = same-left (rule p s lemmas S (combine ms))
+  lemmas-same lemmas more S (void_combine ms) = same-left (rule p s lemmas S (void_combine ms))
+  lemmas-same lemmas more S (pull j) = same-left (rule p s lemmas S (pull j))
+  lemmas-same lemmas more S (unit j) = same-left (rule p s lemmas S (unit j))
+  lemmas-same lemmas more S (void j) = same-left (rule p s lemmas S (void j))
+  lemmas-same lemmas more S make_false = same-left (rule p s lemmas S make_false)
+  lemmas-same lemmas more S (cut axis c) = same-left (rule p s lemmas S (cut axis c))
+  lemmas-same lemmas more S (flip axis) = same-left (rule p s lemmas S (flip axis))
+  lemmas-same lemmas more S (case j) = same-left (rule p s lemmas S (case j))
+  lemmas-same lemmas more S open_line = same-left (rule p s lemmas S open_line)
+  lemmas-same lemmas more S (stuck j) = same-left (rule p s lemmas S (stuck j))
+
+  -- what a rule leaves it leaves with more lemmas, and so under version 2
+  pub rule_with_more : (lemmas more : List State) (S : State) (l : Line) (x : Left) → rule p s lemmas S l ≡ Some x → rule p s (lemmas ++ more) S l ≡ Some x
+  rule_with_more lemmas more S l x e = along (rule p s lemmas S l) (rule p s (lemmas ++ more) S l) (lemmas-same lemmas more S l) x e
+
+  pub rule_in_version_2 : (lemmas : List State) (S : State) (l : Line) (x : Left) → rule p s lemmas S l ≡ Some x → rule p (in_version_2 s) lemmas S l ≡ Some x
+  rule_in_version_2 lemmas S l x e = along (rule p s lemmas S l) (rule p (in_version_2 s) lemmas S l) (version-same lemmas S l) x e
+
+  -- ---- a lawful tree
+
+  module _ (lemmas more : List State) where
+    lawful-more : {S : State} {t : Tree} {rest : List State} → Lawful p s lemmas S t rest → Lawful p s (lemmas ++ more) S t rest
+    lawful-more (at_closed {S = S} {l = l} e) = at_closed (rule_with_more lemmas more S l closed e)
+    lawful-more (at_left {S = S} {l = l} e) = at_left (rule_with_more lemmas more S l stays e)
+    lawful-more (at_step {S = S} {S' = S'} {l = l} e r) = at_step (rule_with_more lemmas more S l (one S') e) (lawful-more r)
+    lawful-more (at_fork {S = S} {S' = S'} {S'' = S''} {l = l} e r r') = at_fork (rule_with_more lemmas more S l (two S' S'') e) (lawful-more r) (lawful-more r')
+
+    left-more : {S : State} {t : Tree} {rest : List State} → Lawful p s lemmas S t rest → left_standing p s (lemmas ++ more) S t ≡ left_standing p s lemmas S t
+    left-more (at_closed {S = S} {l = l} e) = ap (leaf_standing S l) (rule_with_more lemmas more S l closed e ∙ sym e)
+    left-more (at_left {S = S} {l = l} e) = ap (leaf_standing S l) (rule_with_more lemmas more S l stays e ∙ sym e)
+    left-more (at_step {S = S} {S' = S'} {l = l} {t = t} e r) =
+        ap (λ (o : Option Left). step_standing o (λ X. left_standing p s (lemmas ++ more) X t)) (rule_with_more lemmas more S l (one S') e)
+        ∙ left-more r ∙ ap (λ (o : Option Left). step_standing o (λ X. left_standing p s lemmas X t)) (sym e)
+    left-more (at_fork {S = S} {S' = S'} {S'' = S''} {l = l} {t = t} {u = u} e r r') =
+        ap (λ (o : Option Left). fork_standing o (λ X. left_standing p s (lemmas ++ more) X t) (λ X. left_standing p s (lemmas ++ more) X u)) (rule_with_more lemmas more S l (two S' S'') e)
+        ∙ ap₂ (λ (xs : List Standing) (ys : List Standing). xs ++ ys) (left-more r) (left-more r')
+        ∙ ap (λ (o : Option Left). fork_standing o (λ X. left_standing p s lemmas X t) (λ X. left_standing p s lemmas X u)) (sym e)
+
+    tree-more : {S : State} {t : Tree} {rest : List State} → Lawful p s lemmas S t rest → tree_standing p s (lemmas ++ more) S t ≡ tree_standing p s lemmas S t
+    tree-more (at_closed e) = refl
+    tree-more (at_left e) = refl
+    tree-more (at_step {S = S} {S' = S'} {l = l} {t = t} e r) = ap (λ (xs : List Standing). record { state = S; does = l } ∷ xs)
+        (ap (λ (o : Option Left). step_standing o (λ X. tree_standing p s (lemmas ++ more) X t)) (rule_with_more lemmas more S l (one S') e)
+        ∙ tree-more r ∙ ap (λ (o : Option Left). step_standing o (λ X. tree_standing p s lemmas X t)) (sym e))
+    tree-more (at_fork {S = S} {S' = S'} {S'' = S''} {l = l} {t = t} {u = u} e r r') = ap (λ (xs : List Standing). record { state = S; does = l } ∷ xs)
+        (ap (λ (o : Option Left). fork_standing o (λ X. tree_standing p s (lemmas ++ more) X t) (λ X. tree_standing p s (lemmas ++ more) X u)) (rule_with_more lemmas more S l (two S' S'') e)
+        ∙ ap₂ (λ (xs : List Standing) (ys : List Standing). xs ++ ys) (tree-more r) (tree-more r')
+        ∙ ap (λ (o : Option Left). fork_standing o (λ X. tree_standing p s lemmas X t) (λ X. tree_standing p s lemmas X u)) (sym e))
+
+    pub lawful_with_more : {S : State} {t : Tree} {rest : List State} → Lawful p s lemmas S t rest →
+        Lawful p s (lemmas ++ more) S t rest
+        × (left_standing p s (lemmas ++ more) S t ≡ left_standing p s lemmas S t)
+        × (tree_standing p s (lemmas ++ more) S t ≡ tree_standing p s lemmas S t)
+    lawful_with_more r = (lawful-more r, left-more r, tree-more r)

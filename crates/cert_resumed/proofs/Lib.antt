@@ -1,0 +1,4 @@
+pub mod Grows
+pub mod Parses
+mod Refined
+pub mod Sections
