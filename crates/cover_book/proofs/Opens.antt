@@ -1,8 +1,8 @@
 -- A book opens as one, in the root state or in another.
-use Rattle.std.proofs.Common.{◌≡◌, ◌⊎◌, inl, inr, ℕ, zero, suc, ◌+◌, ◌≤◌, List, [], ◌∷◌, length, Bool, true, false, not, cond, Option, Some, None, IsTrue, All, refl, ap, sym, subst, arith}
+use Rattle.std.proofs.Common.{◌≡◌, ◌⊎◌, inl, inr, ℕ, zero, suc, ◌+◌, ◌≤◌, List, [], ◌∷◌, length, Bool, true, false, not, cond, Option, Some, None, IsTrue, All, refl, sym, subst, arith}
 use Rattle.std.specs.Prelude.{slice_get}
 use Rattle.std.proofs.lemmas.List.Elements.{All-nil}
-use Rattle.poly_graph.specs.Problem.{Axis, Problem, IsProblem, is_crossed, crossed_in, crosses, first_crossed_from, first_crossed}
+use Rattle.poly_graph.specs.Problem.{Axis, Problem, is_crossed, crossed_in, crosses, first_crossed_from, first_crossed}
 use Rattle.poly_graph.specs.ProblemViews.{Parts, IsWhole, problem_of}
 use Rattle.cover_model.specs.Space.{IsGridSpace}
 use Rattle.cover_model.specs.State.{State, root_state, covers}

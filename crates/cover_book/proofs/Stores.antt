@@ -81,6 +81,7 @@ abbrev pub with_lemmas : BookModel → List LearnedLemma → BookModel
 with_lemmas b lemmas = record {
   problem = b.problem;
   options = b.options;
+  root = b.root;
   nodes = b.nodes;
   kept = b.kept;
   lemmas = lemmas;

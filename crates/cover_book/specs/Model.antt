@@ -55,8 +55,11 @@ IsOfRoot b = b.root ≡ root_state (problem_in b)
 
 -- ---- lemmas
 
+abbrev pub learned_states : List LearnedLemma → List State
+learned_states lemmas = map (λ (x : LearnedLemma). x.state) lemmas
+
 abbrev pub lemma_states_in : BookModel → List State
-lemma_states_in b = b.kept ++ map (λ (x : LearnedLemma). x.state) b.lemmas
+lemma_states_in b = b.kept ++ learned_states b.lemmas
 
 -- how many lemmas there are
 abbrev pub lemma_count : BookModel → ℕ

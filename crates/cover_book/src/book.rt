@@ -1,14 +1,17 @@
 // The book of a cover.
-ghost use Rattle.std.specs.Prelude.{◌≡◌, ◌↔◌, ◌<◌, ◌≤◌, ◌^◌, All, IfOk, IfSome, IsSome, MatchOption, MatchResult, IsTrue, length, map, slice_get, slice_set, vec_len};
+ghost use Rattle.std.specs.Prelude.{◌≡◌, ◌↔◌, ◌<◌, ◌≤◌, ◌^◌, ◌++◌, ◌∷◌, [], All, IfOk, IfSome, IsSome, MatchOption, MatchResult, None, OnOk, IsTrue, length, map, slice_get, slice_set, vec_len};
 ghost use Rattle.std.specs.List.{list_any};
 ghost use Rattle.std.specs.Vec.{vec_capacity};
+ghost use Rattle.poly_graph.specs.Problem.{first_crossed};
 ghost use Rattle.poly_graph.specs.ProblemViews.{problem_of};
+ghost use Rattle.cover_model.specs.Fits.{FitsProblem};
+ghost use Rattle.cover_model.specs.State.{covers, root_state};
 ghost use Rattle.cover_data.specs.Margins.{loosenings_of};
 ghost use Rattle.cover_data.specs.Runs.{CanPart};
 ghost use Rattle.cover_data.specs.Views.{kept_of, end_of};
 ghost use Rattle.cover_book.specs.Calls.{IsLearnedOf, IsOpeningOf, IsOutcomeOf, KeepsLemma, PartsNode, StoresLemma, StoresPatch, TestsCommit, TestsQuoted};
 ghost use Rattle.cover_book.specs.Limits.{IsWithinLimits};
-ghost use Rattle.cover_book.specs.Model.{lemma_count, lemma_states_in, margins_of, opening, opening_with};
+ghost use Rattle.cover_book.specs.Model.{learned_states, lemma_count, lemma_states_in, live_node, margins_of, opening, opening_at, opening_with};
 ghost use Rattle.cover_book.specs.Verdict.{verdict_of, is_live, is_stuck, live_after};
 ghost use Rattle.cover_book.specs.Views.{learned_of, node_of};
 ghost use Rattle.cover_book.specs.Keeps.{IsBook, IsKeptLemma};
@@ -91,6 +94,33 @@ fn opening_node(alloc: Global, problem: &Problem) -> Result<Node, AllocError>
             Ok(Node::Live(StoredState::new(alloc, &state, None)?))
         }
     }
+}
+
+// The state as a book that opens in it keeps it, and the nodes of that book.
+fn first_nodes(alloc: Global, root: &State) -> Result<(StoredState, Vec<Node>), AllocError>
+    ensures root { IfOk result (λ x. x.0 ≡ root.now) }
+    ensures nodes { IfOk result (λ x. map node_of x.1.items ≡ live_node root.now ∷ []) }
+{
+    let first = StoredState::new(alloc, root, None)?;
+    let live = StoredState::new(alloc, root, Some(&first))?;
+    let mut nodes = Vec::new(alloc);
+    nodes.push(Node::Live(live))?;
+    Ok((first, nodes))
+}
+
+// Appends the states of these lemmas, in their order.
+fn append_states(states: &mut Vec<StoredState>, lemmas: Vec<Learned>) -> Result<(), AllocError>
+    ensures { OnOk result (
+        states.new.items ≡ states.old.items ++ learned_states (map learned_of lemmas.items)) }
+{
+    let mut left = lemmas;
+    left.reverse();
+    while let Some(lemma) = left.pop() {
+        let Learned { state, lines } = lemma;
+        drop(lines);
+        states.push(state)?;
+    }
+    Ok(())
 }
 
 // Whether a node is live.
@@ -259,6 +289,60 @@ impl Book {
             branches: 0,
             point: None,
         })
+    }
+
+    /// The book with node 0 alone, live in this state of the problem, which lies within the root state, and with these
+    /// lemmas of the problem. The declared bounds of no axis cross.
+    pub fn begin_at(
+        alloc: Global,
+        problem: Problem,
+        options: Options,
+        kept: Vec<StoredState>,
+        root: State,
+    ) -> Result<Book, AllocError>
+        requires limits { IsWithinLimits problem options }
+        requires few { length kept.items ≤ most_lemmas }
+        requires kept { let s = loosenings_of (margins_of options) in
+            All (IsKeptLemma (problem_of problem) s) kept.items }
+        requires root { FitsProblem (problem_of problem) root }
+        requires within { IsTrue (covers (root_state (problem_of problem)) root) }
+        requires not_crossed { first_crossed (problem_of problem) ≡ None }
+        ensures { IfOk result (λ b. b ≡ opening_at problem options kept.items root) }
+    {
+        let (first, nodes) = first_nodes(alloc, &root)?;
+        Ok(Book {
+            problem,
+            options,
+            root: Some(first),
+            nodes,
+            kept,
+            lemmas: Vec::new(alloc),
+            branches: 0,
+            point: None,
+        })
+    }
+
+    /// The states of all its lemmas, by number: those that it opened with, and those that were learned.
+    pub fn into_lemmas(self) -> Result<Vec<StoredState>, AllocError>
+        ensures states { IfOk result (λ v. v.items ≡ lemma_states_in self) }
+    {
+        let Book {
+            problem,
+            options: _,
+            root,
+            nodes,
+            kept,
+            lemmas,
+            branches: _,
+            point,
+        } = self;
+        drop(problem);
+        drop(root);
+        drop(nodes);
+        drop(point);
+        let mut states = kept;
+        append_states(&mut states, lemmas)?;
+        Ok(states)
     }
 
     /// How many branches were committed.

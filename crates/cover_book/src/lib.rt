@@ -1,6 +1,7 @@
 //! The book of a cover: which boxes are live, how the others were closed, split or got stuck, which lemmas were
 //! learned on the way, and the point that ends the search.
-//! A book may open with the lemmas of another one ([`Book::carry`]).
+//! A book may open with the lemmas of another one ([`Book::carry`]), and in any state of its problem
+//! ([`Book::begin_at`]).
 //!
 //! Its main type is [`Book`], which takes only what keeps it a cover: [`Book::commit`], [`Book::learn`] and
 //! [`Book::found`], each one step of one relation. [`laws`] says what a book means. The crate works on no box and

@@ -15,10 +15,11 @@ invariant_of-result c =
     ap (map node_of) (c.in_ok-push.ensures.items ∙ ap (λ xs. xs ++ (c.in_ok-node.node ∷ [])) c.new-nodes.ensures.items) ∙ ap (λ (x : NodeModel). x ∷ []) c.in_ok-node.ensures in
     let lemmas : map learned_of c.new.result.items ≡ [] = ap (map learned_of) c.new.ensures.items in
     let whole : IsWhole c.args.problem = subst IsWhole c.problem.view_is c.problem.invariant in
-    subst (λ (xs : List NodeModel). IsBook (record { problem = c.args.problem; options = c.args.options; nodes = xs; kept = c.args.kept.items; lemmas = map learned_of c.new.result.items; branches = 0; point = None })) (sym nodes)
+    subst (λ (xs : List NodeModel). IsBook (record { problem = c.args.problem; options = c.args.options; root = root_state (problem_of c.args.problem); nodes = xs; kept = c.args.kept.items; lemmas = map learned_of c.new.result.items; branches = 0; point = None })) (sym nodes)
     (subst (λ (ys : List LearnedLemma). IsBook (record {
       problem = c.args.problem;
       options = c.args.options;
+      root = root_state (problem_of c.args.problem);
       nodes = first_node (first_crossed (problem_of c.args.problem)) (root_state (problem_of c.args.problem)) ∷ [];
       kept = c.args.kept.items;
       lemmas = ys;

@@ -9,7 +9,7 @@ use Rattle.cover_book.specs.declared.calls.Call.TheVariants as call
 use Rattle.cover_book.specs.declared.calls.Reply.TheVariants as reply
 use Rattle.cover_book.specs.Ending.{IsEndingOf}
 use Rattle.cover_book.specs.Model.{BookModel}
-use Rattle.cover_book.specs.Views.{node_of, learned_of}
+use Rattle.cover_book.specs.Views.{first_state, node_of, learned_of}
 use Rattle.cover_book.specs.Steps.{MayBeCalled, MayCommit, CommitStep}
 use Rattle.cover_book.proofs.Kept.{step_keeps_book}
 use Rattle.cover_book.proofs.Stores.{node_written, stored_closed, stored_stuck, stored_parted, parted_written, live_within}
@@ -38,7 +38,7 @@ returns-in-Closed c =
     let passes = subst (λ (b : BookModel). MayCommit b c.args.node (kept_of c.args.patch)) (sym c.self.view_is) c.requires.passes in
     let e = subst (IsEndingOf (end_line lines.end) c.args.patch.reached) c.in-Closed.is c.in-Ok.ensures.2 in
     let new = stored_closed _ c.args.patch c.args.node lines c.in-Ok.ensures.0 c.in-Ok.ensures.1 passes c.on_grid.ensures e.0 e.1 _ (node_written c.self.inside.nodes.items c.put.new.nodes.items c.args.node (Closed lines) c.put.ensures.items) in
-    let b' : BookModel = record { problem = c.self.inside.problem; options = c.self.inside.options; nodes = map node_of c.put.new.nodes.items; kept = c.self.inside.kept.items; lemmas = map learned_of c.self.inside.lemmas.items; branches = c.self.inside.branches; point = c.self.inside.point } in
+    let b' : BookModel = record { problem = c.self.inside.problem; options = c.self.inside.options; root = first_state c.self.inside.problem c.self.inside.root; nodes = map node_of c.put.new.nodes.items; kept = c.self.inside.kept.items; lemmas = map learned_of c.self.inside.lemmas.items; branches = c.self.inside.branches; point = c.self.inside.point } in
     subst (λ (b : BookModel). CommitStep b c.args.node (kept_of c.args.patch) kids.None b') c.self.view_is new
 
 pub invariant_of-self-in-Stuck : goal.invariant_of-self-in-Stuck
@@ -55,7 +55,7 @@ returns-in-Stuck c =
     let passes = subst (λ (b : BookModel). MayCommit b c.args.node (kept_of c.args.patch)) (sym c.self.view_is) c.requires.passes in
     let e = subst (IsEndingOf (end_line lines.end) c.args.patch.reached) c.in-Stuck.is c.in-Ok.ensures.2 in
     let new = stored_stuck _ c.args.patch c.args.node lines c.in-Ok.ensures.0 c.in-Ok.ensures.1 passes c.on_grid.ensures e.0 e.1 c.in-Stuck.state e.2 _ (node_written c.self.inside.nodes.items c.put-in-Stuck.new.nodes.items c.args.node (Stuck lines c.in-Stuck.state) c.put-in-Stuck.ensures.items) in
-    let b' : BookModel = record { problem = c.self.inside.problem; options = c.self.inside.options; nodes = map node_of c.put-in-Stuck.new.nodes.items; kept = c.self.inside.kept.items; lemmas = map learned_of c.self.inside.lemmas.items; branches = c.self.inside.branches; point = c.self.inside.point } in
+    let b' : BookModel = record { problem = c.self.inside.problem; options = c.self.inside.options; root = first_state c.self.inside.problem c.self.inside.root; nodes = map node_of c.put-in-Stuck.new.nodes.items; kept = c.self.inside.kept.items; lemmas = map learned_of c.self.inside.lemmas.items; branches = c.self.inside.branches; point = c.self.inside.point } in
     subst (λ (b : BookModel). CommitStep b c.args.node (kept_of c.args.patch) kids.None b') c.self.view_is new
 
 pub invariant_of-self-in-Parted : goal.invariant_of-self-in-Parted
@@ -82,5 +82,5 @@ returns-in-Ok-part c =
     let more : c.self.inside.branches + 1 ≡ suc c.self.inside.branches = omega arith in
     let new = stored_parted _ c.args.patch c.args.node lines c.in-Ok.ensures.0 c.in-Ok.ensures.1 passes c.on_grid.ensures c.in-Parted.lower c.in-Parted.upper e kid (kid + 1) count next
     (map node_of c.part.new.nodes.items) (parted_written items c.part.new.nodes.items c.args.node (Parted lines kid) c.in-Parted.lower c.in-Parted.upper c.in-Ok-part.ensures.1) (c.self.inside.branches + 1) more in
-    let b' : BookModel = record { problem = c.self.inside.problem; options = c.self.inside.options; nodes = map node_of c.part.new.nodes.items; kept = c.self.inside.kept.items; lemmas = map learned_of c.self.inside.lemmas.items; branches = c.self.inside.branches + 1; point = c.self.inside.point } in
+    let b' : BookModel = record { problem = c.self.inside.problem; options = c.self.inside.options; root = first_state c.self.inside.problem c.self.inside.root; nodes = map node_of c.part.new.nodes.items; kept = c.self.inside.kept.items; lemmas = map learned_of c.self.inside.lemmas.items; branches = c.self.inside.branches + 1; point = c.self.inside.point } in
     subst (λ (b : BookModel). CommitStep b c.args.node (kept_of c.args.patch) (kids.Two kid (kid + 1)) b') c.self.view_is new
