@@ -54,8 +54,9 @@ fn append_list(text: &mut Vec<u8>, word: &str, numbers: &[u32]) -> Result<(), Al
     append_break(text)
 }
 
+/// Appends a line of a tree as the reader answers it, with its break. Out of memory is its one error.
 #[tactic(auto, using(crate::proofs::ReadLines::appended_text))]
-fn append_rule(text: &mut Vec<u8>, rule: &Rule) -> Result<(), AllocError>
+pub fn append_rule(text: &mut Vec<u8>, rule: &Rule) -> Result<(), AllocError>
     ensures { AppendsText text.old text.new (rule_line (rules.line_of rule.now) ∷ []) result }
 {
     match rule {
