@@ -1,4 +1,12 @@
+pub mod Fitting
+pub mod Grafts
 pub mod Grows
+pub mod Known
+pub mod Leaving
+pub mod LemmaStates
 pub mod Parses
 mod Refined
+pub mod Resumes
 pub mod Sections
+pub mod Stays
+pub mod Within

@@ -10,11 +10,15 @@ use Rattle.cert_model.specs.Accepted.{IsAccepted, most_lemmas}
 use Rattle.cert_model.specs.Laws.{CanBeWritten}
 use Rattle.cert_model.specs.Standing.{IsHonest, branches}
 use Rattle.cert_model.specs.Written.{left_standing, tree_standing, IsHonestTree, tree_branches, LemmaTree, AreLemmaTrees}
-use Rattle.cert_resumed.specs.Resumed.{Refines, grafted, CoverRead, IsCoverRead, in_version_2, all_lemmas, resumed_lines, resumed_text, IsGraft, AreGrafts, each_left, joined}
+use Rattle.cert_resumed.specs.Resumed.{Refines, grafted, CoverRead, IsCoverRead, IsSoundRead, in_version_2, all_lemmas, resumed_lines, resumed_text, IsGraft, AreGrafts, each_left, joined}
 
 -- Lines whose leaving ones are replaced by trees refine them.
 abbrev pub GraftRefines : Type 0
 GraftRefines = (ls : List Line) (ts : List Tree) → Refines (grafted ls ts) ls
+
+-- What is known of a cover that was read.
+abbrev pub ReadIsSound : Type 0
+ReadIsSound = (p : Problem) (b : Option ℕ) (bytes : List ℕ) (c : CoverRead) → IsCoverRead p b bytes c → IsSoundRead p c
 
 -- More lemmas change nothing of a lawful tree.
 abbrev pub LawfulWithMore : Type 0

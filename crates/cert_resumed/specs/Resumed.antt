@@ -1,14 +1,14 @@
 -- Covers that go on from others. In the main tree each line that leaves its state open or stuck may be replaced by a tree, which begins in that
 -- state; more lemmas follow those that were there.
-use Rattle.std.specs.Prelude.{◌≡◌, ◌≤◌, ◌-◌, ◌%◌, ℕ, suc, List, [], ◌∷◌, ◌++◌, Bool, true, false, not, cond, Option, IsTrue, length, map, drop, nat_eq, sum_by}
-use Rattle.poly_graph.specs.Problem.{Problem}
+use Rattle.std.specs.Prelude.{◌≡◌, ◌≤◌, ◌-◌, ◌%◌, ℕ, suc, List, [], ◌∷◌, ◌++◌, Bool, true, false, not, cond, Option, None, IsTrue, length, map, drop, nat_eq, sum_by}
+use Rattle.poly_graph.specs.Problem.{Problem, first_crossed}
 use Rattle.cover_model.specs.State.{State, Loosenings}
 use Rattle.cover_model.specs.Rules.{Line, open_line, stuck}
 use Rattle.cover_model.specs.Derivation.{Tree, leaf, tree_lines, Lawful}
 use Rattle.cert_read.specs.CertLine.{CertLine, version, margin, delta, bound, cover, tree_word, end_word, line, parsed}
 use Rattle.cert_read.specs.Lines.{lines_of}
 use Rattle.cert_model.specs.Due.{Standing, left_open, version_due, nothing_due}
-use Rattle.cert_model.specs.Accepted.{IsAccepted, certificate_text, course, reached}
+use Rattle.cert_model.specs.Accepted.{IsAccepted, is_header, most_lemmas, certificate_text, course, reached}
 use Rattle.cert_model.specs.AnswerText.{has_open}
 use Rattle.cert_model.specs.Written.{rule_lines, NamesWell, left_standing, IsHonestTree, tree_branches, LemmaTree, lemma_states, lemmas_lines}
 
@@ -55,6 +55,19 @@ pub record IsCoverRead (p : Problem) (b : Option ℕ) (bytes : List ℕ) (c : Co
   pub accepted : IsAccepted p b bytes c.loosenings (left_open c.left)
   pub lines : map parsed (lines_of bytes) ≡ map line (read_lines b c)
   pub ends : course p b 0 version_due (lines_of bytes) ≡ reached (nothing_due c.loosenings c.lemmas (left_open c.left)) (length (lines_of bytes))
+
+-- the lines that leave their states open or stuck, in order
+abbrev pub leaving_lines : List Line → List Line
+leaving_lines [] = []
+leaving_lines (l ∷ ls) = cond (is_leaving l) (l ∷ leaving_lines ls) (leaving_lines ls)
+
+-- what is known of such a cover: its loosenings are in their limits, its lemmas are few enough, no bounds of the box cross, and the states that stay
+-- are those of the lines that leave theirs
+pub record IsSoundRead (p : Problem) (c : CoverRead) : Type 0 where
+  pub loosenings : IsTrue (is_header c.loosenings)
+  pub not_crossed : first_crossed p ≡ None
+  pub few : length c.lemmas ≤ most_lemmas
+  pub leaving : map (λ (x : Standing). x.does) c.left ≡ leaving_lines c.main
 
 -- ---- what goes on from it
 

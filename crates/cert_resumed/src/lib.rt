@@ -5,11 +5,17 @@
 //! definitions in `specs/`, and its contract is the law.
 #![tactic(auto)]
 
-ghost use Rattle.cert_resumed.specs.Laws.{GraftRefines, LawfulWithMore, LeftFits, LeftStays, LemmasFit, ResumedBranches, ResumedIsAccepted, ResumedIsHonest};
+ghost use Rattle.cert_resumed.specs.Laws.{GraftRefines, LawfulWithMore, LeftFits, LeftStays, LemmasFit, ReadIsSound, ResumedBranches, ResumedIsAccepted, ResumedIsHonest};
 
 /// Lines whose open and stuck ones are replaced by trees refine them.
 pub fn graft_refines()
     ensures { GraftRefines }
+{}
+
+/// The header of a cover that was read is in its limits, no bounds of the declared box cross, and the states that stayed
+/// are those of the lines that leave theirs, in order.
+pub fn read_is_sound()
+    ensures { ReadIsSound }
 {}
 
 /// More lemmas change nothing of a lawful tree.

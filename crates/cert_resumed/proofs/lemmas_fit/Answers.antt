@@ -1,0 +1,5 @@
+use Rattle.cert_resumed.proofs.LemmaStates
+use Rattle.cert_resumed.proofs.lemmas_fit.Goals as goal
+
+pub returns : goal.returns
+returns c = λ p g b bytes c' h. LemmaStates.lemmas_fit p g b bytes c' h
