@@ -1,1 +1,11 @@
-//! Covers that go on from others: the search over what stayed open.
+//! Certificates that go on from others.
+#![tactic(auto)]
+
+mod answer;
+mod going;
+mod request;
+mod search;
+
+pub use answer::{Cover, Own, Resumed};
+pub use request::{Request, Share};
+pub use search::Searcher;

@@ -182,7 +182,7 @@ none-is (x ∷ xs) h = absurd (true≢false h)
 
 pub left_tells_of_nodes : LeftMatchesNodes
 left_tells_of_nodes b w t left i =
-    let h : IsCovered b = covered b w i.lawful.not_crossed in
+    let h : IsCovered b = covered b w i.not_crossed in
     let some : list_any anything left ≡ (has_live b || has_stuck b) = told b.nodes anything i.is_tree i.once
     ∙ any_alike (leaves b.nodes anything) (λ x. is_live x || is_stuck x) b.nodes (leaves-anything b.nodes) ∙ any-either is_live is_stuck b.nodes in
     record {

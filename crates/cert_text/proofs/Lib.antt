@@ -4,6 +4,7 @@ pub mod Forest
 pub mod Items
 pub mod Numbers
 pub mod Proved
+mod ReadLines
 pub mod Sessions
 pub mod SessionTexts
 pub mod Spelling

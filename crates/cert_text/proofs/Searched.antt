@@ -182,7 +182,7 @@ module _ (b : BookModel) (w : IsBook b) where
     some = f.some;
     first = its-first;
     ahead = λ e t left i.
-        let h : IsCovered b = covered b w i.lawful.not_crossed in
+        let h : IsCovered b = covered b w i.not_crossed in
         first-ahead left (stuck_at j S) (its-first t left i) ((left_tells_of_nodes b w t left i).live ∙ e)
         (told b.nodes is_other i.is_tree i.once ∙ any_alike (leaves b.nodes is_other) never b.nodes (leaves-other b h) ∙ any-never b.nodes);
   }

@@ -1,5 +1,5 @@
 -- The parts of the books of several checks follow the rules, and their text is accepted with what they tell.
-use Rattle.std.proofs.Common.{◌≡◌, inl, inr, ℕ, zero, suc, ◌+◌, ◌≤◌, List, [], ◌∷◌, ◌++◌, map, length, Bool, true, false, not, ◌&&◌, cond, is_some, Option, Some, None, IsTrue, refl, ap, ap₂, sym, ◌∙◌, subst, arith}
+use Rattle.std.proofs.Common.{◌≡◌, inl, inr, ℕ, zero, suc, ◌+◌, ◌≤◌, List, [], ◌∷◌, ◌++◌, map, length, Bool, true, false, not, ◌&&◌, cond, is_some, All, Option, Some, None, IsTrue, refl, ap, ap₂, sym, ◌∙◌, subst, arith}
 use Rattle.std.specs.Prelude.{slice_get, IfSome}
 use Rattle.std.proofs.Math.Seq.{take-length}
 use Rattle.std.proofs.lemmas.List.{length-map}
@@ -14,7 +14,7 @@ use Rattle.cover_model.specs.Space.{IsGridSpace}
 use Rattle.cover_model.specs.State.{State, Loosenings, delta_of, sure, root_state}
 use Rattle.cover_model.specs.Rules.{open_line}
 use Rattle.cover_model.specs.Honest.{is_honest, branch_count}
-use Rattle.cover_model.specs.Derivation.{Tree}
+use Rattle.cover_model.specs.Derivation.{Tree, Lawful}
 use Rattle.cover_model.specs.Fits.{coordinates, are_near, IsShownAt}
 use Rattle.cover_data.specs.declared.margins.Options.{Options}
 use Rattle.cert_model.specs.Due.{Standing, Value, left_open, is_crossed_box}
@@ -25,7 +25,7 @@ use Rattle.cert_model.specs.Standing.{Stands, branches_of}
 use Rattle.cert_model.specs.Written.{LemmaTree, lemma_states, left_standing, tree_standing}
 use Rattle.cert_model.proofs.Versions.{lawful_in_version_3, honest_in_version_3}
 use Rattle.cert_model.proofs.Takes.{branches_stand}
-use Rattle.cover_book.specs.Model.{BookModel, LearnedLemma, problem_in, loosenings_in, lemma_states_in, kept_from}
+use Rattle.cover_book.specs.Model.{BookModel, IsOfRoot, LearnedLemma, problem_in, loosenings_in, lemma_states_in, kept_from}
 use Rattle.cover_book.specs.Tree.{lemma_tree, lemma_trees, cover_lemmas}
 use Rattle.cover_book.specs.Keeps.{IsBook}
 use Rattle.cover_book.specs.Laws.{IsTreeOfBook}
@@ -40,15 +40,18 @@ if-some P (Some y) x e h = let same : y ≡ x = cc in subst P same h
 
 -- ---- the part of a book follows the rules
 
-module _ (b : BookModel) (w : IsBook b) where
+module _ (b : BookModel) (w : IsBook b) (rooted : IsOfRoot b) where
   abbrev p : Problem
   p = problem_in b
 
   abbrev s : Loosenings
   s = loosenings_in b
 
+  at-root : (t : Tree) (left : List Standing) (i : IsTreeOfBook b t left) → Lawful p s (cover_lemmas b) (root_state p) t i.states
+  at-root t left i = subst (λ (S : State). Lawful p s (cover_lemmas b) S t i.states) rooted i.lawful
+
   end-lawful : (e : WrittenEnd) → IsEndOf b e → IsLawfulEnd p s (cover_lemmas b) e
-  end-lawful (written_tree t) h = (h.1.lawful.not_crossed, (h.1.lawful.left, h.1.lawful.lawful), h.1.lawful.names)
+  end-lawful (written_tree t) h = (h.1.not_crossed, (h.1.states, at-root t h.0 h.1), h.1.names)
   end-lawful (written_crossing i) h = first_crosses p i h
 
   shown-point : (space : Space) → b.point ≡ Some space → IsShownAt p s space
@@ -104,12 +107,12 @@ module _ (b : BookModel) (w : IsBook b) where
       let w' : ℕ = b.options.least_bits in
       let again : (x : Standing) → IsTrue (is_honest p w' s x.state x.does) → IsTrue (is_honest p w' third x.state x.does) = λ x h. honest_in_version_3 s p w' x.state x.does ∙ h in
       record {
-        branches = same-branches lines ∙ branches_stand p None s (cover_lemmas b) i.lawful.lawful ∙ i.branches;
+        branches = same-branches lines ∙ branches_stand p None s (cover_lemmas b) (at-root t left i) ∙ i.branches;
         ends = All-map (λ (x : Stands). (x.line.does ≡ open_line → ⊥) → IsTrue (is_honest p w' x.loosenings x.line.state x.line.does)) (λ (x : Standing). record { loosenings = third; line = x }) lines
             (All-weaker (λ (x : Standing). (x.does ≡ open_line → ⊥) → IsTrue (is_honest p w' s x.state x.does)) (λ (x : Standing). (x.does ≡ open_line → ⊥) → IsTrue (is_honest p w' third x.state x.does))
-            (λ x h n. again x (h n)) lines i.honest);
+            (λ x h n. again x (h n)) lines (subst (λ (S : State). All (λ (x : Standing). (x.does ≡ open_line → ⊥) → IsTrue (is_honest p w' s x.state x.does)) (tree_standing p s (cover_lemmas b) S t)) rooted i.honest));
         all = λ f. All-map (λ (x : Stands). IsTrue (is_honest p w' x.loosenings x.line.state x.line.does)) (λ (x : Standing). record { loosenings = third; line = x }) lines
-            (All-weaker (λ (x : Standing). IsTrue (is_honest p w' s x.state x.does)) (λ (x : Standing). IsTrue (is_honest p w' third x.state x.does)) again lines (tree_is_honest b w t left i f));
+            (All-weaker (λ (x : Standing). IsTrue (is_honest p w' s x.state x.does)) (λ (x : Standing). IsTrue (is_honest p w' third x.state x.does)) again lines (subst (λ (S : State). All (λ (x : Standing). IsTrue (is_honest p w' s x.state x.does)) (tree_standing p s (cover_lemmas b) S t)) rooted (tree_is_honest b w t left i f)));
       }
 
   part-tells-here : (x : WrittenPart) → IsPartOf b x → TellsOf b (value_of_part s p x) (stood (standing_of_part s p x))
@@ -122,7 +125,7 @@ module _ (b : BookModel) (w : IsBook b) where
         tree = t;
         left = h.3.0;
         is_tree = h.3.1;
-        value = ap left_open (ap (λ (ks : List State). left_standing p s ks (root_state p) t) same ∙ h.3.1.stands);
+        value = ap left_open (ap (λ (ks : List State). left_standing p s ks (root_state p) t) same ∙ ap (λ (S : State). left_standing p s (cover_lemmas b) S t) (sym rooted) ∙ h.3.1.stands);
         standing = subst (λ (ks : List State). StandsHonestly b (stood (tree_standing p s ks (root_state p) t))) (sym same) (honestly t h.3.0 h.3.1);
       }))
 
@@ -142,38 +145,38 @@ module _ (o : Options) where
   abbrev loosenings : Loosenings
   loosenings = session_loosenings o
 
-  own-part : (b : BookModel) → IsBook b → (q : Parts) → b.problem ≡ q → b.options ≡ o → (kept : List State) → b.kept ≡ kept → (x : WrittenPart) → IsPartOf b x → IsLawfulPart loosenings (problem_of q) kept x
-  own-part b w q e f kept g x h =
+  own-part : (b : BookModel) → IsBook b → IsOfRoot b → (q : Parts) → b.problem ≡ q → b.options ≡ o → (kept : List State) → b.kept ≡ kept → (x : WrittenPart) → IsPartOf b x → IsLawfulPart loosenings (problem_of q) kept x
+  own-part b w r q e f kept g x h =
       subst (λ (r : Parts). IsLawfulPart loosenings (problem_of r) kept x) e
       (subst (λ (ks : List State). IsLawfulPart loosenings (problem_in b) ks x) g
-      (subst (λ (u : Options). IsLawfulPart (session_loosenings u) (problem_in b) b.kept x) f (lawful_part b w x h)))
+      (subst (λ (u : Options). IsLawfulPart (session_loosenings u) (problem_in b) b.kept x) f (lawful_part b w r x h)))
 
-  own-tells : (b : BookModel) → IsBook b → (q : Parts) → b.problem ≡ q → b.options ≡ o → (x : WrittenPart) → IsPartOf b x →
+  own-tells : (b : BookModel) → IsBook b → IsOfRoot b → (q : Parts) → b.problem ≡ q → b.options ≡ o → (x : WrittenPart) → IsPartOf b x →
       TellsOf b (value_of_part loosenings (problem_of q) x) (map (λ (y : Standing). record { loosenings = loosenings; line = y }) (standing_of_part loosenings (problem_of q) x))
-  own-tells b w q e f x h =
+  own-tells b w r q e f x h =
       subst (λ (r : Parts). TellsOf b (value_of_part loosenings (problem_of r) x) (map (λ (y : Standing). record { loosenings = loosenings; line = y }) (standing_of_part loosenings (problem_of r) x))) e
       (subst (λ (u : Options). TellsOf b (value_of_part (session_loosenings u) (problem_in b) x) (map (λ (y : Standing). record { loosenings = session_loosenings u; line = y }) (standing_of_part (session_loosenings u) (problem_in b) x))) f
-      (part_tells b w x h))
+      (part_tells b w r x h))
 
   pub lawful_parts : (kept : List State) (q : Parts) (e : Bool) (later : List (Parts × Bool)) (books : List BookModel) (parts : List WrittenPart) → AreBooksOf o kept ((q, e) ∷ later) books → ArePartsOf books parts →
       AreLawfulParts loosenings (problem_of q) kept (problems_of later) parts
   lawful_parts kept q e later [] parts h g = absurd h
   lawful_parts kept q e later (b ∷ books) [] h g = absurd g
-  lawful_parts kept q e [] (b ∷ []) (x ∷ []) h g = own-part b h.0 q h.1 h.2 kept h.3 x g.0
-  lawful_parts kept q e [] (b ∷ c ∷ books) (x ∷ rest) h g = absurd h.4
+  lawful_parts kept q e [] (b ∷ []) (x ∷ []) h g = own-part b h.0 h.4 q h.1 h.2 kept h.3 x g.0
+  lawful_parts kept q e [] (b ∷ c ∷ books) (x ∷ rest) h g = absurd h.5
   lawful_parts kept q e [] (b ∷ []) (x ∷ y ∷ rest) h g = absurd g.1
   lawful_parts kept q e ((r, f) ∷ later) (b ∷ books) (x ∷ rest) h g =
-      let more = lawful_parts (cond f (kept_from b r) []) r f later books rest h.4 g.1 in
-      let same : cond f (kept_from b r) [] ≡ kept_by f (problem_of q) (lemmas_of_part x) (problem_of r) = next-kept b h.0 x g.0 f r ∙ ap (λ (u : Parts). kept_by f (problem_of u) (lemmas_of_part x) (problem_of r)) h.1 in
-      (own-part b h.0 q h.1 h.2 kept h.3 x g.0, subst (λ (ks : List State). AreLawfulParts loosenings (problem_of r) ks (problems_of later) rest) same more)
+      let more = lawful_parts (cond f (kept_from b r) []) r f later books rest h.5 g.1 in
+      let same : cond f (kept_from b r) [] ≡ kept_by f (problem_of q) (lemmas_of_part x) (problem_of r) = next-kept b h.0 h.4 x g.0 f r ∙ ap (λ (u : Parts). kept_by f (problem_of u) (lemmas_of_part x) (problem_of r)) h.1 in
+      (own-part b h.0 h.4 q h.1 h.2 kept h.3 x g.0, subst (λ (ks : List State). AreLawfulParts loosenings (problem_of r) ks (problems_of later) rest) same more)
 
   pub values_count : (kept : List State) (q : Parts) (e : Bool) (later : List (Parts × Bool)) (books : List BookModel) (parts : List WrittenPart) → AreBooksOf o kept ((q, e) ∷ later) books → ArePartsOf books parts →
       length (values_of_parts loosenings (problem_of q) (problems_of later) parts) ≡ length books
   values_count kept q e later [] parts h g = absurd h
   values_count kept q e later (b ∷ books) [] h g = absurd g
   values_count kept q e [] (b ∷ []) (x ∷ rest) h g = refl
-  values_count kept q e [] (b ∷ c ∷ books) (x ∷ rest) h g = absurd h.4
-  values_count kept q e ((r, f) ∷ later) (b ∷ books) (x ∷ rest) h g = ap suc (values_count (cond f (kept_from b r) []) r f later books rest h.4 g.1)
+  values_count kept q e [] (b ∷ c ∷ books) (x ∷ rest) h g = absurd h.5
+  values_count kept q e ((r, f) ∷ later) (b ∷ books) (x ∷ rest) h g = ap suc (values_count (cond f (kept_from b r) []) r f later books rest h.5 g.1)
 
   -- what part k tells, with the lines of its main tree
   abbrev TellsAt : Problem → List (Problem × Bool) → List WrittenPart → ℕ → BookModel → Value → Type 0
@@ -190,12 +193,12 @@ module _ (o : Options) where
       (k : ℕ) (b : BookModel) (v : Value) → slice_get books k ≡ Some b → slice_get (values_of_parts loosenings (problem_of q) (problems_of later) parts) k ≡ Some v → TellsAt (problem_of q) (problems_of later) parts k b v
   each_tells kept q e later [] parts h g k b v i j = absurd h
   each_tells kept q e later (c ∷ books) [] h g k b v i j = absurd g
-  each_tells kept q e [] (c ∷ d ∷ books) (x ∷ rest) h g k b v i j = absurd h.4
+  each_tells kept q e [] (c ∷ d ∷ books) (x ∷ rest) h g k b v i j = absurd h.5
   each_tells kept q e [] (c ∷ []) (x ∷ rest) h g (suc k) b v i j = cc
   each_tells kept q e [] (c ∷ []) (x ∷ rest) h g zero b v i j =
       let book : c ≡ b = cc in let value : value_of_part loosenings (problem_of q) x ≡ v = cc in
-      (standing_of_part loosenings (problem_of q) x, refl, first-tells (problem_of q) x c b v book value (own-tells c h.0 q h.1 h.2 x g.0))
+      (standing_of_part loosenings (problem_of q) x, refl, first-tells (problem_of q) x c b v book value (own-tells c h.0 h.4 q h.1 h.2 x g.0))
   each_tells kept q e ((r, f) ∷ later) (c ∷ books) (x ∷ rest) h g zero b v i j =
       let book : c ≡ b = cc in let value : value_of_part loosenings (problem_of q) x ≡ v = cc in
-      (standing_of_part loosenings (problem_of q) x, refl, first-tells (problem_of q) x c b v book value (own-tells c h.0 q h.1 h.2 x g.0))
-  each_tells kept q e ((r, f) ∷ later) (c ∷ books) (x ∷ rest) h g (suc k) b v i j = each_tells (cond f (kept_from c r) []) r f later books rest h.4 g.1 k b v i j
+      (standing_of_part loosenings (problem_of q) x, refl, first-tells (problem_of q) x c b v book value (own-tells c h.0 h.4 q h.1 h.2 x g.0))
+  each_tells kept q e ((r, f) ∷ later) (c ∷ books) (x ∷ rest) h g (suc k) b v i j = each_tells (cond f (kept_from c r) []) r f later books rest h.5 g.1 k b v i j

@@ -24,7 +24,7 @@ use Rattle.cert_text.specs.declared.keyword.Plain.{Plain}
 use Rattle.cert_text.specs.declared.keyword.Plain.TheVariants as plain
 use Rattle.cert_text.specs.declared.keyword.Counted.{Counted}
 use Rattle.cert_text.specs.declared.keyword.Counted.TheVariants as counted
-use Rattle.cert_text.specs.Lines.{HasAppended, HasPairs, paired_off, plain_line, plain_text, counted_line, counted_word, is_marked, marks_word, marks_line, listed, most_atoms}
+use Rattle.cert_text.specs.Lines.{HasAppended, HasPairs, HasPairsLine, paired_off, plain_line, plain_text, counted_line, counted_word, is_marked, marks_word, marks_line, listed, most_atoms}
 
 -- ---- texts of lines
 
@@ -251,19 +251,23 @@ pairs-short : (r : CombinationRule) → length (word_text (rule_word (word.Combi
 pairs-short combination.Combine = omega arith
 pairs-short combination.VoidCombine = omega arith
 
-pub paired_appended : (r : CombinationRule) (ps : Multipliers) (a b c d : List ℕ) → 0 < length ps → length ps ≤ 64 → b ≡ a ++ word_text (rule_word (word.Combination r)) → HasPairs b ps c → d ≡ c ++ (10 ∷ []) →
-    HasAppended a (rule_line (combination_line r ps) ∷ []) d
-paired_appended r ps a b c d some few e h f =
+pub pairs_line : (r : CombinationRule) (ps : Multipliers) (a b c d : List ℕ) → b ≡ a ++ word_text (rule_word (word.Combination r)) → HasPairs b ps c → d ≡ c ++ (10 ∷ []) → HasPairsLine a r ps d
+pairs_line r ps a b c d e h f =
     let w : List ℕ = word_text (rule_word (word.Combination r)) in
     let l : CertLine = rule_line (combination_line r ps) in
     let text : c ≡ a ++ line_text l = h.written ∙ ap (λ (t : List ℕ). t ++ paired_off ps) e ∙ append_assoc a w (paired_off ps) ∙ ap (λ (t : List ℕ). a ++ t) (sym (pairs-text r ps)) in
-    line_appended a d l (pairs-spelled r ps some h.spelled)
-    (omega (arith, few, h.short, pairs-short r, ap length (pairs-text r ps), length-append w (paired_off ps)))
-    (f ∙ ap (λ (t : List ℕ). t ++ (10 ∷ [])) text ∙ append_assoc a (line_text l) (10 ∷ []))
+    record {
+      written = f ∙ ap (λ (t : List ℕ). t ++ (10 ∷ [])) text ∙ append_assoc a (line_text l) (10 ∷ []);
+      spelled = h.spelled;
+      short = omega (arith, h.short, pairs-short r, ap length (pairs-text r ps), length-append w (paired_off ps));
+    }
+
+pub paired_appended : (r : CombinationRule) (ps : Multipliers) (a b : List ℕ) → 0 < length ps → length ps ≤ 64 → HasPairsLine a r ps b → HasAppended a (rule_line (combination_line r ps) ∷ []) b
+paired_appended r ps a b some few h = line_appended a b (rule_line (combination_line r ps)) (pairs-spelled r ps some h.spelled) (omega (arith, few, h.short)) h.written
 
 -- ---- lines of marks
 
-spaced-listed : (w : List ℕ) (js : List ℕ) → spaced (w ∷ map decimal js) ≡ w ++ listed js
+pub spaced-listed : (w : List ℕ) (js : List ℕ) → spaced (w ∷ map decimal js) ≡ w ++ listed js
 spaced-listed w [] = sym (append-nil w)
 spaced-listed w (j ∷ js) = ap (λ (t : List ℕ). w ++ (32 ∷ t)) (spaced-listed (decimal j) js)
 

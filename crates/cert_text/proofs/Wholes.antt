@@ -1,5 +1,5 @@
 -- The whole texts: a header, a body and an end, behind one another.
-use Rattle.std.proofs.Common.{◌≡◌, inl, inr, ℕ, zero, suc, ◌<◌, ◌≤◌, ◌^◌, List, [], ◌∷◌, ◌++◌, map, length, get_or, Option, Some, IsTrue, true≢false, ap, sym, ◌∙◌, subst, arith}
+use Rattle.std.proofs.Common.{◌≡◌, inl, inr, ℕ, zero, suc, ◌<◌, ◌≤◌, ◌^◌, List, [], ◌∷◌, ◌++◌, map, length, get_or, Option, Some, None, IsTrue, true≢false, ap, sym, ◌∙◌, subst, arith}
 use Rattle.std.specs.Prelude.{slice_get}
 use Rattle.std.specs.List.{AllByRecursion}
 use Rattle.std.proofs.lemmas.List.{length-map}
@@ -7,7 +7,7 @@ use Rattle.std.proofs.lemmas.Bool.{le-leb}
 use Rattle.dyadic.proofs.Equal.{both_pass}
 use Rattle.interval_model.specs.Space.{Space}
 use Rattle.poly_graph.specs.Problem.{Axis, Problem, crossed_in, first_crossed}
-use Rattle.cover_model.specs.State.{State, Loosenings, root_state}
+use Rattle.cover_model.specs.State.{State, Loosenings}
 use Rattle.cover_model.specs.Derivation.{Tree}
 use Rattle.cert_read.specs.CertLine.{CertLine, cover, point_word, tree_word, end_word, crossing}
 use Rattle.cover_model.specs.Fits.{IsShownAt}
@@ -16,12 +16,12 @@ use Rattle.cert_model.specs.Due.{Standing, at_point, left_open}
 use Rattle.cert_model.specs.Laws.{CanBeWritten}
 use Rattle.cert_model.specs.SessionLaws.{WrittenEnd, written_tree, written_crossing, end_lines}
 use Rattle.cert_model.specs.Standing.{standing, IsHonest, branches}
-use Rattle.cert_model.specs.Written.{AreLemmaTrees, cover_lines, point_line, point_lines}
+use Rattle.cert_model.specs.Written.{AreLemmaTrees, cover_lines, lemmas_lines, point_line, point_lines}
 use Rattle.cover_data.specs.declared.margins.Margins.{Margins}
 use Rattle.cover_data.specs.declared.margins.Options.{Options}
 use Rattle.cover_data.specs.Margins.{AreMargins, loosenings_of}
 use Rattle.cover_book.specs.declared.node.Learned.{Learned}
-use Rattle.cover_book.specs.Model.{NodeModel, crossed_node, BookModel, LearnedLemma, lemma_count, problem_in, margins_of, loosenings_in}
+use Rattle.cover_book.specs.Model.{NodeModel, crossed_node, BookModel, IsOfRoot, LearnedLemma, lemma_count, problem_in, margins_of, loosenings_in}
 use Rattle.cover_book.specs.declared.node.Node.{Node}
 use Rattle.cover_book.specs.declared.node.Node.TheVariants.{Live, Crossed, Closed, Parted, Stuck}
 use Rattle.cover_book.specs.Views.{learned_of, node_of}
@@ -34,7 +34,7 @@ use Rattle.cert_text.specs.Texts.{book_lines, crossed_lines, book_text, crossed_
 use Rattle.cert_text.specs.Lines.{HasAppended, most_atoms}
 use Rattle.cert_text.specs.Session.{IsEndOf, body_lines, HasAppendedBody}
 use Rattle.cert_text.specs.Parts.{header_lines, whole_point, HasFewMarks, learned_lines, HasAppendedTree, HasAppendedCover, IsCountedCrossing}
-use Rattle.cert_text.specs.Means.{EndsHonestly, IsTreeText, IsCrossedText, IsCertificateOf}
+use Rattle.cert_text.specs.Means.{EndsHonestly, HasAppendedTreeOf, IsTreeText, IsCrossedText, IsCertificateOf}
 use Rattle.cert_text.proofs.Spelling.{both_appended}
 use Rattle.cert_text.proofs.Counted.{few_numbers}
 use Rattle.cert_text.proofs.Proved.{book_text_is_accepted, book_text_branches, book_text_ends_honestly, book_text_is_honest, crossed_text_is_accepted, point_text_is_accepted}
@@ -59,7 +59,7 @@ crossing-few b w h i e = let f = h.nodes in let q : i ≡ h.axis = cc in
     omega (arith, q, w.limits.axes, crossed-within (problem_in b).axes h.axis (first_crosses (problem_in b) h.axis h.first))
 
 never-crossed : (b : BookModel) → IsCovered b → (i : ℕ) → b.nodes ≡ crossed_node i ∷ [] → ⊥
-never-crossed b h i e = h.each 0 (root_state (problem_in b)) (crossed_node i) h.root (ap (λ (xs : List NodeModel). slice_get xs 0) e)
+never-crossed b h i e = h.each 0 b.root (crossed_node i) h.root (ap (λ (xs : List NodeModel). slice_get xs 0) e)
 
 pub crossing_counts : (b : BookModel) → IsBook b → (nodes : List NodeModel) → nodes ≡ b.nodes → IsCountedCrossing nodes
 crossing_counts b w nodes e i f = elim w.nodes [
@@ -78,21 +78,32 @@ body-end b w old new a = elim w.nodes [
     by-tree : ((t : Tree) × (left : List Standing) × IsTreeOfBook b t left) → (e : WrittenEnd) × IsEndOf b e × HasAppended old (end_lines e) new
     by-tree f = (written_tree f.0, (f.1, f.2), a.tree f.0 f.2.numbers f.1 f.2.is_tree (few_numbers b f.0 f.1 f.2))
 
-pub body_appended : (b : BookModel) → IsBook b → (xs : List Learned) (q : ℕ) (t0 t1 t2 t3 t4 : List ℕ) → map learned_of xs ≡ b.lemmas → q ≡ length b.kept →
-    HasAppended t0 (learned_lines q xs) t1 → HasAppended t1 (tree_word ∷ []) t2 → HasAppendedCover t2 b.nodes t3 → HasAppended t3 (end_word ∷ []) t4 → HasAppendedBody t0 b t4
-body_appended b w xs q t0 t1 t2 t3 t4 these first l t c e =
-    let f = body-end b w t2 t3 c in
-    let all : HasAppended t0 (body_lines q (map lemma_tree (map learned_of xs)) f.0) t4 =
-    both_appended t0 t1 t4 (learned_lines q xs) (tree_word ∷ (end_lines f.0 ++ (end_word ∷ []))) l
-    (both_appended t1 t2 t4 (tree_word ∷ []) (end_lines f.0 ++ (end_word ∷ [])) t (both_appended t2 t3 t4 (end_lines f.0) (end_word ∷ []) f.2 e)) in
-    (f.0, f.1, subst (λ (n : ℕ). HasAppended t0 (body_lines n (lemma_trees b) f.0) t4) first (subst (λ (ys : List LearnedLemma). HasAppended t0 (body_lines q (map lemma_tree ys) f.0) t4) these all))
+-- the lemmas that it learned
+pub lemmas_of_appended : (b : BookModel) (xs : List Learned) (q : ℕ) (t0 t1 : List ℕ) → map learned_of xs ≡ b.lemmas → q ≡ length b.kept → HasAppended t0 (learned_lines q xs) t1 →
+    HasAppended t0 (lemmas_lines (length b.kept) (lemma_trees b)) t1
+lemmas_of_appended b xs q t0 t1 these first h =
+    subst (λ (n : ℕ). HasAppended t0 (lemmas_lines n (lemma_trees b)) t1) first (subst (λ (ys : List LearnedLemma). HasAppended t0 (lemmas_lines q (map lemma_tree ys)) t1) these h)
+
+-- the tree
+pub tree_of_appended : (b : BookModel) → IsBook b → (old new : List ℕ) → HasAppendedTree old b.nodes new → first_crossed (problem_in b) ≡ None → HasAppendedTreeOf old b new
+tree_of_appended b w old new a e = let f = book_has_tree b w e in (f.0, f.1, f.2, a f.0 f.2.numbers f.1 f.2.is_tree (few_numbers b f.0 f.1 f.2))
+
+pub body_appended : (b : BookModel) → IsBook b → (t0 t1 t2 t3 t4 : List ℕ) →
+    HasAppended t0 (lemmas_lines (length b.kept) (lemma_trees b)) t1 → HasAppended t1 (tree_word ∷ []) t2 → HasAppendedCover t2 b.nodes t3 → HasAppended t3 (end_word ∷ []) t4 → HasAppendedBody t0 b t4
+body_appended b w t0 t1 t2 t3 t4 l t c e =
+    let f = body-end b w t2 t3 c in (
+      f.0,
+      f.1,
+      both_appended t0 t1 t4 (lemmas_lines (length b.kept) (lemma_trees b)) (tree_word ∷ (end_lines f.0 ++ (end_word ∷ []))) l
+          (both_appended t1 t2 t4 (tree_word ∷ []) (end_lines f.0 ++ (end_word ∷ [])) t (both_appended t2 t3 t4 (end_lines f.0) (end_word ∷ []) f.2 e)),
+    )
 
 -- ---- the certificate of a book that opened with no lemmas
 
 can-be : (ls : List CertLine) (text : List ℕ) → HasAppended [] ls text → length text ≤ most_bytes → CanBeWritten ls
 can-be ls text a h = (a.spelled, subst (λ (t : List ℕ). length t ≤ most_bytes) a.written h)
 
-module _ (b : BookModel) (w : IsBook b) (none : b.kept ≡ []) (text : List ℕ) (short : length text ≤ most_bytes) where
+module _ (b : BookModel) (w : IsBook b) (none : b.kept ≡ []) (rooted : IsOfRoot b) (text : List ℕ) (short : length text ≤ most_bytes) where
   tree-text : (t : Tree) (left : List Standing) → IsTreeOfBook b t left → HasAppended [] (book_lines b t) text → IsTreeText b text
   tree-text t left i all =
       let can : CanBeWritten (book_lines b t) = can-be (book_lines b t) text all short in
@@ -102,10 +113,10 @@ module _ (b : BookModel) (w : IsBook b) (none : b.kept ≡ []) (text : List ℕ)
         left = left;
         is_tree = i;
         text = all.written;
-        accepted = subst (λ (x : List ℕ). IsAccepted (problem_in b) b.options.bound x (loosenings_in b) (left_open left)) same (book_text_is_accepted b t left i none can);
-        branches = subst (λ (x : List ℕ). branches (problem_in b) b.options.bound x ≡ b.branches) same (book_text_branches b t left i none can);
-        ends_honestly = subst (EndsHonestly b) same (book_text_ends_honestly b t left i none can);
-        honest = λ f. subst (IsHonest (problem_in b) b.options.bound b.options.least_bits) same (book_text_is_honest b w t left i none can f);
+        accepted = subst (λ (x : List ℕ). IsAccepted (problem_in b) b.options.bound x (loosenings_in b) (left_open left)) same (book_text_is_accepted b t left i rooted none can);
+        branches = subst (λ (x : List ℕ). branches (problem_in b) b.options.bound x ≡ b.branches) same (book_text_branches b t left i rooted none can);
+        ends_honestly = subst (EndsHonestly b) same (book_text_ends_honestly b t left i rooted none can);
+        honest = λ f. subst (IsHonest (problem_in b) b.options.bound b.options.least_bits) same (book_text_is_honest b w t left i rooted none can f);
       }
 
   crossed-text : (i : ℕ) → first_crossed (problem_in b) ≡ Some i → HasAppended [] (crossed_lines b i) text → IsCrossedText b text

@@ -1,11 +1,12 @@
 -- What the calls answer, in values of the code.
-use Rattle.std.specs.Prelude.{◌≡◌, ℕ, Bool, List, [], ◌∷◌, None, OnOk, Result, Vec, map}
+use Rattle.std.specs.Prelude.{◌≡◌, ℕ, Bool, List, [], ◌∷◌, ◌++◌, None, OnOk, Result, Vec, map}
 use Rattle.std.specs.Global.{Global}
 use Rattle.std.specs.declared.alloc.AllocError.{AllocError}
 use Rattle.poly_graph.specs.MarkViews.{mark_of}
 use Rattle.poly_graph.specs.Marks.{numbers_from}
 use Rattle.poly_graph.specs.declared.mark.Mark.{Mark}
 use Rattle.cover_model.specs.State.{State}
+use Rattle.dyadic.specs.declared.dy.Dy.{Dy}
 use Rattle.cover_model.specs.Views.{multipliers_of}
 use Rattle.interval_model.specs.Space.{Space}
 use Rattle.poly_graph.specs.ProblemViews.{Parts, problem_of}
@@ -15,11 +16,12 @@ use Rattle.cover_data.specs.declared.margins.Options.{Options}
 use Rattle.cover_line.specs.declared.rule.CombinationRule.{CombinationRule}
 use Rattle.cover_line.specs.Views.{combination_line}
 use Rattle.cert_read.specs.CertLine.{CertLine, rule_line}
+use Rattle.cert_model.specs.Accepted.{certificate_text}
 use Rattle.cert_model.specs.Laws.{point_text}
 use Rattle.cover_book.specs.declared.node.Node.{Node}
 use Rattle.cover_book.specs.Model.{crossed_node}
 use Rattle.cover_book.specs.Views.{node_of}
-use Rattle.cert_text.specs.Lines.{HasAppended, is_marked, listed}
+use Rattle.cert_text.specs.Lines.{HasAppended, HasPairsLine, is_marked, listed}
 use Rattle.cert_text.specs.Means.{IsPointCertificate}
 use Rattle.cert_text.specs.Parts.{HasNothingNext, IsNextTaken, header_lines, node_left}
 use Rattle.cert_text.specs.Stuck.{HasNoStuckState, IsFirstStuckState, IsStuckNode, first_stuck}
@@ -27,6 +29,14 @@ use Rattle.cert_text.specs.Stuck.{HasNoStuckState, IsFirstStuckState, IsStuckNod
 -- these lines were appended to the text, unless it is out of memory
 abbrev pub Appends : {X : Type 0} → Vec ℕ Global → Vec ℕ Global → List CertLine → Result X AllocError → Type 0
 Appends old new ls r = OnOk r (HasAppended old.items ls new.items)
+
+-- the same, but that nothing is said of how the lines are spelled
+abbrev pub AppendsText : {X : Type 0} → Vec ℕ Global → Vec ℕ Global → List CertLine → Result X AllocError → Type 0
+AppendsText old new ls r = OnOk r (new.items ≡ old.items ++ certificate_text ls)
+
+-- a line of a word and numbers was appended
+abbrev pub AppendsList : {X : Type 0} → Vec ℕ Global → Vec ℕ Global → List ℕ → List ℕ → Result X AllocError → Type 0
+AppendsList old new word numbers r = OnOk r (new.items ≡ old.items ++ (word ++ (listed numbers ++ (10 ∷ []))))
 
 -- the numbers of the atoms that are marked yes, or of those marked no, as text
 abbrev pub marked_numbers : Bool → List Mark → List ℕ
@@ -38,6 +48,10 @@ header_of v o = header_lines (record (loosenings_of (margins_of o)) { version = 
 
 abbrev pub line_of_combination : CombinationRule → Combination → CertLine
 line_of_combination rule c = rule_line (combination_line rule (multipliers_of c.pairs.items))
+
+-- the line of these pairs was appended
+abbrev pub HasMultipliers : List ℕ → CombinationRule → List (ℕ × Dy) → List ℕ → Type 0
+HasMultipliers old rule pairs new = HasPairsLine old rule (multipliers_of pairs) new
 
 -- ---- points
 

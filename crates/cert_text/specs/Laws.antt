@@ -1,4 +1,4 @@
--- What the certificate of a book is, where it opened with no lemmas.
+-- What the certificate of a book is, where it opened in the root state with no lemmas.
 use Rattle.std.specs.Prelude.{◌≡◌, ◌↔◌, ℕ, List, [], false, Option, Some, IsTrue}
 use Rattle.interval_model.specs.Space.{Space}
 use Rattle.poly_graph.specs.Problem.{Problem, first_crossed}
@@ -12,7 +12,7 @@ use Rattle.cert_model.specs.Standing.{standing, IsHonest, branches}
 use Rattle.cert_model.specs.AnswerText.{has_open}
 use Rattle.cert_model.specs.Written.{point_lines}
 use Rattle.cert_model.specs.Laws.{CanBeWritten, point_text}
-use Rattle.cover_book.specs.Model.{BookModel, problem_in, loosenings_in}
+use Rattle.cover_book.specs.Model.{BookModel, IsOfRoot, problem_in, loosenings_in}
 use Rattle.cover_book.specs.Verdict.{has_live, has_stuck}
 use Rattle.cover_book.specs.Steps.{IsLive}
 use Rattle.cover_book.specs.Keeps.{IsBook}
@@ -22,20 +22,20 @@ use Rattle.cert_text.specs.Texts.{book_lines, crossed_lines, book_text, crossed_
 
 -- The text of a book's tree is accepted, and its value is the states that stay, in the tree's order.
 abbrev pub BookTextIsAccepted : Type 0
-BookTextIsAccepted = (b : BookModel) (t : Tree) (left : List Standing) → IsTreeOfBook b t left → b.kept ≡ [] → CanBeWritten (book_lines b t) →
+BookTextIsAccepted = (b : BookModel) (t : Tree) (left : List Standing) → IsTreeOfBook b t left → IsOfRoot b → b.kept ≡ [] → CanBeWritten (book_lines b t) →
     IsAccepted (problem_in b) b.options.bound (book_text b t) (loosenings_in b) (left_open left)
 
 -- It has as many branches as the book counts.
 abbrev pub BookTextBranches : Type 0
-BookTextBranches = (b : BookModel) (t : Tree) (left : List Standing) → IsTreeOfBook b t left → b.kept ≡ [] → CanBeWritten (book_lines b t) → branches (problem_in b) b.options.bound (book_text b t) ≡ b.branches
+BookTextBranches = (b : BookModel) (t : Tree) (left : List Standing) → IsTreeOfBook b t left → IsOfRoot b → b.kept ≡ [] → CanBeWritten (book_lines b t) → branches (problem_in b) b.options.bound (book_text b t) ≡ b.branches
 
 -- Each line of its main tree but an open one is honest.
 abbrev pub BookTextEndsHonestly : Type 0
-BookTextEndsHonestly = (b : BookModel) (t : Tree) (left : List Standing) → IsTreeOfBook b t left → b.kept ≡ [] → CanBeWritten (book_lines b t) → EndsHonestly b (book_text b t)
+BookTextEndsHonestly = (b : BookModel) (t : Tree) (left : List Standing) → IsTreeOfBook b t left → IsOfRoot b → b.kept ≡ [] → CanBeWritten (book_lines b t) → EndsHonestly b (book_text b t)
 
 -- It is honest where at each live node the form may hold and is not sure at the middle.
 abbrev pub BookTextIsHonest : Type 0
-BookTextIsHonest = (b : BookModel) → IsBook b → (t : Tree) (left : List Standing) → IsTreeOfBook b t left → b.kept ≡ [] → CanBeWritten (book_lines b t) →
+BookTextIsHonest = (b : BookModel) → IsBook b → (t : Tree) (left : List Standing) → IsTreeOfBook b t left → IsOfRoot b → b.kept ≡ [] → CanBeWritten (book_lines b t) →
     ((n : ℕ) (S : State) → IsLive b n S → IsTrue (not_shown (problem_in b) (loosenings_in b) S)) → IsHonest (problem_in b) b.options.bound b.options.least_bits (book_text b t)
 
 -- Where the bounds of an axis cross, the text that says so is accepted with nothing left, and no line of it stands at a state.

@@ -1,12 +1,14 @@
 -- Lines that are appended to a text, and the forms in which the code has them.
-use Rattle.std.specs.Prelude.{◌≡◌, ℕ, ◌*◌, ◌≤◌, List, [], ◌∷◌, ◌++◌, Bool, true, false, Some, None, codes, decimal, length}
+use Rattle.std.specs.Prelude.{◌≡◌, ℕ, ◌+◌, ◌*◌, ◌≤◌, List, [], ◌∷◌, ◌++◌, Bool, true, false, Some, None, codes, decimal, length}
 use Rattle.std.specs.List.{AllByRecursion}
 use Rattle.cover_model.specs.Rules.{by, flip, make_false, open_line}
 use Rattle.cover_line.specs.declared.word.Word.TheVariants as word
 use Rattle.cover_line.specs.Words.{empty_word, false_word, by_word, flip_word, open_word, word_text}
-use Rattle.cover_line.specs.Views.{atom_line, rule_word}
+use Rattle.cover_line.specs.Line.{Multipliers}
+use Rattle.cover_line.specs.declared.rule.CombinationRule.{CombinationRule}
+use Rattle.cover_line.specs.Views.{atom_line, combination_line, rule_word}
 use Rattle.cert_read.specs.CertLine.{says_false, says_true, says_both, CertLine, version, margin, delta, bound, checks, cover, keep, point_word, tree_word, end_word, lemma, bool_value, yes_list, no_list, rule_line, crossing}
-use Rattle.cert_read.specs.LineText.{IsSpelled, IsSpelledPair}
+use Rattle.cert_read.specs.LineText.{IsSpelled, IsSpelledPair, line_text}
 use Rattle.dyadic.specs.Rounding.{Dyadic}
 use Rattle.dyadic.specs.NumberText.{number_spelling}
 use Rattle.poly_graph.specs.Marks.{Mark, is_yes, is_no, numbers_from}
@@ -87,6 +89,12 @@ pub record HasPairs (old : List ℕ) (ps : List (ℕ × Dyadic)) (new : List ℕ
   pub written : new ≡ old ++ paired_off ps
   pub spelled : AllByRecursion IsSpelledPair ps
   pub short : length (paired_off ps) ≤ length ps * 76
+
+-- the new text is the old one and the line of these pairs behind it, each of which can be spelled
+pub record HasPairsLine (old : List ℕ) (rule : CombinationRule) (ps : Multipliers) (new : List ℕ) : Type 0 where
+  pub written : new ≡ old ++ certificate_text (rule_line (combination_line rule ps) ∷ [])
+  pub spelled : AllByRecursion IsSpelledPair ps
+  pub short : length (line_text (rule_line (combination_line rule ps))) ≤ 16 + length ps * 76
 
 -- ---- lines of marks
 

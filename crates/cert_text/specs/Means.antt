@@ -5,7 +5,7 @@ use Rattle.poly_graph.specs.Problem.{Problem, first_crossed}
 use Rattle.cover_model.specs.State.{State}
 use Rattle.cover_model.specs.Rules.{open_line}
 use Rattle.cover_model.specs.Honest.{is_honest, not_shown}
-use Rattle.cover_model.specs.Derivation.{Tree}
+use Rattle.cover_model.specs.Derivation.{Tree, tree_lines}
 use Rattle.cover_model.specs.Fits.{IsShownAt}
 use Rattle.cover_data.specs.declared.margins.Options.{Options}
 use Rattle.cover_data.specs.Margins.{AreMargins, margins_of, loosenings_of}
@@ -15,6 +15,8 @@ use Rattle.cert_model.specs.Standing.{Stands, standing, IsHonest, branches}
 use Rattle.cover_book.specs.Model.{BookModel, problem_in, loosenings_in}
 use Rattle.cover_book.specs.Steps.{IsLive}
 use Rattle.cover_book.specs.Laws.{IsTreeOfBook}
+use Rattle.cert_model.specs.Written.{rule_lines}
+use Rattle.cert_text.specs.Lines.{HasAppended}
 use Rattle.cert_text.specs.Texts.{book_text, crossed_text}
 
 -- each of these lines but an open one is honest
@@ -46,6 +48,10 @@ pub record IsCrossedText (b : BookModel) (bytes : List ℕ) : Type 0 where
 -- the one where the declared box is empty, the other where it is not
 abbrev pub IsCertificateOf : BookModel → List ℕ → Type 0
 IsCertificateOf b text = IsCrossedText b text ⊎ IsTreeText b text
+
+-- the lines of a tree of the book were appended
+abbrev pub HasAppendedTreeOf : List ℕ → BookModel → List ℕ → Type 0
+HasAppendedTreeOf old b new = (t : Tree) × (left : List Standing) × IsTreeOfBook b t left × HasAppended old (rule_lines (tree_lines t)) new
 
 -- ---- of a point
 

@@ -7,7 +7,7 @@ ghost use Rattle.cover_model.specs.Rules.{ban, cut};
 ghost use Rattle.cert_read.specs.CertLine.{real_interval, real_value, rule_line};
 ghost use Rattle.cert_read.specs.LineText.{IsCount, IsSpelledNumber};
 ghost use Rattle.cover_model.specs.Views.{multipliers_of};
-ghost use Rattle.cert_text.specs.Calls.{Appends, line_of_combination, marked_numbers};
+ghost use Rattle.cert_text.specs.Calls.{Appends, HasMultipliers, line_of_combination, marked_numbers};
 ghost use Rattle.cert_text.specs.Lines.{HasPairs, counted_line, is_marked, marks_line, marks_word, most_atoms, plain_line};
 
 use crate::keyword::{Counted, Plain, counted_bytes, plain_bytes};
@@ -37,8 +37,8 @@ fn append_number(text: &mut Vec<u8>, number: Dy) -> Result<(), AllocError>
     text.extend_from_slice(&buffer[..end])
 }
 
-// The end of a line.
-fn append_break(text: &mut Vec<u8>) -> Result<(), AllocError>
+/// Appends the end of a line.
+pub(crate) fn append_break(text: &mut Vec<u8>) -> Result<(), AllocError>
     ensures { OnOk result (text.new.items ≡ text.old.items ++ 10 ∷ []) }
 {
     text.extend_from_slice(b"\n")
@@ -52,8 +52,12 @@ pub(crate) fn append_plain(text: &mut Vec<u8>, line: Plain) -> Result<(), AllocE
     append_break(text)
 }
 
-// A word and a number.
-fn append_word_and_count(text: &mut Vec<u8>, word: &str, n: u32) -> Result<(), AllocError>
+/// Appends a word and a number.
+pub(crate) fn append_word_and_count(
+    text: &mut Vec<u8>,
+    word: &str,
+    n: u32,
+) -> Result<(), AllocError>
     ensures text { OnOk result (text.new.items ≡ text.old.items ++ (word.now ++ 32 ∷ decimal n)) }
     ensures count { IsCount n }
 {
@@ -129,6 +133,19 @@ fn append_pairs(text: &mut Vec<u8>, pairs: &[(u32, Dy)]) -> Result<(), AllocErro
     Ok(())
 }
 
+/// Appends the line of atoms with their multipliers.
+pub(crate) fn append_multipliers(
+    text: &mut Vec<u8>,
+    rule: CombinationRule,
+    pairs: &[(u32, Dy)],
+) -> Result<(), AllocError>
+    ensures { OnOk result (HasMultipliers text.old.items rule pairs.now text.new.items) }
+{
+    text.extend_from_slice(Word::Combination(rule).text().as_bytes())?;
+    append_pairs(text, pairs)?;
+    append_break(text)
+}
+
 /// Appends the line of a combination of atoms.
 pub(crate) fn append_combination(
     text: &mut Vec<u8>,
@@ -137,9 +154,7 @@ pub(crate) fn append_combination(
 ) -> Result<(), AllocError>
     ensures { Appends text.old text.new (line_of_combination rule combination.now ∷ []) result }
 {
-    text.extend_from_slice(Word::Combination(rule).text().as_bytes())?;
-    append_pairs(text, &combination.pairs)?;
-    append_break(text)
+    append_multipliers(text, rule, &combination.pairs)
 }
 
 // Whether the atom is marked yes, or no.

@@ -10,6 +10,8 @@ mod cover;
 mod facts;
 mod keyword;
 pub mod laws;
+mod line;
+mod part;
 mod parts;
 mod point;
 mod session;
@@ -17,6 +19,8 @@ mod stuck;
 mod walk;
 
 pub use cover::write_cover;
+pub use line::{append_line, append_rule};
+pub use part::{append_lemmas_of, append_tree_of};
 pub use point::write_point;
 pub use session::write_session;
 pub use stuck::{StuckBox, first_stuck};

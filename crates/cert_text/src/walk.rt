@@ -49,8 +49,12 @@ pub(crate) fn push_kids(waiting: &mut Vec<u64>, node: &Node) -> Result<(), Alloc
     }
 }
 
-// The tree that begins at node 0: each node's lines, then its lower part's tree, then its upper part's.
-fn append_tree(text: &mut Vec<u8>, alloc: Global, nodes: &[Node]) -> Result<(), AllocError>
+/// Appends the tree that begins at node 0: each node's lines, then its lower part's tree, then its upper part's.
+pub(crate) fn append_tree(
+    text: &mut Vec<u8>,
+    alloc: Global,
+    nodes: &[Node],
+) -> Result<(), AllocError>
     ensures { OnOk result (HasAppendedTree text.old.items (map node_of nodes.now) text.new.items) }
 {
     let mut waiting = Vec::new(alloc);

@@ -1,0 +1,4 @@
+pub mod Answer
+pub mod Going
+pub mod Request
+pub mod Searched

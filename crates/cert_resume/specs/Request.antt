@@ -1,0 +1,35 @@
+-- What is asked for, as the definitions see it.
+use Rattle.std.specs.Prelude.{ℕ, ◌≤◌}
+use Rattle.cover_model.specs.State.{Loosenings}
+use Rattle.cover_data.specs.declared.margins.Options.{Options}
+use Rattle.cover_data.specs.Margins.{margins_of, loosenings_of}
+use Rattle.cert_base.specs.declared.base.Base.{Base}
+use Rattle.cert_resume.specs.declared.request.Request.{Request}
+use Rattle.cert_resume.specs.declared.request.Share as code
+use Rattle.cert_resumed.specs.Resumed.{Share}
+
+abbrev pub share_of : code.Share → Share
+share_of h = record { number = h.number; count = h.count }
+
+-- one of the shares
+pub record IsShare (h : code.Share) : Type 0 where
+  pub some : 1 ≤ h.number
+  pub within : h.number ≤ h.count
+
+-- what books are searched for that go on from the base, with so many branches left
+abbrev pub options_with : Base → Request → ℕ → Options
+options_with b r budget = record {
+  delta_bits = b.delta;
+  margin_bits = b.margin;
+  least_bits = r.least_bits;
+  budget = budget;
+  workers = r.workers;
+  bound = b.bound;
+}
+
+abbrev pub options_of : Base → Request → Options
+options_of b r = options_with b r r.budget
+
+-- the margin and delta of the base, under version 2
+abbrev pub loosenings_in : Base → Loosenings
+loosenings_in b = record { margin_bits = b.margin; delta_bits = b.delta; version = 2 }

@@ -1,0 +1,12 @@
+use Rattle.std.proofs.Common.{List, subst}
+use Rattle.std.proofs.lemmas.Result.{on_ok_weaker}
+use Rattle.cover_book.specs.Model.{NodeModel}
+use Rattle.cert_text.specs.Parts.{HasAppendedTree}
+use Rattle.cert_text.proofs.Wholes.{tree_of_appended}
+use Rattle.cert_text.proofs.part.append_tree_of.Goals as goal
+
+pub returns : goal.returns
+returns c = λ e. on_ok_weaker c.append_tree.result
+    (λ a. tree_of_appended c.args.book.now c.nodes.ensures.book c.args.text.now.items c.append_tree.new.text.items
+    (subst (λ (xs : List NodeModel). HasAppendedTree c.args.text.now.items xs c.append_tree.new.text.items) c.nodes.ensures.nodes a) e)
+    c.append_tree.ensures
