@@ -1,1 +1,3 @@
+pub mod Ended
+pub mod Gathering
 pub mod Keeps

@@ -8,6 +8,7 @@ use Rattle.cert_model.specs.Due.{Due, version_due}
 use Rattle.cert_model.specs.Accepted.{reached, course_of_lines}
 use Rattle.cert_check.specs.Dues.{lean}
 use Rattle.cert_check.specs.Work.{WorkCourse, alone}
+use Rattle.cert_base.specs.declared.base.Base.{Base}
 use Rattle.cert_base.specs.declared.gathered.Gathered as code
 use Rattle.cert_base.specs.declared.place.Place as code-place
 use Rattle.cert_base.specs.declared.place.Place.TheVariants as places
@@ -29,3 +30,7 @@ pub record IsGathered (p : Problem) (b : Option ℕ) (ls : List Parsed) (o : Opt
   pub led : course_of_lines p b 0 version_due taken ≡ reached due (length taken)
   pub stands : o ≡ Some (reached (alone (lean due)) (length taken))
   pub gathers : Gathers b due taken g
+
+-- what a base has of what was gathered
+abbrev pub base_gathered : Base → Gathered
+base_gathered x = record { lemma_lines = map line_of x.lemma_lines.items; main = map rule_of x.main.items; left = x.left.items }

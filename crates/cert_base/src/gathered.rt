@@ -47,7 +47,8 @@ impl Gathered {
         if let Some(state) = state {
             self.left.push(state)?;
         }
-        self.main.push(rule)
+        self.main.push(rule)?;
+        Ok(())
     }
 
     // Puts a line where it belongs.
@@ -57,7 +58,7 @@ impl Gathered {
     {
         match place {
             Place::Nowhere => Ok(()),
-            Place::Lemmas => self.lemma_lines.push(line),
+            Place::Lemmas => Ok(self.lemma_lines.push(line)?),
             Place::Tree(state) => match line {
                 Line::Rule(rule) => self.put_rule(rule, state),
                 _ => Ok(()),

@@ -128,7 +128,7 @@ pub fn place_of(
     line: &Line,
 ) -> Result<Place, AllocError>
     ensures { IfOk result (λ x. place_of x
-        ≡ place (problem_of problem.now) (stand_of stand) (line_of line.now)) }
+        ≡ place (problem_of problem.now) (stand_of stand.entry) (line_of line.now)) }
 {
     match stand {
         Stand::Elsewhere => Ok(place_outside(line)),
