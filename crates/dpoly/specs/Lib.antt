@@ -1,3 +1,4 @@
 pub mod Plan
+pub mod Resume
 pub mod Search
 pub mod Upgrade

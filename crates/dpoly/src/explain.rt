@@ -26,6 +26,10 @@ fn messages_of<'a>(alloc: Global, words: &'a [String]) -> Messages<'a> {
             cert_out: asked.out,
             ..messages(asked.script, asked.cert)
         },
+        Ok(Request::Resume(asked)) => Messages {
+            cert_out: asked.out,
+            ..messages(asked.script, asked.cert)
+        },
         Ok(Request::Plan(asked)) => messages(asked.script, "-"),
         Err(_) => messages("-", "-"),
     }

@@ -7,6 +7,7 @@ mod explain;
 mod located;
 mod plan;
 mod progress;
+mod resume;
 mod solve;
 mod top;
 mod upgrade;

@@ -1,15 +1,18 @@
 // The run of the whole program.
 ghost use Rattle.std.specs.Prelude.{◌≡◌, None};
-ghost use Rattle.command_line.specs.Words.{AreOptions, IsDemo, IsInRange, IsPlan};
-ghost use Rattle.command_line.specs.Seen.{seen, seen_demo, seen_plan};
-ghost use Rattle.check_run.specs.Run.{asked_run, CertIsRead, command_in, demo_run, HasCause, HasCourse, plan_run, run, SameIn, ScriptIsRead, solve_run, StatusIsDue, StatusIsShown, upgrade_run};
+ghost use Rattle.command_line.specs.Words.{AreOptions, IsDemo, IsInRange, IsPlan, IsResume};
+ghost use Rattle.command_line.specs.Seen.{seen, seen_demo, seen_plan, seen_resume};
+ghost use Rattle.check_run.specs.Run.{asked_run, CertIsRead, command_in, demo_run, HasCause, HasCourse, plan_run, resume_run, run, SameIn, ScriptIsRead, solve_run, StatusIsDue, StatusIsShown, upgrade_run};
 ghost use Rattle.check_run.specs.Headline.{AnswersAreTrue, DeltaSatIsTrue, PlanIsTrue, RefusalIsTrue, UnsatIsTrue, UpgradeIsTrue};
 
 use crate::plan::plan_session;
+use crate::resume::{Engine, resume_inputs};
 use crate::solve::{solve_demo, solve_session};
 use crate::upgrade::upgrade_session;
-use check_run::{Status, end_halted, fetch_session, run_check, say};
-use command_line::{DemoWords, PlanWords, Refused, Request, SolveWords, UpgradeWords, read_words};
+use check_run::{Status, end_halted, fetch_both, fetch_session, run_check, say};
+use command_line::{
+    DemoWords, PlanWords, Refused, Request, ResumeWords, SolveWords, UpgradeWords, read_words,
+};
 use desk::Desk;
 use gen_script::make;
 use problem_build::{Reader, read_problem};
@@ -88,6 +91,31 @@ fn run_plan<D: Desk>(alloc: Global, desk: &mut D, asked: PlanWords<'_>) -> Statu
     }
 }
 
+// Goes on from a certificate.
+fn run_resume<R: Threads + Wait + Sync, D: Desk, G: Gate + Sync>(
+    rt: &R,
+    alloc: Global,
+    desk: &mut D,
+    asked: ResumeWords<'_>,
+    gate: &G,
+) -> Status
+    requires { IsResume (seen_resume asked) }
+    ensures cause { HasCause
+        (resume_run asked.entry (D.sight desk.old) (D.sight desk.new) result) }
+    ensures script { ScriptIsRead
+        (resume_run asked.entry (D.sight desk.old) (D.sight desk.new) result) }
+    ensures cert { CertIsRead
+        (resume_run asked.entry (D.sight desk.old) (D.sight desk.new) result) }
+    ensures course { HasCourse
+        (resume_run asked.entry (D.sight desk.old) (D.sight desk.new) result) }
+{
+    let engine = Engine { rt, gate };
+    match fetch_both(alloc, desk, asked.script, asked.cert) {
+        Ok(inputs) => resume_inputs(&engine, alloc, desk, &inputs, &asked),
+        Err(unread) => unread.status(),
+    }
+}
+
 // Makes a script, which has no fault, and solves it.
 fn run_demo<R: Threads + Wait + Sync, D: Desk, G: Gate + Sync>(
     rt: &R,
@@ -139,6 +167,7 @@ fn run_command<R: Threads + Wait + Sync, D: Desk, G: Gate + Sync>(
         Request::Demo(asked) => run_demo(rt, alloc, desk, asked, gate),
         Request::Upgrade(asked) => run_upgrade(alloc, desk, asked),
         Request::Plan(asked) => run_plan(alloc, desk, asked),
+        Request::Resume(asked) => run_resume(rt, alloc, desk, asked, gate),
     }
 }
 
@@ -148,7 +177,8 @@ fn run_command<R: Threads + Wait + Sync, D: Desk, G: Gate + Sync>(
 /// `check SCRIPT CERT` reads a script and a certificate, and answers whether the certificate is accepted, and what it shows
 /// of each check. `upgrade SCRIPT CERT OUT` does so too, and writes a certificate that is accepted in the newest version of
 /// its format. `demo SEED SIZE CERT` makes a script, solves it, and answers how large it was. `plan SCRIPT` reads a script,
-/// and answers of each check with which least width `solve` never answers `unknown width` of it. The gate is called when
+/// and answers of each check with which least width `solve` never answers `unknown width` of it. `resume SCRIPT CERT OUT`
+/// reads a script and a certificate, goes on where that is open or stuck, and writes the whole. The gate is called when
 /// work on a box begins and ends.
 pub fn run_top<R: Threads + Wait + Sync, D: Desk, G: Gate + Sync>(
     rt: &R,

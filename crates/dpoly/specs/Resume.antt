@@ -1,0 +1,48 @@
+-- A certificate that goes on from one that was read.
+use Rattle.std.specs.Prelude.{◌≡◌, ℕ, List, Option, Some, None, Result, Ok, Err}
+use Rattle.command_line.specs.Words.{Resume}
+use Rattle.poly_graph.specs.Problem.{Problem}
+use Rattle.interval_model.specs.Space.{Space}
+use Rattle.cover_model.specs.State.{Loosenings}
+use Rattle.cert_model.specs.Due.{Standing, Value}
+use Rattle.cert_model.specs.Accepted.{IsAccepted, verdict}
+use Rattle.cert_check.specs.declared.fault.CertFault.{CertFault}
+use Rattle.cert_check.specs.Feeding.{IsRefusalOrMemory}
+use Rattle.cert_base.specs.declared.base.Base.{Base}
+use Rattle.cert_base.specs.Base.{IsBase}
+use Rattle.cert_resume.specs.Answer.{TellsOfOwn}
+use Rattle.cert_resume.specs.declared.answer.Cover.{Cover}
+use Rattle.script_fault.specs.declared.fault.ScriptFault.{ScriptFault}
+use Rattle.script_reading.specs.Faults.{script_fault}
+use Rattle.script_reading.specs.Reader.{HasProblem}
+use Rattle.check_run.specs.declared.script.Halt.{Halt}
+use Rattle.check_run.specs.Resumed.{IsMore, header_bound, share_of, share_text}
+use Rattle.check_run.specs.Script.{IsHaltOfFault}
+use Rattle.dpoly.specs.declared.answers.SearchAnswer.{SearchAnswer}
+
+-- the certificate and the answer go on from one that is accepted
+pub record TellsMore (p : Problem) (b : Option ℕ) (words : Resume) (cert_in : List ℕ) (told : SearchAnswer) : Type 0 where
+  pub loosenings : Loosenings
+  pub read : Value
+  pub accepted : IsAccepted p b cert_in loosenings read
+  pub more : IsMore p b words cert_in loosenings read told.cert.items told.text.items
+
+-- so it is, or the certificate has the fault, or there was no memory
+abbrev pub IsToldMore : Problem → Option ℕ → Resume → List ℕ → Result SearchAnswer CertFault → Type 0
+IsToldMore p b words cert_in (Ok told) = TellsMore p b words cert_in told
+IsToldMore p b words cert_in (Err f) = IsRefusalOrMemory (verdict p b cert_in) f
+
+-- the base is that of some certificate
+abbrev pub IsSomeBase : Problem → Base → Type 0
+IsSomeBase p base = (bytes : List ℕ) × IsBase p base.bound bytes base
+
+-- the text of the answer, of whatever states the cover tells of, at this margin
+abbrev pub SaysShare : Problem → Resume → ℕ → Cover → List ℕ → Type 0
+SaysShare p words margin_bits x text = (s : Loosenings) → s.margin_bits ≡ margin_bits → (own : List Standing) → TellsOfOwn x.own own → text ≡ share_text p words.budget (share_of words) s own x.others
+
+-- the problem of the script's only check, where the certificate names the bound, or why there is none
+abbrev pub IsAsked : List ℕ → List ℕ → Problem → Option ℕ → Type 0
+IsAsked script cert p b = (b ≡ header_bound cert) × HasProblem b p script
+
+abbrev pub IsNotAsked : List ℕ → List ℕ → Halt → Type 0
+IsNotAsked script cert h = IsHaltOfFault (script_fault (header_bound cert) script) h
