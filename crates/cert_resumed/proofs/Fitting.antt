@@ -1,5 +1,5 @@
 -- What a rule leaves of a state of the problem are states of the problem.
-use Rattle.std.proofs.Common.{◌≡◌, inl, inr, ℕ, suc, zero, ◌+◌, ◌<◌, List, [], ◌∷◌, length, Bool, true, false, cond, not, ◌&&◌, ◌||◌, IsTrue, Option, Some, None, refl, ap, sym, ◌∙◌, subst, true≢false, slice_index_or, slice_get, nat_eq, arith}
+use Rattle.std.proofs.Common.{◌≡◌, inl, inr, ℕ, suc, zero, ◌+◌, ◌<◌, List, [], ◌∷◌, length, Bool, true, false, cond, not, ◌&&◌, IsTrue, Option, Some, None, refl, ap, sym, ◌∙◌, subst, true≢false, slice_index_or, slice_get, nat_eq, arith}
 use Rattle.std.specs.List.{AllByRecursion}
 use Rattle.std.proofs.Math.ListN.{length-set}
 use Rattle.std.proofs.lemmas.List.{get_or-map}
@@ -16,8 +16,8 @@ use Rattle.poly_graph.specs.Marks.{Mark, marked_yes, marked_no}
 use Rattle.cover_model.specs.Space.{enclosure, range}
 use Rattle.cover_model.specs.OffRange.{off_range}
 use Rattle.cover_model.specs.Narrowed.{from_parents, own, narrowed_from, narrowed, some_empty, set_axis, with_axes, enclosures, narrowed_by}
-use Rattle.cover_model.specs.Combination.{Multipliers, Part, Expansion, part_range, tightened, with_axis, with_intervals, left_of_space, range_of, combined_about, allowed_range, expansion, marked_range}
-use Rattle.cover_model.specs.State.{State, Loosenings, margin_of, with_mark, with_yes, with_no, with_space, undecided, in_yes, may}
+use Rattle.cover_model.specs.Combination.{Multipliers, Part, Expansion, part_range, tightened, with_axis, with_intervals, range_of, combined_about, allowed_range, expansion, marked_range}
+use Rattle.cover_model.specs.State.{State, Loosenings, margin_of, with_mark, with_yes, with_no, undecided, in_yes, may}
 use Rattle.cover_model.specs.Fits.{FitsAxis, FitsAxes, FitsProblem}
 use Rattle.cover_model.specs.Rules.{Line, pull, unit, void, push, void_no, combine, void_combine, ban, make_false, by, cut, flip, case, open_line, stuck, Left, closed, one, two, stays, rule, when, pulled, voided, narrowing, narrowing_off, combining, can_push, can_combine, lemma_covers, with_changed, is_stuck_atom}
 use Rattle.cert_resumed.proofs.Parses.{all_append}

@@ -1,7 +1,7 @@
 -- A lawful tree whose leaving lines are replaced by lawful trees is lawful.
 use Rattle.std.proofs.Common.{◌≡◌, ℕ, ◌+◌, List, [], ◌∷◌, ◌++◌, Bool, true, false, not, ◌&&◌, cond, Option, Some, None, IsTrue, All, sum_by, refl, ap, ap₂, sym, ◌∙◌, subst, append_assoc, append-nil, drop, arith}
 use Rattle.std.specs.List.{AllByRecursion}
-use Rattle.std.proofs.lemmas.List.Elements.{All-nil, All-cons, All-head, All-tail, All-append, All-weaker}
+use Rattle.std.proofs.lemmas.List.Elements.{All-nil, All-cons, All-head, All-tail, All-append}
 use Rattle.std.proofs.lemmas.List.Sums.{sum_by-cons, sum_by-append}
 use Rattle.poly_graph.specs.Problem.{Problem}
 use Rattle.interval_model.specs.Space.{Space, strictly_inside, lower_part, upper_part, is_undecided, keep, test_axis}
@@ -12,7 +12,7 @@ use Rattle.cover_model.specs.Derivation.{Tree, leaf, then, fork, tree_lines, Law
 use Rattle.cert_model.specs.Due.{Standing, names_well}
 use Rattle.cert_model.specs.Written.{NamesWell, leaf_standing, step_standing, fork_standing, left_standing, tree_standing, IsHonestTree, tree_branches}
 use Rattle.cert_model.proofs.Versions.{honest_in_version_3}
-use Rattle.cert_resumed.specs.Resumed.{is_leaving, lines_at, grafted, in_version_2, IsGraft, AreGrafts, each_left, joined}
+use Rattle.cert_resumed.specs.Resumed.{is_leaving, lines_at, grafted, in_version_2, AreGrafts, each_left, joined}
 use Rattle.cert_resumed.specs.Laws.{AreHonestGrafts}
 use Rattle.cert_resumed.proofs.Parses.{all_append}
 
@@ -227,9 +227,16 @@ module _ (p : Problem) (s : Loosenings) (old new : List State) (keeps : (S : Sta
             ∙ ap₂ (λ (ks : List Standing) (ms : List Standing). ks ++ ms) g.stands g'.stands
             ∙ sym (joined-append (each_left p second new xs ts) (each_left p second new ys ws))
             ∙ ap joined (sym (each-append p second new xs ys ts ws h));
-        count = omega (arith, g.count, g'.count, sum_by-append tree_branches ts ws,
-            sum_by-cons branch_count l (tree_lines g.tree ++ tree_lines g'.tree), sum_by-append branch_count (tree_lines g.tree) (tree_lines g'.tree),
-            sum_by-cons branch_count l (tree_lines t ++ tree_lines u), sum_by-append branch_count (tree_lines t) (tree_lines u));
+        count = omega (
+          arith,
+          g.count,
+          g'.count,
+          sum_by-append tree_branches ts ws,
+          sum_by-cons branch_count l (tree_lines g.tree ++ tree_lines g'.tree),
+          sum_by-append branch_count (tree_lines g.tree) (tree_lines g'.tree),
+          sum_by-cons branch_count l (tree_lines t ++ tree_lines u),
+          sum_by-append branch_count (tree_lines t) (tree_lines u),
+        );
         honest = λ w k m.
             let x : Standing = record { state = S; does = l } in
             let fst : List Standing = tree_standing p s old S' t in let snd : List Standing = tree_standing p s old S'' u in

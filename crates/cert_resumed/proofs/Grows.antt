@@ -1,9 +1,9 @@
 -- More lemmas, and version 2, change nothing of what a rule leaves.
-use Rattle.std.proofs.Common.{◌≡◌, ℕ, zero, suc, List, [], ◌∷◌, ◌++◌, Bool, true, false, not, ◌&&◌, ◌||◌, cond, Option, Some, None, IsTrue, refl, ap, ap₂, sym, ◌∙◌, subst, nat_le, slice_get}
+use Rattle.std.proofs.Common.{◌≡◌, ℕ, zero, suc, List, [], ◌∷◌, ◌++◌, Bool, true, false, ◌&&◌, cond, Option, Some, None, IsTrue, refl, ap, ap₂, sym, ◌∙◌, subst}
 use Rattle.poly_graph.specs.Problem.{Problem}
-use Rattle.cover_model.specs.State.{State, Loosenings, undecided, with_yes, with_no, covers}
+use Rattle.cover_model.specs.State.{State, Loosenings, undecided, with_yes, with_no}
 use Rattle.cover_model.specs.Rules.{Line, pull, unit, void, push, void_no, combine, void_combine, ban, make_false, by, cut, flip, case, open_line, stuck, Left, closed, one, two, stays, rule, when, lemma_covers, has_version_2, in_no_one_sided, is_combination, are_combinable, pulled, voided, narrowing_off, combining}
-use Rattle.cover_model.specs.Derivation.{Tree, leaf, then, fork, Lawful, at_closed, at_left, at_step, at_fork}
+use Rattle.cover_model.specs.Derivation.{Tree, Lawful, at_closed, at_left, at_step, at_fork}
 use Rattle.cert_model.specs.Due.{Standing}
 use Rattle.cert_model.specs.Written.{leaf_standing, step_standing, fork_standing, left_standing, tree_standing}
 use Rattle.cert_resumed.specs.Resumed.{in_version_2}

@@ -1,5 +1,5 @@
 -- A cover that was read: its header, its lemmas under version 2, its main tree.
-use Rattle.std.proofs.Common.{◌≡◌, ℕ, suc, ◌+◌, ◌≤◌, List, [], ◌∷◌, ◌++◌, map, Bool, true, false, ◌&&◌, Option, Some, None, IsTrue, refl, ap, sym, ◌∙◌, subst, length, nat_eq, nat_le, append-nil, arith}
+use Rattle.std.proofs.Common.{◌≡◌, ℕ, suc, ◌+◌, ◌≤◌, List, [], ◌∷◌, ◌++◌, map, Bool, Option, IsTrue, refl, ap, sym, ◌∙◌, subst, length, nat_eq, nat_le, append-nil, arith}
 use Rattle.std.specs.Bool.{passes}
 use Rattle.std.proofs.Math.Facts.{leb_yes}
 use Rattle.std.proofs.lemmas.Bool.{le-leb}
@@ -10,7 +10,7 @@ use Rattle.cover_model.specs.Rules.{Line}
 use Rattle.cover_model.specs.Derivation.{Tree, tree_lines}
 use Rattle.cert_read.specs.Lines.{lines_of}
 use Rattle.cert_read.specs.CertLine.{CertLine, version, margin, delta, bound, cover, tree_word, end_word, Parsed, line, parsed}
-use Rattle.cert_model.specs.Due.{BadHeader, WrongBound, Missing, Standing, left_open, Due, version_due, margin_due, delta_due, bound_due, kind_due, next_due, root_due, nothing_due, NextOf, Next, on, faulty, given, is_version, same_bound}
+use Rattle.cert_model.specs.Due.{BadHeader, WrongBound, Missing, Standing, left_open, Due, version_due, margin_due, delta_due, bound_due, kind_due, next_due, root_due, nothing_due, Next, on, faulty, given, is_version, same_bound}
 use Rattle.cert_model.specs.Accepted.{next, next_parsed, loosenings_fit, is_header, most_lemmas, Course, reached, course_next, course, course_of_lines}
 use Rattle.cert_model.specs.Standing.{Stands, stands_at, standing_next, standing_from, standing_of_lines, standing}
 use Rattle.cert_model.specs.Written.{rule_lines, left_standing, tree_standing}

@@ -1,11 +1,11 @@
 -- The lemmas of a cover that was read are states of the problem of which no point meets the form at the margin.
-use Rattle.std.proofs.Common.{◌≡◌, ℕ, suc, List, [], ◌∷◌, ◌++◌, Option, Some, All, refl, ap, sym, ◌∙◌, subst, slice_get, length}
+use Rattle.std.proofs.Common.{◌≡◌, ℕ, suc, List, [], ◌∷◌, Option, All, sym, ◌∙◌, subst, length}
 use Rattle.std.proofs.lemmas.List.Elements.{All-nil, All-cons, All-append, All-weaker}
 use Rattle.std.proofs.lemmas.Option.{slice_get_within, get_or_from_slice_get}
 use Rattle.poly_graph.specs.Problem.{Problem, IsProblem}
 use Rattle.cover_model.specs.State.{State, Loosenings, IsLemma}
 use Rattle.cover_model.specs.Fits.{FitsProblem}
-use Rattle.cover_model.specs.Derivation.{Tree, Lawful, AreLemmas}
+use Rattle.cover_model.specs.Derivation.{AreLemmas}
 use Rattle.cover_model.proofs.Sound.{none_left}
 use Rattle.cert_read.specs.Lines.{lines_of}
 use Rattle.cert_read.specs.CertLine.{CertLine}
@@ -44,6 +44,6 @@ module _ (p : Problem) (g : IsProblem p) where
       let Sound : Loosenings → List State → Type 0 = λ s lemmas. All (HoldsOf s) lemmas in
       let last : Due = nothing_due c.loosenings c.lemmas (left_open c.left) in
       let at-end : Fine p Sound last = holds-where-reached p b (Fine p Sound) (next_fine p b Sound growing) (read_lines b c) 0 (length (lines_of bytes)) version_due last (tt {0})
-          (sym (course_reads p b (lines_of bytes) (read_lines b c) h.lines 0 version_due) ∙ h.ends) in
+      (sym (course_reads p b (lines_of bytes) (read_lines b c) h.lines 0 version_due) ∙ h.ends) in
       All-weaker (HoldsOf c.loosenings) (HoldsOf (in_version_2 c.loosenings))
       (λ L k. (k.0, λ point q m. k.1 point (record { sorted = q.sorted; inside = q.inside; yes = q.yes; no = q.no }) m)) c.lemmas at-end.0

@@ -7,6 +7,7 @@ pub mod LemmaStates
 pub mod Parses
 mod Refined
 pub mod Resumes
+mod Rows
 pub mod Sections
 pub mod Stays
 pub mod Within

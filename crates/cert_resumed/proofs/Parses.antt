@@ -6,8 +6,8 @@ use Rattle.cover_model.specs.State.{State, Loosenings, root_state}
 use Rattle.cover_model.specs.Rules.{Line, Left, closed, one, two, stays, rule}
 use Rattle.cover_model.specs.Derivation.{Tree, leaf, then, fork, tree_lines, Lawful, at_closed, at_left, at_step, at_fork}
 use Rattle.cover_line.specs.Words.{word_of}
-use Rattle.cert_read.specs.CertLine.{CertLine, end_word}
-use Rattle.cert_model.specs.Due.{RuleFails, Standing, left_open, Due, root_due, tree_due, nothing_due, Next, faulty, names_well, after_rule, tree_goes_on, is_some_axis, is_crossed_box}
+use Rattle.cert_read.specs.CertLine.{end_word}
+use Rattle.cert_model.specs.Due.{RuleFails, Standing, left_open, Due, root_due, nothing_due, faulty, names_well, after_rule, tree_goes_on, is_some_axis, is_crossed_box}
 use Rattle.cert_model.specs.Accepted.{ruled_line, root_line, Course, reached, course_next, course_of_lines}
 use Rattle.cert_model.specs.Written.{rule_lines, NamesWell, leaf_standing, step_standing, fork_standing, left_standing}
 
@@ -91,7 +91,13 @@ module _ (p : Problem) (b : Option ℕ) (s : Loosenings) (lemmas : List State) w
 
     whole-forest : (ls : List Line) (xs : List Standing) → Forest (root_state p ∷ []) ls xs → xs ≡ left → first_crossed p ≡ None → MainTree p s lemmas ls left
     whole-forest _ _ (more {t = t} {xs = ys} r w z bare) e c = record {
-      tree = t; rest = _; lawful = r; names = w; lines = sym (append-nil (tree_lines t)); stands = z ∙ sym (append-nil ys) ∙ e; not_crossed = c;
+      tree = t;
+      rest = _;
+      lawful = r;
+      names = w;
+      lines = sym (append-nil (tree_lines t));
+      stands = z ∙ sym (append-nil ys) ∙ e;
+      not_crossed = c;
     }
 
     not-named : (t : Bool) (l : Line) (n : ℕ) (k : Due → Course) → Whole s' ks left (course_next (ruled_line t (faulty (RuleFails (word_of l)))) n k) → ⊥

@@ -1,7 +1,7 @@
 -- Lines whose leaving ones are replaced by trees refine them.
-use Rattle.std.proofs.Common.{◌≡◌, List, [], ◌∷◌, ◌++◌, Bool, true, false, cond, IsTrue, refl, subst, sym, drop}
+use Rattle.std.proofs.Common.{◌≡◌, List, [], ◌∷◌, ◌++◌, Bool, true, false, cond, refl, drop}
 use Rattle.cover_model.specs.Rules.{Line}
-use Rattle.cover_model.specs.Derivation.{Tree, leaf, tree_lines}
+use Rattle.cover_model.specs.Derivation.{Tree, leaf}
 use Rattle.cert_resumed.specs.Resumed.{is_leaving, Refines, none, same, grown, lines_at, grafted}
 
 at-line : (l : Line) (ls : List Line) (ts : List Tree) (t : Bool) → is_leaving l ≡ t → Refines (grafted ls (drop 1 ts)) ls → Refines (grafted ls ts) ls →

@@ -1,28 +1,25 @@
 -- A cover that goes on from one that was read is accepted, with what its trees leave.
-use Rattle.std.proofs.Common.{◌≡◌, ℕ, suc, ◌+◌, ◌≤◌, List, [], ◌∷◌, ◌++◌, map, Bool, true, ◌&&◌, Option, Some, IsTrue, All, refl, ap, ap₂, sym, ◌∙◌, subst, length, length-append, append_assoc, append-nil, sum_by, arith}
-use Rattle.std.specs.List.{AllByRecursion}
-use Rattle.std.proofs.lemmas.List.Elements.{All-nil, All-cons, All-append, All-head, All-tail, All-map}
-use Rattle.dyadic.proofs.Equal.{both_true, both_pass}
+use Rattle.std.proofs.Common.{◌≡◌, ℕ, suc, ◌+◌, List, [], ◌∷◌, ◌++◌, map, Option, Some, IsTrue, All, refl, ap, ap₂, sym, ◌∙◌, subst, length, length-append, append-nil, sum_by, arith}
+use Rattle.std.proofs.lemmas.List.Elements.{All-nil, All-cons, All-head, All-tail, All-map}
+use Rattle.dyadic.proofs.Equal.{both_true}
 use Rattle.poly_graph.specs.Problem.{Problem}
 use Rattle.cover_model.specs.State.{State, Loosenings, root_state}
-use Rattle.cover_model.specs.Rules.{Line, Left, closed, one, two, stays, rule, open_line, stuck}
+use Rattle.cover_model.specs.Rules.{Line, Left, rule}
 use Rattle.cover_model.specs.Honest.{is_honest}
-use Rattle.cover_model.specs.Derivation.{Tree, leaf, tree_lines, Lawful, at_closed, at_left, at_step, at_fork}
+use Rattle.cover_model.specs.Derivation.{Tree, tree_lines}
 use Rattle.cert_read.specs.CertLine.{CertLine, tree_word, end_word}
-use Rattle.cert_model.specs.Due.{Standing, left_open, version_due, next_due, nothing_due, is_version, names_well}
-use Rattle.cert_model.specs.Accepted.{IsAccepted, accepted, loosenings_fit, is_header, most_lemmas, reached, course_of_lines, ended}
-use Rattle.cert_model.specs.Standing.{Stands, standing_of_lines, standing, IsHonest, branches_of, branches}
-use Rattle.cert_model.specs.Written.{rule_lines, NamesWell, leaf_standing, step_standing, fork_standing, left_standing, tree_standing, IsHonestTree, tree_branches, LemmaTree, lemma_states, lemmas_lines, AreLemmaTrees}
-use Rattle.cert_model.specs.SessionLaws.{written_tree, IsLawfulEnd}
-use Rattle.cert_model.specs.Laws.{CanBeWritten}
+use Rattle.cert_model.specs.Due.{Standing, left_open, version_due, next_due, is_version}
+use Rattle.cert_model.specs.Accepted.{IsAccepted, accepted, loosenings_fit, is_header, ended}
+use Rattle.cert_model.specs.Standing.{Stands, standing, IsHonest, branches_of, branches}
+use Rattle.cert_model.specs.Written.{rule_lines, left_standing, tree_standing, IsHonestTree, tree_branches, LemmaTree, lemma_states, lemmas_lines}
+use Rattle.cert_model.specs.SessionLaws.{written_tree}
 use Rattle.cert_model.proofs.Spells.{text_has_lines, text_stands}
 use Rattle.cert_model.proofs.Takes.{branches_stand}
 use Rattle.cert_model.proofs.Writes.{Finishes, cover_finishes}
-use Rattle.cert_resumed.specs.Resumed.{grafted, CoverRead, IsCoverRead, in_version_2, all_lemmas, resumed_lines, resumed_text, IsGraft, AreGrafts, each_left, joined}
+use Rattle.cert_resumed.specs.Resumed.{grafted, CoverRead, in_version_2, all_lemmas, resumed_lines, resumed_text, AreGrafts, each_left, joined}
 use Rattle.cert_resumed.specs.Laws.{GoesOn, AreHonestGrafts}
 use Rattle.cert_resumed.proofs.Grows.{rule_with_more, rule_in_version_2}
 use Rattle.cert_resumed.proofs.Grafts.{Grafted, grow}
-use Rattle.cert_resumed.proofs.Parses.{MainTree}
 use Rattle.cert_resumed.proofs.Sections.{Leads, through}
 use Rattle.cert_resumed.proofs.Known.{stood, Known, known, header_leads}
 

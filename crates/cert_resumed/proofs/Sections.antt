@@ -1,5 +1,5 @@
 -- The lines of an accepted cover's lemmas lead under version 2 to the same lemmas, also where more are announced.
-use Rattle.std.proofs.Common.{◌≡◌, inl, inr, ◌⊎◌, ℕ, suc, ◌≤◌, List, [], ◌∷◌, ◌++◌, Bool, true, false, ◌&&◌, cond, Option, Some, None, refl, ap, sym, ◌∙◌, subst, length, nat_eq, nat_lt, nat_le, eqb→eq, arith}
+use Rattle.std.proofs.Common.{◌≡◌, inl, inr, ◌⊎◌, ℕ, suc, ◌≤◌, List, [], ◌∷◌, ◌++◌, Bool, true, false, cond, Option, Some, None, refl, ap, sym, ◌∙◌, subst, length, nat_eq, nat_lt, eqb→eq, arith}
 use Rattle.std.specs.Bool.{passes}
 use Rattle.std.proofs.Math.Facts.{leb_yes}
 use Rattle.std.proofs.lemmas.Bool.{le-leb}
@@ -9,8 +9,8 @@ use Rattle.interval_model.specs.Space.{Space}
 use Rattle.cover_model.specs.Rules.{Line, Left, closed, one, two, stays, rule}
 use Rattle.cover_line.specs.Words.{word_of}
 use Rattle.cert_read.specs.CertLine.{CertLine, tree_word, end_word, lemma, real_interval, bool_value, yes_list, no_list, rule_line, crossing, line}
-use Rattle.cert_model.specs.Due.{CertFault, BadNumber, Missing, NotShown, RuleFails, Standing, left_open, Due, next_due, axis_due, yes_due, no_due, lemma_due, root_due, tree_due, end_due, nothing_due, Next, on, faulty, given, names_well, after_rule, after_lemma_rule, tree_goes_on, lemma_goes_on, axis_next, is_crossed_box, is_shown, ascends, apart, all_below, state_of}
-use Rattle.cert_model.specs.Accepted.{next, ruled_line, lemma_line, tree_line, root_line, no_crossing, axis_line, Course, reached, course_next, course_of_lines}
+use Rattle.cert_model.specs.Due.{CertFault, BadNumber, Missing, NotShown, RuleFails, Standing, left_open, Due, next_due, axis_due, yes_due, no_due, lemma_due, root_due, tree_due, end_due, nothing_due, Next, on, faulty, given, names_well, after_rule, after_lemma_rule, tree_goes_on, lemma_goes_on, axis_next, is_crossed_box, is_shown, state_of}
+use Rattle.cert_model.specs.Accepted.{next, ruled_line, tree_line, root_line, no_crossing, axis_line, Course, reached, course_next, course_of_lines}
 use Rattle.cert_model.specs.Standing.{Stands, stands_at, standing_next, standing_of_lines}
 use Rattle.cert_resumed.specs.Resumed.{in_version_2}
 use Rattle.cert_resumed.proofs.Grows.{rule_in_version_2}

@@ -1,9 +1,9 @@
 -- What a lawful tree leaves open or stuck may stay again, over more lemmas and under version 2.
-use Rattle.std.proofs.Common.{◌≡◌, ℕ, List, [], ◌∷◌, ◌++◌, Option, Some, IsTrue, All, refl, ap, sym, subst}
+use Rattle.std.proofs.Common.{◌≡◌, ℕ, List, [], ◌∷◌, Option, Some, IsTrue, All, ap, sym, subst}
 use Rattle.std.proofs.lemmas.List.Elements.{All-nil, All-cons, All-append, All-weaker}
 use Rattle.poly_graph.specs.Problem.{Problem}
-use Rattle.cover_model.specs.State.{State, Loosenings, root_state}
-use Rattle.cover_model.specs.Rules.{Line, Left, closed, one, two, stays, rule}
+use Rattle.cover_model.specs.State.{State, Loosenings}
+use Rattle.cover_model.specs.Rules.{Line, Left, stays, rule}
 use Rattle.cover_model.specs.Derivation.{Tree, leaf, tree_lines, Lawful, at_closed, at_left, at_step, at_fork}
 use Rattle.cert_model.specs.Due.{Standing, names_well}
 use Rattle.cert_model.specs.Written.{NamesWell, leaf_standing, step_standing, fork_standing, left_standing, LemmaTree, lemma_states}
@@ -29,14 +29,14 @@ module _ (p : Problem) (s : Loosenings) (lemmas : List State) where
 
 pub left_stays : (p : Problem) (b : Option ℕ) (bytes : List ℕ) (c : CoverRead) → IsCoverRead p b bytes c → (xs : List LemmaTree) →
     All (λ (x : Standing). IsGraft p (in_version_2 c.loosenings) (all_lemmas c xs) x (leaf x.does)
-      × (left_standing p (in_version_2 c.loosenings) (all_lemmas c xs) x.state (leaf x.does) ≡ x ∷ [])) c.left
+    × (left_standing p (in_version_2 c.loosenings) (all_lemmas c xs) x.state (leaf x.does) ≡ x ∷ [])) c.left
 left_stays p b bytes c h xs =
     let k = known p b bytes c h in
     let Again : Standing → Type 0 = λ (x : Standing). IsGraft p (in_version_2 c.loosenings) (all_lemmas c xs) x (leaf x.does)
-        × (left_standing p (in_version_2 c.loosenings) (all_lemmas c xs) x.state (leaf x.does) ≡ x ∷ []) in
+    × (left_standing p (in_version_2 c.loosenings) (all_lemmas c xs) x.state (leaf x.does) ≡ x ∷ []) in
     All-weaker (Stood p c.loosenings c.lemmas) Again
     (λ x w.
-        let e : rule p (in_version_2 c.loosenings) (all_lemmas c xs) x.state x.does ≡ Some stays =
-        rule_in_version_2 p c.loosenings (all_lemmas c xs) x.state x.does stays (rule_with_more p c.loosenings c.lemmas (lemma_states xs) x.state x.does stays w.0) in
-        (record { left = x.state ∷ []; lawful = at_left e; names = (w.1, tt) }, ap (leaf_standing x.state x.does) e))
+    let e : rule p (in_version_2 c.loosenings) (all_lemmas c xs) x.state x.does ≡ Some stays =
+    rule_in_version_2 p c.loosenings (all_lemmas c xs) x.state x.does stays (rule_with_more p c.loosenings c.lemmas (lemma_states xs) x.state x.does stays w.0) in
+    (record { left = x.state ∷ []; lawful = at_left e; names = (w.1, tt) }, ap (leaf_standing x.state x.does) e))
     c.left (subst (All (Stood p c.loosenings c.lemmas)) k.main.stands (tree-stood p c.loosenings c.lemmas k.main.lawful k.main.names))

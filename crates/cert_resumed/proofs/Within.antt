@@ -3,7 +3,7 @@ use Rattle.std.proofs.Common.{◌≡◌, ℕ, List, [], ◌∷◌, Option, IsTru
 use Rattle.std.specs.List.{AllByRecursion}
 use Rattle.std.proofs.lemmas.List.Elements.{All-nil, All-cons}
 use Rattle.poly_graph.specs.Problem.{Problem, IsProblem}
-use Rattle.cover_model.specs.State.{State, root_state, covers}
+use Rattle.cover_model.specs.State.{root_state, covers}
 use Rattle.cover_model.specs.Fits.{FitsProblem}
 use Rattle.cover_model.specs.Derivation.{EachWithin}
 use Rattle.cover_model.proofs.Lies.{tree_within}

@@ -1,5 +1,5 @@
 -- The laws of covers that go on from others.
-use Rattle.std.specs.Prelude.{◌≡◌, ◌≤◌, ◌+◌, ℕ, List, [], ◌∷◌, ◌++◌, All, Option, IsTrue, length, map, sum_by}
+use Rattle.std.specs.Prelude.{◌≡◌, ◌≤◌, ◌+◌, ℕ, List, [], ◌∷◌, ◌++◌, All, Option, IsTrue, length, sum_by}
 use Rattle.poly_graph.specs.Problem.{Problem, IsProblem}
 use Rattle.cover_model.specs.State.{State, Loosenings, IsLemma, root_state, covers}
 use Rattle.cover_model.specs.Fits.{FitsProblem}
@@ -31,7 +31,7 @@ LawfulWithMore = (p : Problem) (s : Loosenings) (lemmas more : List State) (S : 
 abbrev pub LeftStays : Type 0
 LeftStays = (p : Problem) (b : Option ℕ) (bytes : List ℕ) (c : CoverRead) → IsCoverRead p b bytes c → (xs : List LemmaTree) →
     All (λ (x : Standing). IsGraft p (in_version_2 c.loosenings) (all_lemmas c xs) x (leaf x.does)
-      × (left_standing p (in_version_2 c.loosenings) (all_lemmas c xs) x.state (leaf x.does) ≡ x ∷ [])) c.left
+    × (left_standing p (in_version_2 c.loosenings) (all_lemmas c xs) x.state (leaf x.does) ≡ x ∷ [])) c.left
 
 -- It is a state of the problem, and lies within the root.
 abbrev pub LeftFits : Type 0

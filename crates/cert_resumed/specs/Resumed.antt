@@ -1,6 +1,6 @@
 -- Covers that go on from others. In the main tree each line that leaves its state open or stuck may be replaced by a tree, which begins in that
 -- state; more lemmas follow those that were there.
-use Rattle.std.specs.Prelude.{◌≡◌, ◌≤◌, ◌-◌, ◌%◌, ℕ, suc, List, [], ◌∷◌, ◌++◌, Bool, true, false, not, cond, Option, None, IsTrue, length, map, drop, nat_eq, sum_by}
+use Rattle.std.specs.Prelude.{◌≡◌, ◌≤◌, ◌-◌, ◌%◌, ℕ, suc, List, [], ◌∷◌, ◌++◌, Bool, true, false, cond, Option, None, IsTrue, length, map, drop, nat_eq, sum_by}
 use Rattle.poly_graph.specs.Problem.{Problem, first_crossed}
 use Rattle.cover_model.specs.State.{State, Loosenings}
 use Rattle.cover_model.specs.Rules.{Line, open_line, stuck}
