@@ -21,7 +21,7 @@ use std::alloc::Global;
 // ---- what a book answers
 
 // Why a book refuses: states and points are said by lines of a certificate.
-enum Refused {
+pub(crate) enum Refused {
     NotOpen(u32),
     Elsewhere(&'static [&'static str]),
     Unknown(u32, u32),
@@ -49,12 +49,12 @@ fn is_refused(alloc: Global, refusal: &BookRefusal, expected: &Refused) -> bool 
 
 // A patch that is committed to a node: the number of the lemma that it may quote, the state in which it begins, its
 // lines with what they are answered, and what the book answers.
-struct Commit {
-    node: u32,
-    quotes: Option<u32>,
-    state: &'static [&'static str],
-    lines: &'static [(&'static str, Answer)],
-    reply: Result<Kids, Refused>,
+pub(crate) struct Commit {
+    pub node: u32,
+    pub quotes: Option<u32>,
+    pub state: &'static [&'static str],
+    pub lines: &'static [(&'static str, Answer)],
+    pub reply: Result<Kids, Refused>,
 }
 
 // What is kept of a patch that has ended.
@@ -198,7 +198,7 @@ fn is_not_open(book: &Book, node: u32) -> bool {
 }
 
 // What is asked of a book, and what it answers.
-enum Call {
+pub(crate) enum Call {
     Commit(Commit),
     // The state that is closed by these lines is learned under this number.
     Learn(&'static [&'static str], &'static [(&'static str, Answer)], u32),
@@ -229,7 +229,7 @@ fn is_answered(alloc: Global, book: &mut Book, call: &Call) -> bool {
     }
 }
 
-fn are_answered(alloc: Global, book: &mut Book, calls: &[Call]) -> bool {
+pub(crate) fn are_answered(alloc: Global, book: &mut Book, calls: &[Call]) -> bool {
     for call in calls {
         if !is_answered(alloc, book, call) {
             return false;

@@ -19,4 +19,6 @@ mod patches;
 #[cfg(test)]
 mod points;
 #[cfg(test)]
+mod reopened;
+#[cfg(test)]
 mod shared;

@@ -1,5 +1,6 @@
 pub mod Demo
 pub mod Planning
+pub mod Resuming
 pub mod Solving
 pub mod SearchAnswers
 pub mod Upgrading

@@ -12,6 +12,7 @@ use Rattle.cert_base.specs.declared.base.Base.{Base}
 use Rattle.cert_base.specs.Base.{IsBase}
 use Rattle.cert_resume.specs.Answer.{TellsOfOwn}
 use Rattle.cert_resume.specs.declared.answer.Cover.{Cover}
+use Rattle.cert_resume.specs.declared.request.Request.{Request}
 use Rattle.script_fault.specs.declared.fault.ScriptFault.{ScriptFault}
 use Rattle.script_reading.specs.Faults.{script_fault}
 use Rattle.script_reading.specs.Reader.{HasProblem}
@@ -19,6 +20,15 @@ use Rattle.check_run.specs.declared.script.Halt.{Halt}
 use Rattle.check_run.specs.Resumed.{IsMore, header_bound, share_of, share_text}
 use Rattle.check_run.specs.Script.{IsHaltOfFault}
 use Rattle.dpoly.specs.declared.answers.SearchAnswer.{SearchAnswer}
+
+-- what the words ask of the search
+abbrev pub request_of : Resume → Request
+request_of words = record {
+  least_bits = words.least_bits;
+  budget = words.budget;
+  workers = words.workers;
+  share = record { number = words.share.number; count = words.share.count };
+}
 
 -- the certificate and the answer go on from one that is accepted
 pub record TellsMore (p : Problem) (b : Option ℕ) (words : Resume) (cert_in : List ℕ) (told : SearchAnswer) : Type 0 where

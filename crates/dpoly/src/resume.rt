@@ -1,5 +1,6 @@
 // `resume`, from a script and a certificate to a certificate that goes on from it.
-ghost use Rattle.std.specs.Prelude.{◌≡◌, [], IfOk, MatchResult, OnOk};
+ghost use Rattle.std.specs.Prelude.{◌≡◌, ◌≤◌, [], IfOk, MatchResult, length};
+ghost use Rattle.cert_model.specs.Accepted.{most_bytes};
 ghost use Rattle.command_line.specs.Seen.{seen_resume};
 ghost use Rattle.command_line.specs.Words.{IsResume, Resume as Asked};
 ghost use Rattle.poly_graph.specs.ProblemViews.{problem_of};
@@ -11,7 +12,7 @@ ghost use Rattle.check_run.specs.Course.{RunEnds};
 ghost use Rattle.check_run.specs.Resumed.{CanResume};
 ghost use Rattle.check_run.specs.Run.{ResumeHasCause, SameIn};
 ghost use Rattle.check_run.specs.Script.{IsWithin};
-ghost use Rattle.dpoly.specs.Resume.{IsAsked, IsNotAsked, IsSomeBase, IsToldMore, SaysShare, TellsMore};
+ghost use Rattle.dpoly.specs.Resume.{IsAsked, IsNotAsked, IsSomeBase, IsToldMore, SaysShare, TellsMore, request_of};
 
 use crate::answers::SearchAnswer;
 use cert_base::{Base, Read, read_base};
@@ -43,8 +44,10 @@ impl<R: Threads + Wait + Sync, G: Gate + Sync> Searcher for Engine<'_, R, G> {
     }
 }
 
-// What the words ask for of the search.
-fn request_of(asked: &ResumeWords<'_>) -> Request {
+// What the words ask of the search.
+fn request_of(asked: &ResumeWords<'_>) -> Request
+    ensures { result ≡ request_of (seen_resume asked.now) }
+{
     Request {
         least_bits: asked.least_bits,
         budget: asked.budget,
@@ -111,6 +114,7 @@ fn go_on<R: Threads + Wait + Sync, G: Gate + Sync>(
 // The certificate written again, with this answer.
 fn again(alloc: Global, cert: &[u8], text: Vec<u8>) -> Result<SearchAnswer, AllocError>
     ensures cert { IfOk result (λ told. told.cert.items ≡ upgraded 1 cert.now) }
+    ensures fits { IfOk result (λ told. length told.cert.items ≤ most_bytes) }
     ensures text { IfOk result (λ told. told.text ≡ text) }
 {
     let cert = upgrade(alloc, cert, 1)?;

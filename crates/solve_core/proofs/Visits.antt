@@ -122,7 +122,7 @@ new-kept b x = subst (λ (ys : List State). slice_get ys (lemma_count b) ≡ Som
 
 learned-under : (b : BookModel) (x : LearnedLemma) (waiting : List ℕ) (lemmas : List LemmaModel) → IsUnderWay b waiting lemmas → IsUnderWay (with_lemma b x) waiting lemmas
 learned-under b x waiting lemmas h = record {
-  waits = λ q n S k. elim (h.waits q n S k) [ inl c ↦ inl c | inr w ↦ inr (left_still b (with_lemma b x) S (refl, refl, refl) (omega arith) w) ];
+  waits = λ q n S k. elim (h.waits q n S k) [ inl c ↦ inl c | inr w ↦ inr (left_still b (with_lemma b x) S (refl, refl, refl, refl) (omega arith) w) ];
   kept = more-kept b x lemmas h.kept;
   usable = h.usable;
 }

@@ -1,0 +1,217 @@
+-- From a certificate that was read to the one that goes on from it.
+use Rattle.std.proofs.Common.{◌≡◌, inl, inr, ◌⊎◌, ◌≤◌, ℕ, zero, suc, List, [], ◌∷◌, Bool, true, false, Option, Some, None, IsTrue, Result, Ok, Err, length, map, refl, ap, sym, ◌∙◌, subst}
+use Rattle.desk.specs.Sight.{Sight}
+use Rattle.command_line.specs.Words.{Resume, IsResume}
+use Rattle.poly_graph.specs.Problem.{Problem}
+use Rattle.poly_graph.specs.ProblemViews.{Parts, problem_of}
+use Rattle.interval_model.specs.Space.{Space}
+use Rattle.cover_model.specs.State.{State, Loosenings}
+use Rattle.cover_data.specs.Margins.{AreMargins}
+use Rattle.cover_book.specs.Limits.{IsWithinLimits}
+use Rattle.cert_model.specs.Due.{Standing, Value, at_point, left_open}
+use Rattle.cert_model.specs.Accepted.{IsAccepted, Verdict, accepted, refused, verdict, most_bytes}
+use Rattle.cert_model.specs.AnswerText.{has_open, budget_text, delta_sat_text, unsat_text, width_text, solve_text}
+use Rattle.cert_model.specs.Session.{one_verdict}
+use Rattle.cert_model.proofs.Header.{header_fits}
+use Rattle.cert_text.specs.Stuck.{stuck_at}
+use Rattle.cert_upgrade.specs.Upgraded.{in_newest, upgraded}
+use Rattle.cert_upgrade.proofs.Upgrades.{upgraded_is_accepted}
+use Rattle.cert_resumed.specs.Resumed.{CoverRead, IsCoverRead, joined, own_left, others}
+use Rattle.cert_base.specs.declared.base.Base.{Base}
+use Rattle.cert_base.specs.Base.{IsBase, IsPointRead, IsClosedRead}
+use Rattle.cert_base.specs.Gathered.{standing_states}
+use Rattle.cert_check.specs.declared.fault.CertFault.{CertFault}
+use Rattle.cert_check.specs.Feeding.{IsRefusalOrMemory}
+use Rattle.cert_resume.specs.Answer.{TellsOfOwn, IsResumedCover, IsResumedPoint}
+use Rattle.cert_resume.specs.Request.{loosenings_in, options_of}
+use Rattle.cert_resume.specs.declared.answer.Cover.{Cover}
+use Rattle.check_run.specs.declared.status.Status.{Status}
+use Rattle.check_run.specs.Course.{Course, gives, Ends, RunEnds, on_course, in_failed, no_memory_yet}
+use Rattle.check_run.specs.Can.{verdict_course}
+use Rattle.check_run.specs.Check.{IsRefused, IsRefusalOf}
+use Rattle.check_run.specs.Loosened.{AtDelta, AtMargin}
+use Rattle.check_run.specs.Resumed.{CanResume, CanResumeBy, GoesOn, IsFoundBehind, IsMore, IsMoreCovered, part_text, share_of, share_text, trees_left}
+use Rattle.check_run.specs.Script.{IsWithin}
+use Rattle.check_run.proofs.Single.{one_value}
+use Rattle.dpoly.specs.declared.answers.SearchAnswer.{SearchAnswer}
+use Rattle.dpoly.specs.Resume.{IsToldMore, SaysShare, TellsMore, request_of}
+
+-- ---- the text of a share
+
+module _ (p : Problem) (words : Resume) (s : Loosenings) (own : List Standing) (n : ℕ) where
+  pub says-nothing : n ≡ 0 → own ≡ [] → unsat_text s ≡ share_text p words.budget (share_of words) s own n
+  says-nothing e f = rw (e, f) refl
+
+  pub says-part : (n ≡ 0 → ⊥) → own ≡ [] → part_text (share_of words) n s ≡ share_text p words.budget (share_of words) s own n
+  says-part e f = by_count n e where
+    by_count : (k : ℕ) → (k ≡ 0 → ⊥) → part_text (share_of words) k s ≡ share_text p words.budget (share_of words) s own k
+    by_count zero e = absurd (e refl)
+    by_count (suc k) e = rw f refl
+
+  pub says-open : IsTrue (has_open own) → budget_text words.budget ≡ share_text p words.budget (share_of words) s own n
+  says-open h = by_own own h where
+    by_own : (xs : List Standing) → IsTrue (has_open xs) → budget_text words.budget ≡ share_text p words.budget (share_of words) s xs n
+    by_own [] h = absurd h
+    by_own (x ∷ xs) h = sym (by_test (has_open (x ∷ xs)) refl h) where
+      by_test : (b : Bool) → has_open (x ∷ xs) ≡ b → IsTrue (has_open (x ∷ xs)) → share_text p words.budget (share_of words) s (x ∷ xs) n ≡ budget_text words.budget
+      by_test true e h = rw e refl
+      by_test false e h = absurd (subst IsTrue e h)
+
+  pub says-stuck : (atom : ℕ) (state : State) (rest : List Standing) → has_open own ≡ false → own ≡ stuck_at atom state ∷ rest → width_text p state atom ≡ share_text p words.budget (share_of words) s own n
+  says-stuck atom state rest e f =
+      let closed : has_open (stuck_at atom state ∷ rest) ≡ false = ap has_open (sym f) ∙ e in
+      sym (ap (λ (xs : List Standing). share_text p words.budget (share_of words) s xs n) f ∙ rw closed refl)
+
+-- ---- what was read
+
+-- the verdict of bytes is one
+same-verdict : (p : Problem) (b : Option ℕ) (bytes : List ℕ) (s s' : Loosenings) (v v' : Value) → IsAccepted p b bytes s v → IsAccepted p b bytes s' v' → (s ≡ s') × (v ≡ v')
+same-verdict p b bytes s s' v v' h h' = let e : ◌≡◌ {A = Verdict} (accepted s v) (accepted s' v') = sym h ∙ h' in (cc, cc)
+
+not-none : (xs : List Standing) → (standing_states xs ≡ [] → ⊥) → (x : Standing) × (rest : List Standing) × (xs ≡ x ∷ rest)
+not-none [] h = absurd (h refl)
+not-none (x ∷ rest) h = (x, rest, refl)
+
+module _ (p : Problem) (b : Option ℕ) (words : Resume) (cert_in cert : List ℕ) (s : Loosenings) (v : Value) (text : List ℕ) where
+  goes : (xs : List Standing) → (standing_states xs ≡ [] → ⊥) → IsFoundBehind p b words cert_in cert s v text ⊎ IsMoreCovered p b words cert_in cert s v text → GoesOn p b words cert_in cert s (left_open xs) v text
+  goes [] h more = absurd (h refl)
+  goes (x ∷ xs) h more = more
+
+-- margin and delta of the base, under version 2
+base-newest : (base : Base) (c : CoverRead) → record { margin_bits = base.margin; delta_bits = base.delta; version = base.version } ≡ c.loosenings → loosenings_in base ≡ in_newest 1 c.loosenings
+base-newest base c e = ap (λ (s : Loosenings). in_newest 1 s) e
+
+left-some : (p : Problem) (cert : List ℕ) (base : Base) (h : IsBase p base.bound cert base) → standing_states h.read.left ≡ [] → ⊥
+left-some p cert base h e = h.some (h.of.left ∙ e)
+
+-- ---- what goes on from a cover
+
+pub found-more : (p : Problem) (words : Resume) (cert_in : List ℕ) (base : Base) (cert text : List ℕ) (space : Space) (told : SearchAnswer) → told.cert.items ≡ cert → told.text.items ≡ text → IsBase p base.bound cert_in base →
+    IsResumedPoint p base.bound (loosenings_in base) cert space → AtDelta base.delta (λ s. text ≡ delta_sat_text p s space) → TellsMore p base.bound words cert_in told
+found-more p words cert_in base cert text space told c t h found says =
+    let s = h.read.loosenings in
+    let newest = base-newest base h.read h.of.loosenings in
+    record {
+      loosenings = s;
+      read = left_open h.read.left;
+      accepted = h.is_read.accepted;
+      more = record {
+        value = at_point space;
+        accepted = subst (λ (bs : List ℕ). IsAccepted p base.bound bs (in_newest 1 s) (at_point space)) (sym c) (subst (λ (l : Loosenings). IsAccepted p base.bound cert l (at_point space)) newest found.accepted);
+        goes_on = goes p base.bound words cert_in told.cert.items s (at_point space) told.text.items h.read.left (left-some p cert_in base h)
+            (inl (record { space = space; value = refl; answer = t ∙ says (in_newest 1 s) (sym (ap (λ (l : Loosenings). l.delta_bits) newest)) }));
+      };
+    }
+
+pub covered-more : (p : Problem) (words : Resume) (cert_in : List ℕ) (base : Base) (x : Cover) (text : List ℕ) (told : SearchAnswer) → told.cert.items ≡ x.cert.items → told.text.items ≡ text → IsBase p base.bound cert_in base →
+    IsResumedCover p base.bound (request_of words) cert_in x → SaysShare p words base.margin x text → TellsMore p base.bound words cert_in told
+covered-more p words cert_in base x text told c t h so says =
+    let s = h.read.loosenings in
+    let r = so.resumption in
+    let same = same-verdict p base.bound cert_in r.read.loosenings s (left_open r.read.left) (left_open h.read.left) r.is_read.accepted h.is_read.accepted in
+    let newest = base-newest base h.read h.of.loosenings in
+    let W : List ℕ → Type 0 = λ bs. IsMore p base.bound words cert_in s (left_open h.read.left) bs told.text.items in
+    record {
+      loosenings = s;
+      read = left_open h.read.left;
+      accepted = h.is_read.accepted;
+      more = subst W (sym c) (record {
+        value = left_open (joined (trees_left p base.bound words cert_in x.cert.items r));
+        accepted = subst (λ (l : Loosenings). IsAccepted p base.bound x.cert.items (in_newest 1 l) (left_open (joined (trees_left p base.bound words cert_in x.cert.items r)))) same.0 r.accepted;
+        goes_on = goes p base.bound words cert_in x.cert.items s (left_open (joined (trees_left p base.bound words cert_in x.cert.items r))) told.text.items h.read.left (left-some p cert_in base h)
+            (inr (record {
+              resumed = r;
+              value = refl;
+              answer = t ∙ says (in_newest 1 s) (sym (ap (λ (l : Loosenings). l.margin_bits) newest)) (own_left (share_of words) 0 (trees_left p base.bound words cert_in x.cert.items r)) so.own
+                  ∙ ap (λ (n : ℕ). share_text p words.budget (share_of words) (in_newest 1 s) (own_left (share_of words) 0 (trees_left p base.bound words cert_in x.cert.items r)) n) so.others;
+            }));
+      });
+    }
+
+-- ---- what is written again
+
+-- the certificate in the newest version is accepted with the same value
+again-accepted : (p : Problem) (b : Option ℕ) (bytes cert : List ℕ) (s : Loosenings) (v : Value) → IsAccepted p b bytes s v → cert ≡ upgraded 1 bytes → length cert ≤ most_bytes → IsAccepted p b cert (in_newest 1 s) v
+again-accepted p b bytes cert s v h e fits =
+    let anew = upgraded_is_accepted ((p, true) ∷ []) b bytes s (v ∷ []) (ap one_verdict h) (subst (λ (bs : List ℕ). length bs ≤ most_bytes) e fits) in
+    let one = one_value p true b (upgraded 1 bytes) (in_newest 1 s) (v ∷ []) anew in
+    let is : one.value ≡ v = cc_value (sym one.only) in
+    subst (λ (bs : List ℕ). IsAccepted p b bs (in_newest 1 s) v) (sym e) (subst (λ (w : Value). IsAccepted p b (upgraded 1 bytes) (in_newest 1 s) w) is one.accepts) where
+      cc_value : {w w' : Value} → w ∷ [] ≡ w' ∷ [] → w ≡ w'
+      cc_value e = cc
+
+pub point-again : (p : Problem) (b : Option ℕ) (words : Resume) (cert_in : List ℕ) (space : Space) (d : ℕ) (text : List ℕ) (told : SearchAnswer) → (loosenings : Loosenings) → IsAccepted p b cert_in loosenings (at_point space) → d ≡ loosenings.delta_bits →
+    told.cert.items ≡ upgraded 1 cert_in → length told.cert.items ≤ most_bytes → told.text.items ≡ text → AtDelta d (λ s. text ≡ delta_sat_text p s space) → TellsMore p b words cert_in told
+point-again p b words cert_in space d text told s h delta c fits t says = record {
+  loosenings = s;
+  read = at_point space;
+  accepted = h;
+  more = record {
+    value = at_point space;
+    accepted = again-accepted p b cert_in told.cert.items s (at_point space) h c fits;
+    goes_on = (c, refl, t ∙ says (in_newest 1 s) (sym delta));
+  };
+}
+
+pub closed-again : (p : Problem) (b : Option ℕ) (words : Resume) (cert_in : List ℕ) (m : ℕ) (text : List ℕ) (told : SearchAnswer) → (loosenings : Loosenings) → IsAccepted p b cert_in loosenings (left_open []) → m ≡ loosenings.margin_bits →
+    told.cert.items ≡ upgraded 1 cert_in → length told.cert.items ≤ most_bytes → told.text.items ≡ text → AtMargin m (λ s. text ≡ unsat_text s) → TellsMore p b words cert_in told
+closed-again p b words cert_in m text told s h margin c fits t says = record {
+  loosenings = s;
+  read = left_open [];
+  accepted = h;
+  more = record {
+    value = left_open [];
+    accepted = again-accepted p b cert_in told.cert.items s (left_open []) h c fits;
+    goes_on = (c, refl, t ∙ says (in_newest 1 s) (sym margin));
+  };
+}
+
+-- ---- the ends of a run
+
+resumes-by : (p : Problem) (b : Option ℕ) (words : Resume) (cert : List ℕ) (told : SearchAnswer) (t : TellsMore p b words cert told) → CanResume p b words cert (gives words.out told.cert.items told.text.items)
+resumes-by p b words cert told t =
+    subst (λ (v : Verdict). CanResumeBy v p b words cert (gives words.out told.cert.items told.text.items)) (sym t.accepted) (told.cert.items, told.text.items, t.more, refl)
+
+pub told-ends : (p : Problem) (b : Option ℕ) (words : Resume) (cert out c t : List ℕ) (told : SearchAnswer) (old new : Sight) (status : Status) → words.out ≡ out → c ≡ told.cert.items → t ≡ told.text.items → TellsMore p b words cert told →
+    Ends (gives out c t) old new status → RunEnds (CanResume p b words cert) [] old new status
+told-ends p b words cert out c t told old new status o e f tells ends =
+    on_course (gives words.out told.cert.items told.text.items) (resumes-by p b words cert told tells)
+    (subst (λ (x : List ℕ). Ends (gives x told.cert.items told.text.items) old new status) (sym o) (subst (λ (y : List ℕ). Ends (gives out told.cert.items y) old new status) f (subst (λ (x : List ℕ). Ends (gives out x t) old new status) e ends)))
+
+memory-one : (v : Verdict) (f : CertFault) → IsRefusalOrMemory v f → IsRefusalOrMemory (one_verdict v) f
+memory-one v f (inl e) = inl e
+memory-one (accepted s v) f (inr h) = inr h
+memory-one (refused g n) f (inr h) = inr h
+
+refuses-by : (p : Problem) (b : Option ℕ) (words : Resume) (cert : List ℕ) (v : Verdict) (tail : Course) → IsRefused (one_verdict v) → tail ≡ verdict_course (one_verdict v) → CanResumeBy v p b words cert tail
+refuses-by p b words cert (accepted s v) tail is e = absurd is
+refuses-by p b words cert (refused f n) tail is e = e
+
+pub refused-ends : (p : Problem) (b : Option ℕ) (words : Resume) (cert : List ℕ) (fault : CertFault) (old new : Sight) (status : Status) → IsRefusalOrMemory (verdict p b cert) fault → RunEnds (IsRefusalOf fault) [] old new status →
+    RunEnds (CanResume p b words cert) [] old new status
+refused-ends p b words cert fault old new status h (on_course tail can ends) =
+    let is = can (one_verdict (verdict p b cert)) (memory-one (verdict p b cert) fault h) in
+    on_course tail (refuses-by p b words cert (verdict p b cert) tail is.0 is.1) ends
+refused-ends p b words cert fault old new status h (in_failed is any side quiet) = absurd (any refl)
+refused-ends p b words cert fault old new status h (no_memory_yet is quiet) = no_memory_yet is quiet
+
+-- ---- the condition of the search
+
+pub base-limits : (p : Parts) (words : Resume) (base : Base) → IsResume words → IsWithin p → (cert : List ℕ) → IsBase (problem_of p) base.bound cert base → IsWithinLimits p (options_of base (request_of words))
+base-limits p words base asked w cert h =
+    let fits = header_fits (problem_of p) base.bound cert h.read.loosenings (left_open h.read.left) h.is_read.accepted in
+    let same = h.of.loosenings in
+    let d : base.delta ≡ h.read.loosenings.delta_bits = ap (λ (s : Loosenings). s.delta_bits) same in
+    let m : base.margin ≡ h.read.loosenings.margin_bits = ap (λ (s : Loosenings). s.margin_bits) same in
+    record {
+      margins = record {
+        some_delta = rw d fits.0;
+        few_delta = rw d fits.1;
+        above_delta = rw (d, m) fits.2;
+        few_margin = rw m fits.3;
+        few_least = asked.least_most;
+      };
+      budget = asked.budget_most;
+      axes = w.axes;
+      atoms = w.atoms;
+    }
