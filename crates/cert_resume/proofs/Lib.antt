@@ -1,0 +1,3 @@
+mod Matches
+mod Owns
+mod Searched

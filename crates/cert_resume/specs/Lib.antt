@@ -1,4 +1,5 @@
 pub mod Answer
+pub mod Calls
 pub mod Going
 pub mod Request
 pub mod Searched

@@ -3,6 +3,7 @@
 
 mod answer;
 mod going;
+mod leaf;
 mod request;
 mod search;
 
