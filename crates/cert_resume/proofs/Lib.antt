@@ -1,3 +1,4 @@
 mod Matches
 mod Owns
+mod Rows
 mod Searched

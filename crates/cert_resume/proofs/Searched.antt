@@ -99,8 +99,7 @@ record Stands (q : Parts) (o : Options) (S : State) (lemmas : List State) (t : T
   pub honest : IsHonestTree (problem_of q) o.least_bits (loosenings_of (margins_of o)) lemmas S t
 
 module _ (q : Parts) (o : Options) (S : State) (g g2 : Going) (L1 L3 : Vec StoredState Global) (b b' : BookModel) (m : MayGoOn q o g) (opened : IsOpened q o g.lemmas.items g.budget S b) (on : IsSearchedOn b b')
-  (noted : HasNoted b' (record g { lemmas = L1 }) g2) (all : L3.items ≡ lemma_states_in b') where
-
+    (noted : HasNoted b' (record g { lemmas = L1 }) g2) (all : L3.items ≡ lemma_states_in b') where
   abbrev xs : List LemmaTree
   xs = lemma_trees b'
 
@@ -152,8 +151,14 @@ module _ (q : Parts) (o : Options) (S : State) (g g2 : Going) (L1 L3 : Vec Store
     honest = stands.honest;
     budget = branches;
     own = λ ys h. subst (λ (left : List Standing). TellsOfOwn g2.own (ys ++ left)) (sym stands.stands) (noted.own ys h);
-    spent = λ e. omega (arith, branches, noted.budget, noted.is_tree.branches, ap (λ (u : Options). u.budget) same-options,
-        all-spent b' noted.is_book noted.no_point on.left noted.tree noted.left noted.is_tree (ap has_open (sym stands.stands) ∙ e));
+    spent = λ e. omega (
+      arith,
+      branches,
+      noted.budget,
+      noted.is_tree.branches,
+      ap (λ (u : Options). u.budget) same-options,
+      all-spent b' noted.is_book noted.no_point on.left noted.tree noted.left noted.is_tree (ap has_open (sym stands.stands) ∙ e),
+    );
     others = noted.others;
   }
 

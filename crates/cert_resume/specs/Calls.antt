@@ -9,7 +9,8 @@ use Rattle.cover_model.specs.State.{State}
 use Rattle.cover_data.specs.declared.margins.Options.{Options}
 use Rattle.cover_data.specs.Margins.{margins_of, loosenings_of}
 use Rattle.cover_book.specs.Model.{BookModel, opening_at}
-use Rattle.cert_resume.specs.Going.{HasPassed, HasSearched}
+use Rattle.cert_resume.specs.Going.{HasGone, HasPassed, HasSearched, standings}
+use Rattle.cert_resumed.specs.Resumed.{Share, leaving_lines}
 use Rattle.cert_resume.specs.declared.going.Going.{Going}
 
 abbrev pub with_budget : Options → ℕ → Options
@@ -27,3 +28,7 @@ Searches q o S g g' r = IfOk r (λ x. MatchOption x (HasSearched q o S g g') (Is
 
 abbrev pub Passes : Bool → Parts → Options → State → Line → Going → Going → Result (Option Space) AllocError → Type 0
 Passes own q o S l g g' r = IfOk r (λ x. MatchOption x (HasPassed own q o S l g g') (IsPointOf q o))
+
+-- a point that is shown, or else all of these lines were gone through
+abbrev pub Walks : Parts → Options → Share → List State → List Line → List State → Going → Result (Option Space) AllocError → Type 0
+Walks q o h start lines left g r = IfOk r (λ x. MatchOption x (HasGone q o h start lines (standings (leaving_lines lines) left) g) (IsPointOf q o))

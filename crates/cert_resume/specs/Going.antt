@@ -1,5 +1,7 @@
 -- How far a cover is gone through.
 use Rattle.std.specs.Prelude.{◌≡◌, ℕ, suc, ◌+◌, ◌≤◌, List, [], ◌∷◌, ◌++◌, All, Bool, true, false, Option, None, IsTrue, length, map, sum_by}
+use Rattle.std.specs.Prelude.{Vec}
+use Rattle.std.specs.Global.{Global}
 use Rattle.std.specs.List.{AllByRecursion}
 use Rattle.poly_graph.specs.Problem.{Problem, first_crossed}
 use Rattle.poly_graph.specs.ProblemViews.{Parts, problem_of}
@@ -10,6 +12,7 @@ use Rattle.cover_model.specs.Fits.{FitsProblem}
 use Rattle.cover_model.specs.Rules.{Line}
 use Rattle.cover_model.specs.Derivation.{Tree, leaf, tree_lines}
 use Rattle.cover_data.specs.declared.margins.Options.{Options}
+use Rattle.cover_data.specs.declared.stored.StoredState.{StoredState}
 use Rattle.cover_data.specs.Margins.{margins_of, loosenings_of}
 use Rattle.cover_book.specs.Keeps.{IsBook, IsKeptLemma}
 use Rattle.cover_book.specs.Laws.{IsTreeOfBook}
@@ -26,6 +29,7 @@ use Rattle.cert_text.specs.Lines.{HasAppended}
 use Rattle.cert_resumed.specs.Resumed.{AreGrafts, AreShared, IsGraft, Share, each_left, grafted, is_own, leaving_lines, others, own_left}
 use Rattle.cert_resume.specs.Answer.{TellsOfOwn}
 use Rattle.cert_resume.specs.declared.answer.Own.{Own}
+use Rattle.cert_resume.specs.declared.answer.Own.TheVariants as own
 use Rattle.cert_resume.specs.declared.going.Going.{Going}
 
 -- ---- what is left in the share
@@ -141,3 +145,17 @@ pub record HasGone (q : Parts) (o : Options) (h : Share) (start : List State) (l
   pub own : TellsOfOwn g.own (own_left h 0 (each_left (problem_of q) (loosenings_of (margins_of o)) g.lemmas.items left trees))
   pub spent : IsTrue (has_open (own_left h 0 (each_left (problem_of q) (loosenings_of (margins_of o)) g.lemmas.items left trees))) → g.budget ≡ 0
   pub others : g.others ≡ others h 0 (each_left (problem_of q) (loosenings_of (margins_of o)) g.lemmas.items left trees)
+
+-- with these lemmas, and so many branches to make, nothing is gone through yet
+pub record IsBegunWith (start : Vec StoredState Global) (n : ℕ) (g : Going) : Type 0 where
+  pub main : g.main.items ≡ []
+  pub learned : g.learned.items ≡ []
+  pub lemmas : g.lemmas ≡ start
+  pub budget : g.budget ≡ n
+  pub own : g.own ≡ own.Nothing
+  pub others : g.others ≡ 0
+
+-- nothing is gone through yet, and all branches are to be made
+pub record IsBegun (q : Parts) (o : Options) (g : Going) : Type 0 where
+  pub may : MayGoOn q o g
+  pub begun : IsBegunWith g.lemmas o.budget g

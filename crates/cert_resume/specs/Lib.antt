@@ -3,3 +3,4 @@ pub mod Calls
 pub mod Going
 pub mod Request
 pub mod Searched
+pub mod Text

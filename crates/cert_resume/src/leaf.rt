@@ -21,6 +21,7 @@ use std::alloc::{AllocError, Global};
 use std::mem;
 
 /// What states are searched for.
+#[derive(Drop)]
 pub(crate) struct Task<'a> {
     pub problem: &'a Problem,
     pub options: Options,
