@@ -41,7 +41,7 @@ module _ (p : Problem) (b : Option ℕ) where
   same-next (faulty f) n ls xs h = refl
 
   same-parts : (l : List ℕ) (ls : List (List ℕ)) (x : CertLine) (xs : List CertLine) → map parsed (l ∷ ls) ≡ map line (x ∷ xs) → (parsed l ≡ line x) × (map parsed ls ≡ map line xs)
-  same-parts l ls x xs h = cc
+  same-parts l ls x xs h = (cc, cc)
 
   by-lines : (ls : List (List ℕ)) (xs : List CertLine) (n : ℕ) (d : Due) → map parsed ls ≡ map line xs → course p b n d ls ≡ course_of_lines p b n d xs
   by-lines [] [] n d h = refl

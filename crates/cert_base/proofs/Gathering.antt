@@ -1,10 +1,14 @@
 -- What is gathered of lines that a checker takes one by one, and where they lead with the states that stay.
-use Rattle.std.proofs.Common.{◌≡◌, ◌⊎◌, ℕ, suc, ◌+◌, List, [], ◌∷◌, ◌++◌, map, length, Option, Some, None, Result, Ok, Err, refl, ap, ap₂, sym, ◌∙◌, subst, inl, inr, arith, length-append}
+use Rattle.std.proofs.Common.{◌≡◌, ◌⊎◌, ◌<◌, ℕ, suc, ◌+◌, List, [], ◌∷◌, ◌++◌, map, length, Option, Some, None, Result, Ok, Err, refl, ap, ap₂, sym, ◌∙◌, subst, inl, inr, arith, length-append, append_assoc, append-nil}
 use Rattle.std.proofs.lemmas.List.{map-append}
 use Rattle.std.specs.Prelude.{option_map}
 use Rattle.poly_graph.specs.Problem.{Problem}
 use Rattle.poly_graph.specs.ProblemViews.{Parts, problem_of}
 use Rattle.cert_read.specs.CertLine.{CertLine, Parsed, line, parsed}
+use Rattle.cert_read.specs.State.{Reading}
+use Rattle.cert_read.specs.Reading.{lines_ahead, IsNextLine}
+use Rattle.cert_read.specs.Views.{line_of}
+use Rattle.cert_read.specs.declared.line.Line.{Line}
 use Rattle.cert_model.specs.Due.{CertFault, Due, version_due, root_due, tree_due, NextOf, Next, on, faulty}
 use Rattle.cert_model.specs.Accepted.{next, Course, stopped, reached, course_next, course_of_lines}
 use Rattle.cert_model.proofs.Invariant.{IfOn}
@@ -13,6 +17,7 @@ use Rattle.cert_check.specs.Courses.{leads, after, after_all, stand_due, stand_i
 use Rattle.cert_check.specs.Dues.{lean, next_map}
 use Rattle.cert_check.specs.Work.{Work, alone, Checks, WorkCourse, lean_work, work_step}
 use Rattle.cert_check.proofs.Leans.{step_lean}
+use Rattle.cert_check.proofs.Taking.{Taking, taking_none, ends_none, goes_on, line_ahead, none_ahead}
 use Rattle.cert_base.specs.Gathered.{Gathered, Gathers, gather, place, nothing_yet}
 use Rattle.cert_base.specs.Views.{IsGathered}
 use Rattle.cert_base.proofs.Keeps.{gathers_line}
@@ -35,7 +40,7 @@ module _ (p : Problem) (b : Option ℕ) where
   more-next (faulty f) n xs ys e m z k h = cc
 
   same-due : (d e : Due) (n m : ℕ) → reached d n ≡ reached e m → (d ≡ e) × (n ≡ m)
-  same-due d e n m h = cc
+  same-due d e n m h = (cc, cc)
 
   course-more : (xs : List CertLine) (l : CertLine) (n : ℕ) (d e : Due) (m : ℕ) → course_of_lines p b n d xs ≡ reached e m →
       course_of_lines p b n d (xs ++ (l ∷ [])) ≡ one-reached (next p b e l) (suc m)
@@ -89,3 +94,48 @@ module _ (q : Parts) (b : Option ℕ) where
 
   pub gathered_none : (c : Checked) (g : Gathered) → c ≡ fresh_checker q b → g ≡ nothing_yet → IsGathered p b [] c.course g
   gathered_none c g e k = record { taken = []; lines = refl; due = version_due; led = refl; stands = ap (λ (x : Checked). x.course) e; gathers = record { taken = refl; nothing = k } }
+
+-- ---- lines that are gathered one after the other from a reader
+
+module _ (q : Parts) (old : Checked) (ahead : Reading) (before : Gathered) where
+  -- of the lines that were ahead some are gathered, and the others are ahead
+  pub record Gathering (now : Checked) (left : Reading) (g : Gathered) : Type 0 where
+    pub taking : Taking old ahead now left
+    pub under_way : IsUnderWay now.course
+    pub taken : List Parsed
+    pub lines : map parsed (lines_ahead ahead) ≡ taken ++ map parsed (lines_ahead left)
+    pub gathered : (b : Option ℕ) → old ≡ fresh_checker q b → before ≡ nothing_yet → IsGathered (problem_of q) b taken now.course g
+
+  pub gathering_none : IsUnderWay old.course → Gathering old ahead before
+  gathering_none u = record { taking = taking_none old ahead; under_way = u; taken = []; lines = refl; gathered = λ b e k. gathered_none q b old before e k }
+
+  module _ (now : Checked) (left : Reading) (g : Gathered) (h : Gathering now left g) where
+    pub all_taken : (new : Reading) → IsNextLine (lines_ahead left) left new (Ok None) → Takes old (map parsed (lines_ahead ahead)) now (Ok tt)
+    all_taken new k = ends_none old ahead now left h.taking new (Ok tt) k h.under_way
+
+    pub all_gathered : (new : Reading) → IsNextLine (lines_ahead left) left new (Ok None) → (b : Option ℕ) → old ≡ fresh_checker q b → before ≡ nothing_yet →
+        IsGathered (problem_of q) b (map parsed (lines_ahead ahead)) now.course g
+    all_gathered new k b e e' =
+        let none : lines_ahead left ≡ [] = (none_ahead (lines_ahead left) left new k).0 in
+        subst (λ (ls : List Parsed). IsGathered (problem_of q) b ls now.course g) (sym (h.lines ∙ ap (λ (ls : List (List ℕ)). h.taken ++ map parsed ls) none ∙ append-nil h.taken)) (h.gathered b e e')
+
+    -- one more
+    pub gathering_more : (new : Reading) (said : Line) (after : Checked) (g' : Gathered) → IsNextLine (lines_ahead left) left new (Ok (Some said)) → Takes now (line (line_of said) ∷ []) after (Ok tt) →
+        g' ≡ gather (place (problem_of q) (stand_in now.course) (line_of said)) (line_of said) g → Gathering after new g'
+    gathering_more new said after g' k t e =
+        let l = line_ahead (lines_ahead left) left new said k in
+        record {
+          taking = goes_on old ahead now left h.taking new said after k t;
+          under_way = t.answers;
+          taken = h.taken ++ (line (line_of said) ∷ []);
+          lines = h.lines ∙ ap (λ (ls : List (List ℕ)). h.taken ++ map parsed ls) l.here ∙ ap₂ (λ (x : Parsed) (ls : List (List ℕ)). h.taken ++ (x ∷ map parsed ls)) l.says (sym l.rest)
+              ∙ sym (append_assoc h.taken (line (line_of said) ∷ []) (map parsed (lines_ahead new)));
+          gathered = λ b f f'. subst (λ (x : Gathered). IsGathered (problem_of q) b (h.taken ++ (line (line_of said) ∷ [])) after.course x) (sym e)
+              (gathered_more q b now after (line_of said) h.taken g (h.gathered b f f') (h.taking.checks ∙ ap (λ (c : Checked). c.checks) f) t);
+        }
+
+pub fewer_ahead : (left new : Reading) (said : Line) → IsNextLine (lines_ahead left) left new (Ok (Some said)) → length (lines_ahead new) < length (lines_ahead left)
+fewer_ahead left new said k =
+    let l = line_ahead (lines_ahead left) left new said k in
+    let m : length (lines_ahead left) ≡ suc (length (lines_ahead new)) = ap length l.here ∙ ap (λ (ls : List (List ℕ)). suc (length ls)) (sym l.rest) in
+    omega (arith, m)

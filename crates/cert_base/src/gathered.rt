@@ -1,5 +1,5 @@
 // What is gathered of a certificate's lines.
-ghost use Rattle.std.specs.Prelude.{◌≡◌, ◌⊎◌, ℕ, [], ◌∷◌, map, vec_len, Err, IfErr, OnOk};
+ghost use Rattle.std.specs.Prelude.{◌≡◌, ◌⊎◌, ℕ, [], ◌∷◌, map, Err, IfErr, OnOk, Option};
 ghost use Rattle.poly_graph.specs.ProblemViews.{problem_of};
 ghost use Rattle.cover_line.specs.Views.{line_of as rule_of};
 ghost use Rattle.cert_read.specs.CertLine.{line as FormLine, parsed, rule_line};
@@ -7,7 +7,7 @@ ghost use Rattle.cert_read.specs.Reading.{lines_ahead};
 ghost use Rattle.cert_read.specs.Views.{line_of};
 ghost use Rattle.cert_check.specs.declared.fault.CertFault.TheVariants.{Memory};
 ghost use Rattle.cert_check.specs.Checked.{fresh_checker};
-ghost use Rattle.cert_check.specs.Courses.{stand_in, Takes};
+ghost use Rattle.cert_check.specs.Courses.{stand_in, IsUnderWay, Takes};
 ghost use Rattle.cert_base.specs.Gathered.{gather, in_tree, nothing_yet, place};
 ghost use Rattle.cert_base.specs.Views.{gathered_of, place_of, IsGathered};
 
@@ -96,6 +96,7 @@ impl Gathered {
         checker: &mut Checker<'_>,
         reader: &mut LineReader,
     ) -> Result<(), CertFault>
+        requires { IsUnderWay checker.old.course }
         ensures ok { OnOk result (Takes checker.old (map parsed (lines_ahead reader.old))
             checker.new result) }
         ensures fault { IfErr result (λ f. (f ≡ Memory)
@@ -108,7 +109,10 @@ impl Gathered {
         'lines: loop {
             match reader.next_line() {
                 Ok(None) => return Ok(()),
-                Ok(Some(line)) => self.line(alloc, problem, checker, line)?,
+                Ok(Some(line)) => match self.line(alloc, problem, checker, line) {
+                    Ok(()) => {}
+                    Err(fault) => return Err(fault),
+                },
                 Err(fault) => return Err(checker.refuse(fault)),
             }
         }

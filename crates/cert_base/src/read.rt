@@ -1,12 +1,12 @@
 // A certificate read back.
-ghost use Rattle.std.specs.Prelude.{◌≡◌, ℕ, map, true, IfErr, IfOk, None, Ok, OnOk, Some};
+ghost use Rattle.std.specs.Prelude.{◌≡◌, ℕ, map, true, IfErr, IfOk, None, Ok, OnOk, Option, Some};
 ghost use Rattle.poly_graph.specs.ProblemViews.{problem_of};
 ghost use Rattle.ival.specs.SpaceViews.{space_of};
 ghost use Rattle.cert_read.specs.CertLine.{parsed};
 ghost use Rattle.cert_read.specs.Lines.{lines_of};
 ghost use Rattle.cert_model.specs.Accepted.{verdict};
 ghost use Rattle.cert_check.specs.Checked.{fresh_checker};
-ghost use Rattle.cert_check.specs.Courses.{cover_in, point_in, Finishes};
+ghost use Rattle.cert_check.specs.Courses.{cover_in, point_in, Finishes, IsUnderWay};
 ghost use Rattle.cert_check.specs.Dues.{states_of};
 ghost use Rattle.cert_check.specs.Feeding.{IsRefusalOrMemory};
 ghost use Rattle.cert_check.specs.States.{lemma_of};
@@ -41,6 +41,7 @@ fn take_all(
     checker: &mut Checker<'_>,
     gathered: &mut Gathered,
 ) -> Result<Verdict, CertFault>
+    requires { IsUnderWay checker.old.course }
     ensures fault { (b : Option ℕ) → checker.old ≡ fresh_checker problem.now b →
         IfErr result (IsRefusalOrMemory (verdict (problem_of problem.now) b cert.now)) }
     ensures gathered { (b : Option ℕ) → checker.old ≡ fresh_checker problem.now b →
