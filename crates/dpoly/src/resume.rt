@@ -33,6 +33,7 @@ use std::sync::Wait;
 use std::thread::Threads;
 
 /// What books are searched with: threads, and the gate that is called at each box.
+#[derive(Drop)]
 pub struct Engine<'a, R, G> {
     pub rt: &'a R,
     pub gate: &'a G,
