@@ -125,7 +125,9 @@ fn start_work<G: Gate>(
     ensures { Reaches search.old.book search.new.book }
 {
     let mut room = Room::new(problem);
-    work_to_start(alloc, search, &mut room, gate)
+    let done = work_to_start(alloc, search, &mut room, gate);
+    drop(room);
+    done
 }
 
 // As `work_to_end`, in room of its own.
@@ -141,7 +143,9 @@ fn finish_work<G: Gate>(
     ensures left { OnOk result (LeavesDue search.new.book) }
 {
     let mut room = Room::new(problem);
-    work_to_end(alloc, search, &mut room, gate)
+    let done = work_to_end(alloc, search, &mut room, gate);
+    drop(room);
+    done
 }
 
 // Works alone at first: a problem of few boxes is done before threads start.

@@ -1,15 +1,13 @@
 -- The books so far are those of the first checks.
-use Rattle.std.proofs.Common.{◌≡◌, ℕ, suc, ◌+◌, ◌-◌, ◌≤◌, List, [], ◌∷◌, ◌++◌, All, Some, length, take, refl, ap, sym, ◌∙◌, subst, arith}
+use Rattle.std.proofs.Common.{◌≡◌, ℕ, suc, ◌+◌, ◌-◌, ◌≤◌, List, [], ◌∷◌, ◌++◌, All, Some, length, take, ap, sym, ◌∙◌, subst, arith}
 use Rattle.std.specs.Prelude.{slice_get}
 use Rattle.std.proofs.lemmas.Option.{slice_get_read}
 use Rattle.std.proofs.lemmas.List.Elements.{All-nil, All-cons, All-push}
-use Rattle.poly_graph.specs.ProblemViews.{Parts}
 use Rattle.cover_data.specs.declared.margins.Options.{Options}
-use Rattle.cover_book.specs.Model.{BookModel, opening}
+use Rattle.cover_book.specs.Model.{BookModel}
 use Rattle.cover_book.specs.Session.{AreBooksOf}
-use Rattle.solve_core.specs.Solved.{IsSolved, IsCheckWithin, IsProblemAt, IsNextBook}
-use Rattle.solve_core.proofs.Reached.{reaches_same}
-use Rattle.solve_core.proofs.Sessions.{first_at, within_at, first_book, book_at, first_count, next_book, of_root, solved_from}
+use Rattle.solve_core.specs.Solved.{IsSolved, IsCheckWithin, IsNextBook}
+use Rattle.solve_core.proofs.Sessions.{first_book, book_at, first_count, next_book, of_root}
 use Rattle.solve_core.proofs.run.solve_each.Goals as goal
 
 pub loop-k-init : goal.loop-k-init
