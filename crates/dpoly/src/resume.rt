@@ -1,5 +1,5 @@
 // `resume`, from a script and a certificate to a certificate that goes on from it.
-ghost use Rattle.std.specs.Prelude.{◌≡◌, ◌≤◌, [], IfOk, MatchResult, length};
+ghost use Rattle.std.specs.Prelude.{◌≡◌, ◌≤◌, ℕ, List, [], IfOk, MatchResult, Option, length};
 ghost use Rattle.cert_model.specs.Accepted.{most_bytes};
 ghost use Rattle.command_line.specs.Seen.{seen_resume};
 ghost use Rattle.command_line.specs.Words.{IsResume, Resume as Asked};

@@ -113,6 +113,41 @@ fn work_to_end<G: Gate>(
     Ok(())
 }
 
+// As `work_to_start`, in room of its own.
+fn start_work<G: Gate>(
+    alloc: Global,
+    search: &mut Search,
+    problem: &Problem,
+    gate: &G,
+) -> Result<(), AllocError>
+    requires search { IsSearch search.old search.old.waiting.items }
+    requires problem { search.old.book.problem ≡ problem.now }
+    ensures { Reaches search.old.book search.new.book }
+{
+    let mut room = Room::new(problem);
+    let done = work_to_start(alloc, search, &mut room, gate);
+    drop(room);
+    done
+}
+
+// As `work_to_end`, in room of its own.
+fn finish_work<G: Gate>(
+    alloc: Global,
+    search: &mut Search,
+    problem: &Problem,
+    gate: &G,
+) -> Result<(), AllocError>
+    requires search { IsSearch search.old search.old.waiting.items }
+    requires problem { search.old.book.problem ≡ problem.now }
+    ensures reached { Reaches search.old.book search.new.book }
+    ensures left { OnOk result (LeavesDue search.new.book) }
+{
+    let mut room = Room::new(problem);
+    let done = work_to_end(alloc, search, &mut room, gate);
+    drop(room);
+    done
+}
+
 // Works alone at first: a problem of few boxes is done before threads start.
 fn start<G: Gate>(
     alloc: Global,
@@ -126,8 +161,7 @@ fn start<G: Gate>(
     ensures options { IfOk result (λ b. b.options ≡ book.options) }
 {
     let mut search = Search::resume(alloc, book)?;
-    let mut room = Room::new(problem);
-    work_to_start(alloc, &mut search, &mut room, gate)?;
+    start_work(alloc, &mut search, problem, gate)?;
     Ok(search.into_book())
 }
 
@@ -146,8 +180,7 @@ fn finish<G: Gate>(
     ensures book { IfOk result (λ b. IsBook b) }
 {
     let mut search = Search::resume(alloc, book)?;
-    let mut room = Room::new(problem);
-    work_to_end(alloc, &mut search, &mut room, gate)?;
+    finish_work(alloc, &mut search, problem, gate)?;
     Ok(search.into_book())
 }
 
@@ -267,6 +300,26 @@ fn solve_next<R: Threads + Wait + Sync, G: Gate + Sync>(
     search_from(rt, alloc, book, &problem, old.options(), gate)
 }
 
+// Searches at the first check.
+fn solve_first<R: Threads + Wait + Sync, G: Gate + Sync>(
+    rt: &R,
+    alloc: Global,
+    session: &Session,
+    options: &Options,
+    gate: &G,
+) -> Result<Book, AllocError>
+    requires session { IsSession (problems_of session.now) }
+    requires limits { All (IsCheckWithin options.now) session.now }
+    ensures at { IfOk result (λ b. IsProblemAt session.now 0 b.problem) }
+    ensures options { IfOk result (λ b. b.options ≡ options.now) }
+    ensures kept { IfOk result (λ b. b.kept ≡ []) }
+    ensures book { IfOk result (λ b. IsBook b) }
+    ensures solved { IfOk result (λ b. IsSolved b) }
+{
+    let problem = session.first(alloc)?;
+    solve(rt, alloc, &problem, options, gate)
+}
+
 // Searches at each check, and appends the books.
 fn solve_each<R: Threads + Wait + Sync, G: Gate + Sync>(
     rt: &R,
@@ -282,8 +335,7 @@ fn solve_each<R: Threads + Wait + Sync, G: Gate + Sync>(
     ensures books { OnOk result (AreBooksOf options.now [] session.now books.new.items) }
     ensures solved { OnOk result (All IsSolved books.new.items) }
 {
-    let problem = session.first(alloc)?;
-    let book = solve(rt, alloc, &problem, options, gate)?;
+    let book = solve_first(rt, alloc, session, options, gate)?;
     books.push(book)?;
     for k in 1..session.len() {
         let book = solve_next(rt, alloc, session, k, &books[k - 1], gate)?;

@@ -392,5 +392,6 @@ impl Worker {
     {
         let mut room = Room::new(task.problem);
         self.go_on(rt, alloc, &mut room, task, source, gate);
+        drop(room);
     }
 }

@@ -1,30 +1,22 @@
 -- The books so far are those of the first checks.
-use Rattle.std.proofs.Common.{◌≡◌, ℕ, suc, ◌+◌, ◌-◌, ◌≤◌, List, [], ◌∷◌, ◌++◌, All, Some, length, take, refl, ap, sym, ◌∙◌, subst, arith}
+use Rattle.std.proofs.Common.{◌≡◌, ℕ, suc, ◌+◌, ◌-◌, ◌≤◌, List, [], ◌∷◌, ◌++◌, All, Some, length, take, ap, sym, ◌∙◌, subst, arith}
 use Rattle.std.specs.Prelude.{slice_get}
 use Rattle.std.proofs.lemmas.Option.{slice_get_read}
 use Rattle.std.proofs.lemmas.List.Elements.{All-nil, All-cons, All-push}
-use Rattle.poly_graph.specs.ProblemViews.{Parts}
 use Rattle.cover_data.specs.declared.margins.Options.{Options}
-use Rattle.cover_book.specs.Model.{BookModel, opening}
+use Rattle.cover_book.specs.Model.{BookModel}
 use Rattle.cover_book.specs.Session.{AreBooksOf}
-use Rattle.solve_core.specs.Solved.{IsSolved, IsCheckWithin, IsProblemAt, IsNextBook}
-use Rattle.solve_core.proofs.Reached.{reaches_same}
-use Rattle.solve_core.proofs.Sessions.{first_at, within_at, first_book, book_at, first_count, next_book, of_root, solved_from}
+use Rattle.solve_core.specs.Solved.{IsSolved, IsCheckWithin, IsNextBook}
+use Rattle.solve_core.proofs.Sessions.{first_book, book_at, first_count, next_book, of_root}
 use Rattle.solve_core.proofs.run.solve_each.Goals as goal
-
-pub solve-requires-after_bounds : goal.solve-requires-after_bounds
-solve-requires-after_bounds g c = λ κs h.
-    let at = first_at c.args.session.now c.in_ok-problem.problem c.in_ok-problem.ensures in within_at c.args.options.now c.args.session.now c.requires.limits 0 c.in_ok-problem.problem at.0 at.1
 
 pub loop-k-init : goal.loop-k-init
 loop-k-init g c =
-    let ps = c.args.session.now in let o : Options = c.args.options.now in let b : BookModel = c.in_ok-book.book in let p : Parts = c.in_ok-problem.problem in let is = c.in_ok-book.ensures in
-    let at : IsProblemAt ps 0 b.problem = subst (IsProblemAt ps 0) (sym is.problem) (first_at ps p c.in_ok-problem.ensures) in
-    let one : c.push.new.self.items ≡ b ∷ [] = c.in_ok-push.ensures.items ∙ ap (λ (bs : List BookModel). bs ++ (b ∷ [])) c.requires.none in
-    let solved : IsSolved b = solved_from (opening p o) b p o [] refl is.reached is.verdict is.left in record {
+    let ps = c.args.session.now in let o : Options = c.args.options.now in let b : BookModel = c.in_ok-book.book in let is = c.in_ok-book.ensures in
+    let one : c.push.new.self.items ≡ b ∷ [] = c.in_ok-push.ensures.items ∙ ap (λ (bs : List BookModel). bs ++ (b ∷ [])) c.requires.none in record {
       some = omega arith;
-      books = subst (AreBooksOf o [] (take 1 ps)) (sym one) (first_book o ps b at is.book is.options (reaches_same is.reached).2 (of_root b solved));
-      solved = subst (All IsSolved) (sym one) (All-cons IsSolved b [] solved (All-nil IsSolved));
+      books = subst (AreBooksOf o [] (take 1 ps)) (sym one) (first_book o ps b is.at is.book is.options is.kept (of_root b is.solved));
+      solved = subst (All IsSolved) (sym one) (All-cons IsSolved b [] is.solved (All-nil IsSolved));
     }
 
 pub index-requires : goal.index-requires
