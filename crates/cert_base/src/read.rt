@@ -51,8 +51,10 @@ fn take_all(
     ensures finished { IfOk result (λ w. Finishes checker.new.course (Ok w)) }
 {
     let mut reader = reader_of(alloc, cert)?;
-    gathered.take(alloc, problem, checker, &mut reader)?;
-    checker.finish()
+    match gathered.take(alloc, problem, checker, &mut reader) {
+        Ok(()) => checker.finish(),
+        Err(fault) => Err(fault),
+    }
 }
 
 // The point of a certificate that was taken whole.
