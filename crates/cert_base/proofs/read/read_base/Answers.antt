@@ -1,35 +1,38 @@
-use Rattle.std.proofs.Common.{rules, ◌≡◌, ℕ, map, true, IfErr, IfOk, None, Ok, OnOk, Option, Some, ◌+◌, ◌-◌, ◌*◌, ◌<◌, ◌≤◌, length, ◌/◌, ◌%◌, Bool, false, nat_eq, nat_lt, List, [], ◌∷◌, ◌++◌, slice_index_or, slice_set, bit_and, bit_or, Fits, w8, w32, w64, Bor, MutBor}
+use Rattle.std.proofs.Common.{Ok, subst}
 use Rattle.poly_graph.specs.ProblemViews.{problem_of}
-use Rattle.ival.specs.SpaceViews.{space_of}
-use Rattle.cert_read.specs.CertLine.{parsed}
-use Rattle.cert_read.specs.Lines.{lines_of}
-use Rattle.cert_model.specs.Accepted.{verdict}
-use Rattle.cert_check.specs.Checked.{fresh_checker}
-use Rattle.cert_check.specs.Courses.{cover_in, point_in, Finishes, IsUnderWay}
-use Rattle.cert_check.specs.Dues.{states_of}
-use Rattle.cert_check.specs.Feeding.{IsRefusalOrMemory}
-use Rattle.cert_check.specs.States.{lemma_of}
-use Rattle.cert_base.specs.Base.{loosenings_of, IsReadBack}
-use Rattle.cert_base.specs.Gathered.{nothing_yet}
-use Rattle.cert_base.specs.Views.{base_gathered, gathered_of, IsGathered}
+use Rattle.cert_check.specs.declared.checker.Verdict.{Verdict}
+use Rattle.cert_check.specs.Courses.{Finishes}
+use Rattle.cert_base.specs.Views.{gathered_of}
+use Rattle.cert_base.proofs.Ended.{closed_read, has_point, point_read, has_cover, base_read}
 use Rattle.cert_base.proofs.read.read_base.Goals as goal
 
--- src/read.rt:138:1
 pub returns-in-Unsat : goal.returns-in-Unsat
-returns-in-Unsat c = ?
+returns-in-Unsat c =
+    let o = c.take_all.new.checker.course in let has = c.in_ok-margin.ensures.gathered c.args.bound c.in_ok-checker.ensures c.new-gathered.ensures in
+    closed_read (problem_of c.args.problem.now) c.args.bound c.args.cert.now o (gathered_of c.take_all.new.gathered) has c.take_all.ensures.few c.in-Unsat.margin
+    (subst (λ (w : Verdict). Finishes o (Ok w)) c.in-Unsat.is c.in_ok-margin.ensures.finished)
 
--- src/read.rt:143:49
 pub point_of-requires : goal.point_of-requires
-point_of-requires c = ?
+point_of-requires c =
+    let o = c.take_all.new.checker.course in let has = c.in_ok-margin.ensures.gathered c.args.bound c.in_ok-checker.ensures c.new-gathered.ensures in
+    has_point (problem_of c.args.problem.now) c.args.bound c.args.cert.now o (gathered_of c.take_all.new.gathered) has c.in-Point.delta
+    (subst (λ (w : Verdict). Finishes o (Ok w)) c.in-Point.is c.in_ok-margin.ensures.finished)
 
--- src/read.rt:138:1
 pub returns-in-Point : goal.returns-in-Point
-returns-in-Point c = ?
+returns-in-Point c =
+    let o = c.take_all.new.checker.course in let has = c.in_ok-margin.ensures.gathered c.args.bound c.in_ok-checker.ensures c.new-gathered.ensures in
+    point_read (problem_of c.args.problem.now) c.args.bound c.args.cert.now o (gathered_of c.take_all.new.gathered) has c.take_all.ensures.few c.in-Point.delta c.in_ok-point_of-in-Point.field-0
+    (subst (λ (w : Verdict). Finishes o (Ok w)) c.in-Point.is c.in_ok-margin.ensures.finished) c.in_ok-point_of-in-Point.ensures
 
--- src/read.rt:144:44
 pub base_of-requires : goal.base_of-requires
-base_of-requires c = ?
+base_of-requires c =
+    let o = c.take_all.new.checker.course in let has = c.in_ok-margin.ensures.gathered c.args.bound c.in_ok-checker.ensures c.new-gathered.ensures in
+    has_cover (problem_of c.args.problem.now) c.args.bound c.args.cert.now o (gathered_of c.take_all.new.gathered) has c.in-Left.field-0
+    (subst (λ (w : Verdict). Finishes o (Ok w)) c.in-Left.is c.in_ok-margin.ensures.finished)
 
--- src/read.rt:131:1
 pub returns : goal.returns
-returns c = ?
+returns c =
+    let o = c.take_all.new.checker.course in let has = c.in_ok-margin.ensures.gathered c.args.bound c.in_ok-checker.ensures c.new-gathered.ensures in
+    let base = c.in_ok-base_of-in-Left in
+    base_read (problem_of c.args.problem.now) c.args.bound c.args.cert.now o (gathered_of c.take_all.new.gathered) has c.take_all.ensures.few c.in-Left.field-0 base.field-0
+    (subst (λ (w : Verdict). Finishes o (Ok w)) c.in-Left.is c.in_ok-margin.ensures.finished) base.ensures.cover base.ensures.gathered base.ensures.bound

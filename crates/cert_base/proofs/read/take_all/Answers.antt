@@ -1,21 +1,14 @@
-use Rattle.std.proofs.Common.{rules, ◌≡◌, ℕ, map, true, IfErr, IfOk, None, Ok, OnOk, Option, Some, ◌+◌, ◌-◌, ◌*◌, ◌<◌, ◌≤◌, length, ◌/◌, ◌%◌, Bool, false, nat_eq, nat_lt, List, [], ◌∷◌, ◌++◌, slice_index_or, slice_set, bit_and, bit_or, Fits, w8, w32, w64, Bor, MutBor}
-use Rattle.poly_graph.specs.ProblemViews.{problem_of}
-use Rattle.ival.specs.SpaceViews.{space_of}
-use Rattle.cert_read.specs.CertLine.{parsed}
-use Rattle.cert_read.specs.Lines.{lines_of}
-use Rattle.cert_model.specs.Accepted.{verdict}
-use Rattle.cert_check.specs.Checked.{fresh_checker}
-use Rattle.cert_check.specs.Courses.{cover_in, point_in, Finishes, IsUnderWay}
-use Rattle.cert_check.specs.Dues.{states_of}
-use Rattle.cert_check.specs.Feeding.{IsRefusalOrMemory}
-use Rattle.cert_check.specs.States.{lemma_of}
-use Rattle.cert_base.specs.Base.{loosenings_of, IsReadBack}
-use Rattle.cert_base.specs.Gathered.{nothing_yet}
-use Rattle.cert_base.specs.Views.{base_gathered, gathered_of, IsGathered}
+use Rattle.std.proofs.Common.{Ok, inl, inr}
+use Rattle.cert_base.proofs.Ended.{line_refused, end_fault}
 use Rattle.cert_base.proofs.read.take_all.Goals as goal
 
 pub returns-in-Ok-clause-fault : goal.returns-in-Ok-clause-fault
-returns-in-Ok-clause-fault c = ?
+returns-in-Ok-clause-fault c b e =
+    end_fault c.args.problem.now b c.args.cert.now c.reader_of.ensures.few c.args.checker.now c.take.new.checker c.in_ok-reader.reader (Ok c.in-Ok.field-0) c.finish.result e c.in_ok-reader.ensures.reader
+    c.in-Ok.ensures.ok c.finish.ensures
 
-pub returns-in-Err-clause-fault : goal.returns-in-Err-clause-fault
-returns-in-Err-clause-fault c = ?
+pub returns-clause-fault : goal.returns-clause-fault
+returns-clause-fault c b e = elim c.in-Err.ensures.fault [
+  | inl m ↦ inl m
+  | inr t ↦ line_refused c.args.problem.now b c.args.cert.now c.reader_of.ensures.few c.args.checker.now c.take.new.checker c.in_ok-reader.reader c.in-Err.fault e c.in_ok-reader.ensures.reader t
+]
