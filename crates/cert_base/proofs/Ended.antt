@@ -1,5 +1,5 @@
 -- What is read back of a certificate whose lines were all gathered.
-use Rattle.std.proofs.Common.{◌≡◌, ◌⊎◌, ◌≤◌, ℕ, suc, List, [], ◌∷◌, ◌++◌, map, length, Bool, true, Option, Some, None, Result, Ok, Err, IsTrue, refl, ap, ap₂, sym, ◌∙◌, subst, inl, inr, arith, nat_le}
+use Rattle.std.proofs.Common.{◌≡◌, ◌⊎◌, ◌≤◌, ℕ, suc, List, [], ◌∷◌, ◌++◌, map, length, Bool, true, Option, Some, None, Result, Ok, Err, IfErr, IsTrue, refl, ap, ap₂, sym, ◌∙◌, subst, inl, inr, arith, nat_le}
 use Rattle.std.proofs.lemmas.Bool.{le-leb}
 use Rattle.std.proofs.lemmas.List.{length-map}
 use Rattle.poly_graph.specs.Problem.{Problem}
@@ -205,3 +205,9 @@ module _ (q : Parts) (b : Option ℕ) (bytes : List ℕ) (few : length bytes ≤
   pub end_refused : (old new : Checked) (ahead : Reading) (r : Result (Unit {0}) code.CertFault) (f : code.CertFault) → old ≡ fresh_checker q b → ahead ≡ record { unread = bytes; ended = true } →
       Takes old (map parsed (lines_ahead ahead)) new r → Finishes new.course (Err f) → IsRefusalOrMemory (verdict (problem_of q) b bytes) f
   end_refused old new ahead r f e a t k = as-refusal (verdict (problem_of q) b bytes) f (taken-verdict old new ahead r (Err f) e a t k)
+
+  -- the same, or no fault
+  pub end_fault : (old new : Checked) (ahead : Reading) (r : Result (Unit {0}) code.CertFault) (w : Result told.Verdict code.CertFault) → old ≡ fresh_checker q b → ahead ≡ record { unread = bytes; ended = true } →
+      Takes old (map parsed (lines_ahead ahead)) new r → Finishes new.course w → IfErr w (IsRefusalOrMemory (verdict (problem_of q) b bytes))
+  end_fault old new ahead r (Ok v) e a t k = tt
+  end_fault old new ahead r (Err f) e a t k = end_refused old new ahead r f e a t k

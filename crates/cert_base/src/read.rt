@@ -1,10 +1,10 @@
 // A certificate read back.
-ghost use Rattle.std.specs.Prelude.{◌≡◌, ℕ, map, true, IfErr, IfOk, None, Ok, OnOk, Option, Some};
+ghost use Rattle.std.specs.Prelude.{◌≡◌, ◌≤◌, ℕ, length, map, true, IfErr, IfOk, None, Ok, OnOk, Option, Some};
 ghost use Rattle.poly_graph.specs.ProblemViews.{problem_of};
 ghost use Rattle.ival.specs.SpaceViews.{space_of};
 ghost use Rattle.cert_read.specs.CertLine.{parsed};
 ghost use Rattle.cert_read.specs.Lines.{lines_of};
-ghost use Rattle.cert_model.specs.Accepted.{verdict};
+ghost use Rattle.cert_model.specs.Accepted.{most_bytes, verdict};
 ghost use Rattle.cert_check.specs.Checked.{fresh_checker};
 ghost use Rattle.cert_check.specs.Courses.{cover_in, point_in, Finishes, IsUnderWay};
 ghost use Rattle.cert_check.specs.Dues.{states_of};
@@ -25,8 +25,10 @@ use std::alloc::{AllocError, Global};
 
 // The reader of these bytes and no more.
 fn reader_of(alloc: Global, cert: &[u8]) -> Result<LineReader, AllocError>
-    ensures { IfOk result (λ r. r ≡ record { unread = cert.now; ended = true }) }
+    ensures reader { IfOk result (λ r. r ≡ record { unread = cert.now; ended = true }) }
+    ensures few { length cert.now ≤ most_bytes }
 {
+    let _size = cert.len();
     let mut reader = LineReader::new(alloc);
     reader.feed(cert)?;
     reader.end();
@@ -49,10 +51,13 @@ fn take_all(
         OnOk result (IsGathered (problem_of problem.now) b (map parsed (lines_of cert.now))
         checker.new.course (gathered_of gathered.new)) }
     ensures finished { IfOk result (λ w. Finishes checker.new.course (Ok w)) }
+    ensures few { length cert.now ≤ most_bytes }
 {
     let mut reader = reader_of(alloc, cert)?;
-    gathered.take(alloc, problem, checker, &mut reader)?;
-    checker.finish()
+    match gathered.take(alloc, problem, checker, &mut reader) {
+        Ok(()) => checker.finish(),
+        Err(fault) => Err(fault),
+    }
 }
 
 // The point of a certificate that was taken whole.
