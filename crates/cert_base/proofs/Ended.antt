@@ -32,6 +32,25 @@ use Rattle.cert_base.specs.Gathered.{Gathered, Gathers, IsWhole, standing_states
 use Rattle.cert_base.specs.Base.{loosenings_of, IsBase, IsClosedRead, IsPointRead}
 use Rattle.cert_base.specs.Views.{base_gathered, IsGathered}
 
+-- ---- what lists and pairs tell
+
+abbrev first-or : Loosenings → Option (Loosenings × List State) → Loosenings
+first-or d None = d
+first-or d (Some x) = x.0
+
+abbrev second-or : List State → Option (Loosenings × List State) → List State
+second-or d None = d
+second-or d (Some x) = x.1
+
+some-pair : (s s' : Loosenings) (xs ys : List State) → ◌≡◌ {A = Option (Loosenings × List State)} (Some (s, xs)) (Some (s', ys)) → (s ≡ s') × (xs ≡ ys)
+some-pair s s' xs ys h = (ap (first-or s) h, ap (second-or xs) h)
+
+some-standing : (x : Standing) (xs : List Standing) → x ∷ xs ≡ [] → ⊥
+some-standing x xs h = cc
+
+some-state : (x : Standing) (xs : List Standing) → standing_states (x ∷ xs) ≡ [] → ⊥
+some-state x xs h = cc
+
 -- ---- all lines
 
 module _ (p : Problem) (b : Option ℕ) where
@@ -68,7 +87,7 @@ by-due _ n w h = absurd h
 
 module _ (p : Problem) (b : Option ℕ) (bytes : List ℕ) (o : Option WorkCourse) (g : Gathered) (h : IsGathered p b (map parsed (lines_of bytes)) o g) where
   count : length h.taken ≡ length (lines_of bytes)
-  count = sym (length-map line h.taken) ∙ ap length (sym h.lines) ∙ length-map parsed (lines_of bytes)
+  count = sym (length-map h.taken line) ∙ ap length (sym h.lines) ∙ length-map (lines_of bytes) parsed
 
   led : course p b 0 version_due (lines_of bytes) ≡ reached h.due (length (lines_of bytes))
   led = by-lines p b (lines_of bytes) h.taken 0 version_due h.lines ∙ h.led ∙ ap (λ (n : ℕ). reached h.due n) count
@@ -146,11 +165,9 @@ module _ (p : Problem) (b : Option ℕ) (bytes : List ℕ) (o : Option WorkCours
   pub base_read : length bytes ≤ most_bytes → (n : ℕ) (x : Base) → Finishes o (Ok (Left n)) → cover_in o ≡ Some (loosenings_of x, x.lemmas.items) → base_gathered x ≡ g → x.bound ≡ b → IsBase p b bytes x
   base_read few n x f i j bound =
       let e = is-ended (Left n) f in let k = cover-by n e.loosenings e.value e.told in let t = whole (Left n) e k in
-      let same : Some (e.loosenings, e.lemmas) ≡ Some (loosenings_of x, x.lemmas.items) = sym (cover-stands (Left n) e k) ∙ i in
-      let s : e.loosenings ≡ loosenings_of x = cc in
-      let lemmas : e.lemmas ≡ x.lemmas.items = cc in
+      let same = some-pair e.loosenings (loosenings_of x) e.lemmas x.lemmas.items (sym (cover-stands (Left n) e k) ∙ i) in
       let stays : x.left.items ≡ standing_states (k.first ∷ k.later) = ap (λ (y : Gathered). y.left) j ∙ t.left in
-      let some : (k.first ∷ k.later ≡ []) → ⊥ = λ q. cc in
+      let some : (k.first ∷ k.later ≡ []) → ⊥ = λ q. some-standing k.first k.later q in
       let c : CoverRead = record { loosenings = e.loosenings; lemma_lines = g.lemma_lines; lemmas = e.lemmas; main = g.main; left = k.first ∷ k.later } in
       record {
         read = c;
@@ -160,14 +177,14 @@ module _ (p : Problem) (b : Option ℕ) (bytes : List ℕ) (o : Option WorkCours
           ends = led ∙ ap (λ (d : Due). reached d (length (lines_of bytes))) (due-is (Left n) e k);
         };
         of = record {
-          loosenings = sym s;
+          loosenings = sym same.0;
           lemma_lines = ap (λ (y : Gathered). y.lemma_lines) j;
-          lemmas = sym lemmas;
+          lemmas = sym same.1;
           main = ap (λ (y : Gathered). y.main) j;
           left = stays;
         };
         bound = bound;
-        some = λ q. let r = sym stays ∙ q in cc;
+        some = λ q. some-state k.first k.later (sym stays ∙ q);
       }
 
 -- ---- faults
@@ -187,7 +204,7 @@ module _ (q : Parts) (b : Option ℕ) (bytes : List ℕ) (few : length bytes ≤
       subst (λ (c : Checks). (w ≡ Err Memory) ⊎ IsVerdict (verdict (problem_of c.problem) c.bound bytes) w) checks
       (verdict_is_told new bytes w few (at_fed old new bytes bytes true r (fed old e) (subst (λ (x : Reading). Takes old (map parsed (lines_ahead x)) new r) a t)) (ap (λ (c : Checks). c.later) checks) f)
 
-  as-refusal : (v : Verdict) (f : code.CertFault) → (Err {A = told.Verdict} f ≡ Err Memory) ⊎ IsVerdict v (Err f) → IsRefusalOrMemory v f
+  as-refusal : (v : Verdict) (f : code.CertFault) → ◌≡◌ {A = Result told.Verdict code.CertFault} (Err f) (Err Memory) ⊎ IsVerdict v (Err f) → IsRefusalOrMemory v f
   as-refusal v f (inl e) = inl cc
   as-refusal (accepted s x) f (inr h) = inr h
   as-refusal (refused g n) f (inr h) = inr h
