@@ -1,4 +1,8 @@
+mod Gone
 mod Matches
 mod Owns
 mod Rows
 mod Searched
+mod Texts
+mod Walked
+mod Whole

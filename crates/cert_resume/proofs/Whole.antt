@@ -1,0 +1,83 @@
+-- What is known of a base, and what a cover that goes on from it is.
+use Rattle.std.proofs.Common.{◌≡◌, ℕ, zero, suc, ◌+◌, ◌≤◌, List, [], ◌∷◌, ◌++◌, map, length, All, Option, None, IsTrue, refl, ap, sym, ◌∙◌, subst, arith}
+use Rattle.std.specs.List.{AllByRecursion}
+use Rattle.std.proofs.lemmas.List.{length-map}
+use Rattle.std.proofs.lemmas.List.Elements.{All-map, All-weaker, All-from_recursion, recursion_from_All}
+use Rattle.poly_graph.specs.Problem.{Problem, IsProblem, first_crossed}
+use Rattle.poly_graph.specs.ProblemViews.{Parts, IsWhole, problem_of}
+use Rattle.cover_line.specs.Views.{line_of as rule_of}
+use Rattle.cover_model.specs.State.{State, Loosenings, IsLemma, root_state, covers}
+use Rattle.cover_model.specs.Fits.{FitsProblem}
+use Rattle.cover_model.specs.Rules.{Line}
+use Rattle.cover_model.specs.Derivation.{leaf}
+use Rattle.cover_data.specs.declared.margins.Options.{Options}
+use Rattle.cover_data.specs.Margins.{margins_of, loosenings_of}
+use Rattle.cover_book.specs.Keeps.{IsKeptLemma}
+use Rattle.cover_book.specs.Limits.{IsWithinLimits}
+use Rattle.cert_read.specs.CertLine.{CertLine}
+use Rattle.cert_read.specs.LineText.{IsSpelled}
+use Rattle.cert_model.specs.Accepted.{most_lemmas}
+use Rattle.cert_model.specs.Due.{Standing}
+use Rattle.cert_model.specs.Written.{LemmaTree, lemma_states, left_standing, rule_lines}
+use Rattle.cert_base.specs.Base.{IsBase, IsBaseOf}
+use Rattle.cert_base.specs.declared.base.Base.{Base}
+use Rattle.cert_resumed.specs.Resumed.{CoverRead, IsCoverRead, IsGraft, all_lemmas, in_version_2, leaving_lines, read_lines}
+use Rattle.cert_resumed.proofs.Leaving.{read_is_sound}
+use Rattle.cert_resumed.proofs.LemmaStates.{lemmas_fit}
+use Rattle.cert_resumed.proofs.Stays.{left_stays}
+use Rattle.cert_resumed.proofs.Within.{left_fits}
+use Rattle.cert_resume.specs.Going.{CanBeResumed, IsBegun, IsBegunWith, IsWithinRoot, MayOpen, standings}
+use Rattle.cert_resume.specs.Request.{options_of, loosenings_in}
+use Rattle.cert_resume.specs.declared.going.Going.{Going}
+use Rattle.cert_resume.specs.declared.request.Request.{Request}
+
+standings-back : (left : List Standing) → standings (map (λ (x : Standing). x.does) left) (map (λ (x : Standing). x.state) left) ≡ left
+standings-back [] = refl
+standings-back (x ∷ left) = ap (λ (xs : List Standing). x ∷ xs) (standings-back left)
+
+module _ (q : Parts) (whole : IsWhole q) (base : Base) (r : Request) (limits : IsWithinLimits q (options_of base r)) (bytes : List ℕ) (is : IsBase (problem_of q) base.bound bytes base) where
+  abbrev c : CoverRead
+  c = is.read
+
+  abbrev p : Problem
+  p = problem_of q
+
+  abbrev s : Loosenings
+  s = loosenings_of (margins_of (options_of base r))
+
+  pub same_loosenings : in_version_2 c.loosenings ≡ s
+  same_loosenings = ap in_version_2 (sym is.of.loosenings)
+
+  pub kept : All (IsKeptLemma p s) base.lemmas.items
+  kept = subst (All (IsKeptLemma p s)) (sym is.of.lemmas)
+      (All-weaker (λ (L : State). FitsProblem p L × IsLemma p (in_version_2 c.loosenings) L) (IsKeptLemma p s)
+      (λ L h. record { fits = h.0; lemma = subst (λ (u : Loosenings). IsLemma p u L) same_loosenings h.1 }) c.lemmas (lemmas_fit p whole.problem base.bound bytes c is.is_read))
+
+  pub few : length base.lemmas.items ≤ most_lemmas
+  few = omega (arith, ap (λ (ls : List State). length ls) is.of.lemmas, (read_is_sound p base.bound bytes c is.is_read).few)
+
+  pub is_begun : (g : Going) → IsBegunWith base.lemmas r.budget g → IsBegun q (options_of base r) g
+  is_begun g f = record {
+    may = record { kept = subst (λ v. All (IsKeptLemma p s) v.items) (sym f.lemmas) kept; few = subst (λ v. length v.items ≤ most_lemmas) (sym f.lemmas) few; budget = omega (arith, f.budget) };
+    begun = record { main = f.main; learned = f.learned; lemmas = refl; budget = f.budget; own = f.own; others = f.others };
+  }
+
+  leaving-is : leaving_lines (map rule_of base.main.items) ≡ map (λ (x : Standing). x.does) c.left
+  leaving-is = ap leaving_lines is.of.main ∙ sym (read_is_sound p base.bound bytes c is.is_read).leaving
+
+  pub left_is : standings (leaving_lines (map rule_of base.main.items)) base.left.items ≡ c.left
+  left_is = ap (λ (ks : List Line). standings ks base.left.items) leaving-is ∙ ap (standings (map (λ (x : Standing). x.does) c.left)) is.of.left ∙ standings-back c.left
+
+  -- where the lines of the main tree can be spelled
+  pub can_be_resumed : AllByRecursion IsSpelled (rule_lines c.main) → CanBeResumed q (options_of base r) base.lemmas.items (map rule_of base.main.items) base.left.items
+  can_be_resumed spelled = record {
+    searchable = record { limits = limits; not_crossed = (read_is_sound p base.bound bytes c is.is_read).not_crossed };
+    spelled = subst (λ (ls : List Line). AllByRecursion IsSpelled (rule_lines ls)) (sym is.of.main) spelled;
+    leaves = ap (λ (ls : List Line). length ls) leaving-is ∙ length-map c.left (λ (x : Standing). x.does) ∙ sym (length-map c.left (λ (x : Standing). x.state)) ∙ ap (λ (Ss : List State). length Ss) (sym is.of.left);
+    fits = subst (All (IsWithinRoot q)) (sym is.of.left) (All-map (IsWithinRoot q) (λ (x : Standing). x.state) c.left (left_fits p whole.problem base.bound bytes c is.is_read));
+    stays = λ xs.
+        let P : Loosenings → List State → Standing → Type 0 = λ (u : Loosenings) (ls : List State) (x : Standing). IsGraft p u ls x (leaf x.does) × (left_standing p u ls x.state (leaf x.does) ≡ x ∷ []) in
+        subst (All (P s (base.lemmas.items ++ lemma_states xs))) (sym left_is)
+        (subst (λ (ks : List State). All (P s (ks ++ lemma_states xs)) c.left) (sym is.of.lemmas)
+        (subst (λ (u : Loosenings). All (P u (all_lemmas c xs)) c.left) same_loosenings (left_stays p base.bound bytes c is.is_read xs)));
+  }
