@@ -18,15 +18,15 @@ use Rattle.cert_read.specs.CertLine.{CertLine}
 use Rattle.cert_read.specs.LineText.{IsSpelled}
 use Rattle.cert_model.specs.Accepted.{most_lemmas}
 use Rattle.cert_model.specs.Due.{Standing}
-use Rattle.cert_model.specs.Written.{LemmaTree, lemma_states, left_standing, rule_lines}
+use Rattle.cert_model.specs.Written.{AreLemmaTrees, LemmaTree, lemma_states, left_standing, rule_lines}
 use Rattle.cert_base.specs.Base.{IsBase, IsBaseOf}
 use Rattle.cert_base.specs.declared.base.Base.{Base}
-use Rattle.cert_resumed.specs.Resumed.{CoverRead, IsCoverRead, IsGraft, all_lemmas, in_version_2, leaving_lines, read_lines}
+use Rattle.cert_resumed.specs.Resumed.{AreGrafts, AreShared, CoverRead, IsCoverRead, IsGraft, Share, each_left, all_lemmas, in_version_2, leaving_lines, read_lines}
 use Rattle.cert_resumed.proofs.Leaving.{read_is_sound}
 use Rattle.cert_resumed.proofs.LemmaStates.{lemmas_fit}
 use Rattle.cert_resumed.proofs.Stays.{left_stays}
 use Rattle.cert_resumed.proofs.Within.{left_fits}
-use Rattle.cert_resume.specs.Going.{CanBeResumed, IsBegun, IsBegunWith, IsWithinRoot, MayOpen, standings}
+use Rattle.cert_resume.specs.Going.{CanBeResumed, HasGone, IsBegun, IsBegunWith, IsWithinRoot, MayOpen, standings}
 use Rattle.cert_resume.specs.Request.{options_of, loosenings_in}
 use Rattle.cert_resume.specs.declared.going.Going.{Going}
 use Rattle.cert_resume.specs.declared.request.Request.{Request}
@@ -81,3 +81,30 @@ module _ (q : Parts) (whole : IsWhole q) (base : Base) (r : Request) (limits : I
         (subst (λ (ks : List State). All (P s (ks ++ lemma_states xs)) c.left) (sym is.of.lemmas)
         (subst (λ (u : Loosenings). All (P u (all_lemmas c xs)) c.left) same_loosenings (left_stays p base.bound bytes c is.is_read xs)));
   }
+
+  module _ (h : Share) (g : Going) (gone : HasGone q (options_of base r) h c.lemmas c.main c.left g) where
+    all-states : g.lemmas.items ≡ all_lemmas c gone.lemmas
+    all-states = gone.states
+
+    pub grafts : AreGrafts p (in_version_2 c.loosenings) (all_lemmas c gone.lemmas) c.left gone.trees
+    grafts = subst (λ (u : Loosenings). AreGrafts p u (all_lemmas c gone.lemmas) c.left gone.trees) (sym same_loosenings) (subst (λ (ks : List State). AreGrafts p s ks c.left gone.trees) all-states gone.grafts)
+
+    pub shared : AreShared p r.least_bits (in_version_2 c.loosenings) (all_lemmas c gone.lemmas) h 0 c.left gone.trees
+    shared = subst (λ (u : Loosenings). AreShared p r.least_bits u (all_lemmas c gone.lemmas) h 0 c.left gone.trees) (sym same_loosenings) (subst (λ (ks : List State). AreShared p r.least_bits s ks h 0 c.left gone.trees) all-states gone.shared)
+
+    pub lemma_trees : AreLemmaTrees p (in_version_2 c.loosenings) c.lemmas gone.lemmas
+    lemma_trees = subst (λ (u : Loosenings). AreLemmaTrees p u c.lemmas gone.lemmas) (sym same_loosenings) gone.lemma_trees
+
+    pub all_few : length (all_lemmas c gone.lemmas) ≤ most_lemmas
+    all_few = omega (arith, gone.may.few, ap (λ (ks : List State). length ks) all-states)
+
+    pub each_is : each_left p s g.lemmas.items c.left gone.trees ≡ each_left p (in_version_2 c.loosenings) (all_lemmas c gone.lemmas) c.left gone.trees
+    each_is = ap (λ (ks : List State). each_left p s ks c.left gone.trees) all-states ∙ ap (λ (u : Loosenings). each_left p u (all_lemmas c gone.lemmas) c.left gone.trees) (sym same_loosenings)
+
+  -- the same of the cover that was read
+  pub gone_of : (h : Share) (g : Going) → HasGone q (options_of base r) h base.lemmas.items (map rule_of base.main.items) (standings (leaving_lines (map rule_of base.main.items)) base.left.items) g →
+      HasGone q (options_of base r) h c.lemmas c.main c.left g
+  gone_of h g f =
+      subst (λ (ks : List State). HasGone q (options_of base r) h ks c.main c.left g) is.of.lemmas
+      (subst (λ (ls : List Line). HasGone q (options_of base r) h base.lemmas.items ls c.left g) is.of.main
+      (subst (λ (xs : List Standing). HasGone q (options_of base r) h base.lemmas.items (map rule_of base.main.items) xs g) left_is f))
