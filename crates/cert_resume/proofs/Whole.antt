@@ -1,5 +1,5 @@
 -- What is known of a base, and what a cover that goes on from it is.
-use Rattle.std.proofs.Common.{◌≡◌, ℕ, zero, suc, ◌+◌, ◌≤◌, List, [], ◌∷◌, ◌++◌, map, length, All, Option, None, IsTrue, refl, ap, sym, ◌∙◌, subst, arith}
+use Rattle.std.proofs.Common.{◌≡◌, ℕ, zero, suc, ◌+◌, ◌≤◌, List, [], ◌∷◌, ◌++◌, map, length, All, Option, None, IsTrue, refl, ap, ap₂, sym, ◌∙◌, subst, arith}
 use Rattle.std.specs.List.{AllByRecursion}
 use Rattle.std.proofs.lemmas.List.{length-map}
 use Rattle.std.proofs.lemmas.List.Elements.{All-map, All-weaker, All-from_recursion, recursion_from_All}
@@ -14,20 +14,23 @@ use Rattle.cover_data.specs.declared.margins.Options.{Options}
 use Rattle.cover_data.specs.Margins.{margins_of, loosenings_of}
 use Rattle.cover_book.specs.Keeps.{IsKeptLemma}
 use Rattle.cover_book.specs.Limits.{IsWithinLimits}
-use Rattle.cert_read.specs.CertLine.{CertLine}
+use Rattle.cert_read.specs.CertLine.{CertLine, version, margin, delta, bound, cover, tree_word, end_word}
+use Rattle.cert_read.specs.Views.{line_of}
 use Rattle.cert_read.specs.LineText.{IsSpelled}
-use Rattle.cert_model.specs.Accepted.{most_lemmas}
+use Rattle.cert_model.specs.Accepted.{certificate_text, most_bytes, most_lemmas}
 use Rattle.cert_model.specs.Due.{Standing}
-use Rattle.cert_model.specs.Written.{AreLemmaTrees, LemmaTree, lemma_states, left_standing, rule_lines}
+use Rattle.cert_model.specs.Written.{AreLemmaTrees, LemmaTree, lemma_states, lemmas_lines, left_standing, rule_lines}
 use Rattle.cert_base.specs.Base.{IsBase, IsBaseOf}
 use Rattle.cert_base.specs.declared.base.Base.{Base}
-use Rattle.cert_resumed.specs.Resumed.{AreGrafts, AreShared, CoverRead, IsCoverRead, IsGraft, Share, each_left, all_lemmas, in_version_2, leaving_lines, read_lines}
+use Rattle.cert_resumed.specs.Resumed.{grafted, resumed_text, AreGrafts, AreShared, CoverRead, IsCoverRead, IsGraft, Share, each_left, all_lemmas, in_version_2, leaving_lines, read_lines}
 use Rattle.cert_resumed.proofs.Leaving.{read_is_sound}
 use Rattle.cert_resumed.proofs.LemmaStates.{lemmas_fit}
 use Rattle.cert_resumed.proofs.Stays.{left_stays}
 use Rattle.cert_resumed.proofs.Within.{left_fits}
 use Rattle.cert_resume.specs.Going.{CanBeResumed, HasGone, IsBegun, IsBegunWith, IsWithinRoot, MayOpen, standings}
 use Rattle.cert_resume.specs.Request.{options_of, loosenings_in}
+use Rattle.cert_resume.specs.Text.{header_lines, whole_text}
+use Rattle.cert_text.proofs.Spelling.{text_append}
 use Rattle.cert_resume.specs.declared.going.Going.{Going}
 use Rattle.cert_resume.specs.declared.request.Request.{Request}
 
@@ -108,3 +111,27 @@ module _ (q : Parts) (whole : IsWhole q) (base : Base) (r : Request) (limits : I
       subst (λ (ks : List State). HasGone q (options_of base r) h ks c.main c.left g) is.of.lemmas
       (subst (λ (ls : List Line). HasGone q (options_of base r) h base.lemmas.items ls c.left g) is.of.main
       (subst (λ (xs : List Standing). HasGone q (options_of base r) h base.lemmas.items (map rule_of base.main.items) xs g) left_is f))
+
+  -- where the lines that were read can be spelled, the text that was written is that of a cover that goes on
+  module _ (h : Share) (g : Going) (gone : HasGone q (options_of base r) h c.lemmas c.main c.left g) (spelled : AllByRecursion IsSpelled (read_lines base.bound c)) (cert : List ℕ)
+      (text : cert ≡ whole_text (options_of base r) (map line_of base.lemma_lines.items) g) (short : length cert ≤ most_bytes) where
+    abbrev xs : List LemmaTree
+    xs = gone.lemmas
+
+    abbrev n : ℕ
+    n = length (all_lemmas c xs)
+
+    heads : header_lines (options_of base r) (length g.lemmas.items) ≡ version 2 ∷ margin c.loosenings.margin_bits ∷ delta c.loosenings.delta_bits ∷ bound base.bound ∷ cover n ∷ []
+    heads = ap (λ (k : ℕ). header_lines (options_of base r) k) (ap (λ (ks : List State). length ks) (all-states h g gone))
+        ∙ ap (λ (u : Loosenings). version 2 ∷ margin u.margin_bits ∷ delta u.delta_bits ∷ bound base.bound ∷ cover n ∷ []) is.of.loosenings
+
+    four : (A B C D E F : List CertLine) → certificate_text (A ++ (B ++ (C ++ (D ++ (E ++ F))))) ≡ certificate_text A ++ (certificate_text B ++ (certificate_text C ++ (certificate_text D ++ (certificate_text E ++ certificate_text F))))
+    four A B C D E F = text_append A (B ++ (C ++ (D ++ (E ++ F)))) ∙ ap (λ (t : List ℕ). certificate_text A ++ t) (text_append B (C ++ (D ++ (E ++ F)))
+        ∙ ap (λ (t : List ℕ). certificate_text B ++ t) (text_append C (D ++ (E ++ F)) ∙ ap (λ (t : List ℕ). certificate_text C ++ t) (text_append D (E ++ F) ∙ ap (λ (t : List ℕ). certificate_text D ++ t) (text_append E F))))
+
+    pub text_is : cert ≡ resumed_text base.bound c xs gone.trees
+    text_is = text
+        ∙ ap (λ (ls : List CertLine). certificate_text ls ++ (certificate_text (map line_of base.lemma_lines.items) ++ (g.learned.items ++ (certificate_text (tree_word ∷ []) ++ (g.main.items ++ certificate_text (end_word ∷ [])))))) heads
+        ∙ ap (λ (ls : List CertLine). certificate_text (version 2 ∷ margin c.loosenings.margin_bits ∷ delta c.loosenings.delta_bits ∷ bound base.bound ∷ cover n ∷ []) ++ (certificate_text ls ++ (g.learned.items ++ (certificate_text (tree_word ∷ []) ++ (g.main.items ++ certificate_text (end_word ∷ [])))))) is.of.lemma_lines
+        ∙ ap₂ (λ (a b : List ℕ). certificate_text (version 2 ∷ margin c.loosenings.margin_bits ∷ delta c.loosenings.delta_bits ∷ bound base.bound ∷ cover n ∷ []) ++ (certificate_text c.lemma_lines ++ (a ++ (certificate_text (tree_word ∷ []) ++ (b ++ certificate_text (end_word ∷ [])))))) gone.learned.written gone.main.written
+        ∙ sym (four (version 2 ∷ margin c.loosenings.margin_bits ∷ delta c.loosenings.delta_bits ∷ bound base.bound ∷ cover n ∷ []) c.lemma_lines (lemmas_lines (length c.lemmas) xs) (tree_word ∷ []) (rule_lines (grafted c.main gone.trees)) (end_word ∷ []))
