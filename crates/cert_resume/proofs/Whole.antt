@@ -16,13 +16,13 @@ use Rattle.cover_book.specs.Keeps.{IsKeptLemma}
 use Rattle.cover_book.specs.Limits.{IsWithinLimits}
 use Rattle.cert_read.specs.CertLine.{CertLine, version, margin, delta, bound, cover, tree_word, end_word}
 use Rattle.cert_read.specs.Views.{line_of}
-use Rattle.cert_read.specs.LineText.{IsSpelled}
-use Rattle.cert_model.specs.Accepted.{certificate_text, most_bytes, most_lemmas}
-use Rattle.cert_model.specs.Due.{Standing}
+use Rattle.cert_read.specs.LineText.{IsCount, IsSpelled}
+use Rattle.cert_model.specs.Accepted.{IsAccepted, certificate_text, most_bytes, most_lemmas}
+use Rattle.cert_model.specs.Due.{Standing, left_open}
 use Rattle.cert_model.specs.Written.{AreLemmaTrees, LemmaTree, lemma_states, lemmas_lines, left_standing, rule_lines}
 use Rattle.cert_base.specs.Base.{IsBase, IsBaseOf}
 use Rattle.cert_base.specs.declared.base.Base.{Base}
-use Rattle.cert_resumed.specs.Resumed.{grafted, resumed_text, AreGrafts, AreShared, CoverRead, IsCoverRead, IsGraft, Share, each_left, all_lemmas, in_version_2, leaving_lines, read_lines}
+use Rattle.cert_resumed.specs.Resumed.{IsResumption, grafted, joined, own_left, resumed_lines, resumed_text, AreGrafts, AreShared, CoverRead, IsCoverRead, IsGraft, Share, each_left, all_lemmas, in_version_2, leaving_lines, read_lines}
 use Rattle.cert_resumed.proofs.Leaving.{read_is_sound}
 use Rattle.cert_resumed.proofs.LemmaStates.{lemmas_fit}
 use Rattle.cert_resumed.proofs.Stays.{left_stays}
@@ -30,9 +30,21 @@ use Rattle.cert_resumed.proofs.Within.{left_fits}
 use Rattle.cert_resume.specs.Going.{CanBeResumed, HasGone, IsBegun, IsBegunWith, IsWithinRoot, MayOpen, standings}
 use Rattle.cert_resume.specs.Request.{options_of, loosenings_in}
 use Rattle.cert_resume.specs.Text.{header_lines, whole_text}
-use Rattle.cert_text.proofs.Spelling.{text_append}
+use Rattle.cert_model.specs.AnswerText.{has_open}
+use Rattle.cert_model.specs.Laws.{CanBeWritten}
+use Rattle.cert_resumed.specs.Laws.{GoesOn}
+use Rattle.cert_resumed.proofs.Resumes.{resumed_accepted}
+use Rattle.cert_text.proofs.Spelling.{decimal_short, text_append}
 use Rattle.cert_resume.specs.declared.going.Going.{Going}
 use Rattle.cert_resume.specs.declared.request.Request.{Request}
+
+all-first : (xs ys : List CertLine) → AllByRecursion IsSpelled (xs ++ ys) → AllByRecursion IsSpelled xs
+all-first [] ys k = tt
+all-first (x ∷ xs) ys k = (k.0, all-first xs ys k.1)
+
+all-both : (xs ys : List CertLine) → AllByRecursion IsSpelled xs → AllByRecursion IsSpelled ys → AllByRecursion IsSpelled (xs ++ ys)
+all-both [] ys k j = j
+all-both (x ∷ xs) ys k j = (k.0, all-both xs ys k.1 j)
 
 standings-back : (left : List Standing) → standings (map (λ (x : Standing). x.does) left) (map (λ (x : Standing). x.state) left) ≡ left
 standings-back [] = refl
@@ -135,3 +147,37 @@ module _ (q : Parts) (whole : IsWhole q) (base : Base) (r : Request) (limits : I
         ∙ ap (λ (ls : List CertLine). certificate_text (version 2 ∷ margin c.loosenings.margin_bits ∷ delta c.loosenings.delta_bits ∷ bound base.bound ∷ cover n ∷ []) ++ (certificate_text ls ++ (g.learned.items ++ (certificate_text (tree_word ∷ []) ++ (g.main.items ++ certificate_text (end_word ∷ [])))))) is.of.lemma_lines
         ∙ ap₂ (λ (a b : List ℕ). certificate_text (version 2 ∷ margin c.loosenings.margin_bits ∷ delta c.loosenings.delta_bits ∷ bound base.bound ∷ cover n ∷ []) ++ (certificate_text c.lemma_lines ++ (a ++ (certificate_text (tree_word ∷ []) ++ (b ++ certificate_text (end_word ∷ [])))))) gone.learned.written gone.main.written
         ∙ sym (four (version 2 ∷ margin c.loosenings.margin_bits ∷ delta c.loosenings.delta_bits ∷ bound base.bound ∷ cover n ∷ []) c.lemma_lines (lemmas_lines (length c.lemmas) xs) (tree_word ∷ []) (rule_lines (grafted c.main gone.trees)) (end_word ∷ []))
+
+    before-rest : AllByRecursion IsSpelled c.lemma_lines
+    before-rest = all-first c.lemma_lines (tree_word ∷ (rule_lines c.main ++ (end_word ∷ []))) spelled.1.1.1.1.1
+
+    two-spelled : IsSpelled (version 2)
+    two-spelled = let k : IsCount 2 = omega arith in (k, omega (arith, decimal_short 2 k))
+
+    count-spelled : IsSpelled (cover n)
+    count-spelled = let k : IsCount n = omega (arith, all_few h g gone) in (k, omega (arith, decimal_short n k))
+
+    pub can_be_written : CanBeWritten (resumed_lines base.bound c xs gone.trees)
+    can_be_written = (
+      (two-spelled, (spelled.1.0, (spelled.1.1.0, (spelled.1.1.1.0, (count-spelled,
+      all-both c.lemma_lines _ before-rest (all-both (lemmas_lines (length c.lemmas) xs) _ gone.learned.spelled
+      ((tt, omega arith), all-both (rule_lines (grafted c.main gone.trees)) (end_word ∷ []) gone.main.spelled ((tt, omega arith), tt)))))))),
+      subst (λ (t : List ℕ). length t ≤ most_bytes) text_is short)
+
+    goes : GoesOn p base.bound bytes c xs gone.trees
+    goes = record { read = is.is_read; few = all_few h g gone; lemmas = lemma_trees h g gone; grafts = grafts h g gone; written = can_be_written }
+
+    -- so it is one that goes on
+    pub resumption : IsResumption p base.bound r.least_bits r.budget h bytes cert
+    resumption = record {
+      read = c;
+      is_read = is.is_read;
+      lemmas = xs;
+      trees = gone.trees;
+      text = text_is;
+      accepted = subst (λ (t : List ℕ). IsAccepted p base.bound t (in_version_2 c.loosenings) (left_open (joined (each_left p (in_version_2 c.loosenings) (all_lemmas c xs) c.left gone.trees)))) (sym text_is)
+          (resumed_accepted p base.bound bytes c xs gone.trees goes);
+      shared = shared h g gone;
+      within = omega (arith, gone.budget);
+      spent = λ k. omega (arith, gone.budget, gone.spent (ap (λ (xss : List (List Standing)). has_open (own_left h 0 xss)) (each_is h g gone) ∙ k));
+    }
