@@ -3,6 +3,7 @@ mod Matches
 mod Owns
 mod Rows
 mod Searched
+mod Spelled
 mod Texts
 mod Walked
 mod Whole

@@ -46,6 +46,11 @@ all-both : (xs ys : List CertLine) → AllByRecursion IsSpelled xs → AllByRecu
 all-both [] ys k j = j
 all-both (x ∷ xs) ys k j = (k.0, all-both xs ys k.1 j)
 
+-- the lines of the main tree, among those that were read
+pub first_main : (xs : List CertLine) (ls : List Line) → AllByRecursion IsSpelled (xs ++ (tree_word ∷ (rule_lines ls ++ (end_word ∷ [])))) → AllByRecursion IsSpelled (rule_lines ls)
+first_main [] ls k = all-first (rule_lines ls) (end_word ∷ []) k.1
+first_main (x ∷ xs) ls k = first_main xs ls k.1
+
 standings-back : (left : List Standing) → standings (map (λ (x : Standing). x.does) left) (map (λ (x : Standing). x.state) left) ≡ left
 standings-back [] = refl
 standings-back (x ∷ left) = ap (λ (xs : List Standing). x ∷ xs) (standings-back left)
@@ -159,10 +164,25 @@ module _ (q : Parts) (whole : IsWhole q) (base : Base) (r : Request) (limits : I
 
     pub can_be_written : CanBeWritten (resumed_lines base.bound c xs gone.trees)
     can_be_written = (
-      (two-spelled, (spelled.1.0, (spelled.1.1.0, (spelled.1.1.1.0, (count-spelled,
-      all-both c.lemma_lines _ before-rest (all-both (lemmas_lines (length c.lemmas) xs) _ gone.learned.spelled
-      ((tt, omega arith), all-both (rule_lines (grafted c.main gone.trees)) (end_word ∷ []) gone.main.spelled ((tt, omega arith), tt)))))))),
-      subst (λ (t : List ℕ). length t ≤ most_bytes) text_is short)
+      (
+        two-spelled,
+        (
+          spelled.1.0,
+          (
+            spelled.1.1.0,
+            (
+              spelled.1.1.1.0,
+              (
+                count-spelled,
+                all-both c.lemma_lines _ before-rest (all-both (lemmas_lines (length c.lemmas) xs) _ gone.learned.spelled
+                    ((tt, omega arith), all-both (rule_lines (grafted c.main gone.trees)) (end_word ∷ []) gone.main.spelled ((tt, omega arith), tt))),
+              ),
+            ),
+          ),
+        ),
+      ),
+      subst (λ (t : List ℕ). length t ≤ most_bytes) text_is short,
+    )
 
     goes : GoesOn p base.bound bytes c xs gone.trees
     goes = record { read = is.is_read; few = all_few h g gone; lemmas = lemma_trees h g gone; grafts = grafts h g gone; written = can_be_written }
