@@ -1,4 +1,9 @@
+mod Gone
 mod Matches
 mod Owns
 mod Rows
 mod Searched
+mod Spelled
+mod Texts
+mod Walked
+mod Whole

@@ -6,6 +6,7 @@
 #![tactic(auto)]
 
 mod answer;
+mod facts;
 mod going;
 mod leaf;
 mod request;

@@ -8,6 +8,7 @@ ghost use Rattle.cert_resume.specs.Going.{IsBegunWith};
 ghost use Rattle.cert_resume.specs.Request.{IsShare, options_of};
 
 use crate::answer::{Cover, Own, Resumed};
+use crate::facts::is_whole;
 use crate::going::Going;
 use crate::leaf::Task;
 use crate::request::{Request, options_with};
@@ -50,6 +51,7 @@ pub fn resume<S: Searcher>(
     requires read { (bytes : List ℕ) × IsBase (problem_of problem.now) base.bound bytes base }
     ensures { IfOk result (IsResumedFrom (problem_of problem.now) base request) }
 {
+    is_whole(problem);
     let options = options_with(&base, request, request.budget);
     let share = request.share;
     let task = Task {

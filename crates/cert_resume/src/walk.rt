@@ -41,11 +41,10 @@ pub(crate) fn walk<S: Searcher>(
     let mut place = 0;
     for rule in main {
         if is_leaving(rule) {
-            let point = pass_leaf(going, task, searcher, place, rule, &left[place])?;
-            if point.is_some() {
-                return Ok(point);
+            match pass_leaf(going, task, searcher, place, rule, &left[place])? {
+                Some(point) => return Ok(Some(point)),
+                None => place += 1,
             }
-            place += 1;
         } else {
             append_rule(&mut going.main, rule)?;
         }

@@ -1,0 +1,32 @@
+use Rattle.std.proofs.Common.{List, map, sym, subst}
+use Rattle.std.specs.Prelude.{Vec}
+use Rattle.std.specs.Global.{Global}
+use Rattle.poly_graph.specs.ProblemViews.{problem_of}
+use Rattle.cover_line.specs.declared.rule.Rule.{Rule}
+use Rattle.cover_line.specs.Views.{line_of}
+use Rattle.cover_model.specs.State.{State}
+use Rattle.cover_data.specs.declared.stored.StoredState.{StoredState}
+use Rattle.cert_resume.specs.Request.{options_of}
+use Rattle.cover_data.specs.declared.margins.Options.{Options}
+use Rattle.cert_resume.specs.Going.{CanBeResumed, IsBegun}
+use Rattle.cert_resume.proofs.Spelled.{read_spelled}
+use Rattle.cert_resume.proofs.Whole.{is_begun, can_be_resumed, first_main}
+use Rattle.cert_resume.proofs.resumption.resume.Goals as goal
+
+pub walk-requires-clause-begun : goal.walk-requires-clause-begun
+walk-requires-clause-begun g c = subst (λ (u : Options). IsBegun c.args.problem.now u c.begun-going.result) (sym c.options_with-options.ensures)
+    (is_begun c.args.problem.now c.is_whole.ensures c.args.base c.args.request c.requires.limits c.requires.read.0 c.requires.read.1 c.begun-going.result c.begun-going.ensures)
+
+pub walk-requires-clause-can : goal.walk-requires-clause-can
+walk-requires-clause-can g c =
+    let q = c.args.problem.now in let base = c.args.base in let is = c.requires.read.1 in
+    let spelled = read_spelled (problem_of q) base.bound c.requires.read.0 is.read is.is_read in
+    let main = first_main is.read.lemma_lines is.read.main spelled.1.1.1.1.1 in
+    subst (λ (u : Options). CanBeResumed q u c.begun-going.result.lemmas.items (map line_of c.deref.result.now) c.deref-2.result.now) (sym c.options_with-options.ensures)
+    (subst (λ (v : Vec StoredState Global). CanBeResumed q (options_of base c.args.request) v.items (map line_of c.deref.result.now) c.deref-2.result.now) (sym c.begun-going.ensures.lemmas)
+    (subst (λ (rs : List Rule). CanBeResumed q (options_of base c.args.request) base.lemmas.items (map line_of rs) c.deref-2.result.now) (sym c.deref.ensures.value)
+    (subst (λ (Ss : List State). CanBeResumed q (options_of base c.args.request) base.lemmas.items (map line_of base.main.items) Ss) (sym c.deref-2.ensures.value)
+    (can_be_resumed q c.is_whole.ensures base c.args.request c.requires.limits c.requires.read.0 is main))))
+
+pub returns : goal.returns
+returns g c = ?
