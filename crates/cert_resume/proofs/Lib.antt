@@ -1,9 +1,13 @@
 mod Gone
 mod Matches
+mod OneSpelling
 mod Owns
+mod Parted
 mod Rows
 mod Searched
 mod Spelled
+mod SpelledNumbers
 mod Texts
 mod Walked
 mod Whole
+mod WordsBack
