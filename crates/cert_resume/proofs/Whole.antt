@@ -22,13 +22,16 @@ use Rattle.cert_model.specs.Due.{Standing, left_open}
 use Rattle.cert_model.specs.Written.{AreLemmaTrees, LemmaTree, lemma_states, lemmas_lines, left_standing, rule_lines}
 use Rattle.cert_base.specs.Base.{IsBase, IsBaseOf}
 use Rattle.cert_base.specs.declared.base.Base.{Base}
-use Rattle.cert_resumed.specs.Resumed.{IsResumption, grafted, joined, own_left, resumed_lines, resumed_text, AreGrafts, AreShared, CoverRead, IsCoverRead, IsGraft, Share, each_left, all_lemmas, in_version_2, leaving_lines, read_lines}
+use Rattle.cert_resumed.specs.Resumed.{IsResumption, grafted, joined, others, own_left, resumed_lines, resumed_text, AreGrafts, AreShared, CoverRead, IsCoverRead, IsGraft, Share, each_left, all_lemmas, in_version_2, leaving_lines, read_lines}
 use Rattle.cert_resumed.proofs.Leaving.{read_is_sound}
 use Rattle.cert_resumed.proofs.LemmaStates.{lemmas_fit}
 use Rattle.cert_resumed.proofs.Stays.{left_stays}
 use Rattle.cert_resumed.proofs.Within.{left_fits}
 use Rattle.cert_resume.specs.Going.{CanBeResumed, HasGone, IsBegun, IsBegunWith, IsWithinRoot, MayOpen, standings}
-use Rattle.cert_resume.specs.Request.{options_of, loosenings_in}
+use Rattle.cert_resume.specs.Answer.{IsResumedCover, TellsOfOwn}
+use Rattle.cert_resume.specs.Request.{options_of, loosenings_in, share_of}
+use Rattle.cert_resume.specs.declared.answer.Cover.{Cover}
+use Rattle.cert_resume.specs.declared.answer.Own.{Own}
 use Rattle.cert_resume.specs.Text.{header_lines, whole_text}
 use Rattle.cert_model.specs.AnswerText.{has_open}
 use Rattle.cert_model.specs.Laws.{CanBeWritten}
@@ -201,3 +204,14 @@ module _ (q : Parts) (whole : IsWhole q) (base : Base) (r : Request) (limits : I
       within = omega (arith, gone.budget);
       spent = λ k. omega (arith, gone.budget, gone.spent (ap (λ (xss : List (List Standing)). has_open (own_left h 0 xss)) (each_is h g gone) ∙ k));
     }
+
+  -- with what was gone through, it is what the base is resumed to
+  pub is_resumed_cover : (x : Cover) (g : Going) (gone : HasGone q (options_of base r) (share_of r.share) c.lemmas c.main c.left g) → AllByRecursion IsSpelled (read_lines base.bound c) →
+      x.cert.items ≡ whole_text (options_of base r) (map line_of base.lemma_lines.items) g → length x.cert.items ≤ most_bytes → x.own ≡ g.own → x.others ≡ g.others → IsResumedCover p base.bound r bytes x
+  unfolding resumption
+  is_resumed_cover x g gone spelled text short own-is others-is = let h = share_of r.share in record {
+    resumption = resumption h g gone spelled x.cert.items text short;
+    own = subst (λ (y : Own). TellsOfOwn y (own_left h 0 (each_left p (in_version_2 c.loosenings) (all_lemmas c gone.lemmas) c.left gone.trees))) (sym own-is)
+        (subst (λ (xss : List (List Standing)). TellsOfOwn g.own (own_left h 0 xss)) (each_is h g gone) gone.own);
+    others = others-is ∙ gone.others ∙ ap (λ (xss : List (List Standing)). others h 0 xss) (each_is h g gone);
+  }

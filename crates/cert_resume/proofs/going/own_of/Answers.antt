@@ -1,6 +1,5 @@
-use Rattle.std.proofs.Common.{◌≡◌, sym, ◌∙◌, subst}
+use Rattle.std.proofs.Common.{sym, ◌∙◌, subst}
 use Rattle.cover_model.specs.State.{State}
-use Rattle.cert_text.specs.Stuck.{IsFirstStuck}
 use Rattle.cert_resume.specs.Going.{IsOwnOf}
 use Rattle.cert_resume.specs.declared.answer.Own.TheVariants as own
 use Rattle.cert_resume.proofs.Matches.{none_of, some_of}

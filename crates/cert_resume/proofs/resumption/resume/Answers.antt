@@ -1,16 +1,22 @@
-use Rattle.std.proofs.Common.{List, map, sym, subst}
+use Rattle.std.proofs.Common.{◌≡◌, List, map, refl, ap, sym, ◌∙◌, subst}
 use Rattle.std.specs.Prelude.{Vec}
 use Rattle.std.specs.Global.{Global}
 use Rattle.poly_graph.specs.ProblemViews.{problem_of}
 use Rattle.cover_line.specs.declared.rule.Rule.{Rule}
 use Rattle.cover_line.specs.Views.{line_of}
 use Rattle.cover_model.specs.State.{State}
+use Rattle.cert_read.specs.Views.{line_of as read_line}
+use Rattle.cert_read.specs.declared.line.Line.{Line}
+use Rattle.cert_resumed.specs.Resumed.{leaving_lines}
 use Rattle.cover_data.specs.declared.stored.StoredState.{StoredState}
-use Rattle.cert_resume.specs.Request.{options_of}
+use Rattle.cert_resume.specs.Request.{options_of, share_of}
+use Rattle.cert_resume.specs.Text.{whole_text}
+use Rattle.cert_resume.specs.declared.going.Going.{Going}
 use Rattle.cover_data.specs.declared.margins.Options.{Options}
-use Rattle.cert_resume.specs.Going.{CanBeResumed, IsBegun}
+use Rattle.cert_resume.specs.Going.{CanBeResumed, HasGone, IsBegun, standings}
+use Rattle.cert_resume.proofs.Matches.{none_of}
 use Rattle.cert_resume.proofs.Spelled.{read_spelled}
-use Rattle.cert_resume.proofs.Whole.{is_begun, can_be_resumed, first_main}
+use Rattle.cert_resume.proofs.Whole.{is_begun, can_be_resumed, first_main, gone_of, is_resumed_cover}
 use Rattle.cert_resume.proofs.resumption.resume.Goals as goal
 
 pub walk-requires-clause-begun : goal.walk-requires-clause-begun
@@ -29,4 +35,17 @@ walk-requires-clause-can g c =
     (can_be_resumed q c.is_whole.ensures base c.args.request c.requires.limits c.requires.read.0 is main))))
 
 pub returns : goal.returns
-returns g c = ?
+returns g c = λ bytes is.
+    let q = c.args.problem.now in let base = c.args.base in let r = c.args.request in let h = share_of r.share in let x : Going = c.walk.new.going in
+    let spelled = read_spelled (problem_of q) base.bound bytes is.read is.is_read in
+    let walked : HasGone q (options_of base r) h base.lemmas.items (map line_of base.main.items) (standings (leaving_lines (map line_of base.main.items)) base.left.items) x =
+    subst (λ (Ss : List State). HasGone q (options_of base r) h base.lemmas.items (map line_of base.main.items) (standings (leaving_lines (map line_of base.main.items)) Ss) x) c.deref-2.ensures.value
+    (subst (λ (rs : List Rule). HasGone q (options_of base r) h base.lemmas.items (map line_of rs) (standings (leaving_lines (map line_of rs)) c.deref-2.result.now) x) c.deref.ensures.value
+    (subst (λ (v : Vec StoredState Global). HasGone q (options_of base r) h v.items (map line_of c.deref.result.now) (standings (leaving_lines (map line_of c.deref.result.now)) c.deref-2.result.now) x) c.begun-going.ensures.lemmas
+    (subst (λ (u : Options). HasGone q u h c.begun-going.result.lemmas.items (map line_of c.deref.result.now) (standings (leaving_lines (map line_of c.deref.result.now)) c.deref-2.result.now) x) c.options_with-options.ensures
+    (none_of _ _ _ c.in-None.is c.in_ok-point.ensures)))) in
+    let gone = gone_of q c.is_whole.ensures base r c.requires.limits bytes is h x walked in
+    let text : c.in_ok-cert-in-None.cert.items ≡ whole_text (options_of base r) (map read_line base.lemma_lines.items) x =
+    c.in_ok-cert-in-None.ensures.text ∙ ap (λ (u : Options). whole_text u (map read_line c.deref-in-None.result.now) x) c.options_with-options.ensures
+    ∙ ap (λ (ls : List Line). whole_text (options_of base r) (map read_line ls) x) c.deref-in-None.ensures.value in
+    is_resumed_cover q c.is_whole.ensures base r c.requires.limits bytes is (record { cert = c.in_ok-cert-in-None.cert; own = x.own; others = x.others }) x gone spelled text c.in_ok-cert-in-None.ensures.fits refl refl
