@@ -1,6 +1,5 @@
 mod Gone
 mod Matches
-mod OneSpelling
 mod Owns
 mod Parted
 mod Rows

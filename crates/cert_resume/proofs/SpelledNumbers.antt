@@ -16,7 +16,7 @@ use Rattle.cert_read.specs.CertLine.{is_plain, if_below, if_plain, count_of, if_
 use Rattle.cert_read.specs.Lines.{all_bytes}
 use Rattle.cert_read.specs.LineText.{is_word_byte, pair_words, IsCount, IsSpelledNumber, IsSpelledPair}
 use Rattle.cert_read.proofs.Spelled.{IsCleanWord, AreCleanWords}
-use Rattle.cert_resume.proofs.OneSpelling.{only_spellings}
+use Rattle.spelling_law.proofs.Read.{only_spellings}
 
 -- ---- plain numbers
 

@@ -3,7 +3,7 @@ ghost use Rattle.std.specs.Prelude.{◌≡◌, [], ◌∷◌, Bool, List, None, 
 ghost use Rattle.command_line.specs.declared.request.Options.{Options};
 ghost use Rattle.cert_model.specs.Due.{left_open};
 ghost use Rattle.cover_book.specs.Keeps.{IsBook};
-ghost use Rattle.cover_book.specs.Model.{problem_in};
+ghost use Rattle.cover_book.specs.Model.{IsOfRoot, problem_in};
 ghost use Rattle.cover_book.specs.Session.{AreBooksOf};
 ghost use Rattle.poly_graph.specs.ProblemViews.{Parts};
 ghost use Rattle.problem_session.specs.Session.{problems_of};
@@ -94,6 +94,7 @@ fn left_text(alloc: Global, book: &Book, options: &Options) -> Result<Vec<u8>, A
 pub fn tell(alloc: Global, book: &Book, options: &Options) -> Result<SearchAnswer, AllocError>
     requires left { IsLeftBy options.now book.now }
     requires alone { book.now.kept ≡ [] }
+    requires root { IsOfRoot book.now }
     ensures { IfOk result (λ told. IsSearchAnswer (problem_in book.now) options.now told) }
 {
     book_is_sound(book);
@@ -155,6 +156,7 @@ pub fn tell_all(
 pub fn whole_cover(alloc: Global, book: &Book) -> Result<Vec<u8>, AllocError>
     requires unsat { verdict_of book.now ≡ verdict.Unsat }
     requires alone { book.now.kept ≡ [] }
+    requires root { IsOfRoot book.now }
     ensures { IfOk result (λ cert. (options : Options) → IsLeftBy options book.now →
         IsAnswer (problem_in book.now) options cert.items (left_open [])) }
 {

@@ -10,6 +10,7 @@ ghost use Rattle.check_run.specs.Can.{CanSolve, CanDemo};
 ghost use Rattle.check_run.specs.Run.{DemoHasCause, SameIn, SolveHasCause};
 ghost use Rattle.check_run.specs.Script.{AreWithin, IsWithin};
 ghost use Rattle.cert_model.specs.SessionLaws.{IsSession};
+ghost use Rattle.cover_book.specs.Model.{IsOfRoot};
 ghost use Rattle.cover_book.specs.Session.{AreBooksOf};
 ghost use Rattle.problem_session.specs.Session.{problems_of};
 ghost use Rattle.dpoly.specs.Search.{search_options as options_of, AreLeftBy, AreSearchAnswers, IsLeftBy, IsSearchAnswer};
@@ -39,6 +40,7 @@ fn search<R: Threads + Wait + Sync, G: Gate + Sync>(
     ensures problem { IfOk result (λ b. b.problem ≡ problem.now) }
     ensures left { IfOk result (λ b. IsLeftBy options.now b) }
     ensures alone { IfOk result (λ b. b.kept ≡ []) }
+    ensures root { IfOk result (λ b. IsOfRoot b) }
 {
     let asked = search_options(options);
     solve_core::solve(rt, alloc, problem, &asked, gate)

@@ -1,1 +1,1 @@
-mod Read
+pub mod Read

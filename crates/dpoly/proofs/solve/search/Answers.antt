@@ -1,6 +1,8 @@
-use Rattle.std.proofs.Common.{rules, subst, sym}
+use Rattle.std.proofs.Common.{rules, ap, subst, sym, ◌∙◌}
 use Rattle.cover_data.specs.declared.margins.Options.{Options}
 use Rattle.cover_book.specs.Limits.{IsWithinLimits}
+use Rattle.cover_model.specs.State.{root_state}
+use Rattle.poly_graph.specs.ProblemViews.{Parts, problem_of}
 use Rattle.std.proofs.lemmas.Result.{IfOk-weaker}
 use Rattle.cover_book.specs.Model.{BookModel}
 use Rattle.solve_core.proofs.Reached.{reaches_same}
@@ -15,3 +17,7 @@ solve-requires g c =
 
 pub returns-clause-alone : goal.returns-clause-alone
 returns-clause-alone g c = IfOk-weaker _ _ _ (λ (b : BookModel) h. (reaches_same h).2) c.solve.ensures.reached
+
+pub returns-clause-root : goal.returns-clause-root
+returns-clause-root g c =
+    IfOk-weaker _ _ _ (λ (b : BookModel) h. let e = reaches_same h in e.3 ∙ ap (λ (q : Parts). root_state (problem_of q)) (sym e.0)) c.solve.ensures.reached
