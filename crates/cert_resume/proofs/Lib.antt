@@ -1,0 +1,4 @@
+mod Matches
+mod Owns
+mod Rows
+mod Searched

@@ -1,9 +1,8 @@
 // How far a cover is gone through.
-ghost use Rattle.std.specs.Prelude.{◌≡◌, ◌≢◌, ◌≤◌, IfOk, MatchOption, None, OnOk, Some};
+ghost use Rattle.std.specs.Prelude.{◌≡◌, ◌≤◌, IfOk, MatchOption, None, OnOk, Some};
 ghost use Rattle.poly_graph.specs.Problem.{first_crossed};
+ghost use Rattle.cover_book.specs.Keeps.{IsBook};
 ghost use Rattle.cover_book.specs.Model.{problem_in};
-ghost use Rattle.cover_book.specs.Verdict.{verdict_of};
-ghost use Rattle.cover_book.specs.declared.verdict.BookVerdict.TheVariants.{NotYet};
 ghost use Rattle.cert_resume.specs.Going.{HasNoted, IsOwnOf, JoinsOwn, NotesOwn};
 
 use crate::answer::Own;
@@ -32,7 +31,8 @@ pub(crate) struct Going {
 
 // What is left of a book's tree.
 fn own_of(alloc: Global, book: &Book) -> Result<Own, AllocError>
-    requires { book.now.point ≡ None }
+    requires book { IsBook book.now }
+    requires no_point { book.now.point ≡ None }
     ensures { IfOk result (IsOwnOf book.now) }
 {
     match book.verdict() {
@@ -49,24 +49,25 @@ fn own_of(alloc: Global, book: &Book) -> Result<Own, AllocError>
 fn joined(first: Own, second: Own) -> Own
     ensures { JoinsOwn first second result }
 {
-    match first {
+    match &first {
         Own::Nothing => second,
-        Own::Open => Own::Open,
-        Own::Stuck(atom, state) => match second {
-            Own::Open => Own::Open,
-            _ => Own::Stuck(atom, state),
+        Own::Open => first,
+        Own::Stuck(_, _) => match &second {
+            Own::Open => second,
+            _ => first,
         },
     }
 }
 
 // What is left behind what was left.
 fn note_own(own: &mut Own, alloc: Global, book: &Book) -> Result<(), AllocError>
-    requires { book.now.point ≡ None }
+    requires book { IsBook book.now }
+    requires no_point { book.now.point ≡ None }
     ensures { OnOk result (NotesOwn own.old book.now own.new) }
 {
     let more = own_of(alloc, book)?;
     let first = mem::replace(own, Own::Nothing);
-    *own = joined(first, more);
+    drop(mem::replace(own, joined(first, more)));
     Ok(())
 }
 
@@ -79,12 +80,13 @@ pub(crate) fn note_book(going: &mut Going, book: &Book) -> Result<Option<Point>,
         (λ point. book.now.point ≡ Some point)) }
 {
     let alloc = *going.main.allocator();
+    let branches = book.branches();
     if let Some(point) = book.point() {
         return Ok(Some(point.try_clone(alloc)?));
     }
     append_tree_of(&mut going.main, alloc, book)?;
     append_lemmas_of(&mut going.learned, book)?;
     note_own(&mut going.own, alloc, book)?;
-    going.budget -= book.branches();
+    going.budget -= branches;
     Ok(None)
 }
