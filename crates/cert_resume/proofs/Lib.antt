@@ -1,12 +1,12 @@
-mod Gone
-mod Matches
-mod Owns
-mod Parted
-mod Rows
-mod Searched
-mod Spelled
-mod SpelledNumbers
-mod Texts
-mod Walked
-mod Whole
-mod WordsBack
+pub mod Gone
+pub mod Matches
+pub mod Owns
+pub mod Parted
+pub mod Rows
+pub mod Searched
+pub mod Spelled
+pub mod SpelledNumbers
+pub mod Texts
+pub mod Walked
+pub mod Whole
+pub mod WordsBack

@@ -21,8 +21,8 @@ clean-bytes (b ∷ bs) h k m =
     let y = both_true (not (nat_eq b 32)) (all_bytes (λ c. not (nat_eq c 32)) bs) k in
     let z = both_true (not (nat_eq b 10)) (all_bytes (λ c. not (nat_eq c 10)) bs) m in
     both_pass (is_word_byte b) (all_bytes is_word_byte bs)
-        (both_pass (nat_lt b 128 && not (nat_eq b 32)) (not (nat_eq b 10)) (both_pass (nat_lt b 128) (not (nat_eq b 32)) x.0 y.0) z.0)
-        (clean-bytes bs x.1 y.1 z.1)
+    (both_pass (nat_lt b 128 && not (nat_eq b 32)) (not (nat_eq b 10)) (both_pass (nat_lt b 128) (not (nat_eq b 32)) x.0 y.0) z.0)
+    (clean-bytes bs x.1 y.1 z.1)
 
 clean-word : (w : List ℕ) → IsTrue (is_word w) → IsTrue (all_bytes (λ b. not (nat_eq b 32)) w) → IsTrue (all_bytes (λ b. not (nat_eq b 10)) w) → IsCleanWord w
 clean-word [] h k m = absurd (true≢false (sym h))

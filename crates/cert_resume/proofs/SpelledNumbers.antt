@@ -20,7 +20,6 @@ use Rattle.spelling_law.proofs.Read.{only_spellings}
 
 -- ---- plain numbers
 
-
 model : IsNumeralModel (λ w. all_ascii_digits w ≡ true) (digits_value 10)
 model = numerals_by_value (λ w. all_ascii_digits w ≡ true) tells_all_ascii_digits
 

@@ -163,43 +163,103 @@ AllGive [] = Unit {0}
 AllGive (e ∷ rest) = Gives e.0 e.1 × AllGive rest
 
 header-gives : AllGive header_forms
-header-gives =
-    (gives-count (codes "dpoly") version (λ n k. (refl, k)),
-    (gives-count (codes "margin") margin (λ n k. (refl, k)),
-    (gives-count (codes "delta") delta (λ n k. (refl, k)),
-    (gives-bound,
-    (gives-count (codes "checks") checks (λ n k. (refl, k)),
-    (gives-count (codes "cover") cover (λ n k. (refl, k)),
-    (gives-count (codes "keep") keep (λ n k. (refl, k)),
-    (gives-alone (codes "point") point_word refl tt,
-    (gives-alone (codes "tree") tree_word refl tt,
-    (gives-alone (codes "end") end_word refl tt,
-    (gives-count (codes "lemma") lemma (λ n k. (refl, k)),
-    (gives-real,
-    (gives-bool,
-    (gives-list (codes "yes") yes_list (λ ns k. (refl, k)),
-    (gives-list (codes "no") no_list (λ ns k. (refl, k)),
-    (gives-count (word_text empty_word) crossing (λ n k. (refl, k)),
-    tt))))))))))))))))
+header-gives = (
+  gives-count (codes "dpoly") version (λ n k. (refl, k)),
+  (
+    gives-count (codes "margin") margin (λ n k. (refl, k)),
+    (
+      gives-count (codes "delta") delta (λ n k. (refl, k)),
+      (
+        gives-bound,
+        (
+          gives-count (codes "checks") checks (λ n k. (refl, k)),
+          (
+            gives-count (codes "cover") cover (λ n k. (refl, k)),
+            (
+              gives-count (codes "keep") keep (λ n k. (refl, k)),
+              (
+                gives-alone (codes "point") point_word refl tt,
+                (
+                  gives-alone (codes "tree") tree_word refl tt,
+                  (
+                    gives-alone (codes "end") end_word refl tt,
+                    (
+                      gives-count (codes "lemma") lemma (λ n k. (refl, k)),
+                      (
+                        gives-real,
+                        (
+                          gives-bool,
+                          (
+                            gives-list (codes "yes") yes_list (λ ns k. (refl, k)),
+                            (
+                              gives-list (codes "no") no_list (λ ns k. (refl, k)),
+                              (
+                                gives-count (word_text empty_word) crossing (λ n k. (refl, k)),
+                                tt,
+                              ),
+                            ),
+                          ),
+                        ),
+                      ),
+                    ),
+                  ),
+                ),
+              ),
+            ),
+          ),
+        ),
+      ),
+    ),
+  ),
+)
 
 tree-gives : AllGive tree_forms
-tree-gives =
-    (gives-count (word_text pull_word) (λ n. rule_line (pull n)) (λ n k. (refl, k)),
-    (gives-count (word_text unit_word) (λ n. rule_line (unit n)) (λ n k. (refl, k)),
-    (gives-count (word_text void_word) (λ n. rule_line (void n)) (λ n k. (refl, k)),
-    (gives-count (word_text push_word) (λ n. rule_line (push n)) (λ n k. (refl, k)),
-    (gives-count (word_text void_no_word) (λ n. rule_line (void_no n)) (λ n k. (refl, k)),
-    (gives-count (word_text case_word) (λ n. rule_line (case n)) (λ n k. (refl, k)),
-    (gives-count (word_text stuck_word) (λ n. rule_line (stuck n)) (λ n k. (refl, k)),
-    (gives-count (word_text by_word) (λ n. rule_line (by n)) (λ n k. (refl, k)),
-    (gives-counts (word_text ban_word) (λ m n. rule_line (ban m n)) (λ m n j k. (refl, (j, k))),
-    (gives-place (word_text cut_word) (λ n d. rule_line (cut n d)) (λ n d j k. (refl, (j, k))),
-    (gives-count (word_text flip_word) (λ n. rule_line (flip n)) (λ n k. (refl, k)),
-    (gives-pairs (word_text combine_word) (λ ps. rule_line (combine ps)) (λ ps k. (refl, k)),
-    (gives-pairs (word_text void_combine_word) (λ ps. rule_line (void_combine ps)) (λ ps k. (refl, k)),
-    (gives-alone (word_text false_word) (rule_line make_false) refl tt,
-    (gives-alone (word_text open_word) (rule_line open_line) refl tt,
-    tt)))))))))))))))
+tree-gives = (
+  gives-count (word_text pull_word) (λ n. rule_line (pull n)) (λ n k. (refl, k)),
+  (
+    gives-count (word_text unit_word) (λ n. rule_line (unit n)) (λ n k. (refl, k)),
+    (
+      gives-count (word_text void_word) (λ n. rule_line (void n)) (λ n k. (refl, k)),
+      (
+        gives-count (word_text push_word) (λ n. rule_line (push n)) (λ n k. (refl, k)),
+        (
+          gives-count (word_text void_no_word) (λ n. rule_line (void_no n)) (λ n k. (refl, k)),
+          (
+            gives-count (word_text case_word) (λ n. rule_line (case n)) (λ n k. (refl, k)),
+            (
+              gives-count (word_text stuck_word) (λ n. rule_line (stuck n)) (λ n k. (refl, k)),
+              (
+                gives-count (word_text by_word) (λ n. rule_line (by n)) (λ n k. (refl, k)),
+                (
+                  gives-counts (word_text ban_word) (λ m n. rule_line (ban m n)) (λ m n j k. (refl, (j, k))),
+                  (
+                    gives-place (word_text cut_word) (λ n d. rule_line (cut n d)) (λ n d j k. (refl, (j, k))),
+                    (
+                      gives-count (word_text flip_word) (λ n. rule_line (flip n)) (λ n k. (refl, k)),
+                      (
+                        gives-pairs (word_text combine_word) (λ ps. rule_line (combine ps)) (λ ps k. (refl, k)),
+                        (
+                          gives-pairs (word_text void_combine_word) (λ ps. rule_line (void_combine ps)) (λ ps k. (refl, k)),
+                          (
+                            gives-alone (word_text false_word) (rule_line make_false) refl tt,
+                            (
+                              gives-alone (word_text open_word) (rule_line open_line) refl tt,
+                              tt,
+                            ),
+                          ),
+                        ),
+                      ),
+                    ),
+                  ),
+                ),
+              ),
+            ),
+          ),
+        ),
+      ),
+    ),
+  ),
+)
 
 no-entry : {A : Type 0} (f : A) → None ≡ Some f → ⊥
 no-entry f h = absurd (cc)

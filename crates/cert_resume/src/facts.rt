@@ -4,7 +4,7 @@ ghost use Rattle.poly_graph.specs.ProblemViews.{IsWhole};
 use poly_graph::Problem;
 
 /// Shows that a problem is whole.
-pub(crate) fn is_whole(problem: &Problem)
+pub fn is_whole(problem: &Problem)
     ensures { IsWhole problem.now }
 {
     problem.atoms();

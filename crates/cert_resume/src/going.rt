@@ -3,7 +3,7 @@ ghost use Rattle.std.specs.Prelude.{◌≡◌, ◌≤◌, IfOk, MatchOption, Non
 ghost use Rattle.poly_graph.specs.Problem.{first_crossed};
 ghost use Rattle.cover_book.specs.Keeps.{IsBook};
 ghost use Rattle.cover_book.specs.Model.{problem_in};
-ghost use Rattle.cert_resume.specs.Going.{HasNoted, IsOwnOf, JoinsOwn, NotesOwn};
+ghost use Rattle.cert_resume.specs.Going.{HasNoted, IsBegunWith, IsOwnOf, JoinsOwn, NotesOwn};
 
 use crate::answer::Own;
 use cert_text::{append_lemmas_of, append_tree_of, first_stuck};
@@ -14,7 +14,7 @@ use std::mem;
 
 /// What was made of the lines so far.
 #[derive(Drop)]
-pub(crate) struct Going {
+pub struct Going {
     /// The text of the main tree.
     pub main: Vec<u8>,
     /// The text of the lemmas that were learned.
@@ -72,7 +72,7 @@ fn note_own(own: &mut Own, alloc: Global, book: &Book) -> Result<(), AllocError>
 }
 
 /// Appends the tree of a book that was searched, and the lemmas that it learned, or answers the point that it keeps.
-pub(crate) fn note_book(going: &mut Going, book: &Book) -> Result<Option<Point>, AllocError>
+pub fn note_book(going: &mut Going, book: &Book) -> Result<Option<Point>, AllocError>
     requires budget { book.now.branches ≤ going.old.budget }
     requires not_crossed { first_crossed (problem_in book.now) ≡ None }
     ensures { IfOk result (λ x. MatchOption x
@@ -89,4 +89,18 @@ pub(crate) fn note_book(going: &mut Going, book: &Book) -> Result<Option<Point>,
     note_own(&mut going.own, alloc, book)?;
     going.budget -= branches;
     Ok(None)
+}
+
+/// Nothing is gone through yet.
+pub fn begun(alloc: Global, lemmas: Vec<StoredState>, budget: u32) -> Going
+    ensures { IsBegunWith lemmas budget result }
+{
+    Going {
+        main: Vec::new(alloc),
+        learned: Vec::new(alloc),
+        lemmas,
+        budget,
+        own: Own::Nothing,
+        others: 0,
+    }
 }

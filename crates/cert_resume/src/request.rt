@@ -28,7 +28,7 @@ pub struct Request {
 
 impl Share {
     /// Whether the state of this number, counted from 0, is in the share.
-    pub(crate) fn has(self, place: usize) -> bool
+    pub fn has(self, place: usize) -> bool
         requires { IsShare self }
         ensures { result ≡ is_own (share_of self) place }
     {
@@ -37,7 +37,7 @@ impl Share {
 }
 
 /// What a book is searched for that goes on from the base, with so many branches left.
-pub(crate) fn options_with(base: &Base, request: Request, budget: u32) -> Options
+pub fn options_with(base: &Base, request: Request, budget: u32) -> Options
     ensures { result ≡ options_with base.now request budget }
 {
     Options {

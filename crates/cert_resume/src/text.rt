@@ -37,7 +37,7 @@ fn append_lines(text: &mut Vec<u8>, lines: &[Line]) -> Result<(), AllocError>
 }
 
 /// The certificate: the lines of the lemmas that were read, those of the lemmas that were learned, and the main tree.
-pub(crate) fn written(
+pub fn written(
     alloc: Global,
     options: &Options,
     lemma_lines: &[Line],

@@ -4,13 +4,16 @@
 mod answers;
 mod auto;
 mod explain;
+mod leaf;
 mod located;
 mod plan;
 mod progress;
 mod resume;
+mod resumption;
 mod solve;
 mod top;
 mod upgrade;
+mod walk;
 
 use auto::resolve_workers;
 pub use check_run::Status;

@@ -15,35 +15,23 @@ ghost use Rattle.check_run.specs.Script.{IsWithin};
 ghost use Rattle.dpoly.specs.Resume.{IsAsked, IsNotAsked, IsSomeBase, IsToldMore, SaysShare, TellsMore, request_of};
 
 use crate::answers::SearchAnswer;
+use crate::leaf::Engine;
+use crate::resumption::resume;
 use cert_base::{Base, Read, read_base};
 use cert_check::CertFault;
-use cert_resume::{Cover, Own, Request, Resumed, Searcher, Share};
+use cert_resume::{Cover, Own, Request, Resumed, Share};
 use cert_upgrade::upgrade;
 use check_run::{
     Halt, Inputs, Status, end_halted, finish, header_bound, refusal, refuse, too_long,
 };
 use command_line::ResumeWords;
-use cover_book::Book;
 use desk::Desk;
 use poly_graph::Problem;
 use problem_build::read_problem;
-use solve_core::{Gate, search_on};
+use solve_core::Gate;
 use std::alloc::{AllocError, Global};
 use std::sync::Wait;
 use std::thread::Threads;
-
-/// What books are searched with: threads, and the gate that is called at each box.
-#[derive(Drop)]
-pub struct Engine<'a, R, G> {
-    pub rt: &'a R,
-    pub gate: &'a G,
-}
-
-impl<R: Threads + Wait + Sync, G: Gate + Sync> Searcher for Engine<'_, R, G> {
-    fn search(&self, alloc: Global, book: Book) -> Result<Book, AllocError> {
-        search_on(self.rt, alloc, book, self.gate)
-    }
-}
 
 // What the words ask of the search.
 fn request_of(asked: &ResumeWords<'_>) -> Request
@@ -97,7 +85,7 @@ fn go_on<R: Threads + Wait + Sync, G: Gate + Sync>(
         IfOk result (TellsMore (problem_of problem.now) base.bound (seen_resume asked.now) cert) }
 {
     let (margin_bits, delta_bits) = (base.margin, base.delta);
-    match cert_resume::resume(alloc, problem, base, request_of(asked), engine)? {
+    match resume(alloc, problem, base, request_of(asked), engine)? {
         Resumed::Point(cert, point) => {
             let text = check_run::delta_sat(alloc, problem, delta_bits, point.space())?;
             Ok(SearchAnswer { cert, text })

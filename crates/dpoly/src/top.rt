@@ -5,8 +5,9 @@ ghost use Rattle.command_line.specs.Seen.{seen, seen_demo, seen_plan, seen_resum
 ghost use Rattle.check_run.specs.Run.{asked_run, CertIsRead, command_in, demo_run, HasCause, HasCourse, plan_run, resume_run, run, SameIn, ScriptIsRead, solve_run, StatusIsDue, StatusIsShown, upgrade_run};
 ghost use Rattle.check_run.specs.Headline.{AnswersAreTrue, DeltaSatIsTrue, PlanIsTrue, RefusalIsTrue, UnsatIsTrue, UpgradeIsTrue};
 
+use crate::leaf::Engine;
 use crate::plan::plan_session;
-use crate::resume::{Engine, resume_inputs};
+use crate::resume::resume_inputs;
 use crate::solve::{solve_demo, solve_session};
 use crate::upgrade::upgrade_session;
 use check_run::{Status, end_halted, fetch_both, fetch_session, run_check, say};

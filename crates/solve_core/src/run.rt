@@ -19,7 +19,7 @@ use crate::gate::Gate;
 use crate::search::Search;
 use crate::team::search_together;
 use box_worker::Room;
-use cover_book::Book;
+use cover_book::{Book, BookVerdict};
 use cover_data::Options;
 use poly_graph::Problem;
 use problem_session::Session;
@@ -185,7 +185,8 @@ fn finish<G: Gate>(
 }
 
 // Searches on from a book of the problem. Where the options have more than one worker, so many of them, 64 at most,
-// search on it side by side, once the caller has made two boxes, and the caller goes on alone from what they leave.
+// search on it side by side, once the caller has made two boxes, and the caller goes on alone from what they leave. No
+// thread starts where the caller is done before.
 fn search_from<R: Threads + Wait + Sync, G: Gate + Sync>(
     rt: &R,
     alloc: Global,
@@ -206,6 +207,9 @@ fn search_from<R: Threads + Wait + Sync, G: Gate + Sync>(
         return finish(alloc, book, problem, gate);
     }
     let begun = start(alloc, book, problem, gate)?;
+    if !matches!(begun.verdict(), BookVerdict::NotYet) {
+        return finish(alloc, begun, problem, gate);
+    }
     let book = search_together::<Brand, R, G>(rt, alloc, begun, problem, options, workers, gate);
     finish(alloc, book, problem, gate)
 }

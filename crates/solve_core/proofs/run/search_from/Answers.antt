@@ -14,3 +14,7 @@ pub returns-clause-reached : goal.returns-clause-reached
 returns-clause-reached g c =
     let t : Reaches c.args.book c.search_together-book.result = reaches_through c.in_ok-begun.ensures.reached c.search_together-book.ensures in
     each_ok (Reaches c.search_together-book.result) (Reaches c.args.book) c.finish-2.result (λ b h. reaches_through t h) c.finish-2.ensures.reached
+
+pub returns-then-not-matches-clause-reached : goal.returns-then-not-matches-clause-reached
+returns-then-not-matches-clause-reached g c =
+    each_ok (Reaches c.in_ok-begun.begun) (Reaches c.args.book) c.finish-then-not-matches.result (λ b h. reaches_through c.in_ok-begun.ensures.reached h) c.finish-then-not-matches.ensures.reached

@@ -3,8 +3,8 @@ use Rattle.cert_resume.specs.Request.{share_of}
 use Rattle.cert_resume.specs.declared.going.Going.{Going}
 use Rattle.cert_resume.proofs.Matches.{none_of}
 use Rattle.cert_resume.proofs.Walked.{Walked, none_walked, line_walked, state_walked, all_walked, place_within, state_within, few_others}
-use Rattle.cert_resume.proofs.walk.walk.Goals as goal
-use Rattle.cert_resume.proofs.walk.walk.Goals.{then-is_leaving+in_ok-point+in-None, else-is_leaving+in_ok-append_rule}
+use Rattle.dpoly.proofs.walk.walk.Goals as goal
+use Rattle.dpoly.proofs.walk.walk.Goals.{then-is_leaving+in_ok-point+in-None, else-is_leaving+in_ok-append_rule}
 
 pub loop-rule-init : goal.loop-rule-init
 loop-rule-init g c = λ can. none_walked c.args.task.now.problem.now c.args.task.now.options (share_of c.args.task.now.share) c.args.going.now.lemmas.items c.args.main.now c.args.left.now can c.args.going.now c.requires.begun refl

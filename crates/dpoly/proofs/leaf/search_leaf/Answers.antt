@@ -5,7 +5,7 @@ use Rattle.cover_data.specs.declared.stored.StoredState.{StoredState}
 use Rattle.cover_book.specs.Keeps.{IsBook}
 use Rattle.cert_resume.proofs.Searched.{searched, shown}
 use Rattle.cert_resume.proofs.Matches.{match_weaker}
-use Rattle.cert_resume.proofs.leaf.search_leaf.Goals as goal
+use Rattle.dpoly.proofs.leaf.search_leaf.Goals as goal
 
 pub returns : goal.returns
 returns g c =

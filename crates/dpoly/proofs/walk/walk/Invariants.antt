@@ -3,7 +3,7 @@ use Rattle.std.proofs.Common.{map}
 use Rattle.cert_resume.specs.Going.{CanBeResumed}
 use Rattle.cert_resume.specs.Request.{share_of}
 use Rattle.cert_resume.proofs.Walked.{Walked}
-use Rattle.cert_resume.proofs.walk.walk.Given as goal
+use Rattle.dpoly.proofs.walk.walk.Given as goal
 
 abbrev pub invariant-loop-rule : goal.invariant-loop-rule
 invariant-loop-rule g l =

@@ -1,4 +1,4 @@
-// The walk over the lines of a main tree.
+// The walk over the lines of a main tree that was read.
 ghost use Rattle.std.specs.Prelude.{◌≡◌, map};
 ghost use Rattle.cover_line.specs.Views.{line_of};
 ghost use Rattle.cert_resumed.specs.Resumed.{is_leaving};
@@ -6,13 +6,15 @@ ghost use Rattle.cert_resume.specs.Calls.{Walks};
 ghost use Rattle.cert_resume.specs.Going.{CanBeResumed, IsBegun};
 ghost use Rattle.cert_resume.specs.Request.{IsShare, share_of};
 
-use crate::going::Going;
-use crate::leaf::{Task, pass_leaf};
-use crate::search::Searcher;
+use crate::leaf::{Engine, pass_leaf};
+use cert_resume::{Going, Task};
 use cert_text::append_rule;
 use cover_data::{Point, State};
 use cover_line::{AtomRule, Rule};
+use solve_core::Gate;
 use std::alloc::AllocError;
+use std::sync::Wait;
+use std::thread::Threads;
 
 // Whether the rule leaves its state open or stuck.
 fn is_leaving(rule: &Rule) -> bool
@@ -23,10 +25,10 @@ fn is_leaving(rule: &Rule) -> bool
 
 /// Goes through the lines of a main tree, of which those that leave their states leave these. Answers the point that was
 /// found, behind which nothing is gone through.
-pub(crate) fn walk<S: Searcher>(
+pub fn walk<R: Threads + Wait + Sync, G: Gate + Sync>(
     going: &mut Going,
     task: &Task<'_>,
-    searcher: &S,
+    engine: &Engine<'_, R, G>,
     main: &[Rule],
     left: &[State],
 ) -> Result<Option<Point>, AllocError>
@@ -41,7 +43,7 @@ pub(crate) fn walk<S: Searcher>(
     let mut place = 0;
     for rule in main {
         if is_leaving(rule) {
-            match pass_leaf(going, task, searcher, place, rule, &left[place])? {
+            match pass_leaf(going, task, engine, place, rule, &left[place])? {
                 Some(point) => return Ok(Some(point)),
                 None => place += 1,
             }

@@ -17,7 +17,7 @@ use Rattle.cert_resume.specs.Going.{CanBeResumed, HasGone, IsBegun, standings}
 use Rattle.cert_resume.proofs.Matches.{none_of}
 use Rattle.cert_resume.proofs.Spelled.{read_spelled}
 use Rattle.cert_resume.proofs.Whole.{is_begun, can_be_resumed, first_main, gone_of, is_resumed_cover}
-use Rattle.cert_resume.proofs.resumption.resume.Goals as goal
+use Rattle.dpoly.proofs.resumption.resume.Goals as goal
 
 pub walk-requires-clause-begun : goal.walk-requires-clause-begun
 walk-requires-clause-begun g c = subst (λ (u : Options). IsBegun c.args.problem.now u c.begun-going.result) (sym c.options_with-options.ensures)
