@@ -25,6 +25,8 @@ use Rattle.cert_check.specs.Feeding.{IsRefusalOrMemory}
 use Rattle.cert_resume.specs.Answer.{TellsOfOwn, IsResumedCover, IsResumedPoint}
 use Rattle.cert_resume.specs.Request.{loosenings_in, options_of}
 use Rattle.cert_resume.specs.declared.answer.Cover.{Cover}
+use Rattle.cert_resume.specs.declared.answer.Own.{Own}
+use Rattle.cert_resume.specs.declared.answer.Own.TheVariants as own
 use Rattle.check_run.specs.declared.status.Status.{Status}
 use Rattle.check_run.specs.Course.{Course, gives, Ends, RunEnds, on_course, in_failed, no_memory_yet}
 use Rattle.check_run.specs.Can.{verdict_course}
@@ -51,11 +53,11 @@ module _ (p : Problem) (words : Resume) (s : Loosenings) (own : List Standing) (
   pub says-open : IsTrue (has_open own) → budget_text words.budget ≡ share_text p words.budget (share_of words) s own n
   says-open h = by_own own h where
     by_own : (xs : List Standing) → IsTrue (has_open xs) → budget_text words.budget ≡ share_text p words.budget (share_of words) s xs n
-    by_own [] h = absurd h
+    by_own [] h = cc
     by_own (x ∷ xs) h = sym (by_test (has_open (x ∷ xs)) refl h) where
       by_test : (b : Bool) → has_open (x ∷ xs) ≡ b → IsTrue (has_open (x ∷ xs)) → share_text p words.budget (share_of words) s (x ∷ xs) n ≡ budget_text words.budget
       by_test true e h = rw e refl
-      by_test false e h = absurd (subst IsTrue e h)
+      by_test false e h = let z : IsTrue false = subst IsTrue e h in cc
 
   pub says-stuck : (atom : ℕ) (state : State) (rest : List Standing) → has_open own ≡ false → own ≡ stuck_at atom state ∷ rest → width_text p state atom ≡ share_text p words.budget (share_of words) s own n
   says-stuck atom state rest e f =
@@ -215,3 +217,22 @@ base-limits p words base asked w cert h =
       axes = w.axes;
       atoms = w.atoms;
     }
+
+-- ---- the text of a cover's answer
+
+says-as : (p : Problem) (words : Resume) (m : ℕ) (x : Cover) (o : Own) (P : List ℕ → Type 0) → x.own ≡ o →
+    ((text : List ℕ) → P text → (s : Loosenings) → s.margin_bits ≡ m → (own : List Standing) → TellsOfOwn o own → text ≡ share_text p words.budget (share_of words) s own x.others) →
+    (text : List ℕ) → P text → SaysShare p words m x text
+says-as p words m x o P e f text t s k own h = f text t s k own (subst (λ (y : Own). TellsOfOwn y own) e h)
+
+pub nothing-said : (p : Problem) (words : Resume) (m : ℕ) (x : Cover) → x.own ≡ own.Nothing → x.others ≡ 0 → (text : List ℕ) → AtMargin m (λ s. text ≡ unsat_text s) → SaysShare p words m x text
+nothing-said p words m x e n = says-as p words m x own.Nothing (λ text. AtMargin m (λ s. text ≡ unsat_text s)) e (λ text t s k left h. t s k ∙ says-nothing p words s left x.others n h)
+
+pub part-said : (p : Problem) (words : Resume) (m : ℕ) (x : Cover) → x.own ≡ own.Nothing → (x.others ≡ 0 → ⊥) → (text : List ℕ) → AtMargin m (λ s. text ≡ part_text (share_of words) x.others s) → SaysShare p words m x text
+part-said p words m x e n = says-as p words m x own.Nothing (λ text. AtMargin m (λ s. text ≡ part_text (share_of words) x.others s)) e (λ text t s k left h. t s k ∙ says-part p words s left x.others n h)
+
+pub open-said : (p : Problem) (words : Resume) (m : ℕ) (x : Cover) → x.own ≡ own.Open → (text : List ℕ) → text ≡ budget_text words.budget → SaysShare p words m x text
+open-said p words m x e = says-as p words m x own.Open (λ text. text ≡ budget_text words.budget) e (λ text t s k left h. t ∙ says-open p words s left x.others h)
+
+pub stuck-said : (p : Problem) (words : Resume) (m : ℕ) (x : Cover) (atom : ℕ) (state : State) → x.own ≡ own.Stuck atom state → (text : List ℕ) → text ≡ width_text p state atom → SaysShare p words m x text
+stuck-said p words m x atom state e = says-as p words m x (own.Stuck atom state) (λ text. text ≡ width_text p state atom) e (λ text t s k left h. t ∙ says-stuck p words s left x.others atom state h.1.0 h.0 h.1.1)
