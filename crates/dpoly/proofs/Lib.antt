@@ -1,5 +1,6 @@
 pub mod Demo
 pub mod Planning
+pub mod ResumeRuns
 pub mod Resuming
 pub mod Solving
 pub mod SearchAnswers

@@ -1,24 +1,23 @@
 -- From a certificate that was read to the one that goes on from it.
-use Rattle.std.proofs.Common.{◌≡◌, inl, inr, ◌⊎◌, ◌≤◌, ℕ, zero, suc, List, [], ◌∷◌, Bool, true, false, Option, Some, None, IsTrue, Result, Ok, Err, length, map, refl, ap, sym, ◌∙◌, subst}
+use Rattle.std.proofs.Common.{◌≡◌, inl, inr, ◌⊎◌, ◌≤◌, ℕ, zero, suc, List, [], ◌∷◌, Bool, true, false, Option, IsTrue, length, refl, ap, sym, ◌∙◌, subst}
 use Rattle.desk.specs.Sight.{Sight}
 use Rattle.command_line.specs.Words.{Resume, IsResume}
 use Rattle.poly_graph.specs.Problem.{Problem}
 use Rattle.poly_graph.specs.ProblemViews.{Parts, problem_of}
 use Rattle.interval_model.specs.Space.{Space}
 use Rattle.cover_model.specs.State.{State, Loosenings}
-use Rattle.cover_data.specs.Margins.{AreMargins}
 use Rattle.cover_book.specs.Limits.{IsWithinLimits}
 use Rattle.cert_model.specs.Due.{Standing, Value, at_point, left_open}
 use Rattle.cert_model.specs.Accepted.{IsAccepted, Verdict, accepted, refused, verdict, most_bytes}
-use Rattle.cert_model.specs.AnswerText.{has_open, budget_text, delta_sat_text, unsat_text, width_text, solve_text}
+use Rattle.cert_model.specs.AnswerText.{has_open, budget_text, delta_sat_text, unsat_text, width_text}
 use Rattle.cert_model.specs.Session.{one_verdict}
 use Rattle.cert_model.proofs.Header.{header_fits}
 use Rattle.cert_text.specs.Stuck.{stuck_at}
 use Rattle.cert_upgrade.specs.Upgraded.{in_newest, upgraded}
 use Rattle.cert_upgrade.proofs.Upgrades.{upgraded_is_accepted}
-use Rattle.cert_resumed.specs.Resumed.{CoverRead, IsCoverRead, joined, own_left, others}
+use Rattle.cert_resumed.specs.Resumed.{CoverRead, joined, own_left}
 use Rattle.cert_base.specs.declared.base.Base.{Base}
-use Rattle.cert_base.specs.Base.{IsBase, IsPointRead, IsClosedRead}
+use Rattle.cert_base.specs.Base.{IsBase}
 use Rattle.cert_base.specs.Gathered.{standing_states}
 use Rattle.cert_check.specs.declared.fault.CertFault.{CertFault}
 use Rattle.cert_check.specs.Feeding.{IsRefusalOrMemory}
@@ -36,7 +35,7 @@ use Rattle.check_run.specs.Resumed.{CanResume, CanResumeBy, GoesOn, IsFoundBehin
 use Rattle.check_run.specs.Script.{IsWithin}
 use Rattle.check_run.proofs.Single.{one_value}
 use Rattle.dpoly.specs.declared.answers.SearchAnswer.{SearchAnswer}
-use Rattle.dpoly.specs.Resume.{IsToldMore, SaysShare, TellsMore, request_of}
+use Rattle.dpoly.specs.Resume.{SaysShare, TellsMore, request_of}
 
 -- ---- the text of a share
 

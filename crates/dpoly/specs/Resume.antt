@@ -1,8 +1,7 @@
 -- A certificate that goes on from one that was read.
-use Rattle.std.specs.Prelude.{◌≡◌, ℕ, List, Option, Some, None, Result, Ok, Err}
+use Rattle.std.specs.Prelude.{◌≡◌, ℕ, List, Option, Result, Ok, Err}
 use Rattle.command_line.specs.Words.{Resume}
 use Rattle.poly_graph.specs.Problem.{Problem}
-use Rattle.interval_model.specs.Space.{Space}
 use Rattle.cover_model.specs.State.{Loosenings}
 use Rattle.cert_model.specs.Due.{Standing, Value}
 use Rattle.cert_model.specs.Accepted.{IsAccepted, verdict}
@@ -13,7 +12,6 @@ use Rattle.cert_base.specs.Base.{IsBase}
 use Rattle.cert_resume.specs.Answer.{TellsOfOwn}
 use Rattle.cert_resume.specs.declared.answer.Cover.{Cover}
 use Rattle.cert_resume.specs.declared.request.Request.{Request}
-use Rattle.script_fault.specs.declared.fault.ScriptFault.{ScriptFault}
 use Rattle.script_reading.specs.Faults.{script_fault}
 use Rattle.script_reading.specs.Reader.{HasProblem}
 use Rattle.check_run.specs.declared.script.Halt.{Halt}

@@ -61,9 +61,12 @@ fn share_text(
 {
     let share = asked.share;
     match &cover.own {
-        Own::Nothing if cover.others == 0 => check_run::unsat(alloc, margin_bits),
         Own::Nothing => {
-            check_run::part(alloc, share.number, share.count, cover.others, margin_bits)
+            if cover.others == 0 {
+                check_run::unsat(alloc, margin_bits)
+            } else {
+                check_run::part(alloc, share.number, share.count, cover.others, margin_bits)
+            }
         }
         Own::Open => check_run::budget(alloc, u64::from(asked.budget)),
         Own::Stuck(atom, state) => check_run::width(alloc, problem, state.space(), *atom),
@@ -187,8 +190,9 @@ pub fn resume_inputs<R: Threads + Wait + Sync, D: Desk, G: Gate + Sync>(
     ensures same { SameIn (D.sight desk.old) (D.sight desk.new) }
     ensures cause { ResumeHasCause (D.sight desk.old) (D.sight desk.new) result }
 {
-    let Some(script) = &inputs.script else {
-        return end_halted(desk, too_long(alloc));
+    let script = match &inputs.script {
+        Some(script) => script,
+        None => return end_halted(desk, too_long(alloc)),
     };
     match asked_of(alloc, script, &inputs.cert) {
         Ok((problem, bound)) => {

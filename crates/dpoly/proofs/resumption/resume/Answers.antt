@@ -20,11 +20,11 @@ use Rattle.cert_resume.proofs.Whole.{is_begun, can_be_resumed, first_main, gone_
 use Rattle.dpoly.proofs.resumption.resume.Goals as goal
 
 pub walk-requires-clause-begun : goal.walk-requires-clause-begun
-walk-requires-clause-begun g c = subst (λ (u : Options). IsBegun c.args.problem.now u c.begun-going.result) (sym c.options_with-options.ensures)
+walk-requires-clause-begun g c = λ κs lives. subst (λ (u : Options). IsBegun c.args.problem.now u c.begun-going.result) (sym c.options_with-options.ensures)
     (is_begun c.args.problem.now c.is_whole.ensures c.args.base c.args.request c.requires.limits c.requires.read.0 c.requires.read.1 c.begun-going.result c.begun-going.ensures)
 
 pub walk-requires-clause-can : goal.walk-requires-clause-can
-walk-requires-clause-can g c =
+walk-requires-clause-can g c = λ κs lives.
     let q = c.args.problem.now in let base = c.args.base in let is = c.requires.read.1 in
     let spelled = read_spelled (problem_of q) base.bound c.requires.read.0 is.read is.is_read in
     let main = first_main is.read.lemma_lines is.read.main spelled.1.1.1.1.1 in

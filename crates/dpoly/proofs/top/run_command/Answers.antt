@@ -23,3 +23,7 @@ returns-in-Upgrade-clause-course g c =
 pub returns-in-Plan-clause-course : goal.returns-in-Plan-clause-course
 returns-in-Plan-clause-course g c =
     subst (λ (a : Request). HasCourse (run_of (Some (seen a)) (g.D.Desk.sight c.args.desk.now) (g.D.Desk.sight c.run_plan.new.desk) c.run_plan.result)) (sym c.in-Plan.is) c.run_plan.ensures.course
+
+pub returns-in-Resume-clause-course : goal.returns-in-Resume-clause-course
+returns-in-Resume-clause-course g c =
+    subst (λ (a : Request). HasCourse (run_of (Some (seen a)) (g.D.Desk.sight c.args.desk.now) (g.D.Desk.sight c.run_resume.new.desk) c.run_resume.result)) (sym c.in-Resume.is) c.run_resume.ensures.course

@@ -16,10 +16,10 @@ pub offset_bounds-left-place : goal.offset_bounds-left-place
 offset_bounds-left-place g c = let k : c.loop-rule.place < length c.args.left.now = place_within c.args.task.now.problem.now c.args.task.now.options (share_of c.args.task.now.share) c.args.going.now.lemmas.items c.args.main.now c.args.left.now c.requires.can c.loop-rule.rule-index c.loop-rule.place c.loop-rule.going c.rule-item.result (c.loop-rule.invariant c.requires.can) (omega (arith, c.loop-rule-test.true)) c.rule-item.is (sym c.if-is_leaving.ensures) in omega (arith, k)
 
 pub pass_leaf-requires-clause-may : goal.pass_leaf-requires-clause-may
-pass_leaf-requires-clause-may g c = (c.loop-rule.invariant c.requires.can).gone.may
+pass_leaf-requires-clause-may g c = λ κs lives. (c.loop-rule.invariant c.requires.can).gone.may
 
 pub pass_leaf-requires-clause-state : goal.pass_leaf-requires-clause-state
-pass_leaf-requires-clause-state g c = state_within c.args.task.now.problem.now c.args.task.now.options (share_of c.args.task.now.share) c.args.going.now.lemmas.items c.args.main.now c.args.left.now c.requires.can c.loop-rule.place c.index-left-place.result (place_within c.args.task.now.problem.now c.args.task.now.options (share_of c.args.task.now.share) c.args.going.now.lemmas.items c.args.main.now c.args.left.now c.requires.can c.loop-rule.rule-index c.loop-rule.place c.loop-rule.going c.rule-item.result (c.loop-rule.invariant c.requires.can) (omega (arith, c.loop-rule-test.true)) c.rule-item.is (sym c.if-is_leaving.ensures)) c.index-left-place.is
+pass_leaf-requires-clause-state g c = λ κs lives. state_within c.args.task.now.problem.now c.args.task.now.options (share_of c.args.task.now.share) c.args.going.now.lemmas.items c.args.main.now c.args.left.now c.requires.can c.loop-rule.place c.index-left-place.result (place_within c.args.task.now.problem.now c.args.task.now.options (share_of c.args.task.now.share) c.args.going.now.lemmas.items c.args.main.now c.args.left.now c.requires.can c.loop-rule.rule-index c.loop-rule.place c.loop-rule.going c.rule-item.result (c.loop-rule.invariant c.requires.can) (omega (arith, c.loop-rule-test.true)) c.rule-item.is (sym c.if-is_leaving.ensures)) c.index-left-place.is
 
 pub pass_leaf-requires-clause-room : goal.pass_leaf-requires-clause-room
 pass_leaf-requires-clause-room g c =
