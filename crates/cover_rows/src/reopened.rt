@@ -47,9 +47,13 @@ fn reopened(alloc: Global, book: Book, state: State) -> Option<Book> {
     if !may_begin(alloc, book.problem(), &state) {
         return None;
     }
-    let problem = book.problem().try_clone(alloc).ok()?;
+    let Ok(problem) = book.problem().try_clone(alloc) else {
+        return None;
+    };
     let options = *book.options();
-    let lemmas = book.into_lemmas().ok()?;
+    let Ok(lemmas) = book.into_lemmas() else {
+        return None;
+    };
     Book::begin_at(alloc, problem, options, lemmas, state).ok()
 }
 
