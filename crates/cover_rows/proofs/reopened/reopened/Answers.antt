@@ -16,7 +16,7 @@ may : (b : BookModel) → IsBook b → (p : Parts) → p ≡ b.problem → (o : 
     → All (IsKeptLemma (problem_of p) (loosenings_of (margins_of o))) xs
 may b w p e o f xs g = subst (λ (ys : List State). All (IsKeptLemma (problem_of p) (loosenings_of (margins_of o))) ys) (sym g)
     (subst (λ (r : Options). All (IsKeptLemma (problem_of p) (loosenings_of (margins_of r))) (lemma_states_in b)) (sym f)
-        (subst (λ (q : Parts). All (IsKeptLemma (problem_of q) (loosenings_of (margins_of b.options))) (lemma_states_in b)) (sym e) (all_lemmas b w)))
+    (subst (λ (q : Parts). All (IsKeptLemma (problem_of q) (loosenings_of (margins_of b.options))) (lemma_states_in b)) (sym e) (all_lemmas b w)))
 
 pub begin_at-requires-clause-few : goal.begin_at-requires-clause-few
 begin_at-requires-clause-few c = subst (λ (ys : List State). length ys ≤ 1048576) (sym c.in-Ok-into_lemmas.ensures.states) (few c.args.book c.options-options.ensures.book)
