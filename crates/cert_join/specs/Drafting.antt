@@ -1,0 +1,52 @@
+-- A certificate that is written in pieces, and checked as it is written.
+use Rattle.std.specs.Prelude.{◌≡◌, ℕ, List, Option, Result, Ok, Err}
+use Rattle.std.specs.Option.{option_map}
+use Rattle.desk.specs.Sight.{Sight, SideFailed}
+use Rattle.poly_graph.specs.ProblemViews.{Parts}
+use Rattle.cert_check.specs.Feeding.{HasTaken}
+use Rattle.cert_check.specs.declared.feed.Feed.{Feed}
+use Rattle.cert_join.specs.declared.stop.Stop.{Stop}
+use Rattle.cert_join.specs.declared.stop.Stop.TheVariants.{Failed, Denied}
+
+-- the same sight, with this text in the draft
+abbrev pub drafted : Sight → List ℕ → Sight
+drafted s text = record s { draft = option_map (λ x. text) s.cert_out }
+
+abbrev pub IsDrafted : Sight → List ℕ → Sight → Type 0
+IsDrafted s text d = d ≡ drafted s text
+
+-- Since this sight a text was drafted, and nothing else changed; a checker for this problem and bound took the same text, and met no fault in it.
+pub record IsUnderWay (s : Sight) (p : Parts) (b : Option ℕ) (d : Sight) (f : Feed) : Type 0 where
+  pub text : List ℕ
+  pub drafted : IsDrafted s text d
+  pub taken : HasTaken p b text f
+
+-- a certificate could not be read
+pub record IsReadFailed (s d : Sight) : Type 0 where
+  pub text : List ℕ
+  pub side : SideFailed s.in_faults d.in_faults
+  pub same : d ≡ record (drafted s text) { in_faults = d.in_faults }
+
+-- the draft could not be written
+pub record IsDraftFailed (s d : Sight) : Type 0 where
+  pub text : List ℕ
+  pub side : SideFailed s.out_faults d.out_faults
+  pub same : d ≡ record (drafted s text) { out_faults = d.out_faults }
+
+-- some text was drafted, and nothing else changed
+abbrev pub IsSomeDrafted : Sight → Sight → Type 0
+IsSomeDrafted s d = (text : List ℕ) × IsDrafted s text d
+
+abbrev pub IsStopped : Sight → Stop → Sight → Type 0
+IsStopped s Failed d = IsReadFailed s d
+IsStopped s Denied d = IsDraftFailed s d
+IsStopped s e d = IsSomeDrafted s d
+
+-- how a call ends that goes on from there
+abbrev pub IsJoined : {A : Type 0} → Sight → Parts → Option ℕ → Result A Stop → Sight → Feed → Type 0
+IsJoined s p b (Ok x) d f = IsUnderWay s p b d f
+IsJoined s p b (Err e) d f = IsStopped s e d
+
+-- whatever was drafted before
+abbrev pub GoesOn : {A : Type 0} → Sight → Feed → Result A Stop → Sight → Feed → Type 0
+GoesOn old f r new g = (s : Sight) (p : Parts) (b : Option ℕ) → IsUnderWay s p b old f → IsJoined s p b r new g
