@@ -1,12 +1,13 @@
 -- A certificate that is written in pieces, and checked as it is written.
 use Rattle.std.specs.Prelude.{◌≡◌, ℕ, List, Option, Result, Ok, Err}
 use Rattle.std.specs.Option.{option_map}
-use Rattle.desk.specs.Sight.{Sight, SideFailed}
+use Rattle.desk.specs.declared.desk.Port.TheVariants.{Part}
+use Rattle.desk.specs.Sight.{Sight, SideFailed, FailsOn}
 use Rattle.poly_graph.specs.ProblemViews.{Parts}
 use Rattle.cert_check.specs.Feeding.{HasTaken}
 use Rattle.cert_check.specs.declared.feed.Feed.{Feed}
 use Rattle.cert_join.specs.declared.stop.Stop.{Stop}
-use Rattle.cert_join.specs.declared.stop.Stop.TheVariants.{Failed, Denied}
+use Rattle.cert_join.specs.declared.stop.Stop.TheVariants.{Failed, Denied, Memory}
 
 -- the same sight, with this text in the draft
 abbrev pub drafted : Sight → List ℕ → Sight
@@ -50,3 +51,10 @@ IsJoined s p b (Err e) d f = IsStopped s e d
 -- whatever was drafted before
 abbrev pub GoesOn : {A : Type 0} → Sight → Feed → Result A Stop → Sight → Feed → Type 0
 GoesOn old f r new g = (s : Sight) (p : Parts) (b : Option ℕ) → IsUnderWay s p b old f → IsJoined s p b r new g
+
+-- how more of a certificate is read: nothing changes, or the side failed, or there was no memory
+abbrev pub Reads : {A : Type 0} → Sight → Result A Stop → Sight → Type 0
+Reads old (Ok x) new = new ≡ old
+Reads old (Err Failed) new = FailsOn Part old new
+Reads old (Err Memory) new = new ≡ old
+Reads old (Err e) new = ⊥

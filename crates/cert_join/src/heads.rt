@@ -17,6 +17,22 @@ pub struct Heads {
     pub point: Option<usize>,
 }
 
+// Keeps the line of the first certificate, and says of another one's whether it is the same.
+fn is_alike(kept: &mut Vec<u8>, is_first: bool, line: &[u8]) -> Result<bool, AllocError> {
+    if is_first {
+        kept.extend_from_slice(line)?;
+        return Ok(true);
+    }
+    Ok(line == kept.as_slice())
+}
+
+// Appends a line.
+fn append_line(text: &mut Vec<u8>, line: &[u8]) -> Result<(), AllocError> {
+    text.extend_from_slice(line)?;
+    text.push(b'\n')?;
+    Ok(())
+}
+
 impl Heads {
     pub fn new(alloc: Global) -> Self {
         Heads {
@@ -31,17 +47,13 @@ impl Heads {
 
     // Takes the next line of a certificate, and says whether it may stand there.
     fn take(&mut self, line: &[u8]) -> Result<bool, AllocError> {
-        let kept = match self.row {
-            1 => &mut self.margin,
-            2 => &mut self.delta,
-            3 => &mut self.bound,
-            _ => return Ok(true),
-        };
-        if self.part > 0 {
-            return Ok(line == kept.as_slice());
+        let is_first = self.part == 0;
+        match self.row {
+            1 => is_alike(&mut self.margin, is_first, line),
+            2 => is_alike(&mut self.delta, is_first, line),
+            3 => is_alike(&mut self.bound, is_first, line),
+            _ => Ok(true),
         }
-        kept.extend_from_slice(line)?;
-        Ok(true)
     }
 
     // Takes the kind of a certificate, and says whether it is one.
@@ -87,10 +99,8 @@ impl Heads {
     /// Appends the first four lines.
     pub fn append(&self, text: &mut Vec<u8>) -> Result<(), AllocError> {
         text.extend_from_slice(b"dpoly 2\n")?;
-        for line in [&self.margin, &self.delta, &self.bound] {
-            text.extend_from_slice(line)?;
-            text.push(b'\n')?;
-        }
-        Ok(())
+        append_line(text, &self.margin)?;
+        append_line(text, &self.delta)?;
+        append_line(text, &self.bound)
     }
 }

@@ -1,8 +1,5 @@
 // The joined certificate, written and checked in pieces.
-ghost use Rattle.std.specs.Prelude.{◌≡◌, OnOk, OnErr};
-ghost use Rattle.desk.specs.declared.desk.Port.TheVariants.{Part};
-ghost use Rattle.desk.specs.Sight.{FailsOn};
-ghost use Rattle.cert_join.specs.Drafting.{GoesOn};
+ghost use Rattle.cert_join.specs.Drafting.{GoesOn, Reads};
 
 use crate::joiner::{Joiner, ROOM, Step};
 use crate::stop::{Stop, Unjoined};
@@ -37,18 +34,64 @@ fn put<D: Desk>(desk: &mut D, feed: &mut Feed<'_>, text: &[u8]) -> Result<(), St
     }
 }
 
-// Reads more of a certificate. Says whether it could.
+// Reads more of a certificate.
 fn read<D: Desk>(desk: &mut D, joiner: &mut Joiner, part: usize) -> Result<(), Stop>
-    ensures { GoesOnReading (D.sight desk.old) result (D.sight desk.new) }
+    ensures { Reads (D.sight desk.old) result (D.sight desk.new) }
 {
     let mut piece = [0u8; PIECE];
-    let Ok(n) = desk.read_at(part, joiner.place(part), &mut piece) else {
-        return Err(Stop::Failed);
+    let n = match desk.read_at(part, joiner.place(part), &mut piece) {
+        Ok(n) => n,
+        Err(_) => return Err(Stop::Failed),
     };
     match joiner.give(part, &piece[..n]) {
         Ok(()) => Ok(()),
         Err(_) => Err(Stop::Memory),
     }
+}
+
+// One step of the joiner: what it appends is written once that is much, or all. Says whether all is joined.
+fn step<D: Desk>(
+    desk: &mut D,
+    feed: &mut Feed<'_>,
+    joiner: &mut Joiner,
+    text: &mut Vec<u8>,
+) -> Result<bool, Stop>
+    ensures { GoesOn (D.sight desk.old) feed.old result (D.sight desk.new) feed.new }
+{
+    let step = match joiner.step(text) {
+        Ok(step) => step,
+        Err(Unjoined::Memory) => return Err(Stop::Memory),
+        Err(Unjoined::Apart(place)) => return Err(Stop::Apart(place)),
+    };
+    if let Step::Read(part) = step {
+        read(desk, joiner, part)?;
+        return Ok(false);
+    }
+    let is_over = step == Step::Over;
+    if is_over || text.len() >= ROOM {
+        put(desk, feed, text)?;
+        text.clear();
+    }
+    Ok(is_over)
+}
+
+// Joins until all is joined.
+fn run<D: Desk>(
+    desk: &mut D,
+    feed: &mut Feed<'_>,
+    joiner: &mut Joiner,
+    text: &mut Vec<u8>,
+) -> Result<Joined, Stop>
+    ensures { GoesOn (D.sight desk.old) feed.old result (D.sight desk.new) feed.new }
+{
+    for _ in 0..u64::MAX {
+        if step(desk, feed, joiner, text)? {
+            let dropped = joiner.dropped();
+            return Ok(Joined { dropped });
+        }
+    }
+    // So many steps go through more bytes than a certificate may have.
+    Err(Stop::Refused(CertFault::TooLong { line: 0 }))
 }
 
 /// Joins the certificates on the desk's parts, of which there are so many: what is joined is drafted and given to the feed,
@@ -70,33 +113,4 @@ pub fn join<D: Desk>(
     };
     let mut text: Vec<u8> = Vec::new(alloc);
     run(desk, feed, &mut joiner, &mut text)
-}
-
-// Joins until all is joined.
-fn run<D: Desk>(
-    desk: &mut D,
-    feed: &mut Feed<'_>,
-    joiner: &mut Joiner,
-    text: &mut Vec<u8>,
-) -> Result<Joined, Stop>
-    ensures { GoesOn (D.sight desk.old) feed.old result (D.sight desk.new) feed.new }
-{
-    loop {
-        let step = match joiner.step(text) {
-            Ok(step) => step,
-            Err(Unjoined::Memory) => return Err(Stop::Memory),
-            Err(Unjoined::Apart(place)) => return Err(Stop::Apart(place)),
-        };
-        if let Step::Read(part) = step {
-            read(desk, joiner, part)?;
-        }
-        if step == Step::Over || text.len() >= ROOM {
-            put(desk, feed, text)?;
-            text.clear();
-        }
-        if step == Step::Over {
-            let dropped = joiner.dropped();
-            return Ok(Joined { dropped });
-        }
-    }
 }

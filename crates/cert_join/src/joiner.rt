@@ -153,7 +153,7 @@ impl Joiner {
     ) -> Result<Stage, AllocError> {
         heads.append(text)?;
         text.extend_from_slice(b"cover ")?;
-        append_number(text, numbering.count() as u32)?;
+        append_number(text, numbering.count)?;
         text.push(b'\n')?;
         self.dropped = numbering.dropped;
         self.numbers = numbering.numbers;

@@ -7,6 +7,9 @@ use std::alloc::{AllocError, Global};
 use std::collections::HashMap;
 use std::hash::{FoldHasher, Hasher};
 
+// A certificate has at most so many lemmas.
+const MOST_LEMMAS: u32 = 1_048_576;
+
 /// Goes through the lemmas of each certificate once, and numbers them: equal states have one number, in the order in
 /// which they come.
 #[derive(Drop)]
@@ -21,6 +24,8 @@ pub struct Numbering {
     known: HashMap<Vec<u8>, u32>,
     // Of each lemma, a hash of the lines of its tree.
     trees: Vec<u64>,
+    /// How many lemmas there are.
+    pub count: u32,
     // The lemma whose tree is read, and whether it is a new one.
     lemma: Option<(u32, bool)>,
     tree: FoldHasher,
@@ -40,16 +45,12 @@ impl Numbering {
             state: Vec::new(alloc),
             known: HashMap::new(alloc),
             trees: Vec::new(alloc),
+            count: 0,
             lemma: None,
             tree: FoldHasher::default(),
             numbers: Vec::new(alloc),
             dropped: false,
         }
-    }
-
-    /// How many lemmas there are.
-    pub fn count(&self) -> usize {
-        self.trees.len()
     }
 
     // The tree of a lemma was read whole.
@@ -74,7 +75,8 @@ impl Numbering {
         if let Some(number) = self.known.get(&self.state) {
             return Ok((*number, false));
         }
-        let number = self.trees.len() as u32;
+        let number = self.count;
+        self.count = self.count.saturating_add(1);
         let mut state: Vec<u8> = Vec::new(self.alloc);
         state.extend_from_slice(&self.state)?;
         if self.known.insert(state, number).is_err() {
@@ -140,10 +142,13 @@ impl Numbering {
             cursor.rewind(mark);
             self.mark = None;
             self.part = self.part.saturating_add(1);
-        } else {
-            self.take(line)?;
-            cursor.pass();
+            return Ok(Step::On);
         }
+        self.take(line)?;
+        if self.count > MOST_LEMMAS {
+            return Err(apart(self.part, cursor));
+        }
+        cursor.pass();
         Ok(Step::On)
     }
 }

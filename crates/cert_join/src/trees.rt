@@ -120,7 +120,10 @@ fn copy(
         *waiting = 0;
         return Ok(Step::On);
     };
-    while *waiting > 0 && text.len() < ROOM {
+    for _ in 0..ROOM {
+        if *waiting == 0 || text.len() >= ROOM {
+            break;
+        }
         if !cursor.is_ready() {
             return Ok(Step::Read(part));
         }
