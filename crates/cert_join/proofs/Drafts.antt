@@ -1,11 +1,11 @@
 -- How pieces that are drafted and checked add up.
-use Rattle.std.proofs.Common.{◌≡◌, ℕ, List, ◌++◌, Option, Some, None, Result, Ok, Err, take, refl, ap, subst, ◌∙◌}
+use Rattle.std.proofs.Common.{◌≡◌, ℕ, List, ◌++◌, Option, Some, None, Ok, take, refl, ap, subst, ◌∙◌}
 use Rattle.std.specs.Option.{option_map}
 use Rattle.desk.specs.declared.desk.Port.TheVariants.{Part, Draft}
 use Rattle.desk.specs.Sight.{Sight, with_bytes, SideFailed, FailsOn}
 use Rattle.desk.specs.Texts.{WritesPrefix, WritesThenFails}
 use Rattle.poly_graph.specs.ProblemViews.{Parts}
-use Rattle.cert_check.specs.Feeding.{HasTaken, IsFedPiece}
+use Rattle.cert_check.specs.Feeding.{IsFedPiece}
 use Rattle.cert_check.specs.declared.feed.Feed.{Feed}
 use Rattle.cert_join.specs.Drafting.{drafted, IsDrafted, IsUnderWay, IsReadFailed, IsDraftFailed, IsSomeDrafted}
 
@@ -22,8 +22,8 @@ drafts s d new text more is written = written ∙ ap (λ x. with_bytes Draft mor
 
 -- a piece was written, and the checker took it
 pub goes_on : (s : Sight) (p : Parts) (b : Option ℕ) (d new : Sight) (f g : Feed) (more : List ℕ) →
-    IsUnderWay s p b d f → new ≡ with_bytes Draft more d → IsFedPiece f more g (Ok _) → IsUnderWay s p b new g
-goes_on s p b d new f g more way written fed = record {
+    (x : Unit {0}) → IsUnderWay s p b d f → new ≡ with_bytes Draft more d → IsFedPiece f more g (Ok x) → IsUnderWay s p b new g
+goes_on s p b d new f g more x way written fed = record {
   text = way.text ++ more;
   drafted = drafts s d new way.text more way.drafted written;
   taken = fed _ _ _ way.taken;
@@ -52,7 +52,7 @@ pub draft_fails : (s : Sight) (p : Parts) (b : Option ℕ) (d new : Sight) (f : 
 draft_fails s p b d new f more way fails = record {
   text = way.text ++ take fails.count more;
   side = let P : ℕ → Type 0 = λ n. SideFailed n new.out_faults in subst P (ap (λ x. x.out_faults) way.drafted) fails.side;
-  same = fails.prefix ∙ ap (λ x. record x { out_faults = new.out_faults }) (drafts s d _ way.text (take fails.count more) way.drafted refl);
+  same = fails.prefix ∙ ap (λ (x : Sight). record x { out_faults = new.out_faults }) (drafts s d _ way.text (take fails.count more) way.drafted refl);
 }
 
 -- a certificate could not be read
@@ -60,5 +60,9 @@ pub read_fails : (s : Sight) (p : Parts) (b : Option ℕ) (d new : Sight) (f : F
 read_fails s p b d new f way fails = record {
   text = way.text;
   side = let P : ℕ → Type 0 = λ n. SideFailed n new.in_faults in subst P (ap (λ x. x.in_faults) way.drafted) fails.side;
-  same = fails.same ∙ ap (λ x. record x { in_faults = new.in_faults }) way.drafted;
+  same = fails.same ∙ ap (λ (x : Sight). record x { in_faults = new.in_faults }) way.drafted;
 }
+
+-- what is under way stays so
+abbrev pub StaysUnderWay : Sight → Feed → Sight → Feed → Type 0
+StaysUnderWay old f new g = (s : Sight) (p : Parts) (b : Option ℕ) → IsUnderWay s p b old f → IsUnderWay s p b new g

@@ -10,8 +10,8 @@
 #![tactic(auto)]
 
 mod cursor;
+mod drafting;
 mod heads;
-mod join;
 mod joiner;
 mod lemmas;
 mod line;
@@ -20,5 +20,5 @@ mod stop;
 mod trees;
 mod weighing;
 
-pub use join::{Joined, join};
+pub use drafting::{Joined, join};
 pub use stop::{Place, Stop};

@@ -69,8 +69,10 @@ fn step<D: Desk>(
     }
     let is_over = step == Step::Over;
     if is_over || text.len() >= ROOM {
-        put(desk, feed, text)?;
-        text.clear();
+        match put(desk, feed, text) {
+            Ok(()) => text.clear(),
+            Err(stop) => return Err(stop),
+        }
     }
     Ok(is_over)
 }
@@ -85,9 +87,13 @@ fn run<D: Desk>(
     ensures { GoesOn (D.sight desk.old) feed.old result (D.sight desk.new) feed.new }
 {
     for _ in 0..u64::MAX {
-        if step(desk, feed, joiner, text)? {
-            let dropped = joiner.dropped();
-            return Ok(Joined { dropped });
+        match step(desk, feed, joiner, text) {
+            Ok(false) => {}
+            Ok(true) => {
+                let dropped = joiner.dropped();
+                return Ok(Joined { dropped });
+            }
+            Err(stop) => return Err(stop),
         }
     }
     // So many steps go through more bytes than a certificate may have.
