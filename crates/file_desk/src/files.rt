@@ -332,9 +332,7 @@ impl FileDesk {
             }
         }
     }
-}
 
-impl FileDesk {
     // Starts a draft.
     fn start_draft(&mut self, name: &str) -> Result<(), Denied>
         ensures ok { OnOk result (self.new.out_faults ≡ self.old.out_faults) }
@@ -366,17 +364,18 @@ impl FileDesk {
         Ok(())
     }
 
-    // Closes the draft, and gives it its name.
+    // Gives the draft its name, when all that was written is in its file, and closes it.
     fn end_draft(&mut self) -> Result<(), Option<io::Error>>
         ensures in_faults { self.new.in_faults ≡ self.old.in_faults }
         ensures out_faults { self.new.out_faults ≡ self.old.out_faults }
     {
-        self.draft_out = Sink::Closed;
-        let Some(draft) = &self.draft else {
+        let (Some(draft), Sink::File(file)) = (&self.draft, &self.draft_out) else {
             return Err(None);
         };
+        file.sync_all()?;
         draft.keep(&self.rt)?;
         self.draft = None;
+        self.draft_out = Sink::Closed;
         Ok(())
     }
 }

@@ -9,7 +9,7 @@ returns-in-Some-clause-ok c =
     let (_, is, _, there, _) = rw c.deref.ensures.value at c.in-Some.ensures.lookup in
     let rest : c.rest_from.result.now ≡ drop c.args.at c.in-Some.bytes.now.items = rw c.deref-in-Some.ensures.value at c.rest_from.ensures in
     let front : IsFront c.copy_front.result (length c.copy_front.new.into) c.copy_front.new.into (drop c.args.at c.in-Some.bytes.now.items) =
-        rw rest at (front_copied _ _ _ _ _ c.args.self.now.some c.copy_front.ensures.count c.copy_front.ensures.bytes) in
+    rw rest at (front_copied _ _ _ _ _ c.args.self.now.some c.copy_front.ensures.count c.copy_front.ensures.bytes) in
     record {
       fits = grind (arith, common_steps, c.copy_front.ensures);
       front = front_of_part c.args.self.now.parts.items _ _ _ _ _ _ there.0 is front;
