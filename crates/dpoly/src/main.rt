@@ -5,6 +5,7 @@ mod answers;
 mod auto;
 mod explain;
 mod leaf;
+mod lists;
 mod located;
 mod plan;
 mod progress;
@@ -19,6 +20,7 @@ use auto::resolve_workers;
 pub use check_run::Status;
 use explain::explain;
 use file_desk::{FileDesk, words_of};
+use lists::resolve_lists;
 use progress::Progress;
 pub use solve_core::{Gate, NoGate};
 use std::process::ExitCode;
@@ -31,6 +33,9 @@ fn main(rt: HostRuntime) -> ExitCode {
     };
     if resolve_workers(&rt, rt.alloc(), &mut words).is_err() {
         return ExitCode::from(Status::NoMemory.code());
+    }
+    if let Err(status) = resolve_lists(&rt, &mut words) {
+        return ExitCode::from(status.code());
     }
     let gate = Progress::new(rt);
     let status = run_top(&rt, rt.alloc(), &words, &mut desk, &gate);
