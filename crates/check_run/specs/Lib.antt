@@ -4,6 +4,7 @@ pub mod Can
 pub mod Check
 pub mod Course
 pub mod Headline
+pub mod Joined
 pub mod Parts
 pub mod Resumed
 pub mod Run
