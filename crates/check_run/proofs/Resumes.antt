@@ -19,7 +19,7 @@ use Rattle.check_run.specs.Course.{Course, appended}
 use Rattle.check_run.specs.Can.{CanBy, OfProblem}
 use Rattle.check_run.specs.Resumed.{CanResume, CanResumeBy, GoesOn, IsFoundBehind, IsMore, IsMoreCovered, header_bound, part_text, share_of, share_text, trees_left}
 use Rattle.check_run.specs.Run.{IsShown}
-use Rattle.check_run.specs.Headline.{IsWritten, IsResumed, IsResumedUnsat, IsRefusedToResume, IsTrueDeltaSat, IsTrueRefusal, IsTrueUnsat, IsTrueValue, delta_sat_word, unsat_word}
+use Rattle.check_run.specs.Headline.{IsWritten, IsResumed, IsWrittenUnsat, IsRefusedToResume, IsTrueDeltaSat, IsTrueRefusal, IsTrueUnsat, IsTrueValue, delta_sat_word, unsat_word}
 use Rattle.check_run.proofs.Apart.{apart}
 use Rattle.check_run.proofs.Differ.{written-is, apart-left, answered-not, certificate-refused-not, refused-not, script-refused-not, delta-so}
 
@@ -104,16 +104,16 @@ resumed-of words script cert_in old new (Some f) tail e can status wrote cert = 
 resumed-of words script cert_in old new None tail e can status wrote cert =
     resumed-by words script cert_in old new can.0 tail (verdict can.0 (header_bound cert_in) cert_in) (record { clean = e; built = can.1 }) refl can.2 status wrote cert
 
-pub resume-so : (words : Resume) (script cert_in : List ℕ) (old new : Sight) → IsShown (Some (resume words)) script cert_in old new Answered → IsResumed words script cert_in old new
-resume-so words script cert_in old new (course, can, status, went) =
+pub resume-so : (words : Resume) (script cert_in : List ℕ) (parts : List (List ℕ)) (old new : Sight) → IsShown (Some (resume words)) script cert_in parts old new Answered → IsResumed words script cert_in old new
+resume-so words script cert_in parts old new (course, can, status, went) =
     resumed-of words script cert_in old new (script_fault (header_bound cert_in) script) can.0 refl can.1 (sym (ap (λ (c : Course). c.status) can.2) ∙ status)
     (went.answer ∙ ap (λ (c : Course). appended old.answer c.answer) can.2) (went.cert ∙ ap (λ (c : Course). appended old.cert_out c.cert) can.2)
 
 -- ---- what is answered
 
-pub resume-unsat : (words : Resume) (script cert_in : List ℕ) (old new : Sight) → IsShown (Some (resume words)) script cert_in old new Answered → IsTrueUnsat (Some (resume words)) script cert_in old new
-resume-unsat words script cert_in old new shows rest wrote =
-    let so = resume-so words script cert_in old new shows in
+pub resume-unsat : (words : Resume) (script cert_in : List ℕ) (parts : List (List ℕ)) (old new : Sight) → IsShown (Some (resume words)) script cert_in parts old new Answered → IsTrueUnsat (Some (resume words)) script cert_in parts old new
+resume-unsat words script cert_in parts old new shows rest wrote =
+    let so = resume-so words script cert_in parts old new shows in
     let b : Option ℕ = header_bound cert_in in
     let s : Loosenings = in_newest 1 so.loosenings in
     let text : unsat_word ++ rest ≡ so.text = written-is old.answer new.answer (unsat_word ++ rest) so.text wrote so.answer in
@@ -131,9 +131,9 @@ resume-unsat words script cert_in old new shows rest wrote =
       },
     )
 
-pub resume-delta : (words : Resume) (script cert_in : List ℕ) (old new : Sight) → IsShown (Some (resume words)) script cert_in old new Answered → IsTrueDeltaSat (Some (resume words)) script cert_in old new
-resume-delta words script cert_in old new shows rest wrote =
-    let so = resume-so words script cert_in old new shows in
+pub resume-delta : (words : Resume) (script cert_in : List ℕ) (parts : List (List ℕ)) (old new : Sight) → IsShown (Some (resume words)) script cert_in parts old new Answered → IsTrueDeltaSat (Some (resume words)) script cert_in parts old new
+resume-delta words script cert_in parts old new shows rest wrote =
+    let so = resume-so words script cert_in parts old new shows in
     let b : Option ℕ = header_bound cert_in in
     let s : Loosenings = in_newest 1 so.loosenings in
     let text : delta_sat_word ++ rest ≡ so.text = written-is old.answer new.answer (delta_sat_word ++ rest) so.text wrote so.answer in
@@ -149,7 +149,7 @@ resume-delta words script cert_in old new shows rest wrote =
 -- ---- what is refused
 
 refused-by : (words : Resume) (script cert_in : List ℕ) (old new : Sight) (p : Problem) (tail : Course) (v : Verdict) → HasProblem (header_bound cert_in) p script → verdict p (header_bound cert_in) cert_in ≡ v →
-    CanResumeBy v p (header_bound cert_in) words cert_in tail → tail.status ≡ CertRefused → new.answer ≡ appended old.answer tail.answer → new.cert_out ≡ appended old.cert_out tail.cert → IsTrueRefusal (Some (resume words)) script cert_in old new
+    CanResumeBy v p (header_bound cert_in) words cert_in tail → tail.status ≡ CertRefused → new.answer ≡ appended old.answer tail.answer → new.cert_out ≡ appended old.cert_out tail.cert → IsTrueRefusal (Some (resume words)) script cert_in parts old new
 refused-by words script cert_in old new p tail (accepted s w) has e can status wrote none = absurd (answered-not tail.status (ap (λ (c : Course). c.status) can.3) status)
 refused-by words script cert_in old new p tail (refused f n) has e can status wrote none = (
   record { problem = p; has = has; fault = f; line = n; refuses = e; written = wrote ∙ ap (λ (c : Course). appended old.answer c.answer) can },
@@ -158,12 +158,12 @@ refused-by words script cert_in old new p tail (refused f n) has e can status wr
 
 refused-of : (words : Resume) (script cert_in : List ℕ) (old new : Sight) (f : Option ScriptFault) (tail : Course) → script_fault (header_bound cert_in) script ≡ f →
     CanBy f (OfProblem (header_bound cert_in) script (λ p. CanResume p (header_bound cert_in) words cert_in)) tail → tail.status ≡ CertRefused → new.answer ≡ appended old.answer tail.answer → new.cert_out ≡ appended old.cert_out tail.cert →
-    IsTrueRefusal (Some (resume words)) script cert_in old new
+    IsTrueRefusal (Some (resume words)) script cert_in parts old new
 refused-of words script cert_in old new (Some f) tail e can status wrote none = absurd (script-refused-not tail.status (ap (λ (c : Course). c.status) can) status)
 refused-of words script cert_in old new None tail e can status wrote none =
     refused-by words script cert_in old new can.0 tail (verdict can.0 (header_bound cert_in) cert_in) (record { clean = e; built = can.1 }) refl can.2 status wrote none
 
-pub resume-refused : (words : Resume) (script cert_in : List ℕ) (old new : Sight) → IsShown (Some (resume words)) script cert_in old new CertRefused → IsTrueRefusal (Some (resume words)) script cert_in old new
-resume-refused words script cert_in old new (course, can, status, went) =
+pub resume-refused : (words : Resume) (script cert_in : List ℕ) (parts : List (List ℕ)) (old new : Sight) → IsShown (Some (resume words)) script cert_in parts old new CertRefused → IsTrueRefusal (Some (resume words)) script cert_in parts old new
+resume-refused words script cert_in parts old new (course, can, status, went) =
     refused-of words script cert_in old new (script_fault (header_bound cert_in) script) can.0 refl can.1 (sym (ap (λ (c : Course). c.status) can.2) ∙ status)
     (went.answer ∙ ap (λ (c : Course). appended old.answer c.answer) can.2) (went.cert ∙ ap (λ (c : Course). appended old.cert_out c.cert) can.2)
