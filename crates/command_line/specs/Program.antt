@@ -3,9 +3,9 @@ use Rattle.std.specs.Prelude.{ℕ, true, pos, List, [], ◌∷◌, Some, codes}
 use Rattle.clap.specs.Words.{App, Rule, Text, new_app, new_rule, with_rule, with_subcommand}
 use Rattle.clap.specs.declared.builder.value_parser.ValueParser.TheVariants as parser
 use Rattle.command_line.specs.declared.program.Part.{Part}
-use Rattle.command_line.specs.declared.program.Part.TheVariants.{Script, Cert, Out, Seed, Size, Delta, Margin, Least, Budget, Bound, Workers, Share}
+use Rattle.command_line.specs.declared.program.Part.TheVariants.{Script, Cert, Certs, Out, Seed, Size, Delta, Margin, Least, Budget, Bound, Workers, Share}
 use Rattle.command_line.specs.declared.program.Name.{Name}
-use Rattle.command_line.specs.declared.program.Name.TheVariants.{Solve, Check, Demo, Upgrade, Plan, Resume}
+use Rattle.command_line.specs.declared.program.Name.TheVariants.{Solve, Check, Demo, Upgrade, Plan, Resume, Join}
 
 -- a word that has to be there
 abbrev pub word_rule : Text → Rule
@@ -41,6 +41,10 @@ workers_rule = number_rule (codes "workers") 1 64 (codes "1" ∷ [])
 abbrev pub share_rule : Rule
 share_rule = record (new_rule (codes "part")) { long = Some (codes "part"); defaults = codes "1/1" ∷ [] }
 
+-- the last words, two or more
+abbrev pub certs_rule : Rule
+certs_rule = record (word_rule (codes "cert")) { range = Some (record { start_inclusive = 2; end_inclusive = 1000000 }) }
+
 abbrev pub seed_rule : Rule
 seed_rule = record (word_rule (codes "seed")) { parser = Some (parser.Unsigned 0 18446744073709551615) }
 
@@ -51,6 +55,7 @@ size_rule = record (word_rule (codes "size")) { parser = Some (parser.Signed (po
 abbrev pub rule_in : Part → Rule
 rule_in Script = word_rule (codes "script")
 rule_in Cert = word_rule (codes "cert")
+rule_in Certs = certs_rule
 rule_in Out = word_rule (codes "out")
 rule_in Seed = seed_rule
 rule_in Size = size_rule
@@ -83,6 +88,7 @@ app_in Demo = with_parts (new_app (codes "demo")) (Seed ∷ Size ∷ Cert ∷ Wo
 app_in Upgrade = with_parts (new_app (codes "upgrade")) (Script ∷ Cert ∷ Out ∷ Bound ∷ [])
 app_in Plan = with_parts (new_app (codes "plan")) (Script ∷ Delta ∷ Margin ∷ Bound ∷ [])
 app_in Resume = with_parts (new_app (codes "resume")) (Script ∷ Cert ∷ Out ∷ Share ∷ Least ∷ Budget ∷ Workers ∷ [])
+app_in Join = with_parts (new_app (codes "join")) (Script ∷ Out ∷ Certs ∷ [])
 
 -- the command before its subcommands are added, one of which has to be given
 abbrev pub new_program : App
@@ -95,4 +101,4 @@ with_commands app (name ∷ names) = with_commands (with_subcommand app (app_in 
 
 -- the whole command
 unfoldable pub program : App
-program = with_commands new_program (Solve ∷ Check ∷ Demo ∷ Upgrade ∷ Plan ∷ Resume ∷ [])
+program = with_commands new_program (Solve ∷ Check ∷ Demo ∷ Upgrade ∷ Plan ∷ Resume ∷ Join ∷ [])

@@ -1,5 +1,6 @@
 -- The words as the code holds them.
 use Rattle.std.specs.Prelude.{◌≡◌, List, [], map, string_bytes}
+use Rattle.std.specs.Borrow.{Bor}
 use Rattle.std.specs.declared.alloc.Global.{Global}
 use Rattle.std.specs.declared.string.String.{String}
 use Rattle.clap.specs.Words.{Text, fault_of, found_of, matches_of, rows_of, subcommand_of, subcommand_rows_of}
@@ -12,10 +13,12 @@ use Rattle.command_line.specs.declared.request.UpgradeWords.{UpgradeWords}
 use Rattle.command_line.specs.declared.request.PlanWords.{PlanWords}
 use Rattle.command_line.specs.declared.request.Share.{Share}
 use Rattle.command_line.specs.declared.request.ResumeWords.{ResumeWords}
+use Rattle.command_line.specs.declared.request.JoinWords.{JoinWords}
+use Rattle.command_line.specs.declared.read.JoinNames.{JoinNames}
 use Rattle.command_line.specs.declared.request.Request.{Request}
-use Rattle.command_line.specs.declared.request.Request.TheVariants.{Solve, Check, Demo, Upgrade, Plan, Resume}
+use Rattle.command_line.specs.declared.request.Request.TheVariants.{Solve, Check, Demo, Upgrade, Plan, Resume, Join}
 use Rattle.command_line.specs.Words as words
-use Rattle.command_line.specs.Words.{Command, solve, check, demo, upgrade, plan, resume}
+use Rattle.command_line.specs.Words.{Command, solve, check, demo, upgrade, plan, resume, join}
 
 abbrev pub seen_solve : SolveWords → words.Solve
 seen_solve asked = record { script = asked.script.now; cert = asked.cert.now; options = asked.options }
@@ -46,6 +49,17 @@ seen_resume asked = record {
   workers = asked.workers;
 }
 
+-- the texts behind references
+abbrev pub texts_behind : List (Bor Text) → List Text
+texts_behind = map (λ s. s.now)
+
+abbrev pub seen_join : JoinWords → words.Join
+seen_join asked = record { script = asked.script.now; out = asked.out.now; certs = texts_behind asked.certs.items }
+
+-- the same before the names of the certificates are copied
+abbrev pub seen_names : JoinNames → words.Join
+seen_names asked = record { script = asked.script.now; out = asked.out.now; certs = texts_behind asked.certs.now }
+
 abbrev pub seen : Request → Command
 seen (Solve asked) = solve (seen_solve asked)
 seen (Check asked) = check (seen_check asked)
@@ -53,6 +67,7 @@ seen (Demo asked) = demo (seen_demo asked)
 seen (Upgrade asked) = upgrade (seen_upgrade asked)
 seen (Plan asked) = plan (seen_plan asked)
 seen (Resume asked) = resume (seen_resume asked)
+seen (Join asked) = join (seen_join asked)
 
 -- the bytes of each word
 abbrev pub texts_of : List (String Global) → List Text

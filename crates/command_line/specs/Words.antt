@@ -1,11 +1,11 @@
 -- What the program's words ask for, by the parser's own definitions.
-use Rattle.std.specs.Prelude.{◌&&◌, ◌==◌, ◌^◌, ◌<◌, ◌≤◌, IfSome, ℕ, Bool, List, Option, Some, None, codes, nat_lt, nat_le, length, if◌then◌else◌, option_and_then, option_map}
+use Rattle.std.specs.Prelude.{◌&&◌, ◌==◌, ◌^◌, ◌<◌, ◌≤◌, IfSome, ℕ, Bool, List, Option, Some, None, codes, nat_lt, nat_le, length, not, if◌then◌else◌, option_and_then, option_map}
 use Rattle.std.specs.Str.{bytes_eq}
 use Rattle.std.specs.List.{list_all, position_or_len, before_first, after_first}
 use Rattle.std.specs.Char.{digit_value}
 use Rattle.std.specs.Str.Parse.{without_leading_plus, digits_value}
 use Rattle.clap.specs.Walk.{is_empty}
-use Rattle.clap.specs.Words.{Row, Text, fault_of, first_of, matches_of, one_of, subcommand_of}
+use Rattle.clap.specs.Words.{Row, Text, all_of, fault_of, first_of, matches_of, one_of, subcommand_of}
 use Rattle.command_line.specs.declared.request.Options.{Options}
 use Rattle.command_line.specs.Program.{checker, program}
 
@@ -181,6 +181,29 @@ resume_of rows =
     (number_in 1 64 (codes "workers") rows)) (number_in 0 1048576 (codes "budget") rows)) (number_in 0 60 (codes "least-bits") rows))
     (share_in rows)) (first_of (codes "out") rows)) (first_of (codes "cert") rows)) (first_of (codes "script") rows)
 
+-- what `join` is asked for: the script, the certificate that is written, and those that are read
+pub record Join : Type 0 where
+  pub script : Text
+  pub out : Text
+  pub certs : List Text
+
+-- so many that they can be joined
+abbrev pub are_several : List Text → Bool
+are_several certs = nat_le 2 (length certs) && nat_le (length certs) 1000000
+
+-- none from standard input
+abbrev pub are_files : List Text → Bool
+are_files certs = list_all (λ cert. not (bytes_eq cert (codes "-"))) certs
+
+abbrev pub joined_files : Join → Option Join
+joined_files asked = if are_several asked.certs && are_files asked.certs then Some asked else None
+
+abbrev pub join_of : List Row → Option Join
+join_of rows =
+    option_and_then (λ script. option_and_then (λ out. option_and_then (λ certs.
+    joined_files (record { script = script; out = out; certs = certs }))
+    (all_of (codes "cert") rows)) (first_of (codes "out") rows)) (first_of (codes "script") rows)
+
 pub data Command : Type 0 where
   solve : Solve → Command
   check : Check → Command
@@ -188,16 +211,21 @@ pub data Command : Type 0 where
   upgrade : Upgrade → Command
   plan : Plan → Command
   resume : Resume → Command
+  join : Join → Command
 
--- what the subcommand and what was found for it ask for
-abbrev pub chosen : Text × List Row → Option Command
-chosen entered =
+-- what a subcommand other than `join` and what was found for it ask for
+abbrev pub chosen_other : Text × List Row → Option Command
+chosen_other entered =
     if bytes_eq entered.0 (codes "solve") then option_map (λ asked. solve asked) (solve_of entered.1)
     else (if bytes_eq entered.0 (codes "check") then option_map (λ asked. check asked) (check_of entered.1)
     else (if bytes_eq entered.0 (codes "demo") then option_map (λ asked. demo asked) (demo_of entered.1)
     else (if bytes_eq entered.0 (codes "upgrade") then option_map (λ asked. upgrade asked) (upgrade_of entered.1)
     else (if bytes_eq entered.0 (codes "plan") then option_map (λ asked. plan asked) (plan_of entered.1)
     else (if bytes_eq entered.0 (codes "resume") then option_map (λ asked. resume asked) (resume_of entered.1) else None)))))
+
+-- what the subcommand and what was found for it ask for
+abbrev pub chosen : Text × List Row → Option Command
+chosen entered = if bytes_eq entered.0 (codes "join") then option_map (λ asked. join asked) (join_of entered.1) else chosen_other entered
 
 -- What words ask for; none where they are refused, for whatever cause but that memory ran out.
 abbrev pub command_of : List Text → Option Command
@@ -252,6 +280,11 @@ pub record IsResume (asked : Resume) : Type 0 where
   pub workers_least : 1 ≤ asked.workers
   pub workers_most : asked.workers ≤ 64
 
+-- There are so many certificates that they can be joined.
+pub record IsJoin (asked : Join) : Type 0 where
+  pub certs_least : 2 ≤ length asked.certs
+  pub certs_most : length asked.certs ≤ 1000000
+
 -- All that is asked for is in its range.
 abbrev pub IsInRange : Command → Type 0
 IsInRange (solve asked) = AreOptions asked.options
@@ -260,3 +293,4 @@ IsInRange (demo asked) = IsDemo asked
 IsInRange (upgrade asked) = IsBound asked.bound
 IsInRange (plan asked) = IsPlan asked
 IsInRange (resume asked) = IsResume asked
+IsInRange (join asked) = IsJoin asked

@@ -1,7 +1,7 @@
 ghost use Rattle.std.specs.Prelude.{◌≡◌, IfOk, false};
 ghost use Rattle.clap.specs.Words.{rule_of, app_of, new_app};
 ghost use Rattle.clap.specs.declared.builder.command.Command.TheViews.{out-Command as fields_of};
-ghost use Rattle.command_line.specs.Program.{delta_rule, margin_rule, least_rule, budget_rule, bound_rule, workers_rule, share_rule, word_rule, seed_rule, size_rule, rule_in, with_parts, app_in, with_commands, checker, program};
+ghost use Rattle.command_line.specs.Program.{delta_rule, margin_rule, least_rule, budget_rule, bound_rule, workers_rule, share_rule, word_rule, certs_rule, seed_rule, size_rule, rule_in, with_parts, app_in, with_commands, checker, program};
 
 use clap::{Arg, Command, value_parser};
 use std::alloc::{AllocError, Global};
@@ -13,6 +13,7 @@ const USUAL_MARGIN: &str = "20";
 pub enum Part {
     Script,
     Cert,
+    Certs,
     Out,
     Seed,
     Size,
@@ -34,6 +35,7 @@ pub enum Name {
     Upgrade,
     Plan,
     Resume,
+    Join,
 }
 
 fn delta_option<'a>(alloc: Global) -> Arg<'a>
@@ -121,6 +123,19 @@ fn word<'a>(alloc: Global, id: &'a str) -> Arg<'a>
     Arg::new(alloc, id).required(true)
 }
 
+// The last words, two or more.
+fn certs_word<'a>(alloc: Global) -> Arg<'a>
+    ensures rule { rule_of result ≡ certs_rule }
+    ensures local { result.global ≡ false }
+{
+    Arg::new(alloc, "cert")
+        .required(true)
+        .num_args(2..=1000000)
+        .help(
+            "From 2 to 1000000 certificates, each in a file; `--list FILE` stands for the names in FILE, one a line",
+        )
+}
+
 fn seed_word<'a>(alloc: Global) -> Arg<'a>
     ensures rule { rule_of result ≡ seed_rule }
     ensures local { result.global ≡ false }
@@ -146,6 +161,7 @@ fn arg_of<'a>(alloc: Global, part: Part) -> Arg<'a>
     match part {
         Part::Script => word(alloc, "script"),
         Part::Cert => word(alloc, "cert"),
+        Part::Certs => certs_word(alloc),
         Part::Out => word(alloc, "out"),
         Part::Seed => seed_word(alloc),
         Part::Size => size_word(alloc),
@@ -212,6 +228,8 @@ const RESUME: [Part; 7] = [
     Part::Budget,
     Part::Workers,
 ];
+
+const JOIN: [Part; 3] = [Part::Script, Part::Out, Part::Certs];
 
 fn solve_command<'a>(alloc: Global) -> Result<Command<'a>, AllocError>
     ensures app { IfOk result (λ c. app_of c ≡ app_in Name.Solve) }
@@ -291,6 +309,19 @@ fn resume_command<'a>(alloc: Global) -> Result<Command<'a>, AllocError>
     with_parts(alloc, command, &RESUME)
 }
 
+fn join_command<'a>(alloc: Global) -> Result<Command<'a>, AllocError>
+    ensures app { IfOk result (λ c. app_of c ≡ app_in Name.Join) }
+    ensures local { IfOk result (λ c. (fields_of c).has_globals ≡ false) }
+{
+    let command = described(
+        alloc,
+        "join",
+        "Makes one certificate of several of a script",
+        "Example: dpoly join braking.smt2 braking.cert part1.cert part2.cert",
+    );
+    with_parts(alloc, command, &JOIN)
+}
+
 // The checker's command, as the definitions have it.
 pub fn checker_command<'a>(alloc: Global) -> Result<Command<'a>, AllocError>
     ensures app { IfOk result (λ c. app_of c ≡ checker) }
@@ -316,6 +347,7 @@ fn subcommand_of<'a>(alloc: Global, name: Name) -> Result<Command<'a>, AllocErro
         Name::Upgrade => upgrade_command(alloc),
         Name::Plan => plan_command(alloc),
         Name::Resume => resume_command(alloc),
+        Name::Join => join_command(alloc),
     }
 }
 
@@ -336,13 +368,14 @@ fn with_commands<'a>(
     Ok(command)
 }
 
-const NAMES: [Name; 6] = [
+const NAMES: [Name; 7] = [
     Name::Solve,
     Name::Check,
     Name::Demo,
     Name::Upgrade,
     Name::Plan,
     Name::Resume,
+    Name::Join,
 ];
 
 // The program's command, as the definitions have it.

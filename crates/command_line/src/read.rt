@@ -1,13 +1,13 @@
 ghost use Rattle.std.specs.Prelude.{◌≡◌, ◌≢◌, ◌&&◌, [], IfOk, IsErrOf, None, Some, codes, option_and_then, option_map};
 ghost use Rattle.std.specs.Str.{bytes_eq};
-ghost use Rattle.clap.specs.Words.{fault_of, first_of, found_of, kind_of, one_of, rows_of};
+ghost use Rattle.clap.specs.Words.{all_of, fault_of, first_of, found_of, kind_of, one_of, rows_of, subcommand_rows_of};
 ghost use Rattle.command_line.specs.Program.{checker, program};
-ghost use Rattle.command_line.specs.Words.{check_of, checker_of, chosen, command_of, demo_of, long_number_in, number_in, number_of, options_of, IsInRange, ordered_share, parts_of, plan_of, resume_of, share_by, share_of, share_in, solve_of, upgrade_of};
-ghost use Rattle.command_line.specs.Seen.{AreCheckerMatchesOf, AreMatchesOf, seen, seen_check, seen_demo, seen_plan, seen_resume, seen_share, seen_solve, seen_upgrade, texts_of};
+ghost use Rattle.command_line.specs.Words.{are_files, check_of, checker_of, chosen, chosen_other, command_of, demo_of, join_of, long_number_in, number_in, number_of, options_of, IsInRange, ordered_share, parts_of, plan_of, resume_of, share_by, share_of, share_in, solve_of, upgrade_of};
+ghost use Rattle.command_line.specs.Seen.{AreCheckerMatchesOf, AreMatchesOf, seen, seen_check, seen_demo, seen_join, seen_names, seen_plan, seen_resume, seen_share, seen_solve, seen_upgrade, texts_behind, texts_of};
 
 use crate::program::{checker_command, program_command};
 use crate::request::{
-    CheckWords, DemoWords, Options, PlanWords, Request, ResumeWords, Share, SolveWords,
+    CheckWords, DemoWords, JoinWords, Options, PlanWords, Request, ResumeWords, Share, SolveWords,
     UpgradeWords, usual_options,
 };
 use clap::error::ErrorKind;
@@ -279,9 +279,64 @@ fn resume_words<'a>(matches: &ArgMatches<'a>) -> Option<ResumeWords<'a>>
     })
 }
 
-// What the subcommand of this name asks for.
+// All the words that stand for a place.
+fn texts<'m, 'a>(matches: &'m ArgMatches<'a>, id: &str) -> Option<&'m [&'a str]>
+    ensures { option_map (λ s. texts_behind s.now) result
+        ≡ all_of id.now (rows_of (found_of matches.now)) }
+{
+    matches.get_strs(id)
+}
+
+// Whether none of the names is that of standard input.
+fn are_files(names: &[&str]) -> bool
+    ensures { result ≡ are_files (texts_behind names.now) }
+{
+    names.iter().all(|name| *name != "-")
+}
+
+// The names that `join` is asked for.
+#[derive(Clone, Copy)]
+struct JoinNames<'m, 'a> {
+    script: &'a str,
+    out: &'a str,
+    certs: &'m [&'a str],
+}
+
+fn join_names<'m, 'a>(matches: &'m ArgMatches<'a>) -> Option<JoinNames<'m, 'a>>
+    ensures { option_map seen_names result ≡ join_of (rows_of (found_of matches.now)) }
+{
+    let script = text(matches, "script")?;
+    let out = text(matches, "out")?;
+    let certs = texts(matches, "cert")?;
+    if 2 <= certs.len() && certs.len() <= 1_000_000 && are_files(certs) {
+        Some(JoinNames { script, out, certs })
+    } else {
+        None
+    }
+}
+
+fn join_words<'a>(alloc: Global, matches: &ArgMatches<'a>) -> Result<JoinWords<'a>, Refused>
+    ensures ok { IfOk result (λ asked.
+        join_of (rows_of (found_of matches.now)) ≡ Some (seen_join asked)) }
+    ensures usage { IsErrOf result Refused.Usage →
+        join_of (rows_of (found_of matches.now)) ≡ None }
+{
+    let Some(names) = join_names(matches) else {
+        return Err(Refused::Usage);
+    };
+    match Vec::from_slice(alloc, names.certs) {
+        Ok(certs) => Ok(JoinWords {
+            script: names.script,
+            out: names.out,
+            certs,
+        }),
+        Err(_) => Err(Refused::Memory),
+    }
+}
+
+// What the subcommand of this name, which is not `join`, asks for.
 fn choose<'a>(name: &str, matches: &ArgMatches<'a>) -> Option<Request<'a>>
-    ensures { option_map seen result ≡ chosen (name.now, rows_of (found_of matches.now)) }
+    ensures { option_map seen result ≡ chosen_other (name.now, rows_of (found_of matches.now)) }
 {
     if name == "solve" {
         Some(Request::Solve(solve_words(matches)?))
@@ -300,6 +355,43 @@ fn choose<'a>(name: &str, matches: &ArgMatches<'a>) -> Option<Request<'a>>
     }
 }
 
+// What the subcommand of this name asks for.
+fn asked_of<'a>(
+    alloc: Global,
+    name: &str,
+    matches: &ArgMatches<'a>,
+) -> Result<Request<'a>, Refused>
+    ensures ok { IfOk result (λ asked.
+        chosen (name.now, rows_of (found_of matches.now)) ≡ Some (seen asked)) }
+    ensures usage { IsErrOf result Refused.Usage →
+        chosen (name.now, rows_of (found_of matches.now)) ≡ None }
+{
+    if name == "join" {
+        match join_words(alloc, matches) {
+            Ok(asked) => Ok(Request::Join(asked)),
+            Err(refused) => Err(refused),
+        }
+    } else {
+        match choose(name, matches) {
+            Some(asked) => Ok(asked),
+            None => Err(Refused::Usage),
+        }
+    }
+}
+
+// What the subcommand that was met asks for.
+fn asked_in<'a>(alloc: Global, matches: &ArgMatches<'a>) -> Result<Request<'a>, Refused>
+    ensures ok { IfOk result (λ asked.
+        option_and_then chosen (subcommand_rows_of matches.now) ≡ Some (seen asked)) }
+    ensures usage { IsErrOf result Refused.Usage →
+        option_and_then chosen (subcommand_rows_of matches.now) ≡ None }
+{
+    match matches.subcommand() {
+        Some((name, inner)) => asked_of(alloc, name, inner),
+        None => Err(Refused::Usage),
+    }
+}
+
 /// Reads the words of a call; the first of them is the program's name.
 ///
 /// Refused for usage exactly where `command_of` has nothing, `--help` and the like included. Out of memory is a refusal of
@@ -309,16 +401,9 @@ pub fn read_words<'a>(alloc: Global, words: &'a [String]) -> Result<Request<'a>,
     ensures range { IfOk result (λ asked. IsInRange (seen asked)) }
     ensures usage { IsErrOf result Refused.Usage → command_of (texts_of words.entry.now) ≡ None }
 {
-    let matches = match parse(alloc, words) {
-        Ok(matches) => matches,
-        Err(refused) => return Err(refused),
-    };
-    let Some((name, inner)) = matches.subcommand() else {
-        return Err(Refused::Usage);
-    };
-    match choose(name, inner) {
-        Some(asked) => Ok(asked),
-        None => Err(Refused::Usage),
+    match parse(alloc, words) {
+        Ok(matches) => asked_in(alloc, &matches),
+        Err(refused) => Err(refused),
     }
 }
 

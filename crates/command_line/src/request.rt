@@ -94,8 +94,17 @@ pub struct ResumeWords<'a> {
     pub workers: u32,
 }
 
+/// What `join` is asked for: the names of the script, of the certificate that is written, and of those that are read.
+#[derive(Debug, Drop, PartialEq, Eq)]
+pub struct JoinWords<'a> {
+    pub script: &'a str,
+    pub out: &'a str,
+    /// From 2 to 1,000,000; none is `-`.
+    pub certs: Vec<&'a str>,
+}
+
 /// What the words ask for. A name `-` stands for standard input or output.
-#[derive(Clone, Copy, Debug, PartialEq, Eq)]
+#[derive(Debug, Drop, PartialEq, Eq)]
 pub enum Request<'a> {
     Solve(SolveWords<'a>),
     Check(CheckWords<'a>),
@@ -103,6 +112,7 @@ pub enum Request<'a> {
     Upgrade(UpgradeWords<'a>),
     Plan(PlanWords<'a>),
     Resume(ResumeWords<'a>),
+    Join(JoinWords<'a>),
 }
 
 // The options where none is given but the number of workers.

@@ -15,6 +15,9 @@ const ONE_INPUT: &str =
 
 const NO_SHARE: &str = "error: '--part' wants I/N, two numbers with 1 <= I <= N <= 1000000\n";
 
+const PIPED_CERT: &str =
+    "error: a certificate to join cannot come from standard input\n";
+
 // Whether the words ask for the version alone.
 fn asks_version(words: &[String]) -> bool {
     match words {
@@ -27,6 +30,7 @@ fn asks_version(words: &[String]) -> bool {
 fn second_refusal(matches: &ArgMatches<'_>) -> &'static str {
     match matches.subcommand() {
         Some(("check", _)) | Some(("upgrade", _)) => ONE_INPUT,
+        Some(("join", _)) => PIPED_CERT,
         Some(("resume", inner)) => match (inner.get_str("script"), inner.get_str("cert")) {
             (Some("-"), Some("-")) => ONE_INPUT,
             _ => NO_SHARE,
