@@ -258,20 +258,20 @@ check-refused words script cert_in old new tail None can status wrote =
     refused-by words script cert_in old new can.0 tail (session_verdict can.0 words.bound cert_in) can.1 refl can.2 status wrote
 
 -- of `upgrade`, which writes nothing then
-upgrade-refused-by : (words : Upgrade) (script cert_in : List ℕ) (old new : Sight) (ps : List (Problem × Bool)) (tail : Course) (v : SessionVerdict) → HasSession words.bound ps script → session_verdict ps words.bound cert_in ≡ v → CanUpgradeBy v ps words.bound words.out cert_in tail
+upgrade-refused-by : (words : Upgrade) (script cert_in : List ℕ) (parts : List (List ℕ)) (old new : Sight) (ps : List (Problem × Bool)) (tail : Course) (v : SessionVerdict) → HasSession words.bound ps script → session_verdict ps words.bound cert_in ≡ v → CanUpgradeBy v ps words.bound words.out cert_in tail
     → tail.status ≡ CertRefused → new.answer ≡ appended old.answer tail.answer → new.cert_out ≡ appended old.cert_out tail.cert → IsTrueRefusal (Some (upgrade words)) script cert_in parts old new
-upgrade-refused-by words script cert_in old new ps tail (accepted s values) has e can status wrote none = absurd (answered-not tail.status (ap (λ (c : Course). c.status) can.1) status)
-upgrade-refused-by words script cert_in old new ps tail (refused f n) has e can status wrote none = (
+upgrade-refused-by words script cert_in parts old new ps tail (accepted s values) has e can status wrote none = absurd (answered-not tail.status (ap (λ (c : Course). c.status) can.1) status)
+upgrade-refused-by words script cert_in parts old new ps tail (refused f n) has e can status wrote none = (
   record { problems = ps; session = has; fault = f; line = n; refuses = e; written = wrote ∙ ap (λ (c : Course). appended old.answer c.answer) can },
   none ∙ ap (λ (c : Course). appended old.cert_out c.cert) can,
 )
 
-upgrade-refused : (words : Upgrade) (script cert_in : List ℕ) (old new : Sight) (tail : Course) (f : Option ScriptFault) → CanBy f (OfSession words.bound script (λ ps. CanUpgrade ps words.bound words.cert words.out cert_in)) tail
+upgrade-refused : (words : Upgrade) (script cert_in : List ℕ) (parts : List (List ℕ)) (old new : Sight) (tail : Course) (f : Option ScriptFault) → CanBy f (OfSession words.bound script (λ ps. CanUpgrade ps words.bound words.cert words.out cert_in)) tail
     → tail.status ≡ CertRefused → new.answer ≡ appended old.answer tail.answer → new.cert_out ≡ appended old.cert_out tail.cert → IsTrueRefusal (Some (upgrade words)) script cert_in parts old new
-upgrade-refused words script cert_in old new tail (Some f) can status wrote none = absurd (script-refused-not tail.status (ap (λ (c : Course). c.status) can) status)
-upgrade-refused words script cert_in old new tail None can status wrote none =
+upgrade-refused words script cert_in parts old new tail (Some f) can status wrote none = absurd (script-refused-not tail.status (ap (λ (c : Course). c.status) can) status)
+upgrade-refused words script cert_in parts old new tail None can status wrote none =
     let is = can.2 in
-    upgrade-refused-by words script cert_in old new can.0 is.0 (session_verdict can.0 words.bound cert_in) can.1 refl is.1 (sym (ap (λ (c : Course). c.status) is.2) ∙ status)
+    upgrade-refused-by words script cert_in parts old new can.0 is.0 (session_verdict can.0 words.bound cert_in) can.1 refl is.1 (sym (ap (λ (c : Course). c.status) is.2) ∙ status)
     (wrote ∙ ap (λ (c : Course). appended old.answer c.answer) is.2) (none ∙ ap (λ (c : Course). appended old.cert_out c.cert) is.2)
 
 refusal-true : (command : Option Command) (script cert_in : List ℕ) (parts : List (List ℕ)) (old new : Sight) → IsShown command script cert_in parts old new CertRefused → IsTrueRefusal command script cert_in parts old new
@@ -286,7 +286,7 @@ refusal-true (Some (check words)) script cert_in parts old new (course, can, sta
     (went.answer ∙ ap (λ (c : Course). appended old.answer c.answer) can.2)
 refusal-true (Some (upgrade words)) script cert_in parts old new (course, can, status, went) =
     let tail : Course = can.0 in
-    upgrade-refused words script cert_in old new tail (session_fault words.bound script) can.1 (sym (ap (λ (c : Course). c.status) can.2) ∙ status)
+    upgrade-refused words script cert_in parts old new tail (session_fault words.bound script) can.1 (sym (ap (λ (c : Course). c.status) can.2) ∙ status)
     (went.answer ∙ ap (λ (c : Course). appended old.answer c.answer) can.2) (went.cert ∙ ap (λ (c : Course). appended old.cert_out c.cert) can.2)
 
 -- ---- certificates that are written anew

@@ -148,22 +148,22 @@ resume-delta words script cert_in parts old new shows rest wrote =
 
 -- ---- what is refused
 
-refused-by : (words : Resume) (script cert_in : List ℕ) (old new : Sight) (p : Problem) (tail : Course) (v : Verdict) → HasProblem (header_bound cert_in) p script → verdict p (header_bound cert_in) cert_in ≡ v →
+refused-by : (words : Resume) (script cert_in : List ℕ) (parts : List (List ℕ)) (old new : Sight) (p : Problem) (tail : Course) (v : Verdict) → HasProblem (header_bound cert_in) p script → verdict p (header_bound cert_in) cert_in ≡ v →
     CanResumeBy v p (header_bound cert_in) words cert_in tail → tail.status ≡ CertRefused → new.answer ≡ appended old.answer tail.answer → new.cert_out ≡ appended old.cert_out tail.cert → IsTrueRefusal (Some (resume words)) script cert_in parts old new
-refused-by words script cert_in old new p tail (accepted s w) has e can status wrote none = absurd (answered-not tail.status (ap (λ (c : Course). c.status) can.3) status)
-refused-by words script cert_in old new p tail (refused f n) has e can status wrote none = (
+refused-by words script cert_in parts old new p tail (accepted s w) has e can status wrote none = absurd (answered-not tail.status (ap (λ (c : Course). c.status) can.3) status)
+refused-by words script cert_in parts old new p tail (refused f n) has e can status wrote none = (
   record { problem = p; has = has; fault = f; line = n; refuses = e; written = wrote ∙ ap (λ (c : Course). appended old.answer c.answer) can },
   none ∙ ap (λ (c : Course). appended old.cert_out c.cert) can,
 )
 
-refused-of : (words : Resume) (script cert_in : List ℕ) (old new : Sight) (f : Option ScriptFault) (tail : Course) → script_fault (header_bound cert_in) script ≡ f →
+refused-of : (words : Resume) (script cert_in : List ℕ) (parts : List (List ℕ)) (old new : Sight) (f : Option ScriptFault) (tail : Course) → script_fault (header_bound cert_in) script ≡ f →
     CanBy f (OfProblem (header_bound cert_in) script (λ p. CanResume p (header_bound cert_in) words cert_in)) tail → tail.status ≡ CertRefused → new.answer ≡ appended old.answer tail.answer → new.cert_out ≡ appended old.cert_out tail.cert →
     IsTrueRefusal (Some (resume words)) script cert_in parts old new
-refused-of words script cert_in old new (Some f) tail e can status wrote none = absurd (script-refused-not tail.status (ap (λ (c : Course). c.status) can) status)
-refused-of words script cert_in old new None tail e can status wrote none =
-    refused-by words script cert_in old new can.0 tail (verdict can.0 (header_bound cert_in) cert_in) (record { clean = e; built = can.1 }) refl can.2 status wrote none
+refused-of words script cert_in parts old new (Some f) tail e can status wrote none = absurd (script-refused-not tail.status (ap (λ (c : Course). c.status) can) status)
+refused-of words script cert_in parts old new None tail e can status wrote none =
+    refused-by words script cert_in parts old new can.0 tail (verdict can.0 (header_bound cert_in) cert_in) (record { clean = e; built = can.1 }) refl can.2 status wrote none
 
 pub resume-refused : (words : Resume) (script cert_in : List ℕ) (parts : List (List ℕ)) (old new : Sight) → IsShown (Some (resume words)) script cert_in parts old new CertRefused → IsTrueRefusal (Some (resume words)) script cert_in parts old new
 resume-refused words script cert_in parts old new (course, can, status, went) =
-    refused-of words script cert_in old new (script_fault (header_bound cert_in) script) can.0 refl can.1 (sym (ap (λ (c : Course). c.status) can.2) ∙ status)
+    refused-of words script cert_in parts old new (script_fault (header_bound cert_in) script) can.0 refl can.1 (sym (ap (λ (c : Course). c.status) can.2) ∙ status)
     (went.answer ∙ ap (λ (c : Course). appended old.answer c.answer) can.2) (went.cert ∙ ap (λ (c : Course). appended old.cert_out c.cert) can.2)
