@@ -5,7 +5,7 @@ use Rattle.std.proofs.lemmas.Map.Views.{Contains-from_any}
 use Rattle.std.proofs.lemmas.List.Folds.{list_any_at}
 use Rattle.std.specs.List.{list_any}
 use Rattle.desk.specs.declared.desk.Port.{Port}
-use Rattle.desk.specs.declared.desk.Port.TheVariants.{Script, CertIn, Answer, CertOut}
+use Rattle.desk.specs.declared.desk.Port.TheVariants.{Script, CertIn, Part, Answer, CertOut, Draft}
 use Rattle.desk.specs.declared.calls.Fault.{Fault}
 use Rattle.desk.specs.contracts.calls.FaultPartialEq.TheImpl.{ghosts}
 
@@ -16,15 +16,19 @@ fault p n = record { port = p; call = n }
 same : (p q : Port) (m n : ℕ) → ghosts.eq (fault p m) (fault q n) ≡ true → fault p m ≡ fault q n
 same Script Script m n h = ap (fault Script) (eqb-true m n h)
 same CertIn CertIn m n h = ap (fault CertIn) (eqb-true m n h)
+same Part Part m n h = ap (fault Part) (eqb-true m n h)
 same Answer Answer m n h = ap (fault Answer) (eqb-true m n h)
 same CertOut CertOut m n h = ap (fault CertOut) (eqb-true m n h)
+same Draft Draft m n h = ap (fault Draft) (eqb-true m n h)
 same p q m n h = absurd (true≢false (sym h))
 
 itself : (p : Port) (n : ℕ) → ghosts.eq (fault p n) (fault p n) ≡ true
 itself Script n = eq-eqb n n refl
 itself CertIn n = eq-eqb n n refl
+itself Part n = eq-eqb n n refl
 itself Answer n = eq-eqb n n refl
 itself CertOut n = eq-eqb n n refl
+itself Draft n = eq-eqb n n refl
 
 -- `contains` finds what is listed, and nothing else
 pub due : (faults : List Fault) (f : Fault) → list_any (λ y. ghosts.eq y f) faults ≡ true → Contains faults f

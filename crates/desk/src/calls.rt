@@ -11,13 +11,15 @@ pub struct Fault {
     pub call: u64,
 }
 
-/// How many calls of `start`, `read` and `write` each port has seen.
+/// How many calls each port has seen.
 #[derive(Clone, Copy, Debug, PartialEq, Eq)]
 pub struct Calls {
     pub script: u64,
     pub cert_in: u64,
+    pub part: u64,
     pub answer: u64,
     pub cert_out: u64,
+    pub draft: u64,
 }
 
 impl Calls {
@@ -28,8 +30,10 @@ impl Calls {
         match p {
             Port::Script => self.script,
             Port::CertIn => self.cert_in,
+            Port::Part => self.part,
             Port::Answer => self.answer,
             Port::CertOut => self.cert_out,
+            Port::Draft => self.draft,
         }
     }
 
@@ -40,8 +44,10 @@ impl Calls {
         match p {
             Port::Script => self.script = self.script.saturating_add(1),
             Port::CertIn => self.cert_in = self.cert_in.saturating_add(1),
+            Port::Part => self.part = self.part.saturating_add(1),
             Port::Answer => self.answer = self.answer.saturating_add(1),
             Port::CertOut => self.cert_out = self.cert_out.saturating_add(1),
+            Port::Draft => self.draft = self.draft.saturating_add(1),
         }
     }
 }

@@ -42,8 +42,10 @@ pub struct SteadyDesk {
     alloc: Global,
     script: Source,
     cert_in: Source,
+    parts: Vec<Vec<u8>>,
     answer: Vec<u8>,
     cert_out: Vec<u8>,
+    draft: Vec<u8>,
     starts: Vec<Start>,
     most: usize,
     ghost some: { 0 < most },
@@ -69,6 +71,14 @@ fn copy_front(rest: &[u8], most: usize, into: &mut [u8]) -> usize
     n
 }
 
+// What stands from a place on.
+fn rest_from(bytes: &[u8], at: u64) -> &[u8]
+    ensures { result.now ≡ drop at bytes.now }
+{
+    let at = (bytes.len() as u64).min(at);
+    &bytes[at as usize..]
+}
+
 fn is_listed(faults: &[Fault], fault: Fault) -> bool
     ensures { IsTrue result ↔ Contains faults.now fault }
 {
@@ -90,7 +100,7 @@ fn append_front(sink: &mut Vec<u8>, most: usize, piece: &[u8]) -> Result<usize, 
 impl SteadyDesk {
     ghost use Rattle.std.specs.Prelude.{◌≡◌, ◌<◌, Some, [], map};
     ghost use Rattle.desk.specs.Sight.{left_on, written_on, IsIn, IsOut};
-    ghost use Rattle.desk.specs.Memory.{steady_sight, start_of, unused_sight};
+    ghost use Rattle.desk.specs.Memory.{steady_sight, start_of, parts_of, unused_sight};
 
     /// Ports with these bytes to read, and calls that take at most this many bytes.
     pub fn new(alloc: Global, script: Vec<u8>, cert_in: Vec<u8>, most: usize) -> Self
@@ -107,11 +117,22 @@ impl SteadyDesk {
                 bytes: cert_in,
                 at: 0,
             },
+            parts: Vec::new(alloc),
             answer: Vec::new(alloc),
             cert_out: Vec::new(alloc),
+            draft: Vec::new(alloc),
             starts: Vec::new(alloc),
             most,
         }
+    }
+
+    /// The same desk with these certificates to read at any place.
+    pub fn with_parts(mut self, parts: Vec<Vec<u8>>) -> Self
+        ensures { steady_sight result
+            ≡ record (steady_sight self) { parts = Some (parts_of parts) } }
+    {
+        self.parts = parts;
+        self
     }
 
     /// What was written on a port.
@@ -122,6 +143,7 @@ impl SteadyDesk {
         match p {
             Port::Answer => &self.answer,
             Port::CertOut => &self.cert_out,
+            Port::Draft => &self.draft,
             _ => unreachable!(),
         }
     }
@@ -154,6 +176,9 @@ impl Desk for SteadyDesk {
     fn start(&mut self, p: Port, name: &str) -> Result<(), Denied> {
         let name = name.to_string(self.alloc)?;
         self.starts.push(Start { port: p, name })?;
+        if let Port::Draft = p {
+            self.draft.clear();
+        }
         Ok(())
     }
 
@@ -165,12 +190,26 @@ impl Desk for SteadyDesk {
         }
     }
 
+    fn read_at(&mut self, number: usize, at: u64, into: &mut [u8]) -> Result<usize, Failed> {
+        match self.parts.get(number) {
+            Some(bytes) => Ok(copy_front(rest_from(bytes, at), self.most, into)),
+            None => Ok(0),
+        }
+    }
+
     fn write(&mut self, p: Port, from: &[u8]) -> Result<usize, Denied> {
         match p {
             Port::Answer => Ok(append_front(&mut self.answer, self.most, from)?),
             Port::CertOut => Ok(append_front(&mut self.cert_out, self.most, from)?),
+            Port::Draft => Ok(append_front(&mut self.draft, self.most, from)?),
             _ => unreachable!(),
         }
+    }
+
+    fn keep(&mut self) -> Result<(), Denied> {
+        self.cert_out.extend_from_slice(&self.draft)?;
+        self.draft.clear();
+        Ok(())
     }
 }
 
@@ -178,7 +217,7 @@ impl MemoryDesk {
     ghost use Rattle.std.specs.Prelude.{◌≡◌, ◌<◌, Some, [], OnOk, OnErr, map};
     ghost use Rattle.desk.specs.Sight.{left_on, written_on, IsIn, IsOut, FailsOn};
     ghost use Rattle.desk.specs.Calls.{IsCounted, no_calls};
-    ghost use Rattle.desk.specs.Memory.{memory_sight, start_of, IsDue, calls_of, faults_of, unused_sight};
+    ghost use Rattle.desk.specs.Memory.{memory_sight, start_of, IsDue, calls_of, faults_of, parts_of, unused_sight};
 
     /// Ports with these bytes to read, and calls that take at most this many bytes. None fails yet.
     pub fn new(alloc: Global, script: Vec<u8>, cert_in: Vec<u8>, most: usize) -> Self
@@ -193,12 +232,25 @@ impl MemoryDesk {
             calls: Calls {
                 script: 0,
                 cert_in: 0,
+                part: 0,
                 answer: 0,
                 cert_out: 0,
+                draft: 0,
             },
             in_faults: 0,
             out_faults: 0,
         }
+    }
+
+    /// The same desk with these certificates to read at any place.
+    pub fn with_parts(mut self, parts: Vec<Vec<u8>>) -> Self
+        ensures sight { memory_sight result
+            ≡ record (memory_sight self) { parts = Some (parts_of parts) } }
+        ensures calls { calls_of result ≡ calls_of self }
+        ensures faults { faults_of result ≡ faults_of self }
+    {
+        self.steady.parts = parts;
+        self
     }
 
     /// One more call that is to fail.
@@ -282,14 +334,18 @@ impl MemoryDesk {
         ensures listed { faults_of self.new ≡ faults_of self.old }
     {
         match p {
-            Port::Script | Port::CertIn => self.in_faults = self.in_faults.saturating_add(1),
-            Port::Answer | Port::CertOut => self.out_faults = self.out_faults.saturating_add(1),
+            Port::Script | Port::CertIn | Port::Part => {
+                self.in_faults = self.in_faults.saturating_add(1);
+            }
+            Port::Answer | Port::CertOut | Port::Draft => {
+                self.out_faults = self.out_faults.saturating_add(1);
+            }
         }
     }
 }
 
 impl Desk for MemoryDesk {
-    ghost use Rattle.desk.specs.Sight.{IsIn, IsOut, with_start, FailsOn, ReadStep, WriteStep};
+    ghost use Rattle.desk.specs.Sight.{IsIn, IsOut, with_start, kept, FailsOn, ReadStep, PartStep, WriteStep};
     ghost use Rattle.desk.specs.Calls.{IsCounted};
     ghost use Rattle.desk.specs.Memory.{memory_sight, IsDue, calls_of, faults_of};
 
@@ -329,6 +385,22 @@ impl Desk for MemoryDesk {
         self.steady.read(p, into)
     }
 
+    fn read_at(&mut self, number: usize, at: u64, into: &mut [u8]) -> Result<usize, Failed>
+        ensures ok { IfOk result (λ n.
+            PartStep number at n into.new (memory_sight self.old) (memory_sight self.new)) }
+        ensures failed { OnErr result
+            (FailsOn Port.Part (memory_sight self.old) (memory_sight self.new)) }
+        ensures due { IsErr result ↔ IsDue self.old Port.Part }
+        ensures counted { IsCounted Port.Part (calls_of self.old) (calls_of self.new) }
+        ensures listed { faults_of self.new ≡ faults_of self.old }
+    {
+        if self.fails_now(Port::Part) {
+            self.count(Port::Part);
+            return Err(Failed);
+        }
+        self.steady.read_at(number, at, into)
+    }
+
     fn write(&mut self, p: Port, from: &[u8]) -> Result<usize, Denied>
         requires { IsOut p }
         ensures ok { IfOk result (λ n.
@@ -346,5 +418,22 @@ impl Desk for MemoryDesk {
             return Err(Denied::Failed);
         }
         self.steady.write(p, from)
+    }
+
+    fn keep(&mut self) -> Result<(), Denied>
+        ensures ok { OnOk result (memory_sight self.new ≡ kept (memory_sight self.old)) }
+        ensures failed { IsErrOf result Denied.Failed →
+            FailsOn Port.Draft (memory_sight self.old) (memory_sight self.new) }
+        ensures memory { IsErrOf result Denied.Memory →
+            memory_sight self.new ≡ memory_sight self.old }
+        ensures due { IsErrOf result Denied.Failed ↔ IsDue self.old Port.Draft }
+        ensures counted { IsCounted Port.Draft (calls_of self.old) (calls_of self.new) }
+        ensures listed { faults_of self.new ≡ faults_of self.old }
+    {
+        if self.fails_now(Port::Draft) {
+            self.count(Port::Draft);
+            return Err(Denied::Failed);
+        }
+        self.steady.keep()
     }
 }
