@@ -26,11 +26,11 @@ ended None new e = tt
 ended (Some s) new e = e
 
 pub script_held : (name : List ℕ) (held : Vec ℕ Global) (old new : Sight) → After (script_start name) old new → IfSome old.script (λ s. held.items ≡ s) → new.script ≡ option_map (λ (s : List ℕ). []) old.script →
-    new.cert_in ≡ old.cert_in → FetchesScript name (Some held) old new
-script_held name held old new after all end other = record { after = after; held = all; read = λ some. ended old.script new.script end; other = other }
+    new.cert_in ≡ old.cert_in → new.parts ≡ old.parts → FetchesScript name (Some held) old new
+script_held name held old new after all end other parts = record { after = after; held = all; read = λ some. ended old.script new.script end; other = other; parts = parts }
 
-pub script_long : (name : List ℕ) (old new : Sight) → After (script_start name) old new → IfSome old.script (λ s. most_bytes < length s) → new.cert_in ≡ old.cert_in → FetchesScript name None old new
-script_long name old new after long other = record { after = after; held = long; read = λ some. cc; other = other }
+pub script_long : (name : List ℕ) (old new : Sight) → After (script_start name) old new → IfSome old.script (λ s. most_bytes < length s) → new.cert_in ≡ old.cert_in → new.parts ≡ old.parts → FetchesScript name None old new
+script_long name old new after long other parts = record { after = after; held = long; read = λ some. cc; other = other; parts = parts }
 
 -- ---- the certificate
 

@@ -5,7 +5,7 @@ use Rattle.std.proofs.lemmas.List.{append_cancel_left}
 use Rattle.desk.specs.declared.desk.Port.TheVariants.{CertIn}
 use Rattle.desk.specs.Sight.{Sight}
 use Rattle.command_line.specs.declared.request.Options.{Options}
-use Rattle.command_line.specs.Words.{Solve, Check, Upgrade, Demo, Plan, Command, solve, check, demo, upgrade, plan, resume}
+use Rattle.command_line.specs.Words.{Solve, Check, Upgrade, Demo, Plan, Command, solve, check, demo, upgrade, plan, resume, join}
 use Rattle.gen_script.specs.Demo.{demo_script}
 use Rattle.poly_graph.specs.Problem.{Problem}
 use Rattle.interval_model.specs.Space.{Space}
@@ -28,6 +28,7 @@ use Rattle.check_run.specs.Run.{Run, HasCourse, HasInput, IsShown}
 use Rattle.check_run.proofs.Shown.{status_is_shown}
 use Rattle.check_run.proofs.Differ.{written-is, says-unsat, says-delta-sat, confirms-unsat, confirms-delta-sat, refused-not, certificate-refused-not, answered-not, script-refused-not, delta-so}
 use Rattle.check_run.proofs.Enough.{SessionIsOne, are_enough, texts_one}
+use Rattle.check_run.proofs.Joins.{join_so, join_unsat, join_delta, join_refused}
 use Rattle.check_run.proofs.Means.{values_true}
 use Rattle.check_run.proofs.Resumes.{resume-so, resume-unsat, resume-delta, resume-refused}
 use Rattle.check_run.proofs.Single.{one_problem, one_value}
@@ -195,6 +196,7 @@ unsat-true (Some (upgrade words)) script cert_in parts old new shows = tt
 unsat-true (Some (plan words)) script cert_in parts old new shows = tt
 unsat-true (Some (demo words)) script cert_in parts old new shows = demo-unsat words script cert_in parts old new shows
 unsat-true (Some (resume words)) script cert_in parts old new shows = resume-unsat words script cert_in parts old new shows
+unsat-true (Some (join words)) script cert_in parts old new shows = join_unsat words script cert_in parts old new shows
 
 -- ---- delta-sat
 
@@ -236,6 +238,7 @@ delta-sat-true (Some (upgrade words)) script cert_in parts old new shows = tt
 delta-sat-true (Some (plan words)) script cert_in parts old new shows = tt
 delta-sat-true (Some (demo words)) script cert_in parts old new shows = tt
 delta-sat-true (Some (resume words)) script cert_in parts old new shows = resume-delta words script cert_in parts old new shows
+delta-sat-true (Some (join words)) script cert_in parts old new shows = join_delta words script cert_in parts old new shows
 
 -- ---- certificates that are refused
 
@@ -280,6 +283,7 @@ refusal-true (Some (solve words)) script cert_in parts old new shows = tt
 refusal-true (Some (demo words)) script cert_in parts old new shows = tt
 refusal-true (Some (plan words)) script cert_in parts old new shows = tt
 refusal-true (Some (resume words)) script cert_in parts old new shows = resume-refused words script cert_in parts old new shows
+refusal-true (Some (join words)) script cert_in parts old new shows = join_refused words script cert_in parts old new shows
 refusal-true (Some (check words)) script cert_in parts old new (course, can, status, went) =
     let tail : Course = can.0 in
     check-refused words script cert_in old new tail (session_fault words.bound script) can.1 (sym (ap (λ (c : Course). c.status) can.2) ∙ status)
@@ -317,6 +321,7 @@ upgrade-true (Some (check words)) script cert_in parts old new shows = tt
 upgrade-true (Some (demo words)) script cert_in parts old new shows = tt
 upgrade-true (Some (plan words)) script cert_in parts old new shows = tt
 upgrade-true (Some (resume words)) script cert_in parts old new shows = tt
+upgrade-true (Some (join words)) script cert_in parts old new shows = tt
 upgrade-true (Some (upgrade words)) script cert_in parts old new (course, can, status, went) =
     let tail : Course = can.0 in
     let status_is : tail.status ≡ Answered = sym (ap (λ (c : Course). c.status) can.2) ∙ status in
@@ -347,6 +352,7 @@ plan-true one (Some (check words)) script cert_in parts old new shows = tt
 plan-true one (Some (demo words)) script cert_in parts old new shows = tt
 plan-true one (Some (upgrade words)) script cert_in parts old new shows = tt
 plan-true one (Some (resume words)) script cert_in parts old new shows = tt
+plan-true one (Some (join words)) script cert_in parts old new shows = tt
 plan-true one (Some (plan words)) script cert_in parts old new shows = plan-so one words script cert_in parts old new shows
 
 -- ---- all answers
@@ -359,6 +365,7 @@ answer-true (Some (demo words)) script cert_in parts old new shows = tt
 answer-true (Some (upgrade words)) script cert_in parts old new shows = tt
 answer-true (Some (plan words)) script cert_in parts old new shows = tt
 answer-true (Some (resume words)) script cert_in parts old new shows = resume-so words script cert_in parts old new shows
+answer-true (Some (join words)) script cert_in parts old new shows = join_so words script cert_in parts old new shows
 
 -- ---- of whole runs
 

@@ -75,7 +75,7 @@ more-delta-sat p b words cert_in cert s (left_open (x ∷ left)) v text rest (in
 
 -- ---- the courses of a run that answers
 
-value-so : (bound : Option ℕ) (script : List ℕ) (p : Problem) (cert : List ℕ) (s : Loosenings) (v : Value) → IsBuilt bound script p → IsAccepted p bound cert s v → IsTrueValue bound s (commands_of script) v
+pub value-so : (bound : Option ℕ) (script : List ℕ) (p : Problem) (cert : List ℕ) (s : Loosenings) (v : Value) → IsBuilt bound script p → IsAccepted p bound cert s v → IsTrueValue bound s (commands_of script) v
 value-so bound script p cert s (at_point space) built accepts = delta-so bound script p cert s space built accepts
 value-so bound script p cert s (left_open []) built accepts = unsat_is bound (commands_of script) p built.whole built.problem cert s accepts
 value-so bound script p cert s (left_open (x ∷ left)) built accepts = tt

@@ -13,7 +13,7 @@ use Rattle.check_run.specs.declared.status.Status.{Status}
 use Rattle.check_run.specs.declared.status.Status.TheVariants.{InFailed, NoMemory}
 use Rattle.check_run.specs.Both.{CanGoOn, FetchesBoth, HaltsBoth, IsScriptHeld, status_of}
 use Rattle.check_run.specs.Can.{Can, both_starts}
-use Rattle.check_run.specs.Course.{Start, Course, behind, RunEnds, on_course, in_failed, no_memory_yet}
+use Rattle.check_run.specs.Course.{Start, Course, behind, RunEnds, on_course, in_failed, draft_failed, no_memory_yet}
 use Rattle.check_run.specs.Parts.{After}
 use Rattle.check_run.specs.Run.{CertIsRead, HasCause, IsReadToEnd, SameIn, ScriptIsRead, run_of}
 use Rattle.check_run.proofs.Ending.{ends_behind, quiet_behind}
@@ -25,6 +25,7 @@ behind_both : (words : Resume) (script cert_in : List ℕ) (parts : List (List �
 behind_both words script cert_in parts old mid new status after (on_course tail can ends) =
     on_course (behind (both_starts words.script words.cert) tail) (tail, can, refl) (ends_behind (both_starts words.script words.cert) tail old mid new status after ends)
 behind_both words script cert_in parts old mid new status after (in_failed is any side quiet) = absurd (any refl)
+behind_both words script cert_in parts old mid new status after (draft_failed is drafts side quiet) = absurd drafts
 behind_both words script cert_in parts old mid new status after (no_memory_yet is quiet) = no_memory_yet is (quiet_behind (both_starts words.script words.cert) [] old mid new after quiet)
 
 pub run_both : (words : Resume) (script cert_in : List ℕ) (parts : List (List ℕ)) (x : Inputs) (old mid new : Sight) (status : Status) → FetchesBoth words.script words.cert x old mid → old.script ≡ Some script → old.cert_in ≡ Some cert_in →
