@@ -14,9 +14,17 @@ use Rattle.check_run.specs.Resumed.{header_bound}
 
 -- ---- the certificates
 
--- the starts of the script's port, of those of the certificates in their order, and of the draft
+-- the starts of the ports of these certificates, in their order
+abbrev pub part_starts : List (List ℕ) → List Start
+part_starts names = map (λ name. (Part, name)) names
+
+-- and then of a draft
+abbrev pub several_starts : List (List ℕ) → List ℕ → List Start
+several_starts names out = part_starts names ++ (Draft, out) ∷ []
+
+-- the script's before them
 abbrev pub join_starts : Join → List Start
-join_starts words = (Script, words.script) ∷ (map (λ name. (Part, name)) words.certs ++ (Draft, words.out) ∷ [])
+join_starts words = (Script, words.script) ∷ several_starts words.certs words.out
 
 -- so many bytes of the first certificate are searched for the bound that it names
 abbrev pub head_bytes : ℕ

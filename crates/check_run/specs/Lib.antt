@@ -9,6 +9,7 @@ pub mod Parts
 pub mod Resumed
 pub mod Run
 pub mod Script
+pub mod Several
 pub mod Statuses
 pub mod Loosened
 pub mod Plans
