@@ -100,7 +100,7 @@ run_behind some cant first ins old mid new status after lift (draft_failed is dr
 run_behind some cant first ins old mid new status after lift (no_memory_yet is quiet) =
     no_memory_yet is (quiet_behind (first ∷ []) ins old mid new after quiet)
 
-no_bytes : (n : ℕ) → ◌≡◌ {A = List ℕ} (take n []) []
+pub no_bytes : (n : ℕ) → ◌≡◌ {A = List ℕ} (take n []) []
 no_bytes zero = refl
 no_bytes (suc n) = refl
 
