@@ -1,3 +1,4 @@
 mod Due
+mod Parts
 pub mod Reading
 pub mod Writing
