@@ -1,14 +1,14 @@
 -- What words ask for is in its range.
-use Rattle.std.proofs.Common.{◌≡◌, ◌&&◌, ◌≤◌, ◌<◌, ◌^◌, ℕ, Bool, true, false, List, Option, Some, None, ap, subst, refl, arith, codes}
+use Rattle.std.proofs.Common.{◌≡◌, ◌&&◌, ◌≤◌, ◌<◌, ◌^◌, ℕ, Bool, true, false, List, Option, Some, None, ap, subst, refl, arith, codes, length}
 use Rattle.std.specs.Prelude.{option_and_then, option_map, if◌then◌else◌, nat_le, nat_lt}
 use Rattle.std.specs.Str.{bytes_eq}
 use Rattle.std.specs.Str.Parse.{without_leading_plus, digits_value}
 use Rattle.std.proofs.lemmas.Bool.Decides.{nat_tests}
-use Rattle.clap.specs.Words.{Row, Text, fault_of, first_of, one_of, subcommand_of}
+use Rattle.clap.specs.Words.{Row, Text, all_of, fault_of, first_of, one_of, subcommand_of}
 use Rattle.clap.specs.Walk.{is_empty}
 use Rattle.command_line.specs.declared.request.Options.{Options}
 use Rattle.command_line.specs.Program.{program}
-use Rattle.command_line.specs.Words.{Command, Solve, Check, Demo, Upgrade, Plan, Share, Resume, solve, check, demo, upgrade, plan, resume, AreOptions, IsBound, IsDemo, IsPlan, IsShare, IsResume, IsInRange, is_number, number_of, number_in, long_number_in, within, ordered, parted, parted_upgrade, ordered_plan, ordered_share, parts_of, share_by, share_of, share_in, parted_resume, usual, options_of, solve_of, check_of, demo_of, upgrade_of, plan_of, resume_of, chosen, command_of}
+use Rattle.command_line.specs.Words.{Command, Solve, Check, Demo, Upgrade, Plan, Share, Resume, Join, solve, check, demo, upgrade, plan, resume, join, AreOptions, IsBound, IsDemo, IsPlan, IsShare, IsResume, IsJoin, are_several, are_files, joined_files, join_of, IsInRange, is_number, number_of, number_in, long_number_in, within, ordered, parted, parted_upgrade, ordered_plan, ordered_share, parts_of, share_by, share_of, share_in, parted_resume, usual, options_of, solve_of, check_of, demo_of, upgrade_of, plan_of, resume_of, chosen_other, chosen, command_of}
 use Rattle.command_line.proofs.Numbers.{and_first, and_second, true_less}
 
 -- a chain that gives a value gave one before
@@ -245,6 +245,24 @@ resume_in_range rows asked h =
             workers_most = w.at_most;
           })
 
+joined_files_are : (c v : Join) → joined_files c ≡ Some v → IsJoin v
+joined_files_are c v h =
+    let p = passed (are_several c.certs && are_files c.certs) c v h in
+    let several = and_first (are_several c.certs) (are_files c.certs) p.0 in
+    subst IsJoin p.1 (record {
+      certs_least = true_at_most 2 (length c.certs) (and_first _ _ several);
+      certs_most = true_at_most (length c.certs) 1000000 (and_second _ _ several);
+    })
+
+join_in_range : (rows : List Row) (asked : Join) → join_of rows ≡ Some asked → IsJoin asked
+join_in_range rows asked h = by_parts (first_of (codes "script") rows) (first_of (codes "out") rows) (all_of (codes "cert") rows) h where
+  by_parts : (script out : Option Text) (certs : Option (List Text)) → option_and_then (λ script. option_and_then (λ out. option_and_then (λ certs.
+      joined_files (record { script = script; out = out; certs = certs })) certs) out) script ≡ Some asked → IsJoin asked
+  by_parts None out certs e = cc
+  by_parts (Some script) None certs e = cc
+  by_parts (Some script) (Some out) None e = cc
+  by_parts (Some script) (Some out) (Some certs) e = joined_files_are (record { script = script; out = out; certs = certs }) asked e
+
 -- what a choice of two subcommands gives
 taken : (f : Solve → Command) (o : Option Solve) (c : Command) → option_map f o ≡ Some c → Chained (λ x. Some (f x)) o c
 taken f None c h = cc
@@ -270,9 +288,13 @@ taken_resume : (f : Resume → Command) (o : Option Resume) (c : Command) → op
 taken_resume f None c h = cc
 taken_resume f (Some x) c h = record { value = x; was = refl; gives = h }
 
--- What is chosen is in its range.
-pub chosen_in_range : (entered : Text × List Row) (c : Command) → chosen entered ≡ Some c → IsInRange c
-chosen_in_range entered c h = first (bytes_eq entered.0 (codes "solve")) h where
+taken_join : (f : Join → Command) (o : Option Join) (c : Command) → option_map f o ≡ Some c → Chained (λ x. Some (f x)) o c
+taken_join f None c h = cc
+taken_join f (Some x) c h = record { value = x; was = refl; gives = h }
+
+-- What is chosen but for `join` is in its range.
+other_in_range : (entered : Text × List Row) (c : Command) → chosen_other entered ≡ Some c → IsInRange c
+other_in_range entered c h = first (bytes_eq entered.0 (codes "solve")) h where
   some_is : (d : Command) → ◌≡◌ {A = Option Command} (Some d) (Some c) → IsInRange d → IsInRange c
   some_is d e r = let is : d ≡ c = cc in subst IsInRange is r
 
@@ -315,9 +337,23 @@ chosen_in_range entered c h = first (bytes_eq entered.0 (codes "solve")) h where
   first true e = let t = taken (λ asked. solve asked) (solve_of entered.1) c e in some_is (solve t.value) t.gives (solve_in_range entered.1 t.value t.was)
   first false e = second (bytes_eq entered.0 (codes "check")) e
 
+-- What is chosen is in its range.
+pub chosen_in_range : (entered : Text × List Row) (c : Command) → chosen entered ≡ Some c → IsInRange c
+chosen_in_range entered c h = by_test (bytes_eq entered.0 (codes "join")) h where
+  by_test : (b : Bool) → ◌≡◌ {A = Option Command} (if b then option_map (λ asked. join asked) (join_of entered.1) else chosen_other entered) (Some c) → IsInRange c
+  by_test true e =
+      let t = taken_join (λ asked. join asked) (join_of entered.1) c e in
+      let is : join t.value ≡ c = cc in
+      subst IsInRange is (join_in_range entered.1 t.value t.was)
+  by_test false e = other_in_range entered c e
+
+-- What the subcommand that was met asks for is in its range.
+pub entered_in_range : (entered : Option (Text × List Row)) (c : Command) → option_and_then chosen entered ≡ Some c → IsInRange c
+entered_in_range entered c h = let p = chained chosen entered c h in chosen_in_range p.value c p.gives
+
 -- What words ask for is in its range.
 pub command_in_range : (words : List Text) (c : Command) → command_of words ≡ Some c → IsInRange c
 command_in_range words c h = by_test (is_empty (fault_of program words)) h where
   by_test : (b : Bool) → ◌≡◌ {A = Option Command} (if b then option_and_then chosen (subcommand_of program words) else None) (Some c) → IsInRange c
-  by_test true e = let p = chained chosen (subcommand_of program words) c e in chosen_in_range p.value c p.gives
+  by_test true e = entered_in_range (subcommand_of program words) c e
   by_test false e = cc

@@ -2,7 +2,7 @@
 use Rattle.std.proofs.Common.{◌≡◌, refl, [], ◌∷◌, Some, None, codes}
 use Rattle.clap.proofs.OnLiterals.{clap_on_literals}
 use Rattle.command_line.specs.Program.{checker, program}
-use Rattle.command_line.specs.Words.{number_of, parts_of, usual, checker_of, command_of, solve, check, demo, upgrade, plan, resume}
+use Rattle.command_line.specs.Words.{number_of, parts_of, usual, checker_of, command_of, solve, check, demo, upgrade, plan, resume, join}
 
 -- the usual options
 usual_solve : command_of (codes "dpoly" ∷ codes "solve" ∷ codes "s" ∷ codes "c" ∷ []) ≡ Some (solve (record { script = codes "s"; cert = codes "c"; options = usual 1 }))
@@ -185,3 +185,25 @@ part_of_three = refl
 both_piped : command_of (codes "dpoly" ∷ codes "resume" ∷ codes "-" ∷ codes "-" ∷ codes "o" ∷ []) ≡ None
 unfolding program clap_on_literals number_of parts_of
 both_piped = refl
+
+-- one certificate of several: two, and three
+join_two : command_of (codes "dpoly" ∷ codes "join" ∷ codes "s" ∷ codes "o" ∷ codes "a" ∷ codes "b" ∷ []) ≡ Some (join (record { script = codes "s"; out = codes "o"; certs = codes "a" ∷ codes "b" ∷ [] }))
+unfolding program clap_on_literals number_of
+join_two = refl
+
+join_three : command_of (codes "dpoly" ∷ codes "join" ∷ codes "-" ∷ codes "-" ∷ codes "a" ∷ codes "--" ∷ codes "-b" ∷ codes "a" ∷ []) ≡ Some (join (record { script = codes "-"; out = codes "-"; certs = codes "a" ∷ codes "-b" ∷ codes "a" ∷ [] }))
+unfolding program clap_on_literals number_of
+join_three = refl
+
+-- one alone, and one that is piped
+join_one : command_of (codes "dpoly" ∷ codes "join" ∷ codes "s" ∷ codes "o" ∷ codes "a" ∷ []) ≡ None
+unfolding program clap_on_literals number_of
+join_one = refl
+
+join_piped : command_of (codes "dpoly" ∷ codes "join" ∷ codes "s" ∷ codes "o" ∷ codes "a" ∷ codes "-" ∷ []) ≡ None
+unfolding program clap_on_literals number_of
+join_piped = refl
+
+join_with_option : command_of (codes "dpoly" ∷ codes "join" ∷ codes "s" ∷ codes "o" ∷ codes "a" ∷ codes "b" ∷ codes "--bound" ∷ codes "8" ∷ []) ≡ None
+unfolding program clap_on_literals number_of
+join_with_option = refl

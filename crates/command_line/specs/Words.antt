@@ -191,9 +191,12 @@ pub record Join : Type 0 where
 abbrev pub are_several : List Text → Bool
 are_several certs = nat_le 2 (length certs) && nat_le (length certs) 1000000
 
--- none from standard input
+-- the name of a file, and not that of standard input
+abbrev pub is_file : Text → Bool
+is_file name = not (bytes_eq name (codes "-"))
+
 abbrev pub are_files : List Text → Bool
-are_files certs = list_all (λ cert. not (bytes_eq cert (codes "-"))) certs
+are_files names = list_all is_file names
 
 abbrev pub joined_files : Join → Option Join
 joined_files asked = if are_several asked.certs && are_files asked.certs then Some asked else None

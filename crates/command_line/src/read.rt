@@ -2,7 +2,7 @@ ghost use Rattle.std.specs.Prelude.{◌≡◌, ◌≢◌, ◌&&◌, [], IfOk, Is
 ghost use Rattle.std.specs.Str.{bytes_eq};
 ghost use Rattle.clap.specs.Words.{all_of, fault_of, first_of, found_of, kind_of, one_of, rows_of, subcommand_rows_of};
 ghost use Rattle.command_line.specs.Program.{checker, program};
-ghost use Rattle.command_line.specs.Words.{are_files, check_of, checker_of, chosen, chosen_other, command_of, demo_of, join_of, long_number_in, number_in, number_of, options_of, IsInRange, ordered_share, parts_of, plan_of, resume_of, share_by, share_of, share_in, solve_of, upgrade_of};
+ghost use Rattle.command_line.specs.Words.{are_files, is_file, check_of, checker_of, chosen, chosen_other, command_of, demo_of, join_of, long_number_in, number_in, number_of, options_of, IsInRange, ordered_share, parts_of, plan_of, resume_of, share_by, share_of, share_in, solve_of, upgrade_of};
 ghost use Rattle.command_line.specs.Seen.{AreCheckerMatchesOf, AreMatchesOf, seen, seen_check, seen_demo, seen_join, seen_names, seen_plan, seen_resume, seen_share, seen_solve, seen_upgrade, texts_behind, texts_of};
 
 use crate::program::{checker_command, program_command};
@@ -287,11 +287,17 @@ fn texts<'m, 'a>(matches: &'m ArgMatches<'a>, id: &str) -> Option<&'m [&'a str]>
     matches.get_strs(id)
 }
 
-// Whether none of the names is that of standard input.
+// Whether the name is that of a file, and not of standard input.
+fn is_file(name: &str) -> bool
+    ensures { result ≡ is_file name.now }
+{
+    name != "-"
+}
+
 fn are_files(names: &[&str]) -> bool
     ensures { result ≡ are_files (texts_behind names.now) }
 {
-    names.iter().all(|name| *name != "-")
+    names.iter().all(|name| is_file(name))
 }
 
 // The names that `join` is asked for.
