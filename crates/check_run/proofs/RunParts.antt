@@ -1,6 +1,6 @@
 -- A run from its script and several certificates on.
 use Rattle.std.proofs.Common.{◌≡◌, ◌≤◌, ◌<◌, ◌⊎◌, inl, inr, ℕ, List, [], ◌∷◌, ◌++◌, Option, Some, None, length, refl, ap, sym, subst, ◌∙◌, append-nil, arith}
-use Rattle.std.specs.Prelude.{◌≢◌, IsSome}
+use Rattle.std.specs.Prelude.{◌≢◌}
 use Rattle.std.specs.declared.vec.Vec.{Vec}
 use Rattle.std.specs.declared.alloc.Global.{Global}
 use Rattle.desk.specs.declared.desk.Port.TheVariants.{Draft, Part}
@@ -14,10 +14,11 @@ use Rattle.check_run.specs.Can.{Can}
 use Rattle.check_run.specs.Course.{Start, Course, HasDraft, Quiet, RunEnds, StartedEnds, behind, draft_fails, draft_failed, goes_on, in_failed, in_fails, no_memory_left, no_memory_yet, on_course}
 use Rattle.check_run.specs.Joined.{join_starts, part_starts, several_starts}
 use Rattle.check_run.specs.Parts.{After}
-use Rattle.check_run.specs.Run.{CertIsRead, HasCause, ScriptIsRead, run_of}
-use Rattle.check_run.specs.Several.{FetchesSeveral, IsHalted}
+use Rattle.check_run.specs.Run.{HasCause, ScriptIsRead, run_of}
+use Rattle.check_run.specs.Several.{FetchesSeveral, HaltsSeveral, IsHalted}
 use Rattle.check_run.proofs.Ending.{ends_behind, quiet_behind}
 use Rattle.check_run.proofs.Running.{told}
+use Rattle.check_run.proofs.Several.{held_some}
 
 -- ---- the ends of a run behind its starts
 
@@ -66,20 +67,16 @@ cause_halted words starts Usage old new h = absurd h
 
 -- ---- that the script was read
 
-over-none : (o : Option (Vec ℕ Global)) (script : List ℕ) → IsScriptHeld o script → length script ≤ most_bytes → IsSome o
-over-none None script h short = absurd (let l : most_bytes < length script = h in omega (arith, l, short))
-over-none (Some held) script h short = refl
-
 pub read_several : (words : Join) (x : Option (Vec ℕ Global)) (old mid new : Sight) (status : Status) → FetchesSeveral words x old mid → new.script ≡ mid.script → ScriptIsRead (run_of (Some (join words)) old new status)
 read_several words x old mid new status fetched same reads script e short failed memory =
     let held = told (IsScriptHeld x) old.script script e fetched.script_is in
-    same ∙ told (λ (s : List ℕ). mid.script ≡ Some []) old.script script e (fetched.script_read (over-none x script held short))
+    same ∙ told (λ (s : List ℕ). mid.script ≡ Some []) old.script script e (fetched.script_read (held_some x script held short))
 
-pub halted_script : (words : Join) (starts : List Start) (status : Status) (old new : Sight) → IsHalted starts status old new → ScriptIsRead (run_of (Some (join words)) old new status)
-halted_script words starts InFailed old new h reads script e short failed memory = absurd (failed refl)
-halted_script words starts OutFailed old new h reads script e short failed memory = absurd (unread-when-out h)
-halted_script words starts NoMemory old new h reads script e short failed memory = absurd (memory refl)
-halted_script words starts Answered old new h reads script e short failed memory = absurd h
-halted_script words starts CertRefused old new h reads script e short failed memory = absurd h
-halted_script words starts ScriptRefused old new h reads script e short failed memory = absurd h
-halted_script words starts Usage old new h reads script e short failed memory = absurd h
+pub halted_script : (words : Join) (status : Status) (old new : Sight) → HaltsSeveral words status old new → ScriptIsRead (run_of (Some (join words)) old new status)
+halted_script words InFailed old new h reads script e short failed memory = absurd (failed refl)
+halted_script words OutFailed old new h reads script e short failed memory = told (λ (s : List ℕ). length s ≤ most_bytes → new.script ≡ Some []) old.script script e (h.read refl) short
+halted_script words NoMemory old new h reads script e short failed memory = absurd (memory refl)
+halted_script words Answered old new h reads script e short failed memory = absurd h.halted
+halted_script words CertRefused old new h reads script e short failed memory = absurd h.halted
+halted_script words ScriptRefused old new h reads script e short failed memory = absurd h.halted
+halted_script words Usage old new h reads script e short failed memory = absurd h.halted

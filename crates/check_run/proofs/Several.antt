@@ -1,5 +1,5 @@
 -- A script that is read whole, the starts of several certificates and of a draft, and what is kept of that.
-use Rattle.std.proofs.Common.{◌≡◌, ℕ, List, [], ◌∷◌, ◌++◌, Option, Some, None, IfSome, length, min, take, refl, ap, sym, subst, ◌∙◌, append_assoc, append-nil, codes, inr, arith, ◌+◌}
+use Rattle.std.proofs.Common.{◌≡◌, ℕ, List, [], ◌∷◌, ◌++◌, Option, Some, None, IfSome, length, min, take, refl, ap, sym, subst, ◌∙◌, append_assoc, append-nil, codes, inr, arith, ◌+◌, ◌≤◌, ◌<◌}
 use Rattle.std.specs.Prelude.{IsSome}
 use Rattle.std.specs.Option.{option_map, option_zip}
 use Rattle.std.proofs.Math.Seq.{take-append-add, take-length}
@@ -12,6 +12,7 @@ use Rattle.command_line.specs.Words.{Join}
 use Rattle.cover_model.specs.State.{Loosenings}
 use Rattle.cert_model.specs.Due.{Value}
 use Rattle.cert_model.specs.AnswerText.{check_text}
+use Rattle.script_reading.specs.Faults.{most_bytes}
 use Rattle.check_run.specs.declared.both.Unread.{Unread}
 use Rattle.check_run.specs.declared.both.Unread.TheVariants as unread
 use Rattle.check_run.specs.declared.status.Status.{Status}
@@ -21,7 +22,7 @@ use Rattle.check_run.specs.Course.{Course, Start, Quiet, Ends, at_its_end, out_f
 use Rattle.check_run.specs.Joined.{join_starts, keeps, part_starts, several_starts}
 use Rattle.check_run.specs.Parts.{After}
 use Rattle.check_run.specs.Script.{script_start}
-use Rattle.check_run.specs.Several.{FetchesSeveral, IsHalted, Starts, StartsSeveral}
+use Rattle.check_run.specs.Several.{FetchesSeveral, HaltsSeveral, IsHalted, Starts, StartsSeveral}
 use Rattle.check_run.proofs.Ending.{appended-appended, appended-nil, no_bytes, quiet_behind, take_first}
 
 -- ---- starts, one after the other
@@ -149,9 +150,32 @@ several_fetched words x old mid new script several = record {
   begun = several.begun;
 }
 
-pub unread_halted : (name : List ℕ) (rest : List Start) (e : Unread) (old new : Sight) → HaltsScript name e old new → IsHalted (script_start name ++ rest) (status_of e) old new
-unread_halted name rest unread.Failed old new h = (h.0, quiet-more (script_start name) rest old new h.1)
-unread_halted name rest unread.Memory old new h = quiet-more (script_start name) rest old new h
+-- of the script, which was not read
+unread-halted : (name : List ℕ) (rest : List Start) (e : Unread) (old new : Sight) → HaltsScript name e old new → IsHalted (script_start name ++ rest) (status_of e) old new
+unread-halted name rest unread.Failed old new h = (h.0, quiet-more (script_start name) rest old new h.1)
+unread-halted name rest unread.Memory old new h = quiet-more (script_start name) rest old new h
+
+not-out : (e : Unread) → status_of e ≡ OutFailed → ⊥
+not-out unread.Failed e = cc
+not-out unread.Memory e = cc
+
+pub several_unread : (words : Join) (e : Unread) (old new : Sight) → HaltsScript words.script e old new → HaltsSeveral words (status_of e) old new
+several_unread words e old new h = record { halted = unread-halted words.script (several_starts words.certs words.out) e old new h; read = λ is. absurd (not-out e is) }
+
+pub held_some : (o : Option (Vec ℕ Global)) (script : List ℕ) → IsScriptHeld o script → length script ≤ most_bytes → IsSome o
+held_some None script h short = absurd (let l : most_bytes < length script = h in omega (arith, l, short))
+held_some (Some held) script h short = refl
+
+-- of what follows it
+pub several_halted : (words : Join) (x : Option (Vec ℕ Global)) (status : Status) (old mid new : Sight) → FetchesScript words.script x old mid → IsHalted (several_starts words.certs words.out) status mid new → new.script ≡ mid.script →
+    HaltsSeveral words status old new
+several_halted words x status old mid new script h same = record {
+  halted = halted_behind (script_start words.script) (several_starts words.certs words.out) status old mid new script.after h;
+  read = λ is. read-by old.script script.held (λ some. script.read some);
+} where
+  read-by : (o : Option (List ℕ)) → IfSome o (IsScriptHeld x) → (IsSome x → IfSome o (λ s. mid.script ≡ Some [])) → IfSome o (λ s. length s ≤ most_bytes → new.script ≡ Some [])
+  read-by None held read = tt
+  read-by (Some s) held read short = same ∙ read (held_some x s held short)
 
 -- ---- what is kept
 

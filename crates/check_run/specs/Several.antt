@@ -1,5 +1,5 @@
 -- A script that is read whole, the starts of several certificates, and a draft of the one that is written.
-use Rattle.std.specs.Prelude.{◌≡◌, ◌++◌, ℕ, List, [], ◌∷◌, Option, Some, IfSome, IsSome}
+use Rattle.std.specs.Prelude.{◌≡◌, ◌++◌, ◌≤◌, ℕ, List, [], ◌∷◌, Option, Some, IfSome, IsSome, length}
 use Rattle.std.specs.declared.vec.Vec.{Vec}
 use Rattle.std.specs.declared.alloc.Global.{Global}
 use Rattle.desk.specs.declared.desk.Port.TheVariants.{Draft}
@@ -13,6 +13,7 @@ use Rattle.cert_check.specs.declared.checker.Verdict as told
 use Rattle.cert_check.specs.declared.fault.CertFault.{CertFault}
 use Rattle.cert_check.specs.Courses.{verdict_of}
 use Rattle.cert_check.specs.Faults.{stop_of}
+use Rattle.script_reading.specs.Faults.{most_bytes}
 use Rattle.check_run.specs.declared.status.Status.{Status}
 use Rattle.check_run.specs.declared.status.Status.TheVariants.{InFailed, OutFailed, NoMemory}
 use Rattle.check_run.specs.Both.{IsScriptHeld}
@@ -48,6 +49,11 @@ pub record FetchesSeveral (words : Join) (x : Option (Vec ℕ Global)) (old new 
   pub script_read : IsSome x → IfSome old.script (λ s. new.script ≡ Some [])
   pub parts : new.parts ≡ old.parts
   pub begun : IsBegun new
+
+-- It halts before: the script was read, to its end where it is not too long, unless the in side failed or there is no memory.
+pub record HaltsSeveral (words : Join) (status : Status) (old new : Sight) : Type 0 where
+  pub halted : IsHalted (join_starts words) status old new
+  pub read : status ≡ OutFailed → IfSome old.script (λ s. length s ≤ most_bytes → new.script ≡ Some [])
 
 -- ---- answers
 
