@@ -13,12 +13,13 @@ use Rattle.cert_check.specs.declared.checker.Verdict as told
 use Rattle.cert_check.specs.declared.fault.CertFault.{CertFault}
 use Rattle.cert_check.specs.Courses.{verdict_of}
 use Rattle.cert_check.specs.Faults.{stop_of}
-use Rattle.script_reading.specs.Faults.{most_bytes}
+use Rattle.script_reading.specs.Faults.{most_bytes, script_fault}
 use Rattle.check_run.specs.declared.status.Status.{Status}
 use Rattle.check_run.specs.declared.status.Status.TheVariants.{InFailed, OutFailed, NoMemory}
 use Rattle.check_run.specs.Both.{IsScriptHeld}
-use Rattle.check_run.specs.Course.{Start, StartedEnds, Quiet, appended}
-use Rattle.check_run.specs.Joined.{join_starts, keeps, part_line, several_starts}
+use Rattle.check_run.specs.Can.{CanBy, OfProblem}
+use Rattle.check_run.specs.Course.{Course, Start, StartedEnds, Quiet, appended}
+use Rattle.check_run.specs.Joined.{CanJoin, bound_of, join_starts, keeps, part_line, several_starts}
 use Rattle.check_run.specs.Parts.{After}
 use Rattle.check_run.specs.Stops.{stop_text}
 
@@ -67,3 +68,7 @@ pub record TellsPart (k : ℕ) (fault : CertFault) (text : List ℕ) : Type 0 wh
 abbrev pub EndsKept : told.Verdict → Sight → Sight → Status → Type 0
 EndsKept w mid new status =
     (old : Sight) (text : List ℕ) (s : Loosenings) (v : Value) → IsDrafted old text mid → w ≡ verdict_of s v → StartedEnds (λ course. course ≡ keeps text (check_text s v)) old new status
+
+-- what a run goes on to behind all starts
+abbrev pub CanJoinOn : List ℕ → List (List ℕ) → Course → Type 0
+CanJoinOn script parts = CanBy (script_fault (bound_of parts) script) (OfProblem (bound_of parts) script (λ p. CanJoin p (bound_of parts) parts))
