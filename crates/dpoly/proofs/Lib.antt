@@ -1,4 +1,6 @@
+pub mod Alone
 pub mod Demo
+pub mod Joining
 pub mod Planning
 pub mod ResumeRuns
 pub mod Resuming

@@ -24,7 +24,7 @@ use Rattle.check_run.specs.ScriptFaults.{fault_text}
 use Rattle.check_run.proofs.Ending.{appended-nil, widen}
 use Rattle.dpoly.specs.Resume.{IsAsked, IsNotAsked}
 
-by-text : (f : Option ScriptFault) (text : List ℕ) (goes : Course → Type 0) → HasFaultText f text → CanBy f goes (says ScriptRefused text)
+pub by-text : (f : Option ScriptFault) (text : List ℕ) (goes : Course → Type 0) → HasFaultText f text → CanBy f goes (says ScriptRefused text)
 by-text None text goes e = cc
 by-text (Some f) text goes e = let same : text ≡ fault_text f = cc in ap (λ (t : List ℕ). says ScriptRefused t) same
 
@@ -43,7 +43,7 @@ halt-ends f goes halt.Failed old new status is ends = absurd is
 halt-ends f goes halt.Memory old new status is ends = no_memory_yet ends.0 (nothing-done old new ends.1)
 
 -- a script that is too long has that fault, whatever the bound
-long-halt : (bound : Option ℕ) (script : List ℕ) (h : Halt) → most_bytes < length script → IsTooLong h → IsHaltOfFault (script_fault bound script) h
+pub long-halt : (bound : Option ℕ) (script : List ℕ) (h : Halt) → most_bytes < length script → IsTooLong h → IsHaltOfFault (script_fault bound script) h
 long-halt bound script (halt.Refused text) long is =
     ap (λ (f : Option ScriptFault). option_map fault_text f) (bytes_first (in_checks bound) script too_many_bytes (fault_of_many script long)) ∙ ap (λ (t : List ℕ). Some t) (sym is)
 long-halt bound script halt.Failed long is = absurd is

@@ -12,6 +12,7 @@ use Rattle.cert_model.specs.Due.{Value}
 use Rattle.cert_model.specs.Accepted.{Verdict, accepted, stopped, verdict}
 use Rattle.cert_check.specs.declared.checker.Verdict as told
 use Rattle.cert_check.specs.declared.fault.CertFault.{CertFault}
+use Rattle.cert_check.specs.declared.fault.CertFault.TheVariants.{Memory}
 use Rattle.cert_check.specs.Courses.{IsVerdict}
 use Rattle.cert_check.specs.Faults.{stop_of}
 use Rattle.cert_check.specs.Feeding.{IsRefusalOrMemory}
@@ -45,10 +46,10 @@ abbrev pub IsUnread : Unread → Sight → Sight → Type 0
 IsUnread unread.Failed old new = FailsOn Part old new
 IsUnread unread.Memory old new = new ≡ old
 
--- the first that is refused, by its number from 1 on, with this fault; none where each is accepted
+-- the first that is refused, by its number from 1 on, with this fault, or no memory; none where each is accepted
 abbrev pub IsFirstFault : Problem → Option ℕ → List (List ℕ) → Option (ℕ × CertFault) → Type 0
 IsFirstFault p b parts None = AreAllAccepted p b parts
-IsFirstFault p b parts (Some (k, f)) = (g : due.CertFault) × (n : ℕ) × IsFirstRefused p b parts k g n × (Some (stopped g n) ≡ stop_of f)
+IsFirstFault p b parts (Some (k, f)) = (f ≡ Memory) ⊎ ((g : due.CertFault) × (n : ℕ) × IsFirstRefused p b parts k g n × (Some (stopped g n) ≡ stop_of f))
 
 -- so it is where the desk shows so many
 abbrev pub IsFirstFaultOn : Problem → Option ℕ → ℕ → Sight → Option (ℕ × CertFault) → Type 0

@@ -102,8 +102,8 @@ fn told_alone<D: Desk>(
     }
 }
 
-/// Of so many certificates the first that is refused, by its number from 1 on, with its fault; none where each is
-/// accepted.
+/// Of so many certificates the first that is refused, by its number from 1 on, with its fault, out of memory included; none
+/// where each is accepted.
 pub fn first_fault<D: Desk>(
     alloc: Global,
     desk: &mut D,
@@ -121,7 +121,6 @@ pub fn first_fault<D: Desk>(
     while number < count {
         match told_alone(alloc, desk, problem, bound, number) {
             Ok(()) => number += 1,
-            Err(Unconfirmed::Fault(CertFault::Memory)) => return Err(Unread::Memory),
             Err(Unconfirmed::Fault(fault)) => return Ok(Some((number + 1, fault))),
             Err(Unconfirmed::Failed) => return Err(Unread::Failed),
         }
