@@ -1,11 +1,13 @@
 // The desk over real files and standard streams. It shows neither bytes nor starts.
-ghost use Rattle.std.specs.Prelude.{◌≡◌, ◌≤◌, ◌<◌, length, IfOk, IfErr, OnOk, OnErr};
+ghost use Rattle.std.specs.Prelude.{◌≡◌, ◌≤◌, ◌<◌, length, IfOk, IfErr, OnOk, OnErr, IsErrOf};
 ghost use Rattle.desk.specs.Sight.{SideFailed};
 
+use crate::draft::Draft;
+use crate::parts::Parts;
 use crate::reading::Reading;
 use desk::{Denied, Desk, Failed, Port};
 use std::fs::File;
-use std::io::{Read, Stdin, Stdout, Write};
+use std::io::{ErrorKind, Read, Stdin, Stdout, Write};
 use std::{fs, io};
 
 /// At most so many bytes of an answer are kept.
@@ -52,8 +54,11 @@ pub struct FileDesk {
     reading: Reading,
     script: Source,
     cert_in: Source,
+    parts: Parts,
     answer: Sink,
     cert_out: Sink,
+    draft: Option<Draft>,
+    draft_out: Sink,
     in_faults: u64,
     out_faults: u64,
 }
@@ -70,8 +75,11 @@ impl FileDesk {
             reading: Reading::new(rt, program),
             script: Source::Closed,
             cert_in: Source::Closed,
+            parts: Parts::new(rt),
             answer: Sink::Closed,
             cert_out: Sink::Closed,
+            draft: None,
+            draft_out: Sink::Closed,
             in_faults: 0,
             out_faults: 0,
         }
@@ -184,9 +192,26 @@ impl FileDesk {
         &self.piped
     }
 
-    /// Ends what is shown of the reading of a certificate.
-    pub fn clear(&self) {
+    /// The name of the first certificate that failed, of those that are read at any place.
+    pub fn failed_part(&self) -> Option<&str> {
+        self.parts.failed()
+    }
+
+    /// Ends what is shown of the reading of a certificate, and takes a draft away that was not kept.
+    pub fn clear(&mut self) {
         self.reading.clear();
+        self.discard();
+    }
+
+    // Closes a draft that was not kept, and takes it away.
+    fn discard(&mut self)
+        ensures in_faults { self.new.in_faults ≡ self.old.in_faults }
+        ensures out_faults { self.new.out_faults ≡ self.old.out_faults }
+    {
+        self.draft_out = Sink::Closed;
+        if let Some(draft) = self.draft.take() {
+            draft.remove(&self.rt);
+        }
     }
 
     // Keeps a failure, where it is the first.
@@ -267,6 +292,25 @@ impl FileDesk {
         }
     }
 
+    // Starts the next certificate that is read at any place.
+    fn start_part(&mut self, name: &str) -> Result<(), Denied>
+        ensures ok { OnOk result (self.new.in_faults ≡ self.old.in_faults) }
+        ensures failed { IsErrOf result Denied.Failed →
+            SideFailed self.old.in_faults self.new.in_faults }
+        ensures memory { IsErrOf result Denied.Memory →
+            self.new.in_faults ≡ self.old.in_faults }
+        ensures out_faults { self.new.out_faults ≡ self.old.out_faults }
+    {
+        match self.parts.start(name) {
+            Ok(()) => Ok(()),
+            Err(error) if error.kind() == ErrorKind::OutOfMemory => Err(Denied::Memory),
+            Err(error) => {
+                self.fail_in(Port::Part, Some(error));
+                Err(Denied::Failed)
+            }
+        }
+    }
+
     // Starts an out port.
     fn start_out(&mut self, port: Port, name: &str) -> Result<(), Denied>
         ensures ok { OnOk result (self.new.out_faults ≡ self.old.out_faults) }
@@ -290,15 +334,64 @@ impl FileDesk {
     }
 }
 
+impl FileDesk {
+    // Starts a draft.
+    fn start_draft(&mut self, name: &str) -> Result<(), Denied>
+        ensures ok { OnOk result (self.new.out_faults ≡ self.old.out_faults) }
+        ensures failed { IsErrOf result Denied.Failed →
+            SideFailed self.old.out_faults self.new.out_faults }
+        ensures memory { IsErrOf result Denied.Memory →
+            self.new.out_faults ≡ self.old.out_faults }
+        ensures in_faults { self.new.in_faults ≡ self.old.in_faults }
+    {
+        self.discard();
+        match self.begin_draft(name) {
+            Ok(()) => Ok(()),
+            Err(error) if error.kind() == ErrorKind::OutOfMemory => Err(Denied::Memory),
+            Err(error) => {
+                self.fail_out(Port::Draft, Some(error));
+                Err(Denied::Failed)
+            }
+        }
+    }
+
+    // Creates the file of a draft.
+    fn begin_draft(&mut self, name: &str) -> Result<(), io::Error>
+        ensures in_faults { self.new.in_faults ≡ self.old.in_faults }
+        ensures out_faults { self.new.out_faults ≡ self.old.out_faults }
+    {
+        let draft = Draft::of(&self.rt, name, &self.parts)?;
+        self.draft_out = Sink::File(draft.create(&self.rt)?);
+        self.draft = Some(draft);
+        Ok(())
+    }
+
+    // Closes the draft, and gives it its name.
+    fn end_draft(&mut self) -> Result<(), Option<io::Error>>
+        ensures in_faults { self.new.in_faults ≡ self.old.in_faults }
+        ensures out_faults { self.new.out_faults ≡ self.old.out_faults }
+    {
+        self.draft_out = Sink::Closed;
+        let Some(draft) = &self.draft else {
+            return Err(None);
+        };
+        draft.keep(&self.rt)?;
+        self.draft = None;
+        Ok(())
+    }
+}
+
 impl Desk for FileDesk {
     ghost use Rattle.std.specs.Prelude.{None};
 
-    ghost sight = { λ d. record { script = None; cert_in = None; answer = None; cert_out = None; starts = None; in_faults = d.in_faults; out_faults = d.out_faults } };
+    ghost sight = { λ d. record { script = None; cert_in = None; parts = None; answer = None; cert_out = None; draft = None; starts = None; in_faults = d.in_faults; out_faults = d.out_faults } };
 
     fn start(&mut self, p: Port, name: &str) -> Result<(), Denied> {
         match p {
             Port::Script | Port::CertIn => self.start_in(p, name),
+            Port::Part => self.start_part(name),
             Port::Answer | Port::CertOut => self.start_out(p, name),
+            Port::Draft => self.start_draft(name),
         }
     }
 
@@ -320,10 +413,24 @@ impl Desk for FileDesk {
         }
     }
 
+    fn read_at(&mut self, number: usize, at: u64, into: &mut [u8]) -> Result<usize, Failed> {
+        match self.parts.read_at(number, at, into) {
+            Ok(n) => {
+                self.reading.go_on(n);
+                Ok(n)
+            }
+            Err(error) => {
+                self.fail_in(Port::Part, Some(error));
+                Err(Failed)
+            }
+        }
+    }
+
     fn write(&mut self, p: Port, from: &[u8]) -> Result<usize, Denied> {
         let written = match p {
             Port::Answer => write_some(&mut self.answer, from),
             Port::CertOut => write_some(&mut self.cert_out, from),
+            Port::Draft => write_some(&mut self.draft_out, from),
             _ => unreachable!(),
         };
         match written {
@@ -333,6 +440,16 @@ impl Desk for FileDesk {
             }
             Err(error) => {
                 self.fail_out(p, error);
+                Err(Denied::Failed)
+            }
+        }
+    }
+
+    fn keep(&mut self) -> Result<(), Denied> {
+        match self.end_draft() {
+            Ok(()) => Ok(()),
+            Err(error) => {
+                self.fail_out(Port::Draft, error);
                 Err(Denied::Failed)
             }
         }

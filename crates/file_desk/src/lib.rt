@@ -5,8 +5,10 @@
 //! what standard error shows.
 #![tactic(auto)]
 
+mod draft;
 mod files;
 mod messages;
+mod parts;
 mod reading;
 mod ticker;
 mod words;

@@ -104,12 +104,13 @@ fn sink<'a>(name: &'a str) -> &'a str {
 }
 
 impl<'a> Messages<'a> {
-    // What a port is called.
-    fn port_name(&self, port: Port) -> &'a str {
+    // What a port is called; of certificates that are read at any place, the first that failed.
+    fn port_name<'b>(&'b self, desk: &'b FileDesk, port: Port) -> &'b str {
         match port {
             Port::Script => source(self.script),
             Port::CertIn => source(self.cert_in),
-            Port::CertOut => sink(self.cert_out),
+            Port::Part => source(desk.failed_part().unwrap_or("a certificate")),
+            Port::CertOut | Port::Draft => sink(self.cert_out),
             Port::Answer => "standard output",
         }
     }
@@ -120,12 +121,12 @@ impl<'a> Messages<'a> {
             return;
         };
         let program = self.program;
-        let Ok(name) = printable(rt.alloc(), self.port_name(trouble.port)) else {
+        let Ok(name) = printable(rt.alloc(), self.port_name(desk, trouble.port)) else {
             return;
         };
         let verb = match trouble.port {
-            Port::Script | Port::CertIn => "read",
-            Port::CertOut | Port::Answer => "write",
+            Port::Script | Port::CertIn | Port::Part => "read",
+            Port::CertOut | Port::Answer | Port::Draft => "write",
         };
         let _ = match &trouble.error {
             Some(error) => eprintln!(rt; "{program}: cannot {verb} {name}: {error}"),
