@@ -23,7 +23,7 @@ fn is_refused(alloc: Global, line: &str) -> bool {
     }
 }
 
-const REFUSED: [&str; 55] = [
+const REFUSED: [&str; 64] = [
     // forms
     "dpoly",
     "dpoly help",
@@ -49,6 +49,15 @@ const REFUSED: [&str; 55] = [
     "dpoly upgrade s c d e",
     "dpoly upgrade - - d",
     "dpoly upgrade s c d --workers 1",
+    "dpoly join",
+    "dpoly join s o",
+    "dpoly join s o a",
+    "dpoly join s o - a",
+    "dpoly join s o a b -",
+    "dpoly join s o a b --bound 8",
+    "dpoly join s o a b --part 1/1",
+    "dpoly join s o a b --list l",
+    "dpoly join --help",
     "dpoly solve s c --delta-bits 20 --margin-bits 10",
     "dpoly solve s c --delta-bits 20 --margin-bits 20",
     "dpoly solve s c --delta-bits 25",
@@ -244,6 +253,44 @@ fn asks(alloc: Global, line: &str, asked: &Request<'static>) -> bool {
 fn commands_are_asked(rt: HostRuntime) {
     for (line, asked) in ASKED {
         assert!(rt; asks(rt.alloc(), line, asked), "{line}");
+    }
+}
+
+// ---- what `join` is asked
+
+// Lines of words, and the names of the script, of the certificate that is written and of those that are read.
+const JOINED: &[(&str, [&str; 2], &[&str])] = &[
+    ("dpoly join s o a b", ["s", "o"], &["a", "b"]),
+    ("dpoly join - - a a a", ["-", "-"], &["a", "a", "a"]),
+    ("dpoly join s -- -o -a --", ["s", "-o"], &["-a", "--"]),
+    (
+        "dpoly join s o a b c d e f -- --list -a",
+        ["s", "o"],
+        &["a", "b", "c", "d", "e", "f", "--list", "-a"],
+    ),
+];
+
+fn join(alloc: Global, words: &[String], names: &[&str; 2], certs: &[&str]) -> bool {
+    match read_words(alloc, words) {
+        Ok(Request::Join(asked)) => {
+            [asked.script, asked.out] == *names && asked.certs.as_slice() == certs
+        }
+        _ => false,
+    }
+}
+
+// Whether the line asks for one certificate of these.
+fn joins(alloc: Global, line: &str, names: &[&str; 2], certs: &[&str]) -> bool {
+    match words_of(alloc, line) {
+        Ok(words) => join(alloc, &words, names, certs),
+        Err(_) => false,
+    }
+}
+
+#[test]
+fn one_certificate_of_several_is_asked(rt: HostRuntime) {
+    for (line, names, certs) in JOINED {
+        assert!(rt; joins(rt.alloc(), line, names, certs), "{line}");
     }
 }
 
