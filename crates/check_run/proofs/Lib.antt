@@ -12,7 +12,7 @@ pub mod Resumes
 pub mod RunBoth
 pub mod RunParts
 pub mod Running
-pub mod Several
+pub mod Starting
 pub mod Shown
 pub mod Verdicts
 pub mod Lines

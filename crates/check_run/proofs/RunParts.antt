@@ -18,7 +18,7 @@ use Rattle.check_run.specs.Run.{HasCause, ScriptIsRead, run_of}
 use Rattle.check_run.specs.Several.{FetchesSeveral, HaltsSeveral, IsHalted}
 use Rattle.check_run.proofs.Ending.{ends_behind, quiet_behind}
 use Rattle.check_run.proofs.Running.{told}
-use Rattle.check_run.proofs.Several.{held_some}
+use Rattle.check_run.proofs.Starting.{held_some}
 
 -- ---- the ends of a run behind its starts
 

@@ -29,7 +29,7 @@ pub fn refused_part(
 }
 
 /// A line of the certificate of this number, from 1 on, does not go together with the others.
-pub fn apart(alloc: Global, number: usize, line: u64) -> Result<Vec<u8>, AllocError>
+pub fn not_joined_at(alloc: Global, number: usize, line: u64) -> Result<Vec<u8>, AllocError>
     ensures { IfOk result (λ text. text.items ≡ apart_text number line) }
 {
     let text = format!(in alloc; "certificate {number}\nnot joined line {line}\n")?;

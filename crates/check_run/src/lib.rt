@@ -26,7 +26,7 @@ mod status;
 pub use both::{Inputs, Unread, fetch_both, header_bound};
 pub use check::{ROOM, Unconfirmed, check_session, refuse};
 pub use checked::{confirmed_delta_sat, confirmed_unsat, left_open};
-pub use joined::{apart, keep_joined, not_joined, refused_part};
+pub use joined::{keep_joined, not_joined, not_joined_at, refused_part};
 pub use planned::{plan_least_bits, plan_no_atom, plan_no_axis};
 pub use ports::{finish, say};
 pub use refused::cert_fault;

@@ -1,8 +1,8 @@
 -- From certificates that were joined to the end of a run.
-use Rattle.std.proofs.Common.{◌≡◌, ◌<◌, inl, inr, ℕ, List, [], ◌∷◌, ◌++◌, Option, Some, None, Result, Ok, Err, IfOk, MatchResult, Vec, Global, refl, ap, sym, ◌∙◌, subst}
+use Rattle.std.proofs.Common.{◌≡◌, ◌<◌, inl, inr, ℕ, List, [], ◌∷◌, ◌++◌, Option, Some, None, Result, Ok, Err, IfOk, MatchResult, Vec, Global, codes, take, refl, ap, sym, ◌∙◌, subst}
 use Rattle.std.proofs.lemmas.Option.{none-some}
 use Rattle.std.specs.declared.alloc.AllocError.{AllocError}
-use Rattle.desk.specs.declared.desk.Port.TheVariants.{Part}
+use Rattle.desk.specs.declared.desk.Port.TheVariants.{Answer, Part}
 use Rattle.desk.specs.Draft.{IsDrafted}
 use Rattle.desk.specs.Sight.{Sight, FailsOn, SideFailed}
 use Rattle.command_line.specs.Words.{Join, join}
@@ -34,7 +34,7 @@ use Rattle.check_run.specs.Both.{IsScriptHeld, status_of}
 use Rattle.check_run.specs.Can.{CanBy, OfProblem}
 use Rattle.check_run.specs.Course.{Course, Quiet, Ends, at_its_end, out_failed, no_memory, StartedEnds, Stopped, Went, appended, draft_fails, goes_on, in_fails, no_memory_left, says}
 use Rattle.check_run.specs.Joined.{AreAllAccepted, CanJoin, IsNotJoined, apart_text, bound_of, joins, keeps, not_joined_line, one_refused, part_line, refused_part_text, refuses}
-use Rattle.check_run.specs.Joined as joined
+use Rattle.check_run.specs.Joined as together
 use Rattle.check_run.specs.Run.{HasCause, JoinHasCause, run_of}
 use Rattle.check_run.specs.Script.{HaltEnds, IsHaltOfFault, IsTooLong}
 use Rattle.check_run.specs.Several.{CanJoinOn, EndsKept, IsHalted, TellsPart}
@@ -43,7 +43,7 @@ use Rattle.check_run.proofs.Ending.{appended-nil}
 use Rattle.dpoly.specs.declared.join.Joint.{Joint}
 use Rattle.dpoly.specs.declared.join.Joint.TheVariants.{Whole, Dropped, Apart, Refused}
 use Rattle.dpoly.specs.Join.{EndsAccepted, HasBound, HaltsJoining, IsDraftedJoint, IsFirstFault, IsJointOf, IsRefusalWith, IsToldJoint, IsUnread}
-use Rattle.dpoly.proofs.ResumeRuns.{by-text, long-halt}
+use Rattle.dpoly.proofs.Halting.{by_text, long_halt}
 
 -- ---- nothing written
 
@@ -170,17 +170,17 @@ module _ (old mid new : Sight) (text : List ℕ) (status : Status) (said : List 
     starts_made = stopped.starts_made;
     cert_bytes = stopped.cert_bytes;
     answer_bytes = stopped.answer_bytes;
-    starts = stopped.starts ∙ ap (λ (d : Sight). appended d.starts _) drafts;
-    cert = stopped.cert ∙ ap (λ (d : Sight). appended d.cert_out _) drafts;
-    answer = stopped.answer ∙ ap (λ (d : Sight). appended d.answer _) drafts;
+    starts = stopped.starts ∙ ap (λ (d : Sight). appended d.starts (take stopped.starts_made ((Answer, codes "-") ∷ []))) drafts;
+    cert = stopped.cert ∙ ap (λ (d : Sight). appended d.cert_out (take stopped.cert_bytes [])) drafts;
+    answer = stopped.answer ∙ ap (λ (d : Sight). appended d.answer (take stopped.answer_bytes said)) drafts;
     order = stopped.order;
   }
 
   pub said_ends : Ends (says CertRefused said) mid new status → Ends (says CertRefused said) old new status
   said_ends (at_its_end is went) = at_its_end is (record {
-    starts = went.starts ∙ ap (λ (d : Sight). appended d.starts _) drafts;
-    cert = went.cert ∙ ap (λ (d : Sight). appended d.cert_out _) drafts;
-    answer = went.answer ∙ ap (λ (d : Sight). appended d.answer _) drafts;
+    starts = went.starts ∙ ap (λ (d : Sight). appended d.starts ((Answer, codes "-") ∷ [])) drafts;
+    cert = went.cert ∙ ap (λ (d : Sight). appended d.cert_out []) drafts;
+    answer = went.answer ∙ ap (λ (d : Sight). appended d.answer said) drafts;
     in_faults = went.in_faults ∙ ap (λ (d : Sight). d.in_faults) drafts;
     out_faults = went.out_faults ∙ ap (λ (d : Sight). d.out_faults) drafts;
   })
@@ -216,11 +216,11 @@ pub refused_joins : (p : Problem) (b : Option ℕ) (parts : List (List ℕ)) (r 
 refused_joins p b parts r old new status reason ends = widen (IsRefusalWith r) (CanJoin p b parts) old new status (λ course h. refuses-with p b parts r course reason h) ends
 
 pub apart_reason : (p : Problem) (b : Option ℕ) (parts : List (List ℕ)) (r : Result (Vec ℕ Global) AllocError) (k n : ℕ) → AreAllAccepted p b parts → IfOk r (λ text. text.items ≡ apart_text k n) → IfOk r (λ text. IsNotJoined p b parts text.items)
-apart_reason p b parts (Ok text) k n all e = joined.apart k n all e
+apart_reason p b parts (Ok text) k n all e = together.apart k n all e
 apart_reason p b parts (Err e) k n all h = tt
 
 pub joined_reason : (p : Problem) (b : Option ℕ) (parts : List (List ℕ)) (r : Result (Vec ℕ Global) AllocError) (n : ℕ) → AreAllAccepted p b parts → IfOk r (λ text. text.items ≡ not_joined_line n) → IfOk r (λ text. IsNotJoined p b parts text.items)
-joined_reason p b parts (Ok text) n all e = joined.joined_refused n all e
+joined_reason p b parts (Ok text) n all e = together.joined_refused n all e
 joined_reason p b parts (Err e) n all h = tt
 
 -- one is refused
@@ -238,7 +238,7 @@ first_reason p b parts k f (Err e) first tells = tt
 -- ---- behind the script
 
 halt-ends : (f : Option ScriptFault) (goes : Course → Type 0) (h : Halt) (old new : Sight) (status : Status) → IsHaltOfFault f h → HaltEnds h old new status → StartedEnds (CanBy f goes) old new status
-halt-ends f goes (halt.Refused text) old new status is ends = goes_on (says ScriptRefused text.items) (by-text f text.items goes is) ends
+halt-ends f goes (halt.Refused text) old new status is ends = goes_on (says ScriptRefused text.items) (by_text f text.items goes is) ends
 halt-ends f goes halt.Failed old new status is ends = absurd is
 halt-ends f goes halt.Memory old new status is ends = no_memory_left ends.0 (quiet-same old new (ap (λ (d : Sight). d.starts) ends.1) (ap (λ (d : Sight). d.cert_out) ends.1) (ap (λ (d : Sight). d.answer) ends.1))
 
@@ -248,7 +248,7 @@ module _ (script : List ℕ) (parts : List (List ℕ)) where
 
   pub long_ends : (o : Option (Vec ℕ Global)) (h : Halt) (old new : Sight) (status : Status) → o ≡ None → IsScriptHeld o script → IsTooLong h → HaltEnds h old new status → StartedEnds (CanJoinOn script parts) old new status
   long_ends o h old new status e held is ends =
-      halt-ends (script_fault (bound_of parts) script) Goes h old new status (long-halt (bound_of parts) script h (subst (λ (x : Option (Vec ℕ Global)). IsScriptHeld x script) e held) is) ends
+      halt-ends (script_fault (bound_of parts) script) Goes h old new status (long_halt (bound_of parts) script h (subst (λ (x : Option (Vec ℕ Global)). IsScriptHeld x script) e held) is) ends
 
   -- the bound is known
   pub faulty_ends : (b : Option ℕ) (h : Halt) (old new : Sight) (status : Status) → b ≡ bound_of parts → IsHaltOfFault (script_fault b script) h → HaltEnds h old new status → StartedEnds (CanJoinOn script parts) old new status

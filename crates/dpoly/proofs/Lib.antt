@@ -1,5 +1,6 @@
-pub mod Alone
+pub mod ReadAlone
 pub mod Demo
+pub mod Halting
 pub mod Joining
 pub mod Planning
 pub mod ResumeRuns

@@ -13,7 +13,7 @@ use crate::alone::{first_fault, head_bound};
 use cert_check::{CertFault, Feed, Verdict};
 use cert_join::{Place, Stop, join};
 use check_run::{
-    Status, apart, end_halted, keep_joined, not_joined, refusal, refused_part, say, too_long,
+    Status, end_halted, keep_joined, not_joined, not_joined_at, refusal, refused_part, say, too_long,
 };
 use desk::Desk;
 use poly_graph::Problem;
@@ -139,7 +139,7 @@ fn end_accepted<D: Desk>(alloc: Global, desk: &mut D, joint: Joint) -> Status
     match joint {
         Joint::Whole(verdict) | Joint::Dropped(verdict) => keep_joined(alloc, desk, verdict),
         Joint::Apart(place) => {
-            let text = apart(alloc, place.part.saturating_add(1), place.line);
+            let text = not_joined_at(alloc, place.part.saturating_add(1), place.line);
             refuse_with(desk, text)
         }
         Joint::Refused(line) => refuse_with(desk, not_joined(alloc, line)),
