@@ -1,5 +1,5 @@
 -- A script that is read whole, the starts of several certificates and of a draft, and what is kept of that.
-use Rattle.std.proofs.Common.{◌≡◌, ℕ, List, [], ◌∷◌, ◌++◌, Option, Some, None, IfSome, length, min, take, refl, ap, sym, subst, ◌∙◌, append_assoc, append-nil, codes, inr, arith, ◌+◌, ◌≤◌, ◌<◌}
+use Rattle.std.proofs.Common.{◌≡◌, ℕ, List, [], ◌∷◌, ◌++◌, Option, Some, None, IfSome, length, min, take, refl, ap, sym, subst, ◌∙◌, append_assoc, append-nil, codes, inr, arith, Result, Ok, Err, MatchResult, ◌+◌, ◌≤◌, ◌<◌}
 use Rattle.std.specs.Prelude.{IsSome}
 use Rattle.std.specs.Option.{option_map, option_zip}
 use Rattle.std.proofs.Math.Seq.{take-append-add, take-length}
@@ -130,6 +130,12 @@ several_started names out old mid new parts draft = record {
   begun = let empty : IsBegun (with_start Draft out mid) = refl in subst IsBegun (sym draft) empty;
 }
 
+-- behind the ports of the certificates
+pub draft_then : (names : List (List ℕ)) (out : List ℕ) (old mid new : Sight) (r : Result (Unit {0}) Status) → Starts (part_starts names) old mid → MatchResult r (λ x. new ≡ with_start Draft out mid) (λ status. IsHalted ((Draft, out) ∷ []) status mid new) →
+    MatchResult r (λ x. StartsSeveral names out old new) (λ status. IsHalted (several_starts names out) status old new)
+draft_then names out old mid new (Ok x) parts draft = several_started names out old mid new parts draft
+draft_then names out old mid new (Err status) parts h = halted_behind (part_starts names) ((Draft, out) ∷ []) status old mid new (after_starts (part_starts names) old mid parts) h
+
 over-some : (o : Option (List ℕ)) (P Q : List ℕ → Type 0) → ((s : List ℕ) → P s → Q s) → IfSome o P → IfSome o Q
 over-some None P Q f h = tt
 over-some (Some s) P Q f h = f s h
@@ -175,7 +181,7 @@ several_halted words x status old mid new script h same = record {
 } where
   read-by : (o : Option (List ℕ)) → IfSome o (IsScriptHeld x) → (IsSome x → IfSome o (λ s. mid.script ≡ Some [])) → IfSome o (λ s. length s ≤ most_bytes → new.script ≡ Some [])
   read-by None held read = tt
-  read-by (Some s) held read short = same ∙ read (held_some x s held short)
+  read-by (Some s) held read = λ short. same ∙ read (held_some x s held short)
 
 -- ---- what is kept
 
