@@ -1,21 +1,20 @@
 -- A script and a certificate that are both read whole.
-use Rattle.std.proofs.Common.{◌≡◌, ◌<◌, ◌+◌, ◌≤◌, ℕ, List, [], ◌∷◌, ◌++◌, Option, Some, None, IfSome, length, drop, min, take, refl, ap, sym, subst, ◌∙◌, arith}
-use Rattle.std.specs.Prelude.{option_map, IsSome}
+use Rattle.std.proofs.Common.{◌≡◌, ◌<◌, ℕ, List, [], ◌∷◌, Option, Some, None, IfSome, length, drop, min, refl, ap, sym, subst, ◌∙◌}
+use Rattle.std.specs.Prelude.{option_map}
 use Rattle.std.proofs.Math.Seq.{drop-length}
 use Rattle.std.specs.declared.vec.Vec.{Vec}
 use Rattle.std.specs.declared.alloc.Global.{Global}
 use Rattle.desk.specs.declared.desk.Port.TheVariants.{Script, CertIn}
-use Rattle.desk.specs.Sight.{Sight, SideFailed, with_start, with_read}
+use Rattle.desk.specs.Sight.{Sight, SideFailed, with_start}
 use Rattle.desk.specs.Texts.{ReadsAll, ReadsSome, ReadsThenFails}
 use Rattle.script_reading.specs.Faults.{most_bytes}
 use Rattle.check_run.specs.declared.both.Inputs.{Inputs}
 use Rattle.check_run.specs.declared.both.Unread.{Unread}
 use Rattle.check_run.specs.declared.both.Unread.TheVariants as unread
-use Rattle.check_run.specs.Both.{FetchesBoth, FetchesCert, FetchesScript, HaltsBoth, HaltsCert, HaltsScript, IsScriptHeld}
+use Rattle.check_run.specs.Both.{FetchesBoth, FetchesCert, FetchesScript, HaltsBoth, HaltsCert, HaltsScript}
 use Rattle.check_run.specs.Can.{both_starts}
 use Rattle.check_run.specs.Course.{Start, Quiet, appended}
 use Rattle.check_run.specs.Parts.{After}
-use Rattle.check_run.specs.Run.{IsReadToEnd}
 use Rattle.check_run.specs.Script.{script_start}
 use Rattle.check_run.proofs.Ending.{appended-appended, appended-nil, after_cert_in, quiet_behind, take_first}
 

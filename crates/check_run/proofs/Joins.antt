@@ -3,20 +3,19 @@ use Rattle.std.proofs.Common.{◌≡◌, ℕ, List, [], ◌++◌, Option, Some, 
 use Rattle.desk.specs.Sight.{Sight}
 use Rattle.command_line.specs.Words.{Join, join}
 use Rattle.poly_graph.specs.Problem.{Problem}
-use Rattle.cover_model.specs.State.{Loosenings}
-use Rattle.cert_model.specs.Due.{Value, at_point, left_open}
+use Rattle.cert_model.specs.Due.{Value, left_open}
 use Rattle.cert_model.specs.Accepted.{IsAccepted}
 use Rattle.cert_model.specs.AnswerText.{check_text}
 use Rattle.headline.proofs.Headline.{unsat_is}
 use Rattle.script_fault.specs.declared.fault.ScriptFault.{ScriptFault}
 use Rattle.script_reading.specs.Faults.{script_fault}
-use Rattle.script_reading.specs.Reader.{commands_of, HasProblem, IsBuilt}
+use Rattle.script_reading.specs.Reader.{commands_of, HasProblem}
 use Rattle.check_run.specs.declared.status.Status.TheVariants.{Answered, CertRefused}
 use Rattle.check_run.specs.Course.{Course, appended}
 use Rattle.check_run.specs.Can.{CanBy, OfProblem}
 use Rattle.check_run.specs.Joined.{CanJoin, bound_of, joins, refuses}
 use Rattle.check_run.specs.Run.{IsShown}
-use Rattle.check_run.specs.Headline.{AreNotJoined, IsJoined, IsTrueDeltaSat, IsTrueRefusal, IsTrueUnsat, IsWritten, confirmed_delta_sat_word, confirmed_unsat_word}
+use Rattle.check_run.specs.Headline.{IsJoined, IsTrueDeltaSat, IsTrueRefusal, IsTrueUnsat, IsWritten, confirmed_delta_sat_word, confirmed_unsat_word}
 use Rattle.check_run.proofs.Differ.{written-is, answered-not, certificate-refused-not, confirms-delta-sat, confirms-unsat, delta-so, refused-not, script-refused-not}
 use Rattle.check_run.proofs.Named.{named_bound}
 use Rattle.check_run.proofs.Resumes.{value-so}

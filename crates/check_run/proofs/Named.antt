@@ -1,13 +1,13 @@
 -- The bound that the header of an accepted certificate names.
-use Rattle.std.proofs.Common.{◌≡◌, ℕ, suc, List, [], ◌∷◌, Bool, true, false, IsTrue, Option, Some, None, refl, ap, sym, subst, nat_eq, nat_le, length, eqb→eq}
+use Rattle.std.proofs.Common.{◌≡◌, ℕ, List, [], ◌∷◌, Bool, true, false, IsTrue, Option, Some, None, refl, ap, nat_le, length, eqb→eq}
 use Rattle.std.specs.Prelude.{option_and_then}
 use Rattle.std.specs.Bool.{passes}
 use Rattle.poly_graph.specs.Problem.{Problem}
 use Rattle.cover_model.specs.State.{Loosenings}
-use Rattle.cert_read.specs.CertLine.{CertLine, Parsed, too_long, bad_line, bad_number, line, parsed, version, margin, delta, bound}
-use Rattle.cert_read.specs.Lines.{lines_of, lines_so_far}
-use Rattle.cert_model.specs.Due.{CertFault, Value, Due, version_due, margin_due, delta_due, bound_due, kind_due, Next, given, is_version, same_bound, BadHeader, WrongBound}
-use Rattle.cert_model.specs.Accepted.{Course, stopped, reached, course, course_next, Verdict, accepted, refused, ended, cut_off, next_parsed, loosenings_fit, verdict_by, IsAccepted, most_bytes}
+use Rattle.cert_read.specs.CertLine.{Parsed, too_long, bad_line, bad_number, line, parsed, version, margin, delta, bound}
+use Rattle.cert_read.specs.Lines.{lines_of}
+use Rattle.cert_model.specs.Due.{CertFault, Value, Due, version_due, margin_due, delta_due, bound_due, kind_due, given, is_version, same_bound, BadHeader, WrongBound}
+use Rattle.cert_model.specs.Accepted.{Course, stopped, reached, course, course_next, accepted, ended, cut_off, next_parsed, loosenings_fit, verdict_by, IsAccepted, most_bytes}
 use Rattle.check_run.specs.Resumed.{behind_said, behind_line, bound_in, first_bound, fourth_bound, header_bound}
 
 -- one bound

@@ -1,5 +1,5 @@
 -- What the answers of `resume` say of its script.
-use Rattle.std.proofs.Common.{◌≡◌, ◌⊎◌, inl, inr, ℕ, zero, suc, List, [], ◌∷◌, ◌++◌, Bool, true, false, cond, get_or, nat_eq, Option, Some, None, refl, ap, sym, subst, ◌∙◌}
+use Rattle.std.proofs.Common.{◌≡◌, inl, inr, ℕ, zero, suc, List, [], ◌∷◌, ◌++◌, Bool, true, false, cond, Option, Some, None, refl, ap, sym, subst, ◌∙◌}
 use Rattle.desk.specs.Sight.{Sight}
 use Rattle.command_line.specs.Words.{Resume, resume}
 use Rattle.poly_graph.specs.Problem.{Problem}
@@ -7,7 +7,7 @@ use Rattle.interval_model.specs.Space.{Space}
 use Rattle.cover_model.specs.State.{Loosenings}
 use Rattle.cert_model.specs.Due.{Standing, Value, at_point, left_open}
 use Rattle.cert_model.specs.Accepted.{IsAccepted, Verdict, accepted, refused, verdict}
-use Rattle.cert_model.specs.AnswerText.{solve_text, left_text, unsat_text, delta_sat_text, has_open}
+use Rattle.cert_model.specs.AnswerText.{unsat_text, delta_sat_text, has_open}
 use Rattle.cert_upgrade.specs.Upgraded.{in_newest}
 use Rattle.cert_resumed.specs.Resumed.{Share, is_own, joined, own_left, others}
 use Rattle.headline.proofs.Headline.{unsat_is}
@@ -17,9 +17,9 @@ use Rattle.script_reading.specs.Reader.{commands_of, HasProblem, IsBuilt}
 use Rattle.check_run.specs.declared.status.Status.TheVariants.{Answered, CertRefused}
 use Rattle.check_run.specs.Course.{Course, appended}
 use Rattle.check_run.specs.Can.{CanBy, OfProblem}
-use Rattle.check_run.specs.Resumed.{CanResume, CanResumeBy, GoesOn, IsFoundBehind, IsMore, IsMoreCovered, header_bound, part_text, share_of, share_text, trees_left}
+use Rattle.check_run.specs.Resumed.{CanResume, CanResumeBy, GoesOn, header_bound, share_of, share_text, trees_left}
 use Rattle.check_run.specs.Run.{IsShown}
-use Rattle.check_run.specs.Headline.{IsWritten, IsResumed, IsWrittenUnsat, IsRefusedToResume, IsTrueDeltaSat, IsTrueRefusal, IsTrueUnsat, IsTrueValue, delta_sat_word, unsat_word}
+use Rattle.check_run.specs.Headline.{IsWritten, IsResumed, IsTrueDeltaSat, IsTrueRefusal, IsTrueUnsat, IsTrueValue, delta_sat_word, unsat_word}
 use Rattle.check_run.proofs.Apart.{apart}
 use Rattle.check_run.proofs.Differ.{written-is, apart-left, answered-not, certificate-refused-not, refused-not, script-refused-not, delta-so}
 

@@ -1,21 +1,20 @@
 -- A run from its script and its certificate on, which are both read first.
-use Rattle.std.proofs.Common.{◌≡◌, ◌≤◌, ◌<◌, ℕ, List, [], ◌∷◌, Option, Some, None, length, refl, ap, sym, subst, ◌∙◌, IfSome, arith}
+use Rattle.std.proofs.Common.{◌≡◌, ◌≤◌, ◌<◌, ℕ, List, [], Option, Some, None, length, refl, subst, ◌∙◌, arith}
 use Rattle.std.specs.Prelude.{IsSome}
 use Rattle.std.specs.declared.vec.Vec.{Vec}
 use Rattle.std.specs.declared.alloc.Global.{Global}
-use Rattle.desk.specs.Sight.{Sight, SideFailed}
+use Rattle.desk.specs.Sight.{Sight}
 use Rattle.command_line.specs.Words.{Resume, resume}
 use Rattle.script_reading.specs.Faults.{most_bytes}
 use Rattle.check_run.specs.declared.both.Inputs.{Inputs}
 use Rattle.check_run.specs.declared.both.Unread.{Unread}
 use Rattle.check_run.specs.declared.both.Unread.TheVariants as unread
 use Rattle.check_run.specs.declared.status.Status.{Status}
-use Rattle.check_run.specs.declared.status.Status.TheVariants.{InFailed, NoMemory}
 use Rattle.check_run.specs.Both.{CanGoOn, FetchesBoth, HaltsBoth, IsScriptHeld, status_of}
 use Rattle.check_run.specs.Can.{Can, both_starts}
-use Rattle.check_run.specs.Course.{Start, Course, behind, RunEnds, on_course, in_failed, draft_failed, no_memory_yet}
+use Rattle.check_run.specs.Course.{behind, RunEnds, on_course, in_failed, draft_failed, no_memory_yet}
 use Rattle.check_run.specs.Parts.{After}
-use Rattle.check_run.specs.Run.{CertIsRead, HasCause, IsReadToEnd, SameIn, ScriptIsRead, run_of}
+use Rattle.check_run.specs.Run.{CertIsRead, HasCause, SameIn, ScriptIsRead, run_of}
 use Rattle.check_run.proofs.Ending.{ends_behind, quiet_behind}
 use Rattle.check_run.proofs.Running.{told}
 

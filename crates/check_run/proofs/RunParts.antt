@@ -1,18 +1,16 @@
 -- A run from its script and several certificates on.
-use Rattle.std.proofs.Common.{◌≡◌, ◌≤◌, ◌<◌, ◌⊎◌, inl, inr, ℕ, List, [], ◌∷◌, ◌++◌, Option, Some, None, length, refl, ap, sym, subst, ◌∙◌, append-nil, arith}
+use Rattle.std.proofs.Common.{◌≡◌, ◌≤◌, inl, inr, ℕ, List, [], ◌∷◌, Option, Some, length, refl, subst, ◌∙◌, append-nil}
 use Rattle.std.specs.Prelude.{◌≢◌}
 use Rattle.std.specs.declared.vec.Vec.{Vec}
 use Rattle.std.specs.declared.alloc.Global.{Global}
-use Rattle.desk.specs.declared.desk.Port.TheVariants.{Draft, Part}
 use Rattle.desk.specs.Sight.{Sight, SideFailed}
 use Rattle.command_line.specs.Words.{Join, join}
 use Rattle.script_reading.specs.Faults.{most_bytes}
 use Rattle.check_run.specs.declared.status.Status.{Status}
 use Rattle.check_run.specs.declared.status.Status.TheVariants.{Answered, CertRefused, ScriptRefused, Usage, InFailed, OutFailed, NoMemory}
 use Rattle.check_run.specs.Both.{IsScriptHeld}
-use Rattle.check_run.specs.Can.{Can}
 use Rattle.check_run.specs.Course.{Start, Course, HasDraft, Quiet, RunEnds, StartedEnds, behind, draft_fails, draft_failed, goes_on, in_failed, in_fails, no_memory_left, no_memory_yet, on_course}
-use Rattle.check_run.specs.Joined.{join_starts, part_starts, several_starts}
+use Rattle.check_run.specs.Joined.{join_starts, several_starts}
 use Rattle.check_run.specs.Parts.{After}
 use Rattle.check_run.specs.Run.{HasCause, ScriptIsRead, run_of}
 use Rattle.check_run.specs.Several.{FetchesSeveral, HaltsSeveral, IsHalted}

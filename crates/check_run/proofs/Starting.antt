@@ -5,13 +5,10 @@ use Rattle.std.specs.Option.{option_map, option_zip}
 use Rattle.std.proofs.Math.Seq.{take-append-add, take-length}
 use Rattle.std.specs.declared.vec.Vec.{Vec}
 use Rattle.std.specs.declared.alloc.Global.{Global}
-use Rattle.desk.specs.declared.desk.Port.TheVariants.{Draft, Part, Script, Answer}
+use Rattle.desk.specs.declared.desk.Port.TheVariants.{Draft, Part, Answer}
 use Rattle.desk.specs.Draft.{IsBegun, IsDrafted, drafted}
 use Rattle.desk.specs.Sight.{Sight, FailsOn, SideFailed, kept, with_start}
 use Rattle.command_line.specs.Words.{Join}
-use Rattle.cover_model.specs.State.{Loosenings}
-use Rattle.cert_model.specs.Due.{Value}
-use Rattle.cert_model.specs.AnswerText.{check_text}
 use Rattle.script_reading.specs.Faults.{most_bytes}
 use Rattle.check_run.specs.declared.both.Unread.{Unread}
 use Rattle.check_run.specs.declared.both.Unread.TheVariants as unread
@@ -19,7 +16,7 @@ use Rattle.check_run.specs.declared.status.Status.{Status}
 use Rattle.check_run.specs.declared.status.Status.TheVariants.{Answered, CertRefused, ScriptRefused, Usage, InFailed, OutFailed, NoMemory}
 use Rattle.check_run.specs.Both.{FetchesScript, HaltsScript, IsScriptHeld, status_of}
 use Rattle.check_run.specs.Course.{Course, Start, Quiet, Ends, at_its_end, out_failed, no_memory, StartedEnds, goes_on, draft_fails, no_memory_left, Went, Stopped, appended, says}
-use Rattle.check_run.specs.Joined.{join_starts, keeps, part_starts, several_starts}
+use Rattle.check_run.specs.Joined.{keeps, part_starts, several_starts}
 use Rattle.check_run.specs.Parts.{After}
 use Rattle.check_run.specs.Script.{script_start}
 use Rattle.check_run.specs.Several.{FetchesSeveral, HaltsSeveral, IsHalted, Starts, StartsSeveral}

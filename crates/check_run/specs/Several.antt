@@ -1,8 +1,7 @@
 -- A script that is read whole, the starts of several certificates, and a draft of the one that is written.
-use Rattle.std.specs.Prelude.{◌≡◌, ◌++◌, ◌≤◌, ℕ, List, [], ◌∷◌, Option, Some, IfSome, IsSome, length}
+use Rattle.std.specs.Prelude.{◌≡◌, ◌++◌, ◌≤◌, ℕ, List, [], Option, Some, IfSome, IsSome, length}
 use Rattle.std.specs.declared.vec.Vec.{Vec}
 use Rattle.std.specs.declared.alloc.Global.{Global}
-use Rattle.desk.specs.declared.desk.Port.TheVariants.{Draft}
 use Rattle.desk.specs.Draft.{IsBegun, IsDrafted}
 use Rattle.desk.specs.Sight.{Sight, SideFailed}
 use Rattle.command_line.specs.Words.{Join}

@@ -3,7 +3,7 @@ use Rattle.command_line.specs.Seen.{seen_join, texts_behind}
 use Rattle.check_run.specs.declared.status.Status.{Status}
 use Rattle.check_run.specs.Joined.{several_starts}
 use Rattle.check_run.specs.Several.{HaltsSeveral, IsHalted}
-use Rattle.check_run.proofs.Starting.{several_fetched, several_halted, several_unread}
+use Rattle.check_run.proofs.Starting.{several_halted, several_unread}
 use Rattle.check_run.proofs.several.fetch_several.Goals as goal
 
 pub returns-in-Err-start_several : goal.returns-in-Err-start_several

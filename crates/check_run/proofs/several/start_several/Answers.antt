@@ -1,10 +1,8 @@
-use Rattle.std.proofs.Common.{List, ℕ, ◌≡◌, Bor, Err, Ok, MatchResult, Result, [], ◌∷◌}
+use Rattle.std.proofs.Common.{[], ◌∷◌}
 use Rattle.desk.specs.declared.desk.Port.TheVariants.{Draft}
 use Rattle.command_line.specs.Seen.{texts_behind}
-use Rattle.check_run.specs.declared.status.Status.{Status}
-use Rattle.check_run.specs.Joined.{part_starts, several_starts}
-use Rattle.check_run.specs.Several.{IsHalted, StartsSeveral}
-use Rattle.check_run.proofs.Starting.{after_starts, draft_then, halted_behind, halted_more, several_started}
+use Rattle.check_run.specs.Joined.{part_starts}
+use Rattle.check_run.proofs.Starting.{draft_then, halted_more}
 use Rattle.check_run.proofs.several.start_several.Goals as goal
 
 pub returns-in-Ok-clause-starts : goal.returns-in-Ok-clause-starts
