@@ -42,7 +42,7 @@ use Rattle.check_run.specs.Stops.{stop_text}
 use Rattle.check_run.proofs.Ending.{appended-nil}
 use Rattle.dpoly.specs.declared.join.Joint.{Joint}
 use Rattle.dpoly.specs.declared.join.Joint.TheVariants.{Whole, Dropped, Apart, Refused}
-use Rattle.dpoly.specs.Join.{EndsAccepted, HasBound, HaltsJoining, IsDraftedJoint, IsFirstFault, IsJointOf, IsRefusalWith, IsToldJoint, IsUnread}
+use Rattle.dpoly.specs.Join.{EndsAccepted, EndsOnJoin, EndsOnJoint, EndsRefused, HaltsJoining, IsDraftedJoint, IsFirstFault, IsFirstFaultOn, IsJointOf, IsRefusalWith, IsToldJoint, IsUnread}
 use Rattle.dpoly.proofs.Halting.{by_text, long_halt}
 
 -- ---- nothing written
@@ -166,14 +166,14 @@ halts_end can Usage old new h = absurd h
 -- a course that writes no certificate, behind what was drafted
 module _ (old mid new : Sight) (text : List ℕ) (status : Status) (said : List ℕ) (drafts : IsDrafted old text mid) where
   said-stopped : Stopped (says CertRefused said) mid new → Stopped (says CertRefused said) old new
-  said-stopped stopped = record {
-    starts_made = stopped.starts_made;
-    cert_bytes = stopped.cert_bytes;
-    answer_bytes = stopped.answer_bytes;
-    starts = stopped.starts ∙ ap (λ (d : Sight). appended d.starts (take stopped.starts_made ((Answer, codes "-") ∷ []))) drafts;
-    cert = stopped.cert ∙ ap (λ (d : Sight). appended d.cert_out (take stopped.cert_bytes [])) drafts;
-    answer = stopped.answer ∙ ap (λ (d : Sight). appended d.answer (take stopped.answer_bytes said)) drafts;
-    order = stopped.order;
+  said-stopped broke = record {
+    starts_made = broke.starts_made;
+    cert_bytes = broke.cert_bytes;
+    answer_bytes = broke.answer_bytes;
+    starts = broke.starts ∙ ap (λ (d : Sight). appended d.starts (take broke.starts_made ((Answer, codes "-") ∷ []))) drafts;
+    cert = broke.cert ∙ ap (λ (d : Sight). appended d.cert_out (take broke.cert_bytes [])) drafts;
+    answer = broke.answer ∙ ap (λ (d : Sight). appended d.answer (take broke.answer_bytes said)) drafts;
+    order = broke.order;
   }
 
   pub said_ends : Ends (says CertRefused said) mid new status → Ends (says CertRefused said) old new status
@@ -184,8 +184,8 @@ module _ (old mid new : Sight) (text : List ℕ) (status : Status) (said : List 
     in_faults = went.in_faults ∙ ap (λ (d : Sight). d.in_faults) drafts;
     out_faults = went.out_faults ∙ ap (λ (d : Sight). d.out_faults) drafts;
   })
-  said_ends (out_failed is side stopped) = out_failed is (subst (λ (d : Sight). SideFailed d.out_faults new.out_faults) drafts side) (said-stopped stopped)
-  said_ends (no_memory is stopped) = no_memory is (said-stopped stopped)
+  said_ends (out_failed is side broke) = out_failed is (subst (λ (d : Sight). SideFailed d.out_faults new.out_faults) drafts side) (said-stopped broke)
+  said_ends (no_memory is broke) = no_memory is (said-stopped broke)
 
 pub refused_ends : (text : Vec ℕ Global) (bytes : List ℕ) (mid new : Sight) (status : Status) → bytes ≡ text.items → Ends (says CertRefused bytes) mid new status → (old : Sight) (t : List ℕ) → IsDrafted old t mid →
     StartedEnds (IsRefusalWith (Ok text)) old new status
@@ -234,6 +234,32 @@ part-reason p b parts k f text (inr (g, n, first, stops)) tells =
 pub first_reason : (p : Problem) (b : Option ℕ) (parts : List (List ℕ)) (k : ℕ) (f : CertFault) (r : Result (Vec ℕ Global) AllocError) → IsFirstFault p b parts (Some (k, f)) → IfOk r (λ text. TellsPart k f text.items) → IfOk r (λ text. IsNotJoined p b parts text.items)
 first_reason p b parts k f (Ok text) first tells = part-reason p b parts k f text.items first tells
 first_reason p b parts k f (Err e) first tells = tt
+
+-- ---- each certificate by itself
+
+module _ (p : Problem) (b : Option ℕ) (count : ℕ) (joint : Joint) (mid : Sight) where
+  pub alone_refused : (k : ℕ) (f : CertFault) (r : Result (Vec ℕ Global) AllocError) (read new : Sight) (status : Status) → IsFirstFaultOn p b count mid (Some (k, f)) → read ≡ mid → IfOk r (λ text. TellsPart k f text.items) → EndsRefused r read new status →
+      EndsOnJoint p b count joint mid new status
+  alone_refused k f r read new status first same tells ends = λ old text parts drafts of e n.
+      refused_joins p b parts r old new status (first_reason p b parts k f r (first parts (ap (λ (d : Sight). d.parts) drafts ∙ e) n) tells) (ends old text (same ∙ drafts))
+
+  pub alone_accepted : (read new : Sight) (status : Status) → IsFirstFaultOn p b count mid None → read ≡ mid → EndsAccepted joint read new status → EndsOnJoint p b count joint mid new status
+  alone_accepted read new status first same ends = λ old text parts drafts of e n. ends p b parts old text (same ∙ drafts) of (first parts (ap (λ (d : Sight). d.parts) drafts ∙ e) n)
+
+  pub alone_unread : (e : Unread) (new : Sight) → IsUnread e mid new → EndsOnJoint p b count joint mid new (status_of e)
+  alone_unread e new h = λ old text parts drafts of f n. unread_ends (CanJoin p b parts) e old mid new text drafts h
+
+-- ---- what was drafted
+
+module _ (p : Problem) (b : Option ℕ) (count : ℕ) (old : Sight) where
+  pub whole_ends : (w : told.Verdict) (mid new : Sight) (status : Status) → IsDraftedJoint p b (Whole w) old mid → EndsKept w mid new status → EndsOnJoin p b count old new status
+  whole_ends w mid new status d ends = λ parts e n. kept_joins p b parts w mid new status ends old d.text d.drafted d.of
+
+  pub joint_ends : (joint : Joint) (mid new : Sight) (status : Status) → IsDraftedJoint p b joint old mid → EndsOnJoint p b count joint mid new status → EndsOnJoin p b count old new status
+  joint_ends joint mid new status d ends = λ parts e n. ends old d.text parts d.drafted d.of e n
+
+  pub halted_ends : (new : Sight) (status : Status) → HaltsJoining status old new → EndsOnJoin p b count old new status
+  halted_ends new status h = λ parts e n. halts_end (CanJoin p b parts) status old new h.halted
 
 -- ---- behind the script
 

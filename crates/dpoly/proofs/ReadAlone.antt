@@ -1,5 +1,5 @@
 -- Certificates that are read at any place and checked, each by itself.
-use Rattle.std.proofs.Common.{◌≡◌, ◌<◌, ◌≤◌, ◌+◌, ◌-◌, inl, inr, ℕ, zero, suc, List, [], ◌∷◌, ◌++◌, Option, Some, None, Result, Ok, Err, IfSome, length, take, drop, refl, ap, sym, ◌∙◌, subst, arith, take-append-drop, length-append, length-take-le, length-drop, take-add, take-take, take_all}
+use Rattle.std.proofs.Common.{◌≡◌, ◌<◌, ◌≤◌, ◌+◌, ◌-◌, inl, inr, ℕ, zero, suc, List, [], ◌∷◌, ◌++◌, Bool, true, Option, Some, None, Result, Ok, Err, IfSome, length, take, drop, refl, ap, sym, ◌∙◌, subst, arith, take-append-drop, length-append, length-take-le, length-drop, take-add, take-take, take_all}
 use Rattle.std.specs.Prelude.{slice_get}
 use Rattle.std.specs.Option.{option_flatten, option_map}
 use Rattle.std.specs.List.{AllByRecursion}
@@ -175,7 +175,7 @@ module _ (p : Problem) (b : Option ℕ) (number count : ℕ) (old now new : Sigh
 
   pub fault_first : (x : CertFault) (k : ℕ) → k ≡ suc number → IfSome (part_in number now) (λ cert. IsToldAlone (verdict p b cert) (Err (Fault x))) → IsFirstFaultOn p b count old (Some (k, x))
   fault_first x k e tells parts f n =
-      let s = split_at parts number (omega (arith, n, less)) in by (verdict p b s.cert) refl s (told-of (Err (Fault x)) tells parts f n s) where
+      let s = split_at parts number (omega (arith, n, less)) in by (verdict p b s.cert) s refl (told-of (Err (Fault x)) tells parts f n s) where
     by : (v : Verdict) → (s : Split parts number) → verdict p b s.cert ≡ v → IsRefusalOrMemory v x → IsFirstFault p b parts (Some (k, x))
     by v s is (inl m) = inl m
     by (accepted l w) s is (inr h) = absurd h

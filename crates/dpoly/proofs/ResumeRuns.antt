@@ -52,7 +52,3 @@ module _ (words : Resume) (cert : List ℕ) (old new : Sight) (status : Status) 
 
   pub asked-ends : (script : List ℕ) (p : Problem) (b : Option ℕ) → IsAsked script cert p b → RunEnds (CanResume p b words cert) [] old new status → RunEnds (CanGoOn words script cert) [] old new status
   asked-ends script p b is ends = widen (CanResume p b words cert) (CanGoOn words script cert) [] old new status (λ course can. asked-course script p b is course can) ends
-
--- the script that is held is the one that was read
-pub held-is : (o : Option (Vec ℕ Global)) (v : Vec ℕ Global) (script : List ℕ) → o ≡ Some v → IsScriptHeld o script → v.items ≡ script
-held-is o v script e held = subst (λ (x : Option (Vec ℕ Global)). IsScriptHeld x script) e held
