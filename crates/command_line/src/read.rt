@@ -362,11 +362,7 @@ fn choose<'a>(name: &str, matches: &ArgMatches<'a>) -> Option<Request<'a>>
 }
 
 // What the subcommand of this name asks for.
-fn asked_of<'a>(
-    alloc: Global,
-    name: &str,
-    matches: &ArgMatches<'a>,
-) -> Result<Request<'a>, Refused>
+fn asked_of<'a>(alloc: Global, name: &str, matches: &ArgMatches<'a>) -> Result<Request<'a>, Refused>
     ensures ok { IfOk result (λ asked.
         chosen (name.now, rows_of (found_of matches.now)) ≡ Some (seen asked)) }
     ensures usage { IsErrOf result Refused.Usage →

@@ -95,7 +95,7 @@ pub struct ResumeWords<'a> {
 }
 
 /// What `join` is asked for: the names of the script, of the certificate that is written, and of those that are read.
-#[derive(Debug, Drop, PartialEq, Eq)]
+#[derive(Drop)]
 pub struct JoinWords<'a> {
     pub script: &'a str,
     pub out: &'a str,
@@ -104,7 +104,7 @@ pub struct JoinWords<'a> {
 }
 
 /// What the words ask for. A name `-` stands for standard input or output.
-#[derive(Debug, Drop, PartialEq, Eq)]
+#[derive(Drop)]
 pub enum Request<'a> {
     Solve(SolveWords<'a>),
     Check(CheckWords<'a>),

@@ -15,8 +15,7 @@ const ONE_INPUT: &str =
 
 const NO_SHARE: &str = "error: '--part' wants I/N, two numbers with 1 <= I <= N <= 1000000\n";
 
-const PIPED_CERT: &str =
-    "error: a certificate to join cannot come from standard input\n";
+const PIPED_CERT: &str = "error: a certificate to join cannot come from standard input\n";
 
 // Whether the words ask for the version alone.
 fn asks_version(words: &[String]) -> bool {

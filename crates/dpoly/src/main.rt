@@ -7,6 +7,7 @@ mod auto;
 mod explain;
 mod join;
 mod leaf;
+mod lists;
 mod located;
 mod plan;
 mod progress;
@@ -21,6 +22,7 @@ use auto::resolve_workers;
 pub use check_run::Status;
 use explain::explain;
 use file_desk::{FileDesk, words_of};
+use lists::resolve_lists;
 use progress::Progress;
 pub use solve_core::{Gate, NoGate};
 use std::process::ExitCode;
@@ -33,6 +35,9 @@ fn main(rt: HostRuntime) -> ExitCode {
     };
     if resolve_workers(&rt, rt.alloc(), &mut words).is_err() {
         return ExitCode::from(Status::NoMemory.code());
+    }
+    if let Err(status) = resolve_lists(&rt, &mut words) {
+        return ExitCode::from(status.code());
     }
     let gate = Progress::new(rt);
     let status = run_top(&rt, rt.alloc(), &words, &mut desk, &gate);

@@ -14,6 +14,6 @@ mod ticker;
 mod words;
 
 pub use files::{FileDesk, Trouble};
-pub use messages::Messages;
+pub use messages::{Messages, printable};
 pub use ticker::Ticker;
 pub use words::words_of;

@@ -64,9 +64,9 @@ fn excerpt(alloc: Global, script: &[u8], at: Spot) -> Result<String, AllocError>
     Ok(text)
 }
 
-// The text with each control character but a line feed at the end escaped: a name in a script, or of a file, cannot write
-// to a terminal.
-fn printable(alloc: Global, text: &str) -> Result<String, AllocError> {
+/// The text with each control character but a line feed at the end escaped: a name in a script, or of a file, cannot write
+/// to a terminal.
+pub fn printable(alloc: Global, text: &str) -> Result<String, AllocError> {
     let mut shown = String::new(alloc);
     let line = text.trim_end();
     for symbol in line.chars() {

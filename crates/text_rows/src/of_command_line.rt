@@ -112,10 +112,20 @@ const USUAL: Options = Options {
     bound: None,
 };
 
-const ASKED: &[(&str, Request<'static>)] = &[
+// What is asked: for `join` the names of the script, of the certificate that is written and of those that are read.
+#[derive(Clone, Copy)]
+enum Asked {
+    Solve(SolveWords<'static>),
+    Check(CheckWords<'static>),
+    Upgrade(UpgradeWords<'static>),
+    Demo(DemoWords<'static>),
+    Join(&'static str, &'static str, &'static [&'static str]),
+}
+
+const ASKED: &[(&str, Asked)] = &[
     (
         "dpoly solve s c",
-        Request::Solve(SolveWords {
+        Asked::Solve(SolveWords {
             script: "s",
             cert: "c",
             options: USUAL,
@@ -123,7 +133,7 @@ const ASKED: &[(&str, Request<'static>)] = &[
     ),
     (
         "dpoly solve s c --delta-bits 1 --margin-bits 2 --least-bits=-0 --budget 0 --bound 1 --workers 1",
-        Request::Solve(SolveWords {
+        Asked::Solve(SolveWords {
             script: "s",
             cert: "c",
             options: Options {
@@ -138,7 +148,7 @@ const ASKED: &[(&str, Request<'static>)] = &[
     ),
     (
         "dpoly solve --workers=64 --bound=4294967295 s --budget=1048576 --least-bits=60 c --margin-bits=60 --delta-bits=30",
-        Request::Solve(SolveWords {
+        Asked::Solve(SolveWords {
             script: "s",
             cert: "c",
             options: Options {
@@ -153,7 +163,7 @@ const ASKED: &[(&str, Request<'static>)] = &[
     ),
     (
         "dpoly solve s c --budget 007 --workers +1 --delta-bits +0019",
-        Request::Solve(SolveWords {
+        Asked::Solve(SolveWords {
             script: "s",
             cert: "c",
             options: Options {
@@ -168,7 +178,7 @@ const ASKED: &[(&str, Request<'static>)] = &[
     ),
     (
         "dpoly solve - -",
-        Request::Solve(SolveWords {
+        Asked::Solve(SolveWords {
             script: "-",
             cert: "-",
             options: USUAL,
@@ -176,7 +186,7 @@ const ASKED: &[(&str, Request<'static>)] = &[
     ),
     (
         "dpoly solve -- --help -c",
-        Request::Solve(SolveWords {
+        Asked::Solve(SolveWords {
             script: "--help",
             cert: "-c",
             options: USUAL,
@@ -184,7 +194,7 @@ const ASKED: &[(&str, Request<'static>)] = &[
     ),
     (
         "dpoly check - c",
-        Request::Check(CheckWords {
+        Asked::Check(CheckWords {
             script: "-",
             cert: "c",
             bound: None,
@@ -192,7 +202,7 @@ const ASKED: &[(&str, Request<'static>)] = &[
     ),
     (
         "any check s - --bound 4294967295",
-        Request::Check(CheckWords {
+        Asked::Check(CheckWords {
             script: "s",
             cert: "-",
             bound: Some(4294967295),
@@ -200,7 +210,7 @@ const ASKED: &[(&str, Request<'static>)] = &[
     ),
     (
         "dpoly upgrade - c - --bound 1",
-        Request::Upgrade(UpgradeWords {
+        Asked::Upgrade(UpgradeWords {
             script: "-",
             cert: "c",
             out: "-",
@@ -209,7 +219,7 @@ const ASKED: &[(&str, Request<'static>)] = &[
     ),
     (
         "dpoly demo 0 1 -",
-        Request::Demo(DemoWords {
+        Asked::Demo(DemoWords {
             seed: 0,
             size: 1,
             cert: "-",
@@ -218,7 +228,7 @@ const ASKED: &[(&str, Request<'static>)] = &[
     ),
     (
         "dpoly demo 18446744073709551615 10000 c --workers 64",
-        Request::Demo(DemoWords {
+        Asked::Demo(DemoWords {
             seed: 18446744073709551615,
             size: 10000,
             cert: "c",
@@ -232,17 +242,44 @@ const ASKED: &[(&str, Request<'static>)] = &[
             },
         }),
     ),
+    ("dpoly join s o a b", Asked::Join("s", "o", &["a", "b"])),
+    (
+        "dpoly join - - a a a",
+        Asked::Join("-", "-", &["a", "a", "a"]),
+    ),
+    (
+        "dpoly join s -- -o -a --",
+        Asked::Join("s", "-o", &["-a", "--"]),
+    ),
+    (
+        "dpoly join s o a b c d -- e --list -a",
+        Asked::Join("s", "o", &["a", "b", "c", "d", "e", "--list", "-a"]),
+    ),
 ];
 
-fn ask(alloc: Global, words: &[String], asked: &Request<'static>) -> bool {
+// Whether the request is this one.
+fn is_asked(found: &Request<'_>, asked: &Asked) -> bool {
+    match (found, asked) {
+        (Request::Solve(found), Asked::Solve(asked)) => found == asked,
+        (Request::Check(found), Asked::Check(asked)) => found == asked,
+        (Request::Upgrade(found), Asked::Upgrade(asked)) => found == asked,
+        (Request::Demo(found), Asked::Demo(asked)) => found == asked,
+        (Request::Join(found), Asked::Join(script, out, certs)) => {
+            found.script == *script && found.out == *out && found.certs.as_slice() == *certs
+        }
+        _ => false,
+    }
+}
+
+fn ask(alloc: Global, words: &[String], asked: &Asked) -> bool {
     match read_words(alloc, words) {
-        Ok(found) => found == *asked,
+        Ok(found) => is_asked(&found, asked),
         Err(_) => false,
     }
 }
 
 // Whether the line asks for this.
-fn asks(alloc: Global, line: &str, asked: &Request<'static>) -> bool {
+fn asks(alloc: Global, line: &str, asked: &Asked) -> bool {
     match words_of(alloc, line) {
         Ok(words) => ask(alloc, &words, asked),
         Err(_) => false,
@@ -253,44 +290,6 @@ fn asks(alloc: Global, line: &str, asked: &Request<'static>) -> bool {
 fn commands_are_asked(rt: HostRuntime) {
     for (line, asked) in ASKED {
         assert!(rt; asks(rt.alloc(), line, asked), "{line}");
-    }
-}
-
-// ---- what `join` is asked
-
-// Lines of words, and the names of the script, of the certificate that is written and of those that are read.
-const JOINED: &[(&str, [&str; 2], &[&str])] = &[
-    ("dpoly join s o a b", ["s", "o"], &["a", "b"]),
-    ("dpoly join - - a a a", ["-", "-"], &["a", "a", "a"]),
-    ("dpoly join s -- -o -a --", ["s", "-o"], &["-a", "--"]),
-    (
-        "dpoly join s o a b c d e f -- --list -a",
-        ["s", "o"],
-        &["a", "b", "c", "d", "e", "f", "--list", "-a"],
-    ),
-];
-
-fn join(alloc: Global, words: &[String], names: &[&str; 2], certs: &[&str]) -> bool {
-    match read_words(alloc, words) {
-        Ok(Request::Join(asked)) => {
-            [asked.script, asked.out] == *names && asked.certs.as_slice() == certs
-        }
-        _ => false,
-    }
-}
-
-// Whether the line asks for one certificate of these.
-fn joins(alloc: Global, line: &str, names: &[&str; 2], certs: &[&str]) -> bool {
-    match words_of(alloc, line) {
-        Ok(words) => join(alloc, &words, names, certs),
-        Err(_) => false,
-    }
-}
-
-#[test]
-fn one_certificate_of_several_is_asked(rt: HostRuntime) {
-    for (line, names, certs) in JOINED {
-        assert!(rt; joins(rt.alloc(), line, names, certs), "{line}");
     }
 }
 
