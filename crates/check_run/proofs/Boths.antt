@@ -1,21 +1,20 @@
 -- A script and a certificate that are both read whole.
-use Rattle.std.proofs.Common.{◌≡◌, ◌<◌, ◌+◌, ◌≤◌, ℕ, List, [], ◌∷◌, ◌++◌, Option, Some, None, IfSome, length, drop, min, take, refl, ap, sym, subst, ◌∙◌, arith}
-use Rattle.std.specs.Prelude.{option_map, IsSome}
+use Rattle.std.proofs.Common.{◌≡◌, ◌<◌, ℕ, List, [], ◌∷◌, Option, Some, None, IfSome, length, drop, min, refl, ap, sym, subst, ◌∙◌}
+use Rattle.std.specs.Prelude.{option_map}
 use Rattle.std.proofs.Math.Seq.{drop-length}
 use Rattle.std.specs.declared.vec.Vec.{Vec}
 use Rattle.std.specs.declared.alloc.Global.{Global}
 use Rattle.desk.specs.declared.desk.Port.TheVariants.{Script, CertIn}
-use Rattle.desk.specs.Sight.{Sight, SideFailed, with_start, with_read}
+use Rattle.desk.specs.Sight.{Sight, SideFailed, with_start}
 use Rattle.desk.specs.Texts.{ReadsAll, ReadsSome, ReadsThenFails}
 use Rattle.script_reading.specs.Faults.{most_bytes}
 use Rattle.check_run.specs.declared.both.Inputs.{Inputs}
 use Rattle.check_run.specs.declared.both.Unread.{Unread}
 use Rattle.check_run.specs.declared.both.Unread.TheVariants as unread
-use Rattle.check_run.specs.Both.{FetchesBoth, FetchesCert, FetchesScript, HaltsBoth, HaltsCert, HaltsScript, IsScriptHeld}
+use Rattle.check_run.specs.Both.{FetchesBoth, FetchesCert, FetchesScript, HaltsBoth, HaltsCert, HaltsScript}
 use Rattle.check_run.specs.Can.{both_starts}
 use Rattle.check_run.specs.Course.{Start, Quiet, appended}
 use Rattle.check_run.specs.Parts.{After}
-use Rattle.check_run.specs.Run.{IsReadToEnd}
 use Rattle.check_run.specs.Script.{script_start}
 use Rattle.check_run.proofs.Ending.{appended-appended, appended-nil, after_cert_in, quiet_behind, take_first}
 
@@ -26,11 +25,11 @@ ended None new e = tt
 ended (Some s) new e = e
 
 pub script_held : (name : List ℕ) (held : Vec ℕ Global) (old new : Sight) → After (script_start name) old new → IfSome old.script (λ s. held.items ≡ s) → new.script ≡ option_map (λ (s : List ℕ). []) old.script →
-    new.cert_in ≡ old.cert_in → FetchesScript name (Some held) old new
-script_held name held old new after all end other = record { after = after; held = all; read = λ some. ended old.script new.script end; other = other }
+    new.cert_in ≡ old.cert_in → new.parts ≡ old.parts → FetchesScript name (Some held) old new
+script_held name held old new after all end other parts = record { after = after; held = all; read = λ some. ended old.script new.script end; other = other; parts = parts }
 
-pub script_long : (name : List ℕ) (old new : Sight) → After (script_start name) old new → IfSome old.script (λ s. most_bytes < length s) → new.cert_in ≡ old.cert_in → FetchesScript name None old new
-script_long name old new after long other = record { after = after; held = long; read = λ some. cc; other = other }
+pub script_long : (name : List ℕ) (old new : Sight) → After (script_start name) old new → IfSome old.script (λ s. most_bytes < length s) → new.cert_in ≡ old.cert_in → new.parts ≡ old.parts → FetchesScript name None old new
+script_long name old new after long other parts = record { after = after; held = long; read = λ some. cc; other = other; parts = parts }
 
 -- ---- the certificate
 

@@ -3,13 +3,13 @@ use Rattle.std.proofs.Common.{◌≡◌, ◌≤◌, ◌+◌, ℕ, List, [], ◌�
 use Rattle.std.proofs.Math.Seq.{take-append-add, take-length}
 use Rattle.std.proofs.lemmas.List.{take_min, take-append-le}
 use Rattle.desk.specs.declared.desk.Port.{Port}
-use Rattle.desk.specs.declared.desk.Port.TheVariants.{Script, CertIn, Answer, CertOut}
-use Rattle.desk.specs.Sight.{Sight, IsOut, with_bytes, with_faults, with_start, SideFailed}
+use Rattle.desk.specs.declared.desk.Port.TheVariants.{Script, CertIn, Part, Answer, CertOut, Draft}
+use Rattle.desk.specs.Sight.{Sight, with_bytes, with_faults, with_start, SideFailed}
 use Rattle.desk.specs.Texts.{WritesPrefix, WritesThenFails, ReadsSome}
 use Rattle.check_run.specs.declared.status.Status.{Status}
 use Rattle.check_run.specs.declared.status.Status.TheVariants.{Answered}
-use Rattle.check_run.specs.Course.{Start, Course, says, gives, behind, appended, Went, Stopped, Quiet, Ends, at_its_end, out_failed, no_memory, RunEnds, on_course, in_failed, no_memory_yet}
-use Rattle.check_run.specs.Parts.{PutStops, After}
+use Rattle.check_run.specs.Course.{Start, Course, says, gives, behind, appended, Went, Stopped, Quiet, Ends, at_its_end, out_failed, no_memory, RunEnds, on_course, in_failed, draft_failed, no_memory_yet}
+use Rattle.check_run.specs.Parts.{IsTextPort, PutStops, After}
 
 pub appended-nil : {A : Type 0} (o : Option (List A)) → appended o [] ≡ o
 appended-nil None = refl
@@ -20,16 +20,20 @@ appended-appended None a b = refl
 appended-appended (Some xs) a b = ap Some (append_assoc xs a b)
 
 -- the port was started, and its text broke off at a fault
-pub put_fails : (p : Port) (name text : List ℕ) (old new : Sight) → IsOut p → WritesThenFails p text (with_start p name old) new → PutStops p name text old new
+pub put_fails : (p : Port) (name text : List ℕ) (old new : Sight) → IsTextPort p → WritesThenFails p text (with_start p name old) new → PutStops p name text old new
 put_fails Script name text old new out fails = absurd out
 put_fails CertIn name text old new out fails = absurd out
+put_fails Part name text old new out fails = absurd out
+put_fails Draft name text old new out fails = absurd out
 put_fails Answer name text old new out fails = record { starts_made = 1; count = fails.count; same = fails.prefix }
 put_fails CertOut name text old new out fails = record { starts_made = 1; count = fails.count; same = fails.prefix }
 
 -- the port was started, and its text broke off for memory
-pub put_breaks : (p : Port) (name text : List ℕ) (old new : Sight) → IsOut p → WritesPrefix p text (with_start p name old) new → PutStops p name text old new
+pub put_breaks : (p : Port) (name text : List ℕ) (old new : Sight) → IsTextPort p → WritesPrefix p text (with_start p name old) new → PutStops p name text old new
 put_breaks Script name text old new out fails = absurd out
 put_breaks CertIn name text old new out fails = absurd out
+put_breaks Part name text old new out fails = absurd out
+put_breaks Draft name text old new out fails = absurd out
 put_breaks Answer name text old new out stops = record { starts_made = 1; count = stops.count; same = stops.prefix ∙ ap (λ n. with_faults Answer n (with_bytes Answer (take stops.count text) (with_start Answer name old))) (sym (ap (λ d. d.out_faults) stops.prefix)) }
 put_breaks CertOut name text old new out stops = record { starts_made = 1; count = stops.count; same = stops.prefix ∙ ap (λ n. with_faults CertOut n (with_bytes CertOut (take stops.count text) (with_start CertOut name old))) (sym (ap (λ d. d.out_faults) stops.prefix)) }
 
@@ -91,10 +95,12 @@ run_behind some cant first ins old mid new status after lift (on_course tail can
     on_course (behind (first ∷ []) tail) (lift tail can) (ends_behind (first ∷ []) tail old mid new status after ends)
 run_behind some cant first ins old mid new status after lift (in_failed is any side quiet) =
     in_failed is (λ e. cc) (let P : ℕ → Type 0 = λ n. SideFailed n new.in_faults in subst P after.in_faults side) (quiet_behind (first ∷ []) ins old mid new after quiet)
+run_behind some cant first ins old mid new status after lift (draft_failed is drafts side quiet) =
+    draft_failed is (inr drafts) (let P : ℕ → Type 0 = λ n. SideFailed n new.out_faults in subst P after.out_faults side) (quiet_behind (first ∷ []) ins old mid new after quiet)
 run_behind some cant first ins old mid new status after lift (no_memory_yet is quiet) =
     no_memory_yet is (quiet_behind (first ∷ []) ins old mid new after quiet)
 
-no_bytes : (n : ℕ) → ◌≡◌ {A = List ℕ} (take n []) []
+pub no_bytes : (n : ℕ) → ◌≡◌ {A = List ℕ} (take n []) []
 no_bytes zero = refl
 no_bytes (suc n) = refl
 
@@ -142,6 +148,7 @@ pub widen : (some cant : Course → Type 0) (ins : List Start) (old new : Sight)
     → ((course : Course) → some course → cant course) → RunEnds some ins old new status → RunEnds cant ins old new status
 widen some cant ins old new status f (on_course course can ends) = on_course course (f course can) ends
 widen some cant ins old new status f (in_failed is any side quiet) = in_failed is any side quiet
+widen some cant ins old new status f (draft_failed is drafts side quiet) = draft_failed is drafts side quiet
 widen some cant ins old new status f (no_memory_yet is quiet) = no_memory_yet is quiet
 
 pub all_of : {A : Type 0} (Q : A → Type 0) (o : Option A) → ((x : A) → Q x) → IfSome o Q

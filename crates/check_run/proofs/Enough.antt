@@ -114,7 +114,7 @@ module _ (words : Plan) (script : List ℕ) (bits : ℕ) (never : NeverUnknownWi
   never-by asked is None tail can rest e = never-so asked.options is can.0 can.1 asked.cert tail can.2 rest e
 
 never-alone : (words : Plan) (script : List ℕ) (bits : ℕ) → NeverUnknownWidthAt words bits script 0 → NeverUnknownWidth words bits script
-never-alone words script bits never single asked is cert_in course can rest e =
+never-alone words script bits never single asked is cert_in parts course can rest e =
     never-by words script bits never single asked is (session_fault asked.options.bound script) can.0 can.1 rest (sym (ap (λ (c : Course). c.answer) can.2) ∙ e)
 
 -- a script with one check has no check behind the first

@@ -1,37 +1,35 @@
 -- What the answers of a run say of its script.
-use Rattle.std.proofs.Common.{◌≡◌, ℕ, List, [], ◌∷◌, ◌++◌, Bool, true, false, get_or, length, nat_eq, Option, Some, None, refl, ap, sym, subst, ◌∙◌, append-nil}
-use Rattle.std.specs.Prelude.{IsSomeAnd}
-use Rattle.std.proofs.lemmas.List.{append_cancel_left}
+use Rattle.std.proofs.Common.{◌≡◌, ℕ, List, [], ◌∷◌, ◌++◌, Bool, length, Option, Some, None, refl, ap, sym, subst, ◌∙◌, append-nil}
 use Rattle.desk.specs.declared.desk.Port.TheVariants.{CertIn}
 use Rattle.desk.specs.Sight.{Sight}
 use Rattle.command_line.specs.declared.request.Options.{Options}
-use Rattle.command_line.specs.Words.{Solve, Check, Upgrade, Demo, Plan, Command, solve, check, demo, upgrade, plan, resume}
+use Rattle.command_line.specs.Words.{Solve, Check, Upgrade, Demo, Plan, Command, solve, check, demo, upgrade, plan, resume, join}
 use Rattle.gen_script.specs.Demo.{demo_script}
 use Rattle.poly_graph.specs.Problem.{Problem}
-use Rattle.interval_model.specs.Space.{Space}
 use Rattle.cover_model.specs.State.{Loosenings}
-use Rattle.cert_model.specs.Due.{Standing, Value, at_point, left_open}
+use Rattle.cert_model.specs.Due.{Value, at_point, left_open}
 use Rattle.cert_model.specs.Accepted.{accepted, refused, IsAccepted}
-use Rattle.cert_model.specs.AnswerText.{solve_text, check_text, unsat_text, delta_sat_text, budget_text, width_text, has_open}
+use Rattle.cert_model.specs.AnswerText.{solve_text, check_text, unsat_text}
 use Rattle.cert_model.specs.Session.{AreAccepted, SessionVerdict, session_verdict}
-use Rattle.headline.proofs.Headline.{unsat_is, delta_sat_is}
+use Rattle.headline.proofs.Headline.{unsat_is}
 use Rattle.script_fault.specs.declared.fault.ScriptFault.{ScriptFault}
 use Rattle.script_reading.specs.Faults.{session_fault}
 use Rattle.script_reading.specs.Session.{HasSession}
 use Rattle.check_run.specs.declared.status.Status.{Status}
-use Rattle.check_run.specs.declared.status.Status.TheVariants.{Answered, CertRefused, ScriptRefused}
+use Rattle.check_run.specs.declared.status.Status.TheVariants.{Answered, CertRefused}
 use Rattle.script_reading.specs.Reader.{commands_of, IsBuilt}
-use Rattle.check_run.specs.Answer.{loosenings_for, loosenings_of, solve_texts, AreAnswers, IsAnswer}
+use Rattle.check_run.specs.Answer.{loosenings_for, loosenings_of, solve_texts}
 use Rattle.check_run.specs.Course.{Course, behind, appended}
-use Rattle.check_run.specs.Can.{CanSolve, CanCheck, CanUpgrade, CanUpgradeBy, CanPlan, CanBy, OfSession, Can, check_texts, verdict_course}
+use Rattle.check_run.specs.Can.{CanSolve, CanCheck, CanUpgrade, CanUpgradeBy, CanPlan, CanBy, OfSession, check_texts, verdict_course}
 use Rattle.check_run.specs.Run.{Run, HasCourse, HasInput, IsShown}
 use Rattle.check_run.proofs.Shown.{status_is_shown}
 use Rattle.check_run.proofs.Differ.{written-is, says-unsat, says-delta-sat, confirms-unsat, confirms-delta-sat, refused-not, certificate-refused-not, answered-not, script-refused-not, delta-so}
 use Rattle.check_run.proofs.Enough.{SessionIsOne, are_enough, texts_one}
+use Rattle.check_run.proofs.Joins.{join_so, join_unsat, join_delta, join_refused}
 use Rattle.check_run.proofs.Means.{values_true}
 use Rattle.check_run.proofs.Resumes.{resume-so, resume-unsat, resume-delta, resume-refused}
 use Rattle.check_run.proofs.Single.{one_problem, one_value}
-use Rattle.check_run.specs.Headline.{IsWritten, IsSolved, IsConfirmed, IsTrueAnswer, AnswersAreTrue, HasOneCheck, IsUnsat, IsTrueUnsat, UnsatIsTrue, IsDeltaSat, IsTrueDeltaSat, DeltaSatIsTrue, IsRefusedCert, IsTrueRefusal, RefusalIsTrue, IsUpgraded, IsTrueUpgrade, UpgradeIsTrue, IsPlanned, IsTruePlan, PlanIsTrue, delta_sat_word, confirmed_unsat_word, confirmed_delta_sat_word}
+use Rattle.check_run.specs.Headline.{IsWritten, IsSolved, IsConfirmed, IsTrueAnswer, AnswersAreTrue, HasOneCheck, IsUnsat, IsTrueUnsat, UnsatIsTrue, IsTrueDeltaSat, DeltaSatIsTrue, IsRefusedCert, IsTrueRefusal, RefusalIsTrue, IsUpgraded, IsTrueUpgrade, UpgradeIsTrue, IsPlanned, IsTruePlan, PlanIsTrue, delta_sat_word, confirmed_unsat_word, confirmed_delta_sat_word}
 
 -- ---- the courses of a run that answers
 
@@ -47,8 +45,8 @@ goes-on bound script goes None tail can e = record { ps = can.0; has = can.1; ca
 
 -- ---- the answers of solve
 
-solve-so : (words : Solve) (script cert_in : List ℕ) (old new : Sight) → IsShown (Some (solve words)) script cert_in old new Answered → IsSolved words.options script old new
-solve-so words script cert_in old new (course, can, status, went) =
+solve-so : (words : Solve) (script cert_in : List ℕ) (parts : List (List ℕ)) (old new : Sight) → IsShown (Some (solve words)) script cert_in parts old new Answered → IsSolved words.options script old new
+solve-so words script cert_in parts old new (course, can, status, went) =
     let o : Options = words.options in
     let tail : Course = can.0 in
     let status_is : tail.status ≡ Answered = sym (ap (λ (c : Course). c.status) can.2) ∙ status in
@@ -105,16 +103,16 @@ unsat-so o script p old new cert built written accepts = record {
   accepted = accepts;
 }
 
-solve-unsat : (words : Solve) (script cert_in : List ℕ) (old new : Sight) → IsShown (Some (solve words)) script cert_in old new Answered → IsTrueUnsat (Some (solve words)) script cert_in old new
-solve-unsat words script cert_in old new shows single wrote =
+solve-unsat : (words : Solve) (script cert_in : List ℕ) (parts : List (List ℕ)) (old new : Sight) → IsShown (Some (solve words)) script cert_in parts old new Answered → IsTrueUnsat (Some (solve words)) script cert_in parts old new
+solve-unsat words script cert_in parts old new shows single wrote =
     let o : Options = words.options in
     let s : Loosenings = loosenings_of o in
-    let so = solved-one o script old new single (solve-so words script cert_in old new shows) in
+    let so = solved-one o script old new single (solve-so words script cert_in parts old new shows) in
     let text : unsat_text s ≡ solve_text so.p o.budget s so.value = written-is old.answer new.answer (unsat_text s) (solve_text so.p o.budget s so.value) wrote so.answer in
     unsat-so o script so.p old new so.cert so.built so.written (subst (λ (v : Value). IsAccepted so.p o.bound so.cert s v) (says-unsat so.p s o.budget so.value text) so.accepts)
 
-demo-unsat : (words : Demo) (script cert_in : List ℕ) (old new : Sight) → IsShown (Some (demo words)) script cert_in old new Answered → IsTrueUnsat (Some (demo words)) script cert_in old new
-demo-unsat words script cert_in old new (course, can, status, went) =
+demo-unsat : (words : Demo) (script cert_in : List ℕ) (parts : List (List ℕ)) (old new : Sight) → IsShown (Some (demo words)) script cert_in parts old new Answered → IsTrueUnsat (Some (demo words)) script cert_in parts old new
+demo-unsat words script cert_in parts old new (course, can, status, went) =
     let so = can.2 in
     unsat-so words.options (demo_script words.seed words.size) can.0 old new so.0 can.1 (went.cert ∙ ap (λ (c : Course). appended old.cert_out c.cert) so.2) so.1.accepted
 
@@ -131,8 +129,8 @@ checked-by : (ps : List (Problem × Bool)) (bound : Option ℕ) (name cert_in : 
 checked-by ps bound name cert_in course (accepted s values) e can status = record { s = s; values = values; accepts = e; answer_is = ap (λ (c : Course). c.answer) can }
 checked-by ps bound name cert_in course (refused f n) e can status = absurd (certificate-refused-not course.status (ap (λ (c : Course). c.status) can) status)
 
-check-so : (words : Check) (script cert_in : List ℕ) (old new : Sight) → IsShown (Some (check words)) script cert_in old new Answered → IsConfirmed words.bound script cert_in old new
-check-so words script cert_in old new (course, can, status, went) =
+check-so : (words : Check) (script cert_in : List ℕ) (parts : List (List ℕ)) (old new : Sight) → IsShown (Some (check words)) script cert_in parts old new Answered → IsConfirmed words.bound script cert_in old new
+check-so words script cert_in parts old new (course, can, status, went) =
     let tail : Course = can.0 in
     let status_is : tail.status ≡ Answered = sym (ap (λ (c : Course). c.status) can.2) ∙ status in
     let on = goes-on words.bound script (λ ps. CanCheck ps words.bound words.cert cert_in) (session_fault words.bound script) tail can.1 status_is in
@@ -169,9 +167,9 @@ checked-one bound script cert_in old new single so =
       answer = so.answer ∙ ap (appended old.answer) (ap (check_texts s) y.only ∙ append-nil (check_text s y.value));
     }
 
-check-unsat : (words : Check) (script cert_in : List ℕ) (old new : Sight) → IsShown (Some (check words)) script cert_in old new Answered → IsTrueUnsat (Some (check words)) script cert_in old new
-check-unsat words script cert_in old new shows single rest wrote =
-    let so = checked-one words.bound script cert_in old new single (check-so words script cert_in old new shows) in
+check-unsat : (words : Check) (script cert_in : List ℕ) (parts : List (List ℕ)) (old new : Sight) → IsShown (Some (check words)) script cert_in parts old new Answered → IsTrueUnsat (Some (check words)) script cert_in parts old new
+check-unsat words script cert_in parts old new shows single rest wrote =
+    let so = checked-one words.bound script cert_in old new single (check-so words script cert_in parts old new shows) in
     let text : confirmed_unsat_word ++ rest ≡ check_text so.s so.value = written-is old.answer new.answer (confirmed_unsat_word ++ rest) (check_text so.s so.value) wrote so.answer in
     let none : so.value ≡ left_open [] = confirms-unsat so.s rest so.value text in
     let P : Value → Type 0 = λ v. IsAccepted so.p words.bound cert_in so.s v in
@@ -187,31 +185,32 @@ check-unsat words script cert_in old new shows single rest wrote =
       },
     )
 
-unsat-true : (command : Option Command) (script cert_in : List ℕ) (old new : Sight) → IsShown command script cert_in old new Answered → IsTrueUnsat command script cert_in old new
-unsat-true None script cert_in old new shows = tt
-unsat-true (Some (solve words)) script cert_in old new shows = solve-unsat words script cert_in old new shows
-unsat-true (Some (check words)) script cert_in old new shows = check-unsat words script cert_in old new shows
-unsat-true (Some (upgrade words)) script cert_in old new shows = tt
-unsat-true (Some (plan words)) script cert_in old new shows = tt
-unsat-true (Some (demo words)) script cert_in old new shows = demo-unsat words script cert_in old new shows
-unsat-true (Some (resume words)) script cert_in old new shows = resume-unsat words script cert_in old new shows
+unsat-true : (command : Option Command) (script cert_in : List ℕ) (parts : List (List ℕ)) (old new : Sight) → IsShown command script cert_in parts old new Answered → IsTrueUnsat command script cert_in parts old new
+unsat-true None script cert_in parts old new shows = tt
+unsat-true (Some (solve words)) script cert_in parts old new shows = solve-unsat words script cert_in parts old new shows
+unsat-true (Some (check words)) script cert_in parts old new shows = check-unsat words script cert_in parts old new shows
+unsat-true (Some (upgrade words)) script cert_in parts old new shows = tt
+unsat-true (Some (plan words)) script cert_in parts old new shows = tt
+unsat-true (Some (demo words)) script cert_in parts old new shows = demo-unsat words script cert_in parts old new shows
+unsat-true (Some (resume words)) script cert_in parts old new shows = resume-unsat words script cert_in parts old new shows
+unsat-true (Some (join words)) script cert_in parts old new shows = join_unsat words script cert_in parts old new shows
 
 -- ---- delta-sat
 
-solve-delta : (words : Solve) (script cert_in : List ℕ) (old new : Sight) → IsShown (Some (solve words)) script cert_in old new Answered → IsTrueDeltaSat (Some (solve words)) script cert_in old new
-solve-delta words script cert_in old new shows single rest wrote =
+solve-delta : (words : Solve) (script cert_in : List ℕ) (parts : List (List ℕ)) (old new : Sight) → IsShown (Some (solve words)) script cert_in parts old new Answered → IsTrueDeltaSat (Some (solve words)) script cert_in parts old new
+solve-delta words script cert_in parts old new shows single rest wrote =
     let o : Options = words.options in
     let s : Loosenings = loosenings_of o in
-    let so = solved-one o script old new single (solve-so words script cert_in old new shows) in
+    let so = solved-one o script old new single (solve-so words script cert_in parts old new shows) in
     let text : delta_sat_word ++ rest ≡ solve_text so.p o.budget s so.value = written-is old.answer new.answer (delta_sat_word ++ rest) (solve_text so.p o.budget s so.value) wrote so.answer in
     let point = says-delta-sat so.p s o.budget rest so.value text in
     let P : Value → Type 0 = λ v. IsAccepted so.p o.bound so.cert s v in
     let W : List ℕ → Type 0 = λ t. IsWritten t old new in
     (so.p, point.0, so.built, subst W (text ∙ ap (λ (v : Value). solve_text so.p o.budget s v) point.1) wrote, delta-so o.bound script so.p so.cert s point.0 so.built (subst P point.1 so.accepts))
 
-check-delta : (words : Check) (script cert_in : List ℕ) (old new : Sight) → IsShown (Some (check words)) script cert_in old new Answered → IsTrueDeltaSat (Some (check words)) script cert_in old new
-check-delta words script cert_in old new shows single rest wrote =
-    let so = checked-one words.bound script cert_in old new single (check-so words script cert_in old new shows) in
+check-delta : (words : Check) (script cert_in : List ℕ) (parts : List (List ℕ)) (old new : Sight) → IsShown (Some (check words)) script cert_in parts old new Answered → IsTrueDeltaSat (Some (check words)) script cert_in parts old new
+check-delta words script cert_in parts old new shows single rest wrote =
+    let so = checked-one words.bound script cert_in old new single (check-so words script cert_in parts old new shows) in
     let text : confirmed_delta_sat_word ++ rest ≡ check_text so.s so.value = written-is old.answer new.answer (confirmed_delta_sat_word ++ rest) (check_text so.s so.value) wrote so.answer in
     let point = confirms-delta-sat so.s rest so.value text in
     let P : Value → Type 0 = λ v. IsAccepted so.p words.bound cert_in so.s v in
@@ -228,14 +227,15 @@ check-delta words script cert_in old new shows single rest wrote =
       },
     )
 
-delta-sat-true : (command : Option Command) (script cert_in : List ℕ) (old new : Sight) → IsShown command script cert_in old new Answered → IsTrueDeltaSat command script cert_in old new
-delta-sat-true None script cert_in old new shows = tt
-delta-sat-true (Some (solve words)) script cert_in old new shows = solve-delta words script cert_in old new shows
-delta-sat-true (Some (check words)) script cert_in old new shows = check-delta words script cert_in old new shows
-delta-sat-true (Some (upgrade words)) script cert_in old new shows = tt
-delta-sat-true (Some (plan words)) script cert_in old new shows = tt
-delta-sat-true (Some (demo words)) script cert_in old new shows = tt
-delta-sat-true (Some (resume words)) script cert_in old new shows = resume-delta words script cert_in old new shows
+delta-sat-true : (command : Option Command) (script cert_in : List ℕ) (parts : List (List ℕ)) (old new : Sight) → IsShown command script cert_in parts old new Answered → IsTrueDeltaSat command script cert_in parts old new
+delta-sat-true None script cert_in parts old new shows = tt
+delta-sat-true (Some (solve words)) script cert_in parts old new shows = solve-delta words script cert_in parts old new shows
+delta-sat-true (Some (check words)) script cert_in parts old new shows = check-delta words script cert_in parts old new shows
+delta-sat-true (Some (upgrade words)) script cert_in parts old new shows = tt
+delta-sat-true (Some (plan words)) script cert_in parts old new shows = tt
+delta-sat-true (Some (demo words)) script cert_in parts old new shows = tt
+delta-sat-true (Some (resume words)) script cert_in parts old new shows = resume-delta words script cert_in parts old new shows
+delta-sat-true (Some (join words)) script cert_in parts old new shows = join_delta words script cert_in parts old new shows
 
 -- ---- certificates that are refused
 
@@ -258,35 +258,36 @@ check-refused words script cert_in old new tail None can status wrote =
     refused-by words script cert_in old new can.0 tail (session_verdict can.0 words.bound cert_in) can.1 refl can.2 status wrote
 
 -- of `upgrade`, which writes nothing then
-upgrade-refused-by : (words : Upgrade) (script cert_in : List ℕ) (old new : Sight) (ps : List (Problem × Bool)) (tail : Course) (v : SessionVerdict) → HasSession words.bound ps script → session_verdict ps words.bound cert_in ≡ v → CanUpgradeBy v ps words.bound words.out cert_in tail
-    → tail.status ≡ CertRefused → new.answer ≡ appended old.answer tail.answer → new.cert_out ≡ appended old.cert_out tail.cert → IsTrueRefusal (Some (upgrade words)) script cert_in old new
-upgrade-refused-by words script cert_in old new ps tail (accepted s values) has e can status wrote none = absurd (answered-not tail.status (ap (λ (c : Course). c.status) can.1) status)
-upgrade-refused-by words script cert_in old new ps tail (refused f n) has e can status wrote none = (
+upgrade-refused-by : (words : Upgrade) (script cert_in : List ℕ) (parts : List (List ℕ)) (old new : Sight) (ps : List (Problem × Bool)) (tail : Course) (v : SessionVerdict) → HasSession words.bound ps script → session_verdict ps words.bound cert_in ≡ v → CanUpgradeBy v ps words.bound words.out cert_in tail
+    → tail.status ≡ CertRefused → new.answer ≡ appended old.answer tail.answer → new.cert_out ≡ appended old.cert_out tail.cert → IsTrueRefusal (Some (upgrade words)) script cert_in parts old new
+upgrade-refused-by words script cert_in parts old new ps tail (accepted s values) has e can status wrote none = absurd (answered-not tail.status (ap (λ (c : Course). c.status) can.1) status)
+upgrade-refused-by words script cert_in parts old new ps tail (refused f n) has e can status wrote none = (
   record { problems = ps; session = has; fault = f; line = n; refuses = e; written = wrote ∙ ap (λ (c : Course). appended old.answer c.answer) can },
   none ∙ ap (λ (c : Course). appended old.cert_out c.cert) can,
 )
 
-upgrade-refused : (words : Upgrade) (script cert_in : List ℕ) (old new : Sight) (tail : Course) (f : Option ScriptFault) → CanBy f (OfSession words.bound script (λ ps. CanUpgrade ps words.bound words.cert words.out cert_in)) tail
-    → tail.status ≡ CertRefused → new.answer ≡ appended old.answer tail.answer → new.cert_out ≡ appended old.cert_out tail.cert → IsTrueRefusal (Some (upgrade words)) script cert_in old new
-upgrade-refused words script cert_in old new tail (Some f) can status wrote none = absurd (script-refused-not tail.status (ap (λ (c : Course). c.status) can) status)
-upgrade-refused words script cert_in old new tail None can status wrote none =
+upgrade-refused : (words : Upgrade) (script cert_in : List ℕ) (parts : List (List ℕ)) (old new : Sight) (tail : Course) (f : Option ScriptFault) → CanBy f (OfSession words.bound script (λ ps. CanUpgrade ps words.bound words.cert words.out cert_in)) tail
+    → tail.status ≡ CertRefused → new.answer ≡ appended old.answer tail.answer → new.cert_out ≡ appended old.cert_out tail.cert → IsTrueRefusal (Some (upgrade words)) script cert_in parts old new
+upgrade-refused words script cert_in parts old new tail (Some f) can status wrote none = absurd (script-refused-not tail.status (ap (λ (c : Course). c.status) can) status)
+upgrade-refused words script cert_in parts old new tail None can status wrote none =
     let is = can.2 in
-    upgrade-refused-by words script cert_in old new can.0 is.0 (session_verdict can.0 words.bound cert_in) can.1 refl is.1 (sym (ap (λ (c : Course). c.status) is.2) ∙ status)
+    upgrade-refused-by words script cert_in parts old new can.0 is.0 (session_verdict can.0 words.bound cert_in) can.1 refl is.1 (sym (ap (λ (c : Course). c.status) is.2) ∙ status)
     (wrote ∙ ap (λ (c : Course). appended old.answer c.answer) is.2) (none ∙ ap (λ (c : Course). appended old.cert_out c.cert) is.2)
 
-refusal-true : (command : Option Command) (script cert_in : List ℕ) (old new : Sight) → IsShown command script cert_in old new CertRefused → IsTrueRefusal command script cert_in old new
-refusal-true None script cert_in old new shows = tt
-refusal-true (Some (solve words)) script cert_in old new shows = tt
-refusal-true (Some (demo words)) script cert_in old new shows = tt
-refusal-true (Some (plan words)) script cert_in old new shows = tt
-refusal-true (Some (resume words)) script cert_in old new shows = resume-refused words script cert_in old new shows
-refusal-true (Some (check words)) script cert_in old new (course, can, status, went) =
+refusal-true : (command : Option Command) (script cert_in : List ℕ) (parts : List (List ℕ)) (old new : Sight) → IsShown command script cert_in parts old new CertRefused → IsTrueRefusal command script cert_in parts old new
+refusal-true None script cert_in parts old new shows = tt
+refusal-true (Some (solve words)) script cert_in parts old new shows = tt
+refusal-true (Some (demo words)) script cert_in parts old new shows = tt
+refusal-true (Some (plan words)) script cert_in parts old new shows = tt
+refusal-true (Some (resume words)) script cert_in parts old new shows = resume-refused words script cert_in parts old new shows
+refusal-true (Some (join words)) script cert_in parts old new shows = join_refused words script cert_in parts old new shows
+refusal-true (Some (check words)) script cert_in parts old new (course, can, status, went) =
     let tail : Course = can.0 in
     check-refused words script cert_in old new tail (session_fault words.bound script) can.1 (sym (ap (λ (c : Course). c.status) can.2) ∙ status)
     (went.answer ∙ ap (λ (c : Course). appended old.answer c.answer) can.2)
-refusal-true (Some (upgrade words)) script cert_in old new (course, can, status, went) =
+refusal-true (Some (upgrade words)) script cert_in parts old new (course, can, status, went) =
     let tail : Course = can.0 in
-    upgrade-refused words script cert_in old new tail (session_fault words.bound script) can.1 (sym (ap (λ (c : Course). c.status) can.2) ∙ status)
+    upgrade-refused words script cert_in parts old new tail (session_fault words.bound script) can.1 (sym (ap (λ (c : Course). c.status) can.2) ∙ status)
     (went.answer ∙ ap (λ (c : Course). appended old.answer c.answer) can.2) (went.cert ∙ ap (λ (c : Course). appended old.cert_out c.cert) can.2)
 
 -- ---- certificates that are written anew
@@ -310,14 +311,15 @@ upgraded-of words script cert_in old new ps tail has can status wrote =
     upgraded-by words script cert_in old new ps can.0 (session_verdict ps words.bound cert_in) has refl can.1 (sym (ap (λ (c : Course). c.status) can.2) ∙ status)
     (wrote ∙ ap (λ (c : Course). appended old.cert_out c.cert) can.2)
 
-upgrade-true : (command : Option Command) (script cert_in : List ℕ) (old new : Sight) → IsShown command script cert_in old new Answered → IsTrueUpgrade command script cert_in old new
-upgrade-true None script cert_in old new shows = tt
-upgrade-true (Some (solve words)) script cert_in old new shows = tt
-upgrade-true (Some (check words)) script cert_in old new shows = tt
-upgrade-true (Some (demo words)) script cert_in old new shows = tt
-upgrade-true (Some (plan words)) script cert_in old new shows = tt
-upgrade-true (Some (resume words)) script cert_in old new shows = tt
-upgrade-true (Some (upgrade words)) script cert_in old new (course, can, status, went) =
+upgrade-true : (command : Option Command) (script cert_in : List ℕ) (parts : List (List ℕ)) (old new : Sight) → IsShown command script cert_in parts old new Answered → IsTrueUpgrade command script cert_in parts old new
+upgrade-true None script cert_in parts old new shows = tt
+upgrade-true (Some (solve words)) script cert_in parts old new shows = tt
+upgrade-true (Some (check words)) script cert_in parts old new shows = tt
+upgrade-true (Some (demo words)) script cert_in parts old new shows = tt
+upgrade-true (Some (plan words)) script cert_in parts old new shows = tt
+upgrade-true (Some (resume words)) script cert_in parts old new shows = tt
+upgrade-true (Some (join words)) script cert_in parts old new shows = tt
+upgrade-true (Some (upgrade words)) script cert_in parts old new (course, can, status, went) =
     let tail : Course = can.0 in
     let status_is : tail.status ≡ Answered = sym (ap (λ (c : Course). c.status) can.2) ∙ status in
     let on = goes-on words.bound script (λ ps. CanUpgrade ps words.bound words.cert words.out cert_in) (session_fault words.bound script) tail can.1 status_is in
@@ -325,8 +327,8 @@ upgrade-true (Some (upgrade words)) script cert_in old new (course, can, status,
 
 -- ---- plans
 
-plan-so : SessionIsOne → (words : Plan) (script cert_in : List ℕ) (old new : Sight) → IsShown (Some (plan words)) script cert_in old new Answered → IsPlanned words script old new
-plan-so one words script cert_in old new (course, can, status, went) =
+plan-so : SessionIsOne → (words : Plan) (script cert_in : List ℕ) (parts : List (List ℕ)) (old new : Sight) → IsShown (Some (plan words)) script cert_in parts old new Answered → IsPlanned words script old new
+plan-so one words script cert_in parts old new (course, can, status, went) =
     let tail : Course = can.0 in
     let status_is : tail.status ≡ Answered = sym (ap (λ (c : Course). c.status) can.2) ∙ status in
     let on = goes-on words.bound script (λ ps. CanPlan ps words.delta_bits words.margin_bits) (session_fault words.bound script) tail can.1 status_is in
@@ -340,46 +342,48 @@ plan-so one words script cert_in old new (course, can, status, went) =
       enough = are_enough one words script on.ps on.has is.0 is.1;
     }
 
-plan-true : SessionIsOne → (command : Option Command) (script cert_in : List ℕ) (old new : Sight) → IsShown command script cert_in old new Answered → IsTruePlan command script cert_in old new
-plan-true one None script cert_in old new shows = tt
-plan-true one (Some (solve words)) script cert_in old new shows = tt
-plan-true one (Some (check words)) script cert_in old new shows = tt
-plan-true one (Some (demo words)) script cert_in old new shows = tt
-plan-true one (Some (upgrade words)) script cert_in old new shows = tt
-plan-true one (Some (resume words)) script cert_in old new shows = tt
-plan-true one (Some (plan words)) script cert_in old new shows = plan-so one words script cert_in old new shows
+plan-true : SessionIsOne → (command : Option Command) (script cert_in : List ℕ) (parts : List (List ℕ)) (old new : Sight) → IsShown command script cert_in parts old new Answered → IsTruePlan command script cert_in parts old new
+plan-true one None script cert_in parts old new shows = tt
+plan-true one (Some (solve words)) script cert_in parts old new shows = tt
+plan-true one (Some (check words)) script cert_in parts old new shows = tt
+plan-true one (Some (demo words)) script cert_in parts old new shows = tt
+plan-true one (Some (upgrade words)) script cert_in parts old new shows = tt
+plan-true one (Some (resume words)) script cert_in parts old new shows = tt
+plan-true one (Some (join words)) script cert_in parts old new shows = tt
+plan-true one (Some (plan words)) script cert_in parts old new shows = plan-so one words script cert_in parts old new shows
 
 -- ---- all answers
 
-answer-true : (command : Option Command) (script cert_in : List ℕ) (old new : Sight) → IsShown command script cert_in old new Answered → IsTrueAnswer command script cert_in old new
-answer-true None script cert_in old new shows = tt
-answer-true (Some (solve words)) script cert_in old new shows = solve-so words script cert_in old new shows
-answer-true (Some (check words)) script cert_in old new shows = check-so words script cert_in old new shows
-answer-true (Some (demo words)) script cert_in old new shows = tt
-answer-true (Some (upgrade words)) script cert_in old new shows = tt
-answer-true (Some (plan words)) script cert_in old new shows = tt
-answer-true (Some (resume words)) script cert_in old new shows = resume-so words script cert_in old new shows
+answer-true : (command : Option Command) (script cert_in : List ℕ) (parts : List (List ℕ)) (old new : Sight) → IsShown command script cert_in parts old new Answered → IsTrueAnswer command script cert_in parts old new
+answer-true None script cert_in parts old new shows = tt
+answer-true (Some (solve words)) script cert_in parts old new shows = solve-so words script cert_in parts old new shows
+answer-true (Some (check words)) script cert_in parts old new shows = check-so words script cert_in parts old new shows
+answer-true (Some (demo words)) script cert_in parts old new shows = tt
+answer-true (Some (upgrade words)) script cert_in parts old new shows = tt
+answer-true (Some (plan words)) script cert_in parts old new shows = tt
+answer-true (Some (resume words)) script cert_in parts old new shows = resume-so words script cert_in parts old new shows
+answer-true (Some (join words)) script cert_in parts old new shows = join_so words script cert_in parts old new shows
 
 -- ---- of whole runs
 
 -- the status of a run that ends with it shows what its row says
-shown-with : (r : Run) (status : Status) → HasCourse r → (script cert_in : List ℕ) → HasInput r.command r.old script cert_in → r.status ≡ status → IsShown r.command script cert_in r.old r.new status
-shown-with r status course script cert_in tells e = subst (λ (s : Status). IsShown r.command script cert_in r.old r.new s) e (status_is_shown r course script cert_in tells)
+shown-with : (r : Run) (status : Status) → HasCourse r → (script cert_in : List ℕ) (parts : List (List ℕ)) → HasInput r.command r.old script cert_in parts → r.status ≡ status → IsShown r.command script cert_in parts r.old r.new status
+shown-with r status course script cert_in parts tells e = subst (λ (s : Status). IsShown r.command script cert_in parts r.old r.new s) e (status_is_shown r course script cert_in parts tells)
 
 pub answers_are_true : (r : Run) → HasCourse r → AnswersAreTrue r
-answers_are_true r course script cert_in tells e = answer-true r.command script cert_in r.old r.new (shown-with r Answered course script cert_in tells e)
+answers_are_true r course script cert_in parts tells e = answer-true r.command script cert_in parts r.old r.new (shown-with r Answered course script cert_in parts tells e)
 
 pub unsat_is_true : (r : Run) → HasCourse r → UnsatIsTrue r
-unsat_is_true r course script cert_in tells e = unsat-true r.command script cert_in r.old r.new (shown-with r Answered course script cert_in tells e)
+unsat_is_true r course script cert_in parts tells e = unsat-true r.command script cert_in parts r.old r.new (shown-with r Answered course script cert_in parts tells e)
 
 pub delta_sat_is_true : (r : Run) → HasCourse r → DeltaSatIsTrue r
-delta_sat_is_true r course script cert_in tells e = delta-sat-true r.command script cert_in r.old r.new (shown-with r Answered course script cert_in tells e)
+delta_sat_is_true r course script cert_in parts tells e = delta-sat-true r.command script cert_in parts r.old r.new (shown-with r Answered course script cert_in parts tells e)
 
 pub refusal_is_true : (r : Run) → HasCourse r → RefusalIsTrue r
-refusal_is_true r course script cert_in tells e = refusal-true r.command script cert_in r.old r.new (shown-with r CertRefused course script cert_in tells e)
+refusal_is_true r course script cert_in parts tells e = refusal-true r.command script cert_in parts r.old r.new (shown-with r CertRefused course script cert_in parts tells e)
 
 pub upgrade_is_true : (r : Run) → HasCourse r → UpgradeIsTrue r
-upgrade_is_true r course script cert_in tells e = upgrade-true r.command script cert_in r.old r.new (shown-with r Answered course script cert_in tells e)
+upgrade_is_true r course script cert_in parts tells e = upgrade-true r.command script cert_in parts r.old r.new (shown-with r Answered course script cert_in parts tells e)
 
 pub plan_is_true : SessionIsOne → (r : Run) → HasCourse r → PlanIsTrue r
-plan_is_true one r course script cert_in tells e = plan-true one r.command script cert_in r.old r.new (shown-with r Answered course script cert_in tells e)
+plan_is_true one r course script cert_in parts tells e = plan-true one r.command script cert_in parts r.old r.new (shown-with r Answered course script cert_in parts tells e)

@@ -5,10 +5,14 @@ pub mod Ending
 pub mod Enough
 pub mod Faulty
 pub mod Headline
+pub mod Joins
+pub mod Named
 pub mod Reading
 pub mod Resumes
 pub mod RunBoth
+pub mod RunParts
 pub mod Running
+pub mod Starting
 pub mod Shown
 pub mod Verdicts
 pub mod Lines

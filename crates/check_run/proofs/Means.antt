@@ -1,12 +1,12 @@
 -- What the values of a certificate say of a script's checks.
-use Rattle.std.proofs.Common.{◌≡◌, ℕ, List, [], ◌∷◌, Bool, Option, Some, None, refl, ap, sym, ◌∙◌, subst}
+use Rattle.std.proofs.Common.{ℕ, List, [], ◌∷◌, Bool, Option}
 use Rattle.dyadic.specs.Rounding.{exact}
 use Rattle.script_model.specs.Script.{Command}
 use Rattle.poly_graph.specs.Problem.{Problem}
 use Rattle.cover_model.specs.State.{Loosenings, delta_of, margin_of}
 use Rattle.cert_model.specs.Due.{Value, at_point, left_open, coordinates}
 use Rattle.cert_model.specs.Session.{AreAccepted}
-use Rattle.cert_model.specs.SessionLaws.{IsSession, ValueHolds, ValuesHold}
+use Rattle.cert_model.specs.SessionLaws.{ValueHolds, ValuesHold}
 use Rattle.cert_model.proofs.SessionMeans.{session_means}
 use Rattle.script_forms.specs.ProblemOf.{IsProblemOf}
 use Rattle.script_forms.proofs.Box.{box_declared, problem_means}

@@ -1,5 +1,5 @@
 -- What the answers of `resume` say of its script.
-use Rattle.std.proofs.Common.{◌≡◌, ◌⊎◌, inl, inr, ℕ, zero, suc, List, [], ◌∷◌, ◌++◌, Bool, true, false, cond, get_or, nat_eq, Option, Some, None, refl, ap, sym, subst, ◌∙◌}
+use Rattle.std.proofs.Common.{◌≡◌, inl, inr, ℕ, zero, suc, List, [], ◌∷◌, ◌++◌, Bool, true, false, cond, Option, Some, None, refl, ap, sym, subst, ◌∙◌}
 use Rattle.desk.specs.Sight.{Sight}
 use Rattle.command_line.specs.Words.{Resume, resume}
 use Rattle.poly_graph.specs.Problem.{Problem}
@@ -7,7 +7,7 @@ use Rattle.interval_model.specs.Space.{Space}
 use Rattle.cover_model.specs.State.{Loosenings}
 use Rattle.cert_model.specs.Due.{Standing, Value, at_point, left_open}
 use Rattle.cert_model.specs.Accepted.{IsAccepted, Verdict, accepted, refused, verdict}
-use Rattle.cert_model.specs.AnswerText.{solve_text, left_text, unsat_text, delta_sat_text, has_open}
+use Rattle.cert_model.specs.AnswerText.{unsat_text, delta_sat_text, has_open}
 use Rattle.cert_upgrade.specs.Upgraded.{in_newest}
 use Rattle.cert_resumed.specs.Resumed.{Share, is_own, joined, own_left, others}
 use Rattle.headline.proofs.Headline.{unsat_is}
@@ -17,9 +17,9 @@ use Rattle.script_reading.specs.Reader.{commands_of, HasProblem, IsBuilt}
 use Rattle.check_run.specs.declared.status.Status.TheVariants.{Answered, CertRefused}
 use Rattle.check_run.specs.Course.{Course, appended}
 use Rattle.check_run.specs.Can.{CanBy, OfProblem}
-use Rattle.check_run.specs.Resumed.{CanResume, CanResumeBy, GoesOn, IsFoundBehind, IsMore, IsMoreCovered, header_bound, part_text, share_of, share_text, trees_left}
+use Rattle.check_run.specs.Resumed.{CanResume, CanResumeBy, GoesOn, header_bound, share_of, share_text, trees_left}
 use Rattle.check_run.specs.Run.{IsShown}
-use Rattle.check_run.specs.Headline.{IsWritten, IsResumed, IsResumedUnsat, IsRefusedToResume, IsTrueDeltaSat, IsTrueRefusal, IsTrueUnsat, IsTrueValue, delta_sat_word, unsat_word}
+use Rattle.check_run.specs.Headline.{IsWritten, IsResumed, IsTrueDeltaSat, IsTrueRefusal, IsTrueUnsat, IsTrueValue, delta_sat_word, unsat_word}
 use Rattle.check_run.proofs.Apart.{apart}
 use Rattle.check_run.proofs.Differ.{written-is, apart-left, answered-not, certificate-refused-not, refused-not, script-refused-not, delta-so}
 
@@ -75,7 +75,7 @@ more-delta-sat p b words cert_in cert s (left_open (x ∷ left)) v text rest (in
 
 -- ---- the courses of a run that answers
 
-value-so : (bound : Option ℕ) (script : List ℕ) (p : Problem) (cert : List ℕ) (s : Loosenings) (v : Value) → IsBuilt bound script p → IsAccepted p bound cert s v → IsTrueValue bound s (commands_of script) v
+pub value-so : (bound : Option ℕ) (script : List ℕ) (p : Problem) (cert : List ℕ) (s : Loosenings) (v : Value) → IsBuilt bound script p → IsAccepted p bound cert s v → IsTrueValue bound s (commands_of script) v
 value-so bound script p cert s (at_point space) built accepts = delta-so bound script p cert s space built accepts
 value-so bound script p cert s (left_open []) built accepts = unsat_is bound (commands_of script) p built.whole built.problem cert s accepts
 value-so bound script p cert s (left_open (x ∷ left)) built accepts = tt
@@ -104,16 +104,16 @@ resumed-of words script cert_in old new (Some f) tail e can status wrote cert = 
 resumed-of words script cert_in old new None tail e can status wrote cert =
     resumed-by words script cert_in old new can.0 tail (verdict can.0 (header_bound cert_in) cert_in) (record { clean = e; built = can.1 }) refl can.2 status wrote cert
 
-pub resume-so : (words : Resume) (script cert_in : List ℕ) (old new : Sight) → IsShown (Some (resume words)) script cert_in old new Answered → IsResumed words script cert_in old new
-resume-so words script cert_in old new (course, can, status, went) =
+pub resume-so : (words : Resume) (script cert_in : List ℕ) (parts : List (List ℕ)) (old new : Sight) → IsShown (Some (resume words)) script cert_in parts old new Answered → IsResumed words script cert_in old new
+resume-so words script cert_in parts old new (course, can, status, went) =
     resumed-of words script cert_in old new (script_fault (header_bound cert_in) script) can.0 refl can.1 (sym (ap (λ (c : Course). c.status) can.2) ∙ status)
     (went.answer ∙ ap (λ (c : Course). appended old.answer c.answer) can.2) (went.cert ∙ ap (λ (c : Course). appended old.cert_out c.cert) can.2)
 
 -- ---- what is answered
 
-pub resume-unsat : (words : Resume) (script cert_in : List ℕ) (old new : Sight) → IsShown (Some (resume words)) script cert_in old new Answered → IsTrueUnsat (Some (resume words)) script cert_in old new
-resume-unsat words script cert_in old new shows rest wrote =
-    let so = resume-so words script cert_in old new shows in
+pub resume-unsat : (words : Resume) (script cert_in : List ℕ) (parts : List (List ℕ)) (old new : Sight) → IsShown (Some (resume words)) script cert_in parts old new Answered → IsTrueUnsat (Some (resume words)) script cert_in parts old new
+resume-unsat words script cert_in parts old new shows rest wrote =
+    let so = resume-so words script cert_in parts old new shows in
     let b : Option ℕ = header_bound cert_in in
     let s : Loosenings = in_newest 1 so.loosenings in
     let text : unsat_word ++ rest ≡ so.text = written-is old.answer new.answer (unsat_word ++ rest) so.text wrote so.answer in
@@ -131,9 +131,9 @@ resume-unsat words script cert_in old new shows rest wrote =
       },
     )
 
-pub resume-delta : (words : Resume) (script cert_in : List ℕ) (old new : Sight) → IsShown (Some (resume words)) script cert_in old new Answered → IsTrueDeltaSat (Some (resume words)) script cert_in old new
-resume-delta words script cert_in old new shows rest wrote =
-    let so = resume-so words script cert_in old new shows in
+pub resume-delta : (words : Resume) (script cert_in : List ℕ) (parts : List (List ℕ)) (old new : Sight) → IsShown (Some (resume words)) script cert_in parts old new Answered → IsTrueDeltaSat (Some (resume words)) script cert_in parts old new
+resume-delta words script cert_in parts old new shows rest wrote =
+    let so = resume-so words script cert_in parts old new shows in
     let b : Option ℕ = header_bound cert_in in
     let s : Loosenings = in_newest 1 so.loosenings in
     let text : delta_sat_word ++ rest ≡ so.text = written-is old.answer new.answer (delta_sat_word ++ rest) so.text wrote so.answer in
@@ -148,22 +148,22 @@ resume-delta words script cert_in old new shows rest wrote =
 
 -- ---- what is refused
 
-refused-by : (words : Resume) (script cert_in : List ℕ) (old new : Sight) (p : Problem) (tail : Course) (v : Verdict) → HasProblem (header_bound cert_in) p script → verdict p (header_bound cert_in) cert_in ≡ v →
-    CanResumeBy v p (header_bound cert_in) words cert_in tail → tail.status ≡ CertRefused → new.answer ≡ appended old.answer tail.answer → new.cert_out ≡ appended old.cert_out tail.cert → IsTrueRefusal (Some (resume words)) script cert_in old new
-refused-by words script cert_in old new p tail (accepted s w) has e can status wrote none = absurd (answered-not tail.status (ap (λ (c : Course). c.status) can.3) status)
-refused-by words script cert_in old new p tail (refused f n) has e can status wrote none = (
+refused-by : (words : Resume) (script cert_in : List ℕ) (parts : List (List ℕ)) (old new : Sight) (p : Problem) (tail : Course) (v : Verdict) → HasProblem (header_bound cert_in) p script → verdict p (header_bound cert_in) cert_in ≡ v →
+    CanResumeBy v p (header_bound cert_in) words cert_in tail → tail.status ≡ CertRefused → new.answer ≡ appended old.answer tail.answer → new.cert_out ≡ appended old.cert_out tail.cert → IsTrueRefusal (Some (resume words)) script cert_in parts old new
+refused-by words script cert_in parts old new p tail (accepted s w) has e can status wrote none = absurd (answered-not tail.status (ap (λ (c : Course). c.status) can.3) status)
+refused-by words script cert_in parts old new p tail (refused f n) has e can status wrote none = (
   record { problem = p; has = has; fault = f; line = n; refuses = e; written = wrote ∙ ap (λ (c : Course). appended old.answer c.answer) can },
   none ∙ ap (λ (c : Course). appended old.cert_out c.cert) can,
 )
 
-refused-of : (words : Resume) (script cert_in : List ℕ) (old new : Sight) (f : Option ScriptFault) (tail : Course) → script_fault (header_bound cert_in) script ≡ f →
+refused-of : (words : Resume) (script cert_in : List ℕ) (parts : List (List ℕ)) (old new : Sight) (f : Option ScriptFault) (tail : Course) → script_fault (header_bound cert_in) script ≡ f →
     CanBy f (OfProblem (header_bound cert_in) script (λ p. CanResume p (header_bound cert_in) words cert_in)) tail → tail.status ≡ CertRefused → new.answer ≡ appended old.answer tail.answer → new.cert_out ≡ appended old.cert_out tail.cert →
-    IsTrueRefusal (Some (resume words)) script cert_in old new
-refused-of words script cert_in old new (Some f) tail e can status wrote none = absurd (script-refused-not tail.status (ap (λ (c : Course). c.status) can) status)
-refused-of words script cert_in old new None tail e can status wrote none =
-    refused-by words script cert_in old new can.0 tail (verdict can.0 (header_bound cert_in) cert_in) (record { clean = e; built = can.1 }) refl can.2 status wrote none
+    IsTrueRefusal (Some (resume words)) script cert_in parts old new
+refused-of words script cert_in parts old new (Some f) tail e can status wrote none = absurd (script-refused-not tail.status (ap (λ (c : Course). c.status) can) status)
+refused-of words script cert_in parts old new None tail e can status wrote none =
+    refused-by words script cert_in parts old new can.0 tail (verdict can.0 (header_bound cert_in) cert_in) (record { clean = e; built = can.1 }) refl can.2 status wrote none
 
-pub resume-refused : (words : Resume) (script cert_in : List ℕ) (old new : Sight) → IsShown (Some (resume words)) script cert_in old new CertRefused → IsTrueRefusal (Some (resume words)) script cert_in old new
-resume-refused words script cert_in old new (course, can, status, went) =
-    refused-of words script cert_in old new (script_fault (header_bound cert_in) script) can.0 refl can.1 (sym (ap (λ (c : Course). c.status) can.2) ∙ status)
+pub resume-refused : (words : Resume) (script cert_in : List ℕ) (parts : List (List ℕ)) (old new : Sight) → IsShown (Some (resume words)) script cert_in parts old new CertRefused → IsTrueRefusal (Some (resume words)) script cert_in parts old new
+resume-refused words script cert_in parts old new (course, can, status, went) =
+    refused-of words script cert_in parts old new (script_fault (header_bound cert_in) script) can.0 refl can.1 (sym (ap (λ (c : Course). c.status) can.2) ∙ status)
     (went.answer ∙ ap (λ (c : Course). appended old.answer c.answer) can.2) (went.cert ∙ ap (λ (c : Course). appended old.cert_out c.cert) can.2)

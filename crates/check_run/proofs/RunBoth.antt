@@ -1,43 +1,43 @@
 -- A run from its script and its certificate on, which are both read first.
-use Rattle.std.proofs.Common.{◌≡◌, ◌≤◌, ◌<◌, ℕ, List, [], ◌∷◌, Option, Some, None, length, refl, ap, sym, subst, ◌∙◌, IfSome, arith}
+use Rattle.std.proofs.Common.{◌≡◌, ◌≤◌, ◌<◌, ℕ, List, [], Option, Some, None, length, refl, subst, ◌∙◌, arith}
 use Rattle.std.specs.Prelude.{IsSome}
 use Rattle.std.specs.declared.vec.Vec.{Vec}
 use Rattle.std.specs.declared.alloc.Global.{Global}
-use Rattle.desk.specs.Sight.{Sight, SideFailed}
+use Rattle.desk.specs.Sight.{Sight}
 use Rattle.command_line.specs.Words.{Resume, resume}
 use Rattle.script_reading.specs.Faults.{most_bytes}
 use Rattle.check_run.specs.declared.both.Inputs.{Inputs}
 use Rattle.check_run.specs.declared.both.Unread.{Unread}
 use Rattle.check_run.specs.declared.both.Unread.TheVariants as unread
 use Rattle.check_run.specs.declared.status.Status.{Status}
-use Rattle.check_run.specs.declared.status.Status.TheVariants.{InFailed, NoMemory}
 use Rattle.check_run.specs.Both.{CanGoOn, FetchesBoth, HaltsBoth, IsScriptHeld, status_of}
 use Rattle.check_run.specs.Can.{Can, both_starts}
-use Rattle.check_run.specs.Course.{Start, Course, behind, RunEnds, on_course, in_failed, no_memory_yet}
+use Rattle.check_run.specs.Course.{behind, RunEnds, on_course, in_failed, draft_failed, no_memory_yet}
 use Rattle.check_run.specs.Parts.{After}
-use Rattle.check_run.specs.Run.{CertIsRead, HasCause, IsReadToEnd, SameIn, ScriptIsRead, run_of}
+use Rattle.check_run.specs.Run.{CertIsRead, HasCause, SameIn, ScriptIsRead, run_of}
 use Rattle.check_run.proofs.Ending.{ends_behind, quiet_behind}
 use Rattle.check_run.proofs.Running.{told}
 
 -- a part of a run that reads nothing more, behind the starts of both ports
-behind_both : (words : Resume) (script cert_in : List ℕ) (old mid new : Sight) (status : Status) → After (both_starts words.script words.cert) old mid →
-    RunEnds (CanGoOn words script cert_in) [] mid new status → RunEnds (Can (Some (resume words)) script cert_in) (both_starts words.script words.cert) old new status
-behind_both words script cert_in old mid new status after (on_course tail can ends) =
+behind_both : (words : Resume) (script cert_in : List ℕ) (parts : List (List ℕ)) (old mid new : Sight) (status : Status) → After (both_starts words.script words.cert) old mid →
+    RunEnds (CanGoOn words script cert_in) [] mid new status → RunEnds (Can (Some (resume words)) script cert_in parts) (both_starts words.script words.cert) old new status
+behind_both words script cert_in parts old mid new status after (on_course tail can ends) =
     on_course (behind (both_starts words.script words.cert) tail) (tail, can, refl) (ends_behind (both_starts words.script words.cert) tail old mid new status after ends)
-behind_both words script cert_in old mid new status after (in_failed is any side quiet) = absurd (any refl)
-behind_both words script cert_in old mid new status after (no_memory_yet is quiet) = no_memory_yet is (quiet_behind (both_starts words.script words.cert) [] old mid new after quiet)
+behind_both words script cert_in parts old mid new status after (in_failed is any side quiet) = absurd (any refl)
+behind_both words script cert_in parts old mid new status after (draft_failed is drafts side quiet) = absurd drafts
+behind_both words script cert_in parts old mid new status after (no_memory_yet is quiet) = no_memory_yet is (quiet_behind (both_starts words.script words.cert) [] old mid new after quiet)
 
-pub run_both : (words : Resume) (script cert_in : List ℕ) (x : Inputs) (old mid new : Sight) (status : Status) → FetchesBoth words.script words.cert x old mid → old.script ≡ Some script → old.cert_in ≡ Some cert_in →
-    ((s : List ℕ) → IsScriptHeld x.script s → RunEnds (CanGoOn words s x.cert.items) [] mid new status) → RunEnds (Can (Some (resume words)) script cert_in) (both_starts words.script words.cert) old new status
-run_both words script cert_in x old mid new status fetched e f ends =
+pub run_both : (words : Resume) (script cert_in : List ℕ) (parts : List (List ℕ)) (x : Inputs) (old mid new : Sight) (status : Status) → FetchesBoth words.script words.cert x old mid → old.script ≡ Some script → old.cert_in ≡ Some cert_in →
+    ((s : List ℕ) → IsScriptHeld x.script s → RunEnds (CanGoOn words s x.cert.items) [] mid new status) → RunEnds (Can (Some (resume words)) script cert_in parts) (both_starts words.script words.cert) old new status
+run_both words script cert_in parts x old mid new status fetched e f ends =
     let held = told (IsScriptHeld x.script) old.script script e fetched.script_is in
     let same = told (λ (c : List ℕ). x.cert.items ≡ c) old.cert_in cert_in f fetched.cert_is in
-    behind_both words script cert_in old mid new status fetched.after (subst (λ (c : List ℕ). RunEnds (CanGoOn words script c) [] mid new status) same (ends script held))
+    behind_both words script cert_in parts old mid new status fetched.after (subst (λ (c : List ℕ). RunEnds (CanGoOn words script c) [] mid new status) same (ends script held))
 
-pub run_unread : (words : Resume) (script cert_in : List ℕ) (e : Unread) (old new : Sight) → HaltsBoth words.script words.cert e old new →
-    RunEnds (Can (Some (resume words)) script cert_in) (both_starts words.script words.cert) old new (status_of e)
-run_unread words script cert_in unread.Failed old new h = in_failed refl (λ x. cc) h.0 h.1
-run_unread words script cert_in unread.Memory old new h = no_memory_yet refl h
+pub run_unread : (words : Resume) (script cert_in : List ℕ) (parts : List (List ℕ)) (e : Unread) (old new : Sight) → HaltsBoth words.script words.cert e old new →
+    RunEnds (Can (Some (resume words)) script cert_in parts) (both_starts words.script words.cert) old new (status_of e)
+run_unread words script cert_in parts unread.Failed old new h = in_failed refl (λ x. cc) h.0 h.1
+run_unread words script cert_in parts unread.Memory old new h = no_memory_yet refl h
 
 -- ---- causes
 

@@ -72,12 +72,12 @@ module _ (bound : Option ℕ) (name script : List ℕ) (goes : List (Problem × 
 -- ---- the ends of a demonstration
 
 pub demo_problem : (words : Demo) (bytes : List ℕ) (p : Problem) (old new : Sight) (status : Status) → HasProblem words.options.bound p bytes → bytes ≡ demo_script words.seed words.size →
-    RunEnds (CanDemo p words.options words.cert bytes) [] old new status → (script cert_in : List ℕ) → RunEnds (Can (Some (demo words)) script cert_in) [] old new status
-demo_problem words bytes p old new status has made ends script cert_in =
+    RunEnds (CanDemo p words.options words.cert bytes) [] old new status → (script cert_in : List ℕ) (parts : List (List ℕ)) → RunEnds (Can (Some (demo words)) script cert_in parts) [] old new status
+demo_problem words bytes p old new status has made ends script cert_in parts =
     let made_by : List ℕ = demo_script words.seed words.size in
     let H : List ℕ → Type 0 = λ b. HasProblem words.options.bound p b in
     let R : List ℕ → Type 0 = λ b. RunEnds (CanDemo p words.options words.cert b) [] old new status in
-    widen (CanDemo p words.options words.cert made_by) (Can (Some (demo words)) script cert_in) [] old new status
+    widen (CanDemo p words.options words.cert made_by) (Can (Some (demo words)) script cert_in parts) [] old new status
     (λ course can. (p, (subst H made has).built, can)) (subst R made ends)
 
 -- ---- causes

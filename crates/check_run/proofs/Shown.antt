@@ -2,7 +2,7 @@
 use Rattle.std.proofs.Common.{◌≡◌, inl, inr, ℕ, List, Bool, Option, Some, None, sym, subst, ◌∙◌}
 use Rattle.desk.specs.Sight.{Sight}
 use Rattle.command_line.specs.declared.request.Options.{Options}
-use Rattle.command_line.specs.Words.{Command, Resume, solve, check, demo, upgrade, plan, resume}
+use Rattle.command_line.specs.Words.{Command, Resume, solve, check, demo, upgrade, plan, resume, join}
 use Rattle.gen_script.specs.Demo.{demo_script}
 use Rattle.poly_graph.specs.Problem.{Problem}
 use Rattle.cert_model.specs.Accepted.{Verdict, accepted, refused, verdict}
@@ -11,8 +11,9 @@ use Rattle.script_fault.specs.declared.fault.ScriptFault.{ScriptFault}
 use Rattle.script_reading.specs.Faults.{script_fault, session_fault}
 use Rattle.check_run.specs.declared.status.Status.{Status}
 use Rattle.check_run.specs.declared.status.Status.TheVariants.{Answered, CertRefused, ScriptRefused, Usage, InFailed, OutFailed, NoMemory}
-use Rattle.check_run.specs.Course.{Course, Went, Ends, at_its_end, out_failed, no_memory, RunEnds, on_course, in_failed, no_memory_yet}
+use Rattle.check_run.specs.Course.{Course, Went, Ends, at_its_end, out_failed, no_memory, RunEnds, on_course, in_failed, draft_failed, no_memory_yet}
 use Rattle.check_run.specs.Can.{CanSolve, CanCheck, CanUpgrade, CanUpgradeBy, CanDemo, CanPlan, CanBy, OfProblem, OfSession, Can, in_starts, verdict_course}
+use Rattle.check_run.specs.Joined.{CanJoin, bound_of, joins, refuses}
 use Rattle.check_run.specs.Resumed.{CanResume, CanResumeBy, header_bound}
 use Rattle.check_run.specs.Run.{Run, HasCourse, IsShown, IsDue, run_of, StatusIsDue, StatusIsShown}
 
@@ -54,27 +55,36 @@ said-resume : (words : Resume) (script cert_in : List ℕ) (f : Option ScriptFau
 said-resume words script cert_in (Some f) course can = said-same course _ can tt
 said-resume words script cert_in None course can = said-resume-by (verdict can.0 (header_bound cert_in) cert_in) can.0 (header_bound cert_in) words cert_in course can.2
 
+said-join-by : (p : Problem) (b : Option ℕ) (parts : List (List ℕ)) (course : Course) → CanJoin p b parts course → IsSaid course.status
+said-join-by p b parts course (joins cert s v accepts e) = said-same course _ e tt
+said-join-by p b parts course (refuses text reason e) = said-same course _ e tt
+
+said-join : (script : List ℕ) (parts : List (List ℕ)) (f : Option ScriptFault) (course : Course) → CanBy f (OfProblem (bound_of parts) script (λ p. CanJoin p (bound_of parts) parts)) course → IsSaid course.status
+said-join script parts (Some f) course can = said-same course _ can tt
+said-join script parts None course can = said-join-by can.0 (bound_of parts) parts course can.2
+
 said-by : (bound : Option ℕ) (script : List ℕ) (goes : List (Problem × Bool) → Course → Type 0) → ((ps : List (Problem × Bool)) (course : Course) → goes ps course → IsSaid course.status) →
     (f : Option ScriptFault) (course : Course) → CanBy f (OfSession bound script goes) course → IsSaid course.status
 said-by bound script goes said (Some f) course can = said-same course _ can tt
 said-by bound script goes said None course can = said can.0 course can.2
 
 -- each course of a run ends in a status that is told
-said : (command : Option Command) (script cert_in : List ℕ) (course : Course) → Can command script cert_in course → IsSaid course.status
-said None script cert_in course can = said-same course _ can tt
-said (Some (solve words)) script cert_in course can = said-same course _ can.2
+said : (command : Option Command) (script cert_in : List ℕ) (parts : List (List ℕ)) (course : Course) → Can command script cert_in parts course → IsSaid course.status
+said None script cert_in parts course can = said-same course _ can tt
+said (Some (solve words)) script cert_in parts course can = said-same course _ can.2
     (said-by words.options.bound script (λ ps. CanSolve ps words.options words.cert) (λ ps c h. said-solve ps words.options words.cert c h) (session_fault words.options.bound script) can.0 can.1)
-said (Some (check words)) script cert_in course can = said-same course _ can.2
+said (Some (check words)) script cert_in parts course can = said-same course _ can.2
     (said-by words.bound script (λ ps. CanCheck ps words.bound words.cert cert_in) (λ ps c h. said-same c _ h (said-verdict (session_verdict ps words.bound cert_in))) (session_fault words.bound script) can.0 can.1)
-said (Some (upgrade words)) script cert_in course can = said-same course _ can.2
+said (Some (upgrade words)) script cert_in parts course can = said-same course _ can.2
     (said-by words.bound script (λ ps. CanUpgrade ps words.bound words.cert words.out cert_in) (λ ps c h. said-upgrade ps words.bound words.cert words.out cert_in c h) (session_fault words.bound script) can.0 can.1)
-said (Some (plan words)) script cert_in course can = said-same course _ can.2
+said (Some (plan words)) script cert_in parts course can = said-same course _ can.2
     (said-by words.bound script (λ ps. CanPlan ps words.delta_bits words.margin_bits) (λ ps c h. said-same c _ h.2 tt) (session_fault words.bound script) can.0 can.1)
-said (Some (resume words)) script cert_in course can = said-same course _ can.2 (said-resume words script cert_in (script_fault (header_bound cert_in) script) can.0 can.1)
-said (Some (demo words)) script cert_in course can = said-demo can.0 words.options words.cert (demo_script words.seed words.size) course can.2
+said (Some (resume words)) script cert_in parts course can = said-same course _ can.2 (said-resume words script cert_in (script_fault (header_bound cert_in) script) can.0 can.1)
+said (Some (join words)) script cert_in parts course can = said-same course _ can.2 (said-join script parts (script_fault (bound_of parts) script) can.0 can.1)
+said (Some (demo words)) script cert_in parts course can = said-demo can.0 words.options words.cert (demo_script words.seed words.size) course can.2
 
-module _ (command : Option Command) (script cert_in : List ℕ) (old new : Sight) where
-  at-end : (status : Status) (course : Course) → Can command script cert_in course → IsSaid course.status → status ≡ course.status → Went course old new → IsShown command script cert_in old new status
+module _ (command : Option Command) (script cert_in : List ℕ) (parts : List (List ℕ)) (old new : Sight) where
+  at-end : (status : Status) (course : Course) → Can command script cert_in parts course → IsSaid course.status → status ≡ course.status → Went course old new → IsShown command script cert_in parts old new status
   at-end Answered course can is e went = (course, can, sym e, went)
   at-end CertRefused course can is e went = (course, can, sym e, went)
   at-end ScriptRefused course can is e went = (course, can, sym e, went)
@@ -83,27 +93,29 @@ module _ (command : Option Command) (script cert_in : List ℕ) (old new : Sight
   at-end OutFailed course can is e went = absurd (subst IsSaid (sym e) is)
   at-end NoMemory course can is e went = absurd (subst IsSaid (sym e) is)
 
-  shows-ends : (course : Course) (status : Status) → Can command script cert_in course → Ends course old new status → IsShown command script cert_in old new status
-  shows-ends course status can (at_its_end e went) = at-end status course can (said command script cert_in course can) e went
-  shows-ends course status can (out_failed e side stopped) = let P : Status → Type 0 = λ s. IsShown command script cert_in old new s in let here : P OutFailed = (side, course, can, stopped) in subst P (sym e) here
-  shows-ends course status can (no_memory e stopped) = let P : Status → Type 0 = λ s. IsShown command script cert_in old new s in let here : P NoMemory = inr (course, can, stopped) in subst P (sym e) here
+  shows-ends : (course : Course) (status : Status) → Can command script cert_in parts course → Ends course old new status → IsShown command script cert_in parts old new status
+  shows-ends course status can (at_its_end e went) = at-end status course can (said command script cert_in parts course can) e went
+  shows-ends course status can (out_failed e side stopped) = let P : Status → Type 0 = λ s. IsShown command script cert_in parts old new s in let here : P OutFailed = (side, inr (course, can, stopped)) in subst P (sym e) here
+  shows-ends course status can (no_memory e stopped) = let P : Status → Type 0 = λ s. IsShown command script cert_in parts old new s in let here : P NoMemory = inr (course, can, stopped) in subst P (sym e) here
 
-  shows-run : (status : Status) → RunEnds (Can command script cert_in) (in_starts command) old new status → IsShown command script cert_in old new status
+  shows-run : (status : Status) → RunEnds (Can command script cert_in parts) (in_starts command) old new status → IsShown command script cert_in parts old new status
   shows-run status (on_course course can ends) = shows-ends course status can ends
-  shows-run status (in_failed e any side quiet) = let P : Status → Type 0 = λ s. IsShown command script cert_in old new s in let here : P InFailed = (any, side, quiet) in subst P (sym e) here
-  shows-run status (no_memory_yet e quiet) = let P : Status → Type 0 = λ s. IsShown command script cert_in old new s in let here : P NoMemory = inl quiet in subst P (sym e) here
+  shows-run status (in_failed e any side quiet) = let P : Status → Type 0 = λ s. IsShown command script cert_in parts old new s in let here : P InFailed = (any, side, quiet) in subst P (sym e) here
+  shows-run status (draft_failed e drafts side quiet) = let P : Status → Type 0 = λ s. IsShown command script cert_in parts old new s in let here : P OutFailed = (side, inl (drafts, quiet)) in subst P (sym e) here
+  shows-run status (no_memory_yet e quiet) = let P : Status → Type 0 = λ s. IsShown command script cert_in parts old new s in let here : P NoMemory = inl quiet in subst P (sym e) here
 
-  due-run : (status : Status) → RunEnds (Can command script cert_in) (in_starts command) old new status → IsDue (run_of command old new status) script cert_in
+  due-run : (status : Status) → RunEnds (Can command script cert_in parts) (in_starts command) old new status → IsDue (run_of command old new status) script cert_in parts
   due-run status (on_course course can (at_its_end e went)) due all ins outs = inl (e ∙ all course can)
   due-run status (on_course course can (out_failed e side stopped)) due all ins outs = absurd (outs side)
   due-run status (on_course course can (no_memory e stopped)) due all ins outs = inr e
   due-run status (in_failed e any side quiet) due all ins outs = absurd (ins side)
+  due-run status (draft_failed e drafts side quiet) due all ins outs = absurd (outs side)
   due-run status (no_memory_yet e quiet) due all ins outs = inr e
 
 -- ---- of whole runs
 
 pub status_is_shown : (r : Run) → HasCourse r → StatusIsShown r
-status_is_shown r course script cert_in tells = shows-run r.command script cert_in r.old r.new r.status (course script cert_in tells)
+status_is_shown r course script cert_in parts tells = shows-run r.command script cert_in parts r.old r.new r.status (course script cert_in parts tells)
 
 pub status_is_due : (r : Run) → HasCourse r → StatusIsDue r
-status_is_due r course script cert_in tells = due-run r.command script cert_in r.old r.new r.status (course script cert_in tells)
+status_is_due r course script cert_in parts tells = due-run r.command script cert_in parts r.old r.new r.status (course script cert_in parts tells)

@@ -1,12 +1,12 @@
 -- A script with one check has one problem, and its certificates one value.
-use Rattle.std.proofs.Common.{◌≡◌, ℕ, suc, zero, List, [], ◌∷◌, Bool, Option, Some, None, refl, ap, sym, ◌∙◌, subst}
+use Rattle.std.proofs.Common.{◌≡◌, ℕ, List, [], ◌∷◌, Bool, Option, Some, None, refl, ap, sym, ◌∙◌, subst}
 use Rattle.poly_graph.specs.Problem.{Problem}
 use Rattle.cover_model.specs.State.{Loosenings}
 use Rattle.cert_model.specs.Due.{Value}
 use Rattle.cert_model.specs.Accepted.{accepted, refused, Verdict, IsAccepted, verdict}
-use Rattle.cert_model.specs.Session.{AreAccepted, SessionVerdict, one_verdict, session_verdict}
+use Rattle.cert_model.specs.Session.{AreAccepted, one_verdict}
 use Rattle.script_model.specs.Script.{Command}
-use Rattle.smt_script.specs.Commands.{course_of, script_of, with_one_check}
+use Rattle.smt_script.specs.Commands.{course_of, with_one_check}
 use Rattle.smt_script.specs.Levels.{Asked, Step, checks_of, only_script}
 use Rattle.script_reading.specs.Reader.{IsBuilt, IsBuiltOf, commands_of, or_none}
 use Rattle.script_reading.specs.Session.{AreBuilt, HasSession, carried_of, or_no_steps, steps_of_text}

@@ -29,6 +29,7 @@ pub record FetchesScript (name : List ℕ) (x : Option (Vec ℕ Global)) (old ne
   pub held : IfSome old.script (IsScriptHeld x)
   pub read : IsSome x → IfSome old.script (λ s. new.script ≡ Some [])
   pub other : new.cert_in ≡ old.cert_in
+  pub parts : new.parts ≡ old.parts
 
 abbrev pub HaltsScript : List ℕ → Unread → Sight → Sight → Type 0
 HaltsScript name unread.Failed old new = SideFailed old.in_faults new.in_faults × Quiet (script_start name) old new

@@ -2,7 +2,7 @@
 use Rattle.std.specs.Prelude.{◌≡◌, ℕ, List, [], ◌∷◌, ◌++◌, Bool, Option, Some, None, codes, length}
 use Rattle.desk.specs.declared.desk.Port.TheVariants.{Script, CertIn}
 use Rattle.command_line.specs.declared.request.Options.{Options}
-use Rattle.command_line.specs.Words.{Command, solve, check, demo, upgrade, plan, resume}
+use Rattle.command_line.specs.Words.{Command, Join, solve, check, demo, upgrade, plan, resume, join}
 use Rattle.gen_script.specs.Demo.{demo_script}
 use Rattle.poly_graph.specs.Problem.{Problem}
 use Rattle.cover_model.specs.State.{Loosenings}
@@ -22,6 +22,7 @@ use Rattle.script_reading.specs.Reader.{IsBuilt}
 use Rattle.script_reading.specs.Session.{HasSession}
 use Rattle.check_run.specs.Answer.{loosenings_for, solve_texts, AreAnswers, IsAnswer}
 use Rattle.check_run.specs.Course.{Start, Course, says, gives, behind}
+use Rattle.check_run.specs.Joined.{CanJoin, bound_of, join_starts}
 use Rattle.check_run.specs.Resumed.{CanResume, header_bound}
 
 abbrev pub usage_text : List ℕ
@@ -113,25 +114,31 @@ both_starts script cert = (Script, script) ∷ (CertIn, cert) ∷ []
 abbrev pub CanFromBoth : List ℕ → List ℕ → Option ScriptFault → (Course → Type 0) → Course → Type 0
 CanFromBoth script cert fault goes_on course = (tail : Course) × CanBy fault goes_on tail × (course ≡ behind (both_starts script cert) tail)
 
--- the courses of a run on what the script's and the certificate's ports held
-abbrev pub Can : Option Command → List ℕ → List ℕ → Course → Type 0
-Can None script cert_in course = course ≡ says Usage usage_text
-Can (Some (solve words)) script cert_in course =
+-- the same behind the starts of the script's port, of those of several certificates, and of the draft
+abbrev pub CanFromParts : Join → Option ScriptFault → (Course → Type 0) → Course → Type 0
+CanFromParts words fault goes_on course = (tail : Course) × CanBy fault goes_on tail × (course ≡ behind (join_starts words) tail)
+
+-- the courses of a run on what the ports of the script, of the certificate, and of several certificates held
+abbrev pub Can : Option Command → List ℕ → List ℕ → List (List ℕ) → Course → Type 0
+Can None script cert_in parts course = course ≡ says Usage usage_text
+Can (Some (solve words)) script cert_in parts course =
     CanFrom words.script (session_fault words.options.bound script)
     (OfSession words.options.bound script (λ ps. CanSolve ps words.options words.cert)) course
-Can (Some (check words)) script cert_in course =
+Can (Some (check words)) script cert_in parts course =
     CanFrom words.script (session_fault words.bound script)
     (OfSession words.bound script (λ ps. CanCheck ps words.bound words.cert cert_in)) course
-Can (Some (upgrade words)) script cert_in course =
+Can (Some (upgrade words)) script cert_in parts course =
     CanFrom words.script (session_fault words.bound script)
     (OfSession words.bound script (λ ps. CanUpgrade ps words.bound words.cert words.out cert_in)) course
-Can (Some (plan words)) script cert_in course =
+Can (Some (plan words)) script cert_in parts course =
     CanFrom words.script (session_fault words.bound script)
     (OfSession words.bound script (λ ps. CanPlan ps words.delta_bits words.margin_bits)) course
-Can (Some (resume words)) script cert_in course =
+Can (Some (resume words)) script cert_in parts course =
     CanFromBoth words.script words.cert (script_fault (header_bound cert_in) script)
     (OfProblem (header_bound cert_in) script (λ p. CanResume p (header_bound cert_in) words cert_in)) course
-Can (Some (demo words)) script cert_in course =
+Can (Some (join words)) script cert_in parts course =
+    CanFromParts words (script_fault (bound_of parts) script) (OfProblem (bound_of parts) script (λ p. CanJoin p (bound_of parts) parts)) course
+Can (Some (demo words)) script cert_in parts course =
     OfProblem words.options.bound (demo_script words.seed words.size) (λ p. CanDemo p words.options words.cert (demo_script words.seed words.size)) course
 
 -- the starts of the in ports, in their order
@@ -142,4 +149,5 @@ in_starts (Some (check words)) = (Script, words.script) ∷ (CertIn, words.cert)
 in_starts (Some (upgrade words)) = (Script, words.script) ∷ (CertIn, words.cert) ∷ []
 in_starts (Some (plan words)) = (Script, words.script) ∷ []
 in_starts (Some (resume words)) = both_starts words.script words.cert
+in_starts (Some (join words)) = join_starts words
 in_starts (Some (demo words)) = []

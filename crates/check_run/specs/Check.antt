@@ -1,5 +1,5 @@
 -- A certificate that is read from its port, and its verdicts.
-use Rattle.std.specs.Prelude.{◌≡◌, ◌⊎◌, ℕ, List, [], ◌∷◌, Bool, Option, IfSome, Result, Ok, Err, Vec, map}
+use Rattle.std.specs.Prelude.{◌≡◌, ℕ, List, [], ◌∷◌, Bool, Option, IfSome, Result, Ok, Err, Vec, map}
 use Rattle.std.specs.declared.alloc.Global.{Global}
 use Rattle.desk.specs.declared.desk.Port.TheVariants.{CertIn}
 use Rattle.desk.specs.Sight.{Sight}

@@ -2,7 +2,7 @@
 use Rattle.std.specs.Prelude.{◌≡◌, ◌≢◌, ◌⊎◌, ◌++◌, ◌≤◌, ◌<◌, ℕ, List, [], ◌∷◌, Option, length, take, codes}
 use Rattle.std.specs.Option.{option_map}
 use Rattle.desk.specs.declared.desk.Port.{Port}
-use Rattle.desk.specs.declared.desk.Port.TheVariants.{Answer, CertOut}
+use Rattle.desk.specs.declared.desk.Port.TheVariants.{Answer, CertOut, Draft}
 use Rattle.desk.specs.Sight.{Sight, SideFailed}
 use Rattle.check_run.specs.declared.status.Status.{Status}
 use Rattle.check_run.specs.declared.status.Status.TheVariants.{Answered, InFailed, OutFailed, NoMemory}
@@ -70,8 +70,26 @@ pub data Ends (course : Course) (old new : Sight) (status : Status) : Type 0 whe
   out_failed : status ≡ OutFailed → SideFailed old.out_faults new.out_faults → Stopped course old new → Ends course old new status
   no_memory : status ≡ NoMemory → Stopped course old new → Ends course old new status
 
--- How a run, or a part of one, ends: on one of its courses, or before any, where the in side failed or memory ran out.
+-- a draft is among the starts
+abbrev pub IsDraft : Port → Type 0
+IsDraft Draft = Unit {0}
+IsDraft _ = ⊥
+
+abbrev pub HasDraft : List Start → Type 0
+HasDraft [] = ⊥
+HasDraft (start ∷ later) = IsDraft start.0 ⊎ HasDraft later
+
+-- How a run, or a part of one, ends: on one of its courses, or before any, where the in side failed, the draft could not be written, or
+-- memory ran out.
 pub data RunEnds (can : Course → Type 0) (ins : List Start) (old new : Sight) (status : Status) : Type 0 where
   on_course : (course : Course) → can course → Ends course old new status → RunEnds can ins old new status
   in_failed : status ≡ InFailed → ins ≢ [] → SideFailed old.in_faults new.in_faults → Quiet ins old new → RunEnds can ins old new status
+  draft_failed : status ≡ OutFailed → HasDraft ins → SideFailed old.out_faults new.out_faults → Quiet ins old new → RunEnds can ins old new status
   no_memory_yet : status ≡ NoMemory → Quiet ins old new → RunEnds can ins old new status
+
+-- How a run ends whose starts before its courses were all made: on one of them, or before any.
+pub data StartedEnds (can : Course → Type 0) (old new : Sight) (status : Status) : Type 0 where
+  goes_on : (course : Course) → can course → Ends course old new status → StartedEnds can old new status
+  in_fails : status ≡ InFailed → SideFailed old.in_faults new.in_faults → Quiet [] old new → StartedEnds can old new status
+  draft_fails : status ≡ OutFailed → SideFailed old.out_faults new.out_faults → Quiet [] old new → StartedEnds can old new status
+  no_memory_left : status ≡ NoMemory → Quiet [] old new → StartedEnds can old new status

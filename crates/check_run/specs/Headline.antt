@@ -2,7 +2,7 @@
 use Rattle.std.specs.Prelude.{◌≡◌, ◌++◌, ℕ, suc, List, [], ◌∷◌, Bool, Option, Some, None, IsSomeAnd, codes, length, slice_get}
 use Rattle.desk.specs.Sight.{Sight}
 use Rattle.command_line.specs.declared.request.Options.{Options}
-use Rattle.command_line.specs.Words.{Command, Plan, Resume, Solve, solve, check, demo, upgrade, plan, resume}
+use Rattle.command_line.specs.Words.{Command, Plan, Resume, Solve, solve, check, demo, upgrade, plan, resume, join}
 use Rattle.gen_script.specs.Demo.{demo_script}
 use Rattle.dyadic.specs.Rounding.{exact}
 use Rattle.script_model.specs.Script as script_model
@@ -26,6 +26,7 @@ use Rattle.check_run.specs.Answer.{loosenings_for, loosenings_of, solve_texts, A
 use Rattle.check_run.specs.declared.status.Status.TheVariants.{Answered, CertRefused}
 use Rattle.check_run.specs.Course.{Course, appended}
 use Rattle.check_run.specs.Can.{Can, ArePlans, check_texts, plan_texts}
+use Rattle.check_run.specs.Joined.{IsNotJoined, bound_of}
 use Rattle.check_run.specs.Resumed.{IsMore, header_bound}
 use Rattle.check_run.specs.Run.{Run, OnInput}
 
@@ -91,12 +92,27 @@ pub record IsResumed (words : Resume) (script cert_in : List ℕ) (old new : Sig
   pub answer : new.answer ≡ appended old.answer text
   pub say : IsTrueValue (header_bound cert_in) (in_newest 1 loosenings) (commands_of script) more.value
 
--- `solve`, `check` and `resume` answer where that is so.
-abbrev pub IsTrueAnswer : Option Command → List ℕ → List ℕ → Sight → Sight → Type 0
-IsTrueAnswer (Some (solve words)) script cert_in old new = IsSolved words.options script old new
-IsTrueAnswer (Some (check words)) script cert_in old new = IsConfirmed words.bound script cert_in old new
-IsTrueAnswer (Some (resume words)) script cert_in old new = IsResumed words script cert_in old new
-IsTrueAnswer _ script cert_in old new = Unit {0}
+-- What was written as certificate is accepted for the problem of the script's only check, with the bound that the first of several certificates
+-- names, and so does it; the answer is the text of its value, and what that says of the check is so.
+pub record IsJoined (script : List ℕ) (parts : List (List ℕ)) (old new : Sight) : Type 0 where
+  pub problem : Problem
+  pub has : HasProblem (bound_of parts) problem script
+  pub cert : List ℕ
+  pub named : header_bound cert ≡ bound_of parts
+  pub loosenings : Loosenings
+  pub value : Value
+  pub written : new.cert_out ≡ appended old.cert_out cert
+  pub accepted : IsAccepted problem (bound_of parts) cert loosenings value
+  pub answer : new.answer ≡ appended old.answer (check_text loosenings value)
+  pub say : IsTrueValue (bound_of parts) loosenings (commands_of script) value
+
+-- `solve`, `check`, `resume` and `join` answer where that is so.
+abbrev pub IsTrueAnswer : Option Command → List ℕ → List ℕ → List (List ℕ) → Sight → Sight → Type 0
+IsTrueAnswer (Some (solve words)) script cert_in parts old new = IsSolved words.options script old new
+IsTrueAnswer (Some (check words)) script cert_in parts old new = IsConfirmed words.bound script cert_in old new
+IsTrueAnswer (Some (resume words)) script cert_in parts old new = IsResumed words script cert_in old new
+IsTrueAnswer (Some (join words)) script cert_in parts old new = IsJoined script parts old new
+IsTrueAnswer _ script cert_in parts old new = Unit {0}
 
 -- ---- one check
 
@@ -125,7 +141,7 @@ pub record IsConfirmedUnsat (bound : Option ℕ) (script cert_in : List ℕ) (s 
   pub accepted : IsAccepted problem bound cert_in s (left_open [])
 
 -- What was written as certificate is accepted as a cover that leaves nothing, so the script holds nowhere in its declared box, each atom loosened by the margin.
-pub record IsResumedUnsat (bound : Option ℕ) (script : List ℕ) (s : Loosenings) (old new : Sight) : Type 0 where
+pub record IsWrittenUnsat (bound : Option ℕ) (script : List ℕ) (s : Loosenings) (old new : Sight) : Type 0 where
   pub no_point : HasNoPoint bound (commands_of script) (exact (margin_of s))
   pub problem : Problem
   pub built : IsBuilt bound script problem
@@ -140,19 +156,22 @@ abbrev pub confirmed_unsat_word : List ℕ
 confirmed_unsat_word = text_line (codes "confirmed unsat")
 
 -- The answer is `unsat` at the margin of the words, or `demo`'s, or at the margin of the certificate that was read, or confirms it at some margin: so it is, of a script with one check.
-abbrev pub IsTrueUnsat : Option Command → List ℕ → List ℕ → Sight → Sight → Type 0
-IsTrueUnsat (Some (solve words)) script cert_in old new =
+abbrev pub IsTrueUnsat : Option Command → List ℕ → List ℕ → List (List ℕ) → Sight → Sight → Type 0
+IsTrueUnsat (Some (solve words)) script cert_in parts old new =
     HasOneCheck script → IsWritten (unsat_text (loosenings_of words.options)) old new → IsUnsat words.options script old new
-IsTrueUnsat (Some (check words)) script cert_in old new =
+IsTrueUnsat (Some (check words)) script cert_in parts old new =
     HasOneCheck script → (rest : List ℕ) → IsWritten (confirmed_unsat_word ++ rest) old new →
     (s : Loosenings) × IsWritten (check_text s (left_open [])) old new × IsConfirmedUnsat words.bound script cert_in s
-IsTrueUnsat (Some (demo words)) script cert_in old new = IsUnsat words.options (demo_script words.seed words.size) old new
-IsTrueUnsat (Some (upgrade words)) script cert_in old new = Unit {0}
-IsTrueUnsat (Some (plan words)) script cert_in old new = Unit {0}
-IsTrueUnsat (Some (resume words)) script cert_in old new =
+IsTrueUnsat (Some (demo words)) script cert_in parts old new = IsUnsat words.options (demo_script words.seed words.size) old new
+IsTrueUnsat (Some (upgrade words)) script cert_in parts old new = Unit {0}
+IsTrueUnsat (Some (plan words)) script cert_in parts old new = Unit {0}
+IsTrueUnsat (Some (resume words)) script cert_in parts old new =
     (rest : List ℕ) → IsWritten (unsat_word ++ rest) old new →
-    (s : Loosenings) × IsWritten (unsat_text s) old new × IsResumedUnsat (header_bound cert_in) script s old new
-IsTrueUnsat None script cert_in old new = Unit {0}
+    (s : Loosenings) × IsWritten (unsat_text s) old new × IsWrittenUnsat (header_bound cert_in) script s old new
+IsTrueUnsat (Some (join words)) script cert_in parts old new =
+    (rest : List ℕ) → IsWritten (confirmed_unsat_word ++ rest) old new →
+    (s : Loosenings) × IsWritten (check_text s (left_open [])) old new × IsWrittenUnsat (bound_of parts) script s old new
+IsTrueUnsat None script cert_in parts old new = Unit {0}
 
 -- The certificate is accepted as this point, which is one of the script.
 pub record IsConfirmedPoint (bound : Option ℕ) (script cert_in : List ℕ) (s : Loosenings) (space : Space) : Type 0 where
@@ -161,6 +180,15 @@ pub record IsConfirmedPoint (bound : Option ℕ) (script cert_in : List ℕ) (s 
   pub built : IsBuilt bound script problem
   pub accepted : IsAccepted problem bound cert_in s (at_point space)
 
+-- What was written as certificate is accepted as this point, which is one of the script.
+pub record IsWrittenPoint (bound : Option ℕ) (script : List ℕ) (s : Loosenings) (space : Space) (old new : Sight) : Type 0 where
+  pub point : IsDeltaSat bound (commands_of script) s space
+  pub problem : Problem
+  pub built : IsBuilt bound script problem
+  pub cert : List ℕ
+  pub written : new.cert_out ≡ appended old.cert_out cert
+  pub accepted : IsAccepted problem bound cert s (at_point space)
+
 abbrev pub delta_sat_word : List ℕ
 delta_sat_word = text_line (codes "delta-sat")
 
@@ -168,19 +196,22 @@ abbrev pub confirmed_delta_sat_word : List ℕ
 confirmed_delta_sat_word = text_line (codes "confirmed delta-sat")
 
 -- The answer is `delta-sat` with a point, or confirms such a one: the point is one of the script, which has one check.
-abbrev pub IsTrueDeltaSat : Option Command → List ℕ → List ℕ → Sight → Sight → Type 0
-IsTrueDeltaSat (Some (solve words)) script cert_in old new =
+abbrev pub IsTrueDeltaSat : Option Command → List ℕ → List ℕ → List (List ℕ) → Sight → Sight → Type 0
+IsTrueDeltaSat (Some (solve words)) script cert_in parts old new =
     HasOneCheck script → (rest : List ℕ) → IsWritten (delta_sat_word ++ rest) old new →
     (p : Problem) × (space : Space) × IsBuilt words.options.bound script p × IsWritten (delta_sat_text p (loosenings_of words.options) space) old new
     × IsDeltaSat words.options.bound (commands_of script) (loosenings_of words.options) space
-IsTrueDeltaSat (Some (check words)) script cert_in old new =
+IsTrueDeltaSat (Some (check words)) script cert_in parts old new =
     HasOneCheck script → (rest : List ℕ) → IsWritten (confirmed_delta_sat_word ++ rest) old new →
     (s : Loosenings) × (space : Space) × IsWritten (check_text s (at_point space)) old new × IsConfirmedPoint words.bound script cert_in s space
-IsTrueDeltaSat (Some (resume words)) script cert_in old new =
+IsTrueDeltaSat (Some (resume words)) script cert_in parts old new =
     (rest : List ℕ) → IsWritten (delta_sat_word ++ rest) old new →
     (p : Problem) × (s : Loosenings) × (space : Space) × IsBuilt (header_bound cert_in) script p × IsWritten (delta_sat_text p s space) old new
     × IsDeltaSat (header_bound cert_in) (commands_of script) s space
-IsTrueDeltaSat _ script cert_in old new = Unit {0}
+IsTrueDeltaSat (Some (join words)) script cert_in parts old new =
+    (rest : List ℕ) → IsWritten (confirmed_delta_sat_word ++ rest) old new →
+    (s : Loosenings) × (space : Space) × IsWritten (check_text s (at_point space)) old new × IsWrittenPoint (bound_of parts) script s space old new
+IsTrueDeltaSat _ script cert_in parts old new = Unit {0}
 
 -- ---- certificates that are refused, or written again
 
@@ -202,14 +233,25 @@ pub record IsRefusedToResume (script cert_in : List ℕ) (old new : Sight) : Typ
   pub refuses : verdict problem (header_bound cert_in) cert_in ≡ refused fault line
   pub written : new.answer ≡ appended old.answer (verdict_text (refused fault line))
 
--- A certificate that is refused has a fault; `upgrade` and `resume` write none then.
-abbrev pub IsTrueRefusal : Option Command → List ℕ → List ℕ → Sight → Sight → Type 0
-IsTrueRefusal (Some (check words)) script cert_in old new = IsRefusedCert words.bound script cert_in old new
-IsTrueRefusal (Some (upgrade words)) script cert_in old new =
+-- By the problem of its only check, with the bound that the first of several certificates names, one of them is refused, or each is accepted and
+-- they do not go together, as the answer says.
+pub record AreNotJoined (script : List ℕ) (parts : List (List ℕ)) (old new : Sight) : Type 0 where
+  pub problem : Problem
+  pub has : HasProblem (bound_of parts) problem script
+  pub text : List ℕ
+  pub reason : IsNotJoined problem (bound_of parts) parts text
+  pub written : new.answer ≡ appended old.answer text
+
+-- A certificate that is refused has a fault; `upgrade`, `resume` and `join` write none then.
+abbrev pub IsTrueRefusal : Option Command → List ℕ → List ℕ → List (List ℕ) → Sight → Sight → Type 0
+IsTrueRefusal (Some (check words)) script cert_in parts old new = IsRefusedCert words.bound script cert_in old new
+IsTrueRefusal (Some (upgrade words)) script cert_in parts old new =
     IsRefusedCert words.bound script cert_in old new × (new.cert_out ≡ appended old.cert_out [])
-IsTrueRefusal (Some (resume words)) script cert_in old new =
+IsTrueRefusal (Some (resume words)) script cert_in parts old new =
     IsRefusedToResume script cert_in old new × (new.cert_out ≡ appended old.cert_out [])
-IsTrueRefusal _ script cert_in old new = Unit {0}
+IsTrueRefusal (Some (join words)) script cert_in parts old new =
+    AreNotJoined script parts old new × (new.cert_out ≡ appended old.cert_out [])
+IsTrueRefusal _ script cert_in parts old new = Unit {0}
 
 -- The certificate is accepted, and what was written is accepted in the newest version for so many checks, with the same values: the same
 -- lines behind the first.
@@ -223,9 +265,9 @@ pub record IsUpgraded (bound : Option ℕ) (script cert_in : List ℕ) (old new 
   pub again : AreAccepted problems bound (upgraded (length problems) cert_in) (in_newest (length problems) loosenings) values
 
 -- `upgrade` answers where that is so.
-abbrev pub IsTrueUpgrade : Option Command → List ℕ → List ℕ → Sight → Sight → Type 0
-IsTrueUpgrade (Some (upgrade words)) script cert_in old new = IsUpgraded words.bound script cert_in old new
-IsTrueUpgrade _ script cert_in old new = Unit {0}
+abbrev pub IsTrueUpgrade : Option Command → List ℕ → List ℕ → List (List ℕ) → Sight → Sight → Type 0
+IsTrueUpgrade (Some (upgrade words)) script cert_in parts old new = IsUpgraded words.bound script cert_in old new
+IsTrueUpgrade _ script cert_in parts old new = Unit {0}
 
 -- ---- plans
 
@@ -242,7 +284,7 @@ unknown_width_word = text_line (codes "unknown width")
 -- With them no course of `solve` on the script, which has one check, answers `unknown width`, whatever the budget and the workers.
 abbrev pub NeverUnknownWidth : Plan → ℕ → List ℕ → Type 0
 NeverUnknownWidth words bits script =
-    HasOneCheck script → (asked : Solve) → AreOptionsAt words bits asked.options → (cert_in : List ℕ) (course : Course) → Can (Some (solve asked)) script cert_in course →
+    HasOneCheck script → (asked : Solve) → AreOptionsAt words bits asked.options → (cert_in : List ℕ) (parts : List (List ℕ)) (course : Course) → Can (Some (solve asked)) script cert_in parts course →
     (rest : List ℕ) → course.answer ≡ unknown_width_word ++ rest → ⊥
 
 -- With them no certificate that answers the script has, for check k, a value that is told as `unknown width`.
@@ -271,33 +313,33 @@ pub record IsPlanned (words : Plan) (script : List ℕ) (old new : Sight) : Type
   pub enough : AreEnoughFrom words script 0 answers
 
 -- `plan` answers where that is so.
-abbrev pub IsTruePlan : Option Command → List ℕ → List ℕ → Sight → Sight → Type 0
-IsTruePlan (Some (plan words)) script cert_in old new = IsPlanned words script old new
-IsTruePlan _ script cert_in old new = Unit {0}
+abbrev pub IsTruePlan : Option Command → List ℕ → List ℕ → List (List ℕ) → Sight → Sight → Type 0
+IsTruePlan (Some (plan words)) script cert_in parts old new = IsPlanned words script old new
+IsTruePlan _ script cert_in parts old new = Unit {0}
 
 -- ---- runs
 
--- where `solve` or `check` answers, the answer is the texts of a certificate's values, and what each says of its check is so
+-- where `solve`, `check` or `join` answers, the answer is the texts of a certificate's values, and what each says of its check is so
 abbrev pub AnswersAreTrue : Run → Type 0
-AnswersAreTrue r = OnInput r (λ script cert_in. r.status ≡ Answered → IsTrueAnswer r.command script cert_in r.old r.new)
+AnswersAreTrue r = OnInput r (λ script cert_in parts. r.status ≡ Answered → IsTrueAnswer r.command script cert_in parts r.old r.new)
 
 -- where the run answers `unsat`, or confirms it, the script holds nowhere in its declared box
 abbrev pub UnsatIsTrue : Run → Type 0
-UnsatIsTrue r = OnInput r (λ script cert_in. r.status ≡ Answered → IsTrueUnsat r.command script cert_in r.old r.new)
+UnsatIsTrue r = OnInput r (λ script cert_in parts. r.status ≡ Answered → IsTrueUnsat r.command script cert_in parts r.old r.new)
 
 -- where it answers `delta-sat`, or confirms it, the point satisfies the script and lies near its declared box, both within delta
 abbrev pub DeltaSatIsTrue : Run → Type 0
-DeltaSatIsTrue r = OnInput r (λ script cert_in. r.status ≡ Answered → IsTrueDeltaSat r.command script cert_in r.old r.new)
+DeltaSatIsTrue r = OnInput r (λ script cert_in parts. r.status ≡ Answered → IsTrueDeltaSat r.command script cert_in parts r.old r.new)
 
--- where it refuses a certificate, that has the fault
+-- where it refuses a certificate, that has the fault; where it joins none of several that are accepted, they are
 abbrev pub RefusalIsTrue : Run → Type 0
-RefusalIsTrue r = OnInput r (λ script cert_in. r.status ≡ CertRefused → IsTrueRefusal r.command script cert_in r.old r.new)
+RefusalIsTrue r = OnInput r (λ script cert_in parts. r.status ≡ CertRefused → IsTrueRefusal r.command script cert_in parts r.old r.new)
 
 -- where `upgrade` answers, the certificate is accepted, and so is what was written, with the same values
 abbrev pub UpgradeIsTrue : Run → Type 0
-UpgradeIsTrue r = OnInput r (λ script cert_in. r.status ≡ Answered → IsTrueUpgrade r.command script cert_in r.old r.new)
+UpgradeIsTrue r = OnInput r (λ script cert_in parts. r.status ≡ Answered → IsTrueUpgrade r.command script cert_in parts r.old r.new)
 
 -- where `plan` answers, it is the plans of the problems of the script's checks, and with the width that one names `solve` never answers
 -- `unknown width` of its check
 abbrev pub PlanIsTrue : Run → Type 0
-PlanIsTrue r = OnInput r (λ script cert_in. r.status ≡ Answered → IsTruePlan r.command script cert_in r.old r.new)
+PlanIsTrue r = OnInput r (λ script cert_in parts. r.status ≡ Answered → IsTruePlan r.command script cert_in parts r.old r.new)

@@ -4,10 +4,12 @@ pub mod Can
 pub mod Check
 pub mod Course
 pub mod Headline
+pub mod Joined
 pub mod Parts
 pub mod Resumed
 pub mod Run
 pub mod Script
+pub mod Several
 pub mod Statuses
 pub mod Loosened
 pub mod Plans

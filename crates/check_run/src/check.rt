@@ -71,8 +71,8 @@ fn read_verdicts<D: Desk>(
     }
 }
 
-// What a certificate without a fault shows of one check.
-fn shown(alloc: Global, verdict: Verdict) -> Result<Vec<u8>, AllocError>
+/// What a certificate without a fault shows of one check.
+pub(crate) fn shown(alloc: Global, verdict: Verdict) -> Result<Vec<u8>, AllocError>
     ensures { IfOk result (λ text. IsConfirmation verdict text.items) }
 {
     match verdict {

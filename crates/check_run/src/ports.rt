@@ -4,7 +4,7 @@ ghost use Rattle.desk.specs.Sight.{IsOut, with_bytes, with_start, SideFailed, fa
 ghost use Rattle.script_reading.specs.Faults.{most_bytes};
 ghost use Rattle.check_run.specs.Course.{Ends, Quiet, says, gives};
 ghost use Rattle.check_run.specs.Run.{SameIn};
-ghost use Rattle.check_run.specs.Parts.{PutStops, After};
+ghost use Rattle.check_run.specs.Parts.{IsTextPort, PutStops, After};
 ghost use Rattle.check_run.specs.Script.{script_start};
 
 use crate::status::Status;
@@ -16,7 +16,8 @@ pub const SCRIPT_LIMIT: usize = 67_108_864;
 
 // Starts a port and writes a whole text on it.
 fn put<D: Desk>(desk: &mut D, port: Port, name: &str, text: &[u8]) -> Result<(), Denied>
-    requires { IsOut port }
+    requires out { IsOut port }
+    requires text { IsTextPort port }
     ensures ok { OnOk result (D.sight desk.new
         ≡ with_bytes port text.now (with_start port name.now (D.sight desk.old))) }
     ensures failed { IsErrOf result Denied.Failed →
@@ -65,6 +66,7 @@ pub fn fetch<D: Desk>(alloc: Global, desk: &mut D, name: &str) -> Result<Vec<u8>
     ensures after { OnOk result
         (After (script_start name.now) (D.sight desk.old) (D.sight desk.new)) }
     ensures other { (D.sight desk.new).cert_in ≡ (D.sight desk.old).cert_in }
+    ensures parts { (D.sight desk.new).parts ≡ (D.sight desk.old).parts }
     ensures failed { IsErrOf result ReadAll.Failed →
         Quiet (script_start name.now) (D.sight desk.old) (D.sight desk.new) }
     ensures side { IsErrOf result ReadAll.Failed →

@@ -6,11 +6,8 @@ use Rattle.std.specs.declared.alloc.Global.{Global}
 use Rattle.desk.specs.Sight.{Sight}
 use Rattle.command_line.specs.Words.{Resume}
 use Rattle.poly_graph.specs.Problem.{Problem}
-use Rattle.smt_sexp.proofs.Sizes.{fault_of_many}
 use Rattle.script_fault.specs.declared.fault.ScriptFault.{ScriptFault}
-use Rattle.script_reading.specs.Faults.{in_checks, most_bytes, script_fault}
-use Rattle.script_reading.specs.Reader.{too_many_bytes}
-use Rattle.script_reading.proofs.Parts.{bytes_first}
+use Rattle.script_reading.specs.Faults.{most_bytes, script_fault}
 use Rattle.check_run.specs.declared.script.Halt.{Halt}
 use Rattle.check_run.specs.declared.script.Halt.TheVariants as halt
 use Rattle.check_run.specs.declared.status.Status.{Status}
@@ -19,14 +16,10 @@ use Rattle.check_run.specs.Both.{CanGoOn, IsScriptHeld}
 use Rattle.check_run.specs.Can.{CanBy, OfProblem}
 use Rattle.check_run.specs.Course.{Course, Quiet, RunEnds, says, on_course, no_memory_yet}
 use Rattle.check_run.specs.Resumed.{CanResume, header_bound}
-use Rattle.check_run.specs.Script.{HaltEnds, HasFaultText, IsHaltOfFault, IsTooLong}
-use Rattle.check_run.specs.ScriptFaults.{fault_text}
+use Rattle.check_run.specs.Script.{HaltEnds, IsHaltOfFault, IsTooLong}
 use Rattle.check_run.proofs.Ending.{appended-nil, widen}
 use Rattle.dpoly.specs.Resume.{IsAsked, IsNotAsked}
-
-by-text : (f : Option ScriptFault) (text : List ℕ) (goes : Course → Type 0) → HasFaultText f text → CanBy f goes (says ScriptRefused text)
-by-text None text goes e = cc
-by-text (Some f) text goes e = let same : text ≡ fault_text f = cc in ap (λ (t : List ℕ). says ScriptRefused t) same
+use Rattle.dpoly.proofs.Halting.{by_text, long_halt}
 
 -- nothing was done
 nothing-done : (old new : Sight) → new ≡ old → Quiet [] old new
@@ -38,22 +31,15 @@ nothing-done old new e = record {
 }
 
 halt-ends : (f : Option ScriptFault) (goes : Course → Type 0) (h : Halt) (old new : Sight) (status : Status) → IsHaltOfFault f h → HaltEnds h old new status → RunEnds (CanBy f goes) [] old new status
-halt-ends f goes (halt.Refused text) old new status is ends = on_course (says ScriptRefused text.items) (by-text f text.items goes is) ends
+halt-ends f goes (halt.Refused text) old new status is ends = on_course (says ScriptRefused text.items) (by_text f text.items goes is) ends
 halt-ends f goes halt.Failed old new status is ends = absurd is
 halt-ends f goes halt.Memory old new status is ends = no_memory_yet ends.0 (nothing-done old new ends.1)
-
--- a script that is too long has that fault, whatever the bound
-long-halt : (bound : Option ℕ) (script : List ℕ) (h : Halt) → most_bytes < length script → IsTooLong h → IsHaltOfFault (script_fault bound script) h
-long-halt bound script (halt.Refused text) long is =
-    ap (λ (f : Option ScriptFault). option_map fault_text f) (bytes_first (in_checks bound) script too_many_bytes (fault_of_many script long)) ∙ ap (λ (t : List ℕ). Some t) (sym is)
-long-halt bound script halt.Failed long is = absurd is
-long-halt bound script halt.Memory long is = tt
 
 module _ (words : Resume) (cert : List ℕ) (old new : Sight) (status : Status) where
   pub long-ends : (o : Option (Vec ℕ Global)) (script : List ℕ) (h : Halt) → o ≡ None → IsScriptHeld o script → IsTooLong h → HaltEnds h old new status → RunEnds (CanGoOn words script cert) [] old new status
   long-ends o script h e held is ends =
       let long : most_bytes < length script = subst (λ (x : Option (Vec ℕ Global)). IsScriptHeld x script) e held in
-      halt-ends (script_fault (header_bound cert) script) (OfProblem (header_bound cert) script (λ p. CanResume p (header_bound cert) words cert)) h old new status (long-halt (header_bound cert) script h long is) ends
+      halt-ends (script_fault (header_bound cert) script) (OfProblem (header_bound cert) script (λ p. CanResume p (header_bound cert) words cert)) h old new status (long_halt (header_bound cert) script h long is) ends
 
   pub unasked-ends : (script : List ℕ) (h : Halt) → IsNotAsked script cert h → HaltEnds h old new status → RunEnds (CanGoOn words script cert) [] old new status
   unasked-ends script h is ends = halt-ends (script_fault (header_bound cert) script) (OfProblem (header_bound cert) script (λ p. CanResume p (header_bound cert) words cert)) h old new status is ends
@@ -66,7 +52,3 @@ module _ (words : Resume) (cert : List ℕ) (old new : Sight) (status : Status) 
 
   pub asked-ends : (script : List ℕ) (p : Problem) (b : Option ℕ) → IsAsked script cert p b → RunEnds (CanResume p b words cert) [] old new status → RunEnds (CanGoOn words script cert) [] old new status
   asked-ends script p b is ends = widen (CanResume p b words cert) (CanGoOn words script cert) [] old new status (λ course can. asked-course script p b is course can) ends
-
--- the script that is held is the one that was read
-pub held-is : (o : Option (Vec ℕ Global)) (v : Vec ℕ Global) (script : List ℕ) → o ≡ Some v → IsScriptHeld o script → v.items ≡ script
-held-is o v script e held = subst (λ (x : Option (Vec ℕ Global)). IsScriptHeld x script) e held

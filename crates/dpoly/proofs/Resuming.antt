@@ -27,7 +27,7 @@ use Rattle.cert_resume.specs.declared.answer.Cover.{Cover}
 use Rattle.cert_resume.specs.declared.answer.Own.{Own}
 use Rattle.cert_resume.specs.declared.answer.Own.TheVariants as own
 use Rattle.check_run.specs.declared.status.Status.{Status}
-use Rattle.check_run.specs.Course.{Course, gives, Ends, RunEnds, on_course, in_failed, no_memory_yet}
+use Rattle.check_run.specs.Course.{Course, gives, Ends, RunEnds, on_course, in_failed, draft_failed, no_memory_yet}
 use Rattle.check_run.specs.Can.{verdict_course}
 use Rattle.check_run.specs.Check.{IsRefused, IsRefusalOf}
 use Rattle.check_run.specs.Loosened.{AtDelta, AtMargin}
@@ -194,6 +194,7 @@ refused-ends p b words cert fault old new status h (on_course tail can ends) =
     let is = can (one_verdict (verdict p b cert)) (memory-one (verdict p b cert) fault h) in
     on_course tail (refuses-by p b words cert (verdict p b cert) tail is.0 is.1) ends
 refused-ends p b words cert fault old new status h (in_failed is any side quiet) = absurd (any refl)
+refused-ends p b words cert fault old new status h (draft_failed is drafts side quiet) = absurd drafts
 refused-ends p b words cert fault old new status h (no_memory_yet is quiet) = no_memory_yet is quiet
 
 -- ---- the condition of the search

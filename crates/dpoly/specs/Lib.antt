@@ -1,3 +1,4 @@
+pub mod Join
 pub mod Plan
 pub mod Resume
 pub mod Search

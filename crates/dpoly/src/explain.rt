@@ -2,7 +2,7 @@
 // by no clause.
 use crate::located::assertion_with;
 use check_run::Status;
-use command_line::{Request, read_words, usage_text};
+use command_line::{JoinWords, Request, read_words, usage_text};
 use file_desk::{FileDesk, Messages};
 use std::alloc::Global;
 
@@ -16,8 +16,21 @@ fn messages<'a>(script: &'a str, cert: &'a str) -> Messages<'a> {
     }
 }
 
-// The messages of the run that the words ask for.
-fn messages_of<'a>(alloc: Global, words: &'a [String]) -> Messages<'a> {
+// The certificate that the answer of `join` numbers, from 1 on, in its first line; the joined one where it numbers none.
+fn numbered<'a>(asked: &JoinWords<'a>, answer: &str) -> &'a str {
+    let first = answer.lines().next().unwrap_or("");
+    let number = match first.split_once("certificate ") {
+        Some(("", number)) => number.parse::<usize>().unwrap_or(0),
+        _ => 0,
+    };
+    match asked.certs.get(number.wrapping_sub(1)) {
+        Some(name) => name,
+        None => asked.out,
+    }
+}
+
+// The messages of the run that the words ask for, which has this answer.
+fn messages_of<'a>(alloc: Global, words: &'a [String], answer: &str) -> Messages<'a> {
     match read_words(alloc, words) {
         Ok(Request::Solve(asked)) => messages(asked.script, asked.cert),
         Ok(Request::Check(asked)) => messages(asked.script, asked.cert),
@@ -29,6 +42,10 @@ fn messages_of<'a>(alloc: Global, words: &'a [String]) -> Messages<'a> {
         Ok(Request::Resume(asked)) => Messages {
             cert_out: asked.out,
             ..messages(asked.script, asked.cert)
+        },
+        Ok(Request::Join(asked)) => Messages {
+            cert_out: asked.out,
+            ..messages(asked.script, numbered(&asked, answer))
         },
         Ok(Request::Plan(asked)) => messages(asked.script, "-"),
         Err(_) => messages("-", "-"),
@@ -159,7 +176,7 @@ fn hint(rt: &HostRuntime, messages: &Messages<'_>, desk: &FileDesk) {
 /// not be read or written; where the script, or the certificate, is refused. Behind an answer that leaves a question open
 /// it says what would help.
 pub fn explain(rt: &HostRuntime, words: &[String], desk: &FileDesk, status: Status) {
-    let messages = messages_of(rt.alloc(), words);
+    let messages = messages_of(rt.alloc(), words, desk.answer());
     match status {
         Status::Answered => hint(rt, &messages, desk),
         Status::Usage => {

@@ -1,9 +1,11 @@
 // The program: reads the words of the call, and hands them with the real ports to `run_top`.
 #![tactic(auto)]
 
+mod alone;
 mod answers;
 mod auto;
 mod explain;
+mod join;
 mod leaf;
 mod lists;
 mod located;

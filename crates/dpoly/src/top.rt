@@ -1,18 +1,20 @@
 // The run of the whole program.
 ghost use Rattle.std.specs.Prelude.{◌≡◌, None};
-ghost use Rattle.command_line.specs.Words.{AreOptions, IsDemo, IsInRange, IsPlan, IsResume};
-ghost use Rattle.command_line.specs.Seen.{seen, seen_demo, seen_plan, seen_resume};
-ghost use Rattle.check_run.specs.Run.{asked_run, CertIsRead, command_in, demo_run, HasCause, HasCourse, plan_run, resume_run, run, SameIn, ScriptIsRead, solve_run, StatusIsDue, StatusIsShown, upgrade_run};
+ghost use Rattle.command_line.specs.Words.{AreOptions, IsDemo, IsInRange, IsJoin, IsPlan, IsResume};
+ghost use Rattle.command_line.specs.Seen.{seen, seen_demo, seen_join, seen_plan, seen_resume};
+ghost use Rattle.check_run.specs.Run.{asked_run, CertIsRead, command_in, demo_run, HasCause, HasCourse, join_run, plan_run, resume_run, run, SameIn, ScriptIsRead, solve_run, StatusIsDue, StatusIsShown, upgrade_run};
 ghost use Rattle.check_run.specs.Headline.{AnswersAreTrue, DeltaSatIsTrue, PlanIsTrue, RefusalIsTrue, UnsatIsTrue, UpgradeIsTrue};
 
+use crate::join::join_inputs;
 use crate::leaf::Engine;
 use crate::plan::plan_session;
 use crate::resume::resume_inputs;
 use crate::solve::{solve_demo, solve_session};
 use crate::upgrade::upgrade_session;
-use check_run::{Status, end_halted, fetch_both, fetch_session, run_check, say};
+use check_run::{Status, end_halted, fetch_both, fetch_session, fetch_several, run_check, say};
 use command_line::{
-    DemoWords, PlanWords, Refused, Request, ResumeWords, SolveWords, UpgradeWords, read_words,
+    DemoWords, JoinWords, PlanWords, Refused, Request, ResumeWords, SolveWords, UpgradeWords,
+    read_words,
 };
 use desk::Desk;
 use gen_script::make;
@@ -117,6 +119,20 @@ fn run_resume<R: Threads + Wait + Sync, D: Desk, G: Gate + Sync>(
     }
 }
 
+// Makes one certificate of several.
+fn run_join<D: Desk>(alloc: Global, desk: &mut D, asked: JoinWords<'_>) -> Status
+    requires { IsJoin (seen_join asked) }
+    ensures cause { HasCause (join_run asked.entry (D.sight desk.old) (D.sight desk.new) result) }
+    ensures script { ScriptIsRead
+        (join_run asked.entry (D.sight desk.old) (D.sight desk.new) result) }
+    ensures course { HasCourse (join_run asked.entry (D.sight desk.old) (D.sight desk.new) result) }
+{
+    match fetch_several(alloc, desk, &asked) {
+        Ok(script) => join_inputs(alloc, desk, &script, asked.certs.len()),
+        Err(status) => status,
+    }
+}
+
 // Makes a script, which has no fault, and solves it.
 fn run_demo<R: Threads + Wait + Sync, D: Desk, G: Gate + Sync>(
     rt: &R,
@@ -169,6 +185,7 @@ fn run_command<R: Threads + Wait + Sync, D: Desk, G: Gate + Sync>(
         Request::Upgrade(asked) => run_upgrade(alloc, desk, asked),
         Request::Plan(asked) => run_plan(alloc, desk, asked),
         Request::Resume(asked) => run_resume(rt, alloc, desk, asked, gate),
+        Request::Join(asked) => run_join(alloc, desk, asked),
     }
 }
 
@@ -179,8 +196,9 @@ fn run_command<R: Threads + Wait + Sync, D: Desk, G: Gate + Sync>(
 /// of each check. `upgrade SCRIPT CERT OUT` does so too, and writes a certificate that is accepted in the newest version of
 /// its format. `demo SEED SIZE CERT` makes a script, solves it, and answers how large it was. `plan SCRIPT` reads a script,
 /// and answers of each check with which least width `solve` never answers `unknown width` of it. `resume SCRIPT CERT OUT`
-/// reads a script and a certificate, goes on where that is open or stuck, and writes the whole. The gate is called when
-/// work on a box begins and ends.
+/// reads a script and a certificate, goes on where that is open or stuck, and writes the whole. `join SCRIPT OUT CERT CERT`
+/// reads a script and two or more certificates of its only check, makes one of them, checks it, and answers what it shows;
+/// it is written whole or not at all. The gate is called when work on a box begins and ends.
 pub fn run_top<R: Threads + Wait + Sync, D: Desk, G: Gate + Sync>(
     rt: &R,
     alloc: Global,
@@ -207,8 +225,8 @@ pub fn run_top<R: Threads + Wait + Sync, D: Desk, G: Gate + Sync>(
     ensures delta_sat { DeltaSatIsTrue
         (run words.now (D.sight desk.old) (D.sight desk.new) result) }
 
-    // A certificate that is refused has the fault that is answered. What is written again is accepted with the values of
-    // the certificate that was read.
+    // A certificate that is refused has the fault that is answered, and where several are accepted and yet not joined, each
+    // is accepted. What is written again is accepted with the values of the certificate that was read.
     ensures refused { RefusalIsTrue (run words.now (D.sight desk.old) (D.sight desk.new) result) }
     ensures upgraded { UpgradeIsTrue (run words.now (D.sight desk.old) (D.sight desk.new) result) }
 

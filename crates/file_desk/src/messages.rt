@@ -173,9 +173,13 @@ impl<'a> Messages<'a> {
         }
     }
 
-    /// Says which certificate is refused, and for what.
+    /// Says which certificate is refused, and for what: by the last line of the answer.
     pub fn cert_refused(&self, rt: &HostRuntime, desk: &FileDesk) {
-        self.say(rt, source(self.cert_in), desk.answer());
+        let text = match desk.answer().split_once('\n') {
+            Some((_, rest)) if !rest.is_empty() => rest,
+            _ => desk.answer(),
+        };
+        self.say(rt, source(self.cert_in), text);
     }
 
     /// Says that there was no memory.

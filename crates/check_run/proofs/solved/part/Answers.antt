@@ -1,4 +1,4 @@
-use Rattle.std.proofs.Common.{ℕ, [], ◌∷◌, ◌++◌, ◌∙◌, ap, sym, codes, decimal, Vec, Global}
+use Rattle.std.proofs.Common.{ℕ, ◌++◌, ◌∙◌, ap, sym, codes, decimal, Vec, Global}
 use Rattle.check_run.proofs.solved.part.Goals as goal
 
 pub returns : goal.returns

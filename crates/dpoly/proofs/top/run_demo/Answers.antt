@@ -12,12 +12,12 @@ use Rattle.dpoly.proofs.Demo.{never_refused}
 use Rattle.dpoly.proofs.top.run_demo.Goals as goal
 
 pub returns-in-Ok-read_problem-clause-course : goal.returns-in-Ok-read_problem-clause-course
-returns-in-Ok-read_problem-clause-course g c script cert_in tells =
+returns-in-Ok-read_problem-clause-course g c script cert_in parts tells =
     let H : List ℕ → Type 0 = λ b. HasProblem c.args.asked.options.bound (problem_of c.in-Ok-read_problem.problem) b in
     let R : List ℕ → Type 0 = λ b. RunEnds (CanDemo (problem_of c.in-Ok-read_problem.problem) c.args.asked.options c.args.asked.cert.now b) []
     (g.D.Desk.sight c.args.desk.now) (g.D.Desk.sight c.solve_demo.new.desk) c.solve_demo.result in
     demo_problem (seen_demo c.args.asked) c.in-Ok.script.items (problem_of c.in-Ok-read_problem.problem) _ _ _
-    (subst H c.deref.ensures.value c.in-Ok-read_problem.ensures) c.in-Ok.ensures (subst R c.deref-in-Ok-read_problem.ensures.value c.solve_demo.ensures.ends) script cert_in
+    (subst H c.deref.ensures.value c.in-Ok-read_problem.ensures) c.in-Ok.ensures (subst R c.deref-in-Ok-read_problem.ensures.value c.solve_demo.ensures.ends) script cert_in parts
 
 pub unreachable-requires : goal.unreachable-requires
 unreachable-requires g c =

@@ -7,8 +7,8 @@ use Rattle.check_run.proofs.Running.{cause_behind}
 use Rattle.dpoly.proofs.top.run_resume.Goals as goal
 
 pub returns-in-Ok-clause-course : goal.returns-in-Ok-clause-course
-returns-in-Ok-clause-course g c script cert_in tells =
-    run_both (seen_resume c.args.asked) script cert_in c.in-Ok.inputs _ _ _ _ c.in-Ok.ensures tells.0 tells.1 c.resume_inputs.ensures.ends
+returns-in-Ok-clause-course g c script cert_in parts tells =
+    run_both (seen_resume c.args.asked) script cert_in parts c.in-Ok.inputs _ _ _ _ c.in-Ok.ensures tells.0 tells.1 c.resume_inputs.ensures.ends
 
 pub returns-in-Ok-clause-cause : goal.returns-in-Ok-clause-cause
 returns-in-Ok-clause-cause g c =

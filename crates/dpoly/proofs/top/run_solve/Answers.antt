@@ -5,11 +5,11 @@ use Rattle.check_run.proofs.Running.{run_session, run_halted}
 use Rattle.dpoly.proofs.top.run_solve.Goals as goal
 
 pub returns-in-Ok-clause-course : goal.returns-in-Ok-clause-course
-returns-in-Ok-clause-course g c script cert_in tells =
+returns-in-Ok-clause-course g c script cert_in parts tells =
     run_session c.args.asked.options.bound c.args.asked.script.now script (λ ps. CanSolve ps c.args.asked.options c.args.asked.cert.now) [] _ _ _ _
     (problems_of c.in-Ok.session) c.in-Ok.ensures.script tells c.solve_session.ensures.ends
 
 pub returns-in-Err-clause-course : goal.returns-in-Err-clause-course
-returns-in-Err-clause-course g c script cert_in tells =
+returns-in-Err-clause-course g c script cert_in parts tells =
     run_halted c.args.asked.options.bound c.args.asked.script.now script (λ ps. CanSolve ps c.args.asked.options c.args.asked.cert.now) [] _ _ _ _
     c.in-Err.stop c.in-Err.ensures.script tells c.end_halted.ensures.ends

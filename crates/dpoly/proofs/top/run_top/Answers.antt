@@ -44,4 +44,4 @@ returns-in-Ok-clause-planned g c =
 pub returns-in-Err-Usage-clause-complete : goal.returns-in-Err-Usage-clause-complete
 returns-in-Err-Usage-clause-complete g c =
     let refused : command_in c.args.words.now ≡ None = c.in-Err-Usage.ensures.usage (ap (λ e. Err e) c.in-Err-Usage.field-0-is) in
-    status_is_due _ (subst (λ (o : Option Command). HasCourse (run_of o (g.D.Desk.sight c.args.desk.now) (g.D.Desk.sight c.say.new.desk) c.say.result)) (sym refused) (λ (script cert_in : List ℕ) tells. on_course (says Usage usage_text) refl c.say.ensures.ends))
+    status_is_due _ (subst (λ (o : Option Command). HasCourse (run_of o (g.D.Desk.sight c.args.desk.now) (g.D.Desk.sight c.say.new.desk) c.say.result)) (sym refused) (λ (script cert_in : List ℕ) (parts : List (List ℕ)) tells. on_course (says Usage usage_text) refl c.say.ensures.ends))

@@ -10,14 +10,14 @@ use Rattle.check_run.proofs.Running.{cause_behind, run_session, run_halted, told
 use Rattle.dpoly.proofs.top.run_upgrade.Goals as goal
 
 pub returns-in-Ok-clause-course : goal.returns-in-Ok-clause-course
-returns-in-Ok-clause-course g c script cert_in tells =
+returns-in-Ok-clause-course g c script cert_in parts tells =
     let ends = told (λ (cert : List ℕ). RunEnds (CanUpgrade (problems_of c.in-Ok.session) c.args.asked.bound c.args.asked.cert.now c.args.asked.out.now cert) ((CertIn, c.args.asked.cert.now) ∷ [])
     (g.D.Desk.sight c.fetch_session.new.desk) (g.D.Desk.sight c.upgrade_session.new.desk) c.upgrade_session.result) _ cert_in (c.in-Ok.ensures.other ∙ tells.1) c.upgrade_session.ensures.ends in
     run_session c.args.asked.bound c.args.asked.script.now script (λ ps. CanUpgrade ps c.args.asked.bound c.args.asked.cert.now c.args.asked.out.now cert_in) ((CertIn, c.args.asked.cert.now) ∷ []) _ _ _ _
     (problems_of c.in-Ok.session) c.in-Ok.ensures.script tells.0 ends
 
 pub returns-in-Err-clause-course : goal.returns-in-Err-clause-course
-returns-in-Err-clause-course g c script cert_in tells =
+returns-in-Err-clause-course g c script cert_in parts tells =
     run_halted c.args.asked.bound c.args.asked.script.now script (λ ps. CanUpgrade ps c.args.asked.bound c.args.asked.cert.now c.args.asked.out.now cert_in) ((CertIn, c.args.asked.cert.now) ∷ []) _ _ _ _
     c.in-Err.stop c.in-Err.ensures.script tells.0 c.end_halted.ensures.ends
 

@@ -1,0 +1,89 @@
+-- What `join` may do: one certificate of several, which is accepted, or why there is none.
+use Rattle.std.specs.Prelude.{◌≡◌, ◌++◌, ℕ, suc, List, [], ◌∷◌, Option, None, codes, decimal, length, map, take}
+use Rattle.std.specs.List.{AllByRecursion}
+use Rattle.desk.specs.declared.desk.Port.TheVariants.{Answer, Draft, Part, Script}
+use Rattle.command_line.specs.Words.{Join}
+use Rattle.poly_graph.specs.Problem.{Problem}
+use Rattle.cover_model.specs.State.{Loosenings}
+use Rattle.cert_model.specs.Due.{CertFault, Value}
+use Rattle.cert_model.specs.Accepted.{IsAccepted, refused, verdict}
+use Rattle.cert_model.specs.AnswerText.{check_text, text_line, verdict_text}
+use Rattle.check_run.specs.declared.status.Status.TheVariants.{Answered, CertRefused}
+use Rattle.check_run.specs.Course.{Course, Start, says}
+use Rattle.check_run.specs.Resumed.{header_bound}
+
+-- ---- the certificates
+
+-- the starts of the ports of these certificates, in their order
+abbrev pub part_starts : List (List ℕ) → List Start
+part_starts names = map (λ name. (Part, name)) names
+
+-- and then of a draft
+abbrev pub several_starts : List (List ℕ) → List ℕ → List Start
+several_starts names out = part_starts names ++ (Draft, out) ∷ []
+
+-- the script's before them
+abbrev pub join_starts : Join → List Start
+join_starts words = (Script, words.script) ∷ several_starts words.certs words.out
+
+-- so many bytes of the first certificate are searched for the bound that it names
+abbrev pub head_bytes : ℕ
+head_bytes = 65536
+
+-- the bound that the first certificate names in them
+abbrev pub bound_of : List (List ℕ) → Option ℕ
+bound_of [] = None
+bound_of (first ∷ others) = header_bound (take head_bytes first)
+
+module _ (p : Problem) (b : Option ℕ) where
+  abbrev pub IsAcceptedAlone : List ℕ → Type 0
+  IsAcceptedAlone cert = (s : Loosenings) × (v : Value) × IsAccepted p b cert s v
+
+  -- each by itself
+  abbrev pub AreAllAccepted : List (List ℕ) → Type 0
+  AreAllAccepted parts = AllByRecursion IsAcceptedAlone parts
+
+  -- Certificate k, from 1 on, has this fault at this line, and all before it are accepted.
+  pub record IsFirstRefused (parts : List (List ℕ)) (k : ℕ) (f : CertFault) (n : ℕ) : Type 0 where
+    pub before : List (List ℕ)
+    pub cert : List ℕ
+    pub behind : List (List ℕ)
+    pub all : parts ≡ before ++ cert ∷ behind
+    pub number : k ≡ suc (length before)
+    pub accepted : AreAllAccepted before
+    pub refuses : verdict p b cert ≡ refused f n
+
+-- ---- answers
+
+-- certificate k
+abbrev pub part_line : ℕ → List ℕ
+part_line k = text_line (codes "certificate " ++ decimal k)
+
+abbrev pub not_joined_line : ℕ → List ℕ
+not_joined_line n = text_line (codes "not joined line " ++ decimal n)
+
+-- certificate k has this fault at line n
+abbrev pub refused_part_text : ℕ → CertFault → ℕ → List ℕ
+refused_part_text k f n = part_line k ++ verdict_text (refused f n)
+
+-- line n of certificate k does not go together with the others
+abbrev pub apart_text : ℕ → ℕ → List ℕ
+apart_text k n = part_line k ++ not_joined_line n
+
+-- Why the certificates are not joined, by the text that says it.
+pub data IsNotJoined (p : Problem) (b : Option ℕ) (parts : List (List ℕ)) (text : List ℕ) : Type 0 where
+  -- one is refused
+  one_refused : (k : ℕ) (f : CertFault) (n : ℕ) → IsFirstRefused p b parts k f n → text ≡ refused_part_text k f n → IsNotJoined p b parts text
+  -- each is accepted, and a line of one does not go together with the others
+  apart : (k n : ℕ) → AreAllAccepted p b parts → text ≡ apart_text k n → IsNotJoined p b parts text
+  -- each is accepted, and a line of what was joined is refused
+  joined_refused : (n : ℕ) → AreAllAccepted p b parts → text ≡ not_joined_line n → IsNotJoined p b parts text
+
+-- a certificate that took the name of its draft, and then an answer
+abbrev pub keeps : List ℕ → List ℕ → Course
+keeps cert text = record { status = Answered; starts = (Answer, codes "-") ∷ []; cert = cert; answer = text }
+
+-- What was joined is accepted, and its verdict is answered; or there is none, and the answer says why.
+pub data CanJoin (p : Problem) (b : Option ℕ) (parts : List (List ℕ)) (course : Course) : Type 0 where
+  joins : (cert : List ℕ) (s : Loosenings) (v : Value) → IsAccepted p b cert s v → course ≡ keeps cert (check_text s v) → CanJoin p b parts course
+  refuses : (text : List ℕ) → IsNotJoined p b parts text → course ≡ says CertRefused text → CanJoin p b parts course

@@ -1,0 +1,295 @@
+-- From certificates that were joined to the end of a run.
+use Rattle.std.proofs.Common.{◌≡◌, ◌<◌, inl, inr, ℕ, List, [], ◌∷◌, ◌++◌, Option, Some, None, Result, Ok, Err, IfOk, MatchResult, Vec, Global, codes, take, refl, ap, sym, ◌∙◌, subst}
+use Rattle.std.proofs.lemmas.Option.{none-some}
+use Rattle.std.specs.declared.alloc.AllocError.{AllocError}
+use Rattle.desk.specs.declared.desk.Port.TheVariants.{Answer, Part}
+use Rattle.desk.specs.Draft.{IsDrafted}
+use Rattle.desk.specs.Sight.{Sight, FailsOn, SideFailed}
+use Rattle.command_line.specs.Words.{Join, join}
+use Rattle.poly_graph.specs.Problem.{Problem}
+use Rattle.poly_graph.specs.ProblemViews.{Parts, problem_of}
+use Rattle.cover_model.specs.State.{Loosenings}
+use Rattle.cert_model.specs.Due as due
+use Rattle.cert_model.specs.Due.{Value}
+use Rattle.cert_model.specs.Accepted.{Verdict, accepted, refused, stopped, verdict}
+use Rattle.cert_model.specs.AnswerText.{check_text, verdict_text}
+use Rattle.cert_check.specs.declared.checker.Verdict as told
+use Rattle.cert_check.specs.declared.fault.CertFault.{CertFault}
+use Rattle.cert_check.specs.declared.fault.CertFault.TheVariants.{Memory}
+use Rattle.cert_check.specs.declared.feed.Feed.{Feed}
+use Rattle.cert_check.specs.Courses.{IsVerdict, verdict_of}
+use Rattle.cert_check.specs.Faults.{stop_of}
+use Rattle.cert_check.specs.Feeding.{HasTaken, IsVerdictOfTaken, IsVerdictOrMemory}
+use Rattle.cert_join.specs.Drafting.{IsDraftFailed, IsJoined, IsReadFailed, IsSomeDrafted, IsUnderWay}
+use Rattle.script_fault.specs.declared.fault.ScriptFault.{ScriptFault}
+use Rattle.script_reading.specs.Faults.{script_fault}
+use Rattle.script_reading.specs.Reader.{HasProblem}
+use Rattle.check_run.specs.declared.both.Unread.{Unread}
+use Rattle.check_run.specs.declared.both.Unread.TheVariants as unread
+use Rattle.check_run.specs.declared.script.Halt.{Halt}
+use Rattle.check_run.specs.declared.script.Halt.TheVariants as halt
+use Rattle.check_run.specs.declared.status.Status.{Status}
+use Rattle.check_run.specs.declared.status.Status.TheVariants.{Answered, CertRefused, ScriptRefused, Usage, InFailed, OutFailed, NoMemory}
+use Rattle.check_run.specs.Both.{IsScriptHeld, status_of}
+use Rattle.check_run.specs.Can.{CanBy, OfProblem}
+use Rattle.check_run.specs.Course.{Course, Quiet, Ends, at_its_end, out_failed, no_memory, StartedEnds, Stopped, Went, appended, draft_fails, goes_on, in_fails, no_memory_left, says}
+use Rattle.check_run.specs.Joined.{AreAllAccepted, CanJoin, IsNotJoined, apart_text, bound_of, joins, keeps, not_joined_line, one_refused, part_line, refused_part_text, refuses}
+use Rattle.check_run.specs.Joined as together
+use Rattle.check_run.specs.Run.{HasCause, JoinHasCause, run_of}
+use Rattle.check_run.specs.Script.{HaltEnds, IsHaltOfFault, IsTooLong}
+use Rattle.check_run.specs.Several.{CanJoinOn, EndsKept, IsHalted, TellsPart}
+use Rattle.check_run.specs.Stops.{stop_text}
+use Rattle.check_run.proofs.Ending.{appended-nil}
+use Rattle.dpoly.specs.declared.join.Joint.{Joint}
+use Rattle.dpoly.specs.declared.join.Joint.TheVariants.{Whole, Dropped, Apart, Refused}
+use Rattle.dpoly.specs.Join.{EndsAccepted, EndsOnJoin, EndsOnJoint, EndsRefused, HaltsJoining, IsDraftedJoint, IsFirstFault, IsFirstFaultOn, IsJointOf, IsRefusalWith, IsToldJoint, IsUnread}
+use Rattle.dpoly.proofs.Halting.{by_text, long_halt}
+
+-- ---- nothing written
+
+-- the same starts and texts
+quiet-same : (old new : Sight) → new.starts ≡ old.starts → new.cert_out ≡ old.cert_out → new.answer ≡ old.answer → Quiet [] old new
+quiet-same old new starts cert answer = record { starts_made = 0; starts_are = starts ∙ sym (appended-nil old.starts); cert = cert; answer = answer }
+
+drafted-quiet : (old new : Sight) (text : List ℕ) → IsDrafted old text new → Quiet [] old new
+drafted-quiet old new text e = quiet-same old new (ap (λ (d : Sight). d.starts) e) (ap (λ (d : Sight). d.cert_out) e) (ap (λ (d : Sight). d.answer) e)
+
+-- behind what was drafted
+quiet-behind : (old mid new : Sight) (text : List ℕ) → IsDrafted old text mid → new.starts ≡ mid.starts → new.cert_out ≡ mid.cert_out → new.answer ≡ mid.answer → Quiet [] old new
+quiet-behind old mid new text e starts cert answer = quiet-same old new (starts ∙ ap (λ (d : Sight). d.starts) e) (cert ∙ ap (λ (d : Sight). d.cert_out) e) (answer ∙ ap (λ (d : Sight). d.answer) e)
+
+-- ---- the merge
+
+pub read_failed : (old new : Sight) → IsReadFailed old new → HaltsJoining InFailed old new
+read_failed old new h = record {
+  halted = (h.side, quiet-same old new (ap (λ (d : Sight). d.starts) h.same) (ap (λ (d : Sight). d.cert_out) h.same) (ap (λ (d : Sight). d.answer) h.same));
+  script = ap (λ (d : Sight). d.script) h.same;
+}
+
+pub draft_failed : (old new : Sight) → IsDraftFailed old new → HaltsJoining OutFailed old new
+draft_failed old new h = record {
+  halted = (h.side, quiet-same old new (ap (λ (d : Sight). d.starts) h.same) (ap (λ (d : Sight). d.cert_out) h.same) (ap (λ (d : Sight). d.answer) h.same));
+  script = ap (λ (d : Sight). d.script) h.same;
+}
+
+pub memory_halts : (old new : Sight) → IsSomeDrafted old new → HaltsJoining NoMemory old new
+memory_halts old new h = record { halted = drafted-quiet old new h.0 h.1; script = ap (λ (d : Sight). d.script) h.1 }
+
+pub same_halts : (old new : Sight) → new ≡ old → HaltsJoining NoMemory old new
+same_halts old new e = record { halted = quiet-same old new (ap (λ (d : Sight). d.starts) e) (ap (λ (d : Sight). d.cert_out) e) (ap (λ (d : Sight). d.answer) e); script = ap (λ (d : Sight). d.script) e }
+
+-- what comes of it, or out of memory
+abbrev pub EndsJoint : Problem → Option ℕ → Sight → Sight → Result Joint Status → Type 0
+EndsJoint p b old new x = MatchResult x (λ joint. IsDraftedJoint p b joint old new) (λ status. HaltsJoining status old new)
+
+told-of : (p : Problem) (b : Option ℕ) (text : List ℕ) (r : Result told.Verdict CertFault) (joint : Joint) → IsVerdictOrMemory (verdict p b text) r → IsToldJoint r (Ok joint) → IsJointOf p b text joint
+told-of p b text r (Whole w) h e = subst (λ (x : Result told.Verdict CertFault). IsVerdictOrMemory (verdict p b text) x) e h
+told-of p b text r (Dropped w) h e = subst (λ (x : Result told.Verdict CertFault). IsVerdictOrMemory (verdict p b text) x) e h
+told-of p b text r (Apart place) h e = tt
+told-of p b text r (Refused line) h e = tt
+
+pub joint_told : (p : Parts) (b : Option ℕ) (old new : Sight) (f : Feed) (r : Result told.Verdict CertFault) (x : Result Joint Status) → IsUnderWay old p b new f → IsVerdictOfTaken f r → IsToldJoint r x → EndsJoint (problem_of p) b old new x
+joint_told p b old new f r (Ok joint) way tells is = record { text = way.text; drafted = way.drafted; of = told-of (problem_of p) b way.text r joint (tells p b way.text way.taken) is }
+joint_told p b old new f r (Err status) way tells is = subst (λ (s : Status). HaltsJoining s old new) (sym is) (memory_halts old new (way.text, way.drafted))
+
+not-said : (fault : CertFault) (joint : Joint) (p : Problem) (b : Option ℕ) (text : List ℕ) → IsToldJoint (Err fault) (Ok joint) → IsJointOf p b text joint
+not-said fault (Whole w) p b text e = cc
+not-said fault (Dropped w) p b text e = cc
+not-said fault (Apart place) p b text e = tt
+not-said fault (Refused line) p b text e = tt
+
+-- where the checker refused it on the way
+pub joint_refused : (p : Problem) (b : Option ℕ) (old new : Sight) (fault : CertFault) (x : Result Joint Status) → IsSomeDrafted old new → IsToldJoint (Err fault) x → EndsJoint p b old new x
+joint_refused p b old new fault (Ok joint) drafted is = record { text = drafted.0; drafted = drafted.1; of = not-said fault joint p b drafted.0 is }
+joint_refused p b old new fault (Err status) drafted is = subst (λ (s : Status). HaltsJoining s old new) (sym is) (memory_halts old new drafted)
+
+-- ---- causes
+
+pub cause_halts : (words : Join) (status : Status) (old new : Sight) → IsHalted [] status old new → HasCause (run_of (Some (join words)) old new status)
+cause_halts words InFailed old new h = (tt, h.0)
+cause_halts words OutFailed old new h = h.0
+cause_halts words NoMemory old new h = tt
+cause_halts words Answered old new h = absurd h
+cause_halts words CertRefused old new h = absurd h
+cause_halts words ScriptRefused old new h = absurd h
+cause_halts words Usage old new h = absurd h
+
+-- from a sight that failed as often
+pub cause_from : (old mid new : Sight) (status : Status) → mid.in_faults ≡ old.in_faults → mid.out_faults ≡ old.out_faults → JoinHasCause mid new status → JoinHasCause old new status
+cause_from old mid new status ins outs h words = by status (h words) where
+  by : (s : Status) → HasCause (run_of (Some (join words)) mid new s) → HasCause (run_of (Some (join words)) old new s)
+  by Answered h = h
+  by CertRefused h = h
+  by ScriptRefused h = h
+  by Usage h = h
+  by InFailed h = (h.0, subst (λ (n : ℕ). SideFailed n new.in_faults) ins h.1)
+  by OutFailed h = subst (λ (n : ℕ). SideFailed n new.out_faults) outs h
+  by NoMemory h = h
+
+pub cause_drafted : (old mid new : Sight) (text : List ℕ) (status : Status) → IsDrafted old text mid → JoinHasCause mid new status → JoinHasCause old new status
+cause_drafted old mid new text status e h = cause_from old mid new status (ap (λ (d : Sight). d.in_faults) e) (ap (λ (d : Sight). d.out_faults) e) h
+
+pub cause_same : (old mid new : Sight) (status : Status) → mid ≡ old → JoinHasCause mid new status → JoinHasCause old new status
+cause_same old mid new status e h = cause_from old mid new status (ap (λ (d : Sight). d.in_faults) e) (ap (λ (d : Sight). d.out_faults) e) h
+
+pub cause_unread : (e : Unread) (old new : Sight) → IsUnread e old new → JoinHasCause old new (status_of e)
+cause_unread unread.Failed old new h words = (tt, h.side)
+cause_unread unread.Memory old new h words = tt
+
+pub unread_script : (e : Unread) (old new : Sight) → IsUnread e old new → new.script ≡ old.script
+unread_script unread.Failed old new h = ap (λ (d : Sight). d.script) h.same
+unread_script unread.Memory old new h = ap (λ (d : Sight). d.script) h
+
+-- ---- ends
+
+pub widen : (some cant : Course → Type 0) (old new : Sight) (status : Status) → ((course : Course) → some course → cant course) → StartedEnds some old new status → StartedEnds cant old new status
+widen some cant old new status f (goes_on course can ends) = goes_on course (f course can) ends
+widen some cant old new status f (in_fails is side quiet) = in_fails is side quiet
+widen some cant old new status f (draft_fails is side quiet) = draft_fails is side quiet
+widen some cant old new status f (no_memory_left is quiet) = no_memory_left is quiet
+
+pub unread_ends : (can : Course → Type 0) (e : Unread) (old mid new : Sight) (text : List ℕ) → IsDrafted old text mid → IsUnread e mid new → StartedEnds can old new (status_of e)
+unread_ends can unread.Failed old mid new text drafts h =
+    in_fails refl (subst (λ (d : Sight). SideFailed d.in_faults new.in_faults) drafts h.side) (quiet-behind old mid new text drafts (ap (λ (d : Sight). d.starts) h.same) (ap (λ (d : Sight). d.cert_out) h.same) (ap (λ (d : Sight). d.answer) h.same))
+unread_ends can unread.Memory old mid new text drafts h =
+    no_memory_left refl (quiet-behind old mid new text drafts (ap (λ (d : Sight). d.starts) h) (ap (λ (d : Sight). d.cert_out) h) (ap (λ (d : Sight). d.answer) h))
+
+pub halts_end : (can : Course → Type 0) (status : Status) (old new : Sight) → IsHalted [] status old new → StartedEnds can old new status
+halts_end can InFailed old new h = in_fails refl h.0 h.1
+halts_end can OutFailed old new h = draft_fails refl h.0 h.1
+halts_end can NoMemory old new h = no_memory_left refl h
+halts_end can Answered old new h = absurd h
+halts_end can CertRefused old new h = absurd h
+halts_end can ScriptRefused old new h = absurd h
+halts_end can Usage old new h = absurd h
+
+-- a course that writes no certificate, behind what was drafted
+module _ (old mid new : Sight) (text : List ℕ) (status : Status) (said : List ℕ) (drafts : IsDrafted old text mid) where
+  said-stopped : Stopped (says CertRefused said) mid new → Stopped (says CertRefused said) old new
+  said-stopped broke = record {
+    starts_made = broke.starts_made;
+    cert_bytes = broke.cert_bytes;
+    answer_bytes = broke.answer_bytes;
+    starts = broke.starts ∙ ap (λ (d : Sight). appended d.starts (take broke.starts_made ((Answer, codes "-") ∷ []))) drafts;
+    cert = broke.cert ∙ ap (λ (d : Sight). appended d.cert_out (take broke.cert_bytes [])) drafts;
+    answer = broke.answer ∙ ap (λ (d : Sight). appended d.answer (take broke.answer_bytes said)) drafts;
+    order = broke.order;
+  }
+
+  pub said_ends : Ends (says CertRefused said) mid new status → Ends (says CertRefused said) old new status
+  said_ends (at_its_end is went) = at_its_end is (record {
+    starts = went.starts ∙ ap (λ (d : Sight). appended d.starts ((Answer, codes "-") ∷ [])) drafts;
+    cert = went.cert ∙ ap (λ (d : Sight). appended d.cert_out []) drafts;
+    answer = went.answer ∙ ap (λ (d : Sight). appended d.answer said) drafts;
+    in_faults = went.in_faults ∙ ap (λ (d : Sight). d.in_faults) drafts;
+    out_faults = went.out_faults ∙ ap (λ (d : Sight). d.out_faults) drafts;
+  })
+  said_ends (out_failed is side broke) = out_failed is (subst (λ (d : Sight). SideFailed d.out_faults new.out_faults) drafts side) (said-stopped broke)
+  said_ends (no_memory is broke) = no_memory is (said-stopped broke)
+
+pub refused_ends : (text : Vec ℕ Global) (bytes : List ℕ) (mid new : Sight) (status : Status) → bytes ≡ text.items → Ends (says CertRefused bytes) mid new status → (old : Sight) (t : List ℕ) → IsDrafted old t mid →
+    StartedEnds (IsRefusalWith (Ok text)) old new status
+refused_ends text bytes mid new status e ends old t drafts =
+    goes_on (says CertRefused text.items) refl (said_ends old mid new t status text.items drafts (subst (λ (l : List ℕ). Ends (says CertRefused l) mid new status) e ends))
+
+pub unsaid_ends : (e : AllocError) (mid new : Sight) → new ≡ mid → (old : Sight) (t : List ℕ) → IsDrafted old t mid → StartedEnds (IsRefusalWith (Err e)) old new NoMemory
+unsaid_ends e mid new same old t drafts = no_memory_left refl (drafted-quiet old new t (same ∙ drafts))
+
+-- ---- what is answered of certificates that are all accepted
+
+value-of : (p : Problem) (b : Option ℕ) (text : List ℕ) (w : told.Verdict) (v : Verdict) → verdict p b text ≡ v → IsVerdict v (Ok w) → (s : Loosenings) × (x : Value) × (verdict p b text ≡ accepted s x) × (w ≡ verdict_of s x)
+value-of p b text w (accepted s x) e h = (s, x, e, h)
+value-of p b text w (refused g n) e h = absurd h
+
+pub kept_joins : (p : Problem) (b : Option ℕ) (parts : List (List ℕ)) (w : told.Verdict) (mid new : Sight) (status : Status) → EndsKept w mid new status → (old : Sight) (text : List ℕ) → IsDrafted old text mid → IsVerdict (verdict p b text) (Ok w) →
+    StartedEnds (CanJoin p b parts) old new status
+kept_joins p b parts w mid new status ends old text drafts is =
+    let x = value-of p b text w (verdict p b text) refl is in
+    widen (λ course. course ≡ keeps text (check_text x.0 x.1)) (CanJoin p b parts) old new status (λ course e. joins text x.0 x.1 x.2 e) (ends old text x.0 x.1 drafts x.3)
+
+refuses-with : (p : Problem) (b : Option ℕ) (parts : List (List ℕ)) (r : Result (Vec ℕ Global) AllocError) (course : Course) → IfOk r (λ text. IsNotJoined p b parts text.items) → IsRefusalWith r course → CanJoin p b parts course
+refuses-with p b parts (Ok text) course reason e = refuses text.items reason e
+refuses-with p b parts (Err e) course reason h = absurd h
+
+pub refused_joins : (p : Problem) (b : Option ℕ) (parts : List (List ℕ)) (r : Result (Vec ℕ Global) AllocError) (old new : Sight) (status : Status) → IfOk r (λ text. IsNotJoined p b parts text.items) → StartedEnds (IsRefusalWith r) old new status →
+    StartedEnds (CanJoin p b parts) old new status
+refused_joins p b parts r old new status reason ends = widen (IsRefusalWith r) (CanJoin p b parts) old new status (λ course h. refuses-with p b parts r course reason h) ends
+
+pub apart_reason : (p : Problem) (b : Option ℕ) (parts : List (List ℕ)) (r : Result (Vec ℕ Global) AllocError) (k n : ℕ) → AreAllAccepted p b parts → IfOk r (λ text. text.items ≡ apart_text k n) → IfOk r (λ text. IsNotJoined p b parts text.items)
+apart_reason p b parts (Ok text) k n all e = together.apart k n all e
+apart_reason p b parts (Err e) k n all h = tt
+
+pub joined_reason : (p : Problem) (b : Option ℕ) (parts : List (List ℕ)) (r : Result (Vec ℕ Global) AllocError) (n : ℕ) → AreAllAccepted p b parts → IfOk r (λ text. text.items ≡ not_joined_line n) → IfOk r (λ text. IsNotJoined p b parts text.items)
+joined_reason p b parts (Ok text) n all e = together.joined_refused n all e
+joined_reason p b parts (Err e) n all h = tt
+
+-- one is refused
+part-reason : (p : Problem) (b : Option ℕ) (parts : List (List ℕ)) (k : ℕ) (f : CertFault) (text : List ℕ) → IsFirstFault p b parts (Some (k, f)) → TellsPart k f text → IsNotJoined p b parts text
+part-reason p b parts k f text (inl m) tells = absurd (none-some tells.said (sym (ap (λ (x : CertFault). stop_text (stop_of x)) m) ∙ tells.fault_is))
+part-reason p b parts k f text (inr (g, n, first, stops)) tells =
+    let same : ◌≡◌ {A = Option (List ℕ)} (Some (verdict_text (refused g n))) (Some tells.said) = ap stop_text stops ∙ tells.fault_is in
+    let said : verdict_text (refused g n) ≡ tells.said = cc in
+    one_refused k g n first (tells.text_is ∙ ap (λ (l : List ℕ). part_line k ++ l) (sym said))
+
+pub first_reason : (p : Problem) (b : Option ℕ) (parts : List (List ℕ)) (k : ℕ) (f : CertFault) (r : Result (Vec ℕ Global) AllocError) → IsFirstFault p b parts (Some (k, f)) → IfOk r (λ text. TellsPart k f text.items) → IfOk r (λ text. IsNotJoined p b parts text.items)
+first_reason p b parts k f (Ok text) first tells = part-reason p b parts k f text.items first tells
+first_reason p b parts k f (Err e) first tells = tt
+
+-- ---- each certificate by itself
+
+module _ (p : Problem) (b : Option ℕ) (count : ℕ) (joint : Joint) (mid : Sight) where
+  pub alone_refused : (k : ℕ) (f : CertFault) (r : Result (Vec ℕ Global) AllocError) (read new : Sight) (status : Status) → IsFirstFaultOn p b count mid (Some (k, f)) → read ≡ mid → IfOk r (λ text. TellsPart k f text.items) → EndsRefused r read new status →
+      EndsOnJoint p b count joint mid new status
+  alone_refused k f r read new status first same tells ends = λ old text parts drafts of e n.
+      refused_joins p b parts r old new status (first_reason p b parts k f r (first parts (ap (λ (d : Sight). d.parts) drafts ∙ e) n) tells) (ends old text (same ∙ drafts))
+
+  pub alone_accepted : (read new : Sight) (status : Status) → IsFirstFaultOn p b count mid None → read ≡ mid → EndsAccepted joint read new status → EndsOnJoint p b count joint mid new status
+  alone_accepted read new status first same ends = λ old text parts drafts of e n. ends p b parts old text (same ∙ drafts) of (first parts (ap (λ (d : Sight). d.parts) drafts ∙ e) n)
+
+  pub alone_unread : (e : Unread) (new : Sight) → IsUnread e mid new → EndsOnJoint p b count joint mid new (status_of e)
+  alone_unread e new h = λ old text parts drafts of f n. unread_ends (CanJoin p b parts) e old mid new text drafts h
+
+-- ---- what was drafted
+
+module _ (p : Problem) (b : Option ℕ) (count : ℕ) (old : Sight) where
+  pub whole_ends : (w : told.Verdict) (mid new : Sight) (status : Status) → IsDraftedJoint p b (Whole w) old mid → EndsKept w mid new status → EndsOnJoin p b count old new status
+  whole_ends w mid new status d ends = λ parts e n. kept_joins p b parts w mid new status ends old d.text d.drafted d.of
+
+  pub joint_ends : (joint : Joint) (mid new : Sight) (status : Status) → IsDraftedJoint p b joint old mid → EndsOnJoint p b count joint mid new status → EndsOnJoin p b count old new status
+  joint_ends joint mid new status d ends = λ parts e n. ends old d.text parts d.drafted d.of e n
+
+  pub halted_ends : (new : Sight) (status : Status) → HaltsJoining status old new → EndsOnJoin p b count old new status
+  halted_ends new status h = λ parts e n. halts_end (CanJoin p b parts) status old new h.halted
+
+-- ---- behind the script
+
+halt-ends : (f : Option ScriptFault) (goes : Course → Type 0) (h : Halt) (old new : Sight) (status : Status) → IsHaltOfFault f h → HaltEnds h old new status → StartedEnds (CanBy f goes) old new status
+halt-ends f goes (halt.Refused text) old new status is ends = goes_on (says ScriptRefused text.items) (by_text f text.items goes is) ends
+halt-ends f goes halt.Failed old new status is ends = absurd is
+halt-ends f goes halt.Memory old new status is ends = no_memory_left ends.0 (quiet-same old new (ap (λ (d : Sight). d.starts) ends.1) (ap (λ (d : Sight). d.cert_out) ends.1) (ap (λ (d : Sight). d.answer) ends.1))
+
+module _ (script : List ℕ) (parts : List (List ℕ)) where
+  abbrev Goes : Course → Type 0
+  Goes course = OfProblem (bound_of parts) script (λ p. CanJoin p (bound_of parts) parts) course
+
+  pub long_ends : (o : Option (Vec ℕ Global)) (h : Halt) (old new : Sight) (status : Status) → o ≡ None → IsScriptHeld o script → IsTooLong h → HaltEnds h old new status → StartedEnds (CanJoinOn script parts) old new status
+  long_ends o h old new status e held is ends =
+      halt-ends (script_fault (bound_of parts) script) Goes h old new status (long_halt (bound_of parts) script h (subst (λ (x : Option (Vec ℕ Global)). IsScriptHeld x script) e held) is) ends
+
+  -- the bound is known
+  pub faulty_ends : (b : Option ℕ) (h : Halt) (old new : Sight) (status : Status) → b ≡ bound_of parts → IsHaltOfFault (script_fault b script) h → HaltEnds h old new status → StartedEnds (CanJoinOn script parts) old new status
+  faulty_ends b h old new status e is ends =
+      halt-ends (script_fault (bound_of parts) script) Goes h old new status (subst (λ (x : Option ℕ). IsHaltOfFault (script_fault x script) h) e is) ends
+
+  goes-course : (b : Option ℕ) (p : Problem) → b ≡ bound_of parts → HasProblem b p script → (course : Course) → CanJoin p b parts course → CanJoinOn script parts course
+  goes-course b p e has course can =
+      let clean : script_fault (bound_of parts) script ≡ None = subst (λ (x : Option ℕ). script_fault x script ≡ None) e has.clean in
+      subst (λ (f : Option ScriptFault). CanBy f Goes course) (sym clean) (subst (λ (x : Option ℕ). OfProblem x script (λ p. CanJoin p x parts) course) e (p, has.built, can))
+
+  pub problem_ends : (b : Option ℕ) (p : Problem) (old new : Sight) (status : Status) → b ≡ bound_of parts → HasProblem b p script → StartedEnds (CanJoin p b parts) old new status → StartedEnds (CanJoinOn script parts) old new status
+  problem_ends b p old new status e has ends = widen (CanJoin p b parts) (CanJoinOn script parts) old new status (λ course can. goes-course b p e has course can) ends
+
+-- ---- from one sight to the same
+
+pub ends_same : (can : Course → Type 0) (old mid new : Sight) (status : Status) → mid ≡ old → StartedEnds can mid new status → StartedEnds can old new status
+ends_same can old mid new status e ends = subst (λ (d : Sight). StartedEnds can d new status) e ends

@@ -1,0 +1,6 @@
+use Rattle.poly_graph.specs.ProblemViews.{problem_of}
+use Rattle.dpoly.proofs.ReadAlone.{AcceptedSoFar}
+use Rattle.dpoly.proofs.alone.first_fault.Given as goal
+
+abbrev pub invariant-loop-number : goal.invariant-loop-number
+invariant-loop-number g l = AcceptedSoFar (problem_of l.problem) l.fn.bound l.number l.fn.count (g.D.Desk.sight l.fn.desk) (g.D.Desk.sight l.desk)

@@ -1,0 +1,17 @@
+use Rattle.std.proofs.Common.{subst}
+use Rattle.dpoly.specs.declared.join.Joint.{Joint}
+use Rattle.dpoly.specs.Join.{IsJointOf}
+use Rattle.dpoly.proofs.Joining.{apart_reason, joined_reason, kept_joins, refused_joins}
+use Rattle.dpoly.proofs.join.end_accepted.Goals as goal
+
+pub returns-in-Apart-clause-ends : goal.returns-in-Apart-clause-ends
+returns-in-Apart-clause-ends g c = λ p b parts old text drafts of all.
+    refused_joins p b parts c.not_joined_at-text.result old _ _ (apart_reason p b parts c.not_joined_at-text.result _ _ all c.not_joined_at-text.ensures) (c.refuse_with.ensures.ends old text drafts)
+
+pub returns-in-Refused-clause-ends : goal.returns-in-Refused-clause-ends
+returns-in-Refused-clause-ends g c = λ p b parts old text drafts of all.
+    refused_joins p b parts c.not_joined.result old _ _ (joined_reason p b parts c.not_joined.result _ all c.not_joined.ensures) (c.refuse_with-in-Refused.ensures.ends old text drafts)
+
+pub returns-in-Whole-clause-ends : goal.returns-in-Whole-clause-ends
+returns-in-Whole-clause-ends g c = λ p b parts old text drafts of all.
+    kept_joins p b parts c.in-Whole.verdict _ _ _ c.keep_joined.ensures.ends old text drafts (subst (λ (j : Joint). IsJointOf p b text j) c.in-Whole.is of)
