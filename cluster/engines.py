@@ -67,7 +67,7 @@ class Slurm:
             some = commands[at : at + LONGEST_ARRAY]
             cases = ''.join('%d) exec %s ;;\n' % (number, shlex.join(it)) for number, it in enumerate(some))
             words = ['sbatch', '--parsable', '--job-name=dpoly', '--no-requeue', '--output=/dev/null', '--cpus-per-task=%d' % asked.workers,
-                     '--array=0-%d%%%d' % (len(some) - 1, asked.jobs), *asked.words]
+                     '--array=0-%d' % (len(some) - 1), *asked.words]
             script = '#!/bin/sh\ncase $SLURM_ARRAY_TASK_ID in\n%sesac\n' % cases
             said = subprocess.run(words, input=script, stdout=subprocess.PIPE, text=True, check=True).stdout
             self.arrays.append(said.strip().split(';')[0])

@@ -1,4 +1,5 @@
-"""What is done on the machines of a cluster: `parts.py TASK` goes on with the parts of a task, one after the other.
+"""What is done on the machines of a cluster: `parts.py FOLDER` goes on with the parts of the task in this folder. They are in
+groups; who makes the file FOLDER/N first goes on with group N, and then takes the next one that is free.
 
 A part is a box that a certificate leaves open. `done/NAME.cert` is what became of it, a certificate of the script in which
 all other boxes are open. `open/NAME.cert` is what that leaves to do: the same without the trees that leave nothing, which
@@ -91,16 +92,26 @@ def resume(task, name):
             os.remove(there)
 
 
-def main(path):
-    with open(path, encoding='ascii') as file:
+def is_free(claim):
+    """Whether nobody has made this claim before."""
+    try:
+        os.close(os.open(claim, os.O_CREAT | os.O_EXCL))
+    except FileExistsError:
+        return False
+    return True
+
+
+def main(folder):
+    with open(folder + '/task', encoding='ascii') as file:
         task = json.load(file)
-    os.chdir(os.path.dirname(os.path.dirname(path)))
-    for name in task['parts']:
-        with open('driver', encoding='ascii') as file:
-            if file.read() != task['driver']:
-                return
-        if not os.path.exists('done/%s.cert' % name):
-            resume(task, name)
+    os.chdir(os.path.dirname(os.path.dirname(folder)))
+    for number, group in enumerate(task['groups']):
+        for name in group if is_free('%s/%d' % (folder, number)) else []:
+            with open('driver', encoding='ascii') as file:
+                if file.read() != task['driver']:
+                    return
+            if not os.path.exists('done/%s.cert' % name):
+                resume(task, name)
 
 
 if __name__ == '__main__':
