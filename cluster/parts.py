@@ -28,16 +28,16 @@ def word(line):
     return line.split(b' ', 1)[0]
 
 
-def outline(tree, own):
+def outline(tree, words, own):
     """The lines of a tree in which each tree that has none of its own open lines, by their numbers, is None."""
-    number, trees = sum(word(line) in LEAVING for line in tree), []
+    number, trees = sum(it in LEAVING for it in words), []
     # from the last line to the first; the lines of each tree are in this order too
-    for line in reversed(tree):
-        if word(line) in BRANCHES:
+    for line, first_word in zip(reversed(tree), reversed(words)):
+        if first_word in BRANCHES:
             first, second = trees.pop(), trees.pop()
             trees.append([None] if first == second == [None] else second + first + [line])
-        elif word(line) not in STEPS:
-            number -= word(line) in LEAVING
+        elif first_word not in STEPS:
+            number -= first_word in LEAVING
             trees.append([line if line == b'open' and number in own else None])
         elif trees[-1] != [None]:
             trees[-1].append(line)
@@ -63,14 +63,15 @@ def keep(name, there):
     if not known['is_point']:
         top = len(lines) - lines[::-1].index(b'tree')
         tree = lines[top:-2]
-        leaving = sum(word(line) in LEAVING for line in tree)
+        words = [word(line) for line in tree]
+        leaving = sum(it in LEAVING for it in words)
         before = told(parent) if parent else {'open': 1, 'branches': 0}
         own = range(int(number or 0), leaving - (before['open'] - 1 - int(number or 0)))
-        left = outline(tree, own)
+        left = outline(tree, words, own)
         leaves = [line for line in left if line in (b'open', None)]
         branches = sum(word(line or b'') in BRANCHES for line in left)
         known.update(parts=[place for place, line in enumerate(leaves) if line], open=len(leaves), branches=branches,
-                     splits=sum(word(line) in BRANCHES for line in tree) - before['branches'])
+                     splits=sum(it in BRANCHES for it in words) - before['branches'])
         write('open/%s.cert' % name, b'\n'.join(lines[:top] + [line or b'open' for line in left] + lines[-2:]))
     write('open/%s.json' % name, json.dumps(known).encode())
     os.replace(there, 'done/%s.cert' % name)
