@@ -1,0 +1,4 @@
+pub mod Members
+pub mod Joining
+pub mod Keeping
+pub mod Refining

@@ -1,0 +1,28 @@
+-- The laws of joined trees.
+use Rattle.std.specs.Prelude.{List, IsTrue}
+use Rattle.std.specs.List.{AllByRecursion}
+use Rattle.poly_graph.specs.Problem.{Problem}
+use Rattle.cover_model.specs.State.{State, Loosenings}
+use Rattle.cover_model.specs.Derivation.{Tree, tree_lines, Lawful}
+use Rattle.cert_resumed.specs.Resumed.{Refines}
+use Rattle.cert_joined.specs.Joined.{Joins, IsAgreed, Keeps, closes}
+
+abbrev pub IsLawfulAt : Problem → Loosenings → List State → State → Tree → Type 0
+IsLawfulAt p s lemmas S t = (left : List State) × Lawful p s lemmas S t left
+
+-- What joins lawful trees is lawful.
+abbrev pub JoinsLawful : Type 0
+JoinsLawful = (p : Problem) (s : Loosenings) (lemmas : List State) (S : State) (ts : List Tree) (u : Tree) →
+    Joins ts u → AllByRecursion (λ (t : Tree). IsLawfulAt p s lemmas S t) ts → IsLawfulAt p s lemmas S u
+
+-- Where one leaves nothing, neither does what joins them.
+abbrev pub ClosedStaysClosed : Type 0
+ClosedStaysClosed = (ts : List Tree) (u : Tree) → Joins ts u → AllByRecursion (λ (t : Tree). IsTrue (closes t) → IsTrue (closes u)) ts
+
+-- It keeps of each what it closed, unless another tree was taken.
+abbrev pub KeepsEach : Type 0
+KeepsEach = (ts : List Tree) (u : Tree) → Joins ts u → AllByRecursion (λ (t : Tree). Keeps t u) ts
+
+-- Where no trees differ, its lines refine those of each.
+abbrev pub JoinsRefines : Type 0
+JoinsRefines = (ts : List Tree) (u : Tree) (j : Joins ts u) → IsAgreed j → AllByRecursion (λ (t : Tree). Refines (tree_lines u) (tree_lines t)) ts
