@@ -1,5 +1,5 @@
 -- From certificates that were joined to the end of a run.
-use Rattle.std.proofs.Common.{◌≡◌, ◌<◌, inl, inr, ℕ, List, [], ◌∷◌, ◌++◌, Option, Some, None, Result, Ok, Err, IfOk, MatchResult, Vec, Global, codes, take, refl, ap, sym, ◌∙◌, subst}
+use Rattle.std.proofs.Common.{◌≡◌, ◌<◌, ◌⊎◌, inl, inr, ℕ, List, [], ◌∷◌, ◌++◌, Option, Some, None, Result, Ok, Err, IfOk, MatchResult, Vec, Global, codes, take, length, arith, refl, ap, sym, ◌∙◌, subst}
 use Rattle.std.proofs.lemmas.Option.{none-some}
 use Rattle.std.specs.declared.alloc.AllocError.{AllocError}
 use Rattle.desk.specs.declared.desk.Port.TheVariants.{Answer, Part}
@@ -201,6 +201,11 @@ value-of : (p : Problem) (b : Option ℕ) (text : List ℕ) (w : told.Verdict) (
 value-of p b text w (accepted s x) e h = (s, x, e, h)
 value-of p b text w (refused g n) e h = absurd h
 
+-- whether lines were dropped or not
+pub verdict_in : (p : Problem) (b : Option ℕ) (text : List ℕ) (joint : Joint) (w : told.Verdict) → (joint ≡ Whole w) ⊎ (joint ≡ Dropped w) → IsJointOf p b text joint → IsVerdict (verdict p b text) (Ok w)
+verdict_in p b text joint w (inl e) of = subst (λ (j : Joint). IsJointOf p b text j) e of
+verdict_in p b text joint w (inr e) of = subst (λ (j : Joint). IsJointOf p b text j) e of
+
 pub kept_joins : (p : Problem) (b : Option ℕ) (parts : List (List ℕ)) (w : told.Verdict) (mid new : Sight) (status : Status) → EndsKept w mid new status → (old : Sight) (text : List ℕ) → IsDrafted old text mid → IsVerdict (verdict p b text) (Ok w) →
     StartedEnds (CanJoin p b parts) old new status
 kept_joins p b parts w mid new status ends old text drafts is =
@@ -293,3 +298,7 @@ module _ (script : List ℕ) (parts : List (List ℕ)) where
 
 pub ends_same : (can : Course → Type 0) (old mid new : Sight) (status : Status) → mid ≡ old → StartedEnds can mid new status → StartedEnds can old new status
 ends_same can old mid new status e ends = subst (λ (d : Sight). StartedEnds can d new status) e ends
+
+-- as many certificates as are counted
+pub some_of : (parts : List (List ℕ)) (count : ℕ) → length parts ≡ count → 0 < count → 0 < length parts
+some_of parts count n some = omega (arith, n, some)
