@@ -38,7 +38,11 @@ impl Unread {
 }
 
 /// The script on its port, or none where it is too long.
-pub(crate) fn fetch_script<D: Desk>(alloc: Global, desk: &mut D, name: &str) -> Result<Option<Vec<u8>>, Unread>
+pub(crate) fn fetch_script<D: Desk>(
+    alloc: Global,
+    desk: &mut D,
+    name: &str,
+) -> Result<Option<Vec<u8>>, Unread>
     ensures { MatchResult result
         (λ x. FetchesScript name.now x (D.sight desk.old) (D.sight desk.new))
         (λ e. HaltsScript name.now e (D.sight desk.old) (D.sight desk.new)) }

@@ -14,11 +14,7 @@ use std::alloc::{AllocError, Global};
 
 /// The certificate of this number, from 1 on, is refused for this fault. Out of memory has no text, and is answered
 /// again.
-pub fn refused_part(
-    alloc: Global,
-    number: usize,
-    fault: CertFault,
-) -> Result<Vec<u8>, AllocError>
+pub fn refused_part(alloc: Global, number: usize, fault: CertFault) -> Result<Vec<u8>, AllocError>
     ensures { IfOk result (λ text. TellsPart number fault text.items) }
 {
     let line = format!(in alloc; "certificate {number}\n")?;
