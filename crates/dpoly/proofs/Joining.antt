@@ -1,11 +1,11 @@
 -- From certificates that were joined to the end of a run.
-use Rattle.std.proofs.Common.{◌≡◌, ◌<◌, inl, inr, ℕ, List, [], ◌∷◌, ◌++◌, Option, Some, None, Result, Ok, Err, IfOk, MatchResult, Vec, Global, codes, take, refl, ap, sym, ◌∙◌, subst}
+use Rattle.std.proofs.Common.{◌≡◌, ◌<◌, ◌⊎◌, inl, inr, ℕ, List, [], ◌∷◌, ◌++◌, Option, Some, None, Result, Ok, Err, IfOk, MatchResult, Vec, Global, codes, take, length, arith, refl, ap, sym, ◌∙◌, subst}
 use Rattle.std.proofs.lemmas.Option.{none-some}
 use Rattle.std.specs.declared.alloc.AllocError.{AllocError}
 use Rattle.desk.specs.declared.desk.Port.TheVariants.{Answer, Part}
 use Rattle.desk.specs.Draft.{IsDrafted}
 use Rattle.desk.specs.Sight.{Sight, FailsOn, SideFailed}
-use Rattle.command_line.specs.Words.{Join, join}
+use Rattle.command_line.specs.Words.{IsJoin, Join, join}
 use Rattle.poly_graph.specs.Problem.{Problem}
 use Rattle.poly_graph.specs.ProblemViews.{Parts, problem_of}
 use Rattle.cover_model.specs.State.{Loosenings}
@@ -31,15 +31,17 @@ use Rattle.check_run.specs.declared.script.Halt.TheVariants as halt
 use Rattle.check_run.specs.declared.status.Status.{Status}
 use Rattle.check_run.specs.declared.status.Status.TheVariants.{Answered, CertRefused, ScriptRefused, Usage, InFailed, OutFailed, NoMemory}
 use Rattle.check_run.specs.Both.{IsScriptHeld, status_of}
-use Rattle.check_run.specs.Can.{CanBy, OfProblem}
-use Rattle.check_run.specs.Course.{Course, Quiet, Ends, at_its_end, out_failed, no_memory, StartedEnds, Stopped, Went, appended, draft_fails, goes_on, in_fails, no_memory_left, says}
-use Rattle.check_run.specs.Joined.{AreAllAccepted, CanJoin, IsNotJoined, apart_text, bound_of, joins, keeps, not_joined_line, one_refused, part_line, refused_part_text, refuses}
+use Rattle.check_run.specs.Can.{Can, CanBy, OfProblem}
+use Rattle.check_run.specs.Course.{Course, Quiet, RunEnds, Ends, at_its_end, out_failed, no_memory, StartedEnds, Stopped, Went, appended, draft_fails, goes_on, in_fails, no_memory_left, says}
+use Rattle.check_run.specs.Joined.{AreAllAccepted, CanJoin, IsNotJoined, apart_text, bound_of, join_starts, joins, keeps, not_joined_line, one_refused, part_line, refused_part_text, refuses}
 use Rattle.check_run.specs.Joined as together
 use Rattle.check_run.specs.Run.{HasCause, JoinHasCause, run_of}
 use Rattle.check_run.specs.Script.{HaltEnds, IsHaltOfFault, IsTooLong}
-use Rattle.check_run.specs.Several.{CanJoinOn, EndsKept, IsHalted, TellsPart}
+use Rattle.check_run.specs.Several.{CanJoinOn, EndsKept, FetchesSeveral, IsHalted, TellsPart}
 use Rattle.check_run.specs.Stops.{stop_text}
 use Rattle.check_run.proofs.Ending.{appended-nil}
+use Rattle.check_run.proofs.RunParts.{join_draft, run_started}
+use Rattle.check_run.proofs.Running.{told as told_script}
 use Rattle.dpoly.specs.declared.join.Joint.{Joint}
 use Rattle.dpoly.specs.declared.join.Joint.TheVariants.{Whole, Dropped, Apart, Refused}
 use Rattle.dpoly.specs.Join.{EndsAccepted, EndsOnJoin, EndsOnJoint, EndsRefused, HaltsJoining, IsDraftedJoint, IsFirstFault, IsFirstFaultOn, IsJointOf, IsRefusalWith, IsToldJoint, IsUnread}
@@ -201,6 +203,11 @@ value-of : (p : Problem) (b : Option ℕ) (text : List ℕ) (w : told.Verdict) (
 value-of p b text w (accepted s x) e h = (s, x, e, h)
 value-of p b text w (refused g n) e h = absurd h
 
+-- whether lines were dropped or not
+pub verdict_in : (p : Problem) (b : Option ℕ) (text : List ℕ) (joint : Joint) (w : told.Verdict) → (joint ≡ Whole w) ⊎ (joint ≡ Dropped w) → IsJointOf p b text joint → IsVerdict (verdict p b text) (Ok w)
+verdict_in p b text joint w (inl e) of = subst (λ (j : Joint). IsJointOf p b text j) e of
+verdict_in p b text joint w (inr e) of = subst (λ (j : Joint). IsJointOf p b text j) e of
+
 pub kept_joins : (p : Problem) (b : Option ℕ) (parts : List (List ℕ)) (w : told.Verdict) (mid new : Sight) (status : Status) → EndsKept w mid new status → (old : Sight) (text : List ℕ) → IsDrafted old text mid → IsVerdict (verdict p b text) (Ok w) →
     StartedEnds (CanJoin p b parts) old new status
 kept_joins p b parts w mid new status ends old text drafts is =
@@ -293,3 +300,16 @@ module _ (script : List ℕ) (parts : List (List ℕ)) where
 
 pub ends_same : (can : Course → Type 0) (old mid new : Sight) (status : Status) → mid ≡ old → StartedEnds can mid new status → StartedEnds can old new status
 ends_same can old mid new status e ends = subst (λ (d : Sight). StartedEnds can d new status) e ends
+
+-- as many certificates as are counted
+pub some_of : (parts : List (List ℕ)) (count : ℕ) → length parts ≡ count → 0 < count → 0 < length parts
+some_of parts count n some = omega (arith, n, some)
+
+-- a run behind its script and the starts of its certificates
+pub run_several : (words : Join) (script cert_in : List ℕ) (parts : List (List ℕ)) (x : Option (Vec ℕ Global)) (count : ℕ) (old mid new : Sight) (status : Status) → FetchesSeveral words x old mid → old.script ≡ Some script → old.parts ≡ Some parts →
+    length parts ≡ length words.certs → count ≡ length words.certs → IsJoin words →
+    ((text : List ℕ) (shown : List (List ℕ)) → IsScriptHeld x text → mid.parts ≡ Some shown → length shown ≡ count → 0 < count → StartedEnds (CanJoinOn text shown) mid new status) →
+    RunEnds (Can (Some (join words)) script cert_in parts) (join_starts words) old new status
+run_several words script cert_in parts x count old mid new status fetched e f n k asked ends =
+    run_started (join_starts words) (CanJoinOn script parts) (Can (Some (join words)) script cert_in parts) old mid new status (join_draft words) fetched.after (λ tail can. (tail, can, refl))
+    (ends script parts (told_script (IsScriptHeld x) old.script script e fetched.script_is) (fetched.parts ∙ f) (n ∙ sym k) (omega (arith, k, asked.certs_least)))

@@ -1,6 +1,7 @@
 -- Certificates that are read at any place and checked, each by itself.
-use Rattle.std.proofs.Common.{◌≡◌, ◌<◌, ◌≤◌, ◌+◌, ◌-◌, inl, inr, ℕ, zero, suc, List, [], ◌∷◌, ◌++◌, Bool, true, Option, Some, None, Result, Ok, Err, IfSome, length, take, drop, refl, ap, sym, ◌∙◌, subst, arith, take-append-drop, length-append, length-take-le, length-drop, take-add, take-take, take_all}
+use Rattle.std.proofs.Common.{◌≡◌, ◌<◌, ◌≤◌, ◌+◌, ◌-◌, inl, inr, ℕ, zero, suc, List, [], ◌∷◌, ◌++◌, Bool, true, Option, Some, None, Result, Ok, Err, IfSome, length, min, take, drop, refl, ap, sym, ◌∙◌, subst, arith, take-append-drop, length-append, length-take-le, length-drop, take-add, take-take, take_all}
 use Rattle.std.specs.Prelude.{slice_get}
+use Rattle.std.proofs.lemmas.List.{take_min}
 use Rattle.std.specs.Option.{option_flatten, option_map}
 use Rattle.std.specs.List.{AllByRecursion}
 use Rattle.desk.specs.Sight.{Sight, IsFront, PartStep, part_in}
@@ -232,3 +233,11 @@ head_named head b old new h e = record { same = h.same; named = λ parts f some.
   named-by : (parts : List (List ℕ)) → old.parts ≡ Some parts → 0 < length parts → b ≡ bound_of parts
   named-by [] f some = absurd (omega (arith, some))
   named-by (first ∷ others) f some = e ∙ ap header_bound (same-head head first (told-there (IsHead head) 0 old (first ∷ others) first f refl h.is))
+
+-- as many bytes as are searched
+pub head_taken : (head bytes : List ℕ) (n k : ℕ) → bytes ≡ head → n ≡ length head → k ≡ min n head_bytes → take k bytes ≡ take head_bytes head
+head_taken head bytes n k e f g =
+    let same : k ≡ min head_bytes (length head) = g ∙ ap (λ (m : ℕ). min m head_bytes) f ∙ min-swap (length head) in
+    ap (λ (l : List ℕ). take k l) e ∙ ap (λ (m : ℕ). take m head) same ∙ take_min head_bytes head where
+  min-swap : (m : ℕ) → min m head_bytes ≡ min head_bytes m
+  min-swap m = omega arith

@@ -1,7 +1,4 @@
-use Rattle.std.proofs.Common.{subst}
-use Rattle.dpoly.specs.declared.join.Joint.{Joint}
-use Rattle.dpoly.specs.Join.{IsJointOf}
-use Rattle.dpoly.proofs.Joining.{apart_reason, joined_reason, kept_joins, refused_joins}
+use Rattle.dpoly.proofs.Joining.{apart_reason, joined_reason, kept_joins, refused_joins, verdict_in}
 use Rattle.dpoly.proofs.join.end_accepted.Goals as goal
 
 pub returns-in-Apart-clause-ends : goal.returns-in-Apart-clause-ends
@@ -14,4 +11,4 @@ returns-in-Refused-clause-ends g c = λ p b parts old text drafts of all.
 
 pub returns-in-Whole-clause-ends : goal.returns-in-Whole-clause-ends
 returns-in-Whole-clause-ends g c = λ p b parts old text drafts of all.
-    kept_joins p b parts c.in-Whole.verdict _ _ _ c.keep_joined.ensures.ends old text drafts (subst (λ (j : Joint). IsJointOf p b text j) c.in-Whole.is of)
+    kept_joins p b parts c.in-Whole.verdict _ _ _ c.keep_joined.ensures.ends old text drafts (verdict_in p b text c.args.joint c.in-Whole.verdict c.in-Whole.is of)

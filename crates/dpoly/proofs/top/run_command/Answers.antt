@@ -27,3 +27,7 @@ returns-in-Plan-clause-course g c =
 pub returns-in-Resume-clause-course : goal.returns-in-Resume-clause-course
 returns-in-Resume-clause-course g c =
     subst (λ (a : Request). HasCourse (run_of (Some (seen a)) (g.D.Desk.sight c.args.desk.now) (g.D.Desk.sight c.run_resume.new.desk) c.run_resume.result)) (sym c.in-Resume.is) c.run_resume.ensures.course
+
+pub returns-in-Join-clause-course : goal.returns-in-Join-clause-course
+returns-in-Join-clause-course g c =
+    subst (λ (a : Request). HasCourse (run_of (Some (seen a)) (g.D.Desk.sight c.args.desk.now) (g.D.Desk.sight c.run_join.new.desk) c.run_join.result)) (sym c.in-Join.is) c.run_join.ensures.course
