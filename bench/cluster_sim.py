@@ -22,7 +22,6 @@ import heapq
 import random
 
 BRANCHES, STEPS = ('cut', 'flip', 'case'), ('pull', 'push', 'comb', 'unit', 'ban')
-MOST = 1048576
 
 
 def shares(name, least):
@@ -134,11 +133,11 @@ def main():
     parser.add_argument('--call', type=float, default=0.05, help='seconds of a part besides its splits')
     parser.add_argument('--round', type=float, default=3.0, help='seconds of a round besides its tasks')
     parser.add_argument('--result', type=float, default=0.0005, help='seconds of the driver for a result')
-    parser.add_argument('--budget', type=int, default=300)
+    parser.add_argument('--budget', type=int, default=1000)
     parser.add_argument('--growth', type=int, default=4)
     parser.add_argument('--enough', type=int, default=4)
-    parser.add_argument('--most', type=int, default=MOST)
-    parser.add_argument('--parts', type=int, default=4)
+    parser.add_argument('--most', type=int, default=200000)
+    parser.add_argument('--parts', type=int, default=32)
     parser.add_argument('--ways', default='fixed,rounds,joined')
     asked = parser.parse_args()
     found = []
