@@ -2,25 +2,23 @@
 use Rattle.std.proofs.Common.{◌≡◌, ◌<◌, ◌⊎◌, inl, inr, ℕ, List, [], ◌∷◌, ◌++◌, Option, Some, None, Result, Ok, Err, IfOk, MatchResult, Vec, Global, codes, take, length, arith, refl, ap, sym, ◌∙◌, subst}
 use Rattle.std.proofs.lemmas.Option.{none-some}
 use Rattle.std.specs.declared.alloc.AllocError.{AllocError}
-use Rattle.desk.specs.declared.desk.Port.TheVariants.{Answer, Part}
+use Rattle.desk.specs.declared.desk.Port.TheVariants.{Answer}
 use Rattle.desk.specs.Draft.{IsDrafted}
-use Rattle.desk.specs.Sight.{Sight, FailsOn, SideFailed}
+use Rattle.desk.specs.Sight.{Sight, SideFailed}
 use Rattle.command_line.specs.Words.{IsJoin, Join, join}
 use Rattle.poly_graph.specs.Problem.{Problem}
 use Rattle.poly_graph.specs.ProblemViews.{Parts, problem_of}
 use Rattle.cover_model.specs.State.{Loosenings}
-use Rattle.cert_model.specs.Due as due
 use Rattle.cert_model.specs.Due.{Value}
-use Rattle.cert_model.specs.Accepted.{Verdict, accepted, refused, stopped, verdict}
+use Rattle.cert_model.specs.Accepted.{Verdict, accepted, refused, verdict}
 use Rattle.cert_model.specs.AnswerText.{check_text, verdict_text}
 use Rattle.cert_check.specs.declared.checker.Verdict as told
 use Rattle.cert_check.specs.declared.fault.CertFault.{CertFault}
-use Rattle.cert_check.specs.declared.fault.CertFault.TheVariants.{Memory}
 use Rattle.cert_check.specs.declared.feed.Feed.{Feed}
 use Rattle.cert_check.specs.Courses.{IsVerdict, verdict_of}
 use Rattle.cert_check.specs.Faults.{stop_of}
-use Rattle.cert_check.specs.Feeding.{HasTaken, IsVerdictOfTaken, IsVerdictOrMemory}
-use Rattle.cert_join.specs.Drafting.{IsDraftFailed, IsJoined, IsReadFailed, IsSomeDrafted, IsUnderWay}
+use Rattle.cert_check.specs.Feeding.{IsVerdictOfTaken, IsVerdictOrMemory}
+use Rattle.cert_join.specs.Drafting.{IsDraftFailed, IsReadFailed, IsSomeDrafted, IsUnderWay}
 use Rattle.script_fault.specs.declared.fault.ScriptFault.{ScriptFault}
 use Rattle.script_reading.specs.Faults.{script_fault}
 use Rattle.script_reading.specs.Reader.{HasProblem}
@@ -32,7 +30,7 @@ use Rattle.check_run.specs.declared.status.Status.{Status}
 use Rattle.check_run.specs.declared.status.Status.TheVariants.{Answered, CertRefused, ScriptRefused, Usage, InFailed, OutFailed, NoMemory}
 use Rattle.check_run.specs.Both.{IsScriptHeld, status_of}
 use Rattle.check_run.specs.Can.{Can, CanBy, OfProblem}
-use Rattle.check_run.specs.Course.{Course, Quiet, RunEnds, Ends, at_its_end, out_failed, no_memory, StartedEnds, Stopped, Went, appended, draft_fails, goes_on, in_fails, no_memory_left, says}
+use Rattle.check_run.specs.Course.{Course, Quiet, RunEnds, Ends, at_its_end, out_failed, no_memory, StartedEnds, Stopped, appended, draft_fails, goes_on, in_fails, no_memory_left, says}
 use Rattle.check_run.specs.Joined.{AreAllAccepted, CanJoin, IsNotJoined, apart_text, bound_of, join_starts, joins, keeps, not_joined_line, one_refused, part_line, refused_part_text, refuses}
 use Rattle.check_run.specs.Joined as together
 use Rattle.check_run.specs.Run.{HasCause, JoinHasCause, run_of}

@@ -3,14 +3,11 @@ use Rattle.std.proofs.Common.{◌≡◌, ◌<◌, ◌≤◌, ◌+◌, ◌-◌, i
 use Rattle.std.specs.Prelude.{slice_get}
 use Rattle.std.proofs.lemmas.List.{take_min}
 use Rattle.std.specs.Option.{option_flatten, option_map}
-use Rattle.std.specs.List.{AllByRecursion}
 use Rattle.desk.specs.Sight.{Sight, IsFront, PartStep, part_in}
 use Rattle.poly_graph.specs.Problem.{Problem}
 use Rattle.poly_graph.specs.ProblemViews.{Parts, problem_of}
 use Rattle.problem_session.specs.Session.{problems_of}
-use Rattle.cover_model.specs.State.{Loosenings}
-use Rattle.cert_model.specs.Due.{Value}
-use Rattle.cert_model.specs.Accepted.{Verdict, accepted, refused, stopped, verdict}
+use Rattle.cert_model.specs.Accepted.{Verdict, accepted, refused, verdict}
 use Rattle.cert_model.specs.Session.{one_verdict, session_verdict}
 use Rattle.cert_check.specs.declared.checker.Verdict as told
 use Rattle.cert_check.specs.declared.fault.CertFault.{CertFault}

@@ -1,4 +1,4 @@
-use Rattle.std.proofs.Common.{◌∙◌, ℕ, List, ap, sym, subst}
+use Rattle.std.proofs.Common.{◌∙◌, ℕ, List, ap, subst}
 use Rattle.desk.specs.Sight.{Sight}
 use Rattle.poly_graph.specs.ProblemViews.{problem_of}
 use Rattle.script_reading.specs.Faults.{script_fault}

@@ -5,7 +5,7 @@ use Rattle.command_line.specs.Words.{join}
 use Rattle.command_line.specs.Seen.{seen_join}
 use Rattle.check_run.specs.Can.{Can}
 use Rattle.check_run.specs.Joined.{join_starts}
-use Rattle.check_run.proofs.RunParts.{cause_halted, halted_script, join_draft, read_several, run_halted}
+use Rattle.check_run.proofs.RunParts.{join_draft, read_several, run_halted}
 use Rattle.check_run.proofs.Running.{cause_behind}
 use Rattle.dpoly.proofs.Joining.{run_several}
 use Rattle.dpoly.proofs.top.run_join.Goals as goal
@@ -25,13 +25,7 @@ pub returns-in-Ok-clause-script : goal.returns-in-Ok-clause-script
 returns-in-Ok-clause-script g c =
     read_several (seen_join c.args.asked) c.in-Ok.script (g.D.Desk.sight c.args.desk.now) (g.D.Desk.sight c.fetch_several.new.desk) (g.D.Desk.sight c.join_inputs.new.desk) c.join_inputs.result c.in-Ok.ensures c.join_inputs.ensures.script
 
-pub returns-in-Err-clause-course : goal.returns-in-Err-clause-course
-returns-in-Err-clause-course g c script cert_in parts tells =
+pub returns-clause-course : goal.returns-clause-course
+returns-clause-course g c script cert_in parts tells =
     run_halted (Can (Some (join (seen_join c.args.asked))) script cert_in parts) (join_starts (seen_join c.args.asked)) c.in-Err.status (g.D.Desk.sight c.args.desk.now) (g.D.Desk.sight c.fetch_several.new.desk) (join_draft (seen_join c.args.asked))
     c.in-Err.ensures.halted
-
-pub returns-in-Err-clause-cause : goal.returns-in-Err-clause-cause
-returns-in-Err-clause-cause g c = cause_halted (seen_join c.args.asked) (join_starts (seen_join c.args.asked)) c.in-Err.status (g.D.Desk.sight c.args.desk.now) (g.D.Desk.sight c.fetch_several.new.desk) c.in-Err.ensures.halted
-
-pub returns-in-Err-clause-script : goal.returns-in-Err-clause-script
-returns-in-Err-clause-script g c = halted_script (seen_join c.args.asked) c.in-Err.status (g.D.Desk.sight c.args.desk.now) (g.D.Desk.sight c.fetch_several.new.desk) c.in-Err.ensures
