@@ -174,11 +174,11 @@ module _ (p : Problem) (b : Option ℕ) (number count : ℕ) (old now new : Sigh
   pub fault_first : (x : CertFault) (k : ℕ) → k ≡ suc number → IfSome (part_in number now) (λ cert. IsToldAlone (verdict p b cert) (Err (Fault x))) → IsFirstFaultOn p b count old (Some (k, x))
   fault_first x k e tells parts f n =
       let s = split_at parts number (omega (arith, n, less)) in by (verdict p b s.cert) s refl (told-of (Err (Fault x)) tells parts f n s) where
-    by : (v : Verdict) → (s : Split parts number) → verdict p b s.cert ≡ v → IsRefusalOrMemory v x → IsFirstFault p b parts (Some (k, x))
-    by v s is (inl m) = inl m
-    by (accepted l w) s is (inr h) = absurd h
-    by (refused g line) s is (inr h) =
-        inr (g, line, record { before = take number parts; cert = s.cert; behind = s.behind; all = s.all; number = e ∙ ap suc (sym s.number); accepted = so_far.accepted parts f n; refuses = is }, h)
+        by : (v : Verdict) → (s : Split parts number) → verdict p b s.cert ≡ v → IsRefusalOrMemory v x → IsFirstFault p b parts (Some (k, x))
+        by v s is (inl m) = inl m
+        by (accepted l w) s is (inr h) = absurd h
+        by (refused g line) s is (inr h) =
+            inr (g, line, record { before = take number parts; cert = s.cert; behind = s.behind; all = s.all; number = e ∙ ap suc (sym s.number); accepted = so_far.accepted parts f n; refuses = is }, h)
 
 pub none_refused : (p : Problem) (b : Option ℕ) (number count : ℕ) (old now : Sight) → AcceptedSoFar p b number count old now → count ≤ number → IsFirstFaultOn p b count old None
 none_refused p b number count old now so_far over parts e n = subst (λ (l : List (List ℕ)). AreAllAccepted p b l) (take_all number parts (omega (arith, n, over))) (so_far.accepted parts e n)
@@ -236,5 +236,5 @@ pub head_taken : (head bytes : List ℕ) (n k : ℕ) → bytes ≡ head → n �
 head_taken head bytes n k e f g =
     let same : k ≡ min head_bytes (length head) = g ∙ ap (λ (m : ℕ). min m head_bytes) f ∙ min-swap (length head) in
     ap (λ (l : List ℕ). take k l) e ∙ ap (λ (m : ℕ). take m head) same ∙ take_min head_bytes head where
-  min-swap : (m : ℕ) → min m head_bytes ≡ min head_bytes m
-  min-swap m = omega arith
+      min-swap : (m : ℕ) → min m head_bytes ≡ min head_bytes m
+      min-swap m = omega arith

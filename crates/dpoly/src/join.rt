@@ -13,7 +13,8 @@ use crate::alone::{first_fault, head_bound};
 use cert_check::{CertFault, Feed, Verdict};
 use cert_join::{Place, Stop, join};
 use check_run::{
-    Status, end_halted, keep_joined, not_joined, not_joined_at, refusal, refused_part, say, too_long,
+    Status, end_halted, keep_joined, not_joined, not_joined_at, refusal, refused_part, say,
+    too_long,
 };
 use desk::Desk;
 use poly_graph::Problem;
