@@ -7,7 +7,8 @@ use Rattle.desk.specs.Texts.{WritesPrefix, WritesThenFails}
 use Rattle.poly_graph.specs.ProblemViews.{Parts}
 use Rattle.cert_check.specs.Feeding.{IsFedPiece}
 use Rattle.cert_check.specs.declared.feed.Feed.{Feed}
-use Rattle.cert_join.specs.Drafting.{drafted, IsDrafted, IsUnderWay, IsReadFailed, IsDraftFailed, IsSomeDrafted}
+use Rattle.desk.specs.Draft.{drafted, IsDrafted}
+use Rattle.cert_join.specs.Drafting.{IsUnderWay, IsReadFailed, IsDraftFailed, IsSomeDrafted}
 
 map_more : (o : Option (List ℕ)) (text more : List ℕ) → option_map (λ before. before ++ more) (option_map (λ x. text) o) ≡ option_map (λ x. text ++ more) o
 map_more None text more = refl

@@ -1,20 +1,13 @@
 -- A certificate that is written in pieces, and checked as it is written.
 use Rattle.std.specs.Prelude.{◌≡◌, ℕ, List, Option, Result, Ok, Err}
-use Rattle.std.specs.Option.{option_map}
 use Rattle.desk.specs.declared.desk.Port.TheVariants.{Part}
 use Rattle.desk.specs.Sight.{Sight, SideFailed, FailsOn}
+use Rattle.desk.specs.Draft.{drafted, IsDrafted}
 use Rattle.poly_graph.specs.ProblemViews.{Parts}
 use Rattle.cert_check.specs.Feeding.{HasTaken}
 use Rattle.cert_check.specs.declared.feed.Feed.{Feed}
 use Rattle.cert_join.specs.declared.stop.Stop.{Stop}
 use Rattle.cert_join.specs.declared.stop.Stop.TheVariants.{Failed, Denied, Memory}
-
--- the same sight, with this text in the draft
-abbrev pub drafted : Sight → List ℕ → Sight
-drafted s text = record s { draft = option_map (λ x. text) s.cert_out }
-
-abbrev pub IsDrafted : Sight → List ℕ → Sight → Type 0
-IsDrafted s text d = d ≡ drafted s text
 
 -- Since this sight a text was drafted, and nothing else changed; a checker for this problem and bound took the same text, and met no fault in it.
 pub record IsUnderWay (s : Sight) (p : Parts) (b : Option ℕ) (d : Sight) (f : Feed) : Type 0 where
