@@ -1,6 +1,7 @@
 // The first five lines of each certificate.
 use crate::cursor::Cursor;
 use crate::joiner::{Step, apart};
+use crate::line::number_of;
 use crate::stop::Unjoined;
 use std::alloc::{AllocError, Global};
 
@@ -15,6 +16,10 @@ pub struct Heads {
     bound: Vec<u8>,
     /// The first certificate of a point.
     pub point: Option<usize>,
+    /// Of each certificate, how many lemmas it says that it has.
+    pub counts: Vec<u32>,
+    /// Whether one is of version 1, which does not have all rules.
+    pub has_old: bool,
 }
 
 // Keeps the line of the first certificate, and says of another one's whether it is the same.
@@ -42,29 +47,49 @@ impl Heads {
             delta: Vec::new(alloc),
             bound: Vec::new(alloc),
             point: None,
+            counts: Vec::new(alloc),
+            has_old: false,
         }
+    }
+
+    // Takes the first line of a certificate, and says whether it is that of a version for one check.
+    fn take_version(&mut self, line: &[u8]) -> bool {
+        let is_old = line == b"dpoly 1".as_slice();
+        self.has_old = self.has_old || is_old;
+        is_old || line == b"dpoly 2".as_slice()
     }
 
     // Takes the next line of a certificate, and says whether it may stand there.
     fn take(&mut self, line: &[u8]) -> Result<bool, AllocError> {
         let is_first = self.part == 0;
         match self.row {
+            0 => Ok(self.take_version(line)),
             1 => is_alike(&mut self.margin, is_first, line),
             2 => is_alike(&mut self.delta, is_first, line),
             3 => is_alike(&mut self.bound, is_first, line),
-            _ => Ok(true),
+            _ => self.take_kind(line),
         }
     }
 
     // Takes the kind of a certificate, and says whether it is one.
-    fn take_kind(&mut self, line: &[u8]) -> bool {
+    fn take_kind(&mut self, line: &[u8]) -> Result<bool, AllocError> {
         if line == b"point".as_slice() {
             if self.point.is_none() {
                 self.point = Some(self.part);
             }
-            return true;
+            self.counts.push(0)?;
+            return Ok(true);
         }
-        line.starts_with(b"cover ")
+        let Some(digits) = line.strip_prefix(b"cover ") else {
+            return Ok(false);
+        };
+        match number_of(digits) {
+            Some(count) => {
+                self.counts.push(count)?;
+                Ok(true)
+            }
+            None => Ok(false),
+        }
     }
 
     /// Reads one more line.
@@ -78,12 +103,7 @@ impl Heads {
         let Some(line) = cursor.line() else {
             return Err(apart(self.part, cursor));
         };
-        let is_good = if self.row < 4 {
-            self.take(line)?
-        } else {
-            self.take_kind(line)
-        };
-        if !is_good {
+        if !self.take(line)? {
             return Err(apart(self.part, cursor));
         }
         cursor.pass();

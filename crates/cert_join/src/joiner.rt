@@ -39,8 +39,8 @@ enum Stage {
     Numbering(Heads, Numbering),
     Lemmas(Lemmas),
     Trees(Trees),
-    // The ends of the certificates from this one on are read.
-    Ends(usize),
+    // The ends of the certificates from this one on are read; whether its last line was.
+    Ends(usize, bool),
 }
 
 /// Follows certificates side by side, and gives the text of the one that joins them. It reads nothing itself: it says of
@@ -77,21 +77,20 @@ fn step_of_point(
     Ok(Step::On)
 }
 
-// Reads the last line of a certificate, and that nothing stands behind it. Says whether the certificate ended.
-fn step_to_end(cursor: &mut Cursor, part: usize, text: &mut Vec<u8>) -> Result<Step, Unjoined> {
+// Reads the last line of a certificate, and then that nothing stands behind it, where `is_read` says whether the line
+// was read.
+fn step_to_end(cursor: &mut Cursor, part: usize, is_read: &mut bool) -> Result<Step, Unjoined> {
     if !cursor.is_ready() {
         return Ok(Step::Read(part));
     }
     match cursor.line() {
-        None => Ok(Step::Over),
-        Some(line) if line == b"end".as_slice() => {
-            if part == 0 {
-                text.extend_from_slice(b"end\n")?;
-            }
+        None if *is_read => Ok(Step::Over),
+        Some(line) if !*is_read && line == b"end".as_slice() => {
             cursor.pass();
+            *is_read = true;
             Ok(Step::On)
         }
-        Some(_) => Err(apart(part, cursor)),
+        _ => Err(apart(part, cursor)),
     }
 }
 
@@ -136,6 +135,8 @@ impl Joiner {
     fn behind_heads(&mut self, heads: Heads, text: &mut Vec<u8>) -> Result<Stage, AllocError> {
         match heads.point {
             Some(part) => {
+                // The others are not read.
+                self.dropped = true;
                 heads.append(text)?;
                 text.extend_from_slice(b"point\n")?;
                 Ok(Stage::Point(part))
@@ -155,7 +156,8 @@ impl Joiner {
         text.extend_from_slice(b"cover ")?;
         append_number(text, numbering.count)?;
         text.push(b'\n')?;
-        self.dropped = numbering.dropped;
+        // The rules of version 2 would not be refused.
+        self.dropped = numbering.dropped || heads.has_old;
         self.numbers = numbering.numbers;
         Ok(Stage::Lemmas(Lemmas::new()))
     }
@@ -176,10 +178,13 @@ impl Joiner {
             Stage::Lemmas(_) => Ok(Some(self.behind_lemmas(text)?)),
             Stage::Trees(trees) => {
                 self.dropped = self.dropped || trees.dropped;
-                Ok(Some(Stage::Ends(0)))
+                text.extend_from_slice(b"end\n")?;
+                Ok(Some(Stage::Ends(0, false)))
             }
-            Stage::Ends(part) if part < self.cursors.len() => Ok(Some(Stage::Ends(part + 1))),
-            Stage::Ends(_) | Stage::Point(_) => Ok(None),
+            Stage::Ends(part, _) if part < self.cursors.len() => {
+                Ok(Some(Stage::Ends(part + 1, false)))
+            }
+            Stage::Ends(_, _) | Stage::Point(_) => Ok(None),
         }
     }
 
@@ -188,11 +193,13 @@ impl Joiner {
         match &mut self.stage {
             Stage::Heads(heads) => heads.step(&mut self.cursors),
             Stage::Point(part) => step_of_point(&mut self.cursors, *part, text),
-            Stage::Numbering(_, numbering) => numbering.step(&mut self.cursors),
+            Stage::Numbering(heads, numbering) => {
+                numbering.step(&mut self.cursors, &heads.counts)
+            }
             Stage::Lemmas(lemmas) => lemmas.step(&mut self.cursors, &self.numbers, text),
             Stage::Trees(trees) => trees.step(&mut self.cursors, &self.numbers, text),
-            Stage::Ends(part) => match self.cursors.get_mut(*part) {
-                Some(cursor) => step_to_end(cursor, *part, text),
+            Stage::Ends(part, is_read) => match self.cursors.get_mut(*part) {
+                Some(cursor) => step_to_end(cursor, *part, is_read),
                 None => Ok(Step::Over),
             },
         }
@@ -205,7 +212,7 @@ impl Joiner {
             return Ok(step);
         }
         let all = self.cursors.len();
-        let stage = mem::replace(&mut self.stage, Stage::Ends(all));
+        let stage = mem::replace(&mut self.stage, Stage::Ends(all, true));
         match self.behind(stage, text)? {
             Some(stage) => {
                 self.stage = stage;

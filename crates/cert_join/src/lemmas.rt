@@ -1,7 +1,7 @@
 // The lemmas of the joined certificate.
 use crate::cursor::Cursor;
 use crate::joiner::{Step, apart};
-use crate::line::{append_number, append_renumbered};
+use crate::line::{append_number, append_renumbered, number_of};
 use crate::stop::Unjoined;
 use std::alloc::AllocError;
 
@@ -46,20 +46,23 @@ impl Lemmas {
         numbers: &[u32],
         text: &mut Vec<u8>,
     ) -> Result<bool, AllocError> {
-        if line.starts_with(b"lemma ") {
-            return match numbers.get(self.begun) {
-                Some(number) => {
+        if let Some(digits) = line.strip_prefix(b"lemma ") {
+            return match (numbers.get(self.begun), number_of(digits)) {
+                (Some(number), Some(said)) if said as usize == self.begun => {
                     self.begin(*number, text)?;
                     Ok(true)
                 }
-                None => Ok(false),
+                _ => Ok(false),
             };
         }
-        if self.is_written {
-            append_renumbered(text, line, numbers)?;
-            text.push(b'\n')?;
+        if !self.is_written {
+            return Ok(true);
         }
-        Ok(true)
+        // The tree of a lemma may name those before it.
+        let before = self.begun.saturating_sub(1).min(numbers.len());
+        let is_good = append_renumbered(text, line, &numbers[..before])?;
+        text.push(b'\n')?;
+        Ok(is_good)
     }
 
     /// Reads one more line.

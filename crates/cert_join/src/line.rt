@@ -58,8 +58,12 @@ pub fn first_word(line: &[u8]) -> &[u8] {
 
 /// What the line leaves of its state; none where it is no line of a tree.
 pub fn left_of(line: &[u8]) -> Option<Left> {
-    let word = Word::spelled(first_word(line))?;
-    Some(left_by(word))
+    let word = first_word(line);
+    let left = left_by(Word::spelled(word)?);
+    if left == Left::Open && word.len() < line.len() {
+        return None;
+    }
+    Some(left)
 }
 
 // Whether the last word of the line is the number of a lemma.
@@ -68,8 +72,8 @@ fn names_lemma(line: &[u8]) -> bool {
     word == Word::By.text().as_bytes() || word == Word::Ban.text().as_bytes()
 }
 
-// The number that the bytes spell.
-fn number_of(bytes: &[u8]) -> Option<u32> {
+/// The number that the bytes spell, in decimal digits without a leading zero.
+pub fn number_of(bytes: &[u8]) -> Option<u32> {
     let number = str::from_utf8(bytes).ok()?.parse::<u32>().ok()?;
     let mut buffer = Buffer::new();
     if buffer.format(number).as_bytes() == bytes {
@@ -85,15 +89,16 @@ pub fn append_number(text: &mut Vec<u8>, number: u32) -> Result<(), AllocError> 
     text.extend_from_slice(buffer.format(number).as_bytes())
 }
 
-/// Appends a line of a tree without its break; a lemma that it names has the number that `numbers` gives it. A line that
-/// names no lemma there stays as it is.
+/// Appends a line of a tree without its break; a lemma that it names has the number that `numbers` gives it. Says whether
+/// that is there.
 pub fn append_renumbered(
     text: &mut Vec<u8>,
     line: &[u8],
     numbers: &[u32],
-) -> Result<(), AllocError> {
+) -> Result<bool, AllocError> {
     if !names_lemma(line) {
-        return text.extend_from_slice(line);
+        text.extend_from_slice(line)?;
+        return Ok(true);
     }
     let from = match memrchr(b' ', line) {
         Some(place) => place + 1,
@@ -107,8 +112,9 @@ pub fn append_renumbered(
     match number {
         Some(number) => {
             text.extend_from_slice(front)?;
-            append_number(text, *number)
+            append_number(text, *number)?;
+            Ok(true)
         }
-        None => text.extend_from_slice(line),
+        None => Ok(false),
     }
 }

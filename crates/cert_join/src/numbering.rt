@@ -117,8 +117,17 @@ impl Numbering {
         Ok(())
     }
 
-    /// Reads one more line. Where the lemmas of a certificate are read it goes back to their beginning.
-    pub fn step(&mut self, cursors: &mut [Cursor]) -> Result<Step, Unjoined> {
+    // Whether so many lemmas of the certificate were read as it says that it has.
+    fn is_whole(&self, counts: &[u32]) -> bool {
+        match (self.numbers.last(), counts.get(self.part)) {
+            (Some(numbers), Some(count)) => numbers.len() == *count as usize,
+            _ => false,
+        }
+    }
+
+    /// Reads one more line, where `counts` says of each certificate how many lemmas it has. Where the lemmas of one are
+    /// read it goes back to their beginning.
+    pub fn step(&mut self, cursors: &mut [Cursor], counts: &[u32]) -> Result<Step, Unjoined> {
         let Some(cursor) = cursors.get_mut(self.part) else {
             return Ok(Step::Over);
         };
@@ -138,6 +147,9 @@ impl Numbering {
             return Err(apart(self.part, cursor));
         };
         if line == b"tree".as_slice() {
+            if !self.is_whole(counts) {
+                return Err(apart(self.part, cursor));
+            }
             self.end_lemma()?;
             cursor.rewind(mark);
             self.mark = None;

@@ -47,13 +47,18 @@ fn append_at(
     numbers: &[Vec<u32>],
     part: usize,
     text: &mut Vec<u8>,
-) -> Result<(), AllocError> {
-    match (cursors.get(part), numbers.get(part)) {
+) -> Result<(), Unjoined> {
+    let is_good = match (cursors.get(part), numbers.get(part)) {
         (Some(cursor), Some(numbers)) => match cursor.line() {
-            Some(line) => append_renumbered(text, line, numbers),
-            None => Ok(()),
+            Some(line) => append_renumbered(text, line, numbers)?,
+            None => false,
         },
-        _ => Ok(()),
+        _ => false,
+    };
+    if is_good {
+        Ok(())
+    } else {
+        Err(unjoined_at(cursors, part))
     }
 }
 
@@ -93,7 +98,7 @@ fn are_alike(
     cursors: &[Cursor],
     numbers: &[Vec<u32>],
     parts: &[usize],
-) -> Result<bool, AllocError> {
+) -> Result<bool, Unjoined> {
     let mut first: Vec<u8> = Vec::new(alloc);
     let mut other: Vec<u8> = Vec::new(alloc);
     for part in parts {
@@ -133,7 +138,9 @@ fn copy(
         let Some(left) = left_of(line) else {
             return Err(apart(part, cursor));
         };
-        append_renumbered(text, line, numbers)?;
+        if !append_renumbered(text, line, numbers)? {
+            return Err(apart(part, cursor));
+        }
         text.push(b'\n')?;
         *waiting = left.waiting(*waiting);
         cursor.pass();
