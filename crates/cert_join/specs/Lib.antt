@@ -1,3 +1,4 @@
 pub mod Ahead
 pub mod Drafting
+pub mod Held
 pub mod Spot

@@ -1,8 +1,10 @@
 -- A place in a certificate that is read line by line, of which one piece is held.
-use Rattle.std.specs.Prelude.{◌≡◌, ◌⊎◌, ◌<◌, ◌≤◌, ◌-◌, ℕ, List, [], ◌∷◌, ◌++◌, Bool, Option, Some, None, IsTrue, length, take, drop}
+use Rattle.std.specs.Prelude.{◌≡◌, ◌⊎◌, ◌<◌, ◌≤◌, ◌-◌, ℕ, List, [], ◌∷◌, ◌++◌, Bool, Option, Some, None, Result, Ok, Err, IsTrue, false, length, take, drop}
 use Rattle.std.specs.Option.{option_map}
 use Rattle.cert_model.specs.Accepted.{most_bytes}
 use Rattle.cert_read.specs.Lines.{lines_of, longest_line}
+use Rattle.cert_join.specs.declared.cursor.Mark.{Mark}
+use Rattle.cert_join.specs.declared.stop.Unjoined.{Unjoined}
 
 -- the bytes that are held and were not passed; how many bytes of the certificate stand before their end; whether it ends there; how long the
 -- next line is, where that is known; how many lines were passed
@@ -39,3 +41,25 @@ IsFirst (l ∷ ls) None = longest_line < length l
 -- the next line is known, or that there is none
 abbrev pub IsReady : Spot → Type 0
 IsReady s = (cert : List ℕ) (ls : List (List ℕ)) → IsBefore cert ls s → IsFirst ls (line_in s)
+
+-- what is said of the next of these lines, where the place is this: it is known; more has to be read first; there is none, or it is too long
+abbrev pub IsNext : List (List ℕ) → Spot → Result (Option (List ℕ)) Unjoined → Type 0
+IsNext ls s (Ok (Some l)) = (line_in s ≡ Some l) × IsFirst ls (Some l)
+IsNext ls s (Ok None) = Unit {0}
+IsNext ls s (Err e) = IsFirst ls None
+
+-- the bytes stand at the beginning of these, some where there are any
+pub record IsPieceAt (bytes piece : List ℕ) : Type 0 where
+  pub within : length piece ≤ length bytes
+  pub front : piece ≡ take (length piece) bytes
+  pub some : piece ≡ [] → bytes ≡ []
+
+-- ---- marks
+
+pub record IsMark (s : Spot) (m : Mark) : Type 0 where
+  pub at : m.at ≡ start s
+  pub lines : m.lines ≡ s.lines
+
+-- back at a mark, where nothing is held
+abbrev pub rewound : Mark → Spot
+rewound m = record { unread = []; behind = m.at; ended = false; size = None; lines = m.lines }

@@ -1,6 +1,11 @@
 // A place in a certificate that is read line by line.
+ghost use Rattle.std.specs.Prelude.{◌≡◌, ◌∷◌, ℕ, List, true, false, Some, None, Ok, IfSome, OnErr, OnOk, length, drop, suc};
+ghost use Rattle.cert_join.specs.Spot.{IsBefore, IsFirst, IsMark, IsNext, IsPieceAt, IsReady, line_in, rewound, start};
+
+use crate::stop::{Place, Unjoined};
 use memchr::memchr;
 use std::alloc::{AllocError, Global};
+use std::marker::Model;
 
 // A line has at most so many bytes, its line break aside.
 const LONGEST: usize = 524_288;
@@ -30,9 +35,23 @@ pub struct Cursor {
     lines: u64,
 }
 
+impl Model for Cursor {
+    ghost use Rattle.cert_join.specs.Spot.{Spot};
+
+    ghost Value = { Spot };
+
+    ghost use Rattle.cert_join.specs.Held.{spot_of, IsHeld};
+
+    ghost view = { spot_of };
+
+    ghost invariant = { IsHeld };
+}
+
 impl Cursor {
     /// At the certificate's beginning.
-    pub fn new(alloc: Global) -> Self {
+    pub fn new(alloc: Global) -> Self
+        ensures { result ≡ record { unread = []; behind = 0; ended = false; size = None; lines = 0 } }
+    {
         Cursor {
             behind: 0,
             bytes: Vec::new(alloc),
@@ -62,7 +81,10 @@ impl Cursor {
     }
 
     /// Whether the next line is known, or that there is none.
-    pub fn is_ready(&mut self) -> bool {
+    pub fn is_ready(&mut self) -> bool
+        ensures same { self.new ≡ record self.old { size = self.new.size } }
+        ensures ready { result ≡ true → IsReady self.new }
+    {
         if self.size.is_none() {
             self.size = self.size_of_next();
             self.searched = self.rest().len();
@@ -71,10 +93,31 @@ impl Cursor {
     }
 
     /// The next line, once that is ready; none where there is none, or it is too long.
-    pub fn line(&self) -> Option<&[u8]> {
+    pub fn line(&self) -> Option<&[u8]>
+        ensures { option_copied result ≡ line_in self.now }
+    {
         let size = self.size?;
         let rest = self.rest();
         Some(&rest[..size.min(rest.len())])
+    }
+
+    /// The next line; none where more has to be read first.
+    ///
+    /// # Errors
+    /// There is none, or it is too long.
+    pub fn next(&mut self, part: usize) -> Result<Option<&[u8]>, Unjoined>
+        ensures same { self.new ≡ record self.old { size = self.new.size } }
+        ensures next { (cert : List ℕ) (ls : List (List ℕ)) → IsBefore cert ls self.old →
+            IsNext ls self.new result }
+    {
+        if !self.is_ready() {
+            return Ok(None);
+        }
+        let line = self.number();
+        match self.line() {
+            Some(line) => Ok(Some(line)),
+            None => Err(Unjoined::Apart(Place { part, line })),
+        }
     }
 
     /// The number of the next line, from 1.
@@ -82,8 +125,11 @@ impl Cursor {
         self.lines.saturating_add(1)
     }
 
-    /// Passes the next line.
-    pub fn pass(&mut self) {
+    /// Passes the next line, where that is known.
+    pub fn pass(&mut self)
+        ensures { (cert l : List ℕ) (ls : List (List ℕ)) → IsBefore cert (l ∷ ls) self.old →
+            line_in self.old ≡ Some l → IsBefore cert ls self.new }
+    {
         if let Some(size) = self.size {
             self.at = self.at.saturating_add(size).saturating_add(1);
             self.size = None;
@@ -93,23 +139,32 @@ impl Cursor {
     }
 
     /// Where the bytes begin that are read next.
-    pub fn place(&self) -> u64 {
+    pub fn place(&self) -> u64
+        ensures { result ≡ self.now.behind }
+    {
         self.behind
     }
 
     /// Takes the bytes that were read; none are the certificate's end.
-    pub fn give(&mut self, piece: &[u8]) -> Result<(), AllocError> {
+    pub fn give(&mut self, piece: &[u8]) -> Result<(), AllocError>
+        ensures { (cert : List ℕ) (ls : List (List ℕ)) → IsBefore cert ls self.old →
+            IsPieceAt (drop self.old.behind cert) piece.now → result ≡ Ok (tt) →
+            IsBefore cert ls self.new }
+    {
         let passed = self.at.min(self.bytes.len());
         self.bytes.drain(..passed);
         self.at = 0;
         self.bytes.extend_from_slice(piece)?;
         self.behind = self.behind.saturating_add(piece.len() as u64);
         self.ended = piece.is_empty();
+        self.size = None;
         Ok(())
     }
 
     /// Where the next line begins.
-    pub fn mark(&self) -> Mark {
+    pub fn mark(&self) -> Mark
+        ensures { IsMark self.now result }
+    {
         Mark {
             at: self.behind.saturating_sub(self.rest().len() as u64),
             lines: self.lines,
@@ -117,7 +172,9 @@ impl Cursor {
     }
 
     /// Goes back to where it stood.
-    pub fn rewind(&mut self, mark: Mark) {
+    pub fn rewind(&mut self, mark: Mark)
+        ensures { self.new ≡ rewound mark }
+    {
         self.bytes.clear();
         self.behind = mark.at;
         self.at = 0;
