@@ -2,3 +2,4 @@ pub mod Ahead
 pub mod Drafting
 pub mod Held
 pub mod Spot
+pub mod Written
