@@ -28,7 +28,7 @@ Goes script parts course = OfProblem (bound_of parts) script (λ p. CanJoin p (b
 
 joined-by : (script : List ℕ) (parts : List (List ℕ)) (old new : Sight) (p : Problem) (tail : Course) → HasProblem (bound_of parts) p script → CanJoin p (bound_of parts) parts tail → tail.status ≡ Answered →
     new.answer ≡ appended old.answer tail.answer → new.cert_out ≡ appended old.cert_out tail.cert → IsJoined script parts old new
-joined-by script parts old new p tail has (joins cert s v accepts e) status wrote kept = record {
+joined-by script parts old new p tail has (joins cert s v accepts together e) status wrote kept = record {
   problem = p;
   has = has;
   cert = cert;
@@ -37,6 +37,7 @@ joined-by script parts old new p tail has (joins cert s v accepts e) status wrot
   value = v;
   written = kept ∙ ap (λ (c : Course). appended old.cert_out c.cert) e;
   accepted = accepts;
+  joins = together;
   answer = wrote ∙ ap (λ (c : Course). appended old.answer c.answer) e;
   say = value-so (bound_of parts) script p cert s v has.built accepts;
 }
