@@ -1,6 +1,6 @@
 -- An accepted certificate that ends as a cover is the text of a cover, or that of crossed bounds.
 use Rattle.std.proofs.Common.{◌≡◌, ℕ, suc, ◌+◌, List, [], ◌∷◌, ◌++◌, map, Bool, true, false, not, cond, Option, Some, None, refl, ap, ap₂, sym, subst, ◌∙◌, nat_eq, nat_le, nat_lt, length, take, append_assoc, append-nil, arith, true≢false}
-use Rattle.std.proofs.lemmas.Bool.{eqb-true}
+use Rattle.std.proofs.lemmas.Bool.{eqb-true, leb-true}
 use Rattle.std.proofs.lemmas.List.{length-append}
 use Rattle.std.specs.List.{AllByRecursion}
 use Rattle.poly_graph.specs.Problem.{Declared, real_between, any_bool, Axis, Problem, crosses}
@@ -415,20 +415,22 @@ module _ (p : Problem) (b : Option ℕ) (no-crossing : (i : ℕ) → crosses p i
   not-cut (stopped f n) s v h = cc
   not-cut (reached d n) s v h = cc
 
-  accepted-course : (t : Bool) (bytes : List ℕ) (s : Loosenings) (v : Value) → verdict_by t p b bytes ≡ accepted s v → (lemmas : List State) × (n : ℕ) × (course p b 0 version_due (lines_of bytes) ≡ reached (nothing_due s lemmas v) n)
-  accepted-course true bytes s v h = where-ended (course p b 0 version_due (lines_of bytes)) s v h
+  accepted-course : (t : Bool) (bytes : List ℕ) (s : Loosenings) (v : Value) → verdict_by t p b bytes ≡ accepted s v →
+      (t ≡ true) × (lemmas : List State) × (n : ℕ) × (course p b 0 version_due (lines_of bytes) ≡ reached (nothing_due s lemmas v) n)
+  accepted-course true bytes s v h = let x = where-ended (course p b 0 version_due (lines_of bytes)) s v h in (refl, x.0, x.1, x.2)
   accepted-course false bytes s v h = absurd (not-cut (course p b 0 version_due (lines_so_far (take most_bytes bytes))) s v h)
 
   text-of : (bytes : List ℕ) (s : Loosenings) (left : List Standing) → IsAccepted p b bytes s (left_open left) → (c : Cover) × IsTextOf c bytes
   text-of bytes s left h =
       let c = accepted-course (nat_le (length bytes) most_bytes) bytes s (left_open left) h in
-      let said = are-said (lines_of bytes) 0 c.1 version_due (nothing_due s c.0 (left_open left)) c.2 in
-      let cover = ahead said.said 0 c.1 version_due s c.0 left said.leads in
+      let said = are-said (lines_of bytes) 0 c.2 version_due (nothing_due s c.1 (left_open left)) c.3 in
+      let cover = ahead said.said 0 c.2 version_due s c.1 left said.leads in
       let same : map parsed (lines_of bytes) ≡ map line (cover_lines cover.cover) = said.parsed_are ∙ ap (λ (xs : List CertLine). map line xs) cover.lines in
       let spelled = said_spelled bytes (cover_lines cover.cover) same in (
         cover.cover,
         record {
-          lines = spelled.0;
+          few = leb-true (length bytes) most_bytes c.0;
+        lines = spelled.0;
           spelled = spelled.1;
           shaped = cover.shaped;
           lemmas = all-firsts cover.cover.lemmas cover.well;

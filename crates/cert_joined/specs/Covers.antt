@@ -1,11 +1,12 @@
 -- What the certificates of covers say, and what joins them: one header, the lemmas of all with new numbers, and a tree that joins theirs.
-use Rattle.std.specs.Prelude.{◌≡◌, ℕ, suc, List, [], ◌∷◌, ◌++◌, Option, Some, length, map, get_or, slice_get}
+use Rattle.std.specs.Prelude.{◌≡◌, ◌≤◌, ℕ, suc, List, [], ◌∷◌, ◌++◌, Option, Some, length, map, get_or, slice_get}
 use Rattle.std.specs.List.{AllByRecursion}
 use Rattle.cover_model.specs.Rules.{Line, pull, unit, push, combine, ban, by, cut, flip, case}
 use Rattle.cover_model.specs.Derivation.{Tree, leaf, then, fork, tree_lines}
 use Rattle.cert_read.specs.CertLine.{CertLine, version, margin, delta, bound, cover, lemma, tree_word, end_word, real_interval, bool_value, yes_list, no_list}
 use Rattle.cert_read.specs.LineText.{IsSpelled, line_text, text_of_lines}
 use Rattle.cert_read.specs.Lines.{lines_of}
+use Rattle.cert_model.specs.Accepted.{most_bytes}
 use Rattle.cert_model.specs.Written.{rule_lines}
 use Rattle.cert_joined.specs.Joined.{Joins}
 
@@ -85,6 +86,7 @@ IsBoxLine l = ⊥
 
 -- The bytes are the text of this cover.
 pub record IsTextOf (c : Cover) (bytes : List ℕ) : Type 0 where
+  pub few : length bytes ≤ most_bytes
   pub lines : lines_of bytes ≡ map line_text (cover_lines c)
   pub spelled : AllByRecursion IsSpelled (cover_lines c)
   pub shaped : IsShaped c.tree
