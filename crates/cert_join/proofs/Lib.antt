@@ -1,2 +1,4 @@
+pub mod Below
 pub mod Drafts
-pub mod Kinds
+pub mod RuleWords
+pub mod Spaced

@@ -2,8 +2,7 @@
 use Rattle.std.proofs.Common.{◌≡◌, refl, sym, subst}
 use Rattle.cover_model.specs.Rules.{Line, pull, unit, void, push, void_no, combine, void_combine, ban, make_false, by, cut, flip, case, open_line, stuck}
 use Rattle.cover_model.specs.Derivation.{Tree, leaf, then, fork}
-use Rattle.cert_resumed.specs.Resumed.{is_leaving}
-use Rattle.cert_joined.specs.Joined.{first_line}
+use Rattle.cert_joined.specs.Joined.{first_line, leaves_at_once}
 use Rattle.cert_joined.specs.Covers.{Arity, ends, goes_on, splits, arity, IsShaped}
 use Rattle.cert_join.specs.Kinds.{left_kind, arity_of, does_stay}
 
@@ -24,7 +23,8 @@ arity_left (case j) = refl
 arity_left open_line = refl
 arity_left (stuck j) = refl
 
-pub leaving_left : (l : Line) → is_leaving l ≡ does_stay (left_kind l)
+-- a tree of one line leaves its state at once where the line's state stays
+pub leaving_left : (l : Line) → leaves_at_once (leaf l) ≡ does_stay (left_kind l)
 leaving_left (pull j) = refl
 leaving_left (unit j) = refl
 leaving_left (void j) = refl
