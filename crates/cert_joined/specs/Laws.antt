@@ -5,6 +5,7 @@ use Rattle.poly_graph.specs.Problem.{Problem}
 use Rattle.cover_model.specs.State.{State, Loosenings}
 use Rattle.cover_model.specs.Derivation.{Tree, tree_lines, Lawful}
 use Rattle.cert_resumed.specs.Resumed.{Refines}
+use Rattle.cert_joined.specs.Covers.{IsShaped}
 use Rattle.cert_joined.specs.Joined.{Joins, IsAgreed, Keeps, closes}
 
 abbrev pub IsLawfulAt : Problem → Loosenings → List State → State → Tree → Type 0
@@ -26,3 +27,7 @@ KeepsEach = (ts : List Tree) (u : Tree) → Joins ts u → AllByRecursion (λ (t
 -- Where no trees differ, its lines refine those of each.
 abbrev pub JoinsRefines : Type 0
 JoinsRefines = (ts : List Tree) (u : Tree) (j : Joins ts u) → IsAgreed j → AllByRecursion (λ (t : Tree). Refines (tree_lines u) (tree_lines t)) ts
+
+-- Each line of a lawful tree has as many trees below it as it leaves states.
+abbrev pub LawfulIsShaped : Type 0
+LawfulIsShaped = (p : Problem) (s : Loosenings) (lemmas : List State) (S : State) (t : Tree) (left : List State) → Lawful p s lemmas S t left → IsShaped t
