@@ -1,2 +1,5 @@
+pub mod Below
 pub mod Drafts
+pub mod RuleWords
+pub mod Spaced
 pub mod Spots
