@@ -2,3 +2,4 @@ pub mod Below
 pub mod Drafts
 pub mod RuleWords
 pub mod Spaced
+pub mod Spots
