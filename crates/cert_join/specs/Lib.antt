@@ -3,4 +3,5 @@ pub mod Drafting
 pub mod Held
 pub mod Kinds
 pub mod Spot
+pub mod Weighed
 pub mod Written
