@@ -2,14 +2,14 @@
 use Rattle.std.specs.Prelude.{◌≡◌, ◌≢◌, ◌+◌, ◌<◌, ◌^◌, ◌-◌, ℕ, List, [], ◌∷◌, ◌++◌, Bool, true, false, cond, not, ◌&&◌, ◌||◌, ◌⊎◌, Option, Some, None, Result, Ok, Err, MatchOption, map, length, drop, min, get_or, nat_eq, slice_get, slice_set}
 use Rattle.std.specs.List.{AllByRecursion}
 use Rattle.cover_model.specs.Rules.{Line}
-use Rattle.cover_model.specs.Derivation.{Tree, leaf, then, fork, tree_lines}
+use Rattle.cover_model.specs.Derivation.{Tree, tree_lines}
 use Rattle.cert_read.specs.LineText.{IsSpelled}
 use Rattle.cert_model.specs.Written.{rule_lines}
 use Rattle.cert_joined.specs.Joined.{closes}
 use Rattle.cert_joined.specs.Covers.{IsShaped}
 use Rattle.cert_join.specs.declared.cursor.Mark.{Mark}
 use Rattle.cert_join.specs.declared.joiner.Step.{Step}
-use Rattle.cert_join.specs.declared.joiner.Step.TheVariants.{Read, On, Over}
+use Rattle.cert_join.specs.declared.joiner.Step.TheVariants.{Over}
 use Rattle.cert_join.specs.declared.line.Left.{Left}
 use Rattle.cert_join.specs.declared.stop.Unjoined.{Unjoined}
 use Rattle.cert_join.specs.declared.weighing.Weighing.{Weighing}

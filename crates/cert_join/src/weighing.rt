@@ -144,12 +144,13 @@ impl Weighing {
             IsWeighing certs taken end self.old cursors.old →
             IsWeighStep certs taken end self.new cursors.new result }
     {
-        let Some(part) = self.parts.get(self.place).copied() else {
+        if self.place >= self.parts.len() {
             return Ok(Step::Over);
-        };
-        let Some(cursor) = cursors.get_mut(part) else {
+        }
+        let part = self.parts[self.place];
+        if part >= cursors.len() {
             return Ok(Step::Over);
-        };
-        self.step_in(part, cursor)
+        }
+        self.step_in(part, &mut cursors[part])
     }
 }
