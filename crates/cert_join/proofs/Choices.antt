@@ -166,3 +166,31 @@ weigh_on certs taken end w new spots part s s' r h lt few is there read step = b
       let stands = subst (λ (x : Spot). IsBefore (cert_of certs b) (forest_texts first.0.0 ++ b.behind) x) one t.2 in
       subst (λ (n : ℕ). IsWeighStep certs taken end new (slice_set spots n s') r) (sym same)
       (stepped certs taken end w spots h.lines b more before parts ends apart first choosing new s' r few (step (cert_of certs b) b first.0.0 same first.0.1 stands))
+
+-- ---- what follows for the one who asked
+
+by_cases : (P : Branch → Type 0) (b c : Branch) (bs : List Branch) (t : Bool) → P c → P (first_closing b bs) → P (cond t c (first_closing b bs))
+by_cases P b c bs true h k = h
+by_cases P b c bs false h k = k
+
+-- what holds of each tree holds of the one that is taken
+pub holds_of_taken : (P : Branch → Type 0) (b : Branch) (bs : List Branch) → P b → AllByRecursion P bs → P (first_closing b bs)
+holds_of_taken P b [] h k = h
+holds_of_taken P b (c ∷ bs) h k = by_cases P b c bs (closes c.tree) k.0 (holds_of_taken P b bs h k.1)
+
+-- no other lines than those of these certificates were passed
+pub passed_other : (bs : List Branch) (lines : List (List (List ℕ))) (i : ℕ) → AllByRecursion (λ (b : Branch). i ≢ b.part) bs → slice_get (passed bs lines) i ≡ slice_get lines i
+passed_other [] lines i h = refl
+passed_other (b ∷ bs) lines i h = passed_other bs (slice_set lines b.part b.behind) i h.1 ∙ get_set_other lines b.part i b.behind h.0
+
+turned : (i : ℕ) (bs : List Branch) → AllByRecursion (λ (c : Branch). c.part ≢ i) bs → AllByRecursion (λ (c : Branch). i ≢ c.part) bs
+turned i [] h = tt
+turned i (c ∷ bs) h = ((λ e. h.0 (sym e)), turned i bs h.1)
+
+-- each of them stands behind its tree
+pub passed_at : (bs : List Branch) (lines : List (List (List ℕ))) → AreAhead lines bs → AreApart bs → AllByRecursion (λ (b : Branch). slice_get (passed bs lines) b.part ≡ Some b.behind) bs
+passed_at [] lines h k = tt
+passed_at (b ∷ bs) lines h k = (
+  passed_other bs (slice_set lines b.part b.behind) b.part (turned b.part bs k.0) ∙ get_set_same lines b.part _ b.behind h.0.0,
+  passed_at bs (slice_set lines b.part b.behind) (still_ahead lines b.part b.behind bs h.1 k.0) k.1,
+)
