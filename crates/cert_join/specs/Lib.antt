@@ -1,5 +1,7 @@
 pub mod Ahead
 pub mod Drafting
 pub mod Held
+pub mod Kinds
 pub mod Spot
+pub mod Weighed
 pub mod Written

@@ -1,5 +1,5 @@
 -- A place in a certificate that is read line by line, of which one piece is held.
-use Rattle.std.specs.Prelude.{◌≡◌, ◌⊎◌, ◌<◌, ◌≤◌, ◌-◌, ℕ, List, [], ◌∷◌, ◌++◌, Bool, Option, Some, None, Result, Ok, Err, IsTrue, false, length, take, drop}
+use Rattle.std.specs.Prelude.{◌≡◌, ◌≢◌, ◌<◌, ◌≤◌, ◌-◌, ℕ, List, [], ◌∷◌, ◌++◌, Bool, Option, Some, None, Result, Ok, Err, IsTrue, true, false, length, take, drop, slice_index}
 use Rattle.std.specs.Option.{option_map}
 use Rattle.cert_model.specs.Accepted.{most_bytes}
 use Rattle.cert_read.specs.Lines.{lines_of, longest_line}
@@ -43,9 +43,9 @@ abbrev pub IsReady : Spot → Type 0
 IsReady s = (cert : List ℕ) (ls : List (List ℕ)) → IsBefore cert ls s → IsFirst ls (line_in s)
 
 -- what is said of the next of these lines, where the place is this: it is known; more has to be read first; there is none, or it is too long
-abbrev pub IsNext : List (List ℕ) → Spot → Result (Option (List ℕ)) Unjoined → Type 0
-IsNext ls s (Ok (Some l)) = (line_in s ≡ Some l) × IsFirst ls (Some l)
-IsNext ls s (Ok None) = Unit {0}
+abbrev pub IsNext : List (List ℕ) → Spot → Result Bool Unjoined → Type 0
+IsNext ls s (Ok true) = (l : List ℕ) × (line_in s ≡ Some l) × IsFirst ls (Some l)
+IsNext ls s (Ok false) = Unit {0}
 IsNext ls s (Err e) = IsFirst ls None
 
 -- the bytes stand at the beginning of these, some where there are any
@@ -53,6 +53,20 @@ pub record IsPieceAt (bytes piece : List ℕ) : Type 0 where
   pub within : length piece ≤ length bytes
   pub front : piece ≡ take (length piece) bytes
   pub some : piece ≡ [] → bytes ≡ []
+
+-- ---- how long the next line is
+
+-- a line of so many bytes stands at the beginning of these: a line feed follows it, or it is the last line
+pub record IsLineSize (unread : List ℕ) (ended : Bool) (n : ℕ) : Type 0 where
+  pub within : n ≤ length unread
+  pub before : (k : ℕ) → k < n → slice_index unread k ≢ 10
+  pub feed : n < length unread → slice_index unread n ≡ 10
+  pub last : n ≡ length unread → IsTrue ended × (0 < n)
+
+-- no line feed is held, nor a last line
+pub record HasNoLine (unread : List ℕ) (ended : Bool) : Type 0 where
+  pub before : (k : ℕ) → k < length unread → slice_index unread k ≢ 10
+  pub none : IsTrue ended → length unread ≡ 0
 
 -- ---- marks
 

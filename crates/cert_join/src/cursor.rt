@@ -1,6 +1,6 @@
 // A place in a certificate that is read line by line.
-ghost use Rattle.std.specs.Prelude.{◌≡◌, ◌∷◌, ℕ, List, true, false, Some, None, Ok, IfSome, OnErr, OnOk, length, drop, suc};
-ghost use Rattle.cert_join.specs.Spot.{IsBefore, IsFirst, IsMark, IsNext, IsPieceAt, IsReady, line_in, rewound, start};
+ghost use Rattle.std.specs.Prelude.{◌≡◌, ◌⊎◌, [], ◌∷◌, ◌<◌, ℕ, List, IsTrue, true, false, Some, None, Ok, MatchOption, length, drop, option_copied};
+ghost use Rattle.cert_join.specs.Spot.{HasNoLine, IsBefore, IsLineSize, IsMark, IsNext, IsPieceAt, IsReady, line_in, rewound};
 
 use crate::stop::{Place, Unjoined};
 use memchr::memchr;
@@ -35,6 +35,21 @@ pub struct Cursor {
     lines: u64,
 }
 
+// How long the last line is, where so many bytes are left and none of them is a line break.
+fn last_size(ended: bool, left: usize) -> Option<usize>
+    ensures { MatchOption result (IsTrue ended → left ≡ 0)
+        (λ n. (n ≡ left) × IsTrue ended × (0 < n)) }
+{
+    if ended && left > 0 { Some(left) } else { None }
+}
+
+// Whether no next line can come where so many bytes are left without a line break: none that is not too long.
+fn is_over(ended: bool, left: usize) -> bool
+    ensures { result ≡ true → IsTrue ended ⊎ (LONGEST < left) }
+{
+    ended || left > LONGEST
+}
+
 impl Model for Cursor {
     ghost use Rattle.cert_join.specs.Spot.{Spot};
 
@@ -64,19 +79,26 @@ impl Cursor {
     }
 
     // The bytes that were not passed.
-    fn rest(&self) -> &[u8] {
+    fn rest(&self) -> &[u8]
+        ensures { result.now ≡ self.now.unread }
+    {
         let at = self.at.min(self.bytes.len());
-        &self.bytes[at..]
+        let (_, rest) = self.bytes.split_at(at);
+        rest
     }
 
     // How long the next line is, where its end is among the bytes held.
-    fn size_of_next(&self) -> Option<usize> {
-        let rest = self.rest();
+    fn size_of_next(&self) -> Option<usize>
+        ensures { MatchOption result (HasNoLine self.now.unread self.now.ended)
+            (IsLineSize self.now.unread self.now.ended) }
+    {
+        let at = self.at.min(self.bytes.len());
+        let (_, rest) = self.bytes.split_at(at);
         let from = self.searched.min(rest.len());
-        match memchr(b'\n', &rest[from..]) {
-            Some(place) => Some(from.saturating_add(place)),
-            None if self.ended && !rest.is_empty() => Some(rest.len()),
-            None => None,
+        let (_, new) = rest.split_at(from);
+        match memchr(b'\n', new) {
+            Some(place) => Some(from + place),
+            None => last_size(self.ended, rest.len()),
         }
     }
 
@@ -85,38 +107,51 @@ impl Cursor {
         ensures same { self.new ≡ record self.old { size = self.new.size } }
         ensures ready { result ≡ true → IsReady self.new }
     {
-        if self.size.is_none() {
-            self.size = self.size_of_next();
-            self.searched = self.rest().len();
+        if let Some(_) = self.size {
+            return true;
         }
-        self.size.is_some() || self.ended || self.searched > LONGEST
+        self.size = self.size_of_next();
+        match self.size {
+            Some(_) => true,
+            None => {
+                self.searched = self.rest().len();
+                is_over(self.ended, self.searched)
+            }
+        }
     }
 
     /// The next line, once that is ready; none where there is none, or it is too long.
     pub fn line(&self) -> Option<&[u8]>
         ensures { option_copied result ≡ line_in self.now }
     {
-        let size = self.size?;
-        let rest = self.rest();
-        Some(&rest[..size.min(rest.len())])
+        match self.size {
+            Some(size) => {
+                let rest = self.rest();
+                let (line, _) = rest.split_at(size.min(rest.len()));
+                Some(line)
+            }
+            None => None,
+        }
     }
 
-    /// The next line; none where more has to be read first.
+    /// Whether the next line is there; not where more has to be read first.
     ///
     /// # Errors
     /// There is none, or it is too long.
-    pub fn next(&mut self, part: usize) -> Result<Option<&[u8]>, Unjoined>
+    pub fn next(&mut self, part: usize) -> Result<bool, Unjoined>
         ensures same { self.new ≡ record self.old { size = self.new.size } }
         ensures next { (cert : List ℕ) (ls : List (List ℕ)) → IsBefore cert ls self.old →
             IsNext ls self.new result }
     {
         if !self.is_ready() {
-            return Ok(None);
+            return Ok(false);
         }
-        let line = self.number();
-        match self.line() {
-            Some(line) => Ok(Some(line)),
-            None => Err(Unjoined::Apart(Place { part, line })),
+        match self.size {
+            Some(_) => Ok(true),
+            None => Err(Unjoined::Apart(Place {
+                part,
+                line: self.number(),
+            })),
         }
     }
 
@@ -131,10 +166,11 @@ impl Cursor {
             line_in self.old ≡ Some l → IsBefore cert ls self.new }
     {
         if let Some(size) = self.size {
+            let lines = self.number();
             self.at = self.at.saturating_add(size).saturating_add(1);
             self.size = None;
             self.searched = 0;
-            self.lines = self.number();
+            self.lines = lines;
         }
     }
 
@@ -154,7 +190,10 @@ impl Cursor {
         let passed = self.at.min(self.bytes.len());
         self.bytes.drain(..passed);
         self.at = 0;
-        self.bytes.extend_from_slice(piece)?;
+        match self.bytes.extend_from_slice(piece) {
+            Ok(()) => {}
+            Err(error) => return Err(error),
+        }
         self.behind = self.behind.saturating_add(piece.len() as u64);
         self.ended = piece.is_empty();
         self.size = None;

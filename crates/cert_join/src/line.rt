@@ -1,4 +1,13 @@
 // The lines of a tree as bytes: what each leaves, and the lemma that it names.
+ghost use Rattle.std.specs.Prelude.{◌≡◌, ◌<◌, ◌^◌, ◌++◌, ◌∷◌, [], ℕ, List, decimal, nat_eq, not, IsTrue, OnOk, IfSome, IsSome};
+ghost use Rattle.cover_line.specs.Views.{rule_word};
+ghost use Rattle.cover_line.specs.Words.{word_of};
+ghost use Rattle.cover_model.specs.Rules.{Line};
+ghost use Rattle.cert_read.specs.CertLine.{rule_line};
+ghost use Rattle.cert_read.specs.LineText.{IsSpelled};
+ghost use Rattle.cert_read.specs.Lines.{all_bytes, words_of};
+ghost use Rattle.cert_join.specs.Kinds.{does_stay, kind_of_word, left_kind, lemma_front, lemma_named, names_by_word, number_among, rule_text, waiting_behind, IsRenumbered};
+
 use cover_line::{AtomRule, CombinationRule, Word};
 use itoa::Buffer;
 use memchr::{memchr, memrchr};
@@ -18,12 +27,16 @@ pub enum Left {
 
 impl Left {
     /// Whether the state stays.
-    pub fn stays(self) -> bool {
+    pub fn stays(self) -> bool
+        ensures { result ≡ does_stay self }
+    {
         matches!(self, Left::Open | Left::Stuck)
     }
 
     /// How many states wait behind the line, where so many waited with its own.
-    pub fn waiting(self, before: u64) -> u64 {
+    pub fn waiting(self, before: u64) -> u64
+        ensures { result ≡ waiting_behind self before }
+    {
         match self {
             Left::Nothing | Left::Open | Left::Stuck => before.saturating_sub(1),
             Left::One => before,
@@ -33,7 +46,9 @@ impl Left {
 }
 
 // What a line with this first word leaves.
-fn left_by(word: Word) -> Left {
+fn left_by(word: Word) -> Left
+    ensures { result ≡ kind_of_word (rule_word word) }
+{
     match word {
         Word::Atom(AtomRule::Pull | AtomRule::Unit | AtomRule::Push) => Left::One,
         Word::Atom(AtomRule::Void | AtomRule::VoidNo) => Left::Nothing,
@@ -49,7 +64,9 @@ fn left_by(word: Word) -> Left {
 }
 
 /// What stands before the first space.
-pub fn first_word(line: &[u8]) -> &[u8] {
+pub fn first_word(line: &[u8]) -> &[u8]
+    ensures { (ws : List (List ℕ)) × (words_of line.now ≡ result.now ∷ ws) }
+{
     match memchr(b' ', line) {
         Some(place) => &line[..place],
         None => line,
@@ -57,36 +74,108 @@ pub fn first_word(line: &[u8]) -> &[u8] {
 }
 
 /// What the line leaves of its state; none where it is no line of a tree.
-pub fn left_of(line: &[u8]) -> Option<Left> {
+pub fn left_of(line: &[u8]) -> Option<Left>
+    ensures { (r : Line) → line.now ≡ rule_text r → result ≡ Some (left_kind r) }
+{
     let word = first_word(line);
-    let left = left_by(Word::spelled(word)?);
-    if left == Left::Open && word.len() < line.len() {
-        return None;
+    match Word::spelled(word) {
+        Some(Word::Open) if word.len() < line.len() => None,
+        Some(word) => Some(left_by(word)),
+        None => None,
     }
-    Some(left)
 }
 
 // Whether the last word of the line is the number of a lemma.
-fn names_lemma(line: &[u8]) -> bool {
+fn names_lemma(line: &[u8]) -> bool
+    ensures { (r : Line) → line.now ≡ rule_text r → result ≡ names_by_word (word_of r) }
+{
     let word = first_word(line);
     word == Word::By.text().as_bytes() || word == Word::Ban.text().as_bytes()
 }
 
 /// The number that the bytes spell, in decimal digits without a leading zero.
-pub fn number_of(bytes: &[u8]) -> Option<u32> {
-    let number = str::from_utf8(bytes).ok()?.parse::<u32>().ok()?;
-    let mut buffer = Buffer::new();
-    if buffer.format(number).as_bytes() == bytes {
-        Some(number)
-    } else {
-        None
+pub fn number_of(bytes: &[u8]) -> Option<u32>
+    ensures spelled { IfSome result (λ n. bytes.now ≡ decimal n) }
+    ensures found { (n : ℕ) → n < 2 ^ 32 → bytes.now ≡ decimal n → result ≡ Some n }
+{
+    let Ok(text) = str::from_utf8(bytes) else {
+        return None;
+    };
+    match text.parse::<u32>() {
+        Ok(number) => {
+            let mut buffer = Buffer::new();
+            if buffer.format(number) == text {
+                Some(number)
+            } else {
+                None
+            }
+        }
+        Err(_) => None,
     }
 }
 
 /// Appends a number in decimal digits.
-pub fn append_number(text: &mut Vec<u8>, number: u32) -> Result<(), AllocError> {
+pub fn append_number(text: &mut Vec<u8>, number: u32) -> Result<(), AllocError>
+    ensures { OnOk result (text.new.items ≡ text.old.items ++ decimal number) }
+{
     let mut buffer = Buffer::new();
     text.extend_from_slice(buffer.format(number).as_bytes())
+}
+
+// What stands up to the last space, and behind it.
+fn last_word(line: &[u8]) -> (&[u8], &[u8])
+    ensures { (front word : List ℕ) → line.now ≡ (front ++ (32 ∷ [])) ++ word →
+        IsTrue (all_bytes (λ b. not (nat_eq b 32)) word) →
+        (result.0.now ≡ front ++ (32 ∷ [])) × (result.1.now ≡ word) }
+{
+    match memrchr(b' ', line) {
+        Some(place) => line.split_at(place + 1),
+        None => (line, &line[line.len()..]),
+    }
+}
+
+// What stands up to the last space, and the number behind it.
+fn last_number(line: &[u8]) -> (&[u8], Option<u32>)
+    ensures { (r : Line) (i : ℕ) → line.now ≡ rule_text r → IsSpelled (rule_line r) →
+        lemma_named r ≡ Some i → (result.0.now ≡ lemma_front r) × (result.1 ≡ Some i) }
+{
+    let (front, digits) = last_word(line);
+    (front, number_of(digits))
+}
+
+// Appends what stands before a number, and the number.
+fn append_both(text: &mut Vec<u8>, front: &[u8], number: u32) -> Result<(), AllocError>
+    ensures { OnOk result (text.new.items ≡ text.old.items ++ (front.now ++ decimal number)) }
+{
+    match text.extend_from_slice(front) {
+        Ok(()) => append_number(text, number),
+        Err(error) => Err(error),
+    }
+}
+
+// The number that these give a lemma.
+fn number_by(numbers: &[u32], named: Option<u32>) -> Option<u32>
+    ensures { result ≡ number_among numbers.now named }
+{
+    match named {
+        Some(named) => numbers.get(named as usize).copied(),
+        None => None,
+    }
+}
+
+// Appends a line that names a lemma.
+fn append_naming(text: &mut Vec<u8>, line: &[u8], numbers: &[u32]) -> Result<bool, AllocError>
+    ensures { (r : Line) (i : ℕ) → line.now ≡ rule_text r → IsSpelled (rule_line r) →
+        lemma_named r ≡ Some i → IsRenumbered numbers.now r text.old.items text.new.items result }
+{
+    let (front, named) = last_number(line);
+    match number_by(numbers, named) {
+        Some(number) => match append_both(text, front, number) {
+            Ok(()) => Ok(true),
+            Err(error) => Err(error),
+        },
+        None => Ok(false),
+    }
 }
 
 /// Appends a line of a tree without its break; a lemma that it names has the number that `numbers` gives it. Says whether
@@ -95,26 +184,15 @@ pub fn append_renumbered(
     text: &mut Vec<u8>,
     line: &[u8],
     numbers: &[u32],
-) -> Result<bool, AllocError> {
-    if !names_lemma(line) {
-        text.extend_from_slice(line)?;
-        return Ok(true);
+) -> Result<bool, AllocError>
+    ensures { (r : Line) → line.now ≡ rule_text r → IsSpelled (rule_line r) →
+        IsRenumbered numbers.now r text.old.items text.new.items result }
+{
+    if names_lemma(line) {
+        return append_naming(text, line, numbers);
     }
-    let from = match memrchr(b' ', line) {
-        Some(place) => place + 1,
-        None => line.len(),
-    };
-    let (front, digits) = line.split_at(from);
-    let number = match number_of(digits) {
-        Some(number) => numbers.get(number as usize),
-        None => None,
-    };
-    match number {
-        Some(number) => {
-            text.extend_from_slice(front)?;
-            append_number(text, *number)?;
-            Ok(true)
-        }
-        None => Ok(false),
+    match text.extend_from_slice(line) {
+        Ok(()) => Ok(true),
+        Err(error) => Err(error),
     }
 }

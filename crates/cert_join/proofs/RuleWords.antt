@@ -1,0 +1,275 @@
+-- The first word of a line of a tree, and the number of its lemma.
+use Rattle.std.proofs.Common.{◌≡◌, ◌<◌, ◌≤◌, ◌^◌, ℕ, inl, inr, List, [], ◌∷◌, ◌++◌, true, false, not, ◌||◌, nat_eq, IsTrue, Option, Some, None, codes, cond, refl, ap, ap₂, sym, ◌∙◌, length, get_or, subst, ⊎_elim, append_assoc, arith}
+use Rattle.std.specs.Prelude.{decimal, slice_get, IfSome, Ok}
+use Rattle.std.specs.Str.{bytes_eq, all_ascii_digits}
+use Rattle.std.specs.Str.Parse.{digits_value}
+use Rattle.std.proofs.lemmas.Bool.{cases_lt}
+use Rattle.std.proofs.lemmas.Bool.Decides.{eqb_tells}
+use Rattle.std.proofs.lemmas.Option.{slice_get_within, get_or_from_slice_get, slice_get-get_or}
+use Rattle.std.proofs.lemmas.Fmt.{digits_decimal}
+use Rattle.std.proofs.lemmas.Str.Parse.{IsNumeralModel, tells_all_ascii_digits, numerals_by_value}
+use Rattle.cover_line.specs.Words.{RuleWord, empty_word, pull_word, unit_word, ban_word, void_word, push_word, void_no_word, false_word, by_word, cut_word, flip_word, case_word, open_word, stuck_word, combine_word, void_combine_word, word_of, word_text, operands_of}
+use Rattle.cover_model.specs.Rules.{Line, pull, unit, void, push, void_no, combine, void_combine, ban, make_false, by, cut, flip, case, open_line, stuck}
+use Rattle.cert_read.specs.CertLine.{rule_line}
+use Rattle.cert_read.specs.LineText.{IsSpelled, operand_words}
+use Rattle.cert_read.specs.Lines.{words_of}
+use Rattle.cert_read.proofs.Pieces.{lacks}
+use Rattle.cert_joined.specs.Covers.{line_by, numbered}
+use Rattle.cert_join.specs.Kinds.{rule_text, lemma_front, lemma_named, names_by_word, number_among, IsRenumbered}
+use Rattle.cert_join.proofs.Spaced.{both_pass, split_spaced}
+
+-- ---- the first word
+
+word-lacks : (w : RuleWord) → IsTrue (lacks 32 (word_text w))
+word-lacks empty_word = refl
+word-lacks pull_word = refl
+word-lacks unit_word = refl
+word-lacks ban_word = refl
+word-lacks void_word = refl
+word-lacks push_word = refl
+word-lacks void_no_word = refl
+word-lacks false_word = refl
+word-lacks by_word = refl
+word-lacks cut_word = refl
+word-lacks flip_word = refl
+word-lacks case_word = refl
+word-lacks open_word = refl
+word-lacks stuck_word = refl
+word-lacks combine_word = refl
+word-lacks void_combine_word = refl
+
+pub first_of_rule : (r : Line) (text w : List ℕ) (ws : List (List ℕ)) → words_of text ≡ w ∷ ws → text ≡ rule_text r → w ≡ word_text (word_of r)
+first_of_rule r text w ws e h =
+    let f = split_spaced (word_text (word_of r)) (operand_words (operands_of r)) (word-lacks (word_of r)) in
+    let g : w ∷ ws ≡ word_text (word_of r) ∷ f.0 = sym e ∙ ap words_of h ∙ f.1 in cc
+
+-- ---- whether it names a lemma
+
+pub names_by_text : (v : RuleWord) → (bytes_eq (word_text v) (word_text by_word) || bytes_eq (word_text v) (word_text ban_word)) ≡ names_by_word v
+names_by_text empty_word = refl
+names_by_text pull_word = refl
+names_by_text unit_word = refl
+names_by_text ban_word = refl
+names_by_text void_word = refl
+names_by_text push_word = refl
+names_by_text void_no_word = refl
+names_by_text false_word = refl
+names_by_text by_word = refl
+names_by_text cut_word = refl
+names_by_text flip_word = refl
+names_by_text case_word = refl
+names_by_text open_word = refl
+names_by_text stuck_word = refl
+names_by_text combine_word = refl
+names_by_text void_combine_word = refl
+
+-- ---- what the first word tells
+
+abbrev decoded : List ℕ → RuleWord
+decoded w = cond (bytes_eq w (word_text void_combine_word)) void_combine_word (cond (bytes_eq w (word_text combine_word)) combine_word (cond (bytes_eq w (word_text stuck_word)) stuck_word (cond (bytes_eq w (word_text open_word)) open_word (cond (bytes_eq w (word_text case_word)) case_word (cond (bytes_eq w (word_text flip_word)) flip_word (cond (bytes_eq w (word_text cut_word)) cut_word (cond (bytes_eq w (word_text by_word)) by_word (cond (bytes_eq w (word_text false_word)) false_word (cond (bytes_eq w (word_text void_no_word)) void_no_word (cond (bytes_eq w (word_text push_word)) push_word (cond (bytes_eq w (word_text void_word)) void_word (cond (bytes_eq w (word_text ban_word)) ban_word (cond (bytes_eq w (word_text unit_word)) unit_word (cond (bytes_eq w (word_text pull_word)) pull_word empty_word))))))))))))))
+
+decoded-text : (v : RuleWord) → decoded (word_text v) ≡ v
+decoded-text empty_word = refl
+decoded-text pull_word = refl
+decoded-text unit_word = refl
+decoded-text ban_word = refl
+decoded-text void_word = refl
+decoded-text push_word = refl
+decoded-text void_no_word = refl
+decoded-text false_word = refl
+decoded-text by_word = refl
+decoded-text cut_word = refl
+decoded-text flip_word = refl
+decoded-text case_word = refl
+decoded-text open_word = refl
+decoded-text stuck_word = refl
+decoded-text combine_word = refl
+decoded-text void_combine_word = refl
+
+-- no two words have one spelling
+pub same_word : (v w : RuleWord) → word_text v ≡ word_text w → v ≡ w
+same_word v w e = sym (decoded-text v) ∙ ap (λ (t : List ℕ). decoded t) e ∙ decoded-text w
+
+-- a line that leaves its state open is that word alone
+pub open_alone : (r : Line) → open_word ≡ word_of r → rule_text r ≡ word_text open_word
+open_alone (pull j) e = absurd (cc)
+open_alone (unit j) e = absurd (cc)
+open_alone (void j) e = absurd (cc)
+open_alone (push j) e = absurd (cc)
+open_alone (void_no j) e = absurd (cc)
+open_alone (combine ms) e = absurd (cc)
+open_alone (void_combine ms) e = absurd (cc)
+open_alone (ban j i) e = absurd (cc)
+open_alone make_false e = absurd (cc)
+open_alone (by i) e = absurd (cc)
+open_alone (cut axis c) e = absurd (cc)
+open_alone (flip axis) e = absurd (cc)
+open_alone (case j) e = absurd (cc)
+open_alone open_line e = refl
+open_alone (stuck j) e = absurd (cc)
+
+pub names_from : (r : Line) (text w : List ℕ) (ws : List (List ℕ)) → words_of text ≡ w ∷ ws → text ≡ rule_text r
+    → (t u : List ℕ) → t ≡ word_text by_word → u ≡ word_text ban_word → (bytes_eq w t || bytes_eq w u) ≡ names_by_word (word_of r)
+names_from r text w ws e h t u f g =
+    ap (λ (x : List ℕ). bytes_eq x t || bytes_eq x u) (first_of_rule r text w ws e h)
+    ∙ ap₂ (λ (y z : List ℕ). bytes_eq (word_text (word_of r)) y || bytes_eq (word_text (word_of r)) z) f g ∙ names_by_text (word_of r)
+
+-- a line whose word names none names none
+pub names_none : (r : Line) → names_by_word (word_of r) ≡ false → (f : ℕ → ℕ) → (lemma_named r ≡ None) × (line_by f r ≡ r)
+names_none (pull j) h f = (refl, refl)
+names_none (unit j) h f = (refl, refl)
+names_none (void j) h f = (refl, refl)
+names_none (push j) h f = (refl, refl)
+names_none (void_no j) h f = (refl, refl)
+names_none (combine ms) h f = (refl, refl)
+names_none (void_combine ms) h f = (refl, refl)
+names_none (ban j i) h f = absurd (cc)
+names_none make_false h f = (refl, refl)
+names_none (by i) h f = absurd (cc)
+names_none (cut axis c) h f = (refl, refl)
+names_none (flip axis) h f = (refl, refl)
+names_none (case j) h f = (refl, refl)
+names_none open_line h f = (refl, refl)
+names_none (stuck j) h f = (refl, refl)
+
+pub names_one : (r : Line) → names_by_word (word_of r) ≡ true → (i : ℕ) × (lemma_named r ≡ Some i)
+names_one (pull j) h = absurd (cc)
+names_one (unit j) h = absurd (cc)
+names_one (void j) h = absurd (cc)
+names_one (push j) h = absurd (cc)
+names_one (void_no j) h = absurd (cc)
+names_one (combine ms) h = absurd (cc)
+names_one (void_combine ms) h = absurd (cc)
+names_one (ban j i) h = (i, refl)
+names_one make_false h = absurd (cc)
+names_one (by i) h = (i, refl)
+names_one (cut axis c) h = absurd (cc)
+names_one (flip axis) h = absurd (cc)
+names_one (case j) h = absurd (cc)
+names_one open_line h = absurd (cc)
+names_one (stuck j) h = absurd (cc)
+
+-- ---- the number of its lemma
+
+-- what stands before the number up to its space
+pub front_ends : (r : Line) (i : ℕ) → lemma_named r ≡ Some i → (front : List ℕ) × (lemma_front r ≡ front ++ (32 ∷ []))
+front_ends (pull j) i h = absurd (let e : ◌≡◌ {A = Option ℕ} None (Some i) = h in cc)
+front_ends (unit j) i h = absurd (let e : ◌≡◌ {A = Option ℕ} None (Some i) = h in cc)
+front_ends (void j) i h = absurd (let e : ◌≡◌ {A = Option ℕ} None (Some i) = h in cc)
+front_ends (push j) i h = absurd (let e : ◌≡◌ {A = Option ℕ} None (Some i) = h in cc)
+front_ends (void_no j) i h = absurd (let e : ◌≡◌ {A = Option ℕ} None (Some i) = h in cc)
+front_ends (combine ms) i h = absurd (let e : ◌≡◌ {A = Option ℕ} None (Some i) = h in cc)
+front_ends (void_combine ms) i h = absurd (let e : ◌≡◌ {A = Option ℕ} None (Some i) = h in cc)
+front_ends (ban j k) i h = (codes "ban " ++ decimal j, refl)
+front_ends make_false i h = absurd (let e : ◌≡◌ {A = Option ℕ} None (Some i) = h in cc)
+front_ends (by k) i h = (codes "by", refl)
+front_ends (cut axis c) i h = absurd (let e : ◌≡◌ {A = Option ℕ} None (Some i) = h in cc)
+front_ends (flip axis) i h = absurd (let e : ◌≡◌ {A = Option ℕ} None (Some i) = h in cc)
+front_ends (case j) i h = absurd (let e : ◌≡◌ {A = Option ℕ} None (Some i) = h in cc)
+front_ends open_line i h = absurd (let e : ◌≡◌ {A = Option ℕ} None (Some i) = h in cc)
+front_ends (stuck j) i h = absurd (let e : ◌≡◌ {A = Option ℕ} None (Some i) = h in cc)
+
+-- the line with another number
+pub front_and_number : (r : Line) (i : ℕ) → lemma_named r ≡ Some i → (f : ℕ → ℕ) → rule_text (line_by f r) ≡ lemma_front r ++ decimal (f i)
+front_and_number (pull j) i h f = absurd (let e : ◌≡◌ {A = Option ℕ} None (Some i) = h in cc)
+front_and_number (unit j) i h f = absurd (let e : ◌≡◌ {A = Option ℕ} None (Some i) = h in cc)
+front_and_number (void j) i h f = absurd (let e : ◌≡◌ {A = Option ℕ} None (Some i) = h in cc)
+front_and_number (push j) i h f = absurd (let e : ◌≡◌ {A = Option ℕ} None (Some i) = h in cc)
+front_and_number (void_no j) i h f = absurd (let e : ◌≡◌ {A = Option ℕ} None (Some i) = h in cc)
+front_and_number (combine ms) i h f = absurd (let e : ◌≡◌ {A = Option ℕ} None (Some i) = h in cc)
+front_and_number (void_combine ms) i h f = absurd (let e : ◌≡◌ {A = Option ℕ} None (Some i) = h in cc)
+front_and_number (ban j k) i h f =
+    let e : k ≡ i = cc in
+    ap (λ (xs : List ℕ). codes "ban " ++ xs) (sym (append_assoc (decimal j) (32 ∷ []) (decimal (f k)))) ∙ ap (λ (n : ℕ). (codes "ban " ++ (decimal j ++ (32 ∷ []))) ++ decimal (f n)) e
+front_and_number make_false i h f = absurd (let e : ◌≡◌ {A = Option ℕ} None (Some i) = h in cc)
+front_and_number (by k) i h f = let e : k ≡ i = cc in ap (λ (n : ℕ). codes "by " ++ decimal (f n)) e
+front_and_number (cut axis c) i h f = absurd (let e : ◌≡◌ {A = Option ℕ} None (Some i) = h in cc)
+front_and_number (flip axis) i h f = absurd (let e : ◌≡◌ {A = Option ℕ} None (Some i) = h in cc)
+front_and_number (case j) i h f = absurd (let e : ◌≡◌ {A = Option ℕ} None (Some i) = h in cc)
+front_and_number open_line i h f = absurd (let e : ◌≡◌ {A = Option ℕ} None (Some i) = h in cc)
+front_and_number (stuck j) i h f = absurd (let e : ◌≡◌ {A = Option ℕ} None (Some i) = h in cc)
+
+same-line : (r : Line) → line_by (λ n. n) r ≡ r
+same-line (pull j) = refl
+same-line (unit j) = refl
+same-line (void j) = refl
+same-line (push j) = refl
+same-line (void_no j) = refl
+same-line (combine ms) = refl
+same-line (void_combine ms) = refl
+same-line (ban j i) = refl
+same-line make_false = refl
+same-line (by i) = refl
+same-line (cut axis c) = refl
+same-line (flip axis) = refl
+same-line (case j) = refl
+same-line open_line = refl
+same-line (stuck j) = refl
+
+pub its_number : (r : Line) (i : ℕ) → lemma_named r ≡ Some i → rule_text r ≡ lemma_front r ++ decimal i
+its_number r i h = ap rule_text (sym (same-line r)) ∙ front_and_number r i h (λ n. n)
+
+pub number_counts : (r : Line) (i : ℕ) → lemma_named r ≡ Some i → IsSpelled (rule_line r) → i < 2 ^ 32
+number_counts (pull j) i h s = absurd (let e : ◌≡◌ {A = Option ℕ} None (Some i) = h in cc)
+number_counts (unit j) i h s = absurd (let e : ◌≡◌ {A = Option ℕ} None (Some i) = h in cc)
+number_counts (void j) i h s = absurd (let e : ◌≡◌ {A = Option ℕ} None (Some i) = h in cc)
+number_counts (push j) i h s = absurd (let e : ◌≡◌ {A = Option ℕ} None (Some i) = h in cc)
+number_counts (void_no j) i h s = absurd (let e : ◌≡◌ {A = Option ℕ} None (Some i) = h in cc)
+number_counts (combine ms) i h s = absurd (let e : ◌≡◌ {A = Option ℕ} None (Some i) = h in cc)
+number_counts (void_combine ms) i h s = absurd (let e : ◌≡◌ {A = Option ℕ} None (Some i) = h in cc)
+number_counts (ban j k) i h s = let e : k ≡ i = cc in omega (arith, e, s.0.1)
+number_counts make_false i h s = absurd (let e : ◌≡◌ {A = Option ℕ} None (Some i) = h in cc)
+number_counts (by k) i h s = let e : k ≡ i = cc in omega (arith, e, s.0)
+number_counts (cut axis c) i h s = absurd (let e : ◌≡◌ {A = Option ℕ} None (Some i) = h in cc)
+number_counts (flip axis) i h s = absurd (let e : ◌≡◌ {A = Option ℕ} None (Some i) = h in cc)
+number_counts (case j) i h s = absurd (let e : ◌≡◌ {A = Option ℕ} None (Some i) = h in cc)
+number_counts open_line i h s = absurd (let e : ◌≡◌ {A = Option ℕ} None (Some i) = h in cc)
+number_counts (stuck j) i h s = absurd (let e : ◌≡◌ {A = Option ℕ} None (Some i) = h in cc)
+
+-- ---- digits
+
+abbrev AreDigits : List ℕ → Type 0
+AreDigits w = all_ascii_digits w ≡ true
+
+model : IsNumeralModel AreDigits (digits_value 10)
+model = numerals_by_value AreDigits tells_all_ascii_digits
+
+not-space : (b : ℕ) → 48 ≤ b → IsTrue (not (nat_eq b 32))
+not-space b h = elim (eqb_tells b 32) [ inl e ↦ absurd (omega (arith, e.1, h)) | inr e ↦ ap not e.0 ]
+
+digits-lack : (w : List ℕ) → AreDigits w → IsTrue (lacks 32 w)
+digits-lack [] h = refl
+digits-lack (b ∷ bs) h = let e = tells_all_ascii_digits.parts b bs h in both_pass (not (nat_eq b 32)) (lacks 32 bs) (not-space b e.0.0) (digits-lack bs e.1)
+
+pub decimal_lacks : (n : ℕ) → n < 2 ^ 32 → IsTrue (lacks 32 (decimal n))
+decimal_lacks n h = digits-lack (decimal n) (digits_decimal model n (omega (arith, h)))
+
+-- ---- the line with the number that is given
+
+number-there : (numbers : List ℕ) (i n : ℕ) → slice_get numbers i ≡ Some n → (i < length numbers) × (n ≡ get_or numbers i 0)
+number-there numbers i n e = (slice_get_within numbers i n e, sym (get_or_from_slice_get numbers i n 0 e))
+
+number-none : (numbers : List ℕ) (i : ℕ) → slice_get numbers i ≡ None → length numbers ≤ i
+number-none numbers i e = ⊎_elim (λ (h : i < length numbers). absurd (let f : ◌≡◌ {A = Option ℕ} None (Some (get_or numbers i 0)) = sym e ∙ slice_get-get_or numbers i 0 h in cc)) (λ (h : length numbers ≤ i). h) (cases_lt i (length numbers))
+
+pub renumbered : (r : Line) (i : ℕ) (numbers old new front : List ℕ) (named : Option ℕ) (n : ℕ) → lemma_named r ≡ Some i
+    → front ≡ lemma_front r → named ≡ Some i → Some n ≡ number_among numbers named → new ≡ old ++ (front ++ decimal n)
+    → IsRenumbered numbers r old new (Ok true)
+renumbered r i numbers old new front named n h f g e k =
+    let at = number-there numbers i n (sym (e ∙ ap (number_among numbers) g)) in (
+      k ∙ ap₂ (λ (xs : List ℕ) (m : ℕ). old ++ (xs ++ decimal m)) f at.1 ∙ ap (λ (xs : List ℕ). old ++ xs) (sym (front_and_number r i h (numbered numbers))),
+      let P : Option ℕ → Type 0 = λ o. IfSome o (λ k. k < length numbers) in subst P (sym h) at.0,
+    )
+
+pub not_renumbered : (r : Line) (i : ℕ) (numbers : List ℕ) (named : Option ℕ) → lemma_named r ≡ Some i → named ≡ Some i
+    → None ≡ number_among numbers named → (k : ℕ) × (lemma_named r ≡ Some k) × (length numbers ≤ k)
+not_renumbered r i numbers named h g e = (i, h, number-none numbers i (sym (e ∙ ap (number_among numbers) g)))
+
+-- a line that names none stays
+pub stays_renumbered : (r : Line) (numbers old new text : List ℕ) → names_by_word (word_of r) ≡ false → text ≡ rule_text r → new ≡ old ++ text
+    → IsRenumbered numbers r old new (Ok true)
+stays_renumbered r numbers old new text h e k =
+    let none = names_none r h (numbered numbers) in (
+      k ∙ ap (λ (xs : List ℕ). old ++ xs) (e ∙ ap rule_text (sym none.1)),
+      let P : Option ℕ → Type 0 = λ o. IfSome o (λ k. k < length numbers) in subst P (sym none.0) tt,
+    )

@@ -1,0 +1,80 @@
+-- What a line of a tree leaves of its state, which its first word tells, and the lemma that it names.
+use Rattle.std.specs.Prelude.{◌≡◌, ℕ, ◌+◌, ◌-◌, ◌^◌, ◌<◌, ◌≤◌, List, [], ◌∷◌, ◌++◌, codes, decimal, Bool, true, false, min, length, Option, Some, None, Result, Ok, Err, IfSome, slice_get}
+use Rattle.std.specs.declared.alloc.AllocError.{AllocError}
+use Rattle.cover_line.specs.Words.{RuleWord, pull_word, unit_word, ban_word, push_word, by_word, cut_word, flip_word, case_word, open_word, stuck_word, combine_word, word_of}
+use Rattle.cover_model.specs.Rules.{Line, ban, by}
+use Rattle.cert_read.specs.CertLine.{rule_line}
+use Rattle.cert_read.specs.LineText.{line_text}
+use Rattle.cert_joined.specs.Covers.{Arity, ends, goes_on, splits, line_by, numbered}
+use Rattle.cert_join.specs.declared.line.Left.{Left}
+use Rattle.cert_join.specs.declared.line.Left.TheVariants.{Nothing, One, Two, Open, Stuck}
+
+-- the bytes of a line of a tree
+abbrev pub rule_text : Line → List ℕ
+rule_text l = line_text (rule_line l)
+
+-- ---- what it leaves
+
+abbrev pub kind_of_word : RuleWord → Left
+kind_of_word pull_word = One
+kind_of_word unit_word = One
+kind_of_word push_word = One
+kind_of_word combine_word = One
+kind_of_word ban_word = One
+kind_of_word cut_word = Two
+kind_of_word flip_word = Two
+kind_of_word case_word = Two
+kind_of_word open_word = Open
+kind_of_word stuck_word = Stuck
+kind_of_word w = Nothing
+
+abbrev pub left_kind : Line → Left
+left_kind l = kind_of_word (word_of l)
+
+-- how many trees such a line has below it
+abbrev pub arity_of : Left → Arity
+arity_of One = goes_on
+arity_of Two = splits
+arity_of k = ends
+
+-- whether the state stays
+abbrev pub does_stay : Left → Bool
+does_stay Open = true
+does_stay Stuck = true
+does_stay k = false
+
+-- how many states wait behind such a line, where so many waited with its own
+abbrev pub waiting_behind : Left → ℕ → ℕ
+waiting_behind One before = before
+waiting_behind Two before = min (before + 1) (2 ^ 64 - 1)
+waiting_behind k before = before - 1
+
+-- ---- the lemma that it names
+
+abbrev pub names_by_word : RuleWord → Bool
+names_by_word by_word = true
+names_by_word ban_word = true
+names_by_word w = false
+
+abbrev pub lemma_named : Line → Option ℕ
+lemma_named (by i) = Some i
+lemma_named (ban j i) = Some i
+lemma_named l = None
+
+-- what stands before its number
+abbrev pub lemma_front : Line → List ℕ
+lemma_front (by i) = codes "by "
+lemma_front (ban j i) = codes "ban " ++ (decimal j ++ (32 ∷ []))
+lemma_front l = []
+
+-- the number that these give a lemma
+abbrev pub number_among : List ℕ → Option ℕ → Option ℕ
+number_among numbers None = None
+number_among numbers (Some i) = slice_get numbers i
+
+-- the line behind what was there, with the number that these give its lemma, which is among them; or that it is not
+abbrev pub IsRenumbered : List ℕ → Line → List ℕ → List ℕ → Result Bool AllocError → Type 0
+IsRenumbered numbers l old new (Ok true) =
+    (new ≡ old ++ rule_text (line_by (numbered numbers) l)) × IfSome (lemma_named l) (λ i. i < length numbers)
+IsRenumbered numbers l old new (Ok false) = (i : ℕ) × (lemma_named l ≡ Some i) × (length numbers ≤ i)
+IsRenumbered numbers l old new (Err e) = Unit {0}
