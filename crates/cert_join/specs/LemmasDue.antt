@@ -1,5 +1,5 @@
 -- What is left of the lemmas of several certificates, and what is written of them.
-use Rattle.std.specs.Prelude.{◌≡◌, ℕ, suc, ◌+◌, List, [], ◌∷◌, ◌++◌, Bool, true, false, cond, length, map, drop, nat_eq, Option, Some, Result, Ok, Err, slice_get}
+use Rattle.std.specs.Prelude.{◌≡◌, ◌⊎◌, ℕ, suc, ◌+◌, List, [], ◌∷◌, ◌++◌, Bool, true, false, cond, length, map, drop, nat_eq, Option, Some, Result, Ok, Err, slice_get}
 use Rattle.std.specs.List.{AllByRecursion}
 use Rattle.std.specs.declared.alloc.AllocError.{AllocError}
 use Rattle.cover_model.specs.Derivation.{Tree, tree_lines}
@@ -10,7 +10,10 @@ use Rattle.cert_joined.specs.Covers.{Cover, Lemma, IsBoxLine, lemmas_lines, numb
 use Rattle.cert_join.specs.Written.{new_ones, text_of, texts_of, written_from}
 use Rattle.cert_join.specs.Kinds.{renumbered}
 use Rattle.cert_join.specs.Spot.{Spot, IsBefore}
+use Rattle.cert_join.specs.declared.joiner.Step.{Step}
+use Rattle.cert_join.specs.declared.joiner.Step.TheVariants.{Read, On, Over}
 use Rattle.cert_join.specs.declared.lemmas.Lemmas.{Lemmas}
+use Rattle.cert_join.specs.declared.stop.Unjoined.{Unjoined}
 
 -- ---- in one certificate
 
@@ -78,3 +81,36 @@ IsNextBegun numbers s s' old new r = Unit {0}
 abbrev pub IsTaken : List ℕ → CertLine → Lemmas → Lemmas → List ℕ → List ℕ → Result Bool AllocError → Type 0
 IsTaken numbers l s s' old new (Ok true) = (s' ≡ s) × (new ≡ old ++ cond s.is_written (whole_line (renumbered (numbered numbers) l)) [])
 IsTaken numbers l s s' old new r = Unit {0}
+
+-- ---- a step within one certificate
+
+-- it goes on with what is left now, and wrote the lines that are due before that
+pub record GoesOn (cert : List ℕ) (t : Tree) (numbers : List ℕ) (s s' : Lemmas) (r : Rest) (spot : Spot) (old new : List ℕ) : Type 0 where
+  pub rest : Rest
+  pub is_rest : IsRest s'.begun rest
+  pub before : IsBefore cert (texts_of (lines_ahead s'.begun rest t)) spot
+  pub part : s'.part ≡ s.part
+  pub written : List ℕ
+  pub appended : new ≡ old ++ written
+  pub due : text_of (lines_due numbers s r) ≡ written ++ text_of (lines_due numbers s' rest)
+  pub next : next_behind numbers s' rest ≡ next_behind numbers s r
+
+-- nothing was left of its lemmas, and the next certificate is begun
+pub record IsBehind (cert : List ℕ) (t : Tree) (numbers : List ℕ) (s s' : Lemmas) (r : Rest) (spot : Spot) (old new : List ℕ) : Type 0 where
+  pub before : IsBefore cert (texts_of (tree_part t)) spot
+  pub state : s' ≡ record { part = s.part + 1; begun = 0; is_written = false; next = s.next }
+  pub same : new ≡ old
+  pub due : lines_due numbers s r ≡ []
+  pub next : next_behind numbers s r ≡ s.next
+
+-- more has to be read first
+pub record Waits (cert : List ℕ) (t : Tree) (s s' : Lemmas) (r : Rest) (spot : Spot) (old new : List ℕ) : Type 0 where
+  pub before : IsBefore cert (texts_of (lines_ahead s.begun r t)) spot
+  pub state : s' ≡ s
+  pub same : new ≡ old
+
+abbrev pub StepsWithin : List ℕ → Tree → List ℕ → Lemmas → Lemmas → Rest → Spot → List ℕ → List ℕ → Result Step Unjoined → Type 0
+StepsWithin cert t numbers s s' r spot old new (Ok On) = GoesOn cert t numbers s s' r spot old new ⊎ IsBehind cert t numbers s s' r spot old new
+StepsWithin cert t numbers s s' r spot old new (Ok (Read part)) = Waits cert t s s' r spot old new
+StepsWithin cert t numbers s s' r spot old new (Ok Over) = ⊥
+StepsWithin cert t numbers s s' r spot old new (Err e) = Unit {0}

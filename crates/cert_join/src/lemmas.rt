@@ -1,8 +1,11 @@
 // The lemmas of the joined certificate.
-ghost use Rattle.std.specs.Prelude.{◌≡◌, ◌++◌, ℕ, false, OnOk};
+ghost use Rattle.std.specs.Prelude.{◌≡◌, ◌<◌, ◌++◌, ℕ, List, false, OnOk};
+ghost use Rattle.cover_model.specs.Derivation.{Tree};
 ghost use Rattle.cert_read.specs.CertLine.{CertLine, lemma};
 ghost use Rattle.cert_read.specs.LineText.{line_text, IsSpelled};
-ghost use Rattle.cert_join.specs.LemmasDue.{whole_line, IsBegun, IsInner, IsNextBegun, IsTaken};
+ghost use Rattle.cert_join.specs.LemmasDue.{lines_ahead, whole_line, IsBegun, IsInner, IsNextBegun, IsRest, IsTaken, Rest, StepsWithin};
+ghost use Rattle.cert_join.specs.Spot.{IsBefore};
+ghost use Rattle.cert_join.specs.Written.{texts_of};
 
 use crate::cursor::Cursor;
 use crate::joiner::{Step, apart};
@@ -133,6 +136,44 @@ impl Lemmas {
         match line.strip_prefix(b"lemma ") {
             Some(digits) => self.begin_said(digits, numbers, text),
             None => self.copy(line, numbers, text),
+        }
+    }
+
+    // Reads one more line of a certificate, by the numbers of its lemmas.
+    fn step_within(
+        &mut self,
+        cursor: &mut Cursor,
+        numbers: &[u32],
+        text: &mut Vec<u8>,
+    ) -> Result<Step, Unjoined>
+        requires { self.old.part < usize.MAX }
+        ensures { (cert : List ℕ) (t : Tree) (r : Rest) → IsRest self.old.begun r →
+            IsBefore cert (texts_of (lines_ahead self.old.begun r t)) cursor.old →
+            StepsWithin cert t numbers.now self.old self.new r cursor.new
+                text.old.items text.new.items result }
+    {
+        match cursor.next(self.part) {
+            Ok(true) => {}
+            Ok(false) => return Ok(Step::Read(self.part)),
+            Err(error) => return Err(error),
+        }
+        let Some(line) = cursor.line() else {
+            return Err(apart(self.part, cursor));
+        };
+        if line == b"tree".as_slice() {
+            self.part += 1;
+            self.begun = 0;
+            self.is_written = false;
+            cursor.pass();
+            return Ok(Step::On);
+        }
+        match self.take(line, numbers, text) {
+            Ok(true) => {
+                cursor.pass();
+                Ok(Step::On)
+            }
+            Ok(false) => Err(apart(self.part, cursor)),
+            Err(_) => Err(Unjoined::Memory),
         }
     }
 }
