@@ -1,6 +1,7 @@
 pub mod Below
 pub mod Choices
 pub mod Drafts
+pub mod Headers
 pub mod Places
 pub mod RuleWords
 pub mod Spaced

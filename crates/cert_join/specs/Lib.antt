@@ -1,5 +1,6 @@
 pub mod Ahead
 pub mod Drafting
+pub mod Heads
 pub mod Held
 pub mod Kinds
 pub mod Spot

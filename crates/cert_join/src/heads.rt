@@ -1,4 +1,12 @@
 // The first five lines of each certificate.
+ghost use Rattle.std.specs.Prelude.{◌≡◌, ◌++◌, ◌∷◌, ◌<◌, ◌≤◌, ◌^◌, [], ℕ, List, true, false, Some, Ok, IfOk, OnOk, IsTrue, codes, slice_get, length, drop, map};
+ghost use Rattle.cert_read.specs.CertLine.{cover};
+ghost use Rattle.cert_read.specs.LineText.{line_text};
+ghost use Rattle.cert_joined.specs.Covers.{Cover, AreTextsOf, IsTextOf};
+ghost use Rattle.cert_join.specs.Ahead.{AreBefore};
+ghost use Rattle.cert_join.specs.Spot.{Spot, IsBefore};
+ghost use Rattle.cert_join.specs.Heads.{all_lines, head_text, HasRead, IsBehind, IsReading, ReadsHeads, ReadsOf, TakesLine};
+
 use crate::cursor::Cursor;
 use crate::joiner::{Step, apart};
 use crate::line::number_of;
@@ -23,23 +31,49 @@ pub struct Heads {
 }
 
 // Keeps the line of the first certificate, and says of another one's whether it is the same.
-fn is_alike(kept: &mut Vec<u8>, is_first: bool, line: &[u8]) -> Result<bool, AllocError> {
+fn is_alike(kept: &mut Vec<u8>, is_first: bool, line: &[u8]) -> Result<bool, AllocError>
+    ensures first { is_first ≡ true → OnOk result (kept.new.items ≡ kept.old.items ++ line.now) }
+    ensures alike { is_first ≡ false → kept.new.items ≡ kept.old.items }
+    ensures same { is_first ≡ false → result ≡ Ok true → line.now ≡ kept.old.items }
+{
     if is_first {
-        kept.extend_from_slice(line)?;
-        return Ok(true);
+        return match kept.extend_from_slice(line) {
+            Ok(()) => Ok(true),
+            Err(error) => Err(error),
+        };
     }
     Ok(line == kept.as_slice())
 }
 
 // Appends a line.
-fn append_line(text: &mut Vec<u8>, line: &[u8]) -> Result<(), AllocError> {
-    text.extend_from_slice(line)?;
-    text.push(b'\n')?;
-    Ok(())
+fn append_line(text: &mut Vec<u8>, line: &[u8]) -> Result<(), AllocError>
+    ensures { OnOk result (text.new.items ≡ text.old.items ++ (line.now ++ (10 ∷ []))) }
+{
+    match text.extend_from_slice(line) {
+        Ok(()) => {}
+        Err(error) => return Err(error),
+    }
+    match text.push(b'\n') {
+        Ok(()) => Ok(()),
+        Err(_) => Err(AllocError),
+    }
+}
+
+// The number of lemmas in the last line of a cover.
+fn count_in(line: &[u8]) -> Option<u32>
+    ensures { (n : ℕ) → n < 2 ^ 32 → line.now ≡ line_text (cover n) → result ≡ Some n }
+{
+    match line.strip_prefix(b"cover ".as_slice()) {
+        Some(digits) => number_of(digits),
+        None => None,
+    }
 }
 
 impl Heads {
-    pub fn new(alloc: Global) -> Self {
+    pub fn new(alloc: Global) -> Self
+        ensures { (certs : List (List ℕ)) (covers : List Cover) (spots : List Spot) →
+            AreBefore certs (map all_lines covers) spots → IsReading certs covers result spots }
+    {
         Heads {
             part: 0,
             row: 0,
@@ -53,14 +87,18 @@ impl Heads {
     }
 
     // Takes the first line of a certificate, and says whether it is that of a version for one check.
-    fn take_version(&mut self, line: &[u8]) -> bool {
+    fn take_version(&mut self, line: &[u8]) -> bool
+        ensures { self.new ≡ record self.old { has_old = self.new.has_old } }
+    {
         let is_old = line == b"dpoly 1".as_slice();
         self.has_old = self.has_old || is_old;
         is_old || line == b"dpoly 2".as_slice()
     }
 
     // Takes the next line of a certificate, and says whether it may stand there.
-    fn take(&mut self, line: &[u8]) -> Result<bool, AllocError> {
+    fn take(&mut self, line: &[u8]) -> Result<bool, AllocError>
+        ensures { result ≡ Ok true → TakesLine line.now self.old self.new }
+    {
         let is_first = self.part == 0;
         match self.row {
             0 => Ok(self.take_version(line)),
@@ -72,55 +110,109 @@ impl Heads {
     }
 
     // Takes the kind of a certificate, and says whether it is one.
-    fn take_kind(&mut self, line: &[u8]) -> Result<bool, AllocError> {
-        if line == b"point".as_slice() {
-            if self.point.is_none() {
-                self.point = Some(self.part);
-            }
-            self.counts.push(0)?;
-            return Ok(true);
-        }
-        let Some(digits) = line.strip_prefix(b"cover ") else {
-            return Ok(false);
-        };
-        match number_of(digits) {
-            Some(count) => {
-                self.counts.push(count)?;
-                Ok(true)
-            }
-            None => Ok(false),
+    fn take_kind(&mut self, line: &[u8]) -> Result<bool, AllocError>
+        ensures same { self.new ≡ record self.old { point = self.new.point; counts = self.new.counts } }
+        ensures cover { (n : ℕ) → n < 2 ^ 32 → line.now ≡ line_text (cover n) → result ≡ Ok true →
+            (self.new.point ≡ self.old.point)
+            × (self.new.counts.items ≡ self.old.counts.items ++ (n ∷ [])) }
+    {
+        match count_in(line) {
+            Some(count) => match self.counts.push(count) {
+                Ok(()) => Ok(true),
+                Err(_) => Err(AllocError),
+            },
+            None => self.take_point(line),
         }
     }
 
-    /// Reads one more line.
-    pub fn step(&mut self, cursors: &mut [Cursor]) -> Result<Step, Unjoined> {
-        let Some(cursor) = cursors.get_mut(self.part) else {
-            return Ok(Step::Over);
-        };
-        if !cursor.is_ready() {
-            return Ok(Step::Read(self.part));
+    // Takes the kind of a certificate of no cover, and says whether it is a point's.
+    fn take_point(&mut self, line: &[u8]) -> Result<bool, AllocError>
+        ensures { self.new ≡ record self.old { point = self.new.point; counts = self.new.counts } }
+    {
+        if line != b"point".as_slice() {
+            return Ok(false);
         }
-        let Some(line) = cursor.line() else {
-            return Err(apart(self.part, cursor));
-        };
-        if !self.take(line)? {
-            return Err(apart(self.part, cursor));
+        if self.point.is_none() {
+            self.point = Some(self.part);
         }
-        cursor.pass();
+        match self.counts.push(0) {
+            Ok(()) => Ok(true),
+            Err(_) => Err(AllocError),
+        }
+    }
+
+    // Goes on to the next line.
+    fn pass(&mut self)
+        requires { self.old.part < usize.MAX }
+        ensures { IsBehind self.old self.new }
+    {
         if self.row < 4 {
             self.row += 1;
         } else {
             self.row = 0;
-            self.part = self.part.saturating_add(1);
+            self.part += 1;
         }
+    }
+
+    // Reads one more line of the certificate whose turn it is.
+    fn read(&mut self, cursor: &mut Cursor) -> Result<Step, Unjoined>
+        requires { self.old.part < usize.MAX }
+        ensures { (cert : List ℕ) (covers : List Cover) (c : Cover) → IsTextOf c cert →
+            slice_get covers self.old.part ≡ Some c → HasRead covers self.old →
+            IsBefore cert (drop self.old.row (all_lines c)) cursor.old →
+            ReadsOf cert covers c self.old result self.new cursor.new }
+    {
+        let part = self.part;
+        match cursor.next(part) {
+            Ok(true) => {}
+            Ok(false) => return Ok(Step::Read(part)),
+            Err(unjoined) => return Err(unjoined),
+        }
+        let is_good = match cursor.line() {
+            Some(line) => match self.take(line) {
+                Ok(is_good) => is_good,
+                Err(_) => return Err(Unjoined::Memory),
+            },
+            None => false,
+        };
+        if !is_good {
+            return Err(apart(part, cursor));
+        }
+        cursor.pass();
+        self.pass();
         Ok(Step::On)
     }
 
+    /// Reads one more line.
+    pub fn step(&mut self, cursors: &mut [Cursor]) -> Result<Step, Unjoined>
+        ensures { (certs : List (List ℕ)) (covers : List Cover) → AreTextsOf covers certs →
+            IsReading certs covers self.old cursors.old →
+            ReadsHeads certs covers result self.new cursors.new }
+    {
+        let part = self.part;
+        if part < cursors.len() {
+            self.read(&mut cursors[part])
+        } else {
+            Ok(Step::Over)
+        }
+    }
+
     /// Appends the first four lines.
-    pub fn append(&self, text: &mut Vec<u8>) -> Result<(), AllocError> {
-        text.extend_from_slice(b"dpoly 2\n")?;
-        append_line(text, &self.margin)?;
-        append_line(text, &self.delta)?;
+    pub fn append(&self, text: &mut Vec<u8>) -> Result<(), AllocError>
+        ensures { OnOk result (text.new.items ≡ text.old.items ++ head_text self.now) }
+    {
+        match append_line(text, b"dpoly 2") {
+            Ok(()) => {}
+            Err(error) => return Err(error),
+        }
+        match append_line(text, &self.margin) {
+            Ok(()) => {}
+            Err(error) => return Err(error),
+        }
+        match append_line(text, &self.delta) {
+            Ok(()) => {}
+            Err(error) => return Err(error),
+        }
         append_line(text, &self.bound)
     }
 }
