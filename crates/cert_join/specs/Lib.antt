@@ -2,5 +2,6 @@ pub mod Ahead
 pub mod Drafting
 pub mod Held
 pub mod Kinds
+pub mod LemmasDue
 pub mod Spot
 pub mod Written
