@@ -36,9 +36,9 @@ map_both {B = B} f (x ∷ xs) ys = ap (λ (zs : List B). f x ∷ zs) (map_both f
 
 -- ---- all of several
 
-all-append : {A : Type 0} (P : A → Type 0) (xs ys : List A) → AllByRecursion P (xs ++ ys) → AllByRecursion P xs × AllByRecursion P ys
-all-append P [] ys h = (tt, h)
-all-append P (x ∷ xs) ys h = let e = all-append P xs ys h.1 in ((h.0, e.0), e.1)
+pub all_append : {A : Type 0} (P : A → Type 0) (xs ys : List A) → AllByRecursion P (xs ++ ys) → AllByRecursion P xs × AllByRecursion P ys
+all_append P [] ys h = (tt, h)
+all_append P (x ∷ xs) ys h = let e = all_append P xs ys h.1 in ((h.0, e.0), e.1)
 
 all-both : {A : Type 0} (P : A → Type 0) (xs ys : List A) → AllByRecursion P xs → AllByRecursion P ys → AllByRecursion P (xs ++ ys)
 all-both P [] ys h k = k
@@ -173,7 +173,7 @@ goes_first cert t numbers s s' x xs spot old new n h e begun before =
     let P : Lemmas → Type 0 = λ k. GoesOn cert t numbers s k (record { middle = []; lemmas = x ∷ xs }) spot old new in
     let Q : List (List ℕ) → Type 0 = λ ls. IsBefore cert ls spot in
     let there = drop-there numbers s.begun n e in
-    let spelled = all-append IsSpelled (lemma_lines s.begun x) (lemmas_lines (suc s.begun) xs) h.lemmas_spelled in
+    let spelled = all_append IsSpelled (lemma_lines s.begun x) (lemmas_lines (suc s.begun) xs) h.lemmas_spelled in
     subst P (sym (begun.0 ∙ same-begun n s)) (record {
       rest = record { middle = lines_behind x; lemmas = xs };
       is_rest = record { inner = behind-inner x h.boxes.0; spelled = spelled.0.1; boxes = h.boxes.1; lemmas_spelled = spelled.1 };

@@ -2,6 +2,7 @@ pub mod Below
 pub mod Drafts
 pub mod LemmaLines
 pub mod LemmasAll
+pub mod LemmasStart
 pub mod Passed
 pub mod RuleWords
 pub mod Spaced
