@@ -1,6 +1,6 @@
 -- The lemmas of one certificate, line by line.
-use Rattle.std.proofs.Common.{◌≡◌, ◌≢◌, ◌⊎◌, inl, inr, ℕ, zero, suc, ◌+◌, ◌<◌, List, [], ◌∷◌, ◌++◌, Bool, true, false, cond, nat_eq, Option, Some, None, codes, map, length, drop, refl, ap, ap₂, sym, subst, ◌∙◌, append_assoc, true≢false, add-one, add-zero, arith}
-use Rattle.std.specs.Prelude.{slice_get, Ok, IfSome}
+use Rattle.std.proofs.Common.{◌≡◌, ℕ, suc, ◌+◌, List, [], ◌∷◌, ◌++◌, Bool, true, false, cond, nat_eq, Some, codes, map, length, drop, refl, ap, ap₂, sym, subst, ◌∙◌, append_assoc, true≢false, add-one, add-zero, arith}
+use Rattle.std.specs.Prelude.{slice_get, Ok}
 use Rattle.std.specs.List.{AllByRecursion}
 use Rattle.std.specs.Str.{bytes_eq}
 use Rattle.std.proofs.Math.Seq.{drop-cons}
@@ -9,13 +9,13 @@ use Rattle.std.proofs.lemmas.Option.{slice_get_within, get_or_from_slice_get}
 use Rattle.cover_line.specs.Words.{RuleWord, empty_word, pull_word, unit_word, ban_word, void_word, push_word, void_no_word, false_word, by_word, cut_word, flip_word, case_word, open_word, stuck_word, combine_word, void_combine_word, word_of, word_text}
 use Rattle.cover_model.specs.Rules.{Line}
 use Rattle.cover_model.specs.Derivation.{Tree, leaf, then, fork, tree_lines}
-use Rattle.cert_read.specs.CertLine.{CertLine, tree_word, end_word, lemma, real_interval, bool_value, yes_list, no_list, rule_line}
-use Rattle.cert_read.specs.LineText.{IsSpelled, line_text, text_of_lines}
+use Rattle.cert_read.specs.CertLine.{CertLine, tree_word, lemma, real_interval, bool_value, yes_list, no_list, rule_line}
+use Rattle.cert_read.specs.LineText.{IsSpelled, line_text}
 use Rattle.cert_model.specs.Written.{rule_lines}
 use Rattle.cert_joined.specs.Covers.{Lemma, IsBoxLine, lemma_lines, lemmas_lines, line_by, numbered, state_lines, tree_by}
 use Rattle.cert_join.specs.Kinds.{renumbered}
 use Rattle.cert_join.specs.Written.{lemma_by, new_ones, text_of, texts_of}
-use Rattle.cert_join.specs.LemmasDue.{begun_with, lines_ahead, lines_due, new_left, next_behind, tree_part, whole_line, GoesOn, IsBegun, IsBehind, IsInner, IsNextBegun, IsRest, IsTaken, Rest}
+use Rattle.cert_join.specs.LemmasDue.{begun_with, lines_ahead, new_left, tree_part, whole_line, GoesOn, IsBegun, IsBehind, IsInner, IsNextBegun, IsRest, IsTaken, Rest}
 use Rattle.cert_join.specs.Spot.{Spot, IsBefore}
 use Rattle.cert_join.specs.declared.lemmas.Lemmas.{Lemmas}
 use Rattle.cert_join.proofs.RuleWords.{first_of, first_of_line}
@@ -36,9 +36,9 @@ map_both {B = B} f (x ∷ xs) ys = ap (λ (zs : List B). f x ∷ zs) (map_both f
 
 -- ---- all of several
 
-all-append : {A : Type 0} (P : A → Type 0) (xs ys : List A) → AllByRecursion P (xs ++ ys) → AllByRecursion P xs × AllByRecursion P ys
-all-append P [] ys h = (tt, h)
-all-append P (x ∷ xs) ys h = let e = all-append P xs ys h.1 in ((h.0, e.0), e.1)
+pub all_append : {A : Type 0} (P : A → Type 0) (xs ys : List A) → AllByRecursion P (xs ++ ys) → AllByRecursion P xs × AllByRecursion P ys
+all_append P [] ys h = (tt, h)
+all_append P (x ∷ xs) ys h = let e = all_append P xs ys h.1 in ((h.0, e.0), e.1)
 
 all-both : {A : Type 0} (P : A → Type 0) (xs ys : List A) → AllByRecursion P xs → AllByRecursion P ys → AllByRecursion P (xs ++ ys)
 all-both P [] ys h k = k
@@ -173,7 +173,7 @@ goes_first cert t numbers s s' x xs spot old new n h e begun before =
     let P : Lemmas → Type 0 = λ k. GoesOn cert t numbers s k (record { middle = []; lemmas = x ∷ xs }) spot old new in
     let Q : List (List ℕ) → Type 0 = λ ls. IsBefore cert ls spot in
     let there = drop-there numbers s.begun n e in
-    let spelled = all-append IsSpelled (lemma_lines s.begun x) (lemmas_lines (suc s.begun) xs) h.lemmas_spelled in
+    let spelled = all_append IsSpelled (lemma_lines s.begun x) (lemmas_lines (suc s.begun) xs) h.lemmas_spelled in
     subst P (sym (begun.0 ∙ same-begun n s)) (record {
       rest = record { middle = lines_behind x; lemmas = xs };
       is_rest = record { inner = behind-inner x h.boxes.0; spelled = spelled.0.1; boxes = h.boxes.1; lemmas_spelled = spelled.1 };
@@ -182,9 +182,9 @@ goes_first cert t numbers s s' x xs spot old new n h e begun before =
       written = cond (nat_eq n s.next) (whole_line (lemma n)) [];
       appended = begun.1;
       due = ap (λ (ns : List ℕ). text_of (cond s.is_written [] [] ++ lemmas_lines s.next (new_ones numbers s.next ns (x ∷ xs)))) there
-        ∙ due-first numbers (drop (suc s.begun) numbers) s.next n s.is_written (nat_eq n s.next) x xs (eqb-true n s.next) h.boxes.0;
+          ∙ due-first numbers (drop (suc s.begun) numbers) s.next n s.is_written (nat_eq n s.next) x xs (eqb-true n s.next) h.boxes.0;
       next = next-first numbers (drop (suc s.begun) numbers) s.next (nat_eq n s.next) (lemma_by numbers x) xs
-        ∙ ap (λ (ns : List ℕ). s.next + length (new_ones numbers s.next ns (x ∷ xs))) (sym there);
+          ∙ ap (λ (ns : List ℕ). s.next + length (new_ones numbers s.next ns (x ∷ xs))) (sym there);
     })
 
 -- the line behind all lemmas

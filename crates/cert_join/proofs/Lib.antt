@@ -2,6 +2,10 @@ pub mod Below
 pub mod Choices
 pub mod Drafts
 pub mod Headers
+pub mod LemmaLines
+pub mod LemmasAll
+pub mod LemmasStart
+pub mod Passed
 pub mod Places
 pub mod RuleWords
 pub mod Spaced

@@ -1,13 +1,14 @@
 -- What is left of the lemmas of several certificates, and what is written of them.
-use Rattle.std.specs.Prelude.{◌≡◌, ◌⊎◌, ℕ, suc, ◌+◌, List, [], ◌∷◌, ◌++◌, Bool, true, false, cond, length, map, drop, nat_eq, Option, Some, Result, Ok, Err, slice_get}
+use Rattle.std.specs.Prelude.{◌≡◌, ◌⊎◌, ℕ, suc, ◌+◌, List, [], ◌∷◌, ◌++◌, Bool, true, false, cond, length, map, drop, nat_eq, Some, Result, Ok, Err, slice_get, get_or}
 use Rattle.std.specs.List.{AllByRecursion}
 use Rattle.std.specs.declared.alloc.AllocError.{AllocError}
 use Rattle.cover_model.specs.Derivation.{Tree, tree_lines}
 use Rattle.cert_read.specs.CertLine.{CertLine, tree_word, end_word, lemma, real_interval, bool_value, yes_list, no_list, rule_line}
 use Rattle.cert_read.specs.LineText.{IsSpelled, line_text}
 use Rattle.cert_model.specs.Written.{rule_lines}
-use Rattle.cert_joined.specs.Covers.{Cover, Lemma, IsBoxLine, lemmas_lines, numbered, state_lines}
-use Rattle.cert_join.specs.Written.{new_ones, text_of, texts_of, written_from}
+use Rattle.cert_joined.specs.Covers.{Cover, Lemma, IsBoxLine, lemmas_lines, numbered}
+use Rattle.cert_join.specs.Written.{behind_header, behind_lemmas, new_ones, text_of, texts_of, written_from}
+use Rattle.cert_join.specs.Ahead.{AreBefore}
 use Rattle.cert_join.specs.Kinds.{renumbered}
 use Rattle.cert_join.specs.Spot.{Spot, IsBefore}
 use Rattle.cert_join.specs.declared.joiner.Step.{Step}
@@ -114,3 +115,74 @@ StepsWithin cert t numbers s s' r spot old new (Ok On) = GoesOn cert t numbers s
 StepsWithin cert t numbers s s' r spot old new (Ok (Read part)) = Waits cert t s s' r spot old new
 StepsWithin cert t numbers s s' r spot old new (Ok Over) = ⊥
 StepsWithin cert t numbers s s' r spot old new (Err e) = Unit {0}
+
+-- ---- in all certificates
+
+-- what is left: the covers whose lemmas are behind, the one that is gone through, with what is left of it, and the later ones; or all are behind
+pub data LemmasLeft : Type 0 where
+  within : List Cover → Cover → Rest → List Cover → LemmasLeft
+  none : List Cover → LemmasLeft
+
+abbrev pub all_lemmas : Cover → Rest
+all_lemmas c = record { middle = []; lemmas = c.lemmas }
+
+-- all lemmas of later covers
+abbrev pub all_left : List Cover → List Cover → LemmasLeft
+all_left done [] = none done
+all_left done (c ∷ later) = within done c (all_lemmas c) later
+
+abbrev pub covers_of : LemmasLeft → List Cover
+covers_of (within done c r later) = done ++ (c ∷ later)
+covers_of (none done) = done
+
+-- the lines that are ahead in each certificate
+abbrev pub each_ahead : ℕ → LemmasLeft → List (List (List ℕ))
+each_ahead begun (within done c r later) = map behind_lemmas done ++ (texts_of (lines_ahead begun r c.tree) ∷ map behind_header later)
+each_ahead begun (none done) = map behind_lemmas done
+
+-- the lemmas of the cover can be spelled
+abbrev pub HasLemmas : Cover → Type 0
+HasLemmas c = IsRest 0 (all_lemmas c)
+
+abbrev pub IsLeft : Lemmas → LemmasLeft → Type 0
+IsLeft s (within done c r later) = (s.part ≡ length done) × IsRest s.begun r × AllByRecursion HasLemmas later
+IsLeft s (none done) = s.part ≡ length done
+
+-- the state, and the places in the certificates, where this is left; each cover has its numbers
+pub record AreLemmasDue (certs numbers : List (List ℕ)) (f : LemmasLeft) (s : Lemmas) (spots : List Spot) : Type 0 where
+  pub before : AreBefore certs (each_ahead s.begun f) spots
+  pub left : IsLeft s f
+  pub numbered : length numbers ≡ length (covers_of f)
+
+-- the lines that are written of later covers, by their numbers
+abbrev pub later_due : ℕ → List (List ℕ) → List Cover → List CertLine
+later_due next numbers later = lemmas_lines next (written_from next numbers later)
+
+-- the lines that are written of what is left
+abbrev pub lemmas_due : List (List ℕ) → Lemmas → LemmasLeft → List CertLine
+lemmas_due numbers s (within done c r later) =
+    let own = get_or numbers (length done) [] in
+    lines_due own s r ++ later_due (next_behind own s r) (drop (suc (length done)) numbers) later
+lemmas_due numbers s (none done) = []
+
+-- ---- a step
+
+pub record LemmasGoOn (certs numbers : List (List ℕ)) (s s' : Lemmas) (f : LemmasLeft) (spots : List Spot) (old new : List ℕ) : Type 0 where
+  pub left : LemmasLeft
+  pub due : AreLemmasDue certs numbers left s' spots
+  pub covers : covers_of left ≡ covers_of f
+  pub written : List ℕ
+  pub appended : new ≡ old ++ written
+  pub writes : text_of (lemmas_due numbers s f) ≡ written ++ text_of (lemmas_due numbers s' left)
+
+-- nothing changed but that a line may be known
+pub record LemmasStay (certs numbers : List (List ℕ)) (s s' : Lemmas) (f : LemmasLeft) (spots : List Spot) (old new : List ℕ) : Type 0 where
+  pub due : AreLemmasDue certs numbers f s' spots
+  pub state : s' ≡ s
+  pub same : new ≡ old
+
+abbrev pub StepsLemmas : List (List ℕ) → List (List ℕ) → Lemmas → Lemmas → LemmasLeft → List Spot → List ℕ → List ℕ → Result Step Unjoined → Type 0
+StepsLemmas certs numbers s s' f spots old new (Ok On) = LemmasGoOn certs numbers s s' f spots old new
+StepsLemmas certs numbers s s' f spots old new (Ok (Read part)) = LemmasStay certs numbers s s' f spots old new
+StepsLemmas certs numbers s s' f spots old new (Ok Over) = LemmasStay certs numbers s s' f spots old new × (f ≡ none (covers_of f))
+StepsLemmas certs numbers s s' f spots old new (Err e) = Unit {0}

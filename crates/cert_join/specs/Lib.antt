@@ -3,6 +3,7 @@ pub mod Drafting
 pub mod Heads
 pub mod Held
 pub mod Kinds
+pub mod LemmasDue
 pub mod Spot
 pub mod Weighed
 pub mod Written

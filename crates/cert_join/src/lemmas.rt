@@ -1,9 +1,9 @@
 // The lemmas of the joined certificate.
-ghost use Rattle.std.specs.Prelude.{◌≡◌, ◌<◌, ◌++◌, ℕ, List, false, OnOk};
+ghost use Rattle.std.specs.Prelude.{◌≡◌, ◌<◌, ◌++◌, ℕ, List, false, map, OnOk};
 ghost use Rattle.cover_model.specs.Derivation.{Tree};
 ghost use Rattle.cert_read.specs.CertLine.{CertLine, lemma};
 ghost use Rattle.cert_read.specs.LineText.{line_text, IsSpelled};
-ghost use Rattle.cert_join.specs.LemmasDue.{lines_ahead, whole_line, IsBegun, IsInner, IsNextBegun, IsRest, IsTaken, Rest, StepsWithin};
+ghost use Rattle.cert_join.specs.LemmasDue.{lines_ahead, whole_line, IsBegun, IsInner, IsNextBegun, IsRest, IsTaken, AreLemmasDue, LemmasLeft, Rest, StepsLemmas, StepsWithin};
 ghost use Rattle.cert_join.specs.Spot.{IsBefore};
 ghost use Rattle.cert_join.specs.Written.{texts_of};
 
@@ -96,12 +96,7 @@ impl Lemmas {
     }
 
     // Takes a line of the lemma that was begun. Says whether it may stand there.
-    fn copy(
-        &mut self,
-        line: &[u8],
-        numbers: &[u32],
-        text: &mut Vec<u8>,
-    ) -> Result<bool, AllocError>
+    fn copy(&mut self, line: &[u8], numbers: &[u32], text: &mut Vec<u8>) -> Result<bool, AllocError>
         ensures { (l : CertLine) → line.now ≡ line_text l → IsSpelled l →
             IsTaken numbers.now l self.old self.new text.old.items text.new.items result }
     {
@@ -122,12 +117,7 @@ impl Lemmas {
     }
 
     // Takes a line of a lemma, by the numbers of the certificate's lemmas. Says whether it may stand there.
-    fn take(
-        &mut self,
-        line: &[u8],
-        numbers: &[u32],
-        text: &mut Vec<u8>,
-    ) -> Result<bool, AllocError>
+    fn take(&mut self, line: &[u8], numbers: &[u32], text: &mut Vec<u8>) -> Result<bool, AllocError>
         ensures first { (i : ℕ) → line.now ≡ line_text (lemma i) →
             IsNextBegun numbers.now self.old self.new text.old.items text.new.items result }
         ensures inner { (l : CertLine) → line.now ≡ line_text l → IsInner l → IsSpelled l →
@@ -150,7 +140,7 @@ impl Lemmas {
         ensures { (cert : List ℕ) (t : Tree) (r : Rest) → IsRest self.old.begun r →
             IsBefore cert (texts_of (lines_ahead self.old.begun r t)) cursor.old →
             StepsWithin cert t numbers.now self.old self.new r cursor.new
-                text.old.items text.new.items result }
+            text.old.items text.new.items result }
     {
         match cursor.next(self.part) {
             Ok(true) => {}
@@ -175,5 +165,24 @@ impl Lemmas {
             Ok(false) => Err(apart(self.part, cursor)),
             Err(_) => Err(Unjoined::Memory),
         }
+    }
+
+    /// Reads one more line.
+    pub fn step(
+        &mut self,
+        cursors: &mut [Cursor],
+        numbers: &[Vec<u32>],
+        text: &mut Vec<u8>,
+    ) -> Result<Step, Unjoined>
+        ensures { (certs : List (List ℕ)) (f : LemmasLeft) →
+            AreLemmasDue certs (map (λ v. v.items) numbers.now) f self.old cursors.old →
+            StepsLemmas certs (map (λ v. v.items) numbers.now) self.old self.new f cursors.new
+            text.old.items text.new.items result }
+    {
+        let part = self.part;
+        if part >= cursors.len() || part >= numbers.len() {
+            return Ok(Step::Over);
+        }
+        self.step_within(&mut cursors[part], numbers[part].as_slice(), text)
     }
 }

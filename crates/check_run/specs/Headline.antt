@@ -26,6 +26,7 @@ use Rattle.check_run.specs.Answer.{loosenings_for, loosenings_of, solve_texts, A
 use Rattle.check_run.specs.declared.status.Status.TheVariants.{Answered, CertRefused}
 use Rattle.check_run.specs.Course.{Course, appended}
 use Rattle.check_run.specs.Can.{Can, ArePlans, check_texts, plan_texts}
+use Rattle.cert_joined.specs.Covers.{JoinsTexts}
 use Rattle.check_run.specs.Joined.{IsNotJoined, bound_of}
 use Rattle.check_run.specs.Resumed.{IsMore, header_bound}
 use Rattle.check_run.specs.Run.{Run, OnInput}

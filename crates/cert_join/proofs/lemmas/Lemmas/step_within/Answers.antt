@@ -1,5 +1,4 @@
-use Rattle.std.proofs.Common.{inl, inr, refl, sym, ap, ◌∙◌}
-use Rattle.std.specs.Str.{bytes_eq}
+use Rattle.std.proofs.Common.{inl, inr, refl, sym, ◌∙◌}
 use Rattle.cert_join.proofs.Passed.{passed, same_bytes, other_bytes}
 use Rattle.cert_join.proofs.LemmaLines.{at_tree, at_line}
 use Rattle.cert_join.proofs.lemmas.Lemmas.step_within.Goals as goal
