@@ -7,3 +7,4 @@ pub mod LemmasDue
 pub mod Spot
 pub mod Weighed
 pub mod Written
+pub mod TreesDue

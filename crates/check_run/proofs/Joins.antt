@@ -98,7 +98,7 @@ join_delta words script cert_in parts old new shows rest wrote =
 
 refused-by : (words : Join) (script cert_in : List ℕ) (parts : List (List ℕ)) (old new : Sight) (p : Problem) (tail : Course) → HasProblem (bound_of parts) p script → CanJoin p (bound_of parts) parts tail → tail.status ≡ CertRefused →
     new.answer ≡ appended old.answer tail.answer → new.cert_out ≡ appended old.cert_out tail.cert → IsTrueRefusal (Some (join words)) script cert_in parts old new
-refused-by words script cert_in parts old new p tail has (joins cert s v accepts e) status wrote none = absurd (answered-not tail.status (ap (λ (c : Course). c.status) e) status)
+refused-by words script cert_in parts old new p tail has (joins cert s v accepts together e) status wrote none = absurd (answered-not tail.status (ap (λ (c : Course). c.status) e) status)
 refused-by words script cert_in parts old new p tail has (refuses text reason e) status wrote none = (
   record { problem = p; has = has; text = text; reason = reason; written = wrote ∙ ap (λ (c : Course). appended old.answer c.answer) e },
   none ∙ ap (λ (c : Course). appended old.cert_out c.cert) e,
