@@ -11,3 +11,4 @@ pub mod RuleWords
 pub mod Spaced
 pub mod Spots
 pub mod Weighs
+pub mod Yielding
