@@ -1,6 +1,9 @@
+pub mod AllNumbers
 pub mod Below
 pub mod Drafts
 pub mod Headers
+pub mod LineKinds
+pub mod Numbers
 pub mod RuleWords
 pub mod Spaced
 pub mod Spots

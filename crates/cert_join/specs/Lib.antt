@@ -3,5 +3,6 @@ pub mod Drafting
 pub mod Heads
 pub mod Held
 pub mod Kinds
+pub mod Numbered
 pub mod Spot
 pub mod Written
