@@ -1,3 +1,4 @@
+pub mod AllNumbers
 pub mod Below
 pub mod Choices
 pub mod Drafts
@@ -5,6 +6,8 @@ pub mod Headers
 pub mod LemmaLines
 pub mod LemmasAll
 pub mod LemmasStart
+pub mod LineKinds
+pub mod Numbers
 pub mod Passed
 pub mod Places
 pub mod RuleWords

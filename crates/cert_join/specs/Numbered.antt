@@ -1,0 +1,124 @@
+-- The numbers that lemmas get, equal states one, in the order in which they come.
+use Rattle.std.specs.Prelude.{◌≡◌, ◌≢◌, ◌⊎◌, ◌+◌, ◌<◌, ◌≤◌, ℕ, zero, suc, Bool, true, false, cond, List, [], ◌∷◌, ◌++◌, Option, Some, None, Result, Ok, Err, map, take, length, slice_get, codes}
+use Rattle.std.specs.List.{AllByRecursion}
+use Rattle.std.specs.Option.{option_map}
+use Rattle.std.specs.HashMap.{get}
+use Rattle.std.specs.Str.{bytes_eq}
+use Rattle.std.specs.declared.alloc.Global.{Global}
+use Rattle.std.specs.declared.vec.Vec.{Vec}
+use Rattle.cover_model.specs.Derivation.{Tree, tree_lines}
+use Rattle.cert_model.specs.Written.{rule_lines}
+use Rattle.cert_read.specs.CertLine.{CertLine, lemma, no_list, tree_word, end_word}
+use Rattle.cert_read.specs.LineText.{line_text}
+use Rattle.cert_joined.specs.Covers.{Cover, Lemma, AreAllLemmas, state_lines, lemmas_lines}
+use Rattle.cert_join.specs.declared.numbering.Kind.{Kind}
+use Rattle.cert_join.specs.declared.numbering.Kind.TheVariants.{Lemma as LemmaKind, No, Tree as TreeKind, Other}
+use Rattle.cert_join.specs.declared.numbering.Known.{Known}
+use Rattle.cert_join.specs.declared.numbering.Numbering.{Numbering}
+use Rattle.cert_join.specs.declared.cursor.Mark.{Mark}
+use Rattle.cert_join.specs.declared.joiner.Step.{Step}
+use Rattle.cert_join.specs.declared.joiner.Step.TheVariants.{Over}
+use Rattle.cert_join.specs.declared.stop.Unjoined.{Unjoined}
+use Rattle.cert_join.specs.Ahead.{AreBefore}
+use Rattle.cert_join.specs.Spot.{Spot, IsBefore, rewound}
+use Rattle.cert_join.specs.Written.{texts_of, text_of, behind_header, written_from}
+
+-- ---- lines, by their first words
+
+-- of a lemma's own lines by the first word
+abbrev pub word_kind : List ℕ → Kind
+word_kind w = cond (bytes_eq w (codes "lemma")) LemmaKind (cond (bytes_eq w (codes "no")) No (cond (bytes_eq w (codes "tree")) TreeKind Other))
+
+abbrev pub line_kind : CertLine → Kind
+line_kind (lemma i) = LemmaKind
+line_kind (no_list js) = No
+line_kind tree_word = TreeKind
+line_kind l = Other
+
+-- ---- states
+
+-- the text of a lemma's state
+abbrev pub state_text : Lemma → List ℕ
+state_text x = text_of (state_lines x)
+
+-- the place of the first text that is this one
+abbrev pub place_of : List ℕ → List (List ℕ) → Option ℕ
+place_of k [] = None
+place_of k (t ∷ ts) = cond (bytes_eq k t) (Some 0) (option_map suc (place_of k ts))
+
+-- the texts are those that are known, in the order of their numbers
+pub record IsKnown (known : Known) (texts : List (List ℕ)) : Type 0 where
+  pub count : known.count ≡ length texts
+  pub found : (v : Vec ℕ Global) → get (λ (x y : Vec ℕ Global). bytes_eq x.items y.items) known.map v ≡ place_of v.items texts
+
+-- a text has this number among the texts: one of those that are there, or the next one
+abbrev pub IsNumbered : List (List ℕ) → List ℕ → ℕ → List (List ℕ) → Type 0
+IsNumbered texts text n after =
+    ((place_of text texts ≡ Some n) × (after ≡ texts)) ⊎ ((place_of text texts ≡ None) × (n ≡ length texts) × (after ≡ texts ++ (text ∷ [])))
+
+-- the lemmas have these numbers, where the texts are known before
+abbrev pub HaveNumbers : List (List ℕ) → List ℕ → List Lemma → List (List ℕ) → Type 0
+HaveNumbers texts [] [] after = after ≡ texts
+HaveNumbers texts (n ∷ ns) (x ∷ xs) after = (mid : List (List ℕ)) × IsNumbered texts (state_text x) n mid × HaveNumbers mid ns xs after
+HaveNumbers texts _ _ after = ⊥
+
+-- so do those of all covers
+abbrev pub AllHaveNumbers : List (List ℕ) → List (List ℕ) → List Cover → List (List ℕ) → Type 0
+AllHaveNumbers texts [] [] after = after ≡ texts
+AllHaveNumbers texts (ns ∷ numbers) (c ∷ covers) after = (mid : List (List ℕ)) × HaveNumbers texts ns c.lemmas mid × AllHaveNumbers mid numbers covers after
+AllHaveNumbers texts _ _ after = ⊥
+
+-- ---- where a certificate is read
+
+-- the lines of a cover behind its lemmas
+abbrev pub tail_lines : Cover → List CertLine
+tail_lines c = tree_word ∷ (rule_lines (tree_lines c.tree) ++ (end_word ∷ []))
+
+abbrev pub IsOther : CertLine → Type 0
+IsOther l = line_kind l ≡ Other
+
+-- a tree, a lemma or the main tree is next
+pub record IsBetween (before : List (List ℕ)) (c : Cover) (own : List ℕ) (known : List (List ℕ)) (ls : List CertLine) : Type 0 where
+  pub done : List Lemma
+  pub due : List Lemma
+  pub rules : List CertLine
+  pub lemmas : c.lemmas ≡ done ++ due
+  pub ahead : ls ≡ rules ++ (lemmas_lines (length done) due ++ tail_lines c)
+  pub others : AllByRecursion IsOther rules
+  pub numbers : HaveNumbers before own done known
+
+-- lines of a lemma's state are next
+pub record IsInside (before : List (List ℕ)) (c : Cover) (state : List ℕ) (own : List ℕ) (known : List (List ℕ)) (ls : List CertLine) : Type 0 where
+  pub done : List Lemma
+  pub now : Lemma
+  pub due : List Lemma
+  pub read : List CertLine
+  pub left : List CertLine
+  pub last : List ℕ
+  pub lemmas : c.lemmas ≡ done ++ (now ∷ due)
+  pub parts : state_lines now ≡ read ++ (left ++ (no_list last ∷ []))
+  pub held : state ≡ text_of read
+  pub ahead : ls ≡ left ++ (no_list last ∷ (rule_lines (tree_lines now.tree) ++ (lemmas_lines (suc (length done)) due ++ tail_lines c)))
+  pub others : AllByRecursion IsOther left
+  pub numbers : HaveNumbers before own done known
+
+-- by whether a state is read
+abbrev pub IsAt : Bool → List (List ℕ) → Cover → List ℕ → List ℕ → List (List ℕ) → List CertLine → Type 0
+IsAt true before c state own known ls = IsInside before c state own known ls
+IsAt false before c state own known ls = IsBetween before c own known ls
+
+-- ---- a line of a lemma
+
+-- the lemma's number is the next one of its certificate's
+pub record TakesState (text : List ℕ) (old new : Numbering) : Type 0 where
+  pub outside : new.is_in_state ≡ false
+  pub number : (texts : List (List ℕ)) → IsKnown old.known texts → old.known.count ≤ 1048576 →
+      (n : ℕ) × (after : List (List ℕ)) × IsNumbered texts text n after × IsKnown new.known after × (new.own.items ≡ old.own.items ++ (n ∷ []))
+
+-- a line of this kind was taken
+pub record TakesLine (kind : Kind) (line : List ℕ) (old new : Numbering) : Type 0 where
+  pub begins : kind ≡ LemmaKind → (new.is_in_state ≡ true) × (new.state.items ≡ []) × (new.own ≡ old.own) × (new.known ≡ old.known)
+  pub passes : kind ≡ Other → old.is_in_state ≡ false → (new.is_in_state ≡ false) × (new.own ≡ old.own) × (new.known ≡ old.known)
+  pub grows : kind ≡ Other → old.is_in_state ≡ true →
+      (new.is_in_state ≡ true) × (new.state.items ≡ old.state.items ++ (line ++ (10 ∷ []))) × (new.own ≡ old.own) × (new.known ≡ old.known)
+  pub ends : kind ≡ No → old.is_in_state ≡ true → TakesState (old.state.items ++ (line ++ (10 ∷ []))) old new
