@@ -14,4 +14,3 @@ pub mod RuleWords
 pub mod Spaced
 pub mod Spots
 pub mod Weighs
-pub mod Yielding
