@@ -1,5 +1,6 @@
 pub mod AllNumbers
 pub mod Below
+pub mod Certificates
 pub mod Drafts
 pub mod Headers
 pub mod LineKinds
@@ -7,3 +8,4 @@ pub mod Numbers
 pub mod RuleWords
 pub mod Spaced
 pub mod Spots
+pub mod Walks
