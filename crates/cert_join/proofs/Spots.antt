@@ -101,7 +101,7 @@ split_on c (x ∷ xs) ys h =
       ap (λ (t : Bool). cond t ([] ∷ split_at c (xs ++ ys)) (onto_first x (split_at c (xs ++ ys)))) (differs x c (h 0 (omega arith))) ∙ ap (onto_first x) r.2,
     )
 
-some_kept : (b : ℕ) (w : List ℕ) (ws : List (List ℕ)) → without_last_empty ((b ∷ w) ∷ ws) ≡ (b ∷ w) ∷ without_last_empty ws
+pub some_kept : (b : ℕ) (w : List ℕ) (ws : List (List ℕ)) → without_last_empty ((b ∷ w) ∷ ws) ≡ (b ∷ w) ∷ without_last_empty ws
 some_kept b w [] = refl
 some_kept b w (v ∷ ws) = refl
 

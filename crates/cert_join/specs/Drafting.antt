@@ -1,11 +1,12 @@
 -- A certificate that is written in pieces, and checked as it is written.
-use Rattle.std.specs.Prelude.{◌≡◌, ℕ, List, Option, Result, Ok, Err}
+use Rattle.std.specs.Prelude.{◌≡◌, ℕ, List, ◌++◌, Option, Some, Result, Ok, Err, length}
 use Rattle.desk.specs.declared.desk.Port.TheVariants.{Part}
 use Rattle.desk.specs.Sight.{Sight, SideFailed, FailsOn}
 use Rattle.desk.specs.Draft.{drafted, IsDrafted}
 use Rattle.poly_graph.specs.ProblemViews.{Parts}
 use Rattle.cert_check.specs.Feeding.{HasTaken}
 use Rattle.cert_check.specs.declared.feed.Feed.{Feed}
+use Rattle.cert_joined.specs.Covers.{JoinsTexts}
 use Rattle.cert_join.specs.declared.stop.Stop.{Stop}
 use Rattle.cert_join.specs.declared.stop.Stop.TheVariants.{Failed, Denied, Memory}
 
@@ -44,6 +45,23 @@ IsJoined s p b (Err e) d f = IsStopped s e d
 -- whatever was drafted before
 abbrev pub GoesOn : {A : Type 0} → Sight → Feed → Result A Stop → Sight → Feed → Type 0
 GoesOn old f r new g = (s : Sight) (p : Parts) (b : Option ℕ) → IsUnderWay s p b old f → IsJoined s p b r new g
+
+-- Behind this text one was drafted that joins the covers of the certificates, where the desk shows so many; a checker for this problem and bound took
+-- the same texts, and met no fault in them.
+pub record IsWhole (s : Sight) (p : Parts) (b : Option ℕ) (count : ℕ) (before : List ℕ) (d : Sight) (f : Feed) : Type 0 where
+  pub text : List ℕ
+  pub drafted : IsDrafted s (before ++ text) d
+  pub taken : HasTaken p b (before ++ text) f
+  pub joins : (certs : List (List ℕ)) → s.parts ≡ Some certs → length certs ≡ count → JoinsTexts certs text
+
+-- how a call ends that joins so many certificates
+abbrev pub IsJoinedBehind : {A : Type 0} → Sight → Parts → Option ℕ → ℕ → List ℕ → Result A Stop → Sight → Feed → Type 0
+IsJoinedBehind s p b count before (Ok x) d f = IsWhole s p b count before d f
+IsJoinedBehind s p b count before (Err e) d f = IsStopped s e d
+
+-- whatever was drafted before
+abbrev pub JoinsAll : {A : Type 0} → ℕ → Sight → Feed → Result A Stop → Sight → Feed → Type 0
+JoinsAll count old f r new g = (s : Sight) (p : Parts) (b : Option ℕ) (way : IsUnderWay s p b old f) → IsJoinedBehind s p b count way.text r new g
 
 -- how more of a certificate is read: nothing changes, or the side failed, or there was no memory
 abbrev pub Reads : {A : Type 0} → Sight → Result A Stop → Sight → Type 0

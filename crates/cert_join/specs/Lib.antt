@@ -3,6 +3,9 @@ pub mod Drafting
 pub mod Heads
 pub mod Held
 pub mod Kinds
+pub mod LemmasDue
 pub mod Numbered
 pub mod Spot
+pub mod TreesDue
+pub mod Weighed
 pub mod Written

@@ -1,4 +1,13 @@
 // Which of several trees of one place is taken.
+ghost use Rattle.std.specs.Prelude.{◌≡◌, ◌≤◌, [], ◌∷◌, ◌++◌, ℕ, List, MatchOption, length, map};
+ghost use Rattle.cover_model.specs.Rules.{Line};
+ghost use Rattle.cover_model.specs.Derivation.{Tree};
+ghost use Rattle.cert_read.specs.Lines.{longest_line};
+ghost use Rattle.cert_join.specs.Ahead.{AreBefore};
+ghost use Rattle.cert_join.specs.Kinds.{rule_text};
+ghost use Rattle.cert_join.specs.Spot.{Spot, IsBefore, IsMark};
+ghost use Rattle.cert_join.specs.Weighed.{AreAhead, AreApart, Branch, IsChoosing, IsChosen, IsGone, IsLeft, IsWeighStep, IsWeighing, IsWithin, behind_next, behind_tree, first_closing, forest_texts, passed};
+
 use crate::cursor::{Cursor, Mark};
 use crate::joiner::{Step, apart};
 use crate::line::{Left, left_of};
@@ -19,8 +28,36 @@ pub struct Weighing {
     closed: Option<(usize, Mark)>,
 }
 
+// What the certificate's next line leaves; none where more has to be read first.
+fn left_of_next(cursor: &mut Cursor, part: usize) -> Result<Option<Left>, Unjoined>
+    ensures same { cursor.new ≡ record cursor.old { size = cursor.new.size } }
+    ensures left { (cert : List ℕ) (r : Line) (ls : List (List ℕ)) →
+        IsBefore cert (rule_text r ∷ ls) cursor.old → length (rule_text r) ≤ longest_line →
+        IsLeft r cursor.new result }
+{
+    match cursor.next(part) {
+        Ok(true) => {}
+        Ok(false) => return Ok(None),
+        Err(unjoined) => return Err(unjoined),
+    }
+    match cursor.line() {
+        Some(line) => match left_of(line) {
+            Some(left) => Ok(Some(left)),
+            None => Err(apart(part, cursor)),
+        },
+        None => Err(apart(part, cursor)),
+    }
+}
+
 impl Weighing {
-    pub fn new(parts: Vec<usize>) -> Self {
+    /// The certificates have trees ahead, at least one.
+    pub fn new(parts: Vec<usize>) -> Self
+        ensures { (certs : List (List ℕ)) (lines : List (List (List ℕ))) (spots : List Spot) →
+            (b : Branch) (more : List Branch) →
+            parts.items ≡ map (λ (c : Branch). c.part) (b ∷ more) →
+            AreBefore certs lines spots → AreAhead lines (b ∷ more) → AreApart (b ∷ more) →
+            IsWeighing certs (first_closing b (b ∷ more)) (passed (b ∷ more) lines) result spots }
+    {
         Weighing {
             parts,
             place: 0,
@@ -33,7 +70,11 @@ impl Weighing {
     }
 
     /// The certificate whose tree is taken, once all were gone through, and where the tree begins.
-    pub fn chosen(&self) -> Option<(usize, Mark)> {
+    pub fn chosen(&self) -> Option<(usize, Mark)>
+        ensures { (certs : List (List ℕ)) (taken : Branch) →
+            IsChoosing certs taken [] self.now.first self.now.closed →
+            IsChosen certs taken result }
+    {
         match self.closed {
             Some(closed) => Some(closed),
             None => self.first,
@@ -41,7 +82,9 @@ impl Weighing {
     }
 
     // A tree was gone through.
-    fn end_tree(&mut self, part: usize, mark: Mark) {
+    fn end_tree(&mut self, part: usize, mark: Mark)
+        ensures { self.new ≡ behind_tree part mark self.old }
+    {
         if self.first.is_none() {
             self.first = Some((part, mark));
         }
@@ -54,40 +97,60 @@ impl Weighing {
         self.leaves = false;
     }
 
-    // Takes what a line leaves.
-    fn take(&mut self, left: Left) {
+    // Takes what a line leaves, of the tree of this certificate that begins at the mark.
+    fn take(&mut self, part: usize, mark: Mark, left: Left)
+        ensures { self.new ≡ behind_next part mark left self.old }
+    {
         self.waiting = left.waiting(self.waiting);
         self.leaves = self.leaves || left.stays();
-    }
-
-    /// Passes one more line.
-    pub fn step(&mut self, cursors: &mut [Cursor]) -> Result<Step, Unjoined> {
-        let Some(part) = self.parts.get(self.place).copied() else {
-            return Ok(Step::Over);
-        };
-        let Some(cursor) = cursors.get_mut(part) else {
-            return Ok(Step::Over);
-        };
-        let mark = match self.mark {
-            Some(mark) => mark,
-            None => cursor.mark(),
-        };
-        self.mark = Some(mark);
-        if !cursor.is_ready() {
-            return Ok(Step::Read(part));
-        }
-        let left = match cursor.line() {
-            Some(line) => left_of(line),
-            None => None,
-        };
-        let Some(left) = left else {
-            return Err(apart(part, cursor));
-        };
-        cursor.pass();
-        self.take(left);
         if self.waiting == 0 {
             self.end_tree(part, mark);
         }
-        Ok(Step::On)
+    }
+
+    // Where the tree begins, in which the cursor stands.
+    fn mark_at(&self, cursor: &Cursor) -> Mark
+        ensures { MatchOption self.now.mark (IsMark cursor.now result) (λ m. result ≡ m) }
+    {
+        match self.mark {
+            Some(mark) => mark,
+            None => cursor.mark(),
+        }
+    }
+
+    // Passes one more line of the certificate.
+    fn step_in(&mut self, part: usize, cursor: &mut Cursor) -> Result<Step, Unjoined>
+        ensures { (cert : List ℕ) (b : Branch) (left : List Tree) → part ≡ b.part →
+            IsWithin cert b left self.old →
+            IsBefore cert (forest_texts left ++ b.behind) cursor.old →
+            IsGone cert b self.old self.new cursor.new result }
+    {
+        let mark = self.mark_at(cursor);
+        self.mark = Some(mark);
+        match left_of_next(cursor, part) {
+            Ok(Some(left)) => {
+                cursor.pass();
+                self.take(part, mark, left);
+                Ok(Step::On)
+            }
+            Ok(None) => Ok(Step::Read(part)),
+            Err(unjoined) => Err(unjoined),
+        }
+    }
+
+    /// Passes one more line.
+    pub fn step(&mut self, cursors: &mut [Cursor]) -> Result<Step, Unjoined>
+        ensures { (certs : List (List ℕ)) (taken : Branch) (end : List (List (List ℕ))) →
+            IsWeighing certs taken end self.old cursors.old →
+            IsWeighStep certs taken end self.new cursors.new result }
+    {
+        if self.place >= self.parts.len() {
+            return Ok(Step::Over);
+        }
+        let part = self.parts[self.place];
+        if part >= cursors.len() {
+            return Ok(Step::Over);
+        }
+        self.step_in(part, &mut cursors[part])
     }
 }

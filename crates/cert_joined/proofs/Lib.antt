@@ -1,4 +1,6 @@
-pub mod Members
+pub mod Arities
 pub mod Joining
 pub mod Keeping
+pub mod Members
 pub mod Refining
+pub mod Texts

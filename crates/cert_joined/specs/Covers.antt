@@ -1,11 +1,12 @@
 -- What the certificates of covers say, and what joins them: one header, the lemmas of all with new numbers, and a tree that joins theirs.
-use Rattle.std.specs.Prelude.{◌≡◌, ℕ, suc, List, [], ◌∷◌, ◌++◌, Option, Some, length, map, get_or, slice_get}
+use Rattle.std.specs.Prelude.{◌≡◌, ◌≤◌, ℕ, suc, List, [], ◌∷◌, ◌++◌, Option, Some, length, map, get_or, slice_get}
 use Rattle.std.specs.List.{AllByRecursion}
 use Rattle.cover_model.specs.Rules.{Line, pull, unit, push, combine, ban, by, cut, flip, case}
 use Rattle.cover_model.specs.Derivation.{Tree, leaf, then, fork, tree_lines}
-use Rattle.cert_read.specs.CertLine.{CertLine, version, margin, delta, bound, cover, lemma, tree_word, end_word, yes_list, no_list}
-use Rattle.cert_read.specs.LineText.{IsSpelled, line_text}
+use Rattle.cert_read.specs.CertLine.{CertLine, version, margin, delta, bound, cover, lemma, tree_word, end_word, real_interval, bool_value, yes_list, no_list}
+use Rattle.cert_read.specs.LineText.{IsSpelled, line_text, text_of_lines}
 use Rattle.cert_read.specs.Lines.{lines_of}
+use Rattle.cert_model.specs.Accepted.{most_bytes}
 use Rattle.cert_model.specs.Written.{rule_lines}
 use Rattle.cert_joined.specs.Joined.{Joins}
 
@@ -77,12 +78,20 @@ IsShaped (leaf l) = arity l ≡ ends
 IsShaped (then l t) = (arity l ≡ goes_on) × IsShaped t
 IsShaped (fork l t u) = (arity l ≡ splits) × IsShaped t × IsShaped u
 
+-- an axis of a lemma's box
+abbrev pub IsBoxLine : CertLine → Type 0
+IsBoxLine (real_interval l h) = Unit {0}
+IsBoxLine (bool_value w) = Unit {0}
+IsBoxLine l = ⊥
+
 -- The bytes are the text of this cover.
 pub record IsTextOf (c : Cover) (bytes : List ℕ) : Type 0 where
+  pub few : length bytes ≤ most_bytes
   pub lines : lines_of bytes ≡ map line_text (cover_lines c)
   pub spelled : AllByRecursion IsSpelled (cover_lines c)
   pub shaped : IsShaped c.tree
   pub lemmas : AllByRecursion (λ (x : Lemma). IsShaped x.tree) c.lemmas
+  pub boxes : AllByRecursion (λ (x : Lemma). AllByRecursion IsBoxLine x.box_lines) c.lemmas
 
 -- each of these bytes is the text of its cover
 abbrev pub AreTextsOf : List Cover → List (List ℕ) → Type 0
@@ -130,3 +139,7 @@ pub record IsJoinOf (covers : List Cover) (joined : Cover) : Type 0 where
   pub numbers : List (List ℕ)
   pub lemmas : AreAllLemmas covers numbers joined.lemmas
   pub tree : Joins (trees_by numbers covers) joined.tree
+
+-- where these bytes are the texts of covers, this is the text of a cover that joins them
+abbrev pub JoinsTexts : List (List ℕ) → List ℕ → Type 0
+JoinsTexts texts text = (covers : List Cover) → AreTextsOf covers texts → (joined : Cover) × IsJoinOf covers joined × (text ≡ text_of_lines (map line_text (cover_lines joined)))

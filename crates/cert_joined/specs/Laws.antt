@@ -1,10 +1,13 @@
 -- The laws of joined trees.
-use Rattle.std.specs.Prelude.{List, IsTrue}
+use Rattle.std.specs.Prelude.{◌≡◌, ℕ, List, Option, None, IsTrue}
 use Rattle.std.specs.List.{AllByRecursion}
-use Rattle.poly_graph.specs.Problem.{Problem}
+use Rattle.poly_graph.specs.Problem.{Problem, first_crossed}
 use Rattle.cover_model.specs.State.{State, Loosenings}
 use Rattle.cover_model.specs.Derivation.{Tree, tree_lines, Lawful}
+use Rattle.cert_model.specs.Due.{Standing, left_open}
+use Rattle.cert_model.specs.Accepted.{IsAccepted}
 use Rattle.cert_resumed.specs.Resumed.{Refines}
+use Rattle.cert_joined.specs.Covers.{Cover, IsShaped, IsTextOf}
 use Rattle.cert_joined.specs.Joined.{Joins, IsAgreed, Keeps, closes}
 
 abbrev pub IsLawfulAt : Problem → Loosenings → List State → State → Tree → Type 0
@@ -26,3 +29,12 @@ KeepsEach = (ts : List Tree) (u : Tree) → Joins ts u → AllByRecursion (λ (t
 -- Where no trees differ, its lines refine those of each.
 abbrev pub JoinsRefines : Type 0
 JoinsRefines = (ts : List Tree) (u : Tree) (j : Joins ts u) → IsAgreed j → AllByRecursion (λ (t : Tree). Refines (tree_lines u) (tree_lines t)) ts
+
+-- A tree that is lawful at a state has below each line as many trees as the line leaves states.
+abbrev pub LawfulIsShaped : Type 0
+LawfulIsShaped = (p : Problem) (s : Loosenings) (lemmas : List State) (S : State) (t : Tree) (left : List State) → Lawful p s lemmas S t left → IsShaped t
+
+-- The bytes of an accepted cover are the text of a cover, where the declared box is not empty.
+abbrev pub AcceptedIsText : Type 0
+AcceptedIsText = (p : Problem) (b : Option ℕ) (bytes : List ℕ) (s : Loosenings) (left : List Standing) → IsAccepted p b bytes s (left_open left) → first_crossed p ≡ None →
+    (c : Cover) × IsTextOf c bytes

@@ -5,7 +5,7 @@
 //! is. No code runs here: each function is a law about the definitions in `specs/`, and its contract is the law.
 #![tactic(auto)]
 
-ghost use Rattle.cert_joined.specs.Laws.{ClosedStaysClosed, JoinsLawful, JoinsRefines, KeepsEach};
+ghost use Rattle.cert_joined.specs.Laws.{AcceptedIsText, ClosedStaysClosed, JoinsLawful, JoinsRefines, KeepsEach, LawfulIsShaped};
 
 /// What joins trees that are lawful at a state is lawful there.
 pub fn joins_lawful()
@@ -26,4 +26,14 @@ pub fn keeps_each()
 /// Where no trees differ, the lines of what joins them refine those of each.
 pub fn joins_refines()
     ensures { JoinsRefines }
+{}
+
+/// A tree that is lawful at a state has below each line as many trees as the line leaves states.
+pub fn lawful_is_shaped()
+    ensures { LawfulIsShaped }
+{}
+
+/// The bytes of an accepted cover are the text of a cover, where the declared box is not empty.
+pub fn accepted_is_text()
+    ensures { AcceptedIsText }
 {}

@@ -1,12 +1,8 @@
 pub mod Gone
 pub mod Matches
 pub mod Owns
-pub mod Parted
 pub mod Rows
 pub mod Searched
-pub mod Spelled
-pub mod SpelledNumbers
 pub mod Texts
 pub mod Walked
 pub mod Whole
-pub mod WordsBack

@@ -5,9 +5,13 @@ pub mod Known
 pub mod Leaving
 pub mod LemmaStates
 pub mod Parses
+pub mod Parted
 mod Refined
 pub mod Resumes
 mod Rows
 pub mod Sections
+pub mod Spelled
+pub mod SpelledNumbers
 pub mod Stays
 pub mod Within
+pub mod WordsBack

@@ -28,7 +28,7 @@ Goes script parts course = OfProblem (bound_of parts) script (λ p. CanJoin p (b
 
 joined-by : (script : List ℕ) (parts : List (List ℕ)) (old new : Sight) (p : Problem) (tail : Course) → HasProblem (bound_of parts) p script → CanJoin p (bound_of parts) parts tail → tail.status ≡ Answered →
     new.answer ≡ appended old.answer tail.answer → new.cert_out ≡ appended old.cert_out tail.cert → IsJoined script parts old new
-joined-by script parts old new p tail has (joins cert s v accepts e) status wrote kept = record {
+joined-by script parts old new p tail has (joins cert s v accepts together e) status wrote kept = record {
   problem = p;
   has = has;
   cert = cert;
@@ -37,6 +37,7 @@ joined-by script parts old new p tail has (joins cert s v accepts e) status wrot
   value = v;
   written = kept ∙ ap (λ (c : Course). appended old.cert_out c.cert) e;
   accepted = accepts;
+  joins = together;
   answer = wrote ∙ ap (λ (c : Course). appended old.answer c.answer) e;
   say = value-so (bound_of parts) script p cert s v has.built accepts;
 }
@@ -97,7 +98,7 @@ join_delta words script cert_in parts old new shows rest wrote =
 
 refused-by : (words : Join) (script cert_in : List ℕ) (parts : List (List ℕ)) (old new : Sight) (p : Problem) (tail : Course) → HasProblem (bound_of parts) p script → CanJoin p (bound_of parts) parts tail → tail.status ≡ CertRefused →
     new.answer ≡ appended old.answer tail.answer → new.cert_out ≡ appended old.cert_out tail.cert → IsTrueRefusal (Some (join words)) script cert_in parts old new
-refused-by words script cert_in parts old new p tail has (joins cert s v accepts e) status wrote none = absurd (answered-not tail.status (ap (λ (c : Course). c.status) e) status)
+refused-by words script cert_in parts old new p tail has (joins cert s v accepts together e) status wrote none = absurd (answered-not tail.status (ap (λ (c : Course). c.status) e) status)
 refused-by words script cert_in parts old new p tail has (refuses text reason e) status wrote none = (
   record { problem = p; has = has; text = text; reason = reason; written = wrote ∙ ap (λ (c : Course). appended old.answer c.answer) e },
   none ∙ ap (λ (c : Course). appended old.cert_out c.cert) e,

@@ -56,7 +56,7 @@ said-resume words script cert_in (Some f) course can = said-same course _ can tt
 said-resume words script cert_in None course can = said-resume-by (verdict can.0 (header_bound cert_in) cert_in) can.0 (header_bound cert_in) words cert_in course can.2
 
 said-join-by : (p : Problem) (b : Option ℕ) (parts : List (List ℕ)) (course : Course) → CanJoin p b parts course → IsSaid course.status
-said-join-by p b parts course (joins cert s v accepts e) = said-same course _ e tt
+said-join-by p b parts course (joins cert s v accepts together e) = said-same course _ e tt
 said-join-by p b parts course (refuses text reason e) = said-same course _ e tt
 
 said-join : (script : List ℕ) (parts : List (List ℕ)) (f : Option ScriptFault) (course : Course) → CanBy f (OfProblem (bound_of parts) script (λ p. CanJoin p (bound_of parts) parts)) course → IsSaid course.status

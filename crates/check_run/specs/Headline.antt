@@ -26,6 +26,7 @@ use Rattle.check_run.specs.Answer.{loosenings_for, loosenings_of, solve_texts, A
 use Rattle.check_run.specs.declared.status.Status.TheVariants.{Answered, CertRefused}
 use Rattle.check_run.specs.Course.{Course, appended}
 use Rattle.check_run.specs.Can.{Can, ArePlans, check_texts, plan_texts}
+use Rattle.cert_joined.specs.Covers.{JoinsTexts}
 use Rattle.check_run.specs.Joined.{IsNotJoined, bound_of}
 use Rattle.check_run.specs.Resumed.{IsMore, header_bound}
 use Rattle.check_run.specs.Run.{Run, OnInput}
@@ -93,7 +94,7 @@ pub record IsResumed (words : Resume) (script cert_in : List ℕ) (old new : Sig
   pub say : IsTrueValue (header_bound cert_in) (in_newest 1 loosenings) (commands_of script) more.value
 
 -- What was written as certificate is accepted for the problem of the script's only check, with the bound that the first of several certificates
--- names, and so does it; the answer is the text of its value, and what that says of the check is so.
+-- names, and so does it; it joins the covers of the certificates; the answer is the text of its value, and what that says of the check is so.
 pub record IsJoined (script : List ℕ) (parts : List (List ℕ)) (old new : Sight) : Type 0 where
   pub problem : Problem
   pub has : HasProblem (bound_of parts) problem script
@@ -103,6 +104,7 @@ pub record IsJoined (script : List ℕ) (parts : List (List ℕ)) (old new : Sig
   pub value : Value
   pub written : new.cert_out ≡ appended old.cert_out cert
   pub accepted : IsAccepted problem (bound_of parts) cert loosenings value
+  pub joins : JoinsTexts parts cert
   pub answer : new.answer ≡ appended old.answer (check_text loosenings value)
   pub say : IsTrueValue (bound_of parts) loosenings (commands_of script) value
 

@@ -8,6 +8,7 @@ use Rattle.cover_model.specs.State.{Loosenings}
 use Rattle.cert_model.specs.Due.{CertFault, Value}
 use Rattle.cert_model.specs.Accepted.{IsAccepted, refused, verdict}
 use Rattle.cert_model.specs.AnswerText.{check_text, text_line, verdict_text}
+use Rattle.cert_joined.specs.Covers.{JoinsTexts}
 use Rattle.check_run.specs.declared.status.Status.TheVariants.{Answered, CertRefused}
 use Rattle.check_run.specs.Course.{Course, Start, says}
 use Rattle.check_run.specs.Resumed.{header_bound}
@@ -83,7 +84,7 @@ pub data IsNotJoined (p : Problem) (b : Option ℕ) (parts : List (List ℕ)) (t
 abbrev pub keeps : List ℕ → List ℕ → Course
 keeps cert text = record { status = Answered; starts = (Answer, codes "-") ∷ []; cert = cert; answer = text }
 
--- What was joined is accepted, and its verdict is answered; or there is none, and the answer says why.
+-- What was joined is accepted, joins the covers of the certificates, and its verdict is answered; or there is none, and the answer says why.
 pub data CanJoin (p : Problem) (b : Option ℕ) (parts : List (List ℕ)) (course : Course) : Type 0 where
-  joins : (cert : List ℕ) (s : Loosenings) (v : Value) → IsAccepted p b cert s v → course ≡ keeps cert (check_text s v) → CanJoin p b parts course
+  joins : (cert : List ℕ) (s : Loosenings) (v : Value) → IsAccepted p b cert s v → JoinsTexts parts cert → course ≡ keeps cert (check_text s v) → CanJoin p b parts course
   refuses : (text : List ℕ) → IsNotJoined p b parts text → course ≡ says CertRefused text → CanJoin p b parts course

@@ -18,7 +18,8 @@ use Rattle.cert_check.specs.declared.feed.Feed.{Feed}
 use Rattle.cert_check.specs.Courses.{IsVerdict, verdict_of}
 use Rattle.cert_check.specs.Faults.{stop_of}
 use Rattle.cert_check.specs.Feeding.{IsVerdictOfTaken, IsVerdictOrMemory}
-use Rattle.cert_join.specs.Drafting.{IsDraftFailed, IsReadFailed, IsSomeDrafted, IsUnderWay}
+use Rattle.cert_join.specs.Drafting.{IsDraftFailed, IsReadFailed, IsSomeDrafted, IsWhole}
+use Rattle.cert_joined.specs.Covers.{JoinsTexts}
 use Rattle.script_fault.specs.declared.fault.ScriptFault.{ScriptFault}
 use Rattle.script_reading.specs.Faults.{script_fault}
 use Rattle.script_reading.specs.Reader.{HasProblem}
@@ -42,7 +43,7 @@ use Rattle.check_run.proofs.RunParts.{join_draft, run_started}
 use Rattle.check_run.proofs.Running.{told as told_script}
 use Rattle.dpoly.specs.declared.join.Joint.{Joint}
 use Rattle.dpoly.specs.declared.join.Joint.TheVariants.{Whole, Dropped, Apart, Refused}
-use Rattle.dpoly.specs.Join.{EndsAccepted, EndsOnJoin, EndsOnJoint, EndsRefused, HaltsJoining, IsDraftedJoint, IsFirstFault, IsFirstFaultOn, IsJointOf, IsRefusalWith, IsToldJoint, IsUnread}
+use Rattle.dpoly.specs.Join.{EndsAccepted, EndsOnJoin, EndsOnJoint, EndsRefused, HaltsJoining, IsDraftedJoint, IsFirstFault, IsFirstFaultOn, IsJointOf, IsJointText, IsRefusalWith, IsToldJoint, IsUnread}
 use Rattle.dpoly.proofs.Halting.{by_text, long_halt}
 
 -- ---- nothing written
@@ -79,8 +80,8 @@ pub same_halts : (old new : Sight) → new ≡ old → HaltsJoining NoMemory old
 same_halts old new e = record { halted = quiet-same old new (ap (λ (d : Sight). d.starts) e) (ap (λ (d : Sight). d.cert_out) e) (ap (λ (d : Sight). d.answer) e); script = ap (λ (d : Sight). d.script) e }
 
 -- what comes of it, or out of memory
-abbrev pub EndsJoint : Problem → Option ℕ → Sight → Sight → Result Joint Status → Type 0
-EndsJoint p b old new x = MatchResult x (λ joint. IsDraftedJoint p b joint old new) (λ status. HaltsJoining status old new)
+abbrev pub EndsJoint : Problem → Option ℕ → ℕ → Sight → Sight → Result Joint Status → Type 0
+EndsJoint p b count old new x = MatchResult x (λ joint. IsDraftedJoint p b count joint old new) (λ status. HaltsJoining status old new)
 
 told-of : (p : Problem) (b : Option ℕ) (text : List ℕ) (r : Result told.Verdict CertFault) (joint : Joint) → IsVerdictOrMemory (verdict p b text) r → IsToldJoint r (Ok joint) → IsJointOf p b text joint
 told-of p b text r (Whole w) h e = subst (λ (x : Result told.Verdict CertFault). IsVerdictOrMemory (verdict p b text) x) e h
@@ -88,9 +89,20 @@ told-of p b text r (Dropped w) h e = subst (λ (x : Result told.Verdict CertFaul
 told-of p b text r (Apart place) h e = tt
 told-of p b text r (Refused line) h e = tt
 
-pub joint_told : (p : Parts) (b : Option ℕ) (old new : Sight) (f : Feed) (r : Result told.Verdict CertFault) (x : Result Joint Status) → IsUnderWay old p b new f → IsVerdictOfTaken f r → IsToldJoint r x → EndsJoint (problem_of p) b old new x
-joint_told p b old new f r (Ok joint) way tells is = record { text = way.text; drafted = way.drafted; of = told-of (problem_of p) b way.text r joint (tells p b way.text way.taken) is }
-joint_told p b old new f r (Err status) way tells is = subst (λ (s : Status). HaltsJoining s old new) (sym is) (memory_halts old new (way.text, way.drafted))
+joins-told : (parts : List (List ℕ)) (text : List ℕ) (joint : Joint) → JoinsTexts parts text → IsJointText parts text joint
+joins-told parts text (Whole w) h = h
+joins-told parts text (Dropped w) h = h
+joins-told parts text (Apart place) h = tt
+joins-told parts text (Refused line) h = tt
+
+pub joint_told : (p : Parts) (b : Option ℕ) (count : ℕ) (old new : Sight) (f : Feed) (r : Result told.Verdict CertFault) (x : Result Joint Status) → IsWhole old p b count [] new f → IsVerdictOfTaken f r → IsToldJoint r x → EndsJoint (problem_of p) b count old new x
+joint_told p b count old new f r (Ok joint) way tells is = record {
+  text = way.text;
+  drafted = way.drafted;
+  of = told-of (problem_of p) b way.text r joint (tells p b way.text way.taken) is;
+  joins = λ parts e n. joins-told parts way.text joint (way.joins parts e n);
+}
+joint_told p b count old new f r (Err status) way tells is = subst (λ (s : Status). HaltsJoining s old new) (sym is) (memory_halts old new (way.text, way.drafted))
 
 not-said : (fault : CertFault) (joint : Joint) (p : Problem) (b : Option ℕ) (text : List ℕ) → IsToldJoint (Err fault) (Ok joint) → IsJointOf p b text joint
 not-said fault (Whole w) p b text e = cc
@@ -99,9 +111,20 @@ not-said fault (Apart place) p b text e = tt
 not-said fault (Refused line) p b text e = tt
 
 -- where the checker refused it on the way
-pub joint_refused : (p : Problem) (b : Option ℕ) (old new : Sight) (fault : CertFault) (x : Result Joint Status) → IsSomeDrafted old new → IsToldJoint (Err fault) x → EndsJoint p b old new x
-joint_refused p b old new fault (Ok joint) drafted is = record { text = drafted.0; drafted = drafted.1; of = not-said fault joint p b drafted.0 is }
-joint_refused p b old new fault (Err status) drafted is = subst (λ (s : Status). HaltsJoining s old new) (sym is) (memory_halts old new drafted)
+not-joined : (fault : CertFault) (joint : Joint) (parts : List (List ℕ)) (text : List ℕ) → IsToldJoint (Err fault) (Ok joint) → IsJointText parts text joint
+not-joined fault (Whole w) parts text e = cc
+not-joined fault (Dropped w) parts text e = cc
+not-joined fault (Apart place) parts text e = tt
+not-joined fault (Refused line) parts text e = tt
+
+pub joint_refused : (p : Problem) (b : Option ℕ) (count : ℕ) (old new : Sight) (fault : CertFault) (x : Result Joint Status) → IsSomeDrafted old new → IsToldJoint (Err fault) x → EndsJoint p b count old new x
+joint_refused p b count old new fault (Ok joint) drafted is = record {
+  text = drafted.0;
+  drafted = drafted.1;
+  of = not-said fault joint p b drafted.0 is;
+  joins = λ parts e n. not-joined fault joint parts drafted.0 is;
+}
+joint_refused p b count old new fault (Err status) drafted is = subst (λ (s : Status). HaltsJoining s old new) (sym is) (memory_halts old new drafted)
 
 -- ---- causes
 
@@ -206,11 +229,15 @@ pub verdict_in : (p : Problem) (b : Option ℕ) (text : List ℕ) (joint : Joint
 verdict_in p b text joint w (inl e) of = subst (λ (j : Joint). IsJointOf p b text j) e of
 verdict_in p b text joint w (inr e) of = subst (λ (j : Joint). IsJointOf p b text j) e of
 
+pub joins_in : (parts : List (List ℕ)) (text : List ℕ) (joint : Joint) (w : told.Verdict) → (joint ≡ Whole w) ⊎ (joint ≡ Dropped w) → IsJointText parts text joint → JoinsTexts parts text
+joins_in parts text joint w (inl e) h = subst (λ (j : Joint). IsJointText parts text j) e h
+joins_in parts text joint w (inr e) h = subst (λ (j : Joint). IsJointText parts text j) e h
+
 pub kept_joins : (p : Problem) (b : Option ℕ) (parts : List (List ℕ)) (w : told.Verdict) (mid new : Sight) (status : Status) → EndsKept w mid new status → (old : Sight) (text : List ℕ) → IsDrafted old text mid → IsVerdict (verdict p b text) (Ok w) →
-    StartedEnds (CanJoin p b parts) old new status
-kept_joins p b parts w mid new status ends old text drafts is =
+    JoinsTexts parts text → StartedEnds (CanJoin p b parts) old new status
+kept_joins p b parts w mid new status ends old text drafts is so =
     let x = value-of p b text w (verdict p b text) refl is in
-    widen (λ course. course ≡ keeps text (check_text x.0 x.1)) (CanJoin p b parts) old new status (λ course e. joins text x.0 x.1 x.2 e) (ends old text x.0 x.1 drafts x.3)
+    widen (λ course. course ≡ keeps text (check_text x.0 x.1)) (CanJoin p b parts) old new status (λ course e. joins text x.0 x.1 x.2 so e) (ends old text x.0 x.1 drafts x.3)
 
 refuses-with : (p : Problem) (b : Option ℕ) (parts : List (List ℕ)) (r : Result (Vec ℕ Global) AllocError) (course : Course) → IfOk r (λ text. IsNotJoined p b parts text.items) → IsRefusalWith r course → CanJoin p b parts course
 refuses-with p b parts (Ok text) course reason e = refuses text.items reason e
@@ -245,23 +272,23 @@ first_reason p b parts k f (Err e) first tells = tt
 module _ (p : Problem) (b : Option ℕ) (count : ℕ) (joint : Joint) (mid : Sight) where
   pub alone_refused : (k : ℕ) (f : CertFault) (r : Result (Vec ℕ Global) AllocError) (read new : Sight) (status : Status) → IsFirstFaultOn p b count mid (Some (k, f)) → read ≡ mid → IfOk r (λ text. TellsPart k f text.items) → EndsRefused r read new status →
       EndsOnJoint p b count joint mid new status
-  alone_refused k f r read new status first same tells ends = λ old text parts drafts of e n.
+  alone_refused k f r read new status first same tells ends = λ old text parts drafts of e n so.
       refused_joins p b parts r old new status (first_reason p b parts k f r (first parts (ap (λ (d : Sight). d.parts) drafts ∙ e) n) tells) (ends old text (same ∙ drafts))
 
   pub alone_accepted : (read new : Sight) (status : Status) → IsFirstFaultOn p b count mid None → read ≡ mid → EndsAccepted joint read new status → EndsOnJoint p b count joint mid new status
-  alone_accepted read new status first same ends = λ old text parts drafts of e n. ends p b parts old text (same ∙ drafts) of (first parts (ap (λ (d : Sight). d.parts) drafts ∙ e) n)
+  alone_accepted read new status first same ends = λ old text parts drafts of e n so. ends p b parts old text (same ∙ drafts) of so (first parts (ap (λ (d : Sight). d.parts) drafts ∙ e) n)
 
   pub alone_unread : (e : Unread) (new : Sight) → IsUnread e mid new → EndsOnJoint p b count joint mid new (status_of e)
-  alone_unread e new h = λ old text parts drafts of f n. unread_ends (CanJoin p b parts) e old mid new text drafts h
+  alone_unread e new h = λ old text parts drafts of f n so. unread_ends (CanJoin p b parts) e old mid new text drafts h
 
 -- ---- what was drafted
 
 module _ (p : Problem) (b : Option ℕ) (count : ℕ) (old : Sight) where
-  pub whole_ends : (w : told.Verdict) (mid new : Sight) (status : Status) → IsDraftedJoint p b (Whole w) old mid → EndsKept w mid new status → EndsOnJoin p b count old new status
-  whole_ends w mid new status d ends = λ parts e n. kept_joins p b parts w mid new status ends old d.text d.drafted d.of
+  pub whole_ends : (w : told.Verdict) (mid new : Sight) (status : Status) → IsDraftedJoint p b count (Whole w) old mid → EndsKept w mid new status → EndsOnJoin p b count old new status
+  whole_ends w mid new status d ends = λ parts e n. kept_joins p b parts w mid new status ends old d.text d.drafted d.of (d.joins parts e n)
 
-  pub joint_ends : (joint : Joint) (mid new : Sight) (status : Status) → IsDraftedJoint p b joint old mid → EndsOnJoint p b count joint mid new status → EndsOnJoin p b count old new status
-  joint_ends joint mid new status d ends = λ parts e n. ends old d.text parts d.drafted d.of e n
+  pub joint_ends : (joint : Joint) (mid new : Sight) (status : Status) → IsDraftedJoint p b count joint old mid → EndsOnJoint p b count joint mid new status → EndsOnJoin p b count old new status
+  joint_ends joint mid new status d ends = λ parts e n. ends old d.text parts d.drafted d.of e n (d.joins parts e n)
 
   pub halted_ends : (new : Sight) (status : Status) → HaltsJoining status old new → EndsOnJoin p b count old new status
   halted_ends new status h = λ parts e n. halts_end (CanJoin p b parts) status old new h.halted

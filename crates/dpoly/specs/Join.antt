@@ -11,6 +11,7 @@ use Rattle.cert_model.specs.Due as due
 use Rattle.cert_model.specs.Due.{Value}
 use Rattle.cert_model.specs.Accepted.{Verdict, accepted, stopped, verdict}
 use Rattle.cert_check.specs.declared.checker.Verdict as told
+use Rattle.cert_joined.specs.Covers.{JoinsTexts}
 use Rattle.cert_check.specs.declared.fault.CertFault.{CertFault}
 use Rattle.cert_check.specs.declared.fault.CertFault.TheVariants.{Memory}
 use Rattle.cert_check.specs.Courses.{IsVerdict}
@@ -80,11 +81,19 @@ IsJointOf p b text (Dropped w) = IsVerdict (verdict p b text) (Ok w)
 IsJointOf p b text (Apart place) = Unit {0}
 IsJointOf p b text (Refused line) = Unit {0}
 
--- a text was drafted, and this came of it
-pub record IsDraftedJoint (p : Problem) (b : Option ℕ) (joint : Joint) (old new : Sight) : Type 0 where
+-- with a verdict, the text joins the covers of these certificates
+abbrev pub IsJointText : List (List ℕ) → List ℕ → Joint → Type 0
+IsJointText parts text (Whole w) = JoinsTexts parts text
+IsJointText parts text (Dropped w) = JoinsTexts parts text
+IsJointText parts text (Apart place) = Unit {0}
+IsJointText parts text (Refused line) = Unit {0}
+
+-- a text was drafted, and this came of it, where the desk shows so many certificates
+pub record IsDraftedJoint (p : Problem) (b : Option ℕ) (count : ℕ) (joint : Joint) (old new : Sight) : Type 0 where
   pub text : List ℕ
   pub drafted : IsDrafted old text new
   pub of : IsJointOf p b text joint
+  pub joins : (parts : List (List ℕ)) → old.parts ≡ Some parts → length parts ≡ count → IsJointText parts text joint
 
 -- what comes of a verdict, and of a fault
 abbrev pub IsToldJoint : Result told.Verdict CertFault → Result Joint Status → Type 0
@@ -112,12 +121,12 @@ EndsRefused r mid new status = (old : Sight) (text : List ℕ) → IsDrafted old
 -- it ends where each certificate is accepted
 abbrev pub EndsAccepted : Joint → Sight → Sight → Status → Type 0
 EndsAccepted joint mid new status =
-    (p : Problem) (b : Option ℕ) (parts : List (List ℕ)) (old : Sight) (text : List ℕ) → IsDrafted old text mid → IsJointOf p b text joint → AreAllAccepted p b parts → StartedEnds (CanJoin p b parts) old new status
+    (p : Problem) (b : Option ℕ) (parts : List (List ℕ)) (old : Sight) (text : List ℕ) → IsDrafted old text mid → IsJointOf p b text joint → IsJointText parts text joint → AreAllAccepted p b parts → StartedEnds (CanJoin p b parts) old new status
 
 -- it ends behind its draft, where the desk shows so many certificates
 abbrev pub EndsOnJoint : Problem → Option ℕ → ℕ → Joint → Sight → Sight → Status → Type 0
 EndsOnJoint p b count joint mid new status =
-    (old : Sight) (text : List ℕ) (parts : List (List ℕ)) → IsDrafted old text mid → IsJointOf p b text joint → old.parts ≡ Some parts → length parts ≡ count → StartedEnds (CanJoin p b parts) old new status
+    (old : Sight) (text : List ℕ) (parts : List (List ℕ)) → IsDrafted old text mid → IsJointOf p b text joint → old.parts ≡ Some parts → length parts ≡ count → IsJointText parts text joint → StartedEnds (CanJoin p b parts) old new status
 
 -- and behind its problem
 abbrev pub EndsOnJoin : Problem → Option ℕ → ℕ → Sight → Sight → Status → Type 0

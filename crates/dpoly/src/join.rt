@@ -85,7 +85,7 @@ fn joint_by<D: Desk>(
     requires begun { IsBegun (D.sight desk.old) }
     requires taken { HasTaken problem.now bound [] feed.old }
     ensures { MatchResult result
-        (λ joint. IsDraftedJoint (problem_of problem.now) bound joint
+        (λ joint. IsDraftedJoint (problem_of problem.now) bound count joint
         (D.sight desk.old) (D.sight desk.new))
         (λ status. HaltsJoining status (D.sight desk.old) (D.sight desk.new)) }
 {
@@ -109,7 +109,7 @@ fn joint_of<D: Desk>(
 ) -> Result<Joint, Status>
     requires { IsBegun (D.sight desk.old) }
     ensures { MatchResult result
-        (λ joint. IsDraftedJoint (problem_of problem.now) bound joint
+        (λ joint. IsDraftedJoint (problem_of problem.now) bound count joint
         (D.sight desk.old) (D.sight desk.new))
         (λ status. HaltsJoining status (D.sight desk.old) (D.sight desk.new)) }
 {

@@ -8,7 +8,7 @@ use Rattle.dpoly.proofs.join.join_problem.Goals as goal
 
 pub returns-in-Ok-Whole-clause-ends : goal.returns-in-Ok-Whole-clause-ends
 returns-in-Ok-Whole-clause-ends g c =
-    let d = subst (λ (j : Joint). IsDraftedJoint (problem_of c.args.problem.now) c.args.bound j (g.D.Desk.sight c.args.desk.now) (g.D.Desk.sight c.joint_of.new.desk)) c.in-Ok-Whole.field-0-is c.in-Ok-Whole.ensures in
+    let d = subst (λ (j : Joint). IsDraftedJoint (problem_of c.args.problem.now) c.args.bound c.args.count j (g.D.Desk.sight c.args.desk.now) (g.D.Desk.sight c.joint_of.new.desk)) c.in-Ok-Whole.field-0-is c.in-Ok-Whole.ensures in
     whole_ends (problem_of c.args.problem.now) c.args.bound c.args.count (g.D.Desk.sight c.args.desk.now) c.in-Ok-Whole.verdict (g.D.Desk.sight c.joint_of.new.desk) (g.D.Desk.sight c.keep_joined.new.desk) c.keep_joined.result d c.keep_joined.ensures.ends
 
 pub returns-in-Ok-Whole-clause-cause : goal.returns-in-Ok-Whole-clause-cause

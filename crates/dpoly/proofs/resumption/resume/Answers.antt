@@ -15,7 +15,7 @@ use Rattle.cert_resume.specs.declared.going.Going.{Going}
 use Rattle.cover_data.specs.declared.margins.Options.{Options}
 use Rattle.cert_resume.specs.Going.{CanBeResumed, HasGone, IsBegun, standings}
 use Rattle.cert_resume.proofs.Matches.{none_of}
-use Rattle.cert_resume.proofs.Spelled.{read_spelled}
+use Rattle.cert_resumed.proofs.Spelled.{read_spelled}
 use Rattle.cert_resume.proofs.Whole.{is_begun, can_be_resumed, first_main, gone_of, is_resumed_cover}
 use Rattle.dpoly.proofs.resumption.resume.Goals as goal
 

@@ -11,7 +11,7 @@ use Rattle.cover_line.specs.Words.{empty_word, pull_word, unit_word, ban_word, v
 use Rattle.cert_read.specs.CertLine.{says_false, says_true, says_both, CertLine, version, margin, delta, bound, checks, cover, keep, point_word, tree_word, end_word, lemma, real_interval, real_value, bool_value, yes_list, no_list, rule_line, crossing, Parsed, line, bad_line, bad_number, count_of, dyadic_of, counts_of, pairs_of, has_pairs, with_count, with_counts, with_dyadic, with_dyadics, with_both, with_list, with_pairs, alone, counted, counted_twice, placed, paired, listed, bound_in, bool_in, real_in, entry, header_forms, tree_forms, or_bad, or_rule, by_first}
 use Rattle.cert_read.specs.LineText.{pair_words, line_words, IsCount, IsSpelledNumber, IsSpelledPair, AreSpelledPairs, HasSpelling}
 use Rattle.cert_read.proofs.Spelled.{AreCleanWords}
-use Rattle.cert_resume.proofs.SpelledNumbers.{count_back, number_back, counts_back, pairs_back}
+use Rattle.cert_resumed.proofs.SpelledNumbers.{count_back, number_back, counts_back, pairs_back}
 
 -- the words spell the line
 abbrev pub Spells : List (List ℕ) → CertLine → Type 0

@@ -1,5 +1,5 @@
 -- Lines that were read can be spelled.
-use Rattle.std.proofs.Common.{◌≡◌, ◌≤◌, ℕ, List, [], ◌∷◌, map, Bool, true, false, not, ◌&&◌, IsTrue, Option, refl, ap, sym, subst, ◌∙◌, nat_eq, nat_lt, length, arith, true≢false}
+use Rattle.std.proofs.Common.{◌≡◌, ◌≤◌, ℕ, List, [], ◌∷◌, map, Bool, true, false, not, ◌&&◌, IsTrue, Option, refl, ap, ap₂, sym, subst, ◌∙◌, nat_eq, nat_lt, length, arith, true≢false}
 use Rattle.std.specs.List.{AllByRecursion}
 use Rattle.std.proofs.lemmas.Bool.Decides.{nat_tests}
 use Rattle.dyadic.proofs.Equal.{both_true, both_pass}
@@ -9,8 +9,8 @@ use Rattle.cert_read.specs.Lines.{all_bytes, is_word, are_words, words_of, is_to
 use Rattle.cert_read.specs.LineText.{IsSpelled, is_word_byte, spaced, line_text}
 use Rattle.cert_read.proofs.Spelled.{IsCleanWord, AreCleanWords}
 use Rattle.cert_resumed.specs.Resumed.{CoverRead, IsCoverRead, read_lines}
-use Rattle.cert_resume.proofs.Parted.{AllPass, pieces_pass, pieces_lack, lines_lack, spaced_words}
-use Rattle.cert_resume.proofs.WordsBack.{Spells, words_back}
+use Rattle.cert_resumed.proofs.Parted.{AllPass, pieces_pass, pieces_lack, lines_lack, spaced_words}
+use Rattle.cert_resumed.proofs.WordsBack.{Spells, words_back}
 
 -- ---- the words of a line
 
@@ -57,13 +57,17 @@ said-line : (w : List ℕ) (l : CertLine) (t : Bool) → is_too_long w ≡ t →
 said-line w l true e h = absurd (is-long l h)
 said-line w l false e h = said-words w l (are_words (words_of w)) refl e h
 
-spelled-by : (w : List ℕ) (l : CertLine) → SaidBy w l → Spells (words_of w) l → IsSpelled l
+-- the bytes are the line's spelling
+abbrev IsSpelling : List ℕ → CertLine → Type 0
+IsSpelling w l = (w ≡ line_text l) × IsSpelled l
+
+spelled-by : (w : List ℕ) (l : CertLine) → SaidBy w l → Spells (words_of w) l → IsSpelling w l
 spelled-by w l s k =
     let same : line_text l ≡ w = ap spaced k.0 ∙ spaced_words w in
-    (k.1, subst (λ (x : List ℕ). length x ≤ longest_line) (sym same) (not-long (length w) s.short))
+    (sym same, (k.1, subst (λ (x : List ℕ). length x ≤ longest_line) (sym same) (not-long (length w) s.short)))
 
--- what a line without LF says can be spelled
-line-spelled : (w : List ℕ) (l : CertLine) → IsTrue (all_bytes (λ b. not (nat_eq b 10)) w) → parsed w ≡ line l → IsSpelled l
+-- a line without LF is the spelling of what it says
+line-spelled : (w : List ℕ) (l : CertLine) → IsTrue (all_bytes (λ b. not (nat_eq b 10)) w) → parsed w ≡ line l → IsSpelling w l
 line-spelled w l n h =
     let s = said-line w l (is_too_long w) refl h in
     let c = clean-words (words_of w) s.words (pieces_lack 32 w) (pieces_pass (λ b. not (nat_eq b 10)) 32 w n) in
@@ -77,10 +81,19 @@ same-first x y xs ys h = (cc, cc)
 not-more : {A : Type 0} (y : A) (ys : List A) → [] ≡ y ∷ ys → ⊥
 not-more y ys h = absurd (cc)
 
-all-spelled : (ws : List (List ℕ)) (ls : List CertLine) → AllPass (λ b. not (nat_eq b 10)) ws → map parsed ws ≡ map line ls → AllByRecursion IsSpelled ls
-all-spelled ws [] n h = tt
+all-spelled : (ws : List (List ℕ)) (ls : List CertLine) → AllPass (λ b. not (nat_eq b 10)) ws → map parsed ws ≡ map line ls → (ws ≡ map line_text ls) × AllByRecursion IsSpelled ls
+all-spelled [] [] n h = (refl, tt)
+all-spelled (w ∷ ws) [] n h = absurd (not-more (parsed w) (map parsed ws) (sym h))
 all-spelled [] (l ∷ ls) n h = absurd (not-more (line l) (map line ls) h)
-all-spelled (w ∷ ws) (l ∷ ls) n h = let e = same-first (parsed w) (line l) (map parsed ws) (map line ls) h in (line-spelled w l n.0 e.0, all-spelled ws ls n.1 e.1)
+all-spelled (w ∷ ws) (l ∷ ls) n h =
+    let e = same-first (parsed w) (line l) (map parsed ws) (map line ls) h in
+    let first = line-spelled w l n.0 e.0 in
+    let rest = all-spelled ws ls n.1 e.1 in
+    (ap₂ (λ (x : List ℕ) (xs : List (List ℕ)). x ∷ xs) first.0 rest.0, (first.1, rest.1))
+
+-- lines that say these are their spellings
+pub said_spelled : (bytes : List ℕ) (ls : List CertLine) → map parsed (lines_of bytes) ≡ map line ls → (lines_of bytes ≡ map line_text ls) × AllByRecursion IsSpelled ls
+said_spelled bytes ls h = all-spelled (lines_of bytes) ls (lines_lack bytes) h
 
 pub read_spelled : (p : Problem) (b : Option ℕ) (bytes : List ℕ) (c : CoverRead) → IsCoverRead p b bytes c → AllByRecursion IsSpelled (read_lines b c)
-read_spelled p b bytes c h = all-spelled (lines_of bytes) (read_lines b c) (lines_lack bytes) h.lines
+read_spelled p b bytes c h = (said_spelled bytes (read_lines b c) h.lines).1
