@@ -124,21 +124,21 @@ keeps_alike : (f : Cover → CertLine) (k part row count : ℕ) (covers : List C
 keeps_alike f k part row count covers c l old new r n e d h t same g = record {
   new = λ a. absurd (omega (arith, a, n, d));
   kept = λ i x a b. elim (cases_lt i part) [
-      inl q ↦ t ∙ h.kept i x a (omega (arith, n, d, q, r))
+    | inl q ↦ t ∙ h.kept i x a (omega (arith, n, d, q, r))
     | inr q ↦ t ∙ sym same ∙ g ∙ ap (λ (y : Cover). line_text (f y)) (cover_here covers part i c x e a (omega (arith, q, b, n, d, r)))
-    ];
+  ];
 }
 
 keeps : (f : Cover → CertLine) (k part row count : ℕ) (covers : List Cover) (c : Cover) (l old new : List ℕ) →
     row < 5 → k < 5 → count ≡ 5 * part + row → slice_get covers part ≡ Some c → IsKept f k covers count old → TakesText k row part l old new →
     (row ≡ k → l ≡ line_text (f c)) → IsKept f k covers (suc count) new
 keeps f k part row count covers c l old new r s n e h t g = elim (eqb_tells row k) [
-    inr d ↦ keeps_other f k part row count covers old new r s n d.1 h (t.other d.1)
+  | inr d ↦ keeps_other f k part row count covers old new r s n d.1 h (t.other d.1)
   | inl d ↦ elim (cases_lt 0 part) [
-      inl p ↦ keeps_alike f k part row count covers c l old new r n e d.1 h (t.alike d.1 p).0 (t.alike d.1 p).1 (g d.1)
+    | inl p ↦ keeps_alike f k part row count covers c l old new r n e d.1 h (t.alike d.1 p).0 (t.alike d.1 p).1 (g d.1)
     | inr p ↦ let z : part ≡ 0 = omega (arith, p) in keeps_first f k part row count covers c l old new r n e d.1 z h (t.first d.1 z) (g d.1)
-    ]
   ]
+]
 
 none_some : (c : Cover) → None ≡ Some c → ⊥
 none_some c e = cc
@@ -155,7 +155,7 @@ all_by_get : (P : Cover → Type 0) (covers : List Cover) → ((i : ℕ) (c : Co
 all_by_get P [] h = tt
 all_by_get P (c ∷ covers) h = (h 0 c refl, all_by_get P covers (λ i d e. h (suc i) d e))
 
-text_at : (covers : List Cover) (certs : List (List ℕ)) (i : ℕ) (c : Cover) → AreTextsOf covers certs → slice_get covers i ≡ Some c → (cert : List ℕ) × IsTextOf c cert
+pub text_at : (covers : List Cover) (certs : List (List ℕ)) (i : ℕ) (c : Cover) → AreTextsOf covers certs → slice_get covers i ≡ Some c → (cert : List ℕ) × IsTextOf c cert
 text_at [] certs i c t e = absurd (none_some c e)
 text_at (d ∷ covers) [] i c t e = absurd t
 text_at (d ∷ covers) (cert ∷ certs) zero c t e = (cert, subst (λ (x : Cover). IsTextOf x cert) (some_same d c e) t.0)
@@ -188,7 +188,7 @@ weaker : (P Q : Cover → Type 0) → ((c : Cover) → P c → Q c) → (covers 
 weaker P Q h [] a = tt
 weaker P Q h (c ∷ covers) a = (h c a.0, weaker P Q h covers a.1)
 
-take_whole : (covers : List Cover) (part : ℕ) → length covers ≤ part → take part covers ≡ covers
+pub take_whole : (covers : List Cover) (part : ℕ) → length covers ≤ part → take part covers ≡ covers
 take_whole [] zero h = refl
 take_whole [] (suc part) h = refl
 take_whole (c ∷ covers) zero h = absurd (omega (arith, h))
@@ -233,7 +233,7 @@ all_read certs covers h spots t r n = let a = at_end h.part h.row covers certs s
 read_more : (cert : List ℕ) (covers : List Cover) (c : Cover) (old mid new : Heads) (l : List ℕ) →
     IsTextOf c cert → slice_get covers old.part ≡ Some c → HasRead covers old → IsLine c old.row l → TakesLine l old mid → IsBehind mid new → HasRead covers new
 read_more cert covers c old mid new l t e r i k b = elim (cases_lt old.row 4) [
-    inl early ↦
+  | inl early ↦
       let lt : mid.row < 4 = omega (arith, k.row, early) in
       let n : lines_read (record mid { row = suc mid.row }) ≡ suc (lines_read old) = omega (arith, k.row, k.part) in
       let more : HasRead covers (record mid { row = suc mid.row }) = record {
@@ -265,16 +265,16 @@ read_more cert covers c old mid new l t e r i k b = elim (cases_lt old.row 4) [
             ∙ ap (λ (x : ℕ). map (λ (y : Cover). length y.lemmas) (take (suc x) covers)) (sym k.part);
       } in
       subst (HasRead covers) (sym (b.1 le)) more
-  ]
+]
 
 place_more : (old mid new : Heads) → old.row < 5 → mid.part ≡ old.part → mid.row ≡ old.row → IsBehind mid new →
     (rest : List Cover) → ahead_of new.part new.row rest ≡ ahead_of old.part (suc old.row) rest
 place_more old mid new r p q b rest = elim (cases_lt mid.row 4) [
-    inl early ↦ ap (λ (h : Heads). ahead_of h.part h.row rest) (b.0 early) ∙ ap (λ (x : ℕ). ahead_of x (suc mid.row) rest) p ∙ ap (λ (x : ℕ). ahead_of old.part (suc x) rest) q
+  | inl early ↦ ap (λ (h : Heads). ahead_of h.part h.row rest) (b.0 early) ∙ ap (λ (x : ℕ). ahead_of x (suc mid.row) rest) p ∙ ap (λ (x : ℕ). ahead_of old.part (suc x) rest) q
   | inr late ↦
       let five : 5 ≡ suc old.row = omega (arith, late, q, r) in
       ap (λ (h : Heads). ahead_of h.part h.row rest) (b.1 late) ∙ ap (λ (x : ℕ). ahead_of (suc x) 0 rest) p ∙ ahead_at_next old.part rest ∙ ap (λ (x : ℕ). ahead_of old.part x rest) five
-  ]
+]
 
 -- the line of one certificate was taken and passed
 pub reads : (cert : List ℕ) (covers : List Cover) (c : Cover) (old mid new : Heads) (s s' : Spot) (l : List ℕ) →

@@ -1,5 +1,6 @@
 pub mod AllNumbers
 pub mod Below
+pub mod Certificates
 pub mod Choices
 pub mod Drafts
 pub mod Headers
@@ -13,4 +14,5 @@ pub mod Places
 pub mod RuleWords
 pub mod Spaced
 pub mod Spots
+pub mod Walks
 pub mod Weighs

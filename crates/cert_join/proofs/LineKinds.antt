@@ -1,13 +1,11 @@
 -- What a line of a lemma is, by its first word.
-use Rattle.std.proofs.Common.{◌≡◌, ℕ, List, [], ◌∷◌, IsTrue, true, false, codes, refl, ap, sym, ◌∙◌, get_or, map, drop}
+use Rattle.std.proofs.Common.{◌≡◌, ℕ, List, [], ◌∷◌, IsTrue, codes, refl, ap, sym, ◌∙◌, get_or, map, drop}
 use Rattle.std.specs.Prelude.{decimal}
 use Rattle.cover_line.specs.Words.{RuleWord, empty_word, pull_word, unit_word, ban_word, void_word, push_word, void_no_word, false_word, by_word, cut_word, flip_word, case_word, open_word, stuck_word, combine_word, void_combine_word, word_of, word_text}
-use Rattle.cover_model.specs.Rules.{Line}
 use Rattle.cert_read.specs.CertLine.{CertLine, version, margin, delta, bound, checks, cover, keep, point_word, tree_word, end_word, lemma, real_interval, real_value, bool_value, yes_list, no_list, rule_line, crossing}
 use Rattle.cert_read.specs.LineText.{line_text, line_words, spaced, bound_text, bool_text}
 use Rattle.cert_read.specs.Lines.{words_of}
 use Rattle.cert_read.proofs.Pieces.{lacks}
-use Rattle.cert_join.specs.declared.numbering.Kind.{Kind}
 use Rattle.cert_join.specs.declared.numbering.Kind.TheVariants.{Other}
 use Rattle.cert_join.specs.Numbered.{word_kind, line_kind}
 use Rattle.cert_join.proofs.RuleWords.{first_of_rule}

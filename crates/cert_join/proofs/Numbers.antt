@@ -1,5 +1,5 @@
 -- The texts that are known, by their places.
-use Rattle.std.proofs.Common.{◌≡◌, ◌≢◌, ◌<◌, ◌≤◌, ◌+◌, ℕ, zero, suc, List, [], ◌∷◌, ◌++◌, append_assoc, Bool, true, false, cond, true≢false, Option, Some, None, length, length-append, refl, ap, ap₂, sym, ◌∙◌, subst, ◌⊎◌, inl, inr, arith}
+use Rattle.std.proofs.Common.{◌≡◌, ℕ, zero, suc, List, [], ◌∷◌, ◌++◌, Bool, true, false, cond, true≢false, Option, Some, None, length, refl, ap, sym, ◌∙◌, ◌⊎◌, inl, inr}
 use Rattle.std.specs.Prelude.{slice_get, unwrap_or}
 use Rattle.std.specs.Option.{option_map}
 use Rattle.std.specs.Str.{bytes_eq}
@@ -61,9 +61,11 @@ zero_place k t ts n = go (bytes_eq k t) refl
   where
     some_same : (a b : ℕ) → Some a ≡ Some b → a ≡ b
     some_same a b e = ap (λ (o : Option ℕ). unwrap_or o a) e
+
     later : (o : Option ℕ) → place_of k ts ≡ o → option_map suc o ≡ Some n → ((n ≡ 0) × (k ≡ t)) ⊎ ((m : ℕ) × (n ≡ suc m) × (place_of k ts ≡ Some m))
     later None e h = absurd (some_none n (sym h))
     later (Some m) e h = inr (m, sym (some_same (suc m) n h), e)
+
     go : (b : Bool) → b ≡ bytes_eq k t → cond b (Some 0) (option_map suc (place_of k ts)) ≡ Some n → ((n ≡ 0) × (k ≡ t)) ⊎ ((m : ℕ) × (n ≡ suc m) × (place_of k ts ≡ Some m))
     go true e h = inl (sym (some_same 0 n h), same_text k t e)
     go false e h = later (place_of k ts) refl h
@@ -72,9 +74,9 @@ zero_place k t ts n = go (bytes_eq k t) refl
 pub at_place : (k : List ℕ) (ts : List (List ℕ)) (n : ℕ) → place_of k ts ≡ Some n → slice_get ts n ≡ Some k
 at_place k [] n e = absurd (some_none n (sym e))
 at_place k (t ∷ ts) n e = elim (zero_place k t ts n e) [
-    inl h ↦ ap (slice_get (t ∷ ts)) h.0 ∙ ap Some (sym h.1)
+  | inl h ↦ ap (slice_get (t ∷ ts)) h.0 ∙ ap Some (sym h.1)
   | inr h ↦ ap (slice_get (t ∷ ts)) h.1 ∙ at_place k ts h.0 h.2
-  ]
+]
 
 -- no text that is there twice
 pub not_there : (k : List ℕ) (ts : List (List ℕ)) → place_of k ts ≡ None → (n : ℕ) → slice_get ts n ≡ Some k → ⊥

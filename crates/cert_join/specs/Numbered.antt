@@ -1,15 +1,15 @@
 -- The numbers that lemmas get, equal states one, in the order in which they come.
-use Rattle.std.specs.Prelude.{◌≡◌, ◌≢◌, ◌⊎◌, ◌+◌, ◌<◌, ◌≤◌, ℕ, zero, suc, Bool, true, false, cond, List, [], ◌∷◌, ◌++◌, Option, Some, None, Result, Ok, Err, map, take, length, slice_get, codes}
+use Rattle.std.specs.Prelude.{◌≡◌, ◌≢◌, ◌⊎◌, ◌≤◌, ℕ, zero, suc, Bool, true, false, cond, List, [], ◌∷◌, ◌++◌, Option, Some, None, Result, Ok, Err, map, take, length, slice_get, codes}
 use Rattle.std.specs.List.{AllByRecursion}
 use Rattle.std.specs.Option.{option_map}
 use Rattle.std.specs.HashMap.{get}
 use Rattle.std.specs.Str.{bytes_eq}
+use Rattle.std.specs.declared.alloc.AllocError.{AllocError}
 use Rattle.std.specs.declared.alloc.Global.{Global}
 use Rattle.std.specs.declared.vec.Vec.{Vec}
-use Rattle.cover_model.specs.Derivation.{Tree, tree_lines}
+use Rattle.cover_model.specs.Derivation.{tree_lines}
 use Rattle.cert_model.specs.Written.{rule_lines}
 use Rattle.cert_read.specs.CertLine.{CertLine, lemma, no_list, tree_word, end_word}
-use Rattle.cert_read.specs.LineText.{line_text}
 use Rattle.cert_joined.specs.Covers.{Cover, Lemma, AreAllLemmas, state_lines, lemmas_lines}
 use Rattle.cert_join.specs.declared.numbering.Kind.{Kind}
 use Rattle.cert_join.specs.declared.numbering.Kind.TheVariants.{Lemma as LemmaKind, No, Tree as TreeKind, Other}
@@ -111,14 +111,132 @@ IsAt false before c state own known ls = IsBetween before c own known ls
 
 -- the lemma's number is the next one of its certificate's
 pub record TakesState (text : List ℕ) (old new : Numbering) : Type 0 where
+  pub part : new.part ≡ old.part
+  pub mark : new.mark ≡ old.mark
+  pub numbers : new.numbers ≡ old.numbers
   pub outside : new.is_in_state ≡ false
   pub number : (texts : List (List ℕ)) → IsKnown old.known texts → old.known.count ≤ 1048576 →
       (n : ℕ) × (after : List (List ℕ)) × IsNumbered texts text n after × IsKnown new.known after × (new.own.items ≡ old.own.items ++ (n ∷ []))
 
 -- a line of this kind was taken
 pub record TakesLine (kind : Kind) (line : List ℕ) (old new : Numbering) : Type 0 where
+  pub part : new.part ≡ old.part
+  pub mark : new.mark ≡ old.mark
+  pub numbers : new.numbers ≡ old.numbers
   pub begins : kind ≡ LemmaKind → (new.is_in_state ≡ true) × (new.state.items ≡ []) × (new.own ≡ old.own) × (new.known ≡ old.known)
   pub passes : kind ≡ Other → old.is_in_state ≡ false → (new.is_in_state ≡ false) × (new.own ≡ old.own) × (new.known ≡ old.known)
   pub grows : kind ≡ Other → old.is_in_state ≡ true →
       (new.is_in_state ≡ true) × (new.state.items ≡ old.state.items ++ (line ++ (10 ∷ []))) × (new.own ≡ old.own) × (new.known ≡ old.known)
   pub ends : kind ≡ No → old.is_in_state ≡ true → TakesState (old.state.items ++ (line ++ (10 ∷ []))) old new
+
+-- ---- a certificate
+
+-- how the reading of a certificate began, where it did
+abbrev pub IsMarked : List ℕ → Cover → Option Mark → Spot → Type 0
+IsMarked cert c None s = IsBefore cert (behind_header c) s
+IsMarked cert c (Some m) s = IsBefore cert (behind_header c) (rewound m)
+
+-- the certificate of this cover is read, and its lemmas numbered so far
+pub record IsReadingPart (cert : List ℕ) (before : List (List ℕ)) (c : Cover) (n : Numbering) (s : Spot) : Type 0 where
+  pub known : List (List ℕ)
+  pub is_known : IsKnown n.known known
+  pub few : n.known.count ≤ 1048576
+  pub ls : List CertLine
+  pub ahead : IsBefore cert (texts_of ls) s
+  pub at : IsAt n.is_in_state before c n.state.items n.own.items known ls
+  pub marked : IsMarked cert c n.mark s
+
+-- its lemmas are numbered, and it is at their beginning
+pub record IsPartRead (cert : List ℕ) (before : List (List ℕ)) (c : Cover) (old new : Numbering) (s : Spot) : Type 0 where
+  pub known : List (List ℕ)
+  pub is_known : IsKnown new.known known
+  pub few : new.known.count ≤ 1048576
+  pub count : new.count ≡ new.known.count
+  pub own : Vec ℕ Global
+  pub part : new.part ≡ suc old.part
+  pub outside : new.is_in_state ≡ false
+  pub unmarked : new.mark ≡ None
+  pub empty : new.own.items ≡ []
+  pub lists : new.numbers.items ≡ old.numbers.items ++ (own ∷ [])
+  pub numbers : HaveNumbers before own.items c.lemmas known
+  pub ahead : IsBefore cert (behind_header c) s
+
+-- it goes on in the same certificate
+pub record StaysInPart (cert : List ℕ) (before : List (List ℕ)) (c : Cover) (old new : Numbering) (s : Spot) : Type 0 where
+  pub part : new.part ≡ old.part
+  pub lists : new.numbers ≡ old.numbers
+  pub reading : IsReadingPart cert before c new s
+
+abbrev pub ReadsPart : List ℕ → List (List ℕ) → Cover → Numbering → Result Step Unjoined → Numbering → Spot → Type 0
+ReadsPart cert before c old (Ok Over) new s = ⊥
+ReadsPart cert before c old (Ok x) new s = StaysInPart cert before c old new s ⊎ IsPartRead cert before c old new s
+ReadsPart cert before c old (Err e) new s = Unit {0}
+
+-- what ends a certificate
+pub record EndsPart (old new : Numbering) : Type 0 where
+  pub part : new.part ≡ suc old.part
+  pub outside : new.is_in_state ≡ old.is_in_state
+  pub unmarked : new.mark ≡ None
+  pub empty : new.own.items ≡ []
+  pub known : new.known ≡ old.known
+  pub count : new.count ≡ new.known.count
+  pub lists : new.numbers.items ≡ old.numbers.items ++ (old.own ∷ [])
+
+-- what is taken of a line: none that may not stand there
+abbrev pub TakesNext : Kind → List ℕ → Numbering → Result (Option Kind) AllocError → Numbering → Type 0
+TakesNext kind line old (Ok (Some TreeKind)) new = (kind ≡ TreeKind) × EndsPart old new
+TakesNext kind line old (Ok (Some found)) new =
+    (kind ≢ TreeKind) × TakesLine kind line old new × (new.known.count ≤ 1048576)
+TakesNext kind line old x new = Unit {0}
+
+-- ---- all certificates
+
+-- the numbers of each certificate that was gone through
+abbrev pub lists_of : Numbering → List (List ℕ)
+lists_of n = map (λ (v : Vec ℕ Global). v.items) n.numbers.items
+
+-- each is behind its header, but one before these lines
+abbrev pub around : ℕ → List (List ℕ) → List Cover → List (List (List ℕ))
+around part ls [] = []
+around zero ls (c ∷ covers) = ls ∷ map behind_header covers
+around (suc part) ls (c ∷ covers) = behind_header c ∷ around part ls covers
+
+-- the next certificate is not begun
+pub record IsResting (certs : List (List ℕ)) (covers : List Cover) (before : List (List ℕ)) (n : Numbering) (spots : List Spot) : Type 0 where
+  pub ahead : AreBefore certs (map behind_header covers) spots
+  pub is_known : IsKnown n.known before
+  pub few : n.known.count ≤ 1048576
+  pub count : n.count ≡ n.known.count
+  pub outside : n.is_in_state ≡ false
+  pub unmarked : n.mark ≡ None
+  pub empty : n.own.items ≡ []
+
+-- it is read
+pub record IsWithin (certs : List (List ℕ)) (covers : List Cover) (before : List (List ℕ)) (n : Numbering) (spots : List Spot) : Type 0 where
+  pub cover : Cover
+  pub covers_at : slice_get covers n.part ≡ Some cover
+  pub cert : List ℕ
+  pub certs_at : slice_get certs n.part ≡ Some cert
+  pub spot : Spot
+  pub spots_at : slice_get spots n.part ≡ Some spot
+  pub reading : IsReadingPart cert before cover n spot
+  pub ahead : AreBefore certs (around n.part (texts_of reading.ls) covers) spots
+
+-- the lemmas of so many covers are numbered
+pub record IsNumbering (certs : List (List ℕ)) (covers : List Cover) (n : Numbering) (spots : List Spot) : Type 0 where
+  pub before : List (List ℕ)
+  pub all : AllHaveNumbers [] (lists_of n) (take n.part covers) before
+  pub here : IsResting certs covers before n spots ⊎ IsWithin certs covers before n spots
+
+-- those of all
+pub record AreNumbered (certs : List (List ℕ)) (covers : List Cover) (n : Numbering) (spots : List Spot) : Type 0 where
+  pub ahead : AreBefore certs (map behind_header covers) spots
+  pub lemmas : AreAllLemmas covers (lists_of n) (written_from 0 (lists_of n) covers)
+  pub count : n.count ≡ length (written_from 0 (lists_of n) covers)
+  pub texts : List (List ℕ)
+  pub numbers : AllHaveNumbers [] (lists_of n) covers texts
+
+abbrev pub ReadsLemmas : List (List ℕ) → List Cover → Result Step Unjoined → Numbering → List Spot → Type 0
+ReadsLemmas certs covers (Ok Over) n spots = AreNumbered certs covers n spots
+ReadsLemmas certs covers (Ok x) n spots = IsNumbering certs covers n spots
+ReadsLemmas certs covers (Err e) n spots = Unit {0}

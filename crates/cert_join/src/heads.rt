@@ -1,5 +1,5 @@
 // The first five lines of each certificate.
-ghost use Rattle.std.specs.Prelude.{◌≡◌, ◌++◌, ◌∷◌, ◌<◌, ◌≤◌, ◌^◌, [], ℕ, List, true, false, Some, Ok, IfOk, OnOk, IsTrue, codes, slice_get, length, drop, map};
+ghost use Rattle.std.specs.Prelude.{◌≡◌, ◌++◌, ◌∷◌, ◌<◌, ◌^◌, [], ℕ, List, true, false, Some, Ok, OnOk, slice_get, drop, map};
 ghost use Rattle.cert_read.specs.CertLine.{cover};
 ghost use Rattle.cert_read.specs.LineText.{line_text};
 ghost use Rattle.cert_joined.specs.Covers.{Cover, AreTextsOf, IsTextOf};
@@ -45,8 +45,8 @@ fn is_alike(kept: &mut Vec<u8>, is_first: bool, line: &[u8]) -> Result<bool, All
     Ok(line == kept.as_slice())
 }
 
-// Appends a line.
-fn append_line(text: &mut Vec<u8>, line: &[u8]) -> Result<(), AllocError>
+/// Appends a line.
+pub fn append_line(text: &mut Vec<u8>, line: &[u8]) -> Result<(), AllocError>
     ensures { OnOk result (text.new.items ≡ text.old.items ++ (line.now ++ (10 ∷ []))) }
 {
     match text.extend_from_slice(line) {
@@ -111,7 +111,8 @@ impl Heads {
 
     // Takes the kind of a certificate, and says whether it is one.
     fn take_kind(&mut self, line: &[u8]) -> Result<bool, AllocError>
-        ensures same { self.new ≡ record self.old { point = self.new.point; counts = self.new.counts } }
+        ensures same { self.new
+            ≡ record self.old { point = self.new.point; counts = self.new.counts } }
         ensures cover { (n : ℕ) → n < 2 ^ 32 → line.now ≡ line_text (cover n) → result ≡ Ok true →
             (self.new.point ≡ self.old.point)
             × (self.new.counts.items ≡ self.old.counts.items ++ (n ∷ [])) }

@@ -154,10 +154,10 @@ impl Joiner {
     ) -> Result<Stage, AllocError> {
         heads.append(text)?;
         text.extend_from_slice(b"cover ")?;
-        append_number(text, numbering.count())?;
+        append_number(text, numbering.count)?;
         text.push(b'\n')?;
         // The rules of version 2 would not be refused.
-        self.dropped = numbering.dropped() || heads.has_old;
+        self.dropped = numbering.dropped || heads.has_old;
         self.numbers = numbering.numbers;
         Ok(Stage::Lemmas(Lemmas::new()))
     }

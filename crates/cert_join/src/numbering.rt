@@ -1,10 +1,15 @@
 // The numbers that lemmas have in the joined certificate.
-ghost use Rattle.std.specs.Prelude.{◌≡◌, ◌≢◌, ◌++◌, ◌∷◌, ◌≤◌, ◌+◌, [], ℕ, List, true, false, None, Some, Ok, IfOk, OnOk, length, min};
+ghost use Rattle.std.specs.Prelude.{◌≡◌, ◌≢◌, ◌⊎◌, ◌++◌, ◌∷◌, ◌<◌, ◌≤◌, ◌+◌, [], ℕ, List, true, false, None, Some, Ok, IfOk, OnOk, length, map};
 ghost use Rattle.cert_read.specs.CertLine.{CertLine};
 ghost use Rattle.cert_read.specs.LineText.{line_text};
-ghost use Rattle.cert_join.specs.Numbered.{line_kind, place_of, IsKnown, IsNumbered, TakesLine, TakesState};
+ghost use Rattle.cert_joined.specs.Covers.{Cover, AreTextsOf, IsTextOf};
+ghost use Rattle.cert_join.specs.Ahead.{AreBefore};
+ghost use Rattle.cert_join.specs.Spot.{Spot, IsBefore, IsMark, line_in, rewound};
+ghost use Rattle.cert_join.specs.Written.{behind_header};
+ghost use Rattle.cert_join.specs.Numbered.{line_kind, place_of, EndsPart, IsKnown, IsNumbered, IsNumbering, IsReadingPart, ReadsLemmas, ReadsPart, TakesLine, TakesNext, TakesState};
 
 use crate::cursor::{Cursor, Mark};
+use crate::heads::append_line;
 use crate::joiner::{Step, apart};
 use crate::line::first_word;
 use crate::stop::Unjoined;
@@ -74,7 +79,7 @@ impl Known {
         ensures { (texts : List (List ℕ)) → IsKnown self.old texts →
             place_of state.now texts ≡ None → self.old.count ≤ 1048576 →
             IfOk result (λ n. (n ≡ length texts)
-                × IsKnown self.new (texts ++ (state.now ∷ []))) }
+            × IsKnown self.new (texts ++ (state.now ∷ []))) }
     {
         let number = self.count;
         let key = match Vec::from_slice(alloc, state) {
@@ -157,24 +162,31 @@ pub struct Numbering {
     hashes: Hashes,
     /// Of each certificate that was gone through, the number of each of its lemmas.
     pub numbers: Vec<Vec<u32>>,
+    /// How many lemmas these have, equal ones once.
+    pub count: u32,
+    /// Whether one of them that stands twice has two trees.
+    pub dropped: bool,
 }
 
-// Appends a line.
-fn append_line(text: &mut Vec<u8>, line: &[u8]) -> Result<(), AllocError>
-    ensures { OnOk result (text.new.items ≡ text.old.items ++ (line.now ++ (10 ∷ []))) }
+// Passes a line of this kind; behind the lemmas it goes back to their beginning.
+fn move_on(cursor: &mut Cursor, kind: Kind, mark: Mark)
+    ensures back { kind ≡ Kind.Tree → cursor.new ≡ rewound mark }
+    ensures on { kind ≢ Kind.Tree → (cert l : List ℕ) (ls : List (List ℕ)) →
+        IsBefore cert (l ∷ ls) cursor.old → line_in cursor.old ≡ Some l →
+        IsBefore cert ls cursor.new }
 {
-    match text.extend_from_slice(line) {
-        Ok(()) => {}
-        Err(error) => return Err(error),
-    }
-    match text.push(b'\n') {
-        Ok(()) => Ok(()),
-        Err(_) => Err(AllocError),
+    match kind {
+        Kind::Tree => cursor.rewind(mark),
+        _ => cursor.pass(),
     }
 }
 
 impl Numbering {
-    pub fn new(alloc: Global) -> Self {
+    pub fn new(alloc: Global) -> Self
+        ensures { (certs : List (List ℕ)) (covers : List Cover) (spots : List Spot) →
+            AreBefore certs (map behind_header covers) spots →
+            IsNumbering certs covers result spots }
+    {
         Numbering {
             alloc,
             part: 0,
@@ -185,19 +197,9 @@ impl Numbering {
             own: Vec::new(alloc),
             hashes: Hashes::new(alloc),
             numbers: Vec::new(alloc),
+            count: 0,
+            dropped: false,
         }
-    }
-
-    /// How many lemmas there are.
-    pub fn count(&self) -> u32
-        ensures { result ≡ self.now.known.count }
-    {
-        self.known.count
-    }
-
-    /// Whether a lemma that stands twice has two trees.
-    pub fn dropped(&self) -> bool {
-        self.hashes.dropped
     }
 
     // The number of the lemma whose state was read, and whether it is a new one.
@@ -206,7 +208,7 @@ impl Numbering {
         ensures number { (texts : List (List ℕ)) → IsKnown self.old.known texts →
             self.old.known.count ≤ 1048576 →
             IfOk result (λ x. (after : List (List ℕ))
-                × IsNumbered texts self.old.state.items x.0 after × IsKnown self.new.known after) }
+            × IsNumbered texts self.old.state.items x.0 after × IsKnown self.new.known after) }
     {
         match self.known.find(&self.state) {
             Some(number) => Ok((number, false)),
@@ -272,7 +274,11 @@ impl Numbering {
     }
 
     // Where the certificate's lemmas begin.
-    fn begun(&mut self, cursor: &Cursor) -> Mark {
+    fn begun(&mut self, cursor: &Cursor) -> Mark
+        ensures same { self.new ≡ record self.old { mark = Some result } }
+        ensures mark { (self.old.mark ≡ Some result)
+            ⊎ ((self.old.mark ≡ None) × IsMark cursor.now result) }
+    {
         match self.mark {
             Some(mark) => mark,
             None => {
@@ -283,8 +289,11 @@ impl Numbering {
         }
     }
 
-    // The certificate's lemmas were read: it goes back to their beginning.
-    fn end_part(&mut self, cursor: &mut Cursor, mark: Mark) -> Result<(), AllocError> {
+    // The certificate's lemmas were read.
+    fn end_part(&mut self) -> Result<(), AllocError>
+        requires { self.old.part < usize.MAX }
+        ensures { OnOk result (EndsPart self.old self.new) }
+    {
         match self.hashes.end() {
             Ok(()) => {}
             Err(error) => return Err(error),
@@ -294,14 +303,46 @@ impl Numbering {
             Ok(()) => {}
             Err(_) => return Err(AllocError),
         }
-        cursor.rewind(mark);
+        self.count = self.known.count;
+        self.dropped = self.hashes.dropped;
         self.mark = None;
-        self.part = self.part.saturating_add(1);
+        self.part += 1;
         Ok(())
     }
 
+    // Takes the line that the cursor has, and says what it is.
+    fn take_next(&mut self, cursor: &Cursor, count: u32) -> Result<Option<Kind>, AllocError>
+        requires { self.old.part < usize.MAX }
+        ensures { (l : CertLine) → line_in cursor.now ≡ Some (line_text l) →
+            TakesNext (line_kind l) (line_text l) self.old result self.new }
+    {
+        let Some(line) = cursor.line() else {
+            return Ok(None);
+        };
+        let kind = kind_of(line);
+        if kind == Kind::Tree {
+            if self.own.len() != count as usize {
+                return Ok(None);
+            }
+            return match self.end_part() {
+                Ok(()) => Ok(Some(kind)),
+                Err(error) => Err(error),
+            };
+        }
+        match self.take(kind, line) {
+            Ok(()) if self.known.count <= MOST_LEMMAS => Ok(Some(kind)),
+            Ok(()) => Ok(None),
+            Err(error) => Err(error),
+        }
+    }
+
     // Reads one more line of this certificate, which has so many lemmas.
-    fn read(&mut self, cursor: &mut Cursor, count: u32) -> Result<Step, Unjoined> {
+    fn read(&mut self, cursor: &mut Cursor, count: u32) -> Result<Step, Unjoined>
+        requires { self.old.part < usize.MAX }
+        ensures { (cert : List ℕ) (before : List (List ℕ)) (c : Cover) → IsTextOf c cert →
+            IsReadingPart cert before c self.old cursor.old →
+            ReadsPart cert before c self.old result self.new cursor.new }
+    {
         let part = self.part;
         let mark = self.begun(cursor);
         match cursor.next(part) {
@@ -309,28 +350,21 @@ impl Numbering {
             Ok(false) => return Ok(Step::Read(part)),
             Err(unjoined) => return Err(unjoined),
         }
-        let Some(line) = cursor.line() else {
-            return Err(apart(part, cursor));
-        };
-        let kind = kind_of(line);
-        if kind == Kind::Tree {
-            if self.own.len() != count as usize {
-                return Err(apart(part, cursor));
-            }
-            self.end_part(cursor, mark)?;
-            return Ok(Step::On);
+        match self.take_next(cursor, count) {
+            Ok(Some(kind)) => move_on(cursor, kind, mark),
+            Ok(None) => return Err(apart(part, cursor)),
+            Err(_) => return Err(Unjoined::Memory),
         }
-        self.take(kind, line)?;
-        if self.known.count > MOST_LEMMAS {
-            return Err(apart(part, cursor));
-        }
-        cursor.pass();
         Ok(Step::On)
     }
 
     /// Reads one more line, where `counts` says of each certificate how many lemmas it has. Where the lemmas of one are
     /// read it goes back to their beginning.
-    pub fn step(&mut self, cursors: &mut [Cursor], counts: &[u32]) -> Result<Step, Unjoined> {
+    pub fn step(&mut self, cursors: &mut [Cursor], counts: &[u32]) -> Result<Step, Unjoined>
+        ensures { (certs : List (List ℕ)) (covers : List Cover) → AreTextsOf covers certs →
+            IsNumbering certs covers self.old cursors.old →
+            ReadsLemmas certs covers result self.new cursors.new }
+    {
         let part = self.part;
         if part >= cursors.len() {
             return Ok(Step::Over);

@@ -13,10 +13,10 @@ returns c = λ cert covers x t e r b.
     let b' : IsBefore cert ls s = subst (IsBefore cert ls) (sym c.next.ensures.same) (before_same cert ls c.args.cursor.now s.size b) in
     let n : IsNext ls s (Ok true) = subst (λ (y : Bool). IsNext ls s (Ok y)) c.in-Ok-true.field-0-test (c.in-Ok-true.ensures.next cert ls b) in
     elim c.match-line.branch [
-      in-Some+in-Ok w ↦
-        let has : line_in s ≡ Some w.in-Some.line.now = sym w.in-Some.ensures in
-        let k = w.take.ensures (w.in-Ok.is ∙ ap Ok (sym w.is_good-is ∙ c.if-not-is_good.false)) in
-        reads cert covers x c.args.self.now w.take.new.self c.pass-2.new.self s c.pass.new.self w.in-Some.line.now t e r b' has
-        (subst (IsFirst ls) (sym n.1 ∙ has) n.2) k (subst (λ h. IsBehind h c.pass-2.new.self) w.self-is c.pass-2.ensures) (c.pass.ensures cert)
-    | in-None w ↦ absurd (true≢false (sym c.if-not-is_good.false ∙ w.is_good-is))
+      | in-Some+in-Ok w ↦
+          let has : line_in s ≡ Some w.in-Some.line.now = sym w.in-Some.ensures in
+          let k = w.take.ensures (w.in-Ok.is ∙ ap Ok (sym w.is_good-is ∙ c.if-not-is_good.false)) in
+          reads cert covers x c.args.self.now w.take.new.self c.pass-2.new.self s c.pass.new.self w.in-Some.line.now t e r b' has
+          (subst (IsFirst ls) (sym n.1 ∙ has) n.2) k (subst (λ h. IsBehind h c.pass-2.new.self) w.self-is c.pass-2.ensures) (c.pass.ensures cert)
+      | in-None w ↦ absurd (true≢false (sym c.if-not-is_good.false ∙ w.is_good-is))
     ]
