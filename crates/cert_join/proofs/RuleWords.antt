@@ -8,14 +8,14 @@ use Rattle.std.proofs.lemmas.Bool.Decides.{eqb_tells}
 use Rattle.std.proofs.lemmas.Option.{slice_get_within, get_or_from_slice_get, slice_get-get_or}
 use Rattle.std.proofs.lemmas.Fmt.{digits_decimal}
 use Rattle.std.proofs.lemmas.Str.Parse.{IsNumeralModel, tells_all_ascii_digits, numerals_by_value}
-use Rattle.cover_line.specs.Words.{RuleWord, empty_word, pull_word, unit_word, ban_word, void_word, push_word, void_no_word, false_word, by_word, cut_word, flip_word, case_word, open_word, stuck_word, combine_word, void_combine_word, word_of, word_text, operands_of}
+use Rattle.cover_line.specs.Words.{RuleWord, empty_word, pull_word, unit_word, ban_word, void_word, push_word, void_no_word, false_word, by_word, cut_word, flip_word, case_word, open_word, stuck_word, combine_word, void_combine_word, word_of, word_text}
 use Rattle.cover_model.specs.Rules.{Line, pull, unit, void, push, void_no, combine, void_combine, ban, make_false, by, cut, flip, case, open_line, stuck}
-use Rattle.cert_read.specs.CertLine.{rule_line}
-use Rattle.cert_read.specs.LineText.{IsSpelled, operand_words}
+use Rattle.cert_read.specs.CertLine.{CertLine, version, margin, delta, bound, checks, cover, keep, point_word, tree_word, end_word, lemma, real_interval, real_value, bool_value, yes_list, no_list, rule_line, crossing}
+use Rattle.cert_read.specs.LineText.{IsSpelled, spaced, line_words, line_text}
 use Rattle.cert_read.specs.Lines.{words_of}
 use Rattle.cert_read.proofs.Pieces.{lacks}
 use Rattle.cert_joined.specs.Covers.{line_by, numbered}
-use Rattle.cert_join.specs.Kinds.{rule_text, lemma_front, lemma_named, names_by_word, number_among, IsRenumbered}
+use Rattle.cert_join.specs.Kinds.{rule_text, lemma_front, lemma_named, does_name, lemma_named_in, names_by_word, number_among, renumbered, IsRenumbered}
 use Rattle.cert_join.proofs.Spaced.{both_pass, split_spaced}
 
 -- ---- the first word
@@ -38,10 +38,81 @@ word-lacks stuck_word = refl
 word-lacks combine_word = refl
 word-lacks void_combine_word = refl
 
+-- the first word of a line, and the others
+abbrev pub first_of : CertLine → List ℕ
+first_of (version n) = codes "dpoly"
+first_of (margin m) = codes "margin"
+first_of (delta d) = codes "delta"
+first_of (bound b) = codes "bound"
+first_of (checks n) = codes "checks"
+first_of (cover k) = codes "cover"
+first_of (keep q) = codes "keep"
+first_of point_word = codes "point"
+first_of tree_word = codes "tree"
+first_of end_word = codes "end"
+first_of (lemma i) = codes "lemma"
+first_of (real_interval l h) = codes "real"
+first_of (real_value v) = codes "real"
+first_of (bool_value w) = codes "bool"
+first_of (yes_list js) = codes "yes"
+first_of (no_list js) = codes "no"
+first_of (rule_line l) = word_text (word_of l)
+first_of (crossing i) = word_text empty_word
+
+abbrev behind-first : List (List ℕ) → List (List ℕ)
+behind-first [] = []
+behind-first (w ∷ ws) = ws
+
+abbrev others_of : CertLine → List (List ℕ)
+others_of l = behind-first (line_words l)
+
+parted : (l : CertLine) → line_text l ≡ spaced (first_of l ∷ others_of l)
+parted (version n) = refl
+parted (margin m) = refl
+parted (delta d) = refl
+parted (bound b) = refl
+parted (checks n) = refl
+parted (cover k) = refl
+parted (keep q) = refl
+parted point_word = refl
+parted tree_word = refl
+parted end_word = refl
+parted (lemma i) = refl
+parted (real_interval l h) = refl
+parted (real_value v) = refl
+parted (bool_value w) = refl
+parted (yes_list js) = refl
+parted (no_list js) = refl
+parted (rule_line l) = refl
+parted (crossing i) = refl
+
+first-lacks : (l : CertLine) → IsTrue (lacks 32 (first_of l))
+first-lacks (version n) = refl
+first-lacks (margin m) = refl
+first-lacks (delta d) = refl
+first-lacks (bound b) = refl
+first-lacks (checks n) = refl
+first-lacks (cover k) = refl
+first-lacks (keep q) = refl
+first-lacks point_word = refl
+first-lacks tree_word = refl
+first-lacks end_word = refl
+first-lacks (lemma i) = refl
+first-lacks (real_interval l h) = refl
+first-lacks (real_value v) = refl
+first-lacks (bool_value w) = refl
+first-lacks (yes_list js) = refl
+first-lacks (no_list js) = refl
+first-lacks (rule_line l) = word-lacks (word_of l)
+first-lacks (crossing i) = refl
+
+pub first_of_line : (l : CertLine) (text w : List ℕ) (ws : List (List ℕ)) → words_of text ≡ w ∷ ws → text ≡ line_text l → w ≡ first_of l
+first_of_line l text w ws e h =
+    let f = split_spaced (first_of l) (others_of l) (first-lacks l) in
+    let g : w ∷ ws ≡ first_of l ∷ f.0 = sym e ∙ ap words_of (h ∙ parted l) ∙ f.1 in cc
+
 pub first_of_rule : (r : Line) (text w : List ℕ) (ws : List (List ℕ)) → words_of text ≡ w ∷ ws → text ≡ rule_text r → w ≡ word_text (word_of r)
-first_of_rule r text w ws e h =
-    let f = split_spaced (word_text (word_of r)) (operand_words (operands_of r)) (word-lacks (word_of r)) in
-    let g : w ∷ ws ≡ word_text (word_of r) ∷ f.0 = sym e ∙ ap words_of h ∙ f.1 in cc
+first_of_rule r = first_of_line (rule_line r)
 
 -- ---- whether it names a lemma
 
@@ -108,11 +179,31 @@ open_alone (case j) e = absurd (cc)
 open_alone open_line e = refl
 open_alone (stuck j) e = absurd (cc)
 
-pub names_from : (r : Line) (text w : List ℕ) (ws : List (List ℕ)) → words_of text ≡ w ∷ ws → text ≡ rule_text r
-    → (t u : List ℕ) → t ≡ word_text by_word → u ≡ word_text ban_word → (bytes_eq w t || bytes_eq w u) ≡ names_by_word (word_of r)
-names_from r text w ws e h t u f g =
-    ap (λ (x : List ℕ). bytes_eq x t || bytes_eq x u) (first_of_rule r text w ws e h)
-    ∙ ap₂ (λ (y z : List ℕ). bytes_eq (word_text (word_of r)) y || bytes_eq (word_text (word_of r)) z) f g ∙ names_by_text (word_of r)
+pub names_first : (l : CertLine) → (bytes_eq (first_of l) (word_text by_word) || bytes_eq (first_of l) (word_text ban_word)) ≡ does_name l
+names_first (version n) = refl
+names_first (margin m) = refl
+names_first (delta d) = refl
+names_first (bound b) = refl
+names_first (checks n) = refl
+names_first (cover k) = refl
+names_first (keep q) = refl
+names_first point_word = refl
+names_first tree_word = refl
+names_first end_word = refl
+names_first (lemma i) = refl
+names_first (real_interval l h) = refl
+names_first (real_value v) = refl
+names_first (bool_value w) = refl
+names_first (yes_list js) = refl
+names_first (no_list js) = refl
+names_first (rule_line l) = names_by_text (word_of l)
+names_first (crossing i) = refl
+
+pub names_from : (l : CertLine) (text w : List ℕ) (ws : List (List ℕ)) → words_of text ≡ w ∷ ws → text ≡ line_text l
+    → (t u : List ℕ) → t ≡ word_text by_word → u ≡ word_text ban_word → (bytes_eq w t || bytes_eq w u) ≡ does_name l
+names_from l text w ws e h t u f g =
+    ap (λ (x : List ℕ). bytes_eq x t || bytes_eq x u) (first_of_line l text w ws e h)
+    ∙ ap₂ (λ (y z : List ℕ). bytes_eq (first_of l) y || bytes_eq (first_of l) z) f g ∙ names_first l
 
 -- a line whose word names none names none
 pub names_none : (r : Line) → names_by_word (word_of r) ≡ false → (f : ℕ → ℕ) → (lemma_named r ≡ None) × (line_by f r ≡ r)
@@ -132,22 +223,62 @@ names_none (case j) h f = (refl, refl)
 names_none open_line h f = (refl, refl)
 names_none (stuck j) h f = (refl, refl)
 
-pub names_one : (r : Line) → names_by_word (word_of r) ≡ true → (i : ℕ) × (lemma_named r ≡ Some i)
-names_one (pull j) h = absurd (cc)
-names_one (unit j) h = absurd (cc)
-names_one (void j) h = absurd (cc)
-names_one (push j) h = absurd (cc)
-names_one (void_no j) h = absurd (cc)
-names_one (combine ms) h = absurd (cc)
-names_one (void_combine ms) h = absurd (cc)
-names_one (ban j i) h = (i, refl)
-names_one make_false h = absurd (cc)
-names_one (by i) h = (i, refl)
-names_one (cut axis c) h = absurd (cc)
-names_one (flip axis) h = absurd (cc)
-names_one (case j) h = absurd (cc)
-names_one open_line h = absurd (cc)
-names_one (stuck j) h = absurd (cc)
+pub none_named : (l : CertLine) → does_name l ≡ false → (f : ℕ → ℕ) → (lemma_named_in l ≡ None) × (renumbered f l ≡ l)
+none_named (version n) h f = (refl, refl)
+none_named (margin m) h f = (refl, refl)
+none_named (delta d) h f = (refl, refl)
+none_named (bound b) h f = (refl, refl)
+none_named (checks n) h f = (refl, refl)
+none_named (cover k) h f = (refl, refl)
+none_named (keep q) h f = (refl, refl)
+none_named point_word h f = (refl, refl)
+none_named tree_word h f = (refl, refl)
+none_named end_word h f = (refl, refl)
+none_named (lemma i) h f = (refl, refl)
+none_named (real_interval l u) h f = (refl, refl)
+none_named (real_value v) h f = (refl, refl)
+none_named (bool_value w) h f = (refl, refl)
+none_named (yes_list js) h f = (refl, refl)
+none_named (no_list js) h f = (refl, refl)
+none_named (rule_line l) h f = let e = names_none l h f in (e.0, ap rule_line e.1)
+none_named (crossing i) h f = (refl, refl)
+
+names-one : (r : Line) → names_by_word (word_of r) ≡ true → (i : ℕ) × (lemma_named r ≡ Some i)
+names-one (pull j) h = absurd (cc)
+names-one (unit j) h = absurd (cc)
+names-one (void j) h = absurd (cc)
+names-one (push j) h = absurd (cc)
+names-one (void_no j) h = absurd (cc)
+names-one (combine ms) h = absurd (cc)
+names-one (void_combine ms) h = absurd (cc)
+names-one (ban j i) h = (i, refl)
+names-one make_false h = absurd (cc)
+names-one (by i) h = (i, refl)
+names-one (cut axis c) h = absurd (cc)
+names-one (flip axis) h = absurd (cc)
+names-one (case j) h = absurd (cc)
+names-one open_line h = absurd (cc)
+names-one (stuck j) h = absurd (cc)
+
+pub one_named : (l : CertLine) → does_name l ≡ true → (r : Line) × (i : ℕ) × (l ≡ rule_line r) × (lemma_named r ≡ Some i)
+one_named (version n) h = absurd (cc)
+one_named (margin m) h = absurd (cc)
+one_named (delta d) h = absurd (cc)
+one_named (bound b) h = absurd (cc)
+one_named (checks n) h = absurd (cc)
+one_named (cover k) h = absurd (cc)
+one_named (keep q) h = absurd (cc)
+one_named point_word h = absurd (cc)
+one_named tree_word h = absurd (cc)
+one_named end_word h = absurd (cc)
+one_named (lemma i) h = absurd (cc)
+one_named (real_interval l u) h = absurd (cc)
+one_named (real_value v) h = absurd (cc)
+one_named (bool_value w) h = absurd (cc)
+one_named (yes_list js) h = absurd (cc)
+one_named (no_list js) h = absurd (cc)
+one_named (rule_line r) h = let e = names-one r h in (r, e.0, refl, e.1)
+one_named (crossing i) h = absurd (cc)
 
 -- ---- the number of its lemma
 
@@ -252,24 +383,24 @@ number-there numbers i n e = (slice_get_within numbers i n e, sym (get_or_from_s
 number-none : (numbers : List ℕ) (i : ℕ) → slice_get numbers i ≡ None → length numbers ≤ i
 number-none numbers i e = ⊎_elim (λ (h : i < length numbers). absurd (let f : ◌≡◌ {A = Option ℕ} None (Some (get_or numbers i 0)) = sym e ∙ slice_get-get_or numbers i 0 h in cc)) (λ (h : length numbers ≤ i). h) (cases_lt i (length numbers))
 
-pub renumbered : (r : Line) (i : ℕ) (numbers old new front : List ℕ) (named : Option ℕ) (n : ℕ) → lemma_named r ≡ Some i
+pub with_number : (r : Line) (i : ℕ) (numbers old new front : List ℕ) (named : Option ℕ) (n : ℕ) → lemma_named r ≡ Some i
     → front ≡ lemma_front r → named ≡ Some i → Some n ≡ number_among numbers named → new ≡ old ++ (front ++ decimal n)
-    → IsRenumbered numbers r old new (Ok true)
-renumbered r i numbers old new front named n h f g e k =
+    → IsRenumbered numbers (rule_line r) old new (Ok true)
+with_number r i numbers old new front named n h f g e k =
     let at = number-there numbers i n (sym (e ∙ ap (number_among numbers) g)) in (
       k ∙ ap₂ (λ (xs : List ℕ) (m : ℕ). old ++ (xs ++ decimal m)) f at.1 ∙ ap (λ (xs : List ℕ). old ++ xs) (sym (front_and_number r i h (numbered numbers))),
       let P : Option ℕ → Type 0 = λ o. IfSome o (λ k. k < length numbers) in subst P (sym h) at.0,
     )
 
-pub not_renumbered : (r : Line) (i : ℕ) (numbers : List ℕ) (named : Option ℕ) → lemma_named r ≡ Some i → named ≡ Some i
+pub without_number : (r : Line) (i : ℕ) (numbers : List ℕ) (named : Option ℕ) → lemma_named r ≡ Some i → named ≡ Some i
     → None ≡ number_among numbers named → (k : ℕ) × (lemma_named r ≡ Some k) × (length numbers ≤ k)
-not_renumbered r i numbers named h g e = (i, h, number-none numbers i (sym (e ∙ ap (number_among numbers) g)))
+without_number r i numbers named h g e = (i, h, number-none numbers i (sym (e ∙ ap (number_among numbers) g)))
 
 -- a line that names none stays
-pub stays_renumbered : (r : Line) (numbers old new text : List ℕ) → names_by_word (word_of r) ≡ false → text ≡ rule_text r → new ≡ old ++ text
-    → IsRenumbered numbers r old new (Ok true)
-stays_renumbered r numbers old new text h e k =
-    let none = names_none r h (numbered numbers) in (
-      k ∙ ap (λ (xs : List ℕ). old ++ xs) (e ∙ ap rule_text (sym none.1)),
+pub as_it_is : (l : CertLine) (numbers old new text : List ℕ) → does_name l ≡ false → text ≡ line_text l → new ≡ old ++ text
+    → IsRenumbered numbers l old new (Ok true)
+as_it_is l numbers old new text h e k =
+    let none = none_named l h (numbered numbers) in (
+      k ∙ ap (λ (xs : List ℕ). old ++ xs) (e ∙ ap line_text (sym none.1)),
       let P : Option ℕ → Type 0 = λ o. IfSome o (λ k. k < length numbers) in subst P (sym none.0) tt,
     )

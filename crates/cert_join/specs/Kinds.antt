@@ -3,7 +3,7 @@ use Rattle.std.specs.Prelude.{◌≡◌, ℕ, ◌+◌, ◌-◌, ◌^◌, ◌<◌
 use Rattle.std.specs.declared.alloc.AllocError.{AllocError}
 use Rattle.cover_line.specs.Words.{RuleWord, pull_word, unit_word, ban_word, push_word, by_word, cut_word, flip_word, case_word, open_word, stuck_word, combine_word, word_of}
 use Rattle.cover_model.specs.Rules.{Line, ban, by}
-use Rattle.cert_read.specs.CertLine.{rule_line}
+use Rattle.cert_read.specs.CertLine.{CertLine, rule_line}
 use Rattle.cert_read.specs.LineText.{line_text}
 use Rattle.cert_joined.specs.Covers.{Arity, ends, goes_on, splits, line_by, numbered}
 use Rattle.cert_join.specs.declared.line.Left.{Left}
@@ -61,6 +61,20 @@ lemma_named (by i) = Some i
 lemma_named (ban j i) = Some i
 lemma_named l = None
 
+-- whether a line names one
+abbrev pub does_name : CertLine → Bool
+does_name (rule_line l) = names_by_word (word_of l)
+does_name l = false
+
+abbrev pub lemma_named_in : CertLine → Option ℕ
+lemma_named_in (rule_line l) = lemma_named l
+lemma_named_in l = None
+
+-- the line, where its lemma has another number
+abbrev pub renumbered : (ℕ → ℕ) → CertLine → CertLine
+renumbered f (rule_line l) = rule_line (line_by f l)
+renumbered f l = l
+
 -- what stands before its number
 abbrev pub lemma_front : Line → List ℕ
 lemma_front (by i) = codes "by "
@@ -73,8 +87,8 @@ number_among numbers None = None
 number_among numbers (Some i) = slice_get numbers i
 
 -- the line behind what was there, with the number that these give its lemma, which is among them; or that it is not
-abbrev pub IsRenumbered : List ℕ → Line → List ℕ → List ℕ → Result Bool AllocError → Type 0
+abbrev pub IsRenumbered : List ℕ → CertLine → List ℕ → List ℕ → Result Bool AllocError → Type 0
 IsRenumbered numbers l old new (Ok true) =
-    (new ≡ old ++ rule_text (line_by (numbered numbers) l)) × IfSome (lemma_named l) (λ i. i < length numbers)
-IsRenumbered numbers l old new (Ok false) = (i : ℕ) × (lemma_named l ≡ Some i) × (length numbers ≤ i)
+    (new ≡ old ++ line_text (renumbered (numbered numbers) l)) × IfSome (lemma_named_in l) (λ i. i < length numbers)
+IsRenumbered numbers l old new (Ok false) = (i : ℕ) × (lemma_named_in l ≡ Some i) × (length numbers ≤ i)
 IsRenumbered numbers l old new (Err e) = Unit {0}

@@ -1,12 +1,11 @@
 // The lines of a tree as bytes: what each leaves, and the lemma that it names.
 ghost use Rattle.std.specs.Prelude.{◌≡◌, ◌<◌, ◌^◌, ◌++◌, ◌∷◌, [], ℕ, List, decimal, nat_eq, not, IsTrue, OnOk, IfSome, IsSome};
 ghost use Rattle.cover_line.specs.Views.{rule_word};
-ghost use Rattle.cover_line.specs.Words.{word_of};
 ghost use Rattle.cover_model.specs.Rules.{Line};
-ghost use Rattle.cert_read.specs.CertLine.{rule_line};
-ghost use Rattle.cert_read.specs.LineText.{IsSpelled};
+ghost use Rattle.cert_read.specs.CertLine.{CertLine, rule_line};
+ghost use Rattle.cert_read.specs.LineText.{line_text, IsSpelled};
 ghost use Rattle.cert_read.specs.Lines.{all_bytes, words_of};
-ghost use Rattle.cert_join.specs.Kinds.{does_stay, kind_of_word, left_kind, lemma_front, lemma_named, names_by_word, number_among, rule_text, waiting_behind, IsRenumbered};
+ghost use Rattle.cert_join.specs.Kinds.{does_name, does_stay, kind_of_word, left_kind, lemma_front, lemma_named, number_among, rule_text, waiting_behind, IsRenumbered};
 
 use cover_line::{AtomRule, CombinationRule, Word};
 use itoa::Buffer;
@@ -87,7 +86,7 @@ pub fn left_of(line: &[u8]) -> Option<Left>
 
 // Whether the last word of the line is the number of a lemma.
 fn names_lemma(line: &[u8]) -> bool
-    ensures { (r : Line) → line.now ≡ rule_text r → result ≡ names_by_word (word_of r) }
+    ensures { (l : CertLine) → line.now ≡ line_text l → result ≡ does_name l }
 {
     let word = first_word(line);
     word == Word::By.text().as_bytes() || word == Word::Ban.text().as_bytes()
@@ -166,7 +165,8 @@ fn number_by(numbers: &[u32], named: Option<u32>) -> Option<u32>
 // Appends a line that names a lemma.
 fn append_naming(text: &mut Vec<u8>, line: &[u8], numbers: &[u32]) -> Result<bool, AllocError>
     ensures { (r : Line) (i : ℕ) → line.now ≡ rule_text r → IsSpelled (rule_line r) →
-        lemma_named r ≡ Some i → IsRenumbered numbers.now r text.old.items text.new.items result }
+        lemma_named r ≡ Some i →
+        IsRenumbered numbers.now (rule_line r) text.old.items text.new.items result }
 {
     let (front, named) = last_number(line);
     match number_by(numbers, named) {
@@ -178,15 +178,15 @@ fn append_naming(text: &mut Vec<u8>, line: &[u8], numbers: &[u32]) -> Result<boo
     }
 }
 
-/// Appends a line of a tree without its break; a lemma that it names has the number that `numbers` gives it. Says whether
-/// that is there.
+/// Appends a line without its break; a lemma that a line of a tree names has the number that `numbers` gives it. Says
+/// whether that is there.
 pub fn append_renumbered(
     text: &mut Vec<u8>,
     line: &[u8],
     numbers: &[u32],
 ) -> Result<bool, AllocError>
-    ensures { (r : Line) → line.now ≡ rule_text r → IsSpelled (rule_line r) →
-        IsRenumbered numbers.now r text.old.items text.new.items result }
+    ensures { (l : CertLine) → line.now ≡ line_text l → IsSpelled l →
+        IsRenumbered numbers.now l text.old.items text.new.items result }
 {
     if names_lemma(line) {
         return append_naming(text, line, numbers);
