@@ -1,5 +1,7 @@
 pub mod Ahead
 pub mod Drafting
+pub mod Due
+pub mod Gathered
 pub mod Heads
 pub mod Held
 pub mod Kinds

@@ -1,4 +1,15 @@
 // The main tree of the joined certificate.
+ghost use Rattle.std.specs.Prelude.{◌≡◌, ◌<◌, ◌∷◌, ◌++◌, ℕ, List, [], Some, IfNone, IfSome, IfOk, MatchBool, length};
+ghost use Rattle.cover_model.specs.Rules.{Line};
+ghost use Rattle.cover_model.specs.Derivation.{Tree};
+ghost use Rattle.cert_read.specs.CertLine.{rule_line};
+ghost use Rattle.cert_read.specs.LineText.{IsSpelled};
+ghost use Rattle.cert_join.specs.Kinds.{left_kind, rule_text};
+ghost use Rattle.cert_join.specs.Spot.{Spot, line_in};
+ghost use Rattle.cert_join.specs.declared.trees.Task.TheVariants as task;
+ghost use Rattle.cert_join.specs.Due.{AllGo, AllLeave, AreTaken, Course, IsAfter, IsCopying, IsDue, IsDueBehind, IsHere, IsNextDue, stacked, with_behind};
+ghost use Rattle.cert_join.specs.Gathered.{AllReady, AreAlike, AreDistinct, AreNext, ArePassed, AreResized, Meeting, going, leaving, lists_of, parts_of, spot_at, text_at};
+
 use crate::cursor::Cursor;
 use crate::joiner::{ROOM, Step, apart};
 use crate::line::{Left, append_renumbered, left_of};
@@ -30,14 +41,34 @@ pub struct Trees {
 }
 
 // What the certificate's next line leaves.
-fn left_at(cursors: &[Cursor], part: usize) -> Option<Left> {
-    left_of(cursors.get(part)?.line()?)
+fn left_at(cursors: &[Cursor], part: usize) -> Option<Left>
+    ensures { IfSome result (λ k. (part < length cursors.now) × ((r : Line) →
+        line_in (spot_at cursors.now part) ≡ Some (rule_text r) → k ≡ left_kind r)) }
+{
+    if part >= cursors.len() {
+        return None;
+    }
+    match cursors[part].line() {
+        Some(line) => left_of(line),
+        None => None,
+    }
 }
 
 // Passes a certificate's next line.
-fn pass_at(cursors: &mut [Cursor], part: usize) {
-    if let Some(cursor) = cursors.get_mut(part) {
-        cursor.pass();
+fn pass_at(cursors: &mut [Cursor], part: usize)
+    ensures { ArePassed (part ∷ []) cursors.old cursors.new }
+{
+    if part < cursors.len() {
+        cursors[part].pass();
+    }
+}
+
+// Passes the next line of each of these certificates.
+fn pass_all(cursors: &mut [Cursor], parts: &[usize])
+    ensures { AreDistinct parts.now → ArePassed parts.now cursors.old cursors.new }
+{
+    for part in parts {
+        pass_at(cursors, *part);
     }
 }
 
@@ -47,28 +78,31 @@ fn append_at(
     numbers: &[Vec<u32>],
     part: usize,
     text: &mut Vec<u8>,
-) -> Result<(), Unjoined> {
-    let is_good = match (cursors.get(part), numbers.get(part)) {
-        (Some(cursor), Some(numbers)) => match cursor.line() {
-            Some(line) => append_renumbered(text, line, numbers)?,
-            None => false,
-        },
-        _ => false,
-    };
-    if is_good {
-        Ok(())
-    } else {
-        Err(unjoined_at(cursors, part))
+) -> Result<(), Unjoined>
+    ensures { IfOk result (λ _. (part < length cursors.now) × ((r : Line) →
+        line_in (spot_at cursors.now part) ≡ Some (rule_text r) → IsSpelled (rule_line r) →
+        text.new.items ≡ text.old.items ++ text_at (lists_of numbers.now) part r)) }
+{
+    if part >= cursors.len() || part >= numbers.len() {
+        return Err(unjoined_at(cursors, part));
     }
+    let Some(line) = cursors[part].line() else {
+        return Err(unjoined_at(cursors, part));
+    };
+    if !append_renumbered(text, line, &numbers[part])? {
+        return Err(unjoined_at(cursors, part));
+    }
+    Ok(())
 }
 
 // The first of these certificates whose next line is not there yet.
-fn unread_of(cursors: &mut [Cursor], parts: &[usize]) -> Option<usize> {
+fn unread_of(cursors: &mut [Cursor], parts: &[usize]) -> Option<usize>
+    ensures same { AreResized cursors.old cursors.new }
+    ensures ready { IfNone result (AllReady parts.now cursors.new) }
+{
     for part in parts {
-        if let Some(cursor) = cursors.get_mut(*part) {
-            if !cursor.is_ready() {
-                return Some(*part);
-            }
+        if *part < cursors.len() && !cursors[*part].is_ready() {
+            return Some(*part);
         }
     }
     None
@@ -83,69 +117,168 @@ fn unjoined_at(cursors: &[Cursor], part: usize) -> Unjoined {
     Unjoined::Apart(Place { part, line })
 }
 
-// Passes a certificate's next line where that leaves its state.
-fn pass_leaving(cursors: &mut [Cursor], part: usize) {
-    if let Some(left) = left_at(cursors, part) {
-        if left.stays() {
-            pass_at(cursors, part);
-        }
-    }
+// Certificates by what their next lines leave.
+#[derive(Drop)]
+struct Split {
+    // Those whose next line does not leave its state, and those whose does.
+    grown: Vec<usize>,
+    left: Vec<usize>,
+    // Whether a line says that its state is stuck.
+    is_stuck: bool,
 }
 
-// Whether the next lines of all these certificates are the same.
+// Sorts these certificates by what their next lines leave.
+fn sorted(alloc: Global, cursors: &[Cursor], parts: &[usize]) -> Result<Split, Unjoined>
+    ensures { IfOk result (λ s. (place : Meeting) → parts_of place ≡ parts.now →
+        AreNext cursors.now place →
+        (s.grown.items ≡ parts_of (going place)) × (s.left.items ≡ parts_of (leaving place))) }
+{
+    let mut grown: Vec<usize> = Vec::new(alloc);
+    let mut left: Vec<usize> = Vec::new(alloc);
+    let mut is_stuck = false;
+    for part in parts {
+        let Some(kind) = left_at(cursors, *part) else {
+            return Err(unjoined_at(cursors, *part));
+        };
+        is_stuck = is_stuck || kind == Left::Stuck;
+        if kind.stays() {
+            left.push(*part)?;
+        } else {
+            grown.push(*part)?;
+        }
+    }
+    Ok(Split {
+        grown,
+        left,
+        is_stuck,
+    })
+}
+
+// Whether the next lines of these certificates are the same as that of this one.
 fn are_alike(
     alloc: Global,
     cursors: &[Cursor],
     numbers: &[Vec<u32>],
-    parts: &[usize],
-) -> Result<bool, Unjoined> {
-    let mut first: Vec<u8> = Vec::new(alloc);
+    first: usize,
+    others: &[usize],
+) -> Result<bool, Unjoined>
+    ensures { IfOk result (λ b. (x : ℕ × Tree) (place : Meeting) → x.0 ≡ first →
+        parts_of place ≡ others.now → AreNext cursors.now (x ∷ place) →
+        MatchBool b (AreAlike (lists_of numbers.now) x place)
+            (AreAlike (lists_of numbers.now) x place → ⊥)) }
+{
+    let mut line: Vec<u8> = Vec::new(alloc);
+    append_at(cursors, numbers, first, &mut line)?;
     let mut other: Vec<u8> = Vec::new(alloc);
-    for part in parts {
+    for part in others {
         other.clear();
         append_at(cursors, numbers, *part, &mut other)?;
-        if first.is_empty() {
-            first.extend_from_slice(&other)?;
-        } else if first != other {
+        if line != other {
             return Ok(false);
         }
     }
     Ok(true)
 }
 
-// Copies lines of a certificate's tree, as long as some are there and states wait in it, up to so many bytes.
-fn copy(
-    cursors: &mut [Cursor],
-    numbers: &[Vec<u32>],
+// Copies the next line of a certificate's trees, of which so many wait; says whether it was there.
+fn copy_line(
+    cursor: &mut Cursor,
+    numbers: &[u32],
     part: usize,
     waiting: &mut u64,
     text: &mut Vec<u8>,
-) -> Result<Step, Unjoined> {
-    let (Some(cursor), Some(numbers)) = (cursors.get_mut(part), numbers.get(part)) else {
-        *waiting = 0;
-        return Ok(Step::On);
+) -> Result<bool, Unjoined>
+    ensures { IfOk result (λ _. (cert : List ℕ) (rest : List (List ℕ)) (whole : List ℕ) →
+        0 < waiting.old → IsCopying cert numbers.now rest whole waiting.old text.old.items cursor.old →
+        IsCopying cert numbers.now rest whole waiting.new text.new.items cursor.new) }
+{
+    if !cursor.is_ready() {
+        return Ok(false);
+    }
+    let Some(line) = cursor.line() else {
+        return Err(apart(part, cursor));
     };
+    let Some(left) = left_of(line) else {
+        return Err(apart(part, cursor));
+    };
+    if !append_renumbered(text, line, numbers)? {
+        return Err(apart(part, cursor));
+    }
+    text.push(b'\n')?;
+    *waiting = left.waiting(*waiting);
+    cursor.pass();
+    Ok(true)
+}
+
+// Copies lines of a certificate's trees, as long as trees wait, up to so many bytes; says whether all that it wanted was
+// there.
+fn copy(
+    cursor: &mut Cursor,
+    numbers: &[u32],
+    part: usize,
+    waiting: &mut u64,
+    text: &mut Vec<u8>,
+) -> Result<bool, Unjoined>
+    ensures { IfOk result (λ _. (cert : List ℕ) (rest : List (List ℕ)) (whole : List ℕ) →
+        IsCopying cert numbers.now rest whole waiting.old text.old.items cursor.old →
+        IsCopying cert numbers.now rest whole waiting.new text.new.items cursor.new) }
+{
     for _ in 0..ROOM {
         if *waiting == 0 || text.len() >= ROOM {
             break;
         }
-        if !cursor.is_ready() {
-            return Ok(Step::Read(part));
+        if !copy_line(cursor, numbers, part, waiting, text)? {
+            return Ok(false);
         }
-        let Some(line) = cursor.line() else {
-            return Err(apart(part, cursor));
-        };
-        let Some(left) = left_of(line) else {
-            return Err(apart(part, cursor));
-        };
-        if !append_renumbered(text, line, numbers)? {
-            return Err(apart(part, cursor));
-        }
-        text.push(b'\n')?;
-        *waiting = left.waiting(*waiting);
-        cursor.pass();
     }
-    Ok(Step::On)
+    Ok(true)
+}
+
+// Takes the next line of one certificate, and passes those of all of these, of which it is one.
+fn take_line(
+    cursors: &mut [Cursor],
+    numbers: &[Vec<u32>],
+    part: usize,
+    parts: &[usize],
+    text: &mut Vec<u8>,
+) -> Result<(), Unjoined>
+    ensures { IfOk result (λ _. AreTaken (lists_of numbers.now) part parts.now
+        text.old.items cursors.old text.new.items cursors.new) }
+{
+    append_at(cursors, numbers, part, text)?;
+    text.push(b'\n')?;
+    pass_all(cursors, parts);
+    Ok(())
+}
+
+// Takes the line of the first of these certificates, where the lines of all leave their states.
+fn leave(
+    cursors: &mut [Cursor],
+    numbers: &[Vec<u32>],
+    parts: &[usize],
+    text: &mut Vec<u8>,
+) -> Result<(), Unjoined>
+    ensures { IfOk result (λ _. (k : Course) (places : List (List ℕ)) → k.numbers ≡ lists_of numbers.now →
+        (h : IsHere k parts.now places text.old.items cursors.old) → AllLeave (h.first ∷ h.others) →
+        IsDue k places text.new.items cursors.new) }
+{
+    if parts.is_empty() {
+        return Ok(());
+    }
+    take_line(cursors, numbers, parts[0], parts, text)?;
+    Ok(())
+}
+
+// What is done next where so many trees of a certificate wait to be copied.
+fn copying(part: usize, waiting: u64) -> Task
+    ensures { (k : Course) (places : List (List ℕ)) (text : List ℕ) (spots : List Spot) →
+        IsDueBehind k part waiting places text spots → IsNextDue k result places text spots }
+{
+    if waiting > 0 {
+        Task::Copy { part, waiting }
+    } else {
+        Task::Compare
+    }
 }
 
 impl Trees {
@@ -165,22 +298,6 @@ impl Trees {
         })
     }
 
-    // Those of the certificates whose next line does not leave its state.
-    fn grown(&mut self, cursors: &[Cursor], parts: &[usize]) -> Result<Vec<usize>, Unjoined> {
-        let mut grown: Vec<usize> = Vec::new(self.alloc);
-        let mut is_stuck = false;
-        for part in parts {
-            match left_at(cursors, *part) {
-                Some(Left::Open) => {}
-                Some(Left::Stuck) => is_stuck = true,
-                Some(_) => grown.push(*part)?,
-                None => return Err(unjoined_at(cursors, *part)),
-            }
-        }
-        self.dropped = self.dropped || (is_stuck && !grown.is_empty());
-        Ok(grown)
-    }
-
     // Compares the trees of these certificates, whose next lines are there.
     fn compare(
         &mut self,
@@ -188,29 +305,68 @@ impl Trees {
         numbers: &[Vec<u32>],
         parts: &[usize],
         text: &mut Vec<u8>,
-    ) -> Result<(), Unjoined> {
-        let grown = self.grown(cursors, parts)?;
-        if let (true, Some(first)) = (grown.is_empty(), parts.first()) {
-            append_at(cursors, numbers, *first, text)?;
-            text.push(b'\n')?;
+    ) -> Result<Task, Unjoined>
+        ensures { IfOk result (λ task. (k : Course) → k.numbers ≡ lists_of numbers.now →
+            AllReady parts.now cursors.old →
+            IsDue k (parts.now ∷ stacked self.old.places.items) text.old.items cursors.old →
+            IsNextDue k task (stacked self.new.places.items) text.new.items cursors.new) }
+    {
+        let sorted = sorted(self.alloc, cursors, parts)?;
+        if sorted.grown.is_empty() {
+            leave(cursors, numbers, parts, text)?;
+            return Ok(Task::Compare);
         }
-        for part in parts {
-            pass_leaving(cursors, *part);
+        self.dropped = self.dropped || sorted.is_stuck;
+        pass_all(cursors, &sorted.left);
+        let task = self.go_on(cursors, numbers, sorted.grown, text)?;
+        Ok(task)
+    }
+
+    // Goes on with the trees of these certificates, none of which leaves its state at once.
+    fn go_on(
+        &mut self,
+        cursors: &mut [Cursor],
+        numbers: &[Vec<u32>],
+        parts: Vec<usize>,
+        text: &mut Vec<u8>,
+    ) -> Result<Task, Unjoined>
+        ensures { IfOk result (λ task. (k : Course) → k.numbers ≡ lists_of numbers.now →
+            (h : IsHere k parts.items (stacked self.old.places.items) text.old.items cursors.old) →
+            AllGo (h.first ∷ h.others) →
+            IsNextDue k task (stacked self.new.places.items) text.new.items cursors.new) }
+    {
+        if parts.is_empty() {
+            return Ok(Task::Compare);
         }
-        match grown.first().copied() {
-            None => Ok(()),
-            Some(part) if grown.len() == 1 => {
-                self.task = Task::Copy { part, waiting: 1 };
+        let part = parts[0];
+        if parts.len() == 1 {
+            return Ok(Task::Copy { part, waiting: 1 });
+        }
+        if are_alike(self.alloc, cursors, numbers, part, &parts[1..])? {
+            self.share(cursors, numbers, part, parts, text)?;
+            return Ok(Task::Compare);
+        }
+        self.dropped = true;
+        Ok(Task::Weigh(Weighing::new(parts)))
+    }
+
+    // Adds the places behind a line of this kind.
+    fn push_behind(&mut self, left: Left, parts: Vec<usize>) -> Result<(), Unjoined>
+        ensures { IfOk result (λ _. stacked self.new.places.items ≡
+            with_behind left parts.items (stacked self.old.places.items)) }
+    {
+        match left {
+            Left::Two => {
+                let again = Vec::from_slice(self.alloc, &parts)?;
+                self.places.push(again)?;
+                self.places.push(parts)?;
                 Ok(())
             }
-            Some(part) if are_alike(self.alloc, cursors, numbers, &grown)? => {
-                self.share(cursors, numbers, part, grown, text)
-            }
-            Some(_) => {
-                self.dropped = true;
-                self.task = Task::Weigh(Weighing::new(grown));
+            Left::One => {
+                self.places.push(parts)?;
                 Ok(())
             }
+            Left::Nothing | Left::Open | Left::Stuck => Ok(()),
         }
     }
 
@@ -222,21 +378,17 @@ impl Trees {
         part: usize,
         parts: Vec<usize>,
         text: &mut Vec<u8>,
-    ) -> Result<(), Unjoined> {
-        let left = left_at(cursors, part);
-        append_at(cursors, numbers, part, text)?;
-        text.push(b'\n')?;
-        for part in &parts {
-            pass_at(cursors, *part);
-        }
-        if left == Some(Left::Two) {
-            let mut again: Vec<usize> = Vec::new(self.alloc);
-            again.extend_from_slice(&parts)?;
-            self.places.push(again)?;
-        }
-        if left == Some(Left::One) || left == Some(Left::Two) {
-            self.places.push(parts)?;
-        }
+    ) -> Result<(), Unjoined>
+        ensures { IfOk result (λ _. (k : Course) → k.numbers ≡ lists_of numbers.now →
+            (h : IsHere k parts.items (stacked self.old.places.items) text.old.items cursors.old) →
+            part ≡ h.first.0 → AllGo (h.first ∷ h.others) → AreAlike k.numbers h.first h.others →
+            IsDue k (stacked self.new.places.items) text.new.items cursors.new) }
+    {
+        let Some(left) = left_at(cursors, part) else {
+            return Err(unjoined_at(cursors, part));
+        };
+        take_line(cursors, numbers, part, &parts, text)?;
+        self.push_behind(left, parts)?;
         Ok(())
     }
 
@@ -246,7 +398,12 @@ impl Trees {
         cursors: &mut [Cursor],
         numbers: &[Vec<u32>],
         text: &mut Vec<u8>,
-    ) -> Result<Step, Unjoined> {
+    ) -> Result<Step, Unjoined>
+        ensures { IfOk result (λ step. (k : Course) → k.numbers ≡ lists_of numbers.now →
+            self.old.task ≡ task.Compare →
+            IsDue k (stacked self.old.places.items) text.old.items cursors.old →
+            IsAfter k step self.new.task (stacked self.new.places.items) text.new.items cursors.new) }
+    {
         let Some(parts) = self.places.pop() else {
             return Ok(Step::Over);
         };
@@ -254,8 +411,35 @@ impl Trees {
             self.places.push(parts)?;
             return Ok(Step::Read(part));
         }
-        self.compare(cursors, numbers, &parts, text)?;
+        self.task = self.compare(cursors, numbers, &parts, text)?;
         Ok(Step::On)
+    }
+
+    // Goes on with the copy of trees of a certificate, of which so many wait.
+    fn step_to_copy(
+        &mut self,
+        cursors: &mut [Cursor],
+        numbers: &[Vec<u32>],
+        part: usize,
+        waiting: u64,
+        text: &mut Vec<u8>,
+    ) -> Result<Step, Unjoined>
+        ensures { IfOk result (λ step. (k : Course) → k.numbers ≡ lists_of numbers.now →
+            self.old.task ≡ task.Compare →
+            IsDueBehind k part waiting (stacked self.old.places.items) text.old.items cursors.old →
+            IsAfter k step self.new.task (stacked self.new.places.items) text.new.items cursors.new) }
+    {
+        if part >= cursors.len() || part >= numbers.len() {
+            return Err(unjoined_at(cursors, part));
+        }
+        let mut left = waiting;
+        let is_there = copy(&mut cursors[part], &numbers[part], part, &mut left, text)?;
+        self.task = copying(part, left);
+        if is_there {
+            Ok(Step::On)
+        } else {
+            Ok(Step::Read(part))
+        }
     }
 
     /// Writes one more line or a few, or reads.
@@ -266,16 +450,18 @@ impl Trees {
         text: &mut Vec<u8>,
     ) -> Result<Step, Unjoined> {
         match mem::replace(&mut self.task, Task::Compare) {
-            Task::Compare => self.step_to_place(cursors, numbers, text),
-            Task::Copy { part, waiting } => {
-                let mut waiting = waiting;
-                let step = copy(cursors, numbers, part, &mut waiting, text)?;
-                if waiting > 0 {
-                    self.task = Task::Copy { part, waiting };
-                }
+            Task::Compare => {
+                let step = self.step_to_place(cursors, numbers, text)?;
                 Ok(step)
             }
-            Task::Weigh(weighing) => self.step_to_weigh(cursors, weighing),
+            Task::Copy { part, waiting } => {
+                let step = self.step_to_copy(cursors, numbers, part, waiting, text)?;
+                Ok(step)
+            }
+            Task::Weigh(weighing) => {
+                let step = self.step_to_weigh(cursors, weighing)?;
+                Ok(step)
+            }
         }
     }
 
