@@ -80,19 +80,21 @@ abbrev pub Yields : List (List ℕ) → List Meeting → List ℕ → Type 0
 Yields numbers [] out = out ≡ []
 Yields numbers (place ∷ due) out = (u : Tree) × (more : List ℕ) × Joins (trees_at numbers place) u × Yields numbers due more × (out ≡ tree_text u ++ more)
 
--- What is joined: the bytes of each certificate, and what stands behind its tree; the numbers of lemmas; the trees; the text before theirs.
+-- What is joined: the bytes of each certificate, and what stands behind its tree; the numbers of lemmas; the trees; the text that was
+-- written before, and that which stands before theirs.
 pub record Course : Type 0 where
   pub cert : ℕ → List ℕ
   pub rest : ℕ → List (List ℕ)
   pub numbers : List (List ℕ)
   pub trees : List Tree
+  pub done : List ℕ
   pub front : List ℕ
   -- lines with these numbers can be spelled
   pub spelled : (i : ℕ) (l : Line) → IsSpelled (rule_line l) → IsSpelled (rule_line (line_by (numbered (numbers_at numbers i)) l))
 
 -- the text is that of a tree that joins these
 abbrev pub IsWhole : Course → List ℕ → Type 0
-IsWhole k text = (u : Tree) × Joins k.trees u × (text ≡ k.front ++ tree_text u)
+IsWhole k text = (u : Tree) × Joins k.trees u × (k.done ++ text ≡ k.front ++ tree_text u)
 
 -- The trees of these places are due, the first one's first; what joins them makes the text whole.
 pub record IsDue (k : Course) (parts : List (List ℕ)) (text : List ℕ) (spots : List Spot) : Type 0 where

@@ -4,6 +4,7 @@ pub mod Due
 pub mod Gathered
 pub mod Heads
 pub mod Held
+pub mod Joining
 pub mod Kinds
 pub mod LemmasDue
 pub mod Numbered

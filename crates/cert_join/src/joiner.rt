@@ -1,4 +1,14 @@
 // The lines of the joined certificate, one after the other.
+ghost use Rattle.std.specs.Prelude.{◌≡◌, ◌++◌, ◌∷◌, ◌<◌, ℕ, List, [], Ok, OnOk, IfOk, MatchOption, length, map};
+ghost use Rattle.cert_joined.specs.Covers.{Cover, AreTextsOf};
+ghost use Rattle.cert_join.specs.Ahead.{AreBefore};
+ghost use Rattle.cert_join.specs.Gathered.{lists_of, spot_at};
+ghost use Rattle.cert_read.specs.CertLine.{cover};
+ghost use Rattle.cert_join.specs.Heads.{all_lines, head_text, AreHeadsRead};
+ghost use Rattle.cert_join.specs.Numbered.{AreNumbered};
+ghost use Rattle.cert_join.specs.Joining.{AreAtNumbers, AreLemmasWritten, HasStepped, IsAfterStep, IsAt, IsJoinText, IsJoining, IsOver, IsPiece};
+ghost use Rattle.cert_join.specs.Written.{text_of};
+
 use crate::cursor::Cursor;
 use crate::heads::Heads;
 use crate::lemmas::Lemmas;
@@ -41,6 +51,57 @@ enum Stage {
     Trees(Trees),
     // The ends of the certificates from this one on are read; whether its last line was.
     Ends(usize, bool),
+}
+
+// The first lines of a certificate of a point.
+fn append_point(heads: &Heads, text: &mut Vec<u8>) -> Result<(), AllocError> {
+    match heads.append(text) {
+        Ok(()) => text.extend_from_slice(b"point\n"),
+        Err(error) => Err(error),
+    }
+}
+
+// The first lines of a certificate of a cover with so many lemmas.
+fn append_kind(heads: &Heads, count: u32, text: &mut Vec<u8>) -> Result<(), AllocError>
+    ensures { OnOk result (text.new.items ≡
+        text.old.items ++ (head_text heads.now ++ text_of (cover count ∷ []))) }
+{
+    match heads.append(text) {
+        Ok(()) => {}
+        Err(error) => return Err(error),
+    }
+    match text.extend_from_slice(b"cover ") {
+        Ok(()) => {}
+        Err(error) => return Err(error),
+    }
+    match append_number(text, count) {
+        Ok(()) => {}
+        Err(error) => return Err(error),
+    }
+    match text.push(b'\n') {
+        Ok(()) => Ok(()),
+        Err(_) => Err(AllocError),
+    }
+}
+
+// The stage, where there was memory.
+fn some(stage: Result<Stage, AllocError>) -> Result<Option<Stage>, AllocError> {
+    match stage {
+        Ok(stage) => Ok(Some(stage)),
+        Err(error) => Err(error),
+    }
+}
+
+// Reads the ends of a certificate.
+fn step_of_ends(
+    cursors: &mut [Cursor],
+    part: usize,
+    is_read: &mut bool,
+) -> Result<Step, Unjoined> {
+    match cursors.get_mut(part) {
+        Some(cursor) => step_to_end(cursor, part, is_read),
+        None => Ok(Step::Over),
+    }
 }
 
 /// Follows certificates side by side, and gives the text of the one that joins them. It reads nothing itself: it says of
@@ -94,20 +155,39 @@ fn step_to_end(cursor: &mut Cursor, part: usize, is_read: &mut bool) -> Result<S
     }
 }
 
+// Cursors at the beginnings of so many certificates.
+fn fresh(alloc: Global, count: usize) -> Result<Vec<Cursor>, AllocError>
+    ensures { IfOk result (λ cursors. (certs : List (List ℕ)) (covers : List Cover) →
+        length certs ≡ count → AreTextsOf covers certs →
+        AreBefore certs (map all_lines covers) cursors.items) }
+{
+    let mut cursors: Vec<Cursor> = Vec::new(alloc);
+    for _ in 0..count {
+        match cursors.push(Cursor::new(alloc)) {
+            Ok(()) => {}
+            Err(_) => return Err(AllocError),
+        }
+    }
+    Ok(cursors)
+}
+
 impl Joiner {
     /// So many certificates, of which nothing is read yet.
-    pub fn new(alloc: Global, count: usize) -> Result<Self, AllocError> {
-        let mut cursors: Vec<Cursor> = Vec::new(alloc);
-        for _ in 0..count {
-            cursors.push(Cursor::new(alloc))?;
+    pub fn new(alloc: Global, count: usize) -> Result<Self, AllocError>
+        ensures { IfOk result (λ joiner. (certs : List (List ℕ)) (first : Cover) (others : List Cover) →
+            length certs ≡ count → AreTextsOf (first ∷ others) certs →
+            IsJoining certs first (first ∷ others) [] [] joiner) }
+    {
+        match fresh(alloc, count) {
+            Ok(cursors) => Ok(Joiner {
+                alloc,
+                cursors,
+                numbers: Vec::new(alloc),
+                stage: Stage::Heads(Heads::new(alloc)),
+                dropped: false,
+            }),
+            Err(error) => Err(error),
         }
-        Ok(Joiner {
-            alloc,
-            cursors,
-            numbers: Vec::new(alloc),
-            stage: Stage::Heads(Heads::new(alloc)),
-            dropped: false,
-        })
     }
 
     /// Whether lines were dropped so far that no other certificate has.
@@ -116,30 +196,45 @@ impl Joiner {
     }
 
     /// Where more of the certificate is read.
-    pub fn place(&self, part: usize) -> u64 {
-        match self.cursors.get(part) {
-            Some(cursor) => cursor.place(),
-            None => 0,
+    pub fn place(&self, part: usize) -> u64
+        ensures { part < length self.now.cursors.items →
+            result ≡ (spot_at self.now.cursors.items part).behind }
+    {
+        if part >= self.cursors.len() {
+            return 0;
         }
+        self.cursors[part].place()
     }
 
     /// Takes bytes that were read of the certificate at that place; none are its end.
-    pub fn give(&mut self, part: usize, piece: &[u8]) -> Result<(), AllocError> {
-        match self.cursors.get_mut(part) {
-            Some(cursor) => cursor.give(piece),
-            None => Ok(()),
+    pub fn give(&mut self, part: usize, piece: &[u8]) -> Result<(), AllocError>
+        ensures { OnOk result ((certs : List (List ℕ)) (first : Cover) (covers : List Cover) →
+            (done text : List ℕ) → IsPiece certs part piece.now self.old →
+            IsJoining certs first covers done text self.old →
+            IsJoining certs first covers done text self.new) }
+    {
+        if part >= self.cursors.len() {
+            return Ok(());
         }
+        self.cursors[part].give(piece)
     }
 
     // What follows the first lines.
-    fn behind_heads(&mut self, heads: Heads, text: &mut Vec<u8>) -> Result<Stage, AllocError> {
+    fn behind_heads(&mut self, heads: Heads, text: &mut Vec<u8>) -> Result<Stage, AllocError>
+        ensures { IfOk result (λ stage. (certs : List (List ℕ)) (first : Cover) (others : List Cover) →
+            (done : List ℕ) → done ++ text.old.items ≡ [] →
+            AreHeadsRead certs (first ∷ others) heads self.old.cursors.items →
+            IsAt certs first (first ∷ others) done text.new.items (lists_of self.new.numbers.items)
+                stage self.new.cursors.items) }
+    {
         match heads.point {
             Some(part) => {
                 // The others are not read.
                 self.dropped = true;
-                heads.append(text)?;
-                text.extend_from_slice(b"point\n")?;
-                Ok(Stage::Point(part))
+                match append_point(&heads, text) {
+                    Ok(()) => Ok(Stage::Point(part)),
+                    Err(error) => Err(error),
+                }
             }
             None => Ok(Stage::Numbering(heads, Numbering::new(self.alloc))),
         }
@@ -151,35 +246,65 @@ impl Joiner {
         heads: &Heads,
         numbering: Numbering,
         text: &mut Vec<u8>,
-    ) -> Result<Stage, AllocError> {
-        heads.append(text)?;
-        text.extend_from_slice(b"cover ")?;
-        append_number(text, numbering.count)?;
-        text.push(b'\n')?;
+    ) -> Result<Stage, AllocError>
+        ensures { IfOk result (λ stage. (certs : List (List ℕ)) (first : Cover) (covers : List Cover) →
+            (done : List ℕ) → AreTextsOf covers certs → done ++ text.old.items ≡ [] →
+            AreAtNumbers certs first covers heads.now →
+            AreNumbered certs covers numbering self.old.cursors.items →
+            IsAt certs first covers done text.new.items (lists_of self.new.numbers.items)
+                stage self.new.cursors.items) }
+    {
+        match append_kind(heads, numbering.count, text) {
+            Ok(()) => {}
+            Err(error) => return Err(error),
+        }
         // The rules of version 2 would not be refused.
         self.dropped = numbering.dropped || heads.has_old;
-        self.numbers = numbering.numbers;
+        drop(mem::replace(&mut self.numbers, numbering.numbers));
         Ok(Stage::Lemmas(Lemmas::new()))
     }
 
     // What follows the lemmas.
-    fn behind_lemmas(&mut self, text: &mut Vec<u8>) -> Result<Stage, AllocError> {
-        text.extend_from_slice(b"tree\n")?;
-        Ok(Stage::Trees(Trees::new(self.alloc, self.cursors.len())?))
+    fn behind_lemmas(&mut self, text: &mut Vec<u8>) -> Result<Stage, AllocError>
+        ensures { IfOk result (λ stage. (certs : List (List ℕ)) (first : Cover) (others : List Cover) →
+            (done : List ℕ) → AreTextsOf (first ∷ others) certs →
+            AreLemmasWritten certs first (first ∷ others) (done ++ text.old.items)
+                (lists_of self.old.numbers.items) self.old.cursors.items →
+            IsAt certs first (first ∷ others) done text.new.items (lists_of self.new.numbers.items)
+                stage self.new.cursors.items) }
+    {
+        match text.extend_from_slice(b"tree\n") {
+            Ok(()) => {}
+            Err(error) => return Err(error),
+        }
+        match Trees::new(self.alloc, self.cursors.len()) {
+            Ok(trees) => Ok(Stage::Trees(trees)),
+            Err(error) => Err(error),
+        }
     }
 
     // What follows this stage, which is over; none behind the last.
-    fn behind(&mut self, stage: Stage, text: &mut Vec<u8>) -> Result<Option<Stage>, AllocError> {
+    fn behind(&mut self, stage: Stage, text: &mut Vec<u8>) -> Result<Option<Stage>, AllocError>
+        ensures { IfOk result (λ next. (certs : List (List ℕ)) (first : Cover) (others : List Cover) →
+            (done : List ℕ) → AreTextsOf (first ∷ others) certs →
+            IsOver certs first (first ∷ others) done text.old.items
+                (lists_of self.old.numbers.items) stage self.old.cursors.items →
+            MatchOption next (IsJoinText (first ∷ others) (done ++ text.new.items))
+            (λ later. IsAt certs first (first ∷ others) done text.new.items
+                (lists_of self.new.numbers.items) later self.new.cursors.items)) }
+    {
         match stage {
-            Stage::Heads(heads) => Ok(Some(self.behind_heads(heads, text)?)),
+            Stage::Heads(heads) => some(self.behind_heads(heads, text)),
             Stage::Numbering(heads, numbering) => {
-                Ok(Some(self.behind_numbering(&heads, numbering, text)?))
+                some(self.behind_numbering(&heads, numbering, text))
             }
-            Stage::Lemmas(_) => Ok(Some(self.behind_lemmas(text)?)),
+            Stage::Lemmas(_) => some(self.behind_lemmas(text)),
             Stage::Trees(trees) => {
                 self.dropped = self.dropped || trees.dropped;
-                text.extend_from_slice(b"end\n")?;
-                Ok(Some(Stage::Ends(0, false)))
+                match text.extend_from_slice(b"end\n") {
+                    Ok(()) => Ok(Some(Stage::Ends(0, false))),
+                    Err(error) => Err(error),
+                }
             }
             Stage::Ends(part, _) if part < self.cursors.len() => {
                 Ok(Some(Stage::Ends(part + 1, false)))
@@ -189,7 +314,14 @@ impl Joiner {
     }
 
     // Goes on within the stage.
-    fn step_within(&mut self, text: &mut Vec<u8>) -> Result<Step, Unjoined> {
+    fn step_within(&mut self, text: &mut Vec<u8>) -> Result<Step, Unjoined>
+        ensures { IfOk result (λ step. (certs : List (List ℕ)) (first : Cover) (covers : List Cover) →
+            (done : List ℕ) → AreTextsOf covers certs →
+            IsAt certs first covers done text.old.items (lists_of self.old.numbers.items)
+                self.old.stage self.old.cursors.items →
+            IsAfterStep certs first covers done step text.new.items
+                (lists_of self.new.numbers.items) self.new.stage self.new.cursors.items) }
+    {
         match &mut self.stage {
             Stage::Heads(heads) => heads.step(&mut self.cursors),
             Stage::Point(part) => step_of_point(&mut self.cursors, *part, text),
@@ -198,27 +330,31 @@ impl Joiner {
             }
             Stage::Lemmas(lemmas) => lemmas.step(&mut self.cursors, &self.numbers, text),
             Stage::Trees(trees) => trees.step(&mut self.cursors, &self.numbers, text),
-            Stage::Ends(part, is_read) => match self.cursors.get_mut(*part) {
-                Some(cursor) => step_to_end(cursor, *part, is_read),
-                None => Ok(Step::Over),
-            },
+            Stage::Ends(part, is_read) => step_of_ends(&mut self.cursors, *part, is_read),
         }
     }
 
     /// Appends more of the text, or says what has to be read first.
-    pub fn step(&mut self, text: &mut Vec<u8>) -> Result<Step, Unjoined> {
-        let step = self.step_within(text)?;
-        if step != Step::Over {
-            return Ok(step);
+    pub fn step(&mut self, text: &mut Vec<u8>) -> Result<Step, Unjoined>
+        ensures { IfOk result (λ step. (certs : List (List ℕ)) (first : Cover) (others : List Cover) →
+            (done : List ℕ) → AreTextsOf (first ∷ others) certs →
+            IsJoining certs first (first ∷ others) done text.old.items self.old →
+            HasStepped certs first (first ∷ others) done step text.new.items self.new) }
+    {
+        match self.step_within(text) {
+            Ok(Step::Over) => {}
+            Ok(step) => return Ok(step),
+            Err(unjoined) => return Err(unjoined),
         }
         let all = self.cursors.len();
         let stage = mem::replace(&mut self.stage, Stage::Ends(all, true));
-        match self.behind(stage, text)? {
-            Some(stage) => {
-                self.stage = stage;
+        match self.behind(stage, text) {
+            Ok(Some(next)) => {
+                drop(mem::replace(&mut self.stage, next));
                 Ok(Step::On)
             }
-            None => Ok(Step::Over),
+            Ok(None) => Ok(Step::Over),
+            Err(_) => Err(Unjoined::Memory),
         }
     }
 }
