@@ -22,5 +22,6 @@ pub mod Spots
 pub mod Standing
 pub mod Stepping
 pub mod Walks
+pub mod Steps
 pub mod Weighs
 pub mod Yielding
