@@ -16,16 +16,12 @@ use Rattle.cert_join.specs.declared.trees.Trees.{Trees as TreesRead}
 use Rattle.cert_join.specs.Ahead.{AreBefore}
 use Rattle.cert_join.specs.Due.{Course, IsAfter, IsNextDue, IsWhole, stacked, tree_text}
 use Rattle.cert_join.specs.Heads.{ReadsHeads}
-use Rattle.cert_join.specs.Joining.{AreAtLemmas, AreAtNumbers, AreAtTrees, IsAfterStep, IsAt, IsJoinText, lines_before_tree}
+use Rattle.cert_join.specs.Joining.{AreAtLemmas, AreAtNumbers, AreAtTrees, IsAfterStep, IsAt, IsJoinText, Within}
 use Rattle.cert_join.specs.LemmasDue.{AreLemmasDue, LemmasLeft, StepsLemmas, covers_of, lemmas_due, none}
 use Rattle.cert_join.specs.Numbered.{ReadsLemmas}
 use Rattle.cert_join.specs.Spot.{Spot}
 use Rattle.cert_join.specs.Written.{behind_lemmas, text_of, written_from}
 use Rattle.cert_join.proofs.LemmasStart.{lemmas_end}
-
--- what a step comes to, where it answers one
-abbrev pub Within : List (List ℕ) → Cover → List Cover → List ℕ → Result Step Unjoined → List ℕ → List (List ℕ) → Stage → List Spot → Type 0
-Within certs first covers done r text numbers stage spots = IfOk r (λ step. IsAfterStep certs first covers done step text numbers stage spots)
 
 module _ (certs : List (List ℕ)) (first : Cover) (covers : List Cover) (done : List ℕ) (numbers : List (List ℕ)) where
   pub heads_step : (r : Result Step Unjoined) (text : List ℕ) (h : HeadsRead) (spots : List Spot) → done ++ text ≡ [] → ReadsHeads certs covers r h spots → Within certs first covers done r text numbers (Heads h) spots
@@ -64,6 +60,7 @@ module _ (certs : List (List ℕ)) (first : Cover) (covers : List Cover) (done :
     }
 
     pub lemmas_step : (r : Result Step Unjoined) (new : List ℕ) (s' : LemmasRead) (spots' : List Spot) → StepsLemmas certs numbers s s' h.left spots' old new r → Within certs first covers done r new numbers (Lemmas s') spots'
+    unfolding stay-lemmas
     lemmas_step (Err e) new s' spots' steps = tt
     lemmas_step (Ok On) new s' spots' steps = record {
       settled = h.settled;

@@ -6,7 +6,7 @@ ghost use Rattle.cert_join.specs.Gathered.{lists_of, spot_at};
 ghost use Rattle.cert_read.specs.CertLine.{cover};
 ghost use Rattle.cert_join.specs.Heads.{all_lines, head_text, AreHeadsRead};
 ghost use Rattle.cert_join.specs.Numbered.{AreNumbered};
-ghost use Rattle.cert_join.specs.Joining.{AreAtNumbers, AreLemmasWritten, HasStepped, IsAfterStep, IsAt, IsJoinText, IsJoining, IsOver, IsPiece};
+ghost use Rattle.cert_join.specs.Joining.{AreAtNumbers, AreLemmasWritten, HasStepped, IsAt, Within, IsJoinText, IsJoining, IsOver, IsPiece};
 ghost use Rattle.cert_join.specs.Written.{text_of};
 
 use crate::cursor::Cursor;
@@ -152,6 +152,29 @@ fn step_to_end(cursor: &mut Cursor, part: usize, is_read: &mut bool) -> Result<S
             Ok(Step::On)
         }
         _ => Err(apart(part, cursor)),
+    }
+}
+
+// Goes on within this stage.
+fn step_in(
+    stage: &mut Stage,
+    cursors: &mut [Cursor],
+    numbers: &[Vec<u32>],
+    text: &mut Vec<u8>,
+) -> Result<Step, Unjoined>
+    ensures { (certs : List (List ℕ)) (first : Cover) (covers : List Cover) (done : List ℕ) →
+        AreTextsOf covers certs →
+        IsAt certs first covers done text.old.items (lists_of numbers.now) stage.old cursors.old →
+        Within certs first covers done result text.new.items (lists_of numbers.now) stage.new
+            cursors.new }
+{
+    match stage {
+        Stage::Heads(heads) => heads.step(cursors),
+        Stage::Point(part) => step_of_point(cursors, *part, text),
+        Stage::Numbering(heads, numbering) => numbering.step(cursors, &heads.counts),
+        Stage::Lemmas(lemmas) => lemmas.step(cursors, numbers, text),
+        Stage::Trees(trees) => trees.step(cursors, numbers, text),
+        Stage::Ends(part, is_read) => step_of_ends(cursors, *part, is_read),
     }
 }
 
@@ -315,23 +338,15 @@ impl Joiner {
 
     // Goes on within the stage.
     fn step_within(&mut self, text: &mut Vec<u8>) -> Result<Step, Unjoined>
-        ensures { IfOk result (λ step. (certs : List (List ℕ)) (first : Cover) (covers : List Cover) →
+        ensures same { self.new.numbers ≡ self.old.numbers }
+        ensures steps { (certs : List (List ℕ)) (first : Cover) (covers : List Cover) →
             (done : List ℕ) → AreTextsOf covers certs →
             IsAt certs first covers done text.old.items (lists_of self.old.numbers.items)
                 self.old.stage self.old.cursors.items →
-            IsAfterStep certs first covers done step text.new.items
-                (lists_of self.new.numbers.items) self.new.stage self.new.cursors.items) }
+            Within certs first covers done result text.new.items
+                (lists_of self.new.numbers.items) self.new.stage self.new.cursors.items }
     {
-        match &mut self.stage {
-            Stage::Heads(heads) => heads.step(&mut self.cursors),
-            Stage::Point(part) => step_of_point(&mut self.cursors, *part, text),
-            Stage::Numbering(heads, numbering) => {
-                numbering.step(&mut self.cursors, &heads.counts)
-            }
-            Stage::Lemmas(lemmas) => lemmas.step(&mut self.cursors, &self.numbers, text),
-            Stage::Trees(trees) => trees.step(&mut self.cursors, &self.numbers, text),
-            Stage::Ends(part, is_read) => step_of_ends(&mut self.cursors, *part, is_read),
-        }
+        step_in(&mut self.stage, &mut self.cursors, &self.numbers, text)
     }
 
     /// Appends more of the text, or says what has to be read first.
