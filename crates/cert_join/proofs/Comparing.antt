@@ -9,7 +9,7 @@ use Rattle.cert_joined.specs.Joined.{first_line}
 use Rattle.cert_joined.specs.Covers.{Arity, arity, IsShaped}
 use Rattle.cert_join.specs.Kinds.{rule_text}
 use Rattle.cert_join.specs.Spot.{Spot, IsBefore, IsReady, line_in}
-use Rattle.cert_join.specs.Gathered.{spot_at, is_in, AreDistinct, Stand, AllReady, Passed, PassedIf, ArePassed, Meeting, parts_of, does_leave, going, leaving, IsNextOf, AreNext}
+use Rattle.cert_join.specs.Gathered.{spot_at, is_in, AreDistinct, Stand, AllReady, AllThere, Passed, PassedIf, ArePassed, Meeting, parts_of, does_leave, going, leaving, IsNextOf, AreNext}
 use Rattle.cert_join.specs.Due.{rule_texts, AreSpelled, AreTreesOf, due_behind, lines_at, lines_due, IsMeeting, Yields, Course, IsWhole, IsDue, IsDueBehind, IsHere, AllGo, AllLeave}
 use Rattle.cert_join.proofs.Meetings.{AheadIf, stand_passed, ahead_before, next_known, AllShaped, AllSpelled, ahead_going, cut_first, first_spelled, lines_behind, none_leaving, not_there, or_parts}
 use Rattle.cert_join.proofs.Yielding.{yields_going, yields_one, all_go, all_leave}
@@ -161,6 +161,14 @@ module _ (k : Course) (now : List ℕ) (parts : List (List ℕ)) (text : List �
       let Q : List ℕ → Type 0 = λ z. (n : IsHere k z parts text t) × AllGo (n.first ∷ n.others) in
       let some' : 0 < length (going whole) = omega (arith, ap length e, length-map {A = ℕ × Tree} {B = ℕ} (going whole) (λ (x : ℕ × Tree). x.0)) in
       subst Q (sym e) (here-going (going whole) refl some' (subst P f passed (distinct-leaving whole h.met.distinct)))
+
+  pub going_there : (grown left : List ℕ) → grown ≡ parts_of (going (h.first ∷ h.others)) → left ≡ parts_of (leaving (h.first ∷ h.others)) → (AreDistinct left → ArePassed left s t) → AllThere now s → AllThere grown t
+  going_there grown left e f passed there i q =
+      let whole : Meeting = h.first ∷ h.others in
+      let P : List ℕ → Type 0 = λ z. AreDistinct z → ArePassed z s t in
+      let c = subst P f passed (distinct-leaving whole h.met.distinct) in
+      let n : i < length s = there i (ap (is_in i) (sym h.here) ∙ gone-in i whole (ap (is_in i) (sym e) ∙ q)) in
+      omega (arith, c.count)
 
   -- none goes on
   pub leaving_here : (grown : List ℕ) → grown ≡ parts_of (going (h.first ∷ h.others)) → length grown ≡ 0 → AllLeave (h.first ∷ h.others)

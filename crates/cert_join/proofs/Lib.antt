@@ -2,6 +2,7 @@ pub mod Below
 pub mod Choices
 pub mod Comparing
 pub mod Copying
+pub mod Differing
 pub mod Drafts
 pub mod LemmaLines
 pub mod LemmasAll

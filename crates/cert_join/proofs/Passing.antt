@@ -3,7 +3,7 @@ use Rattle.std.proofs.Common.{◌≡◌, ◌≢◌, ◌<◌, ◌≤◌, ◌⊎�
 use Rattle.std.proofs.lemmas.Bool.{eqb-true, eq-eqb, ne_eqb, cases_eq, both_ways}
 use Rattle.std.proofs.lemmas.List.{get_or_default, take_all, take_more}
 use Rattle.cert_join.specs.Spot.{Spot, IsBefore, IsReady, line_in}
-use Rattle.cert_join.specs.Gathered.{spot_at, nowhere, is_in, AreDistinct, Stand, AllReady, AreResized, Passed, PassedIf, ArePassed}
+use Rattle.cert_join.specs.Gathered.{spot_at, nowhere, is_in, AreDistinct, Stand, AllReady, AllThere, AreResized, Passed, PassedIf, ArePassed}
 
 -- ---- one of them is replaced
 
@@ -156,3 +156,16 @@ ready_all parts k b h r = let P : List ℕ → Type 0 = λ x. AllReady x b in su
 
 pub passed_all : (parts : List ℕ) (k : ℕ) (a b : List Spot) → length parts ≤ k → ArePassed (take k parts) a b → ArePassed parts a b
 passed_all parts k a b h r = let P : List ℕ → Type 0 = λ x. ArePassed x a b in subst P (take_all k parts h) r
+
+pub there_none : (spots : List Spot) → AllThere [] spots
+there_none spots i e = absurd (both_ways false refl e)
+
+-- one more is there
+pub there_more : (parts : List ℕ) (k : ℕ) (spots : List Spot) → k < length parts → get_or parts k 0 < length spots → AllThere (take k parts) spots → AllThere (take (k + 1) parts) spots
+there_more parts k spots h n was i m = elim (cases_eq i (get_or parts k 0)) [
+    inl q ↦ let P : ℕ → Type 0 = λ j. j < length spots in subst P (sym q) n
+  | inr ne ↦ was i (sym (or-none' _ _ (ne_eqb i _ ne)) ∙ sym (ap (is_in i) (take_more parts k 0 h) ∙ in_more i (get_or parts k 0) (take k parts)) ∙ m)
+]
+
+pub there_all : (parts : List ℕ) (k : ℕ) (spots : List Spot) → length parts ≤ k → AllThere (take k parts) spots → AllThere parts spots
+there_all parts k spots h r = let P : List ℕ → Type 0 = λ x. AllThere x spots in subst P (take_all k parts h) r

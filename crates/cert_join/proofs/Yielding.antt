@@ -32,22 +32,22 @@ arity_by f (case j) = refl
 arity_by f open_line = refl
 arity_by f (stuck j) = refl
 
-leaving-by : (f : ℕ → ℕ) (l : Line) → leaves (line_by f l) ≡ leaves l
-leaving-by f (ban j i) = refl
-leaving-by f (by i) = refl
-leaving-by f (pull j) = refl
-leaving-by f (unit j) = refl
-leaving-by f (void j) = refl
-leaving-by f (push j) = refl
-leaving-by f (void_no j) = refl
-leaving-by f (combine ms) = refl
-leaving-by f (void_combine ms) = refl
-leaving-by f make_false = refl
-leaving-by f (cut axis c) = refl
-leaving-by f (flip axis) = refl
-leaving-by f (case j) = refl
-leaving-by f open_line = refl
-leaving-by f (stuck j) = refl
+pub leaves_by : (f : ℕ → ℕ) (l : Line) → leaves (line_by f l) ≡ leaves l
+leaves_by f (ban j i) = refl
+leaves_by f (by i) = refl
+leaves_by f (pull j) = refl
+leaves_by f (unit j) = refl
+leaves_by f (void j) = refl
+leaves_by f (push j) = refl
+leaves_by f (void_no j) = refl
+leaves_by f (combine ms) = refl
+leaves_by f (void_combine ms) = refl
+leaves_by f make_false = refl
+leaves_by f (cut axis c) = refl
+leaves_by f (flip axis) = refl
+leaves_by f (case j) = refl
+leaves_by f open_line = refl
+leaves_by f (stuck j) = refl
 
 renumbered-append : (f : ℕ → ℕ) (xs ys : List Line) → map (λ (l : Line). rule_text (line_by f l)) (xs ++ ys) ≡ map (λ (l : Line). rule_text (line_by f l)) xs ++ map (λ (l : Line). rule_text (line_by f l)) ys
 renumbered-append f [] ys = refl
@@ -79,7 +79,7 @@ not-at-once l a true e ne q = absurd (ne (sym (leaving_ends l q) ∙ e))
 not-at-once l a false e ne q = refl
 
 at-once : (f : ℕ → ℕ) (t : Tree) → IsShaped t → leaves_at_once (tree_by f t) ≡ leaves (first_line t)
-at-once f (leaf l) s = leaving-by f l
+at-once f (leaf l) s = leaves_by f l
 at-once f (then l t) s = not-at-once l goes_on (leaves l) s.0 (λ e. cc) refl
 at-once f (fork l t u) s = not-at-once l splits (leaves l) s.0 (λ e. cc) refl
 
