@@ -16,6 +16,7 @@ pub mod Sorting
 pub mod Spaced
 pub mod Spots
 pub mod Standing
+pub mod Starting
 pub mod Stepping
 pub mod Weighs
 pub mod Yielding

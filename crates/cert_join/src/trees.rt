@@ -7,7 +7,7 @@ ghost use Rattle.cert_read.specs.LineText.{IsSpelled};
 ghost use Rattle.cert_join.specs.Kinds.{left_kind, rule_text};
 ghost use Rattle.cert_join.specs.Spot.{Spot, line_in};
 ghost use Rattle.cert_join.specs.declared.trees.Task.TheVariants as task;
-ghost use Rattle.cert_join.specs.Due.{AllGo, AllLeave, AreTaken, Course, IsAfter, IsCopying, IsDue, IsDueBehind, IsDueWeighed, IsHere, IsNextDue, stacked, with_behind};
+ghost use Rattle.cert_join.specs.Due.{AllGo, AllLeave, AreTaken, Course, IsAfter, IsCopying, IsDue, IsDueBehind, IsDueWeighed, IsHere, IsNextDue, IsStart, stacked, with_behind};
 ghost use Rattle.cert_join.specs.Gathered.{AllReady, AllThere, AreAlike, AreDistinct, AreNext, ArePassed, AreResized, Meeting, going, leaving, lists_of, parts_of, spot_at, text_at};
 
 use crate::cursor::Cursor;
@@ -284,7 +284,11 @@ fn copying(part: usize, waiting: u64) -> Task
 
 impl Trees {
     /// All certificates, of which there are so many, have a tree at the first place.
-    pub fn new(alloc: Global, count: usize) -> Result<Self, AllocError> {
+    pub fn new(alloc: Global, count: usize) -> Result<Self, AllocError>
+        ensures { IfOk result (λ t. (k : Course) (ts : List Tree) (text : List ℕ) (spots : List Spot) →
+            IsStart k ts count text spots →
+            IsNextDue k t.task (stacked t.places.items) text spots) }
+    {
         let mut all: Vec<usize> = Vec::new(alloc);
         for part in 0..count {
             all.push(part)?;
