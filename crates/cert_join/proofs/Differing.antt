@@ -102,14 +102,17 @@ are-ahead : (behind : ℕ → List (List ℕ)) (lines : List (List (List ℕ))) 
     ((i : ℕ) → is_in i (parts_of place) ≡ true → slice_get lines i ≡ Some (lines_at i place ++ behind i)) → AreAhead lines (branches behind place)
 unfolding branches branch
 are-ahead behind lines [] d shaped spelled h = tt
-are-ahead behind lines (x ∷ place) d shaped spelled h =
-    ( ( h x.0 (ap (λ b. b || is_in x.0 (parts_of place)) (eq-eqb x.0 x.0 refl)) ∙ ap (λ b. Some (cond b (rule_texts (tree_lines x.1)) (lines_at x.0 place) ++ behind x.0)) (eq-eqb x.0 x.0 refl)
-          ∙ ap (λ z. Some (z ++ behind x.0)) (sym (texts_same (tree_lines x.1)))
-      , (shaped.0, spelled-same (tree_lines x.1) spelled.0) )
-    , are-ahead behind lines place d.1 shaped.1 spelled.1
-        (λ i q.
-          let ne : nat_eq i x.0 ≡ false = ne_eqb i x.0 (λ e. both_ways _ d.0 (ap (λ j. is_in j (parts_of place)) (sym e) ∙ q)) in
-          h i (ap (λ b. b || is_in i (parts_of place)) ne ∙ q) ∙ ap (λ b. Some (cond b (rule_texts (tree_lines x.1)) (lines_at i place) ++ behind i)) ne) )
+are-ahead behind lines (x ∷ place) d shaped spelled h = (
+  (
+    h x.0 (ap (λ b. b || is_in x.0 (parts_of place)) (eq-eqb x.0 x.0 refl)) ∙ ap (λ b. Some (cond b (rule_texts (tree_lines x.1)) (lines_at x.0 place) ++ behind x.0)) (eq-eqb x.0 x.0 refl)
+        ∙ ap (λ z. Some (z ++ behind x.0)) (sym (texts_same (tree_lines x.1))),
+    (shaped.0, spelled-same (tree_lines x.1) spelled.0),
+  ),
+  are-ahead behind lines place d.1 shaped.1 spelled.1
+      (λ i q.
+      let ne : nat_eq i x.0 ≡ false = ne_eqb i x.0 (λ e. both_ways _ d.0 (ap (λ j. is_in j (parts_of place)) (sym e) ∙ q)) in
+      h i (ap (λ b. b || is_in i (parts_of place)) ne ∙ q) ∙ ap (λ b. Some (cond b (rule_texts (tree_lines x.1)) (lines_at i place) ++ behind i)) ne),
+)
 
 -- ---- the one that is taken
 
@@ -158,7 +161,7 @@ at-branch : (behind : ℕ → List (List ℕ)) (ends : List (List (List ℕ))) (
 unfolding branches branch
 at-branch behind ends i [] h q = absurd (both_ways false refl q)
 at-branch behind ends i (x ∷ place) h q = elim (cases_Bool (nat_eq i x.0)) [
-    inl e ↦ let P : ℕ → Type 0 = λ j. slice_get ends j ≡ Some (behind j) in subst P (sym (eqb-true i x.0 e)) h.0
+  | inl e ↦ let P : ℕ → Type 0 = λ j. slice_get ends j ≡ Some (behind j) in subst P (sym (eqb-true i x.0 e)) h.0
   | inr e ↦ at-branch behind ends i place h.1 (sym (ap (λ b. b || is_in i (parts_of place)) e) ∙ q)
 ]
 
@@ -168,9 +171,10 @@ none-at i (x ∷ place) e = let r = or_parts (nat_eq i x.0) (is_in i (parts_of p
 
 all-there : (behind : ℕ → List (List ℕ)) (n : ℕ) (place : Meeting) → ((i : ℕ) → is_in i (parts_of place) ≡ true → i < n) → AllByRecursion (λ (x : ℕ × Tree). x.0 < n) place
 all-there behind n [] h = tt
-all-there behind n (x ∷ place) h =
-    ( h x.0 (ap (λ b. b || is_in x.0 (parts_of place)) (eq-eqb x.0 x.0 refl))
-    , all-there behind n place (λ i q. h i (elim (cases_Bool (nat_eq i x.0)) [ inl e ↦ ap (λ b. b || is_in i (parts_of place)) e | inr e ↦ ap (λ b. b || is_in i (parts_of place)) e ∙ q ])) )
+all-there behind n (x ∷ place) h = (
+  h x.0 (ap (λ b. b || is_in x.0 (parts_of place)) (eq-eqb x.0 x.0 refl)),
+  all-there behind n place (λ i q. h i (elim (cases_Bool (nat_eq i x.0)) [ inl e ↦ ap (λ b. b || is_in i (parts_of place)) e | inr e ↦ ap (λ b. b || is_in i (parts_of place)) e ∙ q ])),
+)
 
 all-refl : (behind : ℕ → List (List ℕ)) (place : Meeting) → AllByRecursion (λ (x : ℕ × Tree). (branch behind x).behind ≡ behind (branch behind x).part) place
 unfolding branch
@@ -194,7 +198,7 @@ there-of behind n place h = h
 module _ (k : Course) (now : List ℕ) (parts : List (List ℕ)) (text : List ℕ) (s : List Spot) (w : Weighing) (h : IsHere k now parts text s) (go : AllGo (h.first ∷ h.others)) (unlike : AreAlike k.numbers h.first h.others → ⊥)
     (there : (i : ℕ) → is_in i now ≡ true → i < length s)
     (new : (certs : List (List ℕ)) (lines : List (List (List ℕ))) (spots : List Spot) (b : Branch) (more : List Branch) → now ≡ map (λ (c : Branch). c.part) (b ∷ more) → AreBefore certs lines spots → AreAhead lines (b ∷ more) → AreApart (b ∷ more) →
-        IsWeighing certs (first_closing b (b ∷ more)) (passed (b ∷ more) lines) w spots) where
+    IsWeighing certs (first_closing b (b ∷ more)) (passed (b ∷ more) lines) w spots) where
   behind : ℕ → List (List ℕ)
   behind i = lines_due i h.due ++ k.rest i
 
@@ -226,7 +230,7 @@ module _ (k : Course) (now : List ℕ) (parts : List (List ℕ)) (text : List �
 
   ends-at : (i : ℕ) → i < length s → get_or (passed (branches behind (h.first ∷ h.others)) lines-now) i [] ≡ behind i
   ends-at i n = get-of (passed (branches behind (h.first ∷ h.others)) lines-now) i (behind i) [] (elim (cases_Bool (is_in i (parts_of (h.first ∷ h.others)))) [
-      inl e ↦ at-branch behind _ i (h.first ∷ h.others) (passed_at (branches behind (h.first ∷ h.others)) lines-now ahead-now apart-now) e
+    | inl e ↦ at-branch behind _ i (h.first ∷ h.others) (passed_at (branches behind (h.first ∷ h.others)) lines-now ahead-now apart-now) e
     | inr e ↦ passed_other (branches behind (h.first ∷ h.others)) lines-now i (other-all behind i (h.first ∷ h.others) e) ∙ line-at i n ∙ ap (λ z. Some (z ++ behind i)) (none-at i (h.first ∷ h.others) e)
   ])
 
@@ -242,7 +246,7 @@ module _ (k : Course) (now : List ℕ) (parts : List (List ℕ)) (text : List �
       let e : going_on (trees_at k.numbers (h.first ∷ h.others)) ≡ t ∷ ts = trees_going k.numbers (h.first ∷ h.others) h.met.shaped ∙ ap (trees_at k.numbers) (going_same (h.first ∷ h.others) go) in
       let P : List ℕ → Type 0 = λ z. IsWhole k (text ++ (z ++ out)) in
       let q : tree_text (first_closed t (t ∷ ts)) ≡ text_by (numbers_at k.numbers one-taken.part) (tree_lines one-taken.tree) =
-          ap tree_text taken-tree ∙ tree_text_by (numbers_at k.numbers one-taken.part) one-taken.tree in
+      ap tree_text taken-tree ∙ tree_text_by (numbers_at k.numbers one-taken.part) one-taken.tree in
       subst P q (h.whole _ (first_closed t (t ∷ ts), out, differ t ts (trees_at k.numbers (h.first ∷ h.others)) e (λ same. unlike (alike-trees k.numbers h.first h.others same)), y, refl))
 
   weighing-now : IsWeighing (tabulate k.cert (length s)) one-taken (passed (branches behind (h.first ∷ h.others)) lines-now) w s
@@ -274,9 +278,20 @@ module _ (k : Course) (now : List ℕ) (parts : List (List ℕ)) (text : List �
 -- one more line was gone through
 pub weighed_on : (k : Course) (w w' : Weighing) (parts : List (List ℕ)) (text : List ℕ) (s t : List Spot) → (d : IsDueWeighed k w parts text s) → length t ≡ length s → IsWeighing d.certs d.taken d.ends w' t → IsDueWeighed k w' parts text t
 weighed_on k w w' parts text s t d e weighing = record {
-  certs = d.certs; ends = d.ends; taken = d.taken; due = d.due; weighing = weighing;
-  certs_are = λ i n. d.certs_are i (omega arith); ends_are = λ i n. d.ends_are i (omega arith);
-  behind = d.behind; shaped = d.shaped; spelled = d.spelled; there = let m : d.taken.part < length s = d.there in omega arith; places = d.places; good = d.good; whole = d.whole;
+  certs = d.certs;
+  ends = d.ends;
+  taken = d.taken;
+  due = d.due;
+  weighing = weighing;
+  certs_are = λ i n. d.certs_are i (omega arith);
+  ends_are = λ i n. d.ends_are i (omega arith);
+  behind = d.behind;
+  shaped = d.shaped;
+  spelled = d.spelled;
+  there = let m : d.taken.part < length s = d.there in omega arith;
+  places = d.places;
+  good = d.good;
+  whole = d.whole;
 }
 
 -- all were, and the certificate of the one that is taken stands before it again
@@ -291,18 +306,18 @@ weighed_over k w w' parts text s t part m d e all marked =
     let D : List (List ℕ) → Type 0 = λ z. IsBefore (k.cert p) z (rewound m) in
     let here : B true p (rewound m) = subst D (ap (λ z. z ++ d.taken.behind) (texts_same ls) ∙ ap (λ z. rule_texts ls ++ z) d.behind) (subst C (d.certs_are p d.there) marked.1) in
     let stand : Stand k.cert (λ i. cond (nat_eq i p) (rule_texts ls) [] ++ (lines_due i d.due ++ k.rest i)) (set t p (rewound m)) = λ i l. elim (cases_eq i p) [
-        inl q ↦ let R : ℕ → Type 0 = λ j. B (nat_eq j p) j (spot_at (set t p (rewound m)) j) in
-            let Q : Bool → Type 0 = λ b. B b p (spot_at (set t p (rewound m)) p) in
-            let S : Spot → Type 0 = λ x. B true p x in
-            subst R (sym q) (subst Q (sym (eq-eqb p p refl)) (subst S (sym (spot_same t p (rewound m) n)) here))
+      | inl q ↦ let R : ℕ → Type 0 = λ j. B (nat_eq j p) j (spot_at (set t p (rewound m)) j) in
+          let Q : Bool → Type 0 = λ b. B b p (spot_at (set t p (rewound m)) p) in
+          let S : Spot → Type 0 = λ x. B true p x in
+          subst R (sym q) (subst Q (sym (eq-eqb p p refl)) (subst S (sym (spot_same t p (rewound m) n)) here))
       | inr ne ↦
-            let l' : i < length t = omega (arith, length-set t p (rewound m)) in
-            let l'' : i < length s = omega arith in
-            let Q : Bool → Type 0 = λ b. B b i (spot_at (set t p (rewound m)) i) in
-            let S : Spot → Type 0 = λ x. B false i x in
-            let E : List ℕ → Type 0 = λ z. IsBefore z (lines_due i d.due ++ k.rest i) (spot_at t i) in
-            let F : List (List ℕ) → Type 0 = λ z. IsBefore (get_or d.certs i []) z (spot_at t i) in
-            subst Q (sym (ne_eqb i p ne)) (subst S (sym (spot_other t p i (rewound m) ne)) (subst E (d.certs_are i l'') (subst F (d.ends_are i l'') (before-at d.certs d.ends t i l' all.before))))
+          let l' : i < length t = omega (arith, length-set t p (rewound m)) in
+          let l'' : i < length s = omega arith in
+          let Q : Bool → Type 0 = λ b. B b i (spot_at (set t p (rewound m)) i) in
+          let S : Spot → Type 0 = λ x. B false i x in
+          let E : List ℕ → Type 0 = λ z. IsBefore z (lines_due i d.due ++ k.rest i) (spot_at t i) in
+          let F : List (List ℕ) → Type 0 = λ z. IsBefore (get_or d.certs i []) z (spot_at t i) in
+          subst Q (sym (ne_eqb i p ne)) (subst S (sym (spot_other t p i (rewound m) ne)) (subst E (d.certs_are i l'') (subst F (d.ends_are i l'') (before-at d.certs d.ends t i l' all.before))))
     ] in
     let P : ℕ → Type 0 = λ j. IsDueBehind k j 1 parts text (set t j (rewound m)) in
     subst P (sym marked.0) (record { lines = ls; trees = one_tree d.taken.tree d.shaped; spelled = d.spelled; due = d.due; places = d.places; good = d.good; stand = stand; whole = d.whole })

@@ -44,12 +44,15 @@ start_due k ts text spots count parts e s =
     record {
       due = all_from 0 ts ∷ [];
       places = ap (λ z. z ∷ []) (parts-from 0 ts ∙ ap (numbers_from 0) s.all) ∙ sym e;
-      good = (record {
+      good = (
+        record {
           some = omega (arith, length-from 0 ts, s.some);
           distinct = subst D (sym (parts-from 0 ts)) (distinct-from 0 (length ts));
           shaped = shaped-from 0 ts s.shaped;
           spelled = spelled-from 0 ts s.spelled;
-        }, tt);
+        },
+        tt,
+      );
       stand = s.stand;
       whole = λ out y.
           let J : List Tree → Type 0 = λ z. Joins z y.0 in

@@ -166,7 +166,7 @@ fn are_alike(
     ensures { IfOk result (λ b. (x : ℕ × Tree) (place : Meeting) → x.0 ≡ first →
         parts_of place ≡ others.now → AreNext cursors.now (x ∷ place) →
         MatchBool b (AreAlike (lists_of numbers.now) x place)
-            (AreAlike (lists_of numbers.now) x place → ⊥)) }
+        (AreAlike (lists_of numbers.now) x place → ⊥)) }
 {
     let mut line: Vec<u8> = Vec::new(alloc);
     append_at(cursors, numbers, first, &mut line)?;

@@ -11,7 +11,7 @@ pub loop-part-preserved : goal.loop-part-preserved
 loop-part-preserved c = record {
   there = there_more _ _ _ c.loop-part-test.true c.in-Some.ensures.0 c.loop-part.invariant.there;
   sides = λ place e next. elim c.if-stays.branch [
-      then-stays+in_ok-push w ↦
+    | then-stays+in_ok-push w ↦
         let m = sorted_left place _ _ _ _ c.loop-part-test.true e next c.in-Some.ensures.0 c.in-Some.ensures.1 _ _ (c.loop-part.invariant.sides place e next) (sym c.stays.ensures ∙ w.if-stays.true) in
         (ap (λ (v : Vec ℕ Global). v.items) w.grown-is ∙ m.0, ap (λ (v : Vec ℕ Global). v.items) w.left-is ∙ w.in_ok-push.ensures.items ∙ m.1)
     | else-stays+in_ok-push-2 w ↦
