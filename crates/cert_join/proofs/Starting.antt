@@ -1,5 +1,5 @@
 -- What is due at the start: the trees of all certificates, at one place.
-use Rattle.std.proofs.Common.{◌≡◌, ◌<◌, ◌≤◌, ℕ, suc, zero, ◌+◌, List, [], ◌∷◌, ◌++◌, length, map, Bool, true, false, ◌||◌, Vec, nat_eq, refl, sym, ap, subst, ◌∙◌, arith}
+use Rattle.std.proofs.Common.{◌≡◌, ◌<◌, ◌≤◌, ℕ, suc, zero, ◌+◌, List, [], ◌∷◌, ◌++◌, length, map, Bool, true, false, ◌||◌, Vec, nat_eq, refl, sym, ap, subst, ◌∙◌, append_assoc, arith}
 use Rattle.std.specs.List.{AllByRecursion}
 use Rattle.std.proofs.lemmas.Bool.{ne_eqb}
 use Rattle.std.proofs.lemmas.List.{append-nil}
@@ -57,7 +57,7 @@ start_due k ts text spots count parts e s =
       whole = λ out y.
           let J : List Tree → Type 0 = λ z. Joins z y.0 in
           let q : out ≡ tree_text y.0 = y.4 ∙ ap (λ z. tree_text y.0 ++ z) y.3 ∙ append-nil (tree_text y.0) in
-          (y.0, subst J (sym s.trees) y.2, ap (λ z. z ++ out) (sym s.front) ∙ ap (λ z. k.front ++ z) q);
+          (y.0, subst J (sym s.trees) y.2, sym (append_assoc k.done text out) ∙ ap (λ z. z ++ out) (sym s.front) ∙ ap (λ z. k.front ++ z) q);
     }
 
 pub one_stacked : {Z : Type 0} (vs : List (Vec ℕ Z)) (v : Vec ℕ Z) → vs ≡ v ∷ [] → stacked vs ≡ v.items ∷ []

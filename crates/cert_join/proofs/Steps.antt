@@ -81,15 +81,19 @@ module _ (certs : List (List ℕ)) (first : Cover) (covers : List Cover) (done :
 
   -- ---- trees
 
-  pub trees_step : (old : List ℕ) (t : TreesRead) (spots : List Spot) (h : AreAtTrees certs first covers done old numbers t spots) (r : Result Step Unjoined) (new : List ℕ) (t' : TreesRead) (spots' : List Spot) →
-      IfOk r (λ step. IsAfter h.course step t'.task (stacked t'.places.items) new spots') → Within certs first covers done r new numbers (Trees t') spots'
-  trees_step old t spots h (Err e) new t' spots' after = tt
-  trees_step old t spots h (Ok Over) new t' spots' after =
+  trees-after : (old : List ℕ) (t : TreesRead) (spots : List Spot) (h : AreAtTrees certs first covers done old numbers t spots) (step : Step) (new : List ℕ) (t' : TreesRead) (spots' : List Spot) →
+      IsAfter h.course step t'.task (stacked t'.places.items) new spots' → IsAfterStep certs first covers done step new numbers (Trees t') spots'
+  trees-after old t spots h Over new t' spots' after =
       let w = after.0 in
       let same : done ++ new ≡ h.course.done ++ new = ap (λ (x : List ℕ). x ++ new) (sym h.is.done_is) in
       (h.settled, (w.0, subst (λ (ts : List Tree). Joins ts w.0) h.is.trees_are w.1, same ∙ w.2 ∙ ap (λ (x : List ℕ). x ++ tree_text w.0) h.is.front_is))
-  trees_step old t spots h (Ok On) new t' spots' after = record { settled = h.settled; course = h.course; is = h.is; due = after }
-  trees_step old t spots h (Ok (Read part)) new t' spots' after = record { settled = h.settled; course = h.course; is = h.is; due = after }
+  trees-after old t spots h On new t' spots' after = record { settled = h.settled; course = h.course; is = h.is; due = after }
+  trees-after old t spots h (Read part) new t' spots' after = record { settled = h.settled; course = h.course; is = h.is; due = after }
+
+  pub trees_step : (old : List ℕ) (t : TreesRead) (spots : List Spot) (h : AreAtTrees certs first covers done old numbers t spots) (r : Result Step Unjoined) (new : List ℕ) (t' : TreesRead) (spots' : List Spot) →
+      IfOk r (λ step. (k : Course) → k.numbers ≡ numbers → IsNextDue k t.task (stacked t.places.items) old spots → IsAfter k step t'.task (stacked t'.places.items) new spots') → Within certs first covers done r new numbers (Trees t') spots'
+  trees_step old t spots h (Err e) new t' spots' steps = tt
+  trees_step old t spots h (Ok step) new t' spots' steps = trees-after old t spots h step new t' spots' (steps h.course h.is.numbers_are h.due)
 
 -- ---- behind a stage
 

@@ -124,7 +124,7 @@ pub record IsStart (k : Course) (ts : List Tree) (count : ℕ) (text : List ℕ)
   pub shaped : AllByRecursion IsShaped ts
   pub spelled : AllByRecursion (λ (t : Tree). AreSpelled (tree_lines t)) ts
   pub trees : k.trees ≡ trees_at k.numbers (all_from 0 ts)
-  pub front : k.front ≡ text
+  pub front : k.front ≡ k.done ++ text
   pub stand : Stand k.cert (λ i. lines_due i (all_from 0 ts ∷ []) ++ k.rest i) spots
 
 -- ---- what is due

@@ -32,4 +32,7 @@ returns-in-Point c = λ certs first covers done texts at.
     absurd (subst (λ (s : Stage). IsAt certs first covers done c.args.text.now.items (lists_of c.args.numbers.now) s c.args.cursors.now) c.in-Point.is at)
 
 pub returns-in-Trees : goal.returns-in-Trees
-returns-in-Trees c = ?
+returns-in-Trees c = λ certs first covers done texts at.
+    let here = subst (λ (s : Stage). IsAt certs first covers done c.args.text.now.items (lists_of c.args.numbers.now) s c.args.cursors.now) c.in-Trees.is at in
+    trees_step certs first covers done (lists_of c.args.numbers.now) c.args.text.now.items c.in-Trees.trees c.args.cursors.now here c.step-in-Trees.result c.step-in-Trees.new.text.items c.step-in-Trees.new.self c.step-in-Trees.new.cursors
+    c.step-in-Trees.ensures
