@@ -1,5 +1,5 @@
 -- What is due at the start: the trees of all certificates, at one place.
-use Rattle.std.proofs.Common.{◌≡◌, ◌<◌, ◌≤◌, ℕ, suc, zero, ◌+◌, List, [], ◌∷◌, ◌++◌, length, map, Bool, true, false, ◌||◌, Vec, nat_eq, refl, sym, ap, subst, ◌∙◌, arith}
+use Rattle.std.proofs.Common.{◌≡◌, ◌<◌, ℕ, suc, zero, ◌+◌, List, [], ◌∷◌, ◌++◌, length, false, ◌||◌, Vec, refl, sym, ap, subst, ◌∙◌, arith}
 use Rattle.std.specs.List.{AllByRecursion}
 use Rattle.std.proofs.lemmas.Bool.{ne_eqb}
 use Rattle.std.proofs.lemmas.List.{append-nil}
@@ -7,8 +7,8 @@ use Rattle.cover_model.specs.Derivation.{Tree, tree_lines}
 use Rattle.cert_joined.specs.Joined.{Joins}
 use Rattle.cert_joined.specs.Covers.{IsShaped}
 use Rattle.cert_join.specs.Spot.{Spot}
-use Rattle.cert_join.specs.Gathered.{is_in, AreDistinct, Stand, Meeting, parts_of}
-use Rattle.cert_join.specs.Due.{AreSpelled, tree_text, lines_due, IsMeeting, trees_at, Yields, Course, IsWhole, IsDue, IsStart, all_from, numbers_from, stacked}
+use Rattle.cert_join.specs.Gathered.{is_in, AreDistinct, parts_of}
+use Rattle.cert_join.specs.Due.{AreSpelled, tree_text, Course, IsDue, IsStart, all_from, numbers_from, stacked}
 
 pub numbers_more : (i n : ℕ) → numbers_from i (suc n) ≡ numbers_from i n ++ ((i + n) ∷ [])
 numbers_more i zero = let e : i ≡ i + 0 = omega arith in ap (λ z. z ∷ []) e
