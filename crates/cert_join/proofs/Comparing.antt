@@ -1,17 +1,17 @@
 -- Trees at one place are sorted by what their first lines leave.
-use Rattle.std.proofs.Common.{◌≡◌, ◌<◌, ◌≤◌, ℕ, suc, zero, ◌+◌, List, [], ◌∷◌, ◌++◌, length, map, get_or, Bool, true, false, cond, ◌||◌, Some, nat_eq, inl, inr, refl, sym, ap, subst, ◌∙◌, arith, append_assoc}
+use Rattle.std.proofs.Common.{◌≡◌, ◌<◌, ℕ, suc, List, [], ◌∷◌, ◌++◌, length, map, Bool, true, false, cond, ◌||◌, nat_eq, inl, inr, refl, sym, ap, subst, ◌∙◌, arith, append_assoc}
 use Rattle.std.specs.List.{AllByRecursion}
-use Rattle.std.proofs.lemmas.Bool.{eqb-true, ne_eqb, both_ways, eq-eqb, cases_Bool}
+use Rattle.std.proofs.lemmas.Bool.{ne_eqb, both_ways, eq-eqb, cases_Bool}
 use Rattle.std.proofs.lemmas.List.{append-nil, length-map}
 use Rattle.cover_model.specs.Rules.{Line}
 use Rattle.cover_model.specs.Derivation.{Tree, leaf, then, fork, tree_lines}
 use Rattle.cert_joined.specs.Joined.{first_line}
-use Rattle.cert_joined.specs.Covers.{Arity, arity, IsShaped}
+use Rattle.cert_joined.specs.Covers.{arity, IsShaped}
 use Rattle.cert_join.specs.Kinds.{rule_text}
-use Rattle.cert_join.specs.Spot.{Spot, IsBefore, IsReady, line_in}
-use Rattle.cert_join.specs.Gathered.{spot_at, is_in, AreDistinct, Stand, AllReady, AllThere, Passed, PassedIf, ArePassed, Meeting, parts_of, does_leave, going, leaving, IsNextOf, AreNext}
-use Rattle.cert_join.specs.Due.{rule_texts, AreSpelled, AreTreesOf, due_behind, lines_at, lines_due, IsMeeting, Yields, Course, IsWhole, IsDue, IsDueBehind, IsHere, AllGo, AllLeave}
-use Rattle.cert_join.proofs.Meetings.{AheadIf, stand_passed, ahead_before, next_known, AllShaped, AllSpelled, ahead_going, cut_first, first_spelled, lines_behind, none_leaving, not_there, or_parts}
+use Rattle.cert_join.specs.Spot.{Spot, IsBefore, IsReady}
+use Rattle.cert_join.specs.Gathered.{spot_at, is_in, AreDistinct, Stand, AllReady, AllThere, PassedIf, ArePassed, Meeting, parts_of, does_leave, going, leaving, AreNext}
+use Rattle.cert_join.specs.Due.{rule_texts, AreTreesOf, due_behind, lines_at, lines_due, IsMeeting, Yields, Course, IsWhole, IsDue, IsDueBehind, IsHere, AllGo, AllLeave}
+use Rattle.cert_join.proofs.Meetings.{stand_passed, ahead_before, next_known, AllShaped, AllSpelled, ahead_going, cut_first, first_spelled, lines_behind, none_leaving, not_there, or_parts}
 use Rattle.cert_join.proofs.Yielding.{yields_going, yields_one, all_go, all_leave}
 
 -- ---- the next lines

@@ -1,11 +1,10 @@
 -- One more line of a certificate's tree is copied.
-use Rattle.std.proofs.Common.{◌≡◌, ◌<◌, ◌≤◌, ℕ, suc, ◌+◌, ◌-◌, ◌^◌, List, [], ◌∷◌, ◌++◌, length, map, Bool, true, false, cond, Option, Some, Ok, refl, sym, ap, subst, ◌∙◌, append_assoc, arith, nat_eq, drop, min, length-append, length-drop}
+use Rattle.std.proofs.Common.{◌≡◌, ◌<◌, ◌≤◌, ℕ, suc, ◌-◌, ◌^◌, List, [], ◌∷◌, ◌++◌, length, Bool, true, false, cond, Option, Some, Ok, refl, sym, ap, subst, ◌∙◌, append_assoc, arith, nat_eq, drop, length-append, length-drop}
 use Rattle.std.proofs.lemmas.List.{length-map}
 use Rattle.cover_model.specs.Rules.{Line}
 use Rattle.cert_read.specs.CertLine.{CertLine, rule_line}
 use Rattle.cert_read.specs.LineText.{IsSpelled, line_text}
 use Rattle.cert_read.specs.Lines.{split_at, onto_first, without_last_empty, lines_of}
-use Rattle.cert_model.specs.Accepted.{most_bytes}
 use Rattle.cert_joined.specs.Covers.{Arity, ends, goes_on, splits, arity, line_by, numbered}
 use Rattle.cert_join.specs.declared.line.Left.{Left}
 use Rattle.cert_join.specs.declared.line.Left.TheVariants.{Nothing, One, Two, Open, Stuck}

@@ -1,14 +1,13 @@
 -- Trees at one place with different first lines, of which one is chosen.
-use Rattle.std.proofs.Common.{◌≡◌, ◌≢◌, ◌<◌, ◌≤◌, ℕ, suc, zero, ◌+◌, List, [], ◌∷◌, ◌++◌, length, map, get_or, set, Bool, true, false, cond, not, ◌&&◌, ◌||◌, Some, nat_eq, inl, inr, refl, sym, ap, subst, ◌∙◌, arith, append_assoc, length-set}
+use Rattle.std.proofs.Common.{◌≡◌, ◌≢◌, ◌<◌, ℕ, suc, zero, List, [], ◌∷◌, ◌++◌, length, map, get_or, set, Bool, true, false, cond, not, ◌&&◌, ◌||◌, Some, nat_eq, inl, inr, refl, sym, ap, subst, ◌∙◌, arith, append_assoc, length-set}
 use Rattle.std.specs.Prelude.{slice_get}
 use Rattle.std.specs.List.{AllByRecursion}
 use Rattle.std.proofs.lemmas.Bool.{both_ways, ne_eqb, eq-eqb, eqb-true, cases_eq, cases_Bool}
 use Rattle.cover_model.specs.Rules.{Line}
 use Rattle.cover_model.specs.Derivation.{Tree, leaf, then, fork, tree_lines}
-use Rattle.cert_read.specs.CertLine.{CertLine, rule_line}
-use Rattle.cert_read.specs.LineText.{IsSpelled, line_text}
+use Rattle.cert_read.specs.LineText.{IsSpelled}
 use Rattle.cert_model.specs.Written.{rule_lines}
-use Rattle.cert_joined.specs.Joined.{Joins, differ, first_line, first_closed, closes, going_on}
+use Rattle.cert_joined.specs.Joined.{differ, first_line, first_closed, closes, going_on}
 use Rattle.cert_joined.specs.Covers.{line_by, tree_by, numbered, IsShaped}
 use Rattle.cert_join.specs.declared.weighing.Weighing.{Weighing}
 use Rattle.cert_join.specs.declared.cursor.Mark.{Mark}
@@ -16,10 +15,10 @@ use Rattle.cert_join.specs.Kinds.{rule_text}
 use Rattle.cert_join.specs.Ahead.{AreBefore}
 use Rattle.cert_join.specs.Spot.{Spot, IsBefore, rewound}
 use Rattle.cert_join.specs.Written.{texts_of}
-use Rattle.cert_join.specs.Weighed.{Branch, tree_texts, ahead_of, IsFit, AreAhead, AreApart, passed, first_closing, IsWeighing, IsWeighed, IsMarkOf, IsMarked, IsChosen}
-use Rattle.cert_join.specs.Gathered.{leaves, spot_at, nowhere, is_in, AreDistinct, Stand, Meeting, parts_of, does_leave, numbers_at, text_at, AreAlike}
-use Rattle.cert_join.specs.Due.{rule_texts, AreSpelled, text_by, tree_text, lines_at, lines_due, IsMeeting, trees_at, Yields, Course, IsWhole, IsDueBehind, IsDueWeighed, IsHere, AllGo}
-use Rattle.cert_join.proofs.Choices.{first_closing_tree, holds_of_taken, passed_at, passed_other}
+use Rattle.cert_join.specs.Weighed.{Branch, ahead_of, AreAhead, AreApart, passed, first_closing, IsWeighing, IsWeighed, IsMarked}
+use Rattle.cert_join.specs.Gathered.{spot_at, is_in, AreDistinct, Stand, Meeting, parts_of, numbers_at, AreAlike}
+use Rattle.cert_join.specs.Due.{rule_texts, AreSpelled, text_by, tree_text, lines_at, lines_due, trees_at, Yields, Course, IsWhole, IsDueBehind, IsDueWeighed, IsHere, AllGo}
+use Rattle.cert_join.proofs.Choices.{holds_of_taken, passed_at, passed_other}
 use Rattle.cert_join.proofs.Meetings.{AllShaped, AllSpelled, or_parts}
 use Rattle.cert_join.proofs.Yielding.{leaves_by, trees_going, going_same, tree_text_by}
 use Rattle.cert_join.proofs.Passing.{spot_same, spot_other}

@@ -1,9 +1,9 @@
 -- Places in several certificates, one after the other.
-use Rattle.std.proofs.Common.{◌≡◌, ◌≢◌, ◌<◌, ◌≤◌, ◌⊎◌, inl, inr, ℕ, suc, zero, ◌+◌, List, [], ◌∷◌, ◌++◌, length, take, get_or, set, Bool, true, false, ◌||◌, refl, sym, ap, subst, ◌∙◌, arith, nat_eq, get_or-set_other, get_or-set_same, length-set}
+use Rattle.std.proofs.Common.{◌≡◌, ◌≢◌, ◌<◌, ◌≤◌, inl, inr, ℕ, suc, zero, ◌+◌, List, [], ◌∷◌, ◌++◌, length, take, get_or, set, Bool, true, false, ◌||◌, refl, sym, ap, subst, ◌∙◌, arith, nat_eq, get_or-set_other, get_or-set_same, length-set}
 use Rattle.std.proofs.lemmas.Bool.{eqb-true, eq-eqb, ne_eqb, cases_eq, both_ways}
 use Rattle.std.proofs.lemmas.List.{get_or_default, take_all, take_more}
-use Rattle.cert_join.specs.Spot.{Spot, IsBefore, IsReady, line_in}
-use Rattle.cert_join.specs.Gathered.{spot_at, nowhere, is_in, AreDistinct, Stand, AllReady, AllThere, AreResized, Passed, PassedIf, ArePassed}
+use Rattle.cert_join.specs.Spot.{Spot, IsReady}
+use Rattle.cert_join.specs.Gathered.{spot_at, nowhere, is_in, AreDistinct, AllReady, AllThere, AreResized, Passed, PassedIf, ArePassed}
 
 -- ---- one of them is replaced
 

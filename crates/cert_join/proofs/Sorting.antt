@@ -1,5 +1,5 @@
 -- Trees at one place, by what their first lines leave.
-use Rattle.std.proofs.Common.{◌≡◌, ◌<◌, ◌≤◌, ℕ, suc, zero, ◌+◌, List, [], ◌∷◌, ◌++◌, length, map, take, get_or, Bool, true, false, cond, Option, Some, Ok, Vec, refl, sym, ap, subst, ◌∙◌, arith}
+use Rattle.std.proofs.Common.{◌≡◌, ◌<◌, ◌≤◌, ℕ, suc, zero, ◌+◌, List, [], ◌∷◌, ◌++◌, length, take, get_or, Bool, true, false, cond, Option, Some, Ok, Vec, refl, sym, ap, subst, ◌∙◌, arith}
 use Rattle.std.specs.List.{AllByRecursion}
 use Rattle.std.proofs.lemmas.List.{get_or_read, append-nil, take_more, take_all, map-append, length-map}
 use Rattle.cover_model.specs.Rules.{Line, open_line}
@@ -11,7 +11,7 @@ use Rattle.cert_joined.specs.Covers.{line_by, numbered}
 use Rattle.cert_join.specs.declared.line.Left.{Left}
 use Rattle.cert_join.specs.Kinds.{IsRenumbered, rule_text, left_kind, does_stay}
 use Rattle.cert_join.specs.Spot.{Spot, line_in}
-use Rattle.cert_join.specs.Gathered.{leaves, spot_at, nowhere, lists_of, numbers_at, Meeting, parts_of, does_leave, going, leaving, IsNextOf, AreNext, text_at, AreAlike}
+use Rattle.cert_join.specs.Gathered.{spot_at, nowhere, lists_of, numbers_at, Meeting, parts_of, does_leave, going, leaving, IsNextOf, AreNext, text_at, AreAlike}
 use Rattle.cert_join.proofs.Below.{leaving_left}
 
 some-tree : ℕ × Tree

@@ -1,11 +1,10 @@
 -- How what is due changes with each step.
-use Rattle.std.proofs.Common.{◌≡◌, ◌<◌, ◌≤◌, ℕ, suc, zero, ◌+◌, List, [], ◌∷◌, ◌++◌, length, map, Bool, true, false, cond, ◌||◌, Some, get_or, nat_eq, refl, sym, ap, subst, ◌∙◌, arith, append_assoc}
+use Rattle.std.proofs.Common.{◌≡◌, ◌<◌, ℕ, suc, List, [], ◌∷◌, ◌++◌, length, map, Some, get_or, refl, sym, ap, subst, ◌∙◌, arith, append_assoc}
 use Rattle.std.specs.List.{AllByRecursion}
-use Rattle.std.proofs.lemmas.Bool.{eqb-true, ne_eqb, both_ways, eq-eqb}
-use Rattle.std.proofs.lemmas.List.{append-nil, length-map}
+use Rattle.std.proofs.lemmas.List.{length-map}
 use Rattle.cover_model.specs.Rules.{Line}
 use Rattle.cover_model.specs.Derivation.{Tree, leaf, then, fork, tree_lines}
-use Rattle.cert_read.specs.CertLine.{CertLine, Parsed, line, parsed, rule_line}
+use Rattle.cert_read.specs.CertLine.{line, parsed, rule_line}
 use Rattle.cert_read.proofs.Spelled.{spelled_line}
 use Rattle.cert_read.specs.LineText.{IsSpelled}
 use Rattle.cert_joined.specs.Joined.{first_line}
@@ -13,12 +12,12 @@ use Rattle.cert_joined.specs.Covers.{Arity, ends, goes_on, splits, arity, line_b
 use Rattle.cert_join.specs.declared.line.Left.{Left}
 use Rattle.cert_join.specs.declared.line.Left.TheVariants.{Nothing, One, Two, Open, Stuck}
 use Rattle.cert_join.specs.Kinds.{rule_text, left_kind, arity_of}
-use Rattle.cert_join.specs.Spot.{Spot, IsBefore, IsReady, line_in}
-use Rattle.cert_join.specs.Gathered.{spot_at, is_in, AreDistinct, Stand, AllReady, Passed, PassedIf, ArePassed, Meeting, parts_of, does_leave, going, leaving, IsNextOf, AreNext, numbers_at, text_at, AreAlike}
-use Rattle.cert_join.specs.Due.{rule_texts, AreSpelled, AreTreesOf, due_behind, text_by, lines_at, lines_due, IsMeeting, trees_at, Yields, Course, IsWhole, IsDue, IsDueBehind, IsHere, AllGo, AllLeave, AreTaken, with_behind}
+use Rattle.cert_join.specs.Spot.{Spot, line_in}
+use Rattle.cert_join.specs.Gathered.{spot_at, is_in, AreDistinct, ArePassed, Meeting, parts_of, IsNextOf, numbers_at, text_at, AreAlike}
+use Rattle.cert_join.specs.Due.{AreSpelled, lines_at, lines_due, IsMeeting, Yields, Course, IsWhole, IsDue, IsHere, AllGo, AllLeave, AreTaken, with_behind}
 use Rattle.cert_join.proofs.Below.{arity_left}
-use Rattle.cert_join.proofs.Meetings.{AheadIf, stand_passed, ahead_before, next_known, below, second, all_below, all_second, behind_first, AllOf, AllShaped, AllSpelled, all_ends, ahead_behind, ahead_going, cut_first, first_spelled, lines_behind, going_cases}
-use Rattle.cert_join.proofs.Yielding.{ShareLine, yields_behind, yields_leave, yields_one, yields_going, going_same, arity_by}
+use Rattle.cert_join.proofs.Meetings.{AheadIf, stand_passed, ahead_before, below, second, all_below, all_second, behind_first, AllOf, AllShaped, AllSpelled, all_ends, ahead_behind, first_spelled}
+use Rattle.cert_join.proofs.Yielding.{ShareLine, yields_behind, yields_leave, arity_by}
 
 -- ---- the places behind a line
 

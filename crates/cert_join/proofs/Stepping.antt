@@ -1,12 +1,11 @@
 -- Steps from place to place, and within the tree of one certificate.
-use Rattle.std.proofs.Common.{◌≡◌, ◌<◌, ◌≤◌, ◌≢◌, ℕ, suc, zero, ◌+◌, List, [], ◌∷◌, ◌++◌, length, map, get_or, set, reverse, Bool, true, false, cond, Vec, nat_eq, inl, inr, refl, sym, ap, subst, ◌∙◌, arith, append_assoc, length-set}
-use Rattle.std.specs.List.{AllByRecursion}
+use Rattle.std.proofs.Common.{◌≡◌, ◌<◌, ℕ, suc, zero, List, [], ◌∷◌, ◌++◌, length, map, get_or, set, reverse, Bool, true, false, cond, Vec, nat_eq, inl, inr, refl, sym, ap, subst, ◌∙◌, arith, append_assoc, length-set}
 use Rattle.std.proofs.lemmas.Bool.{ne_eqb, eq-eqb, cases_eq}
-use Rattle.std.proofs.lemmas.List.{append-nil, length-map, map-append, reverse-append}
+use Rattle.std.proofs.lemmas.List.{append-nil, map-append, reverse-append}
 use Rattle.cover_model.specs.Rules.{Line}
 use Rattle.cert_join.specs.Spot.{Spot, IsBefore}
-use Rattle.cert_join.specs.Gathered.{spot_at, nowhere, Stand, AreResized, Meeting, parts_of, numbers_at, lists_of}
-use Rattle.cert_join.specs.Due.{rule_texts, text_by, lines_due, AreTreesOf, IsCopying, IsMeeting, Yields, Course, IsWhole, IsDue, IsDueBehind, stacked}
+use Rattle.cert_join.specs.Gathered.{spot_at, Stand, AreResized, Meeting, parts_of, numbers_at, lists_of}
+use Rattle.cert_join.specs.Due.{rule_texts, text_by, lines_due, AreTreesOf, IsCopying, Yields, Course, IsWhole, IsDue, IsDueBehind, stacked}
 use Rattle.cert_join.proofs.Copying.{resized}
 use Rattle.cert_join.proofs.Passing.{read_spot, spot_same, spot_other}
 

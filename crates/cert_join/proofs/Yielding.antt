@@ -1,5 +1,5 @@
 -- What the trees at a place yield, by their first lines.
-use Rattle.std.proofs.Common.{◌≡◌, ℕ, List, [], ◌∷◌, ◌++◌, length, map, Bool, true, false, cond, refl, sym, ap, subst, ◌∙◌, append_assoc}
+use Rattle.std.proofs.Common.{◌≡◌, ℕ, List, [], ◌∷◌, ◌++◌, map, Bool, true, false, cond, refl, sym, ap, subst, ◌∙◌, append_assoc}
 use Rattle.std.specs.List.{AllByRecursion}
 use Rattle.cover_model.specs.Rules.{Line, pull, unit, void, push, void_no, combine, void_combine, ban, make_false, by, cut, flip, case, open_line, stuck}
 use Rattle.cover_model.specs.Derivation.{Tree, leaf, then, fork, tree_lines}
@@ -9,7 +9,7 @@ use Rattle.cert_joined.specs.Covers.{Arity, arity, line_by, tree_by, numbered, I
 use Rattle.cert_joined.specs.Covers.{ends as no_more, goes_on, splits}
 use Rattle.cert_joined.proofs.Members.{not_more}
 use Rattle.cert_join.specs.Kinds.{rule_text}
-use Rattle.cert_join.specs.Gathered.{leaves, Meeting, parts_of, does_leave, going, numbers_at, text_at}
+use Rattle.cert_join.specs.Gathered.{leaves, Meeting, does_leave, going, numbers_at, text_at}
 use Rattle.cert_join.specs.Due.{rule_texts, text_by, tree_text, trees_at, AllGo, AllLeave, Yields}
 use Rattle.cert_join.proofs.Meetings.{below, second, all_below, all_second, behind_first, AllOf, AllShaped, leaving_ends}
 

@@ -190,7 +190,8 @@ fn copy_line(
     text: &mut Vec<u8>,
 ) -> Result<bool, Unjoined>
     ensures { IfOk result (λ _. (cert : List ℕ) (rest : List (List ℕ)) (whole : List ℕ) →
-        0 < waiting.old → IsCopying cert numbers.now rest whole waiting.old text.old.items cursor.old →
+        0 < waiting.old →
+        IsCopying cert numbers.now rest whole waiting.old text.old.items cursor.old →
         IsCopying cert numbers.now rest whole waiting.new text.new.items cursor.new) }
 {
     if !cursor.is_ready() {
@@ -259,7 +260,8 @@ fn leave(
     parts: &[usize],
     text: &mut Vec<u8>,
 ) -> Result<(), Unjoined>
-    ensures { IfOk result (λ _. (k : Course) (places : List (List ℕ)) → k.numbers ≡ lists_of numbers.now →
+    ensures { IfOk result (λ _. (k : Course) (places : List (List ℕ)) →
+        k.numbers ≡ lists_of numbers.now →
         (h : IsHere k parts.now places text.old.items cursors.old) → AllLeave (h.first ∷ h.others) →
         IsDue k places text.new.items cursors.new) }
 {
@@ -285,8 +287,8 @@ fn copying(part: usize, waiting: u64) -> Task
 impl Trees {
     /// All certificates, of which there are so many, have a tree at the first place.
     pub fn new(alloc: Global, count: usize) -> Result<Self, AllocError>
-        ensures { IfOk result (λ t. (k : Course) (ts : List Tree) (text : List ℕ) (spots : List Spot) →
-            IsStart k ts count text spots →
+        ensures { IfOk result (λ t. (k : Course) (ts : List Tree) →
+            (text : List ℕ) (spots : List Spot) → IsStart k ts count text spots →
             IsNextDue k t.task (stacked t.places.items) text spots) }
     {
         let mut all: Vec<usize> = Vec::new(alloc);
@@ -407,7 +409,8 @@ impl Trees {
         ensures { IfOk result (λ step. (k : Course) → k.numbers ≡ lists_of numbers.now →
             self.old.task ≡ task.Compare →
             IsDue k (stacked self.old.places.items) text.old.items cursors.old →
-            IsAfter k step self.new.task (stacked self.new.places.items) text.new.items cursors.new) }
+            IsAfter k step self.new.task (stacked self.new.places.items)
+            text.new.items cursors.new) }
     {
         let Some(parts) = self.places.pop() else {
             return Ok(Step::Over);
@@ -432,7 +435,8 @@ impl Trees {
         ensures { IfOk result (λ step. (k : Course) → k.numbers ≡ lists_of numbers.now →
             self.old.task ≡ task.Compare →
             IsDueBehind k part waiting (stacked self.old.places.items) text.old.items cursors.old →
-            IsAfter k step self.new.task (stacked self.new.places.items) text.new.items cursors.new) }
+            IsAfter k step self.new.task (stacked self.new.places.items)
+            text.new.items cursors.new) }
     {
         if part >= cursors.len() || part >= numbers.len() {
             return Err(unjoined_at(cursors, part));
@@ -456,7 +460,8 @@ impl Trees {
     ) -> Result<Step, Unjoined>
         ensures { IfOk result (λ step. (k : Course) → k.numbers ≡ lists_of numbers.now →
             IsNextDue k self.old.task (stacked self.old.places.items) text.old.items cursors.old →
-            IsAfter k step self.new.task (stacked self.new.places.items) text.new.items cursors.new) }
+            IsAfter k step self.new.task (stacked self.new.places.items)
+            text.new.items cursors.new) }
     {
         match mem::replace(&mut self.task, Task::Compare) {
             Task::Compare => {

@@ -1,4 +1,4 @@
-use Rattle.std.proofs.Common.{refl, sym, ap, ◌∙◌, Vec, Global, ℕ}
+use Rattle.std.proofs.Common.{sym, ap, ◌∙◌, Vec, Global, ℕ}
 use Rattle.cert_join.proofs.Passing.{there_all, there_more, there_none}
 use Rattle.cert_join.proofs.Sorting.{sorted_all, sorted_grown, sorted_left}
 use Rattle.cert_join.proofs.trees.sorted.Goals as goal

@@ -1,5 +1,5 @@
 use Rattle.std.proofs.Common.{◌≡◌, ◌∙◌, ◌∷◌, ◌++◌, [], arith, ap}
-use Rattle.cert_join.specs.Due.{numbers_from, stacked}
+use Rattle.cert_join.specs.Due.{numbers_from}
 use Rattle.cert_join.proofs.Starting.{numbers_next, one_stacked, start_due}
 use Rattle.cert_join.proofs.trees.Trees.new.Goals as goal
 

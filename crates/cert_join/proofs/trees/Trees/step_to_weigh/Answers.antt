@@ -1,4 +1,4 @@
-use Rattle.std.proofs.Common.{List, ℕ, Ok, ap, set, subst, sym}
+use Rattle.std.proofs.Common.{Ok, set, subst, sym}
 use Rattle.cert_join.specs.declared.joiner.Step.{Step}
 use Rattle.cert_join.specs.Spot.{Spot}
 use Rattle.cert_join.specs.Weighed.{IsWeighStep}
