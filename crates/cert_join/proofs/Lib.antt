@@ -27,3 +27,4 @@ pub mod Walks
 pub mod Steps
 pub mod Weighs
 pub mod Yielding
+pub mod Moved

@@ -102,8 +102,9 @@ Within certs first covers done (Ok step) text numbers stage spots = IsAfterStep 
 Within certs first covers done (Err e) text numbers stage spots = Unit {0}
 
 -- the same of a whole joiner
-abbrev pub IsJoining : List (List ℕ) → Cover → List Cover → List ℕ → List ℕ → Joiner → Type 0
-IsJoining certs first covers done text j = IsAt certs first covers done text (lists_of j.numbers.items) j.stage j.cursors.items
+pub record IsJoining (certs : List (List ℕ)) (first : Cover) (covers : List Cover) (done text : List ℕ) (j : Joiner) : Type 0 where
+  pub many : length j.cursors.items ≡ length certs
+  pub at : IsAt certs first covers done text (lists_of j.numbers.items) j.stage j.cursors.items
 
 -- behind a step
 abbrev pub HasStepped : List (List ℕ) → Cover → List Cover → List ℕ → Step → List ℕ → Joiner → Type 0

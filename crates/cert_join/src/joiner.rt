@@ -162,7 +162,8 @@ fn step_in(
     numbers: &[Vec<u32>],
     text: &mut Vec<u8>,
 ) -> Result<Step, Unjoined>
-    ensures { (certs : List (List ℕ)) (first : Cover) (covers : List Cover) (done : List ℕ) →
+    ensures many { length cursors.new ≡ length cursors.old }
+    ensures steps { (certs : List (List ℕ)) (first : Cover) (covers : List Cover) (done : List ℕ) →
         AreTextsOf covers certs →
         IsAt certs first covers done text.old.items (lists_of numbers.now) stage.old cursors.old →
         Within certs first covers done result text.new.items (lists_of numbers.now) stage.new
@@ -244,7 +245,8 @@ impl Joiner {
 
     // What follows the first lines.
     fn behind_heads(&mut self, heads: Heads, text: &mut Vec<u8>) -> Result<Stage, AllocError>
-        ensures { IfOk result (λ stage. (certs : List (List ℕ)) (first : Cover) (others : List Cover) →
+        ensures same { self.new.cursors ≡ self.old.cursors }
+        ensures stage { IfOk result (λ stage. (certs : List (List ℕ)) (first : Cover) (others : List Cover) →
             (done : List ℕ) → done ++ text.old.items ≡ [] →
             AreHeadsRead certs (first ∷ others) heads self.old.cursors.items →
             IsAt certs first (first ∷ others) done text.new.items (lists_of self.new.numbers.items)
@@ -270,7 +272,8 @@ impl Joiner {
         numbering: Numbering,
         text: &mut Vec<u8>,
     ) -> Result<Stage, AllocError>
-        ensures { IfOk result (λ stage. (certs : List (List ℕ)) (first : Cover) (covers : List Cover) →
+        ensures same { self.new.cursors ≡ self.old.cursors }
+        ensures stage { IfOk result (λ stage. (certs : List (List ℕ)) (first : Cover) (covers : List Cover) →
             (done : List ℕ) → AreTextsOf covers certs → done ++ text.old.items ≡ [] →
             AreAtNumbers certs first covers heads.now →
             AreNumbered certs covers numbering self.old.cursors.items →
@@ -289,7 +292,8 @@ impl Joiner {
 
     // What follows the lemmas.
     fn behind_lemmas(&mut self, text: &mut Vec<u8>) -> Result<Stage, AllocError>
-        ensures { IfOk result (λ stage. (certs : List (List ℕ)) (first : Cover) (others : List Cover) →
+        ensures same { self.new.cursors ≡ self.old.cursors }
+        ensures stage { IfOk result (λ stage. (certs : List (List ℕ)) (first : Cover) (others : List Cover) →
             (done : List ℕ) → AreTextsOf (first ∷ others) certs →
             AreLemmasWritten certs first (first ∷ others) (done ++ text.old.items)
                 (lists_of self.old.numbers.items) self.old.cursors.items →
@@ -308,7 +312,8 @@ impl Joiner {
 
     // What follows this stage, which is over; none behind the last.
     fn behind(&mut self, stage: Stage, text: &mut Vec<u8>) -> Result<Option<Stage>, AllocError>
-        ensures { IfOk result (λ next. (certs : List (List ℕ)) (first : Cover) (others : List Cover) →
+        ensures same { self.new.cursors ≡ self.old.cursors }
+        ensures next { IfOk result (λ next. (certs : List (List ℕ)) (first : Cover) (others : List Cover) →
             (done : List ℕ) → AreTextsOf (first ∷ others) certs →
             IsOver certs first (first ∷ others) done text.old.items
                 (lists_of self.old.numbers.items) stage self.old.cursors.items →
@@ -338,7 +343,7 @@ impl Joiner {
 
     // Goes on within the stage.
     fn step_within(&mut self, text: &mut Vec<u8>) -> Result<Step, Unjoined>
-        ensures same { self.new.numbers ≡ self.old.numbers }
+        ensures many { length self.new.cursors.items ≡ length self.old.cursors.items }
         ensures steps { (certs : List (List ℕ)) (first : Cover) (covers : List Cover) →
             (done : List ℕ) → AreTextsOf covers certs →
             IsAt certs first covers done text.old.items (lists_of self.old.numbers.items)
