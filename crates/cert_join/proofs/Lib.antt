@@ -5,6 +5,7 @@ pub mod Choices
 pub mod Comparing
 pub mod Copying
 pub mod Drafts
+pub mod Given
 pub mod Headers
 pub mod LemmaLines
 pub mod LemmasAll
