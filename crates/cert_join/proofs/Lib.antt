@@ -6,6 +6,7 @@ pub mod Comparing
 pub mod Copying
 pub mod Differing
 pub mod Drafts
+pub mod Given
 pub mod Headers
 pub mod LemmaLines
 pub mod LemmasAll
