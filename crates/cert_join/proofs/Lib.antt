@@ -19,6 +19,7 @@ pub mod RuleWords
 pub mod Sorting
 pub mod Spaced
 pub mod Spots
+pub mod Stages
 pub mod Standing
 pub mod Stepping
 pub mod Walks

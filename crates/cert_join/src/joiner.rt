@@ -85,7 +85,9 @@ fn append_kind(heads: &Heads, count: u32, text: &mut Vec<u8>) -> Result<(), Allo
 }
 
 // The stage, where there was memory.
-fn some(stage: Result<Stage, AllocError>) -> Result<Option<Stage>, AllocError> {
+fn some(stage: Result<Stage, AllocError>) -> Result<Option<Stage>, AllocError>
+    ensures { IfOk result (λ next. MatchOption next ⊥ (λ s. stage ≡ Ok s)) }
+{
     match stage {
         Ok(stage) => Ok(Some(stage)),
         Err(error) => Err(error),

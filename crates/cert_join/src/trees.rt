@@ -8,6 +8,7 @@ ghost use Rattle.cert_join.specs.Kinds.{left_kind, rule_text};
 ghost use Rattle.cert_join.specs.Spot.{Spot, line_in};
 ghost use Rattle.cert_join.specs.declared.trees.Task.TheVariants as task;
 ghost use Rattle.cert_join.specs.Due.{AllGo, AllLeave, AreTaken, Course, IsAfter, IsCopying, IsDue, IsDueBehind, IsHere, IsNextDue, stacked, with_behind};
+ghost use Rattle.cert_join.specs.Joining.{IsFirstOf};
 ghost use Rattle.cert_join.specs.Gathered.{AllReady, AreAlike, AreDistinct, AreNext, ArePassed, AreResized, Meeting, going, leaving, lists_of, parts_of, spot_at, text_at};
 
 use crate::cursor::Cursor;
@@ -283,13 +284,21 @@ fn copying(part: usize, waiting: u64) -> Task
 
 impl Trees {
     /// All certificates, of which there are so many, have a tree at the first place.
-    pub fn new(alloc: Global, count: usize) -> Result<Self, AllocError> {
+    pub fn new(alloc: Global, count: usize) -> Result<Self, AllocError>
+        ensures { IfOk result (λ trees. IsFirstOf count trees) }
+    {
         let mut all: Vec<usize> = Vec::new(alloc);
         for part in 0..count {
-            all.push(part)?;
+            match all.push(part) {
+                Ok(()) => {}
+                Err(_) => return Err(AllocError),
+            }
         }
         let mut places = Vec::new(alloc);
-        places.push(all)?;
+        match places.push(all) {
+            Ok(()) => {}
+            Err(_) => return Err(AllocError),
+        }
         Ok(Trees {
             alloc,
             places,
