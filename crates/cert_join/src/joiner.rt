@@ -1,5 +1,5 @@
 // The lines of the joined certificate, one after the other.
-ghost use Rattle.std.specs.Prelude.{◌≡◌, ◌++◌, ◌∷◌, ◌<◌, ℕ, List, [], Ok, OnOk, IfOk, MatchOption, length, map};
+ghost use Rattle.std.specs.Prelude.{◌≡◌, ◌++◌, ◌∷◌, ◌<◌, ◌^◌, ℕ, List, [], Ok, OnOk, IfOk, MatchOption, length, map};
 ghost use Rattle.cert_joined.specs.Covers.{Cover, AreTextsOf};
 ghost use Rattle.cert_join.specs.Ahead.{AreBefore};
 ghost use Rattle.cert_join.specs.Gathered.{lists_of, spot_at};
@@ -63,8 +63,9 @@ fn append_point(heads: &Heads, text: &mut Vec<u8>) -> Result<(), AllocError> {
 
 // The first lines of a certificate of a cover with so many lemmas.
 fn append_kind(heads: &Heads, count: u32, text: &mut Vec<u8>) -> Result<(), AllocError>
-    ensures { OnOk result (text.new.items ≡
+    ensures text { OnOk result (text.new.items ≡
         text.old.items ++ (head_text heads.now ++ text_of (cover count ∷ []))) }
+    ensures few { count < 2 ^ 32 }
 {
     match heads.append(text) {
         Ok(()) => {}
