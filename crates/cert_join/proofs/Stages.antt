@@ -1,5 +1,5 @@
 -- How one stage of the joining follows another.
-use Rattle.std.proofs.Common.{◌≡◌, ◌<◌, ◌≤◌, ◌+◌, ◌^◌, ℕ, zero, suc, List, [], ◌∷◌, ◌++◌, Bool, true, false, ◌||◌, cond, nat_eq, Some, length, length-append, map, get_or, drop, inl, inr, refl, ap, ap₂, sym, ◌∙◌, subst, append_assoc, append-nil, arith}
+use Rattle.std.proofs.Common.{◌≡◌, ◌<◌, ◌≤◌, ◌+◌, ◌^◌, ℕ, zero, suc, List, [], ◌∷◌, ◌++◌, Bool, true, false, ◌||◌, cond, nat_eq, length, length-append, map, get_or, drop, inl, inr, refl, ap, ap₂, sym, ◌∙◌, subst, append_assoc, append-nil, arith}
 use Rattle.std.specs.Prelude.{decimal}
 use Rattle.std.specs.List.{AllByRecursion}
 use Rattle.std.proofs.lemmas.Bool.Decides.{eqb_tells}
@@ -12,7 +12,7 @@ use Rattle.cert_read.specs.CertLine.{CertLine, cover, tree_word, end_word, rule_
 use Rattle.cert_read.specs.LineText.{IsSpelled, line_text, text_of_lines}
 use Rattle.cert_model.specs.Written.{rule_lines}
 use Rattle.cert_joined.specs.Joined.{Joins}
-use Rattle.cert_joined.specs.Covers.{Cover, Lemma, IsTextOf, AreTextsOf, IsShaped, cover_lines, lemmas_lines, line_by, numbered, number_at, tree_by, trees_by}
+use Rattle.cert_joined.specs.Covers.{Cover, Lemma, IsTextOf, AreTextsOf, IsShaped, lemmas_lines, line_by, numbered, number_at, tree_by, trees_by}
 use Rattle.cert_join.specs.Ahead.{AreBefore}
 use Rattle.cert_join.specs.Spot.{Spot, IsBefore}
 use Rattle.cert_join.specs.Gathered.{AreDistinct, Meeting, is_in, lists_of, numbers_at, parts_of, spot_at}
@@ -69,11 +69,12 @@ pub joined_text : (first : Cover) (covers : List Cover) (numbers : List (List �
     done ++ old ≡ (text_of (lines_before_tree first (written_from 0 numbers covers)) ++ text_of (tree_word ∷ [])) ++ tree_text u →
     new ≡ old ++ text_of (end_word ∷ []) → IsJoinText covers (done ++ new)
 joined_text first covers numbers u done old new s j e f =
-    let xs = written_from 0 numbers covers in
-    ( record { version = 2; margin_bits = first.margin_bits; delta_bits = first.delta_bits; bound = first.bound; lemmas = xs; tree = u },
+    let xs = written_from 0 numbers covers in (
+      record { version = 2; margin_bits = first.margin_bits; delta_bits = first.delta_bits; bound = first.bound; lemmas = xs; tree = u },
       record { newest = refl; margin = s.alike.margin; delta = s.alike.delta; bound = s.alike.bound; numbers = numbers; lemmas = s.lemmas; tree = j },
       ap (λ (t : List ℕ). done ++ t) f ∙ sym (append_assoc done old (text_of (end_word ∷ []))) ∙ ap (λ (t : List ℕ). t ++ text_of (end_word ∷ [])) e
-      ∙ sym (whole_text (lines_before_tree first xs) u) )
+          ∙ sym (whole_text (lines_before_tree first xs) u),
+    )
 
 -- ---- the numbers of lemmas
 
@@ -216,14 +217,14 @@ stand-main : (n : ℕ) (covers : List Cover) (certs : List (List ℕ)) (spots : 
 stand-main n [] [] [] h i l = absurd (omega (arith, l))
 stand-main n (c ∷ covers) (cert ∷ certs) (s ∷ spots) h zero l =
     let e : behind_lemmas c ≡ lines_at (n + 0) (main_trees n (c ∷ covers)) ++ behind_tree =
-        behind-both c ∙ ap (λ (b : Bool). cond b (rule_texts (tree_lines c.tree)) (lines_at (n + 0) (main_trees (suc n) covers)) ++ behind_tree) (sym (test-same (n + 0) n (omega arith))) in
+    behind-both c ∙ ap (λ (b : Bool). cond b (rule_texts (tree_lines c.tree)) (lines_at (n + 0) (main_trees (suc n) covers)) ++ behind_tree) (sym (test-same (n + 0) n (omega arith))) in
     subst (λ (ls : List (List ℕ)). IsBefore cert ls s) e h.0
 stand-main n (c ∷ covers) (cert ∷ certs) (s ∷ spots) h (suc i) l =
     let place = main_trees (suc n) covers in
     let m : suc n + i ≡ n + suc i = omega arith in
     let e : lines_at (suc n + i) place ++ behind_tree ≡ lines_at (n + suc i) (main_trees n (c ∷ covers)) ++ behind_tree =
-        ap (λ (j : ℕ). lines_at j place ++ behind_tree) m
-        ∙ ap (λ (b : Bool). cond b (rule_texts (tree_lines c.tree)) (lines_at (n + suc i) place) ++ behind_tree) (sym (test-more (n + suc i) n (omega arith))) in
+    ap (λ (j : ℕ). lines_at j place ++ behind_tree) m
+    ∙ ap (λ (b : Bool). cond b (rule_texts (tree_lines c.tree)) (lines_at (n + suc i) place) ++ behind_tree) (sym (test-more (n + suc i) n (omega arith))) in
     subst (λ (ls : List (List ℕ)). IsBefore (get_or certs i []) ls (spot_at spots i)) e (stand-main (suc n) covers certs spots h.1 i (omega (arith, l)))
 stand-main n [] [] (s ∷ spots) h i l = absurd h
 stand-main n [] (cert ∷ certs) spots h i l = absurd h
@@ -259,15 +260,17 @@ first_due k covers certs text spots texts before some cert rest trees front =
       places = let z : 0 + length covers ≡ length covers = omega arith in ap (λ (ns : List ℕ). ns ∷ []) (numbers-main 0 covers ∙ ap first_numbers z);
       good = (record { some = some-main covers some; distinct = distinct-main 0 covers; shaped = shaped-main 0 covers certs texts; spelled = spelled-main 0 covers certs texts }, tt);
       stand = λ i l.
-        let z : 0 + i ≡ i = omega arith in
-        let e : lines_at (0 + i) place ++ behind_tree ≡ (lines_at i place ++ []) ++ k.rest i = ap (λ (j : ℕ). lines_at j place ++ behind_tree) z ∙ ap₂ (λ (xs ys : List (List ℕ)). xs ++ ys) (sym (append-nil (lines_at i place))) (sym (rest i)) in
-        subst (λ (bytes : List ℕ). IsBefore bytes ((lines_at i place ++ []) ++ k.rest i) (spot_at spots i)) (sym (cert i))
-        (subst (λ (ls : List (List ℕ)). IsBefore (get_or certs i []) ls (spot_at spots i)) e (stand-main 0 covers certs spots before i l));
+          let z : 0 + i ≡ i = omega arith in
+          let e : lines_at (0 + i) place ++ behind_tree ≡ (lines_at i place ++ []) ++ k.rest i = ap (λ (j : ℕ). lines_at j place ++ behind_tree) z ∙ ap₂ (λ (xs ys : List (List ℕ)). xs ++ ys) (sym (append-nil (lines_at i place))) (sym (rest i)) in
+          subst (λ (bytes : List ℕ). IsBefore bytes ((lines_at i place ++ []) ++ k.rest i) (spot_at spots i)) (sym (cert i))
+          (subst (λ (ls : List (List ℕ)). IsBefore (get_or certs i []) ls (spot_at spots i)) e (stand-main 0 covers certs spots before i l));
       whole = λ out y.
-        let t = tree_text y.0 in
-        let same : out ≡ t = y.4 ∙ ap (λ (more : List ℕ). t ++ more) y.3 ∙ append-nil t in
-        (y.0, subst (λ (ts : List Tree). Joins ts y.0) (sym trees) y.2,
-          ap (λ (more : List ℕ). k.done ++ (text ++ more)) same ∙ sym (append_assoc k.done text t) ∙ ap (λ (xs : List ℕ). xs ++ t) front);
+          let t = tree_text y.0 in
+          let same : out ≡ t = y.4 ∙ ap (λ (more : List ℕ). t ++ more) y.3 ∙ append-nil t in (
+            y.0,
+            subst (λ (ts : List Tree). Joins ts y.0) (sym trees) y.2,
+            ap (λ (more : List ℕ). k.done ++ (text ++ more)) same ∙ sym (append_assoc k.done text t) ∙ ap (λ (xs : List ℕ). xs ++ t) front,
+          );
     }
 
 -- what is joined where the main trees begin
@@ -291,7 +294,7 @@ trees_start certs first others done old text numbers t count spots texts h e man
     let size : count ≡ length covers = many ∙ as_many certs (map behind_lemmas covers) spots h.before ∙ length-map covers behind_lemmas in
     let trees : k.trees ≡ trees_at numbers (main_trees 0 covers) = sym (trees-main numbers 0 numbers covers refl h.settled.many) in
     let front : done ++ text ≡ k.front =
-        ap (λ (xs : List ℕ). done ++ xs) e ∙ sym (append_assoc done old (text_of (tree_word ∷ []))) ∙ ap (λ (xs : List ℕ). xs ++ text_of (tree_word ∷ [])) (sym h.whole) in
+    ap (λ (xs : List ℕ). done ++ xs) e ∙ sym (append_assoc done old (text_of (tree_word ∷ []))) ∙ ap (λ (xs : List ℕ). xs ++ text_of (tree_word ∷ [])) (sym h.whole) in
     let due : IsDue k (first_numbers (length covers) ∷ []) text spots = first_due k covers certs text spots texts h.before (omega arith) (λ i. refl) (λ i. refl) trees front in
     let P : Task → Type 0 = λ z. IsNextDue k z (stacked t.places.items) text spots in
     let Q : List (List ℕ) → Type 0 = λ ps. IsDue k ps text spots in

@@ -228,7 +228,7 @@ impl Joiner {
             (done : List ℕ) → done ++ text.old.items ≡ [] →
             AreHeadsRead certs (first ∷ others) heads self.old.cursors.items →
             IsAt certs first (first ∷ others) done text.new.items (lists_of self.new.numbers.items)
-                stage self.new.cursors.items) }
+            stage self.new.cursors.items) }
     {
         match heads.point {
             Some(part) => {
@@ -255,7 +255,7 @@ impl Joiner {
             AreAtNumbers certs first covers heads.now →
             AreNumbered certs covers numbering self.old.cursors.items →
             IsAt certs first covers done text.new.items (lists_of self.new.numbers.items)
-                stage self.new.cursors.items) }
+            stage self.new.cursors.items) }
     {
         match append_kind(heads, numbering.count, text) {
             Ok(()) => {}
@@ -272,9 +272,9 @@ impl Joiner {
         ensures { IfOk result (λ stage. (certs : List (List ℕ)) (first : Cover) (others : List Cover) →
             (done : List ℕ) → AreTextsOf (first ∷ others) certs →
             AreLemmasWritten certs first (first ∷ others) (done ++ text.old.items)
-                (lists_of self.old.numbers.items) self.old.cursors.items →
+            (lists_of self.old.numbers.items) self.old.cursors.items →
             IsAt certs first (first ∷ others) done text.new.items (lists_of self.new.numbers.items)
-                stage self.new.cursors.items) }
+            stage self.new.cursors.items) }
     {
         match text.extend_from_slice(b"tree\n") {
             Ok(()) => {}
@@ -291,10 +291,10 @@ impl Joiner {
         ensures { IfOk result (λ next. (certs : List (List ℕ)) (first : Cover) (others : List Cover) →
             (done : List ℕ) → AreTextsOf (first ∷ others) certs →
             IsOver certs first (first ∷ others) done text.old.items
-                (lists_of self.old.numbers.items) stage self.old.cursors.items →
+            (lists_of self.old.numbers.items) stage self.old.cursors.items →
             MatchOption next (IsJoinText (first ∷ others) (done ++ text.new.items))
             (λ later. IsAt certs first (first ∷ others) done text.new.items
-                (lists_of self.new.numbers.items) later self.new.cursors.items)) }
+            (lists_of self.new.numbers.items) later self.new.cursors.items)) }
     {
         match stage {
             Stage::Heads(heads) => some(self.behind_heads(heads, text)),

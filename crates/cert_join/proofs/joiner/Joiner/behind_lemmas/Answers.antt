@@ -1,5 +1,5 @@
 use Rattle.cert_join.specs.Gathered.{lists_of}
-use Rattle.std.proofs.Common.{◌∙◌, sym}
+use Rattle.std.proofs.Common.{◌∙◌}
 use Rattle.cert_join.proofs.Stages.{trees_start}
 use Rattle.cert_join.proofs.joiner.Joiner.behind_lemmas.Goals as goal
 

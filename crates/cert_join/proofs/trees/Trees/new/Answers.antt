@@ -1,7 +1,6 @@
-use Rattle.std.proofs.Common.{◌≡◌, ◌∙◌, ◌++◌, ◌∷◌, ◌+◌, ℕ, suc, List, [], Vec, Global, refl, ap, sym, arith}
+use Rattle.std.proofs.Common.{◌≡◌, ◌∙◌, ◌++◌, ◌∷◌, ◌+◌, ℕ, suc, List, [], Vec, Global, refl, ap, arith}
 use Rattle.cert_join.specs.Due.{stacked}
 use Rattle.cert_join.specs.Joining.{first_numbers}
-use Rattle.cert_join.proofs.Stepping.{stacked_push}
 use Rattle.cert_join.proofs.trees.Trees.new.Goals as goal
 
 pub loop-part-init : goal.loop-part-init
@@ -14,7 +13,8 @@ loop-part-preserved c =
 
 pub returns : goal.returns
 returns c =
-    let e : c.loop-part.part ≡ c.args.count = omega (arith, c.loop-part-test.false, c.loop-part.auto.part-end) in
-    ( refl,
+    let e : c.loop-part.part ≡ c.args.count = omega (arith, c.loop-part-test.false, c.loop-part.auto.part-end) in (
+      refl,
       ap stacked (c.in-Ok-push.ensures.items ∙ ap (λ (vs : List (Vec ℕ Global)). vs ++ (c.loop-part.all ∷ [])) c.new-places.ensures.items)
-      ∙ ap (λ (ns : List ℕ). ns ∷ []) (c.loop-part.invariant ∙ ap first_numbers e) )
+          ∙ ap (λ (ns : List ℕ). ns ∷ []) (c.loop-part.invariant ∙ ap first_numbers e),
+    )
