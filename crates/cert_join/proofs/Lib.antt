@@ -21,8 +21,8 @@ pub mod RuleWords
 pub mod Sorting
 pub mod Spaced
 pub mod Spots
+pub mod Stages
 pub mod Standing
-pub mod Starting
 pub mod Stepping
 pub mod Walks
 pub mod Steps

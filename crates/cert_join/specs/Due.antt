@@ -106,27 +106,6 @@ pub record IsDue (k : Course) (parts : List (List ℕ)) (text : List ℕ) (spots
   pub stand : Stand k.cert (λ i. lines_due i due ++ k.rest i) spots
   pub whole : (out : List ℕ) → Yields k.numbers due out → IsWhole k (text ++ out)
 
--- ---- the start
-
--- these trees, each with the number of its certificate, from this one on
-abbrev pub all_from : ℕ → List Tree → Meeting
-all_from i [] = []
-all_from i (t ∷ ts) = (i, t) ∷ all_from (suc i) ts
-
-abbrev pub numbers_from : ℕ → ℕ → List ℕ
-numbers_from i zero = []
-numbers_from i (suc n) = i ∷ numbers_from (suc i) n
-
--- Each certificate stands before its main tree, and this text stands before what is written of them.
-pub record IsStart (k : Course) (ts : List Tree) (count : ℕ) (text : List ℕ) (spots : List Spot) : Type 0 where
-  pub some : 0 < count
-  pub all : length ts ≡ count
-  pub shaped : AllByRecursion IsShaped ts
-  pub spelled : AllByRecursion (λ (t : Tree). AreSpelled (tree_lines t)) ts
-  pub trees : k.trees ≡ trees_at k.numbers (all_from 0 ts)
-  pub front : k.front ≡ k.done ++ text
-  pub stand : Stand k.cert (λ i. lines_due i (all_from 0 ts ∷ []) ++ k.rest i) spots
-
 -- ---- what is due
 
 -- The same before so many trees of one certificate.

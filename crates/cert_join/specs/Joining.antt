@@ -1,11 +1,11 @@
 -- How far certificates are joined: what was written, and what is ahead in each.
-use Rattle.std.specs.Prelude.{◌≡◌, ℕ, List, [], ◌∷◌, ◌++◌, Vec, Option, Some, None, Result, Ok, Err, drop, length, map, get_or, slice_get}
+use Rattle.std.specs.Prelude.{◌≡◌, ◌<◌, ◌^◌, ℕ, zero, suc, List, [], ◌∷◌, ◌++◌, Vec, Option, Some, None, Result, Ok, Err, drop, length, map, get_or, slice_get}
 use Rattle.std.specs.List.{AllByRecursion}
 use Rattle.std.specs.declared.alloc.Global.{Global}
 use Rattle.cover_model.specs.Derivation.{Tree}
 use Rattle.cert_read.specs.CertLine.{CertLine, cover, tree_word, end_word}
 use Rattle.cert_joined.specs.Joined.{Joins}
-use Rattle.cert_joined.specs.Covers.{Cover, Lemma, AreAllLemmas, IsJoinOf, cover_lines, lemmas_lines, trees_by}
+use Rattle.cert_joined.specs.Covers.{Cover, Lemma, AreAllLemmas, IsJoinOf, cover_lines, lemmas_lines, number_at, trees_by}
 use Rattle.cert_join.specs.declared.heads.Heads.{Heads as HeadsRead}
 use Rattle.cert_join.specs.declared.joiner.Joiner.{Joiner}
 use Rattle.cert_join.specs.declared.joiner.Stage.{Stage}
@@ -14,6 +14,7 @@ use Rattle.cert_join.specs.declared.joiner.Step.{Step}
 use Rattle.cert_join.specs.declared.joiner.Step.TheVariants.{Over}
 use Rattle.cert_join.specs.declared.stop.Unjoined.{Unjoined}
 use Rattle.cert_join.specs.declared.lemmas.Lemmas.{Lemmas as LemmasRead}
+use Rattle.cert_join.specs.declared.trees.Task.TheVariants.{Compare}
 use Rattle.cert_join.specs.declared.trees.Trees.{Trees as TreesRead}
 use Rattle.cert_join.specs.Ahead.{AreBefore}
 use Rattle.cert_join.specs.Due.{Course, IsNextDue, IsWhole, stacked, tree_text}
@@ -32,11 +33,21 @@ IsJoinText covers text = (joined : Cover) × IsJoinOf covers joined × (text ≡
 abbrev pub lines_before_tree : Cover → List Lemma → List CertLine
 lines_before_tree c xs = (head_lines c ++ (cover (length xs) ∷ [])) ++ lemmas_lines 0 xs
 
+-- so many numbers, from 0 on
+abbrev pub first_numbers : ℕ → List ℕ
+first_numbers zero = []
+first_numbers (suc n) = first_numbers n ++ (n ∷ [])
+
+-- of so many certificates all stand at the first place, and nothing was read of them
+abbrev pub IsFirstOf : ℕ → TreesRead → Type 0
+IsFirstOf count t = (t.task ≡ Compare) × (stacked t.places.items ≡ first_numbers count ∷ [])
+
 -- The covers have the first one's margin, delta and bound, and their lemmas these numbers.
 pub record AreSettled (first : Cover) (covers : List Cover) (numbers : List (List ℕ)) : Type 0 where
   pub alike : AreAlike first covers
   pub lemmas : AreAllLemmas covers numbers (written_from 0 numbers covers)
   pub many : length numbers ≡ length covers
+  pub few : (i k : ℕ) → number_at numbers i k < 2 ^ 32
 
 -- The headers were read, and nothing written.
 pub record AreAtNumbers (certs : List (List ℕ)) (first : Cover) (covers : List Cover) (h : HeadsRead) : Type 0 where

@@ -1,5 +1,5 @@
 // The lines of the joined certificate, one after the other.
-ghost use Rattle.std.specs.Prelude.{◌≡◌, ◌++◌, ◌∷◌, ◌<◌, ℕ, List, [], Ok, OnOk, IfOk, MatchOption, length, map};
+ghost use Rattle.std.specs.Prelude.{◌≡◌, ◌++◌, ◌∷◌, ◌<◌, ◌^◌, ℕ, List, [], Ok, OnOk, IfOk, MatchOption, length, map};
 ghost use Rattle.cert_joined.specs.Covers.{Cover, AreTextsOf};
 ghost use Rattle.cert_join.specs.Ahead.{AreBefore};
 ghost use Rattle.cert_join.specs.Gathered.{lists_of, spot_at};
@@ -63,8 +63,9 @@ fn append_point(heads: &Heads, text: &mut Vec<u8>) -> Result<(), AllocError> {
 
 // The first lines of a certificate of a cover with so many lemmas.
 fn append_kind(heads: &Heads, count: u32, text: &mut Vec<u8>) -> Result<(), AllocError>
-    ensures { OnOk result (text.new.items ≡
+    ensures text { OnOk result (text.new.items ≡
         text.old.items ++ (head_text heads.now ++ text_of (cover count ∷ []))) }
+    ensures few { count < 2 ^ 32 }
 {
     match heads.append(text) {
         Ok(()) => {}
@@ -85,7 +86,9 @@ fn append_kind(heads: &Heads, count: u32, text: &mut Vec<u8>) -> Result<(), Allo
 }
 
 // The stage, where there was memory.
-fn some(stage: Result<Stage, AllocError>) -> Result<Option<Stage>, AllocError> {
+fn some(stage: Result<Stage, AllocError>) -> Result<Option<Stage>, AllocError>
+    ensures { IfOk result (λ next. MatchOption next ⊥ (λ s. stage ≡ Ok s)) }
+{
     match stage {
         Ok(stage) => Ok(Some(stage)),
         Err(error) => Err(error),
@@ -250,7 +253,7 @@ impl Joiner {
             (done : List ℕ) → done ++ text.old.items ≡ [] →
             AreHeadsRead certs (first ∷ others) heads self.old.cursors.items →
             IsAt certs first (first ∷ others) done text.new.items (lists_of self.new.numbers.items)
-                stage self.new.cursors.items) }
+            stage self.new.cursors.items) }
     {
         match heads.point {
             Some(part) => {
@@ -278,7 +281,7 @@ impl Joiner {
             AreAtNumbers certs first covers heads.now →
             AreNumbered certs covers numbering self.old.cursors.items →
             IsAt certs first covers done text.new.items (lists_of self.new.numbers.items)
-                stage self.new.cursors.items) }
+            stage self.new.cursors.items) }
     {
         match append_kind(heads, numbering.count, text) {
             Ok(()) => {}
@@ -296,9 +299,9 @@ impl Joiner {
         ensures stage { IfOk result (λ stage. (certs : List (List ℕ)) (first : Cover) (others : List Cover) →
             (done : List ℕ) → AreTextsOf (first ∷ others) certs →
             AreLemmasWritten certs first (first ∷ others) (done ++ text.old.items)
-                (lists_of self.old.numbers.items) self.old.cursors.items →
+            (lists_of self.old.numbers.items) self.old.cursors.items →
             IsAt certs first (first ∷ others) done text.new.items (lists_of self.new.numbers.items)
-                stage self.new.cursors.items) }
+            stage self.new.cursors.items) }
     {
         match text.extend_from_slice(b"tree\n") {
             Ok(()) => {}
@@ -316,10 +319,10 @@ impl Joiner {
         ensures next { IfOk result (λ next. (certs : List (List ℕ)) (first : Cover) (others : List Cover) →
             (done : List ℕ) → AreTextsOf (first ∷ others) certs →
             IsOver certs first (first ∷ others) done text.old.items
-                (lists_of self.old.numbers.items) stage self.old.cursors.items →
+            (lists_of self.old.numbers.items) stage self.old.cursors.items →
             MatchOption next (IsJoinText (first ∷ others) (done ++ text.new.items))
             (λ later. IsAt certs first (first ∷ others) done text.new.items
-                (lists_of self.new.numbers.items) later self.new.cursors.items)) }
+            (lists_of self.new.numbers.items) later self.new.cursors.items)) }
     {
         match stage {
             Stage::Heads(heads) => some(self.behind_heads(heads, text)),

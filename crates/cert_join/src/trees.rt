@@ -7,8 +7,9 @@ ghost use Rattle.cert_read.specs.LineText.{IsSpelled};
 ghost use Rattle.cert_join.specs.Kinds.{left_kind, rule_text};
 ghost use Rattle.cert_join.specs.Spot.{Spot, line_in};
 ghost use Rattle.cert_join.specs.declared.trees.Task.TheVariants as task;
-ghost use Rattle.cert_join.specs.Due.{AllGo, AllLeave, AreTaken, Course, IsAfter, IsCopying, IsDue, IsDueBehind, IsDueWeighed, IsHere, IsNextDue, IsStart, stacked, with_behind};
+ghost use Rattle.cert_join.specs.Due.{AllGo, AllLeave, AreTaken, Course, IsAfter, IsCopying, IsDue, IsDueBehind, IsDueWeighed, IsHere, IsNextDue, stacked, with_behind};
 ghost use Rattle.cert_join.specs.Gathered.{AllReady, AllThere, AreAlike, AreDistinct, AreNext, ArePassed, AreResized, Meeting, going, leaving, lists_of, parts_of, spot_at, text_at};
+ghost use Rattle.cert_join.specs.Joining.{IsFirstOf};
 
 use crate::cursor::Cursor;
 use crate::joiner::{ROOM, Step, apart};
@@ -287,16 +288,20 @@ fn copying(part: usize, waiting: u64) -> Task
 impl Trees {
     /// All certificates, of which there are so many, have a tree at the first place.
     pub fn new(alloc: Global, count: usize) -> Result<Self, AllocError>
-        ensures { IfOk result (λ t. (k : Course) (ts : List Tree) →
-            (text : List ℕ) (spots : List Spot) → IsStart k ts count text spots →
-            IsNextDue k t.task (stacked t.places.items) text spots) }
+        ensures { IfOk result (λ trees. IsFirstOf count trees) }
     {
         let mut all: Vec<usize> = Vec::new(alloc);
         for part in 0..count {
-            all.push(part)?;
+            match all.push(part) {
+                Ok(()) => {}
+                Err(_) => return Err(AllocError),
+            }
         }
         let mut places = Vec::new(alloc);
-        places.push(all)?;
+        match places.push(all) {
+            Ok(()) => {}
+            Err(_) => return Err(AllocError),
+        }
         Ok(Trees {
             alloc,
             places,
