@@ -163,6 +163,9 @@ record AllTaken (numbers : List (List ℕ)) (covers : List Cover) (n : ℕ) (y :
   number : number_at numbers i k ≡ n
   same : y ≡ lemma_by (get_or numbers i []) x
 
+moved : (n a b c d m : ℕ) → n ≡ a + d → a ≡ b + c → m ≡ c + d → n ≡ b + m
+moved n a b c d m e f g = omega (arith, e, f, g)
+
 all_taken : (numbers : List (List ℕ)) (covers : List Cover) (ts after : List (List ℕ)) (m : ℕ) (y : Lemma) → AllHaveNumbers ts numbers covers after →
     slice_get (written_from (length ts) numbers covers) m ≡ Some y → AllTaken numbers covers (length ts + m) y
 all_taken [] [] ts after m y h e = absurd (none_some y e)
@@ -177,7 +180,7 @@ all_taken (ns ∷ numbers) (c ∷ covers) ts after m y h e =
           record { i = 0; k = r.k; c = c; x = r.x; covers_at = refl; here = r.here; number = r.number; same = r.same }
       | inr g ↦
           let r = all_taken numbers covers h.0 after g.0 y h.2 (ap (λ (k : ℕ). slice_get (written_from k numbers covers) g.0) one ∙ g.2) in
-          record { i = suc r.i; k = r.k; c = r.c; x = r.x; covers_at = r.covers_at; here = r.here; number = r.number ∙ (let q = one in let q' = g.1 in omega (arith, q, q')); same = r.same }
+          record { i = suc r.i; k = r.k; c = r.c; x = r.x; covers_at = r.covers_at; here = r.here; number = moved (number_at numbers r.i r.k) (length h.0) (length ts) (length A) g.0 m r.number one g.1; same = r.same }
     ]
 
 -- ---- no text twice
@@ -264,3 +267,23 @@ are_all_lemmas numbers covers after spelled h =
 pub all_counted : (numbers : List (List ℕ)) (covers : List Cover) (after : List (List ℕ)) → AllHaveNumbers [] numbers covers after →
     length (written_from 0 numbers covers) ≡ length after
 all_counted numbers covers after h = sym (length-map (written_from 0 numbers covers) state_text) ∙ sym (ap (λ (a : List (List ℕ)). length a) (all_new numbers covers [] after h))
+
+one_long : (ns : List ℕ) (xs : List Lemma) (ts after : List (List ℕ)) → HaveNumbers ts ns xs after → length ns ≡ length xs
+one_long [] [] ts after h = refl
+one_long [] (x ∷ xs) ts after h = absurd h
+one_long (n ∷ ns) [] ts after h = absurd h
+one_long (n ∷ ns) (x ∷ xs) ts after h = let r = one_long ns xs h.0 after h.2 in omega (arith, r)
+
+pub all_many : (numbers : List (List ℕ)) (covers : List Cover) (ts after : List (List ℕ)) → AllHaveNumbers ts numbers covers after → length numbers ≡ length covers
+all_many [] [] ts after h = refl
+all_many [] (c ∷ covers) ts after h = absurd h
+all_many (ns ∷ numbers) [] ts after h = absurd h
+all_many (ns ∷ numbers) (c ∷ covers) ts after h = let r = all_many numbers covers h.0 after h.2 in omega (arith, r)
+
+pub all_long : (numbers : List (List ℕ)) (covers : List Cover) (ts after : List (List ℕ)) (i : ℕ) (c : Cover) → AllHaveNumbers ts numbers covers after →
+    slice_get covers i ≡ Some c → length (get_or numbers i []) ≡ length c.lemmas
+all_long [] [] ts after i c h e = absurd (none_some c e)
+all_long [] (d ∷ covers) ts after i c h e = absurd h
+all_long (ns ∷ numbers) [] ts after i c h e = absurd h
+all_long (ns ∷ numbers) (d ∷ covers) ts after zero c h e = one_long ns d.lemmas ts h.0 h.1 ∙ ap (λ (x : Cover). length x.lemmas) (some_same d c e)
+all_long (ns ∷ numbers) (d ∷ covers) ts after (suc i) c h e = all_long numbers covers h.0 after i c h.2 e

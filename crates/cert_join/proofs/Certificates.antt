@@ -23,7 +23,7 @@ use Rattle.cert_join.specs.Ahead.{AreBefore}
 use Rattle.cert_join.specs.Spot.{Spot, IsBefore, IsFirst, IsMark, IsNext, line_in, rewound}
 use Rattle.cert_join.specs.Written.{texts_of, behind_header}
 use Rattle.cert_join.specs.Numbered.{line_kind, IsKnown, HaveNumbers, AllHaveNumbers, IsAt, IsBetween, tail_lines, TakesLine, TakesNext, EndsPart, IsMarked, IsReadingPart, IsPartRead, StaysInPart, ReadsPart, lists_of, around, IsResting, IsWithin, IsNumbering, AreNumbered, ReadsLemmas}
-use Rattle.cert_join.proofs.AllNumbers.{AreStatesSpelled, are_all_lemmas, all_counted}
+use Rattle.cert_join.proofs.AllNumbers.{AreStatesSpelled, are_all_lemmas, all_counted, all_long, all_many}
 use Rattle.cert_join.proofs.Headers.{text_at, take_whole}
 use Rattle.cert_join.proofs.Spots.{before_again, before_same}
 use Rattle.cert_join.proofs.Walks.{HasBoxes, all_split, takes, at_tree}
@@ -385,6 +385,8 @@ all_numbered certs covers n spots t h over = go h.here
         record {
           ahead = r.ahead;
           lemmas = are_all_lemmas (lists_of n) covers h.before (states_spelled covers certs t) all;
+          many = all_many (lists_of n) covers [] h.before all;
+          long = λ i c e. all_long (lists_of n) covers [] h.before i c all e;
           count = r.count ∙ r.is_known.count ∙ sym (all_counted (lists_of n) covers h.before all);
           texts = h.before;
           numbers = all;

@@ -1,17 +1,17 @@
 -- Trees at one place are sorted by what their first lines leave.
-use Rattle.std.proofs.Common.{◌≡◌, ◌<◌, ◌≤◌, ℕ, suc, zero, ◌+◌, List, [], ◌∷◌, ◌++◌, length, map, get_or, Bool, true, false, cond, ◌||◌, Some, nat_eq, inl, inr, refl, sym, ap, subst, ◌∙◌, arith, append_assoc}
+use Rattle.std.proofs.Common.{◌≡◌, ◌<◌, ℕ, suc, List, [], ◌∷◌, ◌++◌, length, map, Bool, true, false, cond, ◌||◌, nat_eq, inl, inr, refl, sym, ap, subst, ◌∙◌, arith, append_assoc}
 use Rattle.std.specs.List.{AllByRecursion}
-use Rattle.std.proofs.lemmas.Bool.{eqb-true, ne_eqb, both_ways, eq-eqb, cases_Bool}
+use Rattle.std.proofs.lemmas.Bool.{ne_eqb, both_ways, eq-eqb, cases_Bool}
 use Rattle.std.proofs.lemmas.List.{append-nil, length-map}
 use Rattle.cover_model.specs.Rules.{Line}
 use Rattle.cover_model.specs.Derivation.{Tree, leaf, then, fork, tree_lines}
 use Rattle.cert_joined.specs.Joined.{first_line}
-use Rattle.cert_joined.specs.Covers.{Arity, arity, IsShaped}
+use Rattle.cert_joined.specs.Covers.{arity, IsShaped}
 use Rattle.cert_join.specs.Kinds.{rule_text}
-use Rattle.cert_join.specs.Spot.{Spot, IsBefore, IsReady, line_in}
-use Rattle.cert_join.specs.Gathered.{spot_at, is_in, AreDistinct, Stand, AllReady, Passed, PassedIf, ArePassed, Meeting, parts_of, does_leave, going, leaving, IsNextOf, AreNext}
-use Rattle.cert_join.specs.Due.{rule_texts, AreSpelled, AreTreesOf, due_behind, lines_at, lines_due, IsMeeting, Yields, Course, IsWhole, IsDue, IsDueBehind, IsHere, AllGo, AllLeave}
-use Rattle.cert_join.proofs.Meetings.{AheadIf, stand_passed, ahead_before, next_known, AllShaped, AllSpelled, ahead_going, cut_first, first_spelled, lines_behind, none_leaving, not_there, or_parts}
+use Rattle.cert_join.specs.Spot.{Spot, IsBefore, IsReady}
+use Rattle.cert_join.specs.Gathered.{spot_at, is_in, AreDistinct, Stand, AllReady, AllThere, PassedIf, ArePassed, Meeting, parts_of, does_leave, going, leaving, AreNext}
+use Rattle.cert_join.specs.Due.{rule_texts, AreTreesOf, due_behind, lines_at, lines_due, IsMeeting, Yields, Course, IsWhole, IsDue, IsDueBehind, IsHere, AllGo, AllLeave}
+use Rattle.cert_join.proofs.Meetings.{stand_passed, ahead_before, next_known, AllShaped, AllSpelled, ahead_going, cut_first, first_spelled, lines_behind, none_leaving, not_there, or_parts}
 use Rattle.cert_join.proofs.Yielding.{yields_going, yields_one, all_go, all_leave}
 
 -- ---- the next lines
@@ -29,18 +29,21 @@ module _ (cert : ℕ → List ℕ) (ahead : ℕ → List (List ℕ)) (s : List S
   all-next : (place : Meeting) → AreDistinct (parts_of place) → AllShaped place → AllSpelled place →
       ((i : ℕ) → is_in i (parts_of place) ≡ true → (more : List (List ℕ)) × (ahead i ≡ lines_at i place ++ more)) → AllReady (parts_of place) s → AreNext s place
   all-next [] d shaped spelled h ready = tt
-  all-next (x ∷ place) d shaped spelled h ready =
-      ( ( (λ n.
-            let m = h x.0 (in-first x place) in
-            let tail : List (List ℕ) = lines_behind (arity (first_line x.1)) x.1 in
-            let e : ahead x.0 ≡ rule_text (first_line x.1) ∷ (tail ++ m.0) =
-                m.1 ∙ ap (λ b. cond b (rule_texts (tree_lines x.1)) (lines_at x.0 place) ++ m.0) (eq-eqb x.0 x.0 refl) ∙ ap (λ z. z ++ m.0) (cut_first (arity (first_line x.1)) x.1 refl shaped.0) in
-            let P : List (List ℕ) → Type 0 = λ z. IsBefore (cert x.0) z (spot_at s x.0) in
-            next_known (cert x.0) (rule_text (first_line x.1)) (tail ++ m.0) (spot_at s x.0) (first_spelled x.1 spelled.0).1 (subst P e (stand x.0 n)) (ready x.0 n (in-first x place)))
-        , first_spelled x.1 spelled.0 )
-      , all-next place d.1 shaped.1 spelled.1
-          (λ i q. let m = h i (in-later i x place q) in (m.0, m.1 ∙ ap (λ b. cond b (rule_texts (tree_lines x.1)) (lines_at i place) ++ m.0) (skip-at i x place d.0 q)))
-          (λ i n q. ready i n (in-later i x place q)) )
+  all-next (x ∷ place) d shaped spelled h ready = (
+    (
+      (λ n.
+          let m = h x.0 (in-first x place) in
+          let tail : List (List ℕ) = lines_behind (arity (first_line x.1)) x.1 in
+          let e : ahead x.0 ≡ rule_text (first_line x.1) ∷ (tail ++ m.0) =
+          m.1 ∙ ap (λ b. cond b (rule_texts (tree_lines x.1)) (lines_at x.0 place) ++ m.0) (eq-eqb x.0 x.0 refl) ∙ ap (λ z. z ++ m.0) (cut_first (arity (first_line x.1)) x.1 refl shaped.0) in
+          let P : List (List ℕ) → Type 0 = λ z. IsBefore (cert x.0) z (spot_at s x.0) in
+          next_known (cert x.0) (rule_text (first_line x.1)) (tail ++ m.0) (spot_at s x.0) (first_spelled x.1 spelled.0).1 (subst P e (stand x.0 n)) (ready x.0 n (in-first x place))),
+      first_spelled x.1 spelled.0,
+    ),
+    all-next place d.1 shaped.1 spelled.1
+        (λ i q. let m = h i (in-later i x place q) in (m.0, m.1 ∙ ap (λ b. cond b (rule_texts (tree_lines x.1)) (lines_at i place) ++ m.0) (skip-at i x place d.0 q)))
+        (λ i n q. ready i n (in-later i x place q)),
+  )
 
 -- the trees that are due at the first place, whose lines are ready
 make-here : (k : Course) (now : List ℕ) (parts : List (List ℕ)) (text : List ℕ) (s : List Spot) (first : ℕ × Tree) (others : Meeting) (due : List Meeting) → parts_of (first ∷ others) ≡ now → map parts_of due ≡ parts →
@@ -49,7 +52,16 @@ make-here : (k : Course) (now : List ℕ) (parts : List (List ℕ)) (text : List
 make-here k now parts text s first others due here places met good ready stand whole =
     let P : List ℕ → Type 0 = λ z. AllReady z s in
     record {
-      first = first; others = others; due = due; here = here; places = places; met = met; good = good; ready = ready; stand = stand; whole = whole;
+      first = first;
+      others = others;
+      due = due;
+      here = here;
+      places = places;
+      met = met;
+      good = good;
+      ready = ready;
+      stand = stand;
+      whole = whole;
       next = all-next k.cert (λ i. lines_due i ((first ∷ others) ∷ due) ++ k.rest i) s stand (first ∷ others) met.distinct met.shaped met.spelled
           (λ i q. (lines_due i due ++ k.rest i, append_assoc (lines_at i (first ∷ others)) (lines_due i due) (k.rest i))) (subst P (sym here) ready);
     }
@@ -143,15 +155,19 @@ module _ (k : Course) (now : List ℕ) (parts : List (List ℕ)) (text : List �
       let Y : Meeting → Type 0 = λ z. (out : List ℕ) → Yields k.numbers (z ∷ h.due) out → IsWhole k (text ++ out) in
       let some' : 0 < length (going whole) = omega (arith, ap length e) in
       let met : IsMeeting (going whole) = record {
-          some = some'; distinct = distinct-going whole h.met.distinct; shaped = all-going _ whole h.met.shaped; spelled = all-going _ whole h.met.spelled;
-        } in
+        some = some';
+        distinct = distinct-going whole h.met.distinct;
+        shaped = all-going _ whole h.met.shaped;
+        spelled = all-going _ whole h.met.spelled;
+      } in
       let stand : Stand k.cert (λ i. lines_due i (going whole ∷ h.due) ++ k.rest i) t =
-          stand_passed k.cert (λ i. lines_due i (whole ∷ h.due) ++ k.rest i) (λ i. lines_due i (going whole ∷ h.due) ++ k.rest i) (parts_of (leaving whole)) s t
-              (λ i. ahead_before _ _ _ _ _ (ahead_going i whole h.met.distinct h.met.shaped h.met.spelled)) h.stand
-              (λ i n q. elim (cases_Bool (is_in i (parts_of whole))) [ inl f ↦ h.ready i n (ap (is_in i) (sym h.here) ∙ f) | inr f ↦ absurd (both_ways _ (none_leaving i whole f) q) ]) passed in
-      ( make-here k (parts_of (y ∷ more)) parts text t y more h.due refl h.places (subst M e met) h.good (subst R e (still-ready passed)) (subst S e stand)
-          (subst Y e (λ out z. h.whole out (yields_going k.numbers whole h.due out h.met.shaped (all-going _ whole h.met.shaped) z)))
-      , subst G e (all_go whole) )
+      stand_passed k.cert (λ i. lines_due i (whole ∷ h.due) ++ k.rest i) (λ i. lines_due i (going whole ∷ h.due) ++ k.rest i) (parts_of (leaving whole)) s t
+      (λ i. ahead_before _ _ _ _ _ (ahead_going i whole h.met.distinct h.met.shaped h.met.spelled)) h.stand
+      (λ i n q. elim (cases_Bool (is_in i (parts_of whole))) [ inl f ↦ h.ready i n (ap (is_in i) (sym h.here) ∙ f) | inr f ↦ absurd (both_ways _ (none_leaving i whole f) q) ]) passed in (
+        make-here k (parts_of (y ∷ more)) parts text t y more h.due refl h.places (subst M e met) h.good (subst R e (still-ready passed)) (subst S e stand)
+            (subst Y e (λ out z. h.whole out (yields_going k.numbers whole h.due out h.met.shaped (all-going _ whole h.met.shaped) z))),
+        subst G e (all_go whole),
+      )
 
   pub going_here : (grown left : List ℕ) → grown ≡ parts_of (going (h.first ∷ h.others)) → left ≡ parts_of (leaving (h.first ∷ h.others)) → 0 < length grown → (AreDistinct left → ArePassed left s t) →
       (n : IsHere k grown parts text t) × AllGo (n.first ∷ n.others)
@@ -161,6 +177,14 @@ module _ (k : Course) (now : List ℕ) (parts : List (List ℕ)) (text : List �
       let Q : List ℕ → Type 0 = λ z. (n : IsHere k z parts text t) × AllGo (n.first ∷ n.others) in
       let some' : 0 < length (going whole) = omega (arith, ap length e, length-map {A = ℕ × Tree} {B = ℕ} (going whole) (λ (x : ℕ × Tree). x.0)) in
       subst Q (sym e) (here-going (going whole) refl some' (subst P f passed (distinct-leaving whole h.met.distinct)))
+
+  pub going_there : (grown left : List ℕ) → grown ≡ parts_of (going (h.first ∷ h.others)) → left ≡ parts_of (leaving (h.first ∷ h.others)) → (AreDistinct left → ArePassed left s t) → AllThere now s → AllThere grown t
+  going_there grown left e f passed there i q =
+      let whole : Meeting = h.first ∷ h.others in
+      let P : List ℕ → Type 0 = λ z. AreDistinct z → ArePassed z s t in
+      let c = subst P f passed (distinct-leaving whole h.met.distinct) in
+      let n : i < length s = there i (ap (is_in i) (sym h.here) ∙ gone-in i whole (ap (is_in i) (sym e) ∙ q)) in
+      omega (arith, c.count)
 
   -- none goes on
   pub leaving_here : (grown : List ℕ) → grown ≡ parts_of (going (h.first ∷ h.others)) → length grown ≡ 0 → AllLeave (h.first ∷ h.others)

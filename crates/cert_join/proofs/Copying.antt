@@ -1,11 +1,10 @@
 -- One more line of a certificate's tree is copied.
-use Rattle.std.proofs.Common.{◌≡◌, ◌<◌, ◌≤◌, ℕ, suc, ◌+◌, ◌-◌, ◌^◌, List, [], ◌∷◌, ◌++◌, length, map, Bool, true, false, cond, Option, Some, Ok, refl, sym, ap, subst, ◌∙◌, append_assoc, arith, nat_eq, drop, min, length-append, length-drop}
+use Rattle.std.proofs.Common.{◌≡◌, ◌<◌, ◌≤◌, ℕ, suc, ◌-◌, ◌^◌, List, [], ◌∷◌, ◌++◌, length, Bool, true, false, cond, Option, Some, Ok, refl, sym, ap, subst, ◌∙◌, append_assoc, arith, nat_eq, drop, length-append, length-drop}
 use Rattle.std.proofs.lemmas.List.{length-map}
 use Rattle.cover_model.specs.Rules.{Line}
 use Rattle.cert_read.specs.CertLine.{CertLine, rule_line}
 use Rattle.cert_read.specs.LineText.{IsSpelled, line_text}
 use Rattle.cert_read.specs.Lines.{split_at, onto_first, without_last_empty, lines_of}
-use Rattle.cert_model.specs.Accepted.{most_bytes}
 use Rattle.cert_joined.specs.Covers.{Arity, ends, goes_on, splits, arity, line_by, numbered}
 use Rattle.cert_join.specs.declared.line.Left.{Left}
 use Rattle.cert_join.specs.declared.line.Left.TheVariants.{Nothing, One, Two, Open, Stuck}
@@ -103,25 +102,25 @@ module _ (cert numbers : List ℕ) (rest : List (List ℕ)) (whole : List ℕ) (
       IsCopying cert numbers rest whole (waiting_behind k n) (after ++ (10 ∷ [])) u
   copied [] trees spelled before whole-is some same ready line-is left taken passed = no-lines n some trees
   copied (l ∷ ls) trees spelled before whole-is some same ready line-is left taken passed =
-    let b : IsBefore cert (rule_text l ∷ (rule_texts ls ++ rest)) t = resized cert _ s t same before in
-    let e : line ≡ rule_text l = line_known cert (rule_text l) line _ t b ready line-is in
-    let few : length (rule_text l ∷ (rule_texts ls ++ rest)) ≤ 2 ^ 64 = few_lines cert _ t b in
-    let fewer : length ls ≤ 2 ^ 64 - 1 = omega (arith, length-map {A = Line} {B = List ℕ} ls rule_text, length-append (rule_texts ls) rest) in
-    let app : after ≡ text ++ rule_text (line_by (numbered numbers) l) = (taken (rule_line l) e spelled.0).0 in
-    let own : List ℕ = rule_text (line_by (numbered numbers) l) in
-    record {
-      lines = ls;
-      trees = waits k l n ls (first-left k l line e left) fewer trees.1;
-      spelled = spelled.1;
-      before = passed cert (rule_text l) _ b (line-is ∙ ap (λ x. Some x) e);
-      adds_up = whole-is ∙ sym (ap (λ x. (x ++ (10 ∷ [])) ++ text_by numbers ls) app ∙ append_assoc (text ++ own) (10 ∷ []) (text_by numbers ls) ∙ append_assoc text own (10 ∷ text_by numbers ls));
-    }
+      let b : IsBefore cert (rule_text l ∷ (rule_texts ls ++ rest)) t = resized cert _ s t same before in
+      let e : line ≡ rule_text l = line_known cert (rule_text l) line _ t b ready line-is in
+      let few : length (rule_text l ∷ (rule_texts ls ++ rest)) ≤ 2 ^ 64 = few_lines cert _ t b in
+      let fewer : length ls ≤ 2 ^ 64 - 1 = omega (arith, length-map {A = Line} {B = List ℕ} ls rule_text, length-append (rule_texts ls) rest) in
+      let app : after ≡ text ++ rule_text (line_by (numbered numbers) l) = (taken (rule_line l) e spelled.0).0 in
+      let own : List ℕ = rule_text (line_by (numbered numbers) l) in
+      record {
+        lines = ls;
+        trees = waits k l n ls (first-left k l line e left) fewer trees.1;
+        spelled = spelled.1;
+        before = passed cert (rule_text l) _ b (line-is ∙ ap (λ x. Some x) e);
+        adds_up = whole-is ∙ sym (ap (λ x. (x ++ (10 ∷ [])) ++ text_by numbers ls) app ∙ append_assoc (text ++ own) (10 ∷ []) (text_by numbers ls) ∙ append_assoc text own (10 ∷ text_by numbers ls));
+      }
 
   pub line_copied : (b : Bool) (w : ℕ) (text' : List ℕ) → 0 < n → IsCopying cert numbers rest whole n text s → t ≡ record s { size = t.size } → IsReady t → Some line ≡ line_in t →
       ((r : Line) → line ≡ rule_text r → Some k ≡ Some (left_kind r)) → Taken numbers line text after b → b ≡ true → Passed t u →
       w ≡ waiting_behind k n → text' ≡ after ++ (10 ∷ []) → IsCopying cert numbers rest whole w text' u
   line_copied b w text' some d same ready line-is left taken is passed w-is text-is =
-    let P : Bool → Type 0 = λ x. Taken numbers line text after x in
-    let Q : ℕ → Type 0 = λ x. IsCopying cert numbers rest whole x text' u in
-    let R : List ℕ → Type 0 = λ x. IsCopying cert numbers rest whole (waiting_behind k n) x u in
-    subst Q (sym w-is) (subst R (sym text-is) (copied d.lines d.trees d.spelled d.before d.adds_up some same ready (sym line-is) left (subst P is taken) passed))
+      let P : Bool → Type 0 = λ x. Taken numbers line text after x in
+      let Q : ℕ → Type 0 = λ x. IsCopying cert numbers rest whole x text' u in
+      let R : List ℕ → Type 0 = λ x. IsCopying cert numbers rest whole (waiting_behind k n) x u in
+      subst Q (sym w-is) (subst R (sym text-is) (copied d.lines d.trees d.spelled d.before d.adds_up some same ready (sym line-is) left (subst P is taken) passed))

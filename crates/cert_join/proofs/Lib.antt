@@ -4,6 +4,7 @@ pub mod Certificates
 pub mod Choices
 pub mod Comparing
 pub mod Copying
+pub mod Differing
 pub mod Drafts
 pub mod Given
 pub mod Headers
@@ -21,7 +22,10 @@ pub mod Sorting
 pub mod Spaced
 pub mod Spots
 pub mod Standing
+pub mod Starting
 pub mod Stepping
 pub mod Walks
+pub mod Steps
 pub mod Weighs
 pub mod Yielding
+pub mod Moved

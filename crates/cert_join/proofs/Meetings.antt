@@ -1,7 +1,7 @@
 -- Trees at one place, and what is behind their first lines.
-use Rattle.std.proofs.Common.{◌≡◌, ◌<◌, ◌≤◌, ℕ, suc, zero, ◌+◌, List, [], ◌∷◌, ◌++◌, length, map, Bool, true, false, cond, ◌||◌, Option, Some, None, nat_eq, refl, sym, ap, subst, ◌∙◌, arith, append_assoc}
+use Rattle.std.proofs.Common.{◌≡◌, ◌<◌, ◌≤◌, ℕ, List, [], ◌∷◌, ◌++◌, length, map, Bool, true, false, cond, ◌||◌, Option, Some, None, nat_eq, refl, sym, ap, subst, ◌∙◌, arith}
 use Rattle.std.specs.List.{AllByRecursion}
-use Rattle.std.proofs.lemmas.Bool.{eqb-true, ne_eqb, both_ways}
+use Rattle.std.proofs.lemmas.Bool.{eqb-true}
 use Rattle.std.proofs.lemmas.List.{append-nil}
 use Rattle.cover_model.specs.Rules.{Line, pull, unit, void, push, void_no, combine, void_combine, ban, make_false, by, cut, flip, case, open_line, stuck}
 use Rattle.cover_model.specs.Derivation.{Tree, leaf, then, fork, tree_lines}
@@ -12,8 +12,8 @@ use Rattle.cert_joined.specs.Joined.{first_line}
 use Rattle.cert_joined.specs.Covers.{Arity, ends, goes_on, splits, arity, IsShaped}
 use Rattle.cert_join.specs.Kinds.{rule_text}
 use Rattle.cert_join.specs.Spot.{Spot, IsBefore, IsFirst, IsReady, line_in}
-use Rattle.cert_join.specs.Gathered.{leaves, spot_at, is_in, AreDistinct, Stand, AllReady, Passed, PassedIf, ArePassed, Meeting, parts_of, does_leave, going, leaving, IsNextOf, AreNext}
-use Rattle.cert_join.specs.Due.{rule_texts, AreSpelled, lines_at, lines_due, IsMeeting}
+use Rattle.cert_join.specs.Gathered.{leaves, spot_at, is_in, AreDistinct, Stand, AllReady, PassedIf, ArePassed, Meeting, parts_of, does_leave, going, leaving}
+use Rattle.cert_join.specs.Due.{rule_texts, AreSpelled, lines_at, lines_due}
 
 -- ---- passing lines
 

@@ -1,9 +1,9 @@
 -- Places in several certificates, one after the other.
-use Rattle.std.proofs.Common.{◌≡◌, ◌≢◌, ◌<◌, ◌≤◌, ◌⊎◌, inl, inr, ℕ, suc, zero, ◌+◌, List, [], ◌∷◌, ◌++◌, length, take, get_or, set, Bool, true, false, ◌||◌, refl, sym, ap, subst, ◌∙◌, arith, nat_eq, get_or-set_other, get_or-set_same, length-set}
+use Rattle.std.proofs.Common.{◌≡◌, ◌≢◌, ◌<◌, ◌≤◌, inl, inr, ℕ, suc, zero, ◌+◌, List, [], ◌∷◌, ◌++◌, length, take, get_or, set, Bool, true, false, ◌||◌, refl, sym, ap, subst, ◌∙◌, arith, nat_eq, get_or-set_other, get_or-set_same, length-set}
 use Rattle.std.proofs.lemmas.Bool.{eqb-true, eq-eqb, ne_eqb, cases_eq, both_ways}
 use Rattle.std.proofs.lemmas.List.{get_or_default, take_all, take_more}
-use Rattle.cert_join.specs.Spot.{Spot, IsBefore, IsReady, line_in}
-use Rattle.cert_join.specs.Gathered.{spot_at, nowhere, is_in, AreDistinct, Stand, AllReady, AreResized, Passed, PassedIf, ArePassed}
+use Rattle.cert_join.specs.Spot.{Spot, IsReady}
+use Rattle.cert_join.specs.Gathered.{spot_at, nowhere, is_in, AreDistinct, AllReady, AllThere, AreResized, Passed, PassedIf, ArePassed}
 
 -- ---- one of them is replaced
 
@@ -63,11 +63,11 @@ pub passed_one : (spots : List Spot) (p : ℕ) (t : Spot) → p < length spots �
 passed_one spots p t h passed = record {
   count = length-set spots p t;
   each = λ i h'. elim (cases_eq i p) [
-      inl e ↦ let P : ℕ → Type 0 = λ j. PassedIf (is_in j (p ∷ [])) (spot_at spots j) (spot_at (set spots p t) j) in
-          subst P (sym e) (let Q : Bool → Type 0 = λ b. PassedIf b (spot_at spots p) (spot_at (set spots p t) p) in
-              subst Q (sym (or-left _ false (eq-eqb p p refl))) (let R : Spot → Type 0 = λ s. Passed (spot_at spots p) s in subst R (sym (spot_same spots p t h)) passed))
+    | inl e ↦ let P : ℕ → Type 0 = λ j. PassedIf (is_in j (p ∷ [])) (spot_at spots j) (spot_at (set spots p t) j) in
+        subst P (sym e) (let Q : Bool → Type 0 = λ b. PassedIf b (spot_at spots p) (spot_at (set spots p t) p) in
+        subst Q (sym (or-left _ false (eq-eqb p p refl))) (let R : Spot → Type 0 = λ s. Passed (spot_at spots p) s in subst R (sym (spot_same spots p t h)) passed))
     | inr ne ↦ let Q : Bool → Type 0 = λ b. PassedIf b (spot_at spots i) (spot_at (set spots p t) i) in
-          subst Q (sym (or-none _ false (ne_eqb i p ne))) (spot_other spots p i t ne)
+        subst Q (sym (or-none _ false (ne_eqb i p ne))) (spot_other spots p i t ne)
   ];
 }
 
@@ -96,7 +96,7 @@ passed_more parts k p a b c h e d was now = record {
       let P : Bool → Type 0 = λ x. PassedIf x (spot_at a i) (spot_at c i) in
       let apart : nat_eq i p ≡ true → is_in i (take k parts) ≡ false = λ q. ap (λ x. is_in x (take k parts)) (eqb-true i p q ∙ e) ∙ not-before parts k h d in
       subst P (sym (ap (is_in i) f ∙ in_more i p (take k parts)))
-          (passed-both (is_in i (take k parts)) (nat_eq i p) _ (spot_at b i) _ apart (was.each i h') (now.each i n));
+      (passed-both (is_in i (take k parts)) (nat_eq i p) _ (spot_at b i) _ apart (was.each i h') (now.each i n));
 }
 
 -- ---- what is known of the next lines
@@ -112,8 +112,8 @@ pub resized_more : (a b : List Spot) (p : ℕ) (t : Spot) → p < length b → A
 resized_more a b p t h r e = record {
   count = length-set b p t ∙ r.count;
   each = λ i. let P : Spot → Spot → Type 0 = λ x y. y ≡ record x { size = y.size } in elim (cases_eq i p) [
-      inl q ↦ let Q : ℕ → Type 0 = λ j. P (spot_at a j) (spot_at (set b p t) j) in
-          subst Q (sym q) (let R : Spot → Type 0 = λ y. P (spot_at a p) y in subst R (sym (spot_same b p t h)) (resized-both (spot_at a p) (spot_at b p) t (r.each p) e))
+    | inl q ↦ let Q : ℕ → Type 0 = λ j. P (spot_at a j) (spot_at (set b p t) j) in
+        subst Q (sym q) (let R : Spot → Type 0 = λ y. P (spot_at a p) y in subst R (sym (spot_same b p t h)) (resized-both (spot_at a p) (spot_at b p) t (r.each p) e))
     | inr ne ↦ let R : Spot → Type 0 = λ y. P (spot_at a i) y in subst R (sym (spot_other b p i t ne)) (r.each i)
   ];
 }
@@ -125,7 +125,7 @@ ready_none spots i h e = absurd (both_ways false refl e)
 pub ready_more : (parts : List ℕ) (k p : ℕ) (b : List Spot) (t : Spot) → k < length parts → p ≡ get_or parts k 0 → p < length b →
     AllReady (take k parts) b → IsReady t → AllReady (take (k + 1) parts) (set b p t)
 ready_more parts k p b t h e n was now i h' m = elim (cases_eq i p) [
-    inl q ↦ let P : ℕ → Type 0 = λ j. IsReady (spot_at (set b p t) j) in subst P (sym q) (let R : Spot → Type 0 = λ y. IsReady y in subst R (sym (spot_same b p t n)) now)
+  | inl q ↦ let P : ℕ → Type 0 = λ j. IsReady (spot_at (set b p t) j) in subst P (sym q) (let R : Spot → Type 0 = λ y. IsReady y in subst R (sym (spot_same b p t n)) now)
   | inr ne ↦ let R : Spot → Type 0 = λ y. IsReady y in
       let f : take (k + 1) parts ≡ take k parts ++ (p ∷ []) = take_more parts k 0 h ∙ ap (λ x. take k parts ++ (x ∷ [])) (sym e) in
       subst R (sym (spot_other b p i t ne)) (was i (omega (arith, length-set b p t)) (sym (or-none' _ _ (ne_eqb i p ne)) ∙ sym (ap (is_in i) f ∙ in_more i p (take k parts)) ∙ m))
@@ -156,3 +156,16 @@ ready_all parts k b h r = let P : List ℕ → Type 0 = λ x. AllReady x b in su
 
 pub passed_all : (parts : List ℕ) (k : ℕ) (a b : List Spot) → length parts ≤ k → ArePassed (take k parts) a b → ArePassed parts a b
 passed_all parts k a b h r = let P : List ℕ → Type 0 = λ x. ArePassed x a b in subst P (take_all k parts h) r
+
+pub there_none : (spots : List Spot) → AllThere [] spots
+there_none spots i e = absurd (both_ways false refl e)
+
+-- one more is there
+pub there_more : (parts : List ℕ) (k : ℕ) (spots : List Spot) → k < length parts → get_or parts k 0 < length spots → AllThere (take k parts) spots → AllThere (take (k + 1) parts) spots
+there_more parts k spots h n was i m = elim (cases_eq i (get_or parts k 0)) [
+  | inl q ↦ let P : ℕ → Type 0 = λ j. j < length spots in subst P (sym q) n
+  | inr ne ↦ was i (sym (or-none' _ _ (ne_eqb i _ ne)) ∙ sym (ap (is_in i) (take_more parts k 0 h) ∙ in_more i (get_or parts k 0) (take k parts)) ∙ m)
+]
+
+pub there_all : (parts : List ℕ) (k : ℕ) (spots : List Spot) → length parts ≤ k → AllThere (take k parts) spots → AllThere parts spots
+there_all parts k spots h r = let P : List ℕ → Type 0 = λ x. AllThere x spots in subst P (take_all k parts h) r

@@ -1,5 +1,5 @@
 -- Trees at one place, by what their first lines leave.
-use Rattle.std.proofs.Common.{◌≡◌, ◌<◌, ◌≤◌, ℕ, suc, zero, ◌+◌, List, [], ◌∷◌, ◌++◌, length, map, take, get_or, Bool, true, false, cond, Option, Some, Ok, Vec, refl, sym, ap, subst, ◌∙◌, arith}
+use Rattle.std.proofs.Common.{◌≡◌, ◌<◌, ◌≤◌, ℕ, suc, zero, ◌+◌, List, [], ◌∷◌, ◌++◌, length, take, get_or, Bool, true, false, cond, Option, Some, Ok, Vec, refl, sym, ap, subst, ◌∙◌, arith}
 use Rattle.std.specs.List.{AllByRecursion}
 use Rattle.std.proofs.lemmas.List.{get_or_read, append-nil, take_more, take_all, map-append, length-map}
 use Rattle.cover_model.specs.Rules.{Line, open_line}
@@ -11,7 +11,7 @@ use Rattle.cert_joined.specs.Covers.{line_by, numbered}
 use Rattle.cert_join.specs.declared.line.Left.{Left}
 use Rattle.cert_join.specs.Kinds.{IsRenumbered, rule_text, left_kind, does_stay}
 use Rattle.cert_join.specs.Spot.{Spot, line_in}
-use Rattle.cert_join.specs.Gathered.{leaves, spot_at, nowhere, lists_of, numbers_at, Meeting, parts_of, does_leave, going, leaving, IsNextOf, AreNext, text_at, AreAlike}
+use Rattle.cert_join.specs.Gathered.{spot_at, nowhere, lists_of, numbers_at, Meeting, parts_of, does_leave, going, leaving, IsNextOf, AreNext, text_at, AreAlike}
 use Rattle.cert_join.proofs.Below.{leaving_left}
 
 some-tree : ℕ × Tree
@@ -85,11 +85,12 @@ module _ (place : Meeting) (parts : List ℕ) (k : ℕ) (spots : List Spot) (kin
   sorted_more grown left was =
       let x : ℕ × Tree = get_or place k some-tree in
       let c = cond-parts (does_leave x) x (get_or parts k 0) part-is in
-      let b : does_stay kind ≡ does_leave x = stays-so in
-      ( ap (λ z. z ++ cond (does_stay kind) [] (get_or parts k 0 ∷ [])) was.0 ∙ ap (λ z. parts_of (going (take k place)) ++ cond z [] (get_or parts k 0 ∷ [])) b
-          ∙ ap (λ z. parts_of (going (take k place)) ++ z) (sym c.0) ∙ sym going-more
-      , ap (λ z. z ++ cond (does_stay kind) (get_or parts k 0 ∷ []) []) was.1 ∙ ap (λ z. parts_of (leaving (take k place)) ++ cond z (get_or parts k 0 ∷ []) []) b
-          ∙ ap (λ z. parts_of (leaving (take k place)) ++ z) (sym c.1) ∙ sym leaving-more )
+      let b : does_stay kind ≡ does_leave x = stays-so in (
+        ap (λ z. z ++ cond (does_stay kind) [] (get_or parts k 0 ∷ [])) was.0 ∙ ap (λ z. parts_of (going (take k place)) ++ cond z [] (get_or parts k 0 ∷ [])) b
+            ∙ ap (λ z. parts_of (going (take k place)) ++ z) (sym c.0) ∙ sym going-more,
+        ap (λ z. z ++ cond (does_stay kind) (get_or parts k 0 ∷ []) []) was.1 ∙ ap (λ z. parts_of (leaving (take k place)) ++ cond z (get_or parts k 0 ∷ []) []) b
+            ∙ ap (λ z. parts_of (leaving (take k place)) ++ z) (sym c.1) ∙ sym leaving-more,
+      )
 
   Sorted-so : Bool → List ℕ → List ℕ → Type 0
   Sorted-so b grown left =
@@ -143,9 +144,11 @@ module _ (numbers : List (List ℕ)) (spots : List Spot) (x : ℕ × Tree) (plac
       (k < length place) × (line ≡ text_at numbers x.0 (first_line x.1)) × (other ≡ text_at numbers (get_or place k some-tree).0 (first_line (get_or place k some-tree).1))
   same-at k other h app' =
       let m : length (parts_of place) ≡ length others = ap length e in
-      let w : k < length place = omega (arith, length-map {A = ℕ × Tree} {B = ℕ} place (λ x. x.0)) in
-      ( w, appended numbers spots first [] line x first-is next.0 app
-      , appended numbers spots (get_or others k 0) [] other (get_or place k some-tree) (sym (part-at place k) ∙ ap (λ z. get_or z k 0) e) (all-at (IsNextOf spots) place k some-tree w next.1) app' )
+      let w : k < length place = omega (arith, length-map {A = ℕ × Tree} {B = ℕ} place (λ x. x.0)) in (
+        w,
+        appended numbers spots first [] line x first-is next.0 app,
+        appended numbers spots (get_or others k 0) [] other (get_or place k some-tree) (sym (part-at place k) ∙ ap (λ z. get_or z k 0) e) (all-at (IsNextOf spots) place k some-tree w next.1) app',
+      )
 
   -- one more is the same
   pub alike_more : (k : ℕ) (other : List ℕ) → k < length others → Appends numbers spots (get_or others k 0) [] other → line ≡ other →
@@ -181,7 +184,9 @@ pub line_appended : {Z : Type 0} (vs : List (Vec ℕ Z)) (part : ℕ) (spots : L
     numbers ≡ v.items → Some line ≡ line_in r → b ≡ true → ((l : CertLine) → line ≡ line_text l → IsSpelled l → IsRenumbered numbers l text after (Ok b)) → Appends (lists_of vs) spots part text after
 line_appended vs part spots r v numbers line text after b h h' e f n known is taken =
     let P : Bool → Type 0 = λ c. (l : CertLine) → line ≡ line_text l → IsSpelled l → IsRenumbered numbers l text after (Ok c) in
-    let q : r ≡ spot_at spots part = get_or_read spots part r h e nowhere in
-    (h, λ l same spelled.
-        let s : line ≡ rule_text l = some-same line (rule_text l) (line_in (spot_at spots part)) (known ∙ ap line_in q) same in
-        (subst P is taken (rule_line l) s spelled).0 ∙ ap (λ z. text ++ rule_text (line_by (numbered z) l)) (n ∙ numbers-at vs part v h' f))
+    let q : r ≡ spot_at spots part = get_or_read spots part r h e nowhere in (
+      h,
+      λ l same spelled.
+          let s : line ≡ rule_text l = some-same line (rule_text l) (line_in (spot_at spots part)) (known ∙ ap line_in q) same in
+          (subst P is taken (rule_line l) s spelled).0 ∙ ap (λ z. text ++ rule_text (line_by (numbered z) l)) (n ∙ numbers-at vs part v h' f),
+    )

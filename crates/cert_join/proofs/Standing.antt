@@ -1,11 +1,10 @@
 -- How what is due changes with each step.
-use Rattle.std.proofs.Common.{◌≡◌, ◌<◌, ◌≤◌, ℕ, suc, zero, ◌+◌, List, [], ◌∷◌, ◌++◌, length, map, Bool, true, false, cond, ◌||◌, Some, get_or, nat_eq, refl, sym, ap, subst, ◌∙◌, arith, append_assoc}
+use Rattle.std.proofs.Common.{◌≡◌, ◌<◌, ℕ, suc, List, [], ◌∷◌, ◌++◌, length, map, Some, get_or, refl, sym, ap, subst, ◌∙◌, arith, append_assoc}
 use Rattle.std.specs.List.{AllByRecursion}
-use Rattle.std.proofs.lemmas.Bool.{eqb-true, ne_eqb, both_ways, eq-eqb}
-use Rattle.std.proofs.lemmas.List.{append-nil, length-map}
+use Rattle.std.proofs.lemmas.List.{length-map}
 use Rattle.cover_model.specs.Rules.{Line}
 use Rattle.cover_model.specs.Derivation.{Tree, leaf, then, fork, tree_lines}
-use Rattle.cert_read.specs.CertLine.{CertLine, Parsed, line, parsed, rule_line}
+use Rattle.cert_read.specs.CertLine.{line, parsed, rule_line}
 use Rattle.cert_read.proofs.Spelled.{spelled_line}
 use Rattle.cert_read.specs.LineText.{IsSpelled}
 use Rattle.cert_joined.specs.Joined.{first_line}
@@ -13,12 +12,12 @@ use Rattle.cert_joined.specs.Covers.{Arity, ends, goes_on, splits, arity, line_b
 use Rattle.cert_join.specs.declared.line.Left.{Left}
 use Rattle.cert_join.specs.declared.line.Left.TheVariants.{Nothing, One, Two, Open, Stuck}
 use Rattle.cert_join.specs.Kinds.{rule_text, left_kind, arity_of}
-use Rattle.cert_join.specs.Spot.{Spot, IsBefore, IsReady, line_in}
-use Rattle.cert_join.specs.Gathered.{spot_at, is_in, AreDistinct, Stand, AllReady, Passed, PassedIf, ArePassed, Meeting, parts_of, does_leave, going, leaving, IsNextOf, AreNext, numbers_at, text_at, AreAlike}
-use Rattle.cert_join.specs.Due.{rule_texts, AreSpelled, AreTreesOf, due_behind, text_by, lines_at, lines_due, IsMeeting, trees_at, Yields, Course, IsWhole, IsDue, IsDueBehind, IsHere, AllGo, AllLeave, AreTaken, with_behind}
+use Rattle.cert_join.specs.Spot.{Spot, line_in}
+use Rattle.cert_join.specs.Gathered.{spot_at, is_in, AreDistinct, ArePassed, Meeting, parts_of, IsNextOf, numbers_at, text_at, AreAlike}
+use Rattle.cert_join.specs.Due.{AreSpelled, lines_at, lines_due, IsMeeting, Yields, Course, IsWhole, IsDue, IsHere, AllGo, AllLeave, AreTaken, with_behind}
 use Rattle.cert_join.proofs.Below.{arity_left}
-use Rattle.cert_join.proofs.Meetings.{AheadIf, stand_passed, ahead_before, next_known, below, second, all_below, all_second, behind_first, AllOf, AllShaped, AllSpelled, all_ends, ahead_behind, ahead_going, cut_first, first_spelled, lines_behind, going_cases}
-use Rattle.cert_join.proofs.Yielding.{ShareLine, yields_behind, yields_leave, yields_one, yields_going, going_same, arity_by}
+use Rattle.cert_join.proofs.Meetings.{AheadIf, stand_passed, ahead_before, below, second, all_below, all_second, behind_first, AllOf, AllShaped, AllSpelled, all_ends, ahead_behind, first_spelled}
+use Rattle.cert_join.proofs.Yielding.{ShareLine, yields_behind, yields_leave, arity_by}
 
 -- ---- the places behind a line
 
@@ -54,15 +53,20 @@ spelled-all (x ∷ place) s = let r = spelled-all place s.1 in let q = spelled-b
 
 good-below : (place : Meeting) → IsMeeting place → IsMeeting (all_below place) × IsMeeting (all_second place)
 good-below place g =
-    let P : List ℕ → Type 0 = λ z. AreDistinct z in
-    ( record {
+    let P : List ℕ → Type 0 = λ z. AreDistinct z in (
+      record {
         some = omega (arith, g.some, length-map {A = ℕ × Tree} {B = ℕ × Tree} place (λ (x : ℕ × Tree). (x.0, below x.1)));
-        distinct = subst P (sym (parts-below place)) g.distinct; shaped = (shaped-all place g.shaped).0; spelled = (spelled-all place g.spelled).0;
-      }
-    , record {
+        distinct = subst P (sym (parts-below place)) g.distinct;
+        shaped = (shaped-all place g.shaped).0;
+        spelled = (spelled-all place g.spelled).0;
+      },
+      record {
         some = omega (arith, g.some, length-map {A = ℕ × Tree} {B = ℕ × Tree} place (λ (x : ℕ × Tree). (x.0, second x.1)));
-        distinct = subst P (sym (parts-second place)) g.distinct; shaped = (shaped-all place g.shaped).1; spelled = (spelled-all place g.spelled).1;
-      } )
+        distinct = subst P (sym (parts-second place)) g.distinct;
+        shaped = (shaped-all place g.shaped).1;
+        spelled = (spelled-all place g.spelled).1;
+      },
+    )
 
 good-behind : (a : Arity) (place : Meeting) (due : List Meeting) → IsMeeting place → AllByRecursion IsMeeting due → AllByRecursion IsMeeting (behind_first a place ++ due)
 good-behind ends place due g h = h
@@ -85,8 +89,8 @@ taken k now parts parts' text text' own s t a h all yields passed e places =
       good = good-behind a place h.due h.met h.good;
       stand = stand_passed k.cert (λ i. lines_due i (place ∷ h.due) ++ k.rest i) (λ i. lines_due i (behind_first a place ++ h.due) ++ k.rest i) now s t
           (λ i. let P : List (List ℕ) → Type 0 = λ z. AheadIf (is_in i now) ((lines_at i place ++ lines_due i h.due) ++ k.rest i) (z ++ k.rest i) in
-              let Q : List ℕ → Type 0 = λ z. AheadIf (is_in i z) ((lines_at i place ++ lines_due i h.due) ++ k.rest i) ((lines_due i (behind_first a place) ++ lines_due i h.due) ++ k.rest i) in
-              subst P (sym (lines-append i (behind_first a place) h.due)) (subst Q h.here (ahead_before (is_in i (parts_of place)) (lines_at i place) (lines_due i (behind_first a place)) (lines_due i h.due) (k.rest i) (ahead_behind a i place all h.met.shaped h.met.spelled))))
+          let Q : List ℕ → Type 0 = λ z. AheadIf (is_in i z) ((lines_at i place ++ lines_due i h.due) ++ k.rest i) ((lines_due i (behind_first a place) ++ lines_due i h.due) ++ k.rest i) in
+          subst P (sym (lines-append i (behind_first a place) h.due)) (subst Q h.here (ahead_before (is_in i (parts_of place)) (lines_at i place) (lines_due i (behind_first a place)) (lines_due i h.due) (k.rest i) (ahead_behind a i place all h.met.shaped h.met.spelled))))
           h.stand h.ready passed;
       whole = λ out y.
           let P : List ℕ → Type 0 = λ z. IsWhole k z in
@@ -112,8 +116,8 @@ left_state k numbers part now parts text more s t same h e leave a =
     let a' : AreTaken k.numbers part now text s more t = subst P (sym same) a in
     let o : AllOf ends (h.first ∷ h.others) = all_ends (h.first ∷ h.others) leave in
     taken k now parts parts text more (text_at k.numbers h.first.0 (first_line h.first.1)) s t ends h o
-        (λ out y. yields_leave k.numbers h.first h.others h.due out leave o h.met.shaped y)
-        (a'.passed (distinct-here k now parts text s h)) (taken-text k.numbers part now text more s t h.first e h.next.0 a') h.places
+    (λ out y. yields_leave k.numbers h.first h.others h.due out leave o h.met.shaped y)
+    (a'.passed (distinct-here k now parts text s h)) (taken-text k.numbers part now text more s t h.first e h.next.0 a') h.places
 
 -- ---- a line that all share
 
@@ -154,8 +158,8 @@ shared_state k numbers part now parts parts' text more s t left same h e go alik
     let q : ShareLine k.numbers m (x ∷ h.others) = (refl, share-line k x h.others h.met.spelled.0 h.met.spelled.1 alike) in
     let o : AllOf (arity_of left) (x ∷ h.others) = all-of k.numbers m (arity_of left) (x ∷ h.others) ar q in
     taken k now parts parts' text more (rule_text m) s t (arity_of left) h o
-        (λ out y. yields_behind k.numbers m (arity_of left) x h.others h.due out o h.met.shaped go q y)
-        (a'.passed (distinct-here k now parts text s h)) (taken-text k.numbers part now text more s t x e h.next.0 a') (parts-behind left now parts (x ∷ h.others) h.due h.here h.places ∙ sym places)
+    (λ out y. yields_behind k.numbers m (arity_of left) x h.others h.due out o h.met.shaped go q y)
+    (a'.passed (distinct-here k now parts text s h)) (taken-text k.numbers part now text more s t x e h.next.0 a') (parts-behind left now parts (x ∷ h.others) h.due h.here h.places ∙ sym places)
 
 -- ---- which certificate is the first
 

@@ -1,12 +1,11 @@
 -- Steps from place to place, and within the tree of one certificate.
-use Rattle.std.proofs.Common.{◌≡◌, ◌<◌, ◌≤◌, ◌≢◌, ℕ, suc, zero, ◌+◌, List, [], ◌∷◌, ◌++◌, length, map, get_or, set, reverse, Bool, true, false, cond, Vec, nat_eq, inl, inr, refl, sym, ap, subst, ◌∙◌, arith, append_assoc, length-set}
-use Rattle.std.specs.List.{AllByRecursion}
+use Rattle.std.proofs.Common.{◌≡◌, ◌<◌, ℕ, suc, zero, List, [], ◌∷◌, ◌++◌, length, map, get_or, set, reverse, Bool, true, false, cond, Vec, nat_eq, inl, inr, refl, sym, ap, subst, ◌∙◌, arith, append_assoc, length-set}
 use Rattle.std.proofs.lemmas.Bool.{ne_eqb, eq-eqb, cases_eq}
-use Rattle.std.proofs.lemmas.List.{append-nil, length-map, map-append, reverse-append}
+use Rattle.std.proofs.lemmas.List.{append-nil, map-append, reverse-append}
 use Rattle.cover_model.specs.Rules.{Line}
 use Rattle.cert_join.specs.Spot.{Spot, IsBefore}
-use Rattle.cert_join.specs.Gathered.{spot_at, nowhere, Stand, AreResized, Meeting, parts_of, numbers_at, lists_of}
-use Rattle.cert_join.specs.Due.{rule_texts, text_by, lines_due, AreTreesOf, IsCopying, IsMeeting, Yields, Course, IsWhole, IsDue, IsDueBehind, stacked}
+use Rattle.cert_join.specs.Gathered.{spot_at, Stand, AreResized, Meeting, parts_of, numbers_at, lists_of}
+use Rattle.cert_join.specs.Due.{rule_texts, text_by, lines_due, AreTreesOf, IsCopying, Yields, Course, IsWhole, IsDue, IsDueBehind, stacked}
 use Rattle.cert_join.proofs.Copying.{resized}
 use Rattle.cert_join.proofs.Passing.{read_spot, spot_same, spot_other}
 
@@ -51,19 +50,24 @@ module _ (k : Course) (part w w' : ℕ) (parts : List (List ℕ)) (text text' : 
       let B : Bool → List Line → ℕ → Spot → Type 0 = λ b ls i x. IsBefore (k.cert i) (cond b (rule_texts ls) [] ++ (lines_due i d.due ++ k.rest i)) x in
       let here : B true d.lines part (spot_at s part) = let Q : Bool → Type 0 = λ b. B b d.lines part (spot_at s part) in subst Q (eq-eqb part part refl) (d.stand part n) in
       let c : IsCopying (k.cert part) own more (text ++ text_by own d.lines) w' text' t =
-          subst P same copies (k.cert part) more (text ++ text_by own d.lines) (record { lines = d.lines; trees = d.trees; spelled = d.spelled; before = here; adds_up = refl }) in
+      subst P same copies (k.cert part) more (text ++ text_by own d.lines) (record { lines = d.lines; trees = d.trees; spelled = d.spelled; before = here; adds_up = refl }) in
       record {
-        lines = c.lines; trees = c.trees; spelled = c.spelled; due = d.due; places = d.places; good = d.good;
+        lines = c.lines;
+        trees = c.trees;
+        spelled = c.spelled;
+        due = d.due;
+        places = d.places;
+        good = d.good;
         stand = λ i m. elim (cases_eq i part) [
-            inl e ↦ let R : ℕ → Type 0 = λ j. B (nat_eq j part) c.lines j (spot_at (set s part t) j) in
-                let Q : Bool → Type 0 = λ b. B b c.lines part (spot_at (set s part t) part) in
-                let S : Spot → Type 0 = λ x. B true c.lines part x in
-                subst R (sym e) (subst Q (sym (eq-eqb part part refl)) (subst S (sym (spot_same s part t n)) c.before))
+          | inl e ↦ let R : ℕ → Type 0 = λ j. B (nat_eq j part) c.lines j (spot_at (set s part t) j) in
+              let Q : Bool → Type 0 = λ b. B b c.lines part (spot_at (set s part t) part) in
+              let S : Spot → Type 0 = λ x. B true c.lines part x in
+              subst R (sym e) (subst Q (sym (eq-eqb part part refl)) (subst S (sym (spot_same s part t n)) c.before))
           | inr ne ↦
-                let Q : Bool → Type 0 = λ b. B b c.lines i (spot_at (set s part t) i) in
-                let S : Spot → Type 0 = λ x. B false c.lines i x in
-                let Q' : Bool → Type 0 = λ b. B b d.lines i (spot_at s i) in
-                subst Q (sym (ne_eqb i part ne)) (subst S (sym (spot_other s part i t ne)) (subst Q' (ne_eqb i part ne) (d.stand i (omega (arith, length-set s part t)))))
+              let Q : Bool → Type 0 = λ b. B b c.lines i (spot_at (set s part t) i) in
+              let S : Spot → Type 0 = λ x. B false c.lines i x in
+              let Q' : Bool → Type 0 = λ b. B b d.lines i (spot_at s i) in
+              subst Q (sym (ne_eqb i part ne)) (subst S (sym (spot_other s part i t ne)) (subst Q' (ne_eqb i part ne) (d.stand i (omega (arith, length-set s part t)))))
         ];
         whole = λ out y. let W : List ℕ → Type 0 = λ z. IsWhole k z in
             subst W (sym (append_assoc text (text_by own d.lines) out) ∙ ap (λ z. z ++ out) c.adds_up ∙ append_assoc text' (text_by own c.lines) out) (d.whole out y);
@@ -83,7 +87,9 @@ copied_all k part w parts text s e d =
     let T : ℕ → Type 0 = λ z. AreTreesOf d.lines z in
     let none : d.lines ≡ [] = no-lines-left d.lines (subst T e d.trees) in
     record {
-      due = d.due; places = d.places; good = d.good;
+      due = d.due;
+      places = d.places;
+      good = d.good;
       stand = λ i n. let P : List (List ℕ) → Type 0 = λ z. IsBefore (k.cert i) (z ++ (lines_due i d.due ++ k.rest i)) (spot_at s i) in
           subst P (ap (λ z. cond (nat_eq i part) (rule_texts z) []) none ∙ cond-none (nat_eq i part)) (d.stand i n);
       whole = λ out y. let P : List Line → Type 0 = λ z. IsWhole k (text ++ (text_by (numbers_at k.numbers part) z ++ out)) in subst P none (d.whole out y);

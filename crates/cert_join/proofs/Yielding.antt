@@ -1,5 +1,5 @@
 -- What the trees at a place yield, by their first lines.
-use Rattle.std.proofs.Common.{◌≡◌, ℕ, List, [], ◌∷◌, ◌++◌, length, map, Bool, true, false, cond, refl, sym, ap, subst, ◌∙◌, append_assoc}
+use Rattle.std.proofs.Common.{◌≡◌, ℕ, List, [], ◌∷◌, ◌++◌, map, Bool, true, false, cond, refl, sym, ap, subst, ◌∙◌, append_assoc}
 use Rattle.std.specs.List.{AllByRecursion}
 use Rattle.cover_model.specs.Rules.{Line, pull, unit, void, push, void_no, combine, void_combine, ban, make_false, by, cut, flip, case, open_line, stuck}
 use Rattle.cover_model.specs.Derivation.{Tree, leaf, then, fork, tree_lines}
@@ -9,7 +9,7 @@ use Rattle.cert_joined.specs.Covers.{Arity, arity, line_by, tree_by, numbered, I
 use Rattle.cert_joined.specs.Covers.{ends as no_more, goes_on, splits}
 use Rattle.cert_joined.proofs.Members.{not_more}
 use Rattle.cert_join.specs.Kinds.{rule_text}
-use Rattle.cert_join.specs.Gathered.{leaves, Meeting, parts_of, does_leave, going, numbers_at, text_at}
+use Rattle.cert_join.specs.Gathered.{leaves, Meeting, does_leave, going, numbers_at, text_at}
 use Rattle.cert_join.specs.Due.{rule_texts, text_by, tree_text, trees_at, AllGo, AllLeave, Yields}
 use Rattle.cert_join.proofs.Meetings.{below, second, all_below, all_second, behind_first, AllOf, AllShaped, leaving_ends}
 
@@ -32,22 +32,22 @@ arity_by f (case j) = refl
 arity_by f open_line = refl
 arity_by f (stuck j) = refl
 
-leaving-by : (f : ℕ → ℕ) (l : Line) → leaves (line_by f l) ≡ leaves l
-leaving-by f (ban j i) = refl
-leaving-by f (by i) = refl
-leaving-by f (pull j) = refl
-leaving-by f (unit j) = refl
-leaving-by f (void j) = refl
-leaving-by f (push j) = refl
-leaving-by f (void_no j) = refl
-leaving-by f (combine ms) = refl
-leaving-by f (void_combine ms) = refl
-leaving-by f make_false = refl
-leaving-by f (cut axis c) = refl
-leaving-by f (flip axis) = refl
-leaving-by f (case j) = refl
-leaving-by f open_line = refl
-leaving-by f (stuck j) = refl
+pub leaves_by : (f : ℕ → ℕ) (l : Line) → leaves (line_by f l) ≡ leaves l
+leaves_by f (ban j i) = refl
+leaves_by f (by i) = refl
+leaves_by f (pull j) = refl
+leaves_by f (unit j) = refl
+leaves_by f (void j) = refl
+leaves_by f (push j) = refl
+leaves_by f (void_no j) = refl
+leaves_by f (combine ms) = refl
+leaves_by f (void_combine ms) = refl
+leaves_by f make_false = refl
+leaves_by f (cut axis c) = refl
+leaves_by f (flip axis) = refl
+leaves_by f (case j) = refl
+leaves_by f open_line = refl
+leaves_by f (stuck j) = refl
 
 renumbered-append : (f : ℕ → ℕ) (xs ys : List Line) → map (λ (l : Line). rule_text (line_by f l)) (xs ++ ys) ≡ map (λ (l : Line). rule_text (line_by f l)) xs ++ map (λ (l : Line). rule_text (line_by f l)) ys
 renumbered-append f [] ys = refl
@@ -79,7 +79,7 @@ not-at-once l a true e ne q = absurd (ne (sym (leaving_ends l q) ∙ e))
 not-at-once l a false e ne q = refl
 
 at-once : (f : ℕ → ℕ) (t : Tree) → IsShaped t → leaves_at_once (tree_by f t) ≡ leaves (first_line t)
-at-once f (leaf l) s = leaving-by f l
+at-once f (leaf l) s = leaves_by f l
 at-once f (then l t) s = not-at-once l goes_on (leaves l) s.0 (λ e. cc) refl
 at-once f (fork l t u) s = not-at-once l splits (leaves l) s.0 (λ e. cc) refl
 
@@ -201,19 +201,27 @@ module _ (numbers : List (List ℕ)) (m : Line) where
       let h : AllByRecursion (λ (t : Tree). t ≡ leaf m) (trees_at numbers (x ∷ others)) = all-end (x ∷ others) a s q in
       let e : going_on (trees_at numbers (x ∷ others)) ≡ leaf m ∷ trees_at numbers others = go-on (x ∷ others) g s ∙ ap (λ z. z ∷ trees_at numbers others) h.0 in
       (leaf m, out, ends m (trees_at numbers others) (trees_at numbers (x ∷ others)) e h.1, y, sym (append_assoc (rule_text m) (10 ∷ []) out))
-  yields_behind goes_on x others due out a s g q y =
-      (then m y.0, y.1, steps m (trees_at numbers (all_below (x ∷ others))) (trees_at numbers (x ∷ others)) y.0 (go-on (x ∷ others) g s ∙ all-step (x ∷ others) a s q) y.2, y.3,
-       ap (λ z. rule_text m ++ (10 ∷ z)) y.4 ∙ sym (append_assoc (rule_text m) (10 ∷ tree_text y.0) y.1))
+  yields_behind goes_on x others due out a s g q y = (
+    then m y.0,
+    y.1,
+    steps m (trees_at numbers (all_below (x ∷ others))) (trees_at numbers (x ∷ others)) y.0 (go-on (x ∷ others) g s ∙ all-step (x ∷ others) a s q) y.2,
+    y.3,
+    ap (λ z. rule_text m ++ (10 ∷ z)) y.4 ∙ sym (append_assoc (rule_text m) (10 ∷ tree_text y.0) y.1),
+  )
   yields_behind splits x others due out a s g q y =
       let P : List Tree → Type 0 = λ ts. Joins ts y.0 in
       let Q : List Tree → Type 0 = λ ts. Joins ts y.3.0 in
       let both : tree_text y.0 ++ tree_text y.3.0 ≡ text_of_lines (rule_texts (tree_lines y.0 ++ tree_lines y.3.0)) =
-          sym (ap text_of_lines (lines_append (tree_lines y.0) (tree_lines y.3.0)) ∙ text_append (rule_texts (tree_lines y.0)) (rule_texts (tree_lines y.3.0))) in
+      sym (ap text_of_lines (lines_append (tree_lines y.0) (tree_lines y.3.0)) ∙ text_append (rule_texts (tree_lines y.0)) (rule_texts (tree_lines y.3.0))) in
       let e : out ≡ text_of_lines (rule_texts (tree_lines y.0 ++ tree_lines y.3.0)) ++ y.3.1 =
-          y.4 ∙ ap (λ z. tree_text y.0 ++ z) y.3.4 ∙ sym (append_assoc (tree_text y.0) (tree_text y.3.0) y.3.1) ∙ ap (λ z. z ++ y.3.1) both in
-      (fork m y.0 y.3.0, y.3.1, forks m (pairs-at (x ∷ others)) (trees_at numbers (x ∷ others)) y.0 y.3.0 (go-on (x ∷ others) g s ∙ all-fork (x ∷ others) a s q)
-          (subst P (sym (firsts (x ∷ others))) y.2) (subst Q (sym (seconds (x ∷ others))) y.3.2), y.3.3,
-       ap (λ z. rule_text m ++ (10 ∷ z)) e ∙ sym (append_assoc (rule_text m) (10 ∷ text_of_lines (rule_texts (tree_lines y.0 ++ tree_lines y.3.0))) y.3.1))
+      y.4 ∙ ap (λ z. tree_text y.0 ++ z) y.3.4 ∙ sym (append_assoc (tree_text y.0) (tree_text y.3.0) y.3.1) ∙ ap (λ z. z ++ y.3.1) both in (
+        fork m y.0 y.3.0,
+        y.3.1,
+        forks m (pairs-at (x ∷ others)) (trees_at numbers (x ∷ others)) y.0 y.3.0 (go-on (x ∷ others) g s ∙ all-fork (x ∷ others) a s q)
+            (subst P (sym (firsts (x ∷ others))) y.2) (subst Q (sym (seconds (x ∷ others))) y.3.2),
+        y.3.3,
+        ap (λ z. rule_text m ++ (10 ∷ z)) e ∙ sym (append_assoc (rule_text m) (10 ∷ text_of_lines (rule_texts (tree_lines y.0 ++ tree_lines y.3.0))) y.3.1),
+      )
 
 -- ---- one tree
 

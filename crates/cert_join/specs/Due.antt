@@ -1,5 +1,5 @@
 -- What is still due of the main trees.
-use Rattle.std.specs.Prelude.{◌≡◌, ◌<◌, ℕ, ◌+◌, ◌-◌, List, [], ◌∷◌, ◌++◌, Bool, true, false, Vec, Some, cond, map, length, nat_eq, reverse}
+use Rattle.std.specs.Prelude.{◌≡◌, ◌<◌, ℕ, zero, suc, ◌+◌, ◌-◌, List, [], ◌∷◌, ◌++◌, true, false, Vec, Some, cond, get_or, map, length, nat_eq, reverse}
 use Rattle.std.specs.List.{AllByRecursion}
 use Rattle.cover_model.specs.Rules.{Line}
 use Rattle.cover_model.specs.Derivation.{Tree, tree_lines}
@@ -13,7 +13,9 @@ use Rattle.cert_join.specs.declared.joiner.Step.{Step}
 use Rattle.cert_join.specs.declared.joiner.Step.TheVariants.{Over}
 use Rattle.cert_join.specs.declared.trees.Task.{Task}
 use Rattle.cert_join.specs.declared.trees.Task.TheVariants.{Compare, Copy, Weigh}
+use Rattle.cert_join.specs.declared.weighing.Weighing.{Weighing}
 use Rattle.cert_join.specs.Kinds.{rule_text}
+use Rattle.cert_join.specs.Weighed.{Branch, IsWeighing}
 use Rattle.cert_join.specs.Spot.{Spot, IsBefore, line_in}
 use Rattle.cert_join.specs.Gathered.{Meeting, parts_of, does_leave, numbers_at, lists_of, AreDistinct, AreNext, AllReady, ArePassed, Stand, spot_at, text_at}
 
@@ -104,6 +106,29 @@ pub record IsDue (k : Course) (parts : List (List ℕ)) (text : List ℕ) (spots
   pub stand : Stand k.cert (λ i. lines_due i due ++ k.rest i) spots
   pub whole : (out : List ℕ) → Yields k.numbers due out → IsWhole k (text ++ out)
 
+-- ---- the start
+
+-- these trees, each with the number of its certificate, from this one on
+abbrev pub all_from : ℕ → List Tree → Meeting
+all_from i [] = []
+all_from i (t ∷ ts) = (i, t) ∷ all_from (suc i) ts
+
+abbrev pub numbers_from : ℕ → ℕ → List ℕ
+numbers_from i zero = []
+numbers_from i (suc n) = i ∷ numbers_from (suc i) n
+
+-- Each certificate stands before its main tree, and this text stands before what is written of them.
+pub record IsStart (k : Course) (ts : List Tree) (count : ℕ) (text : List ℕ) (spots : List Spot) : Type 0 where
+  pub some : 0 < count
+  pub all : length ts ≡ count
+  pub shaped : AllByRecursion IsShaped ts
+  pub spelled : AllByRecursion (λ (t : Tree). AreSpelled (tree_lines t)) ts
+  pub trees : k.trees ≡ trees_at k.numbers (all_from 0 ts)
+  pub front : k.front ≡ k.done ++ text
+  pub stand : Stand k.cert (λ i. lines_due i (all_from 0 ts ∷ []) ++ k.rest i) spots
+
+-- ---- what is due
+
 -- The same before so many trees of one certificate.
 pub record IsDueBehind (k : Course) (part waiting : ℕ) (parts : List (List ℕ)) (text : List ℕ) (spots : List Spot) : Type 0 where
   pub lines : List Line
@@ -136,11 +161,28 @@ AllGo place = AllByRecursion (λ (x : ℕ × Tree). does_leave x ≡ false) plac
 abbrev pub AllLeave : Meeting → Type 0
 AllLeave place = AllByRecursion (λ (x : ℕ × Tree). does_leave x ≡ true) place
 
+-- The same while a tree is chosen among those of one place: this one will be, and all are passed then.
+pub record IsDueWeighed (k : Course) (w : Weighing) (parts : List (List ℕ)) (text : List ℕ) (spots : List Spot) : Type 0 where
+  pub certs : List (List ℕ)
+  pub ends : List (List (List ℕ))
+  pub taken : Branch
+  pub due : List Meeting
+  pub weighing : IsWeighing certs taken ends w spots
+  pub certs_are : (i : ℕ) → i < length spots → get_or certs i [] ≡ k.cert i
+  pub ends_are : (i : ℕ) → i < length spots → get_or ends i [] ≡ lines_due i due ++ k.rest i
+  pub behind : taken.behind ≡ lines_due taken.part due ++ k.rest taken.part
+  pub shaped : IsShaped taken.tree
+  pub spelled : AreSpelled (tree_lines taken.tree)
+  pub there : taken.part < length spots
+  pub places : map parts_of due ≡ parts
+  pub good : AllByRecursion IsMeeting due
+  pub whole : (out : List ℕ) → Yields k.numbers due out → IsWhole k (text ++ (text_by (numbers_at k.numbers taken.part) (tree_lines taken.tree) ++ out))
+
 -- what is due where this is done next
 abbrev pub IsNextDue : Course → Task → List (List ℕ) → List ℕ → List Spot → Type 0
 IsNextDue k Compare parts text spots = IsDue k parts text spots
 IsNextDue k (Copy part waiting) parts text spots = IsDueBehind k part waiting parts text spots
-IsNextDue k (Weigh w) parts text spots = Unit {0}
+IsNextDue k (Weigh w) parts text spots = IsDueWeighed k w parts text spots
 
 -- what is due behind a step: nothing where all is over, and each certificate stands behind its tree
 abbrev pub IsAfter : Course → Step → Task → List (List ℕ) → List ℕ → List Spot → Type 0

@@ -39,6 +39,10 @@ Stand cert ahead spots = (i : ℕ) → i < length spots → IsBefore (cert i) (a
 abbrev pub AllReady : List ℕ → List Spot → Type 0
 AllReady parts spots = (i : ℕ) → i < length spots → is_in i parts ≡ true → IsReady (spot_at spots i)
 
+-- these certificates are there
+abbrev pub AllThere : List ℕ → List Spot → Type 0
+AllThere parts spots = (i : ℕ) → is_in i parts ≡ true → i < length spots
+
 -- these are at the same places, whatever is known of their next lines
 pub record AreResized (old new : List Spot) : Type 0 where
   pub count : length new ≡ length old

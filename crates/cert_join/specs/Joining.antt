@@ -96,9 +96,15 @@ abbrev pub IsAfterStep : List (List ℕ) → Cover → List Cover → List ℕ �
 IsAfterStep certs first covers done Over text numbers stage spots = IsOver certs first covers done text numbers stage spots
 IsAfterStep certs first covers done step text numbers stage spots = IsAt certs first covers done text numbers stage spots
 
+-- what a step comes to, where it answers one
+abbrev pub Within : List (List ℕ) → Cover → List Cover → List ℕ → Result Step Unjoined → List ℕ → List (List ℕ) → Stage → List Spot → Type 0
+Within certs first covers done (Ok step) text numbers stage spots = IsAfterStep certs first covers done step text numbers stage spots
+Within certs first covers done (Err e) text numbers stage spots = Unit {0}
+
 -- the same of a whole joiner
-abbrev pub IsJoining : List (List ℕ) → Cover → List Cover → List ℕ → List ℕ → Joiner → Type 0
-IsJoining certs first covers done text j = IsAt certs first covers done text (lists_of j.numbers.items) j.stage j.cursors.items
+pub record IsJoining (certs : List (List ℕ)) (first : Cover) (covers : List Cover) (done text : List ℕ) (j : Joiner) : Type 0 where
+  pub many : length j.cursors.items ≡ length certs
+  pub at : IsAt certs first covers done text (lists_of j.numbers.items) j.stage j.cursors.items
 
 -- behind a step
 abbrev pub HasStepped : List (List ℕ) → Cover → List Cover → List ℕ → Step → List ℕ → Joiner → Type 0

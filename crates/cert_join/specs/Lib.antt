@@ -9,6 +9,5 @@ pub mod Kinds
 pub mod LemmasDue
 pub mod Numbered
 pub mod Spot
-pub mod TreesDue
 pub mod Weighed
 pub mod Written

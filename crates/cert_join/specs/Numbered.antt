@@ -1,5 +1,5 @@
 -- The numbers that lemmas get, equal states one, in the order in which they come.
-use Rattle.std.specs.Prelude.{◌≡◌, ◌≢◌, ◌⊎◌, ◌≤◌, ℕ, zero, suc, Bool, true, false, cond, List, [], ◌∷◌, ◌++◌, Option, Some, None, Result, Ok, Err, map, take, length, slice_get, codes}
+use Rattle.std.specs.Prelude.{◌≡◌, ◌≢◌, ◌⊎◌, ◌≤◌, ℕ, zero, suc, Bool, true, false, cond, List, [], ◌∷◌, ◌++◌, Option, Some, None, Result, Ok, Err, map, take, length, get_or, slice_get, codes}
 use Rattle.std.specs.List.{AllByRecursion}
 use Rattle.std.specs.Option.{option_map}
 use Rattle.std.specs.HashMap.{get}
@@ -232,6 +232,9 @@ pub record IsNumbering (certs : List (List ℕ)) (covers : List Cover) (n : Numb
 pub record AreNumbered (certs : List (List ℕ)) (covers : List Cover) (n : Numbering) (spots : List Spot) : Type 0 where
   pub ahead : AreBefore certs (map behind_header covers) spots
   pub lemmas : AreAllLemmas covers (lists_of n) (written_from 0 (lists_of n) covers)
+  -- each has a list, as long as its lemmas
+  pub many : length (lists_of n) ≡ length covers
+  pub long : (i : ℕ) (c : Cover) → slice_get covers i ≡ Some c → length (get_or (lists_of n) i []) ≡ length c.lemmas
   pub count : n.count ≡ length (written_from 0 (lists_of n) covers)
   pub texts : List (List ℕ)
   pub numbers : AllHaveNumbers [] (lists_of n) covers texts

@@ -6,7 +6,7 @@ ghost use Rattle.cert_join.specs.Gathered.{lists_of, spot_at};
 ghost use Rattle.cert_read.specs.CertLine.{cover};
 ghost use Rattle.cert_join.specs.Heads.{all_lines, head_text, AreHeadsRead};
 ghost use Rattle.cert_join.specs.Numbered.{AreNumbered};
-ghost use Rattle.cert_join.specs.Joining.{AreAtNumbers, AreLemmasWritten, HasStepped, IsAfterStep, IsAt, IsJoinText, IsJoining, IsOver, IsPiece};
+ghost use Rattle.cert_join.specs.Joining.{AreAtNumbers, AreLemmasWritten, HasStepped, IsAt, Within, IsJoinText, IsJoining, IsOver, IsPiece};
 ghost use Rattle.cert_join.specs.Written.{text_of};
 
 use crate::cursor::Cursor;
@@ -155,6 +155,30 @@ fn step_to_end(cursor: &mut Cursor, part: usize, is_read: &mut bool) -> Result<S
     }
 }
 
+// Goes on within this stage.
+fn step_in(
+    stage: &mut Stage,
+    cursors: &mut [Cursor],
+    numbers: &[Vec<u32>],
+    text: &mut Vec<u8>,
+) -> Result<Step, Unjoined>
+    ensures many { length cursors.new ≡ length cursors.old }
+    ensures steps { (certs : List (List ℕ)) (first : Cover) (covers : List Cover) (done : List ℕ) →
+        AreTextsOf covers certs →
+        IsAt certs first covers done text.old.items (lists_of numbers.now) stage.old cursors.old →
+        Within certs first covers done result text.new.items (lists_of numbers.now) stage.new
+            cursors.new }
+{
+    match stage {
+        Stage::Heads(heads) => heads.step(cursors),
+        Stage::Point(part) => step_of_point(cursors, *part, text),
+        Stage::Numbering(heads, numbering) => numbering.step(cursors, &heads.counts),
+        Stage::Lemmas(lemmas) => lemmas.step(cursors, numbers, text),
+        Stage::Trees(trees) => trees.step(cursors, numbers, text),
+        Stage::Ends(part, is_read) => step_of_ends(cursors, *part, is_read),
+    }
+}
+
 // Cursors at the beginnings of so many certificates.
 fn fresh(alloc: Global, count: usize) -> Result<Vec<Cursor>, AllocError>
     ensures { IfOk result (λ cursors. (certs : List (List ℕ)) (covers : List Cover) →
@@ -221,7 +245,8 @@ impl Joiner {
 
     // What follows the first lines.
     fn behind_heads(&mut self, heads: Heads, text: &mut Vec<u8>) -> Result<Stage, AllocError>
-        ensures { IfOk result (λ stage. (certs : List (List ℕ)) (first : Cover) (others : List Cover) →
+        ensures same { self.new.cursors ≡ self.old.cursors }
+        ensures stage { IfOk result (λ stage. (certs : List (List ℕ)) (first : Cover) (others : List Cover) →
             (done : List ℕ) → done ++ text.old.items ≡ [] →
             AreHeadsRead certs (first ∷ others) heads self.old.cursors.items →
             IsAt certs first (first ∷ others) done text.new.items (lists_of self.new.numbers.items)
@@ -247,7 +272,8 @@ impl Joiner {
         numbering: Numbering,
         text: &mut Vec<u8>,
     ) -> Result<Stage, AllocError>
-        ensures { IfOk result (λ stage. (certs : List (List ℕ)) (first : Cover) (covers : List Cover) →
+        ensures same { self.new.cursors ≡ self.old.cursors }
+        ensures stage { IfOk result (λ stage. (certs : List (List ℕ)) (first : Cover) (covers : List Cover) →
             (done : List ℕ) → AreTextsOf covers certs → done ++ text.old.items ≡ [] →
             AreAtNumbers certs first covers heads.now →
             AreNumbered certs covers numbering self.old.cursors.items →
@@ -266,7 +292,8 @@ impl Joiner {
 
     // What follows the lemmas.
     fn behind_lemmas(&mut self, text: &mut Vec<u8>) -> Result<Stage, AllocError>
-        ensures { IfOk result (λ stage. (certs : List (List ℕ)) (first : Cover) (others : List Cover) →
+        ensures same { self.new.cursors ≡ self.old.cursors }
+        ensures stage { IfOk result (λ stage. (certs : List (List ℕ)) (first : Cover) (others : List Cover) →
             (done : List ℕ) → AreTextsOf (first ∷ others) certs →
             AreLemmasWritten certs first (first ∷ others) (done ++ text.old.items)
                 (lists_of self.old.numbers.items) self.old.cursors.items →
@@ -285,7 +312,8 @@ impl Joiner {
 
     // What follows this stage, which is over; none behind the last.
     fn behind(&mut self, stage: Stage, text: &mut Vec<u8>) -> Result<Option<Stage>, AllocError>
-        ensures { IfOk result (λ next. (certs : List (List ℕ)) (first : Cover) (others : List Cover) →
+        ensures same { self.new.cursors ≡ self.old.cursors }
+        ensures next { IfOk result (λ next. (certs : List (List ℕ)) (first : Cover) (others : List Cover) →
             (done : List ℕ) → AreTextsOf (first ∷ others) certs →
             IsOver certs first (first ∷ others) done text.old.items
                 (lists_of self.old.numbers.items) stage self.old.cursors.items →
@@ -315,23 +343,15 @@ impl Joiner {
 
     // Goes on within the stage.
     fn step_within(&mut self, text: &mut Vec<u8>) -> Result<Step, Unjoined>
-        ensures { IfOk result (λ step. (certs : List (List ℕ)) (first : Cover) (covers : List Cover) →
+        ensures many { length self.new.cursors.items ≡ length self.old.cursors.items }
+        ensures steps { (certs : List (List ℕ)) (first : Cover) (covers : List Cover) →
             (done : List ℕ) → AreTextsOf covers certs →
             IsAt certs first covers done text.old.items (lists_of self.old.numbers.items)
                 self.old.stage self.old.cursors.items →
-            IsAfterStep certs first covers done step text.new.items
-                (lists_of self.new.numbers.items) self.new.stage self.new.cursors.items) }
+            Within certs first covers done result text.new.items
+                (lists_of self.new.numbers.items) self.new.stage self.new.cursors.items }
     {
-        match &mut self.stage {
-            Stage::Heads(heads) => heads.step(&mut self.cursors),
-            Stage::Point(part) => step_of_point(&mut self.cursors, *part, text),
-            Stage::Numbering(heads, numbering) => {
-                numbering.step(&mut self.cursors, &heads.counts)
-            }
-            Stage::Lemmas(lemmas) => lemmas.step(&mut self.cursors, &self.numbers, text),
-            Stage::Trees(trees) => trees.step(&mut self.cursors, &self.numbers, text),
-            Stage::Ends(part, is_read) => step_of_ends(&mut self.cursors, *part, is_read),
-        }
+        step_in(&mut self.stage, &mut self.cursors, &self.numbers, text)
     }
 
     /// Appends more of the text, or says what has to be read first.

@@ -7,8 +7,8 @@ ghost use Rattle.cert_read.specs.LineText.{IsSpelled};
 ghost use Rattle.cert_join.specs.Kinds.{left_kind, rule_text};
 ghost use Rattle.cert_join.specs.Spot.{Spot, line_in};
 ghost use Rattle.cert_join.specs.declared.trees.Task.TheVariants as task;
-ghost use Rattle.cert_join.specs.Due.{AllGo, AllLeave, AreTaken, Course, IsAfter, IsCopying, IsDue, IsDueBehind, IsHere, IsNextDue, stacked, with_behind};
-ghost use Rattle.cert_join.specs.Gathered.{AllReady, AreAlike, AreDistinct, AreNext, ArePassed, AreResized, Meeting, going, leaving, lists_of, parts_of, spot_at, text_at};
+ghost use Rattle.cert_join.specs.Due.{AllGo, AllLeave, AreTaken, Course, IsAfter, IsCopying, IsDue, IsDueBehind, IsDueWeighed, IsHere, IsNextDue, IsStart, stacked, with_behind};
+ghost use Rattle.cert_join.specs.Gathered.{AllReady, AllThere, AreAlike, AreDistinct, AreNext, ArePassed, AreResized, Meeting, going, leaving, lists_of, parts_of, spot_at, text_at};
 
 use crate::cursor::Cursor;
 use crate::joiner::{ROOM, Step, apart};
@@ -129,7 +129,8 @@ struct Split {
 
 // Sorts these certificates by what their next lines leave.
 fn sorted(alloc: Global, cursors: &[Cursor], parts: &[usize]) -> Result<Split, Unjoined>
-    ensures { IfOk result (λ s. (place : Meeting) → parts_of place ≡ parts.now →
+    ensures there { IfOk result (λ _. AllThere parts.now cursors.now) }
+    ensures sides { IfOk result (λ s. (place : Meeting) → parts_of place ≡ parts.now →
         AreNext cursors.now place →
         (s.grown.items ≡ parts_of (going place)) × (s.left.items ≡ parts_of (leaving place))) }
 {
@@ -165,7 +166,7 @@ fn are_alike(
     ensures { IfOk result (λ b. (x : ℕ × Tree) (place : Meeting) → x.0 ≡ first →
         parts_of place ≡ others.now → AreNext cursors.now (x ∷ place) →
         MatchBool b (AreAlike (lists_of numbers.now) x place)
-            (AreAlike (lists_of numbers.now) x place → ⊥)) }
+        (AreAlike (lists_of numbers.now) x place → ⊥)) }
 {
     let mut line: Vec<u8> = Vec::new(alloc);
     append_at(cursors, numbers, first, &mut line)?;
@@ -189,7 +190,8 @@ fn copy_line(
     text: &mut Vec<u8>,
 ) -> Result<bool, Unjoined>
     ensures { IfOk result (λ _. (cert : List ℕ) (rest : List (List ℕ)) (whole : List ℕ) →
-        0 < waiting.old → IsCopying cert numbers.now rest whole waiting.old text.old.items cursor.old →
+        0 < waiting.old →
+        IsCopying cert numbers.now rest whole waiting.old text.old.items cursor.old →
         IsCopying cert numbers.now rest whole waiting.new text.new.items cursor.new) }
 {
     if !cursor.is_ready() {
@@ -258,7 +260,8 @@ fn leave(
     parts: &[usize],
     text: &mut Vec<u8>,
 ) -> Result<(), Unjoined>
-    ensures { IfOk result (λ _. (k : Course) (places : List (List ℕ)) → k.numbers ≡ lists_of numbers.now →
+    ensures { IfOk result (λ _. (k : Course) (places : List (List ℕ)) →
+        k.numbers ≡ lists_of numbers.now →
         (h : IsHere k parts.now places text.old.items cursors.old) → AllLeave (h.first ∷ h.others) →
         IsDue k places text.new.items cursors.new) }
 {
@@ -283,7 +286,11 @@ fn copying(part: usize, waiting: u64) -> Task
 
 impl Trees {
     /// All certificates, of which there are so many, have a tree at the first place.
-    pub fn new(alloc: Global, count: usize) -> Result<Self, AllocError> {
+    pub fn new(alloc: Global, count: usize) -> Result<Self, AllocError>
+        ensures { IfOk result (λ t. (k : Course) (ts : List Tree) →
+            (text : List ℕ) (spots : List Spot) → IsStart k ts count text spots →
+            IsNextDue k t.task (stacked t.places.items) text spots) }
+    {
         let mut all: Vec<usize> = Vec::new(alloc);
         for part in 0..count {
             all.push(part)?;
@@ -332,7 +339,7 @@ impl Trees {
     ) -> Result<Task, Unjoined>
         ensures { IfOk result (λ task. (k : Course) → k.numbers ≡ lists_of numbers.now →
             (h : IsHere k parts.items (stacked self.old.places.items) text.old.items cursors.old) →
-            AllGo (h.first ∷ h.others) →
+            AllGo (h.first ∷ h.others) → AllThere parts.items cursors.old →
             IsNextDue k task (stacked self.new.places.items) text.new.items cursors.new) }
     {
         if parts.is_empty() {
@@ -402,7 +409,8 @@ impl Trees {
         ensures { IfOk result (λ step. (k : Course) → k.numbers ≡ lists_of numbers.now →
             self.old.task ≡ task.Compare →
             IsDue k (stacked self.old.places.items) text.old.items cursors.old →
-            IsAfter k step self.new.task (stacked self.new.places.items) text.new.items cursors.new) }
+            IsAfter k step self.new.task (stacked self.new.places.items)
+            text.new.items cursors.new) }
     {
         let Some(parts) = self.places.pop() else {
             return Ok(Step::Over);
@@ -427,7 +435,8 @@ impl Trees {
         ensures { IfOk result (λ step. (k : Course) → k.numbers ≡ lists_of numbers.now →
             self.old.task ≡ task.Compare →
             IsDueBehind k part waiting (stacked self.old.places.items) text.old.items cursors.old →
-            IsAfter k step self.new.task (stacked self.new.places.items) text.new.items cursors.new) }
+            IsAfter k step self.new.task (stacked self.new.places.items)
+            text.new.items cursors.new) }
     {
         if part >= cursors.len() || part >= numbers.len() {
             return Err(unjoined_at(cursors, part));
@@ -448,7 +457,12 @@ impl Trees {
         cursors: &mut [Cursor],
         numbers: &[Vec<u32>],
         text: &mut Vec<u8>,
-    ) -> Result<Step, Unjoined> {
+    ) -> Result<Step, Unjoined>
+        ensures { IfOk result (λ step. (k : Course) → k.numbers ≡ lists_of numbers.now →
+            IsNextDue k self.old.task (stacked self.old.places.items) text.old.items cursors.old →
+            IsAfter k step self.new.task (stacked self.new.places.items)
+            text.new.items cursors.new) }
+    {
         match mem::replace(&mut self.task, Task::Compare) {
             Task::Compare => {
                 let step = self.step_to_place(cursors, numbers, text)?;
@@ -470,19 +484,32 @@ impl Trees {
         &mut self,
         cursors: &mut [Cursor],
         weighing: Weighing,
-    ) -> Result<Step, Unjoined> {
+    ) -> Result<Step, Unjoined>
+        ensures { IfOk result (λ step. (k : Course) (text : List ℕ) →
+            IsDueWeighed k weighing (stacked self.old.places.items) text cursors.old →
+            IsAfter k step self.new.task (stacked self.new.places.items) text cursors.new) }
+    {
         let mut weighing = weighing;
-        let step = weighing.step(cursors)?;
-        if step != Step::Over {
-            self.task = Task::Weigh(weighing);
-            return Ok(step);
-        }
-        if let Some((part, mark)) = weighing.chosen() {
-            if let Some(cursor) = cursors.get_mut(part) {
-                cursor.rewind(mark);
-                self.task = Task::Copy { part, waiting: 1 };
+        match weighing.step(cursors) {
+            Ok(Step::Over) => {}
+            Ok(Step::On) => {
+                self.task = Task::Weigh(weighing);
+                return Ok(Step::On);
             }
+            Ok(Step::Read(part)) => {
+                self.task = Task::Weigh(weighing);
+                return Ok(Step::Read(part));
+            }
+            Err(unjoined) => return Err(unjoined),
         }
+        let Some((part, mark)) = weighing.chosen() else {
+            return Err(unjoined_at(cursors, 0));
+        };
+        if part >= cursors.len() {
+            return Err(unjoined_at(cursors, part));
+        }
+        cursors[part].rewind(mark);
+        self.task = Task::Copy { part, waiting: 1 };
         Ok(Step::On)
     }
 }

@@ -1,4 +1,4 @@
-use Rattle.std.proofs.Common.{◌≡◌, arith}
+use Rattle.std.proofs.Common.{arith}
 use Rattle.cert_join.proofs.Stepping.{copied_all}
 use Rattle.cert_join.proofs.trees.copying.Goals as goal
 

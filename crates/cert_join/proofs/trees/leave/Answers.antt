@@ -1,4 +1,4 @@
-use Rattle.cert_join.proofs.Standing.{first_part, left_state, some_part}
+use Rattle.cert_join.proofs.Standing.{first_part, left_state}
 use Rattle.cert_join.proofs.trees.leave.Goals as goal
 
 pub returns : goal.returns

@@ -10,14 +10,14 @@ loop-part-init c = record { same = resized_none _; ready = ready_none _ }
 
 pub loop-part-preserved : goal.loop-part-preserved
 loop-part-preserved c = elim c.else-part-cursors.branch [
-    else-part-cursors-via-then-part-cursors+else-not-is_ready w ↦ record {
-      same = let P : List Spot → Type 0 = λ x. AreResized c.args.cursors.now x in subst P (sym w.cursors-is) (resized_read _ _ _ _ _ w.if-part-cursors.true c.loop-part.invariant.same w.is_ready.ensures.same);
-      ready = let P : List Spot → Type 0 = λ x. AllReady (take (c.loop-part.part-index + 1) c.args.parts.now) x in subst P (sym w.cursors-is) (ready_more _ _ _ _ _ c.loop-part-test.true refl w.if-part-cursors.true c.loop-part.invariant.ready (w.is_ready.ensures.ready w.if-not-is_ready.false));
-    }
+  | else-part-cursors-via-then-part-cursors+else-not-is_ready w ↦ record {
+    same = let P : List Spot → Type 0 = λ x. AreResized c.args.cursors.now x in subst P (sym w.cursors-is) (resized_read _ _ _ _ _ w.if-part-cursors.true c.loop-part.invariant.same w.is_ready.ensures.same);
+    ready = let P : List Spot → Type 0 = λ x. AllReady (take (c.loop-part.part-index + 1) c.args.parts.now) x in subst P (sym w.cursors-is) (ready_more _ _ _ _ _ c.loop-part-test.true refl w.if-part-cursors.true c.loop-part.invariant.ready (w.is_ready.ensures.ready w.if-not-is_ready.false));
+  }
   | else-part-cursors-via-else-part-cursors w ↦ record {
-      same = let P : List Spot → Type 0 = λ x. AreResized c.args.cursors.now x in subst P (sym w.cursors-is) c.loop-part.invariant.same;
-      ready = let P : List Spot → Type 0 = λ x. AllReady (take (c.loop-part.part-index + 1) c.args.parts.now) x in subst P (sym w.cursors-is) (ready_past _ _ _ _ c.loop-part-test.true refl w.if-part-cursors.false c.loop-part.invariant.ready);
-    }
+    same = let P : List Spot → Type 0 = λ x. AreResized c.args.cursors.now x in subst P (sym w.cursors-is) c.loop-part.invariant.same;
+    ready = let P : List Spot → Type 0 = λ x. AllReady (take (c.loop-part.part-index + 1) c.args.parts.now) x in subst P (sym w.cursors-is) (ready_past _ _ _ _ c.loop-part-test.true refl w.if-part-cursors.false c.loop-part.invariant.ready);
+  }
 ]
 
 pub returns-clause-ready : goal.returns-clause-ready

@@ -1,4 +1,4 @@
-use Rattle.std.proofs.Common.{◌≡◌, ◌∙◌, ◌∷◌, List, ℕ, Vec, Global, ap, length, subst, sym}
+use Rattle.std.proofs.Common.{◌≡◌, ◌∙◌, ◌∷◌, List, ℕ, ap, length, subst, sym}
 use Rattle.cert_join.specs.declared.trees.Task.{Task}
 use Rattle.cert_join.specs.Gathered.{AllReady}
 use Rattle.cert_join.specs.Due.{IsDue, IsNextDue, stacked}
