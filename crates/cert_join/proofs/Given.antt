@@ -150,7 +150,7 @@ module _ (certs : List (List ℕ)) (spots : List Spot) (part : ℕ) (t : Spot) (
 
 -- ---- main trees
 
-module _ (k : Course) (spots : List Spot) (part : ℕ) (t : Spot) (m : Stays (k.cert part) (spot_at spots part) t) where
+module _ (k : Course) (spots : List Spot) (part : ℕ) (t : Spot) (there : part < length spots) (m : Stays (k.cert part) (spot_at spots part) t) where
   next_given : (task : Task) (parts : List (List ℕ)) (text : List ℕ) → IsNextDue k task parts text spots → IsNextDue k task parts text (slice_set spots part t)
   next_given Compare parts text d = record { due = d.due; places = d.places; good = d.good; stand = stand_given k.cert _ spots part t m d.stand; whole = d.whole }
   next_given (Copy own waiting) parts text d = record {
@@ -163,40 +163,73 @@ module _ (k : Course) (spots : List Spot) (part : ℕ) (t : Spot) (m : Stays (k.
     stand = stand_given k.cert _ spots part t m d.stand;
     whole = d.whole;
   }
-  next_given (Weigh w) parts text d = tt
+  next_given (Weigh w) parts text d =
+      let within : (i : ℕ) → i < length (slice_set spots part t) → i < length spots = λ i h. omega (arith, h, length-set spots part t) in
+      let m' : Stays (get_or d.certs part []) (spot_at spots part) t = subst (λ (x : List ℕ). Stays x (spot_at spots part) t) (sym (d.certs_are part there)) m in
+      record {
+        certs = d.certs;
+        ends = d.ends;
+        taken = d.taken;
+        due = d.due;
+        weighing = weighing_given d.certs spots part t m' d.taken d.ends w d.weighing;
+        certs_are = λ i h. d.certs_are i (within i h);
+        ends_are = λ i h. d.ends_are i (within i h);
+        behind = d.behind;
+        shaped = d.shaped;
+        spelled = d.spelled;
+        there = omega (arith, d.there, length-set spots part t);
+        places = d.places;
+        good = d.good;
+        whole = d.whole;
+      }
 
 -- ---- all stages
 
 pub at_given : (certs : List (List ℕ)) (first : Cover) (covers : List Cover) (done text : List ℕ) (numbers : List (List ℕ)) (stage : Stage) (spots : List Spot) (part : ℕ) (t : Spot)
-    → Stays (get_or certs part []) (spot_at spots part) t → IsAt certs first covers done text numbers stage spots → IsAt certs first covers done text numbers stage (slice_set spots part t)
-at_given certs first covers done text numbers (Heads h) spots part t m d = (d.0, reading_given certs spots part t m covers h d.1)
-at_given certs first covers done text numbers (Point p) spots part t m d = absurd d
-at_given certs first covers done text numbers (Numbering h n) spots part t m d = (d.0, d.1, numbering_given certs spots part t m covers n d.2)
-at_given certs first covers done text numbers (Lemmas s) spots part t m d = record {
+    → part < length spots → Stays (get_or certs part []) (spot_at spots part) t → IsAt certs first covers done text numbers stage spots → IsAt certs first covers done text numbers stage (slice_set spots part t)
+at_given certs first covers done text numbers (Heads h) spots part t there m d = (d.0, reading_given certs spots part t m covers h d.1)
+at_given certs first covers done text numbers (Point p) spots part t there m d = absurd d
+at_given certs first covers done text numbers (Numbering h n) spots part t there m d = (d.0, d.1, numbering_given certs spots part t m covers n d.2)
+at_given certs first covers done text numbers (Lemmas s) spots part t there m d = record {
   settled = d.settled;
   left = d.left;
   same = d.same;
   due = lemmas_given certs spots part t m numbers d.left s d.due;
   whole = d.whole;
 }
-at_given certs first covers done text numbers (Trees s) spots part t m d = record {
+at_given certs first covers done text numbers (Trees s) spots part t there m d = record {
   settled = d.settled;
   course = d.course;
   is = d.is;
-  due = next_given d.course spots part t (subst (λ (w : List ℕ). Stays w (spot_at spots part) t) (sym (d.is.cert_is part)) m) s.task (stacked s.places.items) text d.due;
+  due = next_given d.course spots part t there (subst (λ (w : List ℕ). Stays w (spot_at spots part) t) (sym (d.is.cert_is part)) m) s.task (stacked s.places.items) text d.due;
 }
-at_given certs first covers done text numbers (Ends p is_read) spots part t m d = d
+at_given certs first covers done text numbers (Ends p is_read) spots part t there m d = d
+
+-- as many places as certificates
+pub before_many : (certs : List (List ℕ)) (lines : List (List (List ℕ))) (spots : List Spot) → AreBefore certs lines spots → length spots ≡ length certs
+before_many [] [] [] b = refl
+before_many (cert ∷ certs) (ls ∷ lines) (s ∷ spots) b = ap suc (before_many certs lines spots b.1)
+before_many [] [] (s ∷ spots) b = absurd b
+before_many [] (ls ∷ lines) spots b = absurd b
+before_many (cert ∷ certs) [] spots b = absurd b
+before_many (cert ∷ certs) (ls ∷ lines) [] b = absurd b
 
 -- one is given a piece
-pub gives : (r : Result Unit AllocError) (j : Joiner) (part : ℕ) (piece : List ℕ) (s t : Spot) → s ≡ spot_at j.cursors.items part
+pub gives : (r : Result Unit AllocError) (j new : Joiner) (part : ℕ) (piece : List ℕ) (s t : Spot) → part < length j.cursors.items → s ≡ spot_at j.cursors.items part
+    → new.cursors.items ≡ slice_set j.cursors.items part t → new.numbers ≡ j.numbers → new.stage ≡ j.stage
     → ((cert : List ℕ) (ls : List (List ℕ)) → IsBefore cert ls s → IsPieceAt (drop s.behind cert) piece → r ≡ Ok (tt) → IsBefore cert ls t)
-    → OnOk r ((certs : List (List ℕ)) (first : Cover) (covers : List Cover) (done text : List ℕ) → IsPiece certs part piece j → IsJoining certs first covers done text j
-    → IsAt certs first covers done text (lists_of j.numbers.items) j.stage (slice_set j.cursors.items part t))
-gives (Err e) j part piece s t same f = tt
-gives (Ok u) j part piece s t same f = λ certs first covers done text p d.
+    → OnOk r ((certs : List (List ℕ)) (first : Cover) (covers : List Cover) (done text : List ℕ) → IsPiece certs part piece j → IsJoining certs first covers done text j → IsJoining certs first covers done text new)
+gives (Err e) j new part piece s t there same cursors numbers stage f = tt
+gives (Ok u) j new part piece s t there same cursors numbers stage f = λ certs first covers done text p d.
     let own : get_or certs part [] ≡ p.cert = get_or_from_slice_get certs part p.cert [] p.there in
     let m : Stays (get_or certs part []) (spot_at j.cursors.items part) t = λ ls b.
     let b' : IsBefore p.cert ls s = subst (IsBefore p.cert ls) (sym same) (subst (λ (w : List ℕ). IsBefore w ls (spot_at j.cursors.items part)) own b) in
     let at : IsPieceAt (drop s.behind p.cert) piece = subst (λ (x : Spot). IsPieceAt (drop x.behind p.cert) piece) (sym same) p.at in
     subst (λ (w : List ℕ). IsBefore w ls t) (sym own) (f p.cert ls b' at refl) in
-    at_given certs first covers done text (lists_of j.numbers.items) j.stage j.cursors.items part t m d
+    let given = at_given certs first covers done text (lists_of j.numbers.items) j.stage j.cursors.items part t there m d.at in
+    let spots = subst (λ (x : List Spot). IsAt certs first covers done text (lists_of j.numbers.items) j.stage x) (sym cursors) given in
+    let staged = subst (λ (x : Stage). IsAt certs first covers done text (lists_of j.numbers.items) x new.cursors.items) (sym stage) spots in
+    record {
+      many = ap length cursors ∙ length-set j.cursors.items part t ∙ d.many;
+      at = subst (λ (v : _). IsAt certs first covers done text (lists_of v.items) new.stage new.cursors.items) (sym numbers) staged;
+    }

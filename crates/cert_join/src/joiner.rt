@@ -1,5 +1,5 @@
 // The lines of the joined certificate, one after the other.
-ghost use Rattle.std.specs.Prelude.{◌≡◌, ◌++◌, ◌∷◌, ◌<◌, ◌^◌, ℕ, List, [], Ok, OnOk, IfOk, MatchOption, length, map};
+ghost use Rattle.std.specs.Prelude.{◌≡◌, ◌++◌, ◌∷◌, ◌<◌, ◌≤◌, ◌^◌, ℕ, List, [], Ok, OnOk, IfOk, MatchOption, length, map};
 ghost use Rattle.cert_joined.specs.Covers.{Cover, AreTextsOf};
 ghost use Rattle.cert_join.specs.Ahead.{AreBefore};
 ghost use Rattle.cert_join.specs.Gathered.{lists_of, spot_at};
@@ -235,7 +235,8 @@ impl Joiner {
 
     /// Takes bytes that were read of the certificate at that place; none are its end.
     pub fn give(&mut self, part: usize, piece: &[u8]) -> Result<(), AllocError>
-        ensures { OnOk result ((certs : List (List ℕ)) (first : Cover) (covers : List Cover) →
+        ensures none { length self.old.cursors.items ≤ part → self.new ≡ self.old }
+        ensures gives { OnOk result ((certs : List (List ℕ)) (first : Cover) (covers : List Cover) →
             (done text : List ℕ) → IsPiece certs part piece.now self.old →
             IsJoining certs first covers done text self.old →
             IsJoining certs first covers done text self.new) }
