@@ -1,5 +1,5 @@
 -- How pieces that are drafted and checked add up.
-use Rattle.std.proofs.Common.{◌≡◌, ℕ, List, ◌++◌, Option, Some, None, Ok, take, refl, ap, subst, ◌∙◌}
+use Rattle.std.proofs.Common.{◌≡◌, ℕ, Bool, true, false, List, [], ◌∷◌, ◌++◌, Option, Some, None, Ok, Err, length, take, refl, ap, sym, subst, ◌∙◌, append_assoc}
 use Rattle.std.specs.Option.{option_map}
 use Rattle.desk.specs.declared.desk.Port.TheVariants.{Part, Draft}
 use Rattle.desk.specs.Sight.{Sight, with_bytes, SideFailed, FailsOn}
@@ -8,7 +8,16 @@ use Rattle.poly_graph.specs.ProblemViews.{Parts}
 use Rattle.cert_check.specs.Feeding.{IsFedPiece}
 use Rattle.cert_check.specs.declared.feed.Feed.{Feed}
 use Rattle.desk.specs.Draft.{drafted, IsDrafted}
-use Rattle.cert_join.specs.Drafting.{IsUnderWay, IsReadFailed, IsDraftFailed, IsSomeDrafted}
+use Rattle.cert_joined.specs.Covers.{AreTextsOf, Cover}
+use Rattle.cert_join.specs.declared.joiner.Joiner.{Joiner}
+use Rattle.cert_join.specs.declared.joiner.Step.{Step}
+use Rattle.cert_join.specs.declared.joiner.Step.TheVariants.{Read, On, Over}
+use Rattle.cert_join.specs.declared.stop.Stop.{Stop}
+use Rattle.cert_join.specs.declared.stop.Stop.TheVariants.{Failed, Denied, Memory, Apart, Refused}
+use Rattle.cert_join.specs.Drafting.{HasDrafted, IsReadFailed, IsDraftFailed, IsOn, IsSomeDrafted, IsStopped, IsWhole, Keeps, Reads}
+use Rattle.cert_join.specs.Gathered.{lists_of}
+use Rattle.cert_join.specs.Joining.{HasStepped, IsJoining}
+use Rattle.cert_join.proofs.Moved.{at_moved}
 
 map_more : (o : Option (List ℕ)) (text more : List ℕ) → option_map (λ before. before ++ more) (option_map (λ x. text) o) ≡ option_map (λ x. text ++ more) o
 map_more None text more = refl
@@ -22,48 +31,118 @@ drafts : (s d new : Sight) (text more : List ℕ) → IsDrafted s text d → new
 drafts s d new text more is written = written ∙ ap (λ x. with_bytes Draft more x) is ∙ drafted_more s text more
 
 -- a piece was written, and the checker took it
-pub goes_on : (s : Sight) (p : Parts) (b : Option ℕ) (d new : Sight) (f g : Feed) (more : List ℕ) →
-    (x : Unit {0}) → IsUnderWay s p b d f → new ≡ with_bytes Draft more d → IsFedPiece f more g (Ok x) → IsUnderWay s p b new g
-goes_on s p b d new f g more x way written fed = record {
-  text = way.text ++ more;
-  drafted = drafts s d new way.text more way.drafted written;
-  taken = fed _ _ _ way.taken;
-}
+pub puts_more : (s : Sight) (p : Parts) (b : Option ℕ) (before : List ℕ) (d new : Sight) (f g : Feed) (more : List ℕ) → (x : Unit {0}) →
+    HasDrafted s p b before d f → new ≡ with_bytes Draft more d → IsFedPiece f more g (Ok x) → HasDrafted s p b (before ++ more) new g
+puts_more s p b before d new f g more x way written fed = record { drafted = drafts s d new before more way.drafted written; taken = fed _ _ _ way.taken }
 
 -- a piece was written, and the checker did not take it
-pub stops_there : (s : Sight) (p : Parts) (b : Option ℕ) (d new : Sight) (f : Feed) (more : List ℕ) →
-    IsUnderWay s p b d f → new ≡ with_bytes Draft more d → IsSomeDrafted s new
-stops_there s p b d new f more way written = (way.text ++ more, drafts s d new way.text more way.drafted written)
+pub stops_there : (s : Sight) (p : Parts) (b : Option ℕ) (before : List ℕ) (d new : Sight) (f : Feed) (more : List ℕ) →
+    HasDrafted s p b before d f → new ≡ with_bytes Draft more d → IsSomeDrafted s new
+stops_there s p b before d new f more way written = (before ++ more, drafts s d new before more way.drafted written)
 
 -- the first bytes of a piece were written
-pub stops_within : (s : Sight) (p : Parts) (b : Option ℕ) (d new : Sight) (f : Feed) (more : List ℕ) →
-    IsUnderWay s p b d f → WritesPrefix Draft more d new → IsSomeDrafted s new
-stops_within s p b d new f more way some = (way.text ++ take some.count more, drafts s d new way.text (take some.count more) way.drafted some.prefix)
+pub stops_within : (s : Sight) (p : Parts) (b : Option ℕ) (before : List ℕ) (d new : Sight) (f : Feed) (more : List ℕ) →
+    HasDrafted s p b before d f → WritesPrefix Draft more d new → IsSomeDrafted s new
+stops_within s p b before d new f more way some = (before ++ take some.count more, drafts s d new before (take some.count more) way.drafted some.prefix)
 
 -- nothing changed
-pub stops_here : (s : Sight) (p : Parts) (b : Option ℕ) (d new : Sight) (f : Feed) → IsUnderWay s p b d f → new ≡ d → IsSomeDrafted s new
-stops_here s p b d new f way same = (way.text, same ∙ way.drafted)
+pub stops_here : (s : Sight) (p : Parts) (b : Option ℕ) (before : List ℕ) (d new : Sight) (f : Feed) → HasDrafted s p b before d f → new ≡ d → IsSomeDrafted s new
+stops_here s p b before d new f way same = (before, same ∙ way.drafted)
 
-pub stays : (s : Sight) (p : Parts) (b : Option ℕ) (d new : Sight) (f : Feed) → IsUnderWay s p b d f → new ≡ d → IsUnderWay s p b new f
-stays s p b d new f way same = record { text = way.text; drafted = same ∙ way.drafted; taken = way.taken }
+pub stays : (s : Sight) (p : Parts) (b : Option ℕ) (before : List ℕ) (d new : Sight) (f : Feed) → HasDrafted s p b before d f → new ≡ d → HasDrafted s p b before new f
+stays s p b before d new f way same = record { drafted = same ∙ way.drafted; taken = way.taken }
 
 -- the draft could not be written
-pub draft_fails : (s : Sight) (p : Parts) (b : Option ℕ) (d new : Sight) (f : Feed) (more : List ℕ) →
-    IsUnderWay s p b d f → WritesThenFails Draft more d new → IsDraftFailed s new
-draft_fails s p b d new f more way fails = record {
-  text = way.text ++ take fails.count more;
+pub draft_fails : (s : Sight) (p : Parts) (b : Option ℕ) (before : List ℕ) (d new : Sight) (f : Feed) (more : List ℕ) →
+    HasDrafted s p b before d f → WritesThenFails Draft more d new → IsDraftFailed s new
+draft_fails s p b before d new f more way fails = record {
+  text = before ++ take fails.count more;
   side = let P : ℕ → Type 0 = λ n. SideFailed n new.out_faults in subst P (ap (λ x. x.out_faults) way.drafted) fails.side;
-  same = fails.prefix ∙ ap (λ (x : Sight). record x { out_faults = new.out_faults }) (drafts s d _ way.text (take fails.count more) way.drafted refl);
+  same = fails.prefix ∙ ap (λ (x : Sight). record x { out_faults = new.out_faults }) (drafts s d _ before (take fails.count more) way.drafted refl);
 }
 
 -- a certificate could not be read
-pub read_fails : (s : Sight) (p : Parts) (b : Option ℕ) (d new : Sight) (f : Feed) → IsUnderWay s p b d f → FailsOn Part d new → IsReadFailed s new
-read_fails s p b d new f way fails = record {
-  text = way.text;
+pub read_fails : (s : Sight) (p : Parts) (b : Option ℕ) (before : List ℕ) (d new : Sight) (f : Feed) → HasDrafted s p b before d f → FailsOn Part d new → IsReadFailed s new
+read_fails s p b before d new f way fails = record {
+  text = before;
   side = let P : ℕ → Type 0 = λ n. SideFailed n new.in_faults in subst P (ap (λ x. x.in_faults) way.drafted) fails.side;
   same = fails.same ∙ ap (λ (x : Sight). record x { in_faults = new.in_faults }) way.drafted;
 }
 
--- what is under way stays so
-abbrev pub StaysUnderWay : Sight → Feed → Sight → Feed → Type 0
-StaysUnderWay old f new g = (s : Sight) (p : Parts) (b : Option ℕ) → IsUnderWay s p b old f → IsUnderWay s p b new g
+-- reading that stopped
+pub read_stops : (s : Sight) (p : Parts) (b : Option ℕ) (before : List ℕ) (d new : Sight) (f : Feed) (stop : Stop) → HasDrafted s p b before d f → Reads {A = Unit {0}} d (Err stop) new → IsStopped s stop new
+read_stops s p b before d new f Failed way h = read_fails s p b before d new f way h
+read_stops s p b before d new f Memory way h = stops_here s p b before d new f way h
+read_stops s p b before d new f Denied way h = absurd h
+read_stops s p b before d new f (Apart place) way h = absurd h
+read_stops s p b before d new f (Refused fault) way h = absurd h
+
+-- ---- the joiner beside the draft
+
+-- the parts are those of the sight
+pub same_parts : (s d : Sight) (text : List ℕ) → IsDrafted s text d → d.parts ≡ s.parts
+same_parts s d text e = ap (λ (x : Sight). x.parts) e
+
+module _ (s : Sight) (p : Parts) (b : Option ℕ) (before done held : List ℕ) (j : Joiner) (d : Sight) (f : Feed) (way : HasDrafted s p b (before ++ done) d f) where
+  -- a joiner's step
+  abbrev Stepped : Step → List ℕ → Joiner → Type 0
+  Stepped step text j' = (certs : List (List ℕ)) (first : Cover) (others : List Cover) (done : List ℕ) → AreTextsOf (first ∷ others) certs → IsJoining certs first (first ∷ others) done held j →
+      HasStepped certs first (first ∷ others) done step text j'
+
+  -- more was read
+  pub reads_on : (part : ℕ) (text : List ℕ) (mid new : Joiner) (d' : Sight) (x : Unit {0}) → Stepped (Read part) text mid → d' ≡ d → Keeps {A = Unit {0}} d mid (Ok x) new →
+      IsOn s p b before done held j false d' f new text
+  reads_on part text mid new d' x stepped same keeps = record {
+    text = done;
+    by_now = stays s p b (before ++ done) d d' f way same;
+    joins = λ certs first others shown texts h.
+        keeps certs first (first ∷ others) done text (same_parts s d (before ++ done) way.drafted ∙ shown) (stepped certs first others done texts h);
+  }
+
+  -- nothing was drafted yet
+  pub holds_on : (text : List ℕ) (new : Joiner) → Stepped On text new → IsOn s p b before done held j false d f new text
+  holds_on text new stepped = record { text = done; by_now = way; joins = λ certs first others shown texts h. stepped certs first others done texts h }
+
+  -- what was held is drafted
+  drafts-on : (text : List ℕ) (d' : Sight) (g : Feed) → HasDrafted s p b ((before ++ done) ++ text) d' g → HasDrafted s p b (before ++ (done ++ text)) d' g
+  drafts-on text d' g h = subst (λ (t : List ℕ). HasDrafted s p b t d' g) (append_assoc before done text) h
+
+  pub puts_on : (text piece left : List ℕ) (new : Joiner) (d' : Sight) (g : Feed) → Stepped On text new → HasDrafted s p b ((before ++ done) ++ piece) d' g → piece ≡ text → left ≡ [] →
+      IsOn s p b before done held j false d' g new left
+  puts_on text piece left new d' g stepped h is none =
+      let h' : HasDrafted s p b ((before ++ done) ++ text) d' g = subst (λ (l : List ℕ). HasDrafted s p b ((before ++ done) ++ l) d' g) is h in
+      let on : IsOn s p b before done held j false d' g new [] = record {
+        text = done ++ text;
+        by_now = drafts-on text d' g h';
+        joins = λ certs first others shown texts k.
+            let next = stepped certs first others done texts k in
+            record { many = next.many; at = at_moved certs first (first ∷ others) done text (lists_of new.numbers.items) new.stage new.cursors.items next.at };
+      } in
+      subst (λ (l : List ℕ). IsOn s p b before done held j false d' g new l) (sym none) on
+
+  pub puts_last : (text piece left : List ℕ) (new : Joiner) (d' : Sight) (g : Feed) → Stepped Over text new → HasDrafted s p b ((before ++ done) ++ piece) d' g → piece ≡ text →
+      IsOn s p b before done held j true d' g new left
+  puts_last text piece left new d' g stepped h is = record {
+    text = done ++ text;
+    by_now = drafts-on text d' g (subst (λ (l : List ℕ). HasDrafted s p b ((before ++ done) ++ l) d' g) is h);
+    joins = λ certs first others shown texts k. stepped certs first others done texts k;
+  }
+
+-- one step after others
+pub on_and_on : (s : Sight) (p : Parts) (b : Option ℕ) (before done held : List ℕ) (j mid : Joiner) (t : Bool) (d d' : Sight) (f f' : Feed) (new : Joiner) (held' left : List ℕ) →
+    (h : IsOn s p b before done held j false d f mid held') → IsOn s p b before h.text held' mid t d' f' new left → IsOn s p b before done held j t d' f' new left
+on_and_on s p b before done held j mid t d d' f f' new held' left h k = record {
+  text = k.text;
+  by_now = k.by_now;
+  joins = λ certs first others shown texts x. k.joins certs first others shown texts (h.joins certs first others shown texts x);
+}
+
+-- all is joined
+pub whole : (s : Sight) (p : Parts) (b : Option ℕ) (count : ℕ) (before : List ℕ) (j new : Joiner) (d : Sight) (f : Feed) (left : List ℕ) →
+    ((certs : List (List ℕ)) (first : Cover) (others : List Cover) → length certs ≡ count → AreTextsOf (first ∷ others) certs → IsJoining certs first (first ∷ others) [] [] j) →
+    IsOn s p b before [] [] j true d f new left → IsWhole s p b count before d f
+whole s p b count before j new d f left starts h = record {
+  text = h.text;
+  by_now = h.by_now;
+  joins = λ certs shown many first others texts. h.joins certs first others shown texts (starts certs first others many texts);
+}

@@ -1,5 +1,5 @@
 // The joined certificate, written and checked in pieces.
-ghost use Rattle.cert_join.specs.Drafting.{GoesOn, Reads};
+ghost use Rattle.cert_join.specs.Drafting.{JoinsAll, Keeps, Puts, Reads, Runs, Steps};
 
 use crate::joiner::{Joiner, ROOM, Step};
 use crate::stop::{Stop, Unjoined};
@@ -20,7 +20,7 @@ pub struct Joined {
 
 // Writes the text and gives it to the checker.
 fn put<D: Desk>(desk: &mut D, feed: &mut Feed<'_>, text: &[u8]) -> Result<(), Stop>
-    ensures { GoesOn (D.sight desk.old) feed.old result (D.sight desk.new) feed.new }
+    ensures { Puts text.now (D.sight desk.old) feed.old result (D.sight desk.new) feed.new }
 {
     match write_whole(desk, Port::Draft, text) {
         Ok(()) => {}
@@ -36,7 +36,8 @@ fn put<D: Desk>(desk: &mut D, feed: &mut Feed<'_>, text: &[u8]) -> Result<(), St
 
 // Reads more of a certificate.
 fn read<D: Desk>(desk: &mut D, joiner: &mut Joiner, part: usize) -> Result<(), Stop>
-    ensures { Reads (D.sight desk.old) result (D.sight desk.new) }
+    ensures reads { Reads (D.sight desk.old) result (D.sight desk.new) }
+    ensures keeps { Keeps (D.sight desk.old) joiner.old result joiner.new }
 {
     let mut piece = [0u8; PIECE];
     let n = match desk.read_at(part, joiner.place(part), &mut piece) {
@@ -56,25 +57,32 @@ fn step<D: Desk>(
     joiner: &mut Joiner,
     text: &mut Vec<u8>,
 ) -> Result<bool, Stop>
-    ensures { GoesOn (D.sight desk.old) feed.old result (D.sight desk.new) feed.new }
+    ensures { Steps text.old.items joiner.old (D.sight desk.old) feed.old result
+        text.new.items joiner.new (D.sight desk.new) feed.new }
 {
-    let step = match joiner.step(text) {
-        Ok(step) => step,
-        Err(Unjoined::Memory) => return Err(Stop::Memory),
-        Err(Unjoined::Apart(place)) => return Err(Stop::Apart(place)),
-    };
-    if let Step::Read(part) = step {
-        read(desk, joiner, part)?;
-        return Ok(false);
+    match joiner.step(text) {
+        Ok(Step::Read(part)) => match read(desk, joiner, part) {
+            Ok(()) => Ok(false),
+            Err(stop) => Err(stop),
+        },
+        Ok(Step::On) if text.len() < ROOM => Ok(false),
+        Ok(Step::On) => match put(desk, feed, text) {
+            Ok(()) => {
+                text.clear();
+                Ok(false)
+            }
+            Err(stop) => Err(stop),
+        },
+        Ok(Step::Over) => match put(desk, feed, text) {
+            Ok(()) => {
+                text.clear();
+                Ok(true)
+            }
+            Err(stop) => Err(stop),
+        },
+        Err(Unjoined::Memory) => Err(Stop::Memory),
+        Err(Unjoined::Apart(place)) => Err(Stop::Apart(place)),
     }
-    let is_over = step == Step::Over;
-    if is_over || text.len() >= ROOM {
-        match put(desk, feed, text) {
-            Ok(()) => text.clear(),
-            Err(stop) => return Err(stop),
-        }
-    }
-    Ok(is_over)
 }
 
 // Joins until all is joined.
@@ -84,7 +92,8 @@ fn run<D: Desk>(
     joiner: &mut Joiner,
     text: &mut Vec<u8>,
 ) -> Result<Joined, Stop>
-    ensures { GoesOn (D.sight desk.old) feed.old result (D.sight desk.new) feed.new }
+    ensures { Runs text.old.items joiner.old (D.sight desk.old) feed.old result
+        text.new.items joiner.new (D.sight desk.new) feed.new }
 {
     for _ in 0..u64::MAX {
         match step(desk, feed, joiner, text) {
@@ -112,7 +121,7 @@ pub fn join<D: Desk>(
     count: usize,
     feed: &mut Feed<'_>,
 ) -> Result<Joined, Stop>
-    ensures { GoesOn (D.sight desk.old) feed.old result (D.sight desk.new) feed.new }
+    ensures { JoinsAll count (D.sight desk.old) feed.old result (D.sight desk.new) feed.new }
 {
     let Ok(mut joiner) = Joiner::new(alloc, count) else {
         return Err(Stop::Memory);

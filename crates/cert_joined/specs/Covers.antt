@@ -140,6 +140,6 @@ pub record IsJoinOf (covers : List Cover) (joined : Cover) : Type 0 where
   pub lemmas : AreAllLemmas covers numbers joined.lemmas
   pub tree : Joins (trees_by numbers covers) joined.tree
 
--- where these bytes are the texts of covers, this is the text of a cover that joins them
+-- where these bytes are the texts of covers, one or more, this is the text of a cover that joins them
 abbrev pub JoinsTexts : List (List ℕ) → List ℕ → Type 0
-JoinsTexts texts text = (covers : List Cover) → AreTextsOf covers texts → (joined : Cover) × IsJoinOf covers joined × (text ≡ text_of_lines (map line_text (cover_lines joined)))
+JoinsTexts texts text = (first : Cover) (others : List Cover) → AreTextsOf (first ∷ others) texts → (joined : Cover) × IsJoinOf (first ∷ others) joined × (text ≡ text_of_lines (map line_text (cover_lines joined)))
