@@ -1,5 +1,5 @@
 -- How pieces that are drafted and checked add up.
-use Rattle.std.proofs.Common.{◌≡◌, ℕ, Bool, true, false, List, [], ◌∷◌, ◌++◌, Option, Some, None, Ok, Err, length, take, refl, ap, sym, subst, ◌∙◌, append_assoc}
+use Rattle.std.proofs.Common.{◌≡◌, ℕ, Bool, true, false, List, [], ◌∷◌, ◌++◌, Option, Some, None, Result, Ok, Err, length, take, refl, ap, sym, subst, ◌∙◌, append_assoc, append-nil}
 use Rattle.std.specs.Option.{option_map}
 use Rattle.desk.specs.declared.desk.Port.TheVariants.{Part, Draft}
 use Rattle.desk.specs.Sight.{Sight, with_bytes, SideFailed, FailsOn}
@@ -14,7 +14,7 @@ use Rattle.cert_join.specs.declared.joiner.Step.{Step}
 use Rattle.cert_join.specs.declared.joiner.Step.TheVariants.{Read, On, Over}
 use Rattle.cert_join.specs.declared.stop.Stop.{Stop}
 use Rattle.cert_join.specs.declared.stop.Stop.TheVariants.{Failed, Denied, Memory, Apart, Refused}
-use Rattle.cert_join.specs.Drafting.{HasDrafted, IsReadFailed, IsDraftFailed, IsOn, IsSomeDrafted, IsStopped, IsWhole, Keeps, Reads}
+use Rattle.cert_join.specs.Drafting.{HasDrafted, IsReadFailed, IsDraftFailed, IsOn, IsJoinedBehind, IsRun, IsSomeDrafted, IsStopped, IsWhole, Keeps, Reads, Runs}
 use Rattle.cert_join.specs.Gathered.{lists_of}
 use Rattle.cert_join.specs.Joining.{HasStepped, IsJoining}
 use Rattle.cert_join.proofs.Moved.{at_moved}
@@ -107,9 +107,10 @@ module _ (s : Sight) (p : Parts) (b : Option ℕ) (before done held : List ℕ) 
   drafts-on : (text : List ℕ) (d' : Sight) (g : Feed) → HasDrafted s p b ((before ++ done) ++ text) d' g → HasDrafted s p b (before ++ (done ++ text)) d' g
   drafts-on text d' g h = subst (λ (t : List ℕ). HasDrafted s p b t d' g) (append_assoc before done text) h
 
-  pub puts_on : (text piece left : List ℕ) (new : Joiner) (d' : Sight) (g : Feed) → Stepped On text new → HasDrafted s p b ((before ++ done) ++ piece) d' g → piece ≡ text → left ≡ [] →
+  pub puts_on : (step : Step) (text piece left : List ℕ) (new : Joiner) (d' : Sight) (g : Feed) → step ≡ On → Stepped step text new → HasDrafted s p b ((before ++ done) ++ piece) d' g → piece ≡ text → left ≡ [] →
       IsOn s p b before done held j false d' g new left
-  puts_on text piece left new d' g stepped h is none =
+  puts_on step text piece left new d' g e some-step h is none =
+      let stepped : Stepped On text new = subst (λ (x : Step). Stepped x text new) e some-step in
       let h' : HasDrafted s p b ((before ++ done) ++ text) d' g = subst (λ (l : List ℕ). HasDrafted s p b ((before ++ done) ++ l) d' g) is h in
       let on : IsOn s p b before done held j false d' g new [] = record {
         text = done ++ text;
@@ -120,22 +121,24 @@ module _ (s : Sight) (p : Parts) (b : Option ℕ) (before done held : List ℕ) 
       } in
       subst (λ (l : List ℕ). IsOn s p b before done held j false d' g new l) (sym none) on
 
-  pub puts_last : (text piece left : List ℕ) (new : Joiner) (d' : Sight) (g : Feed) → Stepped Over text new → HasDrafted s p b ((before ++ done) ++ piece) d' g → piece ≡ text →
+  pub puts_last : (step : Step) (text piece left : List ℕ) (new : Joiner) (d' : Sight) (g : Feed) → step ≡ Over → Stepped step text new → HasDrafted s p b ((before ++ done) ++ piece) d' g → piece ≡ text →
       IsOn s p b before done held j true d' g new left
-  puts_last text piece left new d' g stepped h is = record {
+  puts_last step text piece left new d' g e some-step h is = let stepped : Stepped Over text new = subst (λ (x : Step). Stepped x text new) e some-step in record {
     text = done ++ text;
     by_now = drafts-on text d' g (subst (λ (l : List ℕ). HasDrafted s p b ((before ++ done) ++ l) d' g) is h);
     joins = λ certs first others shown texts k. stepped certs first others done texts k;
   }
 
 -- one step after others
-pub on_and_on : (s : Sight) (p : Parts) (b : Option ℕ) (before done held : List ℕ) (j mid : Joiner) (t : Bool) (d d' : Sight) (f f' : Feed) (new : Joiner) (held' left : List ℕ) →
-    (h : IsOn s p b before done held j false d f mid held') → IsOn s p b before h.text held' mid t d' f' new left → IsOn s p b before done held j t d' f' new left
-on_and_on s p b before done held j mid t d d' f f' new held' left h k = record {
-  text = k.text;
-  by_now = k.by_now;
-  joins = λ certs first others shown texts x. k.joins certs first others shown texts (h.joins certs first others shown texts x);
-}
+pub on_and_on : (s : Sight) (p : Parts) (b : Option ℕ) (before done held : List ℕ) (j mid : Joiner) (t u : Bool) (d d' : Sight) (f f' : Feed) (new : Joiner) (held' left : List ℕ) →
+    (h : IsOn s p b before done held j false d f mid held') → t ≡ u → IsOn s p b before h.text held' mid t d' f' new left → IsOn s p b before done held j u d' f' new left
+on_and_on s p b before done held j mid t u d d' f f' new held' left h e on =
+    let k : IsOn s p b before h.text held' mid u d' f' new left = subst (λ (x : Bool). IsOn s p b before h.text held' mid x d' f' new left) e on in
+    record {
+      text = k.text;
+      by_now = k.by_now;
+      joins = λ certs first others shown texts x. k.joins certs first others shown texts (h.joins certs first others shown texts x);
+    }
 
 -- all is joined
 pub whole : (s : Sight) (p : Parts) (b : Option ℕ) (count : ℕ) (before : List ℕ) (j new : Joiner) (d : Sight) (f : Feed) (left : List ℕ) →
@@ -146,3 +149,13 @@ whole s p b count before j new d f left starts h = record {
   by_now = h.by_now;
   joins = λ certs shown many first others texts. h.joins certs first others shown texts (starts certs first others many texts);
 }
+
+pub joins_all : {A : Type 0} → (s : Sight) (p : Parts) (b : Option ℕ) (count : ℕ) (before held : List ℕ) (j new : Joiner) (old d : Sight) (f g : Feed) (left : List ℕ) (r : Result A Stop) →
+    ((certs : List (List ℕ)) (first : Cover) (others : List Cover) → length certs ≡ count → AreTextsOf (first ∷ others) certs → IsJoining certs first (first ∷ others) [] [] j) →
+    held ≡ [] → HasDrafted s p b before old f → Runs held j old f r left new d g → IsJoinedBehind s p b count before r d g
+joins_all {A = A} s p b count before held j new old d f g left r starts none way runs =
+    let here : HasDrafted s p b (before ++ []) old f = subst (λ (t : List ℕ). HasDrafted s p b t old f) (sym (append-nil before)) way in
+    by r (subst (λ (t : List ℕ). IsRun s p b before [] t j r d g new left) none (runs s p b before [] here)) where
+  by : (x : Result A Stop) → IsRun s p b before [] [] j x d g new left → IsJoinedBehind s p b count before x d g
+  by (Ok x) h = whole s p b count before j new d g left starts h
+  by (Err e) h = h
