@@ -156,6 +156,6 @@ pub joins_all : {A : Type 0} → (s : Sight) (p : Parts) (b : Option ℕ) (count
 joins_all {A = A} s p b count before held j new old d f g left r starts none way runs =
     let here : HasDrafted s p b (before ++ []) old f = subst (λ (t : List ℕ). HasDrafted s p b t old f) (sym (append-nil before)) way in
     by r (subst (λ (t : List ℕ). IsRun s p b before [] t j r d g new left) none (runs s p b before [] here)) where
-  by : (x : Result A Stop) → IsRun s p b before [] [] j x d g new left → IsJoinedBehind s p b count before x d g
-  by (Ok x) h = whole s p b count before j new d g left starts h
-  by (Err e) h = h
+      by : (x : Result A Stop) → IsRun s p b before [] [] j x d g new left → IsJoinedBehind s p b count before x d g
+      by (Ok x) h = whole s p b count before j new d g left starts h
+      by (Err e) h = h

@@ -1,5 +1,5 @@
 -- Places at the beginnings of certificates, and one of several places that is given more bytes.
-use Rattle.std.proofs.Common.{◌≡◌, ◌<◌, ◌⊎◌, inl, inr, ℕ, zero, suc, List, [], ◌∷◌, Option, Some, None, Result, Ok, Err, OnOk, drop, length, map, get_or, replicate, slice_set, refl, sym, ap, ◌∙◌, subst, arith, length-set, ⊎_elim, get_or-set_other, get_or-set_same}
+use Rattle.std.proofs.Common.{◌≡◌, ◌<◌, inl, inr, ℕ, zero, suc, List, [], ◌∷◌, Option, Some, None, Result, Ok, Err, OnOk, drop, length, map, get_or, replicate, slice_set, refl, sym, ap, ◌∙◌, subst, arith, length-set, ⊎_elim, get_or-set_other, get_or-set_same}
 use Rattle.std.proofs.lemmas.Bool.{cases_eq}
 use Rattle.std.proofs.lemmas.Option.{get_or_from_slice_get}
 use Rattle.std.specs.List.{slice_get}
@@ -14,15 +14,14 @@ use Rattle.cert_join.specs.declared.numbering.Numbering.{Numbering as NumberingR
 use Rattle.cert_join.specs.declared.cursor.Mark.{Mark}
 use Rattle.cert_join.specs.declared.trees.Task.{Task}
 use Rattle.cert_join.specs.declared.trees.Task.TheVariants.{Compare, Copy, Weigh}
-use Rattle.cert_join.specs.declared.trees.Trees.{Trees as TreesRead}
 use Rattle.cert_join.specs.declared.weighing.Weighing.{Weighing}
 use Rattle.cert_join.specs.Ahead.{AreBefore}
-use Rattle.cert_join.specs.Due.{Course, IsDue, IsDueBehind, IsNextDue, stacked}
+use Rattle.cert_join.specs.Due.{Course, IsNextDue, stacked}
 use Rattle.cert_join.specs.Gathered.{Stand, lists_of, nowhere, spot_at}
 use Rattle.cert_join.specs.Heads.{IsReading, all_lines}
 use Rattle.cert_join.specs.Joining.{IsAt, IsJoining, IsPiece}
 use Rattle.cert_join.specs.LemmasDue.{AreLemmasDue, LemmasLeft}
-use Rattle.cert_join.specs.Numbered.{IsMarked, IsNumbering, IsReadingPart, IsResting, IsWithin}
+use Rattle.cert_join.specs.Numbered.{IsMarked, IsNumbering, IsWithin}
 use Rattle.cert_join.specs.Spot.{Spot, IsBefore, IsPieceAt}
 use Rattle.cert_join.specs.Weighed.{Branch, IsWeighing}
 use Rattle.cert_join.proofs.Places.{get_set_same, get_set_other}
@@ -116,15 +115,15 @@ module _ (certs : List (List ℕ)) (spots : List Spot) (part : ℕ) (t : Spot) (
     before = r.before;
     all = r.all;
     here = elim r.here [
-        inl w ↦ inl (record {
-          ahead = before_given certs _ spots part t m w.ahead;
-          is_known = w.is_known;
-          few = w.few;
-          count = w.count;
-          outside = w.outside;
-          unmarked = w.unmarked;
-          empty = w.empty;
-        })
+      | inl w ↦ inl (record {
+        ahead = before_given certs _ spots part t m w.ahead;
+        is_known = w.is_known;
+        few = w.few;
+        count = w.count;
+        outside = w.outside;
+        unmarked = w.unmarked;
+        empty = w.empty;
+      })
       | inr w ↦ inr (within_given covers r.before n w (place_given n.part))
     ];
   }

@@ -1,12 +1,12 @@
 -- What is held is drafted, and nothing is held then.
-use Rattle.std.proofs.Common.{◌≡◌, ℕ, List, [], ◌∷◌, ◌++◌, Vec, ap, sym, ◌∙◌, subst, append_assoc, append-nil}
+use Rattle.std.proofs.Common.{ℕ, List, [], ◌++◌, ap, sym, ◌∙◌, subst, append_assoc, append-nil}
 use Rattle.cert_joined.specs.Covers.{Cover}
 use Rattle.cert_join.specs.declared.joiner.Stage.{Stage}
 use Rattle.cert_join.specs.declared.joiner.Stage.TheVariants.{Heads, Point, Numbering, Lemmas, Trees, Ends}
 use Rattle.cert_join.specs.declared.trees.Task.{Task}
 use Rattle.cert_join.specs.declared.trees.Task.TheVariants.{Compare, Copy, Weigh}
-use Rattle.cert_join.specs.Due.{Course, IsDue, IsDueBehind, IsDueWeighed, IsNextDue, IsWhole, stacked}
-use Rattle.cert_join.specs.Joining.{AreAtLemmas, AreAtTrees, IsAt, IsJoinText}
+use Rattle.cert_join.specs.Due.{Course, IsNextDue, IsWhole, stacked}
+use Rattle.cert_join.specs.Joining.{AreAtLemmas, IsAt, IsJoinText}
 use Rattle.cert_join.specs.Spot.{Spot}
 
 -- the same course, where more was written before

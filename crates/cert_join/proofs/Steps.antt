@@ -1,26 +1,25 @@
 -- A step within a stage: it goes on in it, or the stage is over.
-use Rattle.std.proofs.Common.{◌≡◌, ℕ, List, [], ◌∷◌, ◌++◌, Vec, Option, Some, None, Result, Ok, Err, IfOk, map, length, refl, ap, sym, ◌∙◌, subst, append_assoc, append-nil}
+use Rattle.std.proofs.Common.{◌≡◌, ℕ, List, [], ◌++◌, Result, Ok, Err, IfOk, map, refl, ap, sym, ◌∙◌, subst, append_assoc, append-nil}
 use Rattle.cover_model.specs.Derivation.{Tree}
 use Rattle.cert_joined.specs.Joined.{Joins}
-use Rattle.cert_joined.specs.Covers.{Cover, trees_by}
+use Rattle.cert_joined.specs.Covers.{Cover}
 use Rattle.cert_join.specs.declared.heads.Heads.{Heads as HeadsRead}
 use Rattle.cert_join.specs.declared.numbering.Numbering.{Numbering as NumberingRead}
-use Rattle.cert_join.specs.declared.joiner.Joiner.{Joiner}
 use Rattle.cert_join.specs.declared.joiner.Stage.{Stage}
-use Rattle.cert_join.specs.declared.joiner.Stage.TheVariants.{Heads, Point, Numbering, Lemmas, Trees, Ends}
+use Rattle.cert_join.specs.declared.joiner.Stage.TheVariants.{Heads, Numbering, Lemmas, Trees, Ends}
 use Rattle.cert_join.specs.declared.joiner.Step.{Step}
 use Rattle.cert_join.specs.declared.joiner.Step.TheVariants.{Read, On, Over}
 use Rattle.cert_join.specs.declared.stop.Unjoined.{Unjoined}
 use Rattle.cert_join.specs.declared.lemmas.Lemmas.{Lemmas as LemmasRead}
 use Rattle.cert_join.specs.declared.trees.Trees.{Trees as TreesRead}
 use Rattle.cert_join.specs.Ahead.{AreBefore}
-use Rattle.cert_join.specs.Due.{Course, IsAfter, IsNextDue, IsWhole, stacked, tree_text}
+use Rattle.cert_join.specs.Due.{Course, IsAfter, IsNextDue, stacked, tree_text}
 use Rattle.cert_join.specs.Heads.{ReadsHeads}
 use Rattle.cert_join.specs.Joining.{AreAtLemmas, AreAtNumbers, AreAtTrees, IsAfterStep, IsAt, IsJoinText, Within}
-use Rattle.cert_join.specs.LemmasDue.{AreLemmasDue, LemmasLeft, StepsLemmas, covers_of, lemmas_due, none}
+use Rattle.cert_join.specs.LemmasDue.{AreLemmasDue, StepsLemmas, lemmas_due}
 use Rattle.cert_join.specs.Numbered.{ReadsLemmas}
 use Rattle.cert_join.specs.Spot.{Spot}
-use Rattle.cert_join.specs.Written.{behind_lemmas, text_of, written_from}
+use Rattle.cert_join.specs.Written.{behind_lemmas, text_of}
 use Rattle.cert_join.proofs.LemmasStart.{lemmas_end}
 
 module _ (certs : List (List ℕ)) (first : Cover) (covers : List Cover) (done : List ℕ) (numbers : List (List ℕ)) where

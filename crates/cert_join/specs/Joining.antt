@@ -1,9 +1,7 @@
 -- How far certificates are joined: what was written, and what is ahead in each.
-use Rattle.std.specs.Prelude.{◌≡◌, ◌<◌, ◌^◌, ℕ, zero, suc, List, [], ◌∷◌, ◌++◌, Vec, Option, Some, None, Result, Ok, Err, drop, length, map, get_or, slice_get}
-use Rattle.std.specs.List.{AllByRecursion}
-use Rattle.std.specs.declared.alloc.Global.{Global}
+use Rattle.std.specs.Prelude.{◌≡◌, ◌<◌, ◌^◌, ℕ, zero, suc, List, [], ◌∷◌, ◌++◌, Some, Result, Ok, Err, drop, length, map, get_or, slice_get}
 use Rattle.cover_model.specs.Derivation.{Tree}
-use Rattle.cert_read.specs.CertLine.{CertLine, cover, tree_word, end_word}
+use Rattle.cert_read.specs.CertLine.{CertLine, cover, tree_word}
 use Rattle.cert_joined.specs.Joined.{Joins}
 use Rattle.cert_joined.specs.Covers.{Cover, Lemma, AreAllLemmas, IsJoinOf, cover_lines, lemmas_lines, number_at, trees_by}
 use Rattle.cert_join.specs.declared.heads.Heads.{Heads as HeadsRead}
@@ -17,7 +15,7 @@ use Rattle.cert_join.specs.declared.lemmas.Lemmas.{Lemmas as LemmasRead}
 use Rattle.cert_join.specs.declared.trees.Task.TheVariants.{Compare}
 use Rattle.cert_join.specs.declared.trees.Trees.{Trees as TreesRead}
 use Rattle.cert_join.specs.Ahead.{AreBefore}
-use Rattle.cert_join.specs.Due.{Course, IsNextDue, IsWhole, stacked, tree_text}
+use Rattle.cert_join.specs.Due.{Course, IsNextDue, stacked, tree_text}
 use Rattle.cert_join.specs.Gathered.{lists_of, spot_at}
 use Rattle.cert_join.specs.Heads.{AreAlike, AreHeadsRead, IsReading, head_lines, head_text}
 use Rattle.cert_join.specs.LemmasDue.{AreLemmasDue, LemmasLeft, covers_of, lemmas_due}

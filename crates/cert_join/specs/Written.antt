@@ -3,7 +3,7 @@ use Rattle.std.specs.Prelude.{ℕ, suc, ◌+◌, List, [], ◌∷◌, ◌++◌, 
 use Rattle.cert_read.specs.CertLine.{CertLine, tree_word, end_word}
 use Rattle.cert_read.specs.LineText.{line_text, text_of_lines}
 use Rattle.cert_model.specs.Written.{rule_lines}
-use Rattle.cover_model.specs.Derivation.{Tree, tree_lines}
+use Rattle.cover_model.specs.Derivation.{tree_lines}
 use Rattle.cert_joined.specs.Covers.{Cover, Lemma, lemmas_lines, numbered, tree_by}
 
 -- the lines of these, as bytes

@@ -96,11 +96,7 @@ fn some(stage: Result<Stage, AllocError>) -> Result<Option<Stage>, AllocError>
 }
 
 // Reads the ends of a certificate.
-fn step_of_ends(
-    cursors: &mut [Cursor],
-    part: usize,
-    is_read: &mut bool,
-) -> Result<Step, Unjoined> {
+fn step_of_ends(cursors: &mut [Cursor], part: usize, is_read: &mut bool) -> Result<Step, Unjoined> {
     match cursors.get_mut(part) {
         Some(cursor) => step_to_end(cursor, part, is_read),
         None => Ok(Step::Over),
@@ -170,7 +166,7 @@ fn step_in(
         AreTextsOf covers certs →
         IsAt certs first covers done text.old.items (lists_of numbers.now) stage.old cursors.old →
         Within certs first covers done result text.new.items (lists_of numbers.now) stage.new
-            cursors.new }
+        cursors.new }
 {
     match stage {
         Stage::Heads(heads) => heads.step(cursors),
@@ -351,9 +347,9 @@ impl Joiner {
         ensures steps { (certs : List (List ℕ)) (first : Cover) (covers : List Cover) →
             (done : List ℕ) → AreTextsOf covers certs →
             IsAt certs first covers done text.old.items (lists_of self.old.numbers.items)
-                self.old.stage self.old.cursors.items →
+            self.old.stage self.old.cursors.items →
             Within certs first covers done result text.new.items
-                (lists_of self.new.numbers.items) self.new.stage self.new.cursors.items }
+            (lists_of self.new.numbers.items) self.new.stage self.new.cursors.items }
     {
         step_in(&mut self.stage, &mut self.cursors, &self.numbers, text)
     }

@@ -430,7 +430,7 @@ module _ (p : Problem) (b : Option ℕ) (no-crossing : (i : ℕ) → crosses p i
         cover.cover,
         record {
           few = leb-true (length bytes) most_bytes c.0;
-        lines = spelled.0;
+          lines = spelled.0;
           spelled = spelled.1;
           shaped = cover.shaped;
           lemmas = all-firsts cover.cover.lemmas cover.well;

@@ -98,11 +98,11 @@ joins-told parts text (Refused line) h = tt
 pub joint_told : (p : Parts) (b : Option ℕ) (count : ℕ) (old new : Sight) (f : Feed) (r : Result told.Verdict CertFault) (x : Result Joint Status) → IsWhole old p b count [] new f → IsVerdictOfTaken f r → IsToldJoint r x → EndsJoint (problem_of p) b count old new x
 joint_told p b count old new f r (Ok joint) way tells is = record {
   text = way.text;
-  drafted = way.drafted;
-  of = told-of (problem_of p) b way.text r joint (tells p b way.text way.taken) is;
+  drafted = way.by_now.drafted;
+  of = told-of (problem_of p) b way.text r joint (tells p b way.text way.by_now.taken) is;
   joins = λ parts e n. joins-told parts way.text joint (way.joins parts e n);
 }
-joint_told p b count old new f r (Err status) way tells is = subst (λ (s : Status). HaltsJoining s old new) (sym is) (memory_halts old new (way.text, way.drafted))
+joint_told p b count old new f r (Err status) way tells is = subst (λ (s : Status). HaltsJoining s old new) (sym is) (memory_halts old new (way.text, way.by_now.drafted))
 
 not-said : (fault : CertFault) (joint : Joint) (p : Problem) (b : Option ℕ) (text : List ℕ) → IsToldJoint (Err fault) (Ok joint) → IsJointOf p b text joint
 not-said fault (Whole w) p b text e = cc

@@ -1,4 +1,4 @@
-use Rattle.std.proofs.Common.{refl, subst}
+use Rattle.std.proofs.Common.{subst}
 use Rattle.cert_join.specs.declared.joiner.Stage.{Stage}
 use Rattle.cert_join.specs.Gathered.{lists_of}
 use Rattle.cert_join.specs.Joining.{IsAt}

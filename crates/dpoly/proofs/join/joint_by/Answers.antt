@@ -8,31 +8,31 @@ use Rattle.dpoly.proofs.join.joint_by.Goals as goal
 pub returns-in-Ok : goal.returns-in-Ok
 returns-in-Ok g c =
     joint_told c.args.problem.now c.args.bound c.args.count (g.D.Desk.sight c.args.desk.now) (g.D.Desk.sight c.join.new.desk) _ _ c.told.result
-    (c.in-Ok.ensures (g.D.Desk.sight c.args.desk.now) c.args.problem.now c.args.bound (record { text = []; drafted = c.requires.begun; taken = c.requires.taken })) c.end.ensures c.told.ensures
+    (c.in-Ok.ensures (g.D.Desk.sight c.args.desk.now) c.args.problem.now c.args.bound [] (record { drafted = c.requires.begun; taken = c.requires.taken })) c.end.ensures c.told.ensures
 
 pub returns-in-Err-Failed : goal.returns-in-Err-Failed
 returns-in-Err-Failed g c =
-    let h = c.in-Err-Failed.ensures (g.D.Desk.sight c.args.desk.now) c.args.problem.now c.args.bound (record { text = []; drafted = c.requires.begun; taken = c.requires.taken }) in
+    let h = c.in-Err-Failed.ensures (g.D.Desk.sight c.args.desk.now) c.args.problem.now c.args.bound [] (record { drafted = c.requires.begun; taken = c.requires.taken }) in
     read_failed (g.D.Desk.sight c.args.desk.now) (g.D.Desk.sight c.join.new.desk) (subst (λ (e : Stop). IsStopped (g.D.Desk.sight c.args.desk.now) e (g.D.Desk.sight c.join.new.desk)) c.in-Err-Failed.field-0-is h)
 
 pub returns-in-Err-Denied : goal.returns-in-Err-Denied
 returns-in-Err-Denied g c =
-    let h = c.in-Err-Denied.ensures (g.D.Desk.sight c.args.desk.now) c.args.problem.now c.args.bound (record { text = []; drafted = c.requires.begun; taken = c.requires.taken }) in
+    let h = c.in-Err-Denied.ensures (g.D.Desk.sight c.args.desk.now) c.args.problem.now c.args.bound [] (record { drafted = c.requires.begun; taken = c.requires.taken }) in
     draft_failed (g.D.Desk.sight c.args.desk.now) (g.D.Desk.sight c.join.new.desk) (subst (λ (e : Stop). IsStopped (g.D.Desk.sight c.args.desk.now) e (g.D.Desk.sight c.join.new.desk)) c.in-Err-Denied.field-0-is h)
 
 pub returns-in-Err-Memory : goal.returns-in-Err-Memory
 returns-in-Err-Memory g c =
-    let h = c.in-Err-Memory.ensures (g.D.Desk.sight c.args.desk.now) c.args.problem.now c.args.bound (record { text = []; drafted = c.requires.begun; taken = c.requires.taken }) in
+    let h = c.in-Err-Memory.ensures (g.D.Desk.sight c.args.desk.now) c.args.problem.now c.args.bound [] (record { drafted = c.requires.begun; taken = c.requires.taken }) in
     memory_halts (g.D.Desk.sight c.args.desk.now) (g.D.Desk.sight c.join.new.desk) (subst (λ (e : Stop). IsStopped (g.D.Desk.sight c.args.desk.now) e (g.D.Desk.sight c.join.new.desk)) c.in-Err-Memory.field-0-is h)
 
 pub returns-in-Err-Apart : goal.returns-in-Err-Apart
 returns-in-Err-Apart g c =
-    let h = c.in-Err-Apart.ensures (g.D.Desk.sight c.args.desk.now) c.args.problem.now c.args.bound (record { text = []; drafted = c.requires.begun; taken = c.requires.taken }) in
+    let h = c.in-Err-Apart.ensures (g.D.Desk.sight c.args.desk.now) c.args.problem.now c.args.bound [] (record { drafted = c.requires.begun; taken = c.requires.taken }) in
     let d = subst (λ (e : Stop). IsStopped (g.D.Desk.sight c.args.desk.now) e (g.D.Desk.sight c.join.new.desk)) c.in-Err-Apart.field-0-is h in
     record { text = d.0; drafted = d.1; of = tt; joins = λ parts e n. tt }
 
 pub returns-in-Err-Refused : goal.returns-in-Err-Refused
 returns-in-Err-Refused g c =
-    let h = c.in-Err-Refused.ensures (g.D.Desk.sight c.args.desk.now) c.args.problem.now c.args.bound (record { text = []; drafted = c.requires.begun; taken = c.requires.taken }) in
+    let h = c.in-Err-Refused.ensures (g.D.Desk.sight c.args.desk.now) c.args.problem.now c.args.bound [] (record { drafted = c.requires.begun; taken = c.requires.taken }) in
     let d = subst (λ (e : Stop). IsStopped (g.D.Desk.sight c.args.desk.now) e (g.D.Desk.sight c.join.new.desk)) c.in-Err-Refused.field-0-is h in
     joint_refused (problem_of c.args.problem.now) c.args.bound c.args.count (g.D.Desk.sight c.args.desk.now) (g.D.Desk.sight c.join.new.desk) c.in-Err-Refused.fault c.refused.result d c.refused.ensures

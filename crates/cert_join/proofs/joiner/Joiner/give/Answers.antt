@@ -1,5 +1,4 @@
-use Rattle.std.proofs.Common.{◌≡◌, ◌<◌, ◌∙◌, length, refl, arith}
-use Rattle.cert_join.specs.Gathered.{spot_at}
+use Rattle.std.proofs.Common.{◌<◌, ◌∙◌, length, refl, arith}
 use Rattle.cert_join.proofs.Given.{gives}
 use Rattle.cert_join.proofs.Passing.{read_spot}
 use Rattle.cert_join.proofs.joiner.Joiner.give.Goals as goal
