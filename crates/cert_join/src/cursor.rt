@@ -65,7 +65,8 @@ impl Model for Cursor {
 impl Cursor {
     /// At the certificate's beginning.
     pub fn new(alloc: Global) -> Self
-        ensures { result ≡ record { unread = []; behind = 0; ended = false; size = None; lines = 0 } }
+        ensures { result ≡
+            record { unread = []; behind = 0; ended = false; size = None; lines = 0 } }
     {
         Cursor {
             behind: 0,

@@ -197,8 +197,8 @@ fn fresh(alloc: Global, count: usize) -> Result<Vec<Cursor>, AllocError>
 impl Joiner {
     /// So many certificates, of which nothing is read yet.
     pub fn new(alloc: Global, count: usize) -> Result<Self, AllocError>
-        ensures { IfOk result (λ joiner. (certs : List (List ℕ)) (first : Cover) (others : List Cover) →
-            length certs ≡ count → AreTextsOf (first ∷ others) certs →
+        ensures { IfOk result (λ joiner. (certs : List (List ℕ)) (first : Cover) →
+            (others : List Cover) → length certs ≡ count → AreTextsOf (first ∷ others) certs →
             IsJoining certs first (first ∷ others) [] [] joiner) }
     {
         match fresh(alloc, count) {
@@ -246,8 +246,8 @@ impl Joiner {
     // What follows the first lines.
     fn behind_heads(&mut self, heads: Heads, text: &mut Vec<u8>) -> Result<Stage, AllocError>
         ensures same { self.new.cursors ≡ self.old.cursors }
-        ensures stage { IfOk result (λ stage. (certs : List (List ℕ)) (first : Cover) (others : List Cover) →
-            (done : List ℕ) → done ++ text.old.items ≡ [] →
+        ensures stage { IfOk result (λ stage. (certs : List (List ℕ)) (first : Cover) →
+            (others : List Cover) → (done : List ℕ) → done ++ text.old.items ≡ [] →
             AreHeadsRead certs (first ∷ others) heads self.old.cursors.items →
             IsAt certs first (first ∷ others) done text.new.items (lists_of self.new.numbers.items)
             stage self.new.cursors.items) }
@@ -273,8 +273,9 @@ impl Joiner {
         text: &mut Vec<u8>,
     ) -> Result<Stage, AllocError>
         ensures same { self.new.cursors ≡ self.old.cursors }
-        ensures stage { IfOk result (λ stage. (certs : List (List ℕ)) (first : Cover) (covers : List Cover) →
-            (done : List ℕ) → AreTextsOf covers certs → done ++ text.old.items ≡ [] →
+        ensures stage { IfOk result (λ stage. (certs : List (List ℕ)) (first : Cover) →
+            (covers : List Cover) → (done : List ℕ) → AreTextsOf covers certs →
+            done ++ text.old.items ≡ [] →
             AreAtNumbers certs first covers heads.now →
             AreNumbered certs covers numbering self.old.cursors.items →
             IsAt certs first covers done text.new.items (lists_of self.new.numbers.items)
@@ -293,8 +294,8 @@ impl Joiner {
     // What follows the lemmas.
     fn behind_lemmas(&mut self, text: &mut Vec<u8>) -> Result<Stage, AllocError>
         ensures same { self.new.cursors ≡ self.old.cursors }
-        ensures stage { IfOk result (λ stage. (certs : List (List ℕ)) (first : Cover) (others : List Cover) →
-            (done : List ℕ) → AreTextsOf (first ∷ others) certs →
+        ensures stage { IfOk result (λ stage. (certs : List (List ℕ)) (first : Cover) →
+            (others : List Cover) → (done : List ℕ) → AreTextsOf (first ∷ others) certs →
             AreLemmasWritten certs first (first ∷ others) (done ++ text.old.items)
             (lists_of self.old.numbers.items) self.old.cursors.items →
             IsAt certs first (first ∷ others) done text.new.items (lists_of self.new.numbers.items)
@@ -313,8 +314,8 @@ impl Joiner {
     // What follows this stage, which is over; none behind the last.
     fn behind(&mut self, stage: Stage, text: &mut Vec<u8>) -> Result<Option<Stage>, AllocError>
         ensures same { self.new.cursors ≡ self.old.cursors }
-        ensures next { IfOk result (λ next. (certs : List (List ℕ)) (first : Cover) (others : List Cover) →
-            (done : List ℕ) → AreTextsOf (first ∷ others) certs →
+        ensures next { IfOk result (λ next. (certs : List (List ℕ)) (first : Cover) →
+            (others : List Cover) → (done : List ℕ) → AreTextsOf (first ∷ others) certs →
             IsOver certs first (first ∷ others) done text.old.items
             (lists_of self.old.numbers.items) stage self.old.cursors.items →
             MatchOption next (IsJoinText (first ∷ others) (done ++ text.new.items))
@@ -356,8 +357,8 @@ impl Joiner {
 
     /// Appends more of the text, or says what has to be read first.
     pub fn step(&mut self, text: &mut Vec<u8>) -> Result<Step, Unjoined>
-        ensures { IfOk result (λ step. (certs : List (List ℕ)) (first : Cover) (others : List Cover) →
-            (done : List ℕ) → AreTextsOf (first ∷ others) certs →
+        ensures { IfOk result (λ step. (certs : List (List ℕ)) (first : Cover) →
+            (others : List Cover) → (done : List ℕ) → AreTextsOf (first ∷ others) certs →
             IsJoining certs first (first ∷ others) done text.old.items self.old →
             HasStepped certs first (first ∷ others) done step text.new.items self.new) }
     {
