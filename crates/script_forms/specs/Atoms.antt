@@ -2,9 +2,9 @@
 use Rattle.std.specs.Prelude.{ℕ, suc, List, [], ◌∷◌, ◌++◌, Bool, true, false, ◌&&◌, Option, Some, None, cond, slice_index_or}
 use Rattle.dyadic.specs.Fraction.{Fraction}
 use Rattle.dyadic.specs.Point.{Sort, real_sort, bool_sort, Coordinate}
-use Rattle.script_model.specs.Script.{Command, claims, sorts_of}
+use Rattle.script_model.specs.Script.{Command, claims, goals, first_of, sorts_of}
 use Rattle.script_model.specs.Declared.{numbered}
-use Rattle.poly_graph.specs.Term.{variable, Kind, le, ge, eq, Atom, atom_holds}
+use Rattle.poly_graph.specs.Term.{Term, variable, Kind, le, ge, eq, Atom, atom_holds}
 use Rattle.poly_graph.specs.Form.{Form, bool_is, all_form, form_truth, form_atoms, form_map}
 use Rattle.poly_graph.specs.Problem.{no_atom, bool_holds}
 use Rattle.script_forms.specs.Terms.{Unfolded, term, formula, refused, Fault, Comparison, same_term, comparison_tree}
@@ -94,6 +94,25 @@ script_atoms script = firsts [] (form_atoms (atoms_in_place script))
 -- the form of a script, with the numbers of its atoms
 abbrev pub script_form : List Command → Form ℕ
 script_form script = form_map (number_in (script_atoms script)) (atoms_in_place script)
+
+-- ---- the goal
+
+-- the goal's term; none where there is no goal, and where it holds a Real `ite`
+abbrev pub only_term : Option Unfolded → Option Term
+only_term (Some (term t)) = Some t
+only_term _ = None
+
+abbrev pub goal_term : List Command → Option Term
+goal_term script = only_term (first_of (goals as_tree [] (numbered constant_tree 0 (sorts_of script)) script))
+
+-- the goal stands among the assertions with the atom that its term is at most 0
+abbrev pub numbered_goal : List Atom → Option Term → Option ℕ
+numbered_goal atoms None = None
+numbered_goal atoms (Some t) = Some (number_in atoms (t, le))
+
+-- the number of the atom whose term is the goal
+abbrev pub goal_atom : List Command → Option ℕ
+goal_atom script = numbered_goal (script_atoms script) (goal_term script)
 
 -- the form at a point, each atom by its number
 abbrev pub form_holds : Fraction → List Coordinate → List Atom → Form ℕ → Bool

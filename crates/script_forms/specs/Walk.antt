@@ -2,7 +2,7 @@
 use Rattle.std.specs.Prelude.{ℕ, suc, ◌+◌, List, [], ◌∷◌, ◌++◌, length, Bool, true, false, ◌&&◌, Option, Some, None, cond, nat_eq, nat_lt}
 use Rattle.script_model.specs.Sexp.{Place}
 use Rattle.dyadic.specs.Point.{Sort}
-use Rattle.script_model.specs.Script.{Command, claim, Constant, claims, sorts_of}
+use Rattle.script_model.specs.Script.{Command, claim, minimize, Constant, claims, sorts_of}
 use Rattle.script_model.specs.Declared.{numbered, BoundFault, no_bound, bound_too_wide, bound_fault}
 use Rattle.poly_graph.specs.Term.{Term, Atom}
 use Rattle.poly_graph.specs.Form.{Form, yes_form, no_form, atom_is, bool_is, all_form, any_form, Forms, no_forms, more_forms, form_map}
@@ -153,10 +153,11 @@ constant_work axis sort = record { events = []; outcome = constant_tree axis sor
 abbrev pub works : List Command → List Work
 works script = claims as_work [] (numbered constant_work 0 (sorts_of script)) script
 
--- the places of the assertions
+-- the places of the assertions, goals among them
 abbrev pub claim_places : List Command → List Place
 claim_places [] = []
 claim_places (claim at e ∷ rest) = at ∷ claim_places rest
+claim_places (minimize at t ∷ rest) = at ∷ claim_places rest
 claim_places (_ ∷ rest) = claim_places rest
 
 -- the assertions in order, each at its place

@@ -2,7 +2,7 @@
 use Rattle.std.proofs.Common.{◌≡◌, ℕ, List, [], ◌∷◌, ◌++◌, Option, Some, None, Bool, true, false, cond, bytes_eq, refl}
 use Rattle.script_model.specs.Sexp.{Place, Leaf, numeral, decimal, symbol, reserved, Sexp, leaf, group, Sexps, none, more, bang, let_word}
 use Rattle.script_model.specs.Reading.{Reason, malformed, unknown, reserved_reason, bound_names, let_meaning, Operator, operators, found, literal_value, Meanings, Named, value, function, Names, meaning, group_meaning, meanings, binding_meanings, values_bound, named_value, leaf_meaning, name_meaning, application, value_named, call_named, bare_named, Label}
-use Rattle.script_model.specs.Script.{Command, declare, define, claim, check, ineffective, Parameter, bound_to, defined, claims}
+use Rattle.script_model.specs.Script.{Command, declare, define, claim, minimize, check, ineffective, goal_claim, Parameter, bound_to, defined, claims}
 
 module _ {V W : Type 0} (R : V → W → Type 0) where
   abbrev pub Each : List V → List W → Type 0
@@ -165,6 +165,7 @@ module _ {V W : Type 0} (R : V → W → Type 0) where
         (refl, (λ xs ys l. meaning_alike (bound_to params xs ++ ns) (bound_to params ys ++ ms) body (append_alike (bound_to params xs) ns (bound_to params ys) ms (bound_alike params xs ys l) h)), h)
         vs ws k rest
     claims_alike ns ms h vs ws k (claim at e ∷ rest) = (meaning_alike ns ms e h, claims_alike ns ms h vs ws k rest)
+    claims_alike ns ms h vs ws k (minimize at e ∷ rest) = (meaning_alike ns ms (goal_claim at e) h, claims_alike ns ms h vs ws k rest)
     claims_alike ns ms h vs ws k (check at ∷ rest) = claims_alike ns ms h vs ws k rest
     claims_alike ns ms h vs ws k (ineffective at ∷ rest) = claims_alike ns ms h vs ws k rest
     claims_alike ns ms h [] (w ∷ ws) k (declare at x sort ∷ rest) = elim k [ ]

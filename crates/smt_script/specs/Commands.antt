@@ -5,7 +5,7 @@ use Rattle.std.specs.Str.Parse.{digits_value}
 use Rattle.dyadic.specs.Point.{Sort, real_sort, bool_sort}
 use Rattle.script_model.specs.Sexp.{Place, place_of, symbol, numeral, string, Sexp, leaf, group, Sexps, none, more}
 use Rattle.script_model.specs.Reading.{found}
-use Rattle.script_model.specs.Script.{Command, declare, define, claim, check, ineffective, Parameter}
+use Rattle.script_model.specs.Script.{Command, declare, define, claim, minimize, check, ineffective, Parameter}
 use Rattle.smt_sexp.specs.Lexicon.{TextRead, whole, faulty, read}
 use Rattle.smt_script.specs.Forms.{is_end}
 use Rattle.smt_script.specs.Levels.{Step, command, opens, closes, resets, asks_values, checks_of, only_script}
@@ -25,7 +25,7 @@ pub data CommandFault : Type 0 where
 -- ---- words
 
 pub data Word : Type 0 where
-  sets_logic informs echoes gets_model gets_values declares declares_function defines asserts checks exits : Word
+  sets_logic informs echoes gets_model gets_values declares declares_function defines asserts minimizes checks exits : Word
   pushes pops assumes drops restarts : Word
   -- known, and left out of the language in every form
   stays_out : Word
@@ -36,7 +36,7 @@ command_words = (codes "set-logic", sets_logic) ∷ (codes "set-info", informs) 
     (codes "push", pushes) ∷ (codes "pop", pops) ∷ (codes "check-sat-assuming", assumes) ∷
     (codes "reset-assertions", drops) ∷ (codes "reset", restarts) ∷
     (codes "declare-const", declares) ∷ (codes "declare-fun", declares_function) ∷ (codes "define-fun", defines) ∷
-    (codes "assert", asserts) ∷ (codes "check-sat", checks) ∷ (codes "exit", exits) ∷
+    (codes "assert", asserts) ∷ (codes "minimize", minimizes) ∷ (codes "check-sat", checks) ∷ (codes "exit", exits) ∷
     (codes "get-unsat-core", stays_out) ∷ (codes "get-proof", stays_out) ∷ (codes "define-const", stays_out) ∷ (codes "define-sort", stays_out) ∷
     (codes "define-fun-rec", stays_out) ∷ (codes "define-funs-rec", stays_out) ∷ (codes "declare-datatype", stays_out) ∷ (codes "declare-datatypes", stays_out) ∷ []
 
@@ -94,9 +94,10 @@ parameters _ = wrong_parameters
 
 -- ---- one command
 
--- what came before a command: a logic, how many checks, how many levels are open, the end of the script
+-- what came before a command: a logic, a goal, how many checks, how many levels are open, the end of the script
 pub record Before : Type 0 where
   pub logic : Bool
+  pub goal : Bool
   pub checks : ℕ
   pub levels : ℕ
   pub ended : Bool
@@ -111,6 +112,9 @@ one_step s = s ∷ []
 
 abbrev pub with_set : Before → Before
 with_set b = record b { logic = true }
+
+abbrev pub with_goal : Before → Before
+with_goal b = record b { goal = true }
 
 abbrev pub with_end : Before → Before
 with_end b = record b { ended = true }
@@ -131,6 +135,10 @@ with_logic b at true = says (with_set b) (one_step (command (ineffective at)))
 abbrev pub is_logic : Option Bool → Bool
 is_logic (Some b) = b
 is_logic None = false
+
+-- a second goal is left out of the language
+abbrev pub goal : Before → Place → Sexp → Said
+goal b at t = cond b.goal (fails left_out) (says (with_goal b) (one_step (command (minimize at t))))
 
 -- a form that is wrong comes before a sort that is left out
 abbrev pub declaration : Before → Place → List ℕ → Arguments → SortForm → Said
@@ -207,6 +215,7 @@ by_word b at declares (more (leaf _ (symbol f)) (more s none)) = declaration b a
 by_word b at declares_function (more (leaf _ (symbol f)) (more (group _ args) (more s none))) = declaration b at f (arguments args) (sort_form s)
 by_word b at defines (more (leaf _ (symbol f)) (more (group _ params) (more s (more body none)))) = definition b at f (parameters params) (sort_form s) body
 by_word b at asserts (more e none) = says b (one_step (command (claim at e)))
+by_word b at minimizes (more t none) = goal b at t
 by_word b at checks none = checking b at
 by_word b at exits none = says (with_end b) (one_step (command (ineffective at)))
 by_word b at pushes (more (leaf _ (numeral digits)) none) = pushing b at (digits_value 10 digits)
@@ -253,7 +262,7 @@ steps_from b [] = at_end b
 steps_from b (e ∷ rest) = cond b.ended (at_end b) (joined (place_of e) (one_command b e) (steps_from (next_before b (one_command b e)) rest))
 
 abbrev pub at_start : Before
-at_start = record { logic = false; checks = 0; levels = 0; ended = false }
+at_start = record { logic = false; goal = false; checks = 0; levels = 0; ended = false }
 
 abbrev pub steps_of : List Sexp → CommandsRead
 steps_of es = steps_from at_start es

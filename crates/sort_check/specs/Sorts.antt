@@ -4,7 +4,7 @@ use Rattle.std.specs.Str.{bytes_eq}
 use Rattle.script_model.specs.Sexp.{Place, place_of}
 use Rattle.script_model.specs.Reading.{Operator, truth, falsehood, negation, conjunction, disjunction, implication, exclusive, equality, distinctness, choice, minus, plus, times, divide, operators, found, Reason, malformed, left_out, unknown, Label, Meanings, Names, Named, value, function, meaning}
 use Rattle.dyadic.specs.Point.{Sort, real_sort, bool_sort}
-use Rattle.script_model.specs.Script.{Command, declare, define, claim, Parameter}
+use Rattle.script_model.specs.Script.{Command, declare, define, claim, minimize, Parameter}
 
 pub data SortFault : Type 0 where
   unknown_symbol redeclared : List ℕ → SortFault
@@ -178,6 +178,7 @@ sort_fault_from n names (define at f params s body ∷ rest) =
     then_on (new_name at f names) (then_on (taken_parameter [] params)
     (then_on (wants (place_of body) s (meaning sorting (parameter_names params ++ names) body)) (sort_fault_from n ((f, signature params s) ∷ names) rest)))
 sort_fault_from n names (claim at e ∷ rest) = then_on (wants (place_of e) bool_sort (meaning sorting names e)) (sort_fault_from n names rest)
+sort_fault_from n names (minimize at t ∷ rest) = then_on (wants (place_of t) real_sort (meaning sorting names t)) (sort_fault_from n names rest)
 sort_fault_from n names (_ ∷ rest) = sort_fault_from n names rest
 
 -- the first fault of a script's names and sorts
