@@ -5,12 +5,12 @@ use Rattle.dyadic.specs.Rounding.{exact}
 use Rattle.cover_line.specs.Words.{word_of, empty_word}
 use Rattle.cert_read.specs.LineText.{text_of_lines, line_text}
 use Rattle.cert_read.specs.Lines.{lines_of, lines_so_far}
-use Rattle.cert_read.specs.CertLine.{says_both, says_false, says_true, CertLine, version, margin, delta, bound, cover, point_word, tree_word, end_word, lemma, real_interval, real_value, bool_value, yes_list, no_list, rule_line, crossing, Parsed, too_long, bad_line, bad_number, line, parsed}
+use Rattle.cert_read.specs.CertLine.{says_both, says_false, says_true, CertLine, version, margin, delta, bound, over, cover, point_word, tree_word, end_word, lemma, real_interval, real_value, bool_value, yes_list, no_list, rule_line, crossing, Parsed, too_long, bad_line, bad_number, line, parsed}
 use Rattle.interval_model.specs.Space.{real_domain, bool_domain, Space}
 use Rattle.poly_graph.specs.Problem.{Declared, real_between, any_bool, Axis, Problem, crosses}
 use Rattle.cover_model.specs.State.{State, Loosenings, root_state}
 use Rattle.cover_model.specs.Rules.{rule, Line}
-use Rattle.cert_model.specs.Due.{CertFault, BadHeader, BadNumber, RuleFails, Missing, Extra, WrongBound, NotShown, BadLine, LineTooLong, TooLong, Standing, Value, left_open, Due, version_due, margin_due, delta_due, bound_due, kind_due, next_due, axis_due, yes_due, no_due, lemma_due, root_due, tree_due, coordinate_due, end_due, nothing_due, Next, on, faulty, given, is_version, same_bound, bool_domain_of, ascends, apart, all_below, state_of, is_axis, names_well, after_rule, after_lemma_rule, tree_goes_on, lemma_goes_on, axis_next, is_crossed_box, extra_after, extra_at_end, coordinate_next, is_shown, NextOf}
+use Rattle.cert_model.specs.Due.{CertFault, BadHeader, BadNumber, RuleFails, OverFails, Missing, Extra, WrongBound, NotShown, BadLine, LineTooLong, TooLong, Standing, Value, left_open, Due, version_due, margin_due, delta_due, bound_due, kind_due, next_due, axis_due, yes_due, no_due, lemma_due, root_due, tree_due, coordinate_due, end_due, nothing_due, Next, on, faulty, given, is_version, same_bound, bool_domain_of, ascends, apart, all_below, state_of, is_axis, names_well, after_rule, after_lemma_rule, tree_goes_on, lemma_goes_on, axis_next, is_crossed_box, extra_after, extra_at_end, coordinate_next, is_shown, NextOf}
 
 -- ---- a line that is well formed, where something is due
 
@@ -79,6 +79,7 @@ next p b (next_due s k lemmas) (lemma i) = cond (nat_lt (length lemmas) k) (give
 next p b (next_due s k lemmas) tree_word = given (nat_eq (length lemmas) k) (root_due s lemmas) Missing
 next p b (next_due s k lemmas) (rule_line l) = faulty (extra_after lemmas)
 next p b (next_due s k lemmas) (crossing i) = faulty (extra_after lemmas)
+next p b (next_due s k lemmas) over = faulty (extra_after lemmas)
 next p b (next_due s k lemmas) l = faulty Missing
 next p b (axis_due s k lemmas a axes space) l = axis_line p s k lemmas a.declared axes space l
 next p b (yes_due s k lemmas space) (yes_list js) = given (all_below (length p.atoms) js && ascends js) (no_due s k lemmas space js) BadNumber
@@ -88,17 +89,21 @@ next p b (no_due s k lemmas space is) (no_list js) = given (all_below (length p.
 next p b (no_due s k lemmas space is) l = faulty Missing
 next p b (lemma_due s k lemmas L S pending) (rule_line l) = lemma_line p s k lemmas L S pending l
 next p b (lemma_due s k lemmas L S pending) (crossing i) = no_crossing p i
+next p b (lemma_due s k lemmas L S pending) over = faulty OverFails
 next p b (lemma_due s k lemmas L S pending) l = faulty Missing
 next p b (root_due s lemmas) (crossing i) = cond (crosses p i) (on (end_due s lemmas (left_open []))) (no_crossing p i)
 next p b (root_due s lemmas) (rule_line l) = root_line (is_crossed_box p) p s lemmas l
+next p b (root_due s lemmas) over = faulty OverFails
 next p b (root_due s lemmas) l = faulty Missing
 next p b (tree_due s lemmas S pending done) (rule_line l) = tree_line p s lemmas S pending done l
 next p b (tree_due s lemmas S pending done) (crossing i) = no_crossing p i
+next p b (tree_due s lemmas S pending done) over = faulty OverFails
 next p b (tree_due s lemmas S pending done) l = faulty Missing
 next p b (coordinate_due s a axes space) l = coordinate_line s a.declared axes space l
 next p b (end_due s lemmas v) end_word = given (is_shown p s v) (nothing_due s lemmas v) NotShown
 next p b (end_due s lemmas v) (rule_line l) = faulty (extra_at_end v)
 next p b (end_due s lemmas v) (crossing i) = faulty (extra_at_end v)
+next p b (end_due s lemmas v) over = faulty (extra_at_end v)
 next p b (end_due s lemmas v) l = faulty Missing
 next p b (nothing_due s lemmas v) l = faulty Extra
 

@@ -17,6 +17,8 @@ pub data CertFault : Type 0 where
   RuleFails : RuleWord → CertFault
   -- the lemmas that `keep` names may not be kept; it is told as a rule that fails
   KeepFails : CertFault
+  -- the goal may be below its lower bound, or there is none here; it is told as a rule that fails
+  OverFails : CertFault
   Missing Extra WrongBound NotShown BadLine LineTooLong TooLong : CertFault
 
 -- A line of a tree with its standing: the state where it is written, a box with the marks of the atoms, which the lines

@@ -3,6 +3,8 @@ pub mod AnswerText
 pub mod Derived
 pub mod Due
 pub mod Laws
+pub mod Least
+pub mod LeastLaws
 pub mod Session
 pub mod SessionLaws
 pub mod Standing

@@ -18,6 +18,8 @@ pub data CertLine : Type 0 where
   bound : Option ℕ → CertLine
   -- the number of checks
   checks : ℕ → CertLine
+  -- a lower bound of the goal; none where it has none
+  lower : Option Dyadic → CertLine
   -- the number of lemmas, and how many of them are those of the part before
   cover keep : ℕ → CertLine
   point_word tree_word end_word : CertLine
@@ -28,6 +30,8 @@ pub data CertLine : Type 0 where
   yes_list no_list : List ℕ → CertLine
   -- a line of a tree, but the one for crossed bounds
   rule_line : Line → CertLine
+  -- the goal's enclosure is not below the lower bound
+  over : CertLine
   -- the bounds of this axis cross
   crossing : ℕ → CertLine
 
@@ -155,6 +159,11 @@ abbrev pub bound_in : List (List ℕ) → Parsed
 bound_in (w ∷ []) = cond (bytes_eq w (codes "none")) (line (bound None)) (with_count (λ n. bound (Some n)) (count_of w))
 bound_in ws = bad_line
 
+-- `none` or a number of the grid
+abbrev pub lower_in : List (List ℕ) → Parsed
+lower_in (w ∷ []) = cond (bytes_eq w (codes "none")) (line (lower None)) (with_dyadic (λ d. lower (Some d)) (dyadic_of w))
+lower_in ws = bad_line
+
 -- the values that are left
 abbrev pub bool_in : List (List ℕ) → Parsed
 bool_in (w ∷ []) =
@@ -178,9 +187,9 @@ entry name (e ∷ rest) = cond (bytes_eq name e.0) (Some e.1) (entry name rest)
 
 abbrev pub header_forms : List (List ℕ × (List (List ℕ) → Parsed))
 header_forms =
-    (codes "dpoly", counted version) ∷ (codes "margin", counted margin) ∷ (codes "delta", counted delta) ∷ (codes "bound", bound_in) ∷ (codes "checks", counted checks) ∷ (codes "cover", counted cover) ∷ (codes "keep", counted keep) ∷
+    (codes "dpoly", counted version) ∷ (codes "margin", counted margin) ∷ (codes "delta", counted delta) ∷ (codes "bound", bound_in) ∷ (codes "lower", lower_in) ∷ (codes "checks", counted checks) ∷ (codes "cover", counted cover) ∷ (codes "keep", counted keep) ∷
     (codes "point", alone point_word) ∷ (codes "tree", alone tree_word) ∷ (codes "end", alone end_word) ∷ (codes "lemma", counted lemma) ∷
-    (codes "real", real_in) ∷ (codes "bool", bool_in) ∷ (codes "yes", listed yes_list) ∷ (codes "no", listed no_list) ∷ (word_text empty_word, counted crossing) ∷ []
+    (codes "real", real_in) ∷ (codes "bool", bool_in) ∷ (codes "yes", listed yes_list) ∷ (codes "no", listed no_list) ∷ (codes "over", alone over) ∷ (word_text empty_word, counted crossing) ∷ []
 
 -- a line of a rule by its operands
 abbrev pub ruled : Form → List (List ℕ) → Parsed

@@ -4,7 +4,7 @@ use Rattle.std.specs.Str.{bytes_eq}
 use Rattle.cover_line.specs.Words.{word_text}
 use Rattle.cover_line.specs.Views.{rule_word}
 use Rattle.cert_read.specs.declared.keyword.Keyword.{Keyword}
-use Rattle.cert_read.specs.declared.keyword.Keyword.TheVariants.{Version, Margin, Delta, Bound, Checks, Cover, Keep, Point, Tree, End, Lemma, Real, Bool, Yes, No, Rule}
+use Rattle.cert_read.specs.declared.keyword.Keyword.TheVariants.{Version, Margin, Delta, Bound, Lower, Checks, Cover, Keep, Point, Tree, End, Lemma, Real, Bool, Yes, No, Over, Rule}
 use Rattle.cert_read.specs.CertLine.{bad_line, by_first}
 
 abbrev pub keyword_text : Keyword → List ℕ
@@ -12,6 +12,7 @@ keyword_text Version = codes "dpoly"
 keyword_text Margin = codes "margin"
 keyword_text Delta = codes "delta"
 keyword_text Bound = codes "bound"
+keyword_text Lower = codes "lower"
 keyword_text Checks = codes "checks"
 keyword_text Cover = codes "cover"
 keyword_text Keep = codes "keep"
@@ -23,6 +24,7 @@ keyword_text Real = codes "real"
 keyword_text Bool = codes "bool"
 keyword_text Yes = codes "yes"
 keyword_text No = codes "no"
+keyword_text Over = codes "over"
 keyword_text (Rule w) = word_text (rule_word w)
 
 -- the word that leads a line outside trees
@@ -32,6 +34,7 @@ header_keyword_of w =
     cond (bytes_eq w (codes "margin")) (Some Margin) (
     cond (bytes_eq w (codes "delta")) (Some Delta) (
     cond (bytes_eq w (codes "bound")) (Some Bound) (
+    cond (bytes_eq w (codes "lower")) (Some Lower) (
     cond (bytes_eq w (codes "checks")) (Some Checks) (
     cond (bytes_eq w (codes "cover")) (Some Cover) (
     cond (bytes_eq w (codes "keep")) (Some Keep) (
@@ -43,7 +46,8 @@ header_keyword_of w =
     cond (bytes_eq w (codes "bool")) (Some Bool) (
     cond (bytes_eq w (codes "yes")) (Some Yes) (
     cond (bytes_eq w (codes "no")) (Some No) (
-    None)))))))))))))))
+    cond (bytes_eq w (codes "over")) (Some Over) (
+    None)))))))))))))))))
 
 -- the word that leads a line; none where no line begins so
 abbrev pub IsKeywordIn : List ℕ → Option Keyword → Type 0

@@ -6,7 +6,7 @@ use Rattle.dyadic.specs.NumberText.{number, number_text, number_spelling}
 use Rattle.cert_read.specs.Lines.{all_bytes, longest_line}
 use Rattle.cover_line.specs.Line.{Multipliers, Line}
 use Rattle.cover_line.specs.Words.{empty_word, word_of, word_text, Operands, of_nothing, of_atom, of_lemma, of_atom_lemma, of_axis, of_axis_place, of_multipliers, operands_of}
-use Rattle.cert_read.specs.CertLine.{BoolWord, says_false, says_true, says_both, CertLine, version, margin, delta, bound, checks, cover, keep, point_word, tree_word, end_word, lemma, real_interval, real_value, bool_value, yes_list, no_list, rule_line, crossing}
+use Rattle.cert_read.specs.CertLine.{BoolWord, says_false, says_true, says_both, CertLine, version, margin, delta, bound, lower, over, checks, cover, keep, point_word, tree_word, end_word, lemma, real_interval, real_value, bool_value, yes_list, no_list, rule_line, crossing}
 
 -- words parted by one space
 abbrev pub spaced : List (List ℕ) → List ℕ
@@ -22,6 +22,10 @@ text_of_lines (l ∷ ls) = l ++ (10 ∷ text_of_lines ls)
 abbrev pub bound_text : Option ℕ → List ℕ
 bound_text None = codes "none"
 bound_text (Some n) = decimal n
+
+abbrev pub lower_text : Option Dyadic → List ℕ
+lower_text None = codes "none"
+lower_text (Some d) = number_spelling d
 
 abbrev pub bool_text : BoolWord → List ℕ
 bool_text says_false = codes "false"
@@ -50,6 +54,7 @@ line_words (version n) = codes "dpoly" ∷ decimal n ∷ []
 line_words (margin m) = codes "margin" ∷ decimal m ∷ []
 line_words (delta d) = codes "delta" ∷ decimal d ∷ []
 line_words (bound b) = codes "bound" ∷ bound_text b ∷ []
+line_words (lower d) = codes "lower" ∷ lower_text d ∷ []
 line_words (checks c) = codes "checks" ∷ decimal c ∷ []
 line_words (cover k) = codes "cover" ∷ decimal k ∷ []
 line_words (keep q) = codes "keep" ∷ decimal q ∷ []
@@ -63,6 +68,7 @@ line_words (bool_value w) = codes "bool" ∷ bool_text w ∷ []
 line_words (yes_list js) = codes "yes" ∷ map decimal js
 line_words (no_list js) = codes "no" ∷ map decimal js
 line_words (rule_line l) = rule_words l
+line_words over = codes "over" ∷ []
 line_words (crossing i) = word_text empty_word ∷ decimal i ∷ []
 
 abbrev pub line_text : CertLine → List ℕ
@@ -104,11 +110,16 @@ abbrev pub IsSpelledBound : Option ℕ → Type 0
 IsSpelledBound None = Unit {0}
 IsSpelledBound (Some n) = IsCount n
 
+abbrev pub IsSpelledLower : Option Dyadic → Type 0
+IsSpelledLower None = Unit {0}
+IsSpelledLower (Some d) = IsSpelledNumber d
+
 abbrev pub HasSpelling : CertLine → Type 0
 HasSpelling (version n) = IsCount n
 HasSpelling (margin m) = IsCount m
 HasSpelling (delta d) = IsCount d
 HasSpelling (bound b) = IsSpelledBound b
+HasSpelling (lower d) = IsSpelledLower d
 HasSpelling (checks c) = IsCount c
 HasSpelling (cover k) = IsCount k
 HasSpelling (keep q) = IsCount q

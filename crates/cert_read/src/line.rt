@@ -21,6 +21,8 @@ pub enum Line {
     Delta(u32),
     /// `bound`, with the bound of the words, or `none`.
     Bound(Option<u32>),
+    /// `lower`, with a lower bound of the goal, or `none`.
+    Lower(Option<Dy>),
     /// `checks`, with the number of checks.
     Checks(u32),
     /// `cover`, with the number of lemmas.
@@ -47,6 +49,8 @@ pub enum Line {
     No(Vec<u32>),
     /// A line of a tree, but the one for crossed bounds.
     Rule(Rule),
+    /// `over`: the goal's enclosure is not below the lower bound.
+    Over,
     /// `empty`, with an axis.
     Empty(u32),
 }

@@ -1,0 +1,205 @@
+-- Certificates of least values: a lower bound of a goal, and a cover whose leaves are closed or not below the bound.
+--
+-- The goal is the term of an atom of the problem. Behind the header stands `lower`, with the bound; then a cover, each leaf of whose
+-- tree leaves nothing or is `over`: the goal's enclosure there is not below the bound. Behind the cover may stand a point. So each
+-- point of the declared box that meets the form at the margin has a value of the goal that is not below the bound.
+use Rattle.std.specs.Prelude.{◌≡◌, ℕ, suc, List, [], ◌∷◌, Bool, true, false, not, ◌&&◌, cond, Option, Some, None, nat_eq, nat_le, length}
+use Rattle.dyadic.specs.Rounding.{Dyadic, Ext, below_all, finite, above_all}
+use Rattle.interval_model.specs.Interval.{Interval, nothing, between, within}
+use Rattle.interval_model.specs.Space.{Space}
+use Rattle.poly_graph.specs.Problem.{Problem}
+use Rattle.cover_line.specs.Words.{word_of}
+use Rattle.cert_read.specs.CertLine.{CertLine, version, lower, cover, point_word, rule_line, over, Parsed}
+use Rattle.cover_model.specs.State.{Loosenings, atom_enclosure, root_state}
+use Rattle.cover_model.specs.Rules.{Line, open_line, stuck}
+use Rattle.cert_model.specs.Due.{Standing, CertFault, BadHeader, RuleFails, OverFails, Missing, Extra, Value, at_point, left_open, Due, version_due, margin_due, kind_due, root_due, tree_due, nothing_due, NextOf, Next, on, faulty, names_well, is_crossed_box}
+use Rattle.cert_model.specs.Accepted.{next, ruled_line, parsed_by, CourseOf, course_by, VerdictOf, accepted, refused, at_end, ended_by, most_bytes, verdict_of}
+
+-- ---- the goal's enclosure
+
+-- a lower bound as an end; none is minus infinity
+abbrev pub lower_end : Option Dyadic → Ext
+lower_end None = below_all
+lower_end (Some d) = finite d
+
+-- the values that are not below the bound
+abbrev pub not_below : Option Dyadic → Interval
+not_below lower = between (lower_end lower) above_all
+
+-- over the space the enclosure of the goal, the term of atom g, is not below the bound
+abbrev pub is_over : Problem → ℕ → Option Dyadic → Space → Bool
+is_over p g lower space = within (atom_enclosure p space g) (not_below lower)
+
+abbrev pub upper_end : Interval → Ext
+upper_end nothing = below_all
+upper_end (between l h) = h
+
+-- at a point: the upper end of the goal's enclosure over it
+abbrev pub upper_at : Problem → ℕ → Space → Ext
+upper_at p g space = upper_end (atom_enclosure p space g)
+
+-- ---- what is due
+
+-- what an accepted one stands for: its bound, the leaves that are over, and its point
+pub record Least : Type 0 where
+  pub lower : Option Dyadic
+  pub over : List Standing
+  pub point : Option Space
+
+pub data LeastDue : Type 0 where
+  -- the header up to the bound of the words, behind its version: that of a certificate of one check
+  header_due : Due → LeastDue
+  lower_due : Loosenings → LeastDue
+  -- `cover`, with the number of lemmas
+  cover_due : Loosenings → Option Dyadic → LeastDue
+  -- a later line of the cover
+  in_cover_due : Option Dyadic → Due → LeastDue
+  -- behind the cover: `point`, or nothing
+  covered_due : Loosenings → Option Dyadic → List Standing → LeastDue
+  -- a line of the point
+  in_point_due : Option Dyadic → List Standing → Due → LeastDue
+  -- after the last line
+  shown_due : Loosenings → Least → LeastDue
+
+abbrev pub LeastNext : Type 0
+LeastNext = NextOf LeastDue
+
+abbrev pub in_header : Next → LeastNext
+in_header (on (kind_due s)) = on (lower_due s)
+in_header (on d) = on (header_due d)
+in_header (faulty f) = faulty f
+
+-- in the cover, where `nothing_due` is its end
+abbrev pub in_cover : Option Dyadic → Next → LeastNext
+in_cover lower (on (nothing_due s lemmas (left_open left))) = on (covered_due s lower left)
+in_cover lower (on d) = on (in_cover_due lower d)
+in_cover lower (faulty f) = faulty f
+
+-- in the point
+abbrev pub in_point : Option Dyadic → List Standing → Next → LeastNext
+in_point lower left (on (nothing_due s lemmas (at_point space))) = on (shown_due s (record { lower = lower; over = left; point = Some space }))
+in_point lower left (on d) = on (in_point_due lower left d)
+in_point lower left (faulty f) = faulty f
+
+-- ---- lines of the tree
+
+-- the space where a line of the main tree is due
+abbrev pub tree_space : Problem → Due → Option Space
+tree_space p (root_due s lemmas) = cond (is_crossed_box p) None (Some (root_state p).space)
+tree_space p (tree_due s lemmas S pending done) = Some S.space
+tree_space p d = None
+
+-- `over` leaves its state, as `open` does in a certificate of one check, where the goal's enclosure is not below the bound
+abbrev pub over_line : Problem → Option ℕ → ℕ → Option Dyadic → Due → Option Space → LeastNext
+over_line p b g lower d None = in_cover lower (next p b d over)
+over_line p b g lower d (Some space) = cond (is_over p g lower space) (in_cover lower (next p b d (rule_line open_line))) (faulty OverFails)
+
+-- a line that leaves its own state open or stuck
+abbrev pub leaves_open : Line → Bool
+leaves_open open_line = true
+leaves_open (stuck j) = true
+leaves_open l = false
+
+-- no leaf of the main tree is left open or stuck
+abbrev pub leaf_line : Problem → Option ℕ → Option Dyadic → Due → Line → Option Space → LeastNext
+leaf_line p b lower d l None = in_cover lower (next p b d (rule_line l))
+leaf_line p b lower d l (Some space) = in_cover lower (ruled_line (names_well p l) (faulty (RuleFails (word_of l))))
+
+abbrev pub tree_rule : Problem → Option ℕ → Option Dyadic → Due → Line → LeastNext
+tree_rule p b lower d l = cond (leaves_open l) (leaf_line p b lower d l (tree_space p d)) (in_cover lower (next p b d (rule_line l)))
+
+-- ---- one line
+
+-- of the problem p, whose goal is the term of atom g, where the words give the bound b
+abbrev pub least_next : Problem → ℕ → Option ℕ → LeastDue → CertLine → LeastNext
+least_next p g b (header_due d) l = in_header (next p b d l)
+least_next p g b (lower_due s) (lower d) = on (cover_due s d)
+least_next p g b (lower_due s) l = faulty BadHeader
+least_next p g b (cover_due s d) (cover k) = in_cover d (next p b (kind_due s) (cover k))
+least_next p g b (cover_due s d) l = faulty BadHeader
+least_next p g b (in_cover_due e d) over = over_line p b g e d (tree_space p d)
+least_next p g b (in_cover_due e d) (rule_line l) = tree_rule p b e d l
+least_next p g b (in_cover_due e d) l = in_cover e (next p b d l)
+least_next p g b (covered_due s e left) point_word = in_point e left (next p b (kind_due s) point_word)
+least_next p g b (covered_due s e left) l = faulty Extra
+least_next p g b (in_point_due e left d) l = in_point e left (next p b d l)
+least_next p g b (shown_due s x) l = faulty Extra
+
+-- ---- certificates of a script with a goal and one check: of its check, or of its least value
+
+-- a version of the format for least values
+abbrev pub is_least_version : ℕ → Bool
+is_least_version v = nat_eq v 4
+
+pub data GoalDue : Type 0 where
+  plain_due : Due → GoalDue
+  least_due : LeastDue → GoalDue
+
+pub data GoalValue : Type 0 where
+  plain : Value → GoalValue
+  least : Least → GoalValue
+
+abbrev pub GoalNext : Type 0
+GoalNext = NextOf GoalDue
+
+abbrev pub as_plain : Next → GoalNext
+as_plain (on d) = on (plain_due d)
+as_plain (faulty f) = faulty f
+
+abbrev pub as_least : LeastNext → GoalNext
+as_least (on d) = on (least_due d)
+as_least (faulty f) = faulty f
+
+-- The version tells which one it is. Behind it the lines that version 2 has are read as there.
+abbrev pub version_next : Problem → Option ℕ → ℕ → GoalNext
+version_next p b v = cond (is_least_version v) (on (least_due (header_due (margin_due 2)))) (as_plain (next p b version_due (version v)))
+
+abbrev pub goal_next : Problem → ℕ → Option ℕ → GoalDue → CertLine → GoalNext
+goal_next p g b (plain_due version_due) (version v) = version_next p b v
+goal_next p g b (plain_due d) l = as_plain (next p b d l)
+goal_next p g b (least_due d) l = as_least (least_next p g b d l)
+
+abbrev pub goal_step : Problem → ℕ → Option ℕ → GoalDue → Parsed → GoalNext
+goal_step p g b d l = parsed_by (goal_next p g b d) l
+
+-- ---- all lines
+
+abbrev pub GoalCourse : Type 0
+GoalCourse = CourseOf GoalDue
+
+abbrev pub goal_course : Problem → ℕ → Option ℕ → List (List ℕ) → GoalCourse
+goal_course p g b ls = course_by (goal_step p g b) 0 (plain_due version_due) ls
+
+abbrev pub GoalVerdict : Type 0
+GoalVerdict = VerdictOf GoalValue
+
+-- the input ends where this is due
+abbrev pub missing_in_least : LeastDue → CertFault
+missing_in_least (header_due d) = BadHeader
+missing_in_least (lower_due s) = BadHeader
+missing_in_least (cover_due s e) = BadHeader
+missing_in_least d = Missing
+
+abbrev pub least_at_end : LeastDue → ℕ → GoalVerdict
+least_at_end (covered_due s e left) n = accepted s (least (record { lower = e; over = left; point = None }))
+least_at_end (shown_due s x) n = accepted s (least x)
+least_at_end d n = refused (missing_in_least d) (suc n)
+
+abbrev pub plain_verdict : VerdictOf Value → GoalVerdict
+plain_verdict (accepted s v) = accepted s (plain v)
+plain_verdict (refused f n) = refused f n
+
+abbrev pub goal_at_end : GoalDue → ℕ → GoalVerdict
+goal_at_end (plain_due d) n = plain_verdict (at_end d n)
+goal_at_end (least_due d) n = least_at_end d n
+
+abbrev pub goal_ended : GoalCourse → GoalVerdict
+goal_ended c = ended_by goal_at_end c
+
+-- what bytes are to the problem of a script's only check, whose goal is the term of atom g
+abbrev pub goal_verdict : Problem → ℕ → Option ℕ → List ℕ → GoalVerdict
+goal_verdict p g b bytes = verdict_of (goal_course p g b) goal_ended (nat_le (length bytes) most_bytes) bytes
+
+-- the bytes are accepted, with the margin and delta of their header, and this value
+abbrev pub IsGoalAccepted : Problem → ℕ → Option ℕ → List ℕ → Loosenings → GoalValue → Type 0
+IsGoalAccepted p g b bytes s v = goal_verdict p g b bytes ≡ accepted s v
