@@ -10,12 +10,12 @@ use Rattle.script_model.specs.Meaning.{neighbours, pairs}
 use Rattle.script_model.specs.Script.{Command, sorts_of}
 use Rattle.script_model.specs.Declared.{numbered}
 use Rattle.script_model.proofs.Related.{Each, Respects, claims_alike, Nothing, said, silent}
-use Rattle.poly_graph.specs.Term.{Term, constant, multiply, square, Kind, le, ge, eq, Atom}
+use Rattle.poly_graph.specs.Term.{Term, constant, multiply, square, Atom}
 use Rattle.poly_graph.specs.Form.{Form, Forms, yes_form, no_form, atom_is, bool_is, all_form, any_form, no_forms, more_forms, form_atoms, forms_atoms, form_map, forms_map}
 use Rattle.poly_graph.specs.Problem.{HasSort, IsTerm}
 use Rattle.dyadic.specs.Lowest.{sum_fits, product_fits}
 use Rattle.script_forms.specs.Terms.{Comparison, Unfolded, term, formula, refused, ill_formed, zero_divisor, Fault, comparison_tree, is_zero, same_term, negate_tree, add_tree, multiply_tree, subtract_tree, divide_tree, inverse_of, subtraction_tree, step, steps, all_steps, constant_or, either, second_arm, arms, lift_tree, divisor_not_constant, hold_either, behind_first, quotient_tree}
-use Rattle.script_forms.specs.Unfolded.{truth_of, negation_form, term_in, forms_of, two, compare, at_most_two, at_least_two, equal_two, and_of, or_of, not_of, xor_of, xor_from, xor_all, implies_of, choice_form, chain, not_first, different, checked, first_fault, unless_refused, takes, unfolded_operation, equality_form, distinctness_form, as_tree, at_most_terms, at_least_terms, equal_terms, lift_form, compare_two, differ_two, choice_two, choice_tree}
+use Rattle.script_forms.specs.Unfolded.{truth_of, negation_form, term_in, forms_of, two, at_most_two, at_least_two, equal_two, and_of, or_of, not_of, xor_of, xor_from, xor_all, implies_of, choice_form, chain, not_first, different, checked, first_fault, unless_refused, takes, unfolded_operation, equality_form, distinctness_form, as_tree, at_most_terms, at_least_terms, equal_terms, lift_form, compare_two, differ_two, choice_two, choice_tree}
 use Rattle.script_forms.specs.Atoms.{constant_tree, trees, whole_form, atoms_in_place, script_atoms, firsts, already, atom_of}
 use Rattle.script_forms.proofs.Lowest.{reduced_same}
 

@@ -7,5 +7,6 @@ pub mod Good
 pub mod Whole
 pub mod Numbered
 pub mod Box
+pub mod Goals
 pub mod Kept
 pub mod Walks

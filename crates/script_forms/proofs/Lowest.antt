@@ -55,6 +55,9 @@ le-both : (a b : ℤ) → a ≡ b → (a ≤ℤ b) × (b ≤ℤ a)
 le-both a b h = (subst (λ (x : ℤ). a ≤ℤ x) h (≤ℤ_refl a), subst (λ (x : ℤ). x ≤ℤ a) h (≤ℤ_refl a))
 
 -- as tests
-pub lowest_same : (q : Fraction) → IsFraction q → IsFraction (reduced q) × IsTrue (at_most q (reduced q)) × IsTrue (at_most (reduced q) q)
+pub same_at_most : (p q : Fraction) → p ≈ q → IsTrue (at_most p q) × IsTrue (at_most q p)
 unfolding at_most
-lowest_same q f = let h = reduced_same q f in let k = le-both _ _ h.1.same in (h.0, le_holds _ _ k.0, le_holds _ _ k.1)
+same_at_most p q h = let k = le-both _ _ h.same in (le_holds _ _ k.0, le_holds _ _ k.1)
+
+pub lowest_same : (q : Fraction) → IsFraction q → IsFraction (reduced q) × IsTrue (at_most q (reduced q)) × IsTrue (at_most (reduced q) q)
+lowest_same q f = let h = reduced_same q f in let k = same_at_most q (reduced q) h.1 in (h.0, k.0, k.1)

@@ -5,13 +5,13 @@ use borrow.Author.Differences.{up, down}
 use Rattle.dyadic.specs.Fraction.{Fraction, IsFraction, zero_fraction, negated, sum_of, product_of, difference_of}
 use Rattle.dyadic.specs.Point.{Coordinate}
 use Rattle.script_model.specs.Sexp.{Place}
-use Rattle.script_model.specs.Meaning.{Pair, Value, real, bool, either as either_value, fraction_of, pair_of, all_pair, neighbours, pairs, from_left, first_and_rest, lift_value, step_values, lift_pair, compare_values, at_most_pair, at_least_pair, equal_pair}
+use Rattle.script_model.specs.Meaning.{Pair, Value, real, bool, either as either_value, pair_of, all_pair, neighbours, pairs, from_left, first_and_rest, lift_value, step_values, lift_pair, compare_values, at_most_pair, at_least_pair, equal_pair}
 use Rattle.script_model.proofs.Related.{Each}
 use Rattle.poly_graph.specs.Term.{Term, constant, variable, negate, add, multiply, square, Kind, le, ge, eq, term_value, in_range, atom_holds}
-use Rattle.poly_graph.specs.Form.{Form, yes_form}
+use Rattle.poly_graph.specs.Form.{Form}
 use Rattle.dyadic.specs.Lowest.{sum_fits, product_fits}
 use Rattle.script_forms.specs.Terms.{same_fraction, same_sign, Comparison, Unfolded, term, formula, refused, either, second_arm, arms, lift_tree, Fault, is_nought, inverse_of, divide_tree, zero_divisor, constant_or, negate_tree, add_tree, multiply_tree, subtract_tree, same_term, is_zero, comparison_tree, step, steps, all_steps}
-use Rattle.script_forms.specs.Unfolded.{checked, first_fault, unless_refused, chain, compare, at_most_terms, at_least_terms, equal_terms, lift_form, compare_two, choice_form, is_real_tree, term_in, are_terms, are_formulas}
+use Rattle.script_forms.specs.Unfolded.{checked, first_fault, unless_refused, chain, at_most_terms, at_least_terms, equal_terms, lift_form, compare_two, is_real_tree, term_in, are_terms, are_formulas}
 use Rattle.script_forms.specs.Atoms.{fault_of, comparison_fault, atom_of}
 use Rattle.dyadic.proofs.Equal.{◌≈◌, ≈_trans, ≈_refl, ≈_sym, sum_same, product_same, negated_same, at_most_same, at_least_same, cancel_equal}
 use Rattle.dyadic.proofs.Ring.{atom, natural, plus, times, minus, same, read}

@@ -121,7 +121,7 @@ stays : (a : Atom) (seen xs : List Atom) → already a seen ≡ true → already
 stays a seen [] h = h
 stays a seen (x ∷ xs) h = stays a (cond (already x seen) seen (seen ++ (x ∷ []))) xs (kept a x seen (already x seen) h)
 
-all_found : (seen xs : List Atom) → AllByRecursion (λ a. already a (firsts seen xs) ≡ true) xs
+pub all_found : (seen xs : List Atom) → AllByRecursion (λ a. already a (firsts seen xs) ≡ true) xs
 all_found seen [] = tt
 all_found seen (x ∷ xs) = let next : List Atom = cond (already x seen) seen (seen ++ (x ∷ [])) in
     (stays x next xs (new x seen (already x seen) refl), all_found next xs)

@@ -7,16 +7,16 @@ use Rattle.script_model.specs.Meaning.{neighbours, pairs}
 use Rattle.script_forms.proofs.Means.{both_true}
 use Rattle.dyadic.specs.Lowest.{sum_fits, product_fits}
 use Rattle.dyadic.specs.Fraction.{Fraction, sum_of, product_of}
-use Rattle.script_model.specs.Script.{Command, declare, define, claim, check, ineffective, claims, sorts_of, defined, Constant}
+use Rattle.script_model.specs.Script.{Command, declare, define, claim, minimize, check, ineffective, claims, sorts_of, defined, Constant}
 use Rattle.script_model.specs.Declared.{numbered, BoundFault, bound_fault}
 use Rattle.dyadic.specs.Point.{Sort, real_sort, bool_sort}
 use Rattle.script_model.proofs.Related.{Each, Respects, claims_alike}
 use Rattle.poly_graph.specs.Term.{Term, constant, Atom}
 use Rattle.poly_graph.specs.Form.{Form, yes_form, no_form, atom_is, bool_is, all_form, any_form, Forms, no_forms, more_forms, form_atoms, forms_atoms, form_map, forms_map}
-use Rattle.script_forms.specs.Terms.{Fault, ill_formed, Comparison, Unfolded, term, formula, refused, is_zero, is_nought, add_tree, multiply_tree, divide_tree, subtract_tree, step, steps, all_steps, subtraction_tree, either, second_arm, arms, lift_tree, negate_tree, hold_either, behind_first, quotient_tree, divisor_not_constant, constant_or, inverse_of, zero_divisor}
-use Rattle.script_forms.specs.Unfolded.{as_tree, truth_of, takes, first_fault, unless_refused, checked, unfolded_operation, operation_tree, forms_of, chain, at_most_two, at_least_two, equal_two, not_of, xor_of, equality_form, distinctness_form, implies_of, xor_from, choice_form, is_real_tree, are_terms, at_most_terms, at_least_terms, equal_terms, lift_form, compare_two, differ_two, and_of, different, choice_two, choice_tree}
+use Rattle.script_forms.specs.Terms.{Fault, ill_formed, Comparison, Unfolded, term, formula, refused, is_zero, is_nought, add_tree, multiply_tree, divide_tree, subtract_tree, step, steps, all_steps, subtraction_tree, either, arms, lift_tree, negate_tree, hold_either, behind_first, divisor_not_constant, constant_or, inverse_of, zero_divisor}
+use Rattle.script_forms.specs.Unfolded.{as_tree, truth_of, takes, first_fault, unless_refused, checked, unfolded_operation, operation_tree, forms_of, chain, at_most_two, at_least_two, equal_two, not_of, xor_of, equality_form, distinctness_form, implies_of, xor_from, is_real_tree, are_terms, at_most_terms, at_least_terms, equal_terms, lift_form, compare_two, differ_two, and_of, different, choice_two, choice_tree}
 use Rattle.script_forms.specs.Atoms.{fault_of, comparison_fault, or_next, comparisons_fault, tree_fault, trees_fault, unfolding_fault, trees, atom_of, firsts, already, constant_tree, script_atoms, number_in}
-use Rattle.script_forms.specs.Work.{Event, reached, made, asked, formed, met, Work, outcome_of, events_of, ending, subtract_events, divide_events, add_events, multiply_events, inverse_events, step_events, steps_events, all_events, subtraction_events, operation_events, unless_met, operator_events, as_work, comparison_events, form_events, forms_events, assertion_events, lift_events, compare_events, together, quotient_events}
+use Rattle.script_forms.specs.Work.{Event, reached, made, asked, formed, met, Work, outcome_of, events_of, ending, subtract_events, divide_events, add_events, multiply_events, inverse_events, step_events, steps_events, all_events, subtraction_events, operation_events, unless_met, operator_events, as_work, comparison_events, form_events, forms_events, assertion_events, lift_events, compare_events, together}
 use Rattle.script_forms.specs.Walk.{Stand, nothing_made, Walked, stands, stops, BuildingFault, unfolds_not, if_room, has_tree, with_tree, with_atom, has_form, with_form, larger, after_event, goes_on, after_events, constant_work, works, claim_places, after_assertions, after_root, walked, most_size, most_trees, most_atoms, most_forms, form_size, all_sizes, too_large, too_many_nodes, too_many_atoms, too_many_forms, lacks_bound, bound_beyond, fault_of_bounds, fault_or, building_fault}
 
 -- ---- what the events tell: the first fault that is met, and the atoms that are asked for
@@ -653,6 +653,7 @@ claims-long M names [] (declare at x sort ∷ rest) = claims-long M ((x, value (
 claims-long M names (v ∷ vs) (declare at x sort ∷ rest) = claims-long M ((x, value v) ∷ names) vs rest
 claims-long M names vs (define at f params sort body ∷ rest) = claims-long M ((f, defined M names params body) ∷ names) vs rest
 claims-long M names vs (claim at e ∷ rest) = ap suc (claims-long M names vs rest)
+claims-long M names vs (minimize at t ∷ rest) = ap suc (claims-long M names vs rest)
 claims-long M names vs (check at ∷ rest) = claims-long M names vs rest
 claims-long M names vs (ineffective at ∷ rest) = claims-long M names vs rest
 

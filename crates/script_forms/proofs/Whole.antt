@@ -4,9 +4,9 @@ use Rattle.std.specs.List.{AllByRecursion}
 use Rattle.dyadic.specs.Fraction.{Fraction}
 use Rattle.dyadic.specs.Point.{Sort, real_sort, bool_sort, Coordinate, at_fraction, at_bool, IsPoint}
 use Rattle.script_model.specs.Meaning.{Value, real, bool, either as either_value, pair_of, loosened, coordinate_value}
-use Rattle.script_model.specs.Script.{Command, claims, Holds, Satisfies, sorts_of}
+use Rattle.script_model.specs.Script.{Command, claims, goals, Holds, Satisfies, sorts_of}
 use Rattle.script_model.specs.Declared.{numbered}
-use Rattle.script_model.proofs.Related.{Each, claims_alike}
+use Rattle.script_model.proofs.Related.{Each, claims_alike, goals_alike}
 use Rattle.poly_graph.specs.Term.{coordinate}
 use Rattle.poly_graph.specs.Form.{form_atoms, forms_atoms}
 use Rattle.poly_graph.specs.Problem.{bool_holds}
@@ -70,6 +70,11 @@ module _ (m : Fraction) (whole : List Coordinate) where
 
   pub trees_alike : (script : List Command) → IsPoint (sorts_of script) whole → Each (Means m whole) (claims (loosened m) [] (map coordinate_value whole) script) (trees script)
   trees_alike script p = claims_alike (Means m whole) (loosened m) as_tree (respects m whole) [] [] tt
+      (map coordinate_value whole) (numbered constant_tree 0 (sorts_of script)) (constants-alike 0 (sorts_of script) whole from-start p) script
+
+  pub goals_mean : (script : List Command) → IsPoint (sorts_of script) whole →
+      Each (Means m whole) (goals (loosened m) [] (map coordinate_value whole) script) (goals as_tree [] (numbered constant_tree 0 (sorts_of script)) script)
+  goals_mean script p = goals_alike (Means m whole) (loosened m) as_tree (respects m whole) [] [] tt
       (map coordinate_value whole) (numbered constant_tree 0 (sorts_of script)) (constants-alike 0 (sorts_of script) whole from-start p) script
 
   with-first : (a b c : Bool) (Y : Type 0) → a ≡ b → (IsTrue c → Y) × (Y → IsTrue c) → (IsTrue (a && c) → IsTrue b × Y) × (IsTrue b × Y → IsTrue (a && c))

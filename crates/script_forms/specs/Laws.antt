@@ -1,15 +1,15 @@
 -- The laws that tie a script's terms, atoms, form and problem to what the script means.
-use Rattle.std.specs.Prelude.{◌≡◌, ℕ, List, Option, None, IsTrue, ◌↔◌}
+use Rattle.std.specs.Prelude.{◌≡◌, ◌<◌, ℕ, List, length, slice_index_or, Option, Some, None, IsTrue, ◌↔◌}
 use Rattle.std.specs.List.{AllByRecursion, All}
 use Rattle.dyadic.specs.Fraction.{Fraction, IsFraction, at_most}
 use Rattle.dyadic.specs.Point.{Coordinate, IsPoint}
-use Rattle.script_model.specs.Script.{Command, Satisfies, sorts_of}
+use Rattle.script_model.specs.Script.{Command, Satisfies, goal_value, sorts_of}
 use Rattle.script_model.specs.Declared.{InDeclaredBox, bound_fault}
-use Rattle.poly_graph.specs.Term.{Atom, atom_holds}
+use Rattle.poly_graph.specs.Term.{Term, term_value, Atom, atom_holds}
 use Rattle.poly_graph.specs.Form.{form_truth}
-use Rattle.poly_graph.specs.Problem.{Problem, Axis, IsDeclared, full_atom, bool_holds, IsTerm, sorts_of_problem, in_declared_box}
+use Rattle.poly_graph.specs.Problem.{Problem, Axis, IsDeclared, full_atom, no_atom, bool_holds, IsTerm, sorts_of_problem, in_declared_box}
 use Rattle.dyadic.specs.Lowest.{reduced}
-use Rattle.script_forms.specs.Atoms.{unfolding_fault, script_atoms, script_form, form_holds}
+use Rattle.script_forms.specs.Atoms.{unfolding_fault, script_atoms, script_form, goal_atom, form_holds}
 use Rattle.script_forms.specs.ProblemOf.{IsProblemOf}
 use Rattle.script_forms.specs.Walk.{building_fault}
 
@@ -52,3 +52,19 @@ LowestIsSame = (q : Fraction) → IsFraction q → IsFraction (reduced q) × IsT
 -- Where the building of a script has no fault, its unfolding and its bounds have none.
 abbrev pub FaultlessUnfolds : Type 0
 FaultlessUnfolds = (bound : Option ℕ) (script : List Command) → building_fault bound script ≡ None → (unfolding_fault script ≡ None) × (bound_fault bound script ≡ None)
+
+-- The script has a goal, and the term has its value at the point.
+abbrev pub IsGoalAt : List Command → List Coordinate → Term → Type 0
+IsGoalAt script point t = (q : Fraction) × (goal_value point script ≡ Some q) × IsFraction q × IsFraction (term_value point t) ×
+    IsTrue (at_most q (term_value point t)) × IsTrue (at_most (term_value point t) q)
+
+-- The atom of a script's goal is one of its atoms, and its term has the goal's value at each point.
+abbrev pub GoalIsAtom : Type 0
+GoalIsAtom = (script : List Command) (g : ℕ) → goal_atom script ≡ Some g →
+    (g < length (script_atoms script)) ×
+    ((point : List Coordinate) → IsPoint (sorts_of script) point → IsGoalAt script point (slice_index_or (script_atoms script) g no_atom).0)
+
+-- The same of each problem that is that of the script.
+abbrev pub GoalOfProblem : Type 0
+GoalOfProblem = (bound : Option ℕ) (script : List Command) (p : Problem) → IsProblemOf bound script p → (g : ℕ) → goal_atom script ≡ Some g →
+    (g < length p.atoms) × ((point : List Coordinate) → IsPoint (sorts_of_problem p) point → IsGoalAt script point (full_atom p g).0)

@@ -3,7 +3,7 @@
 //! No code runs here: each function is a law about the definitions in `specs/`, and its contract is the law.
 #![tactic(auto)]
 
-ghost use Rattle.script_forms.specs.Laws.{FormMeansScript, ProblemMeansScript, AtomsAreGood, BoxIsDeclared, AxesAreBounds, LowestIsSame, FaultlessUnfolds};
+ghost use Rattle.script_forms.specs.Laws.{FormMeansScript, ProblemMeansScript, AtomsAreGood, BoxIsDeclared, AxesAreBounds, LowestIsSame, FaultlessUnfolds, GoalIsAtom, GoalOfProblem};
 
 /// The form of a script is true at a point, its atoms loosened, exactly where the point satisfies the script so
 /// loosened (SMT-LIB 2.6, theories Core and Reals; the loosening is that of Gao, Avigad, Clarke 2012).
@@ -45,4 +45,16 @@ pub fn lowest_is_same()
 #[tactic(auto, using(crate::proofs::Walks::faultless_unfolds))]
 pub fn faultless_unfolds()
     ensures { FaultlessUnfolds }
+{}
+
+/// The atom of a script's goal is one of its atoms, and its term has the goal's value at each point.
+#[tactic(auto, using(crate::proofs::Goals::goal_is_atom))]
+pub fn goal_is_atom()
+    ensures { GoalIsAtom }
+{}
+
+/// The same of each problem of a script: the goal is the term of one of its atoms.
+#[tactic(auto, using(crate::proofs::Goals::goal_of_problem))]
+pub fn goal_of_problem()
+    ensures { GoalOfProblem }
 {}

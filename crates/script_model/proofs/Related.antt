@@ -2,7 +2,7 @@
 use Rattle.std.proofs.Common.{◌≡◌, ℕ, List, [], ◌∷◌, ◌++◌, Option, Some, None, Bool, true, false, cond, bytes_eq, refl}
 use Rattle.script_model.specs.Sexp.{Place, Leaf, numeral, decimal, symbol, reserved, Sexp, leaf, group, Sexps, none, more, bang, let_word}
 use Rattle.script_model.specs.Reading.{Reason, malformed, unknown, reserved_reason, bound_names, let_meaning, Operator, operators, found, literal_value, Meanings, Named, value, function, Names, meaning, group_meaning, meanings, binding_meanings, values_bound, named_value, leaf_meaning, name_meaning, application, value_named, call_named, bare_named, Label}
-use Rattle.script_model.specs.Script.{Command, declare, define, claim, minimize, check, ineffective, goal_claim, Parameter, bound_to, defined, claims}
+use Rattle.script_model.specs.Script.{Command, declare, define, claim, minimize, check, ineffective, goal_claim, Parameter, bound_to, defined, claims, goals}
 
 module _ {V W : Type 0} (R : V → W → Type 0) where
   abbrev pub Each : List V → List W → Type 0
@@ -165,11 +165,28 @@ module _ {V W : Type 0} (R : V → W → Type 0) where
         (refl, (λ xs ys l. meaning_alike (bound_to params xs ++ ns) (bound_to params ys ++ ms) body (append_alike (bound_to params xs) ns (bound_to params ys) ms (bound_alike params xs ys l) h)), h)
         vs ws k rest
     claims_alike ns ms h vs ws k (claim at e ∷ rest) = (meaning_alike ns ms e h, claims_alike ns ms h vs ws k rest)
-    claims_alike ns ms h vs ws k (minimize at e ∷ rest) = (meaning_alike ns ms (goal_claim at e) h, claims_alike ns ms h vs ws k rest)
+    claims_alike ns ms h vs ws k (minimize at t ∷ rest) = (meaning_alike ns ms (goal_claim at t) h, claims_alike ns ms h vs ws k rest)
     claims_alike ns ms h vs ws k (check at ∷ rest) = claims_alike ns ms h vs ws k rest
     claims_alike ns ms h vs ws k (ineffective at ∷ rest) = claims_alike ns ms h vs ws k rest
     claims_alike ns ms h [] (w ∷ ws) k (declare at x sort ∷ rest) = elim k [ ]
     claims_alike ns ms h (v ∷ vs) [] k (declare at x sort ∷ rest) = elim k [ ]
+
+    -- the goals of a script, in the same way
+    pub goals_alike : (ns : Names V) (ms : Names W) → AlikeNames ns ms → (vs : List V) (ws : List W) → Each vs ws → (script : List Command) →
+        Each (goals M ns vs script) (goals N ms ws script)
+    goals_alike ns ms h vs ws k [] = tt
+    goals_alike ns ms h [] [] k (declare at x sort ∷ rest) = goals_alike ((x, value (M.nothing at (unknown x))) ∷ ns) ((x, value (N.nothing at (unknown x))) ∷ ms) (refl, S.nothing at (unknown x), h) [] [] tt rest
+    goals_alike ns ms h (v ∷ vs) (w ∷ ws) k (declare at x sort ∷ rest) = goals_alike ((x, value v) ∷ ns) ((x, value w) ∷ ms) (refl, k.0, h) vs ws k.1 rest
+    goals_alike ns ms h vs ws k (define at f params sort body ∷ rest) =
+        goals_alike ((f, defined M ns params body) ∷ ns) ((f, defined N ms params body) ∷ ms)
+        (refl, (λ xs ys l. meaning_alike (bound_to params xs ++ ns) (bound_to params ys ++ ms) body (append_alike (bound_to params xs) ns (bound_to params ys) ms (bound_alike params xs ys l) h)), h)
+        vs ws k rest
+    goals_alike ns ms h vs ws k (claim at e ∷ rest) = goals_alike ns ms h vs ws k rest
+    goals_alike ns ms h vs ws k (minimize at t ∷ rest) = (meaning_alike ns ms t h, goals_alike ns ms h vs ws k rest)
+    goals_alike ns ms h vs ws k (check at ∷ rest) = goals_alike ns ms h vs ws k rest
+    goals_alike ns ms h vs ws k (ineffective at ∷ rest) = goals_alike ns ms h vs ws k rest
+    goals_alike ns ms h [] (w ∷ ws) k (declare at x sort ∷ rest) = elim k [ ]
+    goals_alike ns ms h (v ∷ vs) [] k (declare at x sort ∷ rest) = elim k [ ]
 
 -- the meaning that says nothing: an invariant of one meaning is a relation with it
 pub data Nothing : Type 0 where
