@@ -10,7 +10,8 @@ use Rattle.width_plan.specs.Plan as width
 use Rattle.width_plan.specs.Plan.{IsPlan, least_bits, no_atom, no_axis}
 use Rattle.cert_model.specs.Due.{Value, left_open}
 use Rattle.cert_model.specs.Accepted.{accepted, refused}
-use Rattle.cert_model.specs.AnswerText.{check_text, verdict_text, demo_text}
+use Rattle.cert_model.specs.AnswerText.{check_text, least_text, verdict_text, demo_text}
+use Rattle.cert_model.specs.Least.{GoalVerdict, plain, least, goal_verdict}
 use Rattle.cert_model.specs.Session.{SessionVerdict, AreAccepted, session_verdict}
 use Rattle.cert_upgrade.specs.Upgraded.{in_newest, upgraded}
 use Rattle.check_run.specs.declared.status.Status.TheVariants.{Answered, CertRefused, ScriptRefused, Usage}
@@ -18,6 +19,7 @@ use Rattle.script_fault.specs.declared.fault.ScriptFault.{ScriptFault}
 use Rattle.check_run.specs.Plans.{least_bits_text, no_atom_text, no_axis_text}
 use Rattle.check_run.specs.ScriptFaults.{fault_text}
 use Rattle.script_reading.specs.Faults.{script_fault, session_fault}
+use Rattle.script_reading.specs.Goals.{goal_in}
 use Rattle.script_reading.specs.Reader.{IsBuilt}
 use Rattle.script_reading.specs.Session.{HasSession}
 use Rattle.check_run.specs.Answer.{loosenings_for, solve_texts, AreAnswers, IsAnswer}
@@ -44,9 +46,20 @@ abbrev pub verdict_course : SessionVerdict → Course
 verdict_course (accepted s values) = says Answered (check_texts s values)
 verdict_course (refused fault line) = says CertRefused (verdict_text (refused fault line))
 
+-- The same of a script with one check, whose goal is the term of atom g: of its check, or of its least value.
+abbrev pub goal_course : Problem → ℕ → GoalVerdict → Course
+goal_course p g (accepted s (plain v)) = says Answered (check_text s v)
+goal_course p g (accepted s (least x)) = says Answered (least_text p g x)
+goal_course p g (refused fault line) = says CertRefused (verdict_text (refused fault line))
+
+-- by the atom of the goal, where there is one
+abbrev pub check_course : List (Problem × Bool) → Option ℕ → Option ℕ → List ℕ → Course
+check_course ((p, e) ∷ []) (Some g) bound cert_in = goal_course p g (goal_verdict p g bound cert_in)
+check_course ps goal bound cert_in = verdict_course (session_verdict ps bound cert_in)
+
 -- `check`: the verdict of what CertIn held
-abbrev pub CanCheck : List (Problem × Bool) → Option ℕ → List ℕ → List ℕ → Course → Type 0
-CanCheck ps bound name cert_in course = course ≡ behind ((CertIn, name) ∷ []) (verdict_course (session_verdict ps bound cert_in))
+abbrev pub CanCheck : List (Problem × Bool) → Option ℕ → Option ℕ → List ℕ → List ℕ → Course → Type 0
+CanCheck ps goal bound name cert_in course = course ≡ behind ((CertIn, name) ∷ []) (check_course ps goal bound cert_in)
 
 abbrev pub upgraded_text : List ℕ
 upgraded_text = codes "upgraded\n"
@@ -126,7 +139,7 @@ Can (Some (solve words)) script cert_in parts course =
     (OfSession words.options.bound script (λ ps. CanSolve ps words.options words.cert)) course
 Can (Some (check words)) script cert_in parts course =
     CanFrom words.script (session_fault words.bound script)
-    (OfSession words.bound script (λ ps. CanCheck ps words.bound words.cert cert_in)) course
+    (OfSession words.bound script (λ ps. CanCheck ps (goal_in script) words.bound words.cert cert_in)) course
 Can (Some (upgrade words)) script cert_in parts course =
     CanFrom words.script (session_fault words.bound script)
     (OfSession words.bound script (λ ps. CanUpgrade ps words.bound words.cert words.out cert_in)) course

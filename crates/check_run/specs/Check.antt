@@ -1,5 +1,5 @@
 -- A certificate that is read from its port, and its verdicts.
-use Rattle.std.specs.Prelude.{◌≡◌, ℕ, List, [], ◌∷◌, Bool, Option, IfSome, Result, Ok, Err, Vec, map}
+use Rattle.std.specs.Prelude.{◌≡◌, ◌<◌, ℕ, List, [], ◌∷◌, length, Bool, Option, Some, None, IfSome, Result, Ok, Err, Vec, map}
 use Rattle.std.specs.declared.alloc.Global.{Global}
 use Rattle.desk.specs.declared.desk.Port.TheVariants.{CertIn}
 use Rattle.desk.specs.Sight.{Sight}
@@ -71,7 +71,13 @@ IsRefusalOf fault course = (v : SessionVerdict) → IsRefusalOrMemory v fault �
 abbrev pub EndsOnFault : CertFault → Sight → Sight → Status → Type 0
 EndsOnFault fault old new status = RunEnds (IsRefusalOf fault) [] old new status
 
+-- the atom of a goal is one of the only check's problem
+abbrev pub IsGoalOf : List (Parts × Bool) → Option ℕ → Type 0
+IsGoalOf session None = Unit {0}
+IsGoalOf ((p, e) ∷ []) (Some g) = g < length p.atoms
+IsGoalOf session (Some g) = ⊥
+
 -- a run ends behind its problems, where the port shows a certificate
-abbrev pub EndsOnCheck : List (Parts × Bool) → Option ℕ → List ℕ → Sight → Sight → Status → Type 0
-EndsOnCheck session bound name old new status =
-    IfSome old.cert_in (λ cert. RunEnds (CanCheck (problems_of session) bound name cert) ((CertIn, name) ∷ []) old new status)
+abbrev pub EndsOnCheck : List (Parts × Bool) → Option ℕ → Option ℕ → List ℕ → Sight → Sight → Status → Type 0
+EndsOnCheck session goal bound name old new status =
+    IfSome old.cert_in (λ cert. RunEnds (CanCheck (problems_of session) goal bound name cert) ((CertIn, name) ∷ []) old new status)

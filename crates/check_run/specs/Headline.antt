@@ -1,5 +1,5 @@
 -- What the answers of a run say of its script.
-use Rattle.std.specs.Prelude.{◌≡◌, ◌++◌, ℕ, suc, List, [], ◌∷◌, Bool, Option, Some, None, IsSomeAnd, codes, length, slice_get}
+use Rattle.std.specs.Prelude.{◌≡◌, ◌++◌, ◌⊎◌, ℕ, suc, List, [], ◌∷◌, Bool, Option, Some, None, IsSomeAnd, codes, length, slice_get}
 use Rattle.desk.specs.Sight.{Sight}
 use Rattle.command_line.specs.declared.request.Options.{Options}
 use Rattle.command_line.specs.Words.{Command, Plan, Resume, Solve, solve, check, demo, upgrade, plan, resume, join}
@@ -14,12 +14,15 @@ use Rattle.width_plan.specs.Plan.{least_bits}
 use Rattle.cover_model.specs.State.{Loosenings, margin_of, delta_of}
 use Rattle.cert_model.specs.Due.{CertFault, Value, at_point, left_open, coordinates}
 use Rattle.cert_model.specs.Accepted.{IsAccepted, refused, verdict}
-use Rattle.cert_model.specs.AnswerText.{text_line, unsat_text, delta_sat_text, check_text, solve_text, verdict_text}
+use Rattle.cert_model.specs.AnswerText.{text_line, unsat_text, delta_sat_text, check_text, least_text, solve_text, verdict_text}
+use Rattle.cert_model.specs.Least.{Least, least, upper_at, IsGoalAccepted, goal_verdict}
 use Rattle.cert_model.specs.Session.{AreAccepted, session_verdict}
 use Rattle.cert_upgrade.specs.Upgraded.{in_newest, upgraded}
 use Rattle.headline.specs.Laws.{HasNoPoint}
+use Rattle.headline.specs.Least.{HasLowerBound, IsGoalAtMost}
 use Rattle.headline.specs.Near.{IsNearDeclaredBox}
 use Rattle.smt_script.specs.Levels.{Asked, checks_of}
+use Rattle.script_reading.specs.Goals.{goal_in}
 use Rattle.script_reading.specs.Reader.{commands_of, HasProblem, IsBuilt}
 use Rattle.script_reading.specs.Session.{HasSession, steps_of_text}
 use Rattle.check_run.specs.Answer.{loosenings_for, loosenings_of, solve_texts, AreAnswers}
@@ -78,6 +81,22 @@ pub record IsConfirmed (bound : Option ℕ) (script cert_in : List ℕ) (old new
   pub answer : new.answer ≡ appended old.answer (check_texts loosenings values)
   pub say : AreTrueValues bound loosenings (asked_in script) values
 
+-- The certificate is accepted for the problem of the script's only check with a lower bound of its goal, and the answer is its text. The
+-- bound is one at each point of the declared box that satisfies the script, each atom loosened by the margin; where the certificate has a
+-- point, it satisfies the script at delta, lies within delta of the declared box, and the goal's value there is at most the upper bound.
+pub record IsConfirmedLeast (bound : Option ℕ) (script cert_in : List ℕ) (old new : Sight) : Type 0 where
+  pub problem : Problem
+  pub built : IsBuilt bound script problem
+  pub goal : ℕ
+  pub is_goal : goal_in script ≡ Some goal
+  pub loosenings : Loosenings
+  pub value : Least
+  pub accepted : IsGoalAccepted problem goal bound cert_in loosenings (least value)
+  pub answer : new.answer ≡ appended old.answer (least_text problem goal value)
+  pub lower : HasLowerBound bound (commands_of script) (exact (margin_of loosenings)) value.lower
+  pub upper : (space : Space) → value.point ≡ Some space →
+      IsDeltaSat bound (commands_of script) loosenings space × IsGoalAtMost (commands_of script) (coordinates space) (upper_at problem goal space)
+
 -- What was written as certificate goes on from the one that was read, which is accepted for the problem of the script's only check; the answer tells of
 -- what is left, and what its value says of the check is so.
 pub record IsResumed (words : Resume) (script cert_in : List ℕ) (old new : Sight) : Type 0 where
@@ -111,7 +130,8 @@ pub record IsJoined (script : List ℕ) (parts : List (List ℕ)) (old new : Sig
 -- `solve`, `check`, `resume` and `join` answer where that is so.
 abbrev pub IsTrueAnswer : Option Command → List ℕ → List ℕ → List (List ℕ) → Sight → Sight → Type 0
 IsTrueAnswer (Some (solve words)) script cert_in parts old new = IsSolved words.options script old new
-IsTrueAnswer (Some (check words)) script cert_in parts old new = IsConfirmed words.bound script cert_in old new
+IsTrueAnswer (Some (check words)) script cert_in parts old new =
+    IsConfirmed words.bound script cert_in old new ⊎ IsConfirmedLeast words.bound script cert_in old new
 IsTrueAnswer (Some (resume words)) script cert_in parts old new = IsResumed words script cert_in old new
 IsTrueAnswer (Some (join words)) script cert_in parts old new = IsJoined script parts old new
 IsTrueAnswer _ script cert_in parts old new = Unit {0}
@@ -226,6 +246,17 @@ pub record IsRefusedCert (bound : Option ℕ) (script cert_in : List ℕ) (old n
   pub refuses : session_verdict problems bound cert_in ≡ refused fault line
   pub written : new.answer ≡ appended old.answer (verdict_text (refused fault line))
 
+-- The same by the problem of its only check, whose goal is the term of an atom.
+pub record IsRefusedForGoal (bound : Option ℕ) (script cert_in : List ℕ) (old new : Sight) : Type 0 where
+  pub problem : Problem
+  pub built : IsBuilt bound script problem
+  pub goal : ℕ
+  pub is_goal : goal_in script ≡ Some goal
+  pub fault : CertFault
+  pub line : ℕ
+  pub refuses : goal_verdict problem goal bound cert_in ≡ refused fault line
+  pub written : new.answer ≡ appended old.answer (verdict_text (refused fault line))
+
 -- The same by the problem of its only check, where the certificate names the bound.
 pub record IsRefusedToResume (script cert_in : List ℕ) (old new : Sight) : Type 0 where
   pub problem : Problem
@@ -246,7 +277,8 @@ pub record AreNotJoined (script : List ℕ) (parts : List (List ℕ)) (old new :
 
 -- A certificate that is refused has a fault; `upgrade`, `resume` and `join` write none then.
 abbrev pub IsTrueRefusal : Option Command → List ℕ → List ℕ → List (List ℕ) → Sight → Sight → Type 0
-IsTrueRefusal (Some (check words)) script cert_in parts old new = IsRefusedCert words.bound script cert_in old new
+IsTrueRefusal (Some (check words)) script cert_in parts old new =
+    IsRefusedCert words.bound script cert_in old new ⊎ IsRefusedForGoal words.bound script cert_in old new
 IsTrueRefusal (Some (upgrade words)) script cert_in parts old new =
     IsRefusedCert words.bound script cert_in old new × (new.cert_out ≡ appended old.cert_out [])
 IsTrueRefusal (Some (resume words)) script cert_in parts old new =

@@ -4,6 +4,7 @@
 #![tactic(auto)]
 
 ghost use Rattle.headline.specs.Laws.{UnsatMeans, UnsatIsExact, DeltaSatMeans};
+ghost use Rattle.headline.specs.Least.{LowerMeans, UpperMeans};
 
 /// A cover that leaves nothing: no point of the declared box satisfies the script at the margin.
 #[tactic(auto, using(crate::proofs::Headline::unsat_is))]
@@ -21,4 +22,18 @@ pub fn unsat_is_exact()
 /// Avigad, Clarke 2012).
 pub fn delta_sat_means()
     ensures { DeltaSatMeans }
+{}
+
+/// A lower bound of the goal: no point of the declared box that satisfies the script at the margin has a value of the goal
+/// below it.
+#[tactic(auto, using(crate::proofs::Least::lower_means))]
+pub fn lower_means()
+    ensures { LowerMeans }
+{}
+
+/// The point of a least value: it satisfies the script at delta, lies within delta of the declared box, and the goal's
+/// value there is at most the upper bound.
+#[tactic(auto, using(crate::proofs::Least::upper_means))]
+pub fn upper_means()
+    ensures { UpperMeans }
 {}

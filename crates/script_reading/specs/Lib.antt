@@ -1,4 +1,5 @@
 pub mod Faults
+pub mod Goals
 pub mod Laws
 pub mod Problems
 pub mod Reader
