@@ -5,8 +5,9 @@
 
 It prints what `dpoly-check` prints and ends with the same status. It was written from docs/FORMATS.md, by one who had not read
 the sources in Rattle, so that two readings of that page can be compared (`tests/checkers`); what the page left open was asked
-of the program and written there. The words are those of the page, which an auditor keeps beside this file; together they take
-more than an hour. The first half reads a script, the second half checks a certificate and stands on its own.
+of the program and written there. Goals and least values were added by one who knew the definitions as well. The words are those
+of the page, which an auditor keeps beside this file; together they take more than an hour. The first half reads a script, the
+second half checks a certificate and stands on its own.
 
 What it does not do: it is not proved. It is slower than `dpoly-check` and holds the certificate in memory. Where an assertion
 exceeds one of the limits Nodes, Atoms and Forms and has another fault of its phase besides, it may name the other one. It does
@@ -103,8 +104,9 @@ LEFT_OUT = set('get-proof get-unsat-core define-sort define-const define-fun-rec
                'declare-datatypes'.split())
 # What may follow the word of a command, as a pattern of the letters below.
 COMMANDS = {'set-logic': 's', 'declare-const': 's[sl]', 'declare-fun': 's[le][sl]', 'define-fun': 's[le][sl].', 'assert': '.',
-            'check-sat': '', 'check-sat-assuming': '[le]', 'push': 'n', 'pop': 'n', 'reset': '', 'reset-assertions': '',
-            'get-value': 'l', 'get-model': '', 'echo': 't', 'exit': '', 'set-info': '.*', 'set-option': '.*', 'get-info': '.*'}
+            'minimize': '.', 'check-sat': '', 'check-sat-assuming': '[le]', 'push': 'n', 'pop': 'n', 'reset': '',
+            'reset-assertions': '', 'get-value': 'l', 'get-model': '', 'echo': 't', 'exit': '', 'set-info': '.*',
+            'set-option': '.*', 'get-info': '.*'}
 LETTERS = {'symbol': 's', 'numeral': 'n', 'string': 't'}
 MOST = 1024  # axes and levels at once, and checks
 # What a command does: its word, its place and its arguments. `push` and `pop` have a number; an assumption is a level, with an
@@ -130,9 +132,9 @@ def is_literal(it):
 
 def steps_of(commands):
     """What the commands do, one step after the other: each has to be of its form, and within the limits of levels and checks."""
-    steps, has_logic, levels, checks = [], False, 0, 0
+    steps, has_logic, has_goal, levels, checks = [], False, False, 0, 0
     for command in commands:
-        fault = command_fault(command, has_logic, levels)
+        fault = command_fault(command, has_logic, has_goal, levels)
         if fault:
             raise ScriptFault(fault, command.at)
         word, at, rest = command.value[0].value, command.at, command.value[1:]
@@ -152,14 +154,16 @@ def steps_of(commands):
         else:
             steps.append(Step(word, at, rest))
         has_logic = has_logic and word != 'reset' or word == 'set-logic'
+        has_goal = has_goal or word == 'minimize'
         levels = 0 if word in ('reset', 'reset-assertions') else levels
     if not checks:
         raise ScriptFault('NoCheck', None)
     return steps
 
 
-def command_fault(command, has_logic, levels):
-    """The name of the fault of a command's form, or None, where a logic is set or not and so many levels are open."""
+def command_fault(command, has_logic, has_goal, levels):
+    """The name of the fault of a command's form, or None, where a logic and a goal came before or not, and so many levels are
+    open."""
     if command.kind != 'list' or letters(command.value[:1]) != 's':
         return 'BadCommand'
     name, rest = command.value[0].value, command.value[1:]
@@ -171,6 +175,8 @@ def command_fault(command, has_logic, levels):
         return 'BadCommand' if has_logic else None if rest[0].value in ('QF_NRA', 'QF_LRA') else 'WrongLogic'
     if name == 'pop' and rest[0].value > levels or name == 'check-sat-assuming' and not all(map(is_literal, rest[0].value)):
         return 'BadCommand'
+    if name == 'minimize' and has_goal:
+        return 'LeftOut'
     inner = rest[1].value if name in ('declare-fun', 'define-fun') else []
     if name == 'define-fun' and all(is_pair(it, '[sl]') for it in inner):
         inner = [it.value[1] for it in inner]
@@ -199,11 +205,21 @@ def result_sort(name, sorts):
     return 'Bool' if kind and (name in ('and', 'or') or (count == 1 if name == 'not' else count > 1)) else None
 
 
-# What is in force somewhere in a script: the top-level names with what they stand for, the axes, the assertions with their
-# commands' places, and how many commands these are.
+# An assertion, or a goal as the assertion for which it stands, with its command's place.
+Claim = namedtuple('Claim', 'at expression is_goal')
+# What is in force somewhere in a script: the top-level names with what they stand for, the axes, the assertions, and how many
+# commands these are.
 Force = namedtuple('Force', 'named axes assertions count')
 # What is in force at a check, and whether all commands in force at the check before are so up to this one.
 Check = namedtuple('Check', 'named axes assertions extends')
+
+
+def goal_claim(term, at):
+    """The assertion for which the goal `term` of a command at this place stands: `(or (<= term 0) true)`."""
+    def leaf(kind, value):
+        return Expression(kind, value, at)
+    comparison = leaf('list', [leaf('symbol', '<='), term, leaf('numeral', Fraction(0))])
+    return Claim(at, leaf('list', [leaf('symbol', 'or'), comparison, leaf('symbol', 'true')]), True)
 
 
 class Names:
@@ -233,7 +249,7 @@ class Names:
 
     def take(self, word, at, arguments):
         """Takes a command that is checked for names and sorts."""
-        self.count += word in ('declare-const', 'declare-fun', 'define-fun', 'assert')
+        self.count += word in ('declare-const', 'declare-fun', 'define-fun', 'assert', 'minimize')
         if word in ('declare-const', 'declare-fun'):
             name, sort = arguments[0].value, arguments[-1].value
             self.check_new(name, self.named, at)
@@ -249,7 +265,10 @@ class Names:
             self.named[name.value] = Named(sort.value, None, local, body)
         elif word == 'assert':
             self.check_sort(arguments[0], {}, 'Bool')
-            self.assertions.append((at, arguments[0]))
+            self.assertions.append(Claim(at, arguments[0], False))
+        elif word == 'minimize':
+            self.check_sort(arguments[0], {}, 'Real')
+            self.assertions.append(goal_claim(arguments[0], at))
         elif word == 'get-value':
             for term in arguments[0].value:
                 self.sort(term, {})
@@ -377,14 +396,17 @@ def run(task):
 
 
 class Problem:
-    """The terms, atoms and forms of what is in force at a check, and its declared box. An atom is a pair of a term and a kind, '<=', '>=' or '='.
+    """The terms, atoms and forms of what is in force at a check, its declared box, and the term of its goal, None where it has
+    none or that is a choice. An atom is a pair of a term and a kind, '<=', '>=' or '='.
     A form is a tuple: ('true',), ('false',), ('atom', J), ('bool', axis, value), ('all', forms) or ('any', forms), where forms
     are numbers, parts before wholes. The last form is that of all assertions."""
     def __init__(self, names, bound):
         self.names, self.extends, self.terms, self.atoms, self.forms, self.memo, self.size = names, names.extends, Terms(), {}, {}, {}, 0
-        nodes, truths, self.places, self.command = [], [], 0, None
-        for self.command, expression in names.assertions:  # the terms of an assertion are made before those of its atoms
+        nodes, truths, self.places, self.command, self.goal = [], [], 0, None, None
+        for self.command, expression, is_goal in names.assertions:  # the terms of an assertion are made before those of its atoms
             nodes.append(run(self.unfold(expression, {})))
+            if is_goal and nodes[-1].parts[0].kind == 'comparison':  # else a choice was taken apart
+                self.goal = nodes[-1].parts[0].parts[1]
             truths.append(run(self.form(nodes[-1], True)))
             self.check_limits()
         self.add_form('all', tuple(truths))
@@ -797,18 +819,22 @@ class State:
 DOMAINS = {'false': (False,), 'true': (True,), 'both': (False, True)}
 ATOM_RULES = set('pull unit ban void push voidno comb voidcomb case stuck'.split())
 AXIS_RULES = {'empty', 'cut', 'flip'}
-RULES = ATOM_RULES | AXIS_RULES | {'false', 'by', 'open'}
+RULES = ATOM_RULES | AXIS_RULES | {'false', 'by', 'open', 'over'}
 
 
 class Cover:
-    """The cover of a certificate of some version, or of a part, with the lemmas that it keeps; margin and delta are ends."""
-    def __init__(self, problem, version, margin, delta, kept=()):
-        self.problem, self.version, self.margin, self.delta = problem, version, margin, delta
+    """The cover of a certificate of some version, or of a part, with the lemmas that it keeps; margin and delta are ends, and so
+    is `lower`, the bound of a least value."""
+    def __init__(self, problem, version, margin, delta, kept=(), lower=None):
+        self.problem, self.version, self.margin, self.delta, self.lower = problem, version, margin, delta, lower
         self.lemmas, self.first = list(kept), len(kept)
         self.axes, self.atoms, self.declared = problem.names.axes, problem.atoms, problem.declared
 
     def value(self, atom, state):
         return enclosure(self.problem.terms, self.atoms[atom][0], state.space, state.memo)
+
+    def goal(self, space, memo):
+        return enclosure(self.problem.terms, self.problem.goal, space, memo)
 
     def kept(self, atom, loosening, mark=True):
         return kept_range(self.atoms[atom][1], loosening, mark)
@@ -865,8 +891,10 @@ class Cover:
             return [state.on(first, (domain[0], second)), state.on(first, (second, domain[1]))]
         if word == 'flip' and domain == (False, True) and first not in self.declared:
             return [state.on(first, (False,)), state.on(first, (True,))]
+        if word == 'over':
+            return [] if main and self.version == 4 and self.goal(state.space, state.memo)[0] >= self.lower else None
         if word == 'open' or word == 'stuck' and self.meets(first, state) and not self.lies(first, state):
-            return [] if main else None
+            return [] if main and self.version != 4 else None
         return None
 
     def after_narrowing(self, word, numbers, state):
@@ -939,7 +967,7 @@ class Cover:
         return count
 
     def read_point(self, lines):
-        """Reads the lines of a point."""
+        """Reads the lines of a point: its space."""
         space, near = [], True
         for axis in range(len(self.axes)):
             [value] = lines.due('real' if axis in self.declared else 'bool', 1)
@@ -952,12 +980,15 @@ class Cover:
         lines.due('end')
         if not near or not self.sure(State(tuple(space), {})):
             raise CertificateFault('NotShown')
+        return tuple(space)
 
 
 # ---------------------------------------------------------------- Certificates
-# What follows the word of a line: N a number below 2^32, D a number of the grid, B a bound or `none`, T a key of DOMAINS.
+# What follows the word of a line: N a number below 2^32, D a number of the grid, B or L the one or the other, or `none`, T a key
+# of DOMAINS.
 SHAPES = {**dict.fromkeys('dpoly margin delta checks cover keep lemma empty pull unit void push voidno by flip case stuck'.split(), 'N'),
-          **dict.fromkeys('point tree end false open'.split(), ''), 'ban': 'NN', 'cut': 'ND', 'bound': 'B', 'bool': 'T'}
+          **dict.fromkeys('point tree end false open over'.split(), ''), 'ban': 'NN', 'cut': 'ND', 'bound': 'B', 'lower': 'L',
+          'bool': 'T'}
 
 
 def shape(word, count):
@@ -969,9 +1000,9 @@ def shape(word, count):
 
 def value_of(word, kind):
     """The value of a word of this kind: a text, None for `none`, a whole number, or a number of the grid as an end."""
-    if kind == 'T' or kind == 'B' and word == 'none':
+    if kind == 'T' or kind in 'BL' and word == 'none':
         return word if kind == 'T' else None
-    if kind == 'D':
+    if kind in 'DL':
         found = re.fullmatch('(-?[1-9][0-9]{0,18})b(0|-?[1-9][0-9]{0,2})', word)
         m, e = (int(found[1]), int(found[2])) if found else (0, 0)
         if word == '0' or m % 2 and e >= -120 and abs(m) << max(0, e - 60) <= 2**62:
@@ -1028,24 +1059,50 @@ def kept_lemmas(before, cover, problem, lines, many):
     return [State(it.space + root[len(it.space) :], it.marks) for it in may[:count]]
 
 
+def number_of_lemmas(values):
+    """The number of a line `cover`, which has these values."""
+    if values[0] > 1048576:
+        raise CertificateFault('BadHeader')
+    return values[0]
+
+
 def check_part(problem, version, loosenings, word, values, lines, kept):
     """The cover of a part, None for a point, and the answer; `word` and `values` are its first line, `kept` gives its lemmas."""
     margin, delta = loosenings
     if word == 'point':
         Cover(problem, version, UNIT >> margin, UNIT >> delta).read_point(lines)
         return None, f'confirmed delta-sat\ndelta 1b-{delta}\n'
-    if values[0] > 1048576:
-        raise CertificateFault('BadHeader')
-    cover = Cover(problem, version, UNIT >> margin, UNIT >> delta, kept(values[0]))
+    cover = Cover(problem, version, UNIT >> margin, UNIT >> delta, kept(number_of_lemmas(values)))
     count = cover.read_cover(lines, values[0])
     return cover, f'open {count}\n' if count else f'confirmed unsat\nmargin 1b-{margin}\n'
+
+
+def end_text(end):
+    """An end as it is printed: a number of the grid, or `none`."""
+    if isinstance(end, float):
+        return 'none'
+    zeros = (end & -end).bit_length() - 1
+    return f'{end >> zeros}b{zeros - 120}' if end else '0'
+
+
+def check_least(problem, loosenings, lines):
+    """The answer to a certificate of a least value, from its line `lower` on."""
+    [lower] = lines.header('lower')[1]
+    many = number_of_lemmas(lines.header('cover')[1])
+    lower = -inf if lower is None else lower
+    cover = Cover(problem, 4, UNIT >> loosenings[0], UNIT >> loosenings[1], lower=lower)
+    cover.read_cover(lines, many)
+    answer, found = f'confirmed lower {end_text(lower)}\n', lines.take()
+    if found and found[0] != 'point':
+        raise CertificateFault('Extra')
+    return answer + f'upper {end_text(cover.goal(cover.read_point(lines), {})[1])}\n' if found else answer
 
 
 def check_certificate(problems, lines, bound):
     """The answer to a certificate that is accepted, of the problems of a script's checks: a text for each, in order."""
     several = len(problems) > 1
     version = lines.header('dpoly')[1][0]
-    if version not in ((3,) if several else (1, 2)):
+    if version not in ((3,) if several else (1, 2) if problems[0].goal is None else (1, 2, 4)):
         raise CertificateFault('BadHeader')
     margin, delta = lines.header('margin')[1][0], lines.header('delta')[1][0]
     if not (1 <= delta <= 30 and delta < margin <= 60):
@@ -1056,7 +1113,9 @@ def check_certificate(problems, lines, bound):
         raise CertificateFault('BadHeader')
     answers, cover, before = [], None, None
     for problem in problems:
-        if several:
+        if version == 4:
+            answer = check_least(problem, (margin, delta), lines)
+        elif several:
             found = lines.take()
             if not found or found[0] not in ('cover', 'point'):
                 raise CertificateFault('Missing')
