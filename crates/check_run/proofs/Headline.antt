@@ -11,7 +11,7 @@ use Rattle.cert_model.specs.Due.{Value, at_point, left_open}
 use Rattle.cert_model.specs.Accepted.{accepted, refused, IsAccepted}
 use Rattle.cert_model.specs.AnswerText.{solve_text, check_text, least_text, unsat_text}
 use Rattle.cert_model.specs.Least.{Least, GoalVerdict, plain, least, goal_verdict}
-use Rattle.cert_model.proofs.Least.{plain_is_accepted}
+use Rattle.cert_model.proofs.PlainGoal.{plain_accepted}
 use Rattle.cert_model.specs.Session.{AreAccepted, SessionVerdict, one_verdict, session_verdict}
 use Rattle.headline.proofs.Headline.{unsat_is}
 use Rattle.headline.proofs.Least.{lower_means, upper_means}
@@ -154,7 +154,7 @@ goal-checked bound script name cert_in old new g is p e has built course (accept
     inl (confirmed-by bound script cert_in old new ((p, e) ∷ []) course has wrote (record {
       s = s;
       values = v ∷ [];
-      accepts = ap one_verdict (plain_is_accepted p g bound cert_in s v accepts);
+      accepts = ap one_verdict (plain_accepted p g bound cert_in s v accepts);
       answer_is = ap (λ (c : Course). c.answer) can ∙ sym (append-nil (check_text s v));
     }))
 goal-checked bound script name cert_in old new g is p e has built course (accepted s (least x)) accepts can status wrote =

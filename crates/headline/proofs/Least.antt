@@ -15,7 +15,7 @@ use Rattle.poly_graph.specs.Term.{term_value}
 use Rattle.cover_model.specs.State.{Loosenings, margin_of, delta_of}
 use Rattle.cert_model.specs.Due.{coordinates}
 use Rattle.cert_model.specs.Least.{Least, least, lower_end, upper_at, IsGoalAccepted}
-use Rattle.cert_model.proofs.Least.{lower_holds, upper_holds}
+use Rattle.cert_model.proofs.LeastMeans.{lower_holds, upper_holds}
 use Rattle.headline.specs.Near.{IsNearDeclaredBox}
 use Rattle.headline.specs.Least.{HasLowerBound, IsGoalAtMost}
 use Rattle.headline.proofs.Headline.{near_is}

@@ -33,7 +33,6 @@ pub fn lower_means()
 
 /// The point of a least value: it satisfies the script at delta, lies within delta of the declared box, and the goal's
 /// value there is at most the upper bound.
-#[tactic(auto, using(crate::proofs::Least::upper_means))]
 pub fn upper_means()
     ensures { UpperMeans }
 {}
