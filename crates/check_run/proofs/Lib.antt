@@ -4,6 +4,7 @@ pub mod Differ
 pub mod Ending
 pub mod Enough
 pub mod Faulty
+pub mod GoalVerdicts
 pub mod Headline
 pub mod Joins
 pub mod Named

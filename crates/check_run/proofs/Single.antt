@@ -1,17 +1,21 @@
 -- A script with one check has one problem, and its certificates one value.
-use Rattle.std.proofs.Common.{◌≡◌, ℕ, List, [], ◌∷◌, Bool, Option, Some, None, refl, ap, sym, ◌∙◌, subst}
+use Rattle.std.proofs.Common.{◌≡◌, ◌<◌, length, ℕ, List, [], ◌∷◌, Bool, Option, Some, None, refl, ap, sym, ◌∙◌, subst}
 use Rattle.poly_graph.specs.Problem.{Problem}
+use Rattle.poly_graph.specs.ProblemViews.{Parts, problem_of}
+use Rattle.problem_session.specs.Session.{problems_of}
 use Rattle.cover_model.specs.State.{Loosenings}
 use Rattle.cert_model.specs.Due.{Value}
 use Rattle.cert_model.specs.Accepted.{accepted, refused, Verdict, IsAccepted, verdict}
 use Rattle.cert_model.specs.Session.{AreAccepted, one_verdict}
 use Rattle.script_model.specs.Script.{Command}
 use Rattle.script_forms.specs.Atoms.{goal_atom}
+use Rattle.script_forms.proofs.Goals.{goal_of_problem}
 use Rattle.smt_script.specs.Commands.{course_of, with_one_check}
 use Rattle.smt_script.specs.Levels.{Asked, Step, checks_of, only_script}
 use Rattle.script_reading.specs.Goals.{goal_in, goal_of_checks}
 use Rattle.script_reading.specs.Reader.{IsBuilt, IsBuiltOf, commands_of, or_none}
 use Rattle.script_reading.specs.Session.{AreBuilt, HasSession, carried_of, or_no_steps, steps_of_text}
+use Rattle.check_run.specs.Check.{IsGoalOf}
 use Rattle.check_run.specs.Headline.{HasOneCheck, asked_in}
 
 -- ---- the script
@@ -74,3 +78,22 @@ one-by p bound cert s values (refused f n) e h = cc
 
 pub one_value : (p : Problem) (x : Bool) (bound : Option ℕ) (cert : List ℕ) (s : Loosenings) (values : List Value) → AreAccepted ((p, x) ∷ []) bound cert s values → OneValue p bound cert s values
 one_value p x bound cert s values e = one-by p bound cert s values (verdict p bound cert) refl e
+
+-- ---- its goal's atom
+
+atom-of : (bound : Option ℕ) (script : List ℕ) (session : List (Parts × Bool)) → HasSession bound (problems_of session) script → (g : ℕ) → goal_in script ≡ Some g → IsGoalOf (Some g) session
+atom-of bound script session has g is =
+    let x = one_problem bound script (goal_has_one script g is) (problems_of session) has in
+    by_shape session x.problem x.extends x.only (goal_of_problem bound (commands_of script) x.problem x.built.problem g (goal_is script g is)).0 where
+      by_shape : (session : List (Parts × Bool)) (p : Problem) (e : Bool) → problems_of session ≡ (p, e) ∷ [] → g < length p.atoms → IsGoalOf (Some g) session
+      by_shape [] p e h few = cc
+      by_shape (q ∷ []) p e h few =
+          let same : ◌≡◌ {A = List (Problem × Bool)} ((problem_of q.0, q.1) ∷ []) ((p, e) ∷ []) = h in
+          let is : problem_of q.0 ≡ p = cc in
+          subst (λ (r : Problem). g < length r.atoms) (sym is) few
+      by_shape (q ∷ r ∷ rest) p e h few = cc
+
+-- the goal's atom is one of the problem of the only check
+pub goal_of_session : (bound : Option ℕ) (script : List ℕ) (session : List (Parts × Bool)) → HasSession bound (problems_of session) script → (goal : Option ℕ) → goal ≡ goal_in script → IsGoalOf goal session
+goal_of_session bound script session has None is = tt
+goal_of_session bound script session has (Some g) is = atom-of bound script session has g (sym is)

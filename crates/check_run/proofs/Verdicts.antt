@@ -52,6 +52,11 @@ check_fails session bound old = told old.cert_in where
 pub check_start : (session : List (Parts × Bool)) (bound : Option ℕ) (f : Feed) (d : Sight) → HasTakenSession session bound [] f → CheckedSoFar session bound f d d
 check_start session bound f d has = record { bytes = []; read = read_start CertIn d; has = has }
 
+-- where all that the port held was taken, it holds nothing more
+pub none_left_of : (bytes : List ℕ) (o : Option (List ℕ)) → IfSome o (λ held. bytes ≡ held) → option_map (λ held. drop (length bytes) held) o ≡ option_map (λ (held : List ℕ). []) o
+none_left_of bytes None h = refl
+none_left_of bytes (Some held) h = ap (λ (l : List ℕ). Some l) (drop_of_length-le held (omega (arith, ap length h)))
+
 module _ (session : List (Parts × Bool)) (bound : Option ℕ) (f : Feed) (n : ℕ) (buffer : List ℕ) (old now new : Sight) where
   pub check_step : (more : Feed) → CheckedSoFar session bound f old now → ReadStep CertIn n buffer now new
       → ((q : List (Parts × Bool)) (b : Option ℕ) (bs : List ℕ) → HasTakenSession q b bs f → HasTakenSession q b (bs ++ take n buffer) more) → CheckedSoFar session bound more old new
@@ -68,14 +73,10 @@ module _ (session : List (Parts × Bool)) (bound : Option ℕ) (f : Feed) (n : �
       over (λ (held : List ℕ). so_far.bytes ≡ held) (λ (cert : List ℕ). IsSessionVerdictOrMemory (session_verdict (problems_of session) bound cert) r) old.cert_in all.all
       (λ held e. subst (λ (bs : List ℕ). IsSessionVerdictOrMemory (session_verdict (problems_of session) bound bs) r) e (tells session bound so_far.bytes so_far.has))
 
-  none_left : (bytes : List ℕ) (o : Option (List ℕ)) → IfSome o (λ held. bytes ≡ held) → option_map (λ held. drop (length bytes) held) o ≡ option_map (λ (held : List ℕ). []) o
-  none_left bytes None h = refl
-  none_left bytes (Some held) h = ap (λ (l : List ℕ). Some l) (drop_of_length-le held (omega (arith, ap length h)))
-
   pub check_whole : n ≡ 0 → 0 < length buffer → CheckedSoFar session bound f old now → ReadStep CertIn n buffer now new → new.cert_in ≡ option_map (λ (cert : List ℕ). []) old.cert_in
   check_whole none room so_far step =
       let all = read_end CertIn n so_far.bytes buffer old now new none room so_far.read step in
-      ap (λ (d : Sight). d.cert_in) all.rest ∙ none_left so_far.bytes old.cert_in all.all
+      ap (λ (d : Sight). d.cert_in) all.rest ∙ none_left_of so_far.bytes old.cert_in all.all
 
   pub check_fault : (x : CertFault) → CheckedSoFar session bound f old now → ReadStep CertIn n buffer now new
       → ((q : List (Parts × Bool)) (b : Option ℕ) (bs : List ℕ) → HasTakenSession q b bs f → (rest : List ℕ) → IsRefusalOrMemory (session_verdict (problems_of q) b ((bs ++ take n buffer) ++ rest)) x)
@@ -179,22 +180,12 @@ pub concluded : (v : SessionVerdict) (status : Status) (text bytes : List ℕ) (
 concluded v status text bytes old new result e e' ends =
     on_course (says status text) (sym e) (subst (λ (t : List ℕ). Ends (says status t) old new result) e' ends)
 
--- ---- the ends of a run behind its problems
+-- ---- the ends of a run behind the start of the certificate's port
 
-module _ (session : List (Parts × Bool)) (bound : Option ℕ) (name : List ℕ) where
-  pub checked : (r : Result (Vec told.Verdict Global) CertFault) (old first mid new : Sight) (status : Status) → first ≡ with_start CertIn name old → ReadsSome CertIn first mid
-      → IfSome first.cert_in (λ cert. IsSessionVerdictOrMemory (session_verdict (problems_of session) bound cert) r) → ((v : SessionVerdict) → IsSessionVerdictOrMemory v r → RunEnds (IsCourseOf v) [] mid new status)
-      → IfSome old.cert_in (λ cert. RunEnds (CanCheck (problems_of session) bound name cert) ((CertIn, name) ∷ []) old new status)
-  checked r old first mid new status started some tells ends =
-      over (λ (cert : List ℕ). IsSessionVerdictOrMemory (session_verdict (problems_of session) bound cert) r) (λ (cert : List ℕ). RunEnds (CanCheck (problems_of session) bound name cert) ((CertIn, name) ∷ []) old new status) old.cert_in
-      (subst (λ (o : Option (List ℕ)). IfSome o (λ cert. IsSessionVerdictOrMemory (session_verdict (problems_of session) bound cert) r)) (ap (λ (d : Sight). d.cert_in) started) tells)
-      (λ cert h.
-      run_behind (IsCourseOf (session_verdict (problems_of session) bound cert)) (CanCheck (problems_of session) bound name cert) (CertIn, name) [] old mid new status (after_cert_in name old first mid started some)
-      (λ tail can. ap (λ (c : Course). behind ((CertIn, name) ∷ []) c) can) (ends (session_verdict (problems_of session) bound cert) h))
-
-  pub not_started : (old new : Sight) → FailsOn CertIn old new → IfSome old.cert_in (λ cert. RunEnds (CanCheck (problems_of session) bound name cert) ((CertIn, name) ∷ []) old new InFailed)
+module _ (name : List ℕ) (can : List ℕ → Course → Type 0) where
+  pub not_started : (old new : Sight) → FailsOn CertIn old new → IfSome old.cert_in (λ cert. RunEnds (can cert) ((CertIn, name) ∷ []) old new InFailed)
   not_started old new fails =
-      all_of (λ (cert : List ℕ). RunEnds (CanCheck (problems_of session) bound name cert) ((CertIn, name) ∷ []) old new InFailed) old.cert_in
+      all_of (λ (cert : List ℕ). RunEnds (can cert) ((CertIn, name) ∷ []) old new InFailed) old.cert_in
       (λ cert. in_failed refl (λ e. cc) fails.side (record {
         starts_made = 0;
         starts_are = ap (λ (d : Sight). d.starts) fails.same ∙ sym (appended-nil old.starts);
@@ -202,9 +193,9 @@ module _ (session : List (Parts × Bool)) (bound : Option ℕ) (name : List ℕ)
         answer = ap (λ (d : Sight). d.answer) fails.same;
       }))
 
-  pub no_room : (old new : Sight) → new ≡ old → IfSome old.cert_in (λ cert. RunEnds (CanCheck (problems_of session) bound name cert) ((CertIn, name) ∷ []) old new NoMemory)
+  pub no_room : (old new : Sight) → new ≡ old → IfSome old.cert_in (λ cert. RunEnds (can cert) ((CertIn, name) ∷ []) old new NoMemory)
   no_room old new same =
-      all_of (λ (cert : List ℕ). RunEnds (CanCheck (problems_of session) bound name cert) ((CertIn, name) ∷ []) old new NoMemory) old.cert_in
+      all_of (λ (cert : List ℕ). RunEnds (can cert) ((CertIn, name) ∷ []) old new NoMemory) old.cert_in
       (λ cert. no_memory_yet refl (record {
         starts_made = 0;
         starts_are = ap (λ (d : Sight). d.starts) same ∙ sym (appended-nil old.starts);
@@ -213,12 +204,25 @@ module _ (session : List (Parts × Bool)) (bound : Option ℕ) (name : List ℕ)
       }))
 
   pub read_failed : (old first new : Sight) → first ≡ with_start CertIn name old → ReadsThenFails CertIn first new
-      → IfSome old.cert_in (λ cert. RunEnds (CanCheck (problems_of session) bound name cert) ((CertIn, name) ∷ []) old new InFailed)
+      → IfSome old.cert_in (λ cert. RunEnds (can cert) ((CertIn, name) ∷ []) old new InFailed)
   read_failed old first new started fails =
-      all_of (λ (cert : List ℕ). RunEnds (CanCheck (problems_of session) bound name cert) ((CertIn, name) ∷ []) old new InFailed) old.cert_in
+      all_of (λ (cert : List ℕ). RunEnds (can cert) ((CertIn, name) ∷ []) old new InFailed) old.cert_in
       (λ cert. in_failed refl (λ e. cc) (subst (λ (d : Sight). SideFailed d.in_faults new.in_faults) started fails.side) (record {
         starts_made = 1;
         starts_are = ap (λ (d : Sight). d.starts) fails.rest ∙ ap (λ (d : Sight). d.starts) started;
         cert = ap (λ (d : Sight). d.cert_out) fails.rest ∙ ap (λ (d : Sight). d.cert_out) started;
         answer = ap (λ (d : Sight). d.answer) fails.rest ∙ ap (λ (d : Sight). d.answer) started;
       }))
+
+-- ---- the ends of a run behind its problems
+
+module _ (session : List (Parts × Bool)) (bound : Option ℕ) (name : List ℕ) where
+  pub checked : (r : Result (Vec told.Verdict Global) CertFault) (old first mid new : Sight) (status : Status) → first ≡ with_start CertIn name old → ReadsSome CertIn first mid
+      → IfSome first.cert_in (λ cert. IsSessionVerdictOrMemory (session_verdict (problems_of session) bound cert) r) → ((v : SessionVerdict) → IsSessionVerdictOrMemory v r → RunEnds (IsCourseOf v) [] mid new status)
+      → IfSome old.cert_in (λ cert. RunEnds (CanCheck None (problems_of session) bound name cert) ((CertIn, name) ∷ []) old new status)
+  checked r old first mid new status started some tells ends =
+      over (λ (cert : List ℕ). IsSessionVerdictOrMemory (session_verdict (problems_of session) bound cert) r) (λ (cert : List ℕ). RunEnds (CanCheck None (problems_of session) bound name cert) ((CertIn, name) ∷ []) old new status) old.cert_in
+      (subst (λ (o : Option (List ℕ)). IfSome o (λ cert. IsSessionVerdictOrMemory (session_verdict (problems_of session) bound cert) r)) (ap (λ (d : Sight). d.cert_in) started) tells)
+      (λ cert h.
+      run_behind (IsCourseOf (session_verdict (problems_of session) bound cert)) (CanCheck None (problems_of session) bound name cert) (CertIn, name) [] old mid new status (after_cert_in name old first mid started some)
+      (λ tail can. ap (λ (c : Course). behind ((CertIn, name) ∷ []) c) can) (ends (session_verdict (problems_of session) bound cert) h))

@@ -10,8 +10,8 @@ use Rattle.width_plan.specs.Plan as width
 use Rattle.width_plan.specs.Plan.{IsPlan, least_bits, no_atom, no_axis}
 use Rattle.cert_model.specs.Due.{Value, left_open}
 use Rattle.cert_model.specs.Accepted.{accepted, refused}
-use Rattle.cert_model.specs.AnswerText.{check_text, least_text, verdict_text, demo_text}
-use Rattle.cert_model.specs.Least.{GoalVerdict, plain, least, goal_verdict}
+use Rattle.cert_model.specs.AnswerText.{check_text, goal_text, verdict_text, demo_text}
+use Rattle.cert_model.specs.Least.{GoalVerdict, goal_verdict}
 use Rattle.cert_model.specs.Session.{SessionVerdict, AreAccepted, session_verdict}
 use Rattle.cert_upgrade.specs.Upgraded.{in_newest, upgraded}
 use Rattle.check_run.specs.declared.status.Status.TheVariants.{Answered, CertRefused, ScriptRefused, Usage}
@@ -48,8 +48,7 @@ verdict_course (refused fault line) = says CertRefused (verdict_text (refused fa
 
 -- The same of a script with one check, whose goal is the term of atom g: of its check, or of its least value.
 abbrev pub goal_course : Problem → ℕ → GoalVerdict → Course
-goal_course p g (accepted s (plain v)) = says Answered (check_text s v)
-goal_course p g (accepted s (least x)) = says Answered (least_text p g x)
+goal_course p g (accepted s v) = says Answered (goal_text p g s v)
 goal_course p g (refused fault line) = says CertRefused (verdict_text (refused fault line))
 
 -- by the atom of the goal, where there is one

@@ -3,6 +3,7 @@ pub mod Both
 pub mod Can
 pub mod Check
 pub mod Course
+pub mod Goals
 pub mod Headline
 pub mod Joined
 pub mod Parts

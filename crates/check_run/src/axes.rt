@@ -73,7 +73,8 @@ fn append_ends(text: &mut Vec<u8>, range: Range) -> Result<(), AllocError>
     append_number(text, range.high)
 }
 
-fn append_number(text: &mut Vec<u8>, number: Dy) -> Result<(), AllocError>
+/// Appends the spelling of a number.
+pub(crate) fn append_number(text: &mut Vec<u8>, number: Dy) -> Result<(), AllocError>
     ensures { OnOk result (text.new.items ≡ text.old.items ++ number_spelling (dyadic_of number)) }
 {
     let mut buffer = [0; 64];

@@ -1,9 +1,10 @@
 // `check`, from the problems of a script's checks to the verdicts of a certificate.
-ghost use Rattle.std.specs.Prelude.{◌≡◌, [], Err, IfOk, Ok};
+ghost use Rattle.std.specs.Prelude.{◌≡◌, [], Err, IfOk, None, Ok};
 ghost use Rattle.problem_session.specs.Session.{problems_of};
 ghost use Rattle.cert_model.specs.SessionLaws.{IsSession};
 ghost use Rattle.cert_check.specs.Sessions.{HasTakenSession};
 ghost use Rattle.check_run.specs.Check.{AreConfirmations, EndsOnCheck, EndsOnFault, EndsOnVerdict, IsConfirmation, IsReadFor, IsVerdictFor};
+ghost use Rattle.check_run.specs.Goals.{EndsOnGoalVerdict};
 ghost use Rattle.check_run.specs.Run.{CheckHasCause, IsReadToEnd, ResumeHasCause, SameIn, UpgradeHasCause};
 
 use crate::ports::say;
@@ -109,6 +110,7 @@ fn confirm<D: Desk>(alloc: Global, desk: &mut D, verdicts: Vec<Verdict>) -> Stat
 /// Refuses a certificate for its first fault.
 pub fn refuse<D: Desk>(alloc: Global, desk: &mut D, fault: CertFault) -> Status
     ensures ends { EndsOnVerdict (Err fault) (D.sight desk.old) (D.sight desk.new) result }
+    ensures goal { EndsOnGoalVerdict (Err fault) (D.sight desk.old) (D.sight desk.new) result }
     ensures refuses { EndsOnFault fault (D.sight desk.old) (D.sight desk.new) result }
     ensures resume { ResumeHasCause (D.sight desk.old) (D.sight desk.new) result }
     ensures upgrade { UpgradeHasCause (D.sight desk.old) (D.sight desk.new) result }
@@ -131,7 +133,7 @@ pub fn check_session<D: Desk>(
     bound: Option<u32>,
 ) -> Status
     requires { IsSession (problems_of session.now) }
-    ensures ends { EndsOnCheck session.now bound name.now
+    ensures ends { EndsOnCheck None session.now bound name.now
         (D.sight desk.old) (D.sight desk.new) result }
     ensures cause { CheckHasCause (D.sight desk.old) (D.sight desk.new) result }
     ensures script { (D.sight desk.new).script ≡ (D.sight desk.old).script }

@@ -11,7 +11,9 @@ mod axes;
 mod both;
 mod check;
 mod checked;
+mod goal;
 mod joined;
+mod least;
 mod name;
 mod planned;
 mod ports;
@@ -25,6 +27,8 @@ mod status;
 
 pub use both::{Inputs, Unread, fetch_both, header_bound};
 pub use check::{ROOM, Unconfirmed, check_session, refuse};
+pub use goal::check_goal;
+pub use least::confirmed_least;
 pub use checked::{confirmed_delta_sat, confirmed_unsat, left_open};
 pub use joined::{keep_joined, not_joined, not_joined_at, refused_part};
 pub use planned::{plan_least_bits, plan_no_atom, plan_no_axis};

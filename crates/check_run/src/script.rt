@@ -1,10 +1,12 @@
 // The problems of a script's checks, from its port.
-ghost use Rattle.std.specs.Prelude.{◌≡◌, IfOk, MatchResult, Option};
+ghost use Rattle.std.specs.Prelude.{◌≡◌, IfOk, IfSome, MatchResult, Option};
 ghost use Rattle.problem_session.specs.Session.{problems_of};
 ghost use Rattle.cert_model.specs.SessionLaws.{IsSession};
 ghost use Rattle.script_fault.specs.Answers.{IsFaultOrMemory};
 ghost use Rattle.check_run.specs.ScriptFaults.{fault_text};
+ghost use Rattle.script_reading.specs.Goals.{goal_in};
 ghost use Rattle.script_reading.specs.Session.{HasSession};
+ghost use Rattle.check_run.specs.Check.{IsGoalOf};
 ghost use Rattle.check_run.specs.Run.{SameIn};
 ghost use Rattle.check_run.specs.Script.{AreWithin, Fetches, HaltEnds, Halts, HasText, IsHaltOfFault, IsTooLong, IsHaltOfScript};
 
@@ -13,7 +15,7 @@ use crate::status::Status;
 use desk::{Desk, ReadAll};
 use problem_session::Session;
 use script_fault::{FaultKind, Limit, Place, ReadError, ScriptFault};
-use script_reading::ScriptReader;
+use script_reading::{ScriptReader, WithGoal};
 use std::alloc::Global;
 
 /// Why a run ends before its script has problems: the text of the script's first fault, a port that failed, or out of
@@ -95,6 +97,55 @@ pub fn fetch_session<S: ScriptReader, D: Desk>(
     match fetch(alloc, desk, name) {
         Ok(bytes) => match read_script(reader, alloc, &bytes, bound) {
             Ok(session) => Ok(session),
+            Err(halt) => Err(halt),
+        },
+        Err(ReadAll::Failed) => Err(Halt::Failed),
+        Err(ReadAll::TooLong) => Err(too_long(alloc)),
+        Err(ReadAll::Memory) => Err(Halt::Memory),
+    }
+}
+
+// The problems of a script's bytes, which a search takes, with its goal.
+fn read_with_goal<S: ScriptReader>(
+    reader: &S,
+    alloc: Global,
+    bytes: &[u8],
+    bound: Option<u32>,
+) -> Result<WithGoal, Halt>
+    ensures script { MatchResult result
+        (λ read. HasSession bound (problems_of read.session) bytes.now)
+        (λ halt. IsHaltOfScript bound bytes.now halt) }
+    ensures goal { IfOk result (λ read. read.goal ≡ goal_in bytes.now) }
+    ensures goes_on { IfOk result (λ read. IsSession (problems_of read.session)) }
+    ensures atom { IfOk result (λ read. IsGoalOf read.goal read.session) }
+{
+    match reader.read_with_goal(alloc, bytes, bound) {
+        Ok(read) => Ok(read),
+        Err(error) => Err(refusal(alloc, &error)),
+    }
+}
+
+/// The problems of the checks of the script on its port, with its goal.
+pub fn fetch_with_goal<S: ScriptReader, D: Desk>(
+    reader: &S,
+    alloc: Global,
+    desk: &mut D,
+    name: &str,
+    bound: Option<u32>,
+) -> Result<WithGoal, Halt>
+    ensures script { MatchResult result
+        (λ read. Fetches bound name.now
+        (problems_of read.session) (D.sight desk.old) (D.sight desk.new))
+        (λ halt. Halts bound name.now halt (D.sight desk.old) (D.sight desk.new)) }
+    ensures goal { IfOk result (λ read. IfSome (D.sight desk.old).script (λ script.
+        read.goal ≡ goal_in script)) }
+    ensures goes_on { IfOk result (λ read. IsSession (problems_of read.session)) }
+    ensures atom { IfOk result (λ read. IsGoalOf read.goal read.session) }
+    ensures other { (D.sight desk.new).cert_in ≡ (D.sight desk.old).cert_in }
+{
+    match fetch(alloc, desk, name) {
+        Ok(bytes) => match read_with_goal(reader, alloc, &bytes, bound) {
+            Ok(read) => Ok(read),
             Err(halt) => Err(halt),
         },
         Err(ReadAll::Failed) => Err(Halt::Failed),

@@ -1,4 +1,5 @@
 use Rattle.check_run.specs.declared.status.Status.TheVariants.{CertRefused}
+use Rattle.check_run.proofs.GoalVerdicts.{goal_concluded, goal_fault_shown}
 use Rattle.check_run.proofs.Verdicts.{shown_fault, concluded, refusal_of}
 use Rattle.check_run.proofs.check.refuse.Goals as goal
 
@@ -8,3 +9,7 @@ returns-in-Ok-clause-ends g c v h =
 
 pub returns-in-Ok-clause-refuses : goal.returns-in-Ok-clause-refuses
 returns-in-Ok-clause-refuses g c = refusal_of c.args.fault c.in-Ok.text.items c.deref.result.now _ _ _ c.in-Ok.ensures c.deref.ensures.value c.say.ensures.ends
+
+pub returns-in-Ok-clause-goal : goal.returns-in-Ok-clause-goal
+returns-in-Ok-clause-goal g c a v h =
+    goal_concluded _ _ v CertRefused c.in-Ok.text.items c.deref.result.now _ _ _ (goal_fault_shown c.args.fault c.in-Ok.text.items c.in-Ok.ensures _ _ v h) c.deref.ensures.value c.say.ensures.ends

@@ -1,8 +1,9 @@
-use Rattle.std.proofs.Common.{ℕ, List, [], ◌∷◌, Some, ◌∙◌}
+use Rattle.std.proofs.Common.{◌≡◌, ℕ, List, [], ◌∷◌, Option, Some, subst, ◌∙◌}
 use Rattle.desk.specs.declared.desk.Port.TheVariants.{CertIn}
 use Rattle.command_line.specs.Words.{check}
 use Rattle.command_line.specs.Seen.{seen_check}
 use Rattle.problem_session.specs.Session.{problems_of}
+use Rattle.script_reading.specs.Goals.{goal_in}
 use Rattle.check_run.specs.Course.{RunEnds}
 use Rattle.check_run.specs.Can.{CanCheck}
 use Rattle.check_run.specs.Script.{script_start}
@@ -11,17 +12,21 @@ use Rattle.check_run.proofs.run.run_check.Goals as goal
 
 pub returns-in-Ok-clause-course : goal.returns-in-Ok-clause-course
 returns-in-Ok-clause-course g c script cert_in parts tells =
-    let ends = told (λ (cert : List ℕ). RunEnds (CanCheck (problems_of c.in-Ok.session) c.args.asked.bound c.args.asked.cert.now cert) ((CertIn, c.args.asked.cert.now) ∷ [])
-    (g.D.Desk.sight c.fetch_session.new.desk) (g.D.Desk.sight c.check_session.new.desk) c.check_session.result) _ cert_in (c.in-Ok.ensures.other ∙ tells.1) c.check_session.ensures.ends in
-    run_session c.args.asked.bound c.args.asked.script.now script (λ ps. CanCheck ps c.args.asked.bound c.args.asked.cert.now cert_in) ((CertIn, c.args.asked.cert.now) ∷ []) _ _ _ _
-    (problems_of c.in-Ok.session) c.in-Ok.ensures.script tells.0 ends
+    let name : List ℕ = c.args.asked.cert.now in
+    let session = problems_of c.in-Ok.read.session in
+    let R : Option ℕ → List ℕ → Type 0 = λ goal cert. RunEnds (CanCheck goal session c.args.asked.bound name cert) ((CertIn, name) ∷ [])
+        (g.D.Desk.sight c.fetch_with_goal.new.desk) (g.D.Desk.sight c.check_read.new.desk) c.check_read.result in
+    let is = told (λ (text : List ℕ). c.in-Ok.read.goal ≡ goal_in text) _ script tells.0 c.in-Ok.ensures.goal in
+    let ends = told (R c.in-Ok.read.goal) _ cert_in (c.in-Ok.ensures.other ∙ tells.1) c.check_read.ensures.ends in
+    run_session c.args.asked.bound c.args.asked.script.now script (λ ps. CanCheck (goal_in script) ps c.args.asked.bound name cert_in) ((CertIn, name) ∷ []) _ _ _ _
+    session c.in-Ok.ensures.script tells.0 (subst (λ (goal : Option ℕ). R goal cert_in) is ends)
 
 pub returns-in-Err-clause-course : goal.returns-in-Err-clause-course
 returns-in-Err-clause-course g c script cert_in parts tells =
-    run_halted c.args.asked.bound c.args.asked.script.now script (λ ps. CanCheck ps c.args.asked.bound c.args.asked.cert.now cert_in) ((CertIn, c.args.asked.cert.now) ∷ []) _ _ _ _
+    run_halted c.args.asked.bound c.args.asked.script.now script (λ ps. CanCheck (goal_in script) ps c.args.asked.bound c.args.asked.cert.now cert_in) ((CertIn, c.args.asked.cert.now) ∷ []) _ _ _ _
     c.in-Err.stop c.in-Err.ensures.script tells.0 c.end_halted.ensures.ends
 
 pub returns-in-Ok-clause-cause : goal.returns-in-Ok-clause-cause
 returns-in-Ok-clause-cause g c =
-    cause_behind (Some (check (seen_check c.args.asked))) (script_start c.args.asked.script.now) (g.D.Desk.sight c.args.desk.now) (g.D.Desk.sight c.fetch_session.new.desk)
-    (g.D.Desk.sight c.check_session.new.desk) c.check_session.result c.in-Ok.ensures.script.after (c.check_session.ensures.cause (seen_check c.args.asked))
+    cause_behind (Some (check (seen_check c.args.asked))) (script_start c.args.asked.script.now) (g.D.Desk.sight c.args.desk.now) (g.D.Desk.sight c.fetch_with_goal.new.desk)
+    (g.D.Desk.sight c.check_read.new.desk) c.check_read.result c.in-Ok.ensures.script.after (c.check_read.ensures.cause (seen_check c.args.asked))
