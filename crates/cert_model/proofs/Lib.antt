@@ -5,9 +5,15 @@ pub mod Grown
 pub mod Header
 pub mod Invariant
 pub mod Last
+pub mod LeastCourse
+pub mod LeastHeader
+pub mod LeastMeans
+mod LeastRows
 pub mod Limits
 pub mod MarkLists
 pub mod Means
+pub mod OverLeaves
+pub mod PlainGoal
 pub mod Problems
 mod Rows
 pub mod SessionHeader

@@ -2,19 +2,20 @@
 use Rattle.std.proofs.Common.{◌≡◌, ◌⊎◌, inl, inr, ℕ, suc, zero, List, [], ◌∷◌, ◌++◌, Bool, true, false, ◌&&◌, cond, IsTrue, Option, Some, None, refl, ap, sym, ◌∙◌, subst, true≢false, lit<}
 use Rattle.std.specs.Option.{unwrap_or}
 use Rattle.dyadic.specs.Fraction.{Fraction, at_most, sum_of, difference_of}
-use Rattle.dyadic.specs.Point.{Sort, Coordinate, at_fraction, at_bool, IsPoint}
-use Rattle.dyadic.specs.Rounding.{Dyadic, exact}
-use Rattle.dyadic.proofs.Equal.{both_true, both_pass, total}
-use Rattle.interval_model.specs.Space.{Domain, real_domain, bool_domain, Space, in_domain, in_space}
-use Rattle.poly_graph.specs.Problem.{Declared, real_between, any_bool, Axis, Problem, IsProblem, sort_of, sorts_of_axes, sorts_of_problem, in_declared_box}
+use Rattle.dyadic.specs.Point.{Coordinate, at_fraction, at_bool, IsPoint}
+use Rattle.dyadic.specs.Rounding.{exact}
+use Rattle.dyadic.proofs.Equal.{both_true}
+use Rattle.interval_model.specs.Space.{Space}
+use Rattle.poly_graph.specs.Problem.{Declared, real_between, any_bool, Axis, Problem, IsProblem, sorts_of_problem, in_declared_box}
 use Rattle.cover_model.specs.State.{State, Loosenings, delta_of, sure, MeetsAt, MeetsForm, IsLemma}
 use Rattle.cover_model.specs.Derivation.{Among, AreLemmas}
 use Rattle.cover_model.proofs.May.{sure_means}
+use Rattle.cover_model.proofs.Shown.{single_inside, single_sorted}
 use Rattle.cover_model.proofs.Sound.{tree_keeps, none_left}
 use Rattle.cover_model.proofs.Root.{root_has, crossed_is_empty}
-use Rattle.cert_model.specs.Due.{Standing, at_point, left_open, coordinate_of, coordinates, is_near, are_near, is_shown}
+use Rattle.cert_model.specs.Due.{Standing, at_point, left_open, coordinates, is_near, are_near, is_shown}
 use Rattle.cert_model.specs.Accepted.{IsAccepted}
-use Rattle.cert_model.specs.Derived.{AreDerived, states_of, IsTree, IsCover, IsNear, AreNear, IsSingle, AreSingle}
+use Rattle.cert_model.specs.Derived.{AreDerived, states_of, IsTree, IsCover, IsNear, AreNear, AreSingle}
 use Rattle.cert_model.proofs.Derives.{derived_grow, accepted_is}
 
 -- ---- covers
@@ -57,37 +58,6 @@ pub empty_cover_means : (p : Problem) → IsProblem p → (bound : Option ℕ) (
 empty_cover_means p g bound bytes s e point q i m = elim (cover_catches p g bound bytes s [] e point q i m) [ ]
 
 -- ---- points
-
-own-end : (d : Dyadic) → IsTrue (at_most (exact d) (exact d))
-own-end d = elim (total (exact d) (exact d)) [ inl h ↦ h | inr h ↦ h ]
-
-single-in : (a : Declared) (d : Domain) → IsSingle a d → IsTrue (in_domain d (coordinate_of d))
-single-in (real_between lo hi) (real_domain l h) e = both_pass (at_most (exact l) (exact l)) (at_most (exact l) (exact h)) (own-end l) (subst (λ (u : Dyadic). IsTrue (at_most (exact l) (exact u))) e (own-end l))
-single-in any_bool (bool_domain true false) e = refl
-single-in any_bool (bool_domain false true) e = refl
-single-in any_bool (bool_domain true true) e = elim e [ ]
-single-in any_bool (bool_domain false false) e = elim e [ ]
-single-in (real_between lo hi) (bool_domain f t) e = elim e [ ]
-single-in any_bool (real_domain l h) e = elim e [ ]
-
--- a point with one value on each axis lies in its own space
-single_inside : (axes : List Axis) (space : Space) → AreSingle axes space → IsTrue (in_space space (coordinates space))
-single_inside [] [] h = refl
-single_inside (a ∷ axes) (d ∷ space) h = both_pass (in_domain d (coordinate_of d)) (in_space space (coordinates space)) (single-in a.declared d h.0) (single_inside axes space h.1)
-single_inside [] (d ∷ space) h = elim h [ ]
-single_inside (a ∷ axes) [] h = elim h [ ]
-
-first-sorted : (a : Declared) (d : Domain) (sorts : List Sort) (point : List Coordinate) → IsSingle a d → IsPoint sorts point → IsPoint (sort_of a ∷ sorts) (coordinate_of d ∷ point)
-first-sorted (real_between lo hi) (real_domain l h) sorts point e q = (lit< tt, q)
-first-sorted any_bool (bool_domain f t) sorts point e q = q
-first-sorted (real_between lo hi) (bool_domain f t) sorts point e q = elim e [ ]
-first-sorted any_bool (real_domain l h) sorts point e q = elim e [ ]
-
-single_sorted : (axes : List Axis) (space : Space) → AreSingle axes space → IsPoint (sorts_of_axes axes) (coordinates space)
-single_sorted [] [] h = tt
-single_sorted (a ∷ axes) (d ∷ space) h = first-sorted a.declared d (sorts_of_axes axes) (coordinates space) h.0 (single_sorted axes space h.1)
-single_sorted [] (d ∷ space) h = elim h [ ]
-single_sorted (a ∷ axes) [] h = elim h [ ]
 
 near-one : (d : Fraction) (a : Declared) (c : Coordinate) → IsTrue (is_near d a c) → IsNear d a c
 near-one d (real_between l h) (at_fraction q) e = both_true (at_most (difference_of l d) q) (at_most q (sum_of h d)) e

@@ -1,14 +1,17 @@
 -- The texts of the answers.
-use Rattle.std.specs.Prelude.{ℕ, List, [], ◌∷◌, ◌++◌, length, Bool, true, false, cond, ◌||◌, codes, decimal}
+use Rattle.std.specs.Prelude.{ℕ, List, [], ◌∷◌, ◌++◌, length, Bool, true, false, cond, ◌||◌, Option, Some, None, codes, decimal}
+use Rattle.dyadic.specs.Rounding.{Ext, finite}
 use Rattle.dyadic.specs.NumberText.{number_spelling}
 use Rattle.cover_line.specs.Words.{word_text}
+use Rattle.cert_read.specs.LineText.{lower_text}
 use Rattle.script_model.specs.Symbol.{is_simple_symbol}
 use Rattle.interval_model.specs.Space.{Domain, real_domain, bool_domain, Space}
 use Rattle.poly_graph.specs.Problem.{Axis, Problem}
 use Rattle.cover_model.specs.State.{State, Loosenings}
 use Rattle.cover_model.specs.Rules.{Line, open_line, stuck}
-use Rattle.cert_model.specs.Due.{CertFault, BadHeader, BadNumber, RuleFails, KeepFails, Missing, Extra, WrongBound, NotShown, BadLine, LineTooLong, TooLong, Standing, Value, at_point, left_open}
+use Rattle.cert_model.specs.Due.{CertFault, BadHeader, BadNumber, RuleFails, KeepFails, OverFails, Missing, Extra, WrongBound, NotShown, BadLine, LineTooLong, TooLong, Standing, Value, at_point, left_open}
 use Rattle.cert_model.specs.Accepted.{Verdict, accepted, refused}
+use Rattle.cert_model.specs.Least.{Least, GoalValue, plain, least, GoalVerdict, upper_at}
 
 abbrev pub text_line : List ℕ → List ℕ
 text_line text = text ++ (10 ∷ [])
@@ -102,6 +105,7 @@ fault_text BadHeader = codes "1 BadHeader"
 fault_text BadNumber = codes "2 BadNumber"
 fault_text (RuleFails w) = codes "3 RuleFails " ++ word_text w
 fault_text KeepFails = codes "3 RuleFails keep"
+fault_text OverFails = codes "3 RuleFails over"
 fault_text Missing = codes "4 Missing"
 fault_text Extra = codes "5 Extra"
 fault_text WrongBound = codes "6 WrongBound"
@@ -113,6 +117,30 @@ fault_text TooLong = codes "10 TooLong"
 abbrev pub verdict_text : Verdict → List ℕ
 verdict_text (accepted s v) = check_text s v
 verdict_text (refused f n) = text_line (codes "certificate fault " ++ fault_text f ++ codes " line " ++ decimal n)
+
+-- ---- check, of a script with a goal and one check
+
+-- an end that is a number
+abbrev pub end_text : Ext → List ℕ
+end_text (finite d) = number_spelling d
+end_text e = codes "none"
+
+-- of the point, where there is one
+abbrev pub upper_line : Problem → ℕ → Option Space → List ℕ
+upper_line p g None = []
+upper_line p g (Some space) = text_line (codes "upper " ++ end_text (upper_at p g space))
+
+-- of a least value, where the goal is the term of atom g
+abbrev pub least_text : Problem → ℕ → Least → List ℕ
+least_text p g x = text_line (codes "confirmed lower " ++ lower_text x.lower) ++ upper_line p g x.point
+
+abbrev pub goal_text : Problem → ℕ → Loosenings → GoalValue → List ℕ
+goal_text p g s (plain v) = check_text s v
+goal_text p g s (least x) = least_text p g x
+
+abbrev pub goal_verdict_text : Problem → ℕ → GoalVerdict → List ℕ
+goal_verdict_text p g (accepted s v) = goal_text p g s v
+goal_verdict_text p g (refused f n) = verdict_text (refused f n)
 
 -- ---- demo
 

@@ -3,7 +3,7 @@
 -- The goal is the term of an atom of the problem. Behind the header stands `lower`, with the bound; then a cover, each leaf of whose
 -- tree leaves nothing or is `over`: the goal's enclosure there is not below the bound. Behind the cover may stand a point. So each
 -- point of the declared box that meets the form at the margin has a value of the goal that is not below the bound.
-use Rattle.std.specs.Prelude.{◌≡◌, ℕ, suc, List, [], ◌∷◌, Bool, true, false, not, ◌&&◌, cond, Option, Some, None, nat_eq, nat_le, length}
+use Rattle.std.specs.Prelude.{◌≡◌, ℕ, suc, List, Bool, true, false, cond, Option, Some, None, nat_eq, nat_le, length}
 use Rattle.dyadic.specs.Rounding.{Dyadic, Ext, below_all, finite, above_all}
 use Rattle.interval_model.specs.Interval.{Interval, nothing, between, within}
 use Rattle.interval_model.specs.Space.{Space}
@@ -24,11 +24,11 @@ lower_end (Some d) = finite d
 
 -- the values that are not below the bound
 abbrev pub not_below : Option Dyadic → Interval
-not_below lower = between (lower_end lower) above_all
+not_below low = between (lower_end low) above_all
 
 -- over the space the enclosure of the goal, the term of atom g, is not below the bound
 abbrev pub is_over : Problem → ℕ → Option Dyadic → Space → Bool
-is_over p g lower space = within (atom_enclosure p space g) (not_below lower)
+is_over p g low space = within (atom_enclosure p space g) (not_below low)
 
 abbrev pub upper_end : Interval → Ext
 upper_end nothing = below_all
@@ -71,15 +71,15 @@ in_header (faulty f) = faulty f
 
 -- in the cover, where `nothing_due` is its end
 abbrev pub in_cover : Option Dyadic → Next → LeastNext
-in_cover lower (on (nothing_due s lemmas (left_open left))) = on (covered_due s lower left)
-in_cover lower (on d) = on (in_cover_due lower d)
-in_cover lower (faulty f) = faulty f
+in_cover low (on (nothing_due s lemmas (left_open left))) = on (covered_due s low left)
+in_cover low (on d) = on (in_cover_due low d)
+in_cover low (faulty f) = faulty f
 
 -- in the point
 abbrev pub in_point : Option Dyadic → List Standing → Next → LeastNext
-in_point lower left (on (nothing_due s lemmas (at_point space))) = on (shown_due s (record { lower = lower; over = left; point = Some space }))
-in_point lower left (on d) = on (in_point_due lower left d)
-in_point lower left (faulty f) = faulty f
+in_point low left (on (nothing_due s lemmas (at_point space))) = on (shown_due s (record { lower = low; over = left; point = Some space }))
+in_point low left (on d) = on (in_point_due low left d)
+in_point low left (faulty f) = faulty f
 
 -- ---- lines of the tree
 
@@ -91,8 +91,8 @@ tree_space p d = None
 
 -- `over` leaves its state, as `open` does in a certificate of one check, where the goal's enclosure is not below the bound
 abbrev pub over_line : Problem → Option ℕ → ℕ → Option Dyadic → Due → Option Space → LeastNext
-over_line p b g lower d None = in_cover lower (next p b d over)
-over_line p b g lower d (Some space) = cond (is_over p g lower space) (in_cover lower (next p b d (rule_line open_line))) (faulty OverFails)
+over_line p b g low d None = in_cover low (next p b d over)
+over_line p b g low d (Some space) = cond (is_over p g low space) (in_cover low (next p b d (rule_line open_line))) (faulty OverFails)
 
 -- a line that leaves its own state open or stuck
 abbrev pub leaves_open : Line → Bool
@@ -102,27 +102,27 @@ leaves_open l = false
 
 -- no leaf of the main tree is left open or stuck
 abbrev pub leaf_line : Problem → Option ℕ → Option Dyadic → Due → Line → Option Space → LeastNext
-leaf_line p b lower d l None = in_cover lower (next p b d (rule_line l))
-leaf_line p b lower d l (Some space) = in_cover lower (ruled_line (names_well p l) (faulty (RuleFails (word_of l))))
+leaf_line p b low d l None = in_cover low (next p b d (rule_line l))
+leaf_line p b low d l (Some space) = in_cover low (ruled_line (names_well p l) (faulty (RuleFails (word_of l))))
 
 abbrev pub tree_rule : Problem → Option ℕ → Option Dyadic → Due → Line → LeastNext
-tree_rule p b lower d l = cond (leaves_open l) (leaf_line p b lower d l (tree_space p d)) (in_cover lower (next p b d (rule_line l)))
+tree_rule p b low d l = cond (leaves_open l) (leaf_line p b low d l (tree_space p d)) (in_cover low (next p b d (rule_line l)))
 
 -- ---- one line
 
 -- of the problem p, whose goal is the term of atom g, where the words give the bound b
 abbrev pub least_next : Problem → ℕ → Option ℕ → LeastDue → CertLine → LeastNext
 least_next p g b (header_due d) l = in_header (next p b d l)
-least_next p g b (lower_due s) (lower d) = on (cover_due s d)
+least_next p g b (lower_due s) (lower low) = on (cover_due s low)
 least_next p g b (lower_due s) l = faulty BadHeader
-least_next p g b (cover_due s d) (cover k) = in_cover d (next p b (kind_due s) (cover k))
-least_next p g b (cover_due s d) l = faulty BadHeader
-least_next p g b (in_cover_due e d) over = over_line p b g e d (tree_space p d)
-least_next p g b (in_cover_due e d) (rule_line l) = tree_rule p b e d l
-least_next p g b (in_cover_due e d) l = in_cover e (next p b d l)
-least_next p g b (covered_due s e left) point_word = in_point e left (next p b (kind_due s) point_word)
-least_next p g b (covered_due s e left) l = faulty Extra
-least_next p g b (in_point_due e left d) l = in_point e left (next p b d l)
+least_next p g b (cover_due s low) (cover k) = in_cover low (next p b (kind_due s) (cover k))
+least_next p g b (cover_due s low) l = faulty BadHeader
+least_next p g b (in_cover_due low d) over = over_line p b g low d (tree_space p d)
+least_next p g b (in_cover_due low d) (rule_line l) = tree_rule p b low d l
+least_next p g b (in_cover_due low d) l = in_cover low (next p b d l)
+least_next p g b (covered_due s low left) point_word = in_point low left (next p b (kind_due s) point_word)
+least_next p g b (covered_due s low left) l = faulty Extra
+least_next p g b (in_point_due low left d) l = in_point low left (next p b d l)
 least_next p g b (shown_due s x) l = faulty Extra
 
 -- ---- certificates of a script with a goal and one check: of its check, or of its least value
@@ -177,11 +177,11 @@ GoalVerdict = VerdictOf GoalValue
 abbrev pub missing_in_least : LeastDue → CertFault
 missing_in_least (header_due d) = BadHeader
 missing_in_least (lower_due s) = BadHeader
-missing_in_least (cover_due s e) = BadHeader
+missing_in_least (cover_due s low) = BadHeader
 missing_in_least d = Missing
 
 abbrev pub least_at_end : LeastDue → ℕ → GoalVerdict
-least_at_end (covered_due s e left) n = accepted s (least (record { lower = e; over = left; point = None }))
+least_at_end (covered_due s low left) n = accepted s (least (record { lower = low; over = left; point = None }))
 least_at_end (shown_due s x) n = accepted s (least x)
 least_at_end d n = refused (missing_in_least d) (suc n)
 

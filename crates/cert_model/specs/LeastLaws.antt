@@ -1,5 +1,5 @@
 -- The laws of certificates of least values.
-use Rattle.std.specs.Prelude.{◌≡◌, ℕ, ◌<◌, ◌≤◌, List, Option, Some, None, IsTrue, length}
+use Rattle.std.specs.Prelude.{◌≡◌, ℕ, ◌<◌, List, Option, Some, IsTrue, length}
 use Rattle.dyadic.specs.Point.{Coordinate, IsPoint}
 use Rattle.dyadic.specs.Rounding.{Dyadic, exact, at, end_of, end_at_most}
 use Rattle.interval_model.specs.Space.{Space}

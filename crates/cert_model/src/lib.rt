@@ -5,6 +5,7 @@
 #![tactic(auto)]
 
 ghost use Rattle.cert_model.specs.Laws.{HeaderFits, EndIsLast, CoverIsDerived, LemmasHaveNoPoint, CoverCatches, EmptyCoverMeans, PointMeans, TextHasLines, ShortestIsAccepted, CoverIsAccepted, CrossingIsAccepted, PointIsAccepted, TreeTextIsAccepted, TreeTextStands, TreeTextIsHonest, TreeTextBranches, CrossingText, PointText};
+ghost use Rattle.cert_model.specs.LeastLaws.{LowerHolds, UpperHolds, LeastHeaderFits, PlainIsAccepted};
 ghost use Rattle.cert_model.specs.SessionLaws.{SessionMeans, SessionHeaderFits, SessionTextHasLines, SessionTextIsAccepted, SessionTextStands, LawfulInVersion3, HonestInVersion3};
 
 /// The margin and delta of an accepted certificate are in their limits.
@@ -119,4 +120,26 @@ pub fn session_text_is_accepted()
 pub fn version_3_reads_version_2()
     ensures lawful { LawfulInVersion3 }
     ensures honest { HonestInVersion3 }
+{}
+
+/// Each point of the declared box that meets the form at the margin has a value of the goal that is not below the lower
+/// bound of an accepted least value.
+pub fn lower_holds()
+    ensures { LowerHolds }
+{}
+
+/// The point of an accepted least value meets the form at delta, within delta of the declared box, and the goal is there
+/// at most the upper end of its enclosure.
+pub fn upper_holds()
+    ensures { UpperHolds }
+{}
+
+/// The margin and delta of an accepted least value are in their limits, and its lines are those of version 2.
+pub fn least_header_fits()
+    ensures { LeastHeaderFits }
+{}
+
+/// What is accepted of a script with a goal as a certificate of its check is so without the goal.
+pub fn plain_is_accepted()
+    ensures { PlainIsAccepted }
 {}

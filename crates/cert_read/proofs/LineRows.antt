@@ -1,8 +1,8 @@
 -- What some lines say.
-use Rattle.std.proofs.Common.{◌≡◌, [], ◌∷◌, codes, refl, pos, neg_ℤ, None, map, ◌*◌, ◌^◌}
+use Rattle.std.proofs.Common.{◌≡◌, [], ◌∷◌, codes, refl, pos, neg_ℤ, Some, None, map, ◌*◌, ◌^◌}
 use Rattle.cert_read.specs.Lines.{lines_of}
 use Rattle.cover_line.specs.Line.{make_false, cut, combine, void_combine}
-use Rattle.cert_read.specs.CertLine.{parsed, line, bad_line, bad_number, rule_line, version, margin, delta, bound, cover, tree_word, end_word, real_interval, yes_list, no_list, bool_value, says_both}
+use Rattle.cert_read.specs.CertLine.{parsed, line, bad_line, bad_number, rule_line, version, margin, delta, bound, lower, over, cover, tree_word, end_word, real_interval, yes_list, no_list, bool_value, says_both}
 
 whole_certificate : map parsed (lines_of (codes "dpoly 1\nmargin 20\ndelta 10\nbound none\ncover 0\ntree\nfalse\nend\n")) ≡
     (line (version 1) ∷ line (margin 20) ∷ line (delta 10) ∷ line (bound None) ∷ line (cover 0) ∷ line tree_word ∷ line (rule_line make_false) ∷ line end_word ∷ [])
@@ -23,3 +23,7 @@ combinations : map parsed (lines_of (codes "comb 0 1b0\nvoidcomb 7 -3b-2 2 1b-1\
     line (rule_line (void_combine ((7, record { units = neg_ℤ (pos (3 * 2 ^ 118)) }) ∷ (2, record { units = pos (2 ^ 119) }) ∷ []))) ∷
     bad_line ∷ bad_line ∷ bad_line ∷ bad_number ∷ bad_number ∷ bad_line ∷ [])
 combinations = refl
+
+lower_bounds : map parsed (lines_of (codes "lower none\nlower 1b-1\nlower -3b-2\nlower 2b-1\nlower\nlower none 0\nover\nover 0")) ≡
+    (line (lower None) ∷ line (lower (Some (record { units = pos (2 ^ 119) }))) ∷ line (lower (Some (record { units = neg_ℤ (pos (3 * 2 ^ 118)) }))) ∷ bad_number ∷ bad_line ∷ bad_line ∷ line over ∷ bad_line ∷ [])
+lower_bounds = refl

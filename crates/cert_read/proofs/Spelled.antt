@@ -4,6 +4,7 @@ use Rattle.std.specs.Prelude.{decimal}
 use Rattle.std.specs.List.{AllByRecursion}
 use Rattle.std.specs.Str.{bytes_eq, all_ascii_digits}
 use Rattle.std.specs.Str.Parse.{digits_value}
+use Rattle.std.proofs.lemmas.Slice.Eq.{bytes_eq-Decides}
 use Rattle.std.proofs.lemmas.Bool.Decides.{eqb_tells, leb_tells}
 use Rattle.std.proofs.lemmas.Bool.{leb-true, le-leb}
 use Rattle.std.proofs.lemmas.Fmt.{digits_decimal, digits_value-decimal, first_decimal}
@@ -14,8 +15,8 @@ use Rattle.dyadic.proofs.Equal.{both_true, both_pass}
 use Rattle.cert_read.specs.Lines.{all_bytes, is_word, are_words, words_of, is_too_long, longest_line}
 use Rattle.cover_line.specs.Line.{Multipliers, Line, pull, unit, void, push, void_no, combine, void_combine, ban, make_false, by, cut, flip, case, open_line, stuck}
 use Rattle.cover_line.specs.Words.{RuleWord, empty_word, pull_word, unit_word, ban_word, void_word, push_word, void_no_word, false_word, by_word, cut_word, flip_word, case_word, open_word, stuck_word, combine_word, void_combine_word, word_of, word_text, Operands, of_nothing, of_atom, of_lemma, of_atom_lemma, of_axis, of_axis_place, of_multipliers, operands_of}
-use Rattle.cert_read.specs.CertLine.{BoolWord, says_false, says_true, says_both, CertLine, version, margin, delta, bound, checks, cover, keep, point_word, tree_word, end_word, lemma, real_interval, real_value, bool_value, yes_list, no_list, rule_line, crossing, is_plain, if_below, if_plain, count_of, if_number, dyadic_of, counts_of, and_count, pairs_of, and_pair, are_paired, has_pairs, line, parsed, with_count, with_counts, with_dyadic, with_dyadics, with_both, with_list, bound_in, paired, by_first, if_words, unless_long}
-use Rattle.cert_read.specs.LineText.{spaced, line_words, line_text, rule_words, operand_words, pair_words, bound_text, bool_text, is_word_byte, IsCount, IsSpelledNumber, IsSpelledPair, AreSpelledPairs, AreSpelledOperands, IsSpelledRule, IsSpelledBound, HasSpelling, IsSpelled}
+use Rattle.cert_read.specs.CertLine.{BoolWord, says_false, says_true, says_both, CertLine, version, margin, delta, bound, lower, over, checks, cover, keep, point_word, tree_word, end_word, lemma, real_interval, real_value, bool_value, yes_list, no_list, rule_line, crossing, is_plain, if_below, if_plain, count_of, if_number, dyadic_of, counts_of, and_count, pairs_of, and_pair, are_paired, has_pairs, line, parsed, with_count, with_counts, with_dyadic, with_dyadics, with_both, with_list, bound_in, lower_in, paired, by_first, if_words, unless_long}
+use Rattle.cert_read.specs.LineText.{spaced, line_words, line_text, rule_words, operand_words, pair_words, bound_text, lower_text, bool_text, is_word_byte, IsCount, IsSpelledNumber, IsSpelledPair, AreSpelledPairs, AreSpelledOperands, IsSpelledRule, IsSpelledBound, IsSpelledLower, HasSpelling, IsSpelled}
 use Rattle.cert_read.proofs.Paired.{paired_line}
 use Rattle.cert_read.proofs.Pieces.{lacks, AllLack, words_of_spaced, spaced_lacks}
 
@@ -122,6 +123,10 @@ bound-clean : (b : Option ℕ) → IsSpelledBound b → IsCleanWord (bound_text 
 bound-clean None h = literal (codes "none") refl refl
 bound-clean (Some n) h = decimal-clean n h
 
+lower-clean : (b : Option Dyadic) → IsSpelledLower b → IsCleanWord (lower_text b)
+lower-clean None h = literal (codes "none") refl refl
+lower-clean (Some d) h = number-clean d h
+
 bool-clean : (w : BoolWord) → IsCleanWord (bool_text w)
 bool-clean says_false = literal (codes "false") refl refl
 bool-clean says_true = literal (codes "true") refl refl
@@ -162,6 +167,7 @@ line-clean (version n) h = (literal (codes "dpoly") refl refl, (decimal-clean n 
 line-clean (margin m) h = (literal (codes "margin") refl refl, (decimal-clean m h, tt))
 line-clean (delta d) h = (literal (codes "delta") refl refl, (decimal-clean d h, tt))
 line-clean (bound b) h = (literal (codes "bound") refl refl, (bound-clean b h, tt))
+line-clean (lower d) h = (literal (codes "lower") refl refl, (lower-clean d h, tt))
 line-clean (checks c) h = (literal (codes "checks") refl refl, (decimal-clean c h, tt))
 line-clean (cover k) h = (literal (codes "cover") refl refl, (decimal-clean k h, tt))
 line-clean (keep q) h = (literal (codes "keep") refl refl, (decimal-clean q h, tt))
@@ -175,6 +181,7 @@ line-clean (bool_value w) h = (literal (codes "bool") refl refl, (bool-clean w, 
 line-clean (yes_list js) h = (literal (codes "yes") refl refl, decimals-clean js h)
 line-clean (no_list js) h = (literal (codes "no") refl refl, decimals-clean js h)
 line-clean (rule_line l) h = rule-clean l h
+line-clean over h = (literal (codes "over") refl refl, tt)
 line-clean (crossing i) h = (word-clean empty_word, (decimal-clean i h, tt))
 
 -- ---- the forms, by their words
@@ -183,6 +190,18 @@ bound-says : (b : Option ℕ) → IsSpelledBound b → bound_in (bound_text b �
 bound-says None h = refl
 bound-says (Some n) h = ap (λ (t : Bool). cond t (line (bound None)) (with_count (λ m. bound (Some m)) (count_of (decimal n)))) (no-word (decimal n) (digits-of n h))
     ∙ ap (λ (o : Option ℕ). with_count (λ m. bound (Some m)) o) (spelled_count n h)
+
+-- a number is spelled otherwise than `none`
+no-number : (w : List ℕ) (d : Dyadic) → dyadic_of w ≡ Some d → bytes_eq w (codes "none") ≡ false
+no-number w d h = by_test (bytes_eq w (codes "none")) refl where
+  by_test : (t : Bool) → bytes_eq w (codes "none") ≡ t → t ≡ false
+  by_test true e = let f : ◌≡◌ {A = Option Dyadic} None (Some d) = ap dyadic_of (sym ((bytes_eq-Decides w (codes "none")).0 e)) ∙ h in cc
+  by_test false e = refl
+
+lower-says : (b : Option Dyadic) → IsSpelledLower b → lower_in (lower_text b ∷ []) ≡ line (lower b)
+lower-says None h = refl
+lower-says (Some d) h = ap (λ (t : Bool). cond t (line (lower None)) (with_dyadic (λ e. lower (Some e)) (dyadic_of (number_spelling d)))) (no-number (number_spelling d) d (spelled-number d h))
+    ∙ ap (λ (o : Option Dyadic). with_dyadic (λ e. lower (Some e)) o) (spelled-number d h)
 
 bool-says : (w : BoolWord) → by_first (codes "bool" ∷ bool_text w ∷ []) ≡ line (bool_value w)
 bool-says says_false = refl
@@ -231,6 +250,7 @@ line-says (version n) h = one-says version n h
 line-says (margin m) h = one-says margin m h
 line-says (delta d) h = one-says delta d h
 line-says (bound b) h = bound-says b h
+line-says (lower d) h = lower-says d h
 line-says (checks c) h = one-says checks c h
 line-says (cover k) h = one-says cover k h
 line-says (keep q) h = one-says keep q h
@@ -244,6 +264,7 @@ line-says (bool_value w) h = bool-says w
 line-says (yes_list js) h = ap (λ (o : Option (List ℕ)). with_list yes_list o) (spelled_counts js h)
 line-says (no_list js) h = ap (λ (o : Option (List ℕ)). with_list no_list o) (spelled_counts js h)
 line-says (rule_line l) h = rule-says l h
+line-says over h = refl
 line-says (crossing i) h = one-says crossing i h
 
 -- ---- the whole line

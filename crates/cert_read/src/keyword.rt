@@ -11,6 +11,7 @@ pub(crate) enum Keyword {
     Margin,
     Delta,
     Bound,
+    Lower,
     Checks,
     Cover,
     Keep,
@@ -22,6 +23,7 @@ pub(crate) enum Keyword {
     Bool,
     Yes,
     No,
+    Over,
     /// The word of a line of a tree.
     Rule(Word),
 }
@@ -41,6 +43,9 @@ fn header_keyword_in(word: &[u8]) -> Option<Keyword>
     }
     if word == b"bound".as_slice() {
         return Some(Keyword::Bound);
+    }
+    if word == b"lower".as_slice() {
+        return Some(Keyword::Lower);
     }
     if word == b"checks".as_slice() {
         return Some(Keyword::Checks);
@@ -74,6 +79,9 @@ fn header_keyword_in(word: &[u8]) -> Option<Keyword>
     }
     if word == b"no".as_slice() {
         return Some(Keyword::No);
+    }
+    if word == b"over".as_slice() {
+        return Some(Keyword::Over);
     }
     None
 }

@@ -2,7 +2,7 @@
 ghost use Rattle.std.specs.Prelude.{◌≡◌, ◌∷◌, option_copied};
 ghost use Rattle.cover_line.specs.Views.{rule_word};
 ghost use Rattle.cover_line.specs.Words.{word_text};
-ghost use Rattle.cert_read.specs.CertLine.{alone, bool_in, bound_in, by_first, parsed, real_in};
+ghost use Rattle.cert_read.specs.CertLine.{alone, bool_in, bound_in, by_first, lower_in, parsed, real_in};
 ghost use Rattle.cert_read.specs.Keywords.{keyword_text};
 ghost use Rattle.cert_read.specs.Lines.{are_words, words_of};
 ghost use Rattle.cert_read.specs.Numbers.{AreCounted, ArePairs};
@@ -70,6 +70,7 @@ fn after_keyword(alloc: Global, word: Keyword, rest: Option<&[u8]>) -> Result<Li
         Keyword::Margin => Ok(Line::Margin(number(rest)?)),
         Keyword::Delta => Ok(Line::Delta(number(rest)?)),
         Keyword::Bound => bound(rest),
+        Keyword::Lower => lower(rest),
         Keyword::Checks => Ok(Line::Checks(number(rest)?)),
         Keyword::Cover => Ok(Line::Cover(number(rest)?)),
         Keyword::Keep => Ok(Line::Keep(number(rest)?)),
@@ -81,6 +82,7 @@ fn after_keyword(alloc: Global, word: Keyword, rest: Option<&[u8]>) -> Result<Li
         Keyword::Bool => Ok(Line::Bool(bool_set(rest)?)),
         Keyword::Yes => Ok(Line::Yes(list(alloc, rest)?)),
         Keyword::No => Ok(Line::No(list(alloc, rest)?)),
+        Keyword::Over => alone(rest, Line::Over),
         Keyword::Rule(word) => after_rule_word(alloc, word, rest),
     }
 }
@@ -197,6 +199,19 @@ fn bound(rest: Option<&[u8]>) -> Result<Line, LineFault>
         return Ok(Line::Bound(None));
     }
     Ok(Line::Bound(Some(count(text)?)))
+}
+
+// The lower bound of a line.
+fn lower(rest: Option<&[u8]>) -> Result<Line, LineFault>
+    ensures { IsParse result (lower_in (words_behind (option_copied rest.entry))) }
+{
+    let Words::One(text) = words_behind(rest) else {
+        return Err(LineFault::BadLine);
+    };
+    if text == b"none".as_slice() {
+        return Ok(Line::Lower(None));
+    }
+    Ok(Line::Lower(Some(dyadic(text)?)))
 }
 
 // The values of a line.

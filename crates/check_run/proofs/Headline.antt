@@ -1,5 +1,5 @@
 -- What the answers of a run say of its script.
-use Rattle.std.proofs.Common.{◌≡◌, ℕ, List, [], ◌∷◌, ◌++◌, Bool, length, Option, Some, None, refl, ap, sym, subst, ◌∙◌, append-nil}
+use Rattle.std.proofs.Common.{◌≡◌, ◌⊎◌, inl, inr, ℕ, List, [], ◌∷◌, ◌++◌, Bool, length, Option, Some, None, refl, ap, sym, subst, ◌∙◌, append-nil}
 use Rattle.desk.specs.declared.desk.Port.TheVariants.{CertIn}
 use Rattle.desk.specs.Sight.{Sight}
 use Rattle.command_line.specs.declared.request.Options.{Options}
@@ -9,18 +9,22 @@ use Rattle.poly_graph.specs.Problem.{Problem}
 use Rattle.cover_model.specs.State.{Loosenings}
 use Rattle.cert_model.specs.Due.{Value, at_point, left_open}
 use Rattle.cert_model.specs.Accepted.{accepted, refused, IsAccepted}
-use Rattle.cert_model.specs.AnswerText.{solve_text, check_text, unsat_text}
-use Rattle.cert_model.specs.Session.{AreAccepted, SessionVerdict, session_verdict}
+use Rattle.cert_model.specs.AnswerText.{solve_text, check_text, least_text, unsat_text}
+use Rattle.cert_model.specs.Least.{Least, GoalVerdict, plain, least, goal_verdict}
+use Rattle.cert_model.proofs.Least.{plain_is_accepted}
+use Rattle.cert_model.specs.Session.{AreAccepted, SessionVerdict, one_verdict, session_verdict}
 use Rattle.headline.proofs.Headline.{unsat_is}
+use Rattle.headline.proofs.Least.{lower_means, upper_means}
 use Rattle.script_fault.specs.declared.fault.ScriptFault.{ScriptFault}
 use Rattle.script_reading.specs.Faults.{session_fault}
+use Rattle.script_reading.specs.Goals.{goal_in}
 use Rattle.script_reading.specs.Session.{HasSession}
 use Rattle.check_run.specs.declared.status.Status.{Status}
 use Rattle.check_run.specs.declared.status.Status.TheVariants.{Answered, CertRefused}
 use Rattle.script_reading.specs.Reader.{commands_of, IsBuilt}
 use Rattle.check_run.specs.Answer.{loosenings_for, loosenings_of, solve_texts}
 use Rattle.check_run.specs.Course.{Course, behind, appended}
-use Rattle.check_run.specs.Can.{CanSolve, CanCheck, CanUpgrade, CanUpgradeBy, CanPlan, CanBy, OfSession, check_texts, verdict_course}
+use Rattle.check_run.specs.Can.{CanSolve, CanCheck, CanUpgrade, CanUpgradeBy, CanPlan, CanBy, OfSession, check_texts, goal_course, verdict_course}
 use Rattle.check_run.specs.Run.{Run, HasCourse, HasInput, IsShown}
 use Rattle.check_run.proofs.Shown.{status_is_shown}
 use Rattle.check_run.proofs.Differ.{written-is, says-unsat, says-delta-sat, confirms-unsat, confirms-delta-sat, refused-not, certificate-refused-not, answered-not, script-refused-not, delta-so}
@@ -28,8 +32,9 @@ use Rattle.check_run.proofs.Enough.{SessionIsOne, are_enough, texts_one}
 use Rattle.check_run.proofs.Joins.{join_so, join_unsat, join_delta, join_refused}
 use Rattle.check_run.proofs.Means.{values_true}
 use Rattle.check_run.proofs.Resumes.{resume-so, resume-unsat, resume-delta, resume-refused}
-use Rattle.check_run.proofs.Single.{one_problem, one_value}
-use Rattle.check_run.specs.Headline.{IsWritten, IsSolved, IsConfirmed, IsTrueAnswer, AnswersAreTrue, HasOneCheck, IsUnsat, IsTrueUnsat, UnsatIsTrue, IsTrueDeltaSat, DeltaSatIsTrue, IsRefusedCert, IsTrueRefusal, RefusalIsTrue, IsUpgraded, IsTrueUpgrade, UpgradeIsTrue, IsPlanned, IsTruePlan, PlanIsTrue, delta_sat_word, confirmed_unsat_word, confirmed_delta_sat_word}
+use Rattle.check_run.proofs.Apart.{apart}
+use Rattle.check_run.proofs.Single.{goal_has_one, goal_is, one_problem, one_value}
+use Rattle.check_run.specs.Headline.{IsWritten, IsSolved, IsConfirmed, IsConfirmedLeast, IsTrueAnswer, AnswersAreTrue, HasOneCheck, IsUnsat, IsTrueUnsat, UnsatIsTrue, IsTrueDeltaSat, DeltaSatIsTrue, IsRefusedCert, IsRefusedForGoal, IsTrueRefusal, RefusalIsTrue, IsUpgraded, IsTrueUpgrade, UpgradeIsTrue, IsPlanned, IsTruePlan, PlanIsTrue, delta_sat_word, confirmed_unsat_word, confirmed_delta_sat_word}
 
 -- ---- the courses of a run that answers
 
@@ -129,21 +134,63 @@ checked-by : (ps : List (Problem × Bool)) (bound : Option ℕ) (name cert_in : 
 checked-by ps bound name cert_in course (accepted s values) e can status = record { s = s; values = values; accepts = e; answer_is = ap (λ (c : Course). c.answer) can }
 checked-by ps bound name cert_in course (refused f n) e can status = absurd (certificate-refused-not course.status (ap (λ (c : Course). c.status) can) status)
 
-check-so : (words : Check) (script cert_in : List ℕ) (parts : List (List ℕ)) (old new : Sight) → IsShown (Some (check words)) script cert_in parts old new Answered → IsConfirmed words.bound script cert_in old new
+confirmed-by : (bound : Option ℕ) (script cert_in : List ℕ) (old new : Sight) (ps : List (Problem × Bool)) (course : Course) → HasSession bound ps script → new.answer ≡ appended old.answer course.answer → Checked-so ps bound cert_in course →
+    IsConfirmed bound script cert_in old new
+confirmed-by bound script cert_in old new ps course has wrote so = record {
+  problems = ps;
+  session = has;
+  loosenings = so.s;
+  values = so.values;
+  accepted = so.accepts;
+  answer = wrote ∙ ap (appended old.answer) so.answer_is;
+  say = values_true bound script ps has cert_in so.s so.values so.accepts;
+}
+
+-- of a script with a goal
+goal-checked : (bound : Option ℕ) (script name cert_in : List ℕ) (old new : Sight) (g : ℕ) → goal_in script ≡ Some g → (p : Problem) (e : Bool) → HasSession bound ((p, e) ∷ []) script → IsBuilt bound script p → (course : Course) (v : GoalVerdict) →
+    goal_verdict p g bound cert_in ≡ v → course ≡ behind ((CertIn, name) ∷ []) (goal_course p g v) → course.status ≡ Answered → new.answer ≡ appended old.answer course.answer →
+    IsConfirmed bound script cert_in old new ⊎ IsConfirmedLeast bound script cert_in old new
+goal-checked bound script name cert_in old new g is p e has built course (accepted s (plain v)) accepts can status wrote =
+    inl (confirmed-by bound script cert_in old new ((p, e) ∷ []) course has wrote (record {
+      s = s;
+      values = v ∷ [];
+      accepts = ap one_verdict (plain_is_accepted p g bound cert_in s v accepts);
+      answer_is = ap (λ (c : Course). c.answer) can ∙ sym (append-nil (check_text s v));
+    }))
+goal-checked bound script name cert_in old new g is p e has built course (accepted s (least x)) accepts can status wrote =
+    let atom = goal_is script g is in
+    inr (record {
+      problem = p;
+      built = built;
+      goal = g;
+      is_goal = is;
+      loosenings = s;
+      value = x;
+      accepted = accepts;
+      answer = wrote ∙ ap (λ (c : Course). appended old.answer c.answer) can;
+      lower = lower_means bound (commands_of script) p built.whole built.problem g atom cert_in s x accepts;
+      upper = λ space kept.
+          let h = upper_means bound (commands_of script) p built.whole built.problem g atom cert_in s x accepts space kept in
+          (record { satisfies = h.0; near = h.1 }, h.2);
+    })
+goal-checked bound script name cert_in old new g is p e has built course (refused f n) accepts can status wrote = absurd (certificate-refused-not course.status (ap (λ (c : Course). c.status) can) status)
+
+check-by : (bound : Option ℕ) (script name cert_in : List ℕ) (old new : Sight) (goal : Option ℕ) → goal_in script ≡ goal → (ps : List (Problem × Bool)) → HasSession bound ps script → (course : Course) → CanCheck goal ps bound name cert_in course →
+    course.status ≡ Answered → new.answer ≡ appended old.answer course.answer → IsConfirmed bound script cert_in old new ⊎ IsConfirmedLeast bound script cert_in old new
+check-by bound script name cert_in old new None is ps has course can status wrote =
+    inl (confirmed-by bound script cert_in old new ps course has wrote (checked-by ps bound name cert_in course (session_verdict ps bound cert_in) refl can status))
+check-by bound script name cert_in old new (Some g) is ps has course can status wrote =
+    let x = one_problem bound script (goal_has_one script g is) ps has in
+    goal-checked bound script name cert_in old new g is x.problem x.extends (subst (λ (ys : List (Problem × Bool)). HasSession bound ys script) x.only has) x.built course (goal_verdict x.problem g bound cert_in) refl
+    (subst (λ (ys : List (Problem × Bool)). CanCheck (Some g) ys bound name cert_in course) x.only can) status wrote
+
+check-so : (words : Check) (script cert_in : List ℕ) (parts : List (List ℕ)) (old new : Sight) → IsShown (Some (check words)) script cert_in parts old new Answered →
+    IsConfirmed words.bound script cert_in old new ⊎ IsConfirmedLeast words.bound script cert_in old new
 check-so words script cert_in parts old new (course, can, status, went) =
     let tail : Course = can.0 in
     let status_is : tail.status ≡ Answered = sym (ap (λ (c : Course). c.status) can.2) ∙ status in
-    let on = goes-on words.bound script (λ ps. CanCheck ps words.bound words.cert cert_in) (session_fault words.bound script) tail can.1 status_is in
-    let so = checked-by on.ps words.bound words.cert cert_in tail (session_verdict on.ps words.bound cert_in) refl on.can status_is in
-    record {
-      problems = on.ps;
-      session = on.has;
-      loosenings = so.s;
-      values = so.values;
-      accepted = so.accepts;
-      answer = went.answer ∙ ap (λ (c : Course). appended old.answer c.answer) can.2 ∙ ap (appended old.answer) so.answer_is;
-      say = values_true words.bound script on.ps on.has cert_in so.s so.values so.accepts;
-    }
+    let on = goes-on words.bound script (λ ps. CanCheck (goal_in script) ps words.bound words.cert cert_in) (session_fault words.bound script) tail can.1 status_is in
+    check-by words.bound script words.cert cert_in old new (goal_in script) refl on.ps on.has tail on.can status_is (went.answer ∙ ap (λ (c : Course). appended old.answer c.answer) can.2)
 
 record Checked-one (bound : Option ℕ) (script cert_in : List ℕ) (old new : Sight) : Type 0 where
   p : Problem
@@ -167,9 +214,24 @@ checked-one bound script cert_in old new single so =
       answer = so.answer ∙ ap (appended old.answer) (ap (check_texts s) y.only ∙ append-nil (check_text s y.value));
     }
 
+-- a confirmed lower bound is told by another text
+least-not-unsat : (p : Problem) (g : ℕ) (x : Least) (rest : List ℕ) → confirmed_unsat_word ++ rest ≡ least_text p g x → ⊥
+least-not-unsat p g x rest e = apart _ _ 10 e refl
+
+least-not-delta : (p : Problem) (g : ℕ) (x : Least) (rest : List ℕ) → confirmed_delta_sat_word ++ rest ≡ least_text p g x → ⊥
+least-not-delta p g x rest e = apart _ _ 10 e refl
+
+-- so what was confirmed with this text is the check
+plain-of : (bound : Option ℕ) (script cert_in : List ℕ) (old new : Sight) (text : List ℕ) → ((p : Problem) (g : ℕ) (x : Least) → text ≡ least_text p g x → ⊥) → IsWritten text old new →
+    IsConfirmed bound script cert_in old new ⊎ IsConfirmedLeast bound script cert_in old new → IsConfirmed bound script cert_in old new
+plain-of bound script cert_in old new text differs wrote (inl so) = so
+plain-of bound script cert_in old new text differs wrote (inr so) =
+    absurd (differs so.problem so.goal so.value (written-is old.answer new.answer text (least_text so.problem so.goal so.value) wrote so.answer))
+
 check-unsat : (words : Check) (script cert_in : List ℕ) (parts : List (List ℕ)) (old new : Sight) → IsShown (Some (check words)) script cert_in parts old new Answered → IsTrueUnsat (Some (check words)) script cert_in parts old new
 check-unsat words script cert_in parts old new shows single rest wrote =
-    let so = checked-one words.bound script cert_in old new single (check-so words script cert_in parts old new shows) in
+    let plain-so = plain-of words.bound script cert_in old new (confirmed_unsat_word ++ rest) (λ p g x e. least-not-unsat p g x rest e) wrote (check-so words script cert_in parts old new shows) in
+    let so = checked-one words.bound script cert_in old new single plain-so in
     let text : confirmed_unsat_word ++ rest ≡ check_text so.s so.value = written-is old.answer new.answer (confirmed_unsat_word ++ rest) (check_text so.s so.value) wrote so.answer in
     let none : so.value ≡ left_open [] = confirms-unsat so.s rest so.value text in
     let P : Value → Type 0 = λ v. IsAccepted so.p words.bound cert_in so.s v in
@@ -210,7 +272,8 @@ solve-delta words script cert_in parts old new shows single rest wrote =
 
 check-delta : (words : Check) (script cert_in : List ℕ) (parts : List (List ℕ)) (old new : Sight) → IsShown (Some (check words)) script cert_in parts old new Answered → IsTrueDeltaSat (Some (check words)) script cert_in parts old new
 check-delta words script cert_in parts old new shows single rest wrote =
-    let so = checked-one words.bound script cert_in old new single (check-so words script cert_in parts old new shows) in
+    let plain-so = plain-of words.bound script cert_in old new (confirmed_delta_sat_word ++ rest) (λ p g x e. least-not-delta p g x rest e) wrote (check-so words script cert_in parts old new shows) in
+    let so = checked-one words.bound script cert_in old new single plain-so in
     let text : confirmed_delta_sat_word ++ rest ≡ check_text so.s so.value = written-is old.answer new.answer (confirmed_delta_sat_word ++ rest) (check_text so.s so.value) wrote so.answer in
     let point = confirms-delta-sat so.s rest so.value text in
     let P : Value → Type 0 = λ v. IsAccepted so.p words.bound cert_in so.s v in
@@ -251,11 +314,34 @@ refused-by words script cert_in old new ps course (refused f n) has e can status
   written = wrote ∙ ap (λ (c : Course). appended old.answer c.answer) can;
 }
 
-check-refused : (words : Check) (script cert_in : List ℕ) (old new : Sight) (tail : Course) (f : Option ScriptFault) → CanBy f (OfSession words.bound script (λ ps. CanCheck ps words.bound words.cert cert_in)) tail
-    → tail.status ≡ CertRefused → new.answer ≡ appended old.answer tail.answer → IsRefusedCert words.bound script cert_in old new
+-- of a script with a goal
+goal-refused : (words : Check) (script cert_in : List ℕ) (old new : Sight) (g : ℕ) → goal_in script ≡ Some g → (p : Problem) → IsBuilt words.bound script p → (course : Course) (v : GoalVerdict) → goal_verdict p g words.bound cert_in ≡ v →
+    course ≡ behind ((CertIn, words.cert) ∷ []) (goal_course p g v) → course.status ≡ CertRefused → new.answer ≡ appended old.answer course.answer → IsRefusedForGoal words.bound script cert_in old new
+goal-refused words script cert_in old new g is p built course (accepted s (plain v)) e can status wrote = absurd (answered-not course.status (ap (λ (c : Course). c.status) can) status)
+goal-refused words script cert_in old new g is p built course (accepted s (least x)) e can status wrote = absurd (answered-not course.status (ap (λ (c : Course). c.status) can) status)
+goal-refused words script cert_in old new g is p built course (refused f n) e can status wrote = record {
+  problem = p;
+  built = built;
+  goal = g;
+  is_goal = is;
+  fault = f;
+  line = n;
+  refuses = e;
+  written = wrote ∙ ap (λ (c : Course). appended old.answer c.answer) can;
+}
+
+refused-of : (words : Check) (script cert_in : List ℕ) (old new : Sight) (goal : Option ℕ) → goal_in script ≡ goal → (ps : List (Problem × Bool)) → HasSession words.bound ps script → (course : Course) → CanCheck goal ps words.bound words.cert cert_in course →
+    course.status ≡ CertRefused → new.answer ≡ appended old.answer course.answer → IsRefusedCert words.bound script cert_in old new ⊎ IsRefusedForGoal words.bound script cert_in old new
+refused-of words script cert_in old new None is ps has course can status wrote = inl (refused-by words script cert_in old new ps course (session_verdict ps words.bound cert_in) has refl can status wrote)
+refused-of words script cert_in old new (Some g) is ps has course can status wrote =
+    let x = one_problem words.bound script (goal_has_one script g is) ps has in
+    inr (goal-refused words script cert_in old new g is x.problem x.built course (goal_verdict x.problem g words.bound cert_in) refl
+    (subst (λ (ys : List (Problem × Bool)). CanCheck (Some g) ys words.bound words.cert cert_in course) x.only can) status wrote)
+
+check-refused : (words : Check) (script cert_in : List ℕ) (old new : Sight) (tail : Course) (f : Option ScriptFault) → CanBy f (OfSession words.bound script (λ ps. CanCheck (goal_in script) ps words.bound words.cert cert_in)) tail
+    → tail.status ≡ CertRefused → new.answer ≡ appended old.answer tail.answer → IsRefusedCert words.bound script cert_in old new ⊎ IsRefusedForGoal words.bound script cert_in old new
 check-refused words script cert_in old new tail (Some f) can status wrote = absurd (script-refused-not tail.status (ap (λ (c : Course). c.status) can) status)
-check-refused words script cert_in old new tail None can status wrote =
-    refused-by words script cert_in old new can.0 tail (session_verdict can.0 words.bound cert_in) can.1 refl can.2 status wrote
+check-refused words script cert_in old new tail None can status wrote = refused-of words script cert_in old new (goal_in script) refl can.0 can.1 tail can.2 status wrote
 
 -- of `upgrade`, which writes nothing then
 upgrade-refused-by : (words : Upgrade) (script cert_in : List ℕ) (parts : List (List ℕ)) (old new : Sight) (ps : List (Problem × Bool)) (tail : Course) (v : SessionVerdict) → HasSession words.bound ps script → session_verdict ps words.bound cert_in ≡ v → CanUpgradeBy v ps words.bound words.out cert_in tail

@@ -1,18 +1,20 @@
 -- What each status shows, of a run that ends on one of its courses.
-use Rattle.std.proofs.Common.{◌≡◌, inl, inr, ℕ, List, Bool, Option, Some, None, sym, subst, ◌∙◌}
+use Rattle.std.proofs.Common.{◌≡◌, inl, inr, ℕ, List, [], ◌∷◌, Bool, Option, Some, None, sym, subst, ◌∙◌}
 use Rattle.desk.specs.Sight.{Sight}
 use Rattle.command_line.specs.declared.request.Options.{Options}
 use Rattle.command_line.specs.Words.{Command, Resume, solve, check, demo, upgrade, plan, resume, join}
 use Rattle.gen_script.specs.Demo.{demo_script}
 use Rattle.poly_graph.specs.Problem.{Problem}
 use Rattle.cert_model.specs.Accepted.{Verdict, accepted, refused, verdict}
+use Rattle.cert_model.specs.Least.{GoalVerdict, plain, least, goal_verdict}
 use Rattle.cert_model.specs.Session.{SessionVerdict, session_verdict}
 use Rattle.script_fault.specs.declared.fault.ScriptFault.{ScriptFault}
 use Rattle.script_reading.specs.Faults.{script_fault, session_fault}
+use Rattle.script_reading.specs.Goals.{goal_in}
 use Rattle.check_run.specs.declared.status.Status.{Status}
 use Rattle.check_run.specs.declared.status.Status.TheVariants.{Answered, CertRefused, ScriptRefused, Usage, InFailed, OutFailed, NoMemory}
 use Rattle.check_run.specs.Course.{Course, Went, Ends, at_its_end, out_failed, no_memory, RunEnds, on_course, in_failed, draft_failed, no_memory_yet}
-use Rattle.check_run.specs.Can.{CanSolve, CanCheck, CanUpgrade, CanUpgradeBy, CanDemo, CanPlan, CanBy, OfProblem, OfSession, Can, in_starts, verdict_course}
+use Rattle.check_run.specs.Can.{CanSolve, CanCheck, CanUpgrade, CanUpgradeBy, CanDemo, CanPlan, CanBy, OfProblem, OfSession, Can, in_starts, check_course, goal_course, verdict_course}
 use Rattle.check_run.specs.Joined.{CanJoin, bound_of, joins, refuses}
 use Rattle.check_run.specs.Resumed.{CanResume, CanResumeBy, header_bound}
 use Rattle.check_run.specs.Run.{Run, HasCourse, IsShown, IsDue, run_of, StatusIsDue, StatusIsShown}
@@ -39,6 +41,17 @@ said-demo p o name bytes course can = said-same course _ can.2 tt
 said-verdict : (v : SessionVerdict) → IsSaid (verdict_course v).status
 said-verdict (accepted s values) = tt
 said-verdict (refused f n) = tt
+
+said-goal : (p : Problem) (g : ℕ) (v : GoalVerdict) → IsSaid (goal_course p g v).status
+said-goal p g (accepted s (plain v)) = tt
+said-goal p g (accepted s (least x)) = tt
+said-goal p g (refused f n) = tt
+
+said-check : (goal : Option ℕ) (ps : List (Problem × Bool)) (bound : Option ℕ) (cert_in : List ℕ) → IsSaid (check_course goal ps bound cert_in).status
+said-check None ps bound cert_in = said-verdict (session_verdict ps bound cert_in)
+said-check (Some g) [] bound cert_in = said-verdict (session_verdict [] bound cert_in)
+said-check (Some g) (p ∷ []) bound cert_in = said-goal p.0 g (goal_verdict p.0 g bound cert_in)
+said-check (Some g) (p ∷ q ∷ ps) bound cert_in = said-verdict (session_verdict (p ∷ q ∷ ps) bound cert_in)
 
 said-upgrade-by : (v : SessionVerdict) (ps : List (Problem × Bool)) (bound : Option ℕ) (out cert_in : List ℕ) (course : Course) → CanUpgradeBy v ps bound out cert_in course → IsSaid course.status
 said-upgrade-by (accepted s values) ps bound out cert_in course can = said-same course _ can.1 tt
@@ -74,7 +87,7 @@ said None script cert_in parts course can = said-same course _ can tt
 said (Some (solve words)) script cert_in parts course can = said-same course _ can.2
     (said-by words.options.bound script (λ ps. CanSolve ps words.options words.cert) (λ ps c h. said-solve ps words.options words.cert c h) (session_fault words.options.bound script) can.0 can.1)
 said (Some (check words)) script cert_in parts course can = said-same course _ can.2
-    (said-by words.bound script (λ ps. CanCheck ps words.bound words.cert cert_in) (λ ps c h. said-same c _ h (said-verdict (session_verdict ps words.bound cert_in))) (session_fault words.bound script) can.0 can.1)
+    (said-by words.bound script (λ ps. CanCheck (goal_in script) ps words.bound words.cert cert_in) (λ ps c h. said-same c _ h (said-check (goal_in script) ps words.bound cert_in)) (session_fault words.bound script) can.0 can.1)
 said (Some (upgrade words)) script cert_in parts course can = said-same course _ can.2
     (said-by words.bound script (λ ps. CanUpgrade ps words.bound words.cert words.out cert_in) (λ ps c h. said-upgrade ps words.bound words.cert words.out cert_in c h) (session_fault words.bound script) can.0 can.1)
 said (Some (plan words)) script cert_in parts course can = said-same course _ can.2

@@ -6,8 +6,10 @@ use Rattle.cert_model.specs.Due.{Value}
 use Rattle.cert_model.specs.Accepted.{accepted, refused, Verdict, IsAccepted, verdict}
 use Rattle.cert_model.specs.Session.{AreAccepted, one_verdict}
 use Rattle.script_model.specs.Script.{Command}
+use Rattle.script_forms.specs.Atoms.{goal_atom}
 use Rattle.smt_script.specs.Commands.{course_of, with_one_check}
 use Rattle.smt_script.specs.Levels.{Asked, Step, checks_of, only_script}
+use Rattle.script_reading.specs.Goals.{goal_in, goal_of_checks}
 use Rattle.script_reading.specs.Reader.{IsBuilt, IsBuiltOf, commands_of, or_none}
 use Rattle.script_reading.specs.Session.{AreBuilt, HasSession, carried_of, or_no_steps, steps_of_text}
 use Rattle.check_run.specs.Headline.{HasOneCheck, asked_in}
@@ -21,6 +23,21 @@ commands-by (Some ss) a e = ap (λ (asked : List Asked). or_none (only_script as
 -- the commands of the script are those in force at its check
 commands_are : (script : List ℕ) (a : Asked) → asked_in script ≡ a ∷ [] → commands_of script ≡ a.script
 commands_are script a e = commands-by (course_of script) a e
+
+-- ---- its goal
+
+goal-of-one : (asked : List Asked) (g : ℕ) → goal_of_checks asked ≡ Some g → (a : Asked) × (asked ≡ a ∷ []) × (goal_atom a.script ≡ Some g)
+goal-of-one [] g e = cc
+goal-of-one (a ∷ []) g e = (a, refl, e)
+goal-of-one (a ∷ b ∷ later) g e = cc
+
+-- a script with a goal has one check
+pub goal_has_one : (script : List ℕ) (g : ℕ) → goal_in script ≡ Some g → HasOneCheck script
+goal_has_one script g e = let x = goal-of-one (asked_in script) g e in (x.0, x.1)
+
+-- of the commands in force at it
+pub goal_is : (script : List ℕ) (g : ℕ) → goal_in script ≡ Some g → goal_atom (commands_of script) ≡ Some g
+goal_is script g e = let x = goal-of-one (asked_in script) g e in ap goal_atom (commands_are script x.0 x.1) ∙ x.2
 
 -- ---- its problem
 

@@ -53,13 +53,14 @@ goal_course p g (accepted s (least x)) = says Answered (least_text p g x)
 goal_course p g (refused fault line) = says CertRefused (verdict_text (refused fault line))
 
 -- by the atom of the goal, where there is one
-abbrev pub check_course : List (Problem × Bool) → Option ℕ → Option ℕ → List ℕ → Course
-check_course ((p, e) ∷ []) (Some g) bound cert_in = goal_course p g (goal_verdict p g bound cert_in)
-check_course ps goal bound cert_in = verdict_course (session_verdict ps bound cert_in)
+abbrev pub check_course : Option ℕ → List (Problem × Bool) → Option ℕ → List ℕ → Course
+check_course None ps bound cert_in = verdict_course (session_verdict ps bound cert_in)
+check_course (Some g) ((p, e) ∷ []) bound cert_in = goal_course p g (goal_verdict p g bound cert_in)
+check_course (Some g) ps bound cert_in = verdict_course (session_verdict ps bound cert_in)
 
 -- `check`: the verdict of what CertIn held
-abbrev pub CanCheck : List (Problem × Bool) → Option ℕ → Option ℕ → List ℕ → List ℕ → Course → Type 0
-CanCheck ps goal bound name cert_in course = course ≡ behind ((CertIn, name) ∷ []) (check_course ps goal bound cert_in)
+abbrev pub CanCheck : Option ℕ → List (Problem × Bool) → Option ℕ → List ℕ → List ℕ → Course → Type 0
+CanCheck goal ps bound name cert_in course = course ≡ behind ((CertIn, name) ∷ []) (check_course goal ps bound cert_in)
 
 abbrev pub upgraded_text : List ℕ
 upgraded_text = codes "upgraded\n"
@@ -139,7 +140,7 @@ Can (Some (solve words)) script cert_in parts course =
     (OfSession words.options.bound script (λ ps. CanSolve ps words.options words.cert)) course
 Can (Some (check words)) script cert_in parts course =
     CanFrom words.script (session_fault words.bound script)
-    (OfSession words.bound script (λ ps. CanCheck ps (goal_in script) words.bound words.cert cert_in)) course
+    (OfSession words.bound script (λ ps. CanCheck (goal_in script) ps words.bound words.cert cert_in)) course
 Can (Some (upgrade words)) script cert_in parts course =
     CanFrom words.script (session_fault words.bound script)
     (OfSession words.bound script (λ ps. CanUpgrade ps words.bound words.cert words.out cert_in)) course

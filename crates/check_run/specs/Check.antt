@@ -72,12 +72,12 @@ abbrev pub EndsOnFault : CertFault → Sight → Sight → Status → Type 0
 EndsOnFault fault old new status = RunEnds (IsRefusalOf fault) [] old new status
 
 -- the atom of a goal is one of the only check's problem
-abbrev pub IsGoalOf : List (Parts × Bool) → Option ℕ → Type 0
-IsGoalOf session None = Unit {0}
-IsGoalOf ((p, e) ∷ []) (Some g) = g < length p.atoms
-IsGoalOf session (Some g) = ⊥
+abbrev pub IsGoalOf : Option ℕ → List (Parts × Bool) → Type 0
+IsGoalOf None session = Unit {0}
+IsGoalOf (Some g) ((p, e) ∷ []) = g < length p.atoms
+IsGoalOf (Some g) session = ⊥
 
 -- a run ends behind its problems, where the port shows a certificate
-abbrev pub EndsOnCheck : List (Parts × Bool) → Option ℕ → Option ℕ → List ℕ → Sight → Sight → Status → Type 0
-EndsOnCheck session goal bound name old new status =
-    IfSome old.cert_in (λ cert. RunEnds (CanCheck (problems_of session) goal bound name cert) ((CertIn, name) ∷ []) old new status)
+abbrev pub EndsOnCheck : Option ℕ → List (Parts × Bool) → Option ℕ → List ℕ → Sight → Sight → Status → Type 0
+EndsOnCheck goal session bound name old new status =
+    IfSome old.cert_in (λ cert. RunEnds (CanCheck goal (problems_of session) bound name cert) ((CertIn, name) ∷ []) old new status)

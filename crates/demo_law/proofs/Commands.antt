@@ -12,7 +12,7 @@ use Rattle.gen_script.specs.Demo.{next_number, coefficient}
 use Rattle.demo_law.proofs.Shape.{atom_claims, atom_claimed, atom_commands, atom_written, check_place, behind_line}
 
 abbrev pub open_script : Before
-open_script = record { logic = true; checks = 0; levels = 0; ended = false }
+open_script = record { logic = true; goal = false; checks = 0; levels = 0; ended = false }
 
 pub commands_are : (number left : ℕ) (p : Place) → steps_from open_script (atom_claims p number left) ≡ steps (map command (atom_written p number left))
 unfolding atom_claims atom_written

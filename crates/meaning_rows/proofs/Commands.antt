@@ -47,8 +47,33 @@ second_check = refl
 wrong_exit_after_check : fault "(check-sat)\n(exit 1)" ≡ Some (at 2 1, bad_command)
 wrong_exit_after_check = refl
 
-unknown_after_check : fault "(check-sat)\n(minimize x)" ≡ Some (at 2 1, bad_command)
+unknown_after_check : fault "(check-sat)\n(maximize x)" ≡ Some (at 2 1, bad_command)
 unknown_after_check = refl
+
+-- ---- the goal
+
+goal_after_check : fault "(check-sat)\n(minimize x)" ≡ None
+goal_after_check = refl
+
+goal_alone : fault "(minimize x)" ≡ Some (at 0 0, no_check)
+goal_alone = refl
+
+second_goal : fault "(minimize x)\n(minimize y)(check-sat)" ≡ Some (at 2 1, left_out)
+second_goal = refl
+
+-- also where the first one is no longer in force
+goal_after_pop : fault "(push 1)(minimize x)(pop 1)\n(minimize x)" ≡ Some (at 2 1, left_out)
+goal_after_pop = refl
+
+goal_after_reset : fault "(minimize x)(reset)\n(minimize x)" ≡ Some (at 2 1, left_out)
+goal_after_reset = refl
+
+-- a form that is wrong comes before a second goal
+no_goal : fault "(minimize x)\n(minimize)" ≡ Some (at 2 1, bad_command)
+no_goal = refl
+
+two_goals : fault "(minimize x y)" ≡ Some (at 1 1, bad_command)
+two_goals = refl
 
 -- ---- what is left out, and what is no command
 

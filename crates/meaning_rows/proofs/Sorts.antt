@@ -30,6 +30,19 @@ declared_root = refl
 real_claim : fault "(declare-const x Real)\n(assert x)" ≡ Some (at 2 9, sort_mismatch)
 real_claim = refl
 
+real_goal : fault "(declare-const x Real)\n(minimize (* x x))" ≡ None
+real_goal = refl
+
+-- a choice between Reals is Real
+chosen_goal : fault "(declare-const p Bool)\n(minimize (ite p 1 2))" ≡ None
+chosen_goal = refl
+
+bool_goal : fault "(declare-const p Bool)\n(minimize p)" ≡ Some (at 2 11, sort_mismatch)
+bool_goal = refl
+
+unknown_goal : fault "(minimize (+ 1 x))" ≡ Some (at 1 16, unknown_symbol (codes "x"))
+unknown_goal = refl
+
 -- ---- names that are known already
 
 -- each binding is its name and then its expression, from left to right

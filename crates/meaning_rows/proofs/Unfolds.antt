@@ -3,11 +3,11 @@ use Rattle.std.proofs.Common.{◌≡◌, ℕ, List, [], ◌∷◌, true, false, 
 use Prim.Native.String.{String}
 use Rattle.dyadic.specs.Fraction.{Fraction, whole, power_below}
 use Rattle.dyadic.specs.Point.{at_fraction}
-use Rattle.script_model.specs.Script.{pairs_at}
+use Rattle.script_model.specs.Script.{goal_value, pairs_at}
 use Rattle.poly_graph.specs.Term.{Term, constant, variable, negate, add, multiply, square, le, ge, eq, Atom}
 use Rattle.poly_graph.specs.Form.{Form, yes_form, no_form, atom_is, bool_is, all_form, any_form, Forms, no_forms, more_forms}
 use Rattle.script_forms.specs.Terms.{Fault, divisor_not_constant, zero_divisor, number_too_wide}
-use Rattle.script_forms.specs.Atoms.{script_atoms, script_form, unfolding_fault}
+use Rattle.script_forms.specs.Atoms.{goal_atom, goal_term, script_atoms, script_form, unfolding_fault}
 use Rattle.meaning_rows.proofs.Asked.{at, of_text, of_whole}
 
 abbrev atoms : String → List Atom
@@ -91,6 +91,42 @@ false_form = refl
 no_assertion : of_whole script_form no_form "(check-sat)" ≡ of_all []
 unfolding Rattle.dyadic.specs.Fraction.negated Rattle.dyadic.specs.Fraction.sum_of Rattle.dyadic.specs.Fraction.product_of Rattle.dyadic.specs.Fraction.quotient_of Rattle.dyadic.specs.Fraction.at_most
 no_assertion = refl
+
+-- ---- the goal: it asserts nothing, and its term is that of an atom
+
+goal_atoms : atoms "(declare-const x Real)\n(assert (<= 0 x 1))\n(minimize (* x x))" ≡ bounded ((square x, le) ∷ [])
+unfolding Rattle.dyadic.specs.Fraction.negated Rattle.dyadic.specs.Fraction.sum_of Rattle.dyadic.specs.Fraction.product_of Rattle.dyadic.specs.Fraction.quotient_of Rattle.dyadic.specs.Fraction.at_most
+goal_atoms = refl
+
+goal_form : form "(declare-const x Real)\n(assert (<= 0 x 1))\n(minimize (* x x))" ≡ of_all (of_all (atom_is 0 ∷ atom_is 1 ∷ []) ∷ of_any (atom_is 2 ∷ yes_form ∷ []) ∷ [])
+unfolding Rattle.dyadic.specs.Fraction.negated Rattle.dyadic.specs.Fraction.sum_of Rattle.dyadic.specs.Fraction.product_of Rattle.dyadic.specs.Fraction.quotient_of Rattle.dyadic.specs.Fraction.at_most
+goal_form = refl
+
+goal_is_square : of_text goal_term None "(declare-const x Real)\n(assert (<= 0 x 1))\n(minimize (* x x))" ≡ Some (square x)
+unfolding Rattle.dyadic.specs.Fraction.negated Rattle.dyadic.specs.Fraction.sum_of Rattle.dyadic.specs.Fraction.product_of Rattle.dyadic.specs.Fraction.quotient_of Rattle.dyadic.specs.Fraction.at_most
+goal_is_square = refl
+
+goal_is_third : of_text goal_atom None "(declare-const x Real)\n(assert (<= 0 x 1))\n(minimize (* x x))" ≡ Some 2
+unfolding Rattle.dyadic.specs.Fraction.negated Rattle.dyadic.specs.Fraction.sum_of Rattle.dyadic.specs.Fraction.product_of Rattle.dyadic.specs.Fraction.quotient_of Rattle.dyadic.specs.Fraction.at_most
+goal_is_third = refl
+
+value_at_half : of_text (goal_value (at_fraction (record { num = pos 1; den = 2 }) ∷ [])) None "(declare-const x Real)\n(assert (<= 0 x 1))\n(minimize (* x x))" ≡ Some (record { num = pos 1; den = 4 })
+unfolding Rattle.dyadic.specs.Fraction.negated Rattle.dyadic.specs.Fraction.sum_of Rattle.dyadic.specs.Fraction.product_of Rattle.dyadic.specs.Fraction.quotient_of Rattle.dyadic.specs.Fraction.at_most
+value_at_half = refl
+
+goal_at_half : of_text (pairs_at (power_below 20) (at_fraction (record { num = pos 1; den = 2 }) ∷ [])) [] "(declare-const x Real)\n(assert (<= 0 x 1))\n(minimize (* x x))" ≡
+    (record { pos = true; neg = false } ∷ record { pos = true; neg = false } ∷ [])
+unfolding Rattle.dyadic.specs.Fraction.negated Rattle.dyadic.specs.Fraction.sum_of Rattle.dyadic.specs.Fraction.product_of Rattle.dyadic.specs.Fraction.quotient_of Rattle.dyadic.specs.Fraction.at_most
+goal_at_half = refl
+
+-- a goal that is popped before the check is none
+popped_goal : of_text goal_term None "(declare-const x Real)(push 1)(minimize x)(pop 1)" ≡ None
+popped_goal = refl
+
+-- a choice has no term of its own
+chosen_goal : of_text goal_term None "(declare-const p Bool)(minimize (ite p 1 2))" ≡ None
+unfolding Rattle.dyadic.specs.Fraction.negated Rattle.dyadic.specs.Fraction.sum_of Rattle.dyadic.specs.Fraction.product_of Rattle.dyadic.specs.Fraction.quotient_of Rattle.dyadic.specs.Fraction.at_most
+chosen_goal = refl
 
 -- a choice, where both arms miss
 choice_form : form "(declare-const b Bool)\n(declare-const x Real)\n(assert (<= 0 x 1))\n(assert (ite b (> x 2) (< x (- 1))))" ≡ of_all (of_all (atom_is 0 ∷ atom_is 1 ∷ []) ∷

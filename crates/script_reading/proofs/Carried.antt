@@ -3,7 +3,7 @@ use Rattle.std.proofs.Common.{◌≡◌, ◌∙◌, ℕ, zero, suc, ◌≤◌, l
 use Rattle.std.proofs.Math.Seq.{take-length}
 use Rattle.std.proofs.lemmas.Bool.{leb-true}
 use Rattle.std.proofs.lemmas.List.{take-append-le}
-use Rattle.script_model.specs.Script.{Command, declare, define, claim, check, ineffective}
+use Rattle.script_model.specs.Script.{Command, declare, define, claim, minimize, check, ineffective}
 use Rattle.smt_script.specs.Levels.{Asked, Levels, Step, command, opens, closes, resets, asks_values, after_step, asked_from, checks_of, closed_to, no_levels, opened}
 use Rattle.sort_check.specs.Single.{AreLengths}
 use Rattle.sort_check.proofs.Lengths.{lengths_longer}
@@ -31,6 +31,7 @@ stacked_step : (l : Levels) (s : Step) → Stacked l → Stacked (after_step l s
 stacked_step l (command (declare at x t)) h = (h.0, lengths_longer h.0 l.inner (declare at x t) l.outer h.1)
 stacked_step l (command (define at f params t body)) h = (h.0, lengths_longer h.0 l.inner (define at f params t body) l.outer h.1)
 stacked_step l (command (claim at e)) h = (h.0, lengths_longer h.0 l.inner (claim at e) l.outer h.1)
+stacked_step l (command (minimize at t)) h = (h.0, lengths_longer h.0 l.inner (minimize at t) l.outer h.1)
 stacked_step l (command (check at)) h = h
 stacked_step l (command (ineffective at)) h = h
 stacked_step l (opens at n) h = stacked_opened n l h
@@ -73,6 +74,7 @@ pub step_first : (m : ℕ) (l : Levels) (s : Step) → Stacked l → m ≤ lengt
 step_first m l (command (declare at x t)) h few still = take-append-le m l.inner (declare at x t ∷ []) few
 step_first m l (command (define at f params t body)) h few still = take-append-le m l.inner (define at f params t body ∷ []) few
 step_first m l (command (claim at e)) h few still = take-append-le m l.inner (claim at e ∷ []) few
+step_first m l (command (minimize at t)) h few still = take-append-le m l.inner (minimize at t ∷ []) few
 step_first m l (command (check at)) h few still = refl
 step_first m l (command (ineffective at)) h few still = refl
 step_first m l (opens at n) h few still = ap (take m) (opened_same n l)
@@ -124,6 +126,8 @@ carried_left x y a commands l (command (define at f params t body) ∷ left) st 
     (λ e. holds_behind commands l (command (define at f params t body)) left st (h e).few (h e).first (h e).stay)
 carried_left x y a commands l (command (claim at t) ∷ left) st here h = carried_left x y a commands _ left (stacked_step l (command (claim at t)) st) here
     (λ e. holds_behind commands l (command (claim at t)) left st (h e).few (h e).first (h e).stay)
+carried_left x y a commands l (command (minimize at t) ∷ left) st here h = carried_left x y a commands _ left (stacked_step l (command (minimize at t)) st) here
+    (λ e. holds_behind commands l (command (minimize at t)) left st (h e).few (h e).first (h e).stay)
 carried_left x y a commands l (command (ineffective at) ∷ left) st here h = carried_left x y a commands l left st here
     (λ e. holds_behind commands l (command (ineffective at)) left st (h e).few (h e).first (h e).stay)
 carried_left x y a commands l (opens at n ∷ left) st here h = carried_left x y a commands _ left (stacked_step l (opens at n) st) here
@@ -144,6 +148,7 @@ first_left x l (command (check at) ∷ left) st =
 first_left x l (command (declare at f t) ∷ left) st = first_left x _ left (stacked_step l (command (declare at f t)) st)
 first_left x l (command (define at f params t body) ∷ left) st = first_left x _ left (stacked_step l (command (define at f params t body)) st)
 first_left x l (command (claim at t) ∷ left) st = first_left x _ left (stacked_step l (command (claim at t)) st)
+first_left x l (command (minimize at t) ∷ left) st = first_left x _ left (stacked_step l (command (minimize at t)) st)
 first_left x l (command (ineffective at) ∷ left) st = first_left x l left st
 first_left x l (opens at n ∷ left) st = first_left x _ left (stacked_step l (opens at n) st)
 first_left x l (closes at n ∷ left) st = first_left x _ left (stacked_step l (closes at n) st)

@@ -1,10 +1,10 @@
 -- A script that is read without a fault of its commands has a check.
 use Rattle.std.proofs.Common.{◌≡◌, ℕ, suc, ◌+◌, ◌-◌, ◌⊎◌, inl, inr, List, [], ◌∷◌, ◌++◌, Bool, true, false, cond, Option, Some, None, nat_le, true≢false, refl, ap, sym, ◌∙◌, subst}
 use Rattle.script_model.specs.Sexp.{Place, Sexp, leaf, group, Sexps, none, more, symbol, numeral, string, place_of}
-use Rattle.script_model.specs.Script.{declare, define, claim, check, ineffective}
+use Rattle.script_model.specs.Script.{declare, define, claim, minimize, check, ineffective}
 use Rattle.script_model.specs.Reading.{found}
 use Rattle.std.specs.Str.Parse.{digits_value}
-use Rattle.smt_script.specs.Commands.{Word, sets_logic, informs, echoes, gets_model, gets_values, declares, declares_function, defines, asserts, checks, exits, pushes, pops, assumes, drops, restarts, command_words, logics, SortForm, no_sort, other_sort, one_sort, sort_form, Arguments, no_arguments, some_arguments, wrong_arguments, arguments, Parameters, known_parameters, other_parameters, wrong_parameters, parameters, Before, Said, says, fails, one_step, with_logic, is_logic, declaration, definition, checking, with_check, with_levels, has_room, most_levels, assumptions, assumed, assuming, are_literals, by_word, by_head, one_command, CommandsRead, steps, command_fault, at_end, no_check, nowhere, joined, next_before, steps_from, steps_of, at_start, bad_command, too_many_checks, too_many_levels}
+use Rattle.smt_script.specs.Commands.{Word, sets_logic, informs, echoes, gets_model, gets_values, declares, declares_function, defines, asserts, minimizes, checks, exits, pushes, pops, assumes, drops, restarts, command_words, logics, SortForm, no_sort, other_sort, one_sort, sort_form, Arguments, no_arguments, some_arguments, wrong_arguments, arguments, Parameters, known_parameters, other_parameters, wrong_parameters, parameters, Before, Said, says, fails, one_step, with_logic, is_logic, declaration, definition, checking, with_check, with_goal, with_levels, has_room, most_levels, assumptions, assumed, assuming, are_literals, by_word, by_head, one_command, CommandsRead, steps, command_fault, at_end, no_check, nowhere, joined, next_before, steps_from, steps_of, at_start, bad_command, left_out, too_many_checks, too_many_levels}
 use Rattle.smt_script.specs.Forms.{is_end}
 use Rattle.smt_script.specs.Levels.{Asked, Levels, Step, command, opens, closes, resets, asks_values, after_step, asked_from, checks_of, no_levels}
 use Rattle.script_reading.specs.Session.{is_check}
@@ -82,6 +82,7 @@ counts-word b at declares (more (leaf _ (symbol f)) (more s none)) = counts-decl
 counts-word b at declares_function (more (leaf _ (symbol f)) (more (group _ args) (more s none))) = counts-declaration b at f (arguments args) (sort_form s)
 counts-word b at defines (more (leaf _ (symbol f)) (more (group _ params) (more s (more body none)))) = counts-definition b at f (parameters params) (sort_form s) body
 counts-word b at asserts (more e none) = inl refl
+counts-word b at minimizes (more t none) = counts-cond b.goal b (fails left_out) (says (with_goal b) (one_step (command (minimize at t)))) tt (inl refl)
 counts-word b at checks none = counts-checking b at
 counts-word b at exits none = inl refl
 counts-word b at pushes (more (leaf _ (numeral digits)) none) =
@@ -134,6 +135,7 @@ asked-left l (command (check at) ∷ rest) h = (record { at = at; script = l.inn
 asked-left l (command (declare at x s) ∷ rest) h = asked-left (after_step l (command (declare at x s))) rest h
 asked-left l (command (define at f params s body) ∷ rest) h = asked-left (after_step l (command (define at f params s body))) rest h
 asked-left l (command (claim at e) ∷ rest) h = asked-left (after_step l (command (claim at e))) rest h
+asked-left l (command (minimize at t) ∷ rest) h = asked-left (after_step l (command (minimize at t))) rest h
 asked-left l (command (ineffective at) ∷ rest) h = asked-left l rest h
 asked-left l (opens at n ∷ rest) h = asked-left (after_step l (opens at n)) rest h
 asked-left l (closes at n ∷ rest) h = asked-left (after_step l (closes at n)) rest h

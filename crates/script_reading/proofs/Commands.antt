@@ -2,7 +2,7 @@
 use Rattle.std.proofs.Common.{◌≡◌, ℕ, suc, List, [], ◌∷◌, ◌++◌, map, length, refl, ap, ◌∙◌, arith, append-nil}
 use Rattle.std.proofs.lemmas.List.{map-append, length-map}
 use Rattle.dyadic.specs.Point.{Sort}
-use Rattle.script_model.specs.Script.{Command, declare, define, claim, check, ineffective, Constant, claims, constants_of, defined, sort_of_constant, sorts_of}
+use Rattle.script_model.specs.Script.{Command, declare, define, claim, minimize, check, ineffective, Constant, claims, constants_of, defined, goal_claim, sort_of_constant, sorts_of}
 use Rattle.script_model.specs.Sexp.{Place}
 use Rattle.script_model.specs.Reading.{Meanings, Names, unknown, value, meaning}
 use Rattle.script_model.specs.Declared.{numbered}
@@ -15,6 +15,7 @@ constants_both [] ys = refl
 constants_both (declare at x s ∷ xs) ys = ap (λ (cs : List Constant). record { at = at; name = x; sort = s } ∷ cs) (constants_both xs ys)
 constants_both (define at f params s body ∷ xs) ys = constants_both xs ys
 constants_both (claim at e ∷ xs) ys = constants_both xs ys
+constants_both (minimize at t ∷ xs) ys = constants_both xs ys
 constants_both (check at ∷ xs) ys = constants_both xs ys
 constants_both (ineffective at ∷ xs) ys = constants_both xs ys
 
@@ -32,6 +33,7 @@ places_both [] ys = refl
 places_both (declare at x s ∷ xs) ys = places_both xs ys
 places_both (define at f params s body ∷ xs) ys = places_both xs ys
 places_both (claim at e ∷ xs) ys = ap (λ (ps : List Place). at ∷ ps) (places_both xs ys)
+places_both (minimize at t ∷ xs) ys = ap (λ (ps : List Place). at ∷ ps) (places_both xs ys)
 places_both (check at ∷ xs) ys = places_both xs ys
 places_both (ineffective at ∷ xs) ys = places_both xs ys
 
@@ -53,6 +55,7 @@ claims-check M names [] (declare at' x s ∷ xs) at = claims-check M ((x, value 
 claims-check M names (v ∷ vs) (declare at' x s ∷ xs) at = claims-check M ((x, value v) ∷ names) vs xs at
 claims-check M names vs (define at' f params s body ∷ xs) at = claims-check M ((f, defined M names params body) ∷ names) vs xs at
 claims-check M names vs (claim at' e ∷ xs) at = ap (λ us. meaning M names e ∷ us) (claims-check M names vs xs at)
+claims-check M names vs (minimize at' t ∷ xs) at = ap (λ us. meaning M names (goal_claim at' t) ∷ us) (claims-check M names vs xs at)
 claims-check M names vs (check at' ∷ xs) at = claims-check M names vs xs at
 claims-check M names vs (ineffective at' ∷ xs) at = claims-check M names vs xs at
 
@@ -64,6 +67,7 @@ claims-first M names [] ws (declare at x s ∷ xs) ys e = absurd (omega (arith, 
 claims-first M names (v ∷ vs) ws (declare at x s ∷ xs) ys e = claims-first M ((x, value v) ∷ names) vs ws xs ys (omega (arith, e))
 claims-first M names vs ws (define at f params s body ∷ xs) ys e = claims-first M ((f, defined M names params body) ∷ names) vs ws xs ys e
 claims-first M names vs ws (claim at x ∷ xs) ys e = let rest = claims-first M names vs ws xs ys e in (rest.0, ap (λ us. meaning M names x ∷ us) rest.1)
+claims-first M names vs ws (minimize at t ∷ xs) ys e = let rest = claims-first M names vs ws xs ys e in (rest.0, ap (λ us. meaning M names (goal_claim at t) ∷ us) rest.1)
 claims-first M names vs ws (check at ∷ xs) ys e = claims-first M names vs ws xs ys e
 claims-first M names vs ws (ineffective at ∷ xs) ys e = claims-first M names vs ws xs ys e
 
@@ -88,5 +92,6 @@ claims_long M names [] (declare at x s ∷ rest) = claims_long M ((x, value (M.n
 claims_long M names (v ∷ vs) (declare at x s ∷ rest) = claims_long M ((x, value v) ∷ names) vs rest
 claims_long M names vs (define at f params s body ∷ rest) = claims_long M ((f, defined M names params body) ∷ names) vs rest
 claims_long M names vs (claim at e ∷ rest) = ap suc (claims_long M names vs rest)
+claims_long M names vs (minimize at t ∷ rest) = ap suc (claims_long M names vs rest)
 claims_long M names vs (check at ∷ rest) = claims_long M names vs rest
 claims_long M names vs (ineffective at ∷ rest) = claims_long M names vs rest

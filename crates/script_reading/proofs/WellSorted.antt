@@ -4,7 +4,7 @@ use Rattle.std.specs.List.{AllByRecursion}
 use Rattle.dyadic.specs.Point.{Sort, real_sort, bool_sort}
 use Rattle.script_model.specs.Sexp.{Place, Sexp, place_of}
 use Rattle.script_model.specs.Reading.{Operator, truth, falsehood, negation, conjunction, disjunction, implication, exclusive, equality, distinctness, choice, minus, plus, times, divide, at_most_op, below_op, at_least_op, above_op, Reason, malformed, left_out, unknown, Label, Names, value, meaning}
-use Rattle.script_model.specs.Script.{Command, declare, define, claim, check, ineffective, Parameter, bound_to, defined, claims, sorts_of}
+use Rattle.script_model.specs.Script.{Command, declare, define, claim, minimize, check, ineffective, Parameter, bound_to, defined, claims, goal_claim, sorts_of}
 use Rattle.script_model.specs.Declared.{numbered}
 use Rattle.script_model.proofs.Related.{Each, Alike, AlikeNames, Respects, meaning_alike, append_alike}
 use Rattle.poly_graph.specs.Form.{form_atoms}
@@ -363,6 +363,19 @@ constant-has : (axis : ℕ) (s : Sort) → HasSort s (constant_tree axis s)
 constant-has axis real_sort = tt
 constant-has axis bool_sort = tt
 
+-- a goal's term is Real, and so the goal stands among the assertions as a Bool
+real-is : (at : Place) (x : Sorted) → wants at real_sort x ≡ None → x ≡ of_sort real_sort
+real-is at (of_sort real_sort) e = refl
+real-is at (of_sort bool_sort) e = cc
+real-is at (ill at' f) e = cc
+real-is at mismatched e = cc
+
+abbrev goal-sort : Place → Sorted → Sorted
+goal-sort at x = sorting.apply at disjunction (sorting.apply at at_most_op (x ∷ of_sort real_sort ∷ []) ∷ of_sort bool_sort ∷ [])
+
+goal-wanted : (ns : Names Sorted) (at : Place) (t : Sexp) → wants (place_of t) real_sort (meaning sorting ns t) ≡ None → wants at bool_sort (meaning sorting ns (goal_claim at t)) ≡ None
+goal-wanted ns at t e = ap (λ x. wants at bool_sort (goal-sort at x)) (real-is (place_of t) (meaning sorting ns t) e)
+
 is-of : (s : Sort) (x : Sorted) (u : Unfolded) → is_of s x ≡ true → Fits x u → HasSort s u
 is-of s (of_sort t) u e h = subst (λ (x : Sort). HasSort x u) (sym (same-sorts s t e)) h
 is-of s (ill at f) u e h = cc
@@ -403,6 +416,9 @@ claims-fit count axis ns ms a (define at f params s body ∷ rest) e =
 claims-fit count axis ns ms a (claim at b ∷ rest) e =
     let k = none-then (wants (place_of b) bool_sort (meaning sorting ns b)) _ e in
     (claim-fits ns ms a b k.0, claims-fit count axis ns ms a rest k.1)
+claims-fit count axis ns ms a (minimize at t ∷ rest) e =
+    let k = none-then (wants (place_of t) real_sort (meaning sorting ns t)) _ e in
+    (claim-fits ns ms a (goal_claim at t) (goal-wanted ns at t k.0), claims-fit count axis ns ms a rest k.1)
 claims-fit count axis ns ms a (check at ∷ rest) e = claims-fit count axis ns ms a rest e
 claims-fit count axis ns ms a (ineffective at ∷ rest) e = claims-fit count axis ns ms a rest e
 

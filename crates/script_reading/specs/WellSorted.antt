@@ -22,7 +22,7 @@ IsClaim (refused x) = IsSound x
 IsClaim (term t) = ⊥
 IsClaim (either c d a b) = ⊥
 
--- Each assertion of a well-sorted script unfolds to a formula or to a fault of a constant step or a division,
+-- Each assertion of a well-sorted script, goals among them, unfolds to a formula or to a fault of a constant step or a division,
 -- and so does the whole script.
 abbrev pub SortedUnfolds : Type 0
 SortedUnfolds = (script : List Command) → sort_fault script ≡ None → AllByRecursion IsClaim (trees script) × IfSound (unfolding_fault script)

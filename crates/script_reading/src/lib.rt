@@ -10,7 +10,7 @@ ghost use Rattle.script_reading.specs.WellSorted.{SortedUnfolds};
 
 mod reader;
 
-pub use reader::ScriptReader;
+pub use reader::{ScriptReader, WithGoal};
 
 /// Bytes without a fault are the text of a script without one.
 #[tactic(auto, using(crate::proofs::Accepted::faultless_accepted))]

@@ -2,13 +2,13 @@
 use Rattle.std.proofs.Common.{◌≡◌, refl}
 use Rattle.script_model.specs.Sexp.{Place, numeral, decimal, symbol, reserved, string, keyword, Sexp, leaf, group, Sexps, none, more}
 use Rattle.smt_script.specs.Levels.{command, resets}
-use Rattle.smt_script.specs.Commands.{Before, says, one_step, by_word, one_command, sets_logic, echoes, gets_model, gets_values, declares, declares_function, defines, asserts, checks, exits, pushes, pops, assumes, drops, restarts, checking, with_end, with_levels, with_nothing, is_negation, parameters}
+use Rattle.smt_script.specs.Commands.{Before, says, one_step, by_word, one_command, sets_logic, echoes, gets_model, gets_values, declares, declares_function, defines, asserts, minimizes, checks, exits, pushes, pops, assumes, drops, restarts, checking, with_end, with_levels, with_nothing, is_negation, parameters}
 use Rattle.smt_script.specs.Forms.{as_symbol, as_any, as_group, as_numeral, as_string}
 use Rattle.std.specs.Prelude.{Bool, true, false, ◌&&◌, codes}
 use Rattle.std.specs.Str.{bytes_eq}
 use Rattle.script_model.specs.Script.{ineffective}
 use Rattle.smt_script.specs.Run.{by_first}
-use Rattle.smt_script.specs.Shapes.{at_last, declares_name, declares_function_name, defines_name, asserts_term, sets_name, echoes_text, gets_terms, pushes_levels, pops_levels, assumes_literals, negates_name, shape_of, with_shape}
+use Rattle.smt_script.specs.Shapes.{at_last, declares_name, declares_function_name, defines_name, asserts_term, minimizes_term, sets_name, echoes_text, gets_terms, pushes_levels, pops_levels, assumes_literals, negates_name, shape_of, with_shape}
 
 and_true : (b : Bool) → (b && true) ≡ b
 and_true true = refl
@@ -63,6 +63,11 @@ pub by_asserts : (b : Before) (at : Place) (args : Sexps) → asserts_term b at 
 by_asserts b at none = refl
 by_asserts b at (more e none) = refl
 by_asserts b at (more e (more e2 rest)) = refl
+
+pub by_minimizes : (b : Before) (at : Place) (args : Sexps) → minimizes_term b at (as_any args) ≡ by_word b at minimizes args
+by_minimizes b at none = refl
+by_minimizes b at (more t none) = refl
+by_minimizes b at (more t (more e rest)) = refl
 
 pub by_sets_logic : (b : Before) (at : Place) (args : Sexps) → sets_name b at (as_symbol args) ≡ by_word b at sets_logic args
 by_sets_logic b at none = refl

@@ -1,5 +1,5 @@
 -- What the calls answer, in values of the code.
-use Rattle.std.specs.Prelude.{◌≡◌, ◌++◌, ℕ, Bool, List, Result, Ok, Err, Option, map}
+use Rattle.std.specs.Prelude.{◌≡◌, ◌++◌, ℕ, Bool, List, Result, Ok, Err, map}
 use Rattle.script_model.specs.Sexp as sexp
 use Rattle.script_fault.specs.Answers.{IsFaultOrMemory}
 use Rattle.script_fault.specs.declared.fault.ReadError.{ReadError}
@@ -12,7 +12,7 @@ use Rattle.smt_script.specs.Commands.{Said, assumed, by_word, command_words, one
 use Rattle.smt_script.specs.Levels as levels
 use Rattle.smt_script.specs.Forms.{as_any, as_group, as_numeral, as_string, as_symbol}
 use Rattle.smt_script.specs.Run.{GivesNext, before_of}
-use Rattle.smt_script.specs.Shapes.{asserts_term, assumes_literals, at_last, declares_function_name, declares_name, defines_name, echoes_text, gets_terms, pops_levels, pushes_levels, sets_name}
+use Rattle.smt_script.specs.Shapes.{asserts_term, assumes_literals, at_last, declares_function_name, declares_name, defines_name, echoes_text, gets_terms, minimizes_term, pops_levels, pushes_levels, sets_name}
 use Rattle.smt_script.specs.CommandAnswers.{IsCommandAnswer, said_fault}
 use Rattle.smt_script.specs.Views.{command_of, step_of, word_of}
 use Rattle.smt_script.specs.declared.command.Command.{Command}
@@ -74,6 +74,9 @@ definition_said s place at b = defines_name b (place_of place) (as_symbol (rest_
 
 abbrev pub assertion_said : Sexps → Place → ℕ → defined.Before → Said
 assertion_said s place body b = asserts_term b (place_of place) (as_any (rest_of s body))
+
+abbrev pub goal_said : Sexps → Before → Place → ℕ → Said
+goal_said s before place body = minimizes_term (before_of before) (place_of place) (as_any (rest_of s body))
 
 -- ---- of levels and checks
 

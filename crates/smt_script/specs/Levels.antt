@@ -1,7 +1,7 @@
 -- What a script does, one step after the other, and which commands are in force at each of its checks.
-use Rattle.std.specs.Prelude.{ℕ, suc, zero, List, [], ◌∷◌, ◌++◌, map, Option, Some, None}
+use Rattle.std.specs.Prelude.{ℕ, suc, zero, List, [], ◌∷◌, ◌++◌, Option, Some, None}
 use Rattle.script_model.specs.Sexp.{Place, Sexps}
-use Rattle.script_model.specs.Script.{Command, declare, define, claim, check, ineffective}
+use Rattle.script_model.specs.Script.{Command, check, ineffective}
 
 pub data Step : Type 0 where
   command : Command → Step

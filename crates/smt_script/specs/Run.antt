@@ -16,7 +16,7 @@ use Rattle.smt_script.specs.declared.found.Before.{Before}
 use Rattle.smt_script.specs.declared.command.Step.{Step}
 
 abbrev pub before_of : Before → defined.Before
-before_of b = record { logic = b.logic; checks = b.checks; levels = b.levels; ended = b.ended }
+before_of b = record { logic = b.logic; goal = b.goal; checks = b.checks; levels = b.levels; ended = b.ended }
 
 -- a group with this first symbol and these arguments
 abbrev pub by_first : defined.Before → Place → Option (Place × List ℕ × Sexps) → Said

@@ -1,12 +1,12 @@
 -- The commands, one part of their form after the other.
-use Rattle.std.specs.Prelude.{ℕ, List, cond, Bool, true, false, Option, Some, None, ◌&&◌, codes}
+use Rattle.std.specs.Prelude.{ℕ, List, cond, Bool, false, Option, Some, None, ◌&&◌, codes}
 use Rattle.std.specs.Str.{bytes_eq}
 use Rattle.std.specs.Str.Parse.{digits_value}
 use Rattle.script_model.specs.Sexp.{Place, Sexp, leaf, group, Sexps, none, more}
 use Rattle.script_model.specs.Script.{claim, ineffective}
 use Rattle.smt_script.specs.Levels.{command, asks_values}
 use Rattle.script_model.specs.Reading.{found}
-use Rattle.smt_script.specs.Commands.{Before, Said, says, fails, bad_command, SortForm, sort_form, Arguments, no_arguments, arguments, Parameters, wrong_parameters, parameters, with_parameter, declaration, definition, with_logic, is_logic, logics, one_step, pushing, popping, assuming}
+use Rattle.smt_script.specs.Commands.{Before, Said, says, fails, bad_command, SortForm, sort_form, Arguments, no_arguments, arguments, goal, Parameters, wrong_parameters, parameters, with_parameter, declaration, definition, with_logic, is_logic, logics, one_step, pushing, popping, assuming}
 use Rattle.smt_script.specs.Forms.{as_symbol, as_group, as_any, is_end}
 
 abbrev pub at_last : Sexps → Said → Said
@@ -51,6 +51,10 @@ defines_name b at (Some (p, f, rest)) = defines_parameters b at f (as_group rest
 abbrev pub asserts_term : Before → Place → Option (Sexp × Sexps) → Said
 asserts_term b at None = fails bad_command
 asserts_term b at (Some (e, rest)) = at_last rest (says b (one_step (command (claim at e))))
+
+abbrev pub minimizes_term : Before → Place → Option (Sexp × Sexps) → Said
+minimizes_term b at None = fails bad_command
+minimizes_term b at (Some (t, rest)) = at_last rest (goal b at t)
 
 -- a logic
 abbrev pub sets_name : Before → Place → Option (Place × List ℕ × Sexps) → Said

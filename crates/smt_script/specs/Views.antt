@@ -17,7 +17,7 @@ use Rattle.smt_script.specs.declared.command.Step.TheVariants as does
 use Rattle.smt_script.specs.declared.command.Course.{Course}
 use Rattle.smt_script.specs.Levels as levels
 use Rattle.smt_script.specs.declared.words.Word.{Word}
-use Rattle.smt_script.specs.declared.words.Word.TheVariants.{SetsLogic, Informs, Echoes, GetsModel, GetsValues, Declares, DeclaresFunction, Defines, Asserts, Checks, Exits, Pushes, Pops, Assumes, Drops, Restarts, StaysOut}
+use Rattle.smt_script.specs.declared.words.Word.TheVariants.{SetsLogic, Informs, Echoes, GetsModel, GetsValues, Declares, DeclaresFunction, Defines, Asserts, Minimizes, Checks, Exits, Pushes, Pops, Assumes, Drops, Restarts, StaysOut}
 use Rattle.smt_script.specs.declared.words.SortForm.{SortForm}
 use Rattle.smt_script.specs.declared.words.SortForm.TheVariants.{NoSort, Other, One}
 
@@ -40,6 +40,7 @@ word_of Declares = commands.declares
 word_of DeclaresFunction = commands.declares_function
 word_of Defines = commands.defines
 word_of Asserts = commands.asserts
+word_of Minimizes = commands.minimizes
 word_of Checks = commands.checks
 word_of Exits = commands.exits
 word_of Pushes = commands.pushes
@@ -57,6 +58,7 @@ abbrev pub command_of : arena.Sexps → Command → script.Command
 command_of s (made.Declare at name sort) = script.declare (place_of at) name.now (sort_of sort)
 command_of s (made.Define at name params sort body) = script.define (place_of at) name.now (map parameter_of params.items) (sort_of sort) (expression_at s body)
 command_of s (made.Assert at body) = script.claim (place_of at) (expression_at s body)
+command_of s (made.Minimize at body) = script.minimize (place_of at) (expression_at s body)
 command_of s (made.Check at) = script.check (place_of at)
 command_of s (made.Ineffective at) = script.ineffective (place_of at)
 

@@ -24,6 +24,8 @@ pub enum Command<'a> {
     Declare(Place, &'a Name, Sort),
     Define(Place, &'a Name, Vec<Parameter<'a>>, Sort, usize),
     Assert(Place, usize),
+    /// `minimize`: its term is the goal.
+    Minimize(Place, usize),
     Check(Place),
     /// A command without effect: of the logic, an information, an option, a model or the end.
     Ineffective(Place),

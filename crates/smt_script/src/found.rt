@@ -5,6 +5,7 @@ use crate::command::Step;
 #[derive(Clone, Copy, Debug)]
 pub(crate) struct Before {
     pub(crate) logic: bool,
+    pub(crate) goal: bool,
     pub(crate) checks: u32,
     /// How many levels are open.
     pub(crate) levels: u32,

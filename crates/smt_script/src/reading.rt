@@ -1,7 +1,7 @@
 // The commands of a script's expressions, or their first fault (SMT-LIB 2.6, section 3.9).
 ghost use Rattle.std.specs.Prelude.{◌≡◌};
 ghost use Rattle.smt_sexp.specs.Arena.{listed, rest_of};
-ghost use Rattle.smt_script.specs.Calls.{GivesAfterAny, GivesByWord, GivesGroup, GivesLogic, GivesOne, assertion_said, constant_said, definition_said, echo_said, function_said, said_alone};
+ghost use Rattle.smt_script.specs.Calls.{GivesAfterAny, GivesByWord, GivesFound, GivesGroup, GivesLogic, GivesOne, assertion_said, constant_said, definition_said, echo_said, function_said, goal_said, said_alone};
 ghost use Rattle.smt_script.specs.Commands.{steps_of};
 ghost use Rattle.smt_script.specs.CommandAnswers.{IsCourseAnswer};
 ghost use Rattle.smt_script.specs.Run.{Steps, before_of};
@@ -23,6 +23,7 @@ pub fn commands(alloc: Global, sexps: &Sexps) -> Result<Course<'_>, ReadError>
     let mut steps = Vec::new(alloc);
     let mut before = Before {
         logic: false,
+        goal: false,
         checks: 0,
         levels: 0,
         ended: false,
@@ -114,6 +115,7 @@ fn by_word(
         Word::DeclaresFunction => one(before, declare_fun(sexps, place, at)),
         Word::Defines => one(before, define_fun(alloc, sexps, place, at)),
         Word::Asserts => one(before, assert_term(sexps, place, at)),
+        Word::Minimizes => minimize(sexps, before, place, at),
         Word::Checks => check(sexps, before, place, at),
         Word::Exits => one(
             Before {
@@ -324,4 +326,30 @@ fn assert_term(sexps: &Sexps, place: Place, body: usize) -> Result<Command<'_>, 
         return Err(bad_command(place));
     }
     Ok(Command::Assert(place, body))
+}
+
+// The goal, where there is none before it.
+fn minimize(
+    sexps: &Sexps,
+    before: Before,
+    place: Place,
+    body: usize,
+) -> Result<(Before, Found<'_>), ReadError>
+    ensures { GivesFound sexps.now place (goal_said sexps.now before place body) result }
+{
+    let Some(at) = any(sexps, body) else {
+        return Err(bad_command(place));
+    };
+    if !ends(sexps, at) {
+        return Err(bad_command(place));
+    }
+    if before.goal {
+        return Err(left_out(place));
+    }
+    let next = Before {
+        goal: true,
+        ..before
+    };
+    let command = Command::Minimize(place, body);
+    Ok((next, Found::One(Step::Command(command))))
 }

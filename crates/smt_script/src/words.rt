@@ -20,6 +20,7 @@ pub(crate) enum Word {
     DeclaresFunction,
     Defines,
     Asserts,
+    Minimizes,
     Checks,
     Exits,
     Pushes,
@@ -91,7 +92,7 @@ fn word_of_levels(name: &[u8]) -> Option<Word>
     word_of_assertions(name)
 }
 
-// The same of the words that declare, define, assert and check.
+// The same of the words that declare, define, assert, minimize and check.
 fn word_of_assertions(name: &[u8]) -> Option<Word>
     ensures { option_map word_of result ≡ found name.now assertion_words }
 {
@@ -106,6 +107,9 @@ fn word_of_assertions(name: &[u8]) -> Option<Word>
     }
     if name == b"assert".as_slice() {
         return Some(Word::Asserts);
+    }
+    if name == b"minimize".as_slice() {
+        return Some(Word::Minimizes);
     }
     if name == b"check-sat".as_slice() {
         return Some(Word::Checks);

@@ -1,7 +1,7 @@
 -- The places of checks, and the first of them.
 use Rattle.std.proofs.Common.{◌≡◌, List, [], ◌∷◌, Bool, true, false, Option, Some, None, refl, ap, ◌∙◌}
 use Rattle.script_model.specs.Sexp.{Place}
-use Rattle.script_model.specs.Script.{declare, define, claim, check, ineffective}
+use Rattle.script_model.specs.Script.{declare, define, claim, minimize, check, ineffective}
 use Rattle.smt_script.specs.Levels.{Asked, Levels, Step, command, opens, closes, resets, asks_values, asked_from, checks_of, no_levels}
 use Rattle.sort_check.specs.Single.{check_place, second_place}
 
@@ -24,6 +24,7 @@ places_are l (command (check at) ∷ rest) = ap (λ ps. at ∷ ps) (places_are l
 places_are l (command (declare at x s) ∷ rest) = places_are _ rest
 places_are l (command (define at f params s body) ∷ rest) = places_are _ rest
 places_are l (command (claim at e) ∷ rest) = places_are _ rest
+places_are l (command (minimize at t) ∷ rest) = places_are _ rest
 places_are l (command (ineffective at) ∷ rest) = places_are _ rest
 places_are l (opens at n ∷ rest) = places_are _ rest
 places_are l (closes at n ∷ rest) = places_are _ rest

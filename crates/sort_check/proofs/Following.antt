@@ -2,7 +2,7 @@
 use Rattle.std.proofs.Common.{◌≡◌, ◌<◌, List, [], ◌∷◌, None, ap, ◌∙◌, refl, map, length, arith, Global}
 use Rattle.std.specs.Prelude.{Err}
 use Rattle.std.specs.List.{AllByRecursion}
-use Rattle.script_model.specs.Script.{declare, define, claim, check, ineffective}
+use Rattle.script_model.specs.Script.{declare, define, claim, minimize, check, ineffective}
 use Rattle.smt_sexp.specs.declared.sexps.Sexps.{Sexps}
 use Rattle.smt_script.specs.Levels.{Asked, Levels, Step, command, opens, closes, resets, asks_values, after_step, asked_from}
 use Rattle.smt_script.specs.Views.{step_of}
@@ -35,6 +35,7 @@ asked_sorted l (command (check at) ∷ rest) e =
 asked_sorted l (command (declare at x s) ∷ rest) e = asked_sorted _ rest (then_none (step_fault l.inner (command (declare at x s))) _ e).1
 asked_sorted l (command (define at f params s body) ∷ rest) e = asked_sorted _ rest (then_none (step_fault l.inner (command (define at f params s body))) _ e).1
 asked_sorted l (command (claim at x) ∷ rest) e = asked_sorted _ rest (then_none (step_fault l.inner (command (claim at x))) _ e).1
+asked_sorted l (command (minimize at t) ∷ rest) e = asked_sorted _ rest (then_none (step_fault l.inner (command (minimize at t))) _ e).1
 asked_sorted l (command (ineffective at) ∷ rest) e = asked_sorted _ rest (then_none (step_fault l.inner (command (ineffective at))) _ e).1
 asked_sorted l (opens at n ∷ rest) e = asked_sorted _ rest e
 asked_sorted l (closes at n ∷ rest) e = asked_sorted _ rest e

@@ -7,7 +7,7 @@ use Rattle.std.specs.Str.{bytes_eq}
 use Rattle.std.specs.Borrow.{Bor}
 use Rattle.std.specs.HashMap.{HashMap, UpdatesBy}
 use Rattle.script_model.specs.Reading.{Names, value, found}
-use Rattle.script_model.specs.Script.{Command, declare, define, claim, check, ineffective}
+use Rattle.script_model.specs.Script.{Command, declare, define, claim, minimize, check, ineffective}
 use Rattle.smt_script.specs.Levels.{Levels, closed, with_command}
 use Rattle.sort_check.specs.Levels.{names_of}
 use Rattle.sort_check.specs.Scopes.{AreMarks, command_name, count_of, stays}
@@ -74,6 +74,7 @@ pub with_stays : (l : Levels) (c : Command) → stays c ≡ true → with_comman
 with_stays l (declare at x s) e = refl
 with_stays l (define at f params s body) e = refl
 with_stays l (claim at e) h = refl
+with_stays l (minimize at t) h = refl
 with_stays l (check at) e = cc
 with_stays l (ineffective at) e = cc
 
@@ -81,6 +82,7 @@ pub without_stays : (l : Levels) (c : Command) → stays c ≡ false → with_co
 without_stays l (declare at x s) e = cc
 without_stays l (define at f params s body) e = cc
 without_stays l (claim at e) h = cc
+without_stays l (minimize at t) h = cc
 without_stays l (check at) e = refl
 without_stays l (ineffective at) e = refl
 
@@ -89,6 +91,7 @@ pub unnamed : (c : Command) (names : Names Sorted) → stays c ≡ false → nam
 unnamed (declare at x s) names e = cc
 unnamed (define at f params s body) names e = cc
 unnamed (claim at e) names h = cc
+unnamed (minimize at t) names h = cc
 unnamed (check at) names e = refl
 unnamed (ineffective at) names e = refl
 
@@ -96,6 +99,7 @@ pub uncounted : (c : Command) (n : ℕ) → stays c ≡ false → count_after c 
 uncounted (declare at x s) n e = cc
 uncounted (define at f params s body) n e = cc
 uncounted (claim at e) n h = cc
+uncounted (minimize at t) n h = cc
 uncounted (check at) n e = refl
 uncounted (ineffective at) n e = refl
 
@@ -116,6 +120,7 @@ name_forgotten old new cs (define at y params s body) x e sorted knows updates =
     knows_less old new (names_of cs) x (signature params s) (subst (λ z. Knows old ((z, signature params s) ∷ names_of cs)) same (subst (Knows old) (names_last [] cs (define at y params s body)) knows))
     (subst (λ z. found z (names_of cs) ≡ None) same (fresh_last cs (define at y params s body) sorted)) updates
 name_forgotten old new cs (claim at h) x e sorted knows updates = cc
+name_forgotten old new cs (minimize at t) x e sorted knows updates = cc
 name_forgotten old new cs (check at) x e sorted knows updates = cc
 name_forgotten old new cs (ineffective at) x e sorted knows updates = cc
 
@@ -123,5 +128,6 @@ pub nothing_forgotten : {S : Type 0} (top : HashMap (Bor (List ℕ)) Known S) (c
 nothing_forgotten top cs (declare at y s) e knows = cc
 nothing_forgotten top cs (define at y params s body) e knows = cc
 nothing_forgotten top cs (claim at h) e knows = subst (Knows top) (names_last [] cs (claim at h)) knows
+nothing_forgotten top cs (minimize at t) e knows = subst (Knows top) (names_last [] cs (minimize at t)) knows
 nothing_forgotten top cs (check at) e knows = subst (Knows top) (names_last [] cs (check at)) knows
 nothing_forgotten top cs (ineffective at) e knows = subst (Knows top) (names_last [] cs (ineffective at)) knows

@@ -8,8 +8,8 @@ use Rattle.std.proofs.lemmas.Map.Text.{hash_map_updates_str}
 use Rattle.std.proofs.lemmas.Slice.Eq.{bytes_eq-Decides}
 use Rattle.script_model.specs.Sexp.{Place, place_of}
 use Rattle.script_model.specs.Reading.{Names, Named, value, found, operators, meaning}
-use Rattle.script_model.specs.Script.{Command, declare, define, claim, check, ineffective}
-use Rattle.dyadic.specs.Point.{bool_sort}
+use Rattle.script_model.specs.Script.{Command, declare, define, claim, minimize, check, ineffective}
+use Rattle.dyadic.specs.Point.{bool_sort, real_sort}
 use Rattle.smt_script.specs.Levels.{Levels, command, opened, closed, closed_to}
 use Rattle.sort_check.specs.Levels.{course_fault_from, names_from, names_of}
 use Rattle.sort_check.specs.Scopes.{count_from, count_of}
@@ -50,6 +50,9 @@ goes_on n names (define at f params s body ∷ cs) rest e =
 goes_on n names (claim at e ∷ cs) rest h =
     let a = then_none (wants (place_of e) bool_sort (meaning sorting names e)) _ h in
     ap (λ g. then_on g (sort_fault_from n names (cs ++ rest))) a.0 ∙ goes_on n names cs rest a.1
+goes_on n names (minimize at t ∷ cs) rest h =
+    let a = then_none (wants (place_of t) real_sort (meaning sorting names t)) _ h in
+    ap (λ g. then_on g (sort_fault_from n names (cs ++ rest))) a.0 ∙ goes_on n names cs rest a.1
 goes_on n names (check at ∷ cs) rest e = goes_on n names cs rest e
 goes_on n names (ineffective at ∷ cs) rest e = goes_on n names cs rest e
 
@@ -68,6 +71,9 @@ front n names (define at f params s body ∷ cs) rest e =
     ap (λ g. then_on g later) d.0 ∙ front n ((f, signature params s) ∷ names) cs rest d.1
 front n names (claim at e ∷ cs) rest h =
     let a = then_none (wants (place_of e) bool_sort (meaning sorting names e)) _ h in
+    ap (λ g. then_on g (sort_fault_from n names cs)) a.0 ∙ front n names cs rest a.1
+front n names (minimize at t ∷ cs) rest h =
+    let a = then_none (wants (place_of t) real_sort (meaning sorting names t)) _ h in
     ap (λ g. then_on g (sort_fault_from n names cs)) a.0 ∙ front n names cs rest a.1
 front n names (check at ∷ cs) rest e = front n names cs rest e
 front n names (ineffective at ∷ cs) rest e = front n names cs rest e
@@ -94,6 +100,9 @@ plain_fault cs outer (define at f params s body ∷ ds) e =
     ap (λ f. then_on f (course_fault_from (record { inner = cs ++ d ∷ []; outer = outer }) (map command ds))) (fault_first cs ds d e) ∙ plain_fault (cs ++ d ∷ []) outer ds (first_of cs ds d e)
 plain_fault cs outer (claim at x ∷ ds) e =
     let d = claim at x in
+    ap (λ f. then_on f (course_fault_from (record { inner = cs ++ d ∷ []; outer = outer }) (map command ds))) (fault_first cs ds d e) ∙ plain_fault (cs ++ d ∷ []) outer ds (first_of cs ds d e)
+plain_fault cs outer (minimize at t ∷ ds) e =
+    let d = minimize at t in
     ap (λ f. then_on f (course_fault_from (record { inner = cs ++ d ∷ []; outer = outer }) (map command ds))) (fault_first cs ds d e) ∙ plain_fault (cs ++ d ∷ []) outer ds (first_of cs ds d e)
 plain_fault cs outer (check at ∷ ds) e =
     ap (λ f. then_on f (course_fault_from (record { inner = cs; outer = outer }) (map command ds))) (fault_first cs ds (check at) e) ∙ plain_fault cs outer ds (skipped cs ds (check at) (λ n names. refl) e)
@@ -124,6 +133,7 @@ fresh_here : (n : ℕ) (names : Names Sorted) (c : Command) → sort_fault_from 
 fresh_here n names (declare at x s) e = fresh_name at x names (then_none (new_name at x names) _ e).0
 fresh_here n names (define at f params s body) e = fresh_name at f names (then_none (new_name at f names) _ e).0
 fresh_here n names (claim at e) h = tt
+fresh_here n names (minimize at t) h = tt
 fresh_here n names (check at) e = tt
 fresh_here n names (ineffective at) e = tt
 

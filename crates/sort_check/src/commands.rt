@@ -64,7 +64,7 @@ fn follow<'p, 'a>(
     }
 }
 
-// A command, which stays in force where it is a declaration, a definition or an assertion.
+// A command, which stays in force where it is a declaration, a definition, an assertion or a goal.
 fn add<'p, 'a>(
     alloc: Global,
     sexps: &'a Sexps,
@@ -129,7 +129,11 @@ fn step<'p, 'a>(
             Ok(count)
         }
         Command::Assert(_, body) => {
-            claimed(alloc, sexps, top, *body)?;
+            wanted_at_top(alloc, sexps, top, *body, Sort::Bool)?;
+            Ok(count)
+        }
+        Command::Minimize(_, body) => {
+            wanted_at_top(alloc, sexps, top, *body, Sort::Real)?;
             Ok(count)
         }
         Command::Check(_) => Ok(count),
@@ -178,17 +182,18 @@ fn are_new<'a>(parameters: &[Parameter<'a>], before: &mut Level<'a>) -> Result<(
     Ok(())
 }
 
-// The fault of what is asserted, which is to be Bool.
-fn claimed<'p, 'a>(
+// The fault of an expression that is to have a sort, where no local names stand around it.
+fn wanted_at_top<'p, 'a>(
     alloc: Global,
     sexps: &'a Sexps,
     top: &HashMap<&'a [u8], Known<'p, 'a>>,
     at: usize,
+    sort: Sort,
 ) -> Result<(), Stop<'a>>
-    ensures { FindsAmong top.now (wanted_sort sexps.now at Sort.Bool) result }
+    ensures { FindsAmong top.now (wanted_sort sexps.now at sort) result }
 {
     let locals = Locals::new(alloc);
-    wanted(alloc, sexps, top, &locals, at, Sort::Bool)
+    wanted(alloc, sexps, top, &locals, at, sort)
 }
 
 // The fault of an expression that is to have a sort.
