@@ -103,8 +103,9 @@ LEFT_OUT = set('get-proof get-unsat-core define-sort define-const define-fun-rec
                'declare-datatypes'.split())
 # What may follow the word of a command, as a pattern of the letters below.
 COMMANDS = {'set-logic': 's', 'declare-const': 's[sl]', 'declare-fun': 's[le][sl]', 'define-fun': 's[le][sl].', 'assert': '.',
-            'check-sat': '', 'check-sat-assuming': '[le]', 'push': 'n', 'pop': 'n', 'reset': '', 'reset-assertions': '',
-            'get-value': 'l', 'get-model': '', 'echo': 't', 'exit': '', 'set-info': '.*', 'set-option': '.*', 'get-info': '.*'}
+            'minimize': '.', 'check-sat': '', 'check-sat-assuming': '[le]', 'push': 'n', 'pop': 'n', 'reset': '',
+            'reset-assertions': '', 'get-value': 'l', 'get-model': '', 'echo': 't', 'exit': '', 'set-info': '.*', 'set-option': '.*',
+            'get-info': '.*'}
 LETTERS = {'symbol': 's', 'numeral': 'n', 'string': 't'}
 MOST = 1024  # axes and levels at once, and checks
 # What a command does: its word, its place and its arguments. `push` and `pop` have a number; an assumption is a level, with an
@@ -130,9 +131,9 @@ def is_literal(it):
 
 def steps_of(commands):
     """What the commands do, one step after the other: each has to be of its form, and within the limits of levels and checks."""
-    steps, has_logic, levels, checks = [], False, 0, 0
+    steps, has_logic, has_goal, levels, checks = [], False, False, 0, 0
     for command in commands:
-        fault = command_fault(command, has_logic, levels)
+        fault = command_fault(command, has_logic, has_goal, levels)
         if fault:
             raise ScriptFault(fault, command.at)
         word, at, rest = command.value[0].value, command.at, command.value[1:]
@@ -152,14 +153,22 @@ def steps_of(commands):
         else:
             steps.append(Step(word, at, rest))
         has_logic = has_logic and word != 'reset' or word == 'set-logic'
+        has_goal = has_goal or word == 'minimize'
         levels = 0 if word in ('reset', 'reset-assertions') else levels
     if not checks:
         raise ScriptFault('NoCheck', None)
     return steps
 
 
-def command_fault(command, has_logic, levels):
-    """The name of the fault of a command's form, or None, where a logic is set or not and so many levels are open."""
+def goal_claim(at, term):
+    """A goal as an assertion that holds at each point, in which its term is that of an atom."""
+    bound = Expression('list', [Expression('symbol', '<=', at), term, Expression('numeral', Fraction(0), at)], at)
+    return Expression('list', [Expression('symbol', 'or', at), bound, Expression('symbol', 'true', at)], at)
+
+
+def command_fault(command, has_logic, has_goal, levels):
+    """The name of the fault of a command's form, or None, where a logic is set or not, a goal or not, and so many levels are
+    open."""
     if command.kind != 'list' or letters(command.value[:1]) != 's':
         return 'BadCommand'
     name, rest = command.value[0].value, command.value[1:]
@@ -169,6 +178,8 @@ def command_fault(command, has_logic, levels):
         return 'BadCommand'
     if name == 'set-logic':
         return 'BadCommand' if has_logic else None if rest[0].value in ('QF_NRA', 'QF_LRA') else 'WrongLogic'
+    if name == 'minimize' and has_goal:
+        return 'LeftOut'
     if name == 'pop' and rest[0].value > levels or name == 'check-sat-assuming' and not all(map(is_literal, rest[0].value)):
         return 'BadCommand'
     inner = rest[1].value if name in ('declare-fun', 'define-fun') else []
@@ -233,7 +244,7 @@ class Names:
 
     def take(self, word, at, arguments):
         """Takes a command that is checked for names and sorts."""
-        self.count += word in ('declare-const', 'declare-fun', 'define-fun', 'assert')
+        self.count += word in ('declare-const', 'declare-fun', 'define-fun', 'assert', 'minimize')
         if word in ('declare-const', 'declare-fun'):
             name, sort = arguments[0].value, arguments[-1].value
             self.check_new(name, self.named, at)
@@ -250,6 +261,9 @@ class Names:
         elif word == 'assert':
             self.check_sort(arguments[0], {}, 'Bool')
             self.assertions.append((at, arguments[0]))
+        elif word == 'minimize':
+            self.check_sort(arguments[0], {}, 'Real')
+            self.assertions.append((at, goal_claim(at, arguments[0])))
         elif word == 'get-value':
             for term in arguments[0].value:
                 self.sort(term, {})
