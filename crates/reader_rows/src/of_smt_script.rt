@@ -85,7 +85,6 @@ fn reads_commands(rt: HostRuntime) {
         ("(let x)", bad(1, 1)),
         ("(foo)", bad(1, 1)),
         ("(declare-sort A 0)", bad(1, 1)),
-        ("(minimize x)", bad(1, 1)),
         ("(get-proof)\n(check-sat)", left_out(1, 1)),
         ("(define-fun-rec f)", left_out(1, 1)),
         ("", no_check()),
@@ -193,6 +192,30 @@ fn reads_assumptions_and_values(rt: HostRuntime) {
         ("(echo \"a\") (get-info :name) (check-sat)", Ok(3)),
         ("(echo a)", bad(1, 1)),
         ("(echo)", bad(1, 1)),
+    ];
+    for (text, expected) in rows {
+        assert_eq!(rt; count(rt.alloc(), text.as_bytes()), expected, "{text}");
+    }
+}
+
+// One goal at most, at whatever level, also where the first one is no longer in force.
+#[test]
+fn reads_a_goal(rt: HostRuntime) {
+    let rows = [
+        ("(minimize (+ x 1)) (check-sat)", Ok(2)),
+        ("(check-sat) (push 1) (minimize x) (pop 1)", Ok(4)),
+        ("(|minimize| x) (check-sat)", Ok(2)),
+        ("(minimize)", bad(1, 1)),
+        ("(minimize x y)", bad(1, 1)),
+        ("(maximize x)", bad(1, 1)),
+        ("(minimize x)", no_check()),
+        ("(minimize x)\n(minimize x)\n(check-sat)", left_out(2, 1)),
+        ("(minimize x)\n(minimize)\n(check-sat)", bad(2, 1)),
+        (
+            "(push 1) (minimize x) (pop 1)\n(minimize y)",
+            left_out(2, 1),
+        ),
+        ("(minimize x) (reset)\n(minimize y)", left_out(2, 1)),
     ];
     for (text, expected) in rows {
         assert_eq!(rt; count(rt.alloc(), text.as_bytes()), expected, "{text}");

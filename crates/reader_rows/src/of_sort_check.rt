@@ -136,6 +136,34 @@ fn finds_the_first_fault(rt: HostRuntime) {
     }
 }
 
+// The term of a goal is Real.
+#[test]
+fn sorts_a_goal(rt: HostRuntime) {
+    let rows = [
+        (
+            "(declare-const x Real)\n(minimize (* x x))\n(check-sat)",
+            Ok(3),
+        ),
+        (
+            "(declare-const p Bool)\n(minimize (ite p 1 2))\n(check-sat)",
+            Ok(3),
+        ),
+        (
+            "(declare-const p Bool)\n(minimize p)\n(check-sat)",
+            mismatch(2, 11),
+        ),
+        ("(minimize (<= 0 1))\n(check-sat)", mismatch(1, 11)),
+        ("(minimize x)\n(check-sat)", unknown(1, 11)),
+        (
+            "(push 1)\n(declare-const x Real)\n(pop 1)\n(minimize (+ 1 x))\n(check-sat)",
+            unknown(4, 16),
+        ),
+    ];
+    for (text, expected) in rows {
+        assert_eq!(rt; count(rt.alloc(), text.as_bytes()), expected, "{text}");
+    }
+}
+
 #[test]
 fn sees_what_is_in_force(rt: HostRuntime) {
     let rows = [
