@@ -3,7 +3,7 @@ use Rattle.std.proofs.Common.{◌≡◌, ℕ, zero, suc, List, [], ◌∷◌, �
 use Rattle.std.specs.Prelude.{decimal}
 use Rattle.dyadic.specs.Point.{real_sort}
 use Rattle.script_model.specs.Sexp.{Place}
-use Rattle.script_model.specs.Script.{Command, claim}
+use Rattle.script_model.specs.Script.{Command}
 use Rattle.script_model.specs.Reading.{Names, value}
 use Rattle.smt_script.specs.Levels.{Asked, command, asked_from}
 use Rattle.smt_script.specs.Commands.{Before, steps, steps_from, joined, says, one_step}
