@@ -8,7 +8,8 @@ use smt_script::{Command, Step, commands};
 use smt_sexp::read;
 use std::alloc::{AllocError, Global};
 
-// The places of the assertions that are in force, in order, and how many there were as each open level was opened.
+// The places of the assertions that are in force, goals among them, in order, and how many there were as each open level
+// was opened.
 #[derive(Drop)]
 struct InForce {
     places: Vec<Place>,
@@ -19,6 +20,7 @@ impl InForce {
     fn take(&mut self, step: &Step<'_>) -> Result<(), AllocError> {
         match step {
             Step::Command(Command::Assert(place, _)) => self.places.push(*place)?,
+            Step::Command(Command::Minimize(place, _)) => self.places.push(*place)?,
             Step::Command(_) | Step::Values(_, _) => {}
             Step::Push(_, count) => self.open(*count)?,
             Step::Pop(_, count) => self.close(*count),
