@@ -4,7 +4,7 @@ use Rattle.std.proofs.lemmas.Bool.{ltb-true}
 use Rattle.std.proofs.lemmas.List.{length-map}
 use Rattle.script_model.specs.Sexp.{Place}
 use Rattle.script_model.specs.Reading.{Names, value}
-use Rattle.script_model.specs.Script.{Command, declare, define, claim, check, ineffective, constants_of, sorts_of, sort_of_constant}
+use Rattle.script_model.specs.Script.{Command, declare, define, claim, minimize, check, ineffective, constants_of, sorts_of, sort_of_constant}
 use Rattle.sort_check.specs.Sorts.{Sorted, of_sort, Finding, too_many_axes, then_on, new_name, room_for, signature, sort_fault_from, sort_fault}
 use Rattle.problem_build.proofs.Standing.{sorts_more}
 
@@ -30,6 +30,7 @@ few-from n names (declare at x s ∷ rest) h e =
 few-from n names (define at f params s body ∷ rest) h e =
     few-from n ((f, signature params s) ∷ names) rest h (then-none _ _ (then-none _ _ (then-none (new_name at f names) _ e).1).1).1
 few-from n names (claim at e' ∷ rest) h e = few-from n names rest h (then-none _ _ e).1
+few-from n names (minimize at t ∷ rest) h e = few-from n names rest h (then-none _ _ e).1
 few-from n names (check at ∷ rest) h e = few-from n names rest h e
 few-from n names (ineffective at ∷ rest) h e = few-from n names rest h e
 

@@ -12,6 +12,7 @@ use Rattle.std.specs.Borrow.{Bor}
 use Rattle.smt_sexp.specs.declared.sexps.Sexps as arena
 use Rattle.script_fault.specs.declared.place.Place as code_place
 use Rattle.script_fault.specs.declared.name.Name as names
+use Rattle.smt_sexp.specs.Views.{place_of}
 use Rattle.smt_script.specs.Views.{command_of}
 use Rattle.smt_script.specs.declared.command.Sort as code_sort
 use Rattle.smt_script.specs.declared.command.Command as code_command
@@ -42,6 +43,7 @@ use Rattle.declared_box.specs.Same.{SameBounds}
 use Rattle.declared_box.specs.Table.{all_of, AreBefore}
 use Rattle.declared_box.proofs.Same.{same_bounds_append}
 use Rattle.value_build.specs.Making.{Making}
+use Rattle.problem_build.specs.Goal.{places_seen}
 use Rattle.problem_build.specs.Laws.{IsProblemMade, parts_made}
 use Rattle.problem_build.specs.Roots.{AreFormsOf, Roots}
 use Rattle.problem_build.specs.Standing.{AreClaims, boundings, IsDone}
@@ -57,6 +59,7 @@ use Rattle.declared_box.specs.declared.axes.Constant as code_constant
 use Rattle.script_reading.specs.Faults.{in_building}
 use Rattle.script_reading.specs.Reader.{IsInWalkOrder, trees_made}
 use Rattle.problem_build.proofs.Parts.{parts_problem}
+use Rattle.problem_build.proofs.Standing.{places_both}
 
 -- ---- forms and lists
 
@@ -238,15 +241,14 @@ module _ (s : arena.Sexps) (x : code_command.Command) (rest : List Command) wher
       go (commands.Declare at name sort) h = absurd (h at name sort refl)
       go (commands.Define at name params sort body) h = refl
       go (commands.Assert at body) h = refl
+      go (commands.Minimize at body) h = refl
       go (commands.Check at) h = refl
       go (commands.Ineffective at) h = refl
 
-  pub not_claimed : (last : Place) → ((at : code_place.Place) (body : ℕ) → x ≡ commands.Assert at body → ⊥) → last_place last (claim_places (command_of s x ∷ rest)) ≡ last_place last (claim_places rest)
-  not_claimed last h = go x h
-    where
-      go : (y : code_command.Command) → ((at : code_place.Place) (body : ℕ) → y ≡ commands.Assert at body → ⊥) → last_place last (claim_places (command_of s y ∷ rest)) ≡ last_place last (claim_places rest)
-      go (commands.Declare at name sort) h = refl
-      go (commands.Define at name params sort body) h = refl
-      go (commands.Assert at body) h = absurd (h at body refl)
-      go (commands.Check at) h = refl
-      go (commands.Ineffective at) h = refl
+  -- the place of the command, where it asserts or has a goal
+  pub claimed_here : (place : code_place.Place) → places_seen (Some place) ≡ claim_places (command_of s x ∷ []) → (last : Place) →
+      last_place last (claim_places (command_of s x ∷ rest)) ≡ last_place (place_of place) (claim_places rest)
+  claimed_here place e last = ap (last_place last) (places_both (command_of s x ∷ []) rest ∙ ap (λ ps. ps ++ claim_places rest) (sym e))
+
+  pub claimed_nowhere : places_seen None ≡ claim_places (command_of s x ∷ []) → (last : Place) → last_place last (claim_places (command_of s x ∷ rest)) ≡ last_place last (claim_places rest)
+  claimed_nowhere e last = ap (last_place last) (places_both (command_of s x ∷ []) rest ∙ ap (λ ps. ps ++ claim_places rest) (sym e))

@@ -3,10 +3,12 @@ pub mod Changed
 pub mod Faults
 pub mod Few
 pub mod Finishing
+pub mod GoalAtom
 pub mod Going
 pub mod Lookups
 pub mod Nearest
 pub mod One
+pub mod Operands
 pub mod Parts
 pub mod Past
 pub mod Reached

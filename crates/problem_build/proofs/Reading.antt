@@ -113,15 +113,16 @@ whole_built bound cs sorted p w l n g built = record {
 module _ (bound : Option ℕ) (text : List ℕ) (es : List Sexp) (course typed : Course) (only : Script) (few : length text ≤ most_bytes) (whole_is : read text ≡ whole es)
     (commands_are : steps_of es ≡ steps (steps_in course)) (same : typed ≡ course) (sorted : course_fault (steps_in course) ≡ None)
     (only_is : only_script (checks_of (steps_in typed)) ≡ Some (commands_in only)) (only_sorted : sort_fault (commands_in only) ≡ None) where
+  pub script_is : commands_in only ≡ reader.commands_of text
+  script_is = sym (commands-are text es (steps_in course) (commands_in only) whole_is commands_are (ap (λ (t : Course). only_script (checks_of (steps_in t))) (sym same) ∙ only_is))
+
   pub problem_had : (p : Parts) → IsWhole p → IsLean p → IsInWalkOrder (commands_in only) p.nodes → All (λ (a : Axis). AreLowest a.declared) p.axes →
       (building_fault bound (commands_in only) ≡ None) × IsProblemOf bound (commands_in only) (problem_of p) → HasProblem bound (problem_of p) text
   problem_had p w l n g built =
       let cs : List Command = commands_in only in
-      let only_of : only_script (checks_of (steps_in course)) ≡ Some cs = ap (λ (t : Course). only_script (checks_of (steps_in t))) (sym same) ∙ only_is in
-      let are : cs ≡ reader.commands_of text = sym (commands-are text es (steps_in course) cs whole_is commands_are only_of) in
       record {
         clean = in_asked (in_checks bound) text Memory few es whole_is course commands_are typed same sorted ∙ in_only bound (checks_of (steps_in typed)) cs only_is ∙ ap in_building built.0;
-        built = subst (λ (c : List Command). IsBuiltOf bound c (problem_of p)) are (whole_built bound cs only_sorted p w l n g built.1);
+        built = subst (λ (c : List Command). IsBuiltOf bound c (problem_of p)) script_is (whole_built bound cs only_sorted p w l n g built.1);
       }
 
 -- ---- a script with any number of checks

@@ -5,7 +5,7 @@ use Rattle.std.specs.Borrow.{Bor}
 use Rattle.dyadic.specs.Point.{Sort, real_sort, bool_sort}
 use Rattle.script_model.specs.Sexp.{Place, Sexp}
 use Rattle.script_model.specs.Reading.{unknown, Meanings, Named, value, meaning}
-use Rattle.script_model.specs.Script.{Command, Parameter, declare, define, claim, check, ineffective, defined, claims, sorts_of}
+use Rattle.script_model.specs.Script.{Command, Parameter, declare, define, claim, minimize, goal_claim, check, ineffective, defined, claims, sorts_of}
 use Rattle.script_model.specs.Declared.{Bounding, bounding, constant_bounding, numbered}
 use Rattle.poly_graph.specs.Problem.{HasSort}
 use Rattle.poly_graph.specs.Form.{form_atoms, form_map}
@@ -32,7 +32,8 @@ use Rattle.value_build.specs.Marks.{with_sort}
 use Rattle.value_build.specs.Values.{IsValue, IsClaim, IsClaimed, Claims}
 use Rattle.value_build.specs.declared.value.Value.{Value}
 use Rattle.value_build.proofs.Growth.{lists_self, lists_stay, lists_on}
-use Rattle.problem_build.specs.Names.{known_of, entry_of, top_names, work_names, bound_names_of, KnownFits, TopFits}
+use Rattle.problem_build.specs.Names.{known_of, entry_of, top_names, work_names, bound_names_of, work_at, bounding_at, KnownFits, TopFits}
+use Rattle.problem_build.specs.Goal.{goal_meaning}
 use Rattle.problem_build.specs.Standing.{IsAsserted, Asserts, AreClaims, left_works, left_bounds, boundings, walk_of, IsTopOf, IsNamed, IsDone, Adds}
 use Rattle.problem_build.specs.Walking.{Fails, IsWorkValue}
 use Rattle.problem_build.proofs.Steps.{fails_on}
@@ -133,6 +134,7 @@ sorts_more [] rest = refl
 sorts_more (declare at x sort ∷ script) rest = ap (λ ss. sort ∷ ss) (sorts_more script rest)
 sorts_more (define at f params sort body ∷ script) rest = sorts_more script rest
 sorts_more (claim at e ∷ script) rest = sorts_more script rest
+sorts_more (minimize at t ∷ script) rest = sorts_more script rest
 sorts_more (check at ∷ script) rest = sorts_more script rest
 sorts_more (ineffective at ∷ script) rest = sorts_more script rest
 
@@ -216,46 +218,34 @@ module _ (s : arena.Sexps) (script : List Command) (top : List Top) (h : IsTopOf
             counted = counted;
           }
 
-  -- an assertion, a check and what has no effect bind none
+  -- an assertion, a goal, a check and what has no effect bind none
   module _ (axis : ℕ) (here : length (sorts_of script) ≡ axis) where
-    pub top_claimed : (at : Place) (e : Sexp) → IsNamed s (script ++ (claim at e ∷ [])) top axis
-    top_claimed at e =
-        let c : Command = claim at e in
-        let counted : length (sorts_of (script ++ (c ∷ []))) ≡ axis = ap length (sorts_more script (c ∷ [])) ∙ omega (arith, here, length-append (sorts_of script) []) in
+    top-behind : (c : Command) (ws : List Work) (bs : List Bounding) → sorts_of (c ∷ []) ≡ [] → ((rest : List Command) → left_works s top axis (c ∷ rest) ≡ ws ++ left_works s top axis rest) →
+        ((rest : List Command) → left_bounds s top axis (c ∷ rest) ≡ bs ++ left_bounds s top axis rest) → IsNamed s (script ++ (c ∷ [])) top axis
+    top-behind c ws bs none works bounds =
+        let counted : length (sorts_of (script ++ (c ∷ []))) ≡ axis =
+        ap length (sorts_more script (c ∷ []) ∙ ap (λ ss. sorts_of script ++ ss) none ∙ append-nil (sorts_of script)) ∙ here in
         record {
           names = record {
-            works = (works-behind s script c top top h axis counted (meaning as_work (work_names s top (length top)) e ∷ []) (λ rest. ap (λ n. left_works s top n (c ∷ rest)) here)).1;
-            bounds = (bounds-behind s script c top top h axis counted (meaning bounding (bound_names_of s top (length top)) e ∷ []) (λ rest. ap (λ n. left_bounds s top n (c ∷ rest)) here)).1;
+            works = (works-behind s script c top top h axis counted ws (λ rest. ap (λ n. left_works s top n (c ∷ rest)) here ∙ works rest)).1;
+            bounds = (bounds-behind s script c top top h axis counted bs (λ rest. ap (λ n. left_bounds s top n (c ∷ rest)) here ∙ bounds rest)).1;
             fits = fits-behind s script c top top h;
           };
           counted = counted;
         }
+
+    pub top_claimed : (at : Place) (e : Sexp) → IsNamed s (script ++ (claim at e ∷ [])) top axis
+    top_claimed at e = top-behind (claim at e) (meaning as_work (work_names s top (length top)) e ∷ []) (meaning bounding (bound_names_of s top (length top)) e ∷ []) refl (λ rest. refl) (λ rest. refl)
+
+    pub top_minimized : (at : Place) (t : Sexp) → IsNamed s (script ++ (minimize at t ∷ [])) top axis
+    top_minimized at t = top-behind (minimize at t) (meaning as_work (work_names s top (length top)) (goal_claim at t) ∷ [])
+        (meaning bounding (bound_names_of s top (length top)) (goal_claim at t) ∷ []) refl (λ rest. refl) (λ rest. refl)
 
     pub top_checked : (at : Place) → IsNamed s (script ++ (check at ∷ [])) top axis
-    top_checked at =
-        let c : Command = check at in
-        let counted : length (sorts_of (script ++ (c ∷ []))) ≡ axis = ap length (sorts_more script (c ∷ [])) ∙ omega (arith, here, length-append (sorts_of script) []) in
-        record {
-          names = record {
-            works = (works-behind s script c top top h axis counted [] (λ rest. ap (λ n. left_works s top n (c ∷ rest)) here)).1;
-            bounds = (bounds-behind s script c top top h axis counted [] (λ rest. ap (λ n. left_bounds s top n (c ∷ rest)) here)).1;
-            fits = fits-behind s script c top top h;
-          };
-          counted = counted;
-        }
+    top_checked at = top-behind (check at) [] [] refl (λ rest. refl) (λ rest. refl)
 
     pub top_same : (at : Place) → IsNamed s (script ++ (ineffective at ∷ [])) top axis
-    top_same at =
-        let c : Command = ineffective at in
-        let counted : length (sorts_of (script ++ (c ∷ []))) ≡ axis = ap length (sorts_more script (c ∷ [])) ∙ omega (arith, here, length-append (sorts_of script) []) in
-        record {
-          names = record {
-            works = (works-behind s script c top top h axis counted [] (λ rest. ap (λ n. left_works s top n (c ∷ rest)) here)).1;
-            bounds = (bounds-behind s script c top top h axis counted [] (λ rest. ap (λ n. left_bounds s top n (c ∷ rest)) here)).1;
-            fits = fits-behind s script c top top h;
-          };
-          counted = counted;
-        }
+    top_same at = top-behind (ineffective at) [] [] refl (λ rest. refl) (λ rest. refl)
 
 -- ---- the walk over some commands, and then over others
 
@@ -265,16 +255,18 @@ claims-many M names [] (declare at x sort ∷ rest) = claims-many M ((x, value (
 claims-many M names (v ∷ vs) (declare at x sort ∷ rest) = claims-many M ((x, value v) ∷ names) vs rest
 claims-many M names vs (define at f params sort body ∷ rest) = claims-many M ((f, defined M names params body) ∷ names) vs rest
 claims-many M names vs (claim at e ∷ rest) = ap suc (claims-many M names vs rest)
+claims-many M names vs (minimize at t ∷ rest) = ap suc (claims-many M names vs rest)
 claims-many M names vs (check at ∷ rest) = claims-many M names vs rest
 claims-many M names vs (ineffective at ∷ rest) = claims-many M names vs rest
 
-places-both : (script rest : List Command) → claim_places (script ++ rest) ≡ claim_places script ++ claim_places rest
-places-both [] rest = refl
-places-both (declare at x sort ∷ script) rest = places-both script rest
-places-both (define at f params sort body ∷ script) rest = places-both script rest
-places-both (claim at e ∷ script) rest = ap (λ ps. at ∷ ps) (places-both script rest)
-places-both (check at ∷ script) rest = places-both script rest
-places-both (ineffective at ∷ script) rest = places-both script rest
+pub places_both : (script rest : List Command) → claim_places (script ++ rest) ≡ claim_places script ++ claim_places rest
+places_both [] rest = refl
+places_both (declare at x sort ∷ script) rest = places_both script rest
+places_both (define at f params sort body ∷ script) rest = places_both script rest
+places_both (claim at e ∷ script) rest = ap (λ ps. at ∷ ps) (places_both script rest)
+places_both (minimize at t ∷ script) rest = ap (λ ps. at ∷ ps) (places_both script rest)
+places_both (check at ∷ script) rest = places_both script rest
+places_both (ineffective at ∷ script) rest = places_both script rest
 
 goes-both : (w : Walked) (f g h : Stand → Walked) → ((s : Stand) → f s ≡ goes_on h (g s)) → goes_on f w ≡ goes_on h (goes_on g w)
 goes-both (stands s) f g h e = e s
@@ -291,10 +283,24 @@ walk-both s (at ∷ places) later [] more e = absurd (omega (arith, e))
 
 -- ---- one command more is made
 
+-- the command asserts: its place, its work and its bounds, where these names of the top are seen
+pub record AssertsHere (s : arena.Sexps) (top : List Top) (at : Place) (x : Command) (w : Work) (b : Bounding) : Type 0 where
+  pub places : (rest : List Command) → claim_places (x ∷ rest) ≡ at ∷ claim_places rest
+  pub works : (n : ℕ) (rest : List Command) → left_works s top n (x ∷ rest) ≡ w ∷ left_works s top n rest
+  pub bounds : (n : ℕ) (rest : List Command) → left_bounds s top n (x ∷ rest) ≡ b ∷ left_bounds s top n rest
+  pub sorts : sorts_of (x ∷ []) ≡ []
+
+pub claim_here : (s : arena.Sexps) (top : List Top) (at : Place) (body : ℕ) → AssertsHere s top at (claim at (expression_at s body)) (work_at s top body) (bounding_at s top body)
+claim_here s top at body = record { places = λ rest. refl; works = λ n rest. refl; bounds = λ n rest. refl; sorts = refl }
+
+pub goal_here : (s : arena.Sexps) (top : List Top) (at : Place) (body : ℕ) →
+    AssertsHere s top at (minimize at (expression_at s body)) (goal_meaning as_work at (work_at s top body)) (goal_meaning bounding at (bounding_at s top body))
+goal_here s top at body = record { places = λ rest. refl; works = λ n rest. refl; bounds = λ n rest. refl; sorts = refl }
+
 module _ (s : arena.Sexps) (script : List Command) (m : Making) (top : List Top) (made : List (ℕ × ℕ)) (h : IsTopOf s script top) (d : IsDone script m made) where
   walk-behind : (rest : List Command) → walk_of (script ++ rest) ≡ after_assertions (stand_of m.made) (claim_places rest) (left_works s top (length (sorts_of script)) rest)
   walk-behind rest =
-      ap₂ (after_assertions nothing_made) (places-both script rest) (h.works rest) ∙
+      ap₂ (after_assertions nothing_made) (places_both script rest) (h.works rest) ∙
       walk-both nothing_made (claim_places script) (claim_places rest) (works script) (left_works s top (length (sorts_of script)) rest) (claims-many as_work [] (numbered constant_work 0 (sorts_of script)) script) ∙
       ap (goes_on (λ s'. after_assertions s' (claim_places rest) (left_works s top (length (sorts_of script)) rest))) d.walk
 
@@ -326,25 +332,24 @@ module _ (s : arena.Sexps) (script : List Command) (m : Making) (top : List Top)
   pub made_ineffective : (at : Place) → IsDone (script ++ (ineffective at ∷ [])) m made
   made_ineffective at = made_same (ineffective at) (λ n. refl) (λ n. refl) m refl (extends_self (stand_of m.made)) refl (lists_self m.bounds) (sym (append-nil m.made.sorts))
 
-  module _ (at : Place) (e : Sexp) where
-    abbrev work : Work
-    work = meaning as_work (work_names s top (length top)) e
+  module _ (at : Place) (x : Command) (work : Work) (bound : Bounding) (a : AssertsHere s top at x work bound) where
+    walk-asserts : (rest : List Command) → walk_of (script ++ (x ∷ rest)) ≡ after_assertions (stand_of m.made) (at ∷ claim_places rest) (work ∷ left_works s top (length (sorts_of script)) rest)
+    walk-asserts rest = walk-behind (x ∷ rest) ∙ ap₂ (after_assertions (stand_of m.made)) (a.places rest) (a.works (length (sorts_of script)) rest)
 
-    abbrev bound : Bounding
-    bound = meaning bounding (bound_names_of s top (length top)) e
-
-    pub made_claimed : (m1 : Making) (c : ℕ × ℕ) → Asserts m m1 work bound (Ok c) → m1.made.sorts ≡ m.made.sorts → IsDone (script ++ (claim at e ∷ [])) m1 (made ++ (c ∷ []))
-    made_claimed m1 c a sorts = record {
-      walk = walk-behind (claim at e ∷ []) ∙ ap (goes_on (λ s'. after_assertions s' [] [])) (a.0 at);
-      claims = subst (λ (ws : List Work). AreClaims m1 (map outcome_of ws) (boundings (script ++ (claim at e ∷ []))) (made ++ (c ∷ []))) (sym (h.works (claim at e ∷ [])))
-          (subst (λ (bs : List Bounding). AreClaims m1 (map outcome_of (works script ++ (work ∷ []))) bs (made ++ (c ∷ []))) (sym (h.bounds (claim at e ∷ [])))
-          (claims-last m1 work bound c a.1.claim (works script) (boundings script) made (claims_stay m m1 a.1.stand a.1.lists (map outcome_of (works script)) (boundings script) made d.claims)));
-      sorts = sorts ∙ d.sorts ∙ sym (append-nil (sorts_of script)) ∙ sym (sorts_more script (claim at e ∷ []));
+    pub made_claimed : (m1 : Making) (c : ℕ × ℕ) → Asserts m m1 work bound (Ok c) → m1.made.sorts ≡ m.made.sorts → IsDone (script ++ (x ∷ [])) m1 (made ++ (c ∷ []))
+    made_claimed m1 c r sorts = record {
+      walk = walk-asserts [] ∙ ap (goes_on (λ s'. after_assertions s' [] [])) (r.0 at);
+      claims = subst (λ (ws : List Work). AreClaims m1 (map outcome_of ws) (boundings (script ++ (x ∷ []))) (made ++ (c ∷ [])))
+          (sym (h.works (x ∷ []) ∙ ap (λ ws. works script ++ ws) (a.works (length (sorts_of script)) [])))
+          (subst (λ (bs : List Bounding). AreClaims m1 (map outcome_of (works script ++ (work ∷ []))) bs (made ++ (c ∷ [])))
+          (sym (h.bounds (x ∷ []) ∙ ap (λ bs. boundings script ++ bs) (a.bounds (length (sorts_of script)) [])))
+          (claims-last m1 work bound c r.1.claim (works script) (boundings script) made (claims_stay m m1 r.1.stand r.1.lists (map outcome_of (works script)) (boundings script) made d.claims)));
+      sorts = sorts ∙ d.sorts ∙ sym (append-nil (sorts_of script)) ∙ ap (λ ss. sorts_of script ++ ss) (sym a.sorts) ∙ sym (sorts_more script (x ∷ []));
     }
 
-    pub stopped : (rest : List Command) (m1 : Making) (stop : Stop) → Asserts m m1 work bound (Err stop) → StopsAs at (walk_of (script ++ (claim at e ∷ rest))) stop
-    stopped rest m1 stop a = stops_so at (walk_of (script ++ (claim at e ∷ rest))) _ stop (walk-behind (claim at e ∷ rest))
-        (stopped_on at (after_events at (stand_of m.made) (assertion_events work)) (λ s'. after_assertions s' (claim_places rest) (left_works s top (length (sorts_of script)) rest)) stop (a at))
+    pub stopped : (rest : List Command) (m1 : Making) (stop : Stop) → Asserts m m1 work bound (Err stop) → StopsAs at (walk_of (script ++ (x ∷ rest))) stop
+    stopped rest m1 stop r = stops_so at (walk_of (script ++ (x ∷ rest))) _ stop (walk-asserts rest)
+        (stopped_on at (after_events at (stand_of m.made) (assertion_events work)) (λ s'. after_assertions s' (claim_places rest) (left_works s top (length (sorts_of script)) rest)) stop (r at))
 
 -- ---- what was made stays
 

@@ -1,3 +1,4 @@
+pub mod Goal
 pub mod Laws
 pub mod Locals
 pub mod Names

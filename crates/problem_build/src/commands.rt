@@ -6,6 +6,7 @@ ghost use Rattle.problem_build.specs.Names.{TopFits, bounding_at, work_at};
 ghost use Rattle.problem_build.specs.Standing.{Asserts, IsDone, IsTopOf, Makes};
 
 use crate::fault::building_error;
+use crate::goal::goal_claim;
 use crate::top::TopTable;
 use crate::walk::expression;
 use script_fault::ReadError;
@@ -33,8 +34,8 @@ fn assertion<'p, 'a>(
     maker.claim(alloc, value)
 }
 
-/// Makes what a command adds, behind commands that bind these names: a constant, or the form of an assertion and the list of
-/// its bounds.
+/// Makes what a command adds, behind commands that bind these names: a constant, or the form of an assertion or of a goal,
+/// with the list of its bounds.
 pub(crate) fn make<'p, 'a>(
     alloc: Global,
     sexps: &'a Sexps,
@@ -56,6 +57,15 @@ pub(crate) fn make<'p, 'a>(
         }
         Command::Assert(place, body) => {
             match assertion(alloc, sexps, top, maker, *body) {
+                Ok(made) => {
+                    claims.push(made)?;
+                    Ok(())
+                }
+                Err(stop) => Err(building_error(*place, stop)),
+            }
+        }
+        Command::Minimize(place, body) => {
+            match goal_claim(alloc, sexps, top, maker, *place, *body) {
                 Ok(made) => {
                     claims.push(made)?;
                     Ok(())

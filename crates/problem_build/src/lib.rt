@@ -13,6 +13,8 @@ mod commands;
 mod expressions;
 mod fault;
 mod frames;
+mod goal;
+mod goal_atom;
 mod lets;
 mod locals;
 mod named;
@@ -24,7 +26,8 @@ mod session;
 mod top;
 mod walk;
 
-pub use reader::{Reader, read_problem, read_session};
+pub use goal_atom::goal_of;
+pub use reader::{Reader, read_goal, read_problem, read_session};
 pub use script::build;
 pub use session::build_all;
 

@@ -53,6 +53,7 @@ impl<'p, 'a> Named<'p, 'a> {
                 Ok(())
             }
             Command::Assert(_, _) => Ok(()),
+            Command::Minimize(_, _) => Ok(()),
             Command::Check(_) => Ok(()),
             Command::Ineffective(_) => Ok(()),
         }

@@ -1,13 +1,15 @@
 // The reader as one call: its phases, one after the other.
-ghost use Rattle.std.specs.Prelude.{MatchResult};
+ghost use Rattle.std.specs.Prelude.{◌≡◌, MatchResult};
 ghost use Rattle.poly_graph.specs.ProblemViews.{problem_of};
 ghost use Rattle.script_fault.specs.Answers.{IsFaultOrMemory};
+ghost use Rattle.script_forms.specs.Atoms.{goal_atom};
 ghost use Rattle.problem_session.specs.Session.{problems_of};
 ghost use Rattle.script_reading.specs.Faults.{script_fault, session_fault};
-ghost use Rattle.script_reading.specs.Reader.{HasProblem};
+ghost use Rattle.script_reading.specs.Reader.{HasProblem, commands_of};
 ghost use Rattle.script_reading.specs.Session.{HasSession};
 
-use crate::{build, build_all};
+use crate::script::build_script;
+use crate::{build_all, goal_of};
 use poly_graph::Problem;
 use problem_session::Session;
 use script_fault::ReadError;
@@ -28,14 +30,34 @@ pub fn read_problem(alloc: Global, bytes: &[u8], bound: Option<u32>) -> Result<P
         (λ p. HasProblem bound (problem_of p) bytes.now)
         (λ e. IsFaultOrMemory e (script_fault bound bytes.now)) }
 {
+    let (problem, _) = read_goal(alloc, bytes, bound)?;
+    Ok(problem)
+}
+
+/// The same, with the number of the atom whose term is the script's goal: none where it has no goal, and where its goal
+/// holds a Real `ite`.
+///
+/// # Errors
+///
+/// Those of `read_problem`.
+pub fn read_goal(
+    alloc: Global,
+    bytes: &[u8],
+    bound: Option<u32>,
+) -> Result<(Problem, Option<u32>), ReadError>
+    ensures { MatchResult result
+        (λ r. HasProblem bound (problem_of r.0) bytes.now × (r.1 ≡ goal_atom (commands_of bytes.now)))
+        (λ e. IsFaultOrMemory e (script_fault bound bytes.now)) }
+{
     let sexps = read(alloc, bytes)?;
     let course = commands(alloc, &sexps)?;
     let typed = check(alloc, course)?;
     let only = single(alloc, typed)?;
-    let problem = build(alloc, only, bound)?;
+    let problem = build_script(alloc, &only.script, bound)?;
     // Its type keeps that it is whole.
     let _ = problem.axes();
-    Ok(problem)
+    let goal = goal_of(&only.script, &problem);
+    Ok((problem, goal))
 }
 
 /// The problems of a script's bytes, where constants without bounds have this one: of each check, what is in force at it.

@@ -1,5 +1,5 @@
 // The problem of a well-sorted script.
-ghost use Rattle.std.specs.Prelude.{◌≡◌, All, IfOk, None, length, map};
+ghost use Rattle.std.specs.Prelude.{◌≡◌, ◌∷◌, [], All, IfOk, None, length, map};
 ghost use Rattle.script_model.specs.Script.{constants_of};
 ghost use Rattle.script_forms.specs.Walk.{claim_places, last_place, nowhere};
 ghost use Rattle.smt_script.specs.Views.{command_of, commands_in};
@@ -8,6 +8,7 @@ ghost use Rattle.smt_sexp.specs.declared.sexps.Sexps as arena;
 ghost use Rattle.sort_check.specs.Sorts.{sort_fault};
 ghost use Rattle.declared_box.specs.Axes.{constant_of};
 ghost use Rattle.declared_box.specs.Table.{AreBefore};
+ghost use Rattle.problem_build.specs.Goal.{places_seen};
 ghost use Rattle.problem_build.specs.Progress.{AreAxesOf, Concludes, IsState, MakesRoot};
 ghost use Rattle.script_reading.specs.Reader.{AreLowest, IsInWalkOrder};
 ghost use Rattle.problem_build.specs.BuildAnswers.{IsBuildAnswer, IsLean};
@@ -50,7 +51,22 @@ fn constants<'a>(alloc: Global, commands: &[Command<'a>]) -> Result<Vec<Constant
     Ok(constants)
 }
 
-// The place of the last assertion among commands.
+// The place of an assertion or of a goal.
+fn claim_place(command: &Command<'_>) -> Option<Place>
+    ensures { (s : arena.Sexps) →
+        places_seen result ≡ claim_places (command_of s command.now ∷ []) }
+{
+    match command {
+        Command::Assert(place, _) => Some(*place),
+        Command::Minimize(place, _) => Some(*place),
+        Command::Declare(_, _, _) => None,
+        Command::Define(_, _, _, _, _) => None,
+        Command::Check(_) => None,
+        Command::Ineffective(_) => None,
+    }
+}
+
+// The place of the last assertion or goal among commands.
 fn last_claim(commands: &[Command<'_>]) -> Place
     ensures { (s : arena.Sexps) →
         place_of result ≡ last_place nowhere (claim_places (map (command_of s) commands.now)) }
@@ -58,8 +74,8 @@ fn last_claim(commands: &[Command<'_>]) -> Place
     let mut last = Place { line: 0, column: 0 };
     let mut rest = commands;
     while let [command, later @ ..] = rest {
-        if let Command::Assert(place, _) = command {
-            last = *place;
+        if let Some(place) = claim_place(command) {
+            last = place;
         }
         rest = later;
     }
@@ -141,8 +157,8 @@ pub(crate) fn conclude(
     Ok(Ending { axes, root })
 }
 
-// The problem of a well-sorted script.
-fn build_script(
+/// The problem of a well-sorted script.
+pub(crate) fn build_script(
     alloc: Global,
     script: &Script<'_>,
     bound: Option<u32>,

@@ -31,6 +31,11 @@ returns-in-Assert c = λ s script h.
     subst (λ (x : Command). IsNamed s (script ++ (command_of s x ∷ [])) c.args.self.now.top c.args.self.now.axis) (sym c.in-Assert.is)
     (standing.top_claimed s script c.args.self.now.top h.names c.args.self.now.axis h.counted (place_of c.in-Assert.field-0) (expression_at s c.in-Assert.field-1))
 
+pub returns-in-Minimize : goal.returns-in-Minimize
+returns-in-Minimize c = λ s script h.
+    subst (λ (x : Command). IsNamed s (script ++ (command_of s x ∷ [])) c.args.self.now.top c.args.self.now.axis) (sym c.in-Minimize.is)
+    (standing.top_minimized s script c.args.self.now.top h.names c.args.self.now.axis h.counted (place_of c.in-Minimize.field-0) (expression_at s c.in-Minimize.field-1))
+
 pub returns-in-Check : goal.returns-in-Check
 returns-in-Check c = λ s script h.
     subst (λ (x : Command). IsNamed s (script ++ (command_of s x ∷ [])) c.args.self.now.top c.args.self.now.axis) (sym c.in-Check.is)

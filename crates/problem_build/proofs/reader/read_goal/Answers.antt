@@ -1,8 +1,11 @@
 use Rattle.std.proofs.lemmas.Result.{err_from_is_err_and}
 use Rattle.smt_sexp.specs.Arena.{rest_of, listed}
+use Rattle.std.proofs.Common.{ap, ◌∙◌}
+use Rattle.script_forms.specs.Atoms.{goal_atom}
+use Rattle.smt_script.specs.Views.{commands_in}
 use Rattle.script_reading.specs.Faults.{in_checks}
-use Rattle.problem_build.proofs.Reading.{bytes_refused, commands_refused, sorts_refused, checks_refused, building_refused, problem_had}
-use Rattle.problem_build.proofs.reader.read_problem.Goals as goal
+use Rattle.problem_build.proofs.Reading.{bytes_refused, commands_refused, sorts_refused, checks_refused, building_refused, problem_had, script_is, whole_built}
+use Rattle.problem_build.proofs.reader.read_goal.Goals as goal
 
 pub returns-in_err-sexps : goal.returns-in_err-sexps
 returns-in_err-sexps c =
@@ -35,9 +38,21 @@ returns-in_err-problem c =
     rw (p.1, p.2) (building_refused c.args.bound c.args.bytes.now c.in_err-problem.field-0.0 read.few (listed (rest_of c.in_ok-sexps.sexps 0)) read.text c.in_ok-course.course c.in_ok-course.ensures.1
     c.in_ok-typed.typed.course c.in_ok-typed.ensures.0 c.in_ok-typed.ensures.1 c.in_ok-only.only.script c.in_ok-only.ensures c.in_err-problem.ensures.builds)
 
+pub goal_of-goal-requires : goal.goal_of-goal-requires
+goal_of-goal-requires c =
+    let made = c.in_ok-problem.ensures in
+    (c.args.bound, whole_built c.args.bound (commands_in c.in_ok-only.only.script) c.in_ok-only.only.sorted c.in_ok-problem.problem c.axes.ensures.whole made.lean made.order made.ends made.builds.1)
+
 pub returns : goal.returns
 returns c =
     let read = c.in_ok-sexps.ensures in
-    problem_had c.args.bound c.args.bytes.now (listed (rest_of c.in_ok-sexps.sexps 0)) c.in_ok-course.course c.in_ok-typed.typed.course c.in_ok-only.only.script read.few
-    read.text c.in_ok-course.ensures.1 c.in_ok-typed.ensures.0 c.in_ok-typed.ensures.1 c.in_ok-only.ensures c.in_ok-only.only.sorted
-    c.in_ok-problem.problem c.axes.ensures.whole c.in_ok-problem.ensures.lean c.in_ok-problem.ensures.order c.in_ok-problem.ensures.ends c.in_ok-problem.ensures.builds
+    let made = c.in_ok-problem.ensures in
+    let es = listed (rest_of c.in_ok-sexps.sexps 0) in
+    let course = c.in_ok-course.course in
+    let typed = c.in_ok-typed.typed.course in
+    let only = c.in_ok-only.only.script in (
+      problem_had c.args.bound c.args.bytes.now es course typed only read.few read.text c.in_ok-course.ensures.1 c.in_ok-typed.ensures.0 c.in_ok-typed.ensures.1 c.in_ok-only.ensures c.in_ok-only.only.sorted
+          c.in_ok-problem.problem c.axes.ensures.whole made.lean made.order made.ends made.builds,
+      c.goal_of-goal.ensures ∙ ap goal_atom (script_is c.args.bound c.args.bytes.now es course typed only read.few read.text c.in_ok-course.ensures.1 c.in_ok-typed.ensures.0 c.in_ok-typed.ensures.1 c.in_ok-only.ensures
+          c.in_ok-only.only.sorted),
+    )
