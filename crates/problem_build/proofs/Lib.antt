@@ -1,4 +1,5 @@
 pub mod ByForm
+pub mod NoGoals
 pub mod Changed
 pub mod Faults
 pub mod Few

@@ -1,4 +1,5 @@
 pub mod Goal
+pub mod GoalStep
 pub mod Laws
 pub mod Locals
 pub mod Names

@@ -25,11 +25,13 @@ mod script;
 mod session;
 mod top;
 mod walk;
+mod with_goal;
 
 pub use goal_atom::goal_of;
 pub use reader::{Reader, read_goal, read_problem, read_session};
 pub use script::build;
 pub use session::build_all;
+pub use with_goal::read_with_goal;
 
 /// A well-sorted script meets no expression without a sort when it is built.
 #[tactic(auto, using(crate::proofs::Sound::sorted_sound))]

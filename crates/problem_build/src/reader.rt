@@ -9,11 +9,11 @@ ghost use Rattle.script_reading.specs.Reader.{HasProblem, commands_of};
 ghost use Rattle.script_reading.specs.Session.{HasSession};
 
 use crate::script::build_script;
-use crate::{build_all, goal_of};
+use crate::{build_all, goal_of, read_with_goal};
 use poly_graph::Problem;
 use problem_session::Session;
 use script_fault::ReadError;
-use script_reading::ScriptReader;
+use script_reading::{ScriptReader, WithGoal};
 use smt_script::commands;
 use smt_sexp::read;
 use sort_check::{check, single};
@@ -77,7 +77,7 @@ pub fn read_session(alloc: Global, bytes: &[u8], bound: Option<u32>) -> Result<S
     build_all(alloc, typed, bound)
 }
 
-/// The reader of scripts: `read_session`.
+/// The reader of scripts: `read_session`, and `read_with_goal`.
 #[derive(Clone, Copy, Debug, PartialEq, Eq)]
 pub struct Reader;
 
@@ -89,5 +89,14 @@ impl ScriptReader for Reader {
         bound: Option<u32>,
     ) -> Result<Session, ReadError> {
         read_session(alloc, bytes, bound)
+    }
+
+    fn read_with_goal(
+        &self,
+        alloc: Global,
+        bytes: &[u8],
+        bound: Option<u32>,
+    ) -> Result<WithGoal, ReadError> {
+        read_with_goal(alloc, bytes, bound)
     }
 }
