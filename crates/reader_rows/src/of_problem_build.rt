@@ -175,3 +175,51 @@ fn builds_what_is_in_force(rt: HostRuntime) {
         );
     }
 }
+
+// The number of the goal's atom, or the first fault.
+fn goal(alloc: Global, text: &[u8]) -> Result<Option<u32>, Refused> {
+    match read_goal(alloc, text, None) {
+        Ok((_, atom)) => Ok(atom),
+        Err(error) => Err(refusal_of(&error)),
+    }
+}
+
+#[test]
+fn the_goal_is_the_term_of_an_atom(rt: HostRuntime) {
+    let rows = [
+        // 0 <= x, x <= 4, 4 - x <= 0, x * x = 2
+        (
+            "(declare-const x Real)
+(assert (and (<= 0 x) (<= x 4)))
+(minimize (- 4 x))
+(assert (= (* x x) 2))
+(check-sat)",
+            Ok(Some(2)),
+        ),
+        // The atom stands there.
+        (
+            "(declare-const x Real)
+(assert (<= x 0))
+(assert (>= x (- 1)))
+(minimize x)
+(check-sat)",
+            Ok(Some(0)),
+        ),
+        // Two terms.
+        (
+            "(declare-const x Real)
+(assert (and (<= 0 x) (<= x 4)))
+(minimize (ite (<= x 2) x (- 4 x)))
+(check-sat)",
+            Ok(None),
+        ),
+        (BOX, Ok(None)),
+        (
+            "(declare-const x Real)\n(minimize (/ x 0))\n(check-sat)",
+            Err(Refused::Zero(2, 11)),
+        ),
+    ];
+    for (text, expected) in rows {
+        assert_eq!(rt; goal(rt.alloc(), text.as_bytes()), expected, "{text}");
+    }
+}
