@@ -127,14 +127,14 @@ module _ (bound : Option ℕ) (text : List ℕ) (es : List Sexp) (course typed :
 
 -- ---- a script with any number of checks
 
-steps-are : (text : List ℕ) (es : List Sexp) (ss : List Step) → read text ≡ whole es → steps_of es ≡ steps ss → steps_of_text text ≡ ss
-steps-are text es ss e e' = ap (λ (r : TextRead). or_no_steps (of_read r)) e ∙ ap (λ (r : CommandsRead). or_no_steps (accepted r)) e'
+pub steps_are : (text : List ℕ) (es : List Sexp) (ss : List Step) → read text ≡ whole es → steps_of es ≡ steps ss → steps_of_text text ≡ ss
+steps_are text es ss e e' = ap (λ (r : TextRead). or_no_steps (of_read r)) e ∙ ap (λ (r : CommandsRead). or_no_steps (accepted r)) e'
 
 module _ (bound : Option ℕ) (text : List ℕ) (es : List Sexp) (course typed : Course) (few : length text ≤ most_bytes) (whole_is : read text ≡ whole es)
     (commands_are : steps_of es ≡ steps (steps_in course)) (same : typed ≡ course) (sorted : course_fault (steps_in course) ≡ None) where
   pub session_had : (session : List (Parts × Bool)) → IsSessionAnswer bound (steps_in typed) (Ok session) → HasSession bound (problems_of session) text
   session_had session h =
-      let are : steps_in typed ≡ steps_of_text text = ap steps_in same ∙ sym (steps-are text es (steps_in course) whole_is commands_are) in
+      let are : steps_in typed ≡ steps_of_text text = ap steps_in same ∙ sym (steps_are text es (steps_in course) whole_is commands_are) in
       record {
         clean = in_asked (in_each_check bound) text Memory few es whole_is course commands_are typed same sorted ∙ h.0;
         built = subst (λ (ss : List Step). AreBuilt bound (checks_of ss) (carried_of ss) (problems_of session)) are h.1;
