@@ -10,7 +10,7 @@ use Rattle.cert_model.specs.Accepted.{stopped, reached}
 use Rattle.cert_check.specs.declared.part.Part.{Part}
 use Rattle.cert_check.specs.declared.work.Work as held
 use Rattle.cert_check.specs.declared.refusal.Refusal.{Refusal}
-use Rattle.cert_check.specs.declared.refusal.Refusal.TheVariants.{BadHeader, BadNumber, RuleFails, KeepFails, Missing, Extra, WrongBound, NotShown, BadLine, LineTooLong, Memory}
+use Rattle.cert_check.specs.declared.refusal.Refusal.TheVariants.{BadHeader, BadNumber, RuleFails, KeepFails, OverFails, Missing, Extra, WrongBound, NotShown, BadLine, LineTooLong, Memory}
 use Rattle.cert_check.specs.Dues.{next_map}
 use Rattle.cover_line.specs.Views.{rule_word}
 use Rattle.cert_check.specs.Faults.{IsRefused, fault_at, refusal_of}
@@ -32,6 +32,7 @@ refused_leads lines x BadHeader e = faulty-leads lines x due.BadHeader e
 refused_leads lines x BadNumber e = faulty-leads lines x due.BadNumber e
 refused_leads lines x (RuleFails w) e = faulty-leads lines x (due.RuleFails (rule_word w)) e
 refused_leads lines x KeepFails e = faulty-leads lines x due.KeepFails e
+refused_leads lines x OverFails e = faulty-leads lines x due.OverFails e
 refused_leads lines x Missing e = faulty-leads lines x due.Missing e
 refused_leads lines x Extra e = faulty-leads lines x due.Extra e
 refused_leads lines x WrongBound e = faulty-leads lines x due.WrongBound e
@@ -55,6 +56,7 @@ stays_over c (numbered.BadHeader n) l = inr refl
 stays_over c (numbered.BadNumber n) l = inr refl
 stays_over c (numbered.RuleFails w n) l = inr refl
 stays_over c (numbered.KeepFails n) l = inr refl
+stays_over c (numbered.OverFails n) l = inr refl
 stays_over c (numbered.Missing n) l = inr refl
 stays_over c (numbered.Extra n) l = inr refl
 stays_over c (numbered.WrongBound n) l = inr refl

@@ -25,7 +25,7 @@ use Rattle.cert_check.specs.declared.due.Due.TheVariants as code
 use Rattle.cert_check.specs.declared.work.Work as held-work
 use Rattle.cert_check.specs.declared.work.Work.TheVariants as work
 use Rattle.cert_check.specs.declared.refusal.Refusal.{Refusal}
-use Rattle.cert_check.specs.declared.refusal.Refusal.TheVariants.{BadHeader, BadNumber, RuleFails, KeepFails, Missing, Extra, WrongBound, NotShown, BadLine, LineTooLong, Memory}
+use Rattle.cert_check.specs.declared.refusal.Refusal.TheVariants.{BadHeader, BadNumber, RuleFails, KeepFails, OverFails, Missing, Extra, WrongBound, NotShown, BadLine, LineTooLong, Memory}
 use Rattle.ival.specs.SpaceViews.{space_of}
 use Rattle.interval_model.specs.Space.{Space}
 use Rattle.poly_graph.specs.Problem.{Axis}
@@ -47,6 +47,7 @@ refused_by f k BadHeader x e = ap f e ∙ k due.BadHeader
 refused_by f k BadNumber x e = ap f e ∙ k due.BadNumber
 refused_by f k (RuleFails w) x e = ap f e ∙ k (due.RuleFails (rule_word w))
 refused_by f k KeepFails x e = ap f e ∙ k due.KeepFails
+refused_by f k OverFails x e = ap f e ∙ k due.OverFails
 refused_by f k Missing x e = ap f e ∙ k due.Missing
 refused_by f k Extra x e = ap f e ∙ k due.Extra
 refused_by f k WrongBound x e = ap f e ∙ k due.WrongBound

@@ -2,7 +2,7 @@
 use Rattle.std.proofs.Common.{◌≡◌, ℕ, suc, ◌+◌, ◌≤◌, List, [], ◌∷◌, ◌++◌, length, Bool, true, false, cond, Option, Some, None, refl, ap, arith, nat_lt, nat_le, nat_eq, ◌&&◌, drop, take, length-append}
 use Rattle.std.proofs.lemmas.List.{length-replicate}
 use Rattle.cover_line.specs.Words.{word_of}
-use Rattle.cert_read.specs.CertLine.{CertLine, says_both, says_false, says_true, version, margin, delta, bound, checks, cover, keep, point_word, tree_word, end_word, lemma, real_interval, real_value, bool_value, yes_list, no_list, rule_line, crossing}
+use Rattle.cert_read.specs.CertLine.{CertLine, says_both, says_false, says_true, version, margin, delta, bound, over, checks, cover, keep, point_word, tree_word, end_word, lemma, real_interval, real_value, bool_value, yes_list, no_list, rule_line, crossing}
 use Rattle.interval_model.specs.Space.{Space}
 use Rattle.cover_model.specs.Rules.{Left, closed, one, two, stays as stays-left, rule, Line}
 use Rattle.cover_model.specs.State.{State, Loosenings, root_state}
@@ -128,6 +128,7 @@ next-most p b (next_due s k lemmas) (lemma i) = cond-most 1 (nat_lt (length lemm
 next-most p b (next_due s k lemmas) tree_word = given-most 1 (nat_eq (length lemmas) k) (root_due s lemmas) Missing (omega arith)
 next-most p b (next_due s k lemmas) (rule_line l) = tt
 next-most p b (next_due s k lemmas) (crossing i) = tt
+next-most p b (next_due s k lemmas) over = tt
 next-most p b (next_due s k lemmas) l = tt
 next-most p b (axis_due s k lemmas a axes space) l = axis-line-most 1 p s k lemmas a.declared axes space l
 next-most p b (yes_due s k lemmas space) (yes_list js) = given-most 1 (all_below (length p.atoms) js && ascends js) (no_due s k lemmas space js) BadNumber (omega arith)
@@ -136,18 +137,22 @@ next-most p b (no_due s k lemmas space is) (no_list js) = given-most 1 (all_belo
 next-most p b (no_due s k lemmas space is) l = tt
 next-most p b (lemma_due s k lemmas L S pending) (rule_line l) = lemma-line-most p s k lemmas L S pending l
 next-most p b (lemma_due s k lemmas L S pending) (crossing i) = tt
+next-most p b (lemma_due s k lemmas L S pending) over = tt
 next-most p b (lemma_due s k lemmas L S pending) l = tt
 next-most p b (root_due s lemmas) (crossing i) = cond-most 1 (crosses p i) (on (end_due s lemmas (left_open []))) (no_crossing p i) (omega arith) tt
 next-most p b (root_due s lemmas) (rule_line l) = root-line-most (is_crossed_box p) p s lemmas l
+next-most p b (root_due s lemmas) over = tt
 next-most p b (root_due s lemmas) l = tt
 next-most p b (tree_due s lemmas S pending done) (rule_line l) = tree-line-most p s lemmas S pending done l
 next-most p b (tree_due s lemmas S pending done) (crossing i) = tt
+next-most p b (tree_due s lemmas S pending done) over = tt
 next-most p b (tree_due s lemmas S pending done) l = tt
 next-most p b (coordinate_due s a axes space) l = coordinate-line-most 1 s a.declared axes space l
 next-most p b (end_due s lemmas (at_point x)) end_word = given-most 1 (is_shown p s (at_point x)) (nothing_due s lemmas (at_point x)) NotShown (omega arith)
 next-most p b (end_due s lemmas (left_open x)) end_word = given-most (suc (length x)) (is_shown p s (left_open x)) (nothing_due s lemmas (left_open x)) NotShown (omega arith)
 next-most p b (end_due s lemmas v) (rule_line l) = tt
 next-most p b (end_due s lemmas v) (crossing i) = tt
+next-most p b (end_due s lemmas v) over = tt
 next-most p b (end_due s lemmas v) l = tt
 next-most p b (nothing_due s lemmas v) l = tt
 

@@ -9,7 +9,7 @@ use Rattle.cert_model.specs.Accepted.{Course, stopped}
 use Rattle.cert_check.specs.declared.fault.CertFault.{CertFault}
 use Rattle.cert_check.specs.declared.fault.CertFault.TheVariants as numbered
 use Rattle.cert_check.specs.declared.refusal.Refusal.{Refusal}
-use Rattle.cert_check.specs.declared.refusal.Refusal.TheVariants.{BadHeader, BadNumber, RuleFails, KeepFails, Missing, Extra, WrongBound, NotShown, BadLine, LineTooLong, Memory}
+use Rattle.cert_check.specs.declared.refusal.Refusal.TheVariants.{BadHeader, BadNumber, RuleFails, KeepFails, OverFails, Missing, Extra, WrongBound, NotShown, BadLine, LineTooLong, Memory}
 
 -- where a certificate stops with the fault; nowhere for out of memory
 abbrev pub stop_of : CertFault → Option Course
@@ -17,6 +17,7 @@ stop_of (numbered.BadHeader n) = Some (stopped due.BadHeader n)
 stop_of (numbered.BadNumber n) = Some (stopped due.BadNumber n)
 stop_of (numbered.RuleFails w n) = Some (stopped (due.RuleFails (rule_word w)) n)
 stop_of (numbered.KeepFails n) = Some (stopped due.KeepFails n)
+stop_of (numbered.OverFails n) = Some (stopped due.OverFails n)
 stop_of (numbered.Missing n) = Some (stopped due.Missing n)
 stop_of (numbered.Extra n) = Some (stopped due.Extra n)
 stop_of (numbered.WrongBound n) = Some (stopped due.WrongBound n)
@@ -32,6 +33,7 @@ fault_at BadHeader n = numbered.BadHeader n
 fault_at BadNumber n = numbered.BadNumber n
 fault_at (RuleFails w) n = numbered.RuleFails w n
 fault_at KeepFails n = numbered.KeepFails n
+fault_at OverFails n = numbered.OverFails n
 fault_at Missing n = numbered.Missing n
 fault_at Extra n = numbered.Extra n
 fault_at WrongBound n = numbered.WrongBound n
@@ -52,6 +54,7 @@ IsRefused BadHeader x = x ≡ faulty due.BadHeader
 IsRefused BadNumber x = x ≡ faulty due.BadNumber
 IsRefused (RuleFails w) x = x ≡ faulty (due.RuleFails (rule_word w))
 IsRefused KeepFails x = x ≡ faulty due.KeepFails
+IsRefused OverFails x = x ≡ faulty due.OverFails
 IsRefused Missing x = x ≡ faulty due.Missing
 IsRefused Extra x = x ≡ faulty due.Extra
 IsRefused WrongBound x = x ≡ faulty due.WrongBound

@@ -5,7 +5,7 @@ use Rattle.cover_model.specs.Rules.{Line, rule}
 use Rattle.cover_model.specs.State.{Loosenings}
 use Rattle.poly_graph.specs.ProblemViews.{Parts, problem_of}
 use Rattle.cover_line.specs.Views.{line_of as rule_of}
-use Rattle.cert_read.specs.CertLine.{CertLine, rule_line, crossing, lemma, tree_word, end_word}
+use Rattle.cert_read.specs.CertLine.{CertLine, rule_line, over, crossing, lemma, tree_word, end_word}
 use Rattle.cert_check.specs.declared.said.TreeLine.{TreeLine}
 use Rattle.cert_check.specs.declared.said.TreeLine.TheVariants as said
 use Rattle.cert_check.specs.declared.left.Left.{Left}
@@ -17,6 +17,7 @@ use Rattle.cert_check.specs.States.{state_of, lemma_of}
 -- neither a line of a tree nor one that begins a lemma, the main tree or the end
 abbrev pub IsOther : CertLine → Type 0
 IsOther (rule_line l) = ⊥
+IsOther over = ⊥
 IsOther (crossing i) = ⊥
 IsOther (lemma i) = ⊥
 IsOther tree_word = ⊥
@@ -29,6 +30,7 @@ IsSaid said.Tree l = l ≡ tree_word
 IsSaid said.End l = l ≡ end_word
 IsSaid (said.Crossing i) l = l ≡ crossing i
 IsSaid (said.Rule r) l = l ≡ rule_line (rule_of r.now)
+IsSaid said.Over l = l ≡ over
 IsSaid said.Other l = IsOther l
 
 abbrev pub left_of : Left → rules.Left

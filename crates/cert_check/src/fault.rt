@@ -22,6 +22,9 @@ pub enum CertFault {
     /// The lemmas of the part before that `keep` names may not be kept.
     #[error("line {line}: the lemmas may not be kept")]
     KeepFails { line: u64 },
+    /// The goal may be below its lower bound, or there is none here.
+    #[error("line {line}: the goal may be below its bound")]
+    OverFails { line: u64 },
     /// Another line is due.
     #[error("line {line}: a line is missing")]
     Missing { line: u64 },

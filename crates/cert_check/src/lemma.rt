@@ -79,6 +79,7 @@ pub fn next_line(
         TreeLine::Tree => main_tree(problem, cover),
         TreeLine::Crossing(_) => Err(after_trees(&cover)),
         TreeLine::Rule(_) => Err(after_trees(&cover)),
+        TreeLine::Over => Err(after_trees(&cover)),
         TreeLine::End => Err(Refusal::Missing),
         TreeLine::Other => Err(Refusal::Missing),
     }

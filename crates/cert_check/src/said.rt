@@ -13,6 +13,7 @@ pub enum TreeLine<'a> {
     End,
     Crossing(u32),
     Rule(&'a Rule),
+    Over,
     Other,
 }
 
@@ -26,10 +27,12 @@ pub fn said<'a>(line: &'a Line) -> TreeLine<'a>
         Line::End => TreeLine::End,
         Line::Empty(axis) => TreeLine::Crossing(*axis),
         Line::Rule(rule) => TreeLine::Rule(rule),
+        Line::Over => TreeLine::Over,
         Line::Version(_) => TreeLine::Other,
         Line::Margin(_) => TreeLine::Other,
         Line::Delta(_) => TreeLine::Other,
         Line::Bound(_) => TreeLine::Other,
+        Line::Lower(_) => TreeLine::Other,
         Line::Checks(_) => TreeLine::Other,
         Line::Cover(_) => TreeLine::Other,
         Line::Keep(_) => TreeLine::Other,

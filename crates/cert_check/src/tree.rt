@@ -212,6 +212,7 @@ fn step_in_tree<'a>(problem: &Problem, line: &'a Line) -> Result<&'a Rule, Refus
             }
         }
         TreeLine::Crossing(axis) => Err(no_crossing(problem, axis)),
+        TreeLine::Over => Err(Refusal::OverFails),
         TreeLine::Lemma(_) => Err(Refusal::Missing),
         TreeLine::Tree => Err(Refusal::Missing),
         TreeLine::End => Err(Refusal::Missing),
@@ -323,6 +324,7 @@ pub fn root_line(
                 Err(no_crossing(problem, axis))
             }
         }
+        TreeLine::Over => Err(Refusal::OverFails),
         TreeLine::Lemma(_) => Err(Refusal::Missing),
         TreeLine::Tree => Err(Refusal::Missing),
         TreeLine::End => Err(Refusal::Missing),
@@ -339,6 +341,7 @@ pub fn end_line(cover: Cover, stayed: u64, line: &Line) -> Result<Due, Refusal>
         TreeLine::End => Ok(Due::Nothing(cover.loosenings, Value::Left(cover.lemmas, stayed))),
         TreeLine::Rule(_) => Err(Refusal::Extra),
         TreeLine::Crossing(_) => Err(Refusal::Extra),
+        TreeLine::Over => Err(Refusal::Extra),
         TreeLine::Lemma(_) => Err(Refusal::Missing),
         TreeLine::Tree => Err(Refusal::Missing),
         TreeLine::Other => Err(Refusal::Missing),

@@ -8,7 +8,7 @@ use Rattle.dyadic.specs.Rounding.{Dyadic}
 use Rattle.dyadic.specs.NumberText.{number_spelling}
 use Rattle.cover_line.specs.Line.{Multipliers, pull, unit, void, push, void_no, combine, void_combine, ban, make_false, by, cut, flip, case, open_line, stuck}
 use Rattle.cover_line.specs.Words.{empty_word, pull_word, unit_word, ban_word, void_word, push_word, void_no_word, false_word, by_word, cut_word, flip_word, case_word, open_word, stuck_word, combine_word, void_combine_word, word_text}
-use Rattle.cert_read.specs.CertLine.{says_false, says_true, says_both, CertLine, version, margin, delta, bound, checks, cover, keep, point_word, tree_word, end_word, lemma, real_interval, real_value, bool_value, yes_list, no_list, rule_line, crossing, Parsed, line, bad_line, bad_number, count_of, dyadic_of, counts_of, pairs_of, has_pairs, with_count, with_counts, with_dyadic, with_dyadics, with_both, with_list, with_pairs, alone, counted, counted_twice, placed, paired, listed, bound_in, bool_in, real_in, entry, header_forms, tree_forms, or_bad, or_rule, by_first}
+use Rattle.cert_read.specs.CertLine.{says_false, says_true, says_both, CertLine, version, margin, delta, bound, lower, over, checks, cover, keep, point_word, tree_word, end_word, lemma, real_interval, real_value, bool_value, yes_list, no_list, rule_line, crossing, Parsed, line, bad_line, bad_number, count_of, dyadic_of, counts_of, pairs_of, has_pairs, with_count, with_counts, with_dyadic, with_dyadics, with_both, with_list, with_pairs, alone, counted, counted_twice, placed, paired, listed, bound_in, lower_in, bool_in, real_in, entry, header_forms, tree_forms, or_bad, or_rule, by_first}
 use Rattle.cert_read.specs.LineText.{pair_words, line_words, IsCount, IsSpelledNumber, IsSpelledPair, AreSpelledPairs, HasSpelling}
 use Rattle.cert_read.proofs.Spelled.{AreCleanWords}
 use Rattle.cert_resumed.proofs.SpelledNumbers.{count_back, number_back, counts_back, pairs_back}
@@ -124,6 +124,19 @@ gives-bound (w ∷ []) l c h = from (bytes_eq w (codes "none")) refl h where
   from false e g = one-count (codes "bound") (λ n. bound (Some n)) (λ n k. (refl, k)) w (count_of w) (count_back w) l g
 gives-bound (w ∷ v ∷ ws) l c h = absurd (no-line l h)
 
+one-dyadic : (name : List ℕ) (f : Dyadic → CertLine) → ((d : Dyadic) → IsSpelledNumber d → (line_words (f d) ≡ name ∷ number_spelling d ∷ []) × HasSpelling (f d)) → (w : List ℕ) (o : Option Dyadic) → ((d : Dyadic) → o ≡ Some d → (number_spelling d ≡ w) × IsSpelledNumber d)
+    → (l : CertLine) → with_dyadic f o ≡ line l → Spells (name ∷ w ∷ []) l
+one-dyadic name f k w None g l h = absurd (no-number l h)
+one-dyadic name f k w (Some d) g l h = let a = g d refl in let s = k d a.1 in this-line (name ∷ w ∷ []) (f d) l h (s.0 ∙ ap (λ (v : List ℕ). name ∷ v ∷ []) a.0) s.1
+
+gives-lower : Gives (codes "lower") lower_in
+gives-lower [] l c h = absurd (no-line l h)
+gives-lower (w ∷ []) l c h = from (bytes_eq w (codes "none")) refl h where
+  from : (t : Bool) → bytes_eq w (codes "none") ≡ t → cond t (line (lower None)) (with_dyadic (λ d. lower (Some d)) (dyadic_of w)) ≡ line l → Spells (codes "lower" ∷ w ∷ []) l
+  from true e g = this-line (codes "lower" ∷ w ∷ []) (lower None) l g (ap (λ (v : List ℕ). codes "lower" ∷ v ∷ []) (sym (same-word w (codes "none") e))) tt
+  from false e g = one-dyadic (codes "lower") (λ d. lower (Some d)) (λ d k. (refl, k)) w (dyadic_of w) (λ d. number_back w d c.0) l g
+gives-lower (w ∷ v ∷ ws) l c h = absurd (no-line l h)
+
 bool-word : (w v : List ℕ) (k l : CertLine) (rest : Parsed) → line_words k ≡ codes "bool" ∷ v ∷ [] → HasSpelling k → (rest ≡ line l → Spells (codes "bool" ∷ w ∷ []) l)
     → cond (bytes_eq w v) (line k) rest ≡ line l → Spells (codes "bool" ∷ w ∷ []) l
 bool-word w v k l rest e s g h = from (bytes_eq w v) refl h where
@@ -139,10 +152,6 @@ gives-bool (w ∷ []) l c h =
     (bool-word w (codes "both") (bool_value says_both) l bad_line refl tt (λ g. absurd (no-line l g)))) h
 gives-bool (w ∷ v ∷ ws) l c h = absurd (no-line l h)
 
-real-one : (w : List ℕ) (o : Option Dyadic) → ((d : Dyadic) → o ≡ Some d → (number_spelling d ≡ w) × IsSpelledNumber d) → (l : CertLine) → with_dyadic real_value o ≡ line l → Spells (codes "real" ∷ w ∷ []) l
-real-one w None g l h = absurd (no-number l h)
-real-one w (Some d) g l h = let a = g d refl in this-line (codes "real" ∷ w ∷ []) (real_value d) l h (ap (λ (x : List ℕ). codes "real" ∷ x ∷ []) a.0) a.1
-
 real-two : (v w : List ℕ) (o q : Option Dyadic) → ((d : Dyadic) → o ≡ Some d → (number_spelling d ≡ v) × IsSpelledNumber d) → ((d : Dyadic) → q ≡ Some d → (number_spelling d ≡ w) × IsSpelledNumber d)
     → (l : CertLine) → with_dyadics real_interval o q ≡ line l → Spells (codes "real" ∷ v ∷ w ∷ []) l
 real-two v w None q g r l h = absurd (no-number l h)
@@ -152,7 +161,7 @@ real-two v w (Some d) (Some e) g r l h = let a = g d refl in let b = r e refl in
 
 gives-real : Gives (codes "real") real_in
 gives-real [] l c h = absurd (no-line l h)
-gives-real (w ∷ []) l c h = real-one w (dyadic_of w) (λ d. number_back w d c.0) l h
+gives-real (w ∷ []) l c h = one-dyadic (codes "real") real_value (λ d k. (refl, k)) w (dyadic_of w) (λ d. number_back w d c.0) l h
 gives-real (v ∷ w ∷ []) l c h = real-two v w (dyadic_of v) (dyadic_of w) (λ d. number_back v d c.0) (λ d. number_back w d c.1.0) l h
 gives-real (v ∷ w ∷ u ∷ ws) l c h = absurd (no-line l h)
 
@@ -172,30 +181,36 @@ header-gives = (
       (
         gives-bound,
         (
-          gives-count (codes "checks") checks (λ n k. (refl, k)),
+          gives-lower,
           (
-            gives-count (codes "cover") cover (λ n k. (refl, k)),
+            gives-count (codes "checks") checks (λ n k. (refl, k)),
             (
-              gives-count (codes "keep") keep (λ n k. (refl, k)),
+              gives-count (codes "cover") cover (λ n k. (refl, k)),
               (
-                gives-alone (codes "point") point_word refl tt,
+                gives-count (codes "keep") keep (λ n k. (refl, k)),
                 (
-                  gives-alone (codes "tree") tree_word refl tt,
+                  gives-alone (codes "point") point_word refl tt,
                   (
-                    gives-alone (codes "end") end_word refl tt,
+                    gives-alone (codes "tree") tree_word refl tt,
                     (
-                      gives-count (codes "lemma") lemma (λ n k. (refl, k)),
+                      gives-alone (codes "end") end_word refl tt,
                       (
-                        gives-real,
+                        gives-count (codes "lemma") lemma (λ n k. (refl, k)),
                         (
-                          gives-bool,
+                          gives-real,
                           (
-                            gives-list (codes "yes") yes_list (λ ns k. (refl, k)),
+                            gives-bool,
                             (
-                              gives-list (codes "no") no_list (λ ns k. (refl, k)),
+                              gives-list (codes "yes") yes_list (λ ns k. (refl, k)),
                               (
-                                gives-count (word_text empty_word) crossing (λ n k. (refl, k)),
-                                tt,
+                                gives-list (codes "no") no_list (λ ns k. (refl, k)),
+                                (
+                                  gives-alone (codes "over") over refl tt,
+                                  (
+                                    gives-count (word_text empty_word) crossing (λ n k. (refl, k)),
+                                    tt,
+                                  ),
+                                ),
                               ),
                             ),
                           ),
