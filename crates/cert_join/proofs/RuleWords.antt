@@ -10,7 +10,7 @@ use Rattle.std.proofs.lemmas.Fmt.{digits_decimal}
 use Rattle.std.proofs.lemmas.Str.Parse.{IsNumeralModel, tells_all_ascii_digits, numerals_by_value}
 use Rattle.cover_line.specs.Words.{RuleWord, empty_word, pull_word, unit_word, ban_word, void_word, push_word, void_no_word, false_word, by_word, cut_word, flip_word, case_word, open_word, stuck_word, combine_word, void_combine_word, word_of, word_text}
 use Rattle.cover_model.specs.Rules.{Line, pull, unit, void, push, void_no, combine, void_combine, ban, make_false, by, cut, flip, case, open_line, stuck}
-use Rattle.cert_read.specs.CertLine.{CertLine, version, margin, delta, bound, checks, cover, keep, point_word, tree_word, end_word, lemma, real_interval, real_value, bool_value, yes_list, no_list, rule_line, crossing}
+use Rattle.cert_read.specs.CertLine.{CertLine, version, margin, delta, bound, lower, over, checks, cover, keep, point_word, tree_word, end_word, lemma, real_interval, real_value, bool_value, yes_list, no_list, rule_line, crossing}
 use Rattle.cert_read.specs.LineText.{IsSpelled, spaced, line_words, line_text}
 use Rattle.cert_read.specs.Lines.{words_of}
 use Rattle.cert_read.proofs.Pieces.{lacks}
@@ -44,6 +44,7 @@ first_of (version n) = codes "dpoly"
 first_of (margin m) = codes "margin"
 first_of (delta d) = codes "delta"
 first_of (bound b) = codes "bound"
+first_of (lower d) = codes "lower"
 first_of (checks n) = codes "checks"
 first_of (cover k) = codes "cover"
 first_of (keep q) = codes "keep"
@@ -57,6 +58,7 @@ first_of (bool_value w) = codes "bool"
 first_of (yes_list js) = codes "yes"
 first_of (no_list js) = codes "no"
 first_of (rule_line l) = word_text (word_of l)
+first_of over = codes "over"
 first_of (crossing i) = word_text empty_word
 
 abbrev behind-first : List (List ℕ) → List (List ℕ)
@@ -71,6 +73,7 @@ parted (version n) = refl
 parted (margin m) = refl
 parted (delta d) = refl
 parted (bound b) = refl
+parted (lower d) = refl
 parted (checks n) = refl
 parted (cover k) = refl
 parted (keep q) = refl
@@ -84,6 +87,7 @@ parted (bool_value w) = refl
 parted (yes_list js) = refl
 parted (no_list js) = refl
 parted (rule_line l) = refl
+parted over = refl
 parted (crossing i) = refl
 
 first-lacks : (l : CertLine) → IsTrue (lacks 32 (first_of l))
@@ -91,6 +95,7 @@ first-lacks (version n) = refl
 first-lacks (margin m) = refl
 first-lacks (delta d) = refl
 first-lacks (bound b) = refl
+first-lacks (lower d) = refl
 first-lacks (checks n) = refl
 first-lacks (cover k) = refl
 first-lacks (keep q) = refl
@@ -104,6 +109,7 @@ first-lacks (bool_value w) = refl
 first-lacks (yes_list js) = refl
 first-lacks (no_list js) = refl
 first-lacks (rule_line l) = word-lacks (word_of l)
+first-lacks over = refl
 first-lacks (crossing i) = refl
 
 pub first_of_line : (l : CertLine) (text w : List ℕ) (ws : List (List ℕ)) → words_of text ≡ w ∷ ws → text ≡ line_text l → w ≡ first_of l
@@ -184,6 +190,7 @@ names_first (version n) = refl
 names_first (margin m) = refl
 names_first (delta d) = refl
 names_first (bound b) = refl
+names_first (lower d) = refl
 names_first (checks n) = refl
 names_first (cover k) = refl
 names_first (keep q) = refl
@@ -197,6 +204,7 @@ names_first (bool_value w) = refl
 names_first (yes_list js) = refl
 names_first (no_list js) = refl
 names_first (rule_line l) = names_by_text (word_of l)
+names_first over = refl
 names_first (crossing i) = refl
 
 pub names_from : (l : CertLine) (text w : List ℕ) (ws : List (List ℕ)) → words_of text ≡ w ∷ ws → text ≡ line_text l
@@ -228,6 +236,7 @@ none_named (version n) h f = (refl, refl)
 none_named (margin m) h f = (refl, refl)
 none_named (delta d) h f = (refl, refl)
 none_named (bound b) h f = (refl, refl)
+none_named (lower d) h f = (refl, refl)
 none_named (checks n) h f = (refl, refl)
 none_named (cover k) h f = (refl, refl)
 none_named (keep q) h f = (refl, refl)
@@ -241,6 +250,7 @@ none_named (bool_value w) h f = (refl, refl)
 none_named (yes_list js) h f = (refl, refl)
 none_named (no_list js) h f = (refl, refl)
 none_named (rule_line l) h f = let e = names_none l h f in (e.0, ap rule_line e.1)
+none_named over h f = (refl, refl)
 none_named (crossing i) h f = (refl, refl)
 
 names-one : (r : Line) → names_by_word (word_of r) ≡ true → (i : ℕ) × (lemma_named r ≡ Some i)
@@ -265,6 +275,7 @@ one_named (version n) h = absurd (cc)
 one_named (margin m) h = absurd (cc)
 one_named (delta d) h = absurd (cc)
 one_named (bound b) h = absurd (cc)
+one_named (lower d) h = absurd (cc)
 one_named (checks n) h = absurd (cc)
 one_named (cover k) h = absurd (cc)
 one_named (keep q) h = absurd (cc)
@@ -278,6 +289,7 @@ one_named (bool_value w) h = absurd (cc)
 one_named (yes_list js) h = absurd (cc)
 one_named (no_list js) h = absurd (cc)
 one_named (rule_line r) h = let e = names-one r h in (r, e.0, refl, e.1)
+one_named over h = absurd (cc)
 one_named (crossing i) h = absurd (cc)
 
 -- ---- the number of its lemma

@@ -1,0 +1,14 @@
+pub mod Advancing
+pub mod Behind
+pub mod Enclosing
+pub mod Endings
+pub mod Fed
+pub mod Feeding
+pub mod HeaderLines
+pub mod Leans
+pub mod Led
+pub mod Lines
+pub mod Numbered
+pub mod Places
+pub mod Taking
+pub mod Verdicts

@@ -1,0 +1,4 @@
+use Rattle.cert_least.proofs.given.advance.Goals as goal
+
+pub returns-in-Ok : goal.returns-in-Ok
+returns-in-Ok c p b d h = (c.in-Ok.ensures p b d h).1

@@ -1,0 +1,14 @@
+use Rattle.std.proofs.Common.{subst}
+use Rattle.poly_graph.specs.ProblemViews.{problem_of}
+use Rattle.cert_read.specs.Views.{line_of}
+use Rattle.cert_model.specs.Accepted.{next}
+use Rattle.cert_least.specs.declared.phase.Phase.{Phase}
+use Rattle.cert_least.specs.Steps.{IsGone}
+use Rattle.cert_least.proofs.Lines.{header_on}
+use Rattle.cert_least.proofs.header.header_line.Goals as goal
+
+pub returns : goal.returns
+returns c p g b d h e =
+    let l = line_of c.args.line.now in
+    header_on p g b l d e c.give.new.checker c.give.result
+    (subst (λ (x : Phase). IsGone p b (next (problem_of p) b d l) x c.give.new.checker c.give.result) c.behind_header.ensures (c.give.ensures p b d h))

@@ -1,0 +1,10 @@
+pub mod Aims
+pub mod Checked
+pub mod Checking
+pub mod Courses
+pub mod Endings
+pub mod Feeding
+pub mod Judging
+pub mod Phases
+pub mod Said
+pub mod Steps
