@@ -1,6 +1,6 @@
 -- Lines that can be spelled, and are appended.
 use Rattle.std.proofs.Common.{◌≡◌, ℕ, suc, ◌+◌, ◌*◌, ◌<◌, ◌≤◌, List, [], ◌∷◌, ◌++◌, map, Bool, true, false, cond, length, length-append, append_assoc, refl, ap, sym, ◌∙◌, arith}
-use Rattle.std.specs.Prelude.{codes, decimal}
+use Rattle.std.specs.Prelude.{codes, decimal, Some}
 use Rattle.std.specs.List.{AllByRecursion}
 use Rattle.std.proofs.lemmas.Fmt.{length-decimal-le}
 use Rattle.std.proofs.lemmas.List.{append-nil}
@@ -15,7 +15,7 @@ use Rattle.cover_line.specs.Views.{combination_line, rule_word}
 use Rattle.poly_graph.specs.Marks.{Mark, is_yes, is_no, numbers_from}
 use Rattle.dyadic.specs.Rounding.{Dyadic}
 use Rattle.dyadic.specs.NumberText.{number_spelling}
-use Rattle.cert_read.specs.CertLine.{CertLine, real_interval, real_value, rule_line}
+use Rattle.cert_read.specs.CertLine.{CertLine, lower, real_interval, real_value, rule_line}
 use Rattle.cert_read.specs.LineText.{spaced, line_text, pair_words, IsCount, IsSpelledNumber, IsSpelledPair, HasSpelling, IsSpelled}
 use Rattle.cert_read.specs.Lines.{longest_line}
 use Rattle.cert_model.specs.Accepted.{certificate_text}
@@ -58,6 +58,7 @@ rules_append (x ∷ xs) ys = ap (λ (ls : List CertLine). rule_line x ∷ ls) (r
 
 plain-text : (w : Plain) → line_text (plain_line w) ≡ plain_text w
 plain-text plain.BoundNone = refl
+plain-text plain.LowerNone = refl
 plain-text plain.Point = refl
 plain-text plain.Tree = refl
 plain-text plain.End = refl
@@ -66,9 +67,11 @@ plain-text plain.BoolTrue = refl
 plain-text plain.BoolBoth = refl
 plain-text plain.False = refl
 plain-text plain.Open = refl
+plain-text plain.Over = refl
 
 plain-spelled : (w : Plain) → HasSpelling (plain_line w)
 plain-spelled plain.BoundNone = tt
+plain-spelled plain.LowerNone = tt
 plain-spelled plain.Point = tt
 plain-spelled plain.Tree = tt
 plain-spelled plain.End = tt
@@ -77,9 +80,11 @@ plain-spelled plain.BoolTrue = tt
 plain-spelled plain.BoolBoth = tt
 plain-spelled plain.False = tt
 plain-spelled plain.Open = tt
+plain-spelled plain.Over = tt
 
 plain-short : (w : Plain) → length (plain_text w) ≤ 16
 plain-short plain.BoundNone = omega arith
+plain-short plain.LowerNone = omega arith
 plain-short plain.Point = omega arith
 plain-short plain.Tree = omega arith
 plain-short plain.End = omega arith
@@ -88,6 +93,7 @@ plain-short plain.BoolTrue = omega arith
 plain-short plain.BoolBoth = omega arith
 plain-short plain.False = omega arith
 plain-short plain.Open = omega arith
+plain-short plain.Over = omega arith
 
 pub plain_appended : (w : Plain) (a b c : List ℕ) → b ≡ a ++ plain_text w → c ≡ b ++ (10 ∷ []) → HasAppended a (plain_line w ∷ []) c
 plain_appended w a b c e f = line_appended a c (plain_line w) (plain-spelled w) (omega (arith, plain-short w, ap length (plain-text w)))
@@ -194,6 +200,10 @@ cut_appended axis at a b c d e h k p q r s = line_appended a e (rule_line (cut a
 pub value_appended : (v : Dyadic) (a b c d : List ℕ) → IsShortNumber v → b ≡ a ++ codes "real " → c ≡ b ++ number_spelling v → d ≡ c ++ (10 ∷ []) → HasAppended a (real_value v ∷ []) d
 value_appended v a b c d k e f g = line_appended a d (real_value v) k.spelled (omega (arith, k.short))
     (g ∙ ap (λ (t : List ℕ). t ++ (10 ∷ [])) (f ∙ ap (λ (t : List ℕ). t ++ number_spelling v) e) ∙ two-parts a (codes "real ") (number_spelling v))
+
+pub lower_appended : (v : Dyadic) (a b c d : List ℕ) → IsShortNumber v → b ≡ a ++ codes "lower " → c ≡ b ++ number_spelling v → d ≡ c ++ (10 ∷ []) → HasAppended a (lower (Some v) ∷ []) d
+lower_appended v a b c d k e f g = line_appended a d (lower (Some v)) k.spelled (omega (arith, k.short))
+    (g ∙ ap (λ (t : List ℕ). t ++ (10 ∷ [])) (f ∙ ap (λ (t : List ℕ). t ++ number_spelling v) e) ∙ two-parts a (codes "lower ") (number_spelling v))
 
 pub interval_appended : (l h : Dyadic) (a b c d e f : List ℕ) → IsShortNumber l → IsShortNumber h → b ≡ a ++ codes "real " → c ≡ b ++ number_spelling l → d ≡ c ++ (32 ∷ []) → e ≡ d ++ number_spelling h → f ≡ e ++ (10 ∷ []) →
     HasAppended a (real_interval l h ∷ []) f

@@ -7,7 +7,7 @@ use Rattle.cover_line.specs.Words.{empty_word, false_word, by_word, flip_word, o
 use Rattle.cover_line.specs.Line.{Multipliers}
 use Rattle.cover_line.specs.declared.rule.CombinationRule.{CombinationRule}
 use Rattle.cover_line.specs.Views.{atom_line, combination_line, rule_word}
-use Rattle.cert_read.specs.CertLine.{says_false, says_true, says_both, CertLine, version, margin, delta, bound, checks, cover, keep, point_word, tree_word, end_word, lemma, bool_value, yes_list, no_list, rule_line, crossing}
+use Rattle.cert_read.specs.CertLine.{says_false, says_true, says_both, CertLine, version, margin, delta, bound, lower, over, checks, cover, keep, point_word, tree_word, end_word, lemma, bool_value, yes_list, no_list, rule_line, crossing}
 use Rattle.cert_read.specs.LineText.{IsSpelled, IsSpelledPair, line_text}
 use Rattle.dyadic.specs.Rounding.{Dyadic}
 use Rattle.dyadic.specs.NumberText.{number_spelling}
@@ -27,6 +27,7 @@ pub record HasAppended (old : List ℕ) (ls : List CertLine) (new : List ℕ) : 
 
 abbrev pub plain_line : Plain → CertLine
 plain_line plain.BoundNone = bound None
+plain_line plain.LowerNone = lower None
 plain_line plain.Point = point_word
 plain_line plain.Tree = tree_word
 plain_line plain.End = end_word
@@ -35,9 +36,11 @@ plain_line plain.BoolTrue = bool_value says_true
 plain_line plain.BoolBoth = bool_value says_both
 plain_line plain.False = rule_line make_false
 plain_line plain.Open = rule_line open_line
+plain_line plain.Over = over
 
 abbrev pub plain_text : Plain → List ℕ
 plain_text plain.BoundNone = codes "bound none"
+plain_text plain.LowerNone = codes "lower none"
 plain_text plain.Point = codes "point"
 plain_text plain.Tree = codes "tree"
 plain_text plain.End = codes "end"
@@ -46,6 +49,7 @@ plain_text plain.BoolTrue = codes "bool true"
 plain_text plain.BoolBoth = codes "bool both"
 plain_text plain.False = word_text false_word
 plain_text plain.Open = word_text open_word
+plain_text plain.Over = codes "over"
 
 -- ---- lines with one plain number
 

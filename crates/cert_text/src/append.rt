@@ -1,10 +1,10 @@
 // Lines that are appended to a text.
-ghost use Rattle.std.specs.Prelude.{◌≡◌, ◌<◌, ◌≤◌, ◌++◌, ◌∷◌, [], OnOk, decimal, length, map};
+ghost use Rattle.std.specs.Prelude.{◌≡◌, ◌<◌, ◌≤◌, ◌++◌, ◌∷◌, [], OnOk, Some, decimal, length, map};
 ghost use Rattle.dyadic.specs.NumberText.{number_spelling};
 ghost use Rattle.dyadic.specs.Views.{dyadic_of};
 ghost use Rattle.poly_graph.specs.MarkViews.{mark_of};
 ghost use Rattle.cover_model.specs.Rules.{ban, cut};
-ghost use Rattle.cert_read.specs.CertLine.{real_interval, real_value, rule_line};
+ghost use Rattle.cert_read.specs.CertLine.{lower, real_interval, real_value, rule_line};
 ghost use Rattle.cert_read.specs.LineText.{IsCount, IsSpelledNumber};
 ghost use Rattle.cover_model.specs.Views.{multipliers_of};
 ghost use Rattle.cert_text.specs.Calls.{Appends, HasMultipliers, line_of_combination, marked_numbers};
@@ -90,6 +90,15 @@ pub(crate) fn append_cut(text: &mut Vec<u8>, axis: u32, at: Dy) -> Result<(), Al
     append_word_and_count(text, Word::Cut.text(), axis)?;
     text.extend_from_slice(b" ")?;
     append_number(text, at)?;
+    append_break(text)
+}
+
+/// Appends the line of a lower bound of the goal.
+pub(crate) fn append_lower(text: &mut Vec<u8>, bound: Dy) -> Result<(), AllocError>
+    ensures { Appends text.old text.new (lower (Some (dyadic_of bound)) ∷ []) result }
+{
+    text.extend_from_slice(b"lower ")?;
+    append_number(text, bound)?;
     append_break(text)
 }
 

@@ -8,6 +8,7 @@ use cover_line::{AtomRule, Word};
 #[derive(Clone, Copy, Debug, PartialEq, Eq)]
 pub(crate) enum Plain {
     BoundNone,
+    LowerNone,
     Point,
     Tree,
     End,
@@ -16,6 +17,7 @@ pub(crate) enum Plain {
     BoolBoth,
     False,
     Open,
+    Over,
 }
 
 /// The first word of a line with one plain number.
@@ -42,6 +44,7 @@ pub(crate) fn plain_bytes(line: Plain) -> &'static str
 {
     match line {
         Plain::BoundNone => "bound none",
+        Plain::LowerNone => "lower none",
         Plain::Point => "point",
         Plain::Tree => "tree",
         Plain::End => "end",
@@ -50,6 +53,7 @@ pub(crate) fn plain_bytes(line: Plain) -> &'static str
         Plain::BoolBoth => "bool both",
         Plain::False => Word::False.text(),
         Plain::Open => Word::Open.text(),
+        Plain::Over => "over",
     }
 }
 

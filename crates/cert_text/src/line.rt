@@ -1,19 +1,20 @@
 // A line as it was read.
-ghost use Rattle.std.specs.Prelude.{◌≡◌, ◌++◌, ◌∷◌, [], OnOk};
+ghost use Rattle.std.specs.Prelude.{◌≡◌, ◌++◌, ◌∷◌, [], OnOk, option_map};
 ghost use Rattle.dyadic.specs.Views.{dyadic_of};
 ghost use Rattle.cover_line.specs.Views as rules;
-ghost use Rattle.cert_read.specs.CertLine.{bool_value, bound, real_interval, real_value, rule_line};
+ghost use Rattle.cert_read.specs.CertLine.{bool_value, bound, lower, real_interval, real_value, rule_line};
 ghost use Rattle.cert_read.specs.Views.{bool_word_of, line_of};
 ghost use Rattle.cert_text.specs.Calls.{Appends, AppendsList, AppendsText};
 ghost use Rattle.cert_text.specs.Lines.{listed};
 
 use crate::append::{
-    append_ban, append_break, append_counted, append_cut, append_interval, append_multipliers,
-    append_plain, append_value, append_word_and_count,
+    append_ban, append_break, append_counted, append_cut, append_interval, append_lower,
+    append_multipliers, append_plain, append_value, append_word_and_count,
 };
 use crate::keyword::{Counted, Plain};
 use cert_read::{BoolSet, Line};
 use cover_line::{Rule, Word};
+use dyadic::Dy;
 use std::alloc::AllocError;
 
 fn append_bound(text: &mut Vec<u8>, limit: Option<u32>) -> Result<(), AllocError>
@@ -22,6 +23,15 @@ fn append_bound(text: &mut Vec<u8>, limit: Option<u32>) -> Result<(), AllocError
     match limit {
         Some(limit) => append_counted(text, Counted::Bound, limit),
         None => append_plain(text, Plain::BoundNone),
+    }
+}
+
+fn append_lower_bound(text: &mut Vec<u8>, bound: Option<Dy>) -> Result<(), AllocError>
+    ensures { Appends text.old text.new (lower (option_map dyadic_of bound) ∷ []) result }
+{
+    match bound {
+        Some(bound) => append_lower(text, bound),
+        None => append_plain(text, Plain::LowerNone),
     }
 }
 
@@ -81,6 +91,7 @@ pub fn append_line(text: &mut Vec<u8>, line: &Line) -> Result<(), AllocError>
         Line::Margin(n) => append_counted(text, Counted::Margin, *n),
         Line::Delta(n) => append_counted(text, Counted::Delta, *n),
         Line::Bound(limit) => append_bound(text, *limit),
+        Line::Lower(bound) => append_lower_bound(text, *bound),
         Line::Checks(n) => append_counted(text, Counted::Checks, *n),
         Line::Cover(n) => append_counted(text, Counted::Cover, *n),
         Line::Keep(n) => append_counted(text, Counted::Keep, *n),
@@ -94,6 +105,7 @@ pub fn append_line(text: &mut Vec<u8>, line: &Line) -> Result<(), AllocError>
         Line::Yes(atoms) => append_list(text, "yes", atoms),
         Line::No(atoms) => append_list(text, "no", atoms),
         Line::Rule(rule) => append_rule(text, rule),
+        Line::Over => append_plain(text, Plain::Over),
         Line::Empty(axis) => append_counted(text, Counted::Empty, *axis),
     }
 }

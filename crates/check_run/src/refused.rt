@@ -17,6 +17,7 @@ pub fn cert_fault(alloc: Global, fault: CertFault) -> Result<Vec<u8>, AllocError
         CertFault::BadNumber { line } => ("2 BadNumber", line),
         CertFault::RuleFails { rule, line } => return failed_rule(alloc, rule, line),
         CertFault::KeepFails { line } => ("3 RuleFails keep", line),
+        CertFault::OverFails { line } => ("3 RuleFails over", line),
         CertFault::Missing { line } => ("4 Missing", line),
         CertFault::Extra { line } => ("5 Extra", line),
         CertFault::WrongBound { line } => ("6 WrongBound", line),

@@ -41,6 +41,7 @@ fn line_of(fault: CertFault) -> Option<u64> {
         | CertFault::BadNumber { line }
         | CertFault::RuleFails { line, .. }
         | CertFault::KeepFails { line }
+        | CertFault::OverFails { line }
         | CertFault::Missing { line }
         | CertFault::Extra { line }
         | CertFault::WrongBound { line }
