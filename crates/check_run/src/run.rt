@@ -22,9 +22,9 @@ fn check_read<D: Desk>(
     read: &WithGoal,
     bound: Option<u32>,
 ) -> Status
-    requires session { IsSession (problems_of read.now.session.now) }
-    requires goal { IsGoalOf read.now.goal read.now.session.now }
-    ensures ends { EndsOnCheck read.now.goal read.now.session.now bound name.now
+    requires session { IsSession (problems_of read.now.session) }
+    requires goal { IsGoalOf read.now.goal read.now.session }
+    ensures ends { EndsOnCheck read.now.goal read.now.session bound name.now
         (D.sight desk.old) (D.sight desk.new) result }
     ensures cause { CheckHasCause (D.sight desk.old) (D.sight desk.new) result }
     ensures script { (D.sight desk.new).script ≡ (D.sight desk.old).script }
