@@ -1,7 +1,8 @@
 -- From a certificate of a script with a goal on its port to the end of a run.
 use Rattle.std.proofs.Common.{◌≡◌, ◌<◌, ◌≤◌, ◌++◌, ℕ, List, [], ◌∷◌, Option, Some, None, Result, Ok, Err, IfSome, length, take, drop, refl, ap, sym, ◌∙◌, subst, inl, inr, take-append-drop}
+use Rattle.std.specs.Prelude.{Bool, map, slice_get}
 use Rattle.std.specs.Option.{option_map}
-use Rattle.std.proofs.lemmas.Option.{none-some}
+use Rattle.std.proofs.lemmas.Option.{none-some, same_Some}
 use Rattle.dyadic.specs.Rounding.{Dyadic, Ext}
 use Rattle.dyadic.specs.Views.{dyadic_of, ext_of}
 use Rattle.desk.specs.declared.desk.Port.TheVariants.{CertIn}
@@ -32,8 +33,8 @@ use Rattle.cert_least.specs.Feeding.{HasTaken, HasTakenFor, IsVerdictOrMemory}
 use Rattle.check_run.specs.declared.check.Unconfirmed.TheVariants.{Failed}
 use Rattle.check_run.specs.declared.status.Status.{Status}
 use Rattle.check_run.specs.declared.status.Status.TheVariants.{Answered, CertRefused}
-use Rattle.check_run.specs.Check.{IsConfirmation}
-use Rattle.check_run.specs.Goals.{CanCheckGoal, IsGoalConfirmation, IsGoalCourseOf, IsGoalVerdictFor, IsGoalVerdictOnPort, bounds_text, told_upper}
+use Rattle.check_run.specs.Check.{EndsOnCheck, IsConfirmation, IsGoalOf}
+use Rattle.check_run.specs.Goals.{CanCheckGoal, EndsOnGoal, IsGoalConfirmation, IsGoalCourseOf, IsGoalVerdictFor, IsGoalVerdictOnPort, bounds_text, told_upper}
 use Rattle.check_run.specs.Stops.{stop_text}
 use Rattle.check_run.specs.Course.{Course, says, behind, Ends, RunEnds, on_course}
 use Rattle.check_run.specs.Can.{goal_course}
@@ -144,3 +145,13 @@ module _ (p : Parts) (g : ℕ) (bound : Option ℕ) (name : List ℕ) where
       (λ cert h.
       run_behind (IsGoalCourseOf (problem_of p) g (goal_verdict (problem_of p) g bound cert)) (CanCheckGoal (problem_of p) g bound name cert) (CertIn, name) [] old mid new status (after_cert_in name old first mid started some)
       (λ tail can. ap (λ (c : Course). behind ((CertIn, name) ∷ []) c) can) (ends (aim_at p g bound) (goal_verdict (problem_of p) g bound cert) h))
+
+-- the problem of the only check is the first
+pub goal_ends : (session : List (Parts × Bool)) (goal : Option ℕ) (g : ℕ) (p : Parts) → goal ≡ Some g → IsGoalOf goal session → slice_get (map (λ (q : Parts × Bool). q.0) session) 0 ≡ Some p
+    → (bound : Option ℕ) (name : List ℕ) (old new : Sight) (status : Status) → EndsOnGoal p g bound name old new status → EndsOnCheck goal session bound name old new status
+goal_ends session goal g p some is at bound name old new status ends =
+    subst (λ (o : Option ℕ). EndsOnCheck o session bound name old new status) (sym some) (of-session session (subst (λ (o : Option ℕ). IsGoalOf o session) some is) at) where
+      of-session : (session : List (Parts × Bool)) → IsGoalOf (Some g) session → slice_get (map (λ (q : Parts × Bool). q.0) session) 0 ≡ Some p → EndsOnCheck (Some g) session bound name old new status
+      of-session [] h at = absurd h
+      of-session ((q, e) ∷ []) h at = subst (λ (r : Parts). EndsOnGoal r g bound name old new status) (sym (same_Some q p at)) ends
+      of-session (q ∷ r ∷ rest) h at = absurd h

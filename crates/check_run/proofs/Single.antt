@@ -81,17 +81,20 @@ one_value p x bound cert s values e = one-by p bound cert s values (verdict p bo
 
 -- ---- its goal's atom
 
+atoms-of-first : List (Problem × Bool) → ℕ
+atoms-of-first [] = 0
+atoms-of-first ((p, e) ∷ rest) = length p.atoms
+
+atom-by : (session : List (Parts × Bool)) (p : Problem) (e : Bool) → problems_of session ≡ (p, e) ∷ [] → (g : ℕ) → g < length p.atoms → IsGoalOf (Some g) session
+unfolding atoms-of-first
+atom-by [] p e h g few = cc
+atom-by ((q, x) ∷ []) p e h g few = subst (λ (n : ℕ). g < n) (sym (ap atoms-of-first h)) few
+atom-by (q ∷ r ∷ rest) p e h g few = cc
+
 atom-of : (bound : Option ℕ) (script : List ℕ) (session : List (Parts × Bool)) → HasSession bound (problems_of session) script → (g : ℕ) → goal_in script ≡ Some g → IsGoalOf (Some g) session
 atom-of bound script session has g is =
     let x = one_problem bound script (goal_has_one script g is) (problems_of session) has in
-    by_shape session x.problem x.extends x.only (goal_of_problem bound (commands_of script) x.problem x.built.problem g (goal_is script g is)).0 where
-      by_shape : (session : List (Parts × Bool)) (p : Problem) (e : Bool) → problems_of session ≡ (p, e) ∷ [] → g < length p.atoms → IsGoalOf (Some g) session
-      by_shape [] p e h few = cc
-      by_shape (q ∷ []) p e h few =
-          let same : ◌≡◌ {A = List (Problem × Bool)} ((problem_of q.0, q.1) ∷ []) ((p, e) ∷ []) = h in
-          let is : problem_of q.0 ≡ p = cc in
-          subst (λ (r : Problem). g < length r.atoms) (sym is) few
-      by_shape (q ∷ r ∷ rest) p e h few = cc
+    atom-by session x.problem x.extends x.only g (goal_of_problem bound (commands_of script) x.problem x.built.problem g (goal_is script g is)).0
 
 -- the goal's atom is one of the problem of the only check
 pub goal_of_session : (bound : Option ℕ) (script : List ℕ) (session : List (Parts × Bool)) → HasSession bound (problems_of session) script → (goal : Option ℕ) → goal ≡ goal_in script → IsGoalOf goal session

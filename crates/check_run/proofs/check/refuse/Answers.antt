@@ -1,3 +1,4 @@
+use Rattle.poly_graph.specs.ProblemViews.{problem_of}
 use Rattle.check_run.specs.declared.status.Status.TheVariants.{CertRefused}
 use Rattle.check_run.proofs.GoalVerdicts.{goal_concluded, goal_fault_shown}
 use Rattle.check_run.proofs.Verdicts.{shown_fault, concluded, refusal_of}
@@ -12,4 +13,4 @@ returns-in-Ok-clause-refuses g c = refusal_of c.args.fault c.in-Ok.text.items c.
 
 pub returns-in-Ok-clause-goal : goal.returns-in-Ok-clause-goal
 returns-in-Ok-clause-goal g c a v h =
-    goal_concluded _ _ v CertRefused c.in-Ok.text.items c.deref.result.now _ _ _ (goal_fault_shown c.args.fault c.in-Ok.text.items c.in-Ok.ensures _ _ v h) c.deref.ensures.value c.say.ensures.ends
+    goal_concluded (problem_of a.problem) a.goal v CertRefused c.in-Ok.text.items c.deref.result.now _ _ _ (goal_fault_shown c.args.fault c.in-Ok.text.items c.in-Ok.ensures (problem_of a.problem) a.goal v h) c.deref.ensures.value c.say.ensures.ends

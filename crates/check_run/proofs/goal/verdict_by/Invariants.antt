@@ -4,7 +4,7 @@ use Rattle.check_run.proofs.GoalVerdicts.{GoalCheckedSoFar}
 use Rattle.check_run.proofs.goal.verdict_by.Given as goal
 
 abbrev pub invariant-loop-n : goal.invariant-loop-n
-invariant-loop-n g l = GoalCheckedSoFar l.problem.now l.goal l.fn.bound l.feed (g.D.Desk.sight l.fn.desk) (g.D.Desk.sight l.desk)
+invariant-loop-n g l = GoalCheckedSoFar l.problem l.goal l.fn.bound l.feed (g.D.Desk.sight l.fn.desk) (g.D.Desk.sight l.desk)
 
 abbrev pub decreases-loop-n : goal.decreases-loop-n
 decreases-loop-n g l = 18446744073709551615 - bytes_taken l.feed
