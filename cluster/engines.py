@@ -47,6 +47,7 @@ class Parallel:
         for it in commands:
             self.waiting[self.count] = it
             self.count += 1
+        self.running()
 
     def start(self):
         """Starts those that wait."""
@@ -66,7 +67,7 @@ class Parallel:
         ended = set()
         if self.going and os.path.exists(self.LOG):
             with open(self.LOG, encoding='utf-8', errors='replace') as file:
-                ended = {self.going[int(line.split('\t')[0]) - 1] for line in file if line[0].isdigit()}
+                ended = {self.going[int(line.split('\t')[0]) - 1] for line in file if line[0].isdigit() and line.endswith('\n')}
         return set(self.going) - ended | set(self.waiting)
 
     def cancel(self):
