@@ -181,6 +181,8 @@ class Flow:
 def row(asked, machines, way, found):
     """What a way takes, and the share of the machines' time for which they have parts."""
     splits = int(machines * asked.seconds * asked.rate)
+    asked = argparse.Namespace(**vars(asked))
+    asked.budget = asked.budget or (max(1000, 6 * machines) if way == 'flow' else 1000)
     trees = Trees(found, random.Random(asked.seed))
     it = (Flow if way == 'flow' else Cluster)(asked, machines, trees)
     clock, behind, rounds = it.run(splits) if way == 'flow' else it.run(splits, way)
@@ -199,7 +201,7 @@ def main():
     parser.add_argument('--call', type=float, default=0.05, help='seconds of a part besides its splits')
     parser.add_argument('--round', type=float, default=3.0, help='seconds of a round besides its tasks')
     parser.add_argument('--result', type=float, default=0.0005, help='seconds of the driver for a result')
-    parser.add_argument('--budget', type=int, default=1000)
+    parser.add_argument('--budget', type=int, help='1000 by default; without rounds 6 for each machine where that is more')
     parser.add_argument('--growth', type=int, default=4)
     parser.add_argument('--enough', type=int, default=4)
     parser.add_argument('--most', type=int, default=200000)
