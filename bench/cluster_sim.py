@@ -22,6 +22,7 @@ import bisect
 import collections
 import heapq
 import itertools
+import math
 import random
 
 BRANCHES, STEPS = ('cut', 'flip', 'case'), ('pull', 'push', 'comb', 'unit', 'ban')
@@ -131,12 +132,13 @@ class Flow:
         self.asked, self.machines, self.trees = asked, machines, trees
         self.free, self.waiting, self.laid = machines, collections.deque(), collections.deque()
         self.events, self.order, self.driver = [], itertools.count(), 0.0
-        self.results, self.split, self.busy, self.rounds = 1, 0, 0.0, 0
+        self.results, self.split, self.seconds, self.busy, self.rounds = 1, 0, 0.0, 0.0, 0
 
     def budget(self):
         """As that of `dpoly-cluster`."""
         asked, count = self.asked, len(self.laid) + len(self.waiting)
-        most = min(self.split / (asked.share * self.machines), asked.most)
+        splits = self.split / max(self.seconds, 0.001) * math.sqrt(asked.root * self.seconds / self.machines)
+        most = min(splits, self.split / (asked.share * self.machines), asked.limit)
         return max(asked.budget, int(most * min(1, max(1 / asked.small, count / (asked.enough * self.machines)))))
 
     def learn(self, left, number):
@@ -153,14 +155,14 @@ class Flow:
         done, left = self.trees.search(size, budget)
         took = self.asked.call + done / self.asked.rate
         self.busy += took
-        heapq.heappush(self.events, (now + took, next(self.order), True, done, left, number))
+        heapq.heappush(self.events, (now + took, next(self.order), True, (done, took), left, number))
 
     def run(self, splits):
         """Seconds of the search, of what follows it, and rounds."""
         asked = self.asked
         done, left = self.trees.search(splits, asked.budget)
         clock, self.split = asked.start + done / asked.rate, done
-        heapq.heappush(self.events, (clock, next(self.order), False, 0, left, 0))
+        heapq.heappush(self.events, (clock, next(self.order), False, (0, 0.0), left, 0))
         while self.events:
             now, _, is_end, done, left, number = heapq.heappop(self.events)
             if is_end:
@@ -169,7 +171,8 @@ class Flow:
                 self.driver = max(self.driver, now) + asked.result
                 heapq.heappush(self.events, (self.driver + asked.look / 2, next(self.order), False, done, left, number))
             else:
-                self.split += done
+                self.split += done[0]
+                self.seconds += done[1]
                 self.learn(left, number + 1)
             while self.laid and self.free:
                 self.free -= 1
@@ -204,9 +207,11 @@ def main():
     parser.add_argument('--budget', type=int, help='1000 by default; without rounds 6 for each machine where that is more')
     parser.add_argument('--growth', type=int, default=4)
     parser.add_argument('--enough', type=int, default=4)
-    parser.add_argument('--most', type=int, default=200000)
+    parser.add_argument('--most', type=int, default=200000, help='splits of a part, in rounds')
     parser.add_argument('--parts', type=int, default=32, help='groups of parts for each machine, in rounds')
+    parser.add_argument('--root', type=float, default=1.0, help='a part takes the root of so many times what a machine has worked')
     parser.add_argument('--share', type=int, default=4)
+    parser.add_argument('--limit', type=int, default=1048576, help='splits of a part, without rounds')
     parser.add_argument('--small', type=int, default=16)
     parser.add_argument('--ahead', type=int, default=4)
     parser.add_argument('--look', type=float, default=2.0, help='seconds after which driver and machines look for news')

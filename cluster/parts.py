@@ -53,18 +53,18 @@ def outline(tree, words, own):
 
 def told(name):
     """What is known of a result: the numbers of its parts, and besides how many lines are open in what it leaves to do,
-    how many branches that has, and how many splits were made for the result."""
+    how many branches that has, how many splits were made for the result, and in how many seconds, where that is known."""
     with open('open/%s.json' % name, encoding='ascii') as file:
         return json.load(file)
 
 
-def keep(name, there):
-    """Makes what stands under `there` the result of this name, unless that has one. An error where it is no whole
-    certificate."""
+def keep(name, there, seconds=0):
+    """Makes what stands under `there`, which took so long, the result of this name, unless that has one. An error where it
+    is no whole certificate."""
     with open(there, 'rb') as file:
         lines = file.read().split(b'\n')
     parent, _, number = name.rpartition('-')
-    known = {'is_point': lines[4] == b'point', 'parts': [], 'open': 0, 'branches': 0, 'splits': 0}
+    known = {'is_point': lines[4] == b'point', 'parts': [], 'open': 0, 'branches': 0, 'splits': 0, 'seconds': seconds}
     if lines[-2:] != [b'end', b'']:
         raise ValueError('it is cut off')
     if not known['is_point']:
@@ -97,8 +97,9 @@ def resume(task, name, budget):
     try:
         share = '%d/%d' % (int(number) + 1, told(parent)['open'])
         words = [task['program'], 'resume', '--part', share, '--budget', budget, *task['options'], 'script.smt2', 'open/%s.cert' % parent, there]
+        begin = time.monotonic()
         subprocess.run(words, stdin=subprocess.DEVNULL, stdout=subprocess.DEVNULL, timeout=task['seconds'], check=True)
-        keep(name, there)
+        keep(name, there, time.monotonic() - begin)
     except (OSError, subprocess.SubprocessError, ValueError, IndexError) as error:
         print('dpoly-cluster: part %s: %s' % (name, error), file=sys.stderr)
     finally:
