@@ -10,15 +10,19 @@ one. Depth first, a part with a budget takes what it can and leaves the rest ope
 Seconds of the clock as many times the ideal (all splits, shared evenly, and nothing else) for:
 
   fixed    parts once, from the open leaves of the first search, each to its end
-  rounds   as dpoly-cluster does: parts within a budget, what they leave in the next round, four times the budget in each
-           once each machine has its parts; the results are joined and checked once, at the end
-  joined   the same, but the results of each round are joined, and each part of the next reads the whole
+  joined   parts within a budget, what they leave in the next round, four times the budget in each once each machine has its
+           parts; the results of each round are joined, and each part of the next reads the whole
+  rounds   the same, but the results are joined and checked once, at the end, side by side
+  flow     as dpoly-cluster does: what a part leaves are parts at once, and no machine waits for the end of a round
 
 docs/PERFORMANCE.md has a table.
 """
 import argparse
 import bisect
+import collections
 import heapq
+import itertools
+import math
 import random
 
 BRANCHES, STEPS = ('cut', 'flip', 'case'), ('pull', 'push', 'comb', 'unit', 'ban')
@@ -118,8 +122,75 @@ class Cluster:
             if way == 'joined':
                 self.clock += self.check(self.split)
             large = min(asked.growth * large, asked.most) if enough else large
-        behind = self.check(self.split) * (1 if way == 'joined' else 2)
-        return self.clock, behind, rounds
+        return self.clock, self.check(self.split), rounds
+
+
+class Flow:
+    """So many machines without rounds. A machine that is free takes a part that is laid out, or waits for one."""
+
+    def __init__(self, asked, machines, trees):
+        self.asked, self.machines, self.trees = asked, machines, trees
+        self.free, self.waiting, self.laid = machines, collections.deque(), collections.deque()
+        self.events, self.order, self.driver = [], itertools.count(), 0.0
+        self.results, self.split, self.seconds, self.busy, self.rounds = 1, 0, 0.0, 0.0, 0
+
+    def budget(self):
+        """As that of `dpoly-cluster`."""
+        asked, count = self.asked, len(self.laid) + len(self.waiting)
+        splits = self.split / max(self.seconds, 0.001) * math.sqrt(asked.root * self.seconds / self.machines)
+        most = min(splits, self.split / (asked.share * self.machines), asked.limit)
+        return max(asked.budget, int(most * min(1, max(1 / asked.small, count / (asked.enough * self.machines)))))
+
+    def learn(self, left, number):
+        """The driver has parts of this round, and lays some out."""
+        self.waiting += [(size, number) for size in reversed(left)]
+        while self.waiting and len(self.laid) < self.asked.ahead * self.machines:
+            budget = self.budget()
+            self.laid.append((*self.waiting.popleft(), budget))
+
+    def take(self, now):
+        """A machine takes a part."""
+        size, number, budget = self.laid.popleft()
+        self.rounds = max(self.rounds, number)
+        done, left = self.trees.search(size, budget)
+        took = self.asked.call + done / self.asked.rate
+        self.busy += took
+        heapq.heappush(self.events, (now + took, next(self.order), True, (done, took), left, number))
+
+    def run(self, splits):
+        """Seconds of the search, of what follows it, and rounds."""
+        asked = self.asked
+        done, left = self.trees.search(splits, asked.budget)
+        clock, self.split = asked.start + done / asked.rate, done
+        heapq.heappush(self.events, (clock, next(self.order), False, (0, 0.0), left, 0))
+        while self.events:
+            now, _, is_end, done, left, number = heapq.heappop(self.events)
+            if is_end:
+                clock, self.free, self.results = now, self.free + 1, self.results + 1
+                # the driver takes result after result, and looks for them from time to time
+                self.driver = max(self.driver, now) + asked.result
+                heapq.heappush(self.events, (self.driver + asked.look / 2, next(self.order), False, done, left, number))
+            else:
+                self.split += done[0]
+                self.seconds += done[1]
+                self.learn(left, number + 1)
+            while self.laid and self.free:
+                self.free -= 1
+                # who has just ended takes the next one; others look from time to time
+                self.take(now if is_end else now + asked.look / 2)
+        return clock, self.split / asked.rate * asked.check, self.rounds
+
+
+def row(asked, machines, way, found):
+    """What a way takes, and the share of the machines' time for which they have parts."""
+    splits = int(machines * asked.seconds * asked.rate)
+    asked = argparse.Namespace(**vars(asked))
+    asked.budget = asked.budget or (max(1000, 6 * machines) if way == 'flow' else 1000)
+    trees = Trees(found, random.Random(asked.seed))
+    it = (Flow if way == 'flow' else Cluster)(asked, machines, trees)
+    clock, behind, rounds = it.run(splits) if way == 'flow' else it.run(splits, way)
+    busy = (it.busy if way == 'flow' else asked.call * it.results + it.split / asked.rate) / (machines * clock)
+    print('| %d | %.1e | %s | %d | %d | %.2f | %.2f | %.2f |' % (machines, splits, way, rounds, it.results, busy, clock / asked.seconds, (clock + behind) / asked.seconds), flush=True)
 
 
 def main():
@@ -133,12 +204,19 @@ def main():
     parser.add_argument('--call', type=float, default=0.05, help='seconds of a part besides its splits')
     parser.add_argument('--round', type=float, default=3.0, help='seconds of a round besides its tasks')
     parser.add_argument('--result', type=float, default=0.0005, help='seconds of the driver for a result')
-    parser.add_argument('--budget', type=int, default=1000)
+    parser.add_argument('--budget', type=int, help='1000 by default; without rounds 6 for each machine where that is more')
     parser.add_argument('--growth', type=int, default=4)
     parser.add_argument('--enough', type=int, default=4)
-    parser.add_argument('--most', type=int, default=200000)
-    parser.add_argument('--parts', type=int, default=32)
-    parser.add_argument('--ways', default='fixed,rounds,joined')
+    parser.add_argument('--most', type=int, default=200000, help='splits of a part, in rounds')
+    parser.add_argument('--parts', type=int, default=32, help='groups of parts for each machine, in rounds')
+    parser.add_argument('--root', type=float, default=1.0, help='a part takes the root of so many times what a machine has worked')
+    parser.add_argument('--share', type=int, default=4)
+    parser.add_argument('--limit', type=int, default=1048576, help='splits of a part, without rounds')
+    parser.add_argument('--small', type=int, default=16)
+    parser.add_argument('--ahead', type=int, default=4)
+    parser.add_argument('--look', type=float, default=2.0, help='seconds after which driver and machines look for news')
+    parser.add_argument('--seed', type=int, default=1)
+    parser.add_argument('--ways', default='fixed,joined,rounds,flow')
     asked = parser.parse_args()
     found = []
     for name in asked.certs:
@@ -148,13 +226,10 @@ def main():
         print('%s: %d splits, %.1f lines a split; the larger side has %.2f, %.2f, %.2f of the rest at a tenth, half, nine tenths of %d branches'
               % (name.split('/')[-1], size, lines / size, *(uneven[int(it * (len(some) - 1))] for it in (0.1, 0.5, 0.9)), len(some)))
     found.sort()
-    print('| machines | splits | way | rounds | results | search | joined and checked too |\n|---|---|---|---|---|---|---|')
+    print('| machines | splits | way | rounds | results | busy | search | joined and checked too |\n|---|---|---|---|---|---|---|---|')
     for machines in asked.machines:
-        splits = int(machines * asked.seconds * asked.rate)
         for way in asked.ways.split(','):
-            cluster = Cluster(asked, machines, Trees(found, random.Random(1)))
-            clock, behind, rounds = cluster.run(splits, way)
-            print('| %d | %.1e | %s | %d | %d | %.2f | %.2f |' % (machines, splits, way, rounds, cluster.results, clock / asked.seconds, (clock + behind) / asked.seconds), flush=True)
+            row(asked, machines, way, found)
 
 
 main()

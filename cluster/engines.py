@@ -1,6 +1,7 @@
-"""Where the tasks of `dpoly-cluster` run. An engine starts commands (`submit`, each a list of words), says whether one of them
-still runs or waits (`running`), and ends all (`cancel`). It is made with the options of the call: `jobs`, `workers`, and
-`words`, what stands behind `--`. How commands end does not matter: what they leave to do is seen in the work folder.
+"""Where the jobs of `dpoly-cluster` run. An engine starts commands (`submit`, each a list of words), tells which of them run or
+wait (`running`: their numbers, counted from 0 through all calls of `submit`), and ends all (`cancel`). It is made with the
+options of the call: `jobs`, `workers`, and `words`, what stands behind `--`. There are never more commands than `jobs` that run
+or wait. How one ended does not matter: what it left to do is seen in the work folder.
 `--engine FILE.py` takes the class `Engine` of a file."""
 import importlib.util
 import os
@@ -15,42 +16,63 @@ class Local:
     """Processes of this machine."""
 
     def __init__(self, asked):
-        self.asked, self.waiting, self.going = asked, [], []
+        self.count, self.going = 0, {}
 
     def submit(self, commands):
-        self.waiting += commands
+        for it in commands:
+            self.going[self.count] = subprocess.Popen(it, stdin=subprocess.DEVNULL, start_new_session=True)
+            self.count += 1
 
     def running(self):
-        self.going = [it for it in self.going if it.poll() is None]
-        while self.waiting and len(self.going) < self.asked.jobs:
-            self.going.append(subprocess.Popen(self.waiting.pop(0), stdin=subprocess.DEVNULL, start_new_session=True))
-        return bool(self.going)
+        self.going = {number: it for number, it in self.going.items() if it.poll() is None}
+        return set(self.going)
 
     def cancel(self):
-        self.waiting = []
-        for it in self.going:
-            if it.poll() is None:
-                os.killpg(it.pid, signal.SIGKILL)
-                it.wait()
+        for number in self.running():
+            os.killpg(self.going[number].pid, signal.SIGKILL)
+            self.going[number].wait()
 
 
 class Parallel:
-    """GNU parallel, on the machines that its words name; with no words, on this one."""
+    """GNU parallel, on the machines that its words name; with no words, on this one. One call has all commands. Those that are
+    submitted while it runs wait for its end, since the places of a machine that is lost are lost, and others are taken."""
+
+    LOG = 'parallel.log'
 
     def __init__(self, asked):
-        self.words, self.process = asked.words or ['--jobs', str(asked.jobs)], None
+        self.words, self.count, self.process = asked.words or ['--jobs', str(asked.jobs)], 0, None
+        self.waiting, self.going = {}, []
 
     def submit(self, commands):
-        words = ['parallel', '--will-cite', '--retries', '4', *self.words]
+        for it in commands:
+            self.waiting[self.count] = it
+            self.count += 1
+        self.running()
+
+    def start(self):
+        """Starts those that wait."""
+        if os.path.exists(self.LOG):
+            os.remove(self.LOG)
+        words = ['parallel', '--will-cite', '--sshdelay', '0.1', '--joblog', self.LOG, *self.words]
         self.process = subprocess.Popen(words, stdin=subprocess.PIPE, stdout=subprocess.DEVNULL, start_new_session=True)
-        self.process.stdin.write(''.join(shlex.join(it) + '\n' for it in commands).encode())
+        self.process.stdin.write(''.join(shlex.join(it) + '\n' for it in self.waiting.values()).encode())
         self.process.stdin.close()
+        self.going, self.waiting = list(self.waiting), {}
 
     def running(self):
-        return self.process.poll() is None
+        if self.process is None or self.process.poll() is not None:
+            self.going = []
+            if self.waiting:
+                self.start()
+        ended = set()
+        if self.going and os.path.exists(self.LOG):
+            with open(self.LOG, encoding='utf-8', errors='replace') as file:
+                ended = {self.going[int(line.split('\t')[0]) - 1] for line in file if line[0].isdigit() and line.endswith('\n')}
+        return set(self.going) - ended | set(self.waiting)
 
     def cancel(self):
-        if self.process and self.running():
+        self.waiting = {}
+        if self.process and self.process.poll() is None:
             os.killpg(self.process.pid, signal.SIGKILL)
             self.process.wait()
 
@@ -59,7 +81,7 @@ class Slurm:
     """Arrays of sbatch."""
 
     def __init__(self, asked):
-        self.asked, self.arrays = asked, []
+        self.asked, self.arrays, self.numbers, self.alive = asked, [], {}, set()
 
     def submit(self, commands):
         asked = self.asked
@@ -71,12 +93,17 @@ class Slurm:
             script = '#!/bin/sh\ncase $SLURM_ARRAY_TASK_ID in\n%sesac\n' % cases
             said = subprocess.run(words, input=script, stdout=subprocess.PIPE, text=True, check=True).stdout
             self.arrays.append(said.strip().split(';')[0])
+            for index in range(len(some)):
+                self.alive.add(len(self.numbers))
+                self.numbers['%s_%d' % (self.arrays[-1], index)] = len(self.numbers)
 
     def running(self):
-        words = ['squeue', '--me', '--noheader', '--format=%F', '--states=PENDING,CONFIGURING,RUNNING,SUSPENDED']
+        words = ['squeue', '--me', '--noheader', '--array', '--format=%F_%K', '--states=PENDING,CONFIGURING,RUNNING,SUSPENDED']
         said = subprocess.run(words, stdout=subprocess.PIPE, text=True)
         # where the controller does not answer they may run
-        return said.returncode != 0 or not set(self.arrays).isdisjoint(said.stdout.split())
+        if said.returncode == 0:
+            self.alive = {self.numbers[it] for it in said.stdout.split() if it in self.numbers}
+        return self.alive
 
     def cancel(self):
         if self.arrays:

@@ -1,14 +1,20 @@
-"""What is done on the machines of a cluster: `parts.py FOLDER` goes on with the parts of the task in this folder. They are in
-groups; who makes the file FOLDER/N first goes on with group N, and then takes the next one that is free.
+"""What is done on the machines of a cluster: `parts.py FOLDER NUMBER` is the job of this number, which goes on with the parts
+that are laid out in FOLDER, one after the other, until the driver is done or gone.
+
+`queue/ORDER.BUDGET.NAME` is a part that is free. The job that renames it to `taken/NUMBER.NAME` goes on with it, and renames it
+to `ended/NAME` then, from where the driver takes it. Where it has no result then, it failed.
 
 A part is a box that a certificate leaves open. `done/NAME.cert` is what became of it, a certificate of the script in which
 all other boxes are open. `open/NAME.cert` is what that leaves to do: the same without the trees that leave nothing, which
 are `open` there, so it is short. The parts of NAME are called NAME-K, by their numbers K among the open lines of
 `open/NAME.cert`; `open/NAME.json` has these numbers. All of `open` can be made again from `done`."""
+import contextlib
 import json
 import os
+import random
 import subprocess
 import sys
+import time
 
 BRANCHES, STEPS, LEAVING = {b'cut', b'flip', b'case'}, {b'pull', b'push', b'comb', b'unit', b'ban'}, {b'open', b'stuck'}
 
@@ -47,17 +53,18 @@ def outline(tree, words, own):
 
 def told(name):
     """What is known of a result: the numbers of its parts, and besides how many lines are open in what it leaves to do,
-    how many branches that has, and how many splits were made for the result."""
+    how many branches that has, how many splits were made for the result, and in how many seconds, where that is known."""
     with open('open/%s.json' % name, encoding='ascii') as file:
         return json.load(file)
 
 
-def keep(name, there):
-    """Makes what stands under `there` the result of this name. An error where it is no whole certificate."""
+def keep(name, there, seconds=0):
+    """Makes what stands under `there`, which took so long, the result of this name, unless that has one. An error where it
+    is no whole certificate."""
     with open(there, 'rb') as file:
         lines = file.read().split(b'\n')
     parent, _, number = name.rpartition('-')
-    known = {'is_point': lines[4] == b'point', 'parts': [], 'open': 0, 'branches': 0, 'splits': 0}
+    known = {'is_point': lines[4] == b'point', 'parts': [], 'open': 0, 'branches': 0, 'splits': 0, 'seconds': seconds}
     if lines[-2:] != [b'end', b'']:
         raise ValueError('it is cut off')
     if not known['is_point']:
@@ -72,48 +79,88 @@ def keep(name, there):
         branches = sum(word(line or b'') in BRANCHES for line in left)
         known.update(parts=[place for place, line in enumerate(leaves) if line], open=len(leaves), branches=branches,
                      splits=sum(it in BRANCHES for it in words) - before['branches'])
+    result = 'done/%s.cert' % name
+    if there != result:
+        try:
+            os.link(there, result)
+        except FileExistsError:
+            return
+    if not known['is_point']:
         write('open/%s.cert' % name, b'\n'.join(lines[:top] + [line or b'open' for line in left] + lines[-2:]))
     write('open/%s.json' % name, json.dumps(known).encode())
-    os.replace(there, 'done/%s.cert' % name)
 
 
-def resume(task, name):
+def resume(task, name, budget):
     """Goes on with a part. Where that does not end as it should there is no result."""
     parent, _, number = name.rpartition('-')
     there = beside('done/' + name)
-    share = '%d/%d' % (int(number) + 1, told(parent)['open'])
-    words = [task['program'], 'resume', '--part', share, *task['options'], 'script.smt2', 'open/%s.cert' % parent, there]
     try:
+        share = '%d/%d' % (int(number) + 1, told(parent)['open'])
+        words = [task['program'], 'resume', '--part', share, '--budget', budget, *task['options'], 'script.smt2', 'open/%s.cert' % parent, there]
+        begin = time.monotonic()
         subprocess.run(words, stdin=subprocess.DEVNULL, stdout=subprocess.DEVNULL, timeout=task['seconds'], check=True)
-        keep(name, there)
-    except (subprocess.SubprocessError, ValueError, IndexError) as error:
+        keep(name, there, time.monotonic() - begin)
+    except (OSError, subprocess.SubprocessError, ValueError, IndexError) as error:
         print('dpoly-cluster: part %s: %s' % (name, error), file=sys.stderr)
     finally:
         if os.path.exists(there):
             os.remove(there)
 
 
-def is_free(claim):
-    """Whether nobody has made this claim before."""
-    try:
-        os.close(os.open(claim, os.O_CREAT | os.O_EXCL))
-    except FileExistsError:
-        return False
-    return True
+def taken(folder, number, jobs):
+    """A free part, its budget, and where it stands now; None where there is none. One of the first as many as there are
+    jobs, so that few of them want the same."""
+    first = sorted(os.listdir(folder + '/queue'))[:jobs]
+    for it in random.sample(first, len(first)):
+        _, budget, name = it.split('.')
+        there = '%s/taken/%s.%s' % (folder, number, name)
+        try:
+            os.rename('%s/queue/%s' % (folder, it), there)
+        except FileNotFoundError:
+            continue
+        return name, budget, there
+    return None
 
 
-def main(folder):
+class Presence:
+    """That of the driver, by the file that has its name while it is at work, and is touched all the time."""
+
+    def __init__(self, task):
+        self.task, self.touched, self.seen = task, None, 0
+
+    def is_there(self):
+        """Whether it is at work. How long ago the file was touched is told by the clock of this machine alone."""
+        with open('driver', encoding='ascii') as file:
+            touched = os.fstat(file.fileno()).st_mtime_ns
+            if file.read() != self.task['driver']:
+                return False
+        if touched != self.touched:
+            self.touched, self.seen = touched, time.monotonic()
+        return time.monotonic() < self.seen + self.task['patience']
+
+
+def main(folder, number):
     with open(folder + '/task', encoding='ascii') as file:
         task = json.load(file)
     os.chdir(os.path.dirname(os.path.dirname(folder)))
-    for number, group in enumerate(task['groups']):
-        for name in group if is_free('%s/%d' % (folder, number)) else []:
-            with open('driver', encoding='ascii') as file:
-                if file.read() != task['driver']:
-                    return
-            if not os.path.exists('done/%s.cert' % name):
-                resume(task, name)
+    driver, pause = Presence(task), 0.02
+    while driver.is_there():
+        part = taken(folder, number, task['jobs'])
+        if part is None:
+            time.sleep(pause)
+            pause = min(1.5 * pause, task['pause'])
+            continue
+        name, budget, there = part
+        result = 'done/%s.cert' % name
+        if not os.path.exists(result):
+            resume(task, name, budget)
+        with contextlib.suppress(FileNotFoundError):
+            os.rename(there, '%s/ended/%s' % (folder, name))
+        pause = 0.02
+        if not os.path.exists(result):
+            # where the fault is this machine's, others get the part
+            time.sleep(5 * task['pause'])
 
 
 if __name__ == '__main__':
-    main(sys.argv[1])
+    main(*sys.argv[1:])
