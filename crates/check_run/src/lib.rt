@@ -27,10 +27,10 @@ mod status;
 
 pub use both::{Inputs, Unread, fetch_both, header_bound};
 pub use check::{ROOM, Unconfirmed, check_session, refuse};
-pub use goal::check_goal;
-pub use least::confirmed_least;
 pub use checked::{confirmed_delta_sat, confirmed_unsat, left_open};
+pub use goal::check_goal;
 pub use joined::{keep_joined, not_joined, not_joined_at, refused_part};
+pub use least::confirmed_least;
 pub use planned::{plan_least_bits, plan_no_atom, plan_no_axis};
 pub use ports::{finish, say};
 pub use refused::cert_fault;

@@ -17,4 +17,4 @@ returns c = λ told are.
     let one : length c.args.session.now ≡ 1 = grind (arith, c.if-len-ne1.false, c.len.ensures) in
     let same : steps_in c.in_ok-typed.typed.course ≡ x.told = ap steps_in c.in_ok-typed.ensures.0 ∙ same_steps _ (steps_in c.in_ok-course.course) x.told c.in_ok-course.ensures.1 x.are in
     c.goal_of.ensures ∙ sym (ap (λ (ss : List Step). Rattle.script_reading.specs.Goals.goal_of_checks (Rattle.smt_script.specs.Levels.checks_of ss)) (same_steps _ told x.told are x.are)
-        ∙ only_goal x.bound x.told (steps_in c.in_ok-typed.typed.course) c.args.session.now x.built one same (commands_in c.in_ok-only.only.script) c.in_ok-only.ensures c.in_ok-problem.problem c.in_ok-problem.ensures)
+    ∙ only_goal x.bound x.told (steps_in c.in_ok-typed.typed.course) c.args.session.now x.built one same (commands_in c.in_ok-only.only.script) c.in_ok-only.ensures c.in_ok-problem.problem c.in_ok-problem.ensures)

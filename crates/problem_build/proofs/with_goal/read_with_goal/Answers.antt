@@ -29,6 +29,6 @@ returns-clause-goal c =
       | then-minimizes+in_ok-goal w ↦ w.goal-is ∙ w.in_ok-goal.ensures (steps_in course) c.in_ok-course.ensures.1 ∙ goal-told
       | else-minimizes w ↦
           let none : has_goal (steps_in course) ≡ false =
-              ap (λ (xs : List code.Step). has_goal (map (step_of course.sexps.now) xs)) (sym c.as_slice.ensures.value) ∙ sym (c.has_goal-minimizes.ensures course.sexps.now) ∙ w.if-minimizes.false in
+          ap (λ (xs : List code.Step). has_goal (map (step_of course.sexps.now) xs)) (sym c.as_slice.ensures.value) ∙ sym (c.has_goal-minimizes.ensures course.sexps.now) ∙ w.if-minimizes.false in
           w.goal-is ∙ sym (no_goal (steps_in course) none) ∙ goal-told
     ]
