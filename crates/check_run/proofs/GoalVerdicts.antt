@@ -1,10 +1,10 @@
 -- From a certificate of a script with a goal on its port to the end of a run.
-use Rattle.std.proofs.Common.{◌≡◌, ◌<◌, ◌≤◌, ◌++◌, ℕ, List, [], ◌∷◌, Option, Some, None, Result, Ok, Err, IfSome, length, take, drop, refl, ap, sym, ◌∙◌, subst, inl, inr, take-append-drop}
+use Rattle.std.proofs.Common.{◌≡◌, ◌<◌, ◌≤◌, ◌++◌, ℕ, List, [], ◌∷◌, Option, Some, None, Result, Ok, Err, IfSome, length, take, drop, ap, sym, ◌∙◌, subst, inl, inr, take-append-drop}
 use Rattle.std.specs.Prelude.{Bool, map, slice_get}
 use Rattle.std.specs.Option.{option_map}
 use Rattle.std.proofs.lemmas.Option.{none-some, same_Some}
 use Rattle.dyadic.specs.Rounding.{Dyadic, Ext}
-use Rattle.dyadic.specs.Views.{dyadic_of, ext_of}
+use Rattle.dyadic.specs.Views.{ext_of}
 use Rattle.desk.specs.declared.desk.Port.TheVariants.{CertIn}
 use Rattle.desk.specs.Sight.{Sight, ReadStep, with_start}
 use Rattle.desk.specs.Texts.{ReadsSome}
@@ -13,10 +13,9 @@ use Rattle.interval_model.specs.Space.{Space}
 use Rattle.poly_graph.specs.Problem.{Problem}
 use Rattle.poly_graph.specs.ProblemViews.{Parts, problem_of}
 use Rattle.cert_read.specs.LineText.{lower_text}
-use Rattle.cover_model.specs.State.{Loosenings}
 use Rattle.cert_model.specs.Accepted.{accepted, refused}
-use Rattle.cert_model.specs.AnswerText.{goal_text, upper_line, text_line, verdict_text}
-use Rattle.cert_model.specs.Least.{GoalValue, GoalVerdict, Least, plain, least, goal_verdict, upper_at}
+use Rattle.cert_model.specs.AnswerText.{upper_line, text_line, verdict_text}
+use Rattle.cert_model.specs.Least.{GoalVerdict, plain, least, goal_verdict, upper_at}
 use Rattle.cert_check.specs.declared.checker.Verdict.{Verdict}
 use Rattle.cert_check.specs.declared.fault.CertFault.{CertFault}
 use Rattle.cert_check.specs.Courses.{IsRefusal}

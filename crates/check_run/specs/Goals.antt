@@ -5,7 +5,7 @@ use Rattle.desk.specs.Sight.{Sight}
 use Rattle.desk.specs.Texts.{ReadsSome, ReadsThenFails}
 use Rattle.poly_graph.specs.Problem.{Problem}
 use Rattle.poly_graph.specs.ProblemViews.{Parts, problem_of}
-use Rattle.dyadic.specs.Rounding.{Dyadic, Ext}
+use Rattle.dyadic.specs.Rounding.{Ext}
 use Rattle.dyadic.specs.Views.{dyadic_of, ext_of}
 use Rattle.cert_read.specs.LineText.{lower_text}
 use Rattle.cover_model.specs.State.{Loosenings}

@@ -1,7 +1,4 @@
-use Rattle.std.proofs.Common.{List, subst}
-use Rattle.cert_least.specs.declared.verdict.GoalVerdict.{GoalVerdict}
 use Rattle.poly_graph.specs.ProblemViews.{problem_of}
-use Rattle.check_run.specs.Goals.{IsGoalConfirmation}
 use Rattle.check_run.specs.declared.status.Status.TheVariants.{Answered}
 use Rattle.check_run.proofs.GoalVerdicts.{goal_concluded, goal_confirmed}
 use Rattle.check_run.proofs.goal.confirm.Goals as goal
