@@ -33,6 +33,7 @@ pub fn said<'a>(line: &'a Line) -> TreeLine<'a>
         Line::Delta(_) => TreeLine::Other,
         Line::Bound(_) => TreeLine::Other,
         Line::Lower(_) => TreeLine::Other,
+        Line::Goal(_) => TreeLine::Other,
         Line::Checks(_) => TreeLine::Other,
         Line::Cover(_) => TreeLine::Other,
         Line::Keep(_) => TreeLine::Other,

@@ -15,7 +15,7 @@ use Rattle.dyadic.proofs.Equal.{both_true, both_pass}
 use Rattle.cert_read.specs.Lines.{all_bytes, is_word, are_words, words_of, is_too_long, longest_line}
 use Rattle.cover_line.specs.Line.{Multipliers, Line, pull, unit, void, push, void_no, combine, void_combine, ban, make_false, by, cut, flip, case, open_line, stuck}
 use Rattle.cover_line.specs.Words.{RuleWord, empty_word, pull_word, unit_word, ban_word, void_word, push_word, void_no_word, false_word, by_word, cut_word, flip_word, case_word, open_word, stuck_word, combine_word, void_combine_word, word_of, word_text, Operands, of_nothing, of_atom, of_lemma, of_atom_lemma, of_axis, of_axis_place, of_multipliers, operands_of}
-use Rattle.cert_read.specs.CertLine.{BoolWord, says_false, says_true, says_both, CertLine, version, margin, delta, bound, lower, over, checks, cover, keep, point_word, tree_word, end_word, lemma, real_interval, real_value, bool_value, yes_list, no_list, rule_line, crossing, is_plain, if_below, if_plain, count_of, if_number, dyadic_of, counts_of, and_count, pairs_of, and_pair, are_paired, has_pairs, line, parsed, with_count, with_counts, with_dyadic, with_dyadics, with_both, with_list, bound_in, lower_in, paired, by_first, if_words, unless_long}
+use Rattle.cert_read.specs.CertLine.{BoolWord, says_false, says_true, says_both, CertLine, version, margin, delta, bound, lower, goal, over, checks, cover, keep, point_word, tree_word, end_word, lemma, real_interval, real_value, bool_value, yes_list, no_list, rule_line, crossing, is_plain, if_below, if_plain, count_of, if_number, dyadic_of, counts_of, and_count, pairs_of, and_pair, are_paired, has_pairs, line, parsed, with_count, with_counts, with_dyadic, with_dyadics, with_both, with_list, bound_in, lower_in, paired, by_first, if_words, unless_long}
 use Rattle.cert_read.specs.LineText.{spaced, line_words, line_text, rule_words, operand_words, pair_words, bound_text, lower_text, bool_text, is_word_byte, IsCount, IsSpelledNumber, IsSpelledPair, AreSpelledPairs, AreSpelledOperands, IsSpelledRule, IsSpelledBound, IsSpelledLower, HasSpelling, IsSpelled}
 use Rattle.cert_read.proofs.Paired.{paired_line}
 use Rattle.cert_read.proofs.Pieces.{lacks, AllLack, words_of_spaced, spaced_lacks}
@@ -168,6 +168,7 @@ line-clean (margin m) h = (literal (codes "margin") refl refl, (decimal-clean m 
 line-clean (delta d) h = (literal (codes "delta") refl refl, (decimal-clean d h, tt))
 line-clean (bound b) h = (literal (codes "bound") refl refl, (bound-clean b h, tt))
 line-clean (lower d) h = (literal (codes "lower") refl refl, (lower-clean d h, tt))
+line-clean (goal k) h = (literal (codes "goal") refl refl, (decimal-clean k h, tt))
 line-clean (checks c) h = (literal (codes "checks") refl refl, (decimal-clean c h, tt))
 line-clean (cover k) h = (literal (codes "cover") refl refl, (decimal-clean k h, tt))
 line-clean (keep q) h = (literal (codes "keep") refl refl, (decimal-clean q h, tt))
@@ -251,6 +252,7 @@ line-says (margin m) h = one-says margin m h
 line-says (delta d) h = one-says delta d h
 line-says (bound b) h = bound-says b h
 line-says (lower d) h = lower-says d h
+line-says (goal k) h = one-says goal k h
 line-says (checks c) h = one-says checks c h
 line-says (cover k) h = one-says cover k h
 line-says (keep q) h = one-says keep q h

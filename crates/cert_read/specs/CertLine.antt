@@ -20,6 +20,8 @@ pub data CertLine : Type 0 where
   checks : ℕ → CertLine
   -- a lower bound of the goal; none where it has none
   lower : Option Dyadic → CertLine
+  -- the cover is one of the problem with a limit of the goal: 2 to the power of this, times the goal, is a whole number at most
+  goal : ℕ → CertLine
   -- the number of lemmas, and how many of them are those of the part before
   cover keep : ℕ → CertLine
   point_word tree_word end_word : CertLine
@@ -187,7 +189,7 @@ entry name (e ∷ rest) = cond (bytes_eq name e.0) (Some e.1) (entry name rest)
 
 abbrev pub header_forms : List (List ℕ × (List (List ℕ) → Parsed))
 header_forms =
-    (codes "dpoly", counted version) ∷ (codes "margin", counted margin) ∷ (codes "delta", counted delta) ∷ (codes "bound", bound_in) ∷ (codes "lower", lower_in) ∷ (codes "checks", counted checks) ∷ (codes "cover", counted cover) ∷ (codes "keep", counted keep) ∷
+    (codes "dpoly", counted version) ∷ (codes "margin", counted margin) ∷ (codes "delta", counted delta) ∷ (codes "bound", bound_in) ∷ (codes "lower", lower_in) ∷ (codes "goal", counted goal) ∷ (codes "checks", counted checks) ∷ (codes "cover", counted cover) ∷ (codes "keep", counted keep) ∷
     (codes "point", alone point_word) ∷ (codes "tree", alone tree_word) ∷ (codes "end", alone end_word) ∷ (codes "lemma", counted lemma) ∷
     (codes "real", real_in) ∷ (codes "bool", bool_in) ∷ (codes "yes", listed yes_list) ∷ (codes "no", listed no_list) ∷ (codes "over", alone over) ∷ (word_text empty_word, counted crossing) ∷ []
 

@@ -4,7 +4,7 @@ use Rattle.std.specs.Str.{bytes_eq}
 use Rattle.cover_line.specs.Words.{word_text}
 use Rattle.cover_line.specs.Views.{rule_word}
 use Rattle.cert_read.specs.declared.keyword.Keyword.{Keyword}
-use Rattle.cert_read.specs.declared.keyword.Keyword.TheVariants.{Version, Margin, Delta, Bound, Lower, Checks, Cover, Keep, Point, Tree, End, Lemma, Real, Bool, Yes, No, Over, Rule}
+use Rattle.cert_read.specs.declared.keyword.Keyword.TheVariants.{Version, Margin, Delta, Bound, Lower, Goal, Checks, Cover, Keep, Point, Tree, End, Lemma, Real, Bool, Yes, No, Over, Rule}
 use Rattle.cert_read.specs.CertLine.{bad_line, by_first}
 
 abbrev pub keyword_text : Keyword → List ℕ
@@ -13,6 +13,7 @@ keyword_text Margin = codes "margin"
 keyword_text Delta = codes "delta"
 keyword_text Bound = codes "bound"
 keyword_text Lower = codes "lower"
+keyword_text Goal = codes "goal"
 keyword_text Checks = codes "checks"
 keyword_text Cover = codes "cover"
 keyword_text Keep = codes "keep"
@@ -35,6 +36,7 @@ header_keyword_of w =
     cond (bytes_eq w (codes "delta")) (Some Delta) (
     cond (bytes_eq w (codes "bound")) (Some Bound) (
     cond (bytes_eq w (codes "lower")) (Some Lower) (
+    cond (bytes_eq w (codes "goal")) (Some Goal) (
     cond (bytes_eq w (codes "checks")) (Some Checks) (
     cond (bytes_eq w (codes "cover")) (Some Cover) (
     cond (bytes_eq w (codes "keep")) (Some Keep) (
@@ -47,7 +49,7 @@ header_keyword_of w =
     cond (bytes_eq w (codes "yes")) (Some Yes) (
     cond (bytes_eq w (codes "no")) (Some No) (
     cond (bytes_eq w (codes "over")) (Some Over) (
-    None)))))))))))))))))
+    None))))))))))))))))))
 
 -- the word that leads a line; none where no line begins so
 abbrev pub IsKeywordIn : List ℕ → Option Keyword → Type 0

@@ -6,7 +6,7 @@ use Rattle.dyadic.specs.NumberText.{number, number_text, number_spelling}
 use Rattle.cert_read.specs.Lines.{all_bytes, longest_line}
 use Rattle.cover_line.specs.Line.{Multipliers, Line}
 use Rattle.cover_line.specs.Words.{empty_word, word_of, word_text, Operands, of_nothing, of_atom, of_lemma, of_atom_lemma, of_axis, of_axis_place, of_multipliers, operands_of}
-use Rattle.cert_read.specs.CertLine.{BoolWord, says_false, says_true, says_both, CertLine, version, margin, delta, bound, lower, over, checks, cover, keep, point_word, tree_word, end_word, lemma, real_interval, real_value, bool_value, yes_list, no_list, rule_line, crossing}
+use Rattle.cert_read.specs.CertLine.{BoolWord, says_false, says_true, says_both, CertLine, version, margin, delta, bound, lower, goal, over, checks, cover, keep, point_word, tree_word, end_word, lemma, real_interval, real_value, bool_value, yes_list, no_list, rule_line, crossing}
 
 -- words parted by one space
 abbrev pub spaced : List (List ℕ) → List ℕ
@@ -55,6 +55,7 @@ line_words (margin m) = codes "margin" ∷ decimal m ∷ []
 line_words (delta d) = codes "delta" ∷ decimal d ∷ []
 line_words (bound b) = codes "bound" ∷ bound_text b ∷ []
 line_words (lower d) = codes "lower" ∷ lower_text d ∷ []
+line_words (goal k) = codes "goal" ∷ decimal k ∷ []
 line_words (checks c) = codes "checks" ∷ decimal c ∷ []
 line_words (cover k) = codes "cover" ∷ decimal k ∷ []
 line_words (keep q) = codes "keep" ∷ decimal q ∷ []
@@ -120,6 +121,7 @@ HasSpelling (margin m) = IsCount m
 HasSpelling (delta d) = IsCount d
 HasSpelling (bound b) = IsSpelledBound b
 HasSpelling (lower d) = IsSpelledLower d
+HasSpelling (goal k) = IsCount k
 HasSpelling (checks c) = IsCount c
 HasSpelling (cover k) = IsCount k
 HasSpelling (keep q) = IsCount q

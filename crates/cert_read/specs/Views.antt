@@ -5,8 +5,8 @@ use Rattle.cover_line.specs.Views as rules
 use Rattle.cert_read.specs.declared.line.BoolSet.{BoolSet}
 use Rattle.cert_read.specs.declared.line.BoolSet.TheVariants as set
 use Rattle.cert_read.specs.declared.line.Line.{Line}
-use Rattle.cert_read.specs.declared.line.Line.TheVariants.{Version, Margin, Delta, Bound, Lower, Checks, Cover, Keep, Point, Tree, End, Lemma, RealInterval, RealValue, Bool, Yes, No, Rule, Over, Empty}
-use Rattle.cert_read.specs.CertLine.{BoolWord, says_false, says_true, says_both, CertLine, version, margin, delta, bound, lower, over, checks, cover, keep, point_word, tree_word, end_word, lemma, real_interval, real_value, bool_value, yes_list, no_list, rule_line, crossing}
+use Rattle.cert_read.specs.declared.line.Line.TheVariants.{Version, Margin, Delta, Bound, Lower, Goal, Checks, Cover, Keep, Point, Tree, End, Lemma, RealInterval, RealValue, Bool, Yes, No, Rule, Over, Empty}
+use Rattle.cert_read.specs.CertLine.{BoolWord, says_false, says_true, says_both, CertLine, version, margin, delta, bound, lower, goal, over, checks, cover, keep, point_word, tree_word, end_word, lemma, real_interval, real_value, bool_value, yes_list, no_list, rule_line, crossing}
 
 abbrev pub bool_word_of : BoolSet → BoolWord
 bool_word_of set.False = says_false
@@ -19,6 +19,7 @@ line_of (Margin n) = margin n
 line_of (Delta n) = delta n
 line_of (Bound b) = bound b
 line_of (Lower d) = lower (option_map dyadic_of d)
+line_of (Goal k) = goal k
 line_of (Checks n) = checks n
 line_of (Cover n) = cover n
 line_of (Keep n) = keep n

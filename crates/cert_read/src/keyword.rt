@@ -12,6 +12,7 @@ pub(crate) enum Keyword {
     Delta,
     Bound,
     Lower,
+    Goal,
     Checks,
     Cover,
     Keep,
@@ -46,6 +47,9 @@ fn header_keyword_in(word: &[u8]) -> Option<Keyword>
     }
     if word == b"lower".as_slice() {
         return Some(Keyword::Lower);
+    }
+    if word == b"goal".as_slice() {
+        return Some(Keyword::Goal);
     }
     if word == b"checks".as_slice() {
         return Some(Keyword::Checks);

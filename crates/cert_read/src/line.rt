@@ -23,6 +23,8 @@ pub enum Line {
     Bound(Option<u32>),
     /// `lower`, with a lower bound of the goal, or `none`.
     Lower(Option<Dy>),
+    /// `goal`, with the bits of the limit of the goal.
+    Goal(u32),
     /// `checks`, with the number of checks.
     Checks(u32),
     /// `cover`, with the number of lemmas.

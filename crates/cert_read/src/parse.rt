@@ -71,6 +71,7 @@ fn after_keyword(alloc: Global, word: Keyword, rest: Option<&[u8]>) -> Result<Li
         Keyword::Delta => Ok(Line::Delta(number(rest)?)),
         Keyword::Bound => bound(rest),
         Keyword::Lower => lower(rest),
+        Keyword::Goal => Ok(Line::Goal(number(rest)?)),
         Keyword::Checks => Ok(Line::Checks(number(rest)?)),
         Keyword::Cover => Ok(Line::Cover(number(rest)?)),
         Keyword::Keep => Ok(Line::Keep(number(rest)?)),

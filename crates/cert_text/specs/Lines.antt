@@ -7,7 +7,7 @@ use Rattle.cover_line.specs.Words.{empty_word, false_word, by_word, flip_word, o
 use Rattle.cover_line.specs.Line.{Multipliers}
 use Rattle.cover_line.specs.declared.rule.CombinationRule.{CombinationRule}
 use Rattle.cover_line.specs.Views.{atom_line, combination_line, rule_word}
-use Rattle.cert_read.specs.CertLine.{says_false, says_true, says_both, CertLine, version, margin, delta, bound, lower, over, checks, cover, keep, point_word, tree_word, end_word, lemma, bool_value, yes_list, no_list, rule_line, crossing}
+use Rattle.cert_read.specs.CertLine.{says_false, says_true, says_both, CertLine, version, margin, delta, bound, lower, goal, over, checks, cover, keep, point_word, tree_word, end_word, lemma, bool_value, yes_list, no_list, rule_line, crossing}
 use Rattle.cert_read.specs.LineText.{IsSpelled, IsSpelledPair, line_text}
 use Rattle.dyadic.specs.Rounding.{Dyadic}
 use Rattle.dyadic.specs.NumberText.{number_spelling}
@@ -58,6 +58,7 @@ counted_line counted.Version n = version n
 counted_line counted.Margin n = margin n
 counted_line counted.Delta n = delta n
 counted_line counted.Bound n = bound (Some n)
+counted_line counted.Goal n = goal n
 counted_line counted.Checks n = checks n
 counted_line counted.Cover n = cover n
 counted_line counted.Keep n = keep n
@@ -72,6 +73,7 @@ counted_word counted.Version = codes "dpoly"
 counted_word counted.Margin = codes "margin"
 counted_word counted.Delta = codes "delta"
 counted_word counted.Bound = codes "bound"
+counted_word counted.Goal = codes "goal"
 counted_word counted.Checks = codes "checks"
 counted_word counted.Cover = codes "cover"
 counted_word counted.Keep = codes "keep"

@@ -92,6 +92,7 @@ pub fn append_line(text: &mut Vec<u8>, line: &Line) -> Result<(), AllocError>
         Line::Delta(n) => append_counted(text, Counted::Delta, *n),
         Line::Bound(limit) => append_bound(text, *limit),
         Line::Lower(bound) => append_lower_bound(text, *bound),
+        Line::Goal(bits) => append_counted(text, Counted::Goal, *bits),
         Line::Checks(n) => append_counted(text, Counted::Checks, *n),
         Line::Cover(n) => append_counted(text, Counted::Cover, *n),
         Line::Keep(n) => append_counted(text, Counted::Keep, *n),
