@@ -8,7 +8,7 @@ use Rattle.clap.specs.Words.{Row, Text, all_of, fault_of, first_of, one_of, subc
 use Rattle.clap.specs.Walk.{is_empty}
 use Rattle.command_line.specs.declared.request.Options.{Options}
 use Rattle.command_line.specs.Program.{program}
-use Rattle.command_line.specs.Words.{Command, Solve, Check, Demo, Upgrade, Plan, Share, Resume, Join, solve, check, demo, upgrade, plan, resume, join, AreOptions, IsBound, IsDemo, IsPlan, IsShare, IsResume, IsJoin, are_several, are_files, joined_files, join_of, IsInRange, is_number, number_of, number_in, long_number_in, within, ordered, parted, parted_upgrade, ordered_plan, ordered_share, parts_of, share_by, share_of, share_in, parted_resume, usual, options_of, solve_of, check_of, demo_of, upgrade_of, plan_of, resume_of, chosen_other, chosen, command_of}
+use Rattle.command_line.specs.Words.{Command, Solve, Minimize, Check, Demo, Upgrade, Plan, Share, Resume, Join, solve, minimize, check, demo, upgrade, plan, resume, join, AreOptions, IsBound, IsDemo, IsMinimize, IsPlan, IsShare, IsResume, IsJoin, are_several, are_files, joined_files, join_of, IsInRange, is_number, number_of, number_in, long_number_in, within, ordered, parted, parted_upgrade, ordered_plan, ordered_share, parts_of, share_by, share_of, share_in, parted_resume, usual, options_of, solve_of, minimize_of, check_of, demo_of, upgrade_of, plan_of, resume_of, chosen_other, chosen, command_of}
 use Rattle.command_line.proofs.Numbers.{and_first, and_second, true_less}
 
 -- a chain that gives a value gave one before
@@ -94,6 +94,19 @@ solve_in_range rows asked h = by_parts (first_of (codes "script") rows) (first_o
   by_parts (Some script) (Some cert) (Some options) e h =
       let is : ◌≡◌ {A = Solve} (record { script = script; cert = cert; options = options }) asked = cc in
       subst (λ (s : Solve). AreOptions s.options) is (are_options rows options e)
+
+minimize_in_range : (rows : List Row) (asked : Minimize) → minimize_of rows ≡ Some asked → IsMinimize asked
+minimize_in_range rows asked h = by_parts (first_of (codes "script") rows) (first_of (codes "cert") rows) (number_in 0 30 (codes "gap-bits") rows) refl (options_of rows) refl h where
+  by_parts : (script cert : Option Text) (gap : Option ℕ) → number_in 0 30 (codes "gap-bits") rows ≡ gap → (options : Option Options) → options_of rows ≡ options
+      → option_and_then (λ script. option_and_then (λ cert. option_and_then (λ gap. option_and_then (λ options.
+      Some (record { script = script; cert = cert; gap_bits = gap; options = options })) options) gap) cert) script ≡ Some asked → IsMinimize asked
+  by_parts None cert gap f options e h = cc
+  by_parts (Some script) None gap f options e h = cc
+  by_parts (Some script) (Some cert) None f options e h = cc
+  by_parts (Some script) (Some cert) (Some gap) f None e h = cc
+  by_parts (Some script) (Some cert) (Some gap) f (Some options) e h =
+      let is : ◌≡◌ {A = Minimize} (record { script = script; cert = cert; gap_bits = gap; options = options }) asked = cc in
+      subst IsMinimize is (record { gap_most = (between 0 30 (codes "gap-bits") rows gap f).at_most; options = are_options rows options e })
 
 parted_is : (c v : Check) → parted c ≡ Some v → c ≡ v
 parted_is c v h = by_test (bytes_eq c.script (codes "-") && bytes_eq c.cert (codes "-")) h where
@@ -284,6 +297,10 @@ taken_plan : (f : Plan → Command) (o : Option Plan) (c : Command) → option_m
 taken_plan f None c h = cc
 taken_plan f (Some x) c h = record { value = x; was = refl; gives = h }
 
+taken_minimize : (f : Minimize → Command) (o : Option Minimize) (c : Command) → option_map f o ≡ Some c → Chained (λ x. Some (f x)) o c
+taken_minimize f None c h = cc
+taken_minimize f (Some x) c h = record { value = x; was = refl; gives = h }
+
 taken_resume : (f : Resume → Command) (o : Option Resume) (c : Command) → option_map f o ≡ Some c → Chained (λ x. Some (f x)) o c
 taken_resume f None c h = cc
 taken_resume f (Some x) c h = record { value = x; was = refl; gives = h }
@@ -328,14 +345,24 @@ other_in_range entered c h = first (bytes_eq entered.0 (codes "solve")) h where
   second true e = let t = taken_check (λ asked. check asked) (check_of entered.1) c e in some_is (check t.value) t.gives (check_in_range entered.1 t.value t.was)
   second false e = third (bytes_eq entered.0 (codes "demo")) e
 
-  first : (b : Bool) → ◌≡◌ {A = Option Command} (if b then option_map (λ asked. solve asked) (solve_of entered.1)
+  minimal : (b : Bool) → ◌≡◌ {A = Option Command} (if b then option_map (λ asked. minimize asked) (minimize_of entered.1)
       else (if bytes_eq entered.0 (codes "check") then option_map (λ asked. check asked) (check_of entered.1)
       else (if bytes_eq entered.0 (codes "demo") then option_map (λ asked. demo asked) (demo_of entered.1)
       else (if bytes_eq entered.0 (codes "upgrade") then option_map (λ asked. upgrade asked) (upgrade_of entered.1)
       else (if bytes_eq entered.0 (codes "plan") then option_map (λ asked. plan asked) (plan_of entered.1)
       else (if bytes_eq entered.0 (codes "resume") then option_map (λ asked. resume asked) (resume_of entered.1) else None)))))) (Some c) → IsInRange c
+  minimal true e = let t = taken_minimize (λ asked. minimize asked) (minimize_of entered.1) c e in some_is (minimize t.value) t.gives (minimize_in_range entered.1 t.value t.was)
+  minimal false e = second (bytes_eq entered.0 (codes "check")) e
+
+  first : (b : Bool) → ◌≡◌ {A = Option Command} (if b then option_map (λ asked. solve asked) (solve_of entered.1)
+      else (if bytes_eq entered.0 (codes "minimize") then option_map (λ asked. minimize asked) (minimize_of entered.1)
+      else (if bytes_eq entered.0 (codes "check") then option_map (λ asked. check asked) (check_of entered.1)
+      else (if bytes_eq entered.0 (codes "demo") then option_map (λ asked. demo asked) (demo_of entered.1)
+      else (if bytes_eq entered.0 (codes "upgrade") then option_map (λ asked. upgrade asked) (upgrade_of entered.1)
+      else (if bytes_eq entered.0 (codes "plan") then option_map (λ asked. plan asked) (plan_of entered.1)
+      else (if bytes_eq entered.0 (codes "resume") then option_map (λ asked. resume asked) (resume_of entered.1) else None))))))) (Some c) → IsInRange c
   first true e = let t = taken (λ asked. solve asked) (solve_of entered.1) c e in some_is (solve t.value) t.gives (solve_in_range entered.1 t.value t.was)
-  first false e = second (bytes_eq entered.0 (codes "check")) e
+  first false e = minimal (bytes_eq entered.0 (codes "minimize")) e
 
 -- What is chosen is in its range.
 pub chosen_in_range : (entered : Text × List Row) (c : Command) → chosen entered ≡ Some c → IsInRange c

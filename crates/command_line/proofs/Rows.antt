@@ -2,12 +2,21 @@
 use Rattle.std.proofs.Common.{◌≡◌, refl, [], ◌∷◌, Some, None, codes}
 use Rattle.clap.proofs.OnLiterals.{clap_on_literals}
 use Rattle.command_line.specs.Program.{checker, program}
-use Rattle.command_line.specs.Words.{number_of, parts_of, usual, checker_of, command_of, solve, check, demo, upgrade, plan, resume, join}
+use Rattle.command_line.specs.Words.{number_of, parts_of, usual, checker_of, command_of, solve, minimize, check, demo, upgrade, plan, resume, join}
 
 -- the usual options
 usual_solve : command_of (codes "dpoly" ∷ codes "solve" ∷ codes "s" ∷ codes "c" ∷ []) ≡ Some (solve (record { script = codes "s"; cert = codes "c"; options = usual 1 }))
 unfolding program clap_on_literals number_of
 usual_solve = refl
+
+-- the gap of `minimize`, beside the options of `solve`
+usual_minimize : command_of (codes "dpoly" ∷ codes "minimize" ∷ codes "s" ∷ codes "c" ∷ []) ≡ Some (minimize (record { script = codes "s"; cert = codes "c"; gap_bits = 10; options = usual 1 }))
+unfolding clap_on_literals program number_of
+usual_minimize = refl
+
+gap_above : command_of (codes "dpoly" ∷ codes "minimize" ∷ codes "s" ∷ codes "c" ∷ codes "--gap-bits" ∷ codes "31" ∷ []) ≡ None
+unfolding clap_on_literals program number_of
+gap_above = refl
 
 -- a plus sign and leading zeros
 plus_and_zeros : command_of (codes "dpoly" ∷ codes "solve" ∷ codes "s" ∷ codes "c" ∷ codes "--budget" ∷ codes "007" ∷ codes "--workers" ∷ codes "+1" ∷ []) ≡ Some (solve (record { script = codes "s"; cert = codes "c"; options = record (usual 1) { budget = 7 } }))

@@ -3,9 +3,9 @@ use Rattle.std.specs.Prelude.{ℕ, true, pos, List, [], ◌∷◌, Some, codes}
 use Rattle.clap.specs.Words.{App, Rule, Text, new_app, new_rule, with_rule, with_subcommand}
 use Rattle.clap.specs.declared.builder.value_parser.ValueParser.TheVariants as parser
 use Rattle.command_line.specs.declared.program.Part.{Part}
-use Rattle.command_line.specs.declared.program.Part.TheVariants.{Script, Cert, Certs, Out, Seed, Size, Delta, Margin, Least, Budget, Bound, Workers, Share}
+use Rattle.command_line.specs.declared.program.Part.TheVariants.{Script, Cert, Certs, Out, Seed, Size, Delta, Margin, Least, Budget, Bound, Workers, Gap, Share}
 use Rattle.command_line.specs.declared.program.Name.{Name}
-use Rattle.command_line.specs.declared.program.Name.TheVariants.{Solve, Check, Demo, Upgrade, Plan, Resume, Join}
+use Rattle.command_line.specs.declared.program.Name.TheVariants.{Solve, Minimize, Check, Demo, Upgrade, Plan, Resume, Join}
 
 -- a word that has to be there
 abbrev pub word_rule : Text → Rule
@@ -37,6 +37,9 @@ bound_rule = number_rule (codes "bound") 1 4294967295 []
 abbrev pub workers_rule : Rule
 workers_rule = number_rule (codes "workers") 1 64 (codes "1" ∷ [])
 
+abbrev pub gap_rule : Rule
+gap_rule = number_rule (codes "gap-bits") 0 30 (codes "10" ∷ [])
+
 -- `--part I/N`, a text
 abbrev pub share_rule : Rule
 share_rule = record (new_rule (codes "part")) { long = Some (codes "part"); defaults = codes "1/1" ∷ [] }
@@ -65,6 +68,7 @@ rule_in Least = least_rule
 rule_in Budget = budget_rule
 rule_in Bound = bound_rule
 rule_in Workers = workers_rule
+rule_in Gap = gap_rule
 rule_in Share = share_rule
 
 -- a command with these parts behind those that it has
@@ -83,6 +87,7 @@ checker = check_named (codes "dpoly-check")
 -- the subcommands, each with its words and its options
 abbrev pub app_in : Name → App
 app_in Solve = with_parts (new_app (codes "solve")) (Script ∷ Cert ∷ Delta ∷ Margin ∷ Least ∷ Budget ∷ Bound ∷ Workers ∷ [])
+app_in Minimize = with_parts (new_app (codes "minimize")) (Script ∷ Cert ∷ Gap ∷ Delta ∷ Margin ∷ Least ∷ Budget ∷ Bound ∷ Workers ∷ [])
 app_in Check = check_named (codes "check")
 app_in Demo = with_parts (new_app (codes "demo")) (Seed ∷ Size ∷ Cert ∷ Workers ∷ [])
 app_in Upgrade = with_parts (new_app (codes "upgrade")) (Script ∷ Cert ∷ Out ∷ Bound ∷ [])
@@ -101,4 +106,4 @@ with_commands app (name ∷ names) = with_commands (with_subcommand app (app_in 
 
 -- the whole command
 unfoldable pub program : App
-program = with_commands new_program (Solve ∷ Check ∷ Demo ∷ Upgrade ∷ Plan ∷ Resume ∷ Join ∷ [])
+program = with_commands new_program (Solve ∷ Minimize ∷ Check ∷ Demo ∷ Upgrade ∷ Plan ∷ Resume ∷ Join ∷ [])

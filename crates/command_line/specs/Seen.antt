@@ -7,6 +7,7 @@ use Rattle.clap.specs.Words.{Text, fault_of, found_of, matches_of, rows_of, subc
 use Rattle.clap.specs.declared.parser.matches.ArgMatches.{ArgMatches}
 use Rattle.command_line.specs.Program.{checker, program}
 use Rattle.command_line.specs.declared.request.SolveWords.{SolveWords}
+use Rattle.command_line.specs.declared.request.MinimizeWords.{MinimizeWords}
 use Rattle.command_line.specs.declared.request.CheckWords.{CheckWords}
 use Rattle.command_line.specs.declared.request.DemoWords.{DemoWords}
 use Rattle.command_line.specs.declared.request.UpgradeWords.{UpgradeWords}
@@ -16,12 +17,15 @@ use Rattle.command_line.specs.declared.request.ResumeWords.{ResumeWords}
 use Rattle.command_line.specs.declared.request.JoinWords.{JoinWords}
 use Rattle.command_line.specs.declared.read.JoinNames.{JoinNames}
 use Rattle.command_line.specs.declared.request.Request.{Request}
-use Rattle.command_line.specs.declared.request.Request.TheVariants.{Solve, Check, Demo, Upgrade, Plan, Resume, Join}
+use Rattle.command_line.specs.declared.request.Request.TheVariants.{Solve, Minimize, Check, Demo, Upgrade, Plan, Resume, Join}
 use Rattle.command_line.specs.Words as words
-use Rattle.command_line.specs.Words.{Command, solve, check, demo, upgrade, plan, resume, join}
+use Rattle.command_line.specs.Words.{Command, solve, minimize, check, demo, upgrade, plan, resume, join}
 
 abbrev pub seen_solve : SolveWords → words.Solve
 seen_solve asked = record { script = asked.script.now; cert = asked.cert.now; options = asked.options }
+
+abbrev pub seen_minimize : MinimizeWords → words.Minimize
+seen_minimize asked = record { script = asked.script.now; cert = asked.cert.now; gap_bits = asked.gap_bits; options = asked.options }
 
 abbrev pub seen_check : CheckWords → words.Check
 seen_check asked = record { script = asked.script.now; cert = asked.cert.now; bound = asked.bound }
@@ -62,6 +66,7 @@ seen_names asked = record { script = asked.script.now; out = asked.out.now; cert
 
 abbrev pub seen : Request → Command
 seen (Solve asked) = solve (seen_solve asked)
+seen (Minimize asked) = minimize (seen_minimize asked)
 seen (Check asked) = check (seen_check asked)
 seen (Demo asked) = demo (seen_demo asked)
 seen (Upgrade asked) = upgrade (seen_upgrade asked)

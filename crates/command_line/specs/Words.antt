@@ -67,6 +67,19 @@ solve_of rows =
     Some (record { script = script; cert = cert; options = options }))
     (options_of rows)) (first_of (codes "cert") rows)) (first_of (codes "script") rows)
 
+-- what `minimize` is asked for
+pub record Minimize : Type 0 where
+  pub script : Text
+  pub cert : Text
+  pub gap_bits : ℕ
+  pub options : Options
+
+abbrev pub minimize_of : List Row → Option Minimize
+minimize_of rows =
+    option_and_then (λ script. option_and_then (λ cert. option_and_then (λ gap. option_and_then (λ options.
+    Some (record { script = script; cert = cert; gap_bits = gap; options = options }))
+    (options_of rows)) (number_in 0 30 (codes "gap-bits") rows)) (first_of (codes "cert") rows)) (first_of (codes "script") rows)
+
 -- what `check` is asked for
 pub record Check : Type 0 where
   pub script : Text
@@ -209,6 +222,7 @@ join_of rows =
 
 pub data Command : Type 0 where
   solve : Solve → Command
+  minimize : Minimize → Command
   check : Check → Command
   demo : Demo → Command
   upgrade : Upgrade → Command
@@ -220,11 +234,12 @@ pub data Command : Type 0 where
 abbrev pub chosen_other : Text × List Row → Option Command
 chosen_other entered =
     if bytes_eq entered.0 (codes "solve") then option_map (λ asked. solve asked) (solve_of entered.1)
+    else (if bytes_eq entered.0 (codes "minimize") then option_map (λ asked. minimize asked) (minimize_of entered.1)
     else (if bytes_eq entered.0 (codes "check") then option_map (λ asked. check asked) (check_of entered.1)
     else (if bytes_eq entered.0 (codes "demo") then option_map (λ asked. demo asked) (demo_of entered.1)
     else (if bytes_eq entered.0 (codes "upgrade") then option_map (λ asked. upgrade asked) (upgrade_of entered.1)
     else (if bytes_eq entered.0 (codes "plan") then option_map (λ asked. plan asked) (plan_of entered.1)
-    else (if bytes_eq entered.0 (codes "resume") then option_map (λ asked. resume asked) (resume_of entered.1) else None)))))
+    else (if bytes_eq entered.0 (codes "resume") then option_map (λ asked. resume asked) (resume_of entered.1) else None))))))
 
 -- what the subcommand and what was found for it ask for
 abbrev pub chosen : Text × List Row → Option Command
@@ -288,9 +303,15 @@ pub record IsJoin (asked : Join) : Type 0 where
   pub certs_least : 2 ≤ length asked.certs
   pub certs_most : length asked.certs ≤ 1000000
 
+-- The gap and the options are in their ranges.
+pub record IsMinimize (asked : Minimize) : Type 0 where
+  pub gap_most : asked.gap_bits ≤ 30
+  pub options : AreOptions asked.options
+
 -- All that is asked for is in its range.
 abbrev pub IsInRange : Command → Type 0
 IsInRange (solve asked) = AreOptions asked.options
+IsInRange (minimize asked) = IsMinimize asked
 IsInRange (check asked) = IsBound asked.bound
 IsInRange (demo asked) = IsDemo asked
 IsInRange (upgrade asked) = IsBound asked.bound

@@ -8,7 +8,7 @@ mod usage;
 
 pub use read::{Refused, read_checker_words, read_words};
 pub use request::{
-    CheckWords, DemoWords, JoinWords, Options, PlanWords, Request, ResumeWords, Share, SolveWords,
-    UpgradeWords,
+    CheckWords, DemoWords, JoinWords, MinimizeWords, Options, PlanWords, Request, ResumeWords,
+    Share, SolveWords, UpgradeWords,
 };
 pub use usage::{checker_usage_text, usage_text};

@@ -1,7 +1,7 @@
 ghost use Rattle.std.specs.Prelude.{◌≡◌, IfOk, false};
 ghost use Rattle.clap.specs.Words.{rule_of, app_of, new_app};
 ghost use Rattle.clap.specs.declared.builder.command.Command.TheViews.{out-Command as fields_of};
-ghost use Rattle.command_line.specs.Program.{delta_rule, margin_rule, least_rule, budget_rule, bound_rule, workers_rule, share_rule, word_rule, certs_rule, seed_rule, size_rule, rule_in, with_parts, app_in, with_commands, checker, program};
+ghost use Rattle.command_line.specs.Program.{delta_rule, margin_rule, least_rule, budget_rule, bound_rule, workers_rule, share_rule, gap_rule, word_rule, certs_rule, seed_rule, size_rule, rule_in, with_parts, app_in, with_commands, checker, program};
 
 use clap::{Arg, Command, value_parser};
 use std::alloc::{AllocError, Global};
@@ -23,6 +23,7 @@ pub enum Part {
     Budget,
     Bound,
     Workers,
+    Gap,
     Share,
 }
 
@@ -30,6 +31,7 @@ pub enum Part {
 #[derive(Clone, Copy)]
 pub enum Name {
     Solve,
+    Minimize,
     Check,
     Demo,
     Upgrade,
@@ -103,6 +105,17 @@ fn workers_option<'a>(alloc: Global) -> Arg<'a>
         .default_value("1")
 }
 
+fn gap_option<'a>(alloc: Global) -> Arg<'a>
+    ensures rule { rule_of result ≡ gap_rule }
+    ensures local { result.global ≡ false }
+{
+    Arg::new(alloc, "gap-bits")
+        .long("gap-bits")
+        .help("The least value is told to within 2^-G; 0 to 30")
+        .value_parser(value_parser!(u32).range(0..=30))
+        .default_value("10")
+}
+
 fn share_option<'a>(alloc: Global) -> Arg<'a>
     ensures rule { rule_of result ≡ share_rule }
     ensures local { result.global ≡ false }
@@ -171,6 +184,7 @@ fn arg_of<'a>(alloc: Global, part: Part) -> Arg<'a>
         Part::Budget => budget_option(alloc),
         Part::Bound => bound_option(alloc),
         Part::Workers => workers_option(alloc),
+        Part::Gap => gap_option(alloc),
         Part::Share => share_option(alloc),
     }
 }
@@ -211,6 +225,18 @@ const SOLVE: [Part; 8] = [
     Part::Workers,
 ];
 
+const MINIMIZE: [Part; 9] = [
+    Part::Script,
+    Part::Cert,
+    Part::Gap,
+    Part::Delta,
+    Part::Margin,
+    Part::Least,
+    Part::Budget,
+    Part::Bound,
+    Part::Workers,
+];
+
 const CHECK: [Part; 3] = [Part::Script, Part::Cert, Part::Bound];
 
 const DEMO: [Part; 4] = [Part::Seed, Part::Size, Part::Cert, Part::Workers];
@@ -242,6 +268,19 @@ fn solve_command<'a>(alloc: Global) -> Result<Command<'a>, AllocError>
         "Example: dpoly solve braking.smt2 braking.cert",
     );
     with_parts(alloc, command, &SOLVE)
+}
+
+fn minimize_command<'a>(alloc: Global) -> Result<Command<'a>, AllocError>
+    ensures app { IfOk result (λ c. app_of c ≡ app_in Name.Minimize) }
+    ensures local { IfOk result (λ c. (fields_of c).has_globals ≡ false) }
+{
+    let command = described(
+        alloc,
+        "minimize",
+        "Finds the least value of the goal of a script, and writes a certificate of it",
+        "Example: dpoly minimize fuel.smt2 fuel.cert",
+    );
+    with_parts(alloc, command, &MINIMIZE)
 }
 
 fn check_command<'a>(alloc: Global) -> Result<Command<'a>, AllocError>
@@ -342,6 +381,7 @@ fn subcommand_of<'a>(alloc: Global, name: Name) -> Result<Command<'a>, AllocErro
 {
     match name {
         Name::Solve => solve_command(alloc),
+        Name::Minimize => minimize_command(alloc),
         Name::Check => check_command(alloc),
         Name::Demo => demo_command(alloc),
         Name::Upgrade => upgrade_command(alloc),
@@ -368,8 +408,9 @@ fn with_commands<'a>(
     Ok(command)
 }
 
-const NAMES: [Name; 7] = [
+const NAMES: [Name; 8] = [
     Name::Solve,
+    Name::Minimize,
     Name::Check,
     Name::Demo,
     Name::Upgrade,

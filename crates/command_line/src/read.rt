@@ -2,13 +2,13 @@ ghost use Rattle.std.specs.Prelude.{◌≡◌, ◌≢◌, ◌&&◌, [], IfOk, Is
 ghost use Rattle.std.specs.Str.{bytes_eq};
 ghost use Rattle.clap.specs.Words.{all_of, fault_of, first_of, found_of, kind_of, one_of, rows_of, subcommand_rows_of};
 ghost use Rattle.command_line.specs.Program.{checker, program};
-ghost use Rattle.command_line.specs.Words.{are_files, is_file, check_of, checker_of, chosen, chosen_other, command_of, demo_of, join_of, long_number_in, number_in, number_of, options_of, IsInRange, ordered_share, parts_of, plan_of, resume_of, share_by, share_of, share_in, solve_of, upgrade_of};
-ghost use Rattle.command_line.specs.Seen.{AreCheckerMatchesOf, AreMatchesOf, seen, seen_check, seen_demo, seen_join, seen_names, seen_plan, seen_resume, seen_share, seen_solve, seen_upgrade, texts_behind, texts_of};
+ghost use Rattle.command_line.specs.Words.{are_files, is_file, check_of, checker_of, chosen, chosen_other, command_of, demo_of, join_of, long_number_in, minimize_of, number_in, number_of, options_of, IsInRange, ordered_share, parts_of, plan_of, resume_of, share_by, share_of, share_in, solve_of, upgrade_of};
+ghost use Rattle.command_line.specs.Seen.{AreCheckerMatchesOf, AreMatchesOf, seen, seen_check, seen_demo, seen_join, seen_minimize, seen_names, seen_plan, seen_resume, seen_share, seen_solve, seen_upgrade, texts_behind, texts_of};
 
 use crate::program::{checker_command, program_command};
 use crate::request::{
-    CheckWords, DemoWords, JoinWords, Options, PlanWords, Request, ResumeWords, Share, SolveWords,
-    UpgradeWords, usual_options,
+    CheckWords, DemoWords, JoinWords, MinimizeWords, Options, PlanWords, Request, ResumeWords,
+    Share, SolveWords, UpgradeWords, usual_options,
 };
 use clap::error::ErrorKind;
 use clap::{ArgMatches, Error};
@@ -127,6 +127,21 @@ fn solve_words<'a>(matches: &ArgMatches<'a>) -> Option<SolveWords<'a>>
     Some(SolveWords {
         script,
         cert,
+        options,
+    })
+}
+
+fn minimize_words<'a>(matches: &ArgMatches<'a>) -> Option<MinimizeWords<'a>>
+    ensures { option_map seen_minimize result ≡ minimize_of (rows_of (found_of matches.now)) }
+{
+    let script = text(matches, "script")?;
+    let cert = text(matches, "cert")?;
+    let gap_bits = number(matches, "gap-bits", 0, 30)?;
+    let options = solve_options(matches)?;
+    Some(MinimizeWords {
+        script,
+        cert,
+        gap_bits,
         options,
     })
 }
@@ -346,6 +361,8 @@ fn choose<'a>(name: &str, matches: &ArgMatches<'a>) -> Option<Request<'a>>
 {
     if name == "solve" {
         Some(Request::Solve(solve_words(matches)?))
+    } else if name == "minimize" {
+        Some(Request::Minimize(minimize_words(matches)?))
     } else if name == "check" {
         Some(Request::Check(check_words(matches)?))
     } else if name == "demo" {

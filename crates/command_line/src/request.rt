@@ -26,6 +26,17 @@ pub struct SolveWords<'a> {
     pub options: Options,
 }
 
+/// What `minimize` is asked for: the names of the script and of the certificate that is written, and the options.
+#[derive(Clone, Copy, Debug, PartialEq, Eq)]
+pub struct MinimizeWords<'a> {
+    pub script: &'a str,
+    pub cert: &'a str,
+    /// The least value is told to within two to the minus this many; from 0 to 30.
+    pub gap_bits: u32,
+    /// As for `solve`; the budget is that of all searches together.
+    pub options: Options,
+}
+
 /// What `check` is asked for: the names of the script and of the certificate that is read.
 #[derive(Clone, Copy, Debug, PartialEq, Eq)]
 pub struct CheckWords<'a> {
@@ -107,6 +118,7 @@ pub struct JoinWords<'a> {
 #[derive(Drop)]
 pub enum Request<'a> {
     Solve(SolveWords<'a>),
+    Minimize(MinimizeWords<'a>),
     Check(CheckWords<'a>),
     Demo(DemoWords<'a>),
     Upgrade(UpgradeWords<'a>),
