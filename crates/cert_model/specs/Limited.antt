@@ -3,7 +3,7 @@
 -- The limit says that the goal is at most d, a multiple of 2^-k: there is one more atom, 2^k * t - n at most 0, where t is the goal and n is
 -- 2^k * d, and the form asks for it too. Loosened by m it says that the goal is at most d + m / 2^k. Its two constants are new, so
 -- that each node of the graph stands once.
-use Rattle.std.specs.Prelude.{ℕ, ◌+◌, ◌-◌, ◌*◌, ◌/◌, ◌^◌, List, [], ◌∷◌, ◌++◌, length, Bool, false, not, ◌&&◌, ◌||◌, Option, Some, None, ℤ, pos, negsuc, neg_ℤ, nat_abs, nat_eq, nat_le}
+use Rattle.std.specs.Prelude.{◌≡◌, ℕ, ◌+◌, ◌-◌, ◌*◌, ◌/◌, ◌^◌, List, [], ◌∷◌, ◌++◌, length, Bool, false, not, ◌&&◌, ◌||◌, Option, Some, None, ℤ, pos, negsuc, neg_ℤ, nat_abs, nat_eq, nat_le}
 use Rattle.std.specs.Ordering.{int_eq}
 use Rattle.dyadic.specs.Fraction.{Fraction, whole}
 use Rattle.dyadic.specs.Rounding.{Dyadic}
@@ -12,7 +12,7 @@ use Rattle.poly_graph.specs.Form.{atom_is, all_form, no_forms, more_forms}
 use Rattle.poly_graph.specs.FormGraph.{FormNode, atom_node, forms_size, most_forms}
 use Rattle.poly_graph.specs.Shared.{most_nodes}
 use Rattle.poly_graph.specs.Problem.{Problem, atom_at}
-use Rattle.poly_graph.specs.ProblemViews.{Parts}
+use Rattle.poly_graph.specs.ProblemViews.{Parts, problem_of}
 
 -- ---- the constants
 
@@ -75,3 +75,7 @@ have_atom (n ∷ nodes) j = names_atom j n || have_atom nodes j
 -- there is room for a limit in the graph and in the shared form, and no node of that names the new atom
 abbrev pub has_room : Parts → Bool
 has_room q = nat_le (length q.nodes + 4) most_nodes && nat_le (forms_size q.forms + 4) most_forms && not (have_atom q.forms (length q.atoms))
+
+-- whether there is room, where the problem is kept in this shared form
+abbrev pub IsRoomOf : Problem → Bool → Type 0
+IsRoomOf p room = (q : Parts) × (problem_of q ≡ p) × (has_room q ≡ room)

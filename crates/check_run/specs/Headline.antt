@@ -16,6 +16,7 @@ use Rattle.cert_model.specs.Due.{CertFault, Value, at_point, left_open, coordina
 use Rattle.cert_model.specs.Accepted.{IsAccepted, refused, verdict}
 use Rattle.cert_model.specs.AnswerText.{text_line, unsat_text, delta_sat_text, check_text, least_text, solve_text, verdict_text}
 use Rattle.cert_model.specs.Least.{Least, least, upper_at, IsGoalAccepted, goal_verdict}
+use Rattle.cert_model.specs.Limited.{IsRoomOf}
 use Rattle.cert_model.specs.Session.{AreAccepted, session_verdict}
 use Rattle.cert_upgrade.specs.Upgraded.{in_newest, upgraded}
 use Rattle.headline.specs.Laws.{HasNoPoint}
@@ -91,7 +92,9 @@ pub record IsConfirmedLeast (bound : Option ℕ) (script cert_in : List ℕ) (ol
   pub is_goal : goal_in script ≡ Some goal
   pub loosenings : Loosenings
   pub value : Least
-  pub accepted : IsGoalAccepted problem goal bound cert_in loosenings (least value)
+  pub room : Bool
+  pub is_room : IsRoomOf problem room
+  pub accepted : IsGoalAccepted problem goal room bound cert_in loosenings (least value)
   pub answer : new.answer ≡ appended old.answer (least_text problem goal value)
   pub lower : HasLowerBound bound (commands_of script) (exact (margin_of loosenings)) value.lower
   pub upper : (space : Space) → value.point ≡ Some space →
@@ -254,7 +257,9 @@ pub record IsRefusedForGoal (bound : Option ℕ) (script cert_in : List ℕ) (ol
   pub is_goal : goal_in script ≡ Some goal
   pub fault : CertFault
   pub line : ℕ
-  pub refuses : goal_verdict problem goal bound cert_in ≡ refused fault line
+  pub room : Bool
+  pub is_room : IsRoomOf problem room
+  pub refuses : goal_verdict problem goal room bound cert_in ≡ refused fault line
   pub written : new.answer ≡ appended old.answer (verdict_text (refused fault line))
 
 -- The same by the problem of its only check, where the certificate names the bound.
