@@ -16,6 +16,7 @@ use poly_graph::Problem;
 use std::alloc::{AllocError, Global};
 
 // Who searches, the options of each search but its budget, and how near the bounds shall come.
+#[derive(Drop)]
 struct Task<'a, S> {
     searcher: &'a S,
     options: &'a Options,
