@@ -237,18 +237,15 @@ module _ (p : Problem) (good : IsProblem p) (g : ℕ) (there : g < length p.atom
       ∙ node-at 3 (add_node (length p.nodes + 1) (length p.nodes + 2)) refl
       ∙ ap₂ add (node-at 1 (multiply_node (length p.nodes) root) refl ∙ ap₂ multiply scale-term (terms-begin p.nodes more root root-there)) (node-at 2 (constant_node (offset_of k d)) refl)
 
+  last-holds : (m : Fraction) → IsTrue (at_most zero_fraction m) → (point : List Coordinate) → IsTrue (at_most (term_value point (term_of p g)) (exact d)) → IsTrue (atom_holds m point (full_atom new (length p.atoms)))
+  last-holds m some point h =
+      let v : Fraction = term_value point (term_of p g) in
+      ap₂ (λ (t : Term) (kind : Kind). in_range m kind (term_value point t)) limited_last_term (ap (λ (x : ℕ × Kind). x.1) limited_last)
+      ∙ through (sum_of (product_of (scale_of k) v) (offset_of k d)) zero_fraction m (lit< tt) (limit-above p k d fits v h) some
+
   -- at a point the goal is not below the limit, or the new atom holds, at each margin
   pub limited_goal : (m : Fraction) → IsTrue (at_most zero_fraction m) → (point : List Coordinate) → IsNotBelow p g (Some d) point ⊎ IsTrue (atom_holds m point (full_atom (limited p g k d) (length p.atoms)))
-  limited_goal m some point =
-      let v : Fraction = term_value point (term_of p g) in
-      let below-zero : Fraction = sum_of (product_of (scale_of k) v) (offset_of k d) in
-      elim (total (exact d) v) [
-        | inl h ↦ inl h
-        | inr h ↦ inr (
-          ap₂ (λ (t : Term) (kind : Kind). in_range m kind (term_value point t)) limited_last_term (ap (λ (x : ℕ × Kind). x.1) limited_last)
-          ∙ through below-zero zero_fraction m (lit< tt) (limit-above p k d fits v h) some
-        )
-      ]
+  limited_goal m some point = elim (total (exact d) (term_value point (term_of p g))) [ inl h ↦ inl h | inr h ↦ inr (last-holds m some point h) ]
 
   -- ---- the form
 
@@ -256,13 +253,14 @@ module _ (p : Problem) (good : IsProblem p) (g : ℕ) (there : g < length p.atom
   old-holds m point j h = let e = limited_term j h in ap₂ (λ (t : Term) (kind : Kind). in_range m kind (term_value point t)) e.0 (ap (λ (x : ℕ × Kind). x.1) e.1)
 
   meets-with : (s : Loosenings) (point : List Coordinate) → MeetsForm p s point → IsTrue (atom_holds (exact (margin_of s)) point (full_atom new (length p.atoms))) → MeetsForm new s point
-  meets-with s point h last-holds =
+  meets-with s point h also =
       let m : Fraction = exact (margin_of s) in
       let atoms : ℕ → Bool = λ j. atom_holds m point (full_atom new j) in
       both_pass (form_truth atoms (bool_holds point) p.form) (atoms (length p.atoms) && true)
       (same-truth (sorts_of_axes p.axes) (length p.atoms) atoms (λ j. atom_holds m point (full_atom p j)) (bool_holds point) (old-holds m point) p.form good.form ∙ h)
-      (ap (λ b. b && true) last-holds)
+      (ap (λ b. b && true) also)
 
+  -- where the goal is below the limit, a point that meets the form of p meets that with the limit
   pub limited_meets : (s : Loosenings) (point : List Coordinate) → (IsNotBelow p g (Some d) point → ⊥) → MeetsForm p s point → MeetsForm (limited p g k d) s point
   limited_meets s point never h = elim (limited_goal (exact (margin_of s)) (margin-some s) point) [
     | inl e ↦ absurd (never e)

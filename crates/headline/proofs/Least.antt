@@ -1,10 +1,9 @@
 -- Accepted certificates of least values and their scripts.
 use Rattle.std.proofs.Common.{◌≡◌, ℕ, List, Option, Some, None, Bool, IsTrue, refl, sym, ◌∙◌, subst}
 use Rattle.dyadic.specs.Fraction.{Fraction, IsFraction, at_most}
-use Rattle.dyadic.specs.Point.{Coordinate}
 use Rattle.dyadic.specs.Rounding.{Dyadic, Ext, below_all, finite, above_all, exact, at, end_of, end_at_most}
 use Rattle.dyadic.proofs.Equal.{through}
-use Rattle.script_model.specs.Script.{Command, Satisfies, goal_value}
+use Rattle.script_model.specs.Script.{Command, Satisfies}
 use Rattle.script_forms.specs.Atoms.{goal_atom}
 use Rattle.script_forms.specs.ProblemOf.{IsProblemOf}
 use Rattle.script_forms.proofs.Box.{box_declared, problem_means}
