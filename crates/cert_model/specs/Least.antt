@@ -6,8 +6,9 @@
 --
 -- A line `goal` before the cover says that the cover is one of the problem with the bound as a limit of the goal: what it leaves out has a
 -- value above the bound.
-use Rattle.std.specs.Prelude.{◌≡◌, ℕ, suc, List, Bool, true, false, cond, ◌&&◌, Option, Some, None, nat_eq, nat_le, length}
-use Rattle.dyadic.specs.Rounding.{Dyadic, Ext, below_all, finite, above_all}
+use Rattle.std.specs.Prelude.{◌≡◌, ℕ, suc, List, Bool, true, false, cond, ◌&&◌, Option, Some, None, IsTrue, nat_eq, nat_le, length}
+use Rattle.dyadic.specs.Fraction.{sum_of}
+use Rattle.dyadic.specs.Rounding.{Dyadic, Ext, below_all, finite, above_all, at, end_of, end_at_most, exact, two_to_minus}
 use Rattle.interval_model.specs.Interval.{Interval, nothing, between, within}
 use Rattle.interval_model.specs.Space.{Space}
 use Rattle.poly_graph.specs.Problem.{Problem}
@@ -227,3 +228,10 @@ goal_verdict p g room b bytes = verdict_of (goal_course p g room b) goal_ended (
 -- the bytes are accepted, with the margin and delta of their header, and this value
 abbrev pub IsGoalAccepted : Problem → ℕ → Bool → Option ℕ → List ℕ → Loosenings → GoalValue → Type 0
 IsGoalAccepted p g room b bytes s v = goal_verdict p g room b bytes ≡ accepted s v
+
+-- ---- bounds that are near
+
+-- the lower bound and 2^-gap are together not below the upper one
+abbrev pub IsSettled : ℕ → Option Dyadic → Ext → Type 0
+IsSettled gap None upper = ⊥
+IsSettled gap (Some d) upper = IsTrue (end_at_most (end_of upper) (at (sum_of (exact d) (exact (two_to_minus gap)))))

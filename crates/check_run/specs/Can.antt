@@ -2,7 +2,7 @@
 use Rattle.std.specs.Prelude.{◌≡◌, ℕ, List, [], ◌∷◌, ◌++◌, Bool, Option, Some, None, codes, length}
 use Rattle.desk.specs.declared.desk.Port.TheVariants.{Script, CertIn}
 use Rattle.command_line.specs.declared.request.Options.{Options}
-use Rattle.command_line.specs.Words.{Command, Join, solve, check, demo, upgrade, plan, resume, join}
+use Rattle.command_line.specs.Words.{Command, Join, solve, minimize, check, demo, upgrade, plan, resume, join}
 use Rattle.gen_script.specs.Demo.{demo_script}
 use Rattle.poly_graph.specs.Problem.{Problem}
 use Rattle.cover_model.specs.State.{Loosenings}
@@ -25,6 +25,7 @@ use Rattle.script_reading.specs.Reader.{IsBuilt}
 use Rattle.script_reading.specs.Session.{HasSession}
 use Rattle.check_run.specs.Answer.{loosenings_for, solve_texts, AreAnswers, IsAnswer}
 use Rattle.check_run.specs.Course.{Start, Course, says, gives, behind}
+use Rattle.check_run.specs.Minimized.{CanMinimize}
 use Rattle.check_run.specs.Joined.{CanJoin, bound_of, join_starts}
 use Rattle.check_run.specs.Resumed.{CanResume, header_bound}
 
@@ -144,6 +145,9 @@ Can None script cert_in parts course = course ≡ says Usage usage_text
 Can (Some (solve words)) script cert_in parts course =
     CanFrom words.script (session_fault words.options.bound script)
     (OfSession words.options.bound script (λ ps. CanSolve ps words.options words.cert)) course
+Can (Some (minimize words)) script cert_in parts course =
+    CanFrom words.script (session_fault words.options.bound script)
+    (OfSession words.options.bound script (λ ps. CanMinimize (goal_in script) ps words)) course
 Can (Some (check words)) script cert_in parts course =
     CanFrom words.script (session_fault words.bound script)
     (OfSession words.bound script (λ ps. CanCheck (goal_in script) ps words.bound words.cert cert_in)) course
@@ -165,6 +169,7 @@ Can (Some (demo words)) script cert_in parts course =
 abbrev pub in_starts : Option Command → List Start
 in_starts None = []
 in_starts (Some (solve words)) = (Script, words.script) ∷ []
+in_starts (Some (minimize words)) = (Script, words.script) ∷ []
 in_starts (Some (check words)) = (Script, words.script) ∷ (CertIn, words.cert) ∷ []
 in_starts (Some (upgrade words)) = (Script, words.script) ∷ (CertIn, words.cert) ∷ []
 in_starts (Some (plan words)) = (Script, words.script) ∷ []

@@ -2,7 +2,7 @@
 use Rattle.std.specs.Prelude.{◌≡◌, ◌++◌, ◌⊎◌, ℕ, suc, List, [], ◌∷◌, Bool, Option, Some, None, IsSomeAnd, codes, length, slice_get}
 use Rattle.desk.specs.Sight.{Sight}
 use Rattle.command_line.specs.declared.request.Options.{Options}
-use Rattle.command_line.specs.Words.{Command, Plan, Resume, Solve, solve, check, demo, upgrade, plan, resume, join}
+use Rattle.command_line.specs.Words.{Command, Minimize, Plan, Resume, Solve, solve, minimize, check, demo, upgrade, plan, resume, join}
 use Rattle.gen_script.specs.Demo.{demo_script}
 use Rattle.dyadic.specs.Rounding.{exact}
 use Rattle.script_model.specs.Script as script_model
@@ -12,7 +12,7 @@ use Rattle.interval_model.specs.Space.{Space}
 use Rattle.width_plan.specs.Plan as width
 use Rattle.width_plan.specs.Plan.{least_bits}
 use Rattle.cover_model.specs.State.{Loosenings, margin_of, delta_of}
-use Rattle.cert_model.specs.Due.{CertFault, Value, at_point, left_open, coordinates}
+use Rattle.cert_model.specs.Due.{CertFault, Standing, Value, at_point, left_open, coordinates}
 use Rattle.cert_model.specs.Accepted.{IsAccepted, refused, verdict}
 use Rattle.cert_model.specs.AnswerText.{text_line, unsat_text, delta_sat_text, check_text, least_text, solve_text, verdict_text}
 use Rattle.cert_model.specs.Least.{Least, least, upper_at, IsGoalAccepted, goal_verdict}
@@ -26,11 +26,12 @@ use Rattle.smt_script.specs.Levels.{Asked, checks_of}
 use Rattle.script_reading.specs.Goals.{goal_in}
 use Rattle.script_reading.specs.Reader.{commands_of, HasProblem, IsBuilt}
 use Rattle.script_reading.specs.Session.{HasSession, steps_of_text}
-use Rattle.check_run.specs.Answer.{loosenings_for, loosenings_of, solve_texts, AreAnswers}
+use Rattle.check_run.specs.Answer.{loosenings_for, loosenings_of, solve_texts, AreAnswers, IsAnswer}
 use Rattle.check_run.specs.declared.status.Status.TheVariants.{Answered, CertRefused}
 use Rattle.check_run.specs.Course.{Course, appended}
 use Rattle.check_run.specs.Can.{Can, ArePlans, check_texts, plan_texts}
 use Rattle.cert_joined.specs.Covers.{JoinsTexts}
+use Rattle.check_run.specs.Minimized.{Cause, IsLeastAnswer, minimize_text}
 use Rattle.check_run.specs.Joined.{IsNotJoined, bound_of}
 use Rattle.check_run.specs.Resumed.{IsMore, header_bound}
 use Rattle.check_run.specs.Run.{Run, OnInput}
@@ -100,6 +101,37 @@ pub record IsConfirmedLeast (bound : Option ℕ) (script cert_in : List ℕ) (ol
   pub upper : (space : Space) → value.point ≡ Some space →
       IsDeltaSat bound (commands_of script) loosenings space × IsGoalAtMost (commands_of script) (coordinates space) (upper_at problem goal space)
 
+-- What was written as certificate is accepted for the problem of the script's only check with a lower bound of its goal, and the answer is its
+-- text. The bound is one at each point of the declared box that satisfies the script, each atom loosened by the margin; the point satisfies it
+-- at delta, lies within delta of the declared box, and the goal's value there is at most the upper bound. `minimum` is said only where the
+-- bounds are within the gap of the words.
+pub record IsLeast (words : Minimize) (script : List ℕ) (old new : Sight) : Type 0 where
+  pub problem : Problem
+  pub built : IsBuilt words.options.bound script problem
+  pub goal : ℕ
+  pub is_goal : goal_in script ≡ Some goal
+  pub cert : List ℕ
+  pub cause : Cause
+  pub value : Least
+  pub answers : IsLeastAnswer problem goal words cert cause value
+  pub written : new.cert_out ≡ appended old.cert_out cert
+  pub answer : new.answer ≡ appended old.answer (minimize_text problem goal words.options.budget cause value)
+  pub lower : HasLowerBound words.options.bound (commands_of script) (exact (margin_of (loosenings_of words.options))) value.lower
+  pub point : IsDeltaSat words.options.bound (commands_of script) (loosenings_of words.options) answers.point
+  pub upper : IsGoalAtMost (commands_of script) (coordinates answers.point) (upper_at problem goal answers.point)
+
+-- No point was found: what was written as certificate is an honest cover for the problem of the script's only check, the answer is the text of what
+-- it leaves, and what that says of the check is so.
+pub record IsNoLeast (words : Minimize) (script : List ℕ) (old new : Sight) : Type 0 where
+  pub problem : Problem
+  pub built : IsBuilt words.options.bound script problem
+  pub cert : List ℕ
+  pub left : List Standing
+  pub answers : IsAnswer problem words.options cert (left_open left)
+  pub written : new.cert_out ≡ appended old.cert_out cert
+  pub answer : new.answer ≡ appended old.answer (solve_text problem words.options.budget (loosenings_of words.options) (left_open left))
+  pub say : IsTrueValue words.options.bound (loosenings_of words.options) (commands_of script) (left_open left)
+
 -- What was written as certificate goes on from the one that was read, which is accepted for the problem of the script's only check; the answer tells of
 -- what is left, and what its value says of the check is so.
 pub record IsResumed (words : Resume) (script cert_in : List ℕ) (old new : Sight) : Type 0 where
@@ -130,9 +162,10 @@ pub record IsJoined (script : List ℕ) (parts : List (List ℕ)) (old new : Sig
   pub answer : new.answer ≡ appended old.answer (check_text loosenings value)
   pub say : IsTrueValue (bound_of parts) loosenings (commands_of script) value
 
--- `solve`, `check`, `resume` and `join` answer where that is so.
+-- `solve`, `minimize`, `check`, `resume` and `join` answer where that is so.
 abbrev pub IsTrueAnswer : Option Command → List ℕ → List ℕ → List (List ℕ) → Sight → Sight → Type 0
 IsTrueAnswer (Some (solve words)) script cert_in parts old new = IsSolved words.options script old new
+IsTrueAnswer (Some (minimize words)) script cert_in parts old new = IsLeast words script old new ⊎ IsNoLeast words script old new
 IsTrueAnswer (Some (check words)) script cert_in parts old new =
     IsConfirmed words.bound script cert_in old new ⊎ IsConfirmedLeast words.bound script cert_in old new
 IsTrueAnswer (Some (resume words)) script cert_in parts old new = IsResumed words script cert_in old new
@@ -184,6 +217,8 @@ confirmed_unsat_word = text_line (codes "confirmed unsat")
 abbrev pub IsTrueUnsat : Option Command → List ℕ → List ℕ → List (List ℕ) → Sight → Sight → Type 0
 IsTrueUnsat (Some (solve words)) script cert_in parts old new =
     HasOneCheck script → IsWritten (unsat_text (loosenings_of words.options)) old new → IsUnsat words.options script old new
+IsTrueUnsat (Some (minimize words)) script cert_in parts old new =
+    (rest : List ℕ) → IsWritten (unsat_word ++ rest) old new → IsUnsat words.options script old new
 IsTrueUnsat (Some (check words)) script cert_in parts old new =
     HasOneCheck script → (rest : List ℕ) → IsWritten (confirmed_unsat_word ++ rest) old new →
     (s : Loosenings) × IsWritten (check_text s (left_open [])) old new × IsConfirmedUnsat words.bound script cert_in s

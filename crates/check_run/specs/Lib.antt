@@ -13,6 +13,7 @@ pub mod Script
 pub mod Several
 pub mod Statuses
 pub mod Loosened
+pub mod Minimized
 pub mod Plans
 pub mod ScriptFaults
 pub mod Shown

@@ -4,10 +4,11 @@ use Rattle.std.specs.Option.{option_map}
 use Rattle.std.specs.declared.alloc.Global.{Global}
 use Rattle.std.specs.declared.string.String.{String}
 use Rattle.desk.specs.Sight.{Sight, SideFailed}
-use Rattle.command_line.specs.Words.{Command, Solve, Check, Demo, Upgrade, Plan, Resume, Join, command_of, solve, check, demo, upgrade, plan, resume, join}
-use Rattle.command_line.specs.Seen.{seen, seen_solve, seen_check, seen_demo, seen_upgrade, seen_plan, seen_resume, seen_join}
+use Rattle.command_line.specs.Words.{Command, Solve, Minimize, Check, Demo, Upgrade, Plan, Resume, Join, command_of, solve, minimize, check, demo, upgrade, plan, resume, join}
+use Rattle.command_line.specs.Seen.{seen, seen_solve, seen_minimize, seen_check, seen_demo, seen_upgrade, seen_plan, seen_resume, seen_join}
 use Rattle.command_line.specs.declared.request.Request.{Request}
 use Rattle.command_line.specs.declared.request.SolveWords.{SolveWords}
+use Rattle.command_line.specs.declared.request.MinimizeWords.{MinimizeWords}
 use Rattle.command_line.specs.declared.request.CheckWords.{CheckWords}
 use Rattle.command_line.specs.declared.request.DemoWords.{DemoWords}
 use Rattle.command_line.specs.declared.request.UpgradeWords.{UpgradeWords}
@@ -44,6 +45,9 @@ run words = run_of (command_in words)
 abbrev pub solve_run : SolveWords → Sight → Sight → Status → Run
 solve_run words = run_of (Some (solve (seen_solve words)))
 
+abbrev pub minimize_run : MinimizeWords → Sight → Sight → Status → Run
+minimize_run words = run_of (Some (minimize (seen_minimize words)))
+
 abbrev pub check_run : CheckWords → Sight → Sight → Status → Run
 check_run words = run_of (Some (check (seen_check words)))
 
@@ -78,6 +82,7 @@ TakesCerts command = ReadsCert command
 
 abbrev pub ReadsScript : Option Command → Type 0
 ReadsScript (Some (solve words)) = Unit {0}
+ReadsScript (Some (minimize words)) = Unit {0}
 ReadsScript (Some (check words)) = Unit {0}
 ReadsScript (Some (upgrade words)) = Unit {0}
 ReadsScript (Some (plan words)) = Unit {0}
@@ -104,6 +109,9 @@ HasCause r = IsCauseOf r.status r
 -- the same whatever the words are
 abbrev pub SolveHasCause : Sight → Sight → Status → Type 0
 SolveHasCause old new status = (words : Solve) → HasCause (run_of (Some (solve words)) old new status)
+
+abbrev pub MinimizeHasCause : Sight → Sight → Status → Type 0
+MinimizeHasCause old new status = (words : Minimize) → HasCause (run_of (Some (minimize words)) old new status)
 
 abbrev pub CheckHasCause : Sight → Sight → Status → Type 0
 CheckHasCause old new status = (words : Check) → HasCause (run_of (Some (check words)) old new status)
@@ -149,6 +157,7 @@ CertIsRead r = ReadsCert r.command → r.status ≡ Answered → IsReadToEnd r.o
 -- the desk shows what the command reads
 abbrev pub HasInput : Option Command → Sight → List ℕ → List ℕ → List (List ℕ) → Type 0
 HasInput (Some (solve words)) d script cert_in parts = d.script ≡ Some script
+HasInput (Some (minimize words)) d script cert_in parts = d.script ≡ Some script
 HasInput (Some (check words)) d script cert_in parts = (d.script ≡ Some script) × (d.cert_in ≡ Some cert_in)
 HasInput (Some (upgrade words)) d script cert_in parts = (d.script ≡ Some script) × (d.cert_in ≡ Some cert_in)
 HasInput (Some (plan words)) d script cert_in parts = d.script ≡ Some script
