@@ -1,5 +1,5 @@
 -- The size of a limit in steps of 2^-bits, and its constants.
-use Rattle.std.proofs.Common.{◌≡◌, ℕ, suc, zero, ◌+◌, ◌-◌, ◌*◌, ◌/◌, ◌^◌, ◌<◌, ◌≤◌, Bool, true, false, not, ◌&&◌, IsTrue, Option, Some, None, refl, ap, ap₂, sym, ◌∙◌, subst, arith, mul-le-mul_right, true≢false, nat_eq, nat_le, ℤ, pos, negsuc, neg_ℤ, ◌*ℤ◌, ◌<ℤ◌, nat_abs}
+use Rattle.std.proofs.Common.{◌≡◌, ℕ, ◌-◌, ◌*◌, ◌/◌, ◌^◌, ◌<◌, ◌≤◌, Bool, true, false, not, IsTrue, Option, Some, None, refl, ap, sym, ◌∙◌, subst, arith, true≢false, nat_eq, nat_le, ℤ, pos, negsuc, neg_ℤ, ◌*ℤ◌, ◌<ℤ◌, nat_abs}
 use Rattle.std.specs.Prelude.{◌↔◌}
 use Rattle.std.proofs.Math.Nat.{one-dvd, mul-div_cancel, mul-le-mul, eq_of_mul-eq-mul_right}
 use Rattle.std.proofs.lemmas.Bool.{eq-eqb, le-leb}
@@ -68,8 +68,8 @@ pub offset_is : (k n : ℕ) (d : Dyadic) (minus : Bool) (q : Fraction) → IsTru
 offset_is k n d minus q h c e =
     let size : limit_size k d ≡ n = ap (λ x. x / 2 ^ (120 - k)) (sym c.0) ∙ mul-div_cancel n (pow_pos (120 - k)) in (
       both_pass (nat_eq (limit_size k d * 2 ^ (120 - k)) (nat_abs d.units)) (nat_le (limit_size k d) (10 ^ 36))
-        (eq-eqb (limit_size k d * 2 ^ (120 - k)) (nat_abs d.units) (ap (λ x. x * 2 ^ (120 - k)) size ∙ c.0))
-        (le-leb (limit_size k d) (10 ^ 36) (subst (λ x. x ≤ 10 ^ 36) (sym size) c.1)),
+          (eq-eqb (limit_size k d * 2 ^ (120 - k)) (nat_abs d.units) (ap (λ x. x * 2 ^ (120 - k)) size ∙ c.0))
+          (le-leb (limit_size k d) (10 ^ 36) (subst (λ x. x ≤ 10 ^ 36) (sym size) c.1)),
       e ∙ ap whole (by-sign d.units minus (limit_size k d) n h size),
     )
 

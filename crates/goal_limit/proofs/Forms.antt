@@ -1,5 +1,5 @@
 -- The shared form of a problem with a limit.
-use Rattle.std.proofs.Common.{◌≡◌, inl, inr, ℕ, suc, zero, ◌+◌, ◌<◌, ◌≤◌, List, [], ◌∷◌, ◌++◌, length, Bool, true, false, ◌&&◌, ◌||◌, IsTrue, Some, refl, ap, ap₂, sym, ◌∙◌, subst, arith, nat_lt, nat_eq, length-append, append_assoc}
+use Rattle.std.proofs.Common.{◌≡◌, ℕ, suc, zero, ◌+◌, ◌<◌, ◌≤◌, List, [], ◌∷◌, ◌++◌, length, Bool, true, false, ◌||◌, IsTrue, Some, refl, ap, ap₂, sym, ◌∙◌, subst, arith, nat_lt, length-append, append_assoc}
 use Rattle.std.proofs.lemmas.Bool.{eq-eqb}
 use Rattle.std.proofs.lemmas.List.{get_or_append_left}
 use Rattle.std.proofs.Math.Seq.{get_or-append_seam}
@@ -7,7 +7,7 @@ use Rattle.std.specs.Prelude.{slice_get}
 use Rattle.std.specs.List.{list_all}
 use Rattle.dyadic.proofs.Equal.{both_true, both_pass}
 use Rattle.poly_graph.specs.Form.{Form, atom_is, all_form, no_form, no_forms, more_forms}
-use Rattle.poly_graph.specs.FormGraph.{FormNode, atom_node, all_node, form_comes_after, forms_in_order, form_at, picked, node_form, forms_after, graph_forms, node_size, forms_size, most_forms, IsFormGraph, IsNewForm}
+use Rattle.poly_graph.specs.FormGraph.{FormNode, atom_node, all_node, form_comes_after, forms_in_order, form_at, node_form, forms_after, graph_forms, node_size, forms_size, most_forms, IsFormGraph, IsNewForm}
 use Rattle.poly_graph.proofs.SharedForm.{size_end}
 use Rattle.cert_model.specs.Limited.{names_atom, have_atom}
 use Rattle.goal_limit.specs.Made.{limit_forms}
@@ -85,9 +85,9 @@ module _ (ns : List FormNode) (root j : ℕ) where
   limit_form_graph g room within new =
       let g1 = graph-end ns (atom_node j) g (omega (arith, room)) refl (λ k h. let t = found-there ns j k h in cc) in
       let g2 = graph-end one last g1 (omega (arith, room, size_end ns (atom_node j)))
-          (both_pass (nat_lt root (length one)) (list_all (λ x. nat_lt x (length one)) (length ns ∷ [])) (below root (length one) (omega (arith, within, length-one)))
-          (both_pass (nat_lt (length ns) (length one)) true (below (length ns) (length one) (omega (arith, length-one))) refl))
-          (new-last g1) in
+      (both_pass (nat_lt root (length one)) (list_all (λ x. nat_lt x (length one)) (length ns ∷ [])) (below root (length one) (omega (arith, within, length-one)))
+      (both_pass (nat_lt (length ns) (length one)) true (below (length ns) (length one) (omega (arith, length-one))) refl))
+      (new-last g1) in
       subst IsFormGraph (append_assoc ns (atom_node j ∷ []) (last ∷ [])) g2
 
   forms-one : graph_forms one ≡ graph_forms ns ++ (atom_is j ∷ [])
@@ -102,5 +102,5 @@ module _ (ns : List FormNode) (root j : ℕ) where
       ∙ get_or-append_seam (graph_forms one) (node_form (graph_forms one) last) [] no_form
       ∙ ap (λ fs. node_form fs last) forms-one
       ∙ ap₂ (λ (f g : Form ℕ). all_form (more_forms f (more_forms g no_forms)))
-        (get_or_append_left (graph_forms ns) (atom_is j ∷ []) no_form root (omega (arith, length-forms ns)))
-        (ap (λ k. form_at (graph_forms ns ++ (atom_is j ∷ [])) k) (sym (length-forms ns)) ∙ get_or-append_seam (graph_forms ns) (atom_is j) [] no_form)
+      (get_or_append_left (graph_forms ns) (atom_is j ∷ []) no_form root (omega (arith, length-forms ns)))
+      (ap (λ k. form_at (graph_forms ns ++ (atom_is j ∷ [])) k) (sym (length-forms ns)) ∙ get_or-append_seam (graph_forms ns) (atom_is j) [] no_form)

@@ -1,12 +1,12 @@
 -- The graph of a problem with a limit.
-use Rattle.std.proofs.Common.{◌≡◌, inl, inr, ℕ, suc, zero, ◌+◌, ◌<◌, ◌≤◌, List, [], ◌∷◌, ◌++◌, length, Bool, true, false, ◌&&◌, ◌||◌, IsTrue, Some, refl, ap, ap₂, sym, ◌∙◌, subst, arith, nat_lt, nat_eq, lt→ltb, length-append, append_assoc}
+use Rattle.std.proofs.Common.{◌≡◌, inl, inr, ℕ, suc, zero, ◌+◌, ◌<◌, ◌≤◌, List, [], ◌∷◌, ◌++◌, length, Bool, true, false, ◌&&◌, ◌||◌, IsTrue, Some, refl, ap, ◌∙◌, subst, arith, nat_lt, nat_eq, length-append, append_assoc}
 use Rattle.std.proofs.lemmas.Bool.{eq-eqb}
 use Rattle.std.proofs.lemmas.Bool.Decides.{Decides-int_eq}
 use Rattle.std.specs.Ordering.{int_eq}
 use Rattle.std.specs.Prelude.{slice_get}
 use Rattle.dyadic.proofs.Equal.{both_true, both_pass}
 use Rattle.dyadic.specs.Fraction.{Fraction}
-use Rattle.poly_graph.specs.Term.{Node, constant_node, variable_node, negate_node, add_node, multiply_node, square_node, comes_after, in_order}
+use Rattle.poly_graph.specs.Term.{Node, constant_node, add_node, multiply_node, comes_after, in_order}
 use Rattle.poly_graph.specs.Shared.{IsGraph, IsNew, most_nodes}
 use Rattle.poly_graph.proofs.Graphs.{in_order_at, some_is}
 use Rattle.cert_model.specs.Limited.{is_constant, has_constant, limit_nodes}

@@ -1,10 +1,9 @@
 -- Walks over the nodes of a graph and of a form.
-use Rattle.std.proofs.Common.{◌≡◌, ℕ, suc, zero, ◌+◌, ◌≤◌, List, [], ◌∷◌, length, Bool, true, false, ◌||◌, Some, refl, ap, sym, ◌∙◌, arith, drop, add-one}
+use Rattle.std.proofs.Common.{◌≡◌, ℕ, suc, zero, ◌+◌, List, [], ◌∷◌, Bool, true, false, ◌||◌, Some, ap, sym, ◌∙◌, arith, drop}
 use Rattle.std.specs.Prelude.{slice_get}
 use Rattle.dyadic.specs.Fraction.{Fraction}
 use Rattle.poly_graph.specs.Term.{Node}
 use Rattle.poly_graph.specs.FormGraph.{FormNode, node_size, forms_size}
-use Rattle.poly_graph.proofs.SharedForm.{length_within}
 use Rattle.cert_model.specs.Limited.{is_constant, has_constant, names_atom, have_atom}
 
 drop-at : {X : Type 0} (xs : List X) (k : ℕ) (x : X) → slice_get xs k ≡ Some x → drop k xs ≡ x ∷ drop (suc k) xs

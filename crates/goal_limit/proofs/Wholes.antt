@@ -1,14 +1,13 @@
 -- A problem with a limit is whole.
-use Rattle.std.proofs.Common.{◌≡◌, ℕ, suc, zero, ◌+◌, ◌<◌, ◌≤◌, List, [], ◌∷◌, ◌++◌, length, Bool, false, refl, ap, sym, ◌∙◌, subst, arith, drop, length-append}
+use Rattle.std.proofs.Common.{◌≡◌, ℕ, ◌+◌, ◌<◌, ◌≤◌, List, [], ◌∷◌, length, sym, subst, arith, drop, length-append}
 use Rattle.std.proofs.lemmas.List.Elements.{All-append, All-cons, All-nil}
 use Rattle.std.specs.Prelude.{All}
 use Rattle.dyadic.specs.Fraction.{Fraction}
 use Rattle.dyadic.specs.Point.{Sort}
 use Rattle.poly_graph.specs.Term.{Node, Kind, le, constant_node, multiply_node, add_node}
 use Rattle.poly_graph.specs.Form.{Form, Forms, yes_form, no_form, atom_is, bool_is, all_form, any_form, no_forms, more_forms}
-use Rattle.poly_graph.specs.FormGraph.{IsFormGraph}
 use Rattle.poly_graph.specs.Shared.{IsGraph}
-use Rattle.poly_graph.specs.Problem.{Problem, IsProblem, IsForm, AreForms, IsNode, IsConstant, atom_at, sorts_of_axes, no_place}
+use Rattle.poly_graph.specs.Problem.{Problem, IsForm, AreForms, IsNode, IsConstant, atom_at, sorts_of_axes, no_place}
 use Rattle.poly_graph.specs.ProblemViews.{Parts, problem_of, IsWhole}
 use Rattle.cert_model.specs.Limited.{limit_nodes}
 use Rattle.goal_limit.specs.Made.{limit_parts, limit_forms, with_limit}

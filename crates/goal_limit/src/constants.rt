@@ -1,5 +1,5 @@
 // The constants of a limit.
-ghost use Rattle.std.specs.Prelude.{◌≡◌, ℕ, ◌*◌, ◌-◌, ◌^◌, ◌<◌, ◌≤◌, ◌∷◌, false, true, not, ◌&&◌, nat_abs, MatchOption};
+ghost use Rattle.std.specs.Prelude.{◌≡◌, ◌*◌, ◌-◌, ◌^◌, ◌<◌, ◌≤◌, ◌∷◌, false, true, not, ◌&&◌, nat_abs, MatchOption};
 ghost use Rattle.dyadic.specs.Fraction.{whole};
 ghost use Rattle.dyadic.specs.Signed.{signed_of};
 ghost use Rattle.dyadic.specs.Views.{units_of, dyadic_of, fraction_of_frac};

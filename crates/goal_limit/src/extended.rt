@@ -79,11 +79,13 @@ pub(crate) fn extended(
     requires goal { goal < length problem.now.atoms }
     requires room { has_room problem.now ≡ true }
     requires scale { has_constant problem.now.nodes (fraction_of_frac constants.scale) ≡ false }
-    requires offset { has_constant (constant_node (fraction_of_frac constants.scale) ∷ problem.now.nodes)
+    requires offset { has_constant
+        (constant_node (fraction_of_frac constants.scale) ∷ problem.now.nodes)
         (fraction_of_frac constants.offset) ≡ false }
     ensures { IfOk result (λ r. problem_of r ≡ with_limit (problem_of problem.now) goal
         (fraction_of_frac constants.scale) (fraction_of_frac constants.offset)) }
 {
+    // Scripts have at most 65,536 atoms: this is never too many.
     let Ok(atom) = u32::try_from(problem.atoms().len()) else {
         return Err(AllocError);
     };

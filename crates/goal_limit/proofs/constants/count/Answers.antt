@@ -1,4 +1,4 @@
-use Rattle.std.proofs.Common.{◌-◌, ◌∙◌, ap, nat_abs}
+use Rattle.std.proofs.Common.{◌-◌}
 use Rattle.dyadic.specs.Mantissa.{mantissa}
 use Rattle.goal_limit.proofs.Counts.{count_lowered, count_raised, mantissa_size}
 use Rattle.goal_limit.proofs.constants.count.Goals as goal

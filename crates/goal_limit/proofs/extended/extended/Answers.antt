@@ -1,4 +1,4 @@
-use Rattle.std.proofs.Common.{◌≡◌, ◌+◌, ◌<◌, sym, ap, ◌∙◌, subst, length, arith}
+use Rattle.std.proofs.Common.{◌≡◌, ◌+◌, sym, ap, ◌∙◌, subst, length, arith}
 use Rattle.dyadic.specs.Views.{fraction_of_frac}
 use Rattle.poly_graph.specs.declared.node.Atom.{Atom}
 use Rattle.poly_graph.specs.declared.node.Kind.TheVariants.{Le}

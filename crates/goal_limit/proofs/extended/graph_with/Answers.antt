@@ -1,4 +1,4 @@
-use Rattle.std.proofs.Common.{◌≡◌, sym, ap, ap₂, ◌∙◌, subst, take, length, ◌++◌, ◌∷◌, []}
+use Rattle.std.proofs.Common.{sym, ap, ap₂, ◌∙◌, subst, take, length, ◌++◌}
 use Rattle.std.proofs.Math.Seq.{take-length}
 use Rattle.dyadic.specs.Views.{fraction_of_frac}
 use Rattle.poly_graph.specs.Shared.{IsGraph}
