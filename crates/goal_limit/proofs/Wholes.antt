@@ -10,7 +10,8 @@ use Rattle.poly_graph.specs.Shared.{IsGraph}
 use Rattle.poly_graph.specs.Problem.{Problem, IsForm, AreForms, IsNode, IsConstant, atom_at, sorts_of_axes, no_place}
 use Rattle.poly_graph.specs.ProblemViews.{Parts, problem_of, IsWhole}
 use Rattle.cert_model.specs.Limited.{limit_nodes}
-use Rattle.goal_limit.specs.Made.{limit_parts, limit_forms, with_limit}
+use Rattle.goal_limit.specs.Made.{limit_parts, limit_forms}
+use Rattle.cert_model.specs.Limited.{with_limit}
 use Rattle.goal_limit.proofs.Forms.{limit_form}
 
 mutual

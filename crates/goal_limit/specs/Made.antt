@@ -3,9 +3,8 @@ use Rattle.std.specs.Prelude.{◌≡◌, ℕ, ◌+◌, ◌-◌, ◌*◌, ◌^◌
 use Rattle.dyadic.specs.Fraction.{Fraction}
 use Rattle.dyadic.specs.Rounding.{Dyadic}
 use Rattle.poly_graph.specs.Term.{constant_node, le}
-use Rattle.poly_graph.specs.Form.{atom_is, all_form, no_forms, more_forms}
 use Rattle.poly_graph.specs.FormGraph.{FormNode, atom_node, all_node}
-use Rattle.poly_graph.specs.Problem.{Problem, atom_at}
+use Rattle.poly_graph.specs.Problem.{atom_at}
 use Rattle.poly_graph.specs.ProblemViews.{Parts, problem_of}
 use Rattle.cert_model.specs.Limited.{limit_size, limit_nodes, is_limit, scale_of, offset_of, has_constant}
 
@@ -25,15 +24,6 @@ pub record AreConstants (q : Parts) (k : ℕ) (d : Dyadic) (scale offset : Fract
   pub offset_is : offset ≡ offset_of k d
   pub new_scale : has_constant q.nodes scale ≡ false
   pub new_offset : has_constant (constant_node scale ∷ q.nodes) offset ≡ false
-
--- the problem with the limit of these constants
-abbrev pub with_limit : Problem → ℕ → Fraction → Fraction → Problem
-with_limit p g scale offset = record {
-  axes = p.axes;
-  nodes = p.nodes ++ limit_nodes (length p.nodes) (atom_at p g).0 scale offset;
-  atoms = p.atoms ++ ((length p.nodes + 3, le) ∷ []);
-  form = all_form (more_forms p.form (more_forms (atom_is (length p.atoms)) no_forms));
-}
 
 -- where a form has n nodes: atom j, and it beside the root
 abbrev pub limit_forms : ℕ → ℕ → ℕ → List FormNode

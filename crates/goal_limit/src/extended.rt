@@ -6,8 +6,8 @@ ghost use Rattle.poly_graph.specs.Shared.{most_nodes};
 ghost use Rattle.poly_graph.specs.FormGraph.{forms_size, most_forms};
 ghost use Rattle.poly_graph.specs.ProblemViews.{problem_of};
 ghost use Rattle.poly_graph.specs.Views.{atom_of};
-ghost use Rattle.cert_model.specs.Limited.{has_constant, have_atom, has_room, limit_nodes};
-ghost use Rattle.goal_limit.specs.Made.{limit_forms, with_limit};
+ghost use Rattle.cert_model.specs.Limited.{has_constant, have_atom, has_room, limit_nodes, with_limit};
+ghost use Rattle.goal_limit.specs.Made.{limit_forms};
 
 use crate::constants::Constants;
 use poly_graph::{Atom, FormGraph, FormNode, Graph, Kind, Node, Problem};
@@ -85,10 +85,7 @@ pub(crate) fn extended(
     ensures { IfOk result (λ r. problem_of r ≡ with_limit (problem_of problem.now) goal
         (fraction_of_frac constants.scale) (fraction_of_frac constants.offset)) }
 {
-    // Scripts have at most 65,536 atoms: this is never too many.
-    let Ok(atom) = u32::try_from(problem.atoms().len()) else {
-        return Err(AllocError);
-    };
+    let atom = problem.atoms().len() as u32;
     let term = problem.atoms()[goal as usize].term;
     let nodes = problem.graph().len() as u32;
     let root = problem.forms().len() as u32 + 1;

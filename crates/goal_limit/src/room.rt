@@ -4,7 +4,7 @@ ghost use Rattle.poly_graph.specs.FormGraph.{node_size, forms_size, most_forms};
 ghost use Rattle.poly_graph.specs.FormViews.{form_node_of};
 ghost use Rattle.cert_model.specs.Limited.{names_atom, have_atom, has_room};
 
-use poly_graph::{FormGraph, FormNode, MOST_FORMS, MOST_NODES, Problem};
+use poly_graph::{FormGraph, FormNode, MOST_ATOMS, MOST_FORMS, MOST_NODES, Problem};
 
 // A node, and a place for each of its children.
 fn node_size(node: &FormNode) -> usize
@@ -51,11 +51,13 @@ fn have_atom(forms: &FormGraph, atom: usize) -> bool
     false
 }
 
-// Whether there is room for four nodes in the graph and for as much in the form, and no node of that names the next atom.
+// Whether there is room for four nodes in the graph, for one more atom, and for a size of four in the form, no node of which
+// names that atom.
 pub(crate) fn has_room(problem: &Problem) -> bool
     ensures { result ≡ has_room problem.now }
 {
     problem.graph().len() + 4 <= MOST_NODES
+        && problem.atoms().len() < MOST_ATOMS
         && forms_size(problem.forms()) + 4 <= MOST_FORMS
         && !have_atom(problem.forms(), problem.atoms().len())
 }

@@ -4,7 +4,7 @@ use Rattle.dyadic.specs.Fraction.{Fraction}
 use Rattle.dyadic.proofs.Equal.{both_pass}
 use Rattle.poly_graph.specs.ProblemViews.{problem_of}
 use Rattle.cert_model.specs.Limited.{has_room, is_limit}
-use Rattle.goal_limit.specs.Made.{with_limit}
+use Rattle.cert_model.specs.Limited.{with_limit}
 use Rattle.goal_limit.proofs.limited.Goals as goal
 
 pub returns-in_ok-extended-in-Some : goal.returns-in_ok-extended-in-Some
