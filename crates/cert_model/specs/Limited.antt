@@ -11,6 +11,7 @@ use Rattle.poly_graph.specs.Term.{Node, constant_node, multiply_node, add_node, 
 use Rattle.poly_graph.specs.Form.{atom_is, all_form, no_forms, more_forms}
 use Rattle.poly_graph.specs.FormGraph.{FormNode, atom_node, forms_size, most_forms}
 use Rattle.poly_graph.specs.Shared.{most_nodes}
+use Rattle.poly_graph.specs.AtomTable.{most_atoms}
 use Rattle.poly_graph.specs.Problem.{Problem, atom_at}
 use Rattle.poly_graph.specs.ProblemViews.{Parts, problem_of}
 
@@ -54,13 +55,17 @@ is_limit p k d =
 abbrev pub limit_nodes : ℕ → ℕ → Fraction → Fraction → List Node
 limit_nodes n t scale offset = constant_node scale ∷ multiply_node n t ∷ constant_node offset ∷ add_node (n + 1) (n + 2) ∷ []
 
-abbrev pub limited : Problem → ℕ → ℕ → Dyadic → Problem
-limited p g k d = record {
+-- with these constants
+abbrev pub with_limit : Problem → ℕ → Fraction → Fraction → Problem
+with_limit p g scale offset = record {
   axes = p.axes;
-  nodes = p.nodes ++ limit_nodes (length p.nodes) (atom_at p g).0 (scale_of k) (offset_of k d);
+  nodes = p.nodes ++ limit_nodes (length p.nodes) (atom_at p g).0 scale offset;
   atoms = p.atoms ++ ((length p.nodes + 3, le) ∷ []);
   form = all_form (more_forms p.form (more_forms (atom_is (length p.atoms)) no_forms));
 }
+
+abbrev pub limited : Problem → ℕ → ℕ → Dyadic → Problem
+limited p g k d = with_limit p g (scale_of k) (offset_of k d)
 
 -- ---- its shared form
 
@@ -72,9 +77,10 @@ abbrev pub have_atom : List FormNode → ℕ → Bool
 have_atom [] j = false
 have_atom (n ∷ nodes) j = names_atom j n || have_atom nodes j
 
--- there is room for a limit in the graph and in the shared form, and no node of that names the new atom
+-- there is room for a limit in the graph, among the atoms and in the shared form, and no node of that names the new atom
 abbrev pub has_room : Parts → Bool
-has_room q = nat_le (length q.nodes + 4) most_nodes && nat_le (forms_size q.forms + 4) most_forms && not (have_atom q.forms (length q.atoms))
+has_room q =
+    nat_le (length q.nodes + 4) most_nodes && nat_le (length q.atoms + 1) most_atoms && nat_le (forms_size q.forms + 4) most_forms && not (have_atom q.forms (length q.atoms))
 
 -- whether there is room, where the problem is kept in this shared form
 abbrev pub IsRoomOf : Problem → Bool → Type 0
