@@ -1,0 +1,28 @@
+// The first lines of a certificate of a least value.
+ghost use Rattle.std.specs.Prelude.{option_map};
+ghost use Rattle.dyadic.specs.Views.{dyadic_of};
+ghost use Rattle.cover_data.specs.Margins.{margins_of, loosenings_of};
+ghost use Rattle.cert_text.specs.Calls.{Appends};
+ghost use Rattle.least_text.specs.Lines.{least_header};
+
+use cert_text::{append_header, append_lower_bound};
+use cover_data::Options;
+use dyadic::Dy;
+use std::alloc::AllocError;
+
+// The version of the format for least values.
+const VERSION: u32 = 4;
+
+/// Appends the version, of the options the margin, the delta and the bound, and the lower bound of the goal.
+pub(crate) fn append_least_header(
+    text: &mut Vec<u8>,
+    options: &Options,
+    lower: Option<Dy>,
+) -> Result<(), AllocError>
+    ensures { let s = loosenings_of (margins_of options.now) in
+        Appends text.old text.new
+            (least_header s options.now.bound (option_map dyadic_of lower)) result }
+{
+    append_header(text, VERSION, options)?;
+    append_lower_bound(text, lower)
+}
