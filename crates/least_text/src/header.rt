@@ -1,9 +1,6 @@
 // The first lines of a certificate of a least value.
-ghost use Rattle.std.specs.Prelude.{option_map};
-ghost use Rattle.dyadic.specs.Views.{dyadic_of};
-ghost use Rattle.cover_data.specs.Margins.{margins_of, loosenings_of};
 ghost use Rattle.cert_text.specs.Calls.{Appends};
-ghost use Rattle.least_text.specs.Lines.{least_header};
+ghost use Rattle.least_text.specs.Calls.{header_of};
 
 use cert_text::{append_header, append_lower_bound};
 use cover_data::Options;
@@ -19,9 +16,7 @@ pub(crate) fn append_least_header(
     options: &Options,
     lower: Option<Dy>,
 ) -> Result<(), AllocError>
-    ensures { let s = loosenings_of (margins_of options.now) in
-        Appends text.old text.new
-            (least_header s options.now.bound (option_map dyadic_of lower)) result }
+    ensures { Appends text.old text.new (header_of options.now lower) result }
 {
     append_header(text, VERSION, options)?;
     append_lower_bound(text, lower)

@@ -1,11 +1,9 @@
 // The certificate whose cover is that of a book of the problem with a limit of its goal.
 ghost use Rattle.std.specs.Prelude.{◌≡◌, [], IfOk};
-ghost use Rattle.dyadic.specs.Views.{dyadic_of};
-ghost use Rattle.ival.specs.SpaceViews.{space_of};
 ghost use Rattle.cover_book.specs.Model.{IsOfRoot};
 ghost use Rattle.cover_book.specs.Verdict.{verdict_of};
 ghost use Rattle.cover_book.specs.declared.verdict.BookVerdict.TheVariants as verdict;
-ghost use Rattle.least_text.specs.Means.{IsLimitedCertificate};
+ghost use Rattle.least_text.specs.Calls.{IsLimitedText};
 
 use crate::facts::fits_certificate;
 use crate::header::append_least_header;
@@ -28,9 +26,7 @@ pub fn write_limited(
     point: &Space,
 ) -> Result<Vec<u8>, AllocError>
     ensures { book.now.kept ≡ [] → IsOfRoot book.now → verdict_of book.now ≡ verdict.Unsat →
-        IfOk result (λ text.
-            IsLimitedCertificate book.now bits (dyadic_of lower)
-                (space_of point.now) text.items) }
+        IfOk result (IsLimitedText book.now bits lower point.now) }
 {
     let mut text = Vec::new(alloc);
     append_least_header(&mut text, book.options(), Some(lower))?;

@@ -1,8 +1,6 @@
 // The certificate whose cover is the root alone.
-ghost use Rattle.std.specs.Prelude.{IfOk, option_map};
-ghost use Rattle.dyadic.specs.Views.{dyadic_of};
-ghost use Rattle.ival.specs.SpaceViews.{space_of};
-ghost use Rattle.least_text.specs.Means.{IsOverCertificate};
+ghost use Rattle.std.specs.Prelude.{IfOk};
+ghost use Rattle.least_text.specs.Calls.{IsOverText};
 
 use crate::facts::fits_certificate;
 use crate::header::append_least_header;
@@ -23,9 +21,7 @@ pub fn write_over(
     lower: Option<Dy>,
     point: &Space,
 ) -> Result<Vec<u8>, AllocError>
-    ensures { let low = option_map dyadic_of lower in
-        IfOk result (λ text.
-            IsOverCertificate options.now low (space_of point.now) text.items) }
+    ensures { IfOk result (IsOverText options.now lower point.now) }
 {
     let mut text = Vec::new(alloc);
     append_least_header(&mut text, options, lower)?;
