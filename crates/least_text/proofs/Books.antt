@@ -1,12 +1,10 @@
 -- What a book that leaves nothing has: a lawful end of its cover, at which nothing is left.
-use Rattle.std.proofs.Common.{◌≡◌, ℕ, List, [], ◌++◌, Bool, true, false, cond, is_some, Option, Some, None, refl, ap, sym, ◌∙◌, subst}
-use Rattle.interval_model.specs.Space.{Space}
+use Rattle.std.proofs.Common.{◌≡◌, List, [], ◌++◌, Bool, true, false, cond, is_some, refl, ap, sym, ◌∙◌, subst}
 use Rattle.cover_model.specs.State.{State, root_state}
 use Rattle.cover_model.specs.Derivation.{Tree, Lawful}
-use Rattle.cert_model.specs.Due.{Standing, Value, left_open}
+use Rattle.cert_model.specs.Due.{Standing, left_open}
 use Rattle.cert_model.specs.SessionLaws.{WrittenEnd, written_tree, written_crossing, value_of_end, IsLawfulEnd}
 use Rattle.cert_model.specs.Written.{lemma_states, left_standing}
-use Rattle.cover_book.specs.declared.verdict.BookVerdict.{BookVerdict}
 use Rattle.cover_book.specs.declared.verdict.BookVerdict.TheVariants.{DeltaSat, NotYet, UnknownBudget, UnknownWidth, Unsat}
 use Rattle.cover_book.specs.Model.{BookModel, IsOfRoot, problem_in, loosenings_in}
 use Rattle.cover_book.specs.Verdict.{has_live, has_stuck, may_branch, verdict_of}

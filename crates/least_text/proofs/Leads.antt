@@ -6,7 +6,7 @@ use Rattle.cover_model.specs.State.{Loosenings}
 use Rattle.cover_data.specs.declared.margins.Margins.{Margins}
 use Rattle.cover_data.specs.Margins.{loosenings_of}
 use Rattle.cert_read.specs.CertLine.{CertLine, version, margin, delta, bound, lower, goal}
-use Rattle.cert_model.specs.Due.{BadHeader, WrongBound, Due, version_due, margin_due, delta_due, bound_due, kind_due, on, faulty, given}
+use Rattle.cert_model.specs.Due.{BadHeader, WrongBound, version_due, margin_due, delta_due, bound_due, kind_due, on, faulty, given}
 use Rattle.cert_model.specs.Accepted.{lines_course, course_next, loosenings_fit}
 use Rattle.cert_model.specs.Least.{LeastDue, header_due, lower_due, cover_due, LeastNext, in_header, can_limit, least_next, GoalDue, plain_due, least_due, as_least, goal_next, GoalCourse}
 use Rattle.cert_model.proofs.Writes.{same_bounds}

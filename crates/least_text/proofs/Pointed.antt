@@ -1,13 +1,13 @@
 -- A point that is shown leads to the end of a certificate of a least value.
-use Rattle.std.proofs.Common.{◌≡◌, ℕ, suc, List, [], ◌∷◌, ◌++◌, Bool, IsTrue, Option, Some, refl, ap, sym, ◌∙◌, subst}
+use Rattle.std.proofs.Common.{◌≡◌, ℕ, suc, List, [], ◌∷◌, Bool, Option, Some, refl, ap, ◌∙◌}
 use Rattle.dyadic.specs.Rounding.{Dyadic, exact}
 use Rattle.dyadic.proofs.Equal.{both_pass}
 use Rattle.interval_model.specs.Space.{Space}
 use Rattle.poly_graph.specs.Problem.{Problem}
 use Rattle.cover_model.specs.State.{State, Loosenings, delta_of, sure}
 use Rattle.cover_model.specs.Fits.{IsShownAt, coordinates, are_near}
-use Rattle.cert_read.specs.CertLine.{CertLine, point_word, end_word}
-use Rattle.cert_model.specs.Due.{Standing, Value, at_point, Due, kind_due, coordinate_next, nothing_due, Next, on, faulty}
+use Rattle.cert_read.specs.CertLine.{CertLine}
+use Rattle.cert_model.specs.Due.{Standing, at_point, Due, kind_due, nothing_due, Next, on, faulty}
 use Rattle.cert_model.specs.Accepted.{next, Course, stopped, reached, course_next, course_of_lines}
 use Rattle.cert_model.specs.Least.{Least, LeastDue, covered_due, in_point_due, shown_due, LeastNext, in_point, least_due, as_least, GoalDue}
 use Rattle.cert_model.proofs.Writes.{point_finishes}

@@ -1,17 +1,15 @@
 -- What a line of the main tree leaves open or stuck is left at the end of a cover.
-use Rattle.std.proofs.Common.{◌≡◌, ◌⊎◌, inl, inr, ℕ, suc, List, [], ◌∷◌, ◌++◌, Bool, true, false, cond, true≢false, Option, Some, None, refl, ap, sym, ◌∙◌, subst}
-use Rattle.dyadic.specs.Rounding.{Dyadic}
+use Rattle.std.proofs.Common.{◌≡◌, ◌⊎◌, inl, inr, ℕ, suc, List, [], ◌∷◌, ◌++◌, Bool, true, false, cond, true≢false, Option, Some, None, refl, sym}
 use Rattle.interval_model.specs.Space.{Space}
 use Rattle.poly_graph.specs.Problem.{Declared, real_between, any_bool, Axis, Problem}
 use Rattle.cover_line.specs.Words.{word_of}
 use Rattle.cover_model.specs.State.{State, Loosenings, root_state}
 use Rattle.cover_model.specs.Rules.{Line, open_line, stuck, Left, closed, one, two, stays, is_stuck_atom, when, rule}
-use Rattle.cert_read.specs.CertLine.{CertLine, rule_line, over, end_word, crossing}
-use Rattle.cert_model.specs.Due.{CertFault, RuleFails, Standing, Value, at_point, left_open, Due, axis_due, coordinate_due, root_due, tree_due, end_due, nothing_due, Next, on, faulty, names_well, after_rule, tree_goes_on, is_crossed_box}
+use Rattle.cert_read.specs.CertLine.{CertLine, rule_line, over, end_word}
+use Rattle.cert_model.specs.Due.{CertFault, RuleFails, Standing, left_open, Due, axis_due, coordinate_due, root_due, tree_due, end_due, nothing_due, Next, on, faulty, names_well, after_rule, tree_goes_on, is_crossed_box}
 use Rattle.cert_model.specs.Accepted.{next, ruled_line, axis_line, coordinate_line, root_line, Course, stopped, reached, course_next, course_of_lines}
-use Rattle.cert_model.specs.Least.{LeastDue, in_cover_due, covered_due, LeastNext, in_cover, searched, tree_space, leaves_open, leaf_line, cover_line, least_due, as_least}
+use Rattle.cert_model.specs.Least.{tree_space, leaves_open}
 use Rattle.cert_model.proofs.Invariant.{IfOn}
-use Rattle.least_text.proofs.Leads.{goal_lines, Leads}
 
 -- ---- what is left so far
 

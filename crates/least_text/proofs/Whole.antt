@@ -1,8 +1,6 @@
 -- The texts of certificates of least values are accepted.
 use Rattle.std.proofs.Common.{◌≡◌, ℕ, ◌≤◌, List, [], ◌∷◌, ◌++◌, Bool, true, false, cond, IsTrue, Option, Some, None, refl, ap, sym, ◌∙◌, subst, length, arith}
-use Rattle.std.specs.List.{AllByRecursion}
 use Rattle.std.proofs.lemmas.Bool.{le-leb}
-use Rattle.std.proofs.lemmas.List.{append_assoc}
 use Rattle.dyadic.specs.Rounding.{Dyadic}
 use Rattle.interval_model.specs.Space.{Space}
 use Rattle.poly_graph.specs.Problem.{Problem}
@@ -10,22 +8,22 @@ use Rattle.cover_model.specs.State.{Loosenings, root_state}
 use Rattle.cover_model.specs.Rules.{open_line}
 use Rattle.cover_model.specs.Fits.{IsShownAt}
 use Rattle.cover_data.specs.declared.margins.Margins.{Margins}
-use Rattle.cover_data.specs.Margins.{AreMargins, loosenings_of}
+use Rattle.cover_data.specs.Margins.{loosenings_of}
 use Rattle.cert_read.specs.CertLine.{CertLine, goal, cover, tree_word, end_word, over, rule_line}
-use Rattle.cert_model.specs.Due.{BadHeader, OverFails, Standing, left_open, Due, version_due, kind_due, next_due, root_due, end_due, nothing_due, Next, on, faulty, given, is_crossed_box}
-use Rattle.cert_model.specs.Accepted.{next, root_line, reached, course_of_lines, loosenings_fit, most_lemmas, accepted, certificate_text, most_bytes}
+use Rattle.cert_model.specs.Due.{BadHeader, OverFails, Standing, left_open, version_due, next_due, root_due, end_due, nothing_due, on, faulty, given, is_crossed_box}
+use Rattle.cert_model.specs.Accepted.{next, root_line, reached, course_of_lines, loosenings_fit, most_lemmas, certificate_text}
 use Rattle.cert_model.specs.Least.{Least, LeastDue, cover_due, in_cover_due, covered_due, shown_due, in_cover, is_over, searched, can_limit, tree_space, over_line, least_next, plain_due, least_due, least, goal_next, goal_ended, IsGoalAccepted}
 use Rattle.cert_model.specs.Laws.{CanBeWritten}
-use Rattle.cert_model.specs.SessionLaws.{WrittenEnd, value_of_end, standing_of_end, IsLawfulEnd, end_lines}
-use Rattle.cert_model.specs.Written.{LemmaTree, lemma_states, AreLemmaTrees, lemmas_lines}
+use Rattle.cert_model.specs.SessionLaws.{WrittenEnd, value_of_end, standing_of_end, IsLawfulEnd}
+use Rattle.cert_model.specs.Written.{LemmaTree, lemma_states, AreLemmaTrees}
 use Rattle.cert_model.proofs.Spells.{verdict_spelled}
 use Rattle.cert_model.proofs.Writes.{cover_finishes, Finishes}
 use Rattle.cert_text.specs.Parts.{whole_point}
 use Rattle.cert_text.specs.Session.{body_lines}
-use Rattle.least_text.specs.Lines.{least_header, root_over, over_lines, limited_cover, limited_lines}
+use Rattle.least_text.specs.Lines.{root_over, over_lines, limited_cover, limited_lines}
 use Rattle.least_text.specs.Means.{open_root}
-use Rattle.least_text.proofs.Leads.{goal_lines, Leads, through, one_line, header_leads, goal_leads}
-use Rattle.least_text.proofs.Covered.{cover_leads, as_covered}
+use Rattle.least_text.proofs.Leads.{Leads, through, one_line, header_leads, goal_leads}
+use Rattle.least_text.proofs.Covered.{cover_leads}
 use Rattle.least_text.proofs.Pointed.{point_leads}
 
 no-limit : (p : Problem) (g : ℕ) (low : Option Dyadic) → searched p g low None ≡ p

@@ -1,16 +1,15 @@
 -- What the code wrote is a certificate of a least value.
-use Rattle.std.proofs.Common.{◌≡◌, ℕ, ◌+◌, ◌≤◌, List, [], ◌∷◌, ◌++◌, Bool, true, Option, Some, IsTrue, ap, sym, ◌∙◌, subst, length, arith}
+use Rattle.std.proofs.Common.{◌≡◌, ℕ, ◌≤◌, List, [], ◌∷◌, ◌++◌, Option, Some, ap, sym, subst, length, arith}
 use Rattle.std.proofs.lemmas.List.{length-map}
 use Rattle.dyadic.specs.Rounding.{Dyadic}
 use Rattle.interval_model.specs.Space.{Space}
-use Rattle.poly_graph.specs.Problem.{Problem}
 use Rattle.cover_model.specs.State.{State, Loosenings}
 use Rattle.cover_data.specs.declared.margins.Options.{Options}
 use Rattle.cover_data.specs.Margins.{margins_of, loosenings_of}
 use Rattle.cert_read.specs.CertLine.{CertLine, goal, cover, tree_word, end_word, over}
 use Rattle.cert_model.specs.Accepted.{most_bytes, most_lemmas}
 use Rattle.cert_model.specs.Laws.{CanBeWritten}
-use Rattle.cert_model.specs.Least.{Least, least, IsGoalAccepted}
+use Rattle.cert_model.specs.Least.{least, IsGoalAccepted}
 use Rattle.cert_model.specs.SessionLaws.{WrittenEnd}
 use Rattle.cert_model.specs.Written.{AreLemmaTrees}
 use Rattle.cover_book.specs.declared.verdict.BookVerdict.TheVariants.{Unsat}

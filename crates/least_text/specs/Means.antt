@@ -9,7 +9,7 @@ use Rattle.cover_model.specs.Fits.{IsShownAt}
 use Rattle.cover_data.specs.declared.margins.Options.{Options}
 use Rattle.cover_data.specs.Margins.{AreMargins, margins_of, loosenings_of}
 use Rattle.cert_model.specs.Due.{Standing, is_crossed_box}
-use Rattle.cert_model.specs.Least.{Least, least, is_over, can_limit, IsGoalAccepted}
+use Rattle.cert_model.specs.Least.{least, is_over, can_limit, IsGoalAccepted}
 use Rattle.cert_model.specs.Limited.{limited}
 use Rattle.cover_book.specs.Model.{BookModel, problem_in, loosenings_in}
 
