@@ -1,0 +1,4 @@
+pub mod Near
+pub mod Rows
+pub mod Shown
+pub mod Steps
