@@ -1,9 +1,9 @@
--- Lower bounds of some values, and bounds that are near to each other.
-use Rattle.std.proofs.Common.{◌≡◌, ℕ, Bool, true, ◌&&◌, IsTrue, Some, refl, ap, ap₂, sym, ◌∙◌, subst, true≢false}
+-- The order of ends, lower bounds of some values, and bounds that are near to each other.
+use Rattle.std.proofs.Common.{◌≡◌, inl, inr, ℕ, true, false, ◌&&◌, IsTrue, Some, refl, ap, ap₂, sym, ◌∙◌, subst, true≢false}
 use Rattle.std.proofs.lemmas.Nat.{pow_pos}
-use Rattle.dyadic.specs.Fraction.{Fraction, IsFraction, sum_of}
+use Rattle.dyadic.specs.Fraction.{Fraction, sum_of}
 use Rattle.dyadic.specs.Rounding.{Dyadic, Ext, finite, below_all, above_all, End, minus_infinity, at, plus_infinity, exact, end_of, end_at_most, ext_at_most, down, two_to_minus}
-use Rattle.dyadic.proofs.Equal.{through}
+use Rattle.dyadic.proofs.Equal.{through, total}
 use Rattle.dyadic.proofs.Rounds.{down_side, exact_self}
 use Rattle.interval_model.specs.Interval.{between, within}
 use Rattle.interval_model.proofs.EndsSums.{sum_is_good}
@@ -13,6 +13,20 @@ below-infinity : (h : Ext) → ext_at_most h above_all ≡ true
 below-infinity below_all = refl
 below-infinity (finite d) = refl
 below-infinity above_all = refl
+
+pub at_most_itself : (e : Ext) → ext_at_most e e ≡ true
+at_most_itself below_all = refl
+at_most_itself (finite d) = exact_self d
+at_most_itself above_all = refl
+
+pub at_most_otherwise : (e f : Ext) → ext_at_most e f ≡ false → ext_at_most f e ≡ true
+at_most_otherwise below_all f h = absurd (true≢false h)
+at_most_otherwise (finite d) below_all h = refl
+at_most_otherwise (finite d) (finite c) h = elim (total (exact d) (exact c)) [ inl k ↦ absurd (true≢false (sym k ∙ h)) | inr k ↦ k ]
+at_most_otherwise (finite d) above_all h = absurd (true≢false h)
+at_most_otherwise above_all below_all h = refl
+at_most_otherwise above_all (finite c) h = refl
+at_most_otherwise above_all above_all h = absurd (true≢false h)
 
 -- values are not below their lower end
 pub not_below_low : (d : Dyadic) (h : Ext) → within (between (finite d) h) (not_below (Some d)) ≡ true

@@ -1,5 +1,5 @@
 -- What a search for a least value finds.
-use Rattle.std.specs.Prelude.{◌≡◌, ◌≢◌, ◌≤◌, ℕ, [], Option, Some, None, true, false, IsTrue, length, option_map}
+use Rattle.std.specs.Prelude.{◌≡◌, ◌≢◌, ◌≤◌, ℕ, [], Option, Some, None, true, false, IsTrue, option_map}
 use Rattle.dyadic.specs.Rounding.{Dyadic, Ext, exact, end_of, at, end_at_most, two_to_minus}
 use Rattle.dyadic.specs.Fraction.{sum_of}
 use Rattle.dyadic.specs.Views.{dyadic_of, ext_of}
@@ -10,12 +10,11 @@ use Rattle.cover_model.specs.Fits.{IsShownAt}
 use Rattle.cover_data.specs.declared.margins.Options.{Options}
 use Rattle.cover_data.specs.Margins.{margins_of, loosenings_of}
 use Rattle.cert_model.specs.Due.{is_crossed_box}
-use Rattle.cert_model.specs.Least.{is_over, upper_at}
+use Rattle.cert_model.specs.Least.{upper_at}
 use Rattle.cert_model.specs.Limited.{limited}
 use Rattle.goal_limit.specs.Limits.{takes_limit}
 use Rattle.cover_book.specs.Keeps.{IsBook}
 use Rattle.cover_book.specs.Left.{LeavesDue}
-use Rattle.cover_book.specs.Limits.{IsWithinLimits}
 use Rattle.cover_book.specs.Model.{BookModel, IsOfRoot, problem_in}
 use Rattle.cover_book.specs.Verdict.{verdict_of}
 use Rattle.cover_book.specs.declared.verdict.BookVerdict.TheVariants as verdict

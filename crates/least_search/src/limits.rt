@@ -1,6 +1,5 @@
 // The limit of the next search.
 ghost use Rattle.std.specs.Prelude.{◌<◌, ◌≤◌, IfOk, length};
-ghost use Rattle.dyadic.specs.Views.{dyadic_of};
 ghost use Rattle.least_search.specs.Limits.{IsNextLimit};
 
 use dyadic::{Dy, Ext, two_to_minus};

@@ -1,11 +1,10 @@
 // The search for a least value.
-ghost use Rattle.std.specs.Prelude.{◌≡◌, ◌≢◌, ◌<◌, ◌≤◌, true, false, IfOk, IfSome, None, Some, length, option_map};
+ghost use Rattle.std.specs.Prelude.{◌≡◌, ◌≢◌, ◌<◌, ◌≤◌, true, false, IfOk, None, Some, length, option_map};
+ghost use Rattle.dyadic.specs.Rounding.{ext_at_most};
 ghost use Rattle.dyadic.specs.Views.{dyadic_of, ext_of};
 ghost use Rattle.poly_graph.specs.ProblemViews.{problem_of};
 ghost use Rattle.cert_model.specs.Due.{is_crossed_box};
 ghost use Rattle.cover_book.specs.Limits.{IsWithinLimits};
-ghost use Rattle.cover_book.specs.Verdict.{verdict_of};
-ghost use Rattle.cover_book.specs.declared.verdict.BookVerdict.TheVariants as verdict;
 ghost use Rattle.least_search.specs.Aims.{IsReady, IsSameAim};
 ghost use Rattle.least_search.specs.Found.{AreBoundsOf, IsEndingAt, IsFound, IsLeast, IsSearched, IsSettled, IsShownFor, bound_of};
 ghost use Rattle.least_search.specs.Limits.{IsLimited};
@@ -77,6 +76,7 @@ fn search_limited<S: Searcher>(
 }
 
 // The point of a book, where it is better.
+#[tactic(auto, using(crate::proofs::Near::at_most_itself, crate::proofs::Near::at_most_otherwise))]
 fn take_point(
     alloc: Global,
     aim: &mut Aim<'_>,
@@ -89,6 +89,7 @@ fn take_point(
     ensures ready { IsReady aim.new }
     ensures same { IsSameAim aim.old aim.new }
     ensures bounds { AreBoundsOf aim.old bounds.new }
+    ensures better { ext_at_most (ext_of bounds.new.upper) (ext_of bounds.old.upper) ≡ true }
     ensures budget { bounds.new.budget ≡ bounds.old.budget }
 {
     let upper = aim.upper(point.space());
@@ -259,7 +260,5 @@ pub fn minimize<S: Searcher>(
     };
     let budget = options.budget.saturating_sub(book.branches());
     let mut aim = Aim::new(alloc, problem, goal, gap_bits, options)?;
-    Ok(Least::Found(find(
-        searcher, alloc, &mut aim, point, budget,
-    )?))
+    Ok(Least::Found(find(searcher, alloc, &mut aim, point, budget)?))
 }

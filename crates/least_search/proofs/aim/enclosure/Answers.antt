@@ -1,4 +1,4 @@
-use Rattle.std.proofs.Common.{◌≡◌, List, length, get_or, arith, ap, ◌∙◌}
+use Rattle.std.proofs.Common.{◌≡◌, List, length, arith, ap, ◌∙◌}
 use Rattle.interval_model.specs.Interval.{Interval}
 use Rattle.poly_graph.specs.Term.{Node}
 use Rattle.cover_model.specs.Narrowed.{enclosures}

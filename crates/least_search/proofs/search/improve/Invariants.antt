@@ -1,4 +1,3 @@
-use Rattle.std.proofs.Common.{ℕ}
 use Rattle.least_search.specs.Aims.{IsReady, IsSameAim}
 use Rattle.least_search.specs.Found.{AreBoundsOf}
 use Rattle.least_search.proofs.search.improve.Given as goal

@@ -1,5 +1,4 @@
-use Rattle.std.proofs.Common.{◌≡◌, true, Option, Some, ap, sym, ◌∙◌, subst, option_map}
-use Rattle.dyadic.specs.Rounding.{Dyadic}
+use Rattle.std.proofs.Common.{sym, ◌∙◌, subst, option_map}
 use Rattle.dyadic.specs.Views.{dyadic_of, ext_of}
 use Rattle.least_search.specs.Found.{IsSettled}
 use Rattle.least_search.proofs.Near.{settled}

@@ -1,5 +1,4 @@
-use Rattle.std.proofs.Common.{◌∙◌, ap, sym}
-use Rattle.least_search.proofs.Steps.{point_of}
+use Rattle.least_search.proofs.Shown.{point_of}
 use Rattle.least_search.proofs.search.take_book.Goals as goal
 
 pub take_point-requires-clause-shown : goal.take_point-requires-clause-shown
