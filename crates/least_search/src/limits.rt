@@ -1,6 +1,5 @@
 // The limit of the next search.
 ghost use Rattle.std.specs.Prelude.{◌<◌, ◌≤◌, IfOk, length};
-ghost use Rattle.dyadic.specs.Views.{dyadic_of};
 ghost use Rattle.least_search.specs.Limits.{IsNextLimit};
 
 use dyadic::{Dy, Ext, two_to_minus};
@@ -40,7 +39,9 @@ fn whole_above(x: f64) -> f64 {
 
 // Where the next limit shall lie: half way between the bounds, and where they are near to each other below the upper one
 // by the gap.
-fn target(between: Between) -> Option<f64> {
+fn target(between: Between) -> Option<f64>
+    requires { between.gap_bits ≤ 30 }
+{
     let upper = match between.upper {
         Ext::Fin(upper) => approximate(upper),
         Ext::NegInf | Ext::PosInf => return None,
@@ -61,7 +62,10 @@ fn target(between: Between) -> Option<f64> {
 
 // The limit of these bits that is next above the target, or one of those behind it; none where that is too great, or not
 // above the lower bound.
-fn candidate(between: Between, bits: u32, further: u32) -> Option<Dy> {
+fn candidate(between: Between, bits: u32, further: u32) -> Option<Dy>
+    requires gap { between.gap_bits ≤ 30 }
+    requires bits { bits ≤ 36 }
+{
     let unit = approximate(two_to_minus(bits));
     let whole = target(between)? / unit;
     if whole < -1e15 || whole > 1e15 {
