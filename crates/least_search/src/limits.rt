@@ -24,9 +24,6 @@ pub(crate) struct Between {
     pub gap_bits: u32,
 }
 
-// As many atoms as a problem that is searched may have.
-const MOST_ATOMS: usize = 65_536;
-
 // So many limits are tried, since one may have a constant that the problem has already.
 const TRIES: u32 = 8;
 
@@ -93,12 +90,12 @@ fn with_limit(
         return Ok(None);
     };
     match limited(alloc, problem, goal, bits, limit)? {
-        Some(problem) if problem.atoms().len() <= MOST_ATOMS => Ok(Some(Limited {
+        Some(problem) => Ok(Some(Limited {
             problem,
             bits,
             limit,
         })),
-        _ => Ok(None),
+        None => Ok(None),
     }
 }
 

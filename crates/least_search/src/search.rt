@@ -4,9 +4,10 @@ ghost use Rattle.dyadic.specs.Rounding.{ext_at_most};
 ghost use Rattle.dyadic.specs.Views.{dyadic_of, ext_of};
 ghost use Rattle.poly_graph.specs.ProblemViews.{problem_of};
 ghost use Rattle.cert_model.specs.Due.{is_crossed_box};
+ghost use Rattle.cert_model.specs.Least.{IsSettled};
 ghost use Rattle.cover_book.specs.Limits.{IsWithinLimits};
 ghost use Rattle.least_search.specs.Aims.{IsReady, IsSameAim};
-ghost use Rattle.least_search.specs.Found.{AreBoundsOf, IsEndingAt, IsFound, IsLeast, IsSearched, IsSettled, IsShownFor, bound_of};
+ghost use Rattle.least_search.specs.Found.{AreBoundsOf, IsEndingAt, IsFound, IsLeast, IsSearched, IsShownFor, bound_of};
 ghost use Rattle.least_search.specs.Limits.{IsLimited};
 ghost use Rattle.least_search.specs.declared.found.Ending.TheVariants as ending;
 
@@ -234,6 +235,7 @@ fn find<S: Searcher>(
     Ok(Found {
         lower: bounds.lower,
         point: bounds.point,
+        upper: bounds.upper,
         ending,
     })
 }

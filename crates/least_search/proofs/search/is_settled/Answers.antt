@@ -1,6 +1,6 @@
 use Rattle.std.proofs.Common.{sym, ◌∙◌, subst, option_map}
 use Rattle.dyadic.specs.Views.{dyadic_of, ext_of}
-use Rattle.least_search.specs.Found.{IsSettled}
+use Rattle.cert_model.specs.Least.{IsSettled}
 use Rattle.least_search.proofs.Near.{settled}
 use Rattle.least_search.proofs.search.is_settled.Goals as goal
 
