@@ -1,5 +1,5 @@
 -- What holds of what is due behind the version of a least value, and goes on to hold, holds after its last line.
-use Rattle.std.proofs.Common.{ℕ, List, Option, None, subst, nat_le, length}
+use Rattle.std.proofs.Common.{ℕ, List, Option, None, Bool, subst, nat_le, length}
 use Rattle.dyadic.specs.Rounding.{Dyadic}
 use Rattle.poly_graph.specs.Problem.{Problem}
 use Rattle.cover_model.specs.State.{Loosenings}
@@ -9,7 +9,7 @@ use Rattle.cert_model.specs.Accepted.{next, most_bytes, accepted, refused, at_en
 use Rattle.cert_model.specs.Least.{LeastDue, header_due, covered_due, shown_due, Least, LeastNext, least_next, least_at_end, is_least_version, GoalDue, plain_due, least_due, GoalValue, plain, least, as_plain, as_least, goal_next, goal_at_end, GoalVerdict, plain_verdict, IsGoalAccepted}
 use Rattle.cert_model.proofs.Invariant.{IfOn, IfAccepted, cond_on, verdict_shows}
 
-module _ (p : Problem) (g : ℕ) (b : Option ℕ) (P : LeastDue → Type 0) (start : P (header_due (margin_due 2))) (step : (d : LeastDue) (l : CertLine) → P d → IfOn P (least_next p g b d l)) where
+module _ (p : Problem) (g : ℕ) (room : Bool) (b : Option ℕ) (P : LeastDue → Type 0) (start : P (header_due (margin_due 2))) (step : (d : LeastDue) (l : CertLine) → P d → IfOn P (least_next p g room b d l)) where
   abbrev InGoal : GoalDue → Type 0
   InGoal (plain_due d) = Unit {0}
   InGoal (least_due d) = P d
@@ -22,10 +22,10 @@ module _ (p : Problem) (g : ℕ) (b : Option ℕ) (P : LeastDue → Type 0) (sta
   least-on (on d) h = h
   least-on (faulty f) h = tt
 
-  goal-step : (d : GoalDue) (l : CertLine) → InGoal d → IfOn InGoal (goal_next p g b d l)
+  goal-step : (d : GoalDue) (l : CertLine) → InGoal d → IfOn InGoal (goal_next p g room b d l)
   goal-step (plain_due version_due) (version v) h = cond_on InGoal (is_least_version v) (on (least_due (header_due (margin_due 2)))) (as_plain (next p b version_due (version v))) (λ e. start) (plain-on (next p b version_due (version v)))
   goal-step (plain_due d) l h = plain-on (next p b d l)
-  goal-step (least_due d) l h = least-on (least_next p g b d l) (step d l h)
+  goal-step (least_due d) l h = least-on (least_next p g room b d l) (step d l h)
 
   module _ (Q : Loosenings → Least → Type 0) (covered : (s : Loosenings) (low : Option Dyadic) (left : List Standing) → P (covered_due s low left) → Q s (record { lower = low; over = left; point = None }))
       (shown : (s : Loosenings) (x : Least) → P (shown_due s x) → Q s x) where
@@ -47,5 +47,5 @@ module _ (p : Problem) (g : ℕ) (b : Option ℕ) (P : LeastDue → Type 0) (sta
     goal-end (least_due d) n h = least-end d n h
 
     -- of the value that is accepted
-    pub least_is : (bytes : List ℕ) (s : Loosenings) (x : Least) → IsGoalAccepted p g b bytes s (least x) → Q s x
-    least_is bytes s x e = subst (λ (w : GoalVerdict). IfAccepted OfGoal w) e (verdict_shows (goal_next p g b) InGoal goal-step OfGoal goal_at_end goal-end (nat_le (length bytes) most_bytes) (plain_due version_due) tt bytes)
+    pub least_is : (bytes : List ℕ) (s : Loosenings) (x : Least) → IsGoalAccepted p g room b bytes s (least x) → Q s x
+    least_is bytes s x e = subst (λ (w : GoalVerdict). IfAccepted OfGoal w) e (verdict_shows (goal_next p g room b) InGoal goal-step OfGoal goal_at_end goal-end (nat_le (length bytes) most_bytes) (plain_due version_due) tt bytes)

@@ -9,6 +9,7 @@ pub mod LeastCourse
 pub mod LeastHeader
 pub mod LeastMeans
 mod LeastRows
+pub mod Limited
 pub mod Limits
 pub mod MarkLists
 pub mod Means

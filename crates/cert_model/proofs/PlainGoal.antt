@@ -8,7 +8,7 @@ use Rattle.cert_model.specs.Due.{CertFault, Due, version_due, margin_due, Value,
 use Rattle.cert_model.specs.Accepted.{next, next_parsed, CourseOf, stopped, reached, course_next, course_by, course, Verdict, accepted, refused, at_end, ended, cut_off, verdict_of, verdict_by, most_bytes, IsAccepted}
 use Rattle.cert_model.specs.Least.{LeastDue, header_due, covered_due, shown_due, LeastNext, least_next, least_at_end, is_least_version, GoalDue, plain_due, least_due, plain, as_plain, as_least, goal_next, goal_step, GoalCourse, goal_course, GoalVerdict, plain_verdict, goal_ended, IsGoalAccepted}
 
-module _ (p : Problem) (g : ℕ) (b : Option ℕ) (s : Loosenings) (v : Value) where
+module _ (p : Problem) (g : ℕ) (room : Bool) (b : Option ℕ) (s : Loosenings) (v : Value) where
   abbrev IsPlain : GoalVerdict → Type 0
   IsPlain w = w ≡ accepted s (plain v)
 
@@ -18,7 +18,7 @@ module _ (p : Problem) (g : ℕ) (b : Option ℕ) (s : Loosenings) (v : Value) w
   -- ---- a least value is no plain one
 
   abbrev least_course : ℕ → LeastDue → List (List ℕ) → GoalCourse
-  least_course n d ls = course_by (goal_step p g b) n (least_due d) ls
+  least_course n d ls = course_by (goal_step p g room b) n (least_due d) ls
 
   not-at-end : (d : LeastDue) (n : ℕ) → IsPlain (least_at_end d n) → ⊥
   not-at-end (covered_due s' low left) n e = cc
@@ -29,15 +29,15 @@ module _ (p : Problem) (g : ℕ) (b : Option ℕ) (s : Loosenings) (v : Value) w
   not-next (on d) n k ih e = ih d e
   not-next (faulty f) n k ih e = not-refused f n e
 
-  not-parsed : (d : LeastDue) (x : Parsed) (n : ℕ) (k : GoalDue → GoalCourse) → ((d' : LeastDue) → IsPlain (goal_ended (k (least_due d'))) → ⊥) → IsPlain (goal_ended (course_next (goal_step p g b (least_due d) x) n k)) → ⊥
+  not-parsed : (d : LeastDue) (x : Parsed) (n : ℕ) (k : GoalDue → GoalCourse) → ((d' : LeastDue) → IsPlain (goal_ended (k (least_due d'))) → ⊥) → IsPlain (goal_ended (course_next (goal_step p g room b (least_due d) x) n k)) → ⊥
   not-parsed d too_long n k ih e = not-refused _ n e
   not-parsed d bad_line n k ih e = not-refused _ n e
   not-parsed d bad_number n k ih e = not-refused _ n e
-  not-parsed d (line l) n k ih e = not-next (least_next p g b d l) n k ih e
+  not-parsed d (line l) n k ih e = not-next (least_next p g room b d l) n k ih e
 
   not-plain : (ls : List (List ℕ)) (n : ℕ) (d : LeastDue) → IsPlain (goal_ended (least_course n d ls)) → ⊥
   not-plain [] n d e = not-at-end d n e
-  not-plain (l ∷ ls) n d e = not-parsed d (parsed l) (suc n) (λ d'. course_by (goal_step p g b) (suc n) d' ls) (λ d'. not-plain ls (suc n) d') e
+  not-plain (l ∷ ls) n d e = not-parsed d (parsed l) (suc n) (λ d'. course_by (goal_step p g room b) (suc n) d' ls) (λ d'. not-plain ls (suc n) d') e
 
   -- ---- the same lines without the goal
 
@@ -59,28 +59,28 @@ module _ (p : Problem) (g : ℕ) (b : Option ℕ) (s : Loosenings) (v : Value) w
   by-version false x n k k' ih never e = by-next x n k k' ih e
 
   by-line : (d : Due) (l : CertLine) (n : ℕ) (k : GoalDue → GoalCourse) (k' : Due → CourseOf Due) → ((d : Due) → Follows (k (plain_due d)) (k' d)) → ((d : LeastDue) → IsPlain (goal_ended (k (least_due d))) → ⊥) →
-      Follows (course_next (goal_next p g b (plain_due d) l) n k) (course_next (next p b d l) n k')
+      Follows (course_next (goal_next p g room b (plain_due d) l) n k) (course_next (next p b d l) n k')
   by-line version_due (version i) n k k' ih never e = by-version (is_least_version i) (next p b version_due (version i)) n k k' ih never e
   by-line d l n k k' ih never e = by-next (next p b d l) n k k' ih e
 
   by-parsed : (d : Due) (x : Parsed) (n : ℕ) (k : GoalDue → GoalCourse) (k' : Due → CourseOf Due) → ((d : Due) → Follows (k (plain_due d)) (k' d)) → ((d : LeastDue) → IsPlain (goal_ended (k (least_due d))) → ⊥) →
-      Follows (course_next (goal_step p g b (plain_due d) x) n k) (course_next (next_parsed p b d x) n k')
+      Follows (course_next (goal_step p g room b (plain_due d) x) n k) (course_next (next_parsed p b d x) n k')
   by-parsed d too_long n k k' ih never e = absurd (not-refused _ n e)
   by-parsed d bad_line n k k' ih never e = absurd (not-refused _ n e)
   by-parsed d bad_number n k k' ih never e = absurd (not-refused _ n e)
   by-parsed d (line l) n k k' ih never e = by-line d l n k k' ih never e
 
-  follows : (ls : List (List ℕ)) (n : ℕ) (d : Due) → Follows (course_by (goal_step p g b) n (plain_due d) ls) (course p b n d ls)
+  follows : (ls : List (List ℕ)) (n : ℕ) (d : Due) → Follows (course_by (goal_step p g room b) n (plain_due d) ls) (course p b n d ls)
   follows [] n d e = plain-end (at_end d n) e
-  follows (l ∷ ls) n d e = by-parsed d (parsed l) (suc n) (λ d'. course_by (goal_step p g b) (suc n) d' ls) (λ d'. course p b (suc n) d' ls) (λ d'. follows ls (suc n) d') (λ d'. not-plain ls (suc n) d') e
+  follows (l ∷ ls) n d e = by-parsed d (parsed l) (suc n) (λ d'. course_by (goal_step p g room b) (suc n) d' ls) (λ d'. course p b (suc n) d' ls) (λ d'. follows ls (suc n) d') (λ d'. not-plain ls (suc n) d') e
 
   cut-refused : (c : GoalCourse) → IsPlain (cut_off c) → ⊥
   cut-refused (stopped f n) e = not-refused f n e
   cut-refused (reached d n) e = not-refused _ 0 e
 
-  by-length : (few : Bool) (bytes : List ℕ) → IsPlain (verdict_of (goal_course p g b) goal_ended few bytes) → verdict_by few p b bytes ≡ accepted s v
+  by-length : (few : Bool) (bytes : List ℕ) → IsPlain (verdict_of (goal_course p g room b) goal_ended few bytes) → verdict_by few p b bytes ≡ accepted s v
   by-length true bytes e = follows (lines_of bytes) 0 version_due e
-  by-length false bytes e = absurd (cut-refused (goal_course p g b (lines_so_far (take most_bytes bytes))) e)
+  by-length false bytes e = absurd (cut-refused (goal_course p g room b (lines_so_far (take most_bytes bytes))) e)
 
-pub plain_accepted : (p : Problem) (g : ℕ) (b : Option ℕ) (bytes : List ℕ) (s : Loosenings) (v : Value) → IsGoalAccepted p g b bytes s (plain v) → IsAccepted p b bytes s v
-plain_accepted p g b bytes s v e = by-length p g b s v (nat_le (length bytes) most_bytes) bytes e
+pub plain_accepted : (p : Problem) (g : ℕ) (room : Bool) (b : Option ℕ) (bytes : List ℕ) (s : Loosenings) (v : Value) → IsGoalAccepted p g room b bytes s (plain v) → IsAccepted p b bytes s v
+plain_accepted p g room b bytes s v e = by-length p g room b s v (nat_le (length bytes) most_bytes) bytes e

@@ -3,7 +3,7 @@
 -- The limit says that the goal is at most d, a multiple of 2^-k: there is one more atom, 2^k * t - n at most 0, where t is the goal and n is
 -- 2^k * d, and the form asks for it too. Loosened by m it says that the goal is at most d + m / 2^k. Its two constants are new, so
 -- that each node of the graph stands once.
-use Rattle.std.specs.Prelude.{ℕ, ◌+◌, ◌-◌, ◌*◌, ◌/◌, ◌^◌, List, [], ◌∷◌, ◌++◌, length, Bool, false, not, ◌&&◌, ◌||◌, Option, Some, None, ℤ, pos, negsuc, neg_ℤ, nat_abs, nat_eq, nat_le}
+use Rattle.std.specs.Prelude.{ℕ, ◌+◌, ◌-◌, ◌*◌, ◌/◌, ◌^◌, List, [], ◌∷◌, ◌++◌, length, Bool, false, not, ◌&&◌, ◌||◌, ℤ, pos, negsuc, neg_ℤ, nat_abs, nat_eq, nat_le}
 use Rattle.std.specs.Ordering.{int_eq}
 use Rattle.dyadic.specs.Fraction.{Fraction, whole}
 use Rattle.dyadic.specs.Rounding.{Dyadic}

@@ -1,10 +1,9 @@
 -- Accepted certificates of least values and their scripts.
-use Rattle.std.proofs.Common.{◌≡◌, ℕ, List, Option, Some, None, IsTrue, refl, sym, ◌∙◌, subst}
+use Rattle.std.proofs.Common.{◌≡◌, ℕ, List, Option, Some, None, Bool, IsTrue, refl, sym, ◌∙◌, subst}
 use Rattle.dyadic.specs.Fraction.{Fraction, IsFraction, at_most}
-use Rattle.dyadic.specs.Point.{Coordinate}
 use Rattle.dyadic.specs.Rounding.{Dyadic, Ext, below_all, finite, above_all, exact, at, end_of, end_at_most}
 use Rattle.dyadic.proofs.Equal.{through}
-use Rattle.script_model.specs.Script.{Command, Satisfies, goal_value}
+use Rattle.script_model.specs.Script.{Command, Satisfies}
 use Rattle.script_forms.specs.Atoms.{goal_atom}
 use Rattle.script_forms.specs.ProblemOf.{IsProblemOf}
 use Rattle.script_forms.proofs.Box.{box_declared, problem_means}
@@ -30,7 +29,7 @@ below-upper below_all q v good h e = e
 below-upper (finite d) q v good h e = through q v (exact d) good h e
 below-upper above_all q v good h e = refl
 
-module _ (bound : Option ℕ) (script : List Command) (p : Problem) (good : IsProblem p) (t : IsProblemOf bound script p) (g : ℕ) (e : goal_atom script ≡ Some g) (bytes : List ℕ) (s : Loosenings) (x : Least) (accepts : IsGoalAccepted p g bound bytes s (least x)) where
+module _ (bound : Option ℕ) (script : List Command) (p : Problem) (good : IsProblem p) (t : IsProblemOf bound script p) (g : ℕ) (e : goal_atom script ≡ Some g) (room : Bool) (bytes : List ℕ) (s : Loosenings) (x : Least) (accepts : IsGoalAccepted p g room bound bytes s (least x)) where
   pub lower_is : HasLowerBound bound script (exact (margin_of s)) x.lower
   lower_is point b m q value =
       let i = (box_declared bound script p t point).0 b in
@@ -38,24 +37,24 @@ module _ (bound : Option ℕ) (script : List Command) (p : Problem) (good : IsPr
       let is = goal.1 point i.0 in
       let same : is.0 ≡ q = (let both : ◌≡◌ {A = Option Fraction} (Some is.0) (Some q) = sym is.1 ∙ value in cc) in
       above-lower x.lower (term_value point (term_of p g)) q is.3
-      (lower_holds p good g goal.0 bound bytes s x accepts point i.0 i.1 ((problem_means bound script p t (exact (margin_of s)) point i.0).1 m))
+      (lower_holds p good g goal.0 room bound bytes s x accepts point i.0 i.1 ((problem_means bound script p t (exact (margin_of s)) point i.0).1 m))
       (subst (λ (r : Fraction). IsTrue (at_most (term_value point (term_of p g)) r)) same is.5)
 
   pub upper_is : (space : Space) → x.point ≡ Some space → Satisfies (exact (delta_of s)) (coordinates space) script × IsNearDeclaredBox (exact (delta_of s)) bound script (coordinates space) × IsGoalAtMost script (coordinates space) (upper_at p g space)
   upper_is space kept =
       let goal = goal_of_problem bound script p t g e in
-      let h = upper_holds p good g goal.0 bound bytes s x accepts space kept in
+      let h = upper_holds p good g goal.0 room bound bytes s x accepts space kept in
       let is = goal.1 (coordinates space) h.0 in (
         (problem_means bound script p t (exact (delta_of s)) (coordinates space) h.0).0 h.1,
         near_is bound script p t (delta_of s) (coordinates space) h.0 h.2,
         (is.0, is.1, below-upper (upper_at p g space) is.0 (term_value (coordinates space) (term_of p g)) is.3 is.4 h.3),
       )
 
-pub lower_means : (bound : Option ℕ) (script : List Command) (p : Problem) → IsProblem p → IsProblemOf bound script p → (g : ℕ) → goal_atom script ≡ Some g → (bytes : List ℕ) (s : Loosenings) (x : Least) →
-    IsGoalAccepted p g bound bytes s (least x) → HasLowerBound bound script (exact (margin_of s)) x.lower
-lower_means bound script p good t g e bytes s x accepts = lower_is bound script p good t g e bytes s x accepts
+pub lower_means : (bound : Option ℕ) (script : List Command) (p : Problem) → IsProblem p → IsProblemOf bound script p → (g : ℕ) → goal_atom script ≡ Some g → (room : Bool) (bytes : List ℕ) (s : Loosenings) (x : Least) →
+    IsGoalAccepted p g room bound bytes s (least x) → HasLowerBound bound script (exact (margin_of s)) x.lower
+lower_means bound script p good t g e room bytes s x accepts = lower_is bound script p good t g e room bytes s x accepts
 
-pub upper_means : (bound : Option ℕ) (script : List Command) (p : Problem) → IsProblem p → IsProblemOf bound script p → (g : ℕ) → goal_atom script ≡ Some g → (bytes : List ℕ) (s : Loosenings) (x : Least) →
-    IsGoalAccepted p g bound bytes s (least x) → (space : Space) → x.point ≡ Some space →
+pub upper_means : (bound : Option ℕ) (script : List Command) (p : Problem) → IsProblem p → IsProblemOf bound script p → (g : ℕ) → goal_atom script ≡ Some g → (room : Bool) (bytes : List ℕ) (s : Loosenings) (x : Least) →
+    IsGoalAccepted p g room bound bytes s (least x) → (space : Space) → x.point ≡ Some space →
     Satisfies (exact (delta_of s)) (coordinates space) script × IsNearDeclaredBox (exact (delta_of s)) bound script (coordinates space) × IsGoalAtMost script (coordinates space) (upper_at p g space)
-upper_means bound script p good t g e bytes s x accepts space kept = upper_is bound script p good t g e bytes s x accepts space kept
+upper_means bound script p good t g e room bytes s x accepts space kept = upper_is bound script p good t g e room bytes s x accepts space kept
