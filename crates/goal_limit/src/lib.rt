@@ -2,10 +2,17 @@
 //! version 4 may have a cover of it.
 #![tactic(auto)]
 
+mod constants;
+mod extended;
+mod room;
+
 ghost use Rattle.std.specs.Prelude.{◌<◌, length, IfOk};
 ghost use Rattle.dyadic.specs.Views.{dyadic_of};
 ghost use Rattle.goal_limit.specs.Limits.{IsLimitOf};
 
+use crate::constants::constants_of;
+use crate::extended::extended;
+use crate::room::has_room;
 use dyadic::Dy;
 use poly_graph::Problem;
 use std::alloc::{AllocError, Global};
@@ -22,5 +29,11 @@ pub fn limited(
     requires { goal < length problem.now.atoms }
     ensures { IfOk result (IsLimitOf problem.now goal bits (dyadic_of limit)) }
 {
-    Ok(None)
+    if !has_room(problem) {
+        return Ok(None);
+    }
+    match constants_of(problem, bits, limit) {
+        Some(constants) => Ok(Some(extended(alloc, problem, goal, constants)?)),
+        None => Ok(None),
+    }
 }
