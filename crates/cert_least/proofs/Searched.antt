@@ -1,4 +1,4 @@
--- The problem of a cover: where it has a limit of the goal it has the same axes, and the goal has the same enclosures.
+-- The problem of a cover: where it has a limit of the goal, the goal has the same enclosures.
 use Rattle.std.proofs.Common.{◌≡◌, ℕ, ◌<◌, ◌+◌, List, [], ◌∷◌, ◌++◌, length, Option, Some, None, refl, ap, sym, ◌∙◌, subst, arith, slice_index_or, length-append}
 use Rattle.std.proofs.Math.ListN.{get_or-append}
 use Rattle.dyadic.specs.Fraction.{zero_fraction}
@@ -11,8 +11,6 @@ use Rattle.cover_model.specs.Space.{enclosure}
 use Rattle.cover_model.specs.State.{atom_enclosure}
 use Rattle.cert_model.specs.Limited.{scale_of, offset_of, limit_nodes, limited}
 use Rattle.cert_model.specs.Least.{searched}
-use Rattle.cert_check.specs.Courses.{Stand, elsewhere, at_root, at_state}
-use Rattle.cert_least.specs.Phases.{stand_space}
 
 -- ---- the first nodes
 
@@ -41,12 +39,3 @@ module _ (p : Problem) (g : ℕ) (here : g < length p.atoms) (place : (atom_at p
   same_enclosure None bits = refl
   same_enclosure (Some d) None = refl
   same_enclosure (Some d) (Some k) = ap (enclosure space) (sym (limited-term k d))
-
--- ---- the box
-
-pub same_stand : (p : Problem) (g : ℕ) (low : Option Dyadic) (bits : Option ℕ) (stand : Stand) → stand_space (searched p g low bits) stand ≡ stand_space p stand
-same_stand p g None bits stand = refl
-same_stand p g (Some d) None stand = refl
-same_stand p g (Some d) (Some k) elsewhere = refl
-same_stand p g (Some d) (Some k) at_root = refl
-same_stand p g (Some d) (Some k) (at_state S) = refl
