@@ -40,11 +40,7 @@ fn take_delta(checker: &mut Checker<'_>, told: Told) -> Result<(), CertFault>
 }
 
 // `bound`.
-fn take_bound(
-    checker: &mut Checker<'_>,
-    told: Told,
-    bound: Option<u32>,
-) -> Result<(), CertFault>
+fn take_bound(checker: &mut Checker<'_>, told: Told, bound: Option<u32>) -> Result<(), CertFault>
     ensures { (p : ProblemOf) → let s = told_of told in
         IsDueTo p bound (bound_due s) checker.old →
         IfOk result (λ _. IsDueTo p bound (kind_due s) checker.new) }
@@ -53,11 +49,7 @@ fn take_bound(
 }
 
 // Gives the lines of the header to a checker that took none.
-fn take_header(
-    checker: &mut Checker<'_>,
-    told: Told,
-    bound: Option<u32>,
-) -> Result<(), CertFault>
+fn take_header(checker: &mut Checker<'_>, told: Told, bound: Option<u32>) -> Result<(), CertFault>
     ensures { (p : ProblemOf) → IsDueTo p bound version_due checker.old →
         IfOk result (λ _. IsDueTo p bound (kind_due (told_of told)) checker.new) }
 {

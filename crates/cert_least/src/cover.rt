@@ -21,11 +21,7 @@ use cover_line::{AtomRule, Rule, Word};
 use ival::Ival;
 
 // `over` in the main tree, where these are the goal's values: a leaf, as one that stays open in a cover of the check.
-fn over_values(
-    checker: &mut Checker<'_>,
-    scope: Scope,
-    values: Ival,
-) -> Result<Phase, CertFault>
+fn over_values(checker: &mut Checker<'_>, scope: Scope, values: Ival) -> Result<Phase, CertFault>
     ensures { (a : AimOf) →
         IsOverNext a scope checker.old (interval_of values) checker.new result }
 {
@@ -37,11 +33,7 @@ fn over_values(
 }
 
 // `over`.
-fn over_line(
-    aim: &mut Aim,
-    checker: &mut Checker<'_>,
-    scope: Scope,
-) -> Result<Phase, CertFault>
+fn over_line(aim: &mut Aim, checker: &mut Checker<'_>, scope: Scope) -> Result<Phase, CertFault>
     requires { IsReady aim.old }
     ensures next { IsAimNext aim.old (phase.InCover scope) checker.old over checker.new result }
     ensures ready { IsReady aim.new }

@@ -40,11 +40,7 @@ fn plain_ending(checker: &Checker<'_>, lines: u64) -> Result<GoalVerdict, CertFa
 }
 
 // In a cover of least values, or behind it.
-fn cover_ending(
-    checker: &Checker<'_>,
-    scope: Scope,
-    lines: u64,
-) -> Result<GoalVerdict, CertFault>
+fn cover_ending(checker: &Checker<'_>, scope: Scope, lines: u64) -> Result<GoalVerdict, CertFault>
     requires { lines < 2 ^ 64 - 1 }
     ensures { IsCoverEnding checker.now scope lines result }
 {

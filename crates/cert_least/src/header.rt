@@ -104,11 +104,7 @@ pub fn plain_line(checker: &mut Checker<'_>, line: &Line) -> Result<Phase, CertF
 }
 
 /// A line of the header of a certificate of least values, behind the first.
-pub fn header_line(
-    checker: &mut Checker<'_>,
-    told: Told,
-    line: &Line,
-) -> Result<Phase, CertFault>
+pub fn header_line(checker: &mut Checker<'_>, told: Told, line: &Line) -> Result<Phase, CertFault>
     ensures { (a : AimOf) →
         IsPhaseNext a (phase.Header told) checker.old (line_of line.now) checker.new result }
 {
@@ -116,11 +112,7 @@ pub fn header_line(
 }
 
 /// `lower`.
-pub fn lower_line(
-    _checker: &Checker<'_>,
-    told: Told,
-    line: &Line,
-) -> Result<Phase, CertFault>
+pub fn lower_line(_checker: &Checker<'_>, told: Told, line: &Line) -> Result<Phase, CertFault>
     ensures { (a : AimOf) →
         IsPhaseNext a (phase.Lower told) _checker.now (line_of line.now) _checker.now result }
 {

@@ -38,8 +38,18 @@ pub fn point_behind(
     ensures { IsPointNext (aim_of aim.now) (loosenings_of loosenings) (phase.InCover scope)
         checker.new result }
 {
-    match begin_again(aim.alloc, &aim.problem, checker, told_of(loosenings), aim.bound) {
-        Ok(()) => give(checker, &Line::Point, Phase::InPoint(loosenings, scope.lower)),
+    match begin_again(
+        aim.alloc,
+        &aim.problem,
+        checker,
+        told_of(loosenings),
+        aim.bound,
+    ) {
+        Ok(()) => give(
+            checker,
+            &Line::Point,
+            Phase::InPoint(loosenings, scope.lower),
+        ),
         Err(fault) => Err(fault),
     }
 }
