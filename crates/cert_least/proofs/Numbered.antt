@@ -23,7 +23,7 @@ use Rattle.cert_least.specs.Courses.{after, leads, stops_at, IsCutOff, IsUnderWa
 use Rattle.cert_least.specs.declared.aim.Aim as code
 use Rattle.cert_least.specs.Judging.{aim_of, IsSameAim}
 use Rattle.cert_least.proofs.Verdicts.{memory_alone, stops_so, stopped_somewhere}
-use Rattle.cert_least.specs.Phases.{goal_due, course_of, due_in, IsDueIn, IsDueTo, IsFaultIn, IsPlaced, IsSoundPhase}
+use Rattle.cert_least.specs.Phases.{goal_due, course_of, due_in, IsDueIn, IsFaultIn, IsPlaced, IsSoundPhase}
 use Rattle.cert_least.specs.Steps.{HasLed, IsFaultOrMemory, IsPhaseOn, renumbered}
 
 same-number : (lines : ℕ) → lines + 1 ≡ suc lines

@@ -1,4 +1,4 @@
-use Rattle.std.proofs.Common.{◌<◌, List, length, ap, sym, ◌∙◌, subst, ℕ}
+use Rattle.std.proofs.Common.{◌<◌, List, length, ap, ◌∙◌, subst, ℕ}
 use Rattle.poly_graph.specs.Term.{Node}
 use Rattle.cover_model.specs.Narrowed.{enclosures}
 use Rattle.cover_model.specs.NodeEnclosure.{row}

@@ -1,6 +1,5 @@
-use Rattle.std.proofs.Common.{Option, Some, None, ℕ, refl, ap, sym, subst}
+use Rattle.std.proofs.Common.{Option, ℕ, sym, subst}
 use Rattle.cert_read.specs.CertLine.{CertLine, goal as goal_of}
-use Rattle.cert_read.specs.Views.{line_of}
 use Rattle.cert_least.specs.declared.phase.Phase.TheVariants.{Cover}
 use Rattle.cert_least.specs.Aims.{aim_next}
 use Rattle.cert_least.specs.Judging.{aim_of}

@@ -1,4 +1,4 @@
-use Rattle.std.proofs.Common.{inl, refl, subst, Some, None, Option}
+use Rattle.std.proofs.Common.{inl, refl, subst, Option}
 use Rattle.std.specs.Prelude.{option_map}
 use Rattle.dyadic.specs.Views.{dyadic_of}
 use Rattle.poly_graph.specs.ProblemViews.{Parts}
