@@ -2,6 +2,7 @@ pub mod ReadAlone
 pub mod Demo
 pub mod Halting
 pub mod Joining
+pub mod Minimizing
 pub mod Planning
 pub mod ResumeRuns
 pub mod Resuming

@@ -11,7 +11,7 @@ use Rattle.check_run.specs.Course.{gives, Ends, RunEnds, on_course}
 use Rattle.check_run.specs.Can.{CanSolve, CanDemo}
 
 -- what is written is the certificate, and then a text
-written : (name cert cert' text text' : List ℕ) (old new : Sight) (status : Status) → cert ≡ cert' → text ≡ text' → Ends (gives name cert text) old new status → Ends (gives name cert' text') old new status
+pub written : (name cert cert' text text' : List ℕ) (old new : Sight) (status : Status) → cert ≡ cert' → text ≡ text' → Ends (gives name cert text) old new status → Ends (gives name cert' text') old new status
 written name cert cert' text text' old new status e e' ends =
     let P : List ℕ → Type 0 = λ c. Ends (gives name c text) old new status in
     let Q : List ℕ → Type 0 = λ t. Ends (gives name cert' t) old new status in

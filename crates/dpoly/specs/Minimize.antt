@@ -5,9 +5,13 @@ use Rattle.command_line.specs.declared.request.Options.{Options}
 use Rattle.command_line.specs.Words.{Minimize}
 use Rattle.dyadic.specs.Views.{dyadic_of}
 use Rattle.poly_graph.specs.Problem.{Problem}
+use Rattle.poly_graph.specs.ProblemViews.{Parts, problem_of}
 use Rattle.cert_model.specs.Due.{Standing, left_open}
-use Rattle.cert_model.specs.Least.{Least}
+use Rattle.cert_model.specs.Least.{Least, least, IsGoalAccepted}
+use Rattle.cert_model.specs.Limited.{has_room}
 use Rattle.cert_model.specs.AnswerText.{solve_text}
+use Rattle.cover_data.specs.declared.margins.Options as cover
+use Rattle.cover_data.specs.Margins.{margins_of, loosenings_of as of_margins}
 use Rattle.least_search.specs.Found.{bound_of}
 use Rattle.least_search.specs.declared.found.Lower.{Lower}
 use Rattle.least_search.specs.declared.found.Lower.TheVariants as shown
@@ -26,6 +30,10 @@ overs_of p (shown.Limit b k d) = []
 
 abbrev pub value_of : Problem → Found → Least
 value_of p f = record { lower = option_map dyadic_of (bound_of f.lower); over = overs_of p f.lower; point = Some f.point }
+
+-- for these options the certificate is accepted, with the value of what was found
+abbrev pub IsAcceptedFor : Parts → ℕ → cover.Options → Found → List ℕ → Type 0
+IsAcceptedFor q g o f cert = IsGoalAccepted (problem_of q) g (has_room q) o.bound cert (of_margins (margins_of o)) (least (value_of (problem_of q) f))
 
 -- ---- answers
 

@@ -10,6 +10,7 @@ ghost use Rattle.problem_session.specs.Session.{problems_of};
 ghost use Rattle.cover_book.specs.Verdict.{verdict_of};
 ghost use Rattle.cover_book.specs.declared.verdict.BookVerdict.TheVariants as verdict;
 ghost use Rattle.check_run.specs.Answer.{IsAnswer};
+ghost use Rattle.dpoly.specs.Minimize.{IsLeftAnswer};
 ghost use Rattle.dpoly.specs.Search.{search_options as options_of, AreLeftBy, AreSearchAnswers, IsLeftBy, IsSearchAnswer, SayOf, SaysLeft, SaysOf};
 
 use cert_text::{first_stuck, write_cover, write_point, write_session};
@@ -90,6 +91,24 @@ fn left_text(alloc: Global, book: &Book, options: &Options) -> Result<Vec<u8>, A
     }
 }
 
+/// The certificate of a book without a point that a search left, and its answer.
+pub fn tell_left(
+    alloc: Global,
+    book: &Book,
+    options: &Options,
+) -> Result<SearchAnswer, AllocError>
+    requires left { IsLeftBy options.now book.now }
+    requires alone { book.now.kept ≡ [] }
+    requires root { IsOfRoot book.now }
+    requires no_point { book.now.point ≡ None }
+    ensures { IfOk result (λ told. IsLeftAnswer (problem_in book.now) options.now told) }
+{
+    book_is_sound(book);
+    let cert = write_cover(alloc, book)?;
+    let text = left_text(alloc, book, options)?;
+    Ok(SearchAnswer { cert, text })
+}
+
 /// The certificate of a book that a search left, and its answer.
 pub fn tell(alloc: Global, book: &Book, options: &Options) -> Result<SearchAnswer, AllocError>
     requires left { IsLeftBy options.now book.now }
@@ -97,14 +116,9 @@ pub fn tell(alloc: Global, book: &Book, options: &Options) -> Result<SearchAnswe
     requires root { IsOfRoot book.now }
     ensures { IfOk result (λ told. IsSearchAnswer (problem_in book.now) options.now told) }
 {
-    book_is_sound(book);
     match book.point() {
         Some(point) => tell_point(alloc, book, options, point),
-        None => {
-            let cert = write_cover(alloc, book)?;
-            let text = left_text(alloc, book, options)?;
-            Ok(SearchAnswer { cert, text })
-        }
+        None => tell_left(alloc, book, options),
     }
 }
 

@@ -53,27 +53,43 @@ fn messages_of<'a>(alloc: Global, words: &'a [String], answer: &str) -> Messages
     }
 }
 
-// What would help, behind an answer that leaves a question open, by the first line of it.
-const HINTS: [(&str, &str); 3] = [
+// What would help, behind an answer of `minimize` or of another command that leaves a question open, by the first line of
+// it.
+const HINTS: [(bool, &str, &str); 5] = [
     (
+        false,
         "plan none atom ",
         "no width of 60 bits or fewer is sure to decide this atom. A greater delta, a smaller margin, or tighter bounds of its constants may help",
     ),
     (
+        false,
         "plan none axis ",
         "this constant (they count from 0, in the order of declaration) has a bound so large that its numbers stand too far apart for the width that the atoms need. Tighter bounds, a greater delta or a smaller margin may help",
     ),
     (
+        false,
         "unknown width",
         "`dpoly plan`, with the same script and options, tells with which `--least-bits` this answer never comes",
+    ),
+    (
+        true,
+        "unknown width",
+        "at a box of the least width the script, or a limit of its goal, is not decided. More `--least-bits` may help",
+    ),
+    (
+        true,
+        "unknown limit",
+        "no limit of the goal between these bounds can be told, or the script is too large for one. A smaller `--gap-bits` may help",
     ),
 ];
 
 // The first lines of answers: each whole, or up to a number.
-const FIRST_LINES: [&str; 5] = [
+const FIRST_LINES: [&str; 7] = [
     "unsat",
     "delta-sat",
+    "minimum",
     "unknown width",
+    "unknown limit",
     "unknown budget ",
     "plan ",
 ];
@@ -94,11 +110,20 @@ fn atom_named(line: &str) -> Option<usize> {
     number.parse::<usize>().ok()
 }
 
-// A check by its number, from 0 on, of so many.
+// A check by its number, from 0 on, of so many, and whether the answer is one of `minimize`.
 #[derive(Clone, Copy)]
 struct Which {
     check: usize,
     checks: usize,
+    least: bool,
+}
+
+// Whether the words ask for `minimize`.
+fn asks_least(alloc: Global, words: &[String]) -> bool {
+    match read_words(alloc, words) {
+        Ok(Request::Minimize(_)) => true,
+        _ => false,
+    }
 }
 
 // Says of which check the next line is, where there are several.
@@ -126,8 +151,8 @@ fn show_atom(rt: &HostRuntime, messages: &Messages<'_>, desk: &FileDesk, line: &
 
 // Says what would help with the answer that begins with this line.
 fn show_hint(rt: &HostRuntime, line: &str, which: Which) {
-    for (begins, help) in &HINTS {
-        if line.starts_with(*begins) {
+    for (least, begins, help) in &HINTS {
+        if *least == which.least && line.starts_with(*begins) {
             show_check(rt, which);
             let _ = eprintln!(rt; "dpoly: {help}");
         }
@@ -146,7 +171,7 @@ fn answers_in(answer: &str) -> usize {
 }
 
 // Says on standard error what would help, behind each answer that leaves a question open.
-fn hint(rt: &HostRuntime, messages: &Messages<'_>, desk: &FileDesk) {
+fn hint(rt: &HostRuntime, messages: &Messages<'_>, desk: &FileDesk, least: bool) {
     let checks = answers_in(desk.answer());
     let mut begun = 0usize;
     let mut names_atom = false;
@@ -163,6 +188,7 @@ fn hint(rt: &HostRuntime, messages: &Messages<'_>, desk: &FileDesk) {
                 Which {
                     check: begun,
                     checks,
+                    least,
                 },
             );
             if line.starts_with("plan none atom ") {
@@ -179,7 +205,7 @@ fn hint(rt: &HostRuntime, messages: &Messages<'_>, desk: &FileDesk) {
 pub fn explain(rt: &HostRuntime, words: &[String], desk: &FileDesk, status: Status) {
     let messages = messages_of(rt.alloc(), words, desk.answer());
     match status {
-        Status::Answered => hint(rt, &messages, desk),
+        Status::Answered => hint(rt, &messages, desk, asks_least(rt.alloc(), words)),
         Status::Usage => {
             if let Ok(text) = usage_text(rt.alloc(), words) {
                 let _ = rt.eprint(text);

@@ -1,24 +1,24 @@
 // `minimize`, from the problem of a script with a goal to its answer.
-ghost use Rattle.std.specs.Prelude.{◌≡◌, ◌<◌, ◌≤◌, [], IfOk, length};
+ghost use Rattle.std.specs.Prelude.{◌≡◌, ◌<◌, ℕ, [], IfOk, length};
 ghost use Rattle.command_line.specs.Seen.{seen_minimize};
 ghost use Rattle.command_line.specs.Words.{IsMinimize};
-ghost use Rattle.poly_graph.specs.ProblemViews.{problem_of};
+ghost use Rattle.poly_graph.specs.ProblemViews.{Parts, problem_of};
 ghost use Rattle.problem_session.specs.Session.{problems_of};
-ghost use Rattle.cover_data.specs.Margins.{margins_of, loosenings_of};
-ghost use Rattle.cert_model.specs.Least.{least, IsGoalAccepted};
-ghost use Rattle.cert_model.specs.Limited.{has_room};
-ghost use Rattle.least_search.specs.Found.{IsFound};
+ghost use Rattle.cover_data.specs.Margins.{AreMargins, margins_of};
+ghost use Rattle.least_search.specs.Found.{IsFound, IsLeast};
+ghost use Rattle.least_search.specs.declared.found.Ending.TheVariants as ending;
+ghost use Rattle.check_run.specs.declared.minimized.Cause.TheVariants as cause;
 ghost use Rattle.check_run.specs.Check.{IsGoalOf};
 ghost use Rattle.check_run.specs.Course.{RunEnds};
 ghost use Rattle.check_run.specs.Minimized.{CanMinimize};
 ghost use Rattle.check_run.specs.Run.{MinimizeHasCause, SameIn};
 ghost use Rattle.check_run.specs.Script.{AreWithin, IsWithin};
-ghost use Rattle.dpoly.specs.Minimize.{IsFoundAnswer, IsMinimizeAnswer, value_of};
+ghost use Rattle.dpoly.specs.Minimize.{IsAcceptedFor, IsFoundAnswer, IsMinimizeAnswer};
 ghost use Rattle.dpoly.specs.Search.{search_options as options_of};
 
-use crate::answers::{SearchAnswer, search_options, tell};
+use crate::answers::{SearchAnswer, search_options, tell_left};
 use crate::leaf::Engine;
-use check_run::{Bounds, Cause, Status, finish, minimized, no_goal};
+use check_run::{Cause, Status, end_no_goal, finish, goal_bounds};
 use command_line::MinimizeWords;
 use cover_book::Book;
 use cover_data::Options;
@@ -43,8 +43,28 @@ impl<'a, R: Threads + Wait + Sync, G: Gate + Sync> Searcher for Engine<'a, R, G>
     }
 }
 
+// What a search for the least value finds.
+fn search_least<R: Threads + Wait + Sync, G: Gate + Sync>(
+    engine: &Engine<'_, R, G>,
+    alloc: Global,
+    problem: &Problem,
+    goal: u32,
+    asked: &MinimizeWords<'_>,
+) -> Result<Least, AllocError>
+    requires asked { IsMinimize (seen_minimize asked.now) }
+    requires within { IsWithin problem.now }
+    requires goal { goal < length problem.now.atoms }
+    ensures { IfOk result
+        (IsLeast problem.now goal asked.now.gap_bits (options_of asked.now.options)) }
+{
+    let options = search_options(&asked.options);
+    minimize(engine, alloc, problem, goal, asked.gap_bits, &options)
+}
+
 // Why the search ended, as it is told.
-fn cause_of(ending: Ending) -> Cause {
+fn cause_of(ending: Ending) -> Cause
+    ensures { result ≡ cause.Near → ending ≡ ending.Minimum }
+{
     match ending {
         Ending::Minimum => Cause::Near,
         Ending::Budget => Cause::Spent,
@@ -54,18 +74,10 @@ fn cause_of(ending: Ending) -> Cause {
 }
 
 // The certificate of what was found.
-fn certificate(
-    alloc: Global,
-    _problem: &Problem,
-    _goal: u32,
-    options: &Options,
-    found: &Found,
-) -> Result<Vec<u8>, AllocError>
+fn certificate(alloc: Global, options: &Options, found: &Found) -> Result<Vec<u8>, AllocError>
     requires { AreMargins (margins_of options.now) }
-    requires { IsFound _problem.now _goal _gap options.now found.now }
-    ensures { let p = problem_of _problem.now in IfOk result (λ cert.
-        IsGoalAccepted p _goal (has_room _problem.now) options.now.bound cert.items
-        (loosenings_of (margins_of options.now)) (least (value_of p found.now))) }
+    ensures { (q : Parts) (g gap : ℕ) → IsFound q g gap options.now found.now →
+        IfOk result (λ cert. IsAcceptedFor q g options.now found.now cert.items) }
 {
     let point = found.point.space();
     match &found.lower {
@@ -81,19 +93,17 @@ fn tell_found(
     asked: &MinimizeWords<'_>,
     found: &Found,
 ) -> Result<SearchAnswer, AllocError>
-    requires asked { IsMinimize (seen_minimize asked.now) }
-    requires found { IsFound problem.now goal asked.now.gap_bits (options_of asked.now.options) found.now }
-    ensures { IfOk result
-        (IsFoundAnswer (problem_of problem.now) goal (seen_minimize asked.now)) }
+    requires { IsMinimize (seen_minimize asked.now) }
+    ensures { (g : ℕ) →
+        IsFound problem.now g asked.now.gap_bits (options_of asked.now.options) found.now →
+        IfOk result (IsFoundAnswer (problem_of problem.now) g (seen_minimize asked.now)) }
 {
     let cert = certificate(alloc, &search_options(&asked.options), found)?;
-    let bounds = Bounds {
-        lower: found.lower.bound(),
-        upper: found.upper,
-        point: found.point.space(),
-    };
+    let cause = cause_of(found.ending);
     let budget = u64::from(asked.options.budget);
-    let text = minimized(alloc, problem, budget, cause_of(found.ending), bounds)?;
+    let lower = found.lower.bound();
+    let point = found.point.space();
+    let text = goal_bounds(alloc, problem, cause, budget, lower, found.upper, point)?;
     Ok(SearchAnswer { cert, text })
 }
 
@@ -111,9 +121,8 @@ fn minimize_problem<R: Threads + Wait + Sync, G: Gate + Sync>(
     ensures { IfOk result
         (IsMinimizeAnswer (problem_of problem.now) goal (seen_minimize asked.now)) }
 {
-    let options = search_options(&asked.options);
-    match minimize(engine, alloc, problem, goal, asked.gap_bits, &options)? {
-        Least::NoPoint(book) => tell(alloc, &book, &asked.options),
+    match search_least(engine, alloc, problem, goal, asked)? {
+        Least::NoPoint(book) => tell_left(alloc, &book, &asked.options),
         Least::Found(found) => tell_found(alloc, problem, asked, &found),
     }
 }
@@ -135,7 +144,7 @@ pub fn minimize_script<R: Threads + Wait + Sync, D: Desk, G: Gate + Sync>(
     ensures cause { MinimizeHasCause (D.sight desk.old) (D.sight desk.new) result }
 {
     let Some(goal) = read.goal else {
-        return no_goal(desk);
+        return end_no_goal(desk);
     };
     let Ok(problem) = read.session.first(alloc) else {
         return Status::NoMemory;

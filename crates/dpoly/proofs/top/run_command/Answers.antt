@@ -8,6 +8,10 @@ pub returns-in-Solve-clause-course : goal.returns-in-Solve-clause-course
 returns-in-Solve-clause-course g c =
     subst (λ (a : Request). HasCourse (run_of (Some (seen a)) (g.D.Desk.sight c.args.desk.now) (g.D.Desk.sight c.run_solve.new.desk) c.run_solve.result)) (sym c.in-Solve.is) c.run_solve.ensures.course
 
+pub returns-in-Minimize-clause-course : goal.returns-in-Minimize-clause-course
+returns-in-Minimize-clause-course g c =
+    subst (λ (a : Request). HasCourse (run_of (Some (seen a)) (g.D.Desk.sight c.args.desk.now) (g.D.Desk.sight c.run_minimize.new.desk) c.run_minimize.result)) (sym c.in-Minimize.is) c.run_minimize.ensures.course
+
 pub returns-in-Check-clause-course : goal.returns-in-Check-clause-course
 returns-in-Check-clause-course g c =
     subst (λ (a : Request). HasCourse (run_of (Some (seen a)) (g.D.Desk.sight c.args.desk.now) (g.D.Desk.sight c.run_check.new.desk) c.run_check.result)) (sym c.in-Check.is) c.run_check.ensures.course

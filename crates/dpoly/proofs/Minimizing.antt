@@ -1,0 +1,135 @@
+-- From what a search for a least value finds to the end of a run.
+use Rattle.std.proofs.Common.{◌≡◌, ◌≢◌, ◌<◌, inl, inr, ℕ, List, [], Bool, Option, Some, None, length, refl, ap, sym, subst, ◌∙◌, arith}
+use Rattle.std.specs.Prelude.{map, option_map, slice_get}
+use Rattle.std.proofs.lemmas.Option.{same_Some}
+use Rattle.desk.specs.Sight.{Sight}
+use Rattle.command_line.specs.Words.{Minimize, AreOptions, IsMinimize}
+use Rattle.command_line.specs.declared.request.Options.{Options}
+use Rattle.dyadic.specs.Views.{dyadic_of, ext_of}
+use Rattle.dyadic.specs.declared.dy.Dy.{Dy}
+use Rattle.interval_model.specs.Space.{Space}
+use Rattle.poly_graph.specs.Problem.{Problem}
+use Rattle.poly_graph.specs.ProblemViews.{Parts, problem_of}
+use Rattle.cover_model.specs.State.{Loosenings}
+use Rattle.cover_model.specs.Fits.{IsShownAt}
+use Rattle.cover_data.specs.declared.margins.Margins.{Margins}
+use Rattle.cover_data.specs.declared.margins.Options as cover
+use Rattle.cover_data.specs.Margins.{AreMargins, margins_of, loosenings_of as of_margins}
+use Rattle.cert_model.specs.Due.{left_open}
+use Rattle.cert_model.specs.Least.{Least, least, upper_at, IsGoalAccepted, IsSettled}
+use Rattle.cert_model.specs.Limited.{has_room}
+use Rattle.cert_model.specs.AnswerText.{solve_text}
+use Rattle.cover_book.specs.Model.{BookModel, problem_in}
+use Rattle.least_search.specs.Found.{bound_of, IsClosed, IsFirst, IsFound, IsLower}
+use Rattle.least_search.specs.declared.found.Ending.TheVariants as ending
+use Rattle.least_search.specs.declared.found.Found.{Found}
+use Rattle.least_search.specs.declared.found.Lower.{Lower}
+use Rattle.least_search.specs.declared.found.Lower.TheVariants as shown
+use Rattle.least_text.specs.Means.{IsLimitedCertificate, IsOverCertificate}
+use Rattle.check_run.specs.declared.minimized.Cause as told
+use Rattle.check_run.specs.declared.minimized.Cause.TheVariants.{Near, Spent, Narrow, NoLimit}
+use Rattle.check_run.specs.declared.status.Status.{Status}
+use Rattle.check_run.specs.Answer.{loosenings_of}
+use Rattle.check_run.specs.Bounds.{cause_of, IsMinimizeText}
+use Rattle.check_run.specs.Check.{IsGoalOf}
+use Rattle.check_run.specs.Course.{gives, Ends, RunEnds, on_course}
+use Rattle.check_run.specs.Minimized.{CanTellLeast, Cause, IsCauseFor, minimize_text}
+use Rattle.check_run.specs.Script.{AreWithin, IsWithin}
+use Rattle.dpoly.specs.declared.answers.SearchAnswer.{SearchAnswer}
+use Rattle.dpoly.specs.Minimize.{overs_of, value_of, IsAcceptedFor, IsFoundAnswer, IsLeftAnswer, IsMinimizeAnswer}
+use Rattle.dpoly.specs.Search.{search_options, IsLeftBy}
+use Rattle.dpoly.proofs.Solving.{written}
+
+-- ---- the certificate
+
+pub margins : (o : Options) → AreOptions o → AreMargins (margins_of (search_options o))
+margins o h = record {
+  some_delta = h.delta_least;
+  few_delta = h.delta_most;
+  above_delta = h.below_margin;
+  few_margin = h.margin_most;
+  few_least = h.least_most;
+}
+
+module _ (q : Parts) (g gap : ℕ) (o : cover.Options) (f : Found) (found : IsFound q g gap o f) where
+  -- what is accepted by what shows the bound
+  accepted-as : (l : Lower) → f.lower ≡ l → (cert : List ℕ) →
+      IsGoalAccepted (problem_of q) g (has_room q) o.bound cert (of_margins (margins_of o)) (least (record { lower = option_map dyadic_of (bound_of l); over = overs_of (problem_of q) l; point = Some f.point })) →
+      IsAcceptedFor q g o f cert
+  accepted-as l e cert h =
+      subst (λ (x : Lower). IsGoalAccepted (problem_of q) g (has_room q) o.bound cert (of_margins (margins_of o)) (least (record { lower = option_map dyadic_of (bound_of x); over = overs_of (problem_of q) x; point = Some f.point }))) (sym e) h
+
+  pub root_accepted : (low : Option Dy) → f.lower ≡ shown.Root low → AreMargins (margins_of o) → (x : Space) → x ≡ f.point → (cert : List ℕ) → IsOverCertificate o (option_map dyadic_of low) x cert → IsAcceptedFor q g o f cert
+  root_accepted low e m x at cert is =
+      let over = subst (IsLower q g o) e found.lower in
+      let here : IsOverCertificate o (option_map dyadic_of low) f.point cert = subst (λ (y : Space). IsOverCertificate o (option_map dyadic_of low) y cert) at is in
+      accepted-as (shown.Root low) e cert (here (problem_of q) g (has_room q) m found.crossed (over found.crossed) found.shown)
+
+  pub closed_by : (b : BookModel) (k : ℕ) (d : Dy) → f.lower ≡ shown.Limit b k d → IsClosed q g o b k (dyadic_of d)
+  closed_by b k d e = subst (IsLower q g o) e found.lower
+
+  pub limited_accepted : (b : BookModel) (k : ℕ) (d : Dy) → f.lower ≡ shown.Limit b k d → (x : Space) → x ≡ f.point → (cert : List ℕ) → IsLimitedCertificate b k (dyadic_of d) x cert → IsAcceptedFor q g o f cert
+  limited_accepted b k d e x at cert is =
+      let closed = closed_by b k d e in
+      let point : Space = f.point in
+      let here : IsLimitedCertificate b k (dyadic_of d) point cert = subst (λ (y : Space). IsLimitedCertificate b k (dyadic_of d) y cert) at is in
+      let sure = subst (λ (m : Margins). IsShownAt (problem_of q) (of_margins m) point) (sym closed.margins) found.shown in
+      let by_book = here (problem_of q) g (has_room q) closed.takes closed.problem sure in
+      let value : Least = record { lower = Some (dyadic_of d); over = []; point = Some point } in
+      let by_bound = subst (λ (n : Option ℕ). IsGoalAccepted (problem_of q) g (has_room q) n cert (of_margins (margins_of b.options)) (least value)) closed.bound by_book in
+      accepted-as (shown.Limit b k d) e cert (subst (λ (m : Margins). IsGoalAccepted (problem_of q) g (has_room q) o.bound cert (of_margins m) (least value)) closed.margins by_bound)
+
+-- ---- answers
+
+cause-for : (p : Problem) (g gap : ℕ) (c : told.Cause) (x : Least) (space : Space) → x.point ≡ Some space → (c ≡ Near → IsSettled gap x.lower (upper_at p g space)) → IsCauseFor p g gap (cause_of c) x
+cause-for p g gap Near x space at h = (space, at, h refl)
+cause-for p g gap Spent x space at h = tt
+cause-for p g gap Narrow x space at h = tt
+cause-for p g gap NoLimit x space at h = tt
+
+pub found_answer : (q : Parts) (g : ℕ) (words : Minimize) (f : Found) (told : SearchAnswer) → IsFound q g words.gap_bits (search_options words.options) f → IsAcceptedFor q g (search_options words.options) f told.cert.items →
+    (c : told.Cause) → (c ≡ Near → f.ending ≡ ending.Minimum) → IsMinimizeText (problem_of q) words.options.budget (cause_of c) (option_map dyadic_of (bound_of f.lower)) (ext_of f.upper) f.point told.text.items → IsFoundAnswer (problem_of q) g words told
+found_answer q g words f told found accepted c near text = record {
+  cause = cause_of c;
+  value = value_of (problem_of q) f;
+  answer = record {
+    room = has_room q;
+    is_room = (q, refl, refl);
+    accepted = accepted;
+    point = f.point;
+    has_point = refl;
+    near = cause-for (problem_of q) g words.gap_bits c (value_of (problem_of q) f) f.point refl (λ e. found.ending (near e));
+  };
+  text = text g (value_of (problem_of q) f) refl refl found.upper;
+}
+
+-- the first search left its book
+pub left_by_first : (q : Parts) (o : Options) (b : BookModel) → IsFirst q (search_options o) b → IsLeftBy o b
+left_by_first q o b h = record { asked = h.options; ended = h.searched.verdict; due = h.left }
+
+pub left_answer : (q : Parts) (o : Options) (b : BookModel) → IsFirst q (search_options o) b → (told : SearchAnswer) → IsLeftAnswer (problem_in b) o told → IsLeftAnswer (problem_of q) o told
+left_answer q o b h told is = subst (λ (r : Parts). IsLeftAnswer (problem_of r) o told) h.searched.problem is
+
+-- ---- the only problem
+
+pub some_check : (session : List (Parts × Bool)) (goal : Option ℕ) (g : ℕ) → goal ≡ Some g → IsGoalOf goal session → 0 < length session
+some_check session goal g some is = of-session session (subst (λ (o : Option ℕ). IsGoalOf o session) some is) where
+  of-session : (session : List (Parts × Bool)) → IsGoalOf (Some g) session → 0 < length session
+  of-session [] h = absurd h
+  of-session (c ∷ session) h = omega arith
+
+pub within_first : (session : List (Parts × Bool)) (p : Parts) → slice_get (map (λ (q : Parts × Bool). q.0) session) 0 ≡ Some p → AreWithin session → IsWithin p
+within_first [] p at w = cc
+within_first ((q, x) ∷ session) p at w = subst IsWithin (same_Some q p at) w.0
+
+-- ---- the end of a run behind its problem
+
+module _ (p : Problem) (g : ℕ) (words : Minimize) (told : SearchAnswer) (cert text : List ℕ) (old new : Sight) (status : Status) (bytes : cert ≡ told.cert.items) (answer : text ≡ told.text.items)
+    (ends : Ends (gives words.cert cert text) old new status) where
+  pub least_ends : IsMinimizeAnswer p g words told → RunEnds (CanTellLeast p g words) [] old new status
+  least_ends (inl is) =
+      let says : List ℕ = minimize_text p g words.options.budget is.cause is.value in
+      on_course (gives words.cert told.cert.items says) (inr (told.cert.items, is.cause, is.value, is.answer, refl)) (written words.cert cert told.cert.items text says old new status bytes (answer ∙ is.text) ends)
+  least_ends (inr is) =
+      let says : List ℕ = solve_text p words.options.budget (loosenings_of words.options) (left_open is.left) in
+      on_course (gives words.cert told.cert.items says) (inl (told.cert.items, is.left, is.answer, refl)) (written words.cert cert told.cert.items text says old new status bytes (answer ∙ is.text) ends)
