@@ -15,6 +15,7 @@ not know the fault `TooLong` of a certificate, and `-` does not stand for standa
 import re
 import sys
 from collections import namedtuple
+from copy import copy
 from fractions import Fraction
 from math import inf, isqrt
 
@@ -986,7 +987,7 @@ class Cover:
 # ---------------------------------------------------------------- Certificates
 # What follows the word of a line: N a number below 2^32, D a number of the grid, B or L the one or the other, or `none`, T a key
 # of DOMAINS.
-SHAPES = {**dict.fromkeys('dpoly margin delta checks cover keep lemma empty pull unit void push voidno by flip case stuck'.split(), 'N'),
+SHAPES = {**dict.fromkeys('dpoly margin delta goal checks cover keep lemma empty pull unit void push voidno by flip case stuck'.split(), 'N'),
           **dict.fromkeys('point tree end false open over'.split(), ''), 'ban': 'NN', 'cut': 'ND', 'bound': 'B', 'lower': 'L',
           'bool': 'T'}
 
@@ -1085,16 +1086,39 @@ def end_text(end):
     return f'{end >> zeros}b{zeros - 120}' if end else '0'
 
 
+def limited(problem, bits, bound):
+    """The problem with the limit that its goal is at most `bound`, an end: one more atom, `2^bits * t - n <= 0`, whose constants are
+    new, and which the form asks for."""
+    whole, rest = divmod(bound << bits, UNIT) if bits < 120 and isinstance(bound, int) else (0, 1)
+    constants = [('constant', Fraction(2**bits)), ('constant', Fraction(-whole))] if not rest else []
+    room = len(problem.terms.parts) <= 1048572 and len(problem.atoms) < 65536 and len(problem.forms) + problem.places <= 1048572
+    if len(set(constants) - set(problem.terms.numbers)) < 2 or abs(whole) > WIDEST or not room:
+        raise CertificateFault('BadHeader')
+    found, found.terms = copy(problem), Terms()
+    for parts in problem.terms.parts:
+        found.terms.make(*parts)
+    product = found.terms.make('times', found.terms.make(*constants[0]), problem.goal)
+    found.atoms = [*problem.atoms, (found.terms.make('plus', product, found.terms.make(*constants[1])), '<=')]
+    last = len(problem.forms)
+    found.forms = [*problem.forms, ('atom', len(problem.atoms)), ('all', (last - 1, last))]
+    return found
+
+
 def check_least(problem, loosenings, lines):
     """The answer to a certificate of a least value, from its line `lower` on."""
     [lower] = lines.header('lower')[1]
-    many = number_of_lemmas(lines.header('cover')[1])
     lower = -inf if lower is None else lower
-    cover = Cover(problem, 4, UNIT >> loosenings[0], UNIT >> loosenings[1], lower=lower)
-    cover.read_cover(lines, many)
+    word, values = lines.header('cover', 'goal')
+    of_cover = problem
+    if word == 'goal':
+        of_cover = limited(problem, values[0], lower)
+        word, values = lines.header('cover')
+    margin, delta = (UNIT >> it for it in loosenings)
+    Cover(of_cover, 4, margin, delta, lower=lower).read_cover(lines, number_of_lemmas(values))
     answer, found = f'confirmed lower {end_text(lower)}\n', lines.take()
     if found and found[0] != 'point':
         raise CertificateFault('Extra')
+    cover = Cover(problem, 4, margin, delta)
     return answer + f'upper {end_text(cover.goal(cover.read_point(lines), {})[1])}\n' if found else answer
 
 
