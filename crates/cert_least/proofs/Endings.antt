@@ -6,7 +6,7 @@ use Rattle.dyadic.specs.Rounding.{Dyadic}
 use Rattle.dyadic.specs.Views.{dyadic_of, ext_of}
 use Rattle.dyadic.specs.declared.dy.Dy.{Dy}
 use Rattle.dyadic.specs.declared.dy.Ext as code-ext
-use Rattle.poly_graph.specs.ProblemViews.{Parts, problem_of}
+use Rattle.poly_graph.specs.ProblemViews.{problem_of}
 use Rattle.cover_model.specs.State.{State, Loosenings, atom_enclosure}
 use Rattle.cert_model.specs.Due as due
 use Rattle.cert_model.specs.Due.{Due, at_point, left_open, kind_due, nothing_due}
@@ -84,18 +84,18 @@ module _ (a : Aim) (lines : ℕ) where
   header_ends (kind_due s) = refused-so due.BadHeader (numbered.BadHeader (lines + 1)) refl
   header_ends _ = refused-so due.BadHeader (numbered.BadHeader (lines + 1)) refl
 
-  pub cover_missing : (e : Option Dyadic) (d : Due) → IsKindDue d → Finishes a (Some (reached (least_due (cover_at e d)) lines)) (Err (numbered.BadHeader (lines + 1)))
-  cover_missing e (kind_due s) h = refused-so due.BadHeader (numbered.BadHeader (lines + 1)) refl
-  cover_missing e _ h = absurd h
+  pub cover_missing : (e : Option Dyadic) (k : Option ℕ) (s : Loosenings) (d : Due) → IsKindDue s d → Finishes a (Some (reached (least_due (cover_at e k d)) lines)) (Err (numbered.BadHeader (lines + 1)))
+  cover_missing e k s (kind_due s') h = refused-so due.BadHeader (numbered.BadHeader (lines + 1)) refl
+  cover_missing e k s _ h = absurd h
 
-  pub cover_goes_on : (e : Option Dyadic) (d : Due) → cover_value d ≡ None → Finishes a (Some (reached (least_due (in_cover_at e d)) lines)) (Err (numbered.Missing (lines + 1)))
-  cover_goes_on e (nothing_due s lemmas (left_open left)) h = cc
-  cover_goes_on e _ h = refused-so due.Missing (numbered.Missing (lines + 1)) refl
+  pub cover_goes_on : (e : Option Dyadic) (k : Option ℕ) (d : Due) → cover_value d ≡ None → Finishes a (Some (reached (least_due (in_cover_at e k d)) lines)) (Err (numbered.Missing (lines + 1)))
+  cover_goes_on e k (nothing_due s lemmas (left_open left)) h = cc
+  cover_goes_on e k _ h = refused-so due.Missing (numbered.Missing (lines + 1)) refl
 
-  pub cover_ends : (e : Option Dy) (d : Due) (s : Loosenings) → cover_value d ≡ Some s → Finishes a (Some (reached (least_due (in_cover_at (option_map dyadic_of e) d)) lines)) (Ok (said s e None))
-  cover_ends e (nothing_due s' lemmas (left_open left)) s h =
+  pub cover_ends : (e : Option Dy) (k : Option ℕ) (d : Due) (s : Loosenings) → cover_value d ≡ Some s → Finishes a (Some (reached (least_due (in_cover_at (option_map dyadic_of e) k d)) lines)) (Ok (said s e None))
+  cover_ends e k (nothing_due s' lemmas (left_open left)) s h =
       let same : s ≡ s' = cc in record { margin = ap (λ (k : Loosenings). k.margin_bits) same; delta = ap (λ (k : Loosenings). k.delta_bits) same; lower = refl; upper = refl }
-  cover_ends e _ s h = cc
+  cover_ends e k _ s h = cc
 
   pub point_goes_on : (e : Option Dyadic) (d : Due) → point_value d ≡ None → Finishes a (Some (reached (least_due (in_point_at e d)) lines)) (Err (numbered.Missing (lines + 1)))
   point_goes_on e (nothing_due s lemmas (at_point space)) h = cc
@@ -115,10 +115,10 @@ module _ (a : Aim) (lines : ℕ) where
   point_ends e _ s space upper h k u = cc
 
   -- in this phase
-  pub ends_in : (p : Parts) (b : Option ℕ) (x y : Phase) (c : Checked) (r : Result told.GoalVerdict CertFault) → x ≡ y → IsSoundPhase p b x c → (IsSoundPhase p b y c → IsPlaced p b y c) →
-      ((at : IsPlaced p b y c) → Finishes a (Some (reached (goal_due y at.due) lines)) r) → Finishes a (course_of x c.course lines) r
-  ends_in p b x y c r e h place k =
-      let at = place (subst (λ (z : Phase). IsSoundPhase p b z c) e h) in
+  pub ends_in : (x y : Phase) (c : Checked) (r : Result told.GoalVerdict CertFault) → x ≡ y → IsSoundPhase a x c → (IsSoundPhase a y c → IsPlaced a y c) →
+      ((at : IsPlaced a y c) → Finishes a (Some (reached (goal_due y at.due) lines)) r) → Finishes a (course_of x c.course lines) r
+  ends_in x y c r e h place k =
+      let at = place (subst (λ (z : Phase). IsSoundPhase a z c) e h) in
       subst (λ (z : Phase). Finishes a (course_of z c.course lines) r) (sym e)
       (subst (λ (o : Option GoalCourse). Finishes a o r) (sym (course_here y at.due c.course lines at.fits at.is_due.due)) (k at))
 

@@ -10,5 +10,6 @@ pub mod Led
 pub mod Lines
 pub mod Numbered
 pub mod Places
+pub mod Searched
 pub mod Taking
 pub mod Verdicts

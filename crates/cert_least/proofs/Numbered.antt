@@ -1,7 +1,7 @@
 -- Where a line leads a checker, with the line's number.
 use Rattle.std.proofs.Common.{◌≡◌, ◌⊎◌, ℕ, suc, ◌+◌, Option, Some, None, refl, ap, sym, ◌∙◌, subst, inl, inr, arith}
 use Rattle.std.specs.Prelude.{option_map}
-use Rattle.poly_graph.specs.ProblemViews.{Parts, problem_of}
+use Rattle.poly_graph.specs.ProblemViews.{Parts}
 use Rattle.cert_read.specs.CertLine.{CertLine, Parsed, line}
 use Rattle.cert_read.specs.declared.fault.LineFault.{LineFault}
 use Rattle.cert_read.specs.declared.fault.LineFault.TheVariants as unread
@@ -9,7 +9,7 @@ use Rattle.cert_read.specs.LineAnswers.{IsFault}
 use Rattle.cert_model.specs.Due as due
 use Rattle.cert_model.specs.Due.{Due, on, faulty}
 use Rattle.cert_model.specs.Accepted.{stopped, reached}
-use Rattle.cert_model.specs.Least.{GoalNext, plain_due, GoalCourse, goal_next}
+use Rattle.cert_model.specs.Least.{GoalNext, plain_due, GoalCourse}
 use Rattle.cert_check.specs.declared.fault.CertFault.{CertFault}
 use Rattle.cert_check.specs.declared.fault.CertFault.TheVariants as numbered
 use Rattle.cert_check.specs.Checked.{Checked}
@@ -18,13 +18,12 @@ use Rattle.cert_check.specs.Faults.{stop_of, fault_at, refusal_of}
 use Rattle.cert_check.specs.Work.{WorkCourse, course_map}
 use Rattle.cert_least.specs.declared.phase.Phase.{Phase}
 use Rattle.cert_least.specs.declared.phase.Phase.TheVariants as phase
-use Rattle.cert_least.specs.Aims.{Aim, lean_goal}
-use Rattle.cert_least.specs.Checked.{aim_at}
+use Rattle.cert_least.specs.Aims.{Aim, aim_next, lean_goal}
 use Rattle.cert_least.specs.Courses.{after, leads, stops_at, IsCutOff, IsUnderWay}
 use Rattle.cert_least.specs.declared.aim.Aim as code
 use Rattle.cert_least.specs.Judging.{aim_of, IsSameAim}
 use Rattle.cert_least.proofs.Verdicts.{memory_alone, stops_so, stopped_somewhere}
-use Rattle.cert_least.specs.Phases.{goal_due, course_of, due_in, IsDueIn, IsDueTo, IsFaultIn, IsPlaced, IsSoundPhase}
+use Rattle.cert_least.specs.Phases.{goal_due, course_of, due_in, IsDueIn, IsFaultIn, IsPlaced, IsSoundPhase}
 use Rattle.cert_least.specs.Steps.{HasLed, IsFaultOrMemory, IsPhaseOn, renumbered}
 
 same-number : (lines : ℕ) → lines + 1 ≡ suc lines
@@ -69,19 +68,16 @@ pub course_here : (x : Phase) (d : Due) (c : Option WorkCourse) (n : ℕ) → Is
 course_here (phase.Stopped f) d c n h e = absurd h
 course_here x d c n h e = ap (option_map (λ (d' : Due). reached (goal_due x d') n)) e
 
-pub sound_on : (p : Parts) (b : Option ℕ) (y : GoalNext) (c : Checked) (x : Phase) → IsPhaseOn p b y c x → IsSoundPhase p b x c
-sound_on p b y c (phase.Stopped f) h = tt
-sound_on p b y c x h = record { due = h.due; is_due = h.is_due; fits = h.fits }
+pub sound_on : (a : Aim) (y : GoalNext) (c : Checked) (x : Phase) → IsPhaseOn a y c x → IsSoundPhase a x c
+sound_on a y c (phase.Stopped f) h = tt
+sound_on a y c x h = record { due = h.due; is_due = h.is_due; fits = h.fits }
 
-module _ (p : Parts) (g : ℕ) (b : Option ℕ) (x : Phase) (old : Checked) (lines : ℕ) (d : Due) (at : IsDueTo p b d old) (fits : IsDueIn x d) where
-  abbrev aim : Aim
-  aim = aim_at p g b
-
+module _ (aim : Aim) (x : Phase) (old : Checked) (lines : ℕ) (d : Due) (at : due_in old.course ≡ Some d) (fits : IsDueIn x d) where
   -- by what comes of the line
   led-by : (l : Parsed) → option_map (λ (c : GoalCourse). after aim c l) (course_of x old.course lines) ≡ Some (after aim (reached (goal_due x d) lines) l)
-  led-by l = ap (option_map (λ (c : GoalCourse). after aim c l)) (course_here x d old.course lines fits at.due)
+  led-by l = ap (option_map (λ (c : GoalCourse). after aim c l)) (course_here x d old.course lines fits at)
 
-  pub phase_goes : (l : CertLine) (new : Checked) (x' : Phase) (n : ℕ) → n ≡ lines + 1 → IsPhaseOn p b (goal_next (problem_of p) g b (goal_due x d) l) new x' →
+  pub phase_goes : (l : CertLine) (new : Checked) (x' : Phase) (n : ℕ) → n ≡ lines + 1 → IsPhaseOn aim (aim_next aim (goal_due x d) l) new x' →
       HasLed aim (course_of x old.course lines) (line l) (course_of x' new.course n)
   phase_goes l new x' n e h =
       inr (course_here x' h.due new.course n h.fits h.is_due.due
@@ -89,7 +85,7 @@ module _ (p : Parts) (g : ℕ) (b : Option ℕ) (x : Phase) (old : Checked) (lin
       ∙ sym (ap (λ (y : GoalNext). Some (leads (suc lines) y)) h.leads)
       ∙ sym (led-by (line l)))
 
-  pub phase_stops : (l : CertLine) (f : CertFault) → IsFaultOrMemory f (goal_next (problem_of p) g b (goal_due x d) l) → HasLed aim (course_of x old.course lines) (line l) (stops_at (renumbered f (lines + 1)))
+  pub phase_stops : (l : CertLine) (f : CertFault) → IsFaultOrMemory f (aim_next aim (goal_due x d) l) → HasLed aim (course_of x old.course lines) (line l) (stops_at (renumbered f (lines + 1)))
   phase_stops l f (inl e) = inl (ap (λ (f' : CertFault). stops_at (renumbered f' (lines + 1))) e)
   phase_stops l f (inr h) =
       inr (ap (option_map (course_map plain_due)) (renumbered_stops f h.fault h.told.line (lines + 1) h.told.told)
@@ -113,16 +109,16 @@ pub stopped_at : (x : Phase) (f : CertFault) → IsFaultIn x (Some f) → x ≡ 
 stopped_at (phase.Stopped g) f e = let same : f ≡ g = cc in ap (λ (h : CertFault). phase.Stopped h) (sym same)
 stopped_at _ f e = cc
 
-pub placed_there : (p : Parts) (b : Option ℕ) (x : Phase) (c : Checked) → IsFaultIn x None → IsSoundPhase p b x c → IsPlaced p b x c
-placed_there p b (phase.Stopped g) c e h = cc
-placed_there p b x c e h = h
+pub placed_there : (a : Aim) (x : Phase) (c : Checked) → IsFaultIn x None → IsSoundPhase a x c → IsPlaced a x c
+placed_there a (phase.Stopped g) c e h = cc
+placed_there a x c e h = h
 
 pub stops_there : (x : Phase) (f : CertFault) (c : Option WorkCourse) (n : ℕ) → IsFaultIn x (Some f) → course_of x c n ≡ stops_at f
 stops_there x f c n e = ap (λ (y : Phase). course_of y c n) (stopped_at x f e)
 
-pub goes_there : (p : Parts) (b : Option ℕ) (x : Phase) (c : Checked) (n : ℕ) → IsFaultIn x None → IsSoundPhase p b x c → IsUnderWay (course_of x c.course n)
-goes_there p b x c n e h =
-    let at = placed_there p b x c e h in subst IsUnderWay (sym (course_here x at.due c.course n at.fits at.is_due.due)) tt
+pub goes_there : (a : Aim) (x : Phase) (c : Checked) (n : ℕ) → IsFaultIn x None → IsSoundPhase a x c → IsUnderWay (course_of x c.course n)
+goes_there a x c n e h =
+    let at = placed_there a x c e h in subst IsUnderWay (sym (course_here x at.due c.course n at.fits at.is_due.due)) tt
 
 -- the input goes on where no more of it is read
 cut-stopped : (f : CertFault) (o : Option GoalCourse) → o ≡ stops_at f → IsCutOff o f
@@ -133,17 +129,17 @@ cut-stopped f (Some (reached d n)) e = absurd (stopped_somewhere f d n (sym e))
 pub cut_there : (x : Phase) (f : CertFault) (c : Option WorkCourse) (n : ℕ) → IsFaultIn x (Some f) → IsCutOff (course_of x c n) f
 cut_there x f c n e = cut-stopped f (course_of x c n) (stops_there x f c n e)
 
-pub cut_on : (p : Parts) (b : Option ℕ) (x : Phase) (c : Checked) (n : ℕ) → IsFaultIn x None → IsSoundPhase p b x c → IsCutOff (course_of x c.course n) (numbered.TooLong 0)
-cut_on p b x c n e h =
-    let at = placed_there p b x c e h in subst (λ (o : Option GoalCourse). IsCutOff o (numbered.TooLong 0)) (sym (course_here x at.due c.course n at.fits at.is_due.due)) refl
+pub cut_on : (a : Aim) (x : Phase) (c : Checked) (n : ℕ) → IsFaultIn x None → IsSoundPhase a x c → IsCutOff (course_of x c.course n) (numbered.TooLong 0)
+cut_on a x c n e h =
+    let at = placed_there a x c e h in subst (λ (o : Option GoalCourse). IsCutOff o (numbered.TooLong 0)) (sym (course_here x at.due c.course n at.fits at.is_due.due)) refl
 
 pub over_there : (a : Aim) (x : Phase) (f : CertFault) (c : Option WorkCourse) (n : ℕ) (l : Parsed) → IsFaultIn x (Some f) → HasLed a (course_of x c n) l (stops_at f)
 over_there a x f c n l e = subst (λ (o : Option GoalCourse). HasLed a o l (stops_at f)) (sym (stops_there x f c n e)) (stays_over a f l)
 
-pub unread_there : (p : Parts) (g : ℕ) (b : Option ℕ) (x : Phase) (c : Checked) (n : ℕ) → IsFaultIn x None → IsSoundPhase p b x c → (fault : LineFault) (l : Parsed) → IsFault fault l →
-    HasLed (aim_at p g b) (course_of x c.course n) l (stops_at (fault_at (refusal_of fault) (n + 1)))
-unread_there p g b x c n e h fault l k =
-    let at = placed_there p b x c e h in unread_leads p g b x c n at.due at.is_due at.fits fault l k
+pub unread_there : (a : Aim) (x : Phase) (c : Checked) (n : ℕ) → IsFaultIn x None → IsSoundPhase a x c → (fault : LineFault) (l : Parsed) → IsFault fault l →
+    HasLed a (course_of x c.course n) l (stops_at (fault_at (refusal_of fault) (n + 1)))
+unread_there a x c n e h fault l k =
+    let at = placed_there a x c e h in unread_leads a x c n at.due at.is_due.due at.fits fault l k
 
 -- ---- the code's aim
 
@@ -153,6 +149,5 @@ same_aim old new s =
     ∙ ap (λ (x : ℕ). record { problem = old.problem; goal = x; bound = new.bound }) s.goal
     ∙ ap (λ (x : Option ℕ). record { problem = old.problem; goal = old.goal; bound = x }) s.bound
 
-pub same_sound : (old new : code.Aim) (x : Phase) (c : Checked) → IsSameAim old new → IsSoundPhase old.problem old.bound x c → IsSoundPhase new.problem new.bound x c
-same_sound old new x c s h =
-    subst (λ (b : Option ℕ). IsSoundPhase new.problem b x c) (sym s.bound) (subst (λ (p : Parts). IsSoundPhase p old.bound x c) (sym s.problem) h)
+pub same_sound : (old new : code.Aim) (x : Phase) (c : Checked) → IsSameAim old new → IsSoundPhase (aim_of old) x c → IsSoundPhase (aim_of new) x c
+same_sound old new x c s h = subst (λ (a : Aim). IsSoundPhase a x c) (sym (same_aim old new s)) h

@@ -3,7 +3,7 @@ use Rattle.std.proofs.Common.{◌≡◌, Option, Some, None, refl, ap, sym, ◌�
 use Rattle.std.specs.Prelude.{option_map}
 use Rattle.interval_model.specs.Interval.{Interval}
 use Rattle.interval_model.specs.Space.{Space}
-use Rattle.poly_graph.specs.ProblemViews.{Parts, problem_of}
+use Rattle.poly_graph.specs.Problem.{Problem}
 use Rattle.cert_model.specs.Due.{Due, root_due, tree_due}
 use Rattle.cert_model.specs.Least.{tree_space}
 use Rattle.cert_check.specs.Courses.{Stand, stand_due, stand_in}
@@ -14,12 +14,12 @@ use Rattle.cert_least.proofs.Advancing.{reached_where}
 some-same : {A : Type 0} {x y : A} → Some x ≡ Some y → x ≡ y
 some-same e = cc
 
-space-is : (p : Parts) (d : Due) → tree_space (problem_of p) d ≡ stand_space p (stand_due d)
+space-is : (p : Problem) (d : Due) → tree_space p d ≡ stand_space p (stand_due d)
 space-is p (root_due s lemmas) = refl
 space-is p (tree_due s lemmas S pending done) = refl
 space-is p _ = refl
 
-pub tree_here : (p : Parts) (c : Option WorkCourse) (d : Due) → due_in c ≡ Some d → (stand : Stand) → stand ≡ stand_in c → tree_space (problem_of p) d ≡ stand_space p stand
+pub tree_here : (p : Problem) (c : Option WorkCourse) (d : Due) → due_in c ≡ Some d → (stand : Stand) → stand ≡ stand_in c → tree_space p d ≡ stand_space p stand
 tree_here p c d e stand h = space-is p d ∙ ap (stand_space p) (sym (h ∙ ap stand_in (reached_where c d e).course))
 
 module _ (f : Space → Interval) where

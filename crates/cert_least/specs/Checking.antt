@@ -10,5 +10,5 @@ checked_of c = record { aim = aim_of c.aim; course = course_of c.phase c.checker
 
 pub record IsSoundChecker (c : Inside) : Type 0 where
   pub ready : IsReady c.aim
-  pub phase : IsSoundPhase c.aim.problem c.aim.bound c.phase c.checker
+  pub phase : IsSoundPhase (aim_of c.aim) c.phase c.checker
   pub few : c.lines < 2 ^ 64 - 1

@@ -17,7 +17,8 @@ use Rattle.cert_least.specs.declared.verdict.GoalVerdict.TheVariants as tells
 use Rattle.cert_least.specs.Aims.{Aim}
 use Rattle.cert_least.specs.Courses.{Finishes}
 use Rattle.cert_least.specs.Judging.{aim_of}
-use Rattle.cert_least.specs.Phases.{due_in, in_cover_at, in_point_at, IsPointDue}
+use Rattle.cert_least.specs.declared.phase.Scope.{Scope}
+use Rattle.cert_least.specs.Phases.{due_in, lower_of, in_cover_at, in_point_at, IsPointDue}
 
 -- what is told of an accepted certificate of least values
 abbrev pub said : state.Loosenings → Option Dy → Option Ext → GoalVerdict
@@ -26,9 +27,9 @@ said s lower upper = tells.Least (record { margin = s.margin_bits; delta = s.del
 abbrev pub IsPlainEnding : Checked → ℕ → Result GoalVerdict CertFault → Type 0
 IsPlainEnding c lines r = (a : Aim) (d : Due) → due_in c.course ≡ Some d → Finishes a (Some (reached (plain_due d) lines)) r
 
-abbrev pub IsCoverEnding : Checked → Option Dy → ℕ → Result GoalVerdict CertFault → Type 0
-IsCoverEnding c lower lines r =
-    (a : Aim) (d : Due) → due_in c.course ≡ Some d → Finishes a (Some (reached (least_due (in_cover_at (option_map dyadic_of lower) d)) lines)) r
+abbrev pub IsCoverEnding : Checked → Scope → ℕ → Result GoalVerdict CertFault → Type 0
+IsCoverEnding c w lines r =
+    (a : Aim) (d : Due) → due_in c.course ≡ Some d → Finishes a (Some (reached (least_due (in_cover_at (lower_of w) w.bits d)) lines)) r
 
 abbrev pub IsPointEnding : code.Aim → Checked → Loosenings → Option Dy → ℕ → Result GoalVerdict CertFault → Type 0
 IsPointEnding a c s lower lines r =

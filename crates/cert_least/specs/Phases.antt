@@ -1,13 +1,14 @@
 -- How far a certificate of a script with a goal is, over what is due to the checker of its check.
 use Rattle.std.specs.Prelude.{◌≡◌, ℕ, [], cond, Option, Some, None, option_map}
 use Rattle.interval_model.specs.Space.{Space}
+use Rattle.poly_graph.specs.Problem.{Problem}
 use Rattle.poly_graph.specs.ProblemViews.{Parts, problem_of}
 use Rattle.dyadic.specs.Rounding.{Dyadic}
 use Rattle.dyadic.specs.Views.{dyadic_of}
 use Rattle.cover_model.specs.State.{Loosenings, root_state}
 use Rattle.cert_model.specs.Due.{at_point, left_open, Due, version_due, margin_due, delta_due, bound_due, kind_due, coordinate_due, end_due, nothing_due, is_crossed_box}
 use Rattle.cert_model.specs.Accepted.{reached}
-use Rattle.cert_model.specs.Least.{LeastDue, header_due, lower_due, cover_due, in_cover_due, covered_due, in_point_due, shown_due, GoalDue, plain_due, least_due, GoalCourse}
+use Rattle.cert_model.specs.Least.{LeastDue, header_due, lower_due, cover_due, in_cover_due, covered_due, in_point_due, shown_due, GoalDue, plain_due, least_due, GoalCourse, searched}
 use Rattle.cert_check.specs.declared.fault.CertFault.{CertFault}
 use Rattle.cert_check.specs.States.{loosenings_of}
 use Rattle.cert_check.specs.Checked.{Checked, one_check}
@@ -15,7 +16,18 @@ use Rattle.cert_check.specs.Courses.{Stand, elsewhere, at_root, at_state}
 use Rattle.cert_check.specs.Work.{WorkCourse, alone}
 use Rattle.cert_least.specs.declared.phase.Phase.{Phase}
 use Rattle.cert_least.specs.declared.phase.Phase.TheVariants as phase
+use Rattle.cert_least.specs.declared.phase.Scope.{Scope}
+use Rattle.cert_least.specs.declared.phase.Told.{Told}
+use Rattle.cert_least.specs.Aims.{Aim}
 use Rattle.cert_least.specs.Courses as goal
+
+-- ---- what the code keeps of a header
+
+abbrev pub told_of : Told → Loosenings
+told_of t = record { margin_bits = t.margin; delta_bits = t.delta; version = t.version }
+
+abbrev pub lower_of : Scope → Option Dyadic
+lower_of w = option_map dyadic_of w.lower
 
 -- ---- what is due, by what is due to the checker of the check
 
@@ -23,13 +35,13 @@ abbrev pub header_at : Due → LeastDue
 header_at (kind_due s) = lower_due s
 header_at d = header_due d
 
-abbrev pub cover_at : Option Dyadic → Due → LeastDue
-cover_at e (kind_due s) = cover_due s e
-cover_at e d = in_cover_due e d
+abbrev pub cover_at : Option Dyadic → Option ℕ → Due → LeastDue
+cover_at e k (kind_due s) = cover_due s e k
+cover_at e k d = in_cover_due e k d
 
-abbrev pub in_cover_at : Option Dyadic → Due → LeastDue
-in_cover_at e (nothing_due s lemmas (left_open left)) = covered_due s e []
-in_cover_at e d = in_cover_due e d
+abbrev pub in_cover_at : Option Dyadic → Option ℕ → Due → LeastDue
+in_cover_at e k (nothing_due s lemmas (left_open left)) = covered_due s e []
+in_cover_at e k d = in_cover_due e k d
 
 abbrev pub in_point_at : Option Dyadic → Due → LeastDue
 in_point_at e (nothing_due s lemmas (at_point space)) = shown_due s (record { lower = e; over = []; point = Some space })
@@ -38,10 +50,10 @@ in_point_at e d = in_point_due e [] d
 abbrev pub goal_due : Phase → Due → GoalDue
 goal_due phase.Version d = plain_due d
 goal_due phase.Plain d = plain_due d
-goal_due phase.Header d = least_due (header_at d)
-goal_due phase.Lower d = least_due (header_at d)
-goal_due (phase.Cover e) d = least_due (cover_at (option_map dyadic_of e) d)
-goal_due (phase.InCover e) d = least_due (in_cover_at (option_map dyadic_of e) d)
+goal_due (phase.Header t) d = least_due (header_at d)
+goal_due (phase.Lower t) d = least_due (header_at d)
+goal_due (phase.Cover t w) d = least_due (cover_at (lower_of w) w.bits d)
+goal_due (phase.InCover w) d = least_due (in_cover_at (lower_of w) w.bits d)
 goal_due (phase.InPoint s e) d = least_due (in_point_at (option_map dyadic_of e) d)
 goal_due (phase.Stopped f) d = plain_due d
 
@@ -60,15 +72,16 @@ abbrev pub IsBehindVersion : Due → Type 0
 IsBehindVersion version_due = ⊥
 IsBehindVersion d = Unit {0}
 
-abbrev pub IsHeaderDue : Due → Type 0
-IsHeaderDue (margin_due v) = Unit {0}
-IsHeaderDue (delta_due v m) = Unit {0}
-IsHeaderDue (bound_due s) = Unit {0}
-IsHeaderDue d = ⊥
+-- in a header that told so much of these loosenings
+abbrev pub IsHeaderDue : Loosenings → Due → Type 0
+IsHeaderDue s (margin_due v) = v ≡ s.version
+IsHeaderDue s (delta_due v m) = (v ≡ s.version) × (m ≡ s.margin_bits)
+IsHeaderDue s (bound_due s') = s' ≡ s
+IsHeaderDue s d = ⊥
 
-abbrev pub IsKindDue : Due → Type 0
-IsKindDue (kind_due s) = Unit {0}
-IsKindDue d = ⊥
+abbrev pub IsKindDue : Loosenings → Due → Type 0
+IsKindDue s (kind_due s') = s' ≡ s
+IsKindDue s d = ⊥
 
 -- in a point with these loosenings
 abbrev pub IsPointDue : Loosenings → Due → Type 0
@@ -80,10 +93,10 @@ IsPointDue s d = ⊥
 abbrev pub IsDueIn : Phase → Due → Type 0
 IsDueIn phase.Version d = d ≡ version_due
 IsDueIn phase.Plain d = IsBehindVersion d
-IsDueIn phase.Header d = IsHeaderDue d
-IsDueIn phase.Lower d = IsKindDue d
-IsDueIn (phase.Cover e) d = IsKindDue d
-IsDueIn (phase.InCover e) d = Unit {0}
+IsDueIn (phase.Header t) d = IsHeaderDue (told_of t) d
+IsDueIn (phase.Lower t) d = IsKindDue (told_of t) d
+IsDueIn (phase.Cover t w) d = IsKindDue (told_of t) d
+IsDueIn (phase.InCover w) d = Unit {0}
 IsDueIn (phase.InPoint s e) d = IsPointDue (loosenings_of s) d
 IsDueIn (phase.Stopped f) d = ⊥
 
@@ -95,14 +108,26 @@ due_in (Some (reached (alone d) n)) = Some d
 due_in c = None
 
 -- a checker of the problem's check where this is due
-pub record IsDueTo (p : Parts) (bound : Option ℕ) (d : Due) (c : Checked) : Type 0 where
-  pub checks : c.checks ≡ one_check p bound
+pub record IsDueTo (p : Problem) (bound : Option ℕ) (d : Due) (c : Checked) : Type 0 where
+  pub parts : Parts
+  pub problem : problem_of parts ≡ p
+  pub checks : c.checks ≡ one_check parts bound
   pub due : due_in c.course ≡ Some d
 
+-- the problem of a cover
+abbrev pub searched_by : Aim → Scope → Problem
+searched_by a w = searched (problem_of a.problem) a.goal (lower_of w) w.bits
+
+-- the problem whose checker takes the lines
+abbrev pub problem_in : Aim → Phase → Problem
+problem_in a (phase.Cover t w) = searched_by a w
+problem_in a (phase.InCover w) = searched_by a w
+problem_in a x = problem_of a.problem
+
 -- the box where a line of the main tree is due
-abbrev pub stand_space : Parts → Stand → Option Space
+abbrev pub stand_space : Problem → Stand → Option Space
 stand_space p elsewhere = None
-stand_space p at_root = cond (is_crossed_box (problem_of p)) None (Some (root_state (problem_of p)).space)
+stand_space p at_root = cond (is_crossed_box p) None (Some (root_state p).space)
 stand_space p (at_state S) = Some S.space
 
 -- ---- where a checker stands
@@ -117,11 +142,11 @@ IsFaultIn (phase.Stopped f) o = o ≡ Some f
 IsFaultIn x o = o ≡ None
 
 -- something is due that may be in this phase
-pub record IsPlaced (p : Parts) (bound : Option ℕ) (x : Phase) (c : Checked) : Type 0 where
+pub record IsPlaced (a : Aim) (x : Phase) (c : Checked) : Type 0 where
   pub due : Due
-  pub is_due : IsDueTo p bound due c
+  pub is_due : IsDueTo (problem_in a x) a.bound due c
   pub fits : IsDueIn x due
 
-abbrev pub IsSoundPhase : Parts → Option ℕ → Phase → Checked → Type 0
-IsSoundPhase p bound (phase.Stopped f) c = Unit {0}
-IsSoundPhase p bound x c = IsPlaced p bound x c
+abbrev pub IsSoundPhase : Aim → Phase → Checked → Type 0
+IsSoundPhase a (phase.Stopped f) c = Unit {0}
+IsSoundPhase a x c = IsPlaced a x c

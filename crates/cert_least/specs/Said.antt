@@ -3,10 +3,11 @@ use Rattle.std.specs.Prelude.{◌≡◌, ℕ, Bool, true, false, Option, Some, N
 use Rattle.dyadic.specs.declared.dy.Dy.{Dy}
 use Rattle.dyadic.specs.Views.{dyadic_of}
 use Rattle.cover_model.specs.Rules.{Line, open_line, stuck}
-use Rattle.cert_read.specs.CertLine.{CertLine, version, bound, lower, cover, point_word, rule_line, over}
+use Rattle.cert_read.specs.CertLine.{CertLine, version, margin, delta, bound, lower, goal, cover, point_word, rule_line, over}
 use Rattle.cert_model.specs.Least.{is_least_version, leaves_open}
 use Rattle.cert_least.specs.declared.phase.Phase.{Phase}
 use Rattle.cert_least.specs.declared.phase.Phase.TheVariants as phase
+use Rattle.cert_least.specs.declared.phase.Told.{Told}
 use Rattle.cert_least.specs.declared.said.CoverLine.{CoverLine}
 use Rattle.cert_least.specs.declared.said.CoverLine.TheVariants as said
 
@@ -27,10 +28,18 @@ IsCoverIn true l = ⊥
 IsCoverIn false (cover k) = ⊥
 IsCoverIn false l = Unit {0}
 
--- the phase behind a line of the header
-abbrev pub header_phase : CertLine → Phase
-header_phase (bound b) = phase.Lower
-header_phase l = phase.Header
+-- the bits of a limit of the goal, where there is none before
+abbrev pub IsLimitIn : Option ℕ → Option ℕ → CertLine → Type 0
+IsLimitIn before (Some k) l = (before ≡ None) × (l ≡ goal k)
+IsLimitIn None None (goal k) = ⊥
+IsLimitIn before None l = Unit {0}
+
+-- the phase behind a line of the header that told so much
+abbrev pub header_phase : Told → CertLine → Phase
+header_phase t (margin m) = phase.Header (record t { margin = m })
+header_phase t (delta d) = phase.Header (record t { delta = d })
+header_phase t (bound b) = phase.Lower t
+header_phase t l = phase.Header t
 
 -- neither `over` nor `point`, and no rule that leaves its own state
 abbrev pub IsOther : CertLine → Type 0

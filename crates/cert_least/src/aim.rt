@@ -4,16 +4,15 @@ ghost use Rattle.dyadic.specs.Views.{dyadic_of, ext_of};
 ghost use Rattle.interval_model.specs.Interval.{within};
 ghost use Rattle.poly_graph.specs.Problem.{atom_at};
 ghost use Rattle.poly_graph.specs.ProblemViews.{problem_of};
-ghost use Rattle.cover_model.specs.State.{atom_enclosure};
 ghost use Rattle.ival.specs.Views.{interval_of};
 ghost use Rattle.ival.specs.RowViews.{rows_of};
 ghost use Rattle.ival.specs.SpaceViews.{space_of};
 ghost use Rattle.form_truth.specs.Roots.{IsRoot};
-ghost use Rattle.cert_model.specs.Least.{lower_end, not_below, upper_at, upper_end};
+ghost use Rattle.cert_model.specs.Least.{lower_end, not_below, upper_end};
 ghost use Rattle.cert_check.specs.Courses.{at_root};
 ghost use Rattle.cert_check.specs.Stands.{stand_of};
 ghost use Rattle.cert_least.specs.Checked.{aim_at};
-ghost use Rattle.cert_least.specs.Judging.{aim_of, IsEnclosureAt, IsReady, IsSameAim};
+ghost use Rattle.cert_least.specs.Judging.{aim_of, IsEnclosure, IsEnclosureAt, IsReady, IsSameAim};
 
 use cert_check::Stand;
 use dyadic::{Dy, Ext, at_most};
@@ -76,12 +75,11 @@ fn term_of(problem: &Problem, atom: u32) -> u32
     atoms[atom as usize].term
 }
 
-// The enclosure of the atom's term over the space.
+// The enclosure of the atom's term over the space, also where the problem has a limit of it.
 fn enclosure(problem: &Problem, atom: u32, rows: &mut Rows, space: &Space) -> Ival
     requires atom { atom < length problem.now.atoms }
     requires rows { length (rows_of rows.old) ≡ length problem.now.nodes }
-    ensures interval { interval_of result
-        ≡ atom_enclosure (problem_of problem.now) (space_of space.now) atom }
+    ensures interval { IsEnclosure problem.now atom (space_of space.now) (interval_of result) }
     ensures rows { length (rows_of rows.new) ≡ length problem.now.nodes }
 {
     enclose(problem.graph(), term_of(problem, atom), space, rows)
@@ -110,11 +108,11 @@ impl Aim {
         })
     }
 
-    /// The goal's enclosure over the space.
+    /// The goal's enclosure over the space, also in the problem with a limit of the goal.
     pub fn enclosure(&mut self, space: &Space) -> Ival
         requires { IsReady self.old }
-        ensures interval { interval_of result
-            ≡ atom_enclosure (problem_of self.old.problem) (space_of space.now) self.old.goal }
+        ensures interval { IsEnclosure self.old.problem self.old.goal (space_of space.now)
+            (interval_of result) }
         ensures ready { IsReady self.new }
         ensures same { IsSameAim self.old self.new }
     {

@@ -72,7 +72,7 @@ fn fault_after(
     fault: LineFault,
     lines: u64,
 ) -> CertFault
-    requires sound { IsSoundPhase _aim.now.problem _aim.now.bound phase _checker.now }
+    requires sound { IsSoundPhase (aim_of _aim.now) phase _checker.now }
     requires few { lines < 2 ^ 64 - 1 }
     ensures { (x : Parsed) → IsFault fault x →
         IsFaultAfter _aim.now phase _checker.now lines x result }

@@ -11,7 +11,7 @@ ghost use Rattle.cert_least.specs.Phases.{course_of, IsSoundPhase};
 
 use crate::aim::{Aim, upper_end};
 use crate::fault::at_line;
-use crate::phase::Phase;
+use crate::phase::{Phase, Scope};
 use crate::verdict::{GoalVerdict, Least};
 use cert_check::{CertFault, Checker, Loosenings};
 use dyadic::{Dy, Ext};
@@ -40,17 +40,13 @@ fn plain_ending(checker: &Checker<'_>, lines: u64) -> Result<GoalVerdict, CertFa
 }
 
 // In a cover of least values, or behind it.
-fn cover_ending(
-    checker: &Checker<'_>,
-    lower: Option<Dy>,
-    lines: u64,
-) -> Result<GoalVerdict, CertFault>
+fn cover_ending(checker: &Checker<'_>, scope: Scope, lines: u64) -> Result<GoalVerdict, CertFault>
     requires { lines < 2 ^ 64 - 1 }
-    ensures { IsCoverEnding checker.now lower lines result }
+    ensures { IsCoverEnding checker.now scope lines result }
 {
     match checker.cover() {
         None => Err(CertFault::Missing { line: lines + 1 }),
-        Some(cover) => Ok(said(*cover.loosenings, lower, None)),
+        Some(cover) => Ok(said(*cover.loosenings, scope.lower, None)),
     }
 }
 
@@ -85,7 +81,7 @@ pub fn ending(
     lines: u64,
 ) -> Result<GoalVerdict, CertFault>
     requires ready { IsReady aim.old }
-    requires sound { IsSoundPhase aim.old.problem aim.old.bound phase checker.now }
+    requires sound { IsSoundPhase (aim_of aim.old) phase checker.now }
     requires few { lines < 2 ^ 64 - 1 }
     ensures ending { Finishes (aim_of aim.old) (course_of phase checker.now.course lines) result }
     ensures ready { IsReady aim.new }
@@ -94,10 +90,10 @@ pub fn ending(
     match phase {
         Phase::Version => plain_ending(checker, lines),
         Phase::Plain => plain_ending(checker, lines),
-        Phase::Header => Err(CertFault::BadHeader { line: lines + 1 }),
-        Phase::Lower => Err(CertFault::BadHeader { line: lines + 1 }),
-        Phase::Cover(_) => Err(CertFault::BadHeader { line: lines + 1 }),
-        Phase::InCover(lower) => cover_ending(checker, lower, lines),
+        Phase::Header(_) => Err(CertFault::BadHeader { line: lines + 1 }),
+        Phase::Lower(_) => Err(CertFault::BadHeader { line: lines + 1 }),
+        Phase::Cover(..) => Err(CertFault::BadHeader { line: lines + 1 }),
+        Phase::InCover(scope) => cover_ending(checker, scope, lines),
         Phase::InPoint(loosenings, lower) => {
             point_ending(aim, checker, loosenings, lower, lines)
         }

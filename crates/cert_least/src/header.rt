@@ -1,13 +1,16 @@
 // The lines up to the cover.
-ghost use Rattle.std.specs.Prelude.{◌≡◌, ℕ, Option};
-ghost use Rattle.poly_graph.specs.ProblemViews.{Parts};
+ghost use Rattle.std.specs.Prelude.{◌≡◌, None};
 ghost use Rattle.cert_read.specs.Views.{line_of};
 ghost use Rattle.cert_least.specs.declared.phase.Phase.TheVariants as phase;
-ghost use Rattle.cert_least.specs.Said.{header_phase, IsCoverIn, IsLeastIn, IsLowerIn};
-ghost use Rattle.cert_least.specs.Steps.{IsPhaseNext};
+ghost use Rattle.cert_least.specs.Aims.{Aim as AimOf};
+ghost use Rattle.cert_least.specs.Judging.{IsReady};
+ghost use Rattle.cert_least.specs.Said.{header_phase, IsCoverIn, IsLeastIn, IsLimitIn, IsLowerIn};
+ghost use Rattle.cert_least.specs.Steps.{IsAimNext, IsPhaseNext};
 
+use crate::aim::Aim;
 use crate::given::give;
-use crate::phase::Phase;
+use crate::limit::limit_line;
+use crate::phase::{Phase, Scope, Told};
 use cert_check::{CertFault, Checker};
 use cert_read::Line;
 use dyadic::Dy;
@@ -44,66 +47,112 @@ fn is_cover(line: &Line) -> bool
     matches!(line, Line::Cover(_))
 }
 
-// What is due behind a line of the header.
-fn behind_header(line: &Line) -> Phase
-    ensures { result ≡ header_phase (line_of line.now) }
+// The bits of a limit of the goal that the line tells, where none was told before.
+fn limit_in(before: Option<u32>, line: &Line) -> Option<u32>
+    ensures { IsLimitIn before result (line_of line.now) }
+{
+    match before {
+        Some(_) => None,
+        None => match line {
+            Line::Goal(bits) => Some(*bits),
+            _ => None,
+        },
+    }
+}
+
+// What is due behind a line of the header that told so much.
+fn behind_header(told: Told, line: &Line) -> Phase
+    ensures { result ≡ header_phase told (line_of line.now) }
 {
     match line {
-        Line::Bound(_) => Phase::Lower,
-        _ => Phase::Header,
+        Line::Margin(margin) => Phase::Header(Told {
+            margin: *margin,
+            ..told
+        }),
+        Line::Delta(delta) => Phase::Header(Told {
+            delta: *delta,
+            ..told
+        }),
+        Line::Bound(_) => Phase::Lower(told),
+        _ => Phase::Header(told),
     }
 }
 
 /// The first line.
 pub fn first_line(checker: &mut Checker<'_>, line: &Line) -> Result<Phase, CertFault>
-    ensures { (p : Parts) (g : ℕ) (bound : Option ℕ) →
-        IsPhaseNext p g bound phase.Version checker.old (line_of line.now) checker.new result }
+    ensures { (a : AimOf) →
+        IsPhaseNext a phase.Version checker.old (line_of line.now) checker.new result }
 {
     if is_least(line) {
         let version = Line::Version(LINES_VERSION);
-        return give(checker, &version, Phase::Header);
+        let told = Told {
+            version: LINES_VERSION,
+            margin: 0,
+            delta: 0,
+        };
+        return give(checker, &version, Phase::Header(told));
     }
     give(checker, line, Phase::Plain)
 }
 
 /// A later line of a certificate of the check.
 pub fn plain_line(checker: &mut Checker<'_>, line: &Line) -> Result<Phase, CertFault>
-    ensures { (p : Parts) (g : ℕ) (bound : Option ℕ) →
-        IsPhaseNext p g bound phase.Plain checker.old (line_of line.now) checker.new result }
+    ensures { (a : AimOf) →
+        IsPhaseNext a phase.Plain checker.old (line_of line.now) checker.new result }
 {
     give(checker, line, Phase::Plain)
 }
 
 /// A line of the header of a certificate of least values, behind the first.
-pub fn header_line(checker: &mut Checker<'_>, line: &Line) -> Result<Phase, CertFault>
-    ensures { (p : Parts) (g : ℕ) (bound : Option ℕ) →
-        IsPhaseNext p g bound phase.Header checker.old (line_of line.now) checker.new result }
+pub fn header_line(checker: &mut Checker<'_>, told: Told, line: &Line) -> Result<Phase, CertFault>
+    ensures { (a : AimOf) →
+        IsPhaseNext a (phase.Header told) checker.old (line_of line.now) checker.new result }
 {
-    give(checker, line, behind_header(line))
+    give(checker, line, behind_header(told, line))
 }
 
 /// `lower`.
-pub fn lower_line(_checker: &Checker<'_>, line: &Line) -> Result<Phase, CertFault>
-    ensures { (p : Parts) (g : ℕ) (bound : Option ℕ) →
-        IsPhaseNext p g bound phase.Lower _checker.now (line_of line.now) _checker.now result }
+pub fn lower_line(_checker: &Checker<'_>, told: Told, line: &Line) -> Result<Phase, CertFault>
+    ensures { (a : AimOf) →
+        IsPhaseNext a (phase.Lower told) _checker.now (line_of line.now) _checker.now result }
 {
     match lower_in(line) {
-        Some(lower) => Ok(Phase::Cover(lower)),
+        Some(lower) => Ok(Phase::Cover(told, Scope { lower, bits: None })),
         None => Err(CertFault::BadHeader { line: 0 }),
     }
 }
 
-/// `cover`, behind this lower bound.
-pub fn cover_line(
+// `cover`: any other line but one that tells a limit of the goal is a fault.
+fn first_of_cover(
     checker: &mut Checker<'_>,
-    lower: Option<Dy>,
+    told: Told,
+    scope: Scope,
     line: &Line,
 ) -> Result<Phase, CertFault>
-    ensures { (p : Parts) (g : ℕ) (bound : Option ℕ) → IsPhaseNext p g bound
-        (phase.Cover lower) checker.old (line_of line.now) checker.new result }
+    requires { IsLimitIn scope.bits None (line_of line.now) }
+    ensures { (a : AimOf) →
+        IsPhaseNext a (phase.Cover told scope) checker.old (line_of line.now) checker.new result }
 {
     if is_cover(line) {
-        return give(checker, line, Phase::InCover(lower));
+        return give(checker, line, Phase::InCover(scope));
     }
     Err(CertFault::BadHeader { line: 0 })
+}
+
+/// `cover`, or `goal` before it.
+pub fn cover_line(
+    aim: &Aim,
+    checker: &mut Checker<'_>,
+    told: Told,
+    scope: Scope,
+    line: &Line,
+) -> Result<Phase, CertFault>
+    requires { IsReady aim.now }
+    ensures { IsAimNext aim.now (phase.Cover told scope) checker.old (line_of line.now)
+        checker.new result }
+{
+    match limit_in(scope.bits, line) {
+        Some(bits) => limit_line(aim, checker, told, scope.lower, bits),
+        None => first_of_cover(checker, told, scope, line),
+    }
 }

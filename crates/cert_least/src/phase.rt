@@ -4,6 +4,21 @@ ghost use Rattle.cert_least.specs.Phases.{IsFaultIn};
 use cert_check::{CertFault, Loosenings};
 use dyadic::Dy;
 
+/// What a header told so far: its version, and the bits of its margin and of its delta; 0 where they are not told.
+#[derive(Clone, Copy)]
+pub struct Told {
+    pub version: u32,
+    pub margin: u32,
+    pub delta: u32,
+}
+
+/// What a cover is of: the lower bound, and the bits of the limit of the goal, where there is one.
+#[derive(Clone, Copy)]
+pub struct Scope {
+    pub lower: Option<Dy>,
+    pub bits: Option<u32>,
+}
+
 /// The kind of the next line, over what is due to the checker of the check.
 #[derive(Clone, Copy)]
 pub enum Phase {
@@ -12,13 +27,13 @@ pub enum Phase {
     /// A later line of a certificate of the check.
     Plain,
     /// A line of the header of a certificate of least values, behind the first.
-    Header,
+    Header(Told),
     /// `lower`.
-    Lower,
-    /// `cover`, with the lower bound.
-    Cover(Option<Dy>),
+    Lower(Told),
+    /// `cover`, or where there is no limit before it, `goal`.
+    Cover(Told, Scope),
     /// A later line of the cover, or one behind it.
-    InCover(Option<Dy>),
+    InCover(Scope),
     /// A line behind `point`, with the header of the cover.
     InPoint(Loosenings, Option<Dy>),
     /// A fault is answered for good.

@@ -1,7 +1,7 @@
 // The phases of a certificate, line by line.
 ghost use Rattle.std.specs.Prelude.{◌≡◌, ◌<◌, ◌-◌, ◌^◌, ℕ};
 ghost use Rattle.cert_read.specs.Views.{line_of};
-ghost use Rattle.cert_least.specs.Judging.{IsReady, IsSameAim};
+ghost use Rattle.cert_least.specs.Judging.{aim_of, IsReady, IsSameAim};
 ghost use Rattle.cert_least.specs.Phases.{IsPlaced, IsSoundPhase};
 ghost use Rattle.cert_least.specs.Steps.{IsAimNext, IsPhaseAfter};
 
@@ -32,10 +32,10 @@ fn phase_behind(
     match phase {
         Phase::Version => first_line(checker, line),
         Phase::Plain => plain_line(checker, line),
-        Phase::Header => header_line(checker, line),
-        Phase::Lower => lower_line(checker, line),
-        Phase::Cover(lower) => cover_line(checker, lower, line),
-        Phase::InCover(lower) => in_cover_line(aim, checker, lower, line),
+        Phase::Header(told) => header_line(checker, told, line),
+        Phase::Lower(told) => lower_line(checker, told, line),
+        Phase::Cover(told, scope) => cover_line(aim, checker, told, scope, line),
+        Phase::InCover(scope) => in_cover_line(aim, checker, scope, line),
         Phase::InPoint(loosenings, lower) => in_point_line(checker, loosenings, lower, line),
         Phase::Stopped(fault) => Err(fault),
     }
@@ -50,13 +50,13 @@ fn numbered(
     line: &Line,
 ) -> Phase
     requires ready { IsReady aim.old }
-    requires sound { IsPlaced aim.old.problem aim.old.bound phase checker.old }
+    requires sound { IsPlaced (aim_of aim.old) phase checker.old }
     requires few { lines < 2 ^ 64 - 1 }
     ensures course { IsPhaseAfter aim.old phase checker.old lines (line_of line.now)
         checker.new result }
     ensures ready { IsReady aim.new }
     ensures same { IsSameAim aim.old aim.new }
-    ensures sound { IsSoundPhase aim.old.problem aim.old.bound result checker.new }
+    ensures sound { IsSoundPhase (aim_of aim.old) result checker.new }
 {
     if lines >= MOST_LINES {
         return Phase::Stopped(CertFault::Memory);
@@ -76,13 +76,13 @@ pub fn phase_after(
     line: &Line,
 ) -> Phase
     requires ready { IsReady aim.old }
-    requires sound { IsSoundPhase aim.old.problem aim.old.bound phase checker.old }
+    requires sound { IsSoundPhase (aim_of aim.old) phase checker.old }
     requires few { lines < 2 ^ 64 - 1 }
     ensures course { IsPhaseAfter aim.old phase checker.old lines (line_of line.now)
         checker.new result }
     ensures ready { IsReady aim.new }
     ensures same { IsSameAim aim.old aim.new }
-    ensures sound { IsSoundPhase aim.old.problem aim.old.bound result checker.new }
+    ensures sound { IsSoundPhase (aim_of aim.old) result checker.new }
 {
     match fault_in(phase) {
         Some(fault) => Phase::Stopped(fault),

@@ -13,6 +13,6 @@ returns-in-Some c x h =
 
 pub returns-in-None : goal.returns-in-None
 returns-in-None c x h =
-    let a = c.args._aim.now in
-    subst (λ (f : CertFault). HasLed (aim_of a) (course_of c.args.phase c.args._checker.now.course c.args.lines) x (stops_at f)) (sym c.unread.ensures)
-    (unread_there a.problem a.goal a.bound c.args.phase c.args._checker.now c.args.lines c.in-None.ensures c.requires.sound c.args.fault x h)
+    let a = aim_of c.args._aim.now in
+    subst (λ (f : CertFault). HasLed a (course_of c.args.phase c.args._checker.now.course c.args.lines) x (stops_at f)) (sym c.unread.ensures)
+    (unread_there a c.args.phase c.args._checker.now c.args.lines c.in-None.ensures c.requires.sound c.args.fault x h)

@@ -22,4 +22,4 @@ returns-in-Some-clause-ending c d e k =
     let a = aim_of c.args.aim.now in let space = space_of c.in-Some.point.now in
     subst (λ (v : GoalVerdict). Finishes a (Some (reached (least_due (in_point_at (option_map dyadic_of c.args.lower) d)) c.args.lines)) (Ok v)) (sym c.said.ensures)
     (point_ends a c.args.lines c.args.lower d (loosenings_of c.args.loosenings) space c.upper_end-upper.result k (point_is c.args.checker.now.course d e (Some space) c.in-Some.ensures)
-    (c.upper_end-upper.ensures ∙ ap (λ (i : Interval). upper_end i) c.enclosure.ensures.interval))
+    (c.upper_end-upper.ensures ∙ ap (λ (i : Interval). upper_end i) (c.enclosure.ensures.interval None None)))

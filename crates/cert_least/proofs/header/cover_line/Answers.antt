@@ -1,18 +1,18 @@
-use Rattle.std.proofs.Common.{Bool, refl, subst}
-use Rattle.std.specs.Prelude.{option_map}
-use Rattle.dyadic.specs.Views.{dyadic_of}
-use Rattle.cert_read.specs.Views.{line_of}
-use Rattle.cert_check.specs.declared.fault.CertFault.TheVariants.{BadHeader}
-use Rattle.cert_least.specs.Said.{IsCoverIn}
-use Rattle.cert_least.proofs.Lines.{cover_on, cover_missing}
+use Rattle.std.proofs.Common.{Option, ℕ, sym, subst}
+use Rattle.cert_read.specs.CertLine.{CertLine, goal as goal_of}
+use Rattle.cert_least.specs.declared.phase.Phase.TheVariants.{Cover}
+use Rattle.cert_least.specs.Aims.{aim_next}
+use Rattle.cert_least.specs.Judging.{aim_of}
+use Rattle.cert_least.specs.Phases.{goal_due}
+use Rattle.cert_least.specs.Steps.{IsPhaseOutcome}
 use Rattle.cert_least.proofs.header.cover_line.Goals as goal
 
-pub returns-then-is_cover : goal.returns-then-is_cover
-returns-then-is_cover c p g b d h e =
-    let l = line_of c.args.line.now in
-    cover_on p g b l c.args.lower (subst (λ (t : Bool). IsCoverIn t l) c.if-is_cover.true c.is_cover.ensures) d e c.give.new.checker c.give.result (c.give.ensures p b d h)
+pub returns-in-Some : goal.returns-in-Some
+returns-in-Some c d h e =
+    let a = aim_of c.args.aim.now in let w = c.args.scope in let said = c.in-Some.ensures in
+    subst (λ (l : CertLine). IsPhaseOutcome a (aim_next a (goal_due (Cover c.args.told w) d) l) c.limit_line.new.checker c.limit_line.result) (sym said.1)
+    (subst (λ (k : Option ℕ). IsPhaseOutcome a (aim_next a (goal_due (Cover c.args.told (record { lower = w.lower; bits = k })) d) (goal_of c.in-Some.bits)) c.limit_line.new.checker c.limit_line.result) (sym said.0)
+    (c.limit_line.ensures d e))
 
-pub returns : goal.returns
-returns c p g b d h e =
-    let l = line_of c.args.line.now in
-    cover_missing p g b l (option_map dyadic_of c.args.lower) (subst (λ (t : Bool). IsCoverIn t l) c.if-is_cover.false c.is_cover.ensures) d e (BadHeader 0) (record { line = 0; told = refl })
+pub returns-in-None : goal.returns-in-None
+returns-in-None c = c.first_of_cover.ensures (aim_of c.args.aim.now)

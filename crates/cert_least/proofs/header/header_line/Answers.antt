@@ -8,7 +8,7 @@ use Rattle.cert_least.proofs.Lines.{header_on}
 use Rattle.cert_least.proofs.header.header_line.Goals as goal
 
 pub returns : goal.returns
-returns c p g b d h e =
-    let l = line_of c.args.line.now in
-    header_on p g b l d e c.give.new.checker c.give.result
-    (subst (λ (x : Phase). IsGone p b (next (problem_of p) b d l) x c.give.new.checker c.give.result) c.behind_header.ensures (c.give.ensures p b d h))
+returns c a d h e =
+    let l = line_of c.args.line.now in let p = problem_of a.problem in
+    header_on a c.args.told l d e c.give.new.checker c.give.result
+    (subst (λ (x : Phase). IsGone p a.bound (next p a.bound d l) x c.give.new.checker c.give.result) c.behind_header.ensures (c.give.ensures p a.bound d h))

@@ -10,4 +10,4 @@ returns-in-Some-clause-course c n h =
 
 pub numbered-requires-clause-sound : goal.numbered-requires-clause-sound
 numbered-requires-clause-sound c =
-    let a = c.args.aim.now in placed_there a.problem a.bound c.args.phase c.args.checker.now c.in-None.ensures c.requires.sound
+    placed_there (aim_of c.args.aim.now) c.args.phase c.args.checker.now c.in-None.ensures c.requires.sound

@@ -1,6 +1,7 @@
 use Rattle.std.proofs.Common.{Ok, Err, subst}
 use Rattle.cert_least.specs.Checked.{GoalChecked}
 use Rattle.cert_least.specs.Courses.{IsCourseAnswer}
+use Rattle.cert_least.specs.Judging.{aim_of}
 use Rattle.cert_least.proofs.Numbered.{stops_there, goes_there}
 use Rattle.cert_least.proofs.checker.GoalChecker.answer.Goals as goal
 
@@ -12,4 +13,4 @@ returns-in-Some c =
 pub returns-in-None : goal.returns-in-None
 returns-in-None c =
     let i = c.self.inside in
-    subst (λ (v : GoalChecked). IsCourseAnswer v.course (Ok tt)) c.self.view_is (goes_there i.aim.problem i.aim.bound i.phase i.checker i.lines c.in-None.ensures c.self.invariant.phase)
+    subst (λ (v : GoalChecked). IsCourseAnswer v.course (Ok tt)) c.self.view_is (goes_there (aim_of i.aim) i.phase i.checker i.lines c.in-None.ensures c.self.invariant.phase)

@@ -2,6 +2,7 @@ use Rattle.std.proofs.Common.{subst}
 use Rattle.cert_check.specs.declared.fault.CertFault.TheVariants.{TooLong}
 use Rattle.cert_least.specs.Checked.{GoalChecked}
 use Rattle.cert_least.specs.Courses.{IsCutOff}
+use Rattle.cert_least.specs.Judging.{aim_of}
 use Rattle.cert_least.proofs.Numbered.{cut_there, cut_on}
 use Rattle.cert_least.proofs.checker.GoalChecker.too_long.Goals as goal
 
@@ -13,4 +14,4 @@ returns-in-Some c =
 pub returns-in-None : goal.returns-in-None
 returns-in-None c =
     let i = c.self.inside in
-    subst (λ (v : GoalChecked). IsCutOff v.course (TooLong 0)) c.self.view_is (cut_on i.aim.problem i.aim.bound i.phase i.checker i.lines c.in-None.ensures c.self.invariant.phase)
+    subst (λ (v : GoalChecked). IsCutOff v.course (TooLong 0)) c.self.view_is (cut_on (aim_of i.aim) i.phase i.checker i.lines c.in-None.ensures c.self.invariant.phase)

@@ -1,4 +1,4 @@
-use Rattle.cert_least.proofs.point.take_header.Goals as goal
+use Rattle.cert_least.proofs.again.take_header.Goals as goal
 
 pub returns : goal.returns
 returns c p h =

@@ -1,0 +1,18 @@
+use Rattle.std.proofs.Common.{inl, subst}
+use Rattle.poly_graph.specs.ProblemViews.{problem_of}
+use Rattle.cover_model.specs.State.{Loosenings}
+use Rattle.cert_model.specs.Due.{kind_due}
+use Rattle.cert_check.specs.States.{loosenings_of}
+use Rattle.cert_least.specs.Judging.{aim_of}
+use Rattle.cert_least.specs.Phases.{IsDueTo}
+use Rattle.cert_least.proofs.Lines.{point_on}
+use Rattle.cert_least.proofs.point.point_behind.Goals as goal
+
+pub returns-in-Ok : goal.returns-in-Ok
+returns-in-Ok c d k =
+    let a = aim_of c.args.aim.now in let p = problem_of a.problem in let s = loosenings_of c.args.loosenings in
+    point_on a c.args.scope c.args.loosenings d k c.give.new.checker c.give.result
+    (c.give.ensures p a.bound (kind_due s) (subst (λ (x : Loosenings). IsDueTo p a.bound (kind_due x) c.begin_again.new.checker) c.told_of.ensures c.in-Ok.ensures.checker))
+
+pub returns-in-Err : goal.returns-in-Err
+returns-in-Err c d k = inl c.in-Err.ensures.memory
