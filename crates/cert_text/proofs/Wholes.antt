@@ -151,8 +151,8 @@ module _ (b : BookModel) (w : IsBook b) (none : b.kept ≡ []) (rooted : IsOfRoo
 
 -- ---- points
 
-margins-fit : (m : Margins) → AreMargins m → IsTrue (loosenings_fit m.margin_bits m.delta_bits)
-margins-fit m h =
+pub margins_fit : (m : Margins) → AreMargins m → IsTrue (loosenings_fit m.margin_bits m.delta_bits)
+margins_fit m h =
     both_pass _ _ (both_pass _ _ (both_pass _ _ (le-leb 1 m.delta_bits h.some_delta) (le-leb m.delta_bits 30 h.few_delta)) (le-leb (suc m.delta_bits) m.margin_bits h.above_delta)) (le-leb m.margin_bits 60 h.few_margin)
 
 pub whole_point_appended : (space : Space) (a b c d : List ℕ) → HasAppended a (point_word ∷ []) b → HasAppended b (map point_line space) c → HasAppended c (end_word ∷ []) d → HasAppended a (whole_point space) d
@@ -167,7 +167,7 @@ point_written s bound space space' old a text none same h x =
 pub point_means : (p : Problem) (m : Margins) (bound : Option ℕ) (space : Space) (text : List ℕ) → HasAppended [] (point_lines (loosenings_of m) bound space) text → length text ≤ most_bytes → AreMargins m →
     IsShownAt p (loosenings_of m) space → IsAccepted p bound text (loosenings_of m) (at_point space)
 point_means p m bound space text a h k g = subst (λ (x : List ℕ). IsAccepted p bound x (loosenings_of m) (at_point space)) (sym a.written)
-    (point_text_is_accepted p bound (loosenings_of m) (margins-fit m k) space g (can-be (point_lines (loosenings_of m) bound space) text a h))
+    (point_text_is_accepted p bound (loosenings_of m) (margins_fit m k) space g (can-be (point_lines (loosenings_of m) bound space) text a h))
 
 -- ---- what is appended to the body
 

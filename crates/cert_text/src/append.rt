@@ -44,8 +44,8 @@ pub(crate) fn append_break(text: &mut Vec<u8>) -> Result<(), AllocError>
     text.extend_from_slice(b"\n")
 }
 
-/// Appends a line without a number.
-pub(crate) fn append_plain(text: &mut Vec<u8>, line: Plain) -> Result<(), AllocError>
+/// Appends a line without a number, with its break. Out of memory is its one error.
+pub fn append_plain(text: &mut Vec<u8>, line: Plain) -> Result<(), AllocError>
     ensures { Appends text.old text.new (plain_line line ∷ []) result }
 {
     text.extend_from_slice(plain_bytes(line).as_bytes())?;
@@ -66,8 +66,8 @@ pub(crate) fn append_word_and_count(
     append_count(text, n)
 }
 
-/// Appends a line with one plain number.
-pub(crate) fn append_counted(text: &mut Vec<u8>, word: Counted, n: u32) -> Result<(), AllocError>
+/// Appends a line with one plain number, with its break. Out of memory is its one error.
+pub fn append_counted(text: &mut Vec<u8>, word: Counted, n: u32) -> Result<(), AllocError>
     ensures { Appends text.old text.new (counted_line word n ∷ []) result }
 {
     append_word_and_count(text, counted_bytes(word), n)?;

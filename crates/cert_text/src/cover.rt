@@ -13,8 +13,9 @@ use crate::walk::append_cover;
 use cover_book::Book;
 use std::alloc::{AllocError, Global};
 
-/// Appends the lemmas that a book learned, in the order of their numbers, its tree, and the end.
-pub(crate) fn append_body(text: &mut Vec<u8>, alloc: Global, book: &Book) -> Result<(), AllocError>
+/// Appends the lemmas that a book learned, in the order of their numbers, its tree, or the line that the bounds of an axis
+/// cross, and the end. Out of memory is its one error.
+pub fn append_body(text: &mut Vec<u8>, alloc: Global, book: &Book) -> Result<(), AllocError>
     ensures { OnOk result (HasAppendedBody text.old.items book.now text.new.items) }
 {
     append_lemmas_of(text, book)?;

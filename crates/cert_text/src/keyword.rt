@@ -6,7 +6,7 @@ use cover_line::{AtomRule, Word};
 
 /// A line without a number.
 #[derive(Clone, Copy, Debug, PartialEq, Eq)]
-pub(crate) enum Plain {
+pub enum Plain {
     BoundNone,
     LowerNone,
     Point,
@@ -22,7 +22,7 @@ pub(crate) enum Plain {
 
 /// The first word of a line with one plain number.
 #[derive(Clone, Copy, Debug, PartialEq, Eq)]
-pub(crate) enum Counted {
+pub enum Counted {
     Version,
     Margin,
     Delta,

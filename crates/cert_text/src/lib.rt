@@ -8,7 +8,7 @@
 mod append;
 mod cover;
 mod facts;
-mod keyword;
+pub mod keyword;
 pub mod laws;
 mod line;
 mod part;
@@ -18,9 +18,11 @@ mod session;
 mod stuck;
 mod walk;
 
-pub use cover::write_cover;
-pub use line::{append_line, append_rule};
+pub use append::{append_counted, append_plain};
+pub use cover::{append_body, write_cover};
+pub use line::{append_line, append_lower_bound, append_rule};
 pub use part::{append_lemmas_of, append_tree_of};
-pub use point::write_point;
+pub use parts::append_header;
+pub use point::{append_whole_point, write_point};
 pub use session::write_session;
 pub use stuck::{StuckBox, first_stuck};

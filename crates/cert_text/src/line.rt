@@ -26,7 +26,8 @@ fn append_bound(text: &mut Vec<u8>, limit: Option<u32>) -> Result<(), AllocError
     }
 }
 
-fn append_lower_bound(text: &mut Vec<u8>, bound: Option<Dy>) -> Result<(), AllocError>
+/// Appends the line of a lower bound of the goal, with its break; none where it has none. Out of memory is its one error.
+pub fn append_lower_bound(text: &mut Vec<u8>, bound: Option<Dy>) -> Result<(), AllocError>
     ensures { Appends text.old text.new (lower (option_map dyadic_of bound) ∷ []) result }
 {
     match bound {

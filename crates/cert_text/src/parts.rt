@@ -28,12 +28,8 @@ pub(crate) const VERSION: u32 = 2;
 /// The version of the format for several checks.
 pub(crate) const SESSION_VERSION: u32 = 3;
 
-/// Appends the version, the margin, the delta and the bound.
-pub(crate) fn append_header(
-    text: &mut Vec<u8>,
-    version: u32,
-    options: &Options,
-) -> Result<(), AllocError>
+/// Appends the version, and of the options the margin, the delta and the bound. Out of memory is its one error.
+pub fn append_header(text: &mut Vec<u8>, version: u32, options: &Options) -> Result<(), AllocError>
     ensures { Appends text.old text.new (header_of version options.now) result }
 {
     append_counted(text, Counted::Version, version)?;

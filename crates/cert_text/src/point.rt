@@ -13,8 +13,8 @@ use ival::Space;
 use poly_graph::Problem;
 use std::alloc::{AllocError, Global};
 
-/// Appends a point from its first line to its end.
-pub(crate) fn append_whole_point(text: &mut Vec<u8>, space: &Space) -> Result<(), AllocError>
+/// Appends a point from its first line to its end. Out of memory is its one error.
+pub fn append_whole_point(text: &mut Vec<u8>, space: &Space) -> Result<(), AllocError>
     ensures { Appends text.old text.new (whole_point (space_of space.now)) result }
 {
     append_plain(text, Plain::Point)?;

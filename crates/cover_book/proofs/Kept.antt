@@ -162,7 +162,7 @@ module _ (b : BookModel) (w : IsBook b) (k : KeptModel) (r : IsRun (problem_in b
     budget = w.budget;
     count = w.count;
     point = w.point;
-    nodes = elim w.nodes [ inl h ↦ inl (record { axis = h.axis; first = h.first; nodes = h.nodes; branches = h.branches }) | inr h ↦ inr (covered-still h) ];
+    nodes = elim w.nodes [ inl h ↦ inl (record { axis = h.axis; first = h.first; nodes = h.nodes; branches = h.branches; no_point = h.no_point }) | inr h ↦ inr (covered-still h) ];
   }
 
 closed-end : (k : KeptModel) (o : Option Line) → k.end ≡ o → IsClosed k → (l : Line) × (k.end ≡ Some l)
@@ -187,7 +187,7 @@ find-keeps b w n x h b' s = subst IsBook (sym s.book) (record {
   count = w.count;
   point = (h, s.grid);
   nodes = elim w.nodes [
-    | inl c ↦ inl (record { axis = c.axis; first = c.first; nodes = c.nodes; branches = c.branches })
+    | inl c ↦ absurd (never_live b c n s.live.0 s.live.1)
     | inr c ↦ inr (record {
       not_crossed = c.not_crossed;
       firsts = c.firsts;

@@ -95,7 +95,7 @@ module _ (p : Parts) (o : Options) (w : IsWhole p) (kept : List State) where
   -- live in the root state, or crossed
   opens : (x : Option ℕ) → first_crossed (problem_of p) ≡ x → IsCrossed (alone root (first_node x root)) ⊎ IsCovered (alone root (first_node x root))
   opens None e = inr (covered root (root_fits (problem_of p) w.problem e) (covers_itself root) e)
-  opens (Some i) e = inl (record { axis = i; first = e; nodes = refl; branches = refl })
+  opens (Some i) e = inl (record { axis = i; first = e; nodes = refl; branches = refl; no_point = refl })
 
   pub opens_as_book : IsWithinLimits p o → MayKeep → length kept ≤ most_lemmas → IsBook (opening_with p o kept)
   opens_as_book m k f = let x = first_crossed (problem_of p) in alone-is-book m k f root (first_node x root) (opens x refl)

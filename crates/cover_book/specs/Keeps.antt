@@ -52,12 +52,13 @@ pub record IsCovered (b : BookModel) : Type 0 where
   pub once : (n : ℕ) → n < length b.nodes → occurrences n numbers ≡ 1
   pub branches : tree_branches tree ≡ b.branches
 
--- the bounds of an axis cross, of the first such one, and nothing was ever to be done
+-- the bounds of an axis cross, of the first such one, and nothing was ever to be done; no point is kept
 pub record IsCrossed (b : BookModel) : Type 0 where
   pub axis : ℕ
   pub first : first_crossed (problem_in b) ≡ Some axis
   pub nodes : b.nodes ≡ crossed_node axis ∷ []
   pub branches : b.branches ≡ 0
+  pub no_point : b.point ≡ None
 
 -- a lemma that a book may open with: a state of the problem of which no point meets the form at the margin
 pub record IsKeptLemma (p : Problem) (s : Loosenings) (L : State) : Type 0 where

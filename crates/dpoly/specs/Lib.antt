@@ -1,4 +1,5 @@
 pub mod Join
+pub mod Minimize
 pub mod Plan
 pub mod Resume
 pub mod Search

@@ -33,6 +33,7 @@ fn numbered<'a>(asked: &JoinWords<'a>, answer: &str) -> &'a str {
 fn messages_of<'a>(alloc: Global, words: &'a [String], answer: &str) -> Messages<'a> {
     match read_words(alloc, words) {
         Ok(Request::Solve(asked)) => messages(asked.script, asked.cert),
+        Ok(Request::Minimize(asked)) => messages(asked.script, asked.cert),
         Ok(Request::Check(asked)) => messages(asked.script, asked.cert),
         Ok(Request::Demo(asked)) => messages("the demo's script", asked.cert),
         Ok(Request::Upgrade(asked)) => Messages {

@@ -9,6 +9,7 @@ mod join;
 mod leaf;
 mod lists;
 mod located;
+mod minimize;
 mod plan;
 mod progress;
 mod resume;

@@ -1,20 +1,23 @@
 // The run of the whole program.
 ghost use Rattle.std.specs.Prelude.{◌≡◌, None};
-ghost use Rattle.command_line.specs.Words.{AreOptions, IsDemo, IsInRange, IsJoin, IsPlan, IsResume};
-ghost use Rattle.command_line.specs.Seen.{seen, seen_demo, seen_join, seen_plan, seen_resume};
-ghost use Rattle.check_run.specs.Run.{asked_run, CertIsRead, command_in, demo_run, HasCause, HasCourse, join_run, plan_run, resume_run, run, SameIn, ScriptIsRead, solve_run, StatusIsDue, StatusIsShown, upgrade_run};
+ghost use Rattle.command_line.specs.Words.{AreOptions, IsDemo, IsInRange, IsJoin, IsMinimize, IsPlan, IsResume};
+ghost use Rattle.command_line.specs.Seen.{seen, seen_demo, seen_join, seen_minimize, seen_plan, seen_resume};
+ghost use Rattle.check_run.specs.Run.{asked_run, CertIsRead, command_in, demo_run, HasCause, HasCourse, join_run, minimize_run, plan_run, resume_run, run, SameIn, ScriptIsRead, solve_run, StatusIsDue, StatusIsShown, upgrade_run};
 ghost use Rattle.check_run.specs.Headline.{AnswersAreTrue, DeltaSatIsTrue, PlanIsTrue, RefusalIsTrue, UnsatIsTrue, UpgradeIsTrue};
 
 use crate::join::join_inputs;
 use crate::leaf::Engine;
+use crate::minimize::minimize_script;
 use crate::plan::plan_session;
 use crate::resume::resume_inputs;
 use crate::solve::{solve_demo, solve_session};
 use crate::upgrade::upgrade_session;
-use check_run::{Status, end_halted, fetch_both, fetch_session, fetch_several, run_check, say};
+use check_run::{
+    Status, end_halted, fetch_both, fetch_session, fetch_several, fetch_with_goal, run_check, say,
+};
 use command_line::{
-    DemoWords, JoinWords, PlanWords, Refused, Request, ResumeWords, SolveWords, UpgradeWords,
-    read_words,
+    DemoWords, JoinWords, MinimizeWords, PlanWords, Refused, Request, ResumeWords, SolveWords,
+    UpgradeWords, read_words,
 };
 use desk::Desk;
 use gen_script::make;
@@ -47,6 +50,29 @@ fn run_solve<R: Threads + Wait + Sync, D: Desk, G: Gate + Sync>(
     } = asked;
     match fetch_session(&Reader, alloc, desk, script, options.bound) {
         Ok(session) => solve_session(rt, alloc, desk, cert, &session, options, gate),
+        Err(stop) => end_halted(desk, stop),
+    }
+}
+
+// Finds the least value of a script's goal.
+fn run_minimize<R: Threads + Wait + Sync, D: Desk, G: Gate + Sync>(
+    rt: &R,
+    alloc: Global,
+    desk: &mut D,
+    asked: MinimizeWords<'_>,
+    gate: &G,
+) -> Status
+    requires { IsMinimize (seen_minimize asked) }
+    ensures cause { HasCause
+        (minimize_run asked.entry (D.sight desk.old) (D.sight desk.new) result) }
+    ensures script { ScriptIsRead
+        (minimize_run asked.entry (D.sight desk.old) (D.sight desk.new) result) }
+    ensures course { HasCourse
+        (minimize_run asked.entry (D.sight desk.old) (D.sight desk.new) result) }
+{
+    let engine = Engine { rt, gate };
+    match fetch_with_goal(&Reader, alloc, desk, asked.script, asked.options.bound) {
+        Ok(read) => minimize_script(&engine, alloc, desk, &read, &asked),
         Err(stop) => end_halted(desk, stop),
     }
 }
@@ -180,6 +206,7 @@ fn run_command<R: Threads + Wait + Sync, D: Desk, G: Gate + Sync>(
 {
     match asked {
         Request::Solve(asked) => run_solve(rt, alloc, desk, asked, gate),
+        Request::Minimize(asked) => run_minimize(rt, alloc, desk, asked, gate),
         Request::Check(asked) => run_check(&Reader, alloc, desk, asked),
         Request::Demo(asked) => run_demo(rt, alloc, desk, asked, gate),
         Request::Upgrade(asked) => run_upgrade(alloc, desk, asked),
@@ -192,6 +219,7 @@ fn run_command<R: Threads + Wait + Sync, D: Desk, G: Gate + Sync>(
 /// Runs the whole program: the words of its call, of which the first is its name, over the ports of a desk.
 ///
 /// `solve SCRIPT CERT` reads a script and writes a certificate of its checks, and then their answers, one after the other.
+/// `minimize SCRIPT CERT` does so for the least value of the script's goal.
 /// `check SCRIPT CERT` reads a script and a certificate, and answers whether the certificate is accepted, and what it shows
 /// of each check. `upgrade SCRIPT CERT OUT` does so too, and writes a certificate that is accepted in the newest version of
 /// its format. `demo SEED SIZE CERT` makes a script, solves it, and answers how large it was. `plan SCRIPT` reads a script,

@@ -1,20 +1,19 @@
 -- What a search for a least value finds.
-use Rattle.std.specs.Prelude.{◌≡◌, ◌≢◌, ◌≤◌, ℕ, [], Option, Some, None, true, false, IsTrue, length, option_map}
-use Rattle.dyadic.specs.Rounding.{Dyadic, Ext, exact, end_of, at, end_at_most, two_to_minus}
-use Rattle.dyadic.specs.Fraction.{sum_of}
+use Rattle.std.specs.Prelude.{◌≡◌, ◌≢◌, ◌≤◌, ℕ, [], Option, Some, None, true, false, option_map}
+use Rattle.dyadic.specs.Rounding.{Dyadic}
 use Rattle.dyadic.specs.Views.{dyadic_of, ext_of}
 use Rattle.dyadic.specs.declared.dy.Dy.{Dy}
 use Rattle.poly_graph.specs.ProblemViews.{Parts, problem_of}
+use Rattle.interval_model.specs.Space.{Space}
 use Rattle.cover_model.specs.Fits.{IsShownAt}
 use Rattle.cover_data.specs.declared.margins.Options.{Options}
 use Rattle.cover_data.specs.Margins.{margins_of, loosenings_of}
 use Rattle.cert_model.specs.Due.{is_crossed_box}
-use Rattle.cert_model.specs.Least.{is_over, upper_at}
+use Rattle.cert_model.specs.Least.{IsSettled, upper_at}
 use Rattle.cert_model.specs.Limited.{limited}
 use Rattle.goal_limit.specs.Limits.{takes_limit}
 use Rattle.cover_book.specs.Keeps.{IsBook}
 use Rattle.cover_book.specs.Left.{LeavesDue}
-use Rattle.cover_book.specs.Limits.{IsWithinLimits}
 use Rattle.cover_book.specs.Model.{BookModel, IsOfRoot, problem_in}
 use Rattle.cover_book.specs.Verdict.{verdict_of}
 use Rattle.cover_book.specs.declared.verdict.BookVerdict.TheVariants as verdict
@@ -27,7 +26,7 @@ use Rattle.least_search.specs.declared.found.Found.{Found}
 use Rattle.least_search.specs.declared.found.Least.{Least}
 use Rattle.least_search.specs.declared.found.Least.TheVariants as least
 use Rattle.least_search.specs.declared.search.Bounds.{Bounds}
-use Rattle.least_search.specs.declared.search.Task.{Task}
+use Rattle.least_search.specs.declared.aim.Aim.{Aim}
 
 -- ---- books
 
@@ -63,17 +62,24 @@ abbrev pub IsLower : Parts → ℕ → Options → Lower → Type 0
 IsLower q g o (shown.Root low) = IsRootBound (problem_of q) g (option_map dyadic_of low)
 IsLower q g o (shown.Limit b k d) = IsClosed q g o b k (dyadic_of d)
 
--- the lower bound and 2^-G are together not below the upper one
-abbrev pub IsSettled : ℕ → Option Dyadic → Ext → Type 0
-IsSettled gap None upper = ⊥
-IsSettled gap (Some d) upper = IsTrue (end_at_most (end_of upper) (at (sum_of (exact d) (exact (two_to_minus gap)))))
-
 -- the bounds so far: what shows the lower one, a point that is shown, and the upper end of the goal there
 pub record IsBounds (q : Parts) (g : ℕ) (o : Options) (b : Bounds) : Type 0 where
   pub lower : IsLower q g o b.lower
   pub shown : IsShownAt (problem_of q) (loosenings_of (margins_of o)) b.point
   pub upper : ext_of b.upper ≡ upper_at (problem_of q) g b.point
   pub budget : b.budget ≤ 1048576
+
+-- bounds of the goal that is aimed at
+abbrev pub AreBoundsOf : Aim → Bounds → Type 0
+AreBoundsOf a b = IsBounds a.problem.now a.goal a.options.now b
+
+-- a point at which the form of its problem is sure
+abbrev pub IsShownFor : Aim → Space → Type 0
+IsShownFor a x = IsShownAt (problem_of a.problem.now) (loosenings_of (margins_of a.options.now)) x
+
+-- where these bounds are said to be near, they are
+abbrev pub IsEndingAt : ℕ → Bounds → Option Ending → Type 0
+IsEndingAt gap b e = e ≡ Some ending.Minimum → IsSettled gap (option_map dyadic_of (bound_of b.lower)) (ext_of b.upper)
 
 -- ---- what is found
 
@@ -84,6 +90,7 @@ IsEnding q g gap f = f.ending ≡ ending.Minimum → IsSettled gap (option_map d
 pub record IsFound (q : Parts) (g gap : ℕ) (o : Options) (f : Found) : Type 0 where
   pub lower : IsLower q g o f.lower
   pub shown : IsShownAt (problem_of q) (loosenings_of (margins_of o)) f.point
+  pub upper : ext_of f.upper ≡ upper_at (problem_of q) g f.point
   pub crossed : is_crossed_box (problem_of q) ≡ false
   pub ending : IsEnding q g gap f
 

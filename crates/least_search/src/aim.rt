@@ -1,14 +1,18 @@
 // A goal, and its enclosures.
-ghost use Rattle.std.specs.Prelude.{◌≡◌, ◌<◌, IfOk, length, option_map};
+ghost use Rattle.std.specs.Prelude.{◌≡◌, ◌<◌, ◌≤◌, true, IfOk, length, option_map};
 ghost use Rattle.dyadic.specs.Views.{dyadic_of, ext_of};
+ghost use Rattle.interval_model.specs.Interval.{within};
+ghost use Rattle.poly_graph.specs.Problem.{atom_at};
 ghost use Rattle.poly_graph.specs.ProblemViews.{problem_of};
 ghost use Rattle.cover_model.specs.State.{atom_enclosure};
-ghost use Rattle.cert_model.specs.Least.{upper_at, upper_end};
+ghost use Rattle.cert_model.specs.Least.{not_below, upper_at, upper_end};
+ghost use Rattle.cover_book.specs.Limits.{IsWithinLimits};
 ghost use Rattle.ival.specs.Views.{interval_of};
 ghost use Rattle.ival.specs.RowViews.{rows_of};
 ghost use Rattle.ival.specs.SpaceViews.{space_of};
 ghost use Rattle.least_search.specs.Aims.{IsReady, IsRootBound, IsSameAim};
 
+use cover_data::Options;
 use dyadic::{Dy, Ext};
 use form_truth::{Root, root_space};
 use hc4::fill;
@@ -16,18 +20,22 @@ use ival::{Ival, Rows, Space};
 use poly_graph::Problem;
 use std::alloc::{AllocError, Global};
 
-/// The problem, the atom whose term is the goal, and rows for the problem's nodes.
+/// The problem, the atom whose term is the goal, how near its bounds shall come, within `2^-gap_bits`, the options of each
+/// search but its budget, and rows for the problem's nodes.
 #[derive(Drop)]
 pub(crate) struct Aim<'a> {
     pub problem: &'a Problem,
     pub goal: u32,
+    pub gap_bits: u32,
+    pub options: &'a Options,
     rows: Rows,
 }
 
 // The node of the atom's term.
 fn term_of(problem: &Problem, atom: u32) -> u32
     requires { atom < length problem.now.atoms }
-    ensures { result < length problem.now.nodes }
+    ensures term { result ≡ (atom_at (problem_of problem.now) atom).0 }
+    ensures place { result < length problem.now.nodes }
 {
     let atoms = problem.atoms();
     atoms[atom as usize].term
@@ -56,7 +64,9 @@ fn upper_end(values: Ival) -> Ext
 }
 
 // A bound below which none of the values lies; none for minus infinity.
-fn lower_bound(values: Ival) -> Option<Dy> {
+fn lower_bound(values: Ival) -> Option<Dy>
+    ensures { within (interval_of values) (not_below (option_map dyadic_of result)) ≡ true }
+{
     match values {
         Ival::Empty => None,
         Ival::Between(ends) => match ends.low {
@@ -67,16 +77,28 @@ fn lower_bound(values: Ival) -> Option<Dy> {
 }
 
 impl<'a> Aim<'a> {
-    pub(crate) fn new(alloc: Global, problem: &'a Problem, goal: u32) -> Result<Self, AllocError>
-        requires { goal < length problem.now.atoms }
+    pub(crate) fn new(
+        alloc: Global,
+        problem: &'a Problem,
+        goal: u32,
+        gap_bits: u32,
+        options: &'a Options,
+    ) -> Result<Self, AllocError>
+        requires goal { goal < length problem.now.atoms }
+        requires gap { gap_bits ≤ 30 }
+        requires limits { IsWithinLimits problem.now options.now }
         ensures ready { IfOk result IsReady }
         ensures problem { IfOk result (λ a. a.problem ≡ problem.entry) }
         ensures goal { IfOk result (λ a. a.goal ≡ goal) }
+        ensures gap { IfOk result (λ a. a.gap_bits ≡ gap_bits) }
+        ensures options { IfOk result (λ a. a.options ≡ options.entry) }
     {
         let rows = Rows::new(alloc, problem.graph().len())?;
         Ok(Aim {
             problem,
             goal,
+            gap_bits,
+            options,
             rows,
         })
     }

@@ -1,7 +1,7 @@
 // What a search for a least value finds.
 use cover_book::Book;
 use cover_data::Point;
-use dyadic::Dy;
+use dyadic::{Dy, Ext};
 
 /// What shows a lower bound of the goal.
 #[derive(Drop)]
@@ -25,12 +25,13 @@ pub enum Ending {
     Limit,
 }
 
-/// Bounds of the goal: what shows the lower one, and the point of the least value that was found, at which the goal's
-/// enclosure ends at the upper one.
+/// Bounds of the goal: what shows the lower one, and the point of the least value that was found.
 #[derive(Drop)]
 pub struct Found {
     pub lower: Lower,
     pub point: Point,
+    /// The upper end of the goal's enclosure over the point.
+    pub upper: Ext,
     pub ending: Ending,
 }
 

@@ -1,6 +1,5 @@
 // The limit of the next search.
 ghost use Rattle.std.specs.Prelude.{◌<◌, ◌≤◌, IfOk, length};
-ghost use Rattle.dyadic.specs.Views.{dyadic_of};
 ghost use Rattle.least_search.specs.Limits.{IsNextLimit};
 
 use dyadic::{Dy, Ext, two_to_minus};
@@ -25,9 +24,6 @@ pub(crate) struct Between {
     pub gap_bits: u32,
 }
 
-// As many atoms as a problem that is searched may have.
-const MOST_ATOMS: usize = 65_536;
-
 // So many limits are tried, since one may have a constant that the problem has already.
 const TRIES: u32 = 8;
 
@@ -40,7 +36,9 @@ fn whole_above(x: f64) -> f64 {
 
 // Where the next limit shall lie: half way between the bounds, and where they are near to each other below the upper one
 // by the gap.
-fn target(between: Between) -> Option<f64> {
+fn target(between: Between) -> Option<f64>
+    requires { between.gap_bits ≤ 30 }
+{
     let upper = match between.upper {
         Ext::Fin(upper) => approximate(upper),
         Ext::NegInf | Ext::PosInf => return None,
@@ -61,7 +59,10 @@ fn target(between: Between) -> Option<f64> {
 
 // The limit of these bits that is next above the target, or one of those behind it; none where that is too great, or not
 // above the lower bound.
-fn candidate(between: Between, bits: u32, further: u32) -> Option<Dy> {
+fn candidate(between: Between, bits: u32, further: u32) -> Option<Dy>
+    requires gap { between.gap_bits ≤ 30 }
+    requires bits { bits ≤ 36 }
+{
     let unit = approximate(two_to_minus(bits));
     let whole = target(between)? / unit;
     if whole < -1e15 || whole > 1e15 {
@@ -89,12 +90,12 @@ fn with_limit(
         return Ok(None);
     };
     match limited(alloc, problem, goal, bits, limit)? {
-        Some(problem) if problem.atoms().len() <= MOST_ATOMS => Ok(Some(Limited {
+        Some(problem) => Ok(Some(Limited {
             problem,
             bits,
             limit,
         })),
-        _ => Ok(None),
+        None => Ok(None),
     }
 }
 

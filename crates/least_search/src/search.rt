@@ -1,9 +1,15 @@
 // The search for a least value.
-ghost use Rattle.std.specs.Prelude.{◌≡◌, ◌<◌, ◌≤◌, IfOk, None, length};
+ghost use Rattle.std.specs.Prelude.{◌≡◌, ◌≢◌, ◌<◌, ◌≤◌, true, false, IfOk, None, Some, length, option_map};
+ghost use Rattle.dyadic.specs.Rounding.{ext_at_most};
 ghost use Rattle.dyadic.specs.Views.{dyadic_of, ext_of};
+ghost use Rattle.poly_graph.specs.ProblemViews.{problem_of};
+ghost use Rattle.cert_model.specs.Due.{is_crossed_box};
+ghost use Rattle.cert_model.specs.Least.{IsSettled};
 ghost use Rattle.cover_book.specs.Limits.{IsWithinLimits};
-ghost use Rattle.least_search.specs.Found.{IsBounds, IsLeast, IsSettled, IsSearched, IsTask, bound_of};
-ghost use Rattle.least_search.specs.Limits.{IsNextLimit};
+ghost use Rattle.least_search.specs.Aims.{IsReady, IsSameAim};
+ghost use Rattle.least_search.specs.Found.{AreBoundsOf, IsEndingAt, IsFound, IsLeast, IsSearched, IsShownFor, bound_of};
+ghost use Rattle.least_search.specs.Limits.{IsLimited};
+ghost use Rattle.least_search.specs.declared.found.Ending.TheVariants as ending;
 
 use crate::aim::Aim;
 use crate::found::{Ending, Found, Least, Lower};
@@ -14,14 +20,6 @@ use cover_data::{Options, Point};
 use dyadic::{Dy, Ext, add_down, at_most, two_to_minus};
 use poly_graph::Problem;
 use std::alloc::{AllocError, Global};
-
-// Who searches, the options of each search but its budget, and how near the bounds shall come.
-#[derive(Drop)]
-struct Task<'a, S> {
-    searcher: &'a S,
-    options: &'a Options,
-    gap_bits: u32,
-}
 
 // The bounds so far, and what is left of the budget.
 #[derive(Drop)]
@@ -60,34 +58,41 @@ fn is_settled(lower: Option<Dy>, upper: Ext, gap_bits: u32) -> bool
 
 // The problem with a limit is searched with what is left of the budget.
 fn search_limited<S: Searcher>(
-    task: &Task<'_, S>,
+    searcher: &S,
     alloc: Global,
+    aim: &Aim<'_>,
     limited: &Limited,
     budget: u32,
 ) -> Result<Book, AllocError>
-    requires task { IsTask task.now }
+    requires ready { IsReady aim.now }
+    requires limited { IsLimited aim.now.problem.now aim.now.goal limited.now }
     requires budget { budget ≤ 1048576 }
-    requires within { length limited.now.problem.axes ≤ 1024 }
-    requires atoms { length limited.now.problem.atoms ≤ 65536 }
-    ensures { IfOk result (IsSearched task.now.options.now limited.now.problem) }
+    ensures { IfOk result (IsSearched aim.now.options.now limited.now.problem) }
 {
     let options = Options {
         budget,
-        ..*task.options
+        ..*aim.options
     };
-    task.searcher.search(alloc, &limited.problem, &options)
+    searcher.search(alloc, &limited.problem, &options)
 }
 
 // The point of a book, where it is better.
+#[tactic(auto, using(crate::proofs::Near::at_most_itself, crate::proofs::Near::at_most_otherwise))]
 fn take_point(
     alloc: Global,
     aim: &mut Aim<'_>,
     bounds: &mut Bounds,
-    point: Option<&Point>,
-) -> Result<(), AllocError> {
-    let Some(point) = point else {
-        return Ok(());
-    };
+    point: &Point,
+) -> Result<(), AllocError>
+    requires ready { IsReady aim.old }
+    requires bounds { AreBoundsOf aim.old bounds.old }
+    requires shown { IsShownFor aim.old point.now }
+    ensures ready { IsReady aim.new }
+    ensures same { IsSameAim aim.old aim.new }
+    ensures bounds { AreBoundsOf aim.old bounds.new }
+    ensures better { ext_at_most (ext_of bounds.new.upper) (ext_of bounds.old.upper) ≡ true }
+    ensures budget { bounds.new.budget ≡ bounds.old.budget }
+{
     let upper = aim.upper(point.space());
     if !at_most(bounds.upper, upper) {
         bounds.point = point.try_clone(alloc)?;
@@ -103,14 +108,26 @@ fn take_book(
     bounds: &mut Bounds,
     limited: Limited,
     book: Book,
-) -> Result<Option<Ending>, AllocError> {
+) -> Result<Option<Ending>, AllocError>
+    requires ready { IsReady aim.old }
+    requires bounds { AreBoundsOf aim.old bounds.old }
+    requires limited { IsLimited aim.old.problem.now aim.old.goal limited }
+    requires book { IsSearched aim.old.options.now limited.problem book }
+    ensures ready { IsReady aim.new }
+    ensures same { IsSameAim aim.old aim.new }
+    ensures bounds { AreBoundsOf aim.old bounds.new }
+    ensures budget { bounds.new.budget ≡ bounds.old.budget }
+    ensures ending { IfOk result (λ e. e ≢ Some ending.Minimum) }
+{
     match book.verdict() {
         BookVerdict::Unsat => {
             bounds.lower = Lower::Limit(book, limited.bits, limited.limit);
             Ok(None)
         }
         BookVerdict::DeltaSat => {
-            take_point(alloc, aim, bounds, book.point())?;
+            if let Some(point) = book.point() {
+                take_point(alloc, aim, bounds, point)?;
+            }
             Ok(None)
         }
         BookVerdict::UnknownBudget => Ok(None),
@@ -122,17 +139,25 @@ fn take_book(
 // One more search, unless the bounds are near, the budget is spent, or there is no limit between them. Each costs one of
 // the budget, and what it splits.
 fn step<S: Searcher>(
-    task: &Task<'_, S>,
+    searcher: &S,
     alloc: Global,
     aim: &mut Aim<'_>,
     bounds: &mut Bounds,
-) -> Result<Option<Ending>, AllocError> {
+) -> Result<Option<Ending>, AllocError>
+    requires ready { IsReady aim.old }
+    requires bounds { AreBoundsOf aim.old bounds.old }
+    ensures ready { IsReady aim.new }
+    ensures same { IsSameAim aim.old aim.new }
+    ensures bounds { AreBoundsOf aim.old bounds.new }
+    ensures ending { IfOk result (IsEndingAt aim.old.gap_bits bounds.new) }
+    ensures less { IfOk result (λ e. e ≡ None → bounds.new.budget < bounds.old.budget) }
+{
     let between = Between {
         lower: bounds.lower.bound(),
         upper: bounds.upper,
-        gap_bits: task.gap_bits,
+        gap_bits: aim.gap_bits,
     };
-    if is_settled(between.lower, between.upper, task.gap_bits) {
+    if is_settled(between.lower, between.upper, between.gap_bits) {
         return Ok(Some(Ending::Minimum));
     }
     if bounds.budget == 0 {
@@ -142,20 +167,25 @@ fn step<S: Searcher>(
         return Ok(Some(Ending::Limit));
     };
     let budget = bounds.budget - 1;
-    let book = search_limited(task, alloc, &limited, budget)?;
+    let book = search_limited(searcher, alloc, aim, &limited, budget)?;
     bounds.budget = budget.saturating_sub(book.branches());
     take_book(alloc, aim, bounds, limited, book)
 }
 
 // Search after search.
 fn improve<S: Searcher>(
-    task: &Task<'_, S>,
+    searcher: &S,
     alloc: Global,
     aim: &mut Aim<'_>,
     bounds: &mut Bounds,
-) -> Result<Ending, AllocError> {
+) -> Result<Ending, AllocError>
+    requires ready { IsReady aim.old }
+    requires bounds { AreBoundsOf aim.old bounds.old }
+    ensures bounds { AreBoundsOf aim.old bounds.new }
+    ensures ending { IfOk result (λ e. IsEndingAt aim.old.gap_bits bounds.new (Some e)) }
+{
     loop {
-        if let Some(ending) = step(task, alloc, aim, bounds)? {
+        if let Some(ending) = step(searcher, alloc, aim, bounds)? {
             return Ok(ending);
         }
     }
@@ -167,7 +197,14 @@ fn bounds_of(
     aim: &mut Aim<'_>,
     point: &Point,
     budget: u32,
-) -> Result<Bounds, AllocError> {
+) -> Result<Bounds, AllocError>
+    requires ready { IsReady aim.old }
+    requires shown { IsShownFor aim.old point.now }
+    requires budget { budget ≤ 1048576 }
+    ensures ready { IsReady aim.new }
+    ensures same { IsSameAim aim.old aim.new }
+    ensures bounds { IfOk result (AreBoundsOf aim.old) }
+{
     let lower = Lower::Root(aim.root_bound(alloc)?);
     let upper = aim.upper(point.space());
     Ok(Bounds {
@@ -178,20 +215,27 @@ fn bounds_of(
     })
 }
 
-// Better and better bounds from the book of the first search on, which keeps a point.
+// Better and better bounds, from a point of the first search and the rest of the budget on.
 fn find<S: Searcher>(
-    task: &Task<'_, S>,
+    searcher: &S,
     alloc: Global,
     aim: &mut Aim<'_>,
-    book: &Book,
     point: &Point,
-) -> Result<Found, AllocError> {
-    let budget = task.options.budget.saturating_sub(book.branches());
+    budget: u32,
+) -> Result<Found, AllocError>
+    requires ready { IsReady aim.old }
+    requires shown { IsShownFor aim.old point.now }
+    requires budget { budget ≤ 1048576 }
+    requires crossed { is_crossed_box (problem_of aim.old.problem.now) ≡ false }
+    ensures { let a = aim.old in
+        IfOk result (IsFound a.problem.now a.goal a.gap_bits a.options.now) }
+{
     let mut bounds = bounds_of(alloc, aim, point, budget)?;
-    let ending = improve(task, alloc, aim, &mut bounds)?;
+    let ending = improve(searcher, alloc, aim, &mut bounds)?;
     Ok(Found {
         lower: bounds.lower,
         point: bounds.point,
+        upper: bounds.upper,
         ending,
     })
 }
@@ -216,11 +260,7 @@ pub fn minimize<S: Searcher>(
     let Some(point) = book.point() else {
         return Ok(Least::NoPoint(book));
     };
-    let task = Task {
-        searcher,
-        options,
-        gap_bits,
-    };
-    let mut aim = Aim::new(alloc, problem, goal)?;
-    Ok(Least::Found(find(&task, alloc, &mut aim, &book, point)?))
+    let budget = options.budget.saturating_sub(book.branches());
+    let mut aim = Aim::new(alloc, problem, goal, gap_bits, options)?;
+    Ok(Least::Found(find(searcher, alloc, &mut aim, point, budget)?))
 }

@@ -1,0 +1,17 @@
+; Munoz, Narkawicz: Formalization of Bernstein polynomials and applications to global optimization, 2013
+; least value: -1.43933333
+(set-logic QF_NRA)
+(declare-const x1 Real)
+(declare-const x2 Real)
+(declare-const x3 Real)
+(declare-const x4 Real)
+(declare-const x5 Real)
+(declare-const x6 Real)
+(assert (<= (- 1) x1 0))
+(assert (<= (- 0.1) x2 0.9))
+(assert (<= (- 0.1) x3 0.5))
+(assert (<= (- 1) x4 (- 0.1)))
+(assert (<= (- 0.1) x5 (- 0.05)))
+(assert (<= (- 0.1) x6 (- 0.03)))
+(minimize (+ (* x6 x2 x2) (* x5 x3 x3) (- (* x1 x4 x4)) (* x4 x4 x4) (* x4 x4) (* (- (/ 1 3)) x1) (* (/ 4 3) x4)))
+(check-sat)

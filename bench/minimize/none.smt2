@@ -1,0 +1,11 @@
+; a circle that a line misses
+; least value: none (no point)
+(set-logic QF_NRA)
+(declare-const x Real)
+(declare-const y Real)
+(assert (<= (- 2) x 2))
+(assert (<= (- 2) y 2))
+(assert (= (+ (* x x) (* y y)) 1))
+(assert (>= (+ x y) 1.5))
+(minimize (+ x y))
+(check-sat)

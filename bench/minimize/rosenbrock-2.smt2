@@ -1,0 +1,9 @@
+; Jamil, Yang: A literature survey of benchmark functions for global optimization, 2013
+; least value: 0
+(set-logic QF_NRA)
+(declare-const x1 Real)
+(declare-const x2 Real)
+(assert (<= (- 5) x1 10))
+(assert (<= (- 5) x2 10))
+(minimize (+ (* 100 (- x2 (* x1 x1)) (- x2 (* x1 x1))) (* (- x1 1) (- x1 1))))
+(check-sat)

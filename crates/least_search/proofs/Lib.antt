@@ -1,0 +1,3 @@
+pub mod Near
+pub mod Rows
+pub mod Shown
