@@ -1,5 +1,5 @@
 -- What is told of a least value, and the ends of a run of `minimize` behind its script.
-use Rattle.std.proofs.Common.{◌≡◌, ◌<◌, ℕ, List, [], ◌∷◌, ◌++◌, Bool, Option, Some, None, IfSome, length, refl, ap, sym, subst, ◌∙◌, append_assoc, codes}
+use Rattle.std.proofs.Common.{◌≡◌, ◌<◌, ℕ, List, [], ◌∷◌, ◌++◌, Bool, Option, Some, None, IfSome, length, ap, sym, subst, ◌∙◌, append_assoc, codes}
 use Rattle.std.specs.Prelude.{map, slice_get}
 use Rattle.std.proofs.lemmas.Option.{same_Some}
 use Rattle.desk.specs.declared.desk.Port.TheVariants.{Script}
@@ -12,7 +12,6 @@ use Rattle.poly_graph.specs.ProblemViews.{Parts, problem_of}
 use Rattle.problem_session.specs.Session.{problems_of}
 use Rattle.cert_read.specs.LineText.{lower_text}
 use Rattle.cert_model.specs.AnswerText.{text_line, axes_text, end_text, upper_line, value_text}
-use Rattle.cert_model.specs.Least.{Least}
 use Rattle.script_reading.specs.Faults.{session_fault}
 use Rattle.script_reading.specs.Goals.{goal_in}
 use Rattle.check_run.specs.declared.status.Status.{Status}
@@ -20,7 +19,7 @@ use Rattle.check_run.specs.Bounds.{IsMinimizeText, IsNoGoal, bound_lines}
 use Rattle.check_run.specs.Can.{CanFrom, OfSession}
 use Rattle.check_run.specs.Check.{IsGoalOf}
 use Rattle.check_run.specs.Course.{RunEnds}
-use Rattle.check_run.specs.Minimized.{CanMinimize, CanTellLeast, Cause, cause_text, minimize_text, point_lines}
+use Rattle.check_run.specs.Minimized.{CanMinimize, CanTellLeast, Cause, cause_text, point_lines}
 use Rattle.check_run.specs.Script.{Fetches}
 use Rattle.check_run.proofs.Running.{run_session, told}
 
