@@ -2,7 +2,7 @@
 use Rattle.std.proofs.Common.{◌≡◌, ℕ, List, [], ◌∷◌, IsTrue, codes, refl, ap, sym, ◌∙◌, get_or, map, drop}
 use Rattle.std.specs.Prelude.{decimal}
 use Rattle.cover_line.specs.Words.{RuleWord, empty_word, pull_word, unit_word, ban_word, void_word, push_word, void_no_word, false_word, by_word, cut_word, flip_word, case_word, open_word, stuck_word, combine_word, void_combine_word, word_of, word_text}
-use Rattle.cert_read.specs.CertLine.{CertLine, version, margin, delta, bound, lower, over, checks, cover, keep, point_word, tree_word, end_word, lemma, real_interval, real_value, bool_value, yes_list, no_list, rule_line, crossing}
+use Rattle.cert_read.specs.CertLine.{CertLine, version, margin, delta, bound, lower, goal, over, checks, cover, keep, point_word, tree_word, end_word, lemma, real_interval, real_value, bool_value, yes_list, no_list, rule_line, crossing}
 use Rattle.cert_read.specs.LineText.{line_text, line_words, spaced, bound_text, lower_text, bool_text}
 use Rattle.cert_read.specs.Lines.{words_of}
 use Rattle.cert_read.proofs.Pieces.{lacks}
@@ -43,6 +43,7 @@ first_kind (margin n) text w ws e t = begins text w (codes "margin") ws (decimal
 first_kind (delta n) text w ws e t = begins text w (codes "delta") ws (decimal n ∷ []) e t refl
 first_kind (bound n) text w ws e t = begins text w (codes "bound") ws (bound_text n ∷ []) e t refl
 first_kind (lower d) text w ws e t = begins text w (codes "lower") ws (lower_text d ∷ []) e t refl
+first_kind (goal n) text w ws e t = begins text w (codes "goal") ws (decimal n ∷ []) e t refl
 first_kind (checks n) text w ws e t = begins text w (codes "checks") ws (decimal n ∷ []) e t refl
 first_kind (cover n) text w ws e t = begins text w (codes "cover") ws (decimal n ∷ []) e t refl
 first_kind (keep n) text w ws e t = begins text w (codes "keep") ws (decimal n ∷ []) e t refl

@@ -10,7 +10,7 @@ use Rattle.std.proofs.lemmas.Fmt.{digits_decimal}
 use Rattle.std.proofs.lemmas.Str.Parse.{IsNumeralModel, tells_all_ascii_digits, numerals_by_value}
 use Rattle.cover_line.specs.Words.{RuleWord, empty_word, pull_word, unit_word, ban_word, void_word, push_word, void_no_word, false_word, by_word, cut_word, flip_word, case_word, open_word, stuck_word, combine_word, void_combine_word, word_of, word_text}
 use Rattle.cover_model.specs.Rules.{Line, pull, unit, void, push, void_no, combine, void_combine, ban, make_false, by, cut, flip, case, open_line, stuck}
-use Rattle.cert_read.specs.CertLine.{CertLine, version, margin, delta, bound, lower, over, checks, cover, keep, point_word, tree_word, end_word, lemma, real_interval, real_value, bool_value, yes_list, no_list, rule_line, crossing}
+use Rattle.cert_read.specs.CertLine.{CertLine, version, margin, delta, bound, lower, goal, over, checks, cover, keep, point_word, tree_word, end_word, lemma, real_interval, real_value, bool_value, yes_list, no_list, rule_line, crossing}
 use Rattle.cert_read.specs.LineText.{IsSpelled, spaced, line_words, line_text}
 use Rattle.cert_read.specs.Lines.{words_of}
 use Rattle.cert_read.proofs.Pieces.{lacks}
@@ -45,6 +45,7 @@ first_of (margin m) = codes "margin"
 first_of (delta d) = codes "delta"
 first_of (bound b) = codes "bound"
 first_of (lower d) = codes "lower"
+first_of (goal n) = codes "goal"
 first_of (checks n) = codes "checks"
 first_of (cover k) = codes "cover"
 first_of (keep q) = codes "keep"
@@ -74,6 +75,7 @@ parted (margin m) = refl
 parted (delta d) = refl
 parted (bound b) = refl
 parted (lower d) = refl
+parted (goal n) = refl
 parted (checks n) = refl
 parted (cover k) = refl
 parted (keep q) = refl
@@ -96,6 +98,7 @@ first-lacks (margin m) = refl
 first-lacks (delta d) = refl
 first-lacks (bound b) = refl
 first-lacks (lower d) = refl
+first-lacks (goal n) = refl
 first-lacks (checks n) = refl
 first-lacks (cover k) = refl
 first-lacks (keep q) = refl
@@ -191,6 +194,7 @@ names_first (margin m) = refl
 names_first (delta d) = refl
 names_first (bound b) = refl
 names_first (lower d) = refl
+names_first (goal n) = refl
 names_first (checks n) = refl
 names_first (cover k) = refl
 names_first (keep q) = refl
@@ -237,6 +241,7 @@ none_named (margin m) h f = (refl, refl)
 none_named (delta d) h f = (refl, refl)
 none_named (bound b) h f = (refl, refl)
 none_named (lower d) h f = (refl, refl)
+none_named (goal n) h f = (refl, refl)
 none_named (checks n) h f = (refl, refl)
 none_named (cover k) h f = (refl, refl)
 none_named (keep q) h f = (refl, refl)
@@ -276,6 +281,7 @@ one_named (margin m) h = absurd (cc)
 one_named (delta d) h = absurd (cc)
 one_named (bound b) h = absurd (cc)
 one_named (lower d) h = absurd (cc)
+one_named (goal n) h = absurd (cc)
 one_named (checks n) h = absurd (cc)
 one_named (cover k) h = absurd (cc)
 one_named (keep q) h = absurd (cc)

@@ -7,7 +7,7 @@ use Rattle.std.proofs.lemmas.List.{append-nil}
 use Rattle.cover_model.specs.Rules.{Line}
 use Rattle.cover_model.specs.Derivation.{tree_lines}
 use Rattle.cert_model.specs.Written.{rule_lines}
-use Rattle.cert_read.specs.CertLine.{CertLine, version, margin, delta, bound, lower, over, checks, cover, keep, point_word, tree_word, end_word, lemma, real_interval, real_value, bool_value, yes_list, no_list, rule_line, crossing}
+use Rattle.cert_read.specs.CertLine.{CertLine, version, margin, delta, bound, lower, goal, over, checks, cover, keep, point_word, tree_word, end_word, lemma, real_interval, real_value, bool_value, yes_list, no_list, rule_line, crossing}
 use Rattle.cert_read.specs.LineText.{line_text}
 use Rattle.cert_joined.specs.Covers.{Cover, Lemma, IsBoxLine, state_lines, lemmas_lines}
 use Rattle.cert_join.specs.declared.numbering.Kind.{Kind}
@@ -47,6 +47,7 @@ box_other (margin n) b = absurd b
 box_other (delta n) b = absurd b
 box_other (bound n) b = absurd b
 box_other (lower n) b = absurd b
+box_other (goal n) b = absurd b
 box_other (checks n) b = absurd b
 box_other (cover n) b = absurd b
 box_other (keep n) b = absurd b

@@ -8,7 +8,7 @@ use Rattle.dyadic.specs.Rounding.{Dyadic}
 use Rattle.dyadic.specs.NumberText.{number_spelling}
 use Rattle.cover_line.specs.Line.{Multipliers, pull, unit, void, push, void_no, combine, void_combine, ban, make_false, by, cut, flip, case, open_line, stuck}
 use Rattle.cover_line.specs.Words.{empty_word, pull_word, unit_word, ban_word, void_word, push_word, void_no_word, false_word, by_word, cut_word, flip_word, case_word, open_word, stuck_word, combine_word, void_combine_word, word_text}
-use Rattle.cert_read.specs.CertLine.{says_false, says_true, says_both, CertLine, version, margin, delta, bound, lower, over, checks, cover, keep, point_word, tree_word, end_word, lemma, real_interval, real_value, bool_value, yes_list, no_list, rule_line, crossing, Parsed, line, bad_line, bad_number, count_of, dyadic_of, counts_of, pairs_of, has_pairs, with_count, with_counts, with_dyadic, with_dyadics, with_both, with_list, with_pairs, alone, counted, counted_twice, placed, paired, listed, bound_in, lower_in, bool_in, real_in, entry, header_forms, tree_forms, or_bad, or_rule, by_first}
+use Rattle.cert_read.specs.CertLine.{says_false, says_true, says_both, CertLine, version, margin, delta, bound, lower, goal, over, checks, cover, keep, point_word, tree_word, end_word, lemma, real_interval, real_value, bool_value, yes_list, no_list, rule_line, crossing, Parsed, line, bad_line, bad_number, count_of, dyadic_of, counts_of, pairs_of, has_pairs, with_count, with_counts, with_dyadic, with_dyadics, with_both, with_list, with_pairs, alone, counted, counted_twice, placed, paired, listed, bound_in, lower_in, bool_in, real_in, entry, header_forms, tree_forms, or_bad, or_rule, by_first}
 use Rattle.cert_read.specs.LineText.{pair_words, line_words, IsCount, IsSpelledNumber, IsSpelledPair, AreSpelledPairs, HasSpelling}
 use Rattle.cert_read.proofs.Spelled.{AreCleanWords}
 use Rattle.cert_resumed.proofs.SpelledNumbers.{count_back, number_back, counts_back, pairs_back}
@@ -183,32 +183,35 @@ header-gives = (
         (
           gives-lower,
           (
-            gives-count (codes "checks") checks (λ n k. (refl, k)),
+            gives-count (codes "goal") goal (λ n k. (refl, k)),
             (
-              gives-count (codes "cover") cover (λ n k. (refl, k)),
+              gives-count (codes "checks") checks (λ n k. (refl, k)),
               (
-                gives-count (codes "keep") keep (λ n k. (refl, k)),
+                gives-count (codes "cover") cover (λ n k. (refl, k)),
                 (
-                  gives-alone (codes "point") point_word refl tt,
+                  gives-count (codes "keep") keep (λ n k. (refl, k)),
                   (
-                    gives-alone (codes "tree") tree_word refl tt,
+                    gives-alone (codes "point") point_word refl tt,
                     (
-                      gives-alone (codes "end") end_word refl tt,
+                      gives-alone (codes "tree") tree_word refl tt,
                       (
-                        gives-count (codes "lemma") lemma (λ n k. (refl, k)),
+                        gives-alone (codes "end") end_word refl tt,
                         (
-                          gives-real,
+                          gives-count (codes "lemma") lemma (λ n k. (refl, k)),
                           (
-                            gives-bool,
+                            gives-real,
                             (
-                              gives-list (codes "yes") yes_list (λ ns k. (refl, k)),
+                              gives-bool,
                               (
-                                gives-list (codes "no") no_list (λ ns k. (refl, k)),
+                                gives-list (codes "yes") yes_list (λ ns k. (refl, k)),
                                 (
-                                  gives-alone (codes "over") over refl tt,
+                                  gives-list (codes "no") no_list (λ ns k. (refl, k)),
                                   (
-                                    gives-count (word_text empty_word) crossing (λ n k. (refl, k)),
-                                    tt,
+                                    gives-alone (codes "over") over refl tt,
+                                    (
+                                      gives-count (word_text empty_word) crossing (λ n k. (refl, k)),
+                                      tt,
+                                    ),
                                   ),
                                 ),
                               ),

@@ -3,14 +3,15 @@ use Rattle.std.proofs.Common.{◌≡◌, ◌⊎◌, inl, inr, ℕ, List, [], ◌
 use Rattle.desk.specs.declared.desk.Port.TheVariants.{CertIn}
 use Rattle.desk.specs.Sight.{Sight}
 use Rattle.command_line.specs.declared.request.Options.{Options}
-use Rattle.command_line.specs.Words.{Solve, Check, Upgrade, Demo, Plan, Command, solve, check, demo, upgrade, plan, resume, join}
+use Rattle.command_line.specs.Words.{Solve, Minimize, Check, Upgrade, Demo, Plan, Command, solve, minimize, check, demo, upgrade, plan, resume, join}
 use Rattle.gen_script.specs.Demo.{demo_script}
 use Rattle.poly_graph.specs.Problem.{Problem}
 use Rattle.cover_model.specs.State.{Loosenings}
-use Rattle.cert_model.specs.Due.{Value, at_point, left_open}
+use Rattle.cert_model.specs.Due.{Standing, Value, at_point, left_open}
 use Rattle.cert_model.specs.Accepted.{accepted, refused, IsAccepted}
-use Rattle.cert_model.specs.AnswerText.{solve_text, check_text, least_text, unsat_text}
+use Rattle.cert_model.specs.AnswerText.{solve_text, check_text, least_text, unsat_text, has_open}
 use Rattle.cert_model.specs.Least.{Least, GoalVerdict, plain, least, goal_verdict}
+use Rattle.cert_model.specs.Limited.{IsRoomOf}
 use Rattle.cert_model.proofs.PlainGoal.{plain_accepted}
 use Rattle.cert_model.specs.Session.{AreAccepted, SessionVerdict, one_verdict, session_verdict}
 use Rattle.headline.proofs.Headline.{unsat_is}
@@ -25,16 +26,17 @@ use Rattle.script_reading.specs.Reader.{commands_of, IsBuilt}
 use Rattle.check_run.specs.Answer.{loosenings_for, loosenings_of, solve_texts}
 use Rattle.check_run.specs.Course.{Course, behind, appended}
 use Rattle.check_run.specs.Can.{CanSolve, CanCheck, CanUpgrade, CanUpgradeBy, CanPlan, CanBy, OfSession, check_texts, goal_course, verdict_course}
+use Rattle.check_run.specs.Minimized.{CanMinimize, CanTellLeast, Cause, IsLeastAnswer, near, spent, narrow, no_limit, minimize_text}
 use Rattle.check_run.specs.Run.{Run, HasCourse, HasInput, IsShown}
 use Rattle.check_run.proofs.Shown.{status_is_shown}
-use Rattle.check_run.proofs.Differ.{written-is, says-unsat, says-delta-sat, confirms-unsat, confirms-delta-sat, refused-not, certificate-refused-not, answered-not, script-refused-not, delta-so}
+use Rattle.check_run.proofs.Differ.{apart-left, written-is, says-unsat, says-delta-sat, confirms-unsat, confirms-delta-sat, refused-not, certificate-refused-not, answered-not, script-refused-not, delta-so}
 use Rattle.check_run.proofs.Enough.{SessionIsOne, are_enough, texts_one}
 use Rattle.check_run.proofs.Joins.{join_so, join_unsat, join_delta, join_refused}
 use Rattle.check_run.proofs.Means.{values_true}
-use Rattle.check_run.proofs.Resumes.{resume-so, resume-unsat, resume-delta, resume-refused}
+use Rattle.check_run.proofs.Resumes.{value-so, resume-so, resume-unsat, resume-delta, resume-refused}
 use Rattle.check_run.proofs.Apart.{apart}
 use Rattle.check_run.proofs.Single.{goal_has_one, goal_is, one_problem, one_value}
-use Rattle.check_run.specs.Headline.{IsWritten, IsSolved, IsConfirmed, IsConfirmedLeast, IsTrueAnswer, AnswersAreTrue, HasOneCheck, IsUnsat, IsTrueUnsat, UnsatIsTrue, IsTrueDeltaSat, DeltaSatIsTrue, IsRefusedCert, IsRefusedForGoal, IsTrueRefusal, RefusalIsTrue, IsUpgraded, IsTrueUpgrade, UpgradeIsTrue, IsPlanned, IsTruePlan, PlanIsTrue, delta_sat_word, confirmed_unsat_word, confirmed_delta_sat_word}
+use Rattle.check_run.specs.Headline.{IsWritten, IsSolved, IsConfirmed, IsConfirmedLeast, IsLeast, IsNoLeast, IsTrueAnswer, AnswersAreTrue, HasOneCheck, IsUnsat, IsTrueUnsat, UnsatIsTrue, IsTrueDeltaSat, DeltaSatIsTrue, IsRefusedCert, IsRefusedForGoal, IsTrueRefusal, RefusalIsTrue, IsUpgraded, IsTrueUpgrade, UpgradeIsTrue, IsPlanned, IsTruePlan, PlanIsTrue, delta_sat_word, unsat_word, confirmed_unsat_word, confirmed_delta_sat_word}
 
 -- ---- the courses of a run that answers
 
@@ -147,17 +149,17 @@ confirmed-by bound script cert_in old new ps course has wrote so = record {
 }
 
 -- of a script with a goal
-goal-checked : (bound : Option ℕ) (script name cert_in : List ℕ) (old new : Sight) (g : ℕ) → goal_in script ≡ Some g → (p : Problem) (e : Bool) → HasSession bound ((p, e) ∷ []) script → IsBuilt bound script p → (course : Course) (v : GoalVerdict) →
-    goal_verdict p g bound cert_in ≡ v → course ≡ behind ((CertIn, name) ∷ []) (goal_course p g v) → course.status ≡ Answered → new.answer ≡ appended old.answer course.answer →
+goal-checked : (bound : Option ℕ) (script name cert_in : List ℕ) (old new : Sight) (g : ℕ) → goal_in script ≡ Some g → (p : Problem) (e : Bool) → HasSession bound ((p, e) ∷ []) script → IsBuilt bound script p → (room : Bool) → IsRoomOf p room →
+    (course : Course) (v : GoalVerdict) → goal_verdict p g room bound cert_in ≡ v → course ≡ behind ((CertIn, name) ∷ []) (goal_course p g v) → course.status ≡ Answered → new.answer ≡ appended old.answer course.answer →
     IsConfirmed bound script cert_in old new ⊎ IsConfirmedLeast bound script cert_in old new
-goal-checked bound script name cert_in old new g is p e has built course (accepted s (plain v)) accepts can status wrote =
+goal-checked bound script name cert_in old new g is p e has built room is_room course (accepted s (plain v)) accepts can status wrote =
     inl (confirmed-by bound script cert_in old new ((p, e) ∷ []) course has wrote (record {
       s = s;
       values = v ∷ [];
-      accepts = ap one_verdict (plain_accepted p g bound cert_in s v accepts);
+      accepts = ap one_verdict (plain_accepted p g room bound cert_in s v accepts);
       answer_is = ap (λ (c : Course). c.answer) can ∙ sym (append-nil (check_text s v));
     }))
-goal-checked bound script name cert_in old new g is p e has built course (accepted s (least x)) accepts can status wrote =
+goal-checked bound script name cert_in old new g is p e has built room is_room course (accepted s (least x)) accepts can status wrote =
     let atom = goal_is script g is in
     inr (record {
       problem = p;
@@ -166,23 +168,26 @@ goal-checked bound script name cert_in old new g is p e has built course (accept
       is_goal = is;
       loosenings = s;
       value = x;
+      room = room;
+      is_room = is_room;
       accepted = accepts;
       answer = wrote ∙ ap (λ (c : Course). appended old.answer c.answer) can;
-      lower = lower_means bound (commands_of script) p built.whole built.problem g atom cert_in s x accepts;
+      lower = lower_means bound (commands_of script) p built.whole built.problem g atom room cert_in s x accepts;
       upper = λ space kept.
-          let h = upper_means bound (commands_of script) p built.whole built.problem g atom cert_in s x accepts space kept in
+          let h = upper_means bound (commands_of script) p built.whole built.problem g atom room cert_in s x accepts space kept in
           (record { satisfies = h.0; near = h.1 }, h.2);
     })
-goal-checked bound script name cert_in old new g is p e has built course (refused f n) accepts can status wrote = absurd (certificate-refused-not course.status (ap (λ (c : Course). c.status) can) status)
+goal-checked bound script name cert_in old new g is p e has built room is_room course (refused f n) accepts can status wrote = absurd (certificate-refused-not course.status (ap (λ (c : Course). c.status) can) status)
 
 check-by : (bound : Option ℕ) (script name cert_in : List ℕ) (old new : Sight) (goal : Option ℕ) → goal_in script ≡ goal → (ps : List (Problem × Bool)) → HasSession bound ps script → (course : Course) → CanCheck goal ps bound name cert_in course →
     course.status ≡ Answered → new.answer ≡ appended old.answer course.answer → IsConfirmed bound script cert_in old new ⊎ IsConfirmedLeast bound script cert_in old new
 check-by bound script name cert_in old new None is ps has course can status wrote =
-    inl (confirmed-by bound script cert_in old new ps course has wrote (checked-by ps bound name cert_in course (session_verdict ps bound cert_in) refl can status))
+    inl (confirmed-by bound script cert_in old new ps course has wrote (checked-by ps bound name cert_in course (session_verdict ps bound cert_in) refl can.2 status))
 check-by bound script name cert_in old new (Some g) is ps has course can status wrote =
     let x = one_problem bound script (goal_has_one script g is) ps has in
-    goal-checked bound script name cert_in old new g is x.problem x.extends (subst (λ (ys : List (Problem × Bool)). HasSession bound ys script) x.only has) x.built course (goal_verdict x.problem g bound cert_in) refl
-    (subst (λ (ys : List (Problem × Bool)). CanCheck (Some g) ys bound name cert_in course) x.only can) status wrote
+    let so : CanCheck (Some g) ((x.problem, x.extends) ∷ []) bound name cert_in course = subst (λ (ys : List (Problem × Bool)). CanCheck (Some g) ys bound name cert_in course) x.only can in
+    goal-checked bound script name cert_in old new g is x.problem x.extends (subst (λ (ys : List (Problem × Bool)). HasSession bound ys script) x.only has) x.built so.0 so.1 course
+    (goal_verdict x.problem g so.0 bound cert_in) refl so.2 status wrote
 
 check-so : (words : Check) (script cert_in : List ℕ) (parts : List (List ℕ)) (old new : Sight) → IsShown (Some (check words)) script cert_in parts old new Answered →
     IsConfirmed words.bound script cert_in old new ⊎ IsConfirmedLeast words.bound script cert_in old new
@@ -247,9 +252,94 @@ check-unsat words script cert_in parts old new shows single rest wrote =
       },
     )
 
+-- ---- the answers of minimize
+
+-- a point was found, with bounds of the goal
+least-so : (words : Minimize) (script : List ℕ) (old new : Sight) (p : Problem) → IsBuilt words.options.bound script p → (g : ℕ) → goal_in script ≡ Some g → (cert : List ℕ) (cause : Cause) (x : Least) → IsLeastAnswer p g words cert cause x →
+    new.cert_out ≡ appended old.cert_out cert → new.answer ≡ appended old.answer (minimize_text p g words.options.budget cause x) → IsLeast words script old new
+least-so words script old new p built g is cert cause x answers written answer =
+    let b : Option ℕ = words.options.bound in
+    let s : Loosenings = loosenings_of words.options in
+    let atom = goal_is script g is in
+    let h = upper_means b (commands_of script) p built.whole built.problem g atom answers.room cert s x answers.accepted answers.point answers.has_point in
+    record {
+      problem = p;
+      built = built;
+      goal = g;
+      is_goal = is;
+      cert = cert;
+      cause = cause;
+      value = x;
+      answers = answers;
+      written = written;
+      answer = answer;
+      lower = lower_means b (commands_of script) p built.whole built.problem g atom answers.room cert s x answers.accepted;
+      point = record { satisfies = h.0; near = h.1 };
+      upper = h.2;
+    }
+
+minimize-told : (words : Minimize) (script : List ℕ) (old new : Sight) (p : Problem) → IsBuilt words.options.bound script p → (g : ℕ) → goal_in script ≡ Some g → (course : Course) → CanTellLeast p g words course →
+    new.cert_out ≡ appended old.cert_out course.cert → new.answer ≡ appended old.answer course.answer → IsLeast words script old new ⊎ IsNoLeast words script old new
+minimize-told words script old new p built g is course (inl (cert, left, answers, e)) written answer =
+    inr (record {
+      problem = p;
+      built = built;
+      cert = cert;
+      left = left;
+      answers = answers;
+      written = written ∙ ap (λ (c : Course). appended old.cert_out c.cert) e;
+      answer = answer ∙ ap (λ (c : Course). appended old.answer c.answer) e;
+      say = value-so words.options.bound script p cert (loosenings_of words.options) (left_open left) built answers.accepted;
+    })
+minimize-told words script old new p built g is course (inr (cert, cause, x, answers, e)) written answer =
+    inl (least-so words script old new p built g is cert cause x answers (written ∙ ap (λ (c : Course). appended old.cert_out c.cert) e) (answer ∙ ap (λ (c : Course). appended old.answer c.answer) e))
+
+minimize-by : (words : Minimize) (script : List ℕ) (old new : Sight) (goal : Option ℕ) → goal_in script ≡ goal → (ps : List (Problem × Bool)) → HasSession words.options.bound ps script → (course : Course) → CanMinimize goal ps words course →
+    course.status ≡ Answered → new.cert_out ≡ appended old.cert_out course.cert → new.answer ≡ appended old.answer course.answer → IsLeast words script old new ⊎ IsNoLeast words script old new
+minimize-by words script old new None is ps has course can status written answer = absurd (refused-not course.status (ap (λ (c : Course). c.status) can) status)
+minimize-by words script old new (Some g) is ps has course can status written answer =
+    let x = one_problem words.options.bound script (goal_has_one script g is) ps has in
+    let so : CanTellLeast x.problem g words course = subst (λ (ys : List (Problem × Bool)). CanMinimize (Some g) ys words course) x.only can in
+    minimize-told words script old new x.problem x.built g is course so written answer
+
+minimize-so : (words : Minimize) (script cert_in : List ℕ) (parts : List (List ℕ)) (old new : Sight) → IsShown (Some (minimize words)) script cert_in parts old new Answered → IsLeast words script old new ⊎ IsNoLeast words script old new
+minimize-so words script cert_in parts old new (course, can, status, went) =
+    let tail : Course = can.0 in
+    let status_is : tail.status ≡ Answered = sym (ap (λ (c : Course). c.status) can.2) ∙ status in
+    let on = goes-on words.options.bound script (λ ps. CanMinimize (goal_in script) ps words) (session_fault words.options.bound script) tail can.1 status_is in
+    minimize-by words script old new (goal_in script) refl on.ps on.has tail on.can status_is (went.cert ∙ ap (λ (c : Course). appended old.cert_out c.cert) can.2)
+    (went.answer ∙ ap (λ (c : Course). appended old.answer c.answer) can.2)
+
+-- bounds are told by other texts than `unsat`
+bounds-not-unsat : (p : Problem) (g budget : ℕ) (cause : Cause) (x : Least) (rest : List ℕ) → unsat_word ++ rest ≡ minimize_text p g budget cause x → ⊥
+bounds-not-unsat p g budget near x rest e = apart _ _ 0 e refl
+bounds-not-unsat p g budget spent x rest e = apart _ _ 2 e refl
+bounds-not-unsat p g budget narrow x rest e = apart _ _ 2 e refl
+bounds-not-unsat p g budget no_limit x rest e = apart _ _ 2 e refl
+
+unsat-of-left : (words : Minimize) (script : List ℕ) (old new : Sight) (p : Problem) → IsBuilt words.options.bound script p → (cert : List ℕ) (left : List Standing) → new.cert_out ≡ appended old.cert_out cert →
+    IsAccepted p words.options.bound cert (loosenings_of words.options) (left_open left) → (rest : List ℕ) → unsat_word ++ rest ≡ solve_text p words.options.budget (loosenings_of words.options) (left_open left) → IsUnsat words.options script old new
+unsat-of-left words script old new p built cert [] written accepts rest e = unsat-so words.options script p old new cert built written accepts
+unsat-of-left words script old new p built cert (x ∷ left) written accepts rest e =
+    absurd (apart-left p (loosenings_of words.options) words.options.budget x left (unsat_word ++ rest) 2 e refl (λ j. refl) (has_open (x ∷ left)) refl)
+
+minimize-unsat-of : (words : Minimize) (script : List ℕ) (old new : Sight) → IsLeast words script old new ⊎ IsNoLeast words script old new → (rest : List ℕ) → IsWritten (unsat_word ++ rest) old new → IsUnsat words.options script old new
+minimize-unsat-of words script old new (inl so) rest wrote =
+    let text : List ℕ = minimize_text so.problem so.goal words.options.budget so.cause so.value in
+    absurd (bounds-not-unsat so.problem so.goal words.options.budget so.cause so.value rest (written-is old.answer new.answer (unsat_word ++ rest) text wrote so.answer))
+minimize-unsat-of words script old new (inr so) rest wrote =
+    let text : List ℕ = solve_text so.problem words.options.budget (loosenings_of words.options) (left_open so.left) in
+    unsat-of-left words script old new so.problem so.built so.cert so.left so.written so.answers.accepted rest (written-is old.answer new.answer (unsat_word ++ rest) text wrote so.answer)
+
+minimize-unsat : (words : Minimize) (script cert_in : List ℕ) (parts : List (List ℕ)) (old new : Sight) → IsShown (Some (minimize words)) script cert_in parts old new Answered → IsTrueUnsat (Some (minimize words)) script cert_in parts old new
+minimize-unsat words script cert_in parts old new shows rest wrote = minimize-unsat-of words script old new (minimize-so words script cert_in parts old new shows) rest wrote
+
+-- ---- all answers that say it
+
 unsat-true : (command : Option Command) (script cert_in : List ℕ) (parts : List (List ℕ)) (old new : Sight) → IsShown command script cert_in parts old new Answered → IsTrueUnsat command script cert_in parts old new
 unsat-true None script cert_in parts old new shows = tt
 unsat-true (Some (solve words)) script cert_in parts old new shows = solve-unsat words script cert_in parts old new shows
+unsat-true (Some (minimize words)) script cert_in parts old new shows = minimize-unsat words script cert_in parts old new shows
 unsat-true (Some (check words)) script cert_in parts old new shows = check-unsat words script cert_in parts old new shows
 unsat-true (Some (upgrade words)) script cert_in parts old new shows = tt
 unsat-true (Some (plan words)) script cert_in parts old new shows = tt
@@ -293,6 +383,7 @@ check-delta words script cert_in parts old new shows single rest wrote =
 delta-sat-true : (command : Option Command) (script cert_in : List ℕ) (parts : List (List ℕ)) (old new : Sight) → IsShown command script cert_in parts old new Answered → IsTrueDeltaSat command script cert_in parts old new
 delta-sat-true None script cert_in parts old new shows = tt
 delta-sat-true (Some (solve words)) script cert_in parts old new shows = solve-delta words script cert_in parts old new shows
+delta-sat-true (Some (minimize words)) script cert_in parts old new shows = tt
 delta-sat-true (Some (check words)) script cert_in parts old new shows = check-delta words script cert_in parts old new shows
 delta-sat-true (Some (upgrade words)) script cert_in parts old new shows = tt
 delta-sat-true (Some (plan words)) script cert_in parts old new shows = tt
@@ -315,28 +406,30 @@ refused-by words script cert_in old new ps course (refused f n) has e can status
 }
 
 -- of a script with a goal
-goal-refused : (words : Check) (script cert_in : List ℕ) (old new : Sight) (g : ℕ) → goal_in script ≡ Some g → (p : Problem) → IsBuilt words.bound script p → (course : Course) (v : GoalVerdict) → goal_verdict p g words.bound cert_in ≡ v →
+goal-refused : (words : Check) (script cert_in : List ℕ) (old new : Sight) (g : ℕ) → goal_in script ≡ Some g → (p : Problem) → IsBuilt words.bound script p → (room : Bool) → IsRoomOf p room → (course : Course) (v : GoalVerdict) → goal_verdict p g room words.bound cert_in ≡ v →
     course ≡ behind ((CertIn, words.cert) ∷ []) (goal_course p g v) → course.status ≡ CertRefused → new.answer ≡ appended old.answer course.answer → IsRefusedForGoal words.bound script cert_in old new
-goal-refused words script cert_in old new g is p built course (accepted s (plain v)) e can status wrote = absurd (answered-not course.status (ap (λ (c : Course). c.status) can) status)
-goal-refused words script cert_in old new g is p built course (accepted s (least x)) e can status wrote = absurd (answered-not course.status (ap (λ (c : Course). c.status) can) status)
-goal-refused words script cert_in old new g is p built course (refused f n) e can status wrote = record {
+goal-refused words script cert_in old new g is p built room is_room course (accepted s (plain v)) e can status wrote = absurd (answered-not course.status (ap (λ (c : Course). c.status) can) status)
+goal-refused words script cert_in old new g is p built room is_room course (accepted s (least x)) e can status wrote = absurd (answered-not course.status (ap (λ (c : Course). c.status) can) status)
+goal-refused words script cert_in old new g is p built room is_room course (refused f n) e can status wrote = record {
   problem = p;
   built = built;
   goal = g;
   is_goal = is;
   fault = f;
   line = n;
+  room = room;
+  is_room = is_room;
   refuses = e;
   written = wrote ∙ ap (λ (c : Course). appended old.answer c.answer) can;
 }
 
 refused-of : (words : Check) (script cert_in : List ℕ) (old new : Sight) (goal : Option ℕ) → goal_in script ≡ goal → (ps : List (Problem × Bool)) → HasSession words.bound ps script → (course : Course) → CanCheck goal ps words.bound words.cert cert_in course →
     course.status ≡ CertRefused → new.answer ≡ appended old.answer course.answer → IsRefusedCert words.bound script cert_in old new ⊎ IsRefusedForGoal words.bound script cert_in old new
-refused-of words script cert_in old new None is ps has course can status wrote = inl (refused-by words script cert_in old new ps course (session_verdict ps words.bound cert_in) has refl can status wrote)
+refused-of words script cert_in old new None is ps has course can status wrote = inl (refused-by words script cert_in old new ps course (session_verdict ps words.bound cert_in) has refl can.2 status wrote)
 refused-of words script cert_in old new (Some g) is ps has course can status wrote =
     let x = one_problem words.bound script (goal_has_one script g is) ps has in
-    inr (goal-refused words script cert_in old new g is x.problem x.built course (goal_verdict x.problem g words.bound cert_in) refl
-    (subst (λ (ys : List (Problem × Bool)). CanCheck (Some g) ys words.bound words.cert cert_in course) x.only can) status wrote)
+    let so : CanCheck (Some g) ((x.problem, x.extends) ∷ []) words.bound words.cert cert_in course = subst (λ (ys : List (Problem × Bool)). CanCheck (Some g) ys words.bound words.cert cert_in course) x.only can in
+    inr (goal-refused words script cert_in old new g is x.problem x.built so.0 so.1 course (goal_verdict x.problem g so.0 words.bound cert_in) refl so.2 status wrote)
 
 check-refused : (words : Check) (script cert_in : List ℕ) (old new : Sight) (tail : Course) (f : Option ScriptFault) → CanBy f (OfSession words.bound script (λ ps. CanCheck (goal_in script) ps words.bound words.cert cert_in)) tail
     → tail.status ≡ CertRefused → new.answer ≡ appended old.answer tail.answer → IsRefusedCert words.bound script cert_in old new ⊎ IsRefusedForGoal words.bound script cert_in old new
@@ -363,6 +456,7 @@ upgrade-refused words script cert_in parts old new tail None can status wrote no
 refusal-true : (command : Option Command) (script cert_in : List ℕ) (parts : List (List ℕ)) (old new : Sight) → IsShown command script cert_in parts old new CertRefused → IsTrueRefusal command script cert_in parts old new
 refusal-true None script cert_in parts old new shows = tt
 refusal-true (Some (solve words)) script cert_in parts old new shows = tt
+refusal-true (Some (minimize words)) script cert_in parts old new shows = tt
 refusal-true (Some (demo words)) script cert_in parts old new shows = tt
 refusal-true (Some (plan words)) script cert_in parts old new shows = tt
 refusal-true (Some (resume words)) script cert_in parts old new shows = resume-refused words script cert_in parts old new shows
@@ -400,6 +494,7 @@ upgraded-of words script cert_in old new ps tail has can status wrote =
 upgrade-true : (command : Option Command) (script cert_in : List ℕ) (parts : List (List ℕ)) (old new : Sight) → IsShown command script cert_in parts old new Answered → IsTrueUpgrade command script cert_in parts old new
 upgrade-true None script cert_in parts old new shows = tt
 upgrade-true (Some (solve words)) script cert_in parts old new shows = tt
+upgrade-true (Some (minimize words)) script cert_in parts old new shows = tt
 upgrade-true (Some (check words)) script cert_in parts old new shows = tt
 upgrade-true (Some (demo words)) script cert_in parts old new shows = tt
 upgrade-true (Some (plan words)) script cert_in parts old new shows = tt
@@ -431,6 +526,7 @@ plan-so one words script cert_in parts old new (course, can, status, went) =
 plan-true : SessionIsOne → (command : Option Command) (script cert_in : List ℕ) (parts : List (List ℕ)) (old new : Sight) → IsShown command script cert_in parts old new Answered → IsTruePlan command script cert_in parts old new
 plan-true one None script cert_in parts old new shows = tt
 plan-true one (Some (solve words)) script cert_in parts old new shows = tt
+plan-true one (Some (minimize words)) script cert_in parts old new shows = tt
 plan-true one (Some (check words)) script cert_in parts old new shows = tt
 plan-true one (Some (demo words)) script cert_in parts old new shows = tt
 plan-true one (Some (upgrade words)) script cert_in parts old new shows = tt
@@ -443,6 +539,7 @@ plan-true one (Some (plan words)) script cert_in parts old new shows = plan-so o
 answer-true : (command : Option Command) (script cert_in : List ℕ) (parts : List (List ℕ)) (old new : Sight) → IsShown command script cert_in parts old new Answered → IsTrueAnswer command script cert_in parts old new
 answer-true None script cert_in parts old new shows = tt
 answer-true (Some (solve words)) script cert_in parts old new shows = solve-so words script cert_in parts old new shows
+answer-true (Some (minimize words)) script cert_in parts old new shows = minimize-so words script cert_in parts old new shows
 answer-true (Some (check words)) script cert_in parts old new shows = check-so words script cert_in parts old new shows
 answer-true (Some (demo words)) script cert_in parts old new shows = tt
 answer-true (Some (upgrade words)) script cert_in parts old new shows = tt

@@ -1,5 +1,6 @@
 pub mod Apart
 pub mod Boths
+pub mod Bounds
 pub mod Differ
 pub mod Ending
 pub mod Enough

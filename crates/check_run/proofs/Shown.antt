@@ -2,7 +2,7 @@
 use Rattle.std.proofs.Common.{◌≡◌, inl, inr, ℕ, List, [], ◌∷◌, Bool, Option, Some, None, sym, subst, ◌∙◌}
 use Rattle.desk.specs.Sight.{Sight}
 use Rattle.command_line.specs.declared.request.Options.{Options}
-use Rattle.command_line.specs.Words.{Command, Resume, solve, check, demo, upgrade, plan, resume, join}
+use Rattle.command_line.specs.Words.{Command, Minimize, Resume, solve, minimize, check, demo, upgrade, plan, resume, join}
 use Rattle.gen_script.specs.Demo.{demo_script}
 use Rattle.poly_graph.specs.Problem.{Problem}
 use Rattle.cert_model.specs.Accepted.{Verdict, accepted, refused, verdict}
@@ -15,6 +15,7 @@ use Rattle.check_run.specs.declared.status.Status.{Status}
 use Rattle.check_run.specs.declared.status.Status.TheVariants.{Answered, CertRefused, ScriptRefused, Usage, InFailed, OutFailed, NoMemory}
 use Rattle.check_run.specs.Course.{Course, Went, Ends, at_its_end, out_failed, no_memory, RunEnds, on_course, in_failed, draft_failed, no_memory_yet}
 use Rattle.check_run.specs.Can.{CanSolve, CanCheck, CanUpgrade, CanUpgradeBy, CanDemo, CanPlan, CanBy, OfProblem, OfSession, Can, in_starts, check_course, goal_course, verdict_course}
+use Rattle.check_run.specs.Minimized.{CanMinimize, CanTellLeast}
 use Rattle.check_run.specs.Joined.{CanJoin, bound_of, joins, refuses}
 use Rattle.check_run.specs.Resumed.{CanResume, CanResumeBy, header_bound}
 use Rattle.check_run.specs.Run.{Run, HasCourse, IsShown, IsDue, run_of, StatusIsDue, StatusIsShown}
@@ -47,11 +48,11 @@ said-goal p g (accepted s (plain v)) = tt
 said-goal p g (accepted s (least x)) = tt
 said-goal p g (refused f n) = tt
 
-said-check : (goal : Option ℕ) (ps : List (Problem × Bool)) (bound : Option ℕ) (cert_in : List ℕ) → IsSaid (check_course goal ps bound cert_in).status
-said-check None ps bound cert_in = said-verdict (session_verdict ps bound cert_in)
-said-check (Some g) [] bound cert_in = said-verdict (session_verdict [] bound cert_in)
-said-check (Some g) (p ∷ []) bound cert_in = said-goal p.0 g (goal_verdict p.0 g bound cert_in)
-said-check (Some g) (p ∷ q ∷ ps) bound cert_in = said-verdict (session_verdict (p ∷ q ∷ ps) bound cert_in)
+said-check : (goal : Option ℕ) (room : Bool) (ps : List (Problem × Bool)) (bound : Option ℕ) (cert_in : List ℕ) → IsSaid (check_course goal room ps bound cert_in).status
+said-check None room ps bound cert_in = said-verdict (session_verdict ps bound cert_in)
+said-check (Some g) room [] bound cert_in = said-verdict (session_verdict [] bound cert_in)
+said-check (Some g) room (p ∷ []) bound cert_in = said-goal p.0 g (goal_verdict p.0 g room bound cert_in)
+said-check (Some g) room (p ∷ q ∷ ps) bound cert_in = said-verdict (session_verdict (p ∷ q ∷ ps) bound cert_in)
 
 said-upgrade-by : (v : SessionVerdict) (ps : List (Problem × Bool)) (bound : Option ℕ) (out cert_in : List ℕ) (course : Course) → CanUpgradeBy v ps bound out cert_in course → IsSaid course.status
 said-upgrade-by (accepted s values) ps bound out cert_in course can = said-same course _ can.1 tt
@@ -81,13 +82,25 @@ said-by : (bound : Option ℕ) (script : List ℕ) (goes : List (Problem × Bool
 said-by bound script goes said (Some f) course can = said-same course _ can tt
 said-by bound script goes said None course can = said can.0 course can.2
 
+said-least : (p : Problem) (g : ℕ) (words : Minimize) (course : Course) → CanTellLeast p g words course → IsSaid course.status
+said-least p g words course (inl can) = said-same course _ can.3 tt
+said-least p g words course (inr can) = said-same course _ can.4 tt
+
+said-minimize : (goal : Option ℕ) (ps : List (Problem × Bool)) (words : Minimize) (course : Course) → CanMinimize goal ps words course → IsSaid course.status
+said-minimize None ps words course can = said-same course _ can tt
+said-minimize (Some g) [] words course can = said-same course _ can tt
+said-minimize (Some g) (p ∷ []) words course can = said-least p.0 g words course can
+said-minimize (Some g) (p ∷ q ∷ ps) words course can = said-same course _ can tt
+
 -- each course of a run ends in a status that is told
 said : (command : Option Command) (script cert_in : List ℕ) (parts : List (List ℕ)) (course : Course) → Can command script cert_in parts course → IsSaid course.status
 said None script cert_in parts course can = said-same course _ can tt
 said (Some (solve words)) script cert_in parts course can = said-same course _ can.2
     (said-by words.options.bound script (λ ps. CanSolve ps words.options words.cert) (λ ps c h. said-solve ps words.options words.cert c h) (session_fault words.options.bound script) can.0 can.1)
+said (Some (minimize words)) script cert_in parts course can = said-same course _ can.2
+    (said-by words.options.bound script (λ ps. CanMinimize (goal_in script) ps words) (λ ps c h. said-minimize (goal_in script) ps words c h) (session_fault words.options.bound script) can.0 can.1)
 said (Some (check words)) script cert_in parts course can = said-same course _ can.2
-    (said-by words.bound script (λ ps. CanCheck (goal_in script) ps words.bound words.cert cert_in) (λ ps c h. said-same c _ h (said-check (goal_in script) ps words.bound cert_in)) (session_fault words.bound script) can.0 can.1)
+    (said-by words.bound script (λ ps. CanCheck (goal_in script) ps words.bound words.cert cert_in) (λ ps c h. said-same c _ h.2 (said-check (goal_in script) h.0 ps words.bound cert_in)) (session_fault words.bound script) can.0 can.1)
 said (Some (upgrade words)) script cert_in parts course can = said-same course _ can.2
     (said-by words.bound script (λ ps. CanUpgrade ps words.bound words.cert words.out cert_in) (λ ps c h. said-upgrade ps words.bound words.cert words.out cert_in c h) (session_fault words.bound script) can.0 can.1)
 said (Some (plan words)) script cert_in parts course can = said-same course _ can.2

@@ -1,5 +1,6 @@
 pub mod Answer
 pub mod Both
+pub mod Bounds
 pub mod Can
 pub mod Check
 pub mod Course

@@ -10,7 +10,8 @@ use cert_least::Least;
 use dyadic::{Dy, Ext};
 use std::alloc::{AllocError, Global};
 
-fn append_lower(text: &mut Vec<u8>, lower: Option<Dy>) -> Result<(), AllocError>
+/// Appends a lower bound, or `none` for minus infinity.
+pub(crate) fn append_lower(text: &mut Vec<u8>, lower: Option<Dy>) -> Result<(), AllocError>
     ensures { OnOk result (text.new.items
         ≡ text.old.items ++ lower_text (option_map dyadic_of lower)) }
 {
@@ -29,7 +30,8 @@ fn append_end(text: &mut Vec<u8>, end: Ext) -> Result<(), AllocError>
     }
 }
 
-fn append_upper(text: &mut Vec<u8>, upper: Option<Ext>) -> Result<(), AllocError>
+/// Appends a line of an upper end, where there is one.
+pub(crate) fn append_upper(text: &mut Vec<u8>, upper: Option<Ext>) -> Result<(), AllocError>
     ensures { OnOk result (text.new.items
         ≡ text.old.items ++ told_upper (option_map ext_of upper)) }
 {

@@ -117,6 +117,7 @@ fn read_with_goal<S: ScriptReader>(
         (λ halt. IsHaltOfScript bound bytes.now halt) }
     ensures goal { IfOk result (λ read. read.goal ≡ goal_in bytes.now) }
     ensures goes_on { IfOk result (λ read. IsSession (problems_of read.session)) }
+    ensures within { IfOk result (λ read. AreWithin read.session) }
     ensures atom { IfOk result (λ read. IsGoalOf read.goal read.session) }
 {
     match reader.read_with_goal(alloc, bytes, bound) {
@@ -125,7 +126,7 @@ fn read_with_goal<S: ScriptReader>(
     }
 }
 
-/// The problems of the checks of the script on its port, with its goal.
+/// The problems of the checks of the script on its port, which a search takes, with its goal.
 pub fn fetch_with_goal<S: ScriptReader, D: Desk>(
     reader: &S,
     alloc: Global,
@@ -140,6 +141,7 @@ pub fn fetch_with_goal<S: ScriptReader, D: Desk>(
     ensures goal { IfOk result (λ read. IfSome (D.sight desk.old).script (λ script.
         read.goal ≡ goal_in script)) }
     ensures goes_on { IfOk result (λ read. IsSession (problems_of read.session)) }
+    ensures within { IfOk result (λ read. AreWithin read.session) }
     ensures atom { IfOk result (λ read. IsGoalOf read.goal read.session) }
     ensures other { (D.sight desk.new).cert_in ≡ (D.sight desk.old).cert_in }
 {
