@@ -30,6 +30,16 @@ use Rattle.least_search.specs.declared.aim.Aim.{Aim}
 
 -- ---- books
 
+-- what a searcher gives of a problem, asked for by options: a book of both, which opened in the root state with no lemmas, with an answer
+pub record IsBookOf (q : Parts) (o : Options) (b : BookModel) : Type 0 where
+  pub problem : b.problem ≡ q
+  pub options : b.options ≡ o
+  pub alone : b.kept ≡ []
+  pub root : IsOfRoot b
+  pub book : IsBook b
+  pub verdict : verdict_of b ≢ verdict.NotYet
+  pub left : LeavesDue b
+
 -- what a searcher leaves of a problem, asked for margins and a bound as in the options
 pub record IsSearched (o : Options) (q : Parts) (b : BookModel) : Type 0 where
   pub problem : b.problem ≡ q

@@ -7,14 +7,13 @@ ghost use Rattle.cert_model.specs.Due.{is_crossed_box};
 ghost use Rattle.cert_model.specs.Least.{IsSettled};
 ghost use Rattle.cover_book.specs.Limits.{IsWithinLimits};
 ghost use Rattle.least_search.specs.Aims.{IsReady, IsSameAim};
-ghost use Rattle.least_search.specs.Found.{AreBoundsOf, IsEndingAt, IsFound, IsLeast, IsSearched, IsShownFor, bound_of};
+ghost use Rattle.least_search.specs.Found.{AreBoundsOf, IsBookOf, IsEndingAt, IsFound, IsLeast, IsSearched, IsShownFor, bound_of};
 ghost use Rattle.least_search.specs.Limits.{IsLimited};
 ghost use Rattle.least_search.specs.declared.found.Ending.TheVariants as ending;
 
 use crate::aim::Aim;
 use crate::found::{Ending, Found, Least, Lower};
 use crate::limits::{Between, Limited, next_limit};
-use crate::searcher::Searcher;
 use cover_book::{Book, BookVerdict};
 use cover_data::{Options, Point};
 use dyadic::{Dy, Ext, add_down, at_most, two_to_minus};
@@ -57,13 +56,16 @@ fn is_settled(lower: Option<Dy>, upper: Ext, gap_bits: u32) -> bool
 }
 
 // The problem with a limit is searched with what is left of the budget.
-fn search_limited<S: Searcher>(
-    searcher: &S,
+fn search_limited<F: Fn(Global, &Problem, &Options) -> Result<Book, AllocError>>(
+    searcher: &F,
     alloc: Global,
     aim: &Aim<'_>,
     limited: &Limited,
     budget: u32,
 ) -> Result<Book, AllocError>
+    requires takes { (a p o : _) → IsWithinLimits p.now o.now → F.pre searcher.now a p o }
+    requires gives { (a p o r : _) → F.post searcher.now a p o r →
+        IfOk r (IsBookOf p.now o.now) }
     requires ready { IsReady aim.now }
     requires limited { IsLimited aim.now.problem.now aim.now.goal limited.now }
     requires budget { budget ≤ 1048576 }
@@ -73,7 +75,7 @@ fn search_limited<S: Searcher>(
         budget,
         ..*aim.options
     };
-    searcher.search(alloc, &limited.problem, &options)
+    searcher(alloc, &limited.problem, &options)
 }
 
 // The point of a book, where it is better.
@@ -138,12 +140,15 @@ fn take_book(
 
 // One more search, unless the bounds are near, the budget is spent, or there is no limit between them. Each costs one of
 // the budget, and what it splits.
-fn step<S: Searcher>(
-    searcher: &S,
+fn step<F: Fn(Global, &Problem, &Options) -> Result<Book, AllocError>>(
+    searcher: &F,
     alloc: Global,
     aim: &mut Aim<'_>,
     bounds: &mut Bounds,
 ) -> Result<Option<Ending>, AllocError>
+    requires takes { (a p o : _) → IsWithinLimits p.now o.now → F.pre searcher.now a p o }
+    requires gives { (a p o r : _) → F.post searcher.now a p o r →
+        IfOk r (IsBookOf p.now o.now) }
     requires ready { IsReady aim.old }
     requires bounds { AreBoundsOf aim.old bounds.old }
     ensures ready { IsReady aim.new }
@@ -173,12 +178,15 @@ fn step<S: Searcher>(
 }
 
 // Search after search.
-fn improve<S: Searcher>(
-    searcher: &S,
+fn improve<F: Fn(Global, &Problem, &Options) -> Result<Book, AllocError>>(
+    searcher: &F,
     alloc: Global,
     aim: &mut Aim<'_>,
     bounds: &mut Bounds,
 ) -> Result<Ending, AllocError>
+    requires takes { (a p o : _) → IsWithinLimits p.now o.now → F.pre searcher.now a p o }
+    requires gives { (a p o r : _) → F.post searcher.now a p o r →
+        IfOk r (IsBookOf p.now o.now) }
     requires ready { IsReady aim.old }
     requires bounds { AreBoundsOf aim.old bounds.old }
     ensures bounds { AreBoundsOf aim.old bounds.new }
@@ -216,13 +224,16 @@ fn bounds_of(
 }
 
 // Better and better bounds, from a point of the first search and the rest of the budget on.
-fn find<S: Searcher>(
-    searcher: &S,
+fn find<F: Fn(Global, &Problem, &Options) -> Result<Book, AllocError>>(
+    searcher: &F,
     alloc: Global,
     aim: &mut Aim<'_>,
     point: &Point,
     budget: u32,
 ) -> Result<Found, AllocError>
+    requires takes { (a p o : _) → IsWithinLimits p.now o.now → F.pre searcher.now a p o }
+    requires gives { (a p o r : _) → F.post searcher.now a p o r →
+        IfOk r (IsBookOf p.now o.now) }
     requires ready { IsReady aim.old }
     requires shown { IsShownFor aim.old point.now }
     requires budget { budget ≤ 1048576 }
@@ -242,21 +253,25 @@ fn find<S: Searcher>(
 
 /// Searches for the least value of the goal, the term of atom `goal`, until the bounds are within `2^-gap_bits`, the budget
 /// of the options, which is that of all searches together, is spent, or no search helps any more. Each search but the first
-/// costs one of the budget beside what it splits.
-pub fn minimize<S: Searcher>(
-    searcher: &S,
+/// costs one of the budget beside what it splits. The searcher is called with a problem and options, and gives a book of
+/// them with an answer.
+pub fn minimize<F: Fn(Global, &Problem, &Options) -> Result<Book, AllocError>>(
+    searcher: &F,
     alloc: Global,
     problem: &Problem,
     goal: u32,
     gap_bits: u32,
     options: &Options,
 ) -> Result<Least, AllocError>
+    requires takes { (a p o : _) → IsWithinLimits p.now o.now → F.pre searcher.now a p o }
+    requires gives { (a p o r : _) → F.post searcher.now a p o r →
+        IfOk r (IsBookOf p.now o.now) }
     requires goal { goal < length problem.now.atoms }
     requires gap { gap_bits ≤ 30 }
     requires within { IsWithinLimits problem.now options.now }
     ensures { IfOk result (IsLeast problem.now goal gap_bits options.now) }
 {
-    let book = searcher.search(alloc, problem, options)?;
+    let book = searcher(alloc, problem, options)?;
     let Some(point) = book.point() else {
         return Ok(Least::NoPoint(book));
     };
