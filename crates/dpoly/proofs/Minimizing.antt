@@ -1,7 +1,7 @@
 -- From what a search for a least value finds to the end of a run.
-use Rattle.std.proofs.Common.{◌≡◌, ◌≢◌, ◌<◌, inl, inr, ℕ, List, [], Bool, Option, Some, None, length, refl, ap, sym, subst, ◌∙◌, arith}
+use Rattle.std.proofs.Common.{◌≡◌, ◌≢◌, ◌<◌, inl, inr, ℕ, List, [], ◌∷◌, Bool, Option, Some, None, length, refl, ap, sym, subst, ◌∙◌, arith}
 use Rattle.std.specs.Prelude.{map, option_map, slice_get}
-use Rattle.std.proofs.lemmas.Option.{same_Some}
+use Rattle.std.proofs.lemmas.Option.{none-some, same_Some}
 use Rattle.desk.specs.Sight.{Sight}
 use Rattle.command_line.specs.Words.{Minimize, AreOptions, IsMinimize}
 use Rattle.command_line.specs.declared.request.Options.{Options}
@@ -10,7 +10,6 @@ use Rattle.dyadic.specs.declared.dy.Dy.{Dy}
 use Rattle.interval_model.specs.Space.{Space}
 use Rattle.poly_graph.specs.Problem.{Problem}
 use Rattle.poly_graph.specs.ProblemViews.{Parts, problem_of}
-use Rattle.cover_model.specs.State.{Loosenings}
 use Rattle.cover_model.specs.Fits.{IsShownAt}
 use Rattle.cover_data.specs.declared.margins.Margins.{Margins}
 use Rattle.cover_data.specs.declared.margins.Options as cover
@@ -19,14 +18,21 @@ use Rattle.cert_model.specs.Due.{left_open}
 use Rattle.cert_model.specs.Least.{Least, least, upper_at, IsGoalAccepted, IsSettled}
 use Rattle.cert_model.specs.Limited.{has_room}
 use Rattle.cert_model.specs.AnswerText.{solve_text}
-use Rattle.cover_book.specs.Model.{BookModel, problem_in}
-use Rattle.least_search.specs.Found.{bound_of, IsClosed, IsFirst, IsFound, IsLower}
+use Rattle.cover_model.specs.State.{root_state}
+use Rattle.cover_book.specs.Keeps.{IsBook}
+use Rattle.cover_book.specs.Left.{LeavesDue}
+use Rattle.cover_book.specs.Model.{BookModel, opening, problem_in}
+use Rattle.cover_book.specs.Verdict.{verdict_of}
+use Rattle.cover_book.specs.declared.verdict.BookVerdict.TheVariants.{NotYet}
+use Rattle.solve_core.specs.Reaches.{Reaches}
+use Rattle.solve_core.proofs.Reached.{reaches_same}
+use Rattle.least_search.specs.Found.{bound_of, IsBookOf, IsClosed, IsFirst, IsFound, IsLower}
 use Rattle.least_search.specs.declared.found.Ending.TheVariants as ending
 use Rattle.least_search.specs.declared.found.Found.{Found}
 use Rattle.least_search.specs.declared.found.Lower.{Lower}
 use Rattle.least_search.specs.declared.found.Lower.TheVariants as shown
 use Rattle.least_text.specs.Means.{IsLimitedCertificate, IsOverCertificate}
-use Rattle.check_run.specs.declared.minimized.Cause as told
+use Rattle.check_run.specs.declared.minimized.Cause as tells
 use Rattle.check_run.specs.declared.minimized.Cause.TheVariants.{Near, Spent, Narrow, NoLimit}
 use Rattle.check_run.specs.declared.status.Status.{Status}
 use Rattle.check_run.specs.Answer.{loosenings_of}
@@ -39,6 +45,21 @@ use Rattle.dpoly.specs.declared.answers.SearchAnswer.{SearchAnswer}
 use Rattle.dpoly.specs.Minimize.{overs_of, value_of, IsAcceptedFor, IsFoundAnswer, IsLeftAnswer, IsMinimizeAnswer}
 use Rattle.dpoly.specs.Search.{search_options, IsLeftBy}
 use Rattle.dpoly.proofs.Solving.{written}
+
+-- ---- the searches
+
+pub book_of : (q : Parts) (o : cover.Options) (b : BookModel) → b.problem ≡ q → b.options ≡ o → IsBook b → Reaches (opening q o) b → verdict_of b ≢ NotYet → LeavesDue b → IsBookOf q o b
+book_of q o b problem options book reached verdict left =
+    let same = reaches_same reached in
+    record {
+      problem = problem;
+      options = options;
+      alone = same.2;
+      root = same.3 ∙ ap (λ (r : Parts). root_state (problem_of r)) (sym same.0);
+      book = book;
+      verdict = verdict;
+      left = left;
+    }
 
 -- ---- the certificate
 
@@ -81,14 +102,14 @@ module _ (q : Parts) (g gap : ℕ) (o : cover.Options) (f : Found) (found : IsFo
 
 -- ---- answers
 
-cause-for : (p : Problem) (g gap : ℕ) (c : told.Cause) (x : Least) (space : Space) → x.point ≡ Some space → (c ≡ Near → IsSettled gap x.lower (upper_at p g space)) → IsCauseFor p g gap (cause_of c) x
+cause-for : (p : Problem) (g gap : ℕ) (c : tells.Cause) (x : Least) (space : Space) → x.point ≡ Some space → (c ≡ Near → IsSettled gap x.lower (upper_at p g space)) → IsCauseFor p g gap (cause_of c) x
 cause-for p g gap Near x space at h = (space, at, h refl)
 cause-for p g gap Spent x space at h = tt
 cause-for p g gap Narrow x space at h = tt
 cause-for p g gap NoLimit x space at h = tt
 
 pub found_answer : (q : Parts) (g : ℕ) (words : Minimize) (f : Found) (told : SearchAnswer) → IsFound q g words.gap_bits (search_options words.options) f → IsAcceptedFor q g (search_options words.options) f told.cert.items →
-    (c : told.Cause) → (c ≡ Near → f.ending ≡ ending.Minimum) → IsMinimizeText (problem_of q) words.options.budget (cause_of c) (option_map dyadic_of (bound_of f.lower)) (ext_of f.upper) f.point told.text.items → IsFoundAnswer (problem_of q) g words told
+    (c : tells.Cause) → (c ≡ Near → f.ending ≡ ending.Minimum) → IsMinimizeText (problem_of q) words.options.budget (cause_of c) (option_map dyadic_of (bound_of f.lower)) (ext_of f.upper) f.point told.text.items → IsFoundAnswer (problem_of q) g words told
 found_answer q g words f told found accepted c near text = record {
   cause = cause_of c;
   value = value_of (problem_of q) f;
@@ -119,7 +140,7 @@ some_check session goal g some is = of-session session (subst (λ (o : Option �
   of-session (c ∷ session) h = omega arith
 
 pub within_first : (session : List (Parts × Bool)) (p : Parts) → slice_get (map (λ (q : Parts × Bool). q.0) session) 0 ≡ Some p → AreWithin session → IsWithin p
-within_first [] p at w = cc
+within_first [] p at w = absurd (none-some p at)
 within_first ((q, x) ∷ session) p at w = subst IsWithin (same_Some q p at) w.0
 
 -- ---- the end of a run behind its problem

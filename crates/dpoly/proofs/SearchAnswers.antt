@@ -31,7 +31,9 @@ use Rattle.cert_text.specs.Stuck.{stuck_at, IsFirstStuck}
 use Rattle.cert_text.proofs.Leftovers.{left_tells_of_nodes}
 use Rattle.check_run.specs.Answer.{loosenings_of, IsAnswer}
 use Rattle.check_run.specs.Script.{IsWithin}
-use Rattle.dpoly.specs.Search.{search_options, IsLeftBy, SaysLeft}
+use Rattle.dpoly.specs.declared.answers.SearchAnswer.{SearchAnswer}
+use Rattle.dpoly.specs.Minimize.{IsLeftAnswer}
+use Rattle.dpoly.specs.Search.{search_options, IsLeftBy, IsSearchAnswer, SaysLeft}
 
 -- ---- the condition of a search
 
@@ -232,6 +234,10 @@ module _ (b : BookModel) (w : IsBook b) (o : Options) (by : IsLeftBy o b) (n : b
     | inl h ↦ absurd (no-tree-crossed h c)
     | inr h ↦ tree-cover h c
   ]
+
+-- what is told of a book without a point is an answer
+pub search_answer : (p : Problem) (o : Options) (told : SearchAnswer) → IsLeftAnswer p o told → IsSearchAnswer p o told
+search_answer p o told h = record { value = left_open h.left; answer = h.answer; text = h.text }
 
 -- a book that says unsat keeps no point
 pub unsat_keeps_none : (b : BookModel) → verdict_of b ≡ Unsat → b.point ≡ None

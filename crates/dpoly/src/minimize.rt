@@ -5,8 +5,9 @@ ghost use Rattle.command_line.specs.Words.{IsMinimize};
 ghost use Rattle.poly_graph.specs.ProblemViews.{Parts, problem_of};
 ghost use Rattle.problem_session.specs.Session.{problems_of};
 ghost use Rattle.cover_data.specs.Margins.{AreMargins, margins_of};
-ghost use Rattle.least_search.specs.Found.{IsFound, IsLeast};
-ghost use Rattle.least_search.specs.declared.found.Ending.TheVariants as ending;
+ghost use Rattle.cover_book.specs.Limits.{IsWithinLimits};
+ghost use Rattle.least_search.specs.Found.{IsBookOf, IsFound, IsLeast};
+ghost use Rattle.least_search.specs.declared.found.Ending.TheVariants as why;
 ghost use Rattle.check_run.specs.declared.minimized.Cause.TheVariants as cause;
 ghost use Rattle.check_run.specs.Check.{IsGoalOf};
 ghost use Rattle.check_run.specs.Course.{RunEnds};
@@ -23,7 +24,7 @@ use command_line::MinimizeWords;
 use cover_book::Book;
 use cover_data::Options;
 use desk::Desk;
-use least_search::{Ending, Found, Least, Lower, Searcher, minimize};
+use least_search::{Ending, Found, Least, Lower, minimize};
 use least_text::{write_limited, write_over};
 use poly_graph::Problem;
 use script_reading::WithGoal;
@@ -32,15 +33,18 @@ use std::alloc::{AllocError, Global};
 use std::sync::Wait;
 use std::thread::Threads;
 
-impl<'a, R: Threads + Wait + Sync, G: Gate + Sync> Searcher for Engine<'a, R, G> {
-    fn search(
-        &self,
-        alloc: Global,
-        problem: &Problem,
-        options: &Options,
-    ) -> Result<Book, AllocError> {
-        solve(self.rt, alloc, problem, options, self.gate)
-    }
+// The book that a search for a problem with these options leaves.
+fn search_with<R: Threads + Wait + Sync, G: Gate + Sync>(
+    engine: &Engine<'_, R, G>,
+    alloc: Global,
+    problem: &Problem,
+    options: &Options,
+) -> Result<Book, AllocError>
+    requires { IsWithinLimits problem.now options.now }
+    ensures { IfOk result (IsBookOf problem.now options.now) }
+{
+    let book = solve(engine.rt, alloc, problem, options, engine.gate)?;
+    Ok(book)
 }
 
 // What a search for the least value finds.
@@ -58,12 +62,16 @@ fn search_least<R: Threads + Wait + Sync, G: Gate + Sync>(
         (IsLeast problem.now goal asked.now.gap_bits (options_of asked.now.options)) }
 {
     let options = search_options(&asked.options);
-    minimize(engine, alloc, problem, goal, asked.gap_bits, &options)
+    let searcher = |alloc: Global, problem: &Problem, options: &Options| -> Result<Book, AllocError>
+        requires { IsWithinLimits problem.now options.now }
+        ensures { IfOk result (IsBookOf problem.now options.now) }
+    { search_with(engine, alloc, problem, options) };
+    minimize(&searcher, alloc, problem, goal, asked.gap_bits, &options)
 }
 
 // Why the search ended, as it is told.
 fn cause_of(ending: Ending) -> Cause
-    ensures { result ≡ cause.Near → ending ≡ ending.Minimum }
+    ensures { result ≡ cause.Near → ending ≡ why.Minimum }
 {
     match ending {
         Ending::Minimum => Cause::Near,
