@@ -32,7 +32,7 @@ pub use checked::{confirmed_delta_sat, confirmed_unsat, left_open};
 pub use goal::check_goal;
 pub use joined::{keep_joined, not_joined, not_joined_at, refused_part};
 pub use least::confirmed_least;
-pub use minimized::{Cause, end_no_goal, goal_bounds};
+pub use minimized::{Cause, GoalBounds, end_no_goal, goal_bounds};
 pub use planned::{plan_least_bits, plan_no_atom, plan_no_axis};
 pub use ports::{finish, say};
 pub use refused::cert_fault;

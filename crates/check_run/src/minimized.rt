@@ -32,6 +32,14 @@ pub enum Cause {
     NoLimit,
 }
 
+/// Bounds of a goal: no point that satisfies the script, loosened by the margin, has a lesser value than `lower`, none for
+/// minus infinity; at a point that satisfies it at delta the goal's enclosure ends at `upper`.
+#[derive(Clone, Copy, Debug, PartialEq, Eq)]
+pub struct GoalBounds {
+    pub lower: Option<Dy>,
+    pub upper: Ext,
+}
+
 // The first line.
 fn cause_text(alloc: Global, cause: Cause, budget: u64) -> Result<Vec<u8>, AllocError>
     ensures { IfOk result (λ text. text.items ≡ cause_text budget (cause_of cause)) }
@@ -44,33 +52,30 @@ fn cause_text(alloc: Global, cause: Cause, budget: u64) -> Result<Vec<u8>, Alloc
     }
 }
 
-fn append_bounds(text: &mut Vec<u8>, lower: Option<Dy>, upper: Ext) -> Result<(), AllocError>
+fn append_bounds(text: &mut Vec<u8>, bounds: GoalBounds) -> Result<(), AllocError>
     ensures { OnOk result (text.new.items ≡ text.old.items
-        ++ bound_lines (option_map dyadic_of lower) (ext_of upper)) }
+        ++ bound_lines (option_map dyadic_of bounds.lower) (ext_of bounds.upper)) }
 {
     text.extend_from_slice(b"lower ")?;
-    append_lower(text, lower)?;
+    append_lower(text, bounds.lower)?;
     text.extend_from_slice(b"\n")?;
-    append_upper(text, Some(upper))
+    append_upper(text, Some(bounds.upper))
 }
 
-/// No point that satisfies the script, loosened by the margin, has a lesser value of the goal than `lower`, none for minus
-/// infinity; at `point`, which satisfies it at delta, the goal's enclosure ends at `upper`. Says also why the search ended,
-/// within the budget of branches.
+/// The bounds of a goal and the point of the upper one, and why the search ended, within the budget of branches.
 pub fn goal_bounds(
     alloc: Global,
     problem: &Problem,
     cause: Cause,
     budget: u64,
-    lower: Option<Dy>,
-    upper: Ext,
+    bounds: GoalBounds,
     point: &Space,
 ) -> Result<Vec<u8>, AllocError>
     ensures { IfOk result (λ text. IsMinimizeText (problem_of problem.now) budget (cause_of cause)
-        (option_map dyadic_of lower) (ext_of upper) (space_of point.now) text.items) }
+        (option_map dyadic_of bounds.lower) (ext_of bounds.upper) (space_of point.now) text.items) }
 {
     let mut text = cause_text(alloc, cause, budget)?;
-    append_bounds(&mut text, lower, upper)?;
+    append_bounds(&mut text, bounds)?;
     append_axes(&mut text, problem.axes(), point, Shown::Value)?;
     Ok(text)
 }

@@ -11,6 +11,6 @@ use Rattle.check_run.proofs.minimized.goal_bounds.Goals as goal
 
 pub returns : goal.returns
 returns c =
-    bounds_told (problem_of c.args.problem.now) c.args.budget (cause_of c.args.cause) (option_map dyadic_of c.args.lower) (ext_of c.args.upper) (space_of c.args.point.now)
+    bounds_told (problem_of c.args.problem.now) c.args.budget (cause_of c.args.cause) (option_map dyadic_of c.args.bounds.lower) (ext_of c.args.bounds.upper) (space_of c.args.point.now)
     c.in_ok-text.text.items c.append_bounds.new.text.items c.append_axes.new.text.items c.in_ok-text.ensures c.in_ok-append_bounds.ensures
     (c.in_ok-append_axes.ensures ∙ ap (λ (axes : List Axis). c.append_bounds.new.text.items ++ axes_text value_text axes (space_of c.args.point.now)) c.axes.ensures.axes)
