@@ -7,6 +7,7 @@ use Rattle.command_line.specs.Words.{Minimize, AreOptions, IsMinimize}
 use Rattle.command_line.specs.declared.request.Options.{Options}
 use Rattle.dyadic.specs.Views.{dyadic_of, ext_of}
 use Rattle.dyadic.specs.declared.dy.Dy.{Dy}
+use Rattle.dyadic.specs.declared.dy.Ext.{Ext}
 use Rattle.interval_model.specs.Space.{Space}
 use Rattle.poly_graph.specs.Problem.{Problem}
 use Rattle.poly_graph.specs.ProblemViews.{Parts, problem_of}
@@ -107,6 +108,18 @@ cause-for p g gap Near x space at h = (space, at, h refl)
 cause-for p g gap Spent x space at h = tt
 cause-for p g gap Narrow x space at h = tt
 cause-for p g gap NoLimit x space at h = tt
+
+-- the text with the words' own numbers
+pub text_as : (p : Problem) (n budget : ℕ) (c : Cause) (low bound : Option Dy) (e : Ext) (y x : Space) (text : List ℕ) → n ≡ budget → low ≡ bound → y ≡ x → IsMinimizeText p n c (option_map dyadic_of low) (ext_of e) y text →
+    IsMinimizeText p budget c (option_map dyadic_of bound) (ext_of e) x text
+text_as p n budget c low bound e y x text same_budget same_low same_point h =
+    let at_budget = subst (λ (m : ℕ). IsMinimizeText p m c (option_map dyadic_of low) (ext_of e) y text) same_budget h in
+    let at_low = subst (λ (l : Option Dy). IsMinimizeText p budget c (option_map dyadic_of l) (ext_of e) y text) same_low at_budget in
+    subst (λ (z : Space). IsMinimizeText p budget c (option_map dyadic_of bound) (ext_of e) z text) same_point at_low
+
+-- the certificate with the words' own options
+pub certificate_as : (q : Parts) (g gap : ℕ) (a o : cover.Options) (f : Found) (cert : List ℕ) → a ≡ o → (IsFound q g gap a f → IsAcceptedFor q g a f cert) → IsFound q g gap o f → IsAcceptedFor q g o f cert
+certificate_as q g gap a o f cert same h = subst (λ (x : cover.Options). IsFound q g gap x f → IsAcceptedFor q g x f cert) same h
 
 pub found_answer : (q : Parts) (g : ℕ) (words : Minimize) (f : Found) (told : SearchAnswer) → IsFound q g words.gap_bits (search_options words.options) f → IsAcceptedFor q g (search_options words.options) f told.cert.items →
     (c : tells.Cause) → (c ≡ Near → f.ending ≡ ending.Minimum) → IsMinimizeText (problem_of q) words.options.budget (cause_of c) (option_map dyadic_of (bound_of f.lower)) (ext_of f.upper) f.point told.text.items → IsFoundAnswer (problem_of q) g words told

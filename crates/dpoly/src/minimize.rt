@@ -19,7 +19,7 @@ ghost use Rattle.dpoly.specs.Search.{search_options as options_of};
 
 use crate::answers::{SearchAnswer, search_options, tell_left};
 use crate::leaf::Engine;
-use check_run::{Cause, Status, end_no_goal, finish, goal_bounds};
+use check_run::{Cause, GoalBounds, Status, end_no_goal, finish, goal_bounds};
 use command_line::MinimizeWords;
 use cover_book::Book;
 use cover_data::Options;
@@ -109,9 +109,11 @@ fn tell_found(
     let cert = certificate(alloc, &search_options(&asked.options), found)?;
     let cause = cause_of(found.ending);
     let budget = u64::from(asked.options.budget);
-    let lower = found.lower.bound();
-    let point = found.point.space();
-    let text = goal_bounds(alloc, problem, cause, budget, lower, found.upper, point)?;
+    let bounds = GoalBounds {
+        lower: found.lower.bound(),
+        upper: found.upper,
+    };
+    let text = goal_bounds(alloc, problem, cause, budget, bounds, found.point.space())?;
     Ok(SearchAnswer { cert, text })
 }
 
