@@ -22,12 +22,12 @@ use Rattle.cert_model.specs.AnswerText.{solve_text}
 use Rattle.cover_model.specs.State.{root_state}
 use Rattle.cover_book.specs.Keeps.{IsBook}
 use Rattle.cover_book.specs.Left.{LeavesDue}
-use Rattle.cover_book.specs.Model.{BookModel, opening, problem_in}
+use Rattle.cover_book.specs.Model.{BookModel, opening}
 use Rattle.cover_book.specs.Verdict.{verdict_of}
 use Rattle.cover_book.specs.declared.verdict.BookVerdict.TheVariants.{NotYet}
 use Rattle.solve_core.specs.Reaches.{Reaches}
 use Rattle.solve_core.proofs.Reached.{reaches_same}
-use Rattle.least_search.specs.Found.{bound_of, IsBookOf, IsClosed, IsFirst, IsFound, IsLower}
+use Rattle.least_search.specs.Found.{bound_of, IsBookOf, IsClosed, IsFound, IsLower}
 use Rattle.least_search.specs.declared.found.Ending.TheVariants as ending
 use Rattle.least_search.specs.declared.found.Found.{Found}
 use Rattle.least_search.specs.declared.found.Lower.{Lower}
@@ -43,8 +43,8 @@ use Rattle.check_run.specs.Course.{gives, Ends, RunEnds, on_course}
 use Rattle.check_run.specs.Minimized.{CanTellLeast, Cause, IsCauseFor, minimize_text}
 use Rattle.check_run.specs.Script.{AreWithin, IsWithin}
 use Rattle.dpoly.specs.declared.answers.SearchAnswer.{SearchAnswer}
-use Rattle.dpoly.specs.Minimize.{overs_of, value_of, IsAcceptedFor, IsFoundAnswer, IsLeftAnswer, IsMinimizeAnswer}
-use Rattle.dpoly.specs.Search.{search_options, IsLeftBy}
+use Rattle.dpoly.specs.Minimize.{overs_of, value_of, IsAcceptedFor, IsFoundAnswer, IsMinimizeAnswer}
+use Rattle.dpoly.specs.Search.{search_options}
 use Rattle.dpoly.proofs.Solving.{written}
 
 -- ---- the searches
@@ -136,13 +136,6 @@ found_answer q g words f told found accepted c near text = record {
   };
   text = text g (value_of (problem_of q) f) refl refl found.upper;
 }
-
--- the first search left its book
-pub left_by_first : (q : Parts) (o : Options) (b : BookModel) → IsFirst q (search_options o) b → IsLeftBy o b
-left_by_first q o b h = record { asked = h.options; ended = h.searched.verdict; due = h.left }
-
-pub left_answer : (q : Parts) (o : Options) (b : BookModel) → IsFirst q (search_options o) b → (told : SearchAnswer) → IsLeftAnswer (problem_in b) o told → IsLeftAnswer (problem_of q) o told
-left_answer q o b h told is = subst (λ (r : Parts). IsLeftAnswer (problem_of r) o told) h.searched.problem is
 
 -- ---- the only problem
 
