@@ -92,11 +92,7 @@ fn left_text(alloc: Global, book: &Book, options: &Options) -> Result<Vec<u8>, A
 }
 
 /// The certificate of a book without a point that a search left, and its answer.
-pub fn tell_left(
-    alloc: Global,
-    book: &Book,
-    options: &Options,
-) -> Result<SearchAnswer, AllocError>
+pub fn tell_left(alloc: Global, book: &Book, options: &Options) -> Result<SearchAnswer, AllocError>
     requires left { IsLeftBy options.now book.now }
     requires alone { book.now.kept ≡ [] }
     requires root { IsOfRoot book.now }

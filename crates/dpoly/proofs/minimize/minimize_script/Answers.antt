@@ -22,4 +22,4 @@ returns-in-Ok-minimize_problem-clause-ends g c =
     let told = c.in-Ok-minimize_problem.told in
     minimize_ends c.args.read.now.session c.args.read.now.goal (seen_minimize c.args.asked.now) (g.D.Desk.sight c.args.desk.now) (g.D.Desk.sight c.finish.new.desk) c.finish.result c.in-Some.goal c.in-Ok.problem c.in-Some.is c.requires.goal c.in-Ok.ensures
     (least_ends (problem_of c.in-Ok.problem) c.in-Some.goal (seen_minimize c.args.asked.now) told _ _ (g.D.Desk.sight c.args.desk.now) (g.D.Desk.sight c.finish.new.desk) c.finish.result c.deref.ensures.value c.deref-in-Ok-minimize_problem.ensures.value c.finish.ensures.ends
-        c.in-Ok-minimize_problem.ensures)
+    c.in-Ok-minimize_problem.ensures)

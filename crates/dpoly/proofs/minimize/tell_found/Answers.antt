@@ -13,5 +13,5 @@ returns c g found =
     let cert = c.in_ok-cert.cert.items in let text = c.in_ok-text.text.items in let cause = c.cause_of-cause.result in
     let accepted = certificate_as q g gap c.search_options.result o f cert c.search_options.ensures (c.in_ok-cert.ensures q g gap) found in
     let says = text_as (problem_of q) c.from-budget.result c.args.asked.now.options.budget (cause_of cause) c.bound.result (bound_of f.lower) f.upper (space_of c.space.result.now) f.point text
-        c.from-budget.ensures c.bound.ensures c.space.ensures c.in_ok-text.ensures in
+    c.from-budget.ensures c.bound.ensures c.space.ensures c.in_ok-text.ensures in
     found_answer q g (seen_minimize c.args.asked.now) f (record { cert = c.in_ok-cert.cert; text = c.in_ok-text.text }) found accepted cause c.cause_of-cause.ensures says
