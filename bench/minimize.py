@@ -1,6 +1,7 @@
 #!/usr/bin/env python3
 """Finds the least value of each goal of bench/minimize, and prints a table: the known value, the bounds that were found, splits and seconds with one
-worker, with four, of `dpoly-check`, and of `solve` when it is told the lower bound and has to show that no point is at or below it.
+worker, with four, of `dpoly-check`, and of `solve` when it is told the lower bound and has to show that no point is at or below it (scaled by 2^12, as
+the limits of `minimize` are at its usual gap).
 `bench/minimize.py PROGRAM CHECKER [--seconds N] [NAME ..]`."""
 import os
 import re
@@ -60,7 +61,7 @@ def row(program, checker, name, least, seconds, folder):
     goal = text[at + len('(minimize ') : end]
     lower = found[1] if found[1] != 'none' else '0'
     with open(told, 'w', encoding='ascii') as file:
-        file.write(text[:at] + f'(assert (<= {goal} {literal(number(lower))}))' + text[end + 1 :])
+        file.write(text[:at] + f'(assert (<= (* 4096 {goal}) {literal(4096 * number(lower))}))' + text[end + 1 :])
     _, solved, alone = timed([program, 'solve', told, os.path.join(folder, 'alone'), '--budget', '1048576'], seconds)
     confirmed = said.startswith('confirmed lower ' + found[1])
     values = [f'{float(number(it)):.6g}' if it != 'none' else it for it in found.groups()]
