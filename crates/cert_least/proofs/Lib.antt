@@ -5,6 +5,7 @@ pub mod Endings
 pub mod Fed
 pub mod Feeding
 pub mod HeaderLines
+pub mod Headers
 pub mod Leans
 pub mod Led
 pub mod Lines

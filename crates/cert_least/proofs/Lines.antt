@@ -1,10 +1,11 @@
 -- Where one line leads, phase by phase.
-use Rattle.std.proofs.Common.{◌≡◌, ℕ, List, [], ◌∷◌, Bool, true, false, cond, Option, Some, None, Result, Ok, Err, refl, ap, sym, ◌∙◌, subst, inl, inr}
+use Rattle.std.proofs.Common.{◌≡◌, ℕ, List, [], ◌∷◌, Bool, true, false, cond, Option, Some, None, Result, Ok, Err, IsTrue, refl, ap, sym, ◌∙◌, subst, inl, inr}
 use Rattle.std.specs.Prelude.{option_map}
 use Rattle.interval_model.specs.Space.{Space}
 use Rattle.dyadic.specs.Rounding.{Dyadic}
 use Rattle.dyadic.specs.Views.{dyadic_of}
 use Rattle.dyadic.specs.declared.dy.Dy.{Dy}
+use Rattle.dyadic.proofs.Equal.{both_pass}
 use Rattle.poly_graph.specs.Problem.{Declared, real_between, any_bool, Axis, Problem}
 use Rattle.poly_graph.specs.ProblemViews.{Parts, problem_of}
 use Rattle.cover_line.specs.Words.{word_of}
@@ -13,7 +14,7 @@ use Rattle.cover_model.specs.Rules.{Line, open_line}
 use Rattle.cert_read.specs.CertLine.{CertLine, version, margin, delta, bound, lower, goal, cover, point_word, end_word, real_value, bool_value, says_both, says_true, says_false, rule_line, over}
 use Rattle.cert_model.specs.Due.{BadHeader, WrongBound, NotShown, RuleFails, OverFails, BadNumber, at_point, left_open, Due, version_due, margin_due, delta_due, bound_due, kind_due, root_due, tree_due, coordinate_due, end_due, nothing_due, Next, on, faulty, given, names_well, is_version, same_bound, is_shown, coordinate_next, is_crossed_box}
 use Rattle.cert_model.specs.Due as due
-use Rattle.cert_model.specs.Accepted.{next, ruled_line, loosenings_fit, coordinate_line}
+use Rattle.cert_model.specs.Accepted.{next, ruled_line, loosenings_fit, is_header, coordinate_line}
 use Rattle.cert_model.specs.Limited.{has_room}
 use Rattle.cert_model.specs.Least.{header_due, lower_due, cover_due, in_cover_due, covered_due, in_header, in_cover, in_point, is_over, can_limit, searched, tree_space, over_line, leaves_open, leaf_line, GoalNext, plain_due, least_due, as_plain, as_least}
 use Rattle.cert_check.specs.declared.fault.CertFault.{CertFault}
@@ -26,11 +27,12 @@ use Rattle.cert_least.specs.declared.phase.Phase.TheVariants as phase
 use Rattle.cert_least.specs.declared.phase.Scope.{Scope}
 use Rattle.cert_least.specs.declared.phase.Told.{Told}
 use Rattle.cert_least.specs.Aims.{Aim, aim_next, lean_goal}
-use Rattle.cert_least.specs.Phases.{told_of, lower_of, cover_value, header_at, cover_at, in_cover_at, in_point_at, goal_due, IsBehindVersion, IsHeaderDue, IsKindDue, IsPointDue, IsDueIn, IsDueTo, problem_in, searched_by}
+use Rattle.cert_least.specs.Phases.{told_of, lower_of, cover_value, header_at, cover_at, in_cover_at, in_point_at, goal_due, IsBehindVersion, IsHeaderDue, IsKindDue, IsPointDue, HasHeader, IsDueIn, IsDueTo, problem_in, searched_by}
 use Rattle.cert_least.specs.Said.{header_phase, IsLeastIn, IsLowerIn, IsCoverIn, IsLimitIn, IsOther}
 use Rattle.cert_least.specs.Steps.{IsFaultOrMemory, IsGone, IsPhaseOn, IsPhaseOutcome, IsToldAs, IsBegun, IsLimitBy, leaf_refusal}
 use Rattle.cert_least.proofs.Leans.{plain_leads, header_leads, cover_leads, point_leads}
 use Rattle.cert_least.proofs.Behind.{next_behind, behind_lean}
+use Rattle.cert_least.proofs.Headers.{header_stays, header_told, kind_has_header}
 
 on-same : {d e : Due} → on d ≡ on e → d ≡ e
 on-same e = cc
@@ -72,7 +74,7 @@ module _ (a : Aim) where
   first = record { version = 2; margin = 0; delta = 0 }
 
   header-here : (d : Due) → on (margin_due 2) ≡ on d → IsHeaderDue (told_of first) d
-  header-here d e = subst (IsHeaderDue (told_of first)) (on-same e) refl
+  header-here d e = subst (IsHeaderDue (told_of first)) (on-same e) (refl, refl)
 
   pub first_least : (l : CertLine) → IsLeastIn true l → (d : Due) → d ≡ version_due → (new : Checked) (r : Result Phase CertFault) → IsGone P b (next P b d (version 2)) (phase.Header first) new r →
       Goes phase.Version d l new r
@@ -123,11 +125,12 @@ module _ (a : Aim) where
   header-problem t (bound n) = refl
   header-problem t _ = refl
 
-  delta-fits : (t : Bool) (s s' : Loosenings) → s ≡ s' → (d : Due) → lean_next (given t (bound_due s) BadHeader) ≡ on d → IsHeaderDue s' d
-  delta-fits true s s' h d e = subst (IsHeaderDue s') (on-same e) h
-  delta-fits false s s' h d e = cc
+  delta-fits : (t : Bool) (s s' : Loosenings) → s ≡ s' → IsTrue (is_version s'.version) → loosenings_fit s'.margin_bits s'.delta_bits ≡ t → (d : Due) → lean_next (given t (bound_due s) BadHeader) ≡ on d →
+      IsHeaderDue s' d
+  delta-fits true s s' h v k d e = subst (IsHeaderDue s') (on-same e) (h, both_pass (is_version s'.version) (loosenings_fit s'.margin_bits s'.delta_bits) v k)
+  delta-fits false s s' h v k d e = cc
 
-  bound-fits : (t : Bool) (s s' : Loosenings) → s ≡ s' → (d : Due) → lean_next (given t (kind_due s) WrongBound) ≡ on d → IsKindDue s' d
+  bound-fits : (t : Bool) (s s' : Loosenings) → (s ≡ s') × IsTrue (is_header s') → (d : Due) → lean_next (given t (kind_due s) WrongBound) ≡ on d → IsKindDue s' d
   bound-fits true s s' h d e = subst (IsKindDue s') (on-same e) h
   bound-fits false s s' h d e = cc
 
@@ -138,10 +141,11 @@ module _ (a : Aim) where
   loosened v v' m m' n e e' = ap (loose m n) e ∙ ap (λ (k : ℕ). loose k n v') e'
 
   header-fits : (t : Told) (d : Due) (l : CertLine) → IsHeaderDue (told_of t) d → (d' : Due) → lean_next (next P b d l) ≡ on d' → IsDueIn (header_phase t l) d'
-  header-fits t (margin_due v) (margin m) h d' e = subst (IsHeaderDue (told_of (record t { margin = m }))) (on-same e) (h, refl)
+  header-fits t (margin_due v) (margin m) h d' e = subst (IsHeaderDue (told_of (record t { margin = m }))) (on-same e) (h.0, refl, h.1)
   header-fits t (margin_due v) _ h d' e = cc
   header-fits t (delta_due v m) (delta n) h d' e =
-      delta-fits (loosenings_fit m n) (record { margin_bits = m; delta_bits = n; version = v }) (told_of (record t { delta = n })) (loosened v t.version m t.margin n h.0 h.1) d' e
+      delta-fits (loosenings_fit m n) (record { margin_bits = m; delta_bits = n; version = v }) (told_of (record t { delta = n })) (loosened v t.version m t.margin n h.0 h.1) h.2
+      (ap (λ (k : ℕ). loosenings_fit k n) (sym h.1)) d' e
   header-fits t (delta_due v m) _ h d' e = cc
   header-fits t (bound_due s) (bound n) h d' e = bound-fits (same_bound n b) s (told_of t) h d' e
   header-fits t (bound_due s) _ h d' e = cc
@@ -197,7 +201,7 @@ module _ (a : Aim) where
       Limit e k d ≡ as_least (cond t (on (cover_due s (option_map dyadic_of e) (Some k))) (faulty BadHeader))
   limit-is s e k (kind_due s') t h c =
       ap (λ (u : Bool). as_least (cond u (on (cover_due s' (option_map dyadic_of e) (Some k))) (faulty BadHeader))) c
-      ∙ ap (λ (x : Loosenings). as_least (cond t (on (cover_due x (option_map dyadic_of e) (Some k))) (faulty BadHeader))) h
+      ∙ ap (λ (x : Loosenings). as_least (cond t (on (cover_due x (option_map dyadic_of e) (Some k))) (faulty BadHeader))) h.0
   limit-is s e k _ t h c = absurd h
 
   pub limit_fails : (s : Loosenings) (e : Option Dy) (k : ℕ) (d : Due) → IsKindDue s d → IsLimitBy a (option_map dyadic_of e) k None → (f : CertFault) → IsToldAs f BadHeader → IsFaultOrMemory f (Limit e k d)
@@ -209,7 +213,7 @@ module _ (a : Aim) where
   limit_on t e k d h q c new (Ok x) g = subst (λ (x' : Phase). IsPhaseOn a (Limit e k d) new x') (sym g.0) (record {
     due = kind_due (told_of t);
     is_due = subst (λ (p : Problem). IsDueTo p b (kind_due (told_of t)) new) c.1 g.1;
-    fits = refl;
+    fits = (refl, header_told (told_of t) d h);
     leads = ap (next_map lean_goal) (limit-is (told_of t) e k d true h c.0);
   })
 
@@ -227,7 +231,8 @@ module _ (a : Aim) where
   cover_on t l w c d h new r k =
       let x = next (searched_by a w) b d l in
       gone a (searched_by a w) new x (aim_next a (least_due (cover_at (lower_of w) w.bits d)) l) (phase.InCover w) refl
-      (ap (next_map lean_goal) (cover-on (told_of t) (lower_of w) w.bits d l h c) ∙ cover_leads (lower_of w) w.bits x) (λ d' k'. tt) r k
+      (ap (next_map lean_goal) (cover-on (told_of t) (lower_of w) w.bits d l h c) ∙ cover_leads (lower_of w) w.bits x)
+      (header_stays (searched_by a w) b d l (kind_has_header (told_of t) d h)) r k
 
   no-cover : (s : Loosenings) (e : Option Dyadic) (k : Option ℕ) (d : Due) (l : CertLine) → IsKindDue s d → IsLimitIn k None l → IsCoverIn false l → aim_next a (least_due (cover_at e k d)) l ≡ faulty BadHeader
   no-cover s e None (kind_due s') (goal k) h g c = absurd g
@@ -278,12 +283,12 @@ module _ (a : Aim) (w : Scope) where
   other-leads (nothing_due s lemmas (left_open left)) l h = covered-on s lemmas (left_open left) l h
   other-leads d l h = inside-leads d l h
 
-  in-cover-gone : (d : Due) (l l' : CertLine) → next_map lean_goal (Inside d l) ≡ In (next Q c d l') →
+  in-cover-gone : (d : Due) → HasHeader d → (l l' : CertLine) → next_map lean_goal (Inside d l) ≡ In (next Q c d l') →
       (new : Checked) (r : Result Phase CertFault) → IsGone Q c (next Q c d l') (phase.InCover w) new r → IsPhaseOutcome a (Inside d l) new r
-  in-cover-gone d l l' rel new r k = gone a Q new (next Q c d l') (Inside d l) (phase.InCover w) refl rel (λ d' k'. tt) r k
+  in-cover-gone d f l l' rel new r k = gone a Q new (next Q c d l') (Inside d l) (phase.InCover w) refl rel (header_stays Q c d l' f) r k
 
-  pub other_on : (l : CertLine) → IsOther l → (d : Due) (new : Checked) (r : Result Phase CertFault) → IsGone Q c (next Q c d l) (phase.InCover w) new r → IsPhaseOutcome a (Inside d l) new r
-  other_on l h d new r k = in-cover-gone d l l (other-leads d l h) new r k
+  pub other_on : (l : CertLine) → IsOther l → (d : Due) → HasHeader d → (new : Checked) (r : Result Phase CertFault) → IsGone Q c (next Q c d l) (phase.InCover w) new r → IsPhaseOutcome a (Inside d l) new r
+  other_on l h d f new r k = in-cover-gone d f l l (other-leads d l h) new r k
 
   -- ---- `over`
 
@@ -291,8 +296,8 @@ module _ (a : Aim) (w : Scope) where
   over-none (nothing_due s lemmas (left_open left)) h = refl
   over-none d h = ap (λ (o : Option Space). next_map lean_goal (as_least (over_line Q c a.goal (lower_of w) w.bits d o))) h ∙ cover-in (next Q c d over)
 
-  pub over_elsewhere : (d : Due) → tree_space Q d ≡ None → (new : Checked) (r : Result Phase CertFault) → IsGone Q c (next Q c d over) (phase.InCover w) new r → IsPhaseOutcome a (Inside d over) new r
-  over_elsewhere d h new r k = in-cover-gone d over over (over-none d h) new r k
+  pub over_elsewhere : (d : Due) → HasHeader d → tree_space Q d ≡ None → (new : Checked) (r : Result Phase CertFault) → IsGone Q c (next Q c d over) (phase.InCover w) new r → IsPhaseOutcome a (Inside d over) new r
+  over_elsewhere d f h new r k = in-cover-gone d f over over (over-none d h) new r k
 
   over-here : (d : Due) (space : Space) (t : Bool) → tree_space Q d ≡ Some space → is_over Q a.goal (lower_of w) space ≡ t →
       Inside d over ≡ as_least (cond t (in_cover (lower_of w) w.bits (next Q c d (rule_line open_line))) (faulty OverFails))
@@ -301,10 +306,10 @@ module _ (a : Aim) (w : Scope) where
       ap (λ (o : Option Space). as_least (over_line Q c a.goal (lower_of w) w.bits d o)) h
       ∙ ap (λ (u : Bool). as_least (cond u (in_cover (lower_of w) w.bits (next Q c d (rule_line open_line))) (faulty OverFails))) k
 
-  pub over_on : (d : Due) (space : Space) → tree_space Q d ≡ Some space → is_over Q a.goal (lower_of w) space ≡ true →
+  pub over_on : (d : Due) → HasHeader d → (space : Space) → tree_space Q d ≡ Some space → is_over Q a.goal (lower_of w) space ≡ true →
       (new : Checked) (r : Result Phase CertFault) → IsGone Q c (next Q c d (rule_line open_line)) (phase.InCover w) new r → IsPhaseOutcome a (Inside d over) new r
-  over_on d space h k new r g' =
-      in-cover-gone d over (rule_line open_line) (ap (next_map lean_goal) (over-here d space true h k) ∙ cover-in (next Q c d (rule_line open_line))) new r g'
+  over_on d f space h k new r g' =
+      in-cover-gone d f over (rule_line open_line) (ap (next_map lean_goal) (over-here d space true h k) ∙ cover-in (next Q c d (rule_line open_line))) new r g'
 
   pub over_fails : (d : Due) (space : Space) → tree_space Q d ≡ Some space → is_over Q a.goal (lower_of w) space ≡ false → (f : CertFault) → IsToldAs f OverFails → IsFaultOrMemory f (Inside d over)
   over_fails d space h k f t = told_fault (Inside d over) f OverFails (over-here d space false h k) t
@@ -321,9 +326,9 @@ module _ (a : Aim) (w : Scope) where
   leaf-none (nothing_due s lemmas (left_open left)) l h k = refl
   leaf-none d l h k = ap (next_map lean_goal) (leaf-inside d l None h k) ∙ cover-in (next Q c d (rule_line l))
 
-  pub leaf_elsewhere : (l : Line) → leaves_open l ≡ true → (d : Due) → tree_space Q d ≡ None → (new : Checked) (r : Result Phase CertFault) →
+  pub leaf_elsewhere : (l : Line) → leaves_open l ≡ true → (d : Due) → HasHeader d → tree_space Q d ≡ None → (new : Checked) (r : Result Phase CertFault) →
       IsGone Q c (next Q c d (rule_line l)) (phase.InCover w) new r → IsPhaseOutcome a (Inside d (rule_line l)) new r
-  leaf_elsewhere l h d k new r g' = in-cover-gone d (rule_line l) (rule_line l) (leaf-none d l h k) new r g'
+  leaf_elsewhere l h d f k new r g' = in-cover-gone d f (rule_line l) (rule_line l) (leaf-none d l h k) new r g'
 
   leaf-refused : (t : Bool) (l : Line) → as-cover (ruled_line t (faulty (RuleFails (word_of l)))) ≡ faulty (cond t (RuleFails (word_of l)) BadNumber)
   leaf-refused true l = refl
@@ -342,8 +347,8 @@ module _ (a : Aim) (w : Scope) where
   point-none (nothing_due s lemmas (left_open left)) h = cc
   point-none d h = cover-in (next Q c d point_word)
 
-  pub point_elsewhere : (d : Due) → cover_value d ≡ None → (new : Checked) (r : Result Phase CertFault) → IsGone Q c (next Q c d point_word) (phase.InCover w) new r → IsPhaseOutcome a (Inside d point_word) new r
-  point_elsewhere d h new r k = in-cover-gone d point_word point_word (point-none d h) new r k
+  pub point_elsewhere : (d : Due) → HasHeader d → cover_value d ≡ None → (new : Checked) (r : Result Phase CertFault) → IsGone Q c (next Q c d point_word) (phase.InCover w) new r → IsPhaseOutcome a (Inside d point_word) new r
+  point_elsewhere d f h new r k = in-cover-gone d f point_word point_word (point-none d h) new r k
 
 coordinate-fits : (s : Loosenings) (axes : List Axis) (space : Space) → IsPointDue s (lean (coordinate_next s axes space))
 coordinate-fits s [] space = refl

@@ -1,13 +1,13 @@
 -- How far a certificate of a script with a goal is, over what is due to the checker of its check.
-use Rattle.std.specs.Prelude.{◌≡◌, ℕ, [], cond, Option, Some, None, option_map}
+use Rattle.std.specs.Prelude.{◌≡◌, ℕ, [], cond, Option, Some, None, option_map, IsSomeAnd, IsTrue}
 use Rattle.interval_model.specs.Space.{Space}
 use Rattle.poly_graph.specs.Problem.{Problem}
 use Rattle.poly_graph.specs.ProblemViews.{Parts, problem_of}
 use Rattle.dyadic.specs.Rounding.{Dyadic}
 use Rattle.dyadic.specs.Views.{dyadic_of}
 use Rattle.cover_model.specs.State.{Loosenings, root_state}
-use Rattle.cert_model.specs.Due.{at_point, left_open, Due, version_due, margin_due, delta_due, bound_due, kind_due, coordinate_due, end_due, nothing_due, is_crossed_box}
-use Rattle.cert_model.specs.Accepted.{reached}
+use Rattle.cert_model.specs.Due.{at_point, left_open, Due, version_due, margin_due, delta_due, bound_due, kind_due, next_due, axis_due, yes_due, no_due, lemma_due, root_due, tree_due, coordinate_due, end_due, nothing_due, is_version, is_crossed_box}
+use Rattle.cert_model.specs.Accepted.{reached, is_header}
 use Rattle.cert_model.specs.Least.{LeastDue, header_due, lower_due, cover_due, in_cover_due, covered_due, in_point_due, shown_due, GoalDue, plain_due, least_due, GoalCourse, searched}
 use Rattle.cert_check.specs.declared.fault.CertFault.{CertFault}
 use Rattle.cert_check.specs.States.{loosenings_of}
@@ -72,16 +72,36 @@ abbrev pub IsBehindVersion : Due → Type 0
 IsBehindVersion version_due = ⊥
 IsBehindVersion d = Unit {0}
 
--- in a header that told so much of these loosenings
+-- in a header that told so much of these loosenings, none of it a fault
 abbrev pub IsHeaderDue : Loosenings → Due → Type 0
-IsHeaderDue s (margin_due v) = v ≡ s.version
-IsHeaderDue s (delta_due v m) = (v ≡ s.version) × (m ≡ s.margin_bits)
-IsHeaderDue s (bound_due s') = s' ≡ s
+IsHeaderDue s (margin_due v) = (v ≡ s.version) × IsTrue (is_version s.version)
+IsHeaderDue s (delta_due v m) = (v ≡ s.version) × (m ≡ s.margin_bits) × IsTrue (is_version s.version)
+IsHeaderDue s (bound_due s') = (s' ≡ s) × IsTrue (is_header s)
 IsHeaderDue s d = ⊥
 
 abbrev pub IsKindDue : Loosenings → Due → Type 0
-IsKindDue s (kind_due s') = s' ≡ s
+IsKindDue s (kind_due s') = (s' ≡ s) × IsTrue (is_header s)
 IsKindDue s d = ⊥
+
+-- the loosenings of what is due, once the header has told them
+abbrev pub loosenings_in : Due → Option Loosenings
+loosenings_in (bound_due s) = Some s
+loosenings_in (kind_due s) = Some s
+loosenings_in (next_due s k lemmas) = Some s
+loosenings_in (axis_due s k lemmas a axes space) = Some s
+loosenings_in (yes_due s k lemmas space) = Some s
+loosenings_in (no_due s k lemmas space js) = Some s
+loosenings_in (lemma_due s k lemmas L S pending) = Some s
+loosenings_in (root_due s lemmas) = Some s
+loosenings_in (tree_due s lemmas S pending done) = Some s
+loosenings_in (coordinate_due s a axes space) = Some s
+loosenings_in (end_due s lemmas v) = Some s
+loosenings_in (nothing_due s lemmas v) = Some s
+loosenings_in d = None
+
+-- it has told them, and no line of it has a fault
+abbrev pub HasHeader : Due → Type 0
+HasHeader d = IsSomeAnd (loosenings_in d) (λ s. IsTrue (is_header s))
 
 -- in a point with these loosenings
 abbrev pub IsPointDue : Loosenings → Due → Type 0
@@ -96,7 +116,7 @@ IsDueIn phase.Plain d = IsBehindVersion d
 IsDueIn (phase.Header t) d = IsHeaderDue (told_of t) d
 IsDueIn (phase.Lower t) d = IsKindDue (told_of t) d
 IsDueIn (phase.Cover t w) d = IsKindDue (told_of t) d
-IsDueIn (phase.InCover w) d = Unit {0}
+IsDueIn (phase.InCover w) d = HasHeader d
 IsDueIn (phase.InPoint s e) d = IsPointDue (loosenings_of s) d
 IsDueIn (phase.Stopped f) d = ⊥
 

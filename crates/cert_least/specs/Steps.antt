@@ -1,5 +1,5 @@
 -- What comes of one line.
-use Rattle.std.specs.Prelude.{◌≡◌, ◌⊎◌, ℕ, false, true, cond, Option, Some, None, Result, Ok, Err, IfOk, option_map}
+use Rattle.std.specs.Prelude.{◌≡◌, ◌⊎◌, ℕ, false, true, cond, Option, Some, None, Result, Ok, Err, option_map}
 use Rattle.dyadic.specs.Rounding.{Dyadic}
 use Rattle.dyadic.specs.declared.dy.Dy.{Dy}
 use Rattle.poly_graph.specs.Problem.{Problem}
@@ -85,9 +85,18 @@ IsGone p bound x phase c (Err f) = IsFaultOrMemory f x
 abbrev pub IsGiven : Checked → CertLine → Phase → Checked → Result Phase CertFault → Type 0
 IsGiven old l phase new r = (p : Problem) (bound : Option ℕ) (d : Due) → IsDueTo p bound d old → IsGone p bound (next p bound d l) phase new r
 
--- the same, where nothing is said of a fault
+abbrev pub IsOnward : Problem → Option ℕ → NextOf Due → Checked → Result (Unit {0}) CertFault → Type 0
+IsOnward p bound x c (Ok _) = IsAdvanced p bound x c
+IsOnward p bound x c (Err f) = IsFaultOrMemory f x
+
+-- the line is given to it, with no phase
 abbrev pub IsGivenOn : Checked → CertLine → Checked → Result (Unit {0}) CertFault → Type 0
-IsGivenOn old l new r = (p : Problem) (bound : Option ℕ) (d : Due) → IsDueTo p bound d old → IfOk r (λ _. IsAdvanced p bound (next p bound d l) new)
+IsGivenOn old l new r = (p : Problem) (bound : Option ℕ) (d : Due) → IsDueTo p bound d old → IsOnward p bound (next p bound d l) new r
+
+-- this is due to it behind lines that have no fault, or there was no memory
+abbrev pub IsTaken : Problem → Option ℕ → Due → Checked → Result (Unit {0}) CertFault → Type 0
+IsTaken p bound d c (Ok _) = IsDueTo p bound d c
+IsTaken p bound d c (Err f) = f ≡ numbered.Memory
 
 -- ---- lines of the certificate
 
@@ -131,12 +140,12 @@ IsLimitNext a t lower k new r =
 abbrev pub IsOverNext : Aim → Scope → Checked → Interval → Checked → Result Phase CertFault → Type 0
 IsOverNext a w old values new r =
     (d : Due) (space : Space) → let p = searched_by a w in
-    IsDueTo p a.bound d old → tree_space p d ≡ Some space → values ≡ atom_enclosure p space a.goal →
+    IsDueTo p a.bound d old → IsDueIn (phase.InCover w) d → tree_space p d ≡ Some space → values ≡ atom_enclosure p space a.goal →
     IsPhaseOutcome a (aim_next a (goal_due (phase.InCover w) d) over) new r
 
 -- `point` behind a cover with this header
 abbrev pub IsPointNext : Aim → state.Loosenings → Phase → Checked → Result Phase CertFault → Type 0
-IsPointNext a s phase new r = (d : Due) → cover_value d ≡ Some s → IsPhaseOutcome a (aim_next a (goal_due phase d) point_word) new r
+IsPointNext a s phase new r = (d : Due) → IsDueIn phase d → cover_value d ≡ Some s → IsPhaseOutcome a (aim_next a (goal_due phase d) point_word) new r
 
 -- ---- all of a checker
 

@@ -1,9 +1,11 @@
 // The limit of the goal before a cover.
-ghost use Rattle.std.specs.Prelude.{IfOk, option_map};
+ghost use Rattle.std.specs.Prelude.{IfOk, IsTrue, option_map};
 ghost use Rattle.dyadic.specs.Views.{dyadic_of};
 ghost use Rattle.poly_graph.specs.ProblemViews.{problem_of};
+ghost use Rattle.cert_model.specs.Accepted.{is_header};
 ghost use Rattle.cert_least.specs.declared.phase.Phase.TheVariants as phase;
 ghost use Rattle.cert_least.specs.Judging.{aim_of, IsReady};
+ghost use Rattle.cert_least.specs.Phases.{told_of};
 ghost use Rattle.cert_least.specs.Steps.{IsBegun, IsLimitBy, IsLimitNext};
 
 use crate::again::begin_again;
@@ -34,8 +36,8 @@ fn with_limit(
     told: Told,
     scope: Scope,
 ) -> Result<Phase, CertFault>
-    ensures { IsBegun (problem_of problem.now) aim.now.bound told (phase.Cover told scope)
-        checker.new result }
+    ensures { IsTrue (is_header (told_of told)) → IsBegun (problem_of problem.now) aim.now.bound
+        told (phase.Cover told scope) checker.new result }
 {
     match begin_again(aim.alloc, problem, checker, told, aim.bound) {
         Ok(()) => Ok(Phase::Cover(told, scope)),

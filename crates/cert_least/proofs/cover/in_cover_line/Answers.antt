@@ -23,4 +23,4 @@ returns-in-Point-clause-next c =
 pub returns-in-Other-clause-next : goal.returns-in-Other-clause-next
 returns-in-Other-clause-next c d h fits =
     let a = aim_of c.args.aim.now in let w = c.args.scope in
-    other_on a w (line_of c.args.line.now) c.in-Other.ensures d c.give.new.checker c.give.result (c.give.ensures (searched_by a w) a.bound d h)
+    other_on a w (line_of c.args.line.now) c.in-Other.ensures d fits c.give.new.checker c.give.result (c.give.ensures (searched_by a w) a.bound d h)

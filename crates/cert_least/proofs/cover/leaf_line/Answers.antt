@@ -25,7 +25,7 @@ pub returns-in-None-clause-next : goal.returns-in-None-clause-next
 returns-in-None-clause-next c d h fits =
     let a = aim_of c.args.aim.now in let w = c.args.scope in let p = searched_by a w in let stand = stand_of c.stand.result in
     let here = tree_here p c.args.checker.now.course d h.due stand c.stand.ensures in
-    leaf_elsewhere a w (leaf_of c.args.stuck) (is-leaf c.args.stuck) d
+    leaf_elsewhere a w (leaf_of c.args.stuck) (is-leaf c.args.stuck) d fits
     (here ∙ no_values (λ (s : Space). atom_enclosure p s a.goal) (stand_space p stand) (c.in-None.ensures.interval (lower_of w) w.bits))
     c.give.new.checker c.give.result
     (subst (λ (l : CertLine). IsGone p a.bound (next p a.bound d l) (InCover w) c.give.new.checker c.give.result) c.requires.line (c.give.ensures p a.bound d h))

@@ -7,14 +7,14 @@ use Rattle.cert_least.proofs.Lines.{over_on, over_fails}
 use Rattle.cert_least.proofs.cover.over_values.Goals as goal
 
 pub returns-then-is_over : goal.returns-then-is_over
-returns-then-is_over c a d space h k e =
+returns-then-is_over c a d space h fits k e =
     let w = c.args.scope in
-    over_on a w d space k
+    over_on a w d fits space k
     (ap (λ (i : Interval). within i (not_below (lower_of w))) (sym e) ∙ sym c.is_over.ensures ∙ c.if-is_over.true)
     c.give.new.checker c.give.result (c.give.ensures (searched_by a w) a.bound d h)
 
 pub returns : goal.returns
-returns c a d space h k e =
+returns c a d space h fits k e =
     let w = c.args.scope in
     over_fails a w d space k
     (ap (λ (i : Interval). within i (not_below (lower_of w))) (sym e) ∙ sym c.is_over.ensures ∙ c.if-is_over.false)

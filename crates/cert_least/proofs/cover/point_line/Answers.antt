@@ -9,9 +9,9 @@ use Rattle.cert_least.proofs.cover.point_line.Goals as goal
 pub returns-in-None : goal.returns-in-None
 returns-in-None c d h fits =
     let a = aim_of c.args.aim.now in let w = c.args.scope in
-    point_elsewhere a w d (cover_is c.args.checker.now.course d h.due None c.in-None.ensures)
+    point_elsewhere a w d fits (cover_is c.args.checker.now.course d h.due None c.in-None.ensures)
     c.give.new.checker c.give.result (c.give.ensures (searched_by a w) a.bound d h)
 
 pub returns-in-Some : goal.returns-in-Some
 returns-in-Some c d h fits =
-    c.point_behind.ensures d (cover_is c.args.checker.now.course d h.due (Some (whole_cover_of c.in-Some.cover)) c.in-Some.ensures)
+    c.point_behind.ensures d fits (cover_is c.args.checker.now.course d h.due (Some (whole_cover_of c.in-Some.cover)) c.in-Some.ensures)
