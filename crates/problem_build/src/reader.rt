@@ -77,7 +77,7 @@ pub fn read_session(alloc: Global, bytes: &[u8], bound: Option<u32>) -> Result<S
     build_all(alloc, typed, bound)
 }
 
-/// The reader of scripts: `read_session`, and `read_with_goal`.
+/// The reader of scripts: `read_session`, `read_with_goal` and `read_goal`.
 #[derive(Clone, Copy, Debug, PartialEq, Eq)]
 pub struct Reader;
 
@@ -98,5 +98,14 @@ impl ScriptReader for Reader {
         bound: Option<u32>,
     ) -> Result<WithGoal, ReadError> {
         read_with_goal(alloc, bytes, bound)
+    }
+
+    fn read_goal(
+        &self,
+        alloc: Global,
+        bytes: &[u8],
+        bound: Option<u32>,
+    ) -> Result<(Problem, Option<u32>), ReadError> {
+        read_goal(alloc, bytes, bound)
     }
 }
