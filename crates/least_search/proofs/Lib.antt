@@ -1,4 +1,6 @@
 pub mod First
 pub mod Near
 pub mod Rows
+pub mod Searches
 pub mod Shown
+pub mod Targets

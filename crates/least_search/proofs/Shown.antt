@@ -24,8 +24,7 @@ use Rattle.dyadic.specs.Views.{dyadic_of}
 use Rattle.least_search.specs.declared.aim.Aim.{Aim}
 use Rattle.least_search.specs.declared.limits.Limited.{Limited}
 use Rattle.least_search.specs.Aims.{IsReady}
-use Rattle.least_search.specs.Limits.{IsLimited}
-use Rattle.least_search.specs.Found.{IsSearched, IsShownFor}
+use Rattle.least_search.specs.Found.{IsSearchOf, IsShownFor}
 
 -- forms over atoms that agree where the form names them
 module _ (sorts : List Sort) (n : ℕ) (a b : ℕ → Bool) (c : ℕ → Bool → Bool) (f : (j : ℕ) → j < n → a j ≡ b j) where
@@ -80,7 +79,7 @@ book-shows : (b : BookModel) → IsBook b → (x : Space) → b.point ≡ Some x
 book-shows b w x e = (subst (λ (o : Option Space). IfSome o (λ (y : Space). IsShownAt (problem_in b) (loosenings_in b) y × IsGridSpace y)) e w.point).0
 
 -- the point of a book of the problem with a limit is one of the problem
-pub point_of : (a : Aim) → IsReady a → (l : Limited) (b : BookModel) → IsLimited a.problem.now a.goal l → IsSearched a.options.now l.problem b → (x : Space) → b.point ≡ Some x → IsShownFor a x
-point_of a r l b h s x e =
-    shown-before a.problem.now r.whole a.goal r.goal l.bits (dyadic_of l.limit) h.takes (problem_in b) (ap problem_of s.problem ∙ h.problem)
+pub point_of : (a : Aim) → IsReady a → (l : Limited) (b : BookModel) → IsSearchOf a l b → (x : Space) → b.point ≡ Some x → IsShownFor a x
+point_of a r l b s x e =
+    shown-before a.problem.now r.whole a.goal r.goal l.bits (dyadic_of l.limit) s.takes (problem_in b) s.problem
     (margins_of b.options) (margins_of a.options.now) s.margins x (book-shows b s.book x e)

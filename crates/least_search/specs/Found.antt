@@ -1,6 +1,6 @@
 -- What a search for a least value finds.
-use Rattle.std.specs.Prelude.{◌≡◌, ◌≢◌, ◌≤◌, ℕ, [], Option, Some, None, true, false, option_map}
-use Rattle.dyadic.specs.Rounding.{Dyadic}
+use Rattle.std.specs.Prelude.{◌≡◌, ◌≢◌, ◌+◌, ◌*◌, ℕ, suc, List, [], ◌∷◌, All, Option, Some, None, IfSome, true, false, option_map}
+use Rattle.dyadic.specs.Rounding.{Dyadic, finite}
 use Rattle.dyadic.specs.Views.{dyadic_of, ext_of}
 use Rattle.dyadic.specs.declared.dy.Dy.{Dy}
 use Rattle.poly_graph.specs.ProblemViews.{Parts, problem_of}
@@ -18,6 +18,7 @@ use Rattle.cover_book.specs.Model.{BookModel, IsOfRoot, problem_in}
 use Rattle.cover_book.specs.Verdict.{verdict_of}
 use Rattle.cover_book.specs.declared.verdict.BookVerdict.TheVariants as verdict
 use Rattle.least_search.specs.Aims.{IsRootBound}
+use Rattle.least_search.specs.Limits.{Span, is_between, HasNoLimit}
 use Rattle.least_search.specs.declared.found.Lower.{Lower}
 use Rattle.least_search.specs.declared.found.Lower.TheVariants as shown
 use Rattle.least_search.specs.declared.found.Ending.{Ending}
@@ -25,6 +26,9 @@ use Rattle.least_search.specs.declared.found.Ending.TheVariants as ending
 use Rattle.least_search.specs.declared.found.Found.{Found}
 use Rattle.least_search.specs.declared.found.Least.{Least}
 use Rattle.least_search.specs.declared.found.Least.TheVariants as least
+use Rattle.least_search.specs.declared.limits.Limited.{Limited}
+use Rattle.least_search.specs.declared.limits.Phase.{Phase}
+use Rattle.least_search.specs.declared.limits.Phase.TheVariants as phase
 use Rattle.least_search.specs.declared.search.Bounds.{Bounds}
 use Rattle.least_search.specs.declared.aim.Aim.{Aim}
 
@@ -50,6 +54,38 @@ pub record IsSearched (o : Options) (q : Parts) (b : BookModel) : Type 0 where
   pub book : IsBook b
   pub verdict : verdict_of b ≢ verdict.NotYet
 
+-- ---- the searches of a search for a least value
+
+-- what a search of the problem with a limit of the goal leaves, asked for margins and a bound as in the options
+pub record IsLimitSearch (q : Parts) (g : ℕ) (o : Options) (k : ℕ) (d : Dyadic) (b : BookModel) : Type 0 where
+  pub takes : takes_limit q k d ≡ true
+  pub problem : problem_in b ≡ limited (problem_of q) g k d
+  pub margins : margins_of b.options ≡ margins_of o
+  pub bound : b.options.bound ≡ o.bound
+  pub alone : b.kept ≡ []
+  pub root : IsOfRoot b
+  pub book : IsBook b
+  pub verdict : verdict_of b ≢ verdict.NotYet
+  pub left : LeavesDue b
+
+-- with some limit
+abbrev pub IsLater : Parts → ℕ → Options → BookModel → Type 0
+IsLater q g o b = (k : ℕ) × (d : Dyadic) × IsLimitSearch q g o k d b
+
+-- of the budget each of these searches costs one, and its branches
+abbrev pub cost_of : List BookModel → ℕ
+cost_of [] = 0
+cost_of (b ∷ books) = suc b.branches + cost_of books
+
+-- Searches, of which the options' budget leaves so much: the first one, of the problem itself with all the options, and later ones, each with a limit of
+-- the goal.
+pub record Leaves (q : Parts) (g : ℕ) (o : Options) (left : ℕ) : Type 0 where
+  pub first : BookModel
+  pub is_first : IsBookOf q o first
+  pub later : List BookModel
+  pub are_later : All (IsLater q g o) later
+  pub sum : first.branches + cost_of later + left ≡ o.budget
+
 -- ---- bounds
 
 -- the bound that is shown
@@ -72,37 +108,78 @@ abbrev pub IsLower : Parts → ℕ → Options → Lower → Type 0
 IsLower q g o (shown.Root low) = IsRootBound (problem_of q) g (option_map dyadic_of low)
 IsLower q g o (shown.Limit b k d) = IsClosed q g o b k (dyadic_of d)
 
--- the bounds so far: what shows the lower one, a point that is shown, and the upper end of the goal there
+-- the bounds so far: what shows the lower one, a point that is shown, the upper end of the goal there, and what is left of the budget
 pub record IsBounds (q : Parts) (g : ℕ) (o : Options) (b : Bounds) : Type 0 where
   pub lower : IsLower q g o b.lower
   pub shown : IsShownAt (problem_of q) (loosenings_of (margins_of o)) b.point
   pub upper : ext_of b.upper ≡ upper_at (problem_of q) g b.point
-  pub budget : b.budget ≤ 1048576
+  pub searches : Leaves q g o b.budget
+
+-- Falls with each step of the search: with the budget, and where it goes from a probe to the closing search with no search between.
+abbrev pub probes : Phase → ℕ
+probes phase.Probing = 1
+probes p = 0
+
+abbrev pub weight : Bounds → ℕ
+weight b = 2 * b.budget + probes b.phase
 
 -- bounds of the goal that is aimed at
 abbrev pub AreBoundsOf : Aim → Bounds → Type 0
 AreBoundsOf a b = IsBounds a.problem.now a.goal a.options.now b
 
+-- searches for the aim that leave so much of the budget
+abbrev pub LeavesOf : Aim → ℕ → Type 0
+LeavesOf a left = Leaves a.problem.now a.goal a.options.now left
+
+-- what a search of the aim's problem with this limit leaves
+abbrev pub IsSearchOf : Aim → Limited → BookModel → Type 0
+IsSearchOf a l b = IsLimitSearch a.problem.now a.goal a.options.now l.bits (dyadic_of l.limit) b
+
 -- a point at which the form of its problem is sure
 abbrev pub IsShownFor : Aim → Space → Type 0
 IsShownFor a x = IsShownAt (problem_of a.problem.now) (loosenings_of (margins_of a.options.now)) x
 
--- where these bounds are said to be near, they are
-abbrev pub IsEndingAt : ℕ → Bounds → Option Ending → Type 0
-IsEndingAt gap b e = e ≡ Some ending.Minimum → IsSettled gap (option_map dyadic_of (bound_of b.lower)) (ext_of b.upper)
+-- ---- why a search ends
+
+-- A search with a limit between the bounds closed all but boxes of the least width: on one of these the limit or an atom is not decided.
+pub record IsNarrow (q : Parts) (g : ℕ) (o : Options) (s : Span) : Type 0 where
+  pub book : BookModel
+  pub bits : ℕ
+  pub limit : Dyadic
+  pub between : is_between s (finite limit) ≡ true
+  pub searched : IsLimitSearch q g o bits limit book
+  pub narrow : verdict_of book ≡ verdict.UnknownWidth
+
+-- for bounds, where so much of the budget is left
+abbrev pub EndsFor : Parts → ℕ → Options → ℕ → Span → Ending → Type 0
+EndsFor q g o left s ending.Minimum = IsSettled s.gap s.low s.high
+EndsFor q g o left s ending.Budget = left ≡ 0
+EndsFor q g o left s ending.Width = IsNarrow q g o s
+EndsFor q g o left s ending.Limit = (p : Phase) × HasNoLimit q p s
+
+-- the bounds as numbers
+abbrev pub span_of : ℕ → Bounds → Span
+span_of gap b = record { low = option_map dyadic_of (bound_of b.lower); high = ext_of b.upper; gap = gap }
+
+-- where a search from these bounds on ends, it is for this
+abbrev pub IsEndingAt : Aim → Bounds → Option Ending → Type 0
+IsEndingAt a b e = IfSome e (EndsFor a.problem.now a.goal a.options.now b.budget (span_of a.gap_bits b))
 
 -- ---- what is found
 
--- where the bounds are said to be near, they are
-abbrev pub IsEnding : Parts → ℕ → ℕ → Found → Type 0
-IsEnding q g gap f = f.ending ≡ ending.Minimum → IsSettled gap (option_map dyadic_of (bound_of f.lower)) (upper_at (problem_of q) g f.point)
+-- the bounds that were found, as numbers
+abbrev pub found_span : Parts → ℕ → ℕ → Found → Span
+found_span q g gap f = record { low = option_map dyadic_of (bound_of f.lower); high = upper_at (problem_of q) g f.point; gap = gap }
 
+-- `left` is what the searches leave of the budget
 pub record IsFound (q : Parts) (g gap : ℕ) (o : Options) (f : Found) : Type 0 where
   pub lower : IsLower q g o f.lower
   pub shown : IsShownAt (problem_of q) (loosenings_of (margins_of o)) f.point
   pub upper : ext_of f.upper ≡ upper_at (problem_of q) g f.point
   pub crossed : is_crossed_box (problem_of q) ≡ false
-  pub ending : IsEnding q g gap f
+  pub left : ℕ
+  pub searches : Leaves q g o left
+  pub ending : EndsFor q g o left (found_span q g gap f) f.ending
 
 -- the book of the first search, which keeps no point, has all its options
 pub record IsFirst (q : Parts) (o : Options) (b : BookModel) : Type 0 where

@@ -1,12 +1,27 @@
 // The limit of the next search.
-ghost use Rattle.std.specs.Prelude.{◌<◌, ◌≤◌, IfOk, length};
-ghost use Rattle.least_search.specs.Limits.{IsNextLimit};
+ghost use Rattle.std.specs.Prelude.{◌≡◌, ◌<◌, ◌≤◌, IfOk, length, option_map, pos};
+ghost use Rattle.dyadic.specs.Calls.{power_of_two};
+ghost use Rattle.dyadic.specs.Rounding.{finite};
+ghost use Rattle.dyadic.specs.Views.{dyadic_of, ext_of};
+ghost use Rattle.cert_model.specs.Least.{lower_end};
+ghost use Rattle.least_search.specs.Limits.{IsNextLimit, IsTried, bits_at, closing_target, half_target, is_between, lesser_ext, limit_at, multiple_up, span_in, target, tries};
 
-use dyadic::{Dy, Ext, two_to_minus};
-use floats::{approximate, number};
+use dyadic::{Dy, Ext, add_down, add_up, at_most, mid, pow2, two_to_minus};
 use goal_limit::limited;
 use poly_graph::Problem;
 use std::alloc::{AllocError, Global};
+
+/// What the next search is for, which tells where its limit lies.
+#[derive(Clone, Copy)]
+pub(crate) enum Phase {
+    /// A better point or a better lower bound, for a small budget: half way between the best value and the lower bound, or the
+    /// last limit at which such a search decided nothing.
+    Probing,
+    /// That the bounds are near: below the upper one by the gap.
+    Closing,
+    /// A better point or a better lower bound, for all that is left: half way between the bounds.
+    Halving,
+}
 
 /// A problem with the limit that its goal is at most `limit`, a multiple of `2^-bits`.
 #[derive(Drop)]
@@ -27,68 +42,124 @@ pub(crate) struct Between {
 // So many limits are tried, since one may have a constant that the problem has already.
 const TRIES: u32 = 8;
 
-// A whole number above x by at most 1.01; x is below 2^50 in size.
-fn whole_above(x: f64) -> f64 {
-    // Adding it rounds to a whole number.
-    let shift = 6755399441055744.0;
-    (x + 0.505 + shift) - shift
-}
+// ---- near which number
 
-// Where the next limit shall lie: half way between the bounds, and where they are near to each other below the upper one
-// by the gap.
-fn target(between: Between) -> Option<f64>
+// Below the upper bound by the gap.
+fn closing_target(between: Between) -> Ext
     requires { between.gap_bits ≤ 30 }
+    ensures { ext_of result ≡ closing_target (span_in between) }
 {
-    let upper = match between.upper {
-        Ext::Fin(upper) => approximate(upper),
-        Ext::NegInf | Ext::PosInf => return None,
-    };
-    let gap = approximate(two_to_minus(between.gap_bits));
-    match between.lower {
-        Some(lower) => {
-            let middle = 0.5 * (approximate(lower) + upper);
-            Some(if middle < upper - gap {
-                middle
-            } else {
-                upper - gap
-            })
-        }
-        None => Some(upper - gap),
+    let gap = Ext::Fin(two_to_minus(between.gap_bits));
+    add_down(between.upper, gap.neg())
+}
+
+// The lesser of two ends.
+fn lesser(a: Ext, b: Ext) -> Ext
+    ensures { ext_of result ≡ lesser_ext (ext_of a) (ext_of b) }
+{
+    if at_most(a, b) { a } else { b }
+}
+
+// Half way between the bounds, where both are numbers and that is less.
+fn half_target(lower: Option<Dy>, upper: Ext, closing: Ext) -> Ext
+    ensures { ext_of result
+        ≡ half_target (option_map dyadic_of lower) (ext_of upper) (ext_of closing) }
+{
+    match (lower, upper) {
+        (Some(lower), Ext::Fin(upper)) => lesser(Ext::Fin(mid(lower, upper)), closing),
+        _ => closing,
     }
 }
 
-// The limit of these bits that is next above the target, or one of those behind it; none where that is too great, or not
-// above the lower bound.
-fn candidate(between: Between, bits: u32, further: u32) -> Option<Dy>
+fn target(phase: Phase, between: Between) -> Ext
+    requires { between.gap_bits ≤ 30 }
+    ensures { ext_of result ≡ target phase (span_in between) }
+{
+    let closing = closing_target(between);
+    match phase {
+        Phase::Closing => closing,
+        Phase::Probing | Phase::Halving => half_target(between.lower, between.upper, closing),
+    }
+}
+
+// ---- the limits that are tried
+
+// 2 to the power of `exponent`.
+fn power(exponent: u32) -> Ext
+    requires { exponent ≤ 61 }
+    ensures { ext_of result ≡ finite (power_of_two (pos exponent)) }
+{
+    Ext::Fin(pow2(exponent as i32))
+}
+
+// Up to a multiple of `2^-bits`: numbers have 62 bits, so the sum with numbers that are so far above is rounded to one.
+fn multiple_up(bits: u32, number: Ext) -> Ext
+    requires { bits ≤ 60 }
+    ensures { ext_of result ≡ multiple_up bits (ext_of number) }
+{
+    let far = power(61 - bits);
+    let half = power(60 - bits);
+    let sum = add_up(add_up(number, far), half);
+    add_down(add_down(sum, far.neg()), half.neg())
+}
+
+// The limit of this try: the target rounded up, or the next multiple.
+fn limit_at(phase: Phase, between: Between, bits: u32, attempt: u32) -> Ext
     requires gap { between.gap_bits ≤ 30 }
-    requires bits { bits ≤ 36 }
+    requires bits { bits ≡ bits_at (span_in between) attempt }
+    requires attempt { attempt < tries }
+    ensures { ext_of result ≡ limit_at phase (span_in between) attempt }
 {
-    let unit = approximate(two_to_minus(bits));
-    let whole = target(between)? / unit;
-    if whole < -1e15 || whole > 1e15 {
-        return None;
-    }
-    let limit = (whole_above(whole) + f64::from(further)) * unit;
-    match between.lower {
-        Some(lower) if limit <= approximate(lower) => None,
-        _ => number(limit),
+    let first = multiple_up(bits, target(phase, between));
+    if attempt % 2 == 0 {
+        first
+    } else {
+        add_down(first, Ext::Fin(two_to_minus(bits)))
     }
 }
 
-// The problem with this limit; none where it can have none.
-fn with_limit(
+// ---- which of them can be one
+
+// A lower bound as an end.
+fn lower_end(lower: Option<Dy>) -> Ext
+    ensures { ext_of result ≡ lower_end (option_map dyadic_of lower) }
+{
+    match lower {
+        Some(lower) => Ext::Fin(lower),
+        None => Ext::NegInf,
+    }
+}
+
+// Whether the limit is above the lower bound and below the upper one.
+fn is_between(between: Between, limit: Ext) -> bool
+    ensures { result ≡ is_between (span_in between) (ext_of limit) }
+{
+    !at_most(limit, lower_end(between.lower)) && !at_most(between.upper, limit)
+}
+
+// The problem with the limit of this try; none where that is no number between the bounds, or not taken.
+fn try_limit(
     alloc: Global,
     problem: &Problem,
     goal: u32,
-    bits: u32,
-    limit: Option<Dy>,
+    phase: Phase,
+    between: Between,
+    attempt: u32,
 ) -> Result<Option<Limited>, AllocError>
-    requires { goal < length problem.now.atoms }
-    ensures { IfOk result (IsNextLimit problem.now goal) }
+    requires goal { goal < length problem.now.atoms }
+    requires gap { between.gap_bits ≤ 30 }
+    requires attempt { attempt < tries }
+    ensures { IfOk result (IsTried problem.now goal phase (span_in between) attempt) }
 {
-    let Some(limit) = limit else {
-        return Ok(None);
+    let bits = between.gap_bits + 2 + attempt / 2;
+    let end = limit_at(phase, between, bits, attempt);
+    let limit = match end {
+        Ext::Fin(limit) => limit,
+        Ext::NegInf | Ext::PosInf => return Ok(None),
     };
+    if !is_between(between, end) {
+        return Ok(None);
+    }
     match limited(alloc, problem, goal, bits, limit)? {
         Some(problem) => Ok(Some(Limited {
             problem,
@@ -99,23 +170,21 @@ fn with_limit(
     }
 }
 
-/// The problem with the next limit; none where there is no limit between, or the problem has no room for one.
+/// The problem with the next limit, that of the first try that gives one; none where no try does.
 pub(crate) fn next_limit(
     alloc: Global,
     problem: &Problem,
     goal: u32,
+    phase: Phase,
     between: Between,
 ) -> Result<Option<Limited>, AllocError>
     requires goal { goal < length problem.now.atoms }
     requires gap { between.gap_bits ≤ 30 }
-    ensures { IfOk result (IsNextLimit problem.now goal) }
+    ensures { IfOk result (IsNextLimit problem.now goal phase (span_in between)) }
 {
     for attempt in 0..TRIES {
-        let bits = between.gap_bits + 2 + attempt / 2;
-        let limit = candidate(between, bits, attempt % 2);
-        let found = with_limit(alloc, problem, goal, bits, limit)?;
-        if found.is_some() {
-            return Ok(found);
+        if let Some(limited) = try_limit(alloc, problem, goal, phase, between, attempt)? {
+            return Ok(Some(limited));
         }
     }
     Ok(None)

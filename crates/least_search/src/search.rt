@@ -1,32 +1,36 @@
 // The search for a least value.
 ghost use Rattle.std.specs.Prelude.{◌≡◌, ◌≢◌, ◌<◌, ◌≤◌, true, false, IfOk, None, Some, length, option_map};
-ghost use Rattle.dyadic.specs.Rounding.{ext_at_most};
+ghost use Rattle.dyadic.specs.Rounding.{ext_at_most, finite};
 ghost use Rattle.dyadic.specs.Views.{dyadic_of, ext_of};
 ghost use Rattle.poly_graph.specs.ProblemViews.{problem_of};
 ghost use Rattle.cert_model.specs.Due.{is_crossed_box};
 ghost use Rattle.cert_model.specs.Least.{IsSettled};
 ghost use Rattle.cover_book.specs.Limits.{IsWithinLimits};
 ghost use Rattle.least_search.specs.Aims.{IsReady, IsSameAim};
-ghost use Rattle.least_search.specs.Found.{AreBoundsOf, IsBookOf, IsEndingAt, IsFound, IsLeast, IsSearched, IsShownFor, bound_of};
-ghost use Rattle.least_search.specs.Limits.{IsLimited};
-ghost use Rattle.least_search.specs.declared.found.Ending.TheVariants as ending;
+ghost use Rattle.least_search.specs.Found.{AreBoundsOf, IsBookOf, IsEndingAt, IsFound, IsLeast, IsSearchOf, IsShownFor, LeavesOf, bound_of, span_of, weight};
+ghost use Rattle.least_search.specs.Limits.{IsLimited, is_between};
+ghost use Rattle.least_search.specs.declared.limits.Phase.TheVariants as phase;
 
 use crate::aim::Aim;
 use crate::found::{Ending, Found, Least, Lower};
-use crate::limits::{Between, Limited, next_limit};
+use crate::limits::{Between, Limited, Phase, next_limit};
 use cover_book::{Book, BookVerdict};
 use cover_data::{Options, Point};
 use dyadic::{Dy, Ext, add_down, at_most, two_to_minus};
 use poly_graph::Problem;
 use std::alloc::{AllocError, Global};
 
-// The bounds so far, and what is left of the budget.
+// The bounds so far, what is left of the budget, what the next search is for, the last limit, if there is one, at which a
+// probe decided nothing since the lower bound or a closing search changed something, and the least budget of a probe.
 #[derive(Drop)]
 struct Bounds {
     lower: Lower,
     point: Point,
     upper: Ext,
     budget: u32,
+    phase: Phase,
+    tried: Option<Dy>,
+    patience: u32,
 }
 
 impl Lower {
@@ -55,27 +59,91 @@ fn is_settled(lower: Option<Dy>, upper: Ext, gap_bits: u32) -> bool
     }
 }
 
-// The problem with a limit is searched with what is left of the budget.
+// The least budget of the first probes.
+const PROBE: u32 = 4;
+
+// The budget of the next search, where so much is left of the one of all: a probe has a sixteenth of what was spent so far, so
+// that all probes together cost little beside the other searches, and at least its patience, and a closing search has half of
+// what is left.
+fn share(phase: Phase, all: u32, left: u32, patience: u32) -> u32
+    requires { 0 < left }
+    ensures { result < left }
+{
+    let most = left - 1;
+    match phase {
+        Phase::Probing => most.min((all.saturating_sub(left) / 16).max(patience)),
+        Phase::Closing => most / 2,
+        Phase::Halving => most,
+    }
+}
+
+// Whether the search found a point, or closed its problem.
+fn is_decided(verdict: BookVerdict) -> bool {
+    matches!(verdict, BookVerdict::Unsat | BookVerdict::DeltaSat)
+}
+
+// What the search behind one of this verdict is for, where `near` says that its limit was below the best value by two gaps at
+// most. Probes come nearer to the best value from both sides until one that is near decides nothing.
+fn next_phase(phase: Phase, verdict: BookVerdict, near: bool) -> Phase {
+    match phase {
+        Phase::Halving => Phase::Halving,
+        _ if is_decided(verdict) => Phase::Probing,
+        Phase::Probing if near => Phase::Closing,
+        Phase::Probing => Phase::Probing,
+        Phase::Closing => Phase::Halving,
+    }
+}
+
+// The last limit at which a probe decided nothing, behind a search of this verdict.
+fn next_tried(phase: Phase, verdict: BookVerdict, tried: Option<Dy>, limit: Dy) -> Option<Dy> {
+    match (phase, verdict) {
+        (Phase::Probing, BookVerdict::DeltaSat) => tried,
+        (Phase::Probing, BookVerdict::UnknownBudget | BookVerdict::UnknownWidth) => Some(limit),
+        _ => None,
+    }
+}
+
+// The least budget of a probe behind a search of this verdict. A closing search that finds a point finds one that is hardly
+// better, and probes between it and the lower bound had too little to find a better one: so it doubles.
+fn next_patience(phase: Phase, verdict: BookVerdict, patience: u32) -> u32 {
+    match (phase, verdict) {
+        (Phase::Closing, BookVerdict::DeltaSat) => patience.saturating_mul(2),
+        _ => patience,
+    }
+}
+
+// The problem with a limit is searched with a share of what is left of the budget.
 fn search_limited<F: Fn(Global, &Problem, &Options) -> Result<Book, AllocError>>(
     searcher: &F,
     alloc: Global,
     aim: &Aim<'_>,
+    bounds: &mut Bounds,
     limited: &Limited,
-    budget: u32,
 ) -> Result<Book, AllocError>
     requires takes { (a p o : _) → IsWithinLimits p.now o.now → F.pre searcher.now a p o }
     requires gives { (a p o r : _) → F.post searcher.now a p o r →
         IfOk r (IsBookOf p.now o.now) }
     requires ready { IsReady aim.now }
     requires limited { IsLimited aim.now.problem.now aim.now.goal limited.now }
-    requires budget { budget ≤ 1048576 }
-    ensures { IfOk result (IsSearched aim.now.options.now limited.now.problem) }
+    requires bounds { AreBoundsOf aim.now bounds.old }
+    requires budget { 0 < bounds.old.budget }
+    ensures book { IfOk result (IsSearchOf aim.now limited.now) }
+    ensures bounds { AreBoundsOf aim.now bounds.new }
+    ensures same { bounds.new ≡ record bounds.old { budget = bounds.new.budget } }
+    ensures less { IfOk result (λ b. bounds.new.budget < bounds.old.budget) }
 {
     let options = Options {
-        budget,
+        budget: share(
+            bounds.phase,
+            aim.options.budget,
+            bounds.budget,
+            bounds.patience,
+        ),
         ..*aim.options
     };
-    searcher(alloc, &limited.problem, &options)
+    let book = searcher(alloc, &limited.problem, &options)?;
+    bounds.budget -= 1 + book.branches();
+    Ok(book)
 }
 
 // The point of a book, where it is better.
@@ -114,14 +182,23 @@ fn take_book(
     requires ready { IsReady aim.old }
     requires bounds { AreBoundsOf aim.old bounds.old }
     requires limited { IsLimited aim.old.problem.now aim.old.goal limited }
-    requires book { IsSearched aim.old.options.now limited.problem book }
+    requires between { bounds.old.phase ≡ phase.Halving →
+        is_between (span_of aim.old.gap_bits bounds.old) (finite (dyadic_of limited.limit)) ≡ true }
+    requires book { IsSearchOf aim.old limited book }
     ensures ready { IsReady aim.new }
     ensures same { IsSameAim aim.old aim.new }
     ensures bounds { AreBoundsOf aim.old bounds.new }
     ensures budget { bounds.new.budget ≡ bounds.old.budget }
-    ensures ending { IfOk result (λ e. e ≢ Some ending.Minimum) }
+    ensures ending { IfOk result (IsEndingAt aim.old bounds.new) }
 {
-    match book.verdict() {
+    let phase = bounds.phase;
+    let verdict = book.verdict();
+    let gaps = aim.gap_bits.saturating_sub(1);
+    let near = is_settled(Some(limited.limit), bounds.upper, gaps);
+    bounds.phase = next_phase(phase, verdict, near);
+    bounds.tried = next_tried(phase, verdict, bounds.tried, limited.limit);
+    bounds.patience = next_patience(phase, verdict, bounds.patience);
+    match verdict {
         BookVerdict::Unsat => {
             bounds.lower = Lower::Limit(book, limited.bits, limited.limit);
             Ok(None)
@@ -133,9 +210,55 @@ fn take_book(
             Ok(None)
         }
         BookVerdict::UnknownBudget => Ok(None),
-        BookVerdict::UnknownWidth => Ok(Some(Ending::Width)),
+        BookVerdict::UnknownWidth => match phase {
+            Phase::Halving => Ok(Some(Ending::Width)),
+            Phase::Probing | Phase::Closing => Ok(None),
+        },
         BookVerdict::NotYet => unreachable!(),
     }
+}
+
+// From where the limit of a probe lies half way to the best value: the last limit at which one decided nothing, if that is
+// below the best value, or the lower bound.
+fn probe_from(lower: Option<Dy>, tried: Option<Dy>, upper: Ext) -> Option<Dy> {
+    match tried {
+        Some(limit) if !at_most(upper, Ext::Fin(limit)) => Some(limit),
+        _ => lower,
+    }
+}
+
+// One more probe; where there is no limit for one, the closing search is next.
+fn probe<F: Fn(Global, &Problem, &Options) -> Result<Book, AllocError>>(
+    searcher: &F,
+    alloc: Global,
+    aim: &mut Aim<'_>,
+    bounds: &mut Bounds,
+    between: Between,
+) -> Result<Option<Ending>, AllocError>
+    requires takes { (a p o : _) → IsWithinLimits p.now o.now → F.pre searcher.now a p o }
+    requires gives { (a p o r : _) → F.post searcher.now a p o r →
+        IfOk r (IsBookOf p.now o.now) }
+    requires ready { IsReady aim.old }
+    requires bounds { AreBoundsOf aim.old bounds.old }
+    requires phase { bounds.old.phase ≡ phase.Probing }
+    requires budget { 0 < bounds.old.budget }
+    requires gap { between.gap_bits ≤ 30 }
+    ensures ready { IsReady aim.new }
+    ensures same { IsSameAim aim.old aim.new }
+    ensures bounds { AreBoundsOf aim.old bounds.new }
+    ensures ending { IfOk result (IsEndingAt aim.old bounds.new) }
+    ensures less { IfOk result (λ e. e ≡ None → weight bounds.new < weight bounds.old) }
+{
+    let from = Between {
+        lower: probe_from(between.lower, bounds.tried, between.upper),
+        ..between
+    };
+    let Some(limited) = next_limit(alloc, aim.problem, aim.goal, Phase::Probing, from)? else {
+        bounds.phase = Phase::Closing;
+        return Ok(None);
+    };
+    let book = search_limited(searcher, alloc, aim, bounds, &limited)?;
+    take_book(alloc, aim, bounds, limited, book)
 }
 
 // One more search, unless the bounds are near, the budget is spent, or there is no limit between them. Each costs one of
@@ -154,8 +277,8 @@ fn step<F: Fn(Global, &Problem, &Options) -> Result<Book, AllocError>>(
     ensures ready { IsReady aim.new }
     ensures same { IsSameAim aim.old aim.new }
     ensures bounds { AreBoundsOf aim.old bounds.new }
-    ensures ending { IfOk result (IsEndingAt aim.old.gap_bits bounds.new) }
-    ensures less { IfOk result (λ e. e ≡ None → bounds.new.budget < bounds.old.budget) }
+    ensures ending { IfOk result (IsEndingAt aim.old bounds.new) }
+    ensures less { IfOk result (λ e. e ≡ None → weight bounds.new < weight bounds.old) }
 {
     let between = Between {
         lower: bounds.lower.bound(),
@@ -168,13 +291,17 @@ fn step<F: Fn(Global, &Problem, &Options) -> Result<Book, AllocError>>(
     if bounds.budget == 0 {
         return Ok(Some(Ending::Budget));
     }
-    let Some(limited) = next_limit(alloc, aim.problem, aim.goal, between)? else {
-        return Ok(Some(Ending::Limit));
-    };
-    let budget = bounds.budget - 1;
-    let book = search_limited(searcher, alloc, aim, &limited, budget)?;
-    bounds.budget = budget.saturating_sub(book.branches());
-    take_book(alloc, aim, bounds, limited, book)
+    let phase = bounds.phase;
+    match phase {
+        Phase::Probing => probe(searcher, alloc, aim, bounds, between),
+        Phase::Closing | Phase::Halving => {
+            let Some(limited) = next_limit(alloc, aim.problem, aim.goal, phase, between)? else {
+                return Ok(Some(Ending::Limit));
+            };
+            let book = search_limited(searcher, alloc, aim, bounds, &limited)?;
+            take_book(alloc, aim, bounds, limited, book)
+        }
+    }
 }
 
 // Search after search.
@@ -190,7 +317,7 @@ fn improve<F: Fn(Global, &Problem, &Options) -> Result<Book, AllocError>>(
     requires ready { IsReady aim.old }
     requires bounds { AreBoundsOf aim.old bounds.old }
     ensures bounds { AreBoundsOf aim.old bounds.new }
-    ensures ending { IfOk result (λ e. IsEndingAt aim.old.gap_bits bounds.new (Some e)) }
+    ensures ending { IfOk result (λ e. IsEndingAt aim.old bounds.new (Some e)) }
 {
     loop {
         if let Some(ending) = step(searcher, alloc, aim, bounds)? {
@@ -208,7 +335,7 @@ fn bounds_of(
 ) -> Result<Bounds, AllocError>
     requires ready { IsReady aim.old }
     requires shown { IsShownFor aim.old point.now }
-    requires budget { budget ≤ 1048576 }
+    requires searches { LeavesOf aim.old budget }
     ensures ready { IsReady aim.new }
     ensures same { IsSameAim aim.old aim.new }
     ensures bounds { IfOk result (AreBoundsOf aim.old) }
@@ -220,6 +347,9 @@ fn bounds_of(
         point: point.try_clone(alloc)?,
         upper,
         budget,
+        phase: Phase::Probing,
+        tried: None,
+        patience: PROBE,
     })
 }
 
@@ -236,7 +366,7 @@ fn find<F: Fn(Global, &Problem, &Options) -> Result<Book, AllocError>>(
         IfOk r (IsBookOf p.now o.now) }
     requires ready { IsReady aim.old }
     requires shown { IsShownFor aim.old point.now }
-    requires budget { budget ≤ 1048576 }
+    requires searches { LeavesOf aim.old budget }
     requires crossed { is_crossed_box (problem_of aim.old.problem.now) ≡ false }
     ensures { let a = aim.old in
         IfOk result (IsFound a.problem.now a.goal a.gap_bits a.options.now) }
@@ -275,7 +405,7 @@ pub fn minimize<F: Fn(Global, &Problem, &Options) -> Result<Book, AllocError>>(
     let Some(point) = book.point() else {
         return Ok(Least::NoPoint(book));
     };
-    let budget = options.budget.saturating_sub(book.branches());
+    let budget = options.budget - book.branches();
     let mut aim = Aim::new(alloc, problem, goal, gap_bits, options)?;
     Ok(Least::Found(find(searcher, alloc, &mut aim, point, budget)?))
 }

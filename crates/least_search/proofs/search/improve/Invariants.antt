@@ -1,5 +1,5 @@
 use Rattle.least_search.specs.Aims.{IsReady, IsSameAim}
-use Rattle.least_search.specs.Found.{AreBoundsOf}
+use Rattle.least_search.specs.Found.{AreBoundsOf, weight}
 use Rattle.least_search.proofs.search.improve.Given as goal
 
 abbrev pub invariant-loop-ending : goal.invariant-loop-ending
@@ -10,4 +10,4 @@ invariant-loop-ending g l = record {
 }
 
 abbrev pub decreases-loop-ending : goal.decreases-loop-ending
-decreases-loop-ending g l = l.bounds.budget
+decreases-loop-ending g l = weight l.bounds
