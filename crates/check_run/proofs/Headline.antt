@@ -17,15 +17,16 @@ use Rattle.cert_model.specs.Session.{AreAccepted, SessionVerdict, one_verdict, s
 use Rattle.headline.proofs.Headline.{unsat_is}
 use Rattle.headline.proofs.Least.{lower_means, upper_means}
 use Rattle.script_fault.specs.declared.fault.ScriptFault.{ScriptFault}
-use Rattle.script_reading.specs.Faults.{session_fault}
+use Rattle.script_forms.specs.Atoms.{goal_atom}
+use Rattle.script_reading.specs.Faults.{script_fault, session_fault}
 use Rattle.script_reading.specs.Goals.{goal_in}
 use Rattle.script_reading.specs.Session.{HasSession}
 use Rattle.check_run.specs.declared.status.Status.{Status}
 use Rattle.check_run.specs.declared.status.Status.TheVariants.{Answered, CertRefused}
-use Rattle.script_reading.specs.Reader.{commands_of, IsBuilt}
+use Rattle.script_reading.specs.Reader.{commands_of, HasProblem, IsBuilt}
 use Rattle.check_run.specs.Answer.{loosenings_for, loosenings_of, solve_texts}
 use Rattle.check_run.specs.Course.{Course, behind, appended}
-use Rattle.check_run.specs.Can.{CanSolve, CanCheck, CanUpgrade, CanUpgradeBy, CanPlan, CanBy, OfSession, check_texts, goal_course, verdict_course}
+use Rattle.check_run.specs.Can.{CanSolve, CanCheck, CanUpgrade, CanUpgradeBy, CanPlan, CanBy, OfProblem, OfSession, check_texts, goal_course, verdict_course}
 use Rattle.check_run.specs.Minimized.{CanMinimize, CanTellLeast, Cause, IsLeastAnswer, near, spent, narrow, no_limit, minimize_text}
 use Rattle.check_run.specs.Run.{Run, HasCourse, HasInput, IsShown}
 use Rattle.check_run.proofs.Shown.{status_is_shown}
@@ -255,16 +256,16 @@ check-unsat words script cert_in parts old new shows single rest wrote =
 -- ---- the answers of minimize
 
 -- a point was found, with bounds of the goal
-least-so : (words : Minimize) (script : List ℕ) (old new : Sight) (p : Problem) → IsBuilt words.options.bound script p → (g : ℕ) → goal_in script ≡ Some g → (cert : List ℕ) (cause : Cause) (x : Least) → IsLeastAnswer p g words cert cause x →
+least-so : (words : Minimize) (script : List ℕ) (old new : Sight) (p : Problem) → HasProblem words.options.bound p script → (g : ℕ) → goal_atom (commands_of script) ≡ Some g → (cert : List ℕ) (cause : Cause) (x : Least) → IsLeastAnswer p g words cert cause x →
     new.cert_out ≡ appended old.cert_out cert → new.answer ≡ appended old.answer (minimize_text p g words.options.budget cause x) → IsLeast words script old new
-least-so words script old new p built g is cert cause x answers written answer =
+least-so words script old new p has g is cert cause x answers written answer =
     let b : Option ℕ = words.options.bound in
     let s : Loosenings = loosenings_of words.options in
-    let atom = goal_is script g is in
-    let h = upper_means b (commands_of script) p built.whole built.problem g atom answers.room cert s x answers.accepted answers.point answers.has_point in
+    let built = has.built in
+    let h = upper_means b (commands_of script) p built.whole built.problem g is answers.room cert s x answers.accepted answers.point answers.has_point in
     record {
       problem = p;
-      built = built;
+      has = has;
       goal = g;
       is_goal = is;
       cert = cert;
@@ -273,42 +274,43 @@ least-so words script old new p built g is cert cause x answers written answer =
       answers = answers;
       written = written;
       answer = answer;
-      lower = lower_means b (commands_of script) p built.whole built.problem g atom answers.room cert s x answers.accepted;
+      lower = lower_means b (commands_of script) p built.whole built.problem g is answers.room cert s x answers.accepted;
       point = record { satisfies = h.0; near = h.1 };
       upper = h.2;
     }
 
-minimize-told : (words : Minimize) (script : List ℕ) (old new : Sight) (p : Problem) → IsBuilt words.options.bound script p → (g : ℕ) → goal_in script ≡ Some g → (course : Course) → CanTellLeast p g words course →
+minimize-told : (words : Minimize) (script : List ℕ) (old new : Sight) (p : Problem) → HasProblem words.options.bound p script → (g : ℕ) → goal_atom (commands_of script) ≡ Some g → (course : Course) → CanTellLeast p g words course →
     new.cert_out ≡ appended old.cert_out course.cert → new.answer ≡ appended old.answer course.answer → IsLeast words script old new ⊎ IsNoLeast words script old new
-minimize-told words script old new p built g is course (inl (cert, left, answers, e)) written answer =
+minimize-told words script old new p has g is course (inl (cert, left, answers, e)) written answer =
     inr (record {
       problem = p;
-      built = built;
+      has = has;
       cert = cert;
       left = left;
       answers = answers;
       written = written ∙ ap (λ (c : Course). appended old.cert_out c.cert) e;
       answer = answer ∙ ap (λ (c : Course). appended old.answer c.answer) e;
-      say = value-so words.options.bound script p cert (loosenings_of words.options) (left_open left) built answers.accepted;
+      say = value-so words.options.bound script p cert (loosenings_of words.options) (left_open left) has.built answers.accepted;
     })
-minimize-told words script old new p built g is course (inr (cert, cause, x, answers, e)) written answer =
-    inl (least-so words script old new p built g is cert cause x answers (written ∙ ap (λ (c : Course). appended old.cert_out c.cert) e) (answer ∙ ap (λ (c : Course). appended old.answer c.answer) e))
+minimize-told words script old new p has g is course (inr (cert, cause, x, answers, e)) written answer =
+    inl (least-so words script old new p has g is cert cause x answers (written ∙ ap (λ (c : Course). appended old.cert_out c.cert) e) (answer ∙ ap (λ (c : Course). appended old.answer c.answer) e))
 
-minimize-by : (words : Minimize) (script : List ℕ) (old new : Sight) (goal : Option ℕ) → goal_in script ≡ goal → (ps : List (Problem × Bool)) → HasSession words.options.bound ps script → (course : Course) → CanMinimize goal ps words course →
+minimize-by : (words : Minimize) (script : List ℕ) (old new : Sight) (goal : Option ℕ) → goal_atom (commands_of script) ≡ goal → (p : Problem) → HasProblem words.options.bound p script → (course : Course) → CanMinimize goal p words course →
     course.status ≡ Answered → new.cert_out ≡ appended old.cert_out course.cert → new.answer ≡ appended old.answer course.answer → IsLeast words script old new ⊎ IsNoLeast words script old new
-minimize-by words script old new None is ps has course can status written answer = absurd (refused-not course.status (ap (λ (c : Course). c.status) can) status)
-minimize-by words script old new (Some g) is ps has course can status written answer =
-    let x = one_problem words.options.bound script (goal_has_one script g is) ps has in
-    let so : CanTellLeast x.problem g words course = subst (λ (ys : List (Problem × Bool)). CanMinimize (Some g) ys words course) x.only can in
-    minimize-told words script old new x.problem x.built g is course so written answer
+minimize-by words script old new None is p has course can status written answer = absurd (refused-not course.status (ap (λ (c : Course). c.status) can) status)
+minimize-by words script old new (Some g) is p has course can status written answer = minimize-told words script old new p has g is course can written answer
+
+minimize-of : (words : Minimize) (script : List ℕ) (old new : Sight) (f : Option ScriptFault) (tail : Course) → script_fault words.options.bound script ≡ f →
+    CanBy f (OfProblem words.options.bound script (λ p. CanMinimize (goal_atom (commands_of script)) p words)) tail → tail.status ≡ Answered → new.cert_out ≡ appended old.cert_out tail.cert → new.answer ≡ appended old.answer tail.answer →
+    IsLeast words script old new ⊎ IsNoLeast words script old new
+minimize-of words script old new (Some f) tail e can status written answer = absurd (refused-not tail.status (ap (λ (c : Course). c.status) can) status)
+minimize-of words script old new None tail e can status written answer =
+    minimize-by words script old new (goal_atom (commands_of script)) refl can.0 (record { clean = e; built = can.1 }) tail can.2 status written answer
 
 minimize-so : (words : Minimize) (script cert_in : List ℕ) (parts : List (List ℕ)) (old new : Sight) → IsShown (Some (minimize words)) script cert_in parts old new Answered → IsLeast words script old new ⊎ IsNoLeast words script old new
 minimize-so words script cert_in parts old new (course, can, status, went) =
-    let tail : Course = can.0 in
-    let status_is : tail.status ≡ Answered = sym (ap (λ (c : Course). c.status) can.2) ∙ status in
-    let on = goes-on words.options.bound script (λ ps. CanMinimize (goal_in script) ps words) (session_fault words.options.bound script) tail can.1 status_is in
-    minimize-by words script old new (goal_in script) refl on.ps on.has tail on.can status_is (went.cert ∙ ap (λ (c : Course). appended old.cert_out c.cert) can.2)
-    (went.answer ∙ ap (λ (c : Course). appended old.answer c.answer) can.2)
+    minimize-of words script old new (script_fault words.options.bound script) can.0 refl can.1 (sym (ap (λ (c : Course). c.status) can.2) ∙ status)
+    (went.cert ∙ ap (λ (c : Course). appended old.cert_out c.cert) can.2) (went.answer ∙ ap (λ (c : Course). appended old.answer c.answer) can.2)
 
 -- bounds are told by other texts than `unsat`
 bounds-not-unsat : (p : Problem) (g budget : ℕ) (cause : Cause) (x : Least) (rest : List ℕ) → unsat_word ++ rest ≡ minimize_text p g budget cause x → ⊥
@@ -329,7 +331,7 @@ minimize-unsat-of words script old new (inl so) rest wrote =
     absurd (bounds-not-unsat so.problem so.goal words.options.budget so.cause so.value rest (written-is old.answer new.answer (unsat_word ++ rest) text wrote so.answer))
 minimize-unsat-of words script old new (inr so) rest wrote =
     let text : List ℕ = solve_text so.problem words.options.budget (loosenings_of words.options) (left_open so.left) in
-    unsat-of-left words script old new so.problem so.built so.cert so.left so.written so.answers.accepted rest (written-is old.answer new.answer (unsat_word ++ rest) text wrote so.answer)
+    unsat-of-left words script old new so.problem so.has.built so.cert so.left so.written so.answers.accepted rest (written-is old.answer new.answer (unsat_word ++ rest) text wrote so.answer)
 
 minimize-unsat : (words : Minimize) (script cert_in : List ℕ) (parts : List (List ℕ)) (old new : Sight) → IsShown (Some (minimize words)) script cert_in parts old new Answered → IsTrueUnsat (Some (minimize words)) script cert_in parts old new
 minimize-unsat words script cert_in parts old new shows rest wrote = minimize-unsat-of words script old new (minimize-so words script cert_in parts old new shows) rest wrote

@@ -10,7 +10,9 @@ use Rattle.cert_model.specs.Least.{GoalVerdict, plain, least, goal_verdict}
 use Rattle.cert_model.specs.Session.{SessionVerdict, session_verdict}
 use Rattle.script_fault.specs.declared.fault.ScriptFault.{ScriptFault}
 use Rattle.script_reading.specs.Faults.{script_fault, session_fault}
+use Rattle.script_forms.specs.Atoms.{goal_atom}
 use Rattle.script_reading.specs.Goals.{goal_in}
+use Rattle.script_reading.specs.Reader.{commands_of}
 use Rattle.check_run.specs.declared.status.Status.{Status}
 use Rattle.check_run.specs.declared.status.Status.TheVariants.{Answered, CertRefused, ScriptRefused, Usage, InFailed, OutFailed, NoMemory}
 use Rattle.check_run.specs.Course.{Course, Went, Ends, at_its_end, out_failed, no_memory, RunEnds, on_course, in_failed, draft_failed, no_memory_yet}
@@ -86,19 +88,20 @@ said-least : (p : Problem) (g : ℕ) (words : Minimize) (course : Course) → Ca
 said-least p g words course (inl can) = said-same course _ can.3 tt
 said-least p g words course (inr can) = said-same course _ can.4 tt
 
-said-minimize : (goal : Option ℕ) (ps : List (Problem × Bool)) (words : Minimize) (course : Course) → CanMinimize goal ps words course → IsSaid course.status
-said-minimize None ps words course can = said-same course _ can tt
-said-minimize (Some g) [] words course can = said-same course _ can tt
-said-minimize (Some g) (p ∷ []) words course can = said-least p.0 g words course can
-said-minimize (Some g) (p ∷ q ∷ ps) words course can = said-same course _ can tt
+said-sought : (goal : Option ℕ) (p : Problem) (words : Minimize) (course : Course) → CanMinimize goal p words course → IsSaid course.status
+said-sought None p words course can = said-same course _ can tt
+said-sought (Some g) p words course can = said-least p g words course can
+
+said-minimize : (words : Minimize) (script : List ℕ) (f : Option ScriptFault) (course : Course) → CanBy f (OfProblem words.options.bound script (λ p. CanMinimize (goal_atom (commands_of script)) p words)) course → IsSaid course.status
+said-minimize words script (Some f) course can = said-same course _ can tt
+said-minimize words script None course can = said-sought (goal_atom (commands_of script)) can.0 words course can.2
 
 -- each course of a run ends in a status that is told
 said : (command : Option Command) (script cert_in : List ℕ) (parts : List (List ℕ)) (course : Course) → Can command script cert_in parts course → IsSaid course.status
 said None script cert_in parts course can = said-same course _ can tt
 said (Some (solve words)) script cert_in parts course can = said-same course _ can.2
     (said-by words.options.bound script (λ ps. CanSolve ps words.options words.cert) (λ ps c h. said-solve ps words.options words.cert c h) (session_fault words.options.bound script) can.0 can.1)
-said (Some (minimize words)) script cert_in parts course can = said-same course _ can.2
-    (said-by words.options.bound script (λ ps. CanMinimize (goal_in script) ps words) (λ ps c h. said-minimize (goal_in script) ps words c h) (session_fault words.options.bound script) can.0 can.1)
+said (Some (minimize words)) script cert_in parts course can = said-same course _ can.2 (said-minimize words script (script_fault words.options.bound script) can.0 can.1)
 said (Some (check words)) script cert_in parts course can = said-same course _ can.2
     (said-by words.bound script (λ ps. CanCheck (goal_in script) ps words.bound words.cert cert_in) (λ ps c h. said-same c _ h.2 (said-check (goal_in script) h.0 ps words.bound cert_in)) (session_fault words.bound script) can.0 can.1)
 said (Some (upgrade words)) script cert_in parts course can = said-same course _ can.2

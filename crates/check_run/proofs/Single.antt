@@ -1,7 +1,7 @@
 -- A script with one check has one problem, and its certificates one value.
 use Rattle.std.proofs.Common.{◌≡◌, ◌<◌, length, ℕ, List, [], ◌∷◌, Bool, Option, Some, None, refl, ap, sym, ◌∙◌, subst}
 use Rattle.poly_graph.specs.Problem.{Problem}
-use Rattle.poly_graph.specs.ProblemViews.{Parts}
+use Rattle.poly_graph.specs.ProblemViews.{Parts, problem_of}
 use Rattle.problem_session.specs.Session.{problems_of}
 use Rattle.cover_model.specs.State.{Loosenings}
 use Rattle.cert_model.specs.Due.{Value}
@@ -13,10 +13,11 @@ use Rattle.script_forms.proofs.Goals.{goal_of_problem}
 use Rattle.smt_script.specs.Commands.{course_of, with_one_check}
 use Rattle.smt_script.specs.Levels.{Asked, Step, checks_of, only_script}
 use Rattle.script_reading.specs.Goals.{goal_in, goal_of_checks}
-use Rattle.script_reading.specs.Reader.{IsBuilt, IsBuiltOf, commands_of, or_none}
+use Rattle.script_reading.specs.Reader.{HasProblem, IsBuilt, IsBuiltOf, commands_of, or_none}
 use Rattle.script_reading.specs.Session.{AreBuilt, HasSession, carried_of, or_no_steps, steps_of_text}
 use Rattle.check_run.specs.Check.{IsGoalOf}
 use Rattle.check_run.specs.Headline.{HasOneCheck, asked_in}
+use Rattle.check_run.specs.Script.{IsAtomOf}
 
 -- ---- the script
 
@@ -100,3 +101,8 @@ atom-of bound script session has g is =
 pub goal_of_session : (bound : Option ℕ) (script : List ℕ) (session : List (Parts × Bool)) → HasSession bound (problems_of session) script → (goal : Option ℕ) → goal ≡ goal_in script → IsGoalOf goal session
 goal_of_session bound script session has None is = tt
 goal_of_session bound script session has (Some g) is = atom-of bound script session has g (sym is)
+
+-- so of the problem of a script that may have one check
+pub goal_of_script : (bound : Option ℕ) (script : List ℕ) (p : Parts) → HasProblem bound (problem_of p) script → (goal : Option ℕ) → goal ≡ goal_atom (commands_of script) → IsAtomOf goal p
+goal_of_script bound script p has None is = tt
+goal_of_script bound script p has (Some g) is = (goal_of_problem bound (commands_of script) (problem_of p) has.built.problem g (sym is)).0

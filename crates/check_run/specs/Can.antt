@@ -21,7 +21,8 @@ use Rattle.check_run.specs.Plans.{least_bits_text, no_atom_text, no_axis_text}
 use Rattle.check_run.specs.ScriptFaults.{fault_text}
 use Rattle.script_reading.specs.Faults.{script_fault, session_fault}
 use Rattle.script_reading.specs.Goals.{goal_in}
-use Rattle.script_reading.specs.Reader.{IsBuilt}
+use Rattle.script_forms.specs.Atoms.{goal_atom}
+use Rattle.script_reading.specs.Reader.{IsBuilt, commands_of}
 use Rattle.script_reading.specs.Session.{HasSession}
 use Rattle.check_run.specs.Answer.{loosenings_for, solve_texts, AreAnswers, IsAnswer}
 use Rattle.check_run.specs.Course.{Start, Course, says, gives, behind}
@@ -146,8 +147,8 @@ Can (Some (solve words)) script cert_in parts course =
     CanFrom words.script (session_fault words.options.bound script)
     (OfSession words.options.bound script (λ ps. CanSolve ps words.options words.cert)) course
 Can (Some (minimize words)) script cert_in parts course =
-    CanFrom words.script (session_fault words.options.bound script)
-    (OfSession words.options.bound script (λ ps. CanMinimize (goal_in script) ps words)) course
+    CanFrom words.script (script_fault words.options.bound script)
+    (OfProblem words.options.bound script (λ p. CanMinimize (goal_atom (commands_of script)) p words)) course
 Can (Some (check words)) script cert_in parts course =
     CanFrom words.script (session_fault words.bound script)
     (OfSession words.bound script (λ ps. CanCheck (goal_in script) ps words.bound words.cert cert_in)) course

@@ -22,6 +22,7 @@ use Rattle.cert_upgrade.specs.Upgraded.{in_newest, upgraded}
 use Rattle.headline.specs.Laws.{HasNoPoint}
 use Rattle.headline.specs.Least.{HasLowerBound, IsGoalAtMost}
 use Rattle.headline.specs.Near.{IsNearDeclaredBox}
+use Rattle.script_forms.specs.Atoms.{goal_atom}
 use Rattle.smt_script.specs.Levels.{Asked, checks_of}
 use Rattle.script_reading.specs.Goals.{goal_in}
 use Rattle.script_reading.specs.Reader.{commands_of, HasProblem, IsBuilt}
@@ -107,9 +108,9 @@ pub record IsConfirmedLeast (bound : Option ℕ) (script cert_in : List ℕ) (ol
 -- bounds are within the gap of the words.
 pub record IsLeast (words : Minimize) (script : List ℕ) (old new : Sight) : Type 0 where
   pub problem : Problem
-  pub built : IsBuilt words.options.bound script problem
+  pub has : HasProblem words.options.bound problem script
   pub goal : ℕ
-  pub is_goal : goal_in script ≡ Some goal
+  pub is_goal : goal_atom (commands_of script) ≡ Some goal
   pub cert : List ℕ
   pub cause : Cause
   pub value : Least
@@ -124,7 +125,7 @@ pub record IsLeast (words : Minimize) (script : List ℕ) (old new : Sight) : Ty
 -- it leaves, and what that says of the check is so.
 pub record IsNoLeast (words : Minimize) (script : List ℕ) (old new : Sight) : Type 0 where
   pub problem : Problem
-  pub built : IsBuilt words.options.bound script problem
+  pub has : HasProblem words.options.bound problem script
   pub cert : List ℕ
   pub left : List Standing
   pub answers : IsAnswer problem words.options cert (left_open left)

@@ -2,6 +2,7 @@ pub mod Answer
 pub mod Both
 pub mod Bounds
 pub mod Can
+pub mod Causes
 pub mod Check
 pub mod Course
 pub mod Goals

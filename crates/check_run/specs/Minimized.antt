@@ -1,6 +1,8 @@
 -- The answers of `minimize`.
-use Rattle.std.specs.Prelude.{◌≡◌, ◌⊎◌, ◌++◌, ℕ, List, [], ◌∷◌, Bool, Option, Some, None, codes}
+use Rattle.std.specs.Prelude.{◌≡◌, ◌≤◌, ◌⊎◌, ◌++◌, ℕ, List, [], Bool, Option, Some, None, codes}
+use Rattle.command_line.specs.declared.request.Options.{Options}
 use Rattle.command_line.specs.Words.{Minimize}
+use Rattle.dyadic.specs.Rounding.{Dyadic, Ext}
 use Rattle.poly_graph.specs.Problem.{Problem}
 use Rattle.interval_model.specs.Space.{Space}
 use Rattle.cert_read.specs.LineText.{lower_text}
@@ -8,8 +10,10 @@ use Rattle.cert_model.specs.Due.{Standing, left_open}
 use Rattle.cert_model.specs.AnswerText.{text_line, axes_text, budget_text, solve_text, upper_line, value_text}
 use Rattle.cert_model.specs.Least.{Least, least, upper_at, IsGoalAccepted, IsSettled}
 use Rattle.cert_model.specs.Limited.{IsRoomOf}
+use Rattle.goal_limit.specs.Tries.{Span, HasNoLimit, IsTarget}
 use Rattle.check_run.specs.declared.status.Status.TheVariants.{ScriptRefused}
 use Rattle.check_run.specs.Answer.{loosenings_of, IsAnswer}
+use Rattle.check_run.specs.Causes.{IsNarrow, Searches, cost_of}
 use Rattle.check_run.specs.Course.{Course, says, gives}
 
 -- ---- texts
@@ -33,25 +37,34 @@ abbrev pub minimize_text : Problem → ℕ → ℕ → Cause → Least → List 
 minimize_text p g budget cause x =
     cause_text budget cause ++ (text_line (codes "lower " ++ lower_text x.lower) ++ (upper_line p g x.point ++ point_lines p x.point))
 
--- a script without a goal in force at its only check
+-- a script without fault, of whose only check no goal is in force
 abbrev pub no_goal_text : List ℕ
 no_goal_text = text_line (codes "script fault 17 NoGoal 0:0")
 
 -- ---- courses
 
--- the bounds are said to be near only where they are
-abbrev pub IsCauseFor : Problem → ℕ → ℕ → Cause → Least → Type 0
-IsCauseFor p g gap near x = (space : Space) × (x.point ≡ Some space) × IsSettled gap x.lower (upper_at p g space)
-IsCauseFor p g gap _ x = Unit {0}
+-- Each cause is told only where it is one: of these bounds, behind these searches.
+abbrev pub IsCauseFor : (p : Problem) (g : ℕ) (room : Bool) (options : Options) → Span → Searches p g room options → Cause → Type 0
+IsCauseFor p g room options bounds x near = IsSettled bounds.gap bounds.low bounds.high
+IsCauseFor p g room options bounds x spent = cost_of p g room options x ≡ options.budget
+IsCauseFor p g room options bounds x narrow = IsNarrow p g room options bounds
+IsCauseFor p g room options bounds x no_limit = (target : Ext) × IsTarget bounds target × HasNoLimit p room target bounds
 
--- A certificate with a lower bound of the goal and a point, with the words' bound, margin and delta.
+-- a lower bound and that of a point
+abbrev pub bounds_at : Problem → ℕ → ℕ → Option Dyadic → Space → Span
+bounds_at p g gap low point = record { low = low; high = upper_at p g point; gap = gap }
+
+-- A certificate with a lower bound of the goal and a point, with the words' bound, margin and delta. The searches that found them cost at most the
+-- budget, and the cause is told by what they did.
 pub record IsLeastAnswer (p : Problem) (g : ℕ) (words : Minimize) (cert : List ℕ) (cause : Cause) (x : Least) : Type 0 where
   pub room : Bool
   pub is_room : IsRoomOf p room
   pub accepted : IsGoalAccepted p g room words.options.bound cert (loosenings_of words.options) (least x)
   pub point : Space
   pub has_point : x.point ≡ Some point
-  pub near : IsCauseFor p g words.gap_bits cause x
+  pub searches : Searches p g room words.options
+  pub within : cost_of p g room words.options searches ≤ words.options.budget
+  pub is_cause : IsCauseFor p g room words.options (bounds_at p g words.gap_bits x.lower point) searches cause
 
 -- Where a point is found its bounds are told. Where none is, what an honest cover leaves, as `solve` does.
 abbrev pub CanTellLeast : Problem → ℕ → Minimize → Course → Type 0
@@ -62,6 +75,6 @@ CanTellLeast p g words course =
     × (course ≡ gives words.cert cert (minimize_text p g words.options.budget cause x)))
 
 -- `minimize`, by the atom of the goal, where there is one
-abbrev pub CanMinimize : Option ℕ → List (Problem × Bool) → Minimize → Course → Type 0
-CanMinimize (Some g) ((p, e) ∷ []) words course = CanTellLeast p g words course
-CanMinimize goal ps words course = course ≡ says ScriptRefused no_goal_text
+abbrev pub CanMinimize : Option ℕ → Problem → Minimize → Course → Type 0
+CanMinimize (Some g) p words course = CanTellLeast p g words course
+CanMinimize None p words course = course ≡ says ScriptRefused no_goal_text

@@ -80,7 +80,7 @@ pub fn goal_bounds(
     Ok(text)
 }
 
-/// Refuses a script that has no goal in force at its only check, or more than one check.
+/// Refuses a script without fault, of whose only check no goal is in force.
 pub fn end_no_goal<D: Desk>(desk: &mut D) -> Status
     ensures ends { RunEnds IsNoGoal [] (D.sight desk.old) (D.sight desk.new) result }
     ensures same { SameIn (D.sight desk.old) (D.sight desk.new) }

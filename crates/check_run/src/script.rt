@@ -1,18 +1,23 @@
 // The problems of a script's checks, from its port.
 ghost use Rattle.std.specs.Prelude.{◌≡◌, IfOk, IfSome, MatchResult, Option};
+ghost use Rattle.poly_graph.specs.ProblemViews.{problem_of};
 ghost use Rattle.problem_session.specs.Session.{problems_of};
 ghost use Rattle.cert_model.specs.SessionLaws.{IsSession};
 ghost use Rattle.script_fault.specs.Answers.{IsFaultOrMemory};
+ghost use Rattle.script_forms.specs.Atoms.{goal_atom};
 ghost use Rattle.check_run.specs.ScriptFaults.{fault_text};
+ghost use Rattle.script_reading.specs.Faults.{script_fault, session_fault};
 ghost use Rattle.script_reading.specs.Goals.{goal_in};
+ghost use Rattle.script_reading.specs.Reader.{HasProblem, commands_of};
 ghost use Rattle.script_reading.specs.Session.{HasSession};
 ghost use Rattle.check_run.specs.Check.{IsGoalOf};
 ghost use Rattle.check_run.specs.Run.{SameIn};
-ghost use Rattle.check_run.specs.Script.{AreWithin, Fetches, HaltEnds, Halts, HasText, IsHaltOfFault, IsTooLong, IsHaltOfScript};
+ghost use Rattle.check_run.specs.Script.{AreWithin, Fetches, HaltEnds, Halts, HasText, IsAtomOf, IsHaltOfFault, IsTooLong, IsWithin};
 
 use crate::ports::{fetch, say};
 use crate::status::Status;
 use desk::{Desk, ReadAll};
+use poly_graph::Problem;
 use problem_session::Session;
 use script_fault::{FaultKind, Limit, Place, ReadError, ScriptFault};
 use script_reading::{ScriptReader, WithGoal};
@@ -68,7 +73,7 @@ fn read_script<S: ScriptReader>(
 ) -> Result<Session, Halt>
     ensures script { MatchResult result
         (λ session. HasSession bound (problems_of session) bytes.now)
-        (λ halt. IsHaltOfScript bound bytes.now halt) }
+        (λ halt. IsHaltOfFault (session_fault bound bytes.now) halt) }
     ensures goes_on { IfOk result (λ session. IsSession (problems_of session)) }
     ensures within { IfOk result (λ session. AreWithin session) }
 {
@@ -87,9 +92,10 @@ pub fn fetch_session<S: ScriptReader, D: Desk>(
     bound: Option<u32>,
 ) -> Result<Session, Halt>
     ensures script { MatchResult result
-        (λ session. Fetches bound name.now
-        (problems_of session) (D.sight desk.old) (D.sight desk.new))
-        (λ halt. Halts bound name.now halt (D.sight desk.old) (D.sight desk.new)) }
+        (λ session. Fetches name.now
+        (HasSession bound (problems_of session)) (D.sight desk.old) (D.sight desk.new))
+        (λ halt. Halts (session_fault bound) name.now halt
+        (D.sight desk.old) (D.sight desk.new)) }
     ensures goes_on { IfOk result (λ session. IsSession (problems_of session)) }
     ensures within { IfOk result (λ session. AreWithin session) }
     ensures other { (D.sight desk.new).cert_in ≡ (D.sight desk.old).cert_in }
@@ -114,7 +120,7 @@ fn read_with_goal<S: ScriptReader>(
 ) -> Result<WithGoal, Halt>
     ensures script { MatchResult result
         (λ read. HasSession bound (problems_of read.session) bytes.now)
-        (λ halt. IsHaltOfScript bound bytes.now halt) }
+        (λ halt. IsHaltOfFault (session_fault bound bytes.now) halt) }
     ensures goal { IfOk result (λ read. read.goal ≡ goal_in bytes.now) }
     ensures goes_on { IfOk result (λ read. IsSession (problems_of read.session)) }
     ensures within { IfOk result (λ read. AreWithin read.session) }
@@ -135,9 +141,10 @@ pub fn fetch_with_goal<S: ScriptReader, D: Desk>(
     bound: Option<u32>,
 ) -> Result<WithGoal, Halt>
     ensures script { MatchResult result
-        (λ read. Fetches bound name.now
-        (problems_of read.session) (D.sight desk.old) (D.sight desk.new))
-        (λ halt. Halts bound name.now halt (D.sight desk.old) (D.sight desk.new)) }
+        (λ read. Fetches name.now
+        (HasSession bound (problems_of read.session)) (D.sight desk.old) (D.sight desk.new))
+        (λ halt. Halts (session_fault bound) name.now halt
+        (D.sight desk.old) (D.sight desk.new)) }
     ensures goal { IfOk result (λ read. IfSome (D.sight desk.old).script (λ script.
         read.goal ≡ goal_in script)) }
     ensures goes_on { IfOk result (λ read. IsSession (problems_of read.session)) }
@@ -147,6 +154,55 @@ pub fn fetch_with_goal<S: ScriptReader, D: Desk>(
 {
     match fetch(alloc, desk, name) {
         Ok(bytes) => match read_with_goal(reader, alloc, &bytes, bound) {
+            Ok(read) => Ok(read),
+            Err(halt) => Err(halt),
+        },
+        Err(ReadAll::Failed) => Err(Halt::Failed),
+        Err(ReadAll::TooLong) => Err(too_long(alloc)),
+        Err(ReadAll::Memory) => Err(Halt::Memory),
+    }
+}
+
+// The problem of a script's bytes, which a search takes, and the atom of its goal.
+fn read_goal<S: ScriptReader>(
+    reader: &S,
+    alloc: Global,
+    bytes: &[u8],
+    bound: Option<u32>,
+) -> Result<(Problem, Option<u32>), Halt>
+    ensures script { MatchResult result
+        (λ r. HasProblem bound (problem_of r.0) bytes.now)
+        (λ halt. IsHaltOfFault (script_fault bound bytes.now) halt) }
+    ensures goal { IfOk result (λ r. r.1 ≡ goal_atom (commands_of bytes.now)) }
+    ensures within { IfOk result (λ r. IsWithin r.0) }
+    ensures atom { IfOk result (λ r. IsAtomOf r.1 r.0) }
+{
+    match reader.read_goal(alloc, bytes, bound) {
+        Ok(read) => Ok(read),
+        Err(error) => Err(refusal(alloc, &error)),
+    }
+}
+
+/// The problem of the script on its port, which may have one check and which a search takes, and the atom of its goal.
+pub fn fetch_goal<S: ScriptReader, D: Desk>(
+    reader: &S,
+    alloc: Global,
+    desk: &mut D,
+    name: &str,
+    bound: Option<u32>,
+) -> Result<(Problem, Option<u32>), Halt>
+    ensures script { MatchResult result
+        (λ r. Fetches name.now
+        (HasProblem bound (problem_of r.0)) (D.sight desk.old) (D.sight desk.new))
+        (λ halt. Halts (script_fault bound) name.now halt
+        (D.sight desk.old) (D.sight desk.new)) }
+    ensures goal { IfOk result (λ r. IfSome (D.sight desk.old).script (λ script.
+        r.1 ≡ goal_atom (commands_of script))) }
+    ensures within { IfOk result (λ r. IsWithin r.0) }
+    ensures atom { IfOk result (λ r. IsAtomOf r.1 r.0) }
+{
+    match fetch(alloc, desk, name) {
+        Ok(bytes) => match read_goal(reader, alloc, &bytes, bound) {
             Ok(read) => Ok(read),
             Err(halt) => Err(halt),
         },

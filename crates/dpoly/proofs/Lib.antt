@@ -1,4 +1,5 @@
 pub mod ReadAlone
+pub mod Causes
 pub mod Demo
 pub mod Halting
 pub mod Joining

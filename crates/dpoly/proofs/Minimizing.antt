@@ -1,9 +1,8 @@
 -- From what a search for a least value finds to the end of a run.
-use Rattle.std.proofs.Common.{◌≡◌, ◌≢◌, ◌<◌, inl, inr, ℕ, List, [], ◌∷◌, Bool, Option, Some, None, length, refl, ap, sym, subst, ◌∙◌, arith}
-use Rattle.std.specs.Prelude.{map, option_map, slice_get}
-use Rattle.std.proofs.lemmas.Option.{none-some, same_Some}
+use Rattle.std.proofs.Common.{◌≡◌, ◌≢◌, inl, inr, ℕ, List, [], Option, Some, refl, ap, sym, subst, ◌∙◌, arith}
+use Rattle.std.specs.Prelude.{option_map}
 use Rattle.desk.specs.Sight.{Sight}
-use Rattle.command_line.specs.Words.{Minimize, AreOptions, IsMinimize}
+use Rattle.command_line.specs.Words.{Minimize, AreOptions}
 use Rattle.command_line.specs.declared.request.Options.{Options}
 use Rattle.dyadic.specs.Views.{dyadic_of, ext_of}
 use Rattle.dyadic.specs.declared.dy.Dy.{Dy}
@@ -16,7 +15,7 @@ use Rattle.cover_data.specs.declared.margins.Margins.{Margins}
 use Rattle.cover_data.specs.declared.margins.Options as cover
 use Rattle.cover_data.specs.Margins.{AreMargins, margins_of, loosenings_of as of_margins}
 use Rattle.cert_model.specs.Due.{left_open}
-use Rattle.cert_model.specs.Least.{Least, least, upper_at, IsGoalAccepted, IsSettled}
+use Rattle.cert_model.specs.Least.{Least, least, IsGoalAccepted}
 use Rattle.cert_model.specs.Limited.{has_room}
 use Rattle.cert_model.specs.AnswerText.{solve_text}
 use Rattle.cover_model.specs.State.{root_state}
@@ -27,24 +26,22 @@ use Rattle.cover_book.specs.Verdict.{verdict_of}
 use Rattle.cover_book.specs.declared.verdict.BookVerdict.TheVariants.{NotYet}
 use Rattle.solve_core.specs.Reaches.{Reaches}
 use Rattle.solve_core.proofs.Reached.{reaches_same}
+use Rattle.goal_limit.specs.Tries.{Span}
 use Rattle.least_search.specs.Found.{bound_of, IsBookOf, IsClosed, IsFound, IsLower}
-use Rattle.least_search.specs.declared.found.Ending.TheVariants as ending
 use Rattle.least_search.specs.declared.found.Found.{Found}
 use Rattle.least_search.specs.declared.found.Lower.{Lower}
 use Rattle.least_search.specs.declared.found.Lower.TheVariants as shown
 use Rattle.least_text.specs.Means.{IsLimitedCertificate, IsOverCertificate}
 use Rattle.check_run.specs.declared.minimized.Cause as tells
-use Rattle.check_run.specs.declared.minimized.Cause.TheVariants.{Near, Spent, Narrow, NoLimit}
 use Rattle.check_run.specs.declared.status.Status.{Status}
 use Rattle.check_run.specs.Answer.{loosenings_of}
 use Rattle.check_run.specs.Bounds.{cause_of, IsMinimizeText}
-use Rattle.check_run.specs.Check.{IsGoalOf}
 use Rattle.check_run.specs.Course.{gives, Ends, RunEnds, on_course}
-use Rattle.check_run.specs.Minimized.{CanTellLeast, Cause, IsCauseFor, minimize_text}
-use Rattle.check_run.specs.Script.{AreWithin, IsWithin}
+use Rattle.check_run.specs.Minimized.{Cause, CanTellLeast, IsCauseFor, bounds_at, minimize_text}
 use Rattle.dpoly.specs.declared.answers.SearchAnswer.{SearchAnswer}
-use Rattle.dpoly.specs.Minimize.{overs_of, value_of, IsAcceptedFor, IsFoundAnswer, IsMinimizeAnswer}
+use Rattle.dpoly.specs.Minimize.{overs_of, told_cause, value_of, IsAcceptedFor, IsFoundAnswer, IsMinimizeAnswer}
 use Rattle.dpoly.specs.Search.{search_options}
+use Rattle.dpoly.proofs.Causes.{all_covers, clear_box, ending_told}
 use Rattle.dpoly.proofs.Solving.{written}
 
 -- ---- the searches
@@ -103,12 +100,6 @@ module _ (q : Parts) (g gap : ℕ) (o : cover.Options) (f : Found) (found : IsFo
 
 -- ---- answers
 
-cause-for : (p : Problem) (g gap : ℕ) (c : tells.Cause) (x : Least) (space : Space) → x.point ≡ Some space → (c ≡ Near → IsSettled gap x.lower (upper_at p g space)) → IsCauseFor p g gap (cause_of c) x
-cause-for p g gap Near x space at h = (space, at, h refl)
-cause-for p g gap Spent x space at h = tt
-cause-for p g gap Narrow x space at h = tt
-cause-for p g gap NoLimit x space at h = tt
-
 -- the text with the words' own numbers
 pub text_as : (p : Problem) (n budget : ℕ) (c : Cause) (low bound : Option Dy) (e : Ext) (y x : Space) (text : List ℕ) → n ≡ budget → low ≡ bound → y ≡ x → IsMinimizeText p n c (option_map dyadic_of low) (ext_of e) y text →
     IsMinimizeText p budget c (option_map dyadic_of bound) (ext_of e) x text
@@ -122,32 +113,27 @@ pub certificate_as : (q : Parts) (g gap : ℕ) (a o : cover.Options) (f : Found)
 certificate_as q g gap a o f cert same h = subst (λ (x : cover.Options). IsFound q g gap x f → IsAcceptedFor q g x f cert) same h
 
 pub found_answer : (q : Parts) (g : ℕ) (words : Minimize) (f : Found) (told : SearchAnswer) → IsFound q g words.gap_bits (search_options words.options) f → IsAcceptedFor q g (search_options words.options) f told.cert.items →
-    (c : tells.Cause) → (c ≡ Near → f.ending ≡ ending.Minimum) → IsMinimizeText (problem_of q) words.options.budget (cause_of c) (option_map dyadic_of (bound_of f.lower)) (ext_of f.upper) f.point told.text.items → IsFoundAnswer (problem_of q) g words told
-found_answer q g words f told found accepted c near text = record {
-  cause = cause_of c;
-  value = value_of (problem_of q) f;
-  answer = record {
-    room = has_room q;
-    is_room = (q, refl, refl);
-    accepted = accepted;
-    point = f.point;
-    has_point = refl;
-    near = cause-for (problem_of q) g words.gap_bits c (value_of (problem_of q) f) f.point refl (λ e. found.ending (near e));
-  };
-  text = text g (value_of (problem_of q) f) refl refl found.upper;
-}
-
--- ---- the only problem
-
-pub some_check : (session : List (Parts × Bool)) (goal : Option ℕ) (g : ℕ) → goal ≡ Some g → IsGoalOf goal session → 0 < length session
-some_check session goal g some is = of-session session (subst (λ (o : Option ℕ). IsGoalOf o session) some is) where
-  of-session : (session : List (Parts × Bool)) → IsGoalOf (Some g) session → 0 < length session
-  of-session [] h = absurd h
-  of-session (c ∷ session) h = omega arith
-
-pub within_first : (session : List (Parts × Bool)) (p : Parts) → slice_get (map (λ (q : Parts × Bool). q.0) session) 0 ≡ Some p → AreWithin session → IsWithin p
-within_first [] p at w = absurd (none-some p at)
-within_first ((q, x) ∷ session) p at w = subst IsWithin (same_Some q p at) w.0
+    (c : tells.Cause) → c ≡ told_cause f.ending → IsMinimizeText (problem_of q) words.options.budget (cause_of c) (option_map dyadic_of (bound_of f.lower)) (ext_of f.upper) f.point told.text.items → IsFoundAnswer (problem_of q) g words told
+found_answer q g words f told found accepted c is text =
+    let p : Problem = problem_of q in
+    let bounds : Span = bounds_at p g words.gap_bits (option_map dyadic_of (bound_of f.lower)) f.point in
+    let clear = clear_box p found.crossed in
+    let covers = all_covers q g words.options clear found.left found.searches in
+    record {
+      cause = cause_of c;
+      value = value_of p f;
+      answer = record {
+        room = has_room q;
+        is_room = (q, refl, refl);
+        accepted = accepted;
+        point = f.point;
+        has_point = refl;
+        searches = covers.searches;
+        within = omega (arith, covers.cost);
+        is_cause = subst (λ (k : tells.Cause). IsCauseFor p g (has_room q) words.options bounds covers.searches (cause_of k)) (sym is) (ending_told q g words.options clear bounds found.left f.ending found.ending covers);
+      };
+      text = text g (value_of p f) refl refl found.upper;
+    }
 
 -- ---- the end of a run behind its problem
 

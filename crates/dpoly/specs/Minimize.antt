@@ -13,10 +13,14 @@ use Rattle.cert_model.specs.AnswerText.{solve_text}
 use Rattle.cover_data.specs.declared.margins.Options as cover
 use Rattle.cover_data.specs.Margins.{margins_of, loosenings_of as of_margins}
 use Rattle.least_search.specs.Found.{bound_of}
+use Rattle.least_search.specs.declared.found.Ending.{Ending}
+use Rattle.least_search.specs.declared.found.Ending.TheVariants.{Minimum, Budget, Width, Limit}
 use Rattle.least_search.specs.declared.found.Lower.{Lower}
 use Rattle.least_search.specs.declared.found.Lower.TheVariants as shown
 use Rattle.least_search.specs.declared.found.Found.{Found}
 use Rattle.least_text.specs.Means.{open_root}
+use Rattle.check_run.specs.declared.minimized.Cause as tells
+use Rattle.check_run.specs.declared.minimized.Cause.TheVariants.{Near, Spent, Narrow, NoLimit}
 use Rattle.check_run.specs.Answer.{loosenings_of, IsAnswer}
 use Rattle.check_run.specs.Minimized.{Cause, IsLeastAnswer, minimize_text}
 use Rattle.dpoly.specs.declared.answers.SearchAnswer.{SearchAnswer}
@@ -36,6 +40,13 @@ abbrev pub IsAcceptedFor : Parts → ℕ → cover.Options → Found → List �
 IsAcceptedFor q g o f cert = IsGoalAccepted (problem_of q) g (has_room q) o.bound cert (of_margins (margins_of o)) (least (value_of (problem_of q) f))
 
 -- ---- answers
+
+-- what is told of an ending
+abbrev pub told_cause : Ending → tells.Cause
+told_cause Minimum = Near
+told_cause Budget = Spent
+told_cause Width = Narrow
+told_cause Limit = NoLimit
 
 -- the certificate answers the problem with a least value, and the text is that of it
 pub record IsFoundAnswer (p : Problem) (g : ℕ) (words : Minimize) (told : SearchAnswer) : Type 0 where

@@ -3,18 +3,14 @@ ghost use Rattle.std.specs.Prelude.{◌≡◌, ◌<◌, ℕ, [], IfOk, length};
 ghost use Rattle.command_line.specs.Seen.{seen_minimize};
 ghost use Rattle.command_line.specs.Words.{IsMinimize};
 ghost use Rattle.poly_graph.specs.ProblemViews.{Parts, problem_of};
-ghost use Rattle.problem_session.specs.Session.{problems_of};
 ghost use Rattle.cover_data.specs.Margins.{AreMargins, margins_of};
 ghost use Rattle.cover_book.specs.Limits.{IsWithinLimits};
 ghost use Rattle.least_search.specs.Found.{IsBookOf, IsFound, IsLeast};
-ghost use Rattle.least_search.specs.declared.found.Ending.TheVariants as why;
-ghost use Rattle.check_run.specs.declared.minimized.Cause.TheVariants as cause;
-ghost use Rattle.check_run.specs.Check.{IsGoalOf};
 ghost use Rattle.check_run.specs.Course.{RunEnds};
 ghost use Rattle.check_run.specs.Minimized.{CanMinimize};
 ghost use Rattle.check_run.specs.Run.{MinimizeHasCause, SameIn};
-ghost use Rattle.check_run.specs.Script.{AreWithin, IsWithin};
-ghost use Rattle.dpoly.specs.Minimize.{IsAcceptedFor, IsFoundAnswer, IsMinimizeAnswer};
+ghost use Rattle.check_run.specs.Script.{IsAtomOf, IsWithin};
+ghost use Rattle.dpoly.specs.Minimize.{IsAcceptedFor, IsFoundAnswer, IsMinimizeAnswer, told_cause};
 ghost use Rattle.dpoly.specs.Search.{search_options as options_of};
 
 use crate::answers::{SearchAnswer, search_options, tell_left};
@@ -27,7 +23,6 @@ use desk::Desk;
 use least_search::{Ending, Found, Least, Lower, minimize};
 use least_text::{write_limited, write_over};
 use poly_graph::Problem;
-use script_reading::WithGoal;
 use solve_core::{Gate, solve};
 use std::alloc::{AllocError, Global};
 use std::sync::Wait;
@@ -71,7 +66,7 @@ fn search_least<R: Threads + Wait + Sync, G: Gate + Sync>(
 
 // Why the search ended, as it is told.
 fn cause_of(ending: Ending) -> Cause
-    ensures { result ≡ cause.Near → ending ≡ why.Minimum }
+    ensures { result ≡ told_cause ending }
 {
     match ending {
         Ending::Minimum => Cause::Near,
@@ -137,29 +132,27 @@ fn minimize_problem<R: Threads + Wait + Sync, G: Gate + Sync>(
     }
 }
 
-/// Finds the least value of the goal of a script that was read: its certificate, and the answer.
+/// Finds the least value of the goal of a script that was read, the term of this atom: its certificate, and the answer.
 pub fn minimize_script<R: Threads + Wait + Sync, D: Desk, G: Gate + Sync>(
     engine: &Engine<'_, R, G>,
     alloc: Global,
     desk: &mut D,
-    read: &WithGoal,
+    problem: &Problem,
+    goal: Option<u32>,
     asked: &MinimizeWords<'_>,
 ) -> Status
     requires asked { IsMinimize (seen_minimize asked.now) }
-    requires goal { IsGoalOf read.now.goal read.now.session }
-    requires within { AreWithin read.now.session }
-    ensures ends { RunEnds (CanMinimize read.now.goal (problems_of read.now.session)
-        (seen_minimize asked.now)) [] (D.sight desk.old) (D.sight desk.new) result }
+    requires within { IsWithin problem.now }
+    requires goal { IsAtomOf goal problem.now }
+    ensures ends { RunEnds (CanMinimize goal (problem_of problem.now) (seen_minimize asked.now)) []
+        (D.sight desk.old) (D.sight desk.new) result }
     ensures same { SameIn (D.sight desk.old) (D.sight desk.new) }
     ensures cause { MinimizeHasCause (D.sight desk.old) (D.sight desk.new) result }
 {
-    let Some(goal) = read.goal else {
+    let Some(goal) = goal else {
         return end_no_goal(desk);
     };
-    let Ok(problem) = read.session.first(alloc) else {
-        return Status::NoMemory;
-    };
-    match minimize_problem(engine, alloc, &problem, goal, asked) {
+    match minimize_problem(engine, alloc, problem, goal, asked) {
         Ok(told) => finish(desk, asked.cert, &told.cert, &told.text),
         Err(_) => Status::NoMemory,
     }

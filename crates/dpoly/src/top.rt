@@ -13,7 +13,7 @@ use crate::resume::resume_inputs;
 use crate::solve::{solve_demo, solve_session};
 use crate::upgrade::upgrade_session;
 use check_run::{
-    Status, end_halted, fetch_both, fetch_session, fetch_several, fetch_with_goal, run_check, say,
+    Status, end_halted, fetch_both, fetch_goal, fetch_session, fetch_several, run_check, say,
 };
 use command_line::{
     DemoWords, JoinWords, MinimizeWords, PlanWords, Refused, Request, ResumeWords, SolveWords,
@@ -54,7 +54,7 @@ fn run_solve<R: Threads + Wait + Sync, D: Desk, G: Gate + Sync>(
     }
 }
 
-// Finds the least value of a script's goal.
+// Finds the least value of the goal of a script with one check.
 fn run_minimize<R: Threads + Wait + Sync, D: Desk, G: Gate + Sync>(
     rt: &R,
     alloc: Global,
@@ -71,8 +71,8 @@ fn run_minimize<R: Threads + Wait + Sync, D: Desk, G: Gate + Sync>(
         (minimize_run asked.entry (D.sight desk.old) (D.sight desk.new) result) }
 {
     let engine = Engine { rt, gate };
-    match fetch_with_goal(&Reader, alloc, desk, asked.script, asked.options.bound) {
-        Ok(read) => minimize_script(&engine, alloc, desk, &read, &asked),
+    match fetch_goal(&Reader, alloc, desk, asked.script, asked.options.bound) {
+        Ok(read) => minimize_script(&engine, alloc, desk, &read.0, read.1, &asked),
         Err(stop) => end_halted(desk, stop),
     }
 }

@@ -3,9 +3,10 @@ use Rattle.desk.specs.declared.desk.Port.TheVariants.{CertIn}
 use Rattle.command_line.specs.Words.{check}
 use Rattle.command_line.specs.Seen.{seen_check}
 use Rattle.problem_session.specs.Session.{problems_of}
+use Rattle.script_reading.specs.Faults.{session_fault}
 use Rattle.script_reading.specs.Goals.{goal_in}
 use Rattle.check_run.specs.Course.{RunEnds}
-use Rattle.check_run.specs.Can.{CanCheck}
+use Rattle.check_run.specs.Can.{CanCheck, OfSession}
 use Rattle.check_run.specs.Script.{script_start}
 use Rattle.check_run.proofs.Running.{cause_behind, run_session, run_halted, told}
 use Rattle.check_run.proofs.run.run_check.Goals as goal
@@ -23,7 +24,8 @@ returns-in-Ok-clause-course g c script cert_in parts tells =
 
 pub returns-in-Err-clause-course : goal.returns-in-Err-clause-course
 returns-in-Err-clause-course g c script cert_in parts tells =
-    run_halted c.args.asked.bound c.args.asked.script.now script (λ ps. CanCheck (goal_in script) ps c.args.asked.bound c.args.asked.cert.now cert_in) ((CertIn, c.args.asked.cert.now) ∷ []) _ _ _ _
+    run_halted (session_fault c.args.asked.bound) c.args.asked.script.now script (OfSession c.args.asked.bound script (λ ps. CanCheck (goal_in script) ps c.args.asked.bound c.args.asked.cert.now cert_in))
+    ((CertIn, c.args.asked.cert.now) ∷ []) _ _ _ _
     c.in-Err.stop c.in-Err.ensures.script tells.0 c.end_halted.ensures.ends
 
 pub returns-in-Ok-clause-cause : goal.returns-in-Ok-clause-cause

@@ -3,8 +3,9 @@ use Rattle.desk.specs.declared.desk.Port.TheVariants.{CertIn}
 use Rattle.command_line.specs.Words.{upgrade}
 use Rattle.command_line.specs.Seen.{seen_upgrade}
 use Rattle.problem_session.specs.Session.{problems_of}
+use Rattle.script_reading.specs.Faults.{session_fault}
 use Rattle.check_run.specs.Course.{RunEnds}
-use Rattle.check_run.specs.Can.{CanUpgrade}
+use Rattle.check_run.specs.Can.{CanUpgrade, OfSession}
 use Rattle.check_run.specs.Script.{script_start}
 use Rattle.check_run.proofs.Running.{cause_behind, run_session, run_halted, told}
 use Rattle.dpoly.proofs.top.run_upgrade.Goals as goal
@@ -18,7 +19,7 @@ returns-in-Ok-clause-course g c script cert_in parts tells =
 
 pub returns-in-Err-clause-course : goal.returns-in-Err-clause-course
 returns-in-Err-clause-course g c script cert_in parts tells =
-    run_halted c.args.asked.bound c.args.asked.script.now script (λ ps. CanUpgrade ps c.args.asked.bound c.args.asked.cert.now c.args.asked.out.now cert_in) ((CertIn, c.args.asked.cert.now) ∷ []) _ _ _ _
+    run_halted (session_fault c.args.asked.bound) c.args.asked.script.now script (OfSession c.args.asked.bound script (λ ps. CanUpgrade ps c.args.asked.bound c.args.asked.cert.now c.args.asked.out.now cert_in)) ((CertIn, c.args.asked.cert.now) ∷ []) _ _ _ _
     c.in-Err.stop c.in-Err.ensures.script tells.0 c.end_halted.ensures.ends
 
 pub returns-in-Ok-clause-cause : goal.returns-in-Ok-clause-cause
