@@ -1,0 +1,13 @@
+pub mod Arena
+pub mod ByForm
+pub mod Dividing
+pub mod Growth
+pub mod Lists
+pub mod Lookups
+pub mod Nearest
+pub mod Operators
+pub mod Script
+pub mod Sizes
+pub mod Stacked
+pub mod Tables
+pub mod Waiting

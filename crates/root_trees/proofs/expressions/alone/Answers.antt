@@ -1,0 +1,103 @@
+use Rattle.std.proofs.Common.{List, Some, None, ap, sym, subst}
+use Rattle.script_roots.specs.Tree.{symbol_tree}
+use Rattle.smt_sexp.specs.Views.{place_of}
+use Rattle.root_trees.specs.Nodes.{trees_in}
+use Rattle.root_trees.specs.Names.{IsHead, Knows, top_names}
+use Rattle.root_trees.specs.declared.names.Head.{Head}
+use Rattle.root_trees.specs.declared.locals.Local.{Local}
+use Rattle.root_trees.proofs.Growth as growth
+use Rattle.root_trees.proofs.Lookups as lookups
+use Rattle.root_trees.proofs.expressions.alone.Goals as goal
+
+pub returns-in_default : goal.returns-in_default
+returns-in_default c = λ names knows.
+    let s = c.args.source.now.sexps.now in
+    let top = c.args.source.now.top.now in
+    let m = trees_in c.args.trees.now in
+    let scope = c.args.scope in
+    let n = scope.visible in
+    let ls = scope.locals.value in
+    let x = c.args.name.now in
+    let at = place_of c.args.place in
+    let is = subst (λ (xs : List Local). IsHead x top n xs None) c.deref.ensures c.in_default.ensures in
+    growth.turns_same s top m (trees_in c.formless.new.trees) _ _ c.formless.result (lookups.alone_unknown m s top n ls names knows x at is) (c.formless.ensures s top)
+
+pub returns-in-Operator : goal.returns-in-Operator
+returns-in-Operator c = λ names knows.
+    let s = c.args.source.now.sexps.now in
+    let top = c.args.source.now.top.now in
+    let m = trees_in c.args.trees.now in
+    let scope = c.args.scope in
+    let n = scope.visible in
+    let ls = scope.locals.value in
+    let x = c.args.name.now in
+    let at = place_of c.args.place in
+    let here = subst (λ (xs : List Local). IsHead x top n xs (Some c.in-Some.head)) c.deref.ensures c.in-Some.ensures in
+    let is = subst (λ (h : Head). IsHead x top n ls (Some h)) c.in-Operator.is here in
+    growth.turns_added s top c.args.trees.now c.atomic.new.self _ _ c.atomic.result c.back.result c.back.ensures c.atomic.ensures.added c.atomic.ensures.last (ap (symbol_tree names at x) is)
+
+pub returns-in-Local : goal.returns-in-Local
+returns-in-Local c = λ names knows.
+    let s = c.args.source.now.sexps.now in
+    let top = c.args.source.now.top.now in
+    let m = trees_in c.args.trees.now in
+    let scope = c.args.scope in
+    let n = scope.visible in
+    let ls = scope.locals.value in
+    let x = c.args.name.now in
+    let at = place_of c.args.place in
+    let here = subst (λ (xs : List Local). IsHead x top n xs (Some c.in-Some.head)) c.deref.ensures c.in-Some.ensures in
+    let is = subst (λ (h : Head). IsHead x top n ls (Some h)) c.in-Local.is here in
+    (growth.grows_none m, lookups.alone_local m s top n ls names knows x at c.in-Local.node is)
+
+pub returns-in-Constant : goal.returns-in-Constant
+returns-in-Constant c = λ names knows.
+    let s = c.args.source.now.sexps.now in
+    let top = c.args.source.now.top.now in
+    let m = trees_in c.args.trees.now in
+    let scope = c.args.scope in
+    let n = scope.visible in
+    let ls = scope.locals.value in
+    let x = c.args.name.now in
+    let at = place_of c.args.place in
+    let here = subst (λ (xs : List Local). IsHead x top n xs (Some c.in-Some.head)) c.deref.ensures c.in-Some.ensures in
+    let is = subst (λ (h : Head). IsHead x top n ls (Some h)) c.in-Constant.is here in
+    growth.turns_added s top c.args.trees.now c.atomic-in-Constant.new.self _ _ c.atomic-in-Constant.result c.back-in-Constant.result c.back-in-Constant.ensures
+    c.atomic-in-Constant.ensures.added c.atomic-in-Constant.ensures.last (lookups.alone_constant m s top n ls names knows x at c.in-Constant.declared c.in-Constant.constant is)
+
+pub returns-in-Function : goal.returns-in-Function
+returns-in-Function c = λ names knows.
+    let s = c.args.source.now.sexps.now in
+    let top = c.args.source.now.top.now in
+    let m = trees_in c.args.trees.now in
+    let scope = c.args.scope in
+    let n = scope.visible in
+    let ls = scope.locals.value in
+    let x = c.args.name.now in
+    let at = place_of c.args.place in
+    let here = subst (λ (xs : List Local). IsHead x top n xs (Some c.in-Some.head)) c.deref.ensures c.in-Some.ensures in
+    let is = subst (λ (h : Head). IsHead x top n ls (Some h)) c.in-Function.is here in
+    let d = c.in-Function in
+    let names1 = top_names s top d.visible in (
+      growth.grows_none m,
+      record {
+        names = names1;
+        knows = growth.knows_scope m s top d.visible c.new.result names1 c.in_ok-inner-in-Function.inner c.in_ok-inner-in-Function.ensures
+            (subst (λ (xs : List Local). Knows m s top d.visible xs names1) (sym c.new.ensures) (growth.knows_none m s top d.visible));
+        is = lookups.alone_function m s top n ls names knows x at d.visible d.field-1 d.body is;
+      },
+    )
+
+pub returns : goal.returns
+returns c = λ names knows.
+    let s = c.args.source.now.sexps.now in
+    let top = c.args.source.now.top.now in
+    let m = trees_in c.args.trees.now in
+    let scope = c.args.scope in
+    let n = scope.visible in
+    let ls = scope.locals.value in
+    let x = c.args.name.now in
+    let at = place_of c.args.place in
+    let here = subst (λ (xs : List Local). IsHead x top n xs (Some c.in-Some.head)) c.deref.ensures c.in-Some.ensures in
+    let is = subst (λ (h : Head). IsHead x top n ls (Some h)) c.in-Sqrt.is here in
+    growth.turns_same s top m (trees_in c.formless-in-Sqrt.new.trees) _ _ c.formless-in-Sqrt.result (lookups.alone_sqrt m s top n ls names knows x at is) (c.formless-in-Sqrt.ensures s top)

@@ -1,0 +1,27 @@
+use Rattle.std.proofs.Common.{List, ◌++◌, ap, sym, ◌∙◌, subst}
+use Rattle.smt_sexp.specs.Views.{place_of}
+use Rattle.root_trees.specs.Names.{Knows}
+use Rattle.root_trees.specs.declared.locals.Local.{Local}
+use Rattle.root_trees.proofs.Growth as growth
+use Rattle.root_trees.proofs.Waiting as waiting
+use Rattle.root_trees.proofs.frames.let_on.Goals as goal
+
+pub returns-in_ok-scope-in-Some : goal.returns-in_ok-scope-in-Some
+returns-in_ok-scope-in-Some c = λ m t h.
+    (growth.grows_none m, waiting.let_next m c.args.source.now.sexps.now c.args.source.now.top.now c.args.bindings t h c.in-Some.name (place_of c.in-Some.field-0-0) c.in-Some.at c.in-Some.after c.in_ok-scope-in-Some.scope c.in-Some.ensures.0 c.in_ok-scope-in-Some.ensures)
+
+pub returns-in_ok-inner-in-None : goal.returns-in_ok-inner-in-None
+returns-in_ok-inner-in-None c = λ m t h.
+    let s = c.args.source.now.sexps.now in
+    let top = c.args.source.now.top.now in
+    let l = c.args.bindings in
+    let ls = c.in_ok-locals-in-None.locals in
+    let all = c.in_ok-locals-in-None.ensures ∙ ap (λ xs. l.bound ++ xs) c.deref.ensures in (
+      growth.grows_none m,
+      record {
+        names = h.done ++ h.names;
+        knows = growth.knows_scope m s top l.scope.visible ls (h.done ++ h.names) c.in_ok-inner-in-None.inner c.in_ok-inner-in-None.ensures
+            (subst (λ (xs : List Local). Knows m s top l.scope.visible xs (h.done ++ h.names)) (sym all) (growth.knows_more m s top l.scope.visible l.bound l.scope.locals.value h.done h.names h.stand h.knows));
+        is = waiting.let_last m s top l t h c.in-None.ensures;
+      },
+    )

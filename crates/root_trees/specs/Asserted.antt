@@ -1,0 +1,38 @@
+-- The assertions and goals of a script, with their trees in an arena.
+use Rattle.std.specs.Prelude.{◌≡◌, List, [], ◌∷◌, ◌++◌, length, Some, slice_get}
+use Rattle.script_model.specs.Script.{Command}
+use Rattle.script_roots.specs.Tree.{Tree}
+use Rattle.script_roots.specs.Fresh as model
+use Rattle.script_roots.specs.Fresh.{asserted, asserted_from}
+use Rattle.script_fault.specs.declared.fault.ReadError.{ReadError}
+use Rattle.script_fault.specs.declared.fault.ReadError.TheVariants.{Fault, Memory}
+use Rattle.script_fault.specs.declared.fault.FaultKind.TheVariants as kinds
+use Rattle.script_fault.specs.declared.limit.Limit.TheVariants as limits
+use Rattle.smt_sexp.specs.Views.{place_of}
+use Rattle.smt_sexp.specs.declared.sexps.Sexps as arena
+use Rattle.root_trees.specs.Names.{top_names}
+use Rattle.root_trees.specs.Nodes.{trees_in}
+use Rattle.root_trees.specs.declared.assertions.Assertion as code
+use Rattle.root_trees.specs.declared.assertions.Progress.{Progress}
+
+pub record IsAsserted (ts : List Tree) (c : code.Assertion) (a : model.Asserted) : Type 0 where
+  pub at : place_of c.place ≡ a.at
+  pub goal : c.is_goal ≡ a.is_goal
+  pub tree : slice_get ts c.tree ≡ Some a.tree
+
+-- these are assertions and goals, whose trees stand among these
+abbrev pub AreAsserted : List Tree → List code.Assertion → List model.Asserted → Type 0
+AreAsserted ts [] [] = Unit {0}
+AreAsserted ts (c ∷ cs) (a ∷ rest) = IsAsserted ts c a × AreAsserted ts cs rest
+AreAsserted ts _ _ = ⊥
+
+-- the first commands are done, and these are left
+pub record IsAt (s : arena.Sexps) (script left : List Command) (p : Progress) : Type 0 where
+  pub done : List model.Asserted
+  pub are : AreAsserted (trees_in p.unfolded.trees) p.assertions.items done
+  pub split : asserted script ≡ done ++ asserted_from (top_names s p.top (length p.top)) left
+
+-- out of memory, or more expressions than may be reached
+abbrev pub IsRefusal : ReadError → Type 0
+IsRefusal (Fault f) = f.kind ≡ kinds.TooMany limits.Size
+IsRefusal Memory = Unit {0}

@@ -1,0 +1,6 @@
+pub mod Tree
+pub mod Ranges
+pub mod Fresh
+pub mod TreeBounds
+pub mod Rewritten
+pub mod Laws
