@@ -1,17 +1,27 @@
 #!/usr/bin/env python3
-"""Finds the least value of each goal of bench/minimize, and prints a table: the known value, the bounds that were found, splits and seconds with one
-worker, with four, of `dpoly-check`, and of `solve` when it is told the lower bound and has to show that no point is at or below it (scaled by 2^12, as
-the limits of `minimize` are at its usual gap).
-`bench/minimize.py PROGRAM CHECKER [--seconds N] [NAME ..]`."""
+"""Finds the least value of each goal of bench/minimize with one worker and with four, and prints a table: the known value, the bounds that
+were found, the splits of the cover, seconds, how many times as fast four workers are by the clock, the seconds of the checker, and seconds and
+splits of `solve` when it is told the lower bound and has to show that no point is at or below it (scaled by 2^12, as the limits of
+`minimize` are at its usual gap). The ratio is that of `minimize` to it, one worker. Seconds are of the processor (user time), but for those
+with four workers, which are of the clock with all processors' in brackets. More than 2 s is printed bold. Both certificates are checked
+with CHECKER and with the checker in plain Python; where one does not confirm, the answer's column says so.
+`bench/minimize.py PROGRAM CHECKER [--seconds N] [--goals FOLDER] [NAME ..]`; CHECKER may be the words `PROGRAM check`. A run may take N seconds
+of the processor for each of its workers, 60 unless that is given."""
+import argparse
+import math
 import os
 import re
+import resource
 import subprocess
 import sys
 import tempfile
 import time
 from fractions import Fraction
 
-HERE = os.path.join(os.path.dirname(os.path.abspath(__file__)), 'minimize')
+HERE = os.path.dirname(os.path.abspath(__file__))
+SECOND = [sys.executable, os.path.join(HERE, '..', 'checker', 'dpoly_checker.py')]
+HEADS = ['goal', 'least value', 'answer', 'bounds', 'splits of the cover', 's', 's, 4 workers', 'times as fast', 's, check', 's, told',
+         'splits, told', 'ratio']
 
 
 def number(text):
@@ -25,13 +35,15 @@ def literal(value):
     return f'(- {size})' if value < 0 else size
 
 
-def timed(words, seconds):
-    begun = time.monotonic()
-    try:
-        done = subprocess.run(words, stdout=subprocess.PIPE, stderr=subprocess.DEVNULL, text=True, timeout=seconds)
-    except subprocess.TimeoutExpired:
-        return None, '', seconds
-    return done.returncode, done.stdout, time.monotonic() - begun
+def shown(seconds):
+    return f'**{seconds:.2f}**' if seconds > 2 else f'{seconds:.2f}'
+
+
+def call(words, seconds):
+    """What a program writes (None where it takes more seconds of the processor), seconds of the clock, and of the processor."""
+    begun, used, most = time.monotonic(), resource.getrusage(resource.RUSAGE_CHILDREN).ru_utime, math.ceil(seconds)
+    done = subprocess.run(words, stdout=subprocess.PIPE, stderr=subprocess.DEVNULL, text=True, preexec_fn=lambda: resource.setrlimit(resource.RLIMIT_CPU, (most, most)))
+    return (None if done.returncode < 0 else done.stdout), time.monotonic() - begun, resource.getrusage(resource.RUSAGE_CHILDREN).ru_utime - used
 
 
 def branches(path):
@@ -40,50 +52,90 @@ def branches(path):
         return sum(it.startswith(('cut ', 'flip ', 'case ')) for it in file)
 
 
-def row(program, checker, name, least, seconds, folder):
-    script, cert, told = os.path.join(HERE, name + '.smt2'), os.path.join(folder, 'cert'), os.path.join(folder, 'told.smt2')
-    _, _, four = timed([program, 'minimize', script, cert, '--budget', '1048576', '--workers', '4'], seconds)
-    status, answer, one = timed([program, 'minimize', script, cert, '--budget', '1048576'], seconds)
-    if status is None:
-        return [name, least, 'no answer', '', '', f'{one:.2f}', f'{four:.2f}', '', '']
-    _, said, check = timed([checker, script, cert], seconds)
-    found = re.search(r'lower (\S+)\nupper (\S+)', answer)
-    if not found:
-        return [name, least, answer.split('\n')[0], '', branches(cert), f'{one:.2f}', f'{four:.2f}', f'{check:.2f}', '']
-    with open(script, encoding='ascii') as file:
-        text = file.read()
-    at = text.index('(minimize ')
+def told(script, lower):
+    """The script with the assertion that its goal is at most a number, in place of the goal."""
+    at = script.index('(minimize ')
     depth = end = 0
-    for end in range(at, len(text)):
-        depth += {'(': 1, ')': -1}.get(text[end], 0)
+    for end in range(at, len(script)):
+        depth += {'(': 1, ')': -1}.get(script[end], 0)
         if not depth:
             break
-    goal = text[at + len('(minimize ') : end]
-    lower = found[1] if found[1] != 'none' else '0'
-    with open(told, 'w', encoding='ascii') as file:
-        file.write(text[:at] + f'(assert (<= (* 4096 {goal}) {literal(4096 * number(lower))}))' + text[end + 1 :])
-    _, solved, alone = timed([program, 'solve', told, os.path.join(folder, 'alone'), '--budget', '1048576'], seconds)
-    confirmed = said.startswith('confirmed lower ' + found[1])
-    values = [f'{float(number(it)):.6g}' if it != 'none' else it for it in found.groups()]
-    return [name, least, answer.split('\n')[0] + ('' if confirmed else ', NOT CONFIRMED'), f'{values[0]} {values[1]}', branches(cert),
-            f'{one:.2f}', f'{four:.2f}', f'{check:.2f}', f'{alone:.2f} {solved.split(chr(10))[0]}']
+    goal = script[at + len('(minimize ') : end]
+    return script[:at] + f'(assert (<= (* 4096 {goal}) {literal(4096 * lower)}))' + script[end + 1 :]
 
 
-def main(arguments):
-    seconds = 60.0
-    if '--seconds' in arguments:
-        at = arguments.index('--seconds')
-        seconds = float(arguments[at + 1])
-        arguments = arguments[:at] + arguments[at + 2 :]
-    program, checker, *names = arguments
-    print('| goal | least value | answer | bounds | splits of the cover | s | s, 4 workers | s, check | s, `solve` told the bound |')
-    print('|---|---|---|---|---|---|---|---|---|')
-    with open(os.path.join(HERE, 'INDEX.tsv'), encoding='utf-8') as file, tempfile.TemporaryDirectory() as folder:
+class Runner:
+    def __init__(self, asked, folder):
+        self.asked, self.checker = asked, asked.checker.split()
+        self.four, self.one, self.script = (os.path.join(folder, it) for it in ('four', 'one', 'told.smt2'))
+        self.ratios, self.speeds = [], []
+
+    def checked(self, script, cert, answer):
+        """Seconds of the checker, and which of the two checkers do not confirm the certificate of an answer."""
+        lines = answer.splitlines(True)
+        wanted = 'confirmed ' + ''.join(lines[:2] if lines[0] == 'unsat\n' else lines[1:3])
+        said, _, seconds = call([*self.checker, script, cert], self.asked.seconds)
+        again, _, _ = call([*SECOND, script, cert], 10 * self.asked.seconds)
+        whats = [f', {what} {"NO ANSWER" if it is None else "REFUSED"}' for what, it in (('checker:', said), ('second checker:', again)) if it != wanted]
+        return seconds, ''.join(whats)
+
+    def row(self, name, least):
+        script = os.path.join(self.asked.goals, name + '.smt2')
+        words = [self.asked.program, 'minimize', '--budget', '1048576', script]
+        four, clock, all_four = call([*words, self.four, '--workers', '4'], 4 * self.asked.seconds)
+        one, alone, used = call([*words, self.one], self.asked.seconds)
+        with_four = ('over ' if four is None else '') + f'{shown(clock)} ({all_four:.2f})'
+        if one is None:
+            if four is not None:
+                with_four += ', ' + four.split('\n')[0] + self.checked(script, self.four, four)[1]
+            return [name, least, 'no answer', '', '', 'over ' + shown(used), with_four]
+        seconds, refused = self.checked(script, self.one, one)
+        refused += '' if four is None else self.checked(script, self.four, four)[1]
+        cells = [name, least, one.split('\n')[0] + refused, '', branches(self.one), shown(used), with_four, f'{alone / clock:.1f}', f'{seconds:.2f}']
+        found = re.search(r'lower (\S+)\nupper (\S+)', one)
+        if alone > 0.5 and four is not None:
+            self.speeds.append(alone / clock)
+        if not found or found[1] == 'none':
+            return cells
+        cells[3] = ' '.join(f'{float(number(it)):.6g}' if it != 'none' else it for it in found.groups())
+        with open(script, encoding='ascii') as file:
+            text = told(file.read(), number(found[1]))
+        with open(self.script, 'w', encoding='ascii') as file:
+            file.write(text)
+        solved, _, by_told = call([self.asked.program, 'solve', '--budget', '1048576', self.script, self.one], self.asked.seconds)
+        head = solved.split('\n')[0] if solved else 'no answer'
+        cells.append(shown(by_told) + ('' if head == 'unsat' else ' ' + head))
+        if solved:
+            cells += [branches(self.one), f'{used / max(by_told, 0.001):.1f}']
+            if head == 'unsat' and used > 0.1:
+                self.ratios.append(used / by_told)
+        return cells
+
+    def sums(self):
+        for what, values in ('`minimize` to `solve` told the bound, of goals that take 0.1 s', self.ratios), ('times as fast with four workers, of goals that take 0.5 s', self.speeds):
+            if values:
+                print(f'{what}: {len(values)}, geometric mean {math.exp(sum(map(math.log, values)) / len(values)):.2f}, {min(values):.2f} to {max(values):.2f}')
+
+
+def main():
+    parser = argparse.ArgumentParser()
+    parser.add_argument('program')
+    parser.add_argument('checker')
+    parser.add_argument('--seconds', type=float, default=60)
+    parser.add_argument('--goals', default=os.path.join(HERE, 'minimize'))
+    parser.add_argument('names', nargs='*', default=[])
+    asked = parser.parse_intermixed_args()
+    print('| ' + ' | '.join(HEADS) + ' |\n|' + '---|' * len(HEADS))
+    with open(os.path.join(asked.goals, 'INDEX.tsv'), encoding='utf-8') as file, tempfile.TemporaryDirectory() as folder:
+        runner = Runner(asked, folder)
         for line in file.read().splitlines()[1:]:
             name, least, _ = line.split('\t')
-            if not names or name in names:
-                print('| ' + ' | '.join(str(it) for it in row(program, checker, name, least, seconds, folder)) + ' |', flush=True)
+            if not asked.names or name in asked.names:
+                cells = runner.row(name, least)
+                print('| ' + ' | '.join(str(it) for it in cells + [''] * (len(HEADS) - len(cells))) + ' |', flush=True)
+    print()
+    runner.sums()
 
 
 if __name__ == '__main__':
-    main(sys.argv[1:])
+    main()
