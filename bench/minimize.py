@@ -5,8 +5,9 @@ splits of `solve` when it is told the lower bound and has to show that no point 
 `minimize` are at its usual gap). The ratio is that of `minimize` to it, one worker. Seconds are of the processor (user time), but for those
 with four workers, which are of the clock with all processors' in brackets. More than 2 s is printed bold. Both certificates are checked
 with CHECKER and with the checker in plain Python; where one does not confirm, the answer's column says so.
-`bench/minimize.py PROGRAM CHECKER [--seconds N] [--goals FOLDER] [NAME ..]`; CHECKER may be the words `PROGRAM check`. A run may take N seconds
-of the processor for each of its workers, 60 unless that is given."""
+`bench/minimize.py PROGRAM CHECKER [--seconds N] [--goals FOLDER] [--budget N] [NAME ..]`; CHECKER may be the words `PROGRAM check`. A run may take
+N seconds of the processor for each of its workers, 60 unless that is given. With `--budget N` the table is of microseconds a split instead, over
+the goals on which `minimize` spends so many: those of `minimize`, and those of `solve` with the same budget on the script told the least value."""
 import argparse
 import math
 import os
@@ -20,6 +21,7 @@ from fractions import Fraction
 
 HERE = os.path.dirname(os.path.abspath(__file__))
 SECOND = [sys.executable, os.path.join(HERE, '..', 'checker', 'dpoly_checker.py')]
+SPLIT_HEADS = ['goal', '`minimize`', '`solve` told the least value', 'ratio']
 HEADS = ['goal', 'least value', 'answer', 'bounds', 'splits of the cover', 's', 's, 4 workers', 'times as fast', 's, check', 's, told',
          'splits, told', 'ratio']
 
@@ -111,8 +113,31 @@ class Runner:
                 self.ratios.append(used / by_told)
         return cells
 
+    def split_row(self, name, least):
+        """Microseconds a split, of `minimize` and of `solve`; None where that ends before the budget, or there is no least value."""
+        if not re.fullmatch(r'[-+.\d]+', least):
+            return None
+        script, budget = os.path.join(self.asked.goals, name + '.smt2'), str(self.asked.budget)
+        words = ['--budget', budget, script, self.one]
+        said, _, used = call([self.asked.program, 'minimize', *words], self.asked.seconds)
+        with open(script, encoding='ascii') as file:
+            text = told(file.read(), Fraction(least) - Fraction(1, 1024))
+        with open(self.script, 'w', encoding='ascii') as file:
+            file.write(text)
+        words[2] = self.script
+        by_told, _, used_told = call([self.asked.program, 'solve', *words], self.asked.seconds)
+        if not (said and by_told and said.startswith('unknown budget')):
+            return None
+        splits = branches(self.one)
+        if splits * 10 < self.asked.budget:
+            return None
+        each, each_told = 1e6 * used / self.asked.budget, 1e6 * used_told / splits
+        self.ratios.append(each / each_told)
+        return [name, f'{each:.0f}', f'{each_told:.0f}', f'{each / each_told:.2f}']
+
     def sums(self):
-        for what, values in ('`minimize` to `solve` told the bound, of goals that take 0.1 s', self.ratios), ('times as fast with four workers, of goals that take 0.5 s', self.speeds):
+        what = 'a split of `minimize` to one of `solve`' if self.asked.budget else '`minimize` to `solve` told the bound, of goals that take 0.1 s'
+        for what, values in (what, self.ratios), ('times as fast with four workers, of goals that take 0.5 s', self.speeds):
             if values:
                 print(f'{what}: {len(values)}, geometric mean {math.exp(sum(map(math.log, values)) / len(values)):.2f}, {min(values):.2f} to {max(values):.2f}')
 
@@ -122,17 +147,20 @@ def main():
     parser.add_argument('program')
     parser.add_argument('checker')
     parser.add_argument('--seconds', type=float, default=60)
+    parser.add_argument('--budget', type=int)
     parser.add_argument('--goals', default=os.path.join(HERE, 'minimize'))
     parser.add_argument('names', nargs='*', default=[])
     asked = parser.parse_intermixed_args()
-    print('| ' + ' | '.join(HEADS) + ' |\n|' + '---|' * len(HEADS))
+    heads = SPLIT_HEADS if asked.budget else HEADS
+    print('| ' + ' | '.join(heads) + ' |\n|' + '---|' * len(heads))
     with open(os.path.join(asked.goals, 'INDEX.tsv'), encoding='utf-8') as file, tempfile.TemporaryDirectory() as folder:
         runner = Runner(asked, folder)
         for line in file.read().splitlines()[1:]:
             name, least, _ = line.split('\t')
             if not asked.names or name in asked.names:
-                cells = runner.row(name, least)
-                print('| ' + ' | '.join(str(it) for it in cells + [''] * (len(HEADS) - len(cells))) + ' |', flush=True)
+                cells = runner.split_row(name, least) if asked.budget else runner.row(name, least)
+                if cells:
+                    print('| ' + ' | '.join(str(it) for it in cells + [''] * (len(heads) - len(cells))) + ' |', flush=True)
     print()
     runner.sums()
 
