@@ -6,6 +6,8 @@ mod of_declared_box;
 #[cfg(test)]
 mod of_problem_build;
 #[cfg(test)]
+mod of_root_trees;
+#[cfg(test)]
 mod of_session;
 #[cfg(test)]
 mod of_smt_script;

@@ -6,6 +6,7 @@ pub mod Lists
 pub mod Lookups
 pub mod Nearest
 pub mod Operators
+pub mod Reckoned
 pub mod Script
 pub mod Sizes
 pub mod Stacked

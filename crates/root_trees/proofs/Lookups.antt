@@ -5,13 +5,13 @@ use Rattle.std.specs.Str.{bytes_eq}
 use Rattle.script_model.specs.Sexp.{Place}
 use Rattle.script_model.specs.Reading.{found, operators}
 use Rattle.script_roots.specs.Tree as model
-use Rattle.script_roots.specs.Tree.{Tree, Names, tree, function, atomic, formless, theory_names, sqrt_tree, bound_trees, tree_of, application_tree, symbol_tree, name_tree}
+use Rattle.script_roots.specs.Tree.{Tree, Names, tree, function, formless, theory_names, sqrt_tree, bound_trees, tree_of, application_tree, symbol_tree, name_tree}
 use Rattle.script_model.specs.Script.{Parameter}
 use Rattle.smt_sexp.specs.Arena.{expression_at}
 use Rattle.smt_sexp.specs.declared.sexps.Sexps as arena
 use Rattle.smt_script.specs.Views.{parameter_of}
 use Rattle.root_trees.specs.Locals.{local_node}
-use Rattle.root_trees.specs.Names.{if_named, top_known, known_of, entry_of, top_names, AreLocals, IsHead, Knows}
+use Rattle.root_trees.specs.Names.{if_named, top_known, known_of, entry_by, names_by, top_names, AreLocals, IsHead, Knows}
 use Rattle.root_trees.specs.Walking.{head_tree}
 use Rattle.root_trees.specs.declared.top.Known.{Known}
 use Rattle.root_trees.specs.declared.top.Known.TheVariants as known
@@ -22,38 +22,38 @@ use Rattle.root_trees.specs.declared.names.Head.TheVariants as head
 
 -- ---- the top
 
-module _ (s : arena.Sexps) (top : List Top) (x : List ℕ) where
-  abbrev names : ℕ → Names
-  names n = top_names s top n
+module _ {V : Type 0} (stands : List (List ℕ × V) → Known → V) (theory : List (List ℕ × V)) (top : List Top) (x : List ℕ) where
+  abbrev names : ℕ → List (List ℕ × V)
+  names n = names_by stands theory top n
 
   found-entry : (n : ℕ) (t : Option Top) (before : Option (ℕ × Known)) (i : ℕ) (k : Known) →
-      (before ≡ Some (i, k) → found x (names n) ≡ Some (known_of s (names i) k)) →
-      if_named x n t before ≡ Some (i, k) → found x (entry_of s (names n) t) ≡ Some (known_of s (names i) k)
+      (before ≡ Some (i, k) → found x (names n) ≡ Some (stands (names i) k)) →
+      if_named x n t before ≡ Some (i, k) → found x (entry_by stands (names n) t) ≡ Some (stands (names i) k)
   found-entry n None before i k f h = f h
   found-entry n (Some t) before i k f h = go (bytes_eq x t.name.now) h
     where
-      go : (b : Bool) → cond b (Some (n, t.known)) before ≡ Some (i, k) → cond b (Some (known_of s (names n) t.known)) (found x (names n)) ≡ Some (known_of s (names i) k)
+      go : (b : Bool) → cond b (Some (n, t.known)) before ≡ Some (i, k) → cond b (Some (stands (names n) t.known)) (found x (names n)) ≡ Some (stands (names i) k)
       go true e = ap (λ (o : Option (ℕ × Known)). known_in o) e
         where
-          known_in : Option (ℕ × Known) → Option model.Known
+          known_in : Option (ℕ × Known) → Option V
           known_in None = None
-          known_in (Some (j, l)) = Some (known_of s (names j) l)
+          known_in (Some (j, l)) = Some (stands (names j) l)
       go false e = f e
 
-  pub found_top : (n i : ℕ) (k : Known) → top_known x top n ≡ Some (i, k) → found x (names n) ≡ Some (known_of s (names i) k)
+  pub found_top : (n i : ℕ) (k : Known) → top_known x top n ≡ Some (i, k) → found x (names n) ≡ Some (stands (names i) k)
   found_top zero i k h = cc
   found_top (suc n) i k h = found-entry n (slice_get top n) (top_known x top n) i k (found_top n i k) h
 
-  none-entry : (n : ℕ) (t : Option Top) (before : Option (ℕ × Known)) → (before ≡ None → found x (names n) ≡ found x theory_names) → if_named x n t before ≡ None →
-      found x (entry_of s (names n) t) ≡ found x theory_names
+  none-entry : (n : ℕ) (t : Option Top) (before : Option (ℕ × Known)) → (before ≡ None → found x (names n) ≡ found x theory) → if_named x n t before ≡ None →
+      found x (entry_by stands (names n) t) ≡ found x theory
   none-entry n None before f h = f h
   none-entry n (Some t) before f h = go (bytes_eq x t.name.now) h
     where
-      go : (b : Bool) → cond b (Some (n, t.known)) before ≡ None → cond b (Some (known_of s (names n) t.known)) (found x (names n)) ≡ found x theory_names
+      go : (b : Bool) → cond b (Some (n, t.known)) before ≡ None → cond b (Some (stands (names n) t.known)) (found x (names n)) ≡ found x theory
       go true e = cc
       go false e = f e
 
-  pub none_top : (n : ℕ) → top_known x top n ≡ None → found x (names n) ≡ found x theory_names
+  pub none_top : (n : ℕ) → top_known x top n ≡ None → found x (names n) ≡ found x theory
   none_top zero h = refl
   none_top (suc n) h = none-entry n (slice_get top n) (top_known x top n) (none_top n) h
 
@@ -108,16 +108,16 @@ module _ (m : List Tree) (s : arena.Sexps) (top : List Top) (n : ℕ) (ls : List
   not-local h = ap (found x) knows.are ∙ none_local m x (top_names s top n) ls knows.near knows.stand h
 
   pub none_known : IsHead x top n ls None → found x names ≡ None
-  none_known h = not-local h.1 ∙ none_top s top x n h.2 ∙ theory-none x h.3
+  none_known h = not-local h.1 ∙ none_top (known_of s) theory_names top x n h.2 ∙ theory-none x h.3
 
   pub sqrt_known : IsHead x top n ls (Some head.Sqrt) → found x names ≡ Some (function sqrt_tree)
-  sqrt_known h = not-local h.1 ∙ none_top s top x n h.2 ∙ theory-sqrt x h.3
+  sqrt_known h = not-local h.1 ∙ none_top (known_of s) theory_names top x n h.2 ∙ theory-sqrt x h.3
 
   pub local_known : (k : ℕ) → local_node x ls ≡ Some k → FoundLocal m x names k
   local_known k h = subst (λ ns. FoundLocal m x ns k) (sym knows.are) (found_local m x (top_names s top n) ls knows.near k knows.stand h)
 
   pub top_is : (i : ℕ) (k : Known) → local_node x ls ≡ None → top_known x top n ≡ Some (i, k) → found x names ≡ Some (known_of s (top_names s top i) k)
-  top_is i k h e = not-local h ∙ found_top s top x n i k e
+  top_is i k h e = not-local h ∙ found_top (known_of s) theory_names top x n i k e
 
   module _ (at : Place) where
     named-call : (k : model.Known) (t : Tree) (ts : List Tree) → found x operators ≡ None → found x names ≡ Some k → application_tree names at x (found x operators) (t ∷ ts) ≡ model.call_tree at (Some k) (t ∷ ts)

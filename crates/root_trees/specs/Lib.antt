@@ -1,6 +1,8 @@
+pub mod Ahead
 pub mod Asserted
 pub mod LetParts
 pub mod Locals
 pub mod Names
 pub mod Nodes
+pub mod Reached
 pub mod Walking

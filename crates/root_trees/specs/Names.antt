@@ -52,8 +52,10 @@ IsHead x top n locals (Some (head.Operator o)) = found x operators ≡ Some (ope
 IsHead x top n locals (Some (head.Local k)) = (found x operators ≡ None) × (local_node x locals ≡ Some k)
 IsHead x top n locals (Some (head.Constant at name)) =
     (found x operators ≡ None) × (local_node x locals ≡ None) × ((i : ℕ) × (top_known x top n ≡ Some (i, known.Constant at name)))
-IsHead x top n locals (Some (head.Function i params body)) = (found x operators ≡ None) × (local_node x locals ≡ None) × (top_known x top n ≡ Some (i, known.Function params body))
-IsHead x top n locals (Some head.Sqrt) = (found x operators ≡ None) × (local_node x locals ≡ None) × (top_known x top n ≡ None) × (bytes_eq x sqrt_name ≡ true)
+IsHead x top n locals (Some (head.Function i params body)) =
+    (found x operators ≡ None) × (local_node x locals ≡ None) × (top_known x top n ≡ Some (i, known.Function params body))
+IsHead x top n locals (Some head.Sqrt) =
+    (found x operators ≡ None) × (local_node x locals ≡ None) × (top_known x top n ≡ None) × (bytes_eq x sqrt_name ≡ true)
 
 -- parameters that stand for nodes
 abbrev pub bound_locals : List Parameter → List ℕ → List Local
@@ -68,14 +70,18 @@ abbrev pub known_of : arena.Sexps → model.Names → Known → model.Known
 known_of s names (known.Constant at name) = tree (atomic (place_of at) (symbol name.now))
 known_of s names (known.Function params body) = definition names (map parameter_of params.now) (expression_at s body)
 
-abbrev pub entry_of : arena.Sexps → model.Names → Option Top → model.Names
-entry_of s names None = names
-entry_of s names (Some t) = (t.name.now, known_of s names t.known) ∷ names
+abbrev pub entry_by : {V : Type 0} → (List (List ℕ × V) → Known → V) → List (List ℕ × V) → Option Top → List (List ℕ × V)
+entry_by stands names None = names
+entry_by stands names (Some t) = (t.name.now, stands names t.known) ∷ names
 
--- so many names of the top, the last first, each of which sees those before it
+-- so many names of the top, the last first, each of which sees those before it; what one stands for is told by those
+abbrev pub names_by : {V : Type 0} → (List (List ℕ × V) → Known → V) → List (List ℕ × V) → List Top → ℕ → List (List ℕ × V)
+names_by stands theory top zero = theory
+names_by stands theory top (suc n) = entry_by stands (names_by stands theory top n) (slice_get top n)
+
+-- as trees
 abbrev pub top_names : arena.Sexps → List Top → ℕ → model.Names
-top_names s top zero = theory_names
-top_names s top (suc n) = entry_of s (top_names s top n) (slice_get top n)
+top_names s top n = names_by (known_of s) theory_names top n
 
 -- the tree of the expression at a place, where all names of the top are seen
 abbrev pub tree_here : arena.Sexps → List Top → ℕ → Tree

@@ -1,13 +1,15 @@
 // The trees of a script's assertions and goals.
-ghost use Rattle.std.specs.Prelude.{◌≡◌, ◌∷◌, [], ◌++◌, List, IfErr, IfOk, OnOk};
+ghost use Rattle.std.specs.Prelude.{◌≡◌, ◌∷◌, [], ◌++◌, List, None, IfErr, IfOk, OnOk};
 ghost use Rattle.script_model.specs.Script as model;
 ghost use Rattle.script_roots.specs.Fresh.{Asserted, asserted};
 ghost use Rattle.smt_script.specs.Views.{command_of, commands_in};
 ghost use Rattle.smt_sexp.specs.Views.{place_of};
 ghost use Rattle.smt_sexp.specs.declared.sexps.Sexps as arena;
-ghost use Rattle.root_trees.specs.Asserted.{AreAsserted, IsAt, IsRefusal};
+ghost use Rattle.root_trees.specs.Ahead.{reached_here};
+ghost use Rattle.root_trees.specs.Asserted.{AreAsserted, ClaimCounts, IsAt, IsAtFirst, IsRefusal};
 ghost use Rattle.root_trees.specs.Names.{tree_here};
 ghost use Rattle.root_trees.specs.Nodes.{trees_in};
+ghost use Rattle.root_trees.specs.Reached.{too_many};
 
 use crate::frames::Source;
 use crate::stop::Stop;
@@ -76,6 +78,8 @@ impl<'p, 'a> Progress<'p, 'a> {
               is_goal = is_goal;
               tree = tree_here sexps.now self.old.top body;
             } ∷ []))) }
+        ensures counts { ClaimCounts place self.old.unfolded.reached self.new.unfolded.reached
+            (reached_here sexps.now self.old.top body) result }
     {
         let source = Source {
             alloc,
@@ -107,6 +111,9 @@ impl<'p, 'a> Progress<'p, 'a> {
         ensures goes { (script left : List model.Command) →
             IsAt sexps.now script (command_of sexps.now command.now ∷ left) self.old →
             OnOk result (IsAt sexps.now script left self.new) }
+        ensures place { (script left : List model.Command) →
+            IsAt sexps.now script (command_of sexps.now command.now ∷ left) self.old →
+            IfErr result (λ e. IsAtFirst (too_many script) e) }
     {
         match command {
             Command::Declare(place, name, _) => {
@@ -135,9 +142,11 @@ impl<'p, 'a> Progress<'p, 'a> {
 ///
 /// # Errors
 ///
-/// Too many expressions, at the assertion with which they are.
+/// Too many expressions, at the first assertion or goal with which more than `MOST_SIZE` are reached.
 pub fn asserted<'a>(alloc: Global, script: &Script<'a>) -> Result<AssertedTrees<'a>, ReadError>
     ensures refuses { IfErr result (λ e. IsRefusal e) }
+    ensures place { IfErr result (λ e. IsAtFirst (too_many (commands_in script.now)) e) }
+    ensures within { IfOk result (λ _. too_many (commands_in script.now) ≡ None) }
     ensures reads { IfOk result (λ a.
         AreAsserted (trees_in a.trees) a.assertions.items (asserted (commands_in script.now))) }
 {

@@ -4,8 +4,10 @@ ghost use Rattle.script_model.specs.Reading.{found, operators};
 ghost use Rattle.script_roots.specs.Tree.{all_trees, application_tree, group_tree, leaf_tree, symbol_tree, tree_of};
 ghost use Rattle.smt_sexp.specs.Arena.{expression_at, rest_of};
 ghost use Rattle.smt_sexp.specs.Views.{leaf_of, place_of, reserved_of};
-ghost use Rattle.root_trees.specs.LetParts.{as_let, let_of};
+ghost use Rattle.root_trees.specs.Ahead.{Opens};
+ghost use Rattle.root_trees.specs.LetParts.{as_let, let_of, let_parts_reached};
 ghost use Rattle.root_trees.specs.Nodes.{trees_in};
+ghost use Rattle.root_trees.specs.Reached.{all_reached, application_reached, group_reached, leaf_reached, reached_in, symbol_reached};
 ghost use Rattle.root_trees.specs.Walking.{TurnsIn};
 
 use crate::frames::{Call, Let, Next, Scope, Source, back, call_on, formless, let_on};
@@ -25,8 +27,10 @@ pub(crate) fn enter<'p, 'a>(
     scope: Scope<'a>,
     at: usize,
 ) -> Result<Next<'p, 'a>, AllocError>
-    ensures { TurnsIn (trees_in trees.old) (trees_in trees.new) source.now scope.entry
+    ensures walks { TurnsIn (trees_in trees.old) (trees_in trees.new) source.now scope.entry
         (λ names. tree_of names (expression_at source.now.sexps.now at)) result }
+    ensures counts { Opens source.now scope.entry
+        (λ bodies. reached_in bodies (expression_at source.now.sexps.now at)) result }
 {
     match source.sexps.look(at) {
         Seen::End => formless(trees, Place { line: 0, column: 0 }),
@@ -43,8 +47,10 @@ fn enter_leaf<'p, 'a>(
     place: Place,
     leaf: &'a Leaf,
 ) -> Result<Next<'p, 'a>, AllocError>
-    ensures { TurnsIn (trees_in trees.old) (trees_in trees.new) source.now scope.entry
+    ensures walks { TurnsIn (trees_in trees.old) (trees_in trees.new) source.now scope.entry
         (λ names. leaf_tree names (place_of place) (leaf_of leaf.now)) result }
+    ensures counts { Opens source.now scope.entry
+        (λ bodies. leaf_reached bodies (leaf_of leaf.now)) result }
 {
     match leaf {
         Leaf::Symbol(name) => alone(source, trees, scope, place, name),
@@ -66,8 +72,10 @@ fn enter_group<'p, 'a>(
     place: Place,
     inside: usize,
 ) -> Result<Next<'p, 'a>, AllocError>
-    ensures { TurnsIn (trees_in trees.old) (trees_in trees.new) source.now scope.entry
+    ensures walks { TurnsIn (trees_in trees.old) (trees_in trees.new) source.now scope.entry
         (λ names. group_tree names (place_of place) (rest_of source.now.sexps.now inside)) result }
+    ensures counts { Opens source.now scope.entry
+        (λ bodies. group_reached bodies (rest_of source.now.sexps.now inside)) result }
 {
     match source.sexps.look(inside) {
         Seen::End => formless(trees, place),
@@ -85,9 +93,12 @@ fn headed<'p, 'a>(
     leaf: &'a Leaf,
     after: usize,
 ) -> Result<Next<'p, 'a>, AllocError>
-    ensures { (first : sexp.Place) →
+    ensures walks { (first : sexp.Place) →
         TurnsIn (trees_in trees.old) (trees_in trees.new) source.now scope.entry
         (λ names. group_tree names (place_of place) (sexp.more (sexp.leaf first (leaf_of leaf.now))
+        (rest_of source.now.sexps.now after))) result }
+    ensures counts { (first : sexp.Place) → Opens source.now scope.entry
+        (λ bodies. group_reached bodies (sexp.more (sexp.leaf first (leaf_of leaf.now))
         (rest_of source.now.sexps.now after))) result }
 {
     match leaf {
@@ -109,9 +120,12 @@ fn with_word<'p, 'a>(
     word: Reserved,
     after: usize,
 ) -> Result<Next<'p, 'a>, AllocError>
-    ensures { (first : sexp.Place) →
+    ensures walks { (first : sexp.Place) →
         TurnsIn (trees_in trees.old) (trees_in trees.new) source.now scope.entry
         (λ names. group_tree names (place_of place) (sexp.more (sexp.leaf first
+        (sexp.reserved (reserved_of word))) (rest_of source.now.sexps.now after))) result }
+    ensures counts { (first : sexp.Place) → Opens source.now scope.entry
+        (λ bodies. group_reached bodies (sexp.more (sexp.leaf first
         (sexp.reserved (reserved_of word))) (rest_of source.now.sexps.now after))) result }
 {
     match word {
@@ -136,9 +150,12 @@ fn applied<'p, 'a>(
     name: &'a Name,
     args: usize,
 ) -> Result<Next<'p, 'a>, AllocError>
-    ensures { TurnsIn (trees_in trees.old) (trees_in trees.new) source.now scope.entry
+    ensures walks { TurnsIn (trees_in trees.old) (trees_in trees.new) source.now scope.entry
         (λ names. application_tree names (place_of place) name.now (found name.now operators)
         (all_trees names (rest_of source.now.sexps.now args))) result }
+    ensures counts { Opens source.now scope.entry
+        (λ bodies. application_reached bodies name.now (found name.now operators)
+        (all_reached bodies (rest_of source.now.sexps.now args))) result }
 {
     let Some(head) = head_of(source.top, scope.visible, &scope.locals, name) else {
         return formless(trees, place);
@@ -165,8 +182,11 @@ fn let_value<'p, 'a>(
     place: Place,
     at: usize,
 ) -> Result<Next<'p, 'a>, AllocError>
-    ensures { TurnsIn (trees_in trees.old) (trees_in trees.new) source.now scope.entry
-        (λ names. let_of names (place_of place) (as_let (rest_of source.now.sexps.now at))) result }
+    ensures walks { TurnsIn (trees_in trees.old) (trees_in trees.new) source.now scope.entry
+        (λ names. let_of names (place_of place)
+        (as_let (rest_of source.now.sexps.now at))) result }
+    ensures counts { Opens source.now scope.entry
+        (λ bodies. let_parts_reached bodies (as_let (rest_of source.now.sexps.now at))) result }
 {
     let Some((inside, body)) = let_parts(source.sexps, at) else {
         return formless(trees, place);
@@ -188,8 +208,10 @@ fn alone<'p, 'a>(
     place: Place,
     name: &'a Name,
 ) -> Result<Next<'p, 'a>, AllocError>
-    ensures { TurnsIn (trees_in trees.old) (trees_in trees.new) source.now scope.entry
+    ensures walks { TurnsIn (trees_in trees.old) (trees_in trees.new) source.now scope.entry
         (λ names. symbol_tree names (place_of place) name.now (found name.now operators)) result }
+    ensures counts { Opens source.now scope.entry
+        (λ bodies. symbol_reached bodies name.now (found name.now operators)) result }
 {
     let Some(head) = head_of(source.top, scope.visible, &scope.locals, name) else {
         return formless(trees, place);

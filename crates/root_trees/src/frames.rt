@@ -5,6 +5,7 @@ ghost use Rattle.script_roots.specs.Tree.{Tree, sqrt_tree};
 ghost use Rattle.smt_sexp.specs.declared.sexps.Sexps as arena;
 ghost use Rattle.root_trees.specs.declared.top.Top.{Top};
 ghost use Rattle.smt_sexp.specs.Views.{place_of};
+ghost use Rattle.root_trees.specs.Ahead.{GoesOn, call_ahead, frame_ahead, head_body, let_ahead, local_bodies};
 ghost use Rattle.root_trees.specs.Nodes.{AreBelow, parts_at, trees_in};
 ghost use Rattle.root_trees.specs.Walking.{AreTrees, Calls, IsScope, KnowsNodes, Lets, Makes, Turns, Waits, call_tree, returned};
 
@@ -113,8 +114,9 @@ pub(crate) fn formless<'p, 'a>(
     trees: &mut Trees<'a>,
     place: Place,
 ) -> Result<Next<'p, 'a>, AllocError>
-    ensures { (s : arena.Sexps) (top : List Top) → Turns (trees_in trees.old) (trees_in trees.new)
-        s top (model.formless (place_of place)) result }
+    ensures walks { (s : arena.Sexps) (top : List Top) → Turns (trees_in trees.old)
+        (trees_in trees.new) s top (model.formless (place_of place)) result }
+    ensures counts { (s : arena.Sexps) (top : List Top) → GoesOn s top 0 result }
 {
     back(trees.formless(place))
 }
@@ -139,9 +141,12 @@ fn called<'p, 'a>(
     call: Call<'p, 'a>,
 ) -> Result<Next<'p, 'a>, AllocError>
     requires { AreBelow (length trees.old) call.parts.items }
-    ensures { (ts : List Tree) → AreTrees (trees_in trees.old) ts call.entry.parts.items →
+    ensures walks { (ts : List Tree) → AreTrees (trees_in trees.old) ts call.entry.parts.items →
         Turns (trees_in trees.old) (trees_in trees.new) source.now.sexps.now source.now.top.now
         (call_tree source.now.sexps.now source.now.top.now call.entry ts) result }
+    ensures counts { GoesOn source.now.sexps.now source.now.top.now
+        (head_body source.now.sexps.now source.now.top.now call.entry.head
+        (length call.entry.parts.items)) result }
 {
     let alloc = source.alloc;
     match call.head {
@@ -168,10 +173,13 @@ pub(crate) fn call_on<'p, 'a>(
     mut call: Call<'p, 'a>,
 ) -> Result<Next<'p, 'a>, AllocError>
     requires { AreBelow (length trees.old) call.parts.items }
-    ensures { (t : Tree) →
+    ensures walks { (t : Tree) →
         Calls (trees_in trees.old) source.now.sexps.now source.now.top.now call.entry t →
         Turns (trees_in trees.old) (trees_in trees.new)
         source.now.sexps.now source.now.top.now t result }
+    ensures counts { GoesOn source.now.sexps.now source.now.top.now
+        (call_ahead source.now.sexps.now source.now.top.now call.entry
+        (length call.entry.parts.items)) result }
 {
     let at = call.next;
     match behind(source.sexps, at) {
@@ -189,9 +197,12 @@ pub(crate) fn let_on<'p, 'a>(
     source: &Source<'_, 'p, 'a>,
     mut bindings: Let<'a>,
 ) -> Result<Next<'p, 'a>, AllocError>
-    ensures { (m : List Tree) (t : Tree) →
+    ensures walks { (m : List Tree) (t : Tree) →
         Lets m source.now.sexps.now source.now.top.now bindings.entry t →
         Turns m m source.now.sexps.now source.now.top.now t result }
+    ensures counts { GoesOn source.now.sexps.now source.now.top.now
+        (let_ahead source.now.sexps.now source.now.top.now bindings.entry
+        (local_bodies bindings.entry.bound)) result }
 {
     match binding(source.sexps, bindings.next) {
         Some((_, name, at, after)) => {
@@ -222,11 +233,13 @@ pub(crate) fn resume<'p, 'a>(
 ) -> Result<Next<'p, 'a>, AllocError>
     requires there { node < length trees.old }
     requires others { KnowsNodes trees.old frame }
-    ensures { (u t : Tree) →
+    ensures walks { (u t : Tree) →
         Waits (trees_in trees.old) source.now.sexps.now source.now.top.now frame.entry u t →
         slice_get (trees_in trees.old) node ≡ Some u →
         Turns (trees_in trees.old) (trees_in trees.new)
         source.now.sexps.now source.now.top.now t result }
+    ensures counts { GoesOn source.now.sexps.now source.now.top.now
+        (frame_ahead source.now.sexps.now source.now.top.now frame.entry) result }
 {
     match frame {
         Frame::Call(mut call) => {

@@ -1,7 +1,10 @@
 // The walk over an expression: its tree, with all that it is made of. What waits for the trees of parts stands on a stack on
 // the heap, so that calls may nest as deep as there is memory.
+ghost use Rattle.smt_sexp.specs.Arena.{expression_at};
+ghost use Rattle.root_trees.specs.Ahead.{Counts, Opens, reached_here};
 ghost use Rattle.root_trees.specs.Names.{tree_here};
 ghost use Rattle.root_trees.specs.Nodes.{trees_in};
+ghost use Rattle.root_trees.specs.Reached.{reached_in};
 ghost use Rattle.root_trees.specs.Walking.{IsReached, Makes, Reaches};
 
 use crate::expressions::enter;
@@ -28,6 +31,8 @@ fn reach<'p, 'a>(
     ensures walks { Reaches (trees_in unfolded.old.trees) (trees_in unfolded.new.trees)
         source.now scope.entry at result }
     ensures counts { IsReached unfolded.old.reached unfolded.new.reached result }
+    ensures opens { Opens source.now scope.entry
+        (λ bodies. reached_in bodies (expression_at source.now.sexps.now at)) result }
 {
     if unfolded.reached >= MOST_SIZE {
         return Err(Stop::TooLarge);
@@ -45,8 +50,10 @@ pub(crate) fn tree<'p, 'a>(
     unfolded: &mut Unfolded<'a>,
     at: usize,
 ) -> Result<usize, Stop>
-    ensures { Makes (trees_in unfolded.old.trees) (trees_in unfolded.new.trees)
+    ensures walks { Makes (trees_in unfolded.old.trees) (trees_in unfolded.new.trees)
         (tree_here source.now.sexps.now source.now.top.now at) result }
+    ensures counts { Counts unfolded.old.reached unfolded.new.reached
+        (reached_here source.now.sexps.now source.now.top.now at) result }
 {
     let scope = Scope::new(source.alloc, source.top.len(), Locals::new(source.alloc))?;
     let mut stack: Vec<Frame<'p, 'a>> = Vec::new(source.alloc);

@@ -6,7 +6,7 @@ use Rattle.script_model.specs.Reading.{Operator, divide, operators, found, bound
 use Rattle.script_model.specs.Meaning.{from_left}
 use Rattle.script_model.specs.Script.{Command, declare, define, claim, minimize, check, ineffective, Parameter, Constant, constants_of}
 use Rattle.script_roots.specs.Tree as tree
-use Rattle.script_roots.specs.Tree.{Tree, atomic, applied, root, quotient, formless, no_trees, more_trees, trees_of, Known, is_number, are_numbers, divide_two, divided, operator_tree, name_tree, symbol_tree, leaf_tree, call_tree, application_tree, let_tree, tree_of, group_tree, all_trees, binding_trees, bound_trees, definition, sqrt_tree, theory_names}
+use Rattle.script_roots.specs.Tree.{Tree, atomic, applied, root, quotient, formless, no_trees, more_trees, trees_of, Known, is_number, are_numbers, divide_two, operator_tree, name_tree, symbol_tree, leaf_tree, call_tree, application_tree, let_tree, tree_of, group_tree, all_trees, binding_trees, bound_trees, definition, sqrt_tree, theory_names}
 use Rattle.script_roots.specs.Fresh.{Asserted, asserted_from, asserted}
 
 -- what an expression can be, besides a declared constant

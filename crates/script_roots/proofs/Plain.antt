@@ -7,7 +7,7 @@ use Rattle.script_model.specs.Reading.{Reason, malformed, unknown, reserved_reas
 use Rattle.script_model.specs.Meaning.{from_left}
 use Rattle.script_model.specs.Script.{Command, declare, define, claim, minimize, check, ineffective, Parameter, Constant, constants_of, bound_to, defined, claims}
 use Rattle.script_roots.specs.Tree as tree
-use Rattle.script_roots.specs.Tree.{Tree, atomic, applied, root, quotient, formless, Trees, no_trees, more_trees, trees_of, Known, is_number, are_numbers, divide_two, divided, operator_tree, name_tree, symbol_tree, leaf_tree, call_tree, application_tree, let_tree, tree_of, group_tree, all_trees, binding_trees, bound_trees, definition}
+use Rattle.script_roots.specs.Tree.{Tree, atomic, applied, quotient, Trees, no_trees, more_trees, trees_of, Known, is_number, are_numbers, divide_two, divided, operator_tree, name_tree, symbol_tree, leaf_tree, call_tree, application_tree, let_tree, tree_of, group_tree, all_trees, binding_trees, bound_trees, definition}
 use Rattle.script_roots.specs.Fresh.{Asserted, asserted_from}
 use Rattle.script_roots.specs.Laws.{tree_meaning, trees_meaning}
 

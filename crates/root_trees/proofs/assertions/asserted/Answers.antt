@@ -1,11 +1,14 @@
 use Rattle.std.proofs.Common.{◌≡◌, ◌-◌, arith, List, ◌∷◌, ◌++◌, length, map, take, drop, ap, sym, ◌∙◌, subst, append-nil}
+use Rattle.std.proofs.lemmas.Result.{err_from_is_err_and}
 use Rattle.sort_check.proofs.Lists.{split_first}
 use Rattle.script_roots.specs.Fresh.{Asserted, asserted_from}
 use Rattle.smt_script.specs.Views.{command_of, commands_in}
 use Rattle.smt_script.specs.declared.command.Command.{Command}
+use Rattle.root_trees.specs.Ahead.{top_bodies}
 use Rattle.root_trees.specs.Asserted.{AreAsserted, IsAt}
 use Rattle.root_trees.specs.Names.{top_names}
 use Rattle.root_trees.specs.Nodes.{trees_in}
+use Rattle.root_trees.specs.Reached.{first_beyond, reached_from}
 use Rattle.root_trees.proofs.Lists.{none_left}
 use Rattle.root_trees.proofs.assertions.asserted.Goals as goal
 
@@ -31,3 +34,20 @@ returns-clause-reads c =
     let none = none_left c.loop-rest.rest.now c.in_default.len_below in
     subst (λ (all : List Asserted). AreAsserted (trees_in p.unfolded.trees) p.assertions.items all)
     (sym (i.split ∙ ap (λ cs. i.done ++ asserted_from (top_names s p.top (length p.top)) (map (command_of s) cs)) none ∙ append-nil i.done)) i.are
+
+pub returns-clause-within : goal.returns-clause-within
+returns-clause-within c =
+    let s = c.args.script.now.sexps.now in
+    let p = c.loop-rest.progress in
+    let none = none_left c.loop-rest.rest.now c.in_default.len_below in
+    c.loop-rest.invariant.counted ∙ ap (λ cs. first_beyond p.unfolded.reached (reached_from (top_bodies s p.top (length p.top)) (map (command_of s) cs))) none
+
+pub returns-in_err-add-clause-place : goal.returns-in_err-add-clause-place
+returns-in_err-add-clause-place c =
+    let s = c.args.script.now.sexps.now in
+    let rest = c.loop-rest.rest.now in
+    let later = take (length rest - 1) (drop 1 rest) in
+    let is : rest ≡ c.command-item.result ∷ later = split_first rest c.command-item.result (omega (arith, c.in-len1-up.len_at_least)) (grind (arith, c.command-item.is, c.in-len1-up.len_at_least)) in
+    let p = err_from_is_err_and c.from_residual.result c.from_residual.ensures.1 in
+    rw (p.1, p.2) (c.in_err-add.ensures.place (commands_in c.args.script.now) (map (command_of s) later)
+    (subst (λ (cs : List Command). IsAt s (commands_in c.args.script.now) (map (command_of s) cs) c.loop-rest.progress) is c.loop-rest.invariant))

@@ -6,17 +6,19 @@ use Rattle.smt_sexp.specs.Views.{place_of}
 use Rattle.smt_script.specs.Views.{parameter_of}
 use Rattle.sort_check.specs.Views.{operator_of}
 use Rattle.root_trees.specs.Nodes.{AreBelow, trees_in}
-use Rattle.root_trees.specs.Names.{top_names}
+use Rattle.root_trees.specs.Names.{top_names, bound_locals}
 use Rattle.root_trees.specs.Walking.{AreTrees, Makes, Turns, head_tree}
 use Rattle.root_trees.specs.declared.names.Head.{Head}
 use Rattle.root_trees.specs.declared.names.Head.TheVariants as head
 use Rattle.root_trees.specs.declared.frames.Next.{Next}
 use Rattle.root_trees.specs.declared.frames.Next.TheVariants as next
 use Rattle.root_trees.proofs.Growth as growth
+use Rattle.root_trees.proofs.Reckoned as reckoned
+use Rattle.root_trees.specs.Ahead.{head_body}
 use Rattle.root_trees.proofs.frames.called.Goals as goal
 
-pub returns-in-Operator : goal.returns-in-Operator
-returns-in-Operator c = λ ts are.
+pub returns-in-Operator-clause-walks : goal.returns-in-Operator-clause-walks
+returns-in-Operator-clause-walks c = λ ts are.
     let s = c.args.source.now.sexps.now in
     let top = c.args.source.now.top.now in
     let m = trees_in c.args.trees.now in
@@ -28,8 +30,8 @@ returns-in-Operator c = λ ts are.
     subst (λ (y : Head). Turns m m1 s top (head_tree s top at x y ts) c.back.result) (sym c.in-Operator.is)
     (subst (λ (r : Result Next AllocError). Turns m m1 s top (head_tree s top at x h ts) r) (sym c.back.ensures) (growth.turns_back s top m m1 (head_tree s top at x h ts) c.operate.result made))
 
-pub returns-in-Sqrt : goal.returns-in-Sqrt
-returns-in-Sqrt c = λ ts are.
+pub returns-in-Sqrt-clause-walks : goal.returns-in-Sqrt-clause-walks
+returns-in-Sqrt-clause-walks c = λ ts are.
     let s = c.args.source.now.sexps.now in
     let top = c.args.source.now.top.now in
     let m = trees_in c.args.trees.now in
@@ -41,8 +43,8 @@ returns-in-Sqrt c = λ ts are.
     subst (λ (y : Head). Turns m m1 s top (head_tree s top at x y ts) c.back-in-Sqrt.result) (sym c.in-Sqrt.is)
     (subst (λ (r : Result Next AllocError). Turns m m1 s top (sqrt_tree at ts) r) (sym c.back-in-Sqrt.ensures) (growth.turns_back s top m m1 (sqrt_tree at ts) c.rooted.result made))
 
-pub returns-in-Function : goal.returns-in-Function
-returns-in-Function c = λ ts are.
+pub returns-in-Function-clause-walks : goal.returns-in-Function-clause-walks
+returns-in-Function-clause-walks c = λ ts are.
     let d = c.in-Function in
     let s = c.args.source.now.sexps.now in
     let top = c.args.source.now.top.now in
@@ -63,19 +65,52 @@ returns-in-Function c = λ ts are.
       },
     )
 
-pub returns-in-Local : goal.returns-in-Local
-returns-in-Local c = λ ts are.
+pub returns-in-Local-clause-walks : goal.returns-in-Local-clause-walks
+returns-in-Local-clause-walks c = λ ts are.
     let s = c.args.source.now.sexps.now in
     let top = c.args.source.now.top.now in
     growth.turns_same s top (trees_in c.args.trees.now) (trees_in c.formless.new.trees) _ _ c.formless.result
-    (ap (λ h. head_tree s top (place_of c.args.call.place) c.args.call.name.now h ts) c.in-Local.is) (c.formless.ensures s top)
+    (ap (λ h. head_tree s top (place_of c.args.call.place) c.args.call.name.now h ts) c.in-Local.is) (c.formless.ensures.walks s top)
 
-pub returns : goal.returns
-returns c = λ ts are.
+pub returns-clause-walks : goal.returns-clause-walks
+returns-clause-walks c = λ ts are.
     let s = c.args.source.now.sexps.now in
     let top = c.args.source.now.top.now in
     growth.turns_same s top (trees_in c.args.trees.now) (trees_in c.formless-in-Constant.new.trees) _ _ c.formless-in-Constant.result
-    (ap (λ h. head_tree s top (place_of c.args.call.place) c.args.call.name.now h ts) c.in-Constant.is) (c.formless-in-Constant.ensures s top)
+    (ap (λ h. head_tree s top (place_of c.args.call.place) c.args.call.name.now h ts) c.in-Constant.is) (c.formless-in-Constant.ensures.walks s top)
 
 pub rooted-requires : goal.rooted-requires
 rooted-requires c = subst (λ (ks : List ℕ). AreBelow (length c.args.trees.now) ks) (sym c.as_slice.ensures.value) c.requires
+
+pub returns-in-Operator-clause-counts : goal.returns-in-Operator-clause-counts
+returns-in-Operator-clause-counts c =
+    let s = c.args.source.now.sexps.now in
+    let top = c.args.source.now.top.now in
+    reckoned.goes_same s top _ 0 c.back.result (ap (λ h. head_body s top h (length c.args.call.parts.items)) c.in-Operator.is) (reckoned.goes_back s top c.operate.result c.back.result c.back.ensures)
+
+pub returns-in-Sqrt-clause-counts : goal.returns-in-Sqrt-clause-counts
+returns-in-Sqrt-clause-counts c =
+    let s = c.args.source.now.sexps.now in
+    let top = c.args.source.now.top.now in
+    reckoned.goes_same s top _ 0 c.back-in-Sqrt.result (ap (λ h. head_body s top h (length c.args.call.parts.items)) c.in-Sqrt.is) (reckoned.goes_back s top c.rooted.result c.back-in-Sqrt.result c.back-in-Sqrt.ensures)
+
+pub returns-in-Local-clause-counts : goal.returns-in-Local-clause-counts
+returns-in-Local-clause-counts c =
+    let s = c.args.source.now.sexps.now in
+    let top = c.args.source.now.top.now in
+    reckoned.goes_same s top _ 0 c.formless.result (ap (λ h. head_body s top h (length c.args.call.parts.items)) c.in-Local.is) (c.formless.ensures.counts s top)
+
+pub returns-clause-counts : goal.returns-clause-counts
+returns-clause-counts c =
+    let s = c.args.source.now.sexps.now in
+    let top = c.args.source.now.top.now in
+    reckoned.goes_same s top _ 0 c.formless-in-Constant.result (ap (λ h. head_body s top h (length c.args.call.parts.items)) c.in-Constant.is) (c.formless-in-Constant.ensures.counts s top)
+
+pub returns-in-Function-clause-counts : goal.returns-in-Function-clause-counts
+returns-in-Function-clause-counts c =
+    let d = c.in-Function in
+    let s = c.args.source.now.sexps.now in
+    let top = c.args.source.now.top.now in
+    let ks = c.args.call.parts.items in
+    let bound = c.in_ok-locals-in-Function.ensures ∙ ap (λ xs. c.in_ok-bound-in-Function.bound ++ xs) c.new-none.ensures ∙ append-nil c.in_ok-bound-in-Function.bound ∙ c.in_ok-bound-in-Function.ensures ∙ ap (bound_locals d.parameters.now) c.as_slice-in-Function.ensures.value in
+    ap (λ h. head_body s top h (length ks)) d.is ∙ reckoned.body_enters s top d.visible d.parameters.now d.body ks c.in_ok-locals-in-Function.locals c.in_ok-scope-in-Function.scope bound c.in_ok-scope-in-Function.ensures

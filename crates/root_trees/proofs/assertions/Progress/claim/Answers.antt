@@ -15,4 +15,4 @@ returns-in_ok-push-in-Ok-clause-asserts c = λ done are.
     let a : Asserted = record { at = place_of c.args.place; is_goal = c.args.is_goal; tree = tree_here c.args.sexps.now c.args.self.now.top c.args.body } in
     let one : Assertion = record { place = c.args.place; is_goal = c.args.is_goal; tree = c.in-Ok.tree } in
     subst (λ (cs : List Assertion). AreAsserted us cs (done ++ (a ∷ []))) (sym c.in_ok-push-in-Ok.ensures.items)
-    (script.asserted_more ts us c.in-Ok.ensures.0 one a (record { at = refl; goal = refl; tree = c.in-Ok.ensures.1 }) c.args.self.now.assertions.items done are)
+    (script.asserted_more ts us c.in-Ok.ensures.walks.0 one a (record { at = refl; goal = refl; tree = c.in-Ok.ensures.walks.1 }) c.args.self.now.assertions.items done are)
