@@ -1,0 +1,5 @@
+pub mod Classes
+pub mod Found
+pub mod Places
+pub mod Table
+pub mod Walk

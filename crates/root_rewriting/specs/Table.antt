@@ -1,0 +1,28 @@
+-- The constants that stand for roots and quotients, as the definitions see them.
+use Rattle.std.specs.Prelude.{◌≡◌, ◌<◌, ℕ, List, map}
+use Rattle.std.specs.List.{AllByRecursion}
+use Rattle.ival.specs.Views.{interval_of}
+use Rattle.ival.specs.declared.ends.Ival.{Ival}
+use Rattle.script_roots.specs.Tree.{Tree}
+use Rattle.script_roots.specs.Ranges.{Ranges, enclosed}
+use Rattle.script_roots.specs.Fresh.{quotient_name, root_name}
+use Rattle.root_trees.specs.Nodes.{tree_at}
+use Rattle.root_rewriting.specs.declared.constants.Kind.{Kind}
+use Rattle.root_rewriting.specs.declared.constants.Kind.TheVariants.{Root, Quotient}
+use Rattle.root_rewriting.specs.declared.constants.Fresh.{Fresh}
+
+-- these are the enclosures of the trees, one for each
+abbrev pub AreEnclosed : Ranges → List Tree → List Ival → Type 0
+AreEnclosed names ts ranges = map interval_of ranges ≡ map (enclosed names) ts
+
+abbrev pub name_of : Kind → ℕ → List ℕ
+name_of Root k = root_name k
+name_of Quotient k = quotient_name k
+
+-- its name and the tree for which it stands
+abbrev pub entry_of : List Tree → Fresh → List ℕ × Tree
+entry_of ts f = (name_of f.kind f.number, tree_at ts f.tree)
+
+-- so many trees are there
+abbrev pub AreEntriesBelow : ℕ → List Fresh → Type 0
+AreEntriesBelow n table = AllByRecursion (λ (f : Fresh). f.tree < n) table
