@@ -184,7 +184,7 @@ fn named(alloc: Global, trees: &Trees<'_>, order: &[usize]) -> Result<Vec<Fresh>
 }
 
 /// The constants that stand for the roots and quotients of assertions, each once up to the places in it, in the order in
-/// which they stand, inner ones first; `ranges` are the enclosures of the trees. It takes time in the trees' number.
+/// which they stand, inner ones first; `ranges` are the enclosures of the trees. It fails for want of memory alone.
 pub fn table(
     alloc: Global,
     asserted: &AssertedTrees<'_>,

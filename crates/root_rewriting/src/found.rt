@@ -1,5 +1,5 @@
 // Roots and quotients that become constants, each once.
-ghost use Rattle.std.specs.Prelude.{◌≡◌, ◌<◌, List, [], IfOk, OnOk, length};
+ghost use Rattle.std.specs.Prelude.{◌<◌, List, [], IfOk, OnOk, length};
 ghost use Rattle.root_rewriting.specs.Found.{AllHave, AreOwn, IsFound, IsSized, IsSource, inner_in, own_in};
 ghost use Rattle.root_trees.specs.Nodes.{tree_at, trees_in};
 ghost use Rattle.script_roots.specs.Fresh.{once};
