@@ -103,12 +103,12 @@ fn next_tried(phase: Phase, verdict: BookVerdict, tried: Option<Dy>, limit: Dy) 
 }
 
 // The budget of a probe behind a search of this verdict that split so often. A closing search that finds a point finds one
-// that is hardly better, and probes between it and the lower bound had too little to find a better one: they get eight times
+// that is hardly better, and probes between it and the lower bound had too little to find a better one: they get four times
 // as much, or twice what this one took.
 fn next_patience(phase: Phase, verdict: BookVerdict, patience: u32, splits: u32) -> u32 {
     match (phase, verdict) {
         (Phase::Closing, BookVerdict::DeltaSat) => patience
-            .saturating_mul(8)
+            .saturating_mul(4)
             .max(splits.saturating_mul(2)),
         _ => patience,
     }
