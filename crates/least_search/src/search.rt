@@ -82,7 +82,7 @@ fn is_decided(verdict: BookVerdict) -> bool {
 }
 
 // What the search behind one of this verdict is for, where `near` says that its limit was below the best value by two gaps at
-// most. Probes come nearer to the best value from both sides until one that is near decides nothing.
+// most. Probes go on until one that is near decides nothing.
 fn next_phase(phase: Phase, verdict: BookVerdict, near: bool) -> Phase {
     match phase {
         Phase::Halving => Phase::Halving,
@@ -102,14 +102,11 @@ fn next_tried(phase: Phase, verdict: BookVerdict, tried: Option<Dy>, limit: Dy) 
     }
 }
 
-// The budget of a probe behind a search of this verdict that split so often. A closing search that finds a point finds one
-// that is hardly better, and probes between it and the lower bound had too little to find a better one: they get four times
-// as much, or twice what this one took.
-fn next_patience(phase: Phase, verdict: BookVerdict, patience: u32, splits: u32) -> u32 {
+// The budget of a probe behind a search of this verdict. A closing search that finds a point finds one that is hardly better,
+// and probes between it and the lower bound had too little to find a better one: they get four times as much.
+fn next_patience(phase: Phase, verdict: BookVerdict, patience: u32) -> u32 {
     match (phase, verdict) {
-        (Phase::Closing, BookVerdict::DeltaSat) => patience
-            .saturating_mul(4)
-            .max(splits.saturating_mul(2)),
+        (Phase::Closing, BookVerdict::DeltaSat) => patience.saturating_mul(4),
         _ => patience,
     }
 }
@@ -194,7 +191,7 @@ fn take_book(
     let near = is_settled(Some(limited.limit), bounds.upper, gaps);
     bounds.phase = next_phase(phase, verdict, near);
     bounds.tried = next_tried(phase, verdict, bounds.tried, limited.limit);
-    bounds.patience = next_patience(phase, verdict, bounds.patience, book.branches());
+    bounds.patience = next_patience(phase, verdict, bounds.patience);
     match verdict {
         BookVerdict::Unsat => {
             bounds.lower = Lower::Limit(book, limited.bits, limited.limit);
