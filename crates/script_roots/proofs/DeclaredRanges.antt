@@ -18,7 +18,7 @@ use Rattle.script_model.proofs.Related.{Each}
 use Rattle.script_roots.specs.Tree.{Tree, atomic, applied, root, quotient, formless, Trees, no_trees, more_trees, is_choice, holds_choice, theory_names}
 use Rattle.script_roots.specs.Ranges.{Ranges, operator_range, enclosed}
 use Rattle.script_roots.specs.Fresh.{Asserted, asserted}
-use Rattle.script_roots.specs.TreeBounds.{EndBound, TreeBounding, known_in, axis_alone, bounded, Axes, constant_axis, axes_from, end_on, at_most_ends, at_least_ends, equal_ends, all_ends, ends_in, first_in, all_known_in, computed_in, alone_in, operation_in, or_no_end, symbol_in, leaf_in, applied_in, tree_in, trees_in, claim_ends, script_ends, ends_on, low_end, high_end, range_of, ranges_from, declared_ranges}
+use Rattle.script_roots.specs.TreeBounds.{EndBound, TreeBounding, known_in, axis_alone, bounded, Axes, constant_axis, axes_from, end_on, at_most_ends, at_least_ends, equal_ends, all_ends, ends_in, first_in, all_known_in, computed_in, alone_in, operation_in, or_no_end, symbol_in, leaf_in, applied_in, tree_in, trees_in, claim_ends, script_ends, ends_on, low_end, high_end, between_or_nothing, range_of, ranges_from, declared_ranges}
 use Rattle.script_roots.specs.Laws.{tree_meaning, trees_meaning, constants_at, are_distinct}
 use Rattle.script_roots.proofs.Enclosed.{Within, EachWithin, operator_within, literal_within, truth_anywhere, InRanges, RootsHold, tree_value, tree_within}
 use Rattle.script_roots.proofs.Plain.{assertion_means, goal_means, claims_mean}
@@ -391,22 +391,28 @@ high-default : (bound : Option ℕ) → IfFraction (default_high bound)
 high-default None = tt
 high-default (Some n) = omega arith
 
+-- a fraction that is outside neither end lies between them, and they do not cross
+between-within : (l h : Ext) (q : Fraction) → IsOuter lower l q → IsOuter upper h q → Within (between_or_nothing l h) (real q)
+between-within l h q low high = subst (λ (t : Bool). Within (cond t (between l h) nothing) (real q))
+    (sym (end_trans (end_of l) (end_at q) (end_of h) low.fraction low.outside high.outside))
+    (record {
+      plain = tt;
+      fraction = low.fraction;
+      inside = both_pass (end_at_most (end_of l) (end_at q)) (end_at_most (end_at q) (end_of h)) low.outside high.outside;
+      kept = (low.kept, high.kept);
+    })
+
 module _ (bound : Option ℕ) (script : List Command) (distinct : IsTrue (are_distinct (constants_of script))) where
   abbrev Ends : List EndBound
   Ends = script_ends script
 
   coordinate-within : (axis : ℕ) (s : Sort) (c : Coordinate) → InDeclared (declared_interval bound script axis) s c → Within (range_of bound Ends axis s) (coordinate_value c)
   coordinate-within axis real_sort (at_fraction q) k =
-      let low = low-within (default_low bound) (low-default bound) (ends_on lower axis Ends) (values_on lower axis (script_bounds script))
-      (ends-outer lower axis Ends (script_bounds script) (script-around script distinct)) q k.0 k.1 in
-      let high = high-within (default_high bound) (high-default bound) (ends_on upper axis Ends) (values_on upper axis (script_bounds script))
-      (ends-outer upper axis Ends (script_bounds script) (script-around script distinct)) q k.0 k.2 in record {
-        plain = tt;
-        fraction = k.0;
-        inside = both_pass (end_at_most (end_of (first_and_rest greater_ext (low_end (default_low bound)) (ends_on lower axis Ends))) (end_at q))
-            (end_at_most (end_at q) (end_of (first_and_rest lesser_ext (high_end (default_high bound)) (ends_on upper axis Ends)))) low.outside high.outside;
-        kept = (low.kept, high.kept);
-      }
+      between-within (first_and_rest greater_ext (low_end (default_low bound)) (ends_on lower axis Ends)) (first_and_rest lesser_ext (high_end (default_high bound)) (ends_on upper axis Ends)) q
+      (low-within (default_low bound) (low-default bound) (ends_on lower axis Ends) (values_on lower axis (script_bounds script))
+      (ends-outer lower axis Ends (script_bounds script) (script-around script distinct)) q k.0 k.1)
+      (high-within (default_high bound) (high-default bound) (ends_on upper axis Ends) (values_on upper axis (script_bounds script))
+      (ends-outer upper axis Ends (script_bounds script) (script-around script distinct)) q k.0 k.2)
   coordinate-within axis bool_sort (at_bool c) k = truth_anywhere _
   coordinate-within axis real_sort (at_bool c) k = elim k [ ]
   coordinate-within axis bool_sort (at_fraction q) k = elim k [ ]

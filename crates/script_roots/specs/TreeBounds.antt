@@ -2,7 +2,7 @@
 use Rattle.std.specs.Prelude.{ℕ, suc, List, [], ◌∷◌, ◌++◌, map, cond, nat_eq, ◌&&◌, Option, Some, None}
 use Rattle.dyadic.specs.Fraction.{Fraction}
 use Rattle.dyadic.specs.Point.{Sort, real_sort, bool_sort}
-use Rattle.dyadic.specs.Rounding.{Ext, below_all, above_all, down, up}
+use Rattle.dyadic.specs.Rounding.{Ext, below_all, above_all, ext_at_most, down, up}
 use Rattle.dyadic.specs.End.{lesser_ext, greater_ext}
 use Rattle.interval_model.specs.Interval.{Interval, nothing, between, everything}
 use Rattle.script_model.specs.Sexp.{Leaf, numeral, decimal, symbol}
@@ -166,9 +166,13 @@ abbrev pub high_end : Option Fraction → Ext
 high_end None = above_all
 high_end (Some q) = up q
 
+-- what lies between two ends: nothing where they cross
+abbrev pub between_or_nothing : Ext → Ext → Interval
+between_or_nothing l h = cond (ext_at_most l h) (between l h) nothing
+
 -- from the greatest lower end to the least upper one; where there is none on a side, that of the words
 abbrev pub range_of : Option ℕ → List EndBound → ℕ → Sort → Interval
-range_of bound ends axis real_sort = between
+range_of bound ends axis real_sort = between_or_nothing
     (first_and_rest greater_ext (low_end (default_low bound)) (ends_on lower axis ends))
     (first_and_rest lesser_ext (high_end (default_high bound)) (ends_on upper axis ends))
 range_of bound ends axis bool_sort = everything
