@@ -1,0 +1,6 @@
+pub mod Bounds
+pub mod Constants
+pub mod Enclosures
+pub mod Ends
+pub mod Shapes
+pub mod Sweep

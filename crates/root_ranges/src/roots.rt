@@ -1,0 +1,83 @@
+// The ranges of roots.
+ghost use Rattle.std.specs.Prelude.{◌≡◌, ◌≤◌, ◌<◌, ◌^◌, pos, IsTrue};
+ghost use Rattle.dyadic.specs.Rounding.{above_all, ceiling, not_negative, finite};
+ghost use Rattle.dyadic.specs.Size.{units};
+ghost use Rattle.dyadic.specs.Views.{ext_of, units_of};
+ghost use Rattle.ival.specs.Views.{interval_of};
+ghost use Rattle.script_roots.specs.Ranges.{root_above, root_bound, root_range, whole_above, whole_ext};
+
+use dyadic::{Dy, Ext, Frac, Size, down_frac, sqrt_up};
+use ival::{Ends, Ival};
+
+// How many bits a whole unit has.
+const UNIT_BITS: u32 = 120;
+
+// The least whole number that is not below a size.
+fn whole_of(size: Size) -> u64
+    requires { units size ≤ 2 ^ 181 }
+    ensures value { result ≡ ceiling (units size) (2 ^ 120) }
+    ensures few { result ≤ 2 ^ 62 }
+{
+    if size.shift >= UNIT_BITS {
+        return size.odd << (size.shift - UNIT_BITS);
+    }
+    let odd = u128::from(size.odd);
+    let below = UNIT_BITS - size.shift;
+    let whole = (odd >> below) as u64;
+    if u128::from(whole) << below == odd {
+        whole
+    } else {
+        whole + 1
+    }
+}
+
+// The root of an upper end, rounded up.
+fn root_above(end: Ext) -> Ext
+    ensures { ext_of result ≡ root_above (ext_of end) }
+{
+    match end {
+        Ext::Fin(number) if number.is_negative() => Ext::Fin(Dy::ZERO),
+        Ext::Fin(number) => sqrt_up(Ext::Fin(number)),
+        end => end,
+    }
+}
+
+/// A whole number that no root of a value in the interval is above, at most 2^62; none where the interval has no upper
+/// end.
+pub fn root_bound(range: Ival) -> Option<u64>
+    ensures { result ≡ root_bound (interval_of range) }
+{
+    match range {
+        Ival::Empty => Some(0),
+        Ival::Between(ends) => match root_above(ends.high) {
+            Ext::NegInf => Some(0),
+            Ext::Fin(root) => Some(whole_of(root.parts().size)),
+            Ext::PosInf => None,
+        },
+    }
+}
+
+// A whole number as an end.
+fn whole_end(number: u64) -> Ext
+    requires { number ≤ 2 ^ 62 }
+    ensures { ext_of result ≡ whole_ext number }
+{
+    down_frac(Frac {
+        n: i128::from(number),
+        d: 1,
+    })
+}
+
+/// In what a root of a value in the interval lies: from 0 to its bound.
+pub(crate) fn root_range(range: Ival) -> Ival
+    ensures { interval_of result ≡ root_range (interval_of range) }
+{
+    let high = match root_bound(range) {
+        Some(number) => whole_end(number),
+        None => Ext::PosInf,
+    };
+    Ival::Between(Ends {
+        low: Ext::Fin(Dy::ZERO),
+        high,
+    })
+}
