@@ -4,7 +4,7 @@ use Rattle.std.specs.List.{AllByRecursion}
 use Rattle.script_model.specs.Reading.{Operator, conjunction, found, operators, plus, times}
 use Rattle.script_roots.specs.Fresh.{Asserted}
 use Rattle.script_roots.specs.Tree.{Tree, applied}
-use Rattle.script_roots.specs.TreeBounds.{Axes, EndBound, all_ends, claim_ends, ends_in, tree_in, trees_in}
+use Rattle.script_roots.specs.TreeBounds.{Axes, EndBound, all_ends, claim_ends, ends_in, or_no_end, tree_in, trees_in}
 use Rattle.root_trees.specs.declared.assertions.Assertion.{Assertion}
 use Rattle.root_trees.specs.declared.trees.Node.{Node}
 use Rattle.root_trees.specs.declared.trees.Node.TheVariants as nodes
@@ -24,15 +24,15 @@ assertion_places [] = []
 assertion_places (c ∷ cs) = cond c.is_goal (assertion_places cs) (c.tree ∷ assertion_places cs)
 
 -- what `+` or `*` has alone
-abbrev pub alone : List ℕ → List ℕ
-alone (k ∷ []) = k ∷ []
-alone ks = []
+abbrev pub alone : {X : Type 0} → List X → List X
+alone (x ∷ []) = x ∷ []
+alone xs = []
 
-abbrev pub operator_conjuncts : Option Operator → List ℕ → List ℕ
-operator_conjuncts (Some conjunction) ks = ks
-operator_conjuncts (Some plus) ks = alone ks
-operator_conjuncts (Some times) ks = alone ks
-operator_conjuncts op ks = []
+abbrev pub operator_conjuncts : {X : Type 0} → Option Operator → List X → List X
+operator_conjuncts (Some conjunction) xs = xs
+operator_conjuncts (Some plus) xs = alone xs
+operator_conjuncts (Some times) xs = alone xs
+operator_conjuncts op xs = []
 
 -- the places of a node's conjuncts
 abbrev pub conjuncts_of : Node → List ℕ
@@ -48,6 +48,10 @@ tree_ends axes t = []
 
 abbrev pub all_tree_ends : Axes → Tree → List EndBound
 all_tree_ends axes t = ends_in (tree_in axes t)
+
+-- a name gives no end by itself
+abbrev pub SayNothing : Axes → Type 0
+SayNothing axes = (name : List ℕ) → ends_in (or_no_end (found name axes)) ≡ []
 
 -- the ends of trees with a mark
 abbrev pub marked_ends : Axes → List Bool → List Tree → List EndBound

@@ -28,8 +28,9 @@ pub(crate) fn constants<'a>(
     ensures { IfOk result (λ cs.
         map constant_of cs.items ≡ constants_of (commands_in script.now)) }
 {
+    let commands = script.commands.as_slice();
     let mut constants = Vec::new(alloc);
-    for command in script.commands.as_slice() {
+    for command in commands {
         if let Command::Declare(place, name, sort) = command {
             constants.push(Constant {
                 place: *place,

@@ -5,9 +5,9 @@
 //! them; `root_bound` and `quotient_range` say in what a root and a quotient lie. No constant is made of one here.
 #![tactic(auto)]
 
+mod arena;
 mod constants;
 mod ends;
-mod enclosures;
 mod literal;
 mod operators;
 mod quotients;
@@ -16,6 +16,6 @@ mod roots;
 mod shapes;
 mod sweep;
 
-pub use enclosures::enclosures;
+pub use arena::enclosures;
 pub use quotients::{misses_nought, quotient_range};
 pub use roots::root_bound;

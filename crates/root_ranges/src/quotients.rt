@@ -14,7 +14,7 @@ pub fn misses_nought(range: Ival) -> bool
     match range {
         Ival::Empty => false,
         Ival::Between(ends) => {
-            sign_of(ends.high) == Sign::Below || sign_of(ends.low) == Sign::Above
+            matches!(sign_of(ends.high), Sign::Below) || matches!(sign_of(ends.low), Sign::Above)
         }
     }
 }

@@ -1,8 +1,7 @@
 // The ranges of declared constants.
-ghost use Rattle.std.specs.Prelude.{◌≡◌, [], List, IsTrue, length, map, pos, IfOk};
+ghost use Rattle.std.specs.Prelude.{◌≡◌, [], List, IsTrue, length, map, IfOk};
 ghost use Rattle.dyadic.specs.End.{greater_ext, lesser_ext};
-ghost use Rattle.dyadic.specs.Fraction as fraction;
-ghost use Rattle.dyadic.specs.Views.{ext_of, fraction_of_frac};
+ghost use Rattle.dyadic.specs.Views.{ext_of};
 ghost use Rattle.ival.specs.Proper.{is_high, is_low};
 ghost use Rattle.ival.specs.Views.{interval_of};
 ghost use Rattle.root_trees.specs.Asserted.{AreAsserted};
@@ -19,9 +18,10 @@ ghost use Rattle.root_ranges.specs.Ends.{ends_of_all, is_outward, side_of};
 
 use crate::constants::{Constant, axes, constants};
 use crate::ends::{EndBound, Side};
+use crate::roots::whole;
 use crate::shapes::shapes;
 use crate::sweep::{conjuncts, marked_ends};
-use dyadic::{Ext, Frac, at_most, down_frac, up_frac};
+use dyadic::{Ext, at_most, down_frac, up_frac};
 use ival::Ival;
 use root_trees::AssertedTrees;
 use smt_script::{Script, Sort};
@@ -99,23 +99,13 @@ fn tightest(alloc: Global, ends: &[EndBound], axes: usize) -> Result<Vec<Bounds>
     Ok(bounds)
 }
 
-// A whole number as a fraction.
-fn whole(number: u32) -> Frac
-    ensures { fraction_of_frac result ≡ fraction.whole (pos number) }
-{
-    Frac {
-        n: i128::from(number),
-        d: 1,
-    }
-}
-
 // The lower end of a constant without one.
 fn low_end(bound: Option<u32>) -> Ext
     ensures end { ext_of result ≡ model.low_end (default_low bound) }
     ensures low { IsTrue (is_low (ext_of result)) }
 {
     match bound {
-        Some(number) => down_frac(whole(number).neg()),
+        Some(number) => down_frac(whole(u64::from(number)).neg()),
         None => Ext::NegInf,
     }
 }
@@ -126,7 +116,7 @@ fn high_end(bound: Option<u32>) -> Ext
     ensures high { IsTrue (is_high (ext_of result)) }
 {
     match bound {
-        Some(number) => up_frac(whole(number)),
+        Some(number) => up_frac(whole(u64::from(number))),
         None => Ext::PosInf,
     }
 }
@@ -157,8 +147,11 @@ fn ranges<'a>(
         (ranges_from (model.range_of bound es) 0 [] (map constant_of constants.now))) }
 {
     let mut ranges = HashMap::new(alloc);
-    for (constant, bounds) in constants.iter().zip(bounds) {
-        ranges.insert(constant.name.as_slice(), range(bound, *bounds, constant.sort))?;
+    for (axis, constant) in constants.iter().enumerate() {
+        ranges.insert(
+            constant.name.as_slice(),
+            range(bound, bounds[axis], constant.sort),
+        )?;
     }
     Ok(ranges)
 }

@@ -1,10 +1,11 @@
 // The ranges of roots.
-ghost use Rattle.std.specs.Prelude.{◌≡◌, ◌≤◌, ◌<◌, ◌^◌, pos, IsTrue};
-ghost use Rattle.dyadic.specs.Rounding.{above_all, ceiling, not_negative, finite};
+ghost use Rattle.std.specs.Prelude.{◌≡◌, ◌≤◌, ◌≤ℤ◌, ◌^◌, pos};
+ghost use Rattle.dyadic.specs.Rounding.{ceiling, not_negative};
 ghost use Rattle.dyadic.specs.Size.{units};
-ghost use Rattle.dyadic.specs.Views.{ext_of, units_of};
+ghost use Rattle.dyadic.specs.Fraction.{whole};
+ghost use Rattle.dyadic.specs.Views.{ext_of, fraction_of_frac, units_of};
 ghost use Rattle.ival.specs.Views.{interval_of};
-ghost use Rattle.script_roots.specs.Ranges.{root_above, root_bound, root_range, whole_above, whole_ext};
+ghost use Rattle.script_roots.specs.Ranges.{root_above, root_bound, root_range, whole_ext};
 
 use dyadic::{Dy, Ext, Frac, Size, down_frac, sqrt_up};
 use ival::{Ends, Ival};
@@ -31,14 +32,26 @@ fn whole_of(size: Size) -> u64
     }
 }
 
+// The number, or 0 where it is below 0.
+fn clamped(number: Dy) -> Dy
+    ensures plus { pos 0 ≤ℤ units_of result }
+    ensures size { not_negative (units_of result) ≡ not_negative (units_of number) }
+{
+    if number.is_negative() {
+        Dy::ZERO
+    } else {
+        number
+    }
+}
+
 // The root of an upper end, rounded up.
 fn root_above(end: Ext) -> Ext
     ensures { ext_of result ≡ root_above (ext_of end) }
 {
     match end {
-        Ext::Fin(number) if number.is_negative() => Ext::Fin(Dy::ZERO),
-        Ext::Fin(number) => sqrt_up(Ext::Fin(number)),
-        end => end,
+        Ext::NegInf => Ext::NegInf,
+        Ext::Fin(number) => sqrt_up(Ext::Fin(clamped(number))),
+        Ext::PosInf => Ext::PosInf,
     }
 }
 
@@ -57,15 +70,22 @@ pub fn root_bound(range: Ival) -> Option<u64>
     }
 }
 
+/// The whole number as a fraction.
+pub(crate) fn whole(number: u64) -> Frac
+    ensures { fraction_of_frac result ≡ whole (pos number) }
+{
+    Frac {
+        n: i128::from(number),
+        d: 1,
+    }
+}
+
 // A whole number as an end.
 fn whole_end(number: u64) -> Ext
     requires { number ≤ 2 ^ 62 }
     ensures { ext_of result ≡ whole_ext number }
 {
-    down_frac(Frac {
-        n: i128::from(number),
-        d: 1,
-    })
+    down_frac(whole(number))
 }
 
 /// In what a root of a value in the interval lies: from 0 to its bound.

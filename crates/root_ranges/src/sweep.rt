@@ -6,7 +6,7 @@ ghost use Rattle.script_roots.specs.Fresh.{Asserted};
 ghost use Rattle.script_roots.specs.TreeBounds.{Axes};
 ghost use Rattle.root_ranges.specs.Ends.{ends_of_all};
 ghost use Rattle.root_ranges.specs.Shapes.{AreShapes};
-ghost use Rattle.root_ranges.specs.Sweep.{AreConjuncts, ArePlaces, assertion_places, conjuncts_of, marked_all, marked_ends};
+ghost use Rattle.root_ranges.specs.Sweep.{AreConjuncts, ArePlaces, SayNothing, assertion_places, conjuncts_of, marked_all, marked_ends};
 
 use crate::ends::{EndBound, push_node};
 use crate::shapes::Shape;
@@ -15,9 +15,9 @@ use sort_check::{Operator, operator_named};
 use std::alloc::{AllocError, Global};
 
 // Marks each of these places.
-fn mark_all(marks: &mut [bool], places: &[usize])
-    requires { AreBelow (length marks.old) places.now }
-    ensures { marks.new ≡ marked_all marks.old places.now }
+fn mark_all(marks: &mut Vec<bool>, places: &[usize])
+    requires { AreBelow (length marks.old.items) places.now }
+    ensures { marks.new.items ≡ marked_all marks.old.items places.now }
 {
     for place in places {
         marks[*place] = true;
@@ -39,14 +39,15 @@ fn conjuncts_of<'n>(node: &'n Node<'_>) -> &'n [usize]
 }
 
 // A mark for each tree, set at assertions.
-fn assertions(alloc: Global, asserted: &AssertedTrees<'_>) -> Result<Vec<bool>, AllocError>
+fn assertion_marks(alloc: Global, asserted: &AssertedTrees<'_>) -> Result<Vec<bool>, AllocError>
     requires { ArePlaces (length asserted.now.trees) asserted.now.assertions.items }
     ensures { IfOk result (λ marks. marks.items ≡ marked_all
         (replicate (length asserted.now.trees) false)
         (assertion_places asserted.now.assertions.items)) }
 {
+    let assertions = asserted.assertions.as_slice();
     let mut marks = vec![in alloc; false; asserted.trees.len()]?;
-    for assertion in asserted.assertions.as_slice() {
+    for assertion in assertions {
         if !assertion.is_goal {
             marks[assertion.tree] = true;
         }
@@ -62,12 +63,12 @@ pub(crate) fn conjuncts(
 ) -> Result<Vec<bool>, AllocError>
     requires { (claims : List Asserted) ×
         AreAsserted (trees_in asserted.now.trees) asserted.now.assertions.items claims }
-    ensures { (A : Axes) (claims : List Asserted) →
+    ensures { (A : Axes) (claims : List Asserted) → SayNothing A →
         AreAsserted (trees_in asserted.now.trees) asserted.now.assertions.items claims →
         IfOk result (λ marks. AreConjuncts A (trees_in asserted.now.trees) claims marks.items) }
 {
     let trees = &asserted.trees;
-    let mut marks = assertions(alloc, asserted)?;
+    let mut marks = assertion_marks(alloc, asserted)?;
     for k in (0..trees.len()).rev() {
         if marks[k] {
             mark_all(&mut marks, conjuncts_of(trees.look(k)));

@@ -10,10 +10,10 @@ ghost use Rattle.script_roots.specs.TreeBounds.{declared_ranges};
 ghost use Rattle.smt_script.specs.Views.{commands_in};
 ghost use Rattle.root_ranges.specs.Enclosures.{AreEnclosures, KnowsRanges, interval_at, node_range};
 
-use crate::ranges::declared_ranges;
 use crate::literal::literal_range;
 use crate::operators::operator_range;
 use crate::quotients::quotient_range;
+use crate::ranges::declared_ranges;
 use crate::roots::root_range;
 use ival::Ival;
 use root_trees::{AssertedTrees, Atom, Node, Trees};

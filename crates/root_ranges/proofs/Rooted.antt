@@ -1,0 +1,82 @@
+-- Roots of ends, and the least whole numbers that are not below them.
+use Rattle.std.proofs.Common.{◌≡◌, ℕ, zero, suc, ◌+◌, ◌-◌, ◌*◌, ◌/◌, ◌^◌, ◌≤◌, ◌<◌, Bool, true, false, ℤ, pos, negsuc, neg_ℤ, Some, refl, ap, sym, ◌∙◌, subst, arith}
+use Rattle.std.proofs.Math.Nat.{div-eq_of_lt-le, div-mul-le_self, lt-div-mul-add, mul-le-mul_right}
+use Rattle.std.proofs.lemmas.Nat.{pow-add, pow_pos}
+use Rattle.dyadic.specs.Rounding.{Dyadic, Ext as KeptEnd, IsExtOnGrid, below_all, finite, above_all, ceiling, root_up}
+use Rattle.dyadic.specs.Signed.{signed_of}
+use Rattle.dyadic.specs.Size.{units}
+use Rattle.dyadic.specs.Views.{dyadic_of, parts_units, units_of}
+use Rattle.dyadic.specs.declared.dy.Dy.{Dy}
+use Rattle.dyadic.specs.declared.parts.Parts.{Parts}
+use Rattle.script_roots.specs.Ranges.{root_above, whole_above}
+use Rattle.script_roots.proofs.Operations.{rounded_root}
+
+-- ---- quotients rounded up
+
+ceiling-is : (n w : ℕ) → n ≤ w * 2 ^ 120 → w * 2 ^ 120 < n + 2 ^ 120 → ceiling n (2 ^ 120) ≡ w
+ceiling-is n w h k = omega (arith, h, k)
+
+-- of a number of whole units
+pub ceiling_high : (odd shift : ℕ) → 120 ≤ shift → odd * 2 ^ shift ≤ 2 ^ 181 → (odd * 2 ^ (shift - 120) ≤ 2 ^ 61) × (ceiling (odd * 2 ^ shift) (2 ^ 120) ≡ odd * 2 ^ (shift - 120))
+ceiling_high odd shift h few =
+    let k : ℕ = shift - 120 in
+    let e : shift ≡ k + 120 = omega (arith, h) in
+    let m : ℕ = odd * 2 ^ k in
+    let is : odd * 2 ^ shift ≡ m * 2 ^ 120 = ap (λ (n : ℕ). odd * 2 ^ n) e ∙ ap (λ (n : ℕ). odd * n) (pow-add 2 k 120) ∙ omega arith in
+    (omega (arith, few, is), ceiling-is (odd * 2 ^ shift) m (omega (arith, is)) (omega (arith, is)))
+
+-- of one of 2^-120 units, by the quotient of its odd part
+module _ (odd shift : ℕ) (short : shift < 120) where
+  abbrev below : ℕ
+  below = 2 ^ (120 - shift)
+
+  parts-of : below * 2 ^ shift ≡ 2 ^ 120
+  parts-of = sym (pow-add 2 (120 - shift) shift) ∙ ap (λ (n : ℕ). 2 ^ n) (omega (arith, short))
+
+  scaled : (m n : ℕ) → m ≤ n → m * 2 ^ shift ≤ n * 2 ^ shift
+  scaled m n h = mul-le-mul_right (2 ^ shift) h
+
+  whole-units : (w : ℕ) → (w * below) * 2 ^ shift ≡ w * 2 ^ 120
+  whole-units w = (omega arith) ∙ ap (λ (n : ℕ). w * n) parts-of
+
+  pub ceiling_exact : odd / below * below ≡ odd → ceiling (odd * 2 ^ shift) (2 ^ 120) ≡ odd / below
+  ceiling_exact e =
+      let is : odd * 2 ^ shift ≡ odd / below * 2 ^ 120 = ap (λ (n : ℕ). n * 2 ^ shift) (sym e) ∙ whole-units (odd / below) in
+      ceiling-is (odd * 2 ^ shift) (odd / below) (omega (arith, is)) (omega (arith, is))
+
+  pub ceiling_more : ¬ (odd / below * below ≡ odd) → ceiling (odd * 2 ^ shift) (2 ^ 120) ≡ odd / below + 1
+  ceiling_more other =
+      let w : ℕ = odd / below in
+      let more : w * below + 1 ≤ odd = omega (arith, other, div-mul-le_self odd below) in
+      let less : odd ≤ (w + 1) * below = omega (arith, lt-div-mul-add {odd} {below} (pow_pos (120 - shift))) in
+      let low : (w * below + 1) * 2 ^ shift ≤ odd * 2 ^ shift = scaled (w * below + 1) odd more in
+      let high : odd * 2 ^ shift ≤ (w + 1) * 2 ^ 120 = subst (λ (n : ℕ). odd * 2 ^ shift ≤ n) (whole-units (w + 1)) (scaled odd ((w + 1) * below) less) in
+      ceiling-is (odd * 2 ^ shift) (w + 1) high (omega (arith, low, whole-units w, pow_pos shift))
+
+-- ---- the root of an end
+
+size-is : (negative : Bool) (m n : ℕ) → signed_of negative m ≡ pos n → m ≡ n
+size-is false m n e = cc
+size-is true zero n e = cc
+size-is true (suc m) n e = cc
+
+pub record IsWholeAbove (e : KeptEnd) (size : ℕ) : Type 0 where
+  pub few : size ≤ 2 ^ 181
+  pub whole : whole_above (root_above e) ≡ Some (ceiling size (2 ^ 120))
+
+-- the size of a root, in the parts of the number that it is
+pub root_size : (e : KeptEnd) → IsExtOnGrid e → (root : Dy) (parts : Parts) → finite (dyadic_of root) ≡ root_above e → parts_units parts ≡ units_of root → IsWholeAbove e (units parts.size)
+root_size below_all g root parts h k = cc
+root_size above_all g root parts h k = cc
+root_size (finite d) g root parts h k =
+    let up = rounded_root d g in
+    let unit : units_of root ≡ pos up.units = ap (λ (e : KeptEnd). units-in e) (h ∙ up.is) in
+    let same : units parts.size ≡ up.units = size-is parts.negative (units parts.size) up.units (k ∙ unit) in
+    record {
+      few = subst (λ (n : ℕ). n ≤ 2 ^ 181) (sym same) up.few;
+      whole = ap whole_above up.is ∙ ap (λ (n : ℕ). Some (ceiling n (2 ^ 120))) (sym same);
+    }
+  where
+    units-in : KeptEnd → ℤ
+    units-in (finite r) = r.units
+    units-in _ = pos 0
