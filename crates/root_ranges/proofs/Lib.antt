@@ -1,4 +1,5 @@
 pub mod Among
+pub mod Answered
 pub mod Comparing
 pub mod Counted
 pub mod Declared
@@ -8,6 +9,7 @@ pub mod Lists
 pub mod Marks
 pub mod Names
 pub mod Powers
+pub mod Ranged
 pub mod Rooted
 pub mod Roundings
 pub mod Shaped

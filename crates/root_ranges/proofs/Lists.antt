@@ -1,5 +1,5 @@
 -- Lists by places.
-use Rattle.std.proofs.Common.{◌≡◌, ℕ, zero, suc, ◌+◌, ◌<◌, List, [], ◌∷◌, ◌++◌, map, take, drop, length, get_or, Some, refl, ap, sym, ◌∙◌, arith, add-one}
+use Rattle.std.proofs.Common.{◌≡◌, ℕ, zero, suc, ◌+◌, ◌<◌, List, [], ◌∷◌, ◌++◌, map, take, drop, length, get_or, Some, refl, ap, sym, ◌∙◌, arith}
 use Rattle.std.specs.Prelude.{slice_get}
 use Rattle.std.proofs.lemmas.List.{get_or-take, length-map, length-take-le, map-append, take_more}
 use Rattle.std.proofs.lemmas.Option.{slice_get_within, slice_get-get_or}
@@ -20,17 +20,11 @@ module _ {A B : Type 0} (f : A → B) where
       ap (λ ys. ys ++ (y ∷ [])) e ∙ ap (λ z. take k (map f xs) ++ (z ∷ [])) (g ∙ ap f (sym same) ∙ sym (map_at xs k x)) ∙
       sym (take_more (map f xs) k (f x) (omega (arith, within, length-map xs f)))
 
+  take-whole : (ys : List B) (k : ℕ) → length ys < k + 1 → take k ys ≡ ys
+  take-whole [] zero l = refl
+  take-whole [] (suc k) l = refl
+  take-whole (y ∷ ys) zero l = absurd (omega (arith, l))
+  take-whole (y ∷ ys) (suc k) l = ap (λ zs. y ∷ zs) (take-whole ys k (omega (arith, l)))
+
   pub all_done : (xs : List A) (done : List B) (k n : ℕ) → done ≡ take k (map f xs) → n ≡ length xs → ¬ (k < n) → done ≡ map f xs
   all_done xs done k n e g h = e ∙ take-whole (map f xs) k (omega (arith, g, h, length-map xs f))
-    where
-      take-whole : (ys : List B) (k : ℕ) → length ys < k + 1 → take k ys ≡ ys
-      take-whole [] k l = take-none k
-        where
-          abbrev none : List B
-          none = []
-
-          take-none : (k : ℕ) → take k none ≡ none
-          take-none zero = refl
-          take-none (suc k) = refl
-      take-whole (y ∷ ys) zero l = cc (omega (arith, l))
-      take-whole (y ∷ ys) (suc k) l = ap (λ zs. y ∷ zs) (take-whole ys k (omega (arith, l)))

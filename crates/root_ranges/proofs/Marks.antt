@@ -1,5 +1,5 @@
 -- Marks of trees, and what holds while trees are visited from the last one down.
-use Rattle.std.proofs.Common.{◌≡◌, ◌⊎◌, inl, inr, ℕ, suc, zero, ◌+◌, ◌<◌, List, [], ◌∷◌, ◌++◌, map, length, Bool, true, false, cond, refl, ap, sym, ◌∙◌, subst, arith, absurd, slice_index_or, slice_set, replicate, take, true≢false, append-nil, append_assoc}
+use Rattle.std.proofs.Common.{◌≡◌, ◌⊎◌, inl, inr, ℕ, suc, zero, ◌+◌, ◌<◌, List, [], ◌∷◌, ◌++◌, map, length, Bool, true, false, cond, refl, ap, sym, ◌∙◌, subst, arith, slice_index_or, slice_set, replicate, take, true≢false, append-nil, append_assoc}
 use Rattle.std.specs.List.{AllByRecursion}
 use Rattle.std.specs.Prelude.{Option, Some, None}
 use Rattle.std.proofs.lemmas.Option.{slice_get_within}
@@ -277,6 +277,13 @@ conjuncts-below n (nodes.Root at k) h = tt
 conjuncts-below n (nodes.Quotient at k d) h = tt
 conjuncts-below n (nodes.Formless at) h = tt
 
+pub node_below : (n m : ℕ) (node : Node) → n < m + 1 → IsBelow n node → IsBelow m node
+node_below n m (nodes.Atomic at a) l h = tt
+node_below n m (nodes.Applied at name ks) l h = below-more n m ks.items l h
+node_below n m (nodes.Root at k) l h = omega (arith, l, h)
+node_below n m (nodes.Quotient at k d) l h = (let b = h.0 in omega (arith, l, b), let b = h.1 in omega (arith, l, b))
+node_below n m (nodes.Formless at) l h = tt
+
 pub conjuncts_below : (n m : ℕ) (node : Node) → n < m + 1 → IsBelow n node → AreBelow m (conjuncts_of node)
 conjuncts_below n m node l h = below-more n m (conjuncts_of node) l (conjuncts-below n node h)
 
@@ -296,7 +303,7 @@ sweep_visits ts roots n k marks new node e h shows within y is = λ A says.
     let own = own_at A ts in
     let wanted = all_ends (map all roots) in
     let splits : all k ≡ own k ++ all_ends (map all (conjuncts_of node)) =
-        ap (all_tree_ends A) here ∙ node_ends A ts says node ∙ ap (λ t. tree_ends A t ++ all_ends (map all (conjuncts_of node))) (sym here) in
+    ap (all_tree_ends A) here ∙ node_ends A ts says node ∙ ap (λ t. tree_ends A t ++ all_ends (map all (conjuncts_of node))) (sym here) in
     subst (λ ms. Swept all own wanted k ms) (sym is)
     (visited all own wanted k marks (subst (λ i. Swept all own wanted i marks) e (h A says)) (conjuncts_of node) splits (conjuncts-below k node shows.1) within y)
 

@@ -1,11 +1,16 @@
 -- Roots of ends, and the least whole numbers that are not below them.
-use Rattle.std.proofs.Common.{◌≡◌, ℕ, zero, suc, ◌+◌, ◌-◌, ◌*◌, ◌/◌, ◌^◌, ◌≤◌, ◌<◌, Bool, true, false, ℤ, pos, negsuc, neg_ℤ, Some, refl, ap, sym, ◌∙◌, subst, arith}
-use Rattle.std.proofs.Math.Nat.{div-eq_of_lt-le, div-mul-le_self, lt-div-mul-add, mul-le-mul_right}
+use Rattle.std.proofs.Common.{◌≡◌, ℕ, zero, suc, ◌+◌, ◌-◌, ◌*◌, ◌/◌, ◌^◌, ◌≤◌, ◌<◌, Bool, true, false, ℤ, pos, negsuc, neg_ℤ, Some, refl, ap, sym, ◌∙◌, subst, arith, inl, inr}
+use Rattle.std.proofs.Math.Nat.{div-eq_of_lt-le, div-mul-le_self, lt-div-mul-add, mul-le-mul_right, pow-le-pow_right}
+use Rattle.std.proofs.lemmas.Bool.{cases_lt}
+use Rattle.dyadic.specs.Grid.{IsSpelling}
 use Rattle.std.proofs.lemmas.Nat.{pow-add, pow_pos}
 use Rattle.dyadic.specs.Rounding.{Dyadic, Ext as KeptEnd, IsExtOnGrid, below_all, finite, above_all, ceiling, root_up}
 use Rattle.dyadic.specs.Signed.{signed_of}
 use Rattle.dyadic.specs.Size.{units}
-use Rattle.dyadic.specs.Views.{dyadic_of, parts_units, units_of}
+use Rattle.dyadic.specs.declared.dy.Ext.{Ext}
+use Rattle.dyadic.specs.declared.dy.Ext.TheVariants.{NegInf, Fin, PosInf}
+use Rattle.ival.proofs.Facts.{number_on_grid}
+use Rattle.dyadic.specs.Views.{ext_of, dyadic_of, parts_units, units_of}
 use Rattle.dyadic.specs.declared.dy.Dy.{Dy}
 use Rattle.dyadic.specs.declared.parts.Parts.{Parts}
 use Rattle.script_roots.specs.Ranges.{root_above, whole_above}
@@ -24,6 +29,14 @@ ceiling_high odd shift h few =
     let m : ℕ = odd * 2 ^ k in
     let is : odd * 2 ^ shift ≡ m * 2 ^ 120 = ap (λ (n : ℕ). odd * 2 ^ n) e ∙ ap (λ (n : ℕ). odd * n) (pow-add 2 k 120) ∙ omega arith in
     (omega (arith, few, is), ceiling-is (odd * 2 ^ shift) m (omega (arith, is)) (omega (arith, is)))
+
+pub shift_few : (odd shift : ℕ) → IsSpelling odd shift → 120 ≤ shift → odd * 2 ^ shift ≤ 2 ^ 181 → shift - 120 < 64
+shift_few zero shift s h few = absurd (omega (arith, h, s.zero refl))
+shift_few (suc n) shift s h few = elim (cases_lt 181 shift) [
+  | inl l ↦ let wide : 2 ^ 182 ≤ 2 ^ shift = pow-le-pow_right {n = 2} (omega arith) {i = 182} {j = shift} (omega (arith, l)) in
+      let more : 1 * 2 ^ shift ≤ suc n * 2 ^ shift = mul-le-mul_right {m = 1} {n = suc n} (2 ^ shift) (omega arith) in absurd (omega (arith, wide, more, few))
+  | inr l ↦ omega (arith, l)
+]
 
 -- of one of 2^-120 units, by the quotient of its odd part
 module _ (odd shift : ℕ) (short : shift < 120) where
@@ -48,7 +61,7 @@ module _ (odd shift : ℕ) (short : shift < 120) where
   ceiling_more other =
       let w : ℕ = odd / below in
       let more : w * below + 1 ≤ odd = omega (arith, other, div-mul-le_self odd below) in
-      let less : odd ≤ (w + 1) * below = omega (arith, lt-div-mul-add {odd} {below} (pow_pos (120 - shift))) in
+      let less : odd ≤ (w + 1) * below = omega (arith, lt-div-mul-add {a = odd} {b = below} (pow_pos (120 - shift))) in
       let low : (w * below + 1) * 2 ^ shift ≤ odd * 2 ^ shift = scaled (w * below + 1) odd more in
       let high : odd * 2 ^ shift ≤ (w + 1) * 2 ^ 120 = subst (λ (n : ℕ). odd * 2 ^ shift ≤ n) (whole-units (w + 1)) (scaled odd ((w + 1) * below) less) in
       ceiling-is (odd * 2 ^ shift) (w + 1) high (omega (arith, low, whole-units w, pow_pos shift))
@@ -80,3 +93,8 @@ root_size (finite d) g root parts h k =
     units-in : KeptEnd → ℤ
     units-in (finite r) = r.units
     units-in _ = pos 0
+
+pub end_on_grid : (e : Ext) → IsExtOnGrid (ext_of e)
+end_on_grid NegInf = tt
+end_on_grid (Fin d) = number_on_grid d
+end_on_grid PosInf = tt

@@ -1,5 +1,5 @@
 -- Fractions that are the same number are rounded to the same ends.
-use Rattle.std.proofs.Common.{◌≡◌, ℕ, ◌*◌, ◌^◌, ◌≤◌, ◌<◌, List, length, Bool, true, false, IsTrue, ℤ, pos, negsuc, ◌*ℤ◌, ◌≤ℤ◌, refl, ap, ap₂, sym, ◌∙◌, cond, absurd, arith, true≢false}
+use Rattle.std.proofs.Common.{◌≡◌, ℕ, ◌*◌, ◌^◌, ◌≤◌, ◌<◌, List, length, Bool, true, false, IsTrue, ℤ, pos, negsuc, ◌*ℤ◌, ◌≤ℤ◌, refl, ap, ap₂, sym, ◌∙◌, cond, arith, true≢false}
 use native.Mathlib.Nat.{one-le-pow}
 use Rattle.dyadic.specs.Fraction.{Fraction, IsFraction, at_most, whole}
 use Rattle.dyadic.specs.Lowest.{reduced}

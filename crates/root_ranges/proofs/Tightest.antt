@@ -1,5 +1,5 @@
 -- The tightest of ends, whatever their order.
-use Rattle.std.proofs.Common.{◌≡◌, ◌⊎◌, inl, inr, ℕ, zero, suc, ◌+◌, ◌<◌, List, [], ◌∷◌, ◌++◌, map, length, Bool, true, false, cond, ◌&&◌, IsTrue, Option, Some, None, nat_eq, refl, ap, ap₂, sym, ◌∙◌, subst, absurd, arith, true≢false, append-nil, append_assoc, replicate, slice_set, eq-eqb, eqb-eq}
+use Rattle.std.proofs.Common.{◌≡◌, ◌⊎◌, inl, inr, ℕ, zero, suc, ◌+◌, ◌<◌, List, [], ◌∷◌, ◌++◌, map, length, Bool, true, false, cond, ◌&&◌, IsTrue, Option, Some, None, nat_eq, refl, ap, ap₂, sym, ◌∙◌, subst, arith, true≢false, append-nil, append_assoc, replicate, slice_set, eq-eqb, eqb-eq}
 use Rattle.std.specs.Prelude.{slice_get}
 use Rattle.std.proofs.lemmas.Option.{slice_get_within}
 use Rattle.dyadic.specs.Fraction.{at_most}
@@ -12,9 +12,10 @@ use Rattle.script_model.specs.Meaning.{first_and_rest, from_left}
 use Rattle.script_roots.specs.TreeBounds.{EndBound, between_or_nothing, ends_on, high_end, low_end, range_of}
 use Rattle.dyadic.specs.Views.{ext_of}
 use Rattle.root_ranges.specs.Bounds.{AreTightest, bounds_of, end_or, of_all, range_with, tightened_on, tightest_by, with_end}
-use Rattle.root_ranges.specs.Ends.{end_bound_of, side_of}
-use Rattle.root_ranges.specs.declared.ends.EndBound as code
-use Rattle.root_ranges.specs.declared.ranges.Bounds.{Bounds}
+use Rattle.root_ranges.specs.Ends.{end_bound_of}
+use Rattle.root_ranges.specs.Sides.{side_of}
+use Rattle.root_ranges.specs.declared.end_bound.EndBound as code
+use Rattle.root_ranges.specs.declared.bounds.Bounds.{Bounds}
 use Rattle.root_ranges.specs.Sweep.{IsAmong, SameElements}
 use Rattle.root_ranges.proofs.Among.{among_either, among_left, among_right}
 use Rattle.root_ranges.proofs.Roundings.{ext_same}

@@ -1,6 +1,5 @@
 -- The tightest ends of constants, and their ranges.
-use Rattle.std.specs.Prelude.{◌≡◌, ℕ, List, [], ◌∷◌, Bool, true, cond, length, Option, Some, None, slice_get, Vec}
-use Rattle.std.specs.Global.{Global}
+use Rattle.std.specs.Prelude.{◌≡◌, ℕ, List, [], ◌∷◌, length, Option, Some, None, slice_get}
 use Rattle.dyadic.specs.End.{greater_ext, lesser_ext}
 use Rattle.dyadic.specs.Point.{Sort, bool_sort, real_sort}
 use Rattle.dyadic.specs.Rounding.{Ext as KeptEnd}
@@ -10,16 +9,11 @@ use Rattle.interval_model.specs.Interval.{Interval, everything}
 use Rattle.script_model.specs.Declared.{Side, default_high, default_low, lower, upper}
 use Rattle.script_model.specs.Meaning.{from_left}
 use Rattle.script_roots.specs.TreeBounds.{EndBound, between_or_nothing, ends_on, high_end, low_end}
-use Rattle.root_ranges.specs.Ends.{is_outward}
-use Rattle.root_ranges.specs.declared.ranges.Bounds.{Bounds}
+use Rattle.root_ranges.specs.declared.bounds.Bounds.{Bounds}
 
 abbrev pub end_of : Option Ext → Option KeptEnd
 end_of None = None
 end_of (Some e) = Some (ext_of e)
-
-abbrev pub is_outward_or_none : Side → Option Ext → Bool
-is_outward_or_none s None = true
-is_outward_or_none s (Some e) = is_outward s (ext_of e)
 
 -- ---- ends
 

@@ -1,30 +1,15 @@
--- The ends that comparisons give to constants, and the tightest of them.
-use Rattle.std.specs.Prelude.{◌≡◌, ℕ, List, [], ◌∷◌, map, Bool, Option, Some, None, slice_get}
-use Rattle.dyadic.specs.End.{greater_ext, lesser_ext}
-use Rattle.dyadic.specs.Rounding.{Ext}
+-- The ends that comparisons give to constants.
+use Rattle.std.specs.Prelude.{ℕ, List, [], ◌∷◌, map, Option, Some, None}
 use Rattle.dyadic.specs.Views.{ext_of}
-use Rattle.ival.specs.Proper.{is_high, is_low}
-use Rattle.script_model.specs.Declared as model
-use Rattle.script_model.specs.Declared.{lower, upper}
-use Rattle.script_model.specs.Meaning.{from_left, neighbours}
+use Rattle.script_model.specs.Meaning.{neighbours}
 use Rattle.script_model.specs.Reading.{Operator, at_least_op, at_most_op, above_op, below_op, equality, found, operators}
 use Rattle.script_roots.specs.TreeBounds as bounds
 use Rattle.script_roots.specs.TreeBounds.{TreeBounding, all_ends, at_least_ends, at_most_ends, ends_on, equal_ends}
 use Rattle.root_trees.specs.declared.trees.Node.{Node}
 use Rattle.root_trees.specs.declared.trees.Node.TheVariants as nodes
 use Rattle.root_ranges.specs.Shapes.{bounding_at}
-use Rattle.root_ranges.specs.declared.ends.EndBound.{EndBound}
-use Rattle.root_ranges.specs.declared.ends.Side.{Side}
-use Rattle.root_ranges.specs.declared.ends.Side.TheVariants.{Lower, Upper}
-
-abbrev pub side_of : Side → model.Side
-side_of Lower = lower
-side_of Upper = upper
-
--- not the infinity of the other side
-abbrev pub is_outward : model.Side → Ext → Bool
-is_outward lower e = is_low e
-is_outward upper e = is_high e
+use Rattle.root_ranges.specs.Sides.{side_of}
+use Rattle.root_ranges.specs.declared.end_bound.EndBound.{EndBound}
 
 abbrev pub end_bound_of : EndBound → bounds.EndBound
 end_bound_of e = record { axis = e.axis; side = side_of e.side; end = ext_of e.end }

@@ -4,4 +4,5 @@ pub mod Enclosures
 pub mod Ends
 pub mod Operators
 pub mod Shapes
+pub mod Sides
 pub mod Sweep

@@ -4,7 +4,7 @@ ghost use Rattle.ival.specs.Views.{interval_of};
 ghost use Rattle.root_trees.specs.Asserted.{AreAsserted};
 ghost use Rattle.root_trees.specs.Nodes.{AreBelow, IsBelow, atom_of, trees_in};
 ghost use Rattle.script_model.specs.Reading.{found, operators};
-ghost use Rattle.script_roots.specs.Fresh.{asserted};
+ghost use Rattle.script_roots.specs.Fresh as fresh;
 ghost use Rattle.script_roots.specs.Ranges.{Ranges, leaf_range, operator_range, symbol_range};
 ghost use Rattle.script_roots.specs.TreeBounds.{declared_ranges};
 ghost use Rattle.smt_script.specs.Views.{commands_in};
@@ -128,7 +128,7 @@ pub fn enclosures<'a>(
     bound: Option<u32>,
 ) -> Result<Vec<Ival>, AllocError>
     requires { AreAsserted (trees_in asserted.now.trees) asserted.now.assertions.items
-        (asserted (commands_in script.now)) }
+        (fresh.asserted (commands_in script.now)) }
     ensures { IfOk result (λ is. AreEnclosures
         (declared_ranges bound (commands_in script.now)) (trees_in asserted.now.trees) is.items) }
 {

@@ -1,5 +1,5 @@
 // The ends that comparisons give to constants.
-ghost use Rattle.std.specs.Prelude.{◌≡◌, ◌++◌, ◌<◌, IsTrue, length, map, OnOk};
+ghost use Rattle.std.specs.Prelude.{◌≡◌, ◌++◌, IsTrue, Some, length, map, OnOk};
 ghost use Rattle.dyadic.specs.Views.{ext_of};
 ghost use Rattle.ival.specs.Views.{interval_of};
 ghost use Rattle.root_trees.specs.Nodes.{AreBelow, IsBelow};
@@ -7,31 +7,18 @@ ghost use Rattle.script_model.specs.Meaning.{neighbours};
 ghost use Rattle.script_roots.specs.TreeBounds as model;
 ghost use Rattle.script_roots.specs.TreeBounds.{all_ends, at_most_ends};
 ghost use Rattle.sort_check.specs.Views.{operator_of};
-ghost use Rattle.root_ranges.specs.Ends.{compared, ends_of, ends_of_all, is_outward, own_ends, side_of};
+ghost use Rattle.root_ranges.specs.Ends.{compared, ends_of, ends_of_all, own_ends};
+ghost use Rattle.root_ranges.specs.Sides.{is_outward, side_of};
 ghost use Rattle.root_ranges.specs.Shapes.{shape_at, shape_of};
 
+use crate::end_bound::EndBound;
 use crate::shapes::Shape;
+use crate::side::Side;
 use dyadic::Ext;
 use ival::Ival;
 use root_trees::Node;
 use sort_check::{Operator, operator_named};
 use std::alloc::AllocError;
-
-/// Whether an end is a lower or an upper one.
-#[derive(Clone, Copy, Debug)]
-pub(crate) enum Side {
-    Lower,
-    Upper,
-}
-
-/// An end of a constant, by its number. A lower one is not plus infinity, an upper one not minus infinity.
-#[derive(Clone, Copy, Debug)]
-pub(crate) struct EndBound {
-    pub(crate) axis: usize,
-    pub(crate) side: Side,
-    pub(crate) end: Ext,
-    pub(crate) ghost outward: { IsTrue (is_outward (side_of side) (ext_of end)) },
-}
 
 // The end of an interval on a side; none at all where it is empty.
 fn end_on(side: Side, range: Ival) -> Ext
@@ -48,7 +35,7 @@ fn end_on(side: Side, range: Ival) -> Ext
 
 // The end of a constant on this side, where its value there is that of the interval.
 fn one_end(side: Side, axis: usize, range: Ival) -> EndBound
-    ensures { ends_of (Option.Some result) ≡
+    ensures { ends_of (Some result) ≡
         model.one_end (side_of side) axis (interval_of range) }
 {
     EndBound {

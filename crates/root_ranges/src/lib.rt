@@ -6,7 +6,9 @@
 #![tactic(auto)]
 
 mod arena;
+mod bounds;
 mod constants;
+mod end_bound;
 mod ends;
 mod literal;
 mod operators;
@@ -14,6 +16,7 @@ mod quotients;
 mod ranges;
 mod roots;
 mod shapes;
+mod side;
 mod sweep;
 
 pub use arena::enclosures;

@@ -6,20 +6,23 @@ ghost use Rattle.ival.specs.Proper.{is_high, is_low};
 ghost use Rattle.ival.specs.Views.{interval_of};
 ghost use Rattle.root_trees.specs.Asserted.{AreAsserted};
 ghost use Rattle.root_trees.specs.Nodes.{trees_in};
-ghost use Rattle.script_model.specs.Declared.{default_high, default_low, lower, upper};
-ghost use Rattle.script_roots.specs.Fresh.{asserted};
+ghost use Rattle.script_model.specs.Declared.{default_high, default_low};
+ghost use Rattle.script_roots.specs.Fresh as fresh;
 ghost use Rattle.script_roots.specs.TreeBounds as model;
-ghost use Rattle.script_roots.specs.TreeBounds.{EndBound, ranges_from};
+ghost use Rattle.script_roots.specs.TreeBounds.{ranges_from};
 ghost use Rattle.smt_script.specs.Views.{commands_in, sort_of};
-ghost use Rattle.root_ranges.specs.Bounds.{AreTightest, bounds_of, end_of, is_outward_or_none, range_with, tightened_on, tightest_by, with_end};
+ghost use Rattle.root_ranges.specs.Bounds.{AreTightest, bounds_of, end_of, range_with, tightened_on, tightest_by, with_end};
 ghost use Rattle.root_ranges.specs.Constants.{constant_of};
 ghost use Rattle.root_ranges.specs.Enclosures.{KnowsRanges};
-ghost use Rattle.root_ranges.specs.Ends.{ends_of_all, is_outward, side_of};
+ghost use Rattle.root_ranges.specs.Ends.{ends_of_all};
+ghost use Rattle.root_ranges.specs.Sides.{side_of};
 
+use crate::bounds::Bounds;
 use crate::constants::{Constant, axes, constants};
-use crate::ends::{EndBound, Side};
+use crate::end_bound::EndBound;
 use crate::roots::whole;
 use crate::shapes::shapes;
+use crate::side::Side;
 use crate::sweep::{conjuncts, marked_ends};
 use dyadic::{Ext, at_most, down_frac, up_frac};
 use ival::Ival;
@@ -27,15 +30,6 @@ use root_trees::AssertedTrees;
 use smt_script::{Script, Sort};
 use std::alloc::{AllocError, Global};
 use std::collections::HashMap;
-
-/// The greatest lower and the least upper end of a constant, where it has them.
-#[derive(Clone, Copy, Debug)]
-struct Bounds {
-    low: Option<Ext>,
-    high: Option<Ext>,
-    ghost low_outward: { IsTrue (is_outward_or_none lower low) },
-    ghost high_outward: { IsTrue (is_outward_or_none upper high) },
-}
 
 // The greater of an end, where there is one, and another.
 fn greater(end: Option<Ext>, other: Ext) -> Ext
@@ -142,7 +136,7 @@ fn ranges<'a>(
     bounds: &[Bounds],
 ) -> Result<HashMap<&'a [u8], Ival>, AllocError>
     requires { length bounds.now ≡ length constants.now }
-    ensures { (es : List EndBound) → AreTightest es (length constants.now) bounds.now →
+    ensures { (es : List model.EndBound) → AreTightest es (length constants.now) bounds.now →
         IfOk result (λ m. KnowsRanges m
         (ranges_from (model.range_of bound es) 0 [] (map constant_of constants.now))) }
 {
@@ -164,7 +158,7 @@ pub(crate) fn declared_ranges<'a>(
     bound: Option<u32>,
 ) -> Result<HashMap<&'a [u8], Ival>, AllocError>
     requires { AreAsserted (trees_in asserted.now.trees) asserted.now.assertions.items
-        (asserted (commands_in script.now)) }
+        (fresh.asserted (commands_in script.now)) }
     ensures { IfOk result (λ m.
         KnowsRanges m (model.declared_ranges bound (commands_in script.now))) }
 {

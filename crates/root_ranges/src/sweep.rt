@@ -8,7 +8,8 @@ ghost use Rattle.root_ranges.specs.Ends.{ends_of_all};
 ghost use Rattle.root_ranges.specs.Shapes.{AreShapes};
 ghost use Rattle.root_ranges.specs.Sweep.{AreConjuncts, ArePlaces, SayNothing, assertion_places, conjuncts_of, marked_all, marked_ends};
 
-use crate::ends::{EndBound, push_node};
+use crate::end_bound::EndBound;
+use crate::ends::push_node;
 use crate::shapes::Shape;
 use root_trees::{AssertedTrees, Node, Trees};
 use sort_check::{Operator, operator_named};
@@ -84,7 +85,8 @@ pub(crate) fn marked_ends(
     shapes: &[Shape],
     marks: &[bool],
 ) -> Result<Vec<EndBound>, AllocError>
-    requires { length marks.now ≡ length trees.now }
+    requires marks { length marks.now ≡ length trees.now }
+    requires shapes { length shapes.now ≡ length trees.now }
     ensures { (A : Axes) → AreShapes A (trees_in trees.now) shapes.now → IfOk result (λ es.
         ends_of_all es.items ≡ marked_ends A marks.now (trees_in trees.now)) }
 {

@@ -1,9 +1,10 @@
-use Rattle.std.proofs.Common.{◌∙◌, ap, arith, length, sym, subst}
+use Rattle.std.proofs.Common.{◌∙◌, ap, arith, length, map, sym, subst}
 use Rattle.std.proofs.lemmas.List.{length-append}
 use Rattle.ival.specs.Views.{interval_of}
 use Rattle.root_trees.specs.Nodes.{IsBelow, trees_in}
 use Rattle.root_trees.proofs.Arena.{nodes_length}
 use Rattle.script_roots.specs.Ranges.{enclosed}
+use Rattle.root_ranges.specs.Enclosures.{node_range}
 use Rattle.root_ranges.proofs.Enclosed.{range_done}
 use Rattle.root_ranges.proofs.Lists.{all_done}
 use Rattle.root_ranges.proofs.arena.enclosed.Goals as goal
@@ -14,8 +15,8 @@ enclosure-requires c = subst (λ n. IsBelow n c.look.result.now) (sym (ap length
 pub loop-k-preserved : goal.loop-k-preserved
 loop-k-preserved c = let ts = trees_in c.args.trees.now in (
   ap length c.in_ok-push.ensures.items ∙ length-append c.loop-k.done.items _ ∙ omega (arith, c.loop-k.invariant.0),
-  λ R knows. ap (λ is. _) c.in_ok-push.ensures.items ∙ range_done R ts c.loop-k.done.items c.loop-k.k c.look.result.now c.in_ok-range.range c.look.ensures (c.loop-k.invariant.1 R knows)
-      (c.in_ok-range.ensures R knows ∙ ap (λ is. _) c.as_slice.ensures.value),
+  λ R knows. ap (map interval_of) c.in_ok-push.ensures.items ∙ range_done R ts c.loop-k.done.items c.loop-k.k c.look.result.now c.in_ok-range.range c.look.ensures (c.loop-k.invariant.1 R knows)
+      (c.in_ok-range.ensures R knows ∙ ap (λ is. node_range R (map interval_of is) c.look.result.now) c.as_slice.ensures.value),
 )
 
 pub returns : goal.returns
