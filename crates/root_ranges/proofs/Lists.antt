@@ -26,5 +26,5 @@ module _ {A B : Type 0} (f : A → B) where
   take-whole (y ∷ ys) zero l = absurd (omega (arith, l))
   take-whole (y ∷ ys) (suc k) l = ap (λ zs. y ∷ zs) (take-whole ys k (omega (arith, l)))
 
-  pub all_done : (xs : List A) (done : List B) (k n : ℕ) → done ≡ take k (map f xs) → n ≡ length xs → ¬ (k < n) → done ≡ map f xs
+  pub all_done : (xs : List A) (done : List B) (k n : ℕ) → done ≡ take k (map f xs) → n ≡ length xs → n < k + 1 → done ≡ map f xs
   all_done xs done k n e g h = e ∙ take-whole (map f xs) k (omega (arith, g, h, length-map xs f))

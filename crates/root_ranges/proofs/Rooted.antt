@@ -1,10 +1,10 @@
 -- Roots of ends, and the least whole numbers that are not below them.
-use Rattle.std.proofs.Common.{◌≡◌, ℕ, zero, suc, ◌+◌, ◌-◌, ◌*◌, ◌/◌, ◌^◌, ◌≤◌, ◌<◌, Bool, true, false, ℤ, pos, negsuc, neg_ℤ, Some, refl, ap, sym, ◌∙◌, subst, arith, inl, inr}
-use Rattle.std.proofs.Math.Nat.{div-eq_of_lt-le, div-mul-le_self, lt-div-mul-add, mul-le-mul_right, pow-le-pow_right}
+use Rattle.std.proofs.Common.{◌≡◌, ℕ, zero, suc, ◌+◌, ◌-◌, ◌*◌, ◌/◌, ◌%◌, ◌^◌, ◌≤◌, ◌<◌, Bool, true, false, ℤ, pos, negsuc, neg_ℤ, Option, Some, None, IsTrue, refl, ap, sym, ◌∙◌, subst, arith, inl, inr}
+use Rattle.std.proofs.Math.Nat.{div-mul-le_self, lt-div-mul-add, mul_assoc, mul-le-mul_right, pow-le-pow_right}
 use Rattle.std.proofs.lemmas.Bool.{cases_lt}
 use Rattle.dyadic.specs.Grid.{IsSpelling}
 use Rattle.std.proofs.lemmas.Nat.{pow-add, pow_pos}
-use Rattle.dyadic.specs.Rounding.{Dyadic, Ext as KeptEnd, IsExtOnGrid, below_all, finite, above_all, ceiling, root_up}
+use Rattle.dyadic.specs.Rounding.{Dyadic, Ext as KeptEnd, IsExtOnGrid, below_all, finite, above_all, ceiling, ext_at_most, root_up}
 use Rattle.dyadic.specs.Signed.{signed_of}
 use Rattle.dyadic.specs.Size.{units}
 use Rattle.dyadic.specs.declared.dy.Ext.{Ext}
@@ -13,8 +13,16 @@ use Rattle.ival.proofs.Facts.{number_on_grid}
 use Rattle.dyadic.specs.Views.{ext_of, dyadic_of, parts_units, units_of}
 use Rattle.dyadic.specs.declared.dy.Dy.{Dy}
 use Rattle.dyadic.specs.declared.parts.Parts.{Parts}
-use Rattle.script_roots.specs.Ranges.{root_above, whole_above}
-use Rattle.script_roots.proofs.Operations.{rounded_root}
+use Rattle.script_roots.specs.Ranges.{root_above, root_bound, whole_above, whole_ext}
+use Rattle.script_roots.proofs.Operations.{IsFew, root_bound_few, rounded_root}
+use Rattle.std.proofs.lemmas.Int.{ints}
+use Rattle.dyadic.proofs.Equal.{both_pass}
+use Rattle.dyadic.proofs.Rounds.{exact_from}
+use Rattle.interval_model.specs.Interval.{IsKept}
+use Rattle.ival.specs.Proper.{are_ends}
+use Rattle.ival.specs.Views.{interval_of}
+use Rattle.ival.specs.declared.ends.Ival.{Ival}
+use Rattle.ival.specs.declared.ends.Ival.TheVariants.{Empty, Between}
 
 -- ---- quotients rounded up
 
@@ -44,13 +52,13 @@ module _ (odd shift : ℕ) (short : shift < 120) where
   below = 2 ^ (120 - shift)
 
   parts-of : below * 2 ^ shift ≡ 2 ^ 120
-  parts-of = sym (pow-add 2 (120 - shift) shift) ∙ ap (λ (n : ℕ). 2 ^ n) (omega (arith, short))
+  parts-of = sym (pow-add 2 (120 - shift) shift) ∙ ap (λ (n : ℕ). 2 ^ n) (let e : (120 - shift) + shift ≡ 120 = omega (arith, short) in e)
 
   scaled : (m n : ℕ) → m ≤ n → m * 2 ^ shift ≤ n * 2 ^ shift
   scaled m n h = mul-le-mul_right (2 ^ shift) h
 
   whole-units : (w : ℕ) → (w * below) * 2 ^ shift ≡ w * 2 ^ 120
-  whole-units w = (omega arith) ∙ ap (λ (n : ℕ). w * n) parts-of
+  whole-units w = mul_assoc w below (2 ^ shift) ∙ ap (λ (n : ℕ). w * n) parts-of
 
   pub ceiling_exact : odd / below * below ≡ odd → ceiling (odd * 2 ^ shift) (2 ^ 120) ≡ odd / below
   ceiling_exact e =
@@ -65,6 +73,23 @@ module _ (odd shift : ℕ) (short : shift < 120) where
       let low : (w * below + 1) * 2 ^ shift ≤ odd * 2 ^ shift = scaled (w * below + 1) odd more in
       let high : odd * 2 ^ shift ≤ (w + 1) * 2 ^ 120 = subst (λ (n : ℕ). odd * 2 ^ shift ≤ n) (whole-units (w + 1)) (scaled odd ((w + 1) * below) less) in
       ceiling-is (odd * 2 ^ shift) (w + 1) high (omega (arith, low, whole-units w, pow_pos shift))
+
+-- the same of numbers of 128 bits
+unwrapped : (n b : ℕ) → n < 2 ^ 128 → (n / b * b) % 2 ^ 128 ≡ n / b * b
+unwrapped n b l = let k = div-mul-le_self n b in omega (arith, l, k)
+
+pub whole_exact : (odd shift n m : ℕ) → shift < 120 → n ≡ odd → m ≡ n / 2 ^ (120 - shift) → n < 2 ^ 128 → (m * 2 ^ (120 - shift)) % 2 ^ 128 ≡ n → n / 2 ^ (120 - shift) ≡ ceiling (odd * 2 ^ shift) (2 ^ 120)
+whole_exact odd shift n m short e f l h =
+    let b : ℕ = 2 ^ (120 - shift) in
+    let back : n / b * b ≡ n = sym (unwrapped n b l) ∙ ap (λ (k : ℕ). (k * b) % 2 ^ 128) (sym f) ∙ h in
+    let exact : odd / b * b ≡ odd = subst (λ (k : ℕ). k / b * b ≡ k) e back in
+    ap (λ (k : ℕ). k / b) e ∙ sym (ceiling_exact odd shift short exact)
+
+pub whole_more : (odd shift n m : ℕ) → shift < 120 → n ≡ odd → m ≡ n / 2 ^ (120 - shift) → n < 2 ^ 128 → ((m * 2 ^ (120 - shift)) % 2 ^ 128 ≡ n → ⊥) → n / 2 ^ (120 - shift) + 1 ≡ ceiling (odd * 2 ^ shift) (2 ^ 120)
+whole_more odd shift n m short e f l h =
+    let b : ℕ = 2 ^ (120 - shift) in
+    let other : odd / b * b ≡ odd → ⊥ = λ k. h (ap (λ (j : ℕ). (j * b) % 2 ^ 128) f ∙ unwrapped n b l ∙ subst (λ (j : ℕ). j / b * b ≡ j) (sym e) k) in
+    ap (λ (k : ℕ). k / b + 1) e ∙ sym (ceiling_more odd shift short other)
 
 -- ---- the root of an end
 
@@ -98,3 +123,19 @@ pub end_on_grid : (e : Ext) → IsExtOnGrid (ext_of e)
 end_on_grid NegInf = tt
 end_on_grid (Fin d) = number_on_grid d
 end_on_grid PosInf = tt
+
+pub ival_kept : (i : Ival) → IsKept (interval_of i)
+ival_kept Empty = tt
+ival_kept (Between e) = (end_on_grid e.low, end_on_grid e.high)
+
+few-of : (o : Option ℕ) (n : ℕ) → o ≡ Some n → IsFew o → n ≤ 2 ^ 62
+few-of (Some m) n e h = let same : m ≡ n = cc e in subst (λ (k : ℕ). k ≤ 2 ^ 62) same h
+few-of None n e h = cc
+
+pub bound_few : (i : Ival) (o : Option ℕ) (n : ℕ) → o ≡ root_bound (interval_of i) → o ≡ Some n → n ≤ 2 ^ 62
+bound_few i o n e f = few-of o n f (subst IsFew (sym e) (root_bound_few (interval_of i) (ival_kept i)))
+
+-- 0 is not above a whole number
+pub proper_whole : (n : ℕ) (e : KeptEnd) → e ≡ whole_ext n → IsTrue (are_ends (whole_ext 0) e)
+proper_whole n e h = subst (λ (x : KeptEnd). IsTrue (are_ends (whole_ext 0) x)) (sym h)
+    (both_pass (ext_at_most (whole_ext 0) (whole_ext n)) true (exact_from (record { units = pos (0 * 2 ^ 120) }) (record { units = pos (n * 2 ^ 120) }) (omega (arith, ints))) refl)

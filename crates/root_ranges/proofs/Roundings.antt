@@ -1,6 +1,7 @@
 -- Fractions that are the same number are rounded to the same ends.
 use Rattle.std.proofs.Common.{◌≡◌, ℕ, ◌*◌, ◌^◌, ◌≤◌, ◌<◌, List, length, Bool, true, false, IsTrue, ℤ, pos, negsuc, ◌*ℤ◌, ◌≤ℤ◌, refl, ap, ap₂, sym, ◌∙◌, cond, arith, true≢false}
 use native.Mathlib.Nat.{one-le-pow}
+use Rattle.std.proofs.lemmas.Int.{ints}
 use Rattle.dyadic.specs.Fraction.{Fraction, IsFraction, at_most, whole}
 use Rattle.dyadic.specs.Lowest.{reduced}
 use Rattle.dyadic.specs.Rounding.{Dyadic, exact, IsOnGrid, Ext, below_all, finite, above_all, negative, ext_at_most, down, up, down_of, up_of, ceiling, below_or_infinite, above_or_infinite, positive, size_above}

@@ -1,9 +1,11 @@
 // The ranges of roots.
-ghost use Rattle.std.specs.Prelude.{◌≡◌, ◌≤◌, ◌≤ℤ◌, ◌^◌, pos};
+ghost use Rattle.std.specs.Prelude.{◌≡◌, ◌≤◌, ◌≤ℤ◌, ◌^◌, IsTrue, pos};
 ghost use Rattle.dyadic.specs.Rounding.{ceiling, not_negative};
 ghost use Rattle.dyadic.specs.Size.{units};
 ghost use Rattle.dyadic.specs.Fraction.{whole};
 ghost use Rattle.dyadic.specs.Views.{ext_of, fraction_of_frac, units_of};
+ghost use Rattle.interval_model.specs.Interval.{between};
+ghost use Rattle.ival.specs.Proper.{are_ends};
 ghost use Rattle.ival.specs.Views.{interval_of};
 ghost use Rattle.script_roots.specs.Ranges.{root_above, root_bound, root_range, whole_ext};
 
@@ -88,16 +90,23 @@ fn whole_end(number: u64) -> Ext
     down_frac(whole(number))
 }
 
-/// In what a root of a value in the interval lies: from 0 to its bound.
-pub(crate) fn root_range(range: Ival) -> Ival
-    ensures { interval_of result ≡ root_range (interval_of range) }
+// What lies from 0 to an end.
+fn from_nought(high: Ext) -> Ival
+    requires { IsTrue (are_ends (whole_ext 0) (ext_of high)) }
+    ensures { interval_of result ≡ between (whole_ext 0) (ext_of high) }
 {
-    let high = match root_bound(range) {
-        Some(number) => whole_end(number),
-        None => Ext::PosInf,
-    };
     Ival::Between(Ends {
         low: Ext::Fin(Dy::ZERO),
         high,
     })
+}
+
+/// In what a root of a value in the interval lies: from 0 to its bound.
+pub(crate) fn root_range(range: Ival) -> Ival
+    ensures { interval_of result ≡ root_range (interval_of range) }
+{
+    match root_bound(range) {
+        Some(number) => from_nought(whole_end(number)),
+        None => from_nought(Ext::PosInf),
+    }
 }

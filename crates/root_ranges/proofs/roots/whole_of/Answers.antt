@@ -1,5 +1,5 @@
-use Rattle.std.proofs.Common.{◌≡◌, ◌∙◌, ◌/◌, ◌*◌, ◌^◌, ◌-◌, ap, arith, sym}
-use Rattle.root_ranges.proofs.Rooted.{ceiling_exact, ceiling_high, ceiling_more, shift_few}
+use Rattle.std.proofs.Common.{◌∙◌, arith, sym}
+use Rattle.root_ranges.proofs.Rooted.{ceiling_high, shift_few, whole_exact, whole_more}
 use Rattle.root_ranges.proofs.roots.whole_of.Goals as goal
 
 pub overflow_shl-result : goal.overflow_shl-result
@@ -14,7 +14,7 @@ returns-then-size-ge-UNIT_BITS-clause-few c = let h = ceiling_high c.args.size.o
     let few = h.0 in omega (arith, few)
 
 pub returns-then-from-below-clause-value : goal.returns-then-from-below-clause-value
-returns-then-from-below-clause-value c = let e = c.if-from-below.true in let f = c.from.ensures in let g = c.from-odd.ensures in ?
+returns-then-from-below-clause-value c = whole_exact c.args.size.odd c.args.size.shift c.from-odd.result c.from.result c.if-size-ge-UNIT_BITS.false c.from-odd.ensures c.from.ensures c.from-odd.type_inv c.if-from-below.true
 
 pub returns-else-from-below-clause-value : goal.returns-else-from-below-clause-value
-returns-else-from-below-clause-value c = ?
+returns-else-from-below-clause-value c = whole_more c.args.size.odd c.args.size.shift c.from-odd.result c.from.result c.if-size-ge-UNIT_BITS.false c.from-odd.ensures c.from.ensures c.from-odd.type_inv c.if-from-below.false

@@ -19,4 +19,4 @@ loop-k-preserved c = let ts = trees_in c.args.trees.now in (
 )
 
 pub returns : goal.returns
-returns c = λ A knows. all_done (λ t. without_ends (tree_in A t)) (trees_in c.args.trees.now) _ c.loop-k.k (length c.args.trees.now) (c.loop-k.invariant.1 A knows) (sym (nodes_length c.args.trees.now)) c.loop-k-test.false
+returns c = λ A knows. all_done (λ t. without_ends (tree_in A t)) (trees_in c.args.trees.now) _ c.loop-k.k c.len-k-end.result (c.loop-k.invariant.1 A knows) (c.len-k-end.ensures ∙ sym (nodes_length c.args.trees.now)) (omega (arith, c.loop-k-test.false))
