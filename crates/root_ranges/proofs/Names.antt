@@ -1,12 +1,20 @@
 -- Maps from names, and what they have.
-use Rattle.std.proofs.Common.{◌≡◌, ℕ, List, [], ◌∷◌, Bool, true, false, cond, Option, Some, None, refl, ap, sym, ◌∙◌}
-use Rattle.std.specs.Prelude.{option_map}
+use Rattle.std.proofs.Common.{◌≡◌, ℕ, List, [], ◌∷◌, Bool, true, false, cond, Option, Some, None, refl, ap, sym, ◌∙◌, subst}
+use Rattle.std.specs.Prelude.{option_map, is_some}
 use Rattle.std.specs.Str.{bytes_eq}
 use Rattle.std.specs.Borrow.{Bor}
 use Rattle.std.specs.HashMap.{HashMap, IsEmpty, get_by, UpdatesBy}
 use Rattle.std.specs.Map.{lookup}
 use Rattle.std.proofs.lemmas.Map.Text.{hash_map_updates_str}
-use Rattle.script_model.specs.Reading.{found}
+use Rattle.interval_model.specs.Interval.{Interval}
+use Rattle.script_model.specs.Reading.{Operator, found}
+use Rattle.script_roots.specs.Ranges.{or_everything, symbol_range}
+use Rattle.script_roots.specs.TreeBounds.{TreeBounding, or_no_end, symbol_in}
+use Rattle.sort_check.specs.Views.{operator_of}
+use Rattle.sort_check.specs.declared.operators.Operator as code
+use Rattle.root_ranges.specs.Shapes.{shape_of, without_ends}
+use Rattle.root_ranges.specs.declared.shapes.Shape.{Shape}
+use Rattle.root_ranges.specs.declared.shapes.Shape.TheVariants.{Known, Axis, Other}
 use Rattle.sort_check.proofs.Known.{bytes_symm}
 
 module _ {V W : Type 0} (f : V → W) where
@@ -26,3 +34,21 @@ module _ {V W : Type 0} (f : V → W) where
       ap (option_map f) (hash_map_updates_str x old new (Some v) updates y) ∙
       mapped (bytes_eq x y) v (get_by (λ k. bytes_eq y k.now) old) (found y names) (knows y) ∙
       ap (λ b. cond b (Some (f v)) (found y names)) (bytes_symm x y)
+
+-- ---- operators
+
+-- a name that no operator of the code has is no operator
+pub no_operator : (r : Option code.Operator) (w : Option Operator) → option_map operator_of r ≡ w → is_some r ≡ false → w ≡ None
+no_operator None w e h = sym e
+no_operator (Some o) w e h = cc
+
+pub symbol_known : (op : Option Operator) (i : Interval) (o : Option Interval) → op ≡ None → Some i ≡ o → i ≡ symbol_range op o
+symbol_known op i o e h = subst (λ (w : Option Operator). i ≡ symbol_range w o) (sym e) (ap or_everything h)
+
+pub shape_known : (op : Option Operator) (b : TreeBounding) (o : Option TreeBounding) → op ≡ None → Some b ≡ o → without_ends b ≡ without_ends (symbol_in op o)
+shape_known op b o e h = subst (λ (w : Option Operator). without_ends b ≡ without_ends (symbol_in w o)) (sym e) (ap (λ (x : Option TreeBounding). without_ends (or_no_end x)) h)
+
+pub shape_plain : (s : Shape) → without_ends (shape_of s) ≡ shape_of s
+shape_plain (Known i) = refl
+shape_plain (Axis a) = refl
+shape_plain Other = refl

@@ -1,5 +1,5 @@
 -- What a node's tree is to the ranges, by what its parts are.
-use Rattle.std.proofs.Common.{◌≡◌, ℕ, zero, suc, ◌+◌, ◌<◌, List, [], ◌∷◌, ◌++◌, map, take, get_or, Some, None, Option, refl, ap, ap₂, sym, ◌∙◌, append-nil, append_assoc}
+use Rattle.std.proofs.Common.{◌≡◌, ℕ, zero, suc, ◌+◌, ◌<◌, List, [], ◌∷◌, ◌++◌, map, take, length, arith, Some, None, Option, refl, ap, ap₂, sym, ◌∙◌, append-nil, append_assoc}
 use Rattle.std.proofs.lemmas.List.{get_or-take, map-append}
 use Rattle.interval_model.specs.Interval.{Interval}
 use Rattle.script_model.specs.Meaning.{neighbours}
@@ -59,6 +59,11 @@ applied-same : (op : Option Operator) (bs : List TreeBounding) → without_ends 
 applied-same None bs = refl
 applied-same (Some op) [] = refl
 applied-same (Some op) (b ∷ bs) = operation-same op (b ∷ bs)
+
+-- an operator of the code at some arguments
+pub applied_is : (op : Option Operator) (o : Operator) (f : ℕ → TreeBounding) (ks : List ℕ) → op ≡ Some o → 0 < length ks → applied_in op (map f ks) ≡ operation_in o (map f ks)
+applied_is op o f [] e h = absurd (omega (arith, h))
+applied_is op o f (k ∷ ks) e h = ap (λ (x : Option Operator). applied_in x (f k ∷ map f ks)) e
 
 -- ---- comparisons
 

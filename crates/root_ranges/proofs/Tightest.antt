@@ -1,5 +1,5 @@
 -- The tightest of ends, whatever their order.
-use Rattle.std.proofs.Common.{◌≡◌, ◌⊎◌, inl, inr, ℕ, zero, suc, ◌+◌, ◌<◌, List, [], ◌∷◌, ◌++◌, map, length, Bool, true, false, cond, ◌&&◌, IsTrue, Option, Some, None, nat_eq, refl, ap, ap₂, sym, ◌∙◌, subst, arith, true≢false, append-nil, append_assoc, replicate, slice_set, eq-eqb, eqb-eq}
+use Rattle.std.proofs.Common.{◌≡◌, ◌⊎◌, inl, inr, ℕ, zero, suc, ◌+◌, ◌<◌, List, [], ◌∷◌, ◌++◌, map, length, Bool, true, false, cond, ◌&&◌, IsTrue, Option, Some, None, nat_eq, refl, ap, ap₂, sym, ◌∙◌, subst, arith, true≢false, append-nil, append_assoc, replicate, slice_index_or, slice_set, take, eq-eqb, eqb-eq}
 use Rattle.std.specs.Prelude.{slice_get}
 use Rattle.std.proofs.lemmas.Option.{slice_get_within}
 use Rattle.dyadic.specs.Fraction.{at_most}
@@ -12,7 +12,8 @@ use Rattle.script_model.specs.Meaning.{first_and_rest, from_left}
 use Rattle.script_roots.specs.TreeBounds.{EndBound, between_or_nothing, ends_on, high_end, low_end, range_of}
 use Rattle.dyadic.specs.Views.{ext_of}
 use Rattle.root_ranges.specs.Bounds.{AreTightest, bounds_of, end_or, of_all, range_with, tightened_on, tightest_by, with_end}
-use Rattle.root_ranges.specs.Ends.{end_bound_of}
+use Rattle.std.proofs.lemmas.List.{map-append, take_more}
+use Rattle.root_ranges.specs.Ends.{end_bound_of, ends_of_all}
 use Rattle.root_ranges.specs.Sides.{side_of}
 use Rattle.root_ranges.specs.declared.end_bound.EndBound as code
 use Rattle.root_ranges.specs.declared.bounds.Bounds.{Bounds}
@@ -269,3 +270,7 @@ tightest_none axes b is = record { count = many axes; are = all axes }
     all zero k c h = cc
     all (suc n) zero c h = let same : b ≡ c = cc h in ap bounds_of (sym same) ∙ is
     all (suc n) (suc k) c h = all n k c h
+
+pub ends_more : (es : List code.EndBound) (i : ℕ) (e : code.EndBound) → i < length es → e ≡ slice_index_or es i e → ends_of_all (take (i + 1) es) ≡ ends_of_all (take i es) ++ (end_bound_of e ∷ [])
+ends_more es i e within is =
+    ap ends_of_all (take_more es i e within ∙ ap (λ (x : code.EndBound). take i es ++ (x ∷ [])) (sym is)) ∙ map-append end_bound_of (take i es) (e ∷ [])

@@ -31,8 +31,8 @@ fn symbol_range(name: &Name, ranges: &HashMap<&[u8], Ival>) -> Ival
     if operator_named(name.as_slice()).is_some() {
         return Ival::everything();
     }
-    match ranges.get(name.as_slice()) {
-        Some(range) => *range,
+    match ranges.get(name.as_slice()).copied() {
+        Some(range) => range,
         None => Ival::everything(),
     }
 }

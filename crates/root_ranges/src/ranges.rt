@@ -1,5 +1,5 @@
 // The ranges of declared constants.
-ghost use Rattle.std.specs.Prelude.{◌≡◌, [], List, IsTrue, length, map, IfOk};
+ghost use Rattle.std.specs.Prelude.{◌≡◌, ◌∷◌, ◌++◌, ℕ, [], List, IsTrue, length, map, IfOk};
 ghost use Rattle.dyadic.specs.End.{greater_ext, lesser_ext};
 ghost use Rattle.dyadic.specs.Views.{ext_of};
 ghost use Rattle.ival.specs.Proper.{is_high, is_low};
@@ -14,7 +14,7 @@ ghost use Rattle.smt_script.specs.Views.{commands_in, sort_of};
 ghost use Rattle.root_ranges.specs.Bounds.{AreTightest, bounds_of, end_of, range_with, tightened_on, tightest_by, with_end};
 ghost use Rattle.root_ranges.specs.Constants.{constant_of};
 ghost use Rattle.root_ranges.specs.Enclosures.{KnowsRanges};
-ghost use Rattle.root_ranges.specs.Ends.{ends_of_all};
+ghost use Rattle.root_ranges.specs.Ends.{end_bound_of, ends_of_all};
 ghost use Rattle.root_ranges.specs.Sides.{side_of};
 
 use crate::bounds::Bounds;
@@ -80,15 +80,23 @@ impl Bounds {
     }
 }
 
+// Adds an end to those of its constant, if there is such a constant.
+fn tighten(bounds: &mut Vec<Bounds>, end: EndBound)
+    ensures { (es : List model.EndBound) (axes : ℕ) → AreTightest es axes bounds.old.items →
+        AreTightest (es ++ (end_bound_of end ∷ [])) axes bounds.new.items }
+{
+    if end.axis < bounds.len() {
+        bounds[end.axis] = bounds[end.axis].tightened(end);
+    }
+}
+
 // The tightest ends of so many constants.
 fn tightest(alloc: Global, ends: &[EndBound], axes: usize) -> Result<Vec<Bounds>, AllocError>
     ensures { IfOk result (λ bs. AreTightest (ends_of_all ends.now) axes bs.items) }
 {
     let mut bounds = vec![in alloc; Bounds::none(); axes]?;
     for end in ends {
-        if end.axis < axes {
-            bounds[end.axis] = bounds[end.axis].tightened(*end);
-        }
+        tighten(&mut bounds, *end);
     }
     Ok(bounds)
 }

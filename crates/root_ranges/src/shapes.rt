@@ -110,8 +110,8 @@ fn symbol_shape(
     if let Some(operator) = operator_named(name.as_slice()) {
         return operation(alloc, operator, &[], &[]);
     }
-    match axes.get(name.as_slice()) {
-        Some(shape) => Ok(*shape),
+    match axes.get(name.as_slice()).copied() {
+        Some(shape) => Ok(shape),
         None => Ok(Shape::Other),
     }
 }
