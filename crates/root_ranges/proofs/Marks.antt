@@ -223,14 +223,15 @@ module _ (A : Axes) where
 
   -- ---- assertions
 
+  claim-ends : (ts : List Tree) (cs : List Assertion) (a : Asserted) (k : ℕ) (rest : List EndBound) (g : Bool) → tree_at ts k ≡ a.tree → all_ends (map (ends_at A ts) (assertion_places cs)) ≡ rest →
+      all_ends (map (ends_at A ts) (cond g (assertion_places cs) (k ∷ assertion_places cs))) ≡ cond g [] (all_tree_ends A a.tree) ++ rest
+  claim-ends ts cs a k rest true e h = h
+  claim-ends ts cs a k rest false e h = ap (λ t. all_tree_ends A t ++ all_ends (map (ends_at A ts) (assertion_places cs))) e ∙ ap (λ es. all_tree_ends A a.tree ++ es) h
+
   claims-ends : (ts : List Tree) (cs : List Assertion) (claims : List Asserted) → AreAsserted ts cs claims → all_ends (map (ends_at A ts) (assertion_places cs)) ≡ all_ends (map (claim_ends A) claims)
   claims-ends ts [] [] h = refl
   claims-ends ts (c ∷ cs) (a ∷ claims) h = subst (λ g. all_ends (map (ends_at A ts) (assertion_places (c ∷ cs))) ≡ cond g [] (all_tree_ends A a.tree) ++ all_ends (map (claim_ends A) claims)) h.0.goal
-      (by-goal c.is_goal)
-    where
-      by-goal : (g : Bool) → all_ends (map (ends_at A ts) (cond g (assertion_places cs) (c.tree ∷ assertion_places cs))) ≡ cond g [] (all_tree_ends A a.tree) ++ all_ends (map (claim_ends A) claims)
-      by-goal true = claims-ends ts cs claims h.1
-      by-goal false = ap (λ t. all_tree_ends A t ++ all_ends (map (ends_at A ts) (assertion_places cs))) (tree_got ts c.tree a.tree h.0.tree) ∙ ap (λ es. all_tree_ends A a.tree ++ es) (claims-ends ts cs claims h.1)
+      (claim-ends ts cs a c.tree (all_ends (map (claim_ends A) claims)) c.is_goal (tree_got ts c.tree a.tree h.0.tree) (claims-ends ts cs claims h.1))
   claims-ends ts [] (a ∷ claims) h = elim h [ ]
   claims-ends ts (c ∷ cs) [] h = elim h [ ]
 
@@ -324,10 +325,10 @@ places_below ts n (c ∷ cs) (a ∷ claims) e h = (let l = slice_get_within ts c
 places_below ts n [] (a ∷ claims) e h = elim h [ ]
 places_below ts n (c ∷ cs) [] e h = elim h [ ]
 
+assertion-below : (n k : ℕ) (ks : List ℕ) (g : Bool) → k < n → AreBelow n ks → AreBelow n (cond g ks (k ∷ ks))
+assertion-below n k ks true l h = h
+assertion-below n k ks false l h = (l, h)
+
 pub assertions_below : (n : ℕ) (cs : List Assertion) → ArePlaces n cs → AreBelow n (assertion_places cs)
 assertions_below n [] h = tt
-assertions_below n (c ∷ cs) h = by-goal c.is_goal
-  where
-    by-goal : (g : Bool) → AreBelow n (cond g (assertion_places cs) (c.tree ∷ assertion_places cs))
-    by-goal true = assertions_below n cs h.1
-    by-goal false = (h.0, assertions_below n cs h.1)
+assertions_below n (c ∷ cs) h = assertion-below n c.tree (assertion_places cs) c.is_goal h.0 (assertions_below n cs h.1)

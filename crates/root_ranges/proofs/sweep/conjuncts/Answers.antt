@@ -2,7 +2,7 @@ use Rattle.std.proofs.Common.{arith, ◌-◌, ◌<◌, suc, length, ap, sym, ◌
 use Rattle.root_trees.specs.Nodes.{AreBelow, trees_in}
 use Rattle.root_trees.proofs.Arena.{nodes_length}
 use Rattle.root_ranges.specs.Sweep.{assertion_places, conjuncts_of, marked_all}
-use Rattle.root_ranges.proofs.Marks.{assertions_below, conjuncts_below, marked_length, places_below, read_mark, started_length, sweep_begins, sweep_ends, sweep_passes, sweep_visits}
+use Rattle.root_ranges.proofs.Marks.{AreSwept, assertions_below, conjuncts_below, marked_length, places_below, read_mark, started_length, sweep_begins, sweep_ends, sweep_passes, sweep_visits}
 use Rattle.root_ranges.proofs.sweep.conjuncts.Goals as goal
 
 pub assertion_marks-requires : goal.assertion_marks-requires
@@ -11,8 +11,8 @@ assertion_marks-requires c = let t = c.args.asserted.now.trees in places_below (
 pub loop-k-init : goal.loop-k-init
 loop-k-init c = let t = c.args.asserted.now.trees in let cs = c.args.asserted.now.assertions.items in (
   ap length c.in_ok-marks.ensures ∙ started_length (length t) (assertion_places cs),
-  sweep_begins (trees_in t) (assertion_places cs) (length t) c.in_ok-marks.marks.items
-      (assertions_below (length t) cs (places_below (trees_in t) (length t) cs c.requires.0 (sym (nodes_length t)) c.requires.1)) c.in_ok-marks.ensures,
+  subst (λ n. AreSwept (trees_in t) (assertion_places cs) n c.in_ok-marks.marks.items) (sym c.len-k.ensures) (sweep_begins (trees_in t) (assertion_places cs) (length t) c.in_ok-marks.marks.items
+      (assertions_below (length t) cs (places_below (trees_in t) (length t) cs c.requires.0 (sym (nodes_length t)) c.requires.1)) c.in_ok-marks.ensures),
 )
 
 pub mark_all-requires : goal.mark_all-requires
