@@ -1,6 +1,6 @@
 -- What a node's tree is to the ranges, by what its parts are.
 use Rattle.std.proofs.Common.{◌≡◌, ℕ, zero, suc, ◌+◌, ◌<◌, List, [], ◌∷◌, ◌++◌, map, take, length, arith, Some, None, Option, refl, ap, ap₂, sym, ◌∙◌, append-nil, append_assoc}
-use Rattle.std.proofs.lemmas.List.{get_or-take, map-append}
+use Rattle.std.proofs.lemmas.List.{get_or-take, length-map, map-append}
 use Rattle.interval_model.specs.Interval.{Interval}
 use Rattle.script_model.specs.Meaning.{neighbours}
 use Rattle.script_model.specs.Reading.{Operator, truth, falsehood, negation, conjunction, disjunction, implication, exclusive, equality, distinctness, choice, minus, plus, times, divide, at_most_op, below_op, at_least_op, above_op, found, operators}
@@ -10,7 +10,7 @@ use Rattle.root_trees.specs.Nodes.{AreBelow, IsBelow, ShowsNode, node_tree, part
 use Rattle.root_trees.specs.declared.trees.Node.{Node}
 use Rattle.root_trees.specs.declared.trees.Node.TheVariants as nodes
 use Rattle.root_ranges.specs.Ends.{chain_ends, compared, own_ends}
-use Rattle.root_ranges.specs.Shapes.{bounding_at, node_in, shape_of, without_ends}
+use Rattle.root_ranges.specs.Shapes.{AreShapes, bounding_at, node_in, shape_of, without_ends}
 use Rattle.root_ranges.specs.Sweep.{tree_ends}
 use Rattle.root_ranges.specs.declared.shapes.Shape.{Shape}
 use Rattle.root_ranges.proofs.Lists.{map_at, map_done}
@@ -157,6 +157,9 @@ module _ (A : Axes) (ts : List Tree) where
       own-at (nodes.Root at k) = refl
       own-at (nodes.Quotient at k d) = refl
       own-at (nodes.Formless at) = refl
+
+pub shapes_many : (A : Axes) (ts : List Tree) (ss : List Shape) → AreShapes A ts ss → length ss ≡ length ts
+shapes_many A ts ss h = sym (length-map ss shape_of) ∙ ap length h ∙ length-map ts (λ (t : Tree). without_ends (tree_in A t))
 
 -- ---- known parts
 

@@ -1,5 +1,5 @@
 -- The tightest of ends, whatever their order.
-use Rattle.std.proofs.Common.{◌≡◌, ◌⊎◌, inl, inr, ℕ, zero, suc, ◌+◌, ◌<◌, List, [], ◌∷◌, ◌++◌, map, length, Bool, true, false, cond, ◌&&◌, IsTrue, Option, Some, None, nat_eq, refl, ap, ap₂, sym, ◌∙◌, subst, arith, true≢false, append-nil, append_assoc, replicate, slice_index_or, slice_set, take, eq-eqb, eqb→eq, lit<}
+use Rattle.std.proofs.Common.{◌≡◌, ◌⊎◌, inl, inr, ℕ, zero, suc, ◌+◌, ◌<◌, List, [], ◌∷◌, ◌++◌, map, length, Bool, true, false, cond, ◌&&◌, IsTrue, Option, Some, None, nat_eq, refl, ap, ap₂, sym, ◌∙◌, subst, arith, true≢false, append-nil, append_assoc, replicate, slice_index_or, slice_set, take, eq-eqb, eqb-true, lit<}
 use Rattle.std.specs.Prelude.{slice_get}
 use Rattle.std.proofs.lemmas.Option.{slice_get_within}
 use Rattle.dyadic.specs.Fraction.{at_most}
@@ -234,7 +234,7 @@ other-number : (m n : ℕ) → ¬ (m ≡ n) → nat_eq m n ≡ false
 other-number m n h = not-equal (nat_eq m n) refl
   where
     not-equal : (b : Bool) → nat_eq m n ≡ b → b ≡ false
-    not-equal true e = absurd (h (eqb→eq m n e))
+    not-equal true e = absurd (h (eqb-true m n e))
     not-equal false e = refl
 
 -- one more end of a constant that is there
