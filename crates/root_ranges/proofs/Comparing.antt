@@ -1,15 +1,15 @@
 -- What an applied operator says of constants: what it gives by itself, and what its conjuncts give.
-use Rattle.std.proofs.Common.{◌≡◌, ℕ, List, [], ◌∷◌, ◌++◌, map, Some, None, Option, refl, ap, ap₂, sym, ◌∙◌, append-nil}
+use Rattle.std.proofs.Common.{◌≡◌, ℕ, List, [], ◌∷◌, ◌++◌, map, Some, None, Option, refl, ap, sym, ◌∙◌, append-nil}
 use Rattle.interval_model.specs.Interval.{Interval}
 use Rattle.script_model.specs.Meaning.{neighbours}
 use Rattle.script_model.specs.Sexp.{Leaf, numeral, decimal, symbol}
 use Rattle.script_model.specs.Reading.{Operator, truth, falsehood, negation, conjunction, disjunction, implication, exclusive, equality, distinctness, choice, minus, plus, times, divide, at_most_op, below_op, at_least_op, above_op, found, operators}
-use Rattle.script_roots.specs.Tree.{Tree, atomic, applied, root, quotient, formless, Trees, no_trees, more_trees, trees_of}
+use Rattle.script_roots.specs.Tree.{Tree, atomic, applied, root, quotient, formless, trees_of}
 use Rattle.script_roots.specs.TreeBounds.{Axes, EndBound, TreeBounding, all_ends, all_known_in, applied_in, computed_in, ends_in, leaf_in, operation_in, symbol_in, tree_in, trees_in}
 use Rattle.root_trees.specs.Nodes.{atom_of, node_tree, parts_at, tree_at}
 use Rattle.root_trees.specs.declared.trees.Node.{Node}
 use Rattle.root_trees.specs.declared.trees.Node.TheVariants as nodes
-use Rattle.root_ranges.specs.Ends.{chain_ends, compared}
+use Rattle.root_ranges.specs.Ends.{chain_ends}
 use Rattle.root_ranges.specs.Sweep.{SayNothing, all_tree_ends, conjuncts_of, operator_conjuncts, tree_ends}
 
 computed-none : (op : Operator) (k : Option (List Interval)) → ends_in (computed_in op k) ≡ []

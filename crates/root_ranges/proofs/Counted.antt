@@ -1,5 +1,5 @@
 -- Maps from the names of the first constants, with one constant more.
-use Rattle.std.proofs.Common.{◌≡◌, ℕ, ◌+◌, ◌<◌, List, [], ◌∷◌, ◌++◌, map, take, length, Some, refl, ap, ap₂, sym, ◌∙◌, subst, arith, bytes_eq, slice_index_or}
+use Rattle.std.proofs.Common.{◌≡◌, ℕ, ◌+◌, ◌<◌, List, [], ◌∷◌, ◌++◌, map, take, length, Some, ap, ap₂, sym, ◌∙◌, subst, arith, bytes_eq, slice_index_or}
 use Rattle.std.specs.Borrow.{Bor}
 use Rattle.std.specs.HashMap.{HashMap, UpdatesBy}
 use Rattle.std.proofs.lemmas.List.{length-map, length-take-le, map-append, take_more}

@@ -1,12 +1,11 @@
 -- What constants are, one after the other.
-use Rattle.std.proofs.Common.{◌≡◌, ℕ, suc, zero, ◌+◌, ◌<◌, List, [], ◌∷◌, ◌++◌, map, take, length, get_or, refl, ap, ap₂, sym, ◌∙◌, subst, arith, Option, Some, None}
-use Rattle.std.specs.Prelude.{option_map, slice_get}
+use Rattle.std.proofs.Common.{◌≡◌, ℕ, suc, ◌+◌, List, [], ◌∷◌, ◌++◌, length, refl, ap, sym, ◌∙◌, arith, Option, Some, None}
+use Rattle.std.specs.Prelude.{option_map}
 use Rattle.std.specs.Str.{bytes_eq}
 use Rattle.std.specs.Borrow.{Bor}
 use Rattle.std.specs.HashMap.{HashMap, get_by}
 use Rattle.dyadic.specs.Point.{Sort}
 use Rattle.interval_model.specs.Interval.{Interval}
-use Rattle.script_model.specs.Reading.{found}
 use Rattle.script_model.specs.Script as script
 use Rattle.script_roots.specs.Ranges.{Ranges}
 use Rattle.script_roots.specs.TreeBounds.{Axes, axes_from, constant_axis, ends_in, or_no_end, ranges_from, TreeBounding}

@@ -1,6 +1,5 @@
 -- The range of a node's tree, by the ranges of its parts.
-use Rattle.std.proofs.Common.{◌≡◌, ℕ, ◌+◌, ◌<◌, List, [], ◌∷◌, ◌++◌, map, take, get_or, Some, refl, ap, ap₂, sym, ◌∙◌, subst}
-use Rattle.std.specs.Prelude.{slice_get}
+use Rattle.std.proofs.Common.{◌≡◌, ℕ, ◌+◌, ◌<◌, List, [], ◌∷◌, ◌++◌, map, take, refl, ap, ap₂, ◌∙◌}
 use Rattle.std.proofs.lemmas.List.{get_or-take, map-append}
 use Rattle.interval_model.specs.Interval.{Interval, everything}
 use Rattle.ival.specs.Views.{interval_of}

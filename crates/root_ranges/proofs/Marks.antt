@@ -1,6 +1,5 @@
 -- Marks of trees, and what holds while trees are visited from the last one down.
 use Rattle.std.proofs.Common.{◌≡◌, ◌⊎◌, inl, inr, ℕ, suc, zero, ◌+◌, ◌<◌, List, [], ◌∷◌, ◌++◌, map, length, Bool, true, false, cond, refl, ap, sym, ◌∙◌, subst, arith, slice_index_or, slice_set, replicate, take, true≢false, append-nil, append_assoc}
-use Rattle.std.specs.List.{AllByRecursion}
 use Rattle.std.specs.Prelude.{Option, Some, None}
 use Rattle.std.proofs.lemmas.Option.{slice_get_within}
 use Rattle.script_model.specs.Reading.{Operator, truth, falsehood, negation, conjunction, disjunction, implication, exclusive, equality, distinctness, choice, minus, plus, times, divide, at_most_op, below_op, at_least_op, above_op, found, operators}
@@ -14,7 +13,7 @@ use Rattle.root_trees.specs.declared.trees.Node.{Node}
 use Rattle.root_trees.specs.declared.trees.Node.TheVariants as nodes
 use Rattle.root_trees.proofs.Arena.{tree_got}
 use Rattle.root_ranges.specs.Sweep.{AreConjuncts, ArePlaces, IsAmong, SameElements, SayNothing, all_tree_ends, alone, assertion_places, conjuncts_of, marked_all, marked_ends, operator_conjuncts, tree_ends}
-use Rattle.root_ranges.proofs.Among.{AmongOne, among_all, among_either, among_left, among_one, among_right}
+use Rattle.root_ranges.proofs.Among.{among_all, among_either, among_left, among_one, among_right}
 use Rattle.root_ranges.proofs.Comparing.{ends_at, node_ends, own_first}
 
 -- ---- marks

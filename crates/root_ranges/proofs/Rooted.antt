@@ -1,10 +1,10 @@
 -- Roots of ends, and the least whole numbers that are not below them.
-use Rattle.std.proofs.Common.{◌≡◌, ℕ, zero, suc, ◌+◌, ◌-◌, ◌*◌, ◌/◌, ◌%◌, ◌^◌, ◌≤◌, ◌<◌, Bool, true, false, ℤ, pos, negsuc, neg_ℤ, Option, Some, None, IsTrue, refl, ap, sym, ◌∙◌, subst, arith, inl, inr}
+use Rattle.std.proofs.Common.{◌≡◌, ℕ, zero, suc, ◌+◌, ◌-◌, ◌*◌, ◌/◌, ◌%◌, ◌^◌, ◌≤◌, ◌<◌, Bool, true, false, ℤ, pos, Option, Some, None, IsTrue, refl, ap, sym, ◌∙◌, subst, arith, inl, inr}
 use Rattle.std.proofs.Math.Nat.{div-mul-le_self, lt-div-mul-add, mul_assoc, mul-le-mul_right, pow-le-pow_right}
 use Rattle.std.proofs.lemmas.Bool.{cases_lt}
 use Rattle.dyadic.specs.Grid.{IsSpelling}
 use Rattle.std.proofs.lemmas.Nat.{pow-add, pow_pos}
-use Rattle.dyadic.specs.Rounding.{Dyadic, Ext as KeptEnd, IsExtOnGrid, below_all, finite, above_all, ceiling, ext_at_most, root_up}
+use Rattle.dyadic.specs.Rounding.{Ext as KeptEnd, IsExtOnGrid, below_all, finite, above_all, ceiling, ext_at_most}
 use Rattle.dyadic.specs.Signed.{signed_of}
 use Rattle.dyadic.specs.Size.{units}
 use Rattle.dyadic.specs.declared.dy.Ext.{Ext}

@@ -1,10 +1,10 @@
 -- Fractions that are the same number are rounded to the same ends.
-use Rattle.std.proofs.Common.{◌≡◌, ℕ, ◌*◌, ◌^◌, ◌≤◌, ◌<◌, List, length, Bool, true, false, IsTrue, ℤ, pos, negsuc, neg_ℤ, ◌*ℤ◌, ◌≤ℤ◌, refl, ap, ap₂, sym, ◌∙◌, cond, arith, true≢false}
+use Rattle.std.proofs.Common.{◌≡◌, ℕ, ◌*◌, ◌^◌, ◌≤◌, List, length, Bool, true, false, IsTrue, ℤ, pos, negsuc, neg_ℤ, refl, ap, ap₂, sym, ◌∙◌, cond, arith, true≢false}
 use native.Mathlib.Nat.{one-le-pow}
 use Rattle.std.proofs.lemmas.Int.{ints}
 use Rattle.dyadic.specs.Fraction.{Fraction, IsFraction, at_most, negated, whole}
 use Rattle.dyadic.specs.Lowest.{reduced}
-use Rattle.dyadic.specs.Rounding.{Dyadic, exact, IsOnGrid, Ext, below_all, finite, above_all, negative, ext_at_most, down, up, down_of, up_of, ceiling, below_or_infinite, above_or_infinite, positive, size_above}
+use Rattle.dyadic.specs.Rounding.{Dyadic, exact, IsOnGrid, Ext, below_all, finite, above_all, negative, ext_at_most, down, up, down_of, up_of, positive}
 use Rattle.dyadic.proofs.Rounds.{at_most_from, exact_read, same_units, down_exact, down_isotone, up_isotone}
 use Rattle.ival.specs.Proper.{is_low, is_high}
 use Rattle.ival.specs.Views.{around}

@@ -1,5 +1,5 @@
 -- What a node's tree is to the ranges, by what its parts are.
-use Rattle.std.proofs.Common.{◌≡◌, ℕ, zero, suc, ◌+◌, ◌<◌, List, [], ◌∷◌, ◌++◌, map, take, length, arith, Some, None, Option, refl, ap, ap₂, sym, ◌∙◌, append-nil, append_assoc}
+use Rattle.std.proofs.Common.{◌≡◌, ℕ, ◌+◌, ◌<◌, List, [], ◌∷◌, ◌++◌, map, take, length, arith, Some, None, Option, refl, ap, ap₂, sym, ◌∙◌, append_assoc}
 use Rattle.std.proofs.lemmas.List.{get_or-take, length-map, map-append}
 use Rattle.interval_model.specs.Interval.{Interval}
 use Rattle.script_model.specs.Meaning.{neighbours}

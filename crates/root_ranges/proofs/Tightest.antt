@@ -1,11 +1,10 @@
 -- The tightest of ends, whatever their order.
-use Rattle.std.proofs.Common.{◌≡◌, ◌⊎◌, inl, inr, ℕ, zero, suc, ◌+◌, ◌<◌, List, [], ◌∷◌, ◌++◌, map, length, Bool, true, false, cond, ◌&&◌, IsTrue, Option, Some, None, nat_eq, refl, ap, ap₂, sym, ◌∙◌, subst, arith, true≢false, append-nil, append_assoc, replicate, slice_index_or, slice_set, take, eq-eqb, eqb-true, lit<}
+use Rattle.std.proofs.Common.{◌≡◌, ◌⊎◌, inl, inr, ℕ, zero, suc, ◌+◌, ◌<◌, List, [], ◌∷◌, ◌++◌, length, Bool, true, false, cond, ◌&&◌, IsTrue, Option, Some, nat_eq, refl, ap, ap₂, sym, ◌∙◌, subst, arith, true≢false, append-nil, append_assoc, replicate, slice_index_or, slice_set, take, eq-eqb, eqb-true, lit<}
 use Rattle.std.specs.Prelude.{slice_get}
 use Rattle.std.proofs.lemmas.Option.{slice_get_within}
-use Rattle.dyadic.specs.Fraction.{at_most}
 use Rattle.dyadic.specs.End.{greater_ext, lesser_ext}
 use Rattle.dyadic.specs.Point.{Sort, real_sort, bool_sort}
-use Rattle.dyadic.specs.Rounding.{End, Ext as KeptEnd, below_all, finite, above_all, end_of, ext_at_most}
+use Rattle.dyadic.specs.Rounding.{Ext as KeptEnd, below_all, finite, above_all, end_of, ext_at_most}
 use Rattle.interval_model.proofs.Ends.{end_trans, other_way}
 use Rattle.script_model.specs.Declared.{Side, default_high, default_low, is_side, lower, upper}
 use Rattle.script_model.specs.Meaning.{first_and_rest, from_left}

@@ -1,5 +1,5 @@
 -- The ends that comparisons give to constants.
-use Rattle.std.specs.Prelude.{ℕ, List, [], ◌∷◌, map, Option, Some, None}
+use Rattle.std.specs.Prelude.{List, [], ◌∷◌, map, Option, Some, None}
 use Rattle.dyadic.specs.Views.{ext_of}
 use Rattle.script_model.specs.Meaning.{neighbours}
 use Rattle.script_model.specs.Reading.{Operator, at_least_op, at_most_op, above_op, below_op, equality, found, operators}

@@ -1,5 +1,5 @@
 -- Which trees are conjuncts of assertions, and the ends that these give.
-use Rattle.std.specs.Prelude.{◌≡◌, ◌⊎◌, ℕ, ◌<◌, List, [], ◌∷◌, ◌++◌, map, length, Bool, true, false, cond, Option, Some, None, slice_set}
+use Rattle.std.specs.Prelude.{◌≡◌, ◌⊎◌, ℕ, ◌<◌, List, [], ◌∷◌, ◌++◌, map, length, Bool, true, false, cond, Option, Some, slice_set}
 use Rattle.std.specs.List.{AllByRecursion}
 use Rattle.script_model.specs.Reading.{Operator, conjunction, found, operators, plus, times}
 use Rattle.script_roots.specs.Fresh.{Asserted}

@@ -1,4 +1,4 @@
-use Rattle.std.proofs.Common.{◌≡◌, ◌∙◌, List, [], ap, length, map, sym, subst}
+use Rattle.std.proofs.Common.{◌∙◌, [], ap, length, map, sym, subst}
 use Rattle.script_roots.specs.Fresh as fresh
 use Rattle.script_roots.specs.TreeBounds.{axes_from}
 use Rattle.smt_script.specs.Views.{commands_in}

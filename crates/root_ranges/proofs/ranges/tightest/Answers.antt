@@ -1,4 +1,4 @@
-use Rattle.std.proofs.Common.{◌++◌, ◌∷◌, [], List, ap, take, map, ◌∙◌, sym, subst}
+use Rattle.std.proofs.Common.{List, take, sym, subst}
 use Rattle.script_roots.specs.TreeBounds.{EndBound}
 use Rattle.root_ranges.specs.Bounds.{AreTightest}
 use Rattle.root_ranges.specs.Ends.{ends_of_all}

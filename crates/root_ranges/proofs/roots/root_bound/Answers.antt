@@ -1,4 +1,4 @@
-use Rattle.std.proofs.Common.{◌≡◌, ◌∙◌, Option, Some, ap, sym, subst, ℕ}
+use Rattle.std.proofs.Common.{◌≡◌, ◌∙◌, Some, ap, sym, subst, ℕ}
 use Rattle.dyadic.specs.Views.{ext_of}
 use Rattle.dyadic.specs.declared.dy.Ext.{Ext}
 use Rattle.ival.specs.Views.{interval_of}

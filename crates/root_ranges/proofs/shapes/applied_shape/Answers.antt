@@ -1,4 +1,4 @@
-use Rattle.std.proofs.Common.{◌<◌, arith, ap, length, map, ◌∙◌, sym}
+use Rattle.std.proofs.Common.{◌<◌, arith, ap, length, ◌∙◌, sym}
 use Rattle.std.specs.Prelude.{option_map}
 use Rattle.script_model.specs.Reading.{found, operators}
 use Rattle.sort_check.specs.Views.{operator_of}

@@ -1,4 +1,4 @@
-use Rattle.std.proofs.Common.{arith, ◌-◌, ◌<◌, suc, length, ap, sym, ◌∙◌, subst}
+use Rattle.std.proofs.Common.{arith, ◌-◌, ◌<◌, length, ap, sym, ◌∙◌, subst}
 use Rattle.root_trees.specs.Nodes.{AreBelow, trees_in}
 use Rattle.root_trees.proofs.Arena.{nodes_length}
 use Rattle.root_ranges.specs.Sweep.{assertion_places, conjuncts_of, marked_all}
