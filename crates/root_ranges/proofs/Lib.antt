@@ -1,0 +1,17 @@
+pub mod Among
+pub mod Answered
+pub mod Comparing
+pub mod Counted
+pub mod Declared
+pub mod Dividing
+pub mod Enclosed
+pub mod Lists
+pub mod Marks
+pub mod Names
+pub mod Powers
+pub mod Ranged
+pub mod Rooted
+pub mod Roundings
+pub mod Shaped
+pub mod Tightest
+pub mod Wholes
