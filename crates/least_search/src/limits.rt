@@ -14,8 +14,8 @@ use std::alloc::{AllocError, Global};
 /// What the next search is for, which tells where its limit lies.
 #[derive(Clone, Copy)]
 pub(crate) enum Phase {
-    /// A better point or a better lower bound, for a small budget: three quarters of the way up to the best value, from the
-    /// lower bound or the last limit at which such a search decided nothing.
+    /// A better point or a better lower bound, for a small budget: half way between the best value and the lower bound, or the
+    /// last limit at which such a search decided nothing.
     Probing,
     /// That the bounds are near: below the upper one by the gap.
     Closing,

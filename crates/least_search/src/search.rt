@@ -16,12 +16,12 @@ use crate::found::{Ending, Found, Least, Lower};
 use crate::limits::{Between, Limited, Phase, next_limit};
 use cover_book::{Book, BookVerdict};
 use cover_data::{Options, Point};
-use dyadic::{Dy, Ext, add_down, at_most, mid, two_to_minus};
+use dyadic::{Dy, Ext, add_down, at_most, two_to_minus};
 use poly_graph::Problem;
 use std::alloc::{AllocError, Global};
 
 // The bounds so far, what is left of the budget, what the next search is for, the last limit, if there is one, at which a
-// probe decided nothing since the lower bound or a closing search changed something, and the budget of a probe.
+// probe decided nothing since the lower bound or a closing search changed something, and the least budget of a probe.
 #[derive(Drop)]
 struct Bounds {
     lower: Lower,
@@ -59,18 +59,19 @@ fn is_settled(lower: Option<Dy>, upper: Ext, gap_bits: u32) -> bool
     }
 }
 
-// The budget of the first probes.
+// The least budget of the first probes.
 const PROBE: u32 = 4;
 
-// The budget of the next search, where so much is left of the one of all: a probe has its patience, and a closing search has
-// half of what is left.
-fn share(phase: Phase, left: u32, patience: u32) -> u32
+// The budget of the next search, where so much is left of the one of all: a probe has a sixteenth of what was spent so far, so
+// that all probes together cost little beside the other searches, and at least its patience, and a closing search has half of
+// what is left.
+fn share(phase: Phase, all: u32, left: u32, patience: u32) -> u32
     requires { 0 < left }
     ensures { result < left }
 {
     let most = left - 1;
     match phase {
-        Phase::Probing => most.min(patience),
+        Phase::Probing => most.min((all.saturating_sub(left) / 16).max(patience)),
         Phase::Closing => most / 2,
         Phase::Halving => most,
     }
@@ -82,7 +83,7 @@ fn is_decided(verdict: BookVerdict) -> bool {
 }
 
 // What the search behind one of this verdict is for, where `near` says that its limit was below the best value by two gaps at
-// most. Probes go on until one that is near decides nothing.
+// most. Probes come nearer to the best value from both sides until one that is near decides nothing.
 fn next_phase(phase: Phase, verdict: BookVerdict, near: bool) -> Phase {
     match phase {
         Phase::Halving => Phase::Halving,
@@ -102,11 +103,11 @@ fn next_tried(phase: Phase, verdict: BookVerdict, tried: Option<Dy>, limit: Dy) 
     }
 }
 
-// The budget of a probe behind a search of this verdict. A closing search that finds a point finds one that is hardly better,
-// and probes between it and the lower bound had too little to find a better one: they get four times as much.
+// The least budget of a probe behind a search of this verdict. A closing search that finds a point finds one that is hardly
+// better, and probes between it and the lower bound had too little to find a better one: so it doubles.
 fn next_patience(phase: Phase, verdict: BookVerdict, patience: u32) -> u32 {
     match (phase, verdict) {
-        (Phase::Closing, BookVerdict::DeltaSat) => patience.saturating_mul(4),
+        (Phase::Closing, BookVerdict::DeltaSat) => patience.saturating_mul(2),
         _ => patience,
     }
 }
@@ -132,7 +133,12 @@ fn search_limited<F: Fn(Global, &Problem, &Options) -> Result<Book, AllocError>>
     ensures less { IfOk result (λ b. bounds.new.budget < bounds.old.budget) }
 {
     let options = Options {
-        budget: share(bounds.phase, bounds.budget, bounds.patience),
+        budget: share(
+            bounds.phase,
+            aim.options.budget,
+            bounds.budget,
+            bounds.patience,
+        ),
         ..*aim.options
     };
     let book = searcher(alloc, &limited.problem, &options)?;
@@ -212,17 +218,12 @@ fn take_book(
     }
 }
 
-// From where the limit of a probe lies half way to the best value: half way there from the last limit at which one decided
-// nothing, if that is below the best value, or from the lower bound. So it lies nearer to the best value, since points are
-// found more cheaply than boxes are closed.
+// From where the limit of a probe lies half way to the best value: the last limit at which one decided nothing, if that is
+// below the best value, or the lower bound.
 fn probe_from(lower: Option<Dy>, tried: Option<Dy>, upper: Ext) -> Option<Dy> {
-    let from = match tried {
+    match tried {
         Some(limit) if !at_most(upper, Ext::Fin(limit)) => Some(limit),
         _ => lower,
-    };
-    match (from, upper) {
-        (Some(from), Ext::Fin(upper)) => Some(mid(from, upper)),
-        _ => from,
     }
 }
 
