@@ -15,7 +15,7 @@ use Rattle.smt_sexp.specs.declared.building.Opened.{Opened}
 
 -- ---- a place
 
-table_drop : (bs : List Bead) (k j : ℕ) → get_or (table (drop k bs)) j none ≡ get_or (table bs) (k + j) none
+pub table_drop : (bs : List Bead) (k j : ℕ) → get_or (table (drop k bs)) j none ≡ get_or (table bs) (k + j) none
 table_drop bs zero j = let e : j ≡ 0 + j = omega arith in ap (λ n. get_or (table bs) n none) e
 table_drop [] (suc k) j = refl
 table_drop (b ∷ bs) (suc k) j =
@@ -78,7 +78,7 @@ behind bs tail n e =
     ap first (drop_at (bs ++ shut_bead ∷ []) tail (n + 1) (length_push bs shut_bead ∙ ap (λ m. m + 1) (sym e)))
 
 mutual
-  first_flat : (e : Sexp) (tail : List Bead) → first (flat e ++ tail) ≡ more e (first tail)
+  pub first_flat : (e : Sexp) (tail : List Bead) → first (flat e ++ tail) ≡ more e (first tail)
   first_flat (leaf at l) tail = refl
   first_flat (group at items) tail =
       let inside = flats items in

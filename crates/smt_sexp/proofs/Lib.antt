@@ -2,6 +2,7 @@ pub mod Beads
 pub mod Fronts
 pub mod Lex
 pub mod Numbers
+pub mod Placed
 pub mod Runs
 pub mod Sizes
 pub mod Steps

@@ -5,5 +5,6 @@ pub mod FrontOf
 pub mod Arena
 pub mod Seen
 pub mod Building
+pub mod Writing
 pub mod TextAnswers
 pub mod Step
