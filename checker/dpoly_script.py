@@ -1,0 +1,562 @@
+"""What a script says, for the checker in plain Python (`dpoly_checker.py`): tokens, commands, names and sorts, terms and forms."""
+import re
+from collections import namedtuple
+from fractions import Fraction
+
+from dpoly_intervals import UNIT, rounded
+
+SCRIPT_FAULTS = ('BadByte OpenToken Unbalanced NumberTooWide BadCommand UnknownSymbol SortMismatch Redeclared DivisorNotConstant '
+                 'ZeroDivisor NoBound BoundTooWide TooMany NoCheck WrongLogic LeftOut').split()
+
+
+class ScriptFault(Exception):
+    """Its name, the offset of its place in the script (None for 0:0), and its detail if it has one."""
+
+
+
+# ---------------------------------------------------------------- Tokens and expressions (phases 1 and 2)
+WITHIN = r'[0-9A-Za-z~!@$%^&*_\-+=<>.?/]'
+SIMPLE = rf'(?![0-9]){WITHIN}+'
+TOKEN = re.compile(r'(?P<blank>[ \t\n\r]+|;[^\n\r]*)|(?P<open>\()|(?P<close>\))|(?P<number>(?:0|[1-9][0-9]*)(?:\.[0-9]*)?)'
+                   rf'|(?P<symbol>{SIMPLE})|\|(?P<quoted>[^|\\]*)\||(?P<string>"[^"]*(?:""[^"]*)*"(?!"))|(?P<keyword>:{WITHIN}+)')
+RESERVED = {'!', '_', 'as', 'let', 'exists', 'forall', 'match', 'par'}
+WIDEST = 10**36
+# Its kind is symbol, reserved, numeral, decimal, string, keyword or list. `at` is the offset of its first byte.
+Expression = namedtuple('Expression', 'kind value at')
+
+
+def read_expressions(script):
+    """The top-level expressions of a script up to `(exit)`. One character stands for one byte."""
+    if len(script) > 67108864:
+        raise ScriptFault('TooMany', None, 'Bytes')
+    text, at, lists = script.decode('latin-1'), 0, [(None, [])]  # the top level, and the open lists with their places
+    while at < len(text):
+        token = TOKEN.match(text, at)
+        if not token:
+            raise fault_without_token(text, at)
+        kind, value, end = token.lastgroup, token[token.lastgroup], token.end()
+        if kind == 'open':
+            if len(lists) > 256:
+                raise ScriptFault('TooMany', at, 'Depth')
+            lists.append((at, []))
+        elif kind == 'close':
+            if len(lists) == 1:
+                raise ScriptFault('Unbalanced', at)
+            start, items = lists.pop()
+            lists[-1][1].append(Expression('list', items, start))
+            if len(lists) == 1 and [it[:2] for it in items] == [('symbol', 'exit')]:
+                break
+        elif kind == 'number':
+            lists[-1][1].append(Expression('decimal' if '.' in value else 'numeral', number(value, at), at))
+            if re.match(WITHIN, text[end : end + 1]):
+                raise ScriptFault('BadByte', end)
+        elif kind != 'blank':
+            kind = 'reserved' if kind == 'symbol' and value in RESERVED else 'symbol' if kind == 'quoted' else kind
+            lists[-1][1].append(Expression(kind, value, at))
+        at = end
+    if len(lists) > 1:
+        raise ScriptFault('Unbalanced', lists[-1][0])
+    return lists[0][1]
+
+
+def fault_without_token(text, at):
+    """The fault at a place where no token begins, or one that does not end."""
+    end = re.compile(r'[^|\\]*').match(text, at + 1).end()
+    if text[at] == '|' and end < len(text):
+        return ScriptFault('BadByte', end)  # a backslash
+    return ScriptFault('OpenToken' if text[at] in '"|' else 'BadByte', at)
+
+
+def number(text, at):
+    """The value of a numeral or decimal: its digits over a power of ten, neither of which may exceed 10^36."""
+    whole, _, part = text.partition('.')
+    digits = (whole + part).lstrip('0') or '0'
+    if len(part) > 36 or len(digits) > 37 or int(digits) > WIDEST:
+        raise ScriptFault('NumberTooWide', at)
+    return Fraction(int(digits), 10 ** len(part))
+
+
+def digits_at(script, at):
+    """The digits of the numeral or decimal at a place of a script."""
+    return TOKEN.match(script, at)['number']
+
+
+def name_text(name):
+    """A name as it is printed."""
+    name = name.encode('latin-1').decode('utf-8', 'surrogateescape')
+    return name if re.fullmatch(SIMPLE, name) and name not in RESERVED else f'|{name}|'
+
+
+# ---------------------------------------------------------------- Commands (phase 3)
+LEFT_OUT = set('get-proof get-unsat-core define-sort define-const define-fun-rec define-funs-rec declare-datatype '
+               'declare-datatypes'.split())
+# What may follow the word of a command, as a pattern of the letters below.
+COMMANDS = {'set-logic': 's', 'declare-const': 's[sl]', 'declare-fun': 's[le][sl]', 'define-fun': 's[le][sl].', 'assert': '.',
+            'minimize': '.', 'check-sat': '', 'check-sat-assuming': '[le]', 'push': 'n', 'pop': 'n', 'reset': '',
+            'reset-assertions': '', 'get-value': 'l', 'get-model': '', 'echo': 't', 'exit': '', 'set-info': '.*',
+            'set-option': '.*', 'get-info': '.*'}
+LETTERS = {'symbol': 's', 'numeral': 'n', 'string': 't'}
+MOST = 1024  # axes and levels at once, and checks
+# What a command does: its word, its place and its arguments. `push` and `pop` have a number; an assumption is a level, with an
+# `assert` of each literal and a `check-sat`.
+Step = namedtuple('Step', 'word at arguments')
+
+
+def letters(items):
+    """A letter for each expression: s for a symbol, l for a list, e for an empty list, n for a numeral, t for a string, x for
+    anything else."""
+    return ''.join(LETTERS.get(it.kind, 'x') if it.kind != 'list' else 'l' if it.value else 'e' for it in items)
+
+
+def is_pair(it, second):
+    """Whether an expression is a list of a symbol and something with the letter of the pattern `second`."""
+    return it.kind == 'list' and re.fullmatch('s' + second, letters(it.value)) is not None
+
+
+def is_literal(it):
+    """Whether an expression is a symbol, or a list of `not` and a symbol."""
+    return it.kind == 'symbol' or is_pair(it, 's') and it.value[0].value == 'not'
+
+
+def steps_of(commands):
+    """What the commands do, one step after the other: each has to be of its form, and within the limits of levels and checks."""
+    steps, has_logic, has_goal, levels, checks = [], False, False, 0, 0
+    for command in commands:
+        fault = command_fault(command, has_logic, has_goal, levels)
+        if fault:
+            raise ScriptFault(fault, command.at)
+        word, at, rest = command.value[0].value, command.at, command.value[1:]
+        literals = rest[0].value if word == 'check-sat-assuming' else []
+        opened = int(rest[0].value) if word == 'push' else 1 if literals else 0
+        if levels + opened > MOST:
+            raise ScriptFault('TooMany', at, 'Levels')
+        if word in ('check-sat', 'check-sat-assuming'):
+            checks += 1
+            if checks > MOST:
+                raise ScriptFault('TooMany', at, 'Checks')
+            asked = [*(Step('assert', at, [it]) for it in literals), Step('check-sat', at, [])]
+            steps += [Step('push', at, 1), *asked, Step('pop', at, 1)] if literals else asked
+        elif word in ('push', 'pop'):
+            steps.append(Step(word, at, int(rest[0].value)))
+            levels += opened if word == 'push' else -int(rest[0].value)
+        else:
+            steps.append(Step(word, at, rest))
+        has_logic = has_logic and word != 'reset' or word == 'set-logic'
+        has_goal = has_goal or word == 'minimize'
+        levels = 0 if word in ('reset', 'reset-assertions') else levels
+    if not checks:
+        raise ScriptFault('NoCheck', None)
+    return steps
+
+
+def command_fault(command, has_logic, has_goal, levels):
+    """The name of the fault of a command's form, or None, where a logic and a goal came before or not, and so many levels are
+    open."""
+    if command.kind != 'list' or letters(command.value[:1]) != 's':
+        return 'BadCommand'
+    name, rest = command.value[0].value, command.value[1:]
+    if name in LEFT_OUT:
+        return 'LeftOut'
+    if name not in COMMANDS or not re.fullmatch(COMMANDS[name], letters(rest)):
+        return 'BadCommand'
+    if name == 'set-logic':
+        return 'BadCommand' if has_logic else None if rest[0].value in ('QF_NRA', 'QF_LRA') else 'WrongLogic'
+    if name == 'pop' and rest[0].value > levels or name == 'check-sat-assuming' and not all(map(is_literal, rest[0].value)):
+        return 'BadCommand'
+    if name == 'minimize' and has_goal:
+        return 'LeftOut'
+    inner = rest[1].value if name in ('declare-fun', 'define-fun') else []
+    if name == 'define-fun' and all(is_pair(it, '[sl]') for it in inner):
+        inner = [it.value[1] for it in inner]
+    elif not re.fullmatch('[sl]*' if name == 'declare-fun' else '', letters(inner)):
+        return 'BadCommand'
+    sorts = inner + (rest[-1:] if name in ('declare-const', 'declare-fun') else rest[2:3] if name == 'define-fun' else [])
+    plain = all(it.value in ('Real', 'Bool') for it in sorts)
+    return None if plain and not (name == 'declare-fun' and inner) else 'LeftOut'
+
+
+# ---------------------------------------------------------------- Names and sorts (phase 4)
+THEORIES = set('true false not => and or xor = distinct ite + - * / <= < >= >'.split())
+# What a top-level name stands for. A constant has its axis; a definition has its parameters, with their sorts, and its body.
+Named = namedtuple('Named', 'sort axis parameters body')
+Axis = namedtuple('Axis', 'name sort at')
+
+
+def result_sort(name, sorts):
+    """The sort of an operation of the theories on arguments of these sorts, or None where they do not fit."""
+    count, bools, reals = len(sorts), set(sorts) == {'Bool'}, set(sorts) == {'Real'}
+    if name == 'ite':
+        return sorts[1] if count == 3 and sorts[0] == 'Bool' and sorts[1] == sorts[2] else None
+    if name in ('+', '-', '*', '/'):
+        return 'Real' if reals and (name != '/' or count > 1) else None
+    kind = bools if name in ('and', 'or', 'not', '=>', 'xor') else bools or reals if name in ('=', 'distinct') else reals
+    return 'Bool' if kind and (name in ('and', 'or') or (count == 1 if name == 'not' else count > 1)) else None
+
+
+# An assertion, or a goal as the assertion for which it stands, with its command's place.
+Claim = namedtuple('Claim', 'at expression is_goal')
+# What is in force somewhere in a script: the top-level names with what they stand for, the axes, the assertions, and how many
+# commands these are.
+Force = namedtuple('Force', 'named axes assertions count')
+# What is in force at a check, and whether all commands in force at the check before are so up to this one.
+Check = namedtuple('Check', 'named axes assertions extends')
+
+
+def goal_claim(term, at):
+    """The assertion for which the goal `term` of a command at this place stands: `(or (<= term 0) true)`."""
+    def leaf(kind, value):
+        return Expression(kind, value, at)
+    comparison = leaf('list', [leaf('symbol', '<='), term, leaf('numeral', Fraction(0))])
+    return Claim(at, leaf('list', [leaf('symbol', 'or'), comparison, leaf('symbol', 'true')]), True)
+
+
+class Names:
+    """The names and sorts of a script, step by step; `checks` has its checks. With roots `sqrt` is a function of one Real, known
+    before the first command."""
+    def __init__(self, steps, roots=False):
+        self.theory = {'sqrt': Named('Real', None, {'': 'Real'}, None)} if roots else {}
+        self.named, self.axes, self.assertions, self.count = dict(self.theory), [], [], 0
+        self.checks, levels, before, extends = [], [], 0, False  # what was in force before each open level
+        for step in steps:
+            if step.word == 'push':
+                levels += [self.in_force()] * step.arguments
+            elif step.word == 'pop' and step.arguments:
+                self.named, self.axes, self.assertions, self.count = levels[-step.arguments]
+                self.named, self.axes, self.assertions, _ = self.in_force()  # what is in force at several levels is shared by them
+                del levels[-step.arguments :]
+            elif step.word in ('reset', 'reset-assertions'):
+                self.named, self.axes, self.assertions, self.count, levels = dict(self.theory), [], [], 0, []
+            elif step.word == 'check-sat':
+                self.checks.append(Check(*self.in_force()[:3], extends))
+                before, extends = self.count, True
+            else:
+                self.take(*step)
+            extends = extends and self.count >= before
+
+    def in_force(self):
+        """What is in force, as it is now."""
+        return Force(dict(self.named), list(self.axes), list(self.assertions), self.count)
+
+    def take(self, word, at, arguments):
+        """Takes a command that is checked for names and sorts."""
+        self.count += word in ('declare-const', 'declare-fun', 'define-fun', 'assert', 'minimize')
+        if word in ('declare-const', 'declare-fun'):
+            name, sort = arguments[0].value, arguments[-1].value
+            self.check_new(name, self.named, at)
+            if len(self.axes) == MOST:
+                raise ScriptFault('TooMany', at, 'Axes')
+            self.named[name] = Named(sort, len(self.axes), {}, None)
+            self.axes.append(Axis(name, sort, at))
+        elif word == 'define-fun':
+            name, parameters, sort, body = arguments
+            self.check_new(name.value, self.named, at)
+            local = self.bound(parameters.value, lambda of_sort: of_sort.value)
+            self.check_sort(body, local, sort.value)
+            self.named[name.value] = Named(sort.value, None, local, body)
+        elif word == 'assert':
+            self.check_sort(arguments[0], {}, 'Bool')
+            self.assertions.append(Claim(at, arguments[0], False))
+        elif word == 'minimize':
+            self.check_sort(arguments[0], {}, 'Real')
+            self.assertions.append(goal_claim(arguments[0], at))
+        elif word == 'get-value':
+            for term in arguments[0].value:
+                self.sort(term, {})
+
+    def check_new(self, name, taken, at):
+        if name in taken or name in THEORIES:
+            raise ScriptFault('Redeclared', at, name_text(name))
+
+    def bound(self, pairs, sort):
+        """The sorts of the names of a `let` or of parameters; `sort` gives that of what stands beside a name."""
+        local = {}
+        for symbol, beside in (it.value for it in pairs):
+            self.check_new(symbol.value, local, symbol.at)
+            local[symbol.value] = sort(beside)
+        return local
+
+    def check_sort(self, expression, local, sort):
+        if self.sort(expression, local) != sort:
+            raise ScriptFault('SortMismatch', expression.at)
+
+    def sort(self, expression, local):
+        """The sort of an expression; `local` has those of the names of `let` and of parameters."""
+        kind, value, at = expression
+        if kind in ('numeral', 'decimal'):
+            return 'Real'
+        head, rest = (value[0], value[1:]) if kind == 'list' and value else (expression, [])
+        name = head.value
+        if head.kind == 'reserved' and kind == 'list':
+            if name == '!' and rest:
+                return self.sort(rest[0], local)
+            if name == 'let' and letters(rest)[:1] == 'l' and len(rest) == 2 and all(is_pair(it, '.') for it in rest[0].value):
+                return self.sort(rest[1], {**local, **self.bound(rest[0].value, lambda it: self.sort(it, local))})
+            raise ScriptFault('SortMismatch' if name in ('!', 'let') else 'LeftOut', at)
+        if head.kind != 'symbol':
+            raise ScriptFault('SortMismatch', at)
+        if name not in local and name not in self.named and name not in THEORIES:
+            raise ScriptFault('LeftOut', at) if name == 'sqrt' else ScriptFault('UnknownSymbol', at, name_text(name))
+        sorts = [self.sort(it, local) for it in rest]
+        if name in local or name in ('true', 'false'):
+            found, wanted = local.get(name, 'Bool'), []
+        elif name in self.named:
+            found, wanted = self.named[name].sort, list(self.named[name].parameters.values())
+        else:
+            found, wanted = result_sort(name, sorts), sorts
+        if found is None or sorts != wanted or bool(sorts) != (kind == 'list'):
+            raise ScriptFault('SortMismatch', at)
+        return found
+
+
+# ---------------------------------------------------------------- Terms and forms (phase 5)
+class Terms:
+    """Subterms, numbered in the order in which they are made. Each is a tuple: ('constant', fraction), ('variable', axis),
+    ('minus', a), ('plus', a, b), ('times', a, b) or ('square', a), where a and b are numbers of subterms."""
+    def __init__(self):
+        self.parts, self.numbers, self.memo = [], {}, {}
+
+    def make(self, *parts):
+        if parts not in self.numbers:
+            self.numbers[parts] = len(self.parts)
+            self.parts.append(parts)
+        return self.numbers[parts]
+
+    def constant(self, tree):
+        """The fraction of a constant; None of anything else."""
+        return self.parts[tree][1] if isinstance(tree, int) and self.parts[tree][0] == 'constant' else None
+
+    def operation(self, sign, at, a, b=None):
+        """The tree `-a`, `a + b`, `a - b`, `a * b` or `a / b` of trees; `at` is the place of the expression."""
+        left, right = self.constant(a), self.constant(b)
+        if b is None:
+            return self.make('minus', a) if left is None else self.make('constant', -left)
+        if sign == '-':
+            return self.operation('+', at, a, self.operation('-', at, b))
+        if sign == '/':
+            return self.operation('*', at, a, self.make('constant', 1 / right))
+        if left is not None and right is not None:
+            p, q, r, s = left.numerator, left.denominator, right.numerator, right.denominator
+            steps = [p * r, q * s] if sign == '*' else [p * s, r * q, p * s + r * q, q * s]
+            if any(abs(it) > WIDEST for it in steps):
+                raise ScriptFault('NumberTooWide', at)
+            return self.make('constant', Fraction(*steps[-2:]))
+        return self.make('square', a) if sign == '*' and a == b else self.make('plus' if sign == '+' else 'times', a, b)
+
+    def below(self, term):
+        """The numbers of a term's subterms, itself included, in ascending order."""
+        if term not in self.memo:
+            found, waiting = {term}, [term]
+            while waiting:
+                kind, *parts = self.parts[waiting.pop()]
+                new = set(parts) - found if kind not in ('constant', 'variable') else set()
+                found |= new
+                waiting.extend(new)
+            self.memo[term] = sorted(found)
+        return self.memo[term]
+
+
+class Node:
+    """An unfolded Bool expression: its kind, one of true, false, bool, comparison, not, and, or, xor and ite, and its parts.
+    Those of `bool` are an axis, those of a comparison its kind ('<=', '>=' or '='), two trees and its place, all others nodes.
+    A choice of Reals has the kind `choice`; its parts are a node and two arms, each a tree (the number of its term) or a choice."""
+    def __init__(self, kind, *parts):
+        self.kind, self.parts = kind, parts
+
+
+def is_choice(value):
+    return isinstance(value, Node) and value.kind == 'choice'
+
+
+def is_real(value):
+    return isinstance(value, int) or value.kind == 'choice'
+
+
+def run(task):
+    """The result of a task: a generator that yields tasks and is sent their results. This is recursion with a stack of our own;
+    chains of definitions are thousands long."""
+    tasks, result = [task], None
+    while tasks:
+        try:
+            tasks.append(tasks[-1].send(result))
+            result = None
+        except StopIteration as done:
+            tasks.pop()
+            result = done.value
+    return result
+
+
+class Problem:
+    """The terms, atoms and forms of what is in force at a check, its declared box, and the term of its goal, None where it has
+    none or that is a choice. An atom is a pair of a term and a kind, '<=', '>=' or '='.
+    A form is a tuple: ('true',), ('false',), ('atom', J), ('bool', axis, value), ('all', forms) or ('any', forms), where forms
+    are numbers, parts before wholes. The last form is that of all assertions."""
+    def __init__(self, names, bound):
+        self.names, self.extends, self.terms, self.atoms, self.forms, self.memo, self.size = names, names.extends, Terms(), {}, {}, {}, 0
+        nodes, truths, self.places, self.command, self.goal = [], [], 0, None, None
+        for self.command, expression, is_goal in names.assertions:  # the terms of an assertion are made before those of its atoms
+            nodes.append(run(self.unfold(expression, {})))
+            if is_goal and nodes[-1].parts[0].kind == 'comparison':  # else a choice was taken apart
+                self.goal = nodes[-1].parts[0].parts[1]
+            truths.append(run(self.form(nodes[-1], True)))
+            self.check_limits()
+        self.add_form('all', tuple(truths))
+        self.check_limits()
+        self.atoms, self.forms = list(self.atoms), list(self.forms)
+        self.declared = self.declared_box(nodes, bound)
+        self.empty = any(low > high for low, high in self.declared.values())
+
+    def count(self):
+        """Counts an expression that is reached, or a choice that is taken apart."""
+        self.size += 1
+        if self.size > 1048576:
+            raise ScriptFault('TooMany', self.command, 'Size')
+
+    def check_limits(self):
+        for what, count in ('Nodes', len(self.terms.parts)), ('Atoms', 16 * len(self.atoms)), ('Forms', len(self.forms) + self.places):
+            if count > 1048576:
+                raise ScriptFault('TooMany', self.command, what)
+
+    def unfold(self, expression, local):
+        """A task: the value of an expression, which is a tree, a choice or a node; `local` has those of local names."""
+        self.count()
+        kind, value, at = expression
+        if kind in ('numeral', 'decimal'):
+            if value > WIDEST:  # one that was put in the place of an end
+                raise ScriptFault('NumberTooWide', at)
+            return self.terms.make('constant', value)
+        (head, *rest), values = (value if kind == 'list' else [expression]), []
+        if head.kind == 'reserved':  # `!` or `let`
+            inner = dict(local)
+            for symbol, bound in (it.value for it in rest[0].value) if head.value == 'let' else ():
+                inner[symbol.value] = yield self.unfold(bound, local)
+            return (yield self.unfold(rest[0] if head.value == '!' else rest[1], inner))
+        for it in rest:
+            values.append((yield self.unfold(it, local)))
+        named = self.names.named.get(head.value)
+        if head.value in local:
+            return local[head.value]
+        if not named:
+            return (yield self.operation(head.value, values, at))
+        if named.axis is None:
+            return (yield self.unfold(named.body, dict(zip(named.parameters, values))))
+        return self.terms.make('variable', named.axis) if named.sort == 'Real' else Node('bool', named.axis)
+
+    def operation(self, name, values, at):
+        """A task: the value of an operation of the theories."""
+        result = values[0] if values else None
+        if name in ('+', '-', '*', '/'):
+            divisors = [self.terms.constant(it) for it in values[1:]] if name == '/' else []
+            if None in divisors or 0 in divisors:
+                raise ScriptFault('DivisorNotConstant' if None in divisors else 'ZeroDivisor', at)
+            if name == '-' and len(values) == 1:
+                return (yield self.apart(lambda a: self.terms.operation('-', at, a), 'choice', values))
+            for it in values[1:]:
+                result = yield self.apart(lambda a, b: self.terms.operation(name, at, a, b), 'choice', [result, it])
+            return result
+        if name in ('=', 'distinct', '<=', '<', '>=', '>'):
+            pairs = [(a, b) for first, a in enumerate(values) for b in values[first + 1 : None if name == 'distinct' else first + 2]]
+            reals, nodes = is_real(result), []
+            kind = {'<': '<=', '>': '>=', 'distinct': '='}.get(name, name)
+            for a, b in pairs:
+                nodes.append((yield self.apart(lambda a, b: Node('comparison', kind, a, b, at), 'ite', [a, b])) if reals
+                             else Node('xor', a, b))
+            nodes = [Node('not', it) for it in nodes] if reals == (name == 'distinct') and kind == '=' else nodes
+            return nodes[0] if len(nodes) == 1 else Node('and', *nodes)
+        if name == '=>':
+            result = values.pop()
+            while values:
+                result = Node('or', Node('not', values.pop()), result)
+            return result
+        if name == 'xor':
+            for it in values[1:]:
+                result = Node('xor', result, it)
+            return result
+        return Node('choice' if name == 'ite' and is_real(values[1]) else name, *values)
+
+    def apart(self, make, kind, values):
+        """A task: `make` of some trees; where one is a choice, a node of this kind of the choice's condition and of what comes
+        of its arms in its place. The first choice is taken apart first."""
+        at = next((at for at, it in enumerate(values) if is_choice(it)), None)
+        if at is None:
+            return make(*values)
+        self.count()
+        condition, *arms = values[at].parts
+        for number, arm in enumerate(arms):
+            arms[number] = yield self.apart(make, kind, [*values[:at], arm, *values[at + 1 :]])
+        return Node(kind, condition, *arms)
+
+    def add_form(self, *form):
+        if form not in self.forms:
+            self.places += len(form[1]) if form[0] in ('all', 'any') else 0
+            self.forms[form] = len(self.forms)
+        return self.forms[form]
+
+    def form(self, node, truth):
+        """A task: the number of the form of a node's truth or of its negation, made where it is first needed."""
+        if (node, truth) not in self.memo:
+            self.memo[node, truth] = yield self.new_form(truth, node.kind, *node.parts)
+        return self.memo[node, truth]
+
+    def new_form(self, truth, kind, *parts):
+        """A task: the same, not yet made."""
+        if kind in ('true', 'false'):
+            return self.add_form('true' if (kind == 'true') == truth else 'false')
+        if kind == 'bool':
+            return self.add_form('bool', parts[0], truth)
+        if kind == 'comparison':
+            return self.atom(truth, *parts)
+        if kind == 'not':
+            return (yield self.form(parts[0], not truth))
+        if kind in ('and', 'or'):
+            return (yield self.list_of('all' if (kind == 'and') == truth else 'any', [(it, truth) for it in parts]))
+        if kind == 'xor':
+            a, b = parts
+            ways = [(a, True), (b, not truth)], [(a, False), (b, truth)]
+        else:
+            condition, a, b = parts
+            ways = [(condition, True), (a, truth)], [(condition, False), (b, truth)]
+        first = yield self.list_of('all', ways[0])
+        second = yield self.list_of('all', ways[1])
+        return self.add_form('any', (first, second))
+
+    def list_of(self, kind, wanted):
+        """A task: `all` or `any` of the truths or negations of some nodes."""
+        numbers = []
+        for node, truth in wanted:
+            numbers.append((yield self.form(node, truth)))
+        return self.add_form(kind, tuple(numbers))
+
+    def atom(self, truth, kind, a, b, at):
+        """The form of a comparison's truth or negation. The term is `a` if `b` is the constant 0, else `a + (-b)`."""
+        if kind == '=' and not truth:
+            return self.add_form('true')
+        kind = kind if truth else {'<=': '>=', '>=': '<='}[kind]
+        term = a if self.terms.constant(b) == 0 else self.terms.operation('-', at, a, b)
+        return self.add_form('atom', self.atoms.setdefault((term, kind), len(self.atoms)))
+
+    def declared_box(self, nodes, bound):
+        """Phase 6: the declared interval of each Real axis, a pair of fractions."""
+        bounds = {axis: ([], []) for axis, it in enumerate(self.names.axes) if it.sort == 'Real'}
+        waiting, seen = list(nodes), set()
+        while waiting:
+            node = waiting.pop()
+            if node.kind == 'and' and node not in seen:
+                seen.add(node)
+                waiting.extend(node.parts)
+            elif node.kind == 'comparison':
+                kind, a, b, _ = node.parts
+                for term, other, lower, upper in (a, b, '>=', '<='), (b, a, '<=', '>='):
+                    value = self.terms.constant(other)
+                    if self.terms.parts[term][0] == 'variable' and value is not None:
+                        of_axis = bounds[self.terms.parts[term][1]]
+                        of_axis[0].extend([value] if kind in (lower, '=') else [])
+                        of_axis[1].extend([value] if kind in (upper, '=') else [])
+        return {axis: self.declared_interval(self.names.axes[axis], *bounds[axis], bound) for axis in bounds}
+
+    def declared_interval(self, axis, lower, upper, bound):
+        if bound is None and not (lower and upper):
+            raise ScriptFault('NoBound', axis.at, name_text(axis.name))
+        ends = max(lower) if lower else Fraction(-bound), min(upper) if upper else Fraction(bound)
+        if any(abs(it) > 2**32 and rounded(it)[0] != it * UNIT for it in ends):
+            raise ScriptFault('BoundTooWide', axis.at, name_text(axis.name))
+        return ends
