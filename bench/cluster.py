@@ -57,8 +57,11 @@ def splits(cert):
 def by_cluster(program, checker, script, cert):
     """Seconds of the whole run, of its search, and the first line of the answer."""
     begin, search = time.time(), None
-    words = [os.path.join(TOP, 'cluster', 'dpoly-cluster'), '--jobs', '4', '--program', program, '--checker', checker, script, cert]
-    with subprocess.Popen(words, stdout=subprocess.PIPE, stderr=subprocess.PIPE, text=True) as driver:
+    words = [os.path.join(TOP, 'cluster', 'dpoly-cluster'), '--jobs', '4', script, cert]
+    with tempfile.TemporaryDirectory() as folder:
+        os.symlink(program, os.path.join(folder, 'dpoly'))
+        os.symlink(checker, os.path.join(folder, 'dpoly-check'))
+        driver = subprocess.Popen(words, stdout=subprocess.PIPE, stderr=subprocess.PIPE, text=True, env={**os.environ, 'PATH': folder + ':' + os.environ['PATH']})
         for line in driver.stderr:
             search = time.time() - begin if 'are joined' in line else search
         text = driver.stdout.read()
