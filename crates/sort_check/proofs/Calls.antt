@@ -1,6 +1,7 @@
 -- The sorts of calls, of their arguments and of bindings.
 use Rattle.std.proofs.Common.{◌≡◌, ℕ, List, [], ◌∷◌, ◌++◌, map, Bool, true, false, cond, Option, Some, None, refl, ap, sym, ◌∙◌, true≢false}
 use Rattle.std.specs.Prelude.{is_some}
+use Rattle.dyadic.specs.Point.{Sort, real_sort}
 use Rattle.script_model.specs.Sexp.{Place, Sexp, Sexps, none, more}
 use Rattle.script_model.specs.Reading.{Names, found, operators, meaning, meanings, application, call_named, name_meaning, value_named, unknown}
 use Rattle.smt_script.specs.Forms.{as_any, is_end}
@@ -9,7 +10,7 @@ use Rattle.smt_script.specs.declared.command.Sort as code_sort
 use Rattle.sort_check.specs.declared.names.Known.TheVariants as known
 use Rattle.sort_check.specs.declared.names.Head.{Head}
 use Rattle.sort_check.specs.declared.names.Head.TheVariants as head
-use Rattle.sort_check.specs.Sorts.{Sorted, of_sort, ill, mismatched, sort_mismatch, sorting, first_ill, or_first, operator_sort, placed_call, fit, if_takes, because}
+use Rattle.sort_check.specs.Sorts.{Sorted, of_sort, ill, mismatched, sort_mismatch, sorting, first_ill, or_first, operator_sort, placed_call, fit, if_takes, because, one_real}
 use Rattle.sort_check.specs.Views.{Heads, bare_sort, head_sort, sort_seen, sorts_seen, operator_of}
 use Rattle.sort_check.proofs.Lists.{first_ill-seen, first_ill-none}
 
@@ -33,7 +34,7 @@ first_fails ss e x rest said said_is h g = ap first_ill said_is ∙ first_ill-se
 
 -- ---- calls
 
-placed : (at : Place) (b : Bool) (s : code_sort.Sort) → placed_call at (cond b (of_sort (sort_of s)) mismatched) ≡ if_takes at b (sort_of s)
+placed : (at : Place) (b : Bool) (s : Sort) → placed_call at (cond b (of_sort s) mismatched) ≡ if_takes at b s
 placed at true s = refl
 placed at false s = refl
 
@@ -47,7 +48,11 @@ app env at x (head.Known (known.Value v)) s ss (e, f) =
 app env at x (head.Known (known.Function ps r)) s ss (e, f) =
     ap (λ o. application sorting env at x o (sorts_seen (s ∷ ss))) e ∙ ap (λ n. call_named sorting at x n (sorts_seen (s ∷ ss))) f ∙
     ap (λ i. or_first i (placed_call at (cond (fit (map parameter_of ps.now) (sorts_seen (s ∷ ss))) (of_sort (sort_of r)) mismatched))) (first_ill-none (s ∷ ss)) ∙
-    placed at (fit (map parameter_of ps.now) (sorts_seen (s ∷ ss))) r
+    placed at (fit (map parameter_of ps.now) (sorts_seen (s ∷ ss))) (sort_of r)
+app env at x (head.Known known.Root) s ss (e, f) =
+    ap (λ o. application sorting env at x o (sorts_seen (s ∷ ss))) e ∙ ap (λ n. call_named sorting at x n (sorts_seen (s ∷ ss))) f ∙
+    ap (λ i. or_first i (placed_call at (cond (one_real (sorts_seen (s ∷ ss))) (of_sort real_sort) mismatched))) (first_ill-none (s ∷ ss)) ∙
+    placed at (one_real (sorts_seen (s ∷ ss))) real_sort
 
 abbrev begins : List Sorted → Bool
 begins [] = false
@@ -78,13 +83,17 @@ applied_fails env at x (head.Known (known.Value v)) (m ∷ ms) y (g, f) e =
 applied_fails env at x (head.Known (known.Function ps r)) (m ∷ ms) y (g, f) e =
     ap (λ o. application sorting env at x o (m ∷ ms)) g ∙ ap (λ n. call_named sorting at x n (m ∷ ms)) f ∙
     ap (λ i. or_first i (placed_call at (cond (fit (map parameter_of ps.now) (m ∷ ms)) (of_sort (sort_of r)) mismatched))) e
+applied_fails env at x (head.Known known.Root) (m ∷ ms) y (g, f) e =
+    ap (λ o. application sorting env at x o (m ∷ ms)) g ∙ ap (λ n. call_named sorting at x n (m ∷ ms)) f ∙
+    ap (λ i. or_first i (placed_call at (cond (one_real (m ∷ ms)) (of_sort real_sort) mismatched))) e
 
 -- ---- a name alone
 
 pub alone_is : (env : Names Sorted) (at : Place) (x : List ℕ) (h : Head) → Heads (Some h) x env → name_meaning sorting env at x (found x operators) ≡ bare_sort at h
 alone_is env at x (head.Operator o) e = ap (name_meaning sorting env at x) e
 alone_is env at x (head.Known (known.Value v)) (e, f) = ap (name_meaning sorting env at x) e ∙ ap (value_named sorting at x) f
-alone_is env at x (head.Known (known.Function ps r)) (e, f) = ap (name_meaning sorting env at x) e ∙ ap (value_named sorting at x) f ∙ placed at (fit (map parameter_of ps.now) []) r
+alone_is env at x (head.Known (known.Function ps r)) (e, f) = ap (name_meaning sorting env at x) e ∙ ap (value_named sorting at x) f ∙ placed at (fit (map parameter_of ps.now) []) (sort_of r)
+alone_is env at x (head.Known known.Root) (e, f) = ap (name_meaning sorting env at x) e ∙ ap (value_named sorting at x) f
 
 pub unknown_alone : (env : Names Sorted) (at : Place) (x : List ℕ) → Heads None x env → name_meaning sorting env at x (found x operators) ≡ because at (unknown x)
 unknown_alone env at x (e, f) = ap (name_meaning sorting env at x) e ∙ ap (value_named sorting at x) f

@@ -11,7 +11,7 @@ use Rattle.script_model.specs.Script.{Command, declare, define, claim, minimize,
 use Rattle.smt_script.specs.Levels.{Levels, closed, with_command}
 use Rattle.sort_check.specs.Levels.{names_of}
 use Rattle.sort_check.specs.Scopes.{AreMarks, command_name, count_of, stays}
-use Rattle.sort_check.specs.Sorts.{Sorted, of_sort, signature, sort_fault}
+use Rattle.sort_check.specs.Sorts.{Sorted, of_sort, signature, sort_fault_in}
 use Rattle.sort_check.specs.Steps.{count_after, named_after}
 use Rattle.sort_check.specs.Views.{Knows}
 use Rattle.sort_check.specs.declared.names.Known.{Known}
@@ -109,25 +109,25 @@ abbrev or_nil : Option (List ℕ) → List ℕ
 or_nil None = []
 or_nil (Some x) = x
 
-pub name_forgotten : {S : Type 0} (old new : HashMap (Bor (List ℕ)) Known S) (cs : List Command) (c : Command) (x : List ℕ) → command_name c ≡ Some x → sort_fault (cs ++ c ∷ []) ≡ None →
-    Knows old (names_of (cs ++ c ∷ [])) → UpdatesBy (λ a b. bytes_eq a.now b.now) (λ k. bytes_eq x k.now) old new None → Knows new (names_of cs)
-name_forgotten old new cs (declare at y s) x e sorted knows updates =
+pub name_forgotten : {S : Type 0} (theory : Names Sorted) (old new : HashMap (Bor (List ℕ)) Known S) (cs : List Command) (c : Command) (x : List ℕ) → command_name c ≡ Some x → sort_fault_in theory (cs ++ c ∷ []) ≡ None →
+    Knows old (names_of theory (cs ++ c ∷ [])) → UpdatesBy (λ a b. bytes_eq a.now b.now) (λ k. bytes_eq x k.now) old new None → Knows new (names_of theory cs)
+name_forgotten theory old new cs (declare at y s) x e sorted knows updates =
     let same = ap or_nil e in
-    knows_less old new (names_of cs) x (value (of_sort s)) (subst (λ z. Knows old ((z, value (of_sort s)) ∷ names_of cs)) same (subst (Knows old) (names_last [] cs (declare at y s)) knows))
-    (subst (λ z. found z (names_of cs) ≡ None) same (fresh_last cs (declare at y s) sorted)) updates
-name_forgotten old new cs (define at y params s body) x e sorted knows updates =
+    knows_less old new (names_of theory cs) x (value (of_sort s)) (subst (λ z. Knows old ((z, value (of_sort s)) ∷ names_of theory cs)) same (subst (Knows old) (names_last theory cs (declare at y s)) knows))
+    (subst (λ z. found z (names_of theory cs) ≡ None) same (fresh_last theory cs (declare at y s) sorted)) updates
+name_forgotten theory old new cs (define at y params s body) x e sorted knows updates =
     let same = ap or_nil e in
-    knows_less old new (names_of cs) x (signature params s) (subst (λ z. Knows old ((z, signature params s) ∷ names_of cs)) same (subst (Knows old) (names_last [] cs (define at y params s body)) knows))
-    (subst (λ z. found z (names_of cs) ≡ None) same (fresh_last cs (define at y params s body) sorted)) updates
-name_forgotten old new cs (claim at h) x e sorted knows updates = cc
-name_forgotten old new cs (minimize at t) x e sorted knows updates = cc
-name_forgotten old new cs (check at) x e sorted knows updates = cc
-name_forgotten old new cs (ineffective at) x e sorted knows updates = cc
+    knows_less old new (names_of theory cs) x (signature params s) (subst (λ z. Knows old ((z, signature params s) ∷ names_of theory cs)) same (subst (Knows old) (names_last theory cs (define at y params s body)) knows))
+    (subst (λ z. found z (names_of theory cs) ≡ None) same (fresh_last theory cs (define at y params s body) sorted)) updates
+name_forgotten theory old new cs (claim at h) x e sorted knows updates = cc
+name_forgotten theory old new cs (minimize at t) x e sorted knows updates = cc
+name_forgotten theory old new cs (check at) x e sorted knows updates = cc
+name_forgotten theory old new cs (ineffective at) x e sorted knows updates = cc
 
-pub nothing_forgotten : {S : Type 0} (top : HashMap (Bor (List ℕ)) Known S) (cs : List Command) (c : Command) → command_name c ≡ None → Knows top (names_of (cs ++ c ∷ [])) → Knows top (names_of cs)
-nothing_forgotten top cs (declare at y s) e knows = cc
-nothing_forgotten top cs (define at y params s body) e knows = cc
-nothing_forgotten top cs (claim at h) e knows = subst (Knows top) (names_last [] cs (claim at h)) knows
-nothing_forgotten top cs (minimize at t) e knows = subst (Knows top) (names_last [] cs (minimize at t)) knows
-nothing_forgotten top cs (check at) e knows = subst (Knows top) (names_last [] cs (check at)) knows
-nothing_forgotten top cs (ineffective at) e knows = subst (Knows top) (names_last [] cs (ineffective at)) knows
+pub nothing_forgotten : {S : Type 0} (theory : Names Sorted) (top : HashMap (Bor (List ℕ)) Known S) (cs : List Command) (c : Command) → command_name c ≡ None → Knows top (names_of theory (cs ++ c ∷ [])) → Knows top (names_of theory cs)
+nothing_forgotten theory top cs (declare at y s) e knows = cc
+nothing_forgotten theory top cs (define at y params s body) e knows = cc
+nothing_forgotten theory top cs (claim at h) e knows = subst (Knows top) (names_last theory cs (claim at h)) knows
+nothing_forgotten theory top cs (minimize at t) e knows = subst (Knows top) (names_last theory cs (minimize at t)) knows
+nothing_forgotten theory top cs (check at) e knows = subst (Knows top) (names_last theory cs (check at)) knows
+nothing_forgotten theory top cs (ineffective at) e knows = subst (Knows top) (names_last theory cs (ineffective at)) knows

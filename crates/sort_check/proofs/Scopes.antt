@@ -11,9 +11,9 @@ use Rattle.script_model.specs.Reading.{Names, Named, value, found, operators, me
 use Rattle.script_model.specs.Script.{Command, declare, define, claim, minimize, check, ineffective}
 use Rattle.dyadic.specs.Point.{bool_sort, real_sort}
 use Rattle.smt_script.specs.Levels.{Levels, command, opened, closed, closed_to}
-use Rattle.sort_check.specs.Levels.{course_fault_from, names_from, names_of}
+use Rattle.sort_check.specs.Levels.{course_fault_from, names_of}
 use Rattle.sort_check.specs.Scopes.{count_from, count_of}
-use Rattle.sort_check.specs.Sorts.{Finding, SortFault, Sorted, of_sort, is_operator, known, new_name, redeclared, room_for, signature, sort_fault, sort_fault_from, sorting, parameter_names, taken_parameter, then_on, wants}
+use Rattle.sort_check.specs.Sorts.{Finding, SortFault, Sorted, of_sort, is_operator, known, new_name, redeclared, room_for, signature, sort_fault, sort_fault_from, sort_fault_in, sorting, parameter_names, taken_parameter, then_on, wants}
 use Rattle.sort_check.specs.Steps.{named_after, count_after}
 use Rattle.sort_check.specs.Views.{Knows, named_of}
 use Rattle.sort_check.specs.declared.names.Known.{Known}
@@ -21,7 +21,7 @@ use Rattle.sort_check.proofs.Known.{bytes_symm, known_is}
 
 -- ---- one command more
 
-pub names_last : (names : Names Sorted) (cs : List Command) (c : Command) → names_from names (cs ++ (c ∷ [])) ≡ named_after c (names_from names cs)
+pub names_last : (names : Names Sorted) (cs : List Command) (c : Command) → names_of names (cs ++ (c ∷ [])) ≡ named_after c (names_of names cs)
 names_last names [] c = refl
 names_last names (d ∷ cs) c = names_last (named_after d names) cs c
 
@@ -35,7 +35,7 @@ then_none (Some x) b e = cc
 
 -- behind commands without a fault the others go on
 pub goes_on : (n : ℕ) (names : Names Sorted) (cs rest : List Command) → sort_fault_from n names cs ≡ None →
-    sort_fault_from n names (cs ++ rest) ≡ sort_fault_from (count_from n cs) (names_from names cs) rest
+    sort_fault_from n names (cs ++ rest) ≡ sort_fault_from (count_from n cs) (names_of names cs) rest
 goes_on n names [] rest e = refl
 goes_on n names (declare at x s ∷ cs) rest e =
     let later : Finding = sort_fault_from (suc n) ((x, value (of_sort s)) ∷ names) (cs ++ rest) in
@@ -78,36 +78,39 @@ front n names (minimize at t ∷ cs) rest h =
 front n names (check at ∷ cs) rest e = front n names cs rest e
 front n names (ineffective at ∷ cs) rest e = front n names cs rest e
 
-skipped : (cs rest : List Command) (c : Command) → ((n : ℕ) (names : Names Sorted) → sort_fault_from n names (c ∷ rest) ≡ sort_fault_from n names rest) → sort_fault (cs ++ c ∷ rest) ≡ None → sort_fault (cs ++ rest) ≡ None
-skipped cs rest c same e =
-    let none = front 0 [] cs (c ∷ rest) e in
-    goes_on 0 [] cs rest none ∙ sym (same (count_of cs) (names_of cs)) ∙ sym (goes_on 0 [] cs (c ∷ rest) none) ∙ e
+module _ (theory : Names Sorted) where
+  skipped : (cs rest : List Command) (c : Command) → ((n : ℕ) (names : Names Sorted) → sort_fault_from n names (c ∷ rest) ≡ sort_fault_from n names rest) →
+      sort_fault_in theory (cs ++ c ∷ rest) ≡ None → sort_fault_in theory (cs ++ rest) ≡ None
+  skipped cs rest c same e =
+      let none = front 0 theory cs (c ∷ rest) e in
+      goes_on 0 theory cs rest none ∙ sym (same (count_of cs) (names_of theory cs)) ∙ sym (goes_on 0 theory cs (c ∷ rest) none) ∙ e
 
-first_of : (cs rest : List Command) (c : Command) → sort_fault (cs ++ c ∷ rest) ≡ None → sort_fault ((cs ++ c ∷ []) ++ rest) ≡ None
-first_of cs rest c e = ap sort_fault (append_assoc cs (c ∷ []) rest) ∙ e
+  first_of : (cs rest : List Command) (c : Command) → sort_fault_in theory (cs ++ c ∷ rest) ≡ None → sort_fault_in theory ((cs ++ c ∷ []) ++ rest) ≡ None
+  first_of cs rest c e = ap (sort_fault_in theory) (append_assoc cs (c ∷ []) rest) ∙ e
 
-fault_first : (cs rest : List Command) (c : Command) → sort_fault (cs ++ c ∷ rest) ≡ None → sort_fault (cs ++ c ∷ []) ≡ None
-fault_first cs rest c e = front 0 [] (cs ++ c ∷ []) rest (first_of cs rest c e)
+  fault_first : (cs rest : List Command) (c : Command) → sort_fault_in theory (cs ++ c ∷ rest) ≡ None → sort_fault_in theory (cs ++ c ∷ []) ≡ None
+  fault_first cs rest c e = front 0 theory (cs ++ c ∷ []) rest (first_of cs rest c e)
 
--- commands without levels have no fault as steps where they have none as a script
-pub plain_fault : (cs : List Command) (outer : List (List Command)) (ds : List Command) → sort_fault (cs ++ ds) ≡ None → course_fault_from (record { inner = cs; outer = outer }) (map command ds) ≡ None
-plain_fault cs outer [] e = refl
-plain_fault cs outer (declare at x s ∷ ds) e =
-    let d = declare at x s in
-    ap (λ f. then_on f (course_fault_from (record { inner = cs ++ d ∷ []; outer = outer }) (map command ds))) (fault_first cs ds d e) ∙ plain_fault (cs ++ d ∷ []) outer ds (first_of cs ds d e)
-plain_fault cs outer (define at f params s body ∷ ds) e =
-    let d = define at f params s body in
-    ap (λ f. then_on f (course_fault_from (record { inner = cs ++ d ∷ []; outer = outer }) (map command ds))) (fault_first cs ds d e) ∙ plain_fault (cs ++ d ∷ []) outer ds (first_of cs ds d e)
-plain_fault cs outer (claim at x ∷ ds) e =
-    let d = claim at x in
-    ap (λ f. then_on f (course_fault_from (record { inner = cs ++ d ∷ []; outer = outer }) (map command ds))) (fault_first cs ds d e) ∙ plain_fault (cs ++ d ∷ []) outer ds (first_of cs ds d e)
-plain_fault cs outer (minimize at t ∷ ds) e =
-    let d = minimize at t in
-    ap (λ f. then_on f (course_fault_from (record { inner = cs ++ d ∷ []; outer = outer }) (map command ds))) (fault_first cs ds d e) ∙ plain_fault (cs ++ d ∷ []) outer ds (first_of cs ds d e)
-plain_fault cs outer (check at ∷ ds) e =
-    ap (λ f. then_on f (course_fault_from (record { inner = cs; outer = outer }) (map command ds))) (fault_first cs ds (check at) e) ∙ plain_fault cs outer ds (skipped cs ds (check at) (λ n names. refl) e)
-plain_fault cs outer (ineffective at ∷ ds) e =
-    ap (λ f. then_on f (course_fault_from (record { inner = cs; outer = outer }) (map command ds))) (fault_first cs ds (ineffective at) e) ∙ plain_fault cs outer ds (skipped cs ds (ineffective at) (λ n names. refl) e)
+  kept_fault : (cs : List Command) (outer : List (List Command)) (d : Command) (ds : List Command) → sort_fault_in theory (cs ++ d ∷ ds) ≡ None →
+      course_fault_from theory (record { inner = cs ++ d ∷ []; outer = outer }) (map command ds) ≡ None →
+      then_on (sort_fault_in theory (cs ++ d ∷ [])) (course_fault_from theory (record { inner = cs ++ d ∷ []; outer = outer }) (map command ds)) ≡ None
+  kept_fault cs outer d ds e later =
+      ap (λ f. then_on f (course_fault_from theory (record { inner = cs ++ d ∷ []; outer = outer }) (map command ds))) (fault_first cs ds d e) ∙ later
+
+  -- commands without levels have no fault as steps where they have none as a script
+  pub plain_fault_in : (cs : List Command) (outer : List (List Command)) (ds : List Command) → sort_fault_in theory (cs ++ ds) ≡ None → course_fault_from theory (record { inner = cs; outer = outer }) (map command ds) ≡ None
+  plain_fault_in cs outer [] e = refl
+  plain_fault_in cs outer (declare at x s ∷ ds) e = let d = declare at x s in kept_fault cs outer d ds e (plain_fault_in (cs ++ d ∷ []) outer ds (first_of cs ds d e))
+  plain_fault_in cs outer (define at f params s body ∷ ds) e = let d = define at f params s body in kept_fault cs outer d ds e (plain_fault_in (cs ++ d ∷ []) outer ds (first_of cs ds d e))
+  plain_fault_in cs outer (claim at x ∷ ds) e = let d = claim at x in kept_fault cs outer d ds e (plain_fault_in (cs ++ d ∷ []) outer ds (first_of cs ds d e))
+  plain_fault_in cs outer (minimize at t ∷ ds) e = let d = minimize at t in kept_fault cs outer d ds e (plain_fault_in (cs ++ d ∷ []) outer ds (first_of cs ds d e))
+  plain_fault_in cs outer (check at ∷ ds) e =
+      ap (λ f. then_on f (course_fault_from theory (record { inner = cs; outer = outer }) (map command ds))) (fault_first cs ds (check at) e) ∙ plain_fault_in cs outer ds (skipped cs ds (check at) (λ n names. refl) e)
+  plain_fault_in cs outer (ineffective at ∷ ds) e =
+      ap (λ f. then_on f (course_fault_from theory (record { inner = cs; outer = outer }) (map command ds))) (fault_first cs ds (ineffective at) e) ∙ plain_fault_in cs outer ds (skipped cs ds (ineffective at) (λ n names. refl) e)
+
+pub plain_fault : (cs : List Command) (outer : List (List Command)) (ds : List Command) → sort_fault (cs ++ ds) ≡ None → course_fault_from [] (record { inner = cs; outer = outer }) (map command ds) ≡ None
+plain_fault = plain_fault_in []
 
 -- ---- names that are new
 
@@ -137,8 +140,8 @@ fresh_here n names (minimize at t) h = tt
 fresh_here n names (check at) e = tt
 fresh_here n names (ineffective at) e = tt
 
-pub fresh_last : (cs : List Command) (c : Command) → sort_fault (cs ++ (c ∷ [])) ≡ None → IsFresh c (names_of cs)
-fresh_last cs c e = fresh_here (count_of cs) (names_of cs) c (sym (goes_on 0 [] cs (c ∷ []) (front 0 [] cs (c ∷ []) e)) ∙ e)
+pub fresh_last : (theory : Names Sorted) (cs : List Command) (c : Command) → sort_fault_in theory (cs ++ (c ∷ [])) ≡ None → IsFresh c (names_of theory cs)
+fresh_last theory cs c e = fresh_here (count_of cs) (names_of theory cs) c (sym (goes_on 0 theory cs (c ∷ []) (front 0 theory cs (c ∷ []) e)) ∙ e)
 
 -- ---- names that are forgotten
 

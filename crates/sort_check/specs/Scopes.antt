@@ -1,6 +1,7 @@
 -- What the code keeps of the levels of a script.
 use Rattle.std.specs.Prelude.{◌≡◌, ℕ, ◌≤◌, List, [], ◌∷◌, Bool, true, false, map, take, reverse, length, Option, Some, None, Result, Ok, Err}
 use Rattle.std.specs.Borrow.{Bor}
+use Rattle.script_model.specs.Reading.{Names}
 use Rattle.script_model.specs.Script as script
 use Rattle.smt_script.specs.Levels.{Levels, Step, after_step, no_levels}
 use Rattle.smt_script.specs.Views.{command_of}
@@ -8,7 +9,7 @@ use Rattle.smt_script.specs.declared.command.Command.{Command}
 use Rattle.smt_sexp.specs.Views.{place_of}
 use Rattle.smt_sexp.specs.declared.sexps.Sexps.{Sexps}
 use Rattle.sort_check.specs.Levels.{names_of, step_fault}
-use Rattle.sort_check.specs.Sorts.{sort_fault}
+use Rattle.sort_check.specs.Sorts.{Sorted, sort_fault_in}
 use Rattle.sort_check.specs.Steps.{count_after}
 use Rattle.sort_check.specs.Views.{Knows, fault_of}
 use Rattle.sort_check.specs.declared.scope.Mark.{Mark}
@@ -45,10 +46,10 @@ name_bytes n = n.now
 abbrev pub forced : Sexps → Scope → List script.Command
 forced s scope = map (seen s) scope.force.items
 
--- what is in force has no fault, and the scope knows its names
-pub record IsKnown (s : Sexps) (scope : Scope) : Type 0 where
-  pub knows : Knows scope.top (names_of (forced s scope))
-  pub sorted : sort_fault (forced s scope) ≡ None
+-- what is in force behind the names of a theory has no fault, and the scope knows the names of both
+pub record IsKnown (theory : Names Sorted) (s : Sexps) (scope : Scope) : Type 0 where
+  pub knows : Knows scope.top (names_of theory (forced s scope))
+  pub sorted : sort_fault_in theory (forced s scope) ≡ None
 
 -- of what is in force, these commands were there where the mark was set
 pub record IsMark (m : Mark) (inner cs : List script.Command) : Type 0 where
@@ -64,31 +65,31 @@ AreMarks (m ∷ ms) inner (cs ∷ outer) = IsMark m inner cs × AreMarks ms cs o
 AreMarks ms inner outer = ⊥
 
 -- these levels are open
-pub record InForce (s : Sexps) (scope : Scope) (l : Levels) : Type 0 where
-  pub known : IsKnown s scope
+pub record InForce (theory : Names Sorted) (s : Sexps) (scope : Scope) (l : Levels) : Type 0 where
+  pub known : IsKnown theory s scope
   pub force : forced s scope ≡ l.inner
   pub count : scope.constants ≡ count_of l.inner
   pub few : scope.constants ≤ 1024
   pub marks : AreMarks (reverse scope.marks.items) l.inner l.outer
 
-abbrev pub Begins : Scope → Type 0
-Begins scope = (s : Sexps) → InForce s scope no_levels
+abbrev pub Begins : Names Sorted → Scope → Type 0
+Begins theory scope = (s : Sexps) → InForce theory s scope no_levels
 
 -- from levels to those that f gives
 abbrev pub Passes : Scope → Scope → (Levels → Levels) → Type 0
-Passes old new f = (s : Sexps) (l : Levels) → InForce s old l → InForce s new (f l)
+Passes old new f = (theory : Names Sorted) (s : Sexps) (l : Levels) → InForce theory s old l → InForce theory s new (f l)
 
 -- so many commands are left, and their names are known where those of all were
 pub record Forgets (old new : Scope) (left : ℕ) : Type 0 where
   pub rest : new.force.items ≡ take left old.force.items
-  pub known : (s : Sexps) → IsKnown s old → IsKnown s new
+  pub known : (theory : Names Sorted) (s : Sexps) → IsKnown theory s old → IsKnown theory s new
   pub marks : new.marks ≡ old.marks
 
 -- a step has no fault, and behind it the levels are open that it leaves; or this is its fault, or memory
-abbrev pub Follows : Sexps → Scope → Levels → Step → Result (Unit {0}) Stop → Type 0
-Follows s scope l step (Ok u) = InForce s scope (after_step l step) × (step_fault l.inner step ≡ None)
-Follows s scope l step (Err (stops.Fault at f)) = step_fault l.inner step ≡ Some (place_of at, fault_of f)
-Follows s scope l step (Err stops.Memory) = Unit {0}
+abbrev pub Follows : Names Sorted → Sexps → Scope → Levels → Step → Result (Unit {0}) Stop → Type 0
+Follows theory s scope l step (Ok u) = InForce theory s scope (after_step l step) × (step_fault theory l.inner step ≡ None)
+Follows theory s scope l step (Err (stops.Fault at f)) = step_fault theory l.inner step ≡ Some (place_of at, fault_of f)
+Follows theory s scope l step (Err stops.Memory) = Unit {0}
 
-abbrev pub FollowsStep : Sexps → Scope → Scope → Step → Result (Unit {0}) Stop → Type 0
-FollowsStep s old new step r = (l : Levels) → InForce s old l → Follows s new l step r
+abbrev pub FollowsStep : Names Sorted → Sexps → Scope → Scope → Step → Result (Unit {0}) Stop → Type 0
+FollowsStep theory s old new step r = (l : Levels) → InForce theory s old l → Follows theory s new l step r

@@ -7,10 +7,12 @@ use Rattle.script_fault.specs.declared.fault.ReadError.{ReadError}
 use Rattle.script_fault.specs.declared.fault.ScriptFault.{ScriptFault}
 use Rattle.script_fault.specs.declared.limit.Limit.TheVariants.{Axes}
 use Rattle.smt_sexp.specs.TextAnswers.{fault_at}
-use Rattle.smt_script.specs.Views.{steps_in}
+use Rattle.smt_script.specs.Views.{commands_in, steps_in}
 use Rattle.smt_script.specs.declared.command.Course.{Course}
-use Rattle.sort_check.specs.Levels.{course_fault}
-use Rattle.sort_check.specs.Sorts.{SortFault, unknown_symbol, redeclared, sort_mismatch, left_out_form, too_many_axes, Finding}
+use Rattle.smt_script.specs.declared.command.Script.{Script}
+use Rattle.sort_check.specs.Levels.{course_fault, course_fault_with_roots}
+use Rattle.sort_check.specs.Sorts.{SortFault, unknown_symbol, redeclared, sort_mismatch, left_out_form, too_many_axes, Finding, sort_fault}
+use Rattle.sort_check.specs.declared.typed.Typed.{Typed}
 use Rattle.sort_check.specs.declared.typed.TypedCourse.{TypedCourse}
 
 abbrev pub sort_kind : SortFault → FaultKind
@@ -29,3 +31,13 @@ finding_fault None = None
 abbrev pub IsCheckAnswer : Course → Result TypedCourse ReadError → Type 0
 IsCheckAnswer course (Ok typed) = (typed.course ≡ course) × (course_fault (steps_in course) ≡ None)
 IsCheckAnswer course (Err e) = IsFaultOrMemory e (finding_fault (course_fault (steps_in course)))
+
+-- no fault of steps in which `sqrt` is a function of one Real, or their first one
+abbrev pub IsRootsAnswer : Course → Result (Unit {0}) ReadError → Type 0
+IsRootsAnswer course (Ok u) = course_fault_with_roots (steps_in course) ≡ None
+IsRootsAnswer course (Err e) = IsFaultOrMemory e (finding_fault (course_fault_with_roots (steps_in course)))
+
+-- the same script, which has no fault, or its first one
+abbrev pub IsScriptAnswer : Script → Result Typed ReadError → Type 0
+IsScriptAnswer script (Ok typed) = typed.script ≡ script
+IsScriptAnswer script (Err e) = IsFaultOrMemory e (finding_fault (sort_fault (commands_in script)))

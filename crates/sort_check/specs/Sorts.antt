@@ -134,6 +134,18 @@ fit _ _ = false
 abbrev pub signature : List Parameter → Sort → Named Sorted
 signature params s = function (λ ss. cond (fit params ss) (of_sort s) mismatched)
 
+-- one argument, a Real
+abbrev pub one_real : List Sorted → Bool
+one_real (s ∷ []) = is_real s
+one_real ss = false
+
+-- what `sqrt` stands for before the first command of a script with square roots: a function of one Real to Real
+abbrev pub square_root : Named Sorted
+square_root = function (λ ss. cond (one_real ss) (of_sort real_sort) mismatched)
+
+abbrev pub roots : Names Sorted
+roots = (codes "sqrt", square_root) ∷ []
+
 abbrev pub parameter_names : List Parameter → Names Sorted
 parameter_names [] = []
 parameter_names (p ∷ params) = (p.name, value (of_sort p.sort)) ∷ parameter_names params
@@ -181,6 +193,10 @@ sort_fault_from n names (claim at e ∷ rest) = then_on (wants (place_of e) bool
 sort_fault_from n names (minimize at t ∷ rest) = then_on (wants (place_of t) real_sort (meaning sorting names t)) (sort_fault_from n names rest)
 sort_fault_from n names (_ ∷ rest) = sort_fault_from n names rest
 
--- the first fault of a script's names and sorts
+-- the first fault of a script's names and sorts, where these names are known before its first command
+abbrev pub sort_fault_in : Names Sorted → List Command → Finding
+sort_fault_in theory script = sort_fault_from 0 theory script
+
+-- where none are
 abbrev pub sort_fault : List Command → Finding
-sort_fault script = sort_fault_from 0 [] script
+sort_fault script = sort_fault_in [] script

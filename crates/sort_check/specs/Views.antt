@@ -4,9 +4,10 @@ use Rattle.std.specs.Borrow.{Bor}
 use Rattle.std.specs.Str.{bytes_eq}
 use Rattle.std.specs.HashMap.{HashMap, get_by}
 use Rattle.script_model.specs.Reading.{Operator, truth, falsehood, negation, conjunction, disjunction, implication, exclusive, equality, distinctness, choice, minus, plus, times, divide, at_most_op, below_op, at_least_op, above_op, found, operators, Names, Named, value}
+use Rattle.dyadic.specs.Point.{real_sort}
 use Rattle.script_model.specs.Sexp.{Place}
 use Rattle.script_model.specs.Script.{Parameter}
-use Rattle.sort_check.specs.Sorts.{SortFault, unknown_symbol, redeclared, sort_mismatch, left_out_form, too_many_axes, Sorted, of_sort, ill, signature, parameter_names, operator_sort, fit, if_takes}
+use Rattle.sort_check.specs.Sorts.{SortFault, unknown_symbol, redeclared, sort_mismatch, left_out_form, too_many_axes, Sorted, of_sort, ill, signature, parameter_names, operator_sort, fit, if_takes, one_real, roots, square_root}
 use Rattle.smt_sexp.specs.Views.{place_of}
 use Rattle.smt_script.specs.Views.{sort_of, parameter_of}
 use Rattle.smt_script.specs.declared.command.Sort as code_sort
@@ -21,6 +22,8 @@ use Rattle.sort_check.specs.declared.names.Known.{Known}
 use Rattle.sort_check.specs.declared.names.Known.TheVariants as known
 use Rattle.sort_check.specs.declared.names.Head.{Head}
 use Rattle.sort_check.specs.declared.names.Head.TheVariants as head
+use Rattle.sort_check.specs.declared.scope.Theory.{Theory}
+use Rattle.sort_check.specs.declared.scope.Theory.TheVariants as theories
 
 abbrev pub fault_of : Fault → SortFault
 fault_of (faults.UnknownSymbol name) = unknown_symbol name.now
@@ -69,6 +72,12 @@ sorts_seen ss = map sort_seen ss
 abbrev pub named_of : Known → Named Sorted
 named_of (known.Value s) = value (of_sort (sort_of s))
 named_of (known.Function params s) = signature (map parameter_of params.now) (sort_of s)
+named_of known.Root = square_root
+
+-- the names that a theory knows before the first command
+abbrev pub theory_names : Theory → Names Sorted
+theory_names theories.Reals = []
+theory_names theories.Roots = roots
 
 -- the top's names stand for what these say
 abbrev pub Knows : {S : Type 0} → HashMap (Bor (List ℕ)) Known S → Names Sorted → Type 0
@@ -94,6 +103,7 @@ abbrev pub head_sort : Place → Head → List Sorted → Sorted
 head_sort at (head.Operator o) ss = operator_sort at (operator_of o) ss
 head_sort at (head.Known (known.Value s)) ss = ill at sort_mismatch
 head_sort at (head.Known (known.Function params s)) ss = if_takes at (fit (map parameter_of params.now) ss) (sort_of s)
+head_sort at (head.Known known.Root) ss = if_takes at (one_real ss) real_sort
 
 abbrev pub names_of : List Parameter → List (List ℕ)
 names_of [] = []
@@ -104,3 +114,4 @@ abbrev pub bare_sort : Place → Head → Sorted
 bare_sort at (head.Operator o) = operator_sort at (operator_of o) []
 bare_sort at (head.Known (known.Value s)) = of_sort (sort_of s)
 bare_sort at (head.Known (known.Function params s)) = if_takes at (fit (map parameter_of params.now) []) (sort_of s)
+bare_sort at (head.Known known.Root) = ill at sort_mismatch

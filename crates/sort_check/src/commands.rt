@@ -2,35 +2,53 @@
 ghost use Rattle.std.specs.Prelude.{◌≡◌, ◌≤◌, [], map, OnOk};
 ghost use Rattle.script_model.specs.Sexp as sexp;
 ghost use Rattle.script_model.specs.Reading.{Names};
-ghost use Rattle.smt_script.specs.Views.{command_of, parameter_of, step_of, steps_in};
+ghost use Rattle.smt_script.specs.Views.{command_of, commands_in, parameter_of, step_of, steps_in};
 ghost use Rattle.smt_sexp.specs.Arena.{expression_at};
 ghost use Rattle.smt_sexp.specs.Views.{place_of};
 ghost use Rattle.sort_check.specs.Calls.{FindsAmong, FindsWithin, StepsFrom, faults_asked, one_command, wanted_sort};
-ghost use Rattle.sort_check.specs.Levels.{course_fault};
+ghost use Rattle.sort_check.specs.Levels.{course_fault_in};
 ghost use Rattle.sort_check.specs.Scopes.{FollowsStep};
-ghost use Rattle.sort_check.specs.Sorts.{Sorted, known, new_name, taken_parameter};
-ghost use Rattle.sort_check.specs.Views.{Knows};
+ghost use Rattle.sort_check.specs.Sorts.{Sorted, known, new_name, sort_fault, taken_parameter};
+ghost use Rattle.sort_check.specs.Views.{Knows, theory_names};
 ghost use Rattle.sort_check.specs.Steps.{FindsFault};
 
 use crate::expressions::{arguments, expression};
 use crate::locals::{Level, Locals};
 use crate::names::{Known, is_operator, is_same, is_taken};
-use crate::scope::{Scope, stays};
+use crate::scope::{Scope, Theory, stays, theory_top};
 use crate::stop::{Fault, Stop};
 use script_fault::{MOST_AXES, Name, Place};
-use smt_script::{Command, Course, Parameter, Sort, Step};
+use smt_script::{Command, Course, Parameter, Script, Sort, Step};
 use smt_sexp::{Seen, Sexps};
 use std::alloc::Global;
 use std::collections::HashMap;
 
-/// The first fault of the names and sorts of a script.
-pub(crate) fn sorts<'p, 'a>(alloc: Global, course: &'p Course<'a>) -> Result<(), Stop<'a>>
-    ensures { FindsFault result (course_fault (steps_in course.now)) }
+/// The first fault of the names and sorts of a script, where the names of the theory are known before its first command.
+pub(crate) fn sorts<'p, 'a>(
+    alloc: Global,
+    theory: Theory,
+    course: &'p Course<'a>,
+) -> Result<(), Stop<'a>>
+    ensures { FindsFault result (course_fault_in (theory_names theory) (steps_in course.now)) }
 {
-    let mut scope = Scope::new(alloc);
+    let mut scope = Scope::new(alloc, theory)?;
     let mut rest = course.steps.as_slice();
     while let [first, later @ ..] = rest {
-        follow(alloc, course.sexps, &mut scope, first)?;
+        follow(alloc, theory, course.sexps, &mut scope, first)?;
+        rest = later;
+    }
+    Ok(())
+}
+
+/// The first fault of the names and sorts of a script with one check.
+pub(crate) fn script_sorts<'p, 'a>(alloc: Global, script: &'p Script<'a>) -> Result<(), Stop<'a>>
+    ensures { FindsFault result (sort_fault (commands_in script.now)) }
+{
+    let mut top = theory_top(alloc, Theory::Reals)?;
+    let mut count = 0;
+    let mut rest = script.commands.as_slice();
+    while let [first, later @ ..] = rest {
+        count = step(alloc, script.sexps, &mut top, count, first)?;
         rest = later;
     }
     Ok(())
@@ -39,12 +57,13 @@ pub(crate) fn sorts<'p, 'a>(alloc: Global, course: &'p Course<'a>) -> Result<(),
 // A step from what is in force before it to what is in force behind it.
 fn follow<'p, 'a>(
     alloc: Global,
+    theory: Theory,
     sexps: &'a Sexps,
     scope: &mut Scope<'p, 'a>,
     first: &'p Step<'a>,
 ) -> Result<(), Stop<'a>>
     requires { scope.old.constants ≤ 1024 }
-    ensures { FollowsStep sexps.now scope.old scope.new (step_of sexps.now first.now) result }
+    ensures { FollowsStep (theory_names theory) sexps.now scope.old scope.new (step_of sexps.now first.now) result }
 {
     match first {
         Step::Command(command) => add(alloc, sexps, scope, command),
@@ -57,7 +76,7 @@ fn follow<'p, 'a>(
             Ok(())
         }
         Step::Reset(_) => {
-            *scope = Scope::new(alloc);
+            *scope = Scope::new(alloc, theory)?;
             Ok(())
         }
         Step::Values(_, terms) => asked(alloc, sexps, &scope.top, *terms),
@@ -72,7 +91,7 @@ fn add<'p, 'a>(
     command: &'p Command<'a>,
 ) -> Result<(), Stop<'a>>
     requires { scope.old.constants ≤ 1024 }
-    ensures { FollowsStep sexps.now scope.old scope.new (one_command sexps.now command.now) result }
+    ensures { (theory : Names Sorted) → FollowsStep theory sexps.now scope.old scope.new (one_command sexps.now command.now) result }
 {
     scope.constants = step(alloc, sexps, &mut scope.top, scope.constants, command)?;
     if !stays(command) {

@@ -8,7 +8,7 @@ ghost use Rattle.sort_check.specs.Views.{IsSortAnswer, bare_sort, head_sort, sor
 
 use crate::forms::{behind, binding, ends, let_form};
 use crate::locals::{Level, Locals};
-use crate::names::{Head, Known, fits, head_of, is_taken};
+use crate::names::{Head, Known, fits, head_of, is_one_real, is_taken};
 use crate::operators::operator_sort;
 use crate::stop::{Fault, Stop, if_takes, unknown};
 use script_fault::{Name, Place};
@@ -206,6 +206,7 @@ fn bare<'p, 'a>(place: Place, head: Head<'p, 'a>) -> Result<Sort, Stop<'a>>
         Head::Known(Known::Function(parameters, sort)) => {
             if_takes(place, fits(parameters, &[]), sort)
         }
+        Head::Known(Known::Root) => mismatch(place),
     }
 }
 
@@ -219,5 +220,6 @@ fn called<'p, 'a>(place: Place, head: Head<'p, 'a>, sorts: &[Sort]) -> Result<So
         Head::Known(Known::Function(parameters, sort)) => {
             if_takes(place, fits(parameters, sorts), sort)
         }
+        Head::Known(Known::Root) => if_takes(place, is_one_real(sorts), Sort::Real),
     }
 }

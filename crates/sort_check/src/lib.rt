@@ -1,10 +1,12 @@
 //! The sorts and names of a script.
 //!
-//! `check` answers the same script, all of whose names and sorts fit, or its first fault; `single` what is in force at its
-//! only check; `Force` keeps what is in force while its steps are taken. No term is built here.
+//! `check` answers the same script, all of whose names and sorts fit, or its first fault; `check_with_roots` the first fault
+//! where `sqrt` is a function of one Real; `check_script` does for a script with one check what `check` does for steps.
+//! `single` answers what is in force at a script's only check; `Force` keeps what is in force while its steps are taken. No
+//! term is built here.
 #![tactic(auto)]
 
-ghost use Rattle.sort_check.specs.SortAnswers.{IsCheckAnswer};
+ghost use Rattle.sort_check.specs.SortAnswers.{IsCheckAnswer, IsRootsAnswer, IsScriptAnswer};
 
 mod commands;
 mod expressions;
@@ -23,8 +25,9 @@ pub use force::Force;
 pub use forms::{behind, binding, ends, let_form};
 pub use one_check::{check_place, single};
 pub use operators::{Operator, operator_named};
+use scope::Theory;
 use script_fault::ReadError;
-use smt_script::Course;
+use smt_script::{Course, Script};
 use std::alloc::Global;
 pub use typed::{Typed, TypedCourse};
 
@@ -32,8 +35,28 @@ pub use typed::{Typed, TypedCourse};
 pub fn check<'a>(alloc: Global, course: Course<'a>) -> Result<TypedCourse<'a>, ReadError>
     ensures { IsCheckAnswer course.entry result }
 {
-    match commands::sorts(alloc, &course) {
+    match commands::sorts(alloc, Theory::Reals, &course) {
         Ok(()) => Ok(TypedCourse { course }),
+        Err(stop) => Err(fault::owned(alloc, stop)),
+    }
+}
+
+/// The first fault of the names and sorts of a script in which `sqrt` is a function of one Real.
+pub fn check_with_roots(alloc: Global, course: &Course<'_>) -> Result<(), ReadError>
+    ensures { IsRootsAnswer course.now result }
+{
+    match commands::sorts(alloc, Theory::Roots, course) {
+        Ok(()) => Ok(()),
+        Err(stop) => Err(fault::owned(alloc, stop)),
+    }
+}
+
+/// The same script, or the first fault of its names and sorts.
+pub fn check_script<'a>(alloc: Global, script: Script<'a>) -> Result<Typed<'a>, ReadError>
+    ensures { IsScriptAnswer script.entry result }
+{
+    match commands::script_sorts(alloc, &script) {
+        Ok(()) => Ok(Typed { script }),
         Err(stop) => Err(fault::owned(alloc, stop)),
     }
 }

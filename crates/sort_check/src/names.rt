@@ -3,7 +3,7 @@ ghost use Rattle.std.specs.Prelude.{◌≡◌, [], map};
 ghost use Rattle.script_model.specs.Reading.{found, operators};
 ghost use Rattle.smt_script.specs.Views.{parameter_of, sort_of};
 ghost use Rattle.sort_check.specs.Calls.{LooksUp, LooksUpHead};
-ghost use Rattle.sort_check.specs.Sorts.{fit, is_operator, is_taken, name_in, same_sort};
+ghost use Rattle.sort_check.specs.Sorts.{fit, is_operator, is_taken, name_in, one_real, same_sort};
 ghost use Rattle.sort_check.specs.Views.{names_back, names_of, sorts_seen};
 
 use crate::locals::{Level, Locals};
@@ -17,6 +17,8 @@ use std::collections::HashMap;
 pub(crate) enum Known<'p, 'a> {
     Value(Sort),
     Function(&'p [Parameter<'a>], Sort),
+    /// The function `sqrt` of one Real, which no command has defined.
+    Root,
 }
 
 /// What a name stands for.
@@ -95,6 +97,13 @@ pub(crate) fn fits(parameters: &[Parameter<'_>], sorts: &[Sort]) -> bool
         given = later;
     }
     given.is_empty()
+}
+
+/// Whether it is one sort, and Real.
+pub(crate) fn is_one_real(sorts: &[Sort]) -> bool
+    ensures { result ≡ one_real (sorts_seen sorts.now) }
+{
+    matches!(sorts, [Sort::Real])
 }
 
 /// Whether two sorts are one.

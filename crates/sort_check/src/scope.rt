@@ -1,15 +1,23 @@
 // What is in force, as far as names and sorts go.
-ghost use Rattle.std.specs.Prelude.{◌≡◌, ◌-◌, length, option_map, OnOk};
+ghost use Rattle.std.specs.Prelude.{◌≡◌, ◌-◌, length, option_map, IfOk, OnOk};
 ghost use Rattle.smt_script.specs.Levels.{closed, opened};
 ghost use Rattle.smt_script.specs.Views.{command_of};
 ghost use Rattle.smt_sexp.specs.declared.sexps.Sexps.{Sexps};
 ghost use Rattle.sort_check.specs.Scopes.{Begins, Forgets, Passes, command_name, name_bytes, stays};
+ghost use Rattle.sort_check.specs.Views.{Knows, theory_names};
 
 use crate::names::Known;
 use script_fault::Name;
 use smt_script::Command;
 use std::alloc::{AllocError, Global};
 use std::collections::HashMap;
+
+/// What is known before the first command: the symbols of Core and Reals, or those and `sqrt`.
+#[derive(Clone, Copy, Debug)]
+pub(crate) enum Theory {
+    Reals,
+    Roots,
+}
 
 /// How much was in force before a level was opened.
 #[derive(Clone, Copy, Debug)]
@@ -50,17 +58,35 @@ pub(crate) fn stays(command: &Command<'_>) -> bool
     }
 }
 
+/// The names that a theory knows, by their bytes.
+pub(crate) fn theory_top<'p, 'a>(
+    alloc: Global,
+    theory: Theory,
+) -> Result<HashMap<&'a [u8], Known<'p, 'a>>, AllocError>
+    ensures { IfOk result (λ top. Knows top (theory_names theory)) }
+{
+    match theory {
+        Theory::Reals => Ok(HashMap::new(alloc)),
+        Theory::Roots => {
+            let mut top: HashMap<&'a [u8], Known<'p, 'a>> = HashMap::new(alloc);
+            top.insert(b"sqrt".as_slice(), Known::Root)?;
+            Ok(top)
+        }
+    }
+}
+
 impl<'p, 'a> Scope<'p, 'a> {
-    /// Nothing is in force.
-    pub(crate) fn new(alloc: Global) -> Self
-        ensures { Begins result }
+    /// Nothing is in force, and the names of the theory are known.
+    pub(crate) fn new(alloc: Global, theory: Theory) -> Result<Self, AllocError>
+        ensures { IfOk result (Begins (theory_names theory)) }
     {
-        Scope {
-            top: HashMap::new(alloc),
+        let top = theory_top(alloc, theory)?;
+        Ok(Scope {
+            top,
             constants: 0,
             force: Vec::new(alloc),
             marks: Vec::new(alloc),
-        }
+        })
     }
 
     /// Opens so many levels.

@@ -5,11 +5,11 @@ use Rattle.sort_check.proofs.Scopes.{closed_next}
 use Rattle.sort_check.proofs.scope.Scope.close.Goals as goal
 
 pub loop-level-preserved : goal.loop-level-preserved
-loop-level-preserved c = λ s l h.
+loop-level-preserved c = λ theory s l h.
     let i = c.loop-level._level in
-    subst (λ (k : Levels). InForce s c.close_one.new.self k) (sym (closed_next i l)) (c.close_one.ensures s (closed i l) (c.loop-level.invariant s l h))
+    subst (λ (k : Levels). InForce theory s c.close_one.new.self k) (sym (closed_next i l)) (c.close_one.ensures theory s (closed i l) (c.loop-level.invariant theory s l h))
 
 pub returns : goal.returns
-returns c = λ s l h.
+returns c = λ theory s l h.
     let all : c.loop-level._level ≡ c.args.count = omega (arith, c.loop-level-test.false, c.loop-level.auto._level-end) in
-    subst (λ n. InForce s c.loop-level.self (closed n l)) all (c.loop-level.invariant s l h)
+    subst (λ n. InForce theory s c.loop-level.self (closed n l)) all (c.loop-level.invariant theory s l h)

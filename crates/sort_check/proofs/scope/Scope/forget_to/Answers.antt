@@ -8,7 +8,7 @@ loop-self-preserved c =
     let left : c.args.commands ≤ length force.items - 1 = omega (arith, c.loop-self-test.true, c.len.ensures, force.ok.0) in
     record {
       rest = ap (take c.args.commands) c.forget.ensures.rest ∙ take-take c.args.commands (length force.items - 1) force.items left ∙ c.loop-self.invariant.rest;
-      known = λ s k. c.forget.ensures.known s (c.loop-self.invariant.known s k);
+      known = λ theory s k. c.forget.ensures.known theory s (c.loop-self.invariant.known theory s k);
       marks = c.forget.ensures.marks ∙ c.loop-self.invariant.marks;
     }
 
