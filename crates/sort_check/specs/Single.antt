@@ -15,6 +15,7 @@ use Rattle.smt_script.specs.Levels as levels
 use Rattle.smt_script.specs.Levels.{Asked, Levels, after_step, checks_of, only_script, with_command}
 use Rattle.smt_script.specs.Views.{command_of, commands_in, step_of, steps_in}
 use Rattle.smt_script.specs.declared.command.Command.{Command}
+use Rattle.smt_script.specs.declared.command.Course.{Course}
 use Rattle.smt_script.specs.declared.command.Script.{Script}
 use Rattle.smt_script.specs.declared.command.Step.{Step}
 use Rattle.sort_check.specs.declared.force.Force.{Force}
@@ -28,6 +29,11 @@ asked_fault (a ∷ []) = None
 asked_fault (a ∷ b ∷ later) = Some (fault_at b.at LeftOut)
 
 -- what is in force at the only check, with the check, or why there is no such script
+abbrev pub IsOnly : Course → Result Script ReadError → Type 0
+IsOnly course (Ok script) = only_script (checks_of (steps_in course)) ≡ Some (commands_in script)
+IsOnly course (Err e) = IsFaultOrMemory e (asked_fault (checks_of (steps_in course)))
+
+-- the same of steps whose names and sorts are without a fault
 abbrev pub IsSingle : TypedCourse → Result Typed ReadError → Type 0
 IsSingle typed (Ok single) = only_script (checks_of (steps_in typed.course)) ≡ Some (commands_in single.script)
 IsSingle typed (Err e) = IsFaultOrMemory e (asked_fault (checks_of (steps_in typed.course)))

@@ -23,7 +23,7 @@ mod typed;
 
 pub use force::Force;
 pub use forms::{behind, binding, ends, let_form};
-pub use one_check::{check_place, single};
+pub use one_check::{check_place, only_script, single};
 pub use operators::{Operator, operator_named};
 use scope::Theory;
 use script_fault::ReadError;

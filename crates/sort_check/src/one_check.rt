@@ -2,7 +2,7 @@
 ghost use Rattle.std.specs.Prelude.{◌≡◌, IfOk};
 ghost use Rattle.smt_script.specs.Views.{step_of};
 ghost use Rattle.smt_sexp.specs.declared.sexps.Sexps.{Sexps};
-ghost use Rattle.sort_check.specs.Single.{IsSecond, IsSingle, StandsAtCheck, check_place, seen_place};
+ghost use Rattle.sort_check.specs.Single.{IsOnly, IsSecond, IsSingle, StandsAtCheck, check_place, seen_place};
 
 use crate::force::Force;
 use crate::typed::{Typed, TypedCourse};
@@ -11,22 +11,34 @@ use smt_script::{Command, Course, Script, Step};
 use smt_sexp::Sexps;
 use std::alloc::{AllocError, Global};
 
-/// What is in force at a script's only check, with the check.
+/// What is in force at the only check of steps, with the check.
 ///
 /// # Errors
 ///
 /// A second check is left out of the language. Where there is none, no check is.
-pub fn single<'a>(alloc: Global, typed: TypedCourse<'a>) -> Result<Typed<'a>, ReadError>
-    ensures { IsSingle typed.entry result }
+pub fn only_script<'a>(alloc: Global, course: Course<'a>) -> Result<Script<'a>, ReadError>
+    ensures { IsOnly course.entry result }
 {
-    let Course { sexps, steps } = typed.course;
+    let Course { sexps, steps } = course;
     if let Some(place) = second_check(steps.as_slice()) {
         return Err(ReadError::at(place, FaultKind::LeftOut));
     }
     match at_check(alloc, sexps, steps)? {
-        Some(script) => Ok(Typed { script }),
+        Some(script) => Ok(script),
         None => Err(ReadError::at(Place { line: 0, column: 0 }, FaultKind::NoCheck)),
     }
+}
+
+/// What is in force at a script's only check, with the check, where names and sorts are without a fault.
+///
+/// # Errors
+///
+/// Those of `only_script`.
+pub fn single<'a>(alloc: Global, typed: TypedCourse<'a>) -> Result<Typed<'a>, ReadError>
+    ensures { IsSingle typed.entry result }
+{
+    let script = only_script(alloc, typed.course)?;
+    Ok(Typed { script })
 }
 
 /// The place of a check.
