@@ -83,6 +83,30 @@ const HINTS: [(bool, &str, &str); 5] = [
     ),
 ];
 
+// What would help with a script that is refused, by how the answer begins.
+const SCRIPT_HINTS: [(&str, &str); 5] = [
+    (
+        "script fault 9 ",
+        "where the constants lie between their bounds a divisor of this quotient may be 0, or it holds an `ite` or a root. Tighter bounds of its constants may help",
+    ),
+    (
+        "script fault 12 BoundTooWide |sqrt(",
+        "where the constants lie between their bounds the argument of this root has no upper end, or one that is too large. Tighter bounds of its constants may help",
+    ),
+    (
+        "script fault 12 BoundTooWide |quotient(",
+        "where the constants lie between their bounds this quotient has an end that is too large. Tighter bounds of its constants may help",
+    ),
+    (
+        "script fault 8 Redeclared |sqrt(",
+        "a constant of this name stands for a root of the script",
+    ),
+    (
+        "script fault 8 Redeclared |quotient(",
+        "a constant of this name stands for a quotient of the script",
+    ),
+];
+
 // The first lines of answers: each whole, or up to a number.
 const FIRST_LINES: [&str; 7] = [
     "unsat",
@@ -199,6 +223,15 @@ fn hint(rt: &HostRuntime, messages: &Messages<'_>, desk: &FileDesk, least: bool)
     }
 }
 
+// Says what would help with a script that is refused.
+fn script_hint(rt: &HostRuntime, desk: &FileDesk) {
+    for (begins, help) in &SCRIPT_HINTS {
+        if desk.answer().starts_with(*begins) {
+            let _ = eprintln!(rt; "dpoly: {help}");
+        }
+    }
+}
+
 /// Says on standard error why the run of these words gave no answer: which word is wrong, or the help; which file could
 /// not be read or written; where the script, or the certificate, is refused. Behind an answer that leaves a question open
 /// it says what would help.
@@ -211,7 +244,10 @@ pub fn explain(rt: &HostRuntime, words: &[String], desk: &FileDesk, status: Stat
                 let _ = rt.eprint(text);
             }
         }
-        Status::ScriptRefused => messages.script_refused(rt, desk),
+        Status::ScriptRefused => {
+            messages.script_refused(rt, desk);
+            script_hint(rt, desk);
+        }
         Status::CertRefused => messages.cert_refused(rt, desk),
         Status::InFailed | Status::OutFailed => messages.port_failed(rt, desk),
         Status::NoMemory => messages.no_memory(rt),

@@ -1,6 +1,7 @@
 // In which assertion of a script an atom first stands: for people to read, and promised by no clause.
-ghost use Rattle.std.specs.Prelude.{◌≤◌, length};
+ghost use Rattle.std.specs.Prelude.{◌≤◌, ◌<◌, length};
 
+use poly_graph::Problem;
 use problem_build::read_session;
 use problem_session::Session;
 use script_fault::{Place, ReadError};
@@ -89,16 +90,23 @@ fn atoms_before(alloc: Global, script: &[u8], at: Place) -> Result<usize, ReadEr
     atoms_at_last(alloc, &session)
 }
 
+// The problem of the last check.
+fn last_problem(alloc: Global, session: &Session) -> Result<Problem, ReadError>
+    requires { 0 < length session.now }
+{
+    let mut problem = session.first(alloc)?;
+    for k in 1..session.len() {
+        problem = session.next(alloc, k - 1, &problem)?;
+    }
+    Ok(problem)
+}
+
 // How many atoms the problem of the last check has.
 fn atoms_at_last(alloc: Global, session: &Session) -> Result<usize, ReadError> {
     if session.len() == 0 {
         return Ok(0);
     }
-    let mut problem = session.first(alloc)?;
-    for k in 1..session.len() {
-        problem = session.next(alloc, k - 1, &problem)?;
-    }
-    Ok(problem.atoms().len())
+    Ok(last_problem(alloc, session)?.atoms().len())
 }
 
 // The last of the places before which the script has no more atoms than this one: by halving, since their number only grows.
@@ -122,9 +130,22 @@ fn last_before(
     Ok(rest.first().copied())
 }
 
+// Whether constants stand for roots and quotients of the script: its atoms do not stand in its order then.
+fn is_rewritten(session: &Session, alloc: Global) -> Result<bool, ReadError> {
+    let problem = last_problem(alloc, session)?;
+    Ok(problem.axes().iter().any(|axis| {
+        let name = axis.name.as_slice();
+        name.starts_with(b"sqrt(") || name.starts_with(b"quotient(")
+    }))
+}
+
 /// The assertion in which the atom of this number first stands, among those in force at the check of this number, from 0
-/// on; none where the script cannot be read once more.
+/// on; none where the script cannot be read once more, or is read with roots.
 pub fn assertion_with(alloc: Global, script: &[u8], check: usize, atom: usize) -> Option<Place> {
+    let session = read_session(alloc, script, Some(1)).ok()?;
+    if session.len() == 0 || is_rewritten(&session, alloc).ok()? {
+        return None;
+    }
     let places = assertions(alloc, script, check).ok()?;
     last_before(alloc, script, &places, atom).ok()?
 }

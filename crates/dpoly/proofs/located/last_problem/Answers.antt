@@ -1,7 +1,7 @@
 use Rattle.std.proofs.Common.{◌≡◌, ◌+◌, ◌-◌, ℕ, Some, subst, arith}
 use Rattle.std.specs.Prelude.{slice_get}
 use Rattle.dpoly.proofs.Planning.{parts_in}
-use Rattle.dpoly.proofs.located.atoms_at_last.Goals as goal
+use Rattle.dpoly.proofs.located.last_problem.Goals as goal
 
 pub loop-k-init : goal.loop-k-init
 loop-k-init c = record { some = omega arith; at = c.in_ok-problem.ensures }

@@ -1,7 +1,7 @@
 use Rattle.std.proofs.Common.{◌≡◌, ◌≤◌, ◌-◌, Some}
 use Rattle.std.specs.Prelude.{slice_get}
 use Rattle.dpoly.proofs.Planning.{parts_in}
-use Rattle.dpoly.proofs.located.atoms_at_last.Given as goal
+use Rattle.dpoly.proofs.located.last_problem.Given as goal
 
 -- the problem is that of the check before
 abbrev pub invariant-loop-k : goal.invariant-loop-k
