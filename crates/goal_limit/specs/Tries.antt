@@ -1,5 +1,5 @@
 -- Which limits a search for a least value tries: multiples of a power of two between its bounds.
-use Rattle.std.specs.Prelude.{◌≡◌, ◌⊎◌, ◌+◌, ◌-◌, ◌/◌, ◌%◌, ◌<◌, ℕ, pos, Bool, false, cond, not, ◌&&◌, Option, Some, nat_eq}
+use Rattle.std.specs.Prelude.{◌≡◌, ◌⊎◌, ◌+◌, ◌-◌, ◌*◌, ◌/◌, ◌%◌, ◌<◌, ℕ, zero, suc, pos, Bool, false, cond, not, ◌&&◌, Option, Some, nat_eq}
 use Rattle.dyadic.specs.Calls.{power_of_two}
 use Rattle.dyadic.specs.End.{end_sum, lesser_ext, negated_ext, rounded_down, rounded_up}
 use Rattle.dyadic.specs.Rounding.{Dyadic, Ext, finite, end_of, ext_at_most, mid, two_to_minus}
@@ -46,19 +46,31 @@ multiple_up k e =
     let sum = sum_up (sum_up e (power (61 - k))) (power (60 - k)) in
     sum_down (sum_down sum (negated_ext (power (61 - k)))) (negated_ext (power (60 - k)))
 
+-- for each number of bits so many multiples next to each other
+abbrev pub neighbours : ℕ
+neighbours = 16
+
 -- so many are tried, since one may have a constant that the problem has already
 abbrev pub tries : ℕ
-tries = 8
+tries = 4 * neighbours
 
--- the bits of try i, two more than the gap's at first: two tries for each number of bits
+-- the bits of try i, two more than the gap's at first
 abbrev pub bits_at : Span → ℕ → ℕ
-bits_at s i = s.gap + 2 + i / 2
+bits_at s i = s.gap + 2 + i / neighbours
 
--- the target rounded up, and at each second try the next multiple
+-- e and so many steps
+abbrev pub with_steps : Ext → Ext → ℕ → Ext
+with_steps e step zero = e
+with_steps e step (suc n) = sum_down (with_steps e step n) step
+
+-- neighbour n of a multiple e of 2^-k: e itself, then in turn one above it and one below it, ever farther
+abbrev pub neighbour : ℕ → Ext → ℕ → Ext
+neighbour k e n =
+    cond (nat_eq (n % 2) 0) (with_steps e (negated_ext (finite (two_to_minus k))) (n / 2)) (with_steps e (finite (two_to_minus k)) (n / 2 + 1))
+
+-- the target rounded up, and its neighbours
 abbrev pub limit_at : Ext → Span → ℕ → Ext
-limit_at t s i =
-    let k = bits_at s i in let e = multiple_up k t in
-    cond (nat_eq (i % 2) 0) e (sum_down e (finite (two_to_minus k)))
+limit_at t s i = let k = bits_at s i in neighbour k (multiple_up k t) (i % neighbours)
 
 -- ---- which of them can be one
 

@@ -6,7 +6,7 @@ use Rattle.dyadic.specs.Views.{dyadic_of, ext_of}
 use Rattle.poly_graph.specs.ProblemViews.{Parts, problem_of}
 use Rattle.cert_model.specs.Limited.{has_room, limited}
 use Rattle.goal_limit.specs.Limits.{takes_limit}
-pub use Rattle.goal_limit.specs.Tries.{Span, bits_at, closing_target, half_target, is_between, multiple_up, tries}
+pub use Rattle.goal_limit.specs.Tries.{Span, bits_at, closing_target, half_target, is_between, multiple_up, neighbour, tries, with_steps}
 use Rattle.goal_limit.specs.Tries as near
 use Rattle.least_search.specs.declared.limits.Between.{Between}
 use Rattle.least_search.specs.declared.limits.Limited.{Limited}

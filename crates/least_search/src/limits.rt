@@ -4,7 +4,7 @@ ghost use Rattle.dyadic.specs.Calls.{power_of_two};
 ghost use Rattle.dyadic.specs.Rounding.{finite};
 ghost use Rattle.dyadic.specs.Views.{dyadic_of, ext_of};
 ghost use Rattle.cert_model.specs.Least.{lower_end};
-ghost use Rattle.least_search.specs.Limits.{IsNextLimit, IsTried, bits_at, closing_target, half_target, is_between, lesser_ext, limit_at, multiple_up, span_in, target, tries};
+ghost use Rattle.least_search.specs.Limits.{IsNextLimit, IsTried, bits_at, closing_target, half_target, is_between, lesser_ext, limit_at, multiple_up, neighbour, span_in, target, tries, with_steps};
 
 use dyadic::{Dy, Ext, add_down, add_up, at_most, mid, pow2, two_to_minus};
 use goal_limit::limited;
@@ -39,8 +39,11 @@ pub(crate) struct Between {
     pub gap_bits: u32,
 }
 
+// For each number of bits so many multiples next to each other are tried.
+const NEIGHBOURS: u32 = 16;
+
 // So many limits are tried, since one may have a constant that the problem has already.
-const TRIES: u32 = 8;
+const TRIES: u32 = 4 * NEIGHBOURS;
 
 // ---- near which number
 
@@ -103,7 +106,32 @@ fn multiple_up(bits: u32, number: Ext) -> Ext
     add_down(add_down(sum, far.neg()), half.neg())
 }
 
-// The limit of this try: the target rounded up, or the next multiple.
+// The end and so many steps.
+fn with_steps(end: Ext, step: Dy, count: u32) -> Ext
+    ensures { ext_of result ≡ with_steps (ext_of end) (finite (dyadic_of step)) count }
+{
+    let mut there = end;
+    for _ in 0..count {
+        there = add_down(there, Ext::Fin(step));
+    }
+    there
+}
+
+// A neighbour of a multiple of `2^-bits`: the multiple itself, then in turn one above it and one below it, ever farther.
+fn neighbour(bits: u32, multiple: Ext, number: u32) -> Ext
+    requires bits { bits ≤ 120 }
+    requires number { number < 16 }
+    ensures { ext_of result ≡ neighbour bits (ext_of multiple) number }
+{
+    let step = two_to_minus(bits);
+    if number % 2 == 0 {
+        with_steps(multiple, step.neg(), number / 2)
+    } else {
+        with_steps(multiple, step, number / 2 + 1)
+    }
+}
+
+// The limit of this try: the target rounded up, or one of its neighbours.
 fn limit_at(phase: Phase, between: Between, bits: u32, attempt: u32) -> Ext
     requires gap { between.gap_bits ≤ 30 }
     requires bits { bits ≡ bits_at (span_in between) attempt }
@@ -111,11 +139,7 @@ fn limit_at(phase: Phase, between: Between, bits: u32, attempt: u32) -> Ext
     ensures { ext_of result ≡ limit_at phase (span_in between) attempt }
 {
     let first = multiple_up(bits, target(phase, between));
-    if attempt % 2 == 0 {
-        first
-    } else {
-        add_down(first, Ext::Fin(two_to_minus(bits)))
-    }
+    neighbour(bits, first, attempt % NEIGHBOURS)
 }
 
 // ---- which of them can be one
@@ -151,7 +175,7 @@ fn try_limit(
     requires attempt { attempt < tries }
     ensures { IfOk result (IsTried problem.now goal phase (span_in between) attempt) }
 {
-    let bits = between.gap_bits + 2 + attempt / 2;
+    let bits = between.gap_bits + 2 + attempt / NEIGHBOURS;
     let end = limit_at(phase, between, bits, attempt);
     let limit = match end {
         Ext::Fin(limit) => limit,

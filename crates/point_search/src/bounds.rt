@@ -1,5 +1,6 @@
 // The box in floats, and the terms over it.
-use floats::{Span, at, near_fraction, set, span_of_domain, value_at};
+use dyadic::two_to_minus;
+use floats::{Span, approximate, at, near_fraction, set, span_of_domain, value_at};
 use ival::{Domain, Space, Truths};
 use poly_graph::{Lits, Node, Problem};
 use std::alloc::{AllocError, Global};
@@ -12,6 +13,11 @@ pub struct Bounds<'a> {
     pub space: &'a Space,
     pub delta: f64,
     pub sides: Vec<Span, Global>,
+}
+
+/// 2 to the power of minus the bits, 120 at most.
+pub fn small(bits: u32) -> f64 {
+    approximate(two_to_minus(if bits > 120 { 120 } else { bits }))
 }
 
 /// What is left to a Bool axis: a value, or nothing known.

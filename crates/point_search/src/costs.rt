@@ -19,14 +19,19 @@ fn excess(kind: Kind, value: f64) -> f64 {
     }
 }
 
-/// What the term of an atom exceeds its bound by; 0 where there is no such atom.
-pub fn excess_of(bounds: &Bounds, values: &[f64], j: usize) -> f64 {
+/// What a value exceeds the bound of an atom by; 0 where there is no such atom.
+pub fn excess_over(bounds: &Bounds, j: usize, value: f64) -> f64 {
     let atoms = bounds.problem.atoms();
     if j < atoms.len() {
-        excess(atoms[j].kind, bounds.term_value(values, j))
+        excess(atoms[j].kind, value)
     } else {
         0.0
     }
+}
+
+/// What the term of an atom exceeds its bound by; 0 where there is no such atom.
+pub fn excess_of(bounds: &Bounds, values: &[f64], j: usize) -> f64 {
+    excess_over(bounds, j, bounds.term_value(values, j))
 }
 
 // Whether the atom is marked no.

@@ -1,5 +1,6 @@
-// Descent along the term of one atom, held within the box: a quasi-Newton method.
+// Descent along the term of one atom or a Lagrangian, held within the box: a quasi-Newton method.
 use crate::bounds::Bounds;
+use crate::lagrangian::Lagrangian;
 use crate::matrix::{Matrix, add_entry, add_to_row, image, product, zeros};
 use crate::moves::{gradient, moved};
 use floats::{at, set};
@@ -20,7 +21,7 @@ const TURNS_TO_LEARN: u32 = 4;
 /// A step ends the descent where it would take less than this share of what is left, by its slope.
 const LEAST_SHARE: f64 = 0.01;
 
-// A point, with the values of all terms and the height of the one that falls, or of its negative where it rises.
+// A point, with the values of all terms and the height there.
 #[derive(Drop)]
 struct Place {
     x: Vec<f64, Global>,
@@ -28,7 +29,7 @@ struct Place {
     height: f64,
 }
 
-// A point, the height of the term there, and the slopes along the axes.
+// A point, the height there, and the slopes along the axes.
 #[derive(Drop)]
 struct Foot {
     x: Vec<f64, Global>,
@@ -54,12 +55,20 @@ struct Way {
     slope: f64,
 }
 
-/// The term of one atom, which is to fall, or to rise where that is said.
+/// What is to fall.
+#[derive(Clone, Copy)]
+pub enum Hill<'a> {
+    /// The term of this atom, or its negative where it rises, until it is low enough.
+    Term(usize, bool),
+    /// A Lagrangian, as far as it falls.
+    Lagrangian(&'a Lagrangian),
+}
+
+/// What is to fall within the box.
 #[derive(Clone, Copy)]
 pub struct Slide<'a> {
     pub bounds: &'a Bounds<'a>,
-    pub atom: usize,
-    pub rises: bool,
+    pub hill: Hill<'a>,
 }
 
 /// Where a descent ended, and at how many points it evaluated terms.
@@ -83,21 +92,53 @@ fn negate(xs: &mut [f64]) {
     }
 }
 
+// The height of a term with this value.
+fn term_height(value: f64, rises: bool) -> f64 {
+    if rises { -value } else { value }
+}
+
+// The slopes of an atom's term.
+fn term_slopes(
+    alloc: Global,
+    bounds: &Bounds,
+    values: &[f64],
+    atom: usize,
+    rises: bool,
+) -> Result<Vec<f64, Global>, AllocError> {
+    let mut slopes = gradient(alloc, bounds, values, atom)?;
+    if rises {
+        negate(&mut slopes);
+    }
+    Ok(slopes)
+}
+
 impl<'a> Slide<'a> {
+    // The height where the terms have these values.
+    fn height(&self, values: &[f64]) -> f64 {
+        match self.hill {
+            Hill::Term(atom, rises) => term_height(self.bounds.term_value(values, atom), rises),
+            Hill::Lagrangian(lagrangian) => lagrangian.height(self.bounds, values),
+        }
+    }
+
+    // The slopes along the axes where the terms have these values.
+    fn slopes(&self, alloc: Global, values: &[f64]) -> Result<Vec<f64, Global>, AllocError> {
+        match self.hill {
+            Hill::Term(atom, rises) => term_slopes(alloc, self.bounds, values, atom, rises),
+            Hill::Lagrangian(lagrangian) => lagrangian.slopes(alloc, self.bounds, values),
+        }
+    }
+
     // Looks at a point.
     fn place(&self, alloc: Global, x: Vec<f64, Global>) -> Result<Place, AllocError> {
         let values = self.bounds.values(alloc, &x)?;
-        let value = self.bounds.term_value(&values, self.atom);
-        let height = if self.rises { -value } else { value };
+        let height = self.height(&values);
         Ok(Place { x, values, height })
     }
 
     // Stands at a point.
     fn foot(&self, alloc: Global, place: Place) -> Result<Foot, AllocError> {
-        let mut slopes = gradient(alloc, self.bounds, &place.values, self.atom)?;
-        if self.rises {
-            negate(&mut slopes);
-        }
+        let slopes = self.slopes(alloc, &place.values)?;
         Ok(Foot {
             x: place.x,
             height: place.height,
@@ -171,13 +212,20 @@ impl<'a> Slide<'a> {
         if most < 1.0 { most } else { 1.0 }
     }
 
+    // What a step from this height has to take, by its slope, once the curvature is known.
+    fn least_fall(&self, height: f64) -> f64 {
+        match self.hill {
+            Hill::Term(_, _) => LEAST_SHARE * (height - 0.5 * self.bounds.delta),
+            Hill::Lagrangian(lagrangian) => lagrangian.least_fall(),
+        }
+    }
+
     // Whether a step along the way is of no use: nothing falls along it, or far too little once the curvature is known.
     fn is_lost(&self, foot: &Foot, way: &Way, turn: u32) -> bool {
-        let left = foot.height - 0.5 * self.bounds.delta;
         let least = if turn < TURNS_TO_LEARN {
             FLATTEST
         } else {
-            LEAST_SHARE * left
+            self.least_fall(foot.height)
         };
         !(way.slope < -least)
     }
@@ -202,9 +250,12 @@ impl<'a> Slide<'a> {
         }
     }
 
-    /// Whether a height is low enough: half of delta.
+    /// Whether a height is low enough: of a term half of delta.
     pub fn is_low(&self, height: f64) -> bool {
-        height <= 0.5 * self.bounds.delta
+        match self.hill {
+            Hill::Term(_, _) => height <= 0.5 * self.bounds.delta,
+            Hill::Lagrangian(_) => false,
+        }
     }
 
     /// Goes down from a point until the height is low enough, or no step is of use.

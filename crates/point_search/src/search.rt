@@ -1,12 +1,10 @@
 // The search.
-use crate::bounds::Bounds;
-use crate::descent::Slide;
+use crate::bounds::{Bounds, small};
+use crate::descent::{Hill, Slide};
 use crate::exact::space_at;
 use crate::moves::step;
 use crate::scatter::scattered;
 use crate::stand::Stand;
-use dyadic::two_to_minus;
-use floats::approximate;
 use ival::Space;
 use poly_graph::{Lits, Problem};
 use std::alloc::{AllocError, Global};
@@ -15,10 +13,10 @@ use std::alloc::{AllocError, Global};
 const STEPS_BEFORE_ALONE: u32 = 3;
 
 /// At most so many axes are searched along.
-const MOST_AXES: usize = 64;
+pub const MOST_AXES: usize = 64;
 
 /// At most so many nodes of terms are evaluated.
-const MOST_NODES: usize = 1 << 14;
+pub const MOST_NODES: usize = 1 << 14;
 
 /// At most so many atoms may be missed.
 const MOST_MISSED: usize = 512;
@@ -140,8 +138,7 @@ fn follow(
 ) -> Result<Search, AllocError> {
     let slide = Slide {
         bounds,
-        atom,
-        rises: excess < 0.0,
+        hill: Hill::Term(atom, excess < 0.0),
     };
     let descent = slide.go(alloc, here.x)?;
     let missed = descent.height * descent.height;
@@ -235,8 +232,7 @@ pub fn search_from(
     if space.len() > MOST_AXES || problem.graph().len() > MOST_NODES {
         return Ok(none());
     }
-    let delta = approximate(two_to_minus(if delta_bits > 120 { 120 } else { delta_bits }));
-    let bounds = Bounds::of(alloc, problem, lits, space, delta)?;
+    let bounds = Bounds::of(alloc, problem, lits, space, small(delta_bits))?;
     let x = match start {
         Start::Middle => bounds.middle(alloc)?,
         Start::Scattered(number) => scattered(alloc, &bounds, number)?,
