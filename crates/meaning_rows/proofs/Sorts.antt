@@ -1,8 +1,9 @@
 -- First faults of names and sorts, with their places.
 use Rattle.std.proofs.Common.{◌≡◌, codes, Some, None, refl}
 use Prim.Native.String.{String}
+use Rattle.sort_check.specs.Levels.{course_fault_with_roots}
 use Rattle.sort_check.specs.Sorts.{unknown_symbol, redeclared, sort_mismatch, left_out_form, Finding, sort_fault}
-use Rattle.meaning_rows.proofs.Asked.{at, of_text}
+use Rattle.meaning_rows.proofs.Asked.{at, of_steps, of_text}
 
 abbrev fault : String → Finding
 fault text = of_text sort_fault None text
@@ -130,3 +131,36 @@ quoted_words = refl
 -- a quoted word that would be reserved is a name
 quoted_let : fault "(declare-const |let| Bool)\n(assert |let|)" ≡ None
 quoted_let = refl
+
+-- ---- where `sqrt` is a function of one Real
+
+abbrev fault_with_roots : String → Finding
+fault_with_roots text = of_steps course_fault_with_roots None text
+
+root_of_a_real : fault_with_roots "(declare-const x Real)\n(assert (= (sqrt (+ x 1)) 2))" ≡ None
+root_of_a_real = refl
+
+root_of_unknown : fault_with_roots "(assert (= (sqrt (foo)) 2))" ≡ Some (at 1 18, unknown_symbol (codes "foo"))
+root_of_unknown = refl
+
+root_of_a_truth : fault_with_roots "(assert (= (sqrt true) 2))" ≡ Some (at 1 12, sort_mismatch)
+root_of_a_truth = refl
+
+root_of_two_arguments : fault_with_roots "(assert (= (sqrt 1 2) 2))" ≡ Some (at 1 12, sort_mismatch)
+root_of_two_arguments = refl
+
+root_alone : fault_with_roots "(assert (= sqrt 2))" ≡ Some (at 1 12, sort_mismatch)
+root_alone = refl
+
+root_declared : fault_with_roots "(declare-const x Real)\n(declare-const sqrt Real)" ≡ Some (at 2 1, redeclared (codes "sqrt"))
+root_declared = refl
+
+root_defined_behind_reset : fault_with_roots "(reset)\n(define-fun sqrt ((y Real)) Real y)" ≡ Some (at 2 1, redeclared (codes "sqrt"))
+root_defined_behind_reset = refl
+
+root_behind_reset : fault_with_roots "(declare-const x Real)\n(reset)\n(assert (= (sqrt 2) 2))" ≡ None
+root_behind_reset = refl
+
+-- a `let` may bind the name
+root_bound : fault_with_roots "(assert (let ((sqrt 2)) (= sqrt 2)))" ≡ None
+root_bound = refl
