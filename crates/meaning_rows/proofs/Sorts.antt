@@ -2,7 +2,7 @@
 use Rattle.std.proofs.Common.{◌≡◌, codes, Some, None, refl}
 use Prim.Native.String.{String}
 use Rattle.sort_check.specs.Levels.{course_fault_with_roots}
-use Rattle.sort_check.specs.Sorts.{unknown_symbol, redeclared, sort_mismatch, left_out_form, Finding, sort_fault}
+use Rattle.sort_check.specs.Sorts.{unknown_symbol, redeclared, sort_mismatch, left_out_form, too_many_axes, Finding, sort_fault}
 use Rattle.meaning_rows.proofs.Asked.{at, of_steps, of_text}
 
 abbrev fault : String → Finding
@@ -134,8 +134,9 @@ quoted_let = refl
 
 -- ---- where `sqrt` is a function of one Real
 
+-- a text that is not read has another fault
 abbrev fault_with_roots : String → Finding
-fault_with_roots text = of_steps course_fault_with_roots None text
+fault_with_roots text = of_steps course_fault_with_roots (Some (at 0 0, too_many_axes)) text
 
 root_of_a_real : fault_with_roots "(declare-const x Real)\n(assert (= (sqrt (+ x 1)) 2))" ≡ None
 root_of_a_real = refl

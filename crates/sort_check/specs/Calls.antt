@@ -13,9 +13,7 @@ use Rattle.smt_sexp.specs.Arena.{expression_at, rest_of}
 use Rattle.smt_sexp.specs.Views.{leaf_of, place_of}
 use Rattle.smt_sexp.specs.declared.leaf.Leaf.{Leaf}
 use Rattle.smt_sexp.specs.declared.sexps.Sexps.{Sexps}
-use Rattle.smt_script.specs.Levels.{Step, command}
-use Rattle.smt_script.specs.Views.{command_of, sort_of}
-use Rattle.smt_script.specs.declared.command.Command as code_command
+use Rattle.smt_script.specs.Views.{sort_of}
 use Rattle.smt_script.specs.declared.command.Parameter.{Parameter}
 use Rattle.smt_script.specs.declared.command.Sort.{Sort}
 use Rattle.sort_check.specs.Forms.{Binds, Lists, let_at}
@@ -98,10 +96,6 @@ wanted_sort sexps at sort names = wants (sexp.place_of (expression_at sexps at))
 -- of terms that are asked for, from a place on
 abbrev pub faults_asked : Sexps → ℕ → Names Sorted → Finding
 faults_asked sexps start names = terms_fault names (rest_of sexps start)
-
--- a command as a step
-abbrev pub one_command : Sexps → code_command.Command → Step
-one_command sexps c = command (command_of sexps c)
 
 -- a command, after so many constants
 abbrev pub StepsFrom : {S : Type 0} → Top S → Top S → ℕ → Command → Result ℕ Stop → Type 0

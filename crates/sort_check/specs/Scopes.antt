@@ -3,17 +3,19 @@ use Rattle.std.specs.Prelude.{◌≡◌, ℕ, ◌≤◌, List, [], ◌∷◌, Bo
 use Rattle.std.specs.Borrow.{Bor}
 use Rattle.script_model.specs.Reading.{Names}
 use Rattle.script_model.specs.Script as script
-use Rattle.smt_script.specs.Levels.{Levels, Step, after_step, no_levels}
-use Rattle.smt_script.specs.Views.{command_of}
+use Rattle.smt_script.specs.Levels.{Levels, Step, after_step, command, no_levels}
+use Rattle.smt_script.specs.Views.{command_of, step_of}
 use Rattle.smt_script.specs.declared.command.Command.{Command}
+use Rattle.smt_script.specs.declared.command.Step as code
 use Rattle.smt_sexp.specs.Views.{place_of}
 use Rattle.smt_sexp.specs.declared.sexps.Sexps.{Sexps}
 use Rattle.sort_check.specs.Levels.{names_of, step_fault}
 use Rattle.sort_check.specs.Sorts.{Sorted, sort_fault_in}
 use Rattle.sort_check.specs.Steps.{count_after}
-use Rattle.sort_check.specs.Views.{Knows, fault_of}
+use Rattle.sort_check.specs.Views.{Knows, fault_of, theory_names}
 use Rattle.sort_check.specs.declared.scope.Mark.{Mark}
 use Rattle.sort_check.specs.declared.scope.Scope.{Scope}
+use Rattle.sort_check.specs.declared.scope.Theory.{Theory}
 use Rattle.sort_check.specs.declared.stop.Stop.{Stop}
 use Rattle.sort_check.specs.declared.stop.Stop.TheVariants as stops
 
@@ -91,5 +93,10 @@ Follows theory s scope l step (Ok u) = InForce theory s scope (after_step l step
 Follows theory s scope l step (Err (stops.Fault at f)) = step_fault theory l.inner step ≡ Some (place_of at, fault_of f)
 Follows theory s scope l step (Err stops.Memory) = Unit {0}
 
-abbrev pub FollowsStep : Names Sorted → Sexps → Scope → Scope → Step → Result (Unit {0}) Stop → Type 0
-FollowsStep theory s old new step r = (l : Levels) → InForce theory s old l → Follows theory s new l step r
+-- a step, where the names of this theory are known before the first command
+abbrev pub FollowsStep : Theory → Sexps → Scope → Scope → code.Step → Result (Unit {0}) Stop → Type 0
+FollowsStep theory s old new step r = (l : Levels) → InForce (theory_names theory) s old l → Follows (theory_names theory) s new l (step_of s step) r
+
+-- a command, whatever names are known before the first one
+abbrev pub FollowsCommand : Sexps → Scope → Scope → Command → Result (Unit {0}) Stop → Type 0
+FollowsCommand s old new c r = (theory : Names Sorted) (l : Levels) → InForce theory s old l → Follows theory s new l (command (command_of s c)) r

@@ -2,12 +2,12 @@
 ghost use Rattle.std.specs.Prelude.{◌≡◌, ◌≤◌, [], map, OnOk};
 ghost use Rattle.script_model.specs.Sexp as sexp;
 ghost use Rattle.script_model.specs.Reading.{Names};
-ghost use Rattle.smt_script.specs.Views.{command_of, commands_in, parameter_of, step_of, steps_in};
+ghost use Rattle.smt_script.specs.Views.{command_of, commands_in, parameter_of, steps_in};
 ghost use Rattle.smt_sexp.specs.Arena.{expression_at};
 ghost use Rattle.smt_sexp.specs.Views.{place_of};
-ghost use Rattle.sort_check.specs.Calls.{FindsAmong, FindsWithin, StepsFrom, faults_asked, one_command, wanted_sort};
+ghost use Rattle.sort_check.specs.Calls.{FindsAmong, FindsWithin, StepsFrom, faults_asked, wanted_sort};
 ghost use Rattle.sort_check.specs.Levels.{course_fault_in};
-ghost use Rattle.sort_check.specs.Scopes.{FollowsStep};
+ghost use Rattle.sort_check.specs.Scopes.{FollowsCommand, FollowsStep};
 ghost use Rattle.sort_check.specs.Sorts.{Sorted, known, new_name, sort_fault, taken_parameter};
 ghost use Rattle.sort_check.specs.Views.{Knows, theory_names};
 ghost use Rattle.sort_check.specs.Steps.{FindsFault};
@@ -63,7 +63,7 @@ fn follow<'p, 'a>(
     first: &'p Step<'a>,
 ) -> Result<(), Stop<'a>>
     requires { scope.old.constants ≤ 1024 }
-    ensures { FollowsStep (theory_names theory) sexps.now scope.old scope.new (step_of sexps.now first.now) result }
+    ensures { FollowsStep theory sexps.now scope.old scope.new first.now result }
 {
     match first {
         Step::Command(command) => add(alloc, sexps, scope, command),
@@ -91,7 +91,7 @@ fn add<'p, 'a>(
     command: &'p Command<'a>,
 ) -> Result<(), Stop<'a>>
     requires { scope.old.constants ≤ 1024 }
-    ensures { (theory : Names Sorted) → FollowsStep theory sexps.now scope.old scope.new (one_command sexps.now command.now) result }
+    ensures { FollowsCommand sexps.now scope.old scope.new command.now result }
 {
     scope.constants = step(alloc, sexps, &mut scope.top, scope.constants, command)?;
     if !stays(command) {
