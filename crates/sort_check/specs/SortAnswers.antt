@@ -12,7 +12,6 @@ use Rattle.smt_script.specs.declared.command.Course.{Course}
 use Rattle.smt_script.specs.declared.command.Script.{Script}
 use Rattle.sort_check.specs.Levels.{course_fault, course_fault_with_roots}
 use Rattle.sort_check.specs.Sorts.{SortFault, unknown_symbol, redeclared, sort_mismatch, left_out_form, too_many_axes, Finding, sort_fault}
-use Rattle.sort_check.specs.declared.typed.Typed.{Typed}
 use Rattle.sort_check.specs.declared.typed.TypedCourse.{TypedCourse}
 
 abbrev pub sort_kind : SortFault → FaultKind
@@ -37,7 +36,7 @@ abbrev pub IsRootsAnswer : Course → Result (Unit {0}) ReadError → Type 0
 IsRootsAnswer course (Ok u) = course_fault_with_roots (steps_in course) ≡ None
 IsRootsAnswer course (Err e) = IsFaultOrMemory e (finding_fault (course_fault_with_roots (steps_in course)))
 
--- the same script, which has no fault, or its first one
-abbrev pub IsScriptAnswer : Script → Result Typed ReadError → Type 0
-IsScriptAnswer script (Ok typed) = typed.script ≡ script
+-- no fault of a script with one check, or its first one
+abbrev pub IsScriptAnswer : Script → Result (Unit {0}) ReadError → Type 0
+IsScriptAnswer script (Ok u) = sort_fault (commands_in script) ≡ None
 IsScriptAnswer script (Err e) = IsFaultOrMemory e (finding_fault (sort_fault (commands_in script)))

@@ -1,7 +1,7 @@
 //! The sorts and names of a script.
 //!
 //! `check` answers the same script, all of whose names and sorts fit, or its first fault; `check_with_roots` the first fault
-//! where `sqrt` is a function of one Real; `check_script` does for a script with one check what `check` does for steps.
+//! where `sqrt` is a function of one Real; `check_script` the first fault of a script with one check.
 //! `single` answers what is in force at a script's only check; `Force` keeps what is in force while its steps are taken. No
 //! term is built here.
 #![tactic(auto)]
@@ -51,12 +51,12 @@ pub fn check_with_roots(alloc: Global, course: &Course<'_>) -> Result<(), ReadEr
     }
 }
 
-/// The same script, or the first fault of its names and sorts.
-pub fn check_script<'a>(alloc: Global, script: Script<'a>) -> Result<Typed<'a>, ReadError>
-    ensures { IsScriptAnswer script.entry result }
+/// The first fault of the names and sorts of a script with one check.
+pub fn check_script(alloc: Global, script: &Script<'_>) -> Result<(), ReadError>
+    ensures { IsScriptAnswer script.now result }
 {
-    match commands::script_sorts(alloc, &script) {
-        Ok(()) => Ok(Typed { script }),
+    match commands::script_sorts(alloc, script) {
+        Ok(()) => Ok(()),
         Err(stop) => Err(fault::owned(alloc, stop)),
     }
 }
