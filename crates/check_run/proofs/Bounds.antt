@@ -57,9 +57,9 @@ goal_within goal g p some is = subst (λ (o : Option ℕ). IsAtomOf o p) some is
 
 -- of a script that was read with its goal
 pub run_minimize : (bound : Option ℕ) (name script : List ℕ) (words : Minimize) (old mid new : Sight) (status : Status) (p : Problem) (goal : Option ℕ) → Fetches name (HasProblem bound p) old mid → old.script ≡ Some script →
-    IfSome old.script (λ (text : List ℕ). goal ≡ goal_atom (commands_of text)) → RunEnds (CanMinimize goal p words) [] mid new status →
-    RunEnds (CanFrom name (script_fault bound script) (OfProblem bound script (λ p. CanMinimize (goal_atom (commands_of script)) p words))) ((Script, name) ∷ []) old new status
+    IfSome old.script (λ (text : List ℕ). goal ≡ goal_atom (commands_of bound text)) → RunEnds (CanMinimize goal p words) [] mid new status →
+    RunEnds (CanFrom name (script_fault bound script) (OfProblem bound script (λ p. CanMinimize (goal_atom (commands_of bound script)) p words))) ((Script, name) ∷ []) old new status
 run_minimize bound name script words old mid new status p goal fetched e says ends =
-    let is : goal ≡ goal_atom (commands_of script) = told (λ (text : List ℕ). goal ≡ goal_atom (commands_of text)) old.script script e says in
-    run_problem bound name script (λ p. CanMinimize (goal_atom (commands_of script)) p words) [] old mid new status p fetched e
+    let is : goal ≡ goal_atom (commands_of bound script) = told (λ (text : List ℕ). goal ≡ goal_atom (commands_of bound text)) old.script script e says in
+    run_problem bound name script (λ p. CanMinimize (goal_atom (commands_of bound script)) p words) [] old mid new status p fetched e
     (subst (λ (o : Option ℕ). RunEnds (CanMinimize o p words) [] mid new status) is ends)

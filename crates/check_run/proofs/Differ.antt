@@ -68,6 +68,6 @@ script-refused-not x e f = let same : ◌≡◌ {A = Status} ScriptRefused CertR
 
 -- ---- points
 
-pub delta-so : (bound : Option ℕ) (script : List ℕ) (p : Problem) (cert : List ℕ) (s : Loosenings) (space : Space) → IsBuilt bound script p → IsAccepted p bound cert s (at_point space) → IsDeltaSat bound (commands_of script) s space
+pub delta-so : (bound : Option ℕ) (script : List ℕ) (p : Problem) (cert : List ℕ) (s : Loosenings) (space : Space) → IsBuilt bound script p → IsAccepted p bound cert s (at_point space) → IsDeltaSat bound (commands_of bound script) s space
 delta-so bound script p cert s space built accepts =
-    let means = delta_sat_is bound (commands_of script) p built.whole built.problem cert s space accepts in record { satisfies = means.0; near = means.1 }
+    let means = delta_sat_is bound (commands_of bound script) p built.whole built.problem cert s space accepts in record { satisfies = means.0; near = means.1 }

@@ -17,7 +17,7 @@ use Rattle.script_fault.specs.declared.fault.ScriptFault.{ScriptFault}
 use Rattle.check_run.specs.ScriptFaults.{fault_text}
 use Rattle.script_reading.specs.Faults.{session_fault}
 use Rattle.smt_script.specs.Levels.{Asked, checks_of}
-use Rattle.script_reading.specs.Session.{AreBuilt, HasSession, carried_of, steps_of_text}
+use Rattle.script_reading.specs.Session.{AreBuilt, HasSession, asked_in, carried_in}
 use Rattle.check_run.specs.Answer.{loosenings_for, solve_texts, AreAnswers, AreFoundFrom, IsFoundPart}
 use Rattle.check_run.specs.Course.{Course}
 use Rattle.check_run.specs.Can.{ArePlans, CanSolve, CanBy, OfSession}
@@ -79,7 +79,7 @@ module _ (one : SessionIsOne) (words : Plan) (script : List ℕ) (ps : List (Pro
         accepted = answers.accepted;
         in_force = x;
         problem = there;
-        whole = whole-at o.bound (checks_of (steps_of_text script)) (carried_of (steps_of_text script)) qs also.built k (q, x) there;
+        whole = whole-at o.bound (asked_in o.bound script) (carried_in o.bound script) qs also.built k (q, x) there;
         value = value;
         plan = planned-too o is q (same-problem o is qs also q x there);
         honest = found.honest;

@@ -103,7 +103,7 @@ solved-one o script old new single so =
 unsat-so : (o : Options) (script : List ℕ) (p : Problem) (old new : Sight) (cert : List ℕ) → IsBuilt o.bound script p → new.cert_out ≡ appended old.cert_out cert → IsAccepted p o.bound cert (loosenings_of o) (left_open []) →
     IsUnsat o script old new
 unsat-so o script p old new cert built written accepts = record {
-  no_point = unsat_is o.bound (commands_of script) p built.whole built.problem cert (loosenings_of o) accepts;
+  no_point = unsat_is o.bound (commands_of o.bound script) p built.whole built.problem cert (loosenings_of o) accepts;
   problem = p;
   built = built;
   cert = cert;
@@ -150,7 +150,7 @@ confirmed-by bound script cert_in old new ps course has wrote so = record {
 }
 
 -- of a script with a goal
-goal-checked : (bound : Option ℕ) (script name cert_in : List ℕ) (old new : Sight) (g : ℕ) → goal_in script ≡ Some g → (p : Problem) (e : Bool) → HasSession bound ((p, e) ∷ []) script → IsBuilt bound script p → (room : Bool) → IsRoomOf p room →
+goal-checked : (bound : Option ℕ) (script name cert_in : List ℕ) (old new : Sight) (g : ℕ) → goal_in bound script ≡ Some g → (p : Problem) (e : Bool) → HasSession bound ((p, e) ∷ []) script → IsBuilt bound script p → (room : Bool) → IsRoomOf p room →
     (course : Course) (v : GoalVerdict) → goal_verdict p g room bound cert_in ≡ v → course ≡ behind ((CertIn, name) ∷ []) (goal_course p g v) → course.status ≡ Answered → new.answer ≡ appended old.answer course.answer →
     IsConfirmed bound script cert_in old new ⊎ IsConfirmedLeast bound script cert_in old new
 goal-checked bound script name cert_in old new g is p e has built room is_room course (accepted s (plain v)) accepts can status wrote =
@@ -161,7 +161,7 @@ goal-checked bound script name cert_in old new g is p e has built room is_room c
       answer_is = ap (λ (c : Course). c.answer) can ∙ sym (append-nil (check_text s v));
     }))
 goal-checked bound script name cert_in old new g is p e has built room is_room course (accepted s (least x)) accepts can status wrote =
-    let atom = goal_is script g is in
+    let atom = goal_is bound script g is in
     inr (record {
       problem = p;
       built = built;
@@ -173,19 +173,19 @@ goal-checked bound script name cert_in old new g is p e has built room is_room c
       is_room = is_room;
       accepted = accepts;
       answer = wrote ∙ ap (λ (c : Course). appended old.answer c.answer) can;
-      lower = lower_means bound (commands_of script) p built.whole built.problem g atom room cert_in s x accepts;
+      lower = lower_means bound (commands_of bound script) p built.whole built.problem g atom room cert_in s x accepts;
       upper = λ space kept.
-          let h = upper_means bound (commands_of script) p built.whole built.problem g atom room cert_in s x accepts space kept in
+          let h = upper_means bound (commands_of bound script) p built.whole built.problem g atom room cert_in s x accepts space kept in
           (record { satisfies = h.0; near = h.1 }, h.2);
     })
 goal-checked bound script name cert_in old new g is p e has built room is_room course (refused f n) accepts can status wrote = absurd (certificate-refused-not course.status (ap (λ (c : Course). c.status) can) status)
 
-check-by : (bound : Option ℕ) (script name cert_in : List ℕ) (old new : Sight) (goal : Option ℕ) → goal_in script ≡ goal → (ps : List (Problem × Bool)) → HasSession bound ps script → (course : Course) → CanCheck goal ps bound name cert_in course →
+check-by : (bound : Option ℕ) (script name cert_in : List ℕ) (old new : Sight) (goal : Option ℕ) → goal_in bound script ≡ goal → (ps : List (Problem × Bool)) → HasSession bound ps script → (course : Course) → CanCheck goal ps bound name cert_in course →
     course.status ≡ Answered → new.answer ≡ appended old.answer course.answer → IsConfirmed bound script cert_in old new ⊎ IsConfirmedLeast bound script cert_in old new
 check-by bound script name cert_in old new None is ps has course can status wrote =
     inl (confirmed-by bound script cert_in old new ps course has wrote (checked-by ps bound name cert_in course (session_verdict ps bound cert_in) refl can.2 status))
 check-by bound script name cert_in old new (Some g) is ps has course can status wrote =
-    let x = one_problem bound script (goal_has_one script g is) ps has in
+    let x = one_problem bound script (goal_has_one bound script g is) ps has in
     let so : CanCheck (Some g) ((x.problem, x.extends) ∷ []) bound name cert_in course = subst (λ (ys : List (Problem × Bool)). CanCheck (Some g) ys bound name cert_in course) x.only can in
     goal-checked bound script name cert_in old new g is x.problem x.extends (subst (λ (ys : List (Problem × Bool)). HasSession bound ys script) x.only has) x.built so.0 so.1 course
     (goal_verdict x.problem g so.0 bound cert_in) refl so.2 status wrote
@@ -195,8 +195,8 @@ check-so : (words : Check) (script cert_in : List ℕ) (parts : List (List ℕ))
 check-so words script cert_in parts old new (course, can, status, went) =
     let tail : Course = can.0 in
     let status_is : tail.status ≡ Answered = sym (ap (λ (c : Course). c.status) can.2) ∙ status in
-    let on = goes-on words.bound script (λ ps. CanCheck (goal_in script) ps words.bound words.cert cert_in) (session_fault words.bound script) tail can.1 status_is in
-    check-by words.bound script words.cert cert_in old new (goal_in script) refl on.ps on.has tail on.can status_is (went.answer ∙ ap (λ (c : Course). appended old.answer c.answer) can.2)
+    let on = goes-on words.bound script (λ ps. CanCheck (goal_in words.bound script) ps words.bound words.cert cert_in) (session_fault words.bound script) tail can.1 status_is in
+    check-by words.bound script words.cert cert_in old new (goal_in words.bound script) refl on.ps on.has tail on.can status_is (went.answer ∙ ap (λ (c : Course). appended old.answer c.answer) can.2)
 
 record Checked-one (bound : Option ℕ) (script cert_in : List ℕ) (old new : Sight) : Type 0 where
   p : Problem
@@ -246,7 +246,7 @@ check-unsat words script cert_in parts old new shows single rest wrote =
       so.s,
       subst W (text ∙ ap (λ (v : Value). check_text so.s v) none) wrote,
       record {
-        no_point = unsat_is words.bound (commands_of script) so.p so.built.whole so.built.problem cert_in so.s accepts;
+        no_point = unsat_is words.bound (commands_of words.bound script) so.p so.built.whole so.built.problem cert_in so.s accepts;
         problem = so.p;
         built = so.built;
         accepted = accepts;
@@ -256,13 +256,13 @@ check-unsat words script cert_in parts old new shows single rest wrote =
 -- ---- the answers of minimize
 
 -- a point was found, with bounds of the goal
-least-so : (words : Minimize) (script : List ℕ) (old new : Sight) (p : Problem) → HasProblem words.options.bound p script → (g : ℕ) → goal_atom (commands_of script) ≡ Some g → (cert : List ℕ) (cause : Cause) (x : Least) → IsLeastAnswer p g words cert cause x →
+least-so : (words : Minimize) (script : List ℕ) (old new : Sight) (p : Problem) → HasProblem words.options.bound p script → (g : ℕ) → goal_atom (commands_of words.options.bound script) ≡ Some g → (cert : List ℕ) (cause : Cause) (x : Least) → IsLeastAnswer p g words cert cause x →
     new.cert_out ≡ appended old.cert_out cert → new.answer ≡ appended old.answer (minimize_text p g words.options.budget cause x) → IsLeast words script old new
 least-so words script old new p has g is cert cause x answers written answer =
     let b : Option ℕ = words.options.bound in
     let s : Loosenings = loosenings_of words.options in
     let built = has.built in
-    let h = upper_means b (commands_of script) p built.whole built.problem g is answers.room cert s x answers.accepted answers.point answers.has_point in
+    let h = upper_means b (commands_of b script) p built.whole built.problem g is answers.room cert s x answers.accepted answers.point answers.has_point in
     record {
       problem = p;
       has = has;
@@ -274,12 +274,12 @@ least-so words script old new p has g is cert cause x answers written answer =
       answers = answers;
       written = written;
       answer = answer;
-      lower = lower_means b (commands_of script) p built.whole built.problem g is answers.room cert s x answers.accepted;
+      lower = lower_means b (commands_of b script) p built.whole built.problem g is answers.room cert s x answers.accepted;
       point = record { satisfies = h.0; near = h.1 };
       upper = h.2;
     }
 
-minimize-told : (words : Minimize) (script : List ℕ) (old new : Sight) (p : Problem) → HasProblem words.options.bound p script → (g : ℕ) → goal_atom (commands_of script) ≡ Some g → (course : Course) → CanTellLeast p g words course →
+minimize-told : (words : Minimize) (script : List ℕ) (old new : Sight) (p : Problem) → HasProblem words.options.bound p script → (g : ℕ) → goal_atom (commands_of words.options.bound script) ≡ Some g → (course : Course) → CanTellLeast p g words course →
     new.cert_out ≡ appended old.cert_out course.cert → new.answer ≡ appended old.answer course.answer → IsLeast words script old new ⊎ IsNoLeast words script old new
 minimize-told words script old new p has g is course (inl (cert, left, answers, e)) written answer =
     inr (record {
@@ -295,17 +295,17 @@ minimize-told words script old new p has g is course (inl (cert, left, answers, 
 minimize-told words script old new p has g is course (inr (cert, cause, x, answers, e)) written answer =
     inl (least-so words script old new p has g is cert cause x answers (written ∙ ap (λ (c : Course). appended old.cert_out c.cert) e) (answer ∙ ap (λ (c : Course). appended old.answer c.answer) e))
 
-minimize-by : (words : Minimize) (script : List ℕ) (old new : Sight) (goal : Option ℕ) → goal_atom (commands_of script) ≡ goal → (p : Problem) → HasProblem words.options.bound p script → (course : Course) → CanMinimize goal p words course →
+minimize-by : (words : Minimize) (script : List ℕ) (old new : Sight) (goal : Option ℕ) → goal_atom (commands_of words.options.bound script) ≡ goal → (p : Problem) → HasProblem words.options.bound p script → (course : Course) → CanMinimize goal p words course →
     course.status ≡ Answered → new.cert_out ≡ appended old.cert_out course.cert → new.answer ≡ appended old.answer course.answer → IsLeast words script old new ⊎ IsNoLeast words script old new
 minimize-by words script old new None is p has course can status written answer = absurd (refused-not course.status (ap (λ (c : Course). c.status) can) status)
 minimize-by words script old new (Some g) is p has course can status written answer = minimize-told words script old new p has g is course can written answer
 
 minimize-of : (words : Minimize) (script : List ℕ) (old new : Sight) (f : Option ScriptFault) (tail : Course) → script_fault words.options.bound script ≡ f →
-    CanBy f (OfProblem words.options.bound script (λ p. CanMinimize (goal_atom (commands_of script)) p words)) tail → tail.status ≡ Answered → new.cert_out ≡ appended old.cert_out tail.cert → new.answer ≡ appended old.answer tail.answer →
+    CanBy f (OfProblem words.options.bound script (λ p. CanMinimize (goal_atom (commands_of words.options.bound script)) p words)) tail → tail.status ≡ Answered → new.cert_out ≡ appended old.cert_out tail.cert → new.answer ≡ appended old.answer tail.answer →
     IsLeast words script old new ⊎ IsNoLeast words script old new
 minimize-of words script old new (Some f) tail e can status written answer = absurd (refused-not tail.status (ap (λ (c : Course). c.status) can) status)
 minimize-of words script old new None tail e can status written answer =
-    minimize-by words script old new (goal_atom (commands_of script)) refl can.0 (record { clean = e; built = can.1 }) tail can.2 status written answer
+    minimize-by words script old new (goal_atom (commands_of words.options.bound script)) refl can.0 (record { clean = e; built = can.1 }) tail can.2 status written answer
 
 minimize-so : (words : Minimize) (script cert_in : List ℕ) (parts : List (List ℕ)) (old new : Sight) → IsShown (Some (minimize words)) script cert_in parts old new Answered → IsLeast words script old new ⊎ IsNoLeast words script old new
 minimize-so words script cert_in parts old new (course, can, status, went) =
@@ -408,7 +408,7 @@ refused-by words script cert_in old new ps course (refused f n) has e can status
 }
 
 -- of a script with a goal
-goal-refused : (words : Check) (script cert_in : List ℕ) (old new : Sight) (g : ℕ) → goal_in script ≡ Some g → (p : Problem) → IsBuilt words.bound script p → (room : Bool) → IsRoomOf p room → (course : Course) (v : GoalVerdict) → goal_verdict p g room words.bound cert_in ≡ v →
+goal-refused : (words : Check) (script cert_in : List ℕ) (old new : Sight) (g : ℕ) → goal_in words.bound script ≡ Some g → (p : Problem) → IsBuilt words.bound script p → (room : Bool) → IsRoomOf p room → (course : Course) (v : GoalVerdict) → goal_verdict p g room words.bound cert_in ≡ v →
     course ≡ behind ((CertIn, words.cert) ∷ []) (goal_course p g v) → course.status ≡ CertRefused → new.answer ≡ appended old.answer course.answer → IsRefusedForGoal words.bound script cert_in old new
 goal-refused words script cert_in old new g is p built room is_room course (accepted s (plain v)) e can status wrote = absurd (answered-not course.status (ap (λ (c : Course). c.status) can) status)
 goal-refused words script cert_in old new g is p built room is_room course (accepted s (least x)) e can status wrote = absurd (answered-not course.status (ap (λ (c : Course). c.status) can) status)
@@ -425,18 +425,18 @@ goal-refused words script cert_in old new g is p built room is_room course (refu
   written = wrote ∙ ap (λ (c : Course). appended old.answer c.answer) can;
 }
 
-refused-of : (words : Check) (script cert_in : List ℕ) (old new : Sight) (goal : Option ℕ) → goal_in script ≡ goal → (ps : List (Problem × Bool)) → HasSession words.bound ps script → (course : Course) → CanCheck goal ps words.bound words.cert cert_in course →
+refused-of : (words : Check) (script cert_in : List ℕ) (old new : Sight) (goal : Option ℕ) → goal_in words.bound script ≡ goal → (ps : List (Problem × Bool)) → HasSession words.bound ps script → (course : Course) → CanCheck goal ps words.bound words.cert cert_in course →
     course.status ≡ CertRefused → new.answer ≡ appended old.answer course.answer → IsRefusedCert words.bound script cert_in old new ⊎ IsRefusedForGoal words.bound script cert_in old new
 refused-of words script cert_in old new None is ps has course can status wrote = inl (refused-by words script cert_in old new ps course (session_verdict ps words.bound cert_in) has refl can.2 status wrote)
 refused-of words script cert_in old new (Some g) is ps has course can status wrote =
-    let x = one_problem words.bound script (goal_has_one script g is) ps has in
+    let x = one_problem words.bound script (goal_has_one words.bound script g is) ps has in
     let so : CanCheck (Some g) ((x.problem, x.extends) ∷ []) words.bound words.cert cert_in course = subst (λ (ys : List (Problem × Bool)). CanCheck (Some g) ys words.bound words.cert cert_in course) x.only can in
     inr (goal-refused words script cert_in old new g is x.problem x.built so.0 so.1 course (goal_verdict x.problem g so.0 words.bound cert_in) refl so.2 status wrote)
 
-check-refused : (words : Check) (script cert_in : List ℕ) (old new : Sight) (tail : Course) (f : Option ScriptFault) → CanBy f (OfSession words.bound script (λ ps. CanCheck (goal_in script) ps words.bound words.cert cert_in)) tail
+check-refused : (words : Check) (script cert_in : List ℕ) (old new : Sight) (tail : Course) (f : Option ScriptFault) → CanBy f (OfSession words.bound script (λ ps. CanCheck (goal_in words.bound script) ps words.bound words.cert cert_in)) tail
     → tail.status ≡ CertRefused → new.answer ≡ appended old.answer tail.answer → IsRefusedCert words.bound script cert_in old new ⊎ IsRefusedForGoal words.bound script cert_in old new
 check-refused words script cert_in old new tail (Some f) can status wrote = absurd (script-refused-not tail.status (ap (λ (c : Course). c.status) can) status)
-check-refused words script cert_in old new tail None can status wrote = refused-of words script cert_in old new (goal_in script) refl can.0 can.1 tail can.2 status wrote
+check-refused words script cert_in old new tail None can status wrote = refused-of words script cert_in old new (goal_in words.bound script) refl can.0 can.1 tail can.2 status wrote
 
 -- of `upgrade`, which writes nothing then
 upgrade-refused-by : (words : Upgrade) (script cert_in : List ℕ) (parts : List (List ℕ)) (old new : Sight) (ps : List (Problem × Bool)) (tail : Course) (v : SessionVerdict) → HasSession words.bound ps script → session_verdict ps words.bound cert_in ≡ v → CanUpgradeBy v ps words.bound words.out cert_in tail

@@ -65,7 +65,7 @@ join_unsat words script cert_in parts old new shows rest wrote =
       so.loosenings,
       subst (λ (t : List ℕ). IsWritten t old new) (text ∙ ap (λ (v : Value). check_text so.loosenings v) none) wrote,
       record {
-        no_point = unsat_is b (commands_of script) so.problem so.has.built.whole so.has.built.problem so.cert so.loosenings accepts;
+        no_point = unsat_is b (commands_of b script) so.problem so.has.built.whole so.has.built.problem so.cert so.loosenings accepts;
         problem = so.problem;
         built = so.has.built;
         cert = so.cert;

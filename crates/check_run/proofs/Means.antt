@@ -12,9 +12,9 @@ use Rattle.script_forms.specs.ProblemOf.{IsProblemOf}
 use Rattle.script_forms.proofs.Box.{box_declared, problem_means}
 use Rattle.headline.proofs.Headline.{near_is}
 use Rattle.smt_script.specs.Levels.{Asked, checks_of}
-use Rattle.script_reading.specs.Session.{AreBuilt, HasSession, carried_of, steps_of_text}
+use Rattle.script_reading.specs.Session.{AreBuilt, HasSession, asked_in, carried_in}
 use Rattle.script_reading.proofs.Pairs.{session_goes_on}
-use Rattle.check_run.specs.Headline.{AreTrueValues, IsTrueValue, asked_in}
+use Rattle.check_run.specs.Headline.{AreTrueValues, IsTrueValue}
 
 value-true : (bound : Option ℕ) (script : List Command) (p : Problem) → IsProblemOf bound script p → (s : Loosenings) (v : Value) → ValueHolds s p v → IsTrueValue bound s script v
 value-true bound script p t s (left_open []) h = λ point b m.
@@ -35,7 +35,7 @@ all-true bound _ _ s _ values b h = absurd b
 
 -- the values of accepted bytes say what is so
 pub values_true : (bound : Option ℕ) (script : List ℕ) (ps : List (Problem × Bool)) → HasSession bound ps script → (bytes : List ℕ) (s : Loosenings) (values : List Value) → AreAccepted ps bound bytes s values →
-    AreTrueValues bound s (asked_in script) values
+    AreTrueValues bound s (asked_in bound script) values
 values_true bound script ps has bytes s values e =
-    all-true bound (checks_of (steps_of_text script)) (carried_of (steps_of_text script)) s ps values has.built
+    all-true bound (asked_in bound script) (carried_in bound script) s ps values has.built
     (session_means ps (session_goes_on bound script ps has) bound bytes s values e)

@@ -75,9 +75,9 @@ more-delta-sat p b words cert_in cert s (left_open (x ∷ left)) v text rest (in
 
 -- ---- the courses of a run that answers
 
-pub value-so : (bound : Option ℕ) (script : List ℕ) (p : Problem) (cert : List ℕ) (s : Loosenings) (v : Value) → IsBuilt bound script p → IsAccepted p bound cert s v → IsTrueValue bound s (commands_of script) v
+pub value-so : (bound : Option ℕ) (script : List ℕ) (p : Problem) (cert : List ℕ) (s : Loosenings) (v : Value) → IsBuilt bound script p → IsAccepted p bound cert s v → IsTrueValue bound s (commands_of bound script) v
 value-so bound script p cert s (at_point space) built accepts = delta-so bound script p cert s space built accepts
-value-so bound script p cert s (left_open []) built accepts = unsat_is bound (commands_of script) p built.whole built.problem cert s accepts
+value-so bound script p cert s (left_open []) built accepts = unsat_is bound (commands_of bound script) p built.whole built.problem cert s accepts
 value-so bound script p cert s (left_open (x ∷ left)) built accepts = tt
 
 resumed-by : (words : Resume) (script cert_in : List ℕ) (old new : Sight) (p : Problem) (tail : Course) (v : Verdict) → HasProblem (header_bound cert_in) p script → verdict p (header_bound cert_in) cert_in ≡ v →
@@ -122,7 +122,7 @@ resume-unsat words script cert_in parts old new shows rest wrote =
       s,
       subst (λ (t : List ℕ). IsWritten t old new) (text ∙ u.1) wrote,
       record {
-        no_point = unsat_is b (commands_of script) so.problem so.has.built.whole so.has.built.problem so.cert s accepts;
+        no_point = unsat_is b (commands_of b script) so.problem so.has.built.whole so.has.built.problem so.cert s accepts;
         problem = so.problem;
         built = so.has.built;
         cert = so.cert;

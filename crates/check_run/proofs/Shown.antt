@@ -92,9 +92,9 @@ said-sought : (goal : Option ℕ) (p : Problem) (words : Minimize) (course : Cou
 said-sought None p words course can = said-same course _ can tt
 said-sought (Some g) p words course can = said-least p g words course can
 
-said-minimize : (words : Minimize) (script : List ℕ) (f : Option ScriptFault) (course : Course) → CanBy f (OfProblem words.options.bound script (λ p. CanMinimize (goal_atom (commands_of script)) p words)) course → IsSaid course.status
+said-minimize : (words : Minimize) (script : List ℕ) (f : Option ScriptFault) (course : Course) → CanBy f (OfProblem words.options.bound script (λ p. CanMinimize (goal_atom (commands_of words.options.bound script)) p words)) course → IsSaid course.status
 said-minimize words script (Some f) course can = said-same course _ can tt
-said-minimize words script None course can = said-sought (goal_atom (commands_of script)) can.0 words course can.2
+said-minimize words script None course can = said-sought (goal_atom (commands_of words.options.bound script)) can.0 words course can.2
 
 -- each course of a run ends in a status that is told
 said : (command : Option Command) (script cert_in : List ℕ) (parts : List (List ℕ)) (course : Course) → Can command script cert_in parts course → IsSaid course.status
@@ -103,7 +103,7 @@ said (Some (solve words)) script cert_in parts course can = said-same course _ c
     (said-by words.options.bound script (λ ps. CanSolve ps words.options words.cert) (λ ps c h. said-solve ps words.options words.cert c h) (session_fault words.options.bound script) can.0 can.1)
 said (Some (minimize words)) script cert_in parts course can = said-same course _ can.2 (said-minimize words script (script_fault words.options.bound script) can.0 can.1)
 said (Some (check words)) script cert_in parts course can = said-same course _ can.2
-    (said-by words.bound script (λ ps. CanCheck (goal_in script) ps words.bound words.cert cert_in) (λ ps c h. said-same c _ h.2 (said-check (goal_in script) h.0 ps words.bound cert_in)) (session_fault words.bound script) can.0 can.1)
+    (said-by words.bound script (λ ps. CanCheck (goal_in words.bound script) ps words.bound words.cert cert_in) (λ ps c h. said-same c _ h.2 (said-check (goal_in words.bound script) h.0 ps words.bound cert_in)) (session_fault words.bound script) can.0 can.1)
 said (Some (upgrade words)) script cert_in parts course can = said-same course _ can.2
     (said-by words.bound script (λ ps. CanUpgrade ps words.bound words.cert words.out cert_in) (λ ps c h. said-upgrade ps words.bound words.cert words.out cert_in c h) (session_fault words.bound script) can.0 can.1)
 said (Some (plan words)) script cert_in parts course can = said-same course _ can.2

@@ -1,5 +1,5 @@
 -- A script with one check has one problem, and its certificates one value.
-use Rattle.std.proofs.Common.{◌≡◌, ◌<◌, length, ℕ, List, [], ◌∷◌, Bool, Option, Some, None, refl, ap, sym, ◌∙◌, subst}
+use Rattle.std.proofs.Common.{◌≡◌, ◌<◌, length, ℕ, List, [], ◌∷◌, Bool, Option, Some, None, map, refl, ap, sym, ◌∙◌, subst}
 use Rattle.poly_graph.specs.Problem.{Problem}
 use Rattle.poly_graph.specs.ProblemViews.{Parts, problem_of}
 use Rattle.problem_session.specs.Session.{problems_of}
@@ -10,24 +10,39 @@ use Rattle.cert_model.specs.Session.{AreAccepted, one_verdict}
 use Rattle.script_model.specs.Script.{Command}
 use Rattle.script_forms.specs.Atoms.{goal_atom}
 use Rattle.script_forms.proofs.Goals.{goal_of_problem}
-use Rattle.smt_script.specs.Commands.{course_of, with_one_check}
 use Rattle.smt_script.specs.Levels.{Asked, Step, checks_of, only_script}
 use Rattle.script_reading.specs.Goals.{goal_in, goal_of_checks}
-use Rattle.script_reading.specs.Reader.{HasProblem, IsBuilt, IsBuiltOf, commands_of, or_none}
-use Rattle.script_reading.specs.Session.{AreBuilt, HasSession, carried_of, or_no_steps, steps_of_text}
+use Rattle.script_reading.specs.Built.{IsBuiltOf}
+use Rattle.script_fault.specs.declared.fault.ScriptFault.{ScriptFault}
+use Rattle.script_reading.specs.Faults.{plain_session_fault}
+use Rattle.script_reading.specs.Reader.{HasProblem, IsBuilt, commands_of, or_none}
+use Rattle.script_reading.specs.Session.{AreBuilt, HasSession, asked_by, asked_in, carried_in, rewritten_at, steps_of_text}
 use Rattle.check_run.specs.Check.{IsGoalOf}
-use Rattle.check_run.specs.Headline.{HasOneCheck, asked_in}
+use Rattle.check_run.specs.Headline.{HasOneCheck}
 use Rattle.check_run.specs.Script.{IsAtomOf}
 
 -- ---- the script
 
-commands-by : (o : Option (List Step)) (a : Asked) → checks_of (or_no_steps o) ≡ a ∷ [] → or_none (with_one_check o) ≡ a.script
-commands-by None a e = cc
-commands-by (Some ss) a e = ap (λ (asked : List Asked). or_none (only_script asked)) e
-
 -- the commands of the script are those in force at its check
-commands_are : (script : List ℕ) (a : Asked) → asked_in script ≡ a ∷ [] → commands_of script ≡ a.script
-commands_are script a e = commands-by (course_of script) a e
+commands_are : (bound : Option ℕ) (script : List ℕ) (a : Asked) → asked_in bound script ≡ a ∷ [] → commands_of bound script ≡ a.script
+commands_are bound script a e = ap (λ (asked : List Asked). or_none (only_script asked)) e
+
+one-asked : (bound : Option ℕ) (steps : List Step) (fault : Option ScriptFault) (a : Asked) → checks_of steps ≡ a ∷ [] → (b : Asked) × (asked_by bound steps fault ≡ b ∷ [])
+one-asked bound steps None a e = (a, e)
+one-asked bound steps (Some x) a e = (rewritten_at bound a, ap (map (rewritten_at bound)) e)
+
+-- it has one check, with roots or without
+asked_once : (bound : Option ℕ) (script : List ℕ) → HasOneCheck script → (b : Asked) × (asked_in bound script ≡ b ∷ [])
+asked_once bound script single = one-asked bound (steps_of_text script) (plain_session_fault bound script) single.0 single.1
+
+one-checked : (bound : Option ℕ) (asked : List Asked) (b : Asked) → map (rewritten_at bound) asked ≡ b ∷ [] → (a : Asked) × (asked ≡ a ∷ [])
+one-checked bound [] b e = cc
+one-checked bound (a ∷ []) b e = (a, refl)
+one-checked bound (a ∷ c ∷ later) b e = cc
+
+once-asked : (bound : Option ℕ) (steps : List Step) (fault : Option ScriptFault) (b : Asked) → asked_by bound steps fault ≡ b ∷ [] → (a : Asked) × (checks_of steps ≡ a ∷ [])
+once-asked bound steps None b e = (b, e)
+once-asked bound steps (Some x) b e = one-checked bound (checks_of steps) b e
 
 -- ---- its goal
 
@@ -37,12 +52,14 @@ goal-of-one (a ∷ []) g e = (a, refl, e)
 goal-of-one (a ∷ b ∷ later) g e = cc
 
 -- a script with a goal has one check
-pub goal_has_one : (script : List ℕ) (g : ℕ) → goal_in script ≡ Some g → HasOneCheck script
-goal_has_one script g e = let x = goal-of-one (asked_in script) g e in (x.0, x.1)
+pub goal_has_one : (bound : Option ℕ) (script : List ℕ) (g : ℕ) → goal_in bound script ≡ Some g → HasOneCheck script
+goal_has_one bound script g e =
+    let x = goal-of-one (asked_in bound script) g e in
+    once-asked bound (steps_of_text script) (plain_session_fault bound script) x.0 x.1
 
 -- of the commands in force at it
-pub goal_is : (script : List ℕ) (g : ℕ) → goal_in script ≡ Some g → goal_atom (commands_of script) ≡ Some g
-goal_is script g e = let x = goal-of-one (asked_in script) g e in ap goal_atom (commands_are script x.0 x.1) ∙ x.2
+pub goal_is : (bound : Option ℕ) (script : List ℕ) (g : ℕ) → goal_in bound script ≡ Some g → goal_atom (commands_of bound script) ≡ Some g
+goal_is bound script g e = let x = goal-of-one (asked_in bound script) g e in ap goal_atom (commands_are bound script x.0 x.1) ∙ x.2
 
 -- ---- its problem
 
@@ -52,7 +69,7 @@ pub record OneProblem (bound : Option ℕ) (script : List ℕ) (ps : List (Probl
   pub only : ps ≡ (problem, extends) ∷ []
   pub built : IsBuilt bound script problem
 
-one-of : (bound : Option ℕ) (script : List ℕ) (a : Asked) → commands_of script ≡ a.script → (said : List Bool) (ps : List (Problem × Bool)) → AreBuilt bound (a ∷ []) said ps → OneProblem bound script ps
+one-of : (bound : Option ℕ) (script : List ℕ) (a : Asked) → commands_of bound script ≡ a.script → (said : List Bool) (ps : List (Problem × Bool)) → AreBuilt bound (a ∷ []) said ps → OneProblem bound script ps
 one-of bound script a e (x ∷ []) ((p, y) ∷ []) h = record { problem = p; extends = y; only = refl; built = subst (λ (cs : List Command). IsBuiltOf bound cs p) (sym e) h.0 }
 one-of bound script a e [] ps h = absurd h
 one-of bound script a e (x ∷ said) [] h = absurd h
@@ -61,8 +78,9 @@ one-of bound script a e (x ∷ []) (p ∷ q ∷ ps) h = absurd h.2
 
 pub one_problem : (bound : Option ℕ) (script : List ℕ) → HasOneCheck script → (ps : List (Problem × Bool)) → HasSession bound ps script → OneProblem bound script ps
 one_problem bound script single ps has =
-    let a : Asked = single.0 in
-    one-of bound script a (commands_are script a single.1) (carried_of (steps_of_text script)) ps (subst (λ (asked : List Asked). AreBuilt bound asked (carried_of (steps_of_text script)) ps) single.1 has.built)
+    let once = asked_once bound script single in
+    one-of bound script once.0 (commands_are bound script once.0 once.1) (carried_in bound script) ps
+    (subst (λ (asked : List Asked). AreBuilt bound asked (carried_in bound script) ps) once.1 has.built)
 
 -- ---- its value
 
@@ -92,17 +110,17 @@ atom-by [] p e h g few = cc
 atom-by ((q, x) ∷ []) p e h g few = subst (λ (n : ℕ). g < n) (sym (ap atoms-of-first h)) few
 atom-by (q ∷ r ∷ rest) p e h g few = cc
 
-atom-of : (bound : Option ℕ) (script : List ℕ) (session : List (Parts × Bool)) → HasSession bound (problems_of session) script → (g : ℕ) → goal_in script ≡ Some g → IsGoalOf (Some g) session
+atom-of : (bound : Option ℕ) (script : List ℕ) (session : List (Parts × Bool)) → HasSession bound (problems_of session) script → (g : ℕ) → goal_in bound script ≡ Some g → IsGoalOf (Some g) session
 atom-of bound script session has g is =
-    let x = one_problem bound script (goal_has_one script g is) (problems_of session) has in
-    atom-by session x.problem x.extends x.only g (goal_of_problem bound (commands_of script) x.problem x.built.problem g (goal_is script g is)).0
+    let x = one_problem bound script (goal_has_one bound script g is) (problems_of session) has in
+    atom-by session x.problem x.extends x.only g (goal_of_problem bound (commands_of bound script) x.problem x.built.problem g (goal_is bound script g is)).0
 
 -- the goal's atom is one of the problem of the only check
-pub goal_of_session : (bound : Option ℕ) (script : List ℕ) (session : List (Parts × Bool)) → HasSession bound (problems_of session) script → (goal : Option ℕ) → goal ≡ goal_in script → IsGoalOf goal session
+pub goal_of_session : (bound : Option ℕ) (script : List ℕ) (session : List (Parts × Bool)) → HasSession bound (problems_of session) script → (goal : Option ℕ) → goal ≡ goal_in bound script → IsGoalOf goal session
 goal_of_session bound script session has None is = tt
 goal_of_session bound script session has (Some g) is = atom-of bound script session has g (sym is)
 
 -- so of the problem of a script that may have one check
-pub goal_of_script : (bound : Option ℕ) (script : List ℕ) (p : Parts) → HasProblem bound (problem_of p) script → (goal : Option ℕ) → goal ≡ goal_atom (commands_of script) → IsAtomOf goal p
+pub goal_of_script : (bound : Option ℕ) (script : List ℕ) (p : Parts) → HasProblem bound (problem_of p) script → (goal : Option ℕ) → goal ≡ goal_atom (commands_of bound script) → IsAtomOf goal p
 goal_of_script bound script p has None is = tt
-goal_of_script bound script p has (Some g) is = (goal_of_problem bound (commands_of script) (problem_of p) has.built.problem g (sym is)).0
+goal_of_script bound script p has (Some g) is = (goal_of_problem bound (commands_of bound script) (problem_of p) has.built.problem g (sym is)).0

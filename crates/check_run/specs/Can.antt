@@ -148,10 +148,10 @@ Can (Some (solve words)) script cert_in parts course =
     (OfSession words.options.bound script (λ ps. CanSolve ps words.options words.cert)) course
 Can (Some (minimize words)) script cert_in parts course =
     CanFrom words.script (script_fault words.options.bound script)
-    (OfProblem words.options.bound script (λ p. CanMinimize (goal_atom (commands_of script)) p words)) course
+    (OfProblem words.options.bound script (λ p. CanMinimize (goal_atom (commands_of words.options.bound script)) p words)) course
 Can (Some (check words)) script cert_in parts course =
     CanFrom words.script (session_fault words.bound script)
-    (OfSession words.bound script (λ ps. CanCheck (goal_in script) ps words.bound words.cert cert_in)) course
+    (OfSession words.bound script (λ ps. CanCheck (goal_in words.bound script) ps words.bound words.cert cert_in)) course
 Can (Some (upgrade words)) script cert_in parts course =
     CanFrom words.script (session_fault words.bound script)
     (OfSession words.bound script (λ ps. CanUpgrade ps words.bound words.cert words.out cert_in)) course

@@ -26,7 +26,7 @@ use Rattle.script_forms.specs.Atoms.{goal_atom}
 use Rattle.smt_script.specs.Levels.{Asked, checks_of}
 use Rattle.script_reading.specs.Goals.{goal_in}
 use Rattle.script_reading.specs.Reader.{commands_of, HasProblem, IsBuilt}
-use Rattle.script_reading.specs.Session.{HasSession, steps_of_text}
+use Rattle.script_reading.specs.Session.{HasSession, asked_in, steps_of_text}
 use Rattle.check_run.specs.Answer.{loosenings_for, loosenings_of, solve_texts, AreAnswers, IsAnswer}
 use Rattle.check_run.specs.declared.status.Status.TheVariants.{Answered, CertRefused}
 use Rattle.check_run.specs.Course.{Course, appended}
@@ -36,10 +36,6 @@ use Rattle.check_run.specs.Minimized.{Cause, IsLeastAnswer, minimize_text}
 use Rattle.check_run.specs.Joined.{IsNotJoined, bound_of}
 use Rattle.check_run.specs.Resumed.{IsMore, header_bound}
 use Rattle.check_run.specs.Run.{Run, OnInput}
-
--- the checks of a script, each with the commands that are in force at it
-abbrev pub asked_in : List ℕ → List Asked
-asked_in script = checks_of (steps_of_text script)
 
 -- ---- any number of checks
 
@@ -71,7 +67,7 @@ pub record IsSolved (options : Options) (script : List ℕ) (old new : Sight) : 
   pub written : new.cert_out ≡ appended old.cert_out cert
   pub answers : AreAnswers problems options cert values
   pub answer : new.answer ≡ appended old.answer (solve_texts options.budget (loosenings_for (length problems) options) problems values)
-  pub say : AreTrueValues options.bound (loosenings_for (length problems) options) (asked_in script) values
+  pub say : AreTrueValues options.bound (loosenings_for (length problems) options) (asked_in options.bound script) values
 
 -- The certificate is accepted for the problems of the script's checks, the answer is the texts of its values, one after the other, and what
 -- each says of its check is so.
@@ -82,7 +78,7 @@ pub record IsConfirmed (bound : Option ℕ) (script cert_in : List ℕ) (old new
   pub values : List Value
   pub accepted : AreAccepted problems bound cert_in loosenings values
   pub answer : new.answer ≡ appended old.answer (check_texts loosenings values)
-  pub say : AreTrueValues bound loosenings (asked_in script) values
+  pub say : AreTrueValues bound loosenings (asked_in bound script) values
 
 -- The certificate is accepted for the problem of the script's only check with a lower bound of its goal, and the answer is its text. The
 -- bound is one at each point of the declared box that satisfies the script, each atom loosened by the margin; where the certificate has a
@@ -91,16 +87,16 @@ pub record IsConfirmedLeast (bound : Option ℕ) (script cert_in : List ℕ) (ol
   pub problem : Problem
   pub built : IsBuilt bound script problem
   pub goal : ℕ
-  pub is_goal : goal_in script ≡ Some goal
+  pub is_goal : goal_in bound script ≡ Some goal
   pub loosenings : Loosenings
   pub value : Least
   pub room : Bool
   pub is_room : IsRoomOf problem room
   pub accepted : IsGoalAccepted problem goal room bound cert_in loosenings (least value)
   pub answer : new.answer ≡ appended old.answer (least_text problem goal value)
-  pub lower : HasLowerBound bound (commands_of script) (exact (margin_of loosenings)) value.lower
+  pub lower : HasLowerBound bound (commands_of bound script) (exact (margin_of loosenings)) value.lower
   pub upper : (space : Space) → value.point ≡ Some space →
-      IsDeltaSat bound (commands_of script) loosenings space × IsGoalAtMost (commands_of script) (coordinates space) (upper_at problem goal space)
+      IsDeltaSat bound (commands_of bound script) loosenings space × IsGoalAtMost (commands_of bound script) (coordinates space) (upper_at problem goal space)
 
 -- What was written as certificate is accepted for the problem of the script's only check with a lower bound of its goal, and the answer is its
 -- text. The bound is one at each point of the declared box that satisfies the script, each atom loosened by the margin; the point satisfies it
@@ -110,16 +106,16 @@ pub record IsLeast (words : Minimize) (script : List ℕ) (old new : Sight) : Ty
   pub problem : Problem
   pub has : HasProblem words.options.bound problem script
   pub goal : ℕ
-  pub is_goal : goal_atom (commands_of script) ≡ Some goal
+  pub is_goal : goal_atom (commands_of words.options.bound script) ≡ Some goal
   pub cert : List ℕ
   pub cause : Cause
   pub value : Least
   pub answers : IsLeastAnswer problem goal words cert cause value
   pub written : new.cert_out ≡ appended old.cert_out cert
   pub answer : new.answer ≡ appended old.answer (minimize_text problem goal words.options.budget cause value)
-  pub lower : HasLowerBound words.options.bound (commands_of script) (exact (margin_of (loosenings_of words.options))) value.lower
-  pub point : IsDeltaSat words.options.bound (commands_of script) (loosenings_of words.options) answers.point
-  pub upper : IsGoalAtMost (commands_of script) (coordinates answers.point) (upper_at problem goal answers.point)
+  pub lower : HasLowerBound words.options.bound (commands_of words.options.bound script) (exact (margin_of (loosenings_of words.options))) value.lower
+  pub point : IsDeltaSat words.options.bound (commands_of words.options.bound script) (loosenings_of words.options) answers.point
+  pub upper : IsGoalAtMost (commands_of words.options.bound script) (coordinates answers.point) (upper_at problem goal answers.point)
 
 -- No point was found: what was written as certificate is an honest cover for the problem of the script's only check, the answer is the text of what
 -- it leaves, and what that says of the check is so.
@@ -131,7 +127,7 @@ pub record IsNoLeast (words : Minimize) (script : List ℕ) (old new : Sight) : 
   pub answers : IsAnswer problem words.options cert (left_open left)
   pub written : new.cert_out ≡ appended old.cert_out cert
   pub answer : new.answer ≡ appended old.answer (solve_text problem words.options.budget (loosenings_of words.options) (left_open left))
-  pub say : IsTrueValue words.options.bound (loosenings_of words.options) (commands_of script) (left_open left)
+  pub say : IsTrueValue words.options.bound (loosenings_of words.options) (commands_of words.options.bound script) (left_open left)
 
 -- What was written as certificate goes on from the one that was read, which is accepted for the problem of the script's only check; the answer tells of
 -- what is left, and what its value says of the check is so.
@@ -146,7 +142,7 @@ pub record IsResumed (words : Resume) (script cert_in : List ℕ) (old new : Sig
   pub written : new.cert_out ≡ appended old.cert_out cert
   pub more : IsMore problem (header_bound cert_in) words cert_in loosenings read cert text
   pub answer : new.answer ≡ appended old.answer text
-  pub say : IsTrueValue (header_bound cert_in) (in_newest 1 loosenings) (commands_of script) more.value
+  pub say : IsTrueValue (header_bound cert_in) (in_newest 1 loosenings) (commands_of (header_bound cert_in) script) more.value
 
 -- What was written as certificate is accepted for the problem of the script's only check, with the bound that the first of several certificates
 -- names, and so does it; it joins the covers of the certificates; the answer is the text of its value, and what that says of the check is so.
@@ -161,7 +157,7 @@ pub record IsJoined (script : List ℕ) (parts : List (List ℕ)) (old new : Sig
   pub accepted : IsAccepted problem (bound_of parts) cert loosenings value
   pub joins : JoinsTexts parts cert
   pub answer : new.answer ≡ appended old.answer (check_text loosenings value)
-  pub say : IsTrueValue (bound_of parts) loosenings (commands_of script) value
+  pub say : IsTrueValue (bound_of parts) loosenings (commands_of (bound_of parts) script) value
 
 -- `solve`, `minimize`, `check`, `resume` and `join` answer where that is so.
 abbrev pub IsTrueAnswer : Option Command → List ℕ → List ℕ → List (List ℕ) → Sight → Sight → Type 0
@@ -176,7 +172,7 @@ IsTrueAnswer _ script cert_in parts old new = Unit {0}
 -- ---- one check
 
 abbrev pub HasOneCheck : List ℕ → Type 0
-HasOneCheck script = (a : Asked) × (asked_in script ≡ a ∷ [])
+HasOneCheck script = (a : Asked) × (checks_of (steps_of_text script) ≡ a ∷ [])
 
 -- this text was written as answer, where the desk shows the answer's bytes
 abbrev pub IsWritten : List ℕ → Sight → Sight → Type 0
@@ -185,7 +181,7 @@ IsWritten text old new = IsSomeAnd old.answer (λ before. new.answer ≡ Some (b
 -- The script holds nowhere in its declared box, each atom loosened by the margin; and what was written as certificate is
 -- accepted as a cover that leaves nothing.
 pub record IsUnsat (options : Options) (script : List ℕ) (old new : Sight) : Type 0 where
-  pub no_point : HasNoPoint options.bound (commands_of script) (exact (margin_of (loosenings_of options)))
+  pub no_point : HasNoPoint options.bound (commands_of options.bound script) (exact (margin_of (loosenings_of options)))
   pub problem : Problem
   pub built : IsBuilt options.bound script problem
   pub cert : List ℕ
@@ -194,14 +190,14 @@ pub record IsUnsat (options : Options) (script : List ℕ) (old new : Sight) : T
 
 -- The certificate is accepted as a cover that leaves nothing, so the script holds nowhere in its declared box, each atom loosened by the margin.
 pub record IsConfirmedUnsat (bound : Option ℕ) (script cert_in : List ℕ) (s : Loosenings) : Type 0 where
-  pub no_point : HasNoPoint bound (commands_of script) (exact (margin_of s))
+  pub no_point : HasNoPoint bound (commands_of bound script) (exact (margin_of s))
   pub problem : Problem
   pub built : IsBuilt bound script problem
   pub accepted : IsAccepted problem bound cert_in s (left_open [])
 
 -- What was written as certificate is accepted as a cover that leaves nothing, so the script holds nowhere in its declared box, each atom loosened by the margin.
 pub record IsWrittenUnsat (bound : Option ℕ) (script : List ℕ) (s : Loosenings) (old new : Sight) : Type 0 where
-  pub no_point : HasNoPoint bound (commands_of script) (exact (margin_of s))
+  pub no_point : HasNoPoint bound (commands_of bound script) (exact (margin_of s))
   pub problem : Problem
   pub built : IsBuilt bound script problem
   pub cert : List ℕ
@@ -236,14 +232,14 @@ IsTrueUnsat None script cert_in parts old new = Unit {0}
 
 -- The certificate is accepted as this point, which is one of the script.
 pub record IsConfirmedPoint (bound : Option ℕ) (script cert_in : List ℕ) (s : Loosenings) (space : Space) : Type 0 where
-  pub point : IsDeltaSat bound (commands_of script) s space
+  pub point : IsDeltaSat bound (commands_of bound script) s space
   pub problem : Problem
   pub built : IsBuilt bound script problem
   pub accepted : IsAccepted problem bound cert_in s (at_point space)
 
 -- What was written as certificate is accepted as this point, which is one of the script.
 pub record IsWrittenPoint (bound : Option ℕ) (script : List ℕ) (s : Loosenings) (space : Space) (old new : Sight) : Type 0 where
-  pub point : IsDeltaSat bound (commands_of script) s space
+  pub point : IsDeltaSat bound (commands_of bound script) s space
   pub problem : Problem
   pub built : IsBuilt bound script problem
   pub cert : List ℕ
@@ -261,14 +257,14 @@ abbrev pub IsTrueDeltaSat : Option Command → List ℕ → List ℕ → List (L
 IsTrueDeltaSat (Some (solve words)) script cert_in parts old new =
     HasOneCheck script → (rest : List ℕ) → IsWritten (delta_sat_word ++ rest) old new →
     (p : Problem) × (space : Space) × IsBuilt words.options.bound script p × IsWritten (delta_sat_text p (loosenings_of words.options) space) old new
-    × IsDeltaSat words.options.bound (commands_of script) (loosenings_of words.options) space
+    × IsDeltaSat words.options.bound (commands_of words.options.bound script) (loosenings_of words.options) space
 IsTrueDeltaSat (Some (check words)) script cert_in parts old new =
     HasOneCheck script → (rest : List ℕ) → IsWritten (confirmed_delta_sat_word ++ rest) old new →
     (s : Loosenings) × (space : Space) × IsWritten (check_text s (at_point space)) old new × IsConfirmedPoint words.bound script cert_in s space
 IsTrueDeltaSat (Some (resume words)) script cert_in parts old new =
     (rest : List ℕ) → IsWritten (delta_sat_word ++ rest) old new →
     (p : Problem) × (s : Loosenings) × (space : Space) × IsBuilt (header_bound cert_in) script p × IsWritten (delta_sat_text p s space) old new
-    × IsDeltaSat (header_bound cert_in) (commands_of script) s space
+    × IsDeltaSat (header_bound cert_in) (commands_of (header_bound cert_in) script) s space
 IsTrueDeltaSat (Some (join words)) script cert_in parts old new =
     (rest : List ℕ) → IsWritten (confirmed_delta_sat_word ++ rest) old new →
     (s : Loosenings) × (space : Space) × IsWritten (check_text s (at_point space)) old new × IsWrittenPoint (bound_of parts) script s space old new
@@ -290,7 +286,7 @@ pub record IsRefusedForGoal (bound : Option ℕ) (script cert_in : List ℕ) (ol
   pub problem : Problem
   pub built : IsBuilt bound script problem
   pub goal : ℕ
-  pub is_goal : goal_in script ≡ Some goal
+  pub is_goal : goal_in bound script ≡ Some goal
   pub fault : CertFault
   pub line : ℕ
   pub room : Bool

@@ -121,7 +121,7 @@ fn read_with_goal<S: ScriptReader>(
     ensures script { MatchResult result
         (λ read. HasSession bound (problems_of read.session) bytes.now)
         (λ halt. IsHaltOfFault (session_fault bound bytes.now) halt) }
-    ensures goal { IfOk result (λ read. read.goal ≡ goal_in bytes.now) }
+    ensures goal { IfOk result (λ read. read.goal ≡ goal_in bound bytes.now) }
     ensures goes_on { IfOk result (λ read. IsSession (problems_of read.session)) }
     ensures within { IfOk result (λ read. AreWithin read.session) }
     ensures atom { IfOk result (λ read. IsGoalOf read.goal read.session) }
@@ -146,7 +146,7 @@ pub fn fetch_with_goal<S: ScriptReader, D: Desk>(
         (λ halt. Halts (session_fault bound) name.now halt
         (D.sight desk.old) (D.sight desk.new)) }
     ensures goal { IfOk result (λ read. IfSome (D.sight desk.old).script (λ script.
-        read.goal ≡ goal_in script)) }
+        read.goal ≡ goal_in bound script)) }
     ensures goes_on { IfOk result (λ read. IsSession (problems_of read.session)) }
     ensures within { IfOk result (λ read. AreWithin read.session) }
     ensures atom { IfOk result (λ read. IsGoalOf read.goal read.session) }
@@ -173,7 +173,7 @@ fn read_goal<S: ScriptReader>(
     ensures script { MatchResult result
         (λ r. HasProblem bound (problem_of r.0) bytes.now)
         (λ halt. IsHaltOfFault (script_fault bound bytes.now) halt) }
-    ensures goal { IfOk result (λ r. r.1 ≡ goal_atom (commands_of bytes.now)) }
+    ensures goal { IfOk result (λ r. r.1 ≡ goal_atom (commands_of bound bytes.now)) }
     ensures within { IfOk result (λ r. IsWithin r.0) }
     ensures atom { IfOk result (λ r. IsAtomOf r.1 r.0) }
 {
@@ -197,7 +197,7 @@ pub fn fetch_goal<S: ScriptReader, D: Desk>(
         (λ halt. Halts (script_fault bound) name.now halt
         (D.sight desk.old) (D.sight desk.new)) }
     ensures goal { IfOk result (λ r. IfSome (D.sight desk.old).script (λ script.
-        r.1 ≡ goal_atom (commands_of script))) }
+        r.1 ≡ goal_atom (commands_of bound script))) }
     ensures within { IfOk result (λ r. IsWithin r.0) }
     ensures atom { IfOk result (λ r. IsAtomOf r.1 r.0) }
 {

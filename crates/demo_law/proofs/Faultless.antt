@@ -20,7 +20,8 @@ use Rattle.smt_script.specs.Commands.{CommandsRead, Said, joined, says, one_step
 use Rattle.smt_script.specs.Levels.{command}
 use Rattle.sort_check.proofs.Scopes.{plain_fault}
 use Rattle.smt_sexp.specs.Lexicon.{read}
-use Rattle.script_reading.specs.Faults.{in_text, in_commands, in_sorts, in_checks, in_building, most_bytes}
+use Rattle.script_fault.specs.declared.fault.ScriptFault.{ScriptFault}
+use Rattle.script_reading.specs.Faults.{in_text, in_commands, in_sorts, in_checks, in_building, most_bytes, rooted_script_fault, unless_plain}
 use Rattle.gen_script.specs.Demo.{next_number, coefficient, atom_line, atom_lines, demo_script, head, tail}
 use Rattle.dyadic.specs.Fraction.{negated, at_most}
 use Rattle.smt_sexp.specs.TextAnswers.{too_many_bytes}
@@ -212,5 +213,6 @@ script_length : (seed size : ℕ) → size ≤ 10000 → length (demo_script see
 script_length seed size small = omega (arith, length-append (head ++ atom_lines seed size) tail, length-append head (atom_lines seed size), lines_length seed size, small)
 
 pub demo_is_faultless : DemoIsFaultless
-demo_is_faultless bound seed size small = ap (λ (t : Bool). cond t (in_text bound (read (demo_script seed size))) (Some too_many_bytes)) (le-leb (length (demo_script seed size)) most_bytes (script_length seed size small))
-    ∙ is_read bound seed size small
+demo_is_faultless bound seed size small = ap (λ (x : Option ScriptFault). unless_plain x (rooted_script_fault bound (demo_script seed size)))
+    (ap (λ (t : Bool). cond t (in_text bound (read (demo_script seed size))) (Some too_many_bytes)) (le-leb (length (demo_script seed size)) most_bytes (script_length seed size small))
+    ∙ is_read bound seed size small)

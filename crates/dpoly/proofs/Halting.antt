@@ -3,11 +3,9 @@ use Rattle.std.proofs.Common.{◌≡◌, ◌<◌, ℕ, List, Option, Some, None,
 use Rattle.std.specs.Prelude.{option_map}
 use Rattle.std.specs.declared.vec.Vec.{Vec}
 use Rattle.std.specs.declared.alloc.Global.{Global}
-use Rattle.smt_sexp.proofs.Sizes.{fault_of_many}
 use Rattle.script_fault.specs.declared.fault.ScriptFault.{ScriptFault}
-use Rattle.script_reading.specs.Faults.{in_checks, most_bytes, script_fault}
-use Rattle.script_reading.specs.Reader.{too_many_bytes}
-use Rattle.script_reading.proofs.Parts.{bytes_first}
+use Rattle.script_reading.specs.Faults.{most_bytes, script_fault}
+use Rattle.script_reading.proofs.Long.{long_script}
 use Rattle.check_run.specs.declared.script.Halt.{Halt}
 use Rattle.check_run.specs.declared.script.Halt.TheVariants as halt
 use Rattle.check_run.specs.declared.status.Status.TheVariants.{ScriptRefused}
@@ -24,7 +22,7 @@ by_text (Some f) text goes e = let same : text ≡ fault_text f = cc in ap (λ (
 -- a script that is too long has that fault, whatever the bound
 pub long_halt : (bound : Option ℕ) (script : List ℕ) (h : Halt) → most_bytes < length script → IsTooLong h → IsHaltOfFault (script_fault bound script) h
 long_halt bound script (halt.Refused text) long is =
-    ap (λ (f : Option ScriptFault). option_map fault_text f) (bytes_first (in_checks bound) script too_many_bytes (fault_of_many script long)) ∙ ap (λ (t : List ℕ). Some t) (sym is)
+    ap (λ (f : Option ScriptFault). option_map fault_text f) (long_script bound script long) ∙ ap (λ (t : List ℕ). Some t) (sym is)
 long_halt bound script halt.Failed long is = absurd is
 long_halt bound script halt.Memory long is = tt
 

@@ -8,7 +8,7 @@ use Rattle.poly_graph.specs.ProblemViews.{Parts, IsWhole, axis_of, problem_of}
 use Rattle.poly_graph.specs.Shared.{IsGraph}
 use Rattle.script_model.specs.Script.{Command}
 use Rattle.script_fault.specs.declared.fault.ReadError.{ReadError}
-use Rattle.script_reading.specs.Reader.{IsBuiltOf}
+use Rattle.script_reading.specs.Built.{IsBuiltOf}
 use Rattle.sort_check.specs.Sorts.{sort_fault}
 use Rattle.term_build.specs.Built.{BuilderModel}
 use Rattle.value_build.specs.Making.{Making}

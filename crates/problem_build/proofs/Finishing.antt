@@ -57,7 +57,7 @@ use Rattle.declared_box.specs.Axes.{bounds_fault, constant_of, IsBoundsError}
 use Rattle.declared_box.specs.Calls.{AnswersBy, AreDeclared, HaveSortsOf}
 use Rattle.declared_box.specs.declared.axes.Constant as code_constant
 use Rattle.script_reading.specs.Faults.{in_building}
-use Rattle.script_reading.specs.Reader.{IsInWalkOrder, trees_made}
+use Rattle.script_reading.specs.Built.{IsInWalkOrder, trees_made}
 use Rattle.problem_build.proofs.Parts.{parts_problem}
 use Rattle.problem_build.proofs.Standing.{places_both}
 

@@ -12,7 +12,7 @@ use Rattle.script_fault.specs.declared.fault.ReadError.{ReadError}
 use Rattle.script_fault.specs.declared.place.Place.{Place}
 use Rattle.script_forms.specs.Walk.{building_fault}
 use Rattle.script_reading.specs.Faults.{first_of, in_building, in_each_check}
-use Rattle.script_reading.specs.Reader.{IsBuiltOf}
+use Rattle.script_reading.specs.Built.{IsBuiltOf}
 use Rattle.script_reading.specs.Session.{AreBuilt, carried_from, carried_of, stay_in_force}
 use Rattle.smt_sexp.specs.Views.{place_of}
 use Rattle.smt_sexp.specs.declared.sexps.Sexps.{Sexps}
@@ -64,7 +64,7 @@ and_also false b c = refl
 -- ---- a step that is no check
 
 module _ (l : Levels) (st : Step) (left : List Step) (none : check_place st ≡ None) where
-  asked_behind : asked_from l (st ∷ left) ≡ asked_from (after_step l st) left
+  pub asked_behind : asked_from l (st ∷ left) ≡ asked_from (after_step l st) left
   asked_behind = ap (λ xs. xs ++ asked_from (after_step l st) left) (asks_nothing l st none)
 
   carried_behind : (b : Bool) → carried_from b l (st ∷ left) ≡ carried_from b (after_step l st) left

@@ -6,6 +6,7 @@ pub mod Few
 pub mod Finishing
 pub mod GoalAtom
 pub mod Going
+pub mod GoingWithRoots
 pub mod Lookups
 pub mod Nearest
 pub mod One
@@ -14,6 +15,7 @@ pub mod Parts
 pub mod Past
 pub mod Reached
 pub mod Reading
+pub mod Readings
 pub mod Rooted
 pub mod Sizes
 pub mod Sound
@@ -24,3 +26,4 @@ pub mod Tables
 pub mod Turns
 pub mod Waiting
 pub mod Whole
+pub mod WithRoots

@@ -4,8 +4,16 @@ use Rattle.std.specs.List.{AllByRecursion}
 use Rattle.std.specs.Prelude.{slice_get}
 use Rattle.std.proofs.Math.Nat.{suc_inj, suc-ne-zero}
 use Rattle.script_model.specs.Reading.{Meanings, Names, unknown, value}
+use Rattle.script_model.specs.Sexp.{Place, Sexp, leaf, symbol}
 use Rattle.script_model.specs.Script.{Command, declare, define, claim, minimize, check, ineffective, defined, goals, first_of, sorts_of}
 use Rattle.script_model.specs.Declared.{numbered}
+use Rattle.interval_model.specs.Interval.{Interval, nothing, between}
+use Rattle.script_roots.specs.Fresh.{Table, asserted_from}
+use Rattle.script_roots.specs.Ranges.{Ranges, enclosed, quotient_range}
+use Rattle.script_roots.specs.Rewritten.{assertion, between_ends, claims_of, claims_of_all, declaration, declarations, rewritten, rewritten_by, script_table, unless_empty}
+use Rattle.script_roots.specs.Tree as tree
+use Rattle.script_roots.specs.Tree.{Tree, atomic, applied, root, quotient, formless, theory_names}
+use Rattle.script_roots.specs.TreeBounds.{declared_ranges}
 use Rattle.script_forms.specs.Atoms.{constant_tree, goal_atom, numbered_goal, only_term, script_atoms}
 use Rattle.script_forms.specs.Terms.{Unfolded}
 use Rattle.script_forms.specs.Unfolded.{as_tree}
@@ -21,8 +29,8 @@ use Rattle.poly_graph.specs.Problem.{Problem}
 use Rattle.poly_graph.specs.ProblemViews.{Parts, problem_of}
 use Rattle.problem_session.specs.Session.{problems_of}
 use Rattle.script_reading.specs.Goals.{goal_of_checks}
-use Rattle.script_reading.specs.Reader.{IsBuiltOf}
-use Rattle.script_reading.specs.Session.{AreBuilt, carried_of}
+use Rattle.script_reading.specs.Built.{IsBuiltOf}
+use Rattle.script_reading.specs.Session.{AreBuilt, carried_of, rewritten_at}
 use Rattle.problem_build.specs.GoalStep.{has_goal, is_goal}
 
 -- ---- commands without a goal
@@ -122,6 +130,77 @@ none-of (a ∷ b ∷ later) h = refl
 -- where no step is a goal, no check has one
 pub no_goal : (told : List Step) → has_goal told ≡ false → goal_of_checks (checks_of told) ≡ None
 no_goal told e = none-of (checks_of told) (plain-asked no_levels told e (record { inner = tt; outer = tt }))
+
+-- ---- where constants stand for roots and quotients
+
+plain-both : (xs ys : List Command) → ArePlain xs → ArePlain ys → ArePlain (xs ++ ys)
+plain-both [] ys h k = k
+plain-both (x ∷ xs) ys h k = (h.0, plain-both xs ys h.1 k)
+
+plain-declarations : (script : List Command) → ArePlain (declarations script)
+plain-declarations [] = tt
+plain-declarations (declare at x sort ∷ rest) = (refl, plain-declarations rest)
+plain-declarations (define at f params sort body ∷ rest) = plain-declarations rest
+plain-declarations (claim at e ∷ rest) = plain-declarations rest
+plain-declarations (minimize at t ∷ rest) = plain-declarations rest
+plain-declarations (check at ∷ rest) = plain-declarations rest
+plain-declarations (ineffective at ∷ rest) = plain-declarations rest
+
+plain-declared : (table : Table) → ArePlain (map declaration table)
+plain-declared [] = tt
+plain-declared (entry ∷ rest) = (refl, plain-declared rest)
+
+plain-ends : (at : Place) (c : Sexp) (i : Interval) → ArePlain (between_ends at c i)
+plain-ends at c nothing = tt
+plain-ends at c (between l h) = (refl, refl, tt)
+
+plain-claims : (ranges : Ranges) (table : Table) (name : List ℕ) (t : Tree) → ArePlain (claims_of ranges table name t)
+plain-claims ranges table name (root at t) = (refl, refl, refl, tt)
+plain-claims ranges table name (quotient at t d) =
+    plain-both (between_ends at (leaf at (symbol name)) (quotient_range (enclosed ranges t) (enclosed ranges d))) _
+    (plain-ends at (leaf at (symbol name)) (quotient_range (enclosed ranges t) (enclosed ranges d))) (refl, tt)
+plain-claims ranges table name (atomic at l) = tt
+plain-claims ranges table name (applied at f ts) = tt
+plain-claims ranges table name (formless at) = tt
+
+plain-all-claims : (ranges : Ranges) (table rest : Table) → ArePlain (claims_of_all ranges table rest)
+plain-all-claims ranges table [] = tt
+plain-all-claims ranges table (entry ∷ rest) =
+    plain-both (claims_of ranges table entry.0 entry.1) (claims_of_all ranges table rest) (plain-claims ranges table entry.0 entry.1) (plain-all-claims ranges table rest)
+
+plain-asserted : (table : Table) (names : tree.Names) (script : List Command) → ArePlain script → ArePlain (map (assertion table) (asserted_from names script))
+plain-asserted table names [] h = tt
+plain-asserted table names (declare at x sort ∷ rest) h = plain-asserted table _ rest h.1
+plain-asserted table names (define at f params sort body ∷ rest) h = plain-asserted table _ rest h.1
+plain-asserted table names (claim at e ∷ rest) h = (refl, plain-asserted table names rest h.1)
+plain-asserted table names (minimize at t ∷ rest) h = let no = h.0 in cc
+plain-asserted table names (check at ∷ rest) h = plain-asserted table names rest h.1
+plain-asserted table names (ineffective at ∷ rest) h = plain-asserted table names rest h.1
+
+plain-by : (ranges : Ranges) (table : Table) (script : List Command) → ArePlain script → ArePlain (rewritten_by ranges table script)
+plain-by ranges table script h =
+    plain-both (declarations script) _ (plain-declarations script)
+    (plain-both (map declaration table) _ (plain-declared table)
+    (plain-both (claims_of_all ranges table table) _ (plain-all-claims ranges table table) (plain-asserted table theory_names script h)))
+
+plain-unless : (table : Table) (script other : List Command) → ArePlain script → ArePlain other → ArePlain (unless_empty table script other)
+plain-unless [] script other h k = h
+plain-unless (entry ∷ rest) script other h k = k
+
+plain-rewritten : (bound : Option ℕ) (script : List Command) → ArePlain script → ArePlain (rewritten bound script)
+plain-rewritten bound script h =
+    let ranges = declared_ranges bound script in
+    let table = script_table bound script in
+    plain-unless table script (rewritten_by ranges table script) h (plain-by ranges table script h)
+
+plain-checks : (bound : Option ℕ) (asked : List Asked) → AllByRecursion IsPlainAsked asked → AllByRecursion IsPlainAsked (map (rewritten_at bound) asked)
+plain-checks bound [] h = tt
+plain-checks bound (a ∷ later) h = (plain-rewritten bound a.script h.0, plain-checks bound later h.1)
+
+-- where no step is a goal, no check has one
+pub no_rooted_goal : (bound : Option ℕ) (told : List Step) → has_goal told ≡ false → goal_of_checks (map (rewritten_at bound) (checks_of told)) ≡ None
+no_rooted_goal bound told e =
+    none-of (map (rewritten_at bound) (checks_of told)) (plain-checks bound (checks_of told) (plain-asked no_levels told e (record { inner = tt; outer = tt })))
 
 -- ---- the goal of a session
 

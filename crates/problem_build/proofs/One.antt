@@ -29,9 +29,10 @@ use Rattle.poly_graph.specs.declared.axis.Declared.TheVariants as declared
 use Rattle.poly_graph.proofs.Graphs.{unfolds, length_terms, in_order_at}
 use Rattle.poly_graph.proofs.Same.{one_number}
 use Rattle.script_forms.specs.ProblemOf.{IsEnd, IsDeclaredBy, AreAxes}
-use Rattle.smt_script.specs.Levels.{Asked, checks_of}
-use Rattle.script_reading.specs.Reader.{AreLowest, IsBuilt, IsBuiltOf, commands_of}
-use Rattle.script_reading.specs.Session.{AreBuilt, HasSession, carried_of, steps_of_text}
+use Rattle.smt_script.specs.Levels.{Asked}
+use Rattle.script_reading.specs.Built.{AreLowest, IsBuiltOf}
+use Rattle.script_reading.specs.Reader.{IsBuilt, commands_of}
+use Rattle.script_reading.specs.Session.{AreBuilt, HasSession, asked_in, carried_in}
 use Rattle.term_build.proofs.Lists.{index_get, all_head, all_tail}
 use Rattle.term_build.proofs.Trees.{same_node}
 
@@ -168,7 +169,7 @@ built_of_one bound script p q b c =
     (b.problem.form ∙ sym c.problem.form)
 
 pub built_one : (bound : Option ℕ) (text : List ℕ) (p q : Problem) → IsBuilt bound text p → IsBuilt bound text q → p ≡ q
-built_one bound text p q b c = built_of_one bound (commands_of text) p q b c
+built_one bound text p q b c = built_of_one bound (commands_of bound text) p q b c
 
 -- ---- all checks
 
@@ -182,4 +183,4 @@ all-one bound (a ∷ asked) (x ∷ said) (p ∷ ps) (q ∷ qs) f g =
 all-one bound _ _ _ qs f g = absurd f
 
 pub session_one : (bound : Option ℕ) (text : List ℕ) (ps qs : List (Problem × Bool)) → HasSession bound ps text → HasSession bound qs text → ps ≡ qs
-session_one bound text ps qs f g = all-one bound (checks_of (steps_of_text text)) (carried_of (steps_of_text text)) ps qs f.built g.built
+session_one bound text ps qs f g = all-one bound (asked_in bound text) (carried_in bound text) ps qs f.built g.built

@@ -1,4 +1,4 @@
--- The first fault of a script, by the phase that met it, and the problem of a script without one.
+-- The first fault of a script as it is written, by the phase that met it, and the problem of a script without one.
 use Rattle.std.proofs.Common.{◌≡◌, ◌≤◌, ◌∷◌, [], ℕ, suc, List, Bool, cond, Option, Some, None, length, refl, ap, sym, ◌∙◌, subst}
 use Rattle.std.specs.Prelude.{All, MatchResult, Result, Ok, Err}
 use Rattle.std.proofs.lemmas.Bool.{le-leb}
@@ -11,13 +11,13 @@ use Rattle.script_fault.specs.declared.fault.ReadError.TheVariants.{Fault, Memor
 use Rattle.script_fault.specs.declared.fault.ScriptFault.{ScriptFault}
 use Rattle.smt_sexp.specs.Lexicon.{TextRead, whole, read}
 use Rattle.smt_sexp.specs.TextAnswers.{bytes_fault}
-use Rattle.smt_script.specs.Commands.{CommandsRead, steps, steps_of, accepted, of_read, with_one_check}
+use Rattle.smt_script.specs.Commands.{CommandsRead, steps, steps_of, accepted, of_read}
 use Rattle.smt_script.specs.Levels.{Asked, Step, checks_of, only_script}
 use Rattle.smt_script.specs.CommandAnswers.{commands_fault}
 use Rattle.smt_script.specs.Views.{commands_in, steps_in}
 use Rattle.smt_script.specs.declared.command.Course.{Course}
 use Rattle.smt_script.specs.declared.command.Script.{Script}
-use Rattle.sort_check.specs.Sorts.{sort_fault}
+use Rattle.sort_check.specs.Sorts.{Finding, sort_fault}
 use Rattle.sort_check.specs.SortAnswers.{finding_fault}
 use Rattle.sort_check.specs.Levels.{course_fault}
 use Rattle.sort_check.specs.Single.{asked_fault}
@@ -27,12 +27,13 @@ use Rattle.poly_graph.specs.Problem.{Axis}
 use Rattle.poly_graph.specs.ProblemViews.{Parts, problem_of, IsWhole}
 use Rattle.problem_build.specs.BuildAnswers.{IsBuildingError, IsLean}
 use Rattle.problem_build.proofs.Few.{few_constants}
-use Rattle.script_reading.specs.Faults.{script_fault, by_bytes, by_text, by_commands, by_sorts, in_checks, in_each_check, in_building, most_bytes, session_fault}
+use Rattle.script_reading.specs.Faults.{by_bytes, by_text, by_commands, by_sorts, in_checks, in_each_check, in_building, most_bytes, plain_script_fault, plain_session_fault}
 use Rattle.script_reading.proofs.Parts.{bytes_first, commands_first, sorts_first, checks_first}
-use Rattle.script_reading.specs.Reader as reader
-use Rattle.script_reading.specs.Reader.{AreLowest, HasProblem, IsBuiltOf, IsInWalkOrder, too_many_bytes, or_none}
-use Rattle.script_reading.specs.Session.{AreBuilt, HasSession, carried_of, or_no_steps, steps_of_text}
+use Rattle.script_reading.specs.Built.{AreLowest, IsBuiltOf, IsInWalkOrder}
+use Rattle.script_reading.specs.Reader.{too_many_bytes, or_none}
+use Rattle.script_reading.specs.Session.{AreBuilt, carried_of, or_no_steps, steps_of_text}
 use Rattle.problem_session.specs.Session.{problems_of}
+use Rattle.problem_build.specs.Plain.{HasPlainProblem, HasPlainSession, plain_commands}
 use Rattle.problem_build.specs.Session.{IsSessionAnswer}
 
 -- ---- a fault of one phase
@@ -47,49 +48,49 @@ in_only bound [] cs e = cc
 in_only bound (a ∷ []) cs e = ap (λ (o : Option (List Command)). in_building (building_fault bound (or_none o))) e
 in_only bound (a ∷ b ∷ later) cs e = cc
 
--- where the last part is this one of the checks
-module _ (last : List Asked → Option ScriptFault) (text : List ℕ) (e : ReadError) where
-  pub bytes_refused : IsFaultOrMemory e (bytes_fault text) → IsFaultOrMemory e (by_bytes last text)
-  bytes_refused h = lifted e (bytes_fault text) (by_bytes last text) (bytes_first last text) h
+-- where these find the fault of names and sorts, and that of the checks
+module _ (sorts : List Step → Finding) (last : List Asked → Option ScriptFault) (text : List ℕ) (e : ReadError) where
+  pub bytes_refused : IsFaultOrMemory e (bytes_fault text) → IsFaultOrMemory e (by_bytes sorts last text)
+  bytes_refused h = lifted e (bytes_fault text) (by_bytes sorts last text) (bytes_first sorts last text) h
 
   module _ (few : length text ≤ most_bytes) where
-    in-bytes : by_bytes last text ≡ by_text last (read text)
-    in-bytes = ap (λ (b : Bool). cond b (by_text last (read text)) (Some too_many_bytes)) (le-leb (length text) most_bytes few)
+    in-bytes : by_bytes sorts last text ≡ by_text sorts last (read text)
+    in-bytes = ap (λ (b : Bool). cond b (by_text sorts last (read text)) (Some too_many_bytes)) (le-leb (length text) most_bytes few)
 
     module _ (es : List Sexp) (whole_is : read text ≡ whole es) where
-      pub commands_refused : IsFaultOrMemory e (commands_fault (steps_of es)) → IsFaultOrMemory e (by_bytes last text)
-      commands_refused h = lifted e (commands_fault (steps_of es)) (by_bytes last text)
-          (λ x t. in-bytes ∙ ap (by_text last) whole_is ∙ commands_first last (steps_of es) x t) h
+      pub commands_refused : IsFaultOrMemory e (commands_fault (steps_of es)) → IsFaultOrMemory e (by_bytes sorts last text)
+      commands_refused h = lifted e (commands_fault (steps_of es)) (by_bytes sorts last text)
+          (λ x t. in-bytes ∙ ap (by_text sorts last) whole_is ∙ commands_first sorts last (steps_of es) x t) h
 
       module _ (course : Course) (commands_are : steps_of es ≡ steps (steps_in course)) where
-        pub sorts_refused : IsFaultOrMemory e (finding_fault (course_fault (steps_in course))) → IsFaultOrMemory e (by_bytes last text)
-        sorts_refused h = lifted e (finding_fault (course_fault (steps_in course))) (by_bytes last text)
-            (λ x t. in-bytes ∙ ap (by_text last) whole_is ∙ ap (by_commands last) commands_are ∙ sorts_first last (steps_in course) (course_fault (steps_in course)) x t) h
+        pub sorts_refused : IsFaultOrMemory e (finding_fault (sorts (steps_in course))) → IsFaultOrMemory e (by_bytes sorts last text)
+        sorts_refused h = lifted e (finding_fault (sorts (steps_in course))) (by_bytes sorts last text)
+            (λ x t. in-bytes ∙ ap (by_text sorts last) whole_is ∙ ap (by_commands sorts last) commands_are ∙ sorts_first sorts last (steps_in course) (sorts (steps_in course)) x t) h
 
-        module _ (typed : Course) (same : typed ≡ course) (sorted : course_fault (steps_in course) ≡ None) where
-          pub in_asked : by_bytes last text ≡ last (checks_of (steps_in typed))
-          in_asked = in-bytes ∙ ap (by_text last) whole_is ∙ ap (by_commands last) commands_are ∙ ap (by_sorts last (steps_in course)) sorted ∙
-              ap (λ (t : Course). last (checks_of (steps_in t))) (sym same)
+        module _ (sorted : sorts (steps_in course) ≡ None) where
+          pub in_asked : by_bytes sorts last text ≡ last (checks_of (steps_in course))
+          in_asked = in-bytes ∙ ap (by_text sorts last) whole_is ∙ ap (by_commands sorts last) commands_are ∙ ap (by_sorts last (steps_in course)) sorted
 
-          pub asked_refused : IsFaultOrMemory e (last (checks_of (steps_in typed))) → IsFaultOrMemory e (by_bytes last text)
-          asked_refused h = lifted e (last (checks_of (steps_in typed))) (by_bytes last text) (λ x t. in_asked ∙ t) h
+          pub asked_refused : IsFaultOrMemory e (last (checks_of (steps_in course))) → IsFaultOrMemory e (by_bytes sorts last text)
+          asked_refused h = lifted e (last (checks_of (steps_in course))) (by_bytes sorts last text) (λ x t. in_asked ∙ t) h
 
 module _ (bound : Option ℕ) (text : List ℕ) (e : ReadError) (few : length text ≤ most_bytes) (es : List Sexp) (whole_is : read text ≡ whole es) (course : Course) (commands_are : steps_of es ≡ steps (steps_in course))
     (typed : Course) (same : typed ≡ course) (sorted : course_fault (steps_in course) ≡ None) where
-  pub checks_refused : IsFaultOrMemory e (asked_fault (checks_of (steps_in typed))) → IsFaultOrMemory e (script_fault bound text)
-  checks_refused h = lifted e (asked_fault (checks_of (steps_in typed))) (script_fault bound text)
-      (λ x t. in_asked (in_checks bound) text e few es whole_is course commands_are typed same sorted ∙ checks_first bound (checks_of (steps_in typed)) x t) h
+  in-typed : plain_script_fault bound text ≡ in_checks bound (checks_of (steps_in typed))
+  in-typed = in_asked course_fault (in_checks bound) text e few es whole_is course commands_are sorted ∙ ap (λ (t : Course). in_checks bound (checks_of (steps_in t))) (sym same)
+
+  pub checks_refused : IsFaultOrMemory e (asked_fault (checks_of (steps_in typed))) → IsFaultOrMemory e (plain_script_fault bound text)
+  checks_refused h = lifted e (asked_fault (checks_of (steps_in typed))) (plain_script_fault bound text) (λ x t. in-typed ∙ checks_first bound (checks_of (steps_in typed)) x t) h
 
   module _ (only : Script) (only_is : only_script (checks_of (steps_in typed)) ≡ Some (commands_in only)) where
-    pub building_refused : IsBuildingError e (building_fault bound (commands_in only)) → IsFaultOrMemory e (script_fault bound text)
-    building_refused h = lifted e (in_building (building_fault bound (commands_in only))) (script_fault bound text)
-        (λ x t. in_asked (in_checks bound) text e few es whole_is course commands_are typed same sorted ∙ in_only bound (checks_of (steps_in typed)) (commands_in only) only_is ∙ t) h
+    pub building_refused : IsBuildingError e (building_fault bound (commands_in only)) → IsFaultOrMemory e (plain_script_fault bound text)
+    building_refused h = lifted e (in_building (building_fault bound (commands_in only))) (plain_script_fault bound text)
+        (λ x t. in-typed ∙ in_only bound (checks_of (steps_in typed)) (commands_in only) only_is ∙ t) h
 
 -- ---- a script without a fault
 
-commands-are : (text : List ℕ) (es : List Sexp) (ss : List Step) (cs : List Command) → read text ≡ whole es → steps_of es ≡ steps ss → only_script (checks_of ss) ≡ Some cs → reader.commands_of text ≡ cs
-commands-are text es ss cs e e' only =
-    ap (λ (r : TextRead). or_none (with_one_check (of_read r))) e ∙ ap (λ (r : CommandsRead). or_none (with_one_check (accepted r))) e' ∙ ap or_none only
+pub steps_are : (text : List ℕ) (es : List Sexp) (ss : List Step) → read text ≡ whole es → steps_of es ≡ steps ss → steps_of_text text ≡ ss
+steps_are text es ss e e' = ap (λ (r : TextRead). or_no_steps (of_read r)) e ∙ ap (λ (r : CommandsRead). or_no_steps (accepted r)) e'
 
 axes-length : (box : ℕ → DeclaredInterval) (axis : ℕ) (constants : List Constant) (axes : List Axis) → AreAxes box axis constants axes → length axes ≡ length constants
 axes-length box axis [] [] h = refl
@@ -113,34 +114,33 @@ whole_built bound cs sorted p w l n g built = record {
 module _ (bound : Option ℕ) (text : List ℕ) (es : List Sexp) (course typed : Course) (only : Script) (few : length text ≤ most_bytes) (whole_is : read text ≡ whole es)
     (commands_are : steps_of es ≡ steps (steps_in course)) (same : typed ≡ course) (sorted : course_fault (steps_in course) ≡ None)
     (only_is : only_script (checks_of (steps_in typed)) ≡ Some (commands_in only)) (only_sorted : sort_fault (commands_in only) ≡ None) where
-  pub script_is : commands_in only ≡ reader.commands_of text
-  script_is = sym (commands-are text es (steps_in course) (commands_in only) whole_is commands_are (ap (λ (t : Course). only_script (checks_of (steps_in t))) (sym same) ∙ only_is))
+  pub script_is : commands_in only ≡ plain_commands text
+  script_is = sym (ap (λ (ss : List Step). or_none (only_script (checks_of ss))) (steps_are text es (steps_in course) whole_is commands_are) ∙
+      ap (λ (t : Course). or_none (only_script (checks_of (steps_in t)))) (sym same) ∙ ap or_none only_is)
 
   pub problem_had : (p : Parts) → IsWhole p → IsLean p → IsInWalkOrder (commands_in only) p.nodes → All (λ (a : Axis). AreLowest a.declared) p.axes →
-      (building_fault bound (commands_in only) ≡ None) × IsProblemOf bound (commands_in only) (problem_of p) → HasProblem bound (problem_of p) text
+      (building_fault bound (commands_in only) ≡ None) × IsProblemOf bound (commands_in only) (problem_of p) → HasPlainProblem bound (problem_of p) text
   problem_had p w l n g built =
       let cs : List Command = commands_in only in
       record {
-        clean = in_asked (in_checks bound) text Memory few es whole_is course commands_are typed same sorted ∙ in_only bound (checks_of (steps_in typed)) cs only_is ∙ ap in_building built.0;
+        clean = in-typed bound text Memory few es whole_is course commands_are typed same sorted ∙ in_only bound (checks_of (steps_in typed)) cs only_is ∙ ap in_building built.0;
         built = subst (λ (c : List Command). IsBuiltOf bound c (problem_of p)) script_is (whole_built bound cs only_sorted p w l n g built.1);
       }
 
 -- ---- a script with any number of checks
 
-pub steps_are : (text : List ℕ) (es : List Sexp) (ss : List Step) → read text ≡ whole es → steps_of es ≡ steps ss → steps_of_text text ≡ ss
-steps_are text es ss e e' = ap (λ (r : TextRead). or_no_steps (of_read r)) e ∙ ap (λ (r : CommandsRead). or_no_steps (accepted r)) e'
-
 module _ (bound : Option ℕ) (text : List ℕ) (es : List Sexp) (course typed : Course) (few : length text ≤ most_bytes) (whole_is : read text ≡ whole es)
     (commands_are : steps_of es ≡ steps (steps_in course)) (same : typed ≡ course) (sorted : course_fault (steps_in course) ≡ None) where
-  pub session_had : (session : List (Parts × Bool)) → IsSessionAnswer bound (steps_in typed) (Ok session) → HasSession bound (problems_of session) text
+  pub session_had : (session : List (Parts × Bool)) → IsSessionAnswer bound (steps_in typed) (Ok session) → HasPlainSession bound (problems_of session) text
   session_had session h =
       let are : steps_in typed ≡ steps_of_text text = ap steps_in same ∙ sym (steps_are text es (steps_in course) whole_is commands_are) in
       record {
-        clean = in_asked (in_each_check bound) text Memory few es whole_is course commands_are typed same sorted ∙ h.0;
+        clean = in_asked course_fault (in_each_check bound) text Memory few es whole_is course commands_are sorted ∙ ap (λ (t : Course). in_each_check bound (checks_of (steps_in t))) (sym same) ∙ h.0;
         built = subst (λ (ss : List Step). AreBuilt bound (checks_of ss) (carried_of ss) (problems_of session)) are h.1;
       }
 
   pub session_answer : (r : Result (List (Parts × Bool)) ReadError) → IsSessionAnswer bound (steps_in typed) r →
-      MatchResult r (λ session. HasSession bound (problems_of session) text) (λ e. IsFaultOrMemory e (session_fault bound text))
+      MatchResult r (λ session. HasPlainSession bound (problems_of session) text) (λ e. IsFaultOrMemory e (plain_session_fault bound text))
   session_answer (Ok session) h = session_had session h
-  session_answer (Err e) h = asked_refused (in_each_check bound) text e few es whole_is course commands_are typed same sorted h
+  session_answer (Err e) h = asked_refused course_fault (in_each_check bound) text e few es whole_is course commands_are sorted
+      (subst (λ (t : Course). IsFaultOrMemory e (in_each_check bound (checks_of (steps_in t)))) same h)

@@ -8,7 +8,7 @@ use Rattle.poly_graph.specs.Views.{atom_of, node_of}
 use Rattle.script_model.specs.Script.{Command}
 use Rattle.script_forms.specs.Walk.{building_fault}
 use Rattle.script_fault.specs.declared.fault.ReadError.{ReadError}
-use Rattle.script_reading.specs.Reader.{IsBuiltOf}
+use Rattle.script_reading.specs.Built.{IsBuiltOf}
 use Rattle.term_build.specs.Built.{BuilderModel}
 use Rattle.problem_session.specs.Changes.{IsChange, changed, made_of}
 use Rattle.problem_session.specs.declared.change.Change.{Change}

@@ -9,7 +9,8 @@ use Rattle.script_forms.specs.Terms.{ill_formed}
 use Rattle.script_forms.specs.Atoms.{atoms_in_place}
 use Rattle.script_forms.specs.ProblemOf.{AreAxes, IsProblemOf}
 use Rattle.script_forms.specs.Walk.{stands, nothing_made, claim_places, works, after_assertions, after_root, unfolds_not, building_fault}
-use Rattle.script_reading.specs.Reader.{AreLowest, IsBuilt, IsInWalkOrder}
+use Rattle.script_reading.specs.Built.{AreLowest, IsInWalkOrder}
+use Rattle.script_reading.specs.Reader.{IsBuilt}
 use Rattle.script_reading.specs.Session.{HasSession}
 use Rattle.problem_build.specs.BuildAnswers.{IsLean}
 use Rattle.sort_check.specs.Sorts.{sort_fault}

@@ -11,3 +11,5 @@ pub mod Progress
 pub mod BuildAnswers
 pub mod Walking
 pub mod Session
+pub mod Plain
+pub mod WithRoots

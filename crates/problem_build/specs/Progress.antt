@@ -12,7 +12,7 @@ use Rattle.declared_box.specs.Table.{all_of}
 use Rattle.poly_graph.specs.ProblemViews.{axis_of}
 use Rattle.script_forms.specs.ProblemOf.{AreAxes}
 use Rattle.script_fault.specs.declared.fault.ReadError.{ReadError}
-use Rattle.script_reading.specs.Reader.{AreLowest}
+use Rattle.script_reading.specs.Built.{AreLowest}
 use Rattle.term_build.specs.Built.{IsMade, stand_of}
 use Rattle.term_build.specs.Settled.{Extends}
 use Rattle.value_build.specs.Making.{Making}

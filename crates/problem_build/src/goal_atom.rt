@@ -4,7 +4,7 @@ ghost use Rattle.poly_graph.specs.FormGraph.{form_at, graph_forms};
 ghost use Rattle.poly_graph.specs.ProblemViews.{problem_of};
 ghost use Rattle.problem_build.specs.Goal.{before_goal, first_atom};
 ghost use Rattle.script_forms.specs.Atoms.{goal_atom};
-ghost use Rattle.script_reading.specs.Reader.{IsBuiltOf};
+ghost use Rattle.script_reading.specs.Built.{IsBuiltOf};
 ghost use Rattle.smt_script.specs.Views.{command_of, commands_in};
 ghost use Rattle.smt_sexp.specs.declared.sexps.Sexps as arena;
 

@@ -1,8 +1,9 @@
 //! The reader's last phase, and the reader as one call.
 //!
-//! `read_session` answers the problems of all checks of a script's bytes, or the first fault of the first phase that has
-//! one; `build_all` does so for a script whose sorts are checked. `read_problem` and `build` do so for a script that may
-//! have one check. The crate reads no file, prints no fault, and simplifies no form.
+//! `read_session` answers the problems of all checks of a script's bytes, or the script's first fault: a script is read as
+//! it is written, and where that has a fault it is read with roots, so that constants stand for its roots and quotients.
+//! `build_all` answers the problems of a script whose sorts are checked. `read_problem` and `build` do so for a script that
+//! may have one check. The crate reads no file, prints no fault, and simplifies no form.
 #![tactic(auto)]
 
 ghost use Rattle.problem_build.specs.Laws.{SortedIsSound, PartsAreProblem, BuiltIsOne, SessionIsOne};
@@ -15,23 +16,25 @@ mod fault;
 mod frames;
 mod goal;
 mod goal_atom;
+mod goal_step;
 mod lets;
 mod locals;
 mod named;
 mod names;
+mod plain;
 mod progress;
 mod reader;
+mod rewritten;
+mod rooted;
 mod script;
 mod session;
 mod top;
 mod walk;
-mod with_goal;
 
 pub use goal_atom::goal_of;
-pub use reader::{Reader, read_goal, read_problem, read_session};
+pub use reader::{Reader, read_goal, read_problem, read_session, read_with_goal};
 pub use script::build;
 pub use session::build_all;
-pub use with_goal::read_with_goal;
 
 /// A well-sorted script meets no expression without a sort when it is built.
 #[tactic(auto, using(crate::proofs::Sound::sorted_sound))]

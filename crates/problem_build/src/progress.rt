@@ -3,7 +3,7 @@ ghost use Rattle.std.specs.Prelude.{◌≡◌, ◌≤◌, ◌∷◌, [], ◌++�
 ghost use Rattle.script_model.specs.Script as model;
 ghost use Rattle.smt_script.specs.Views.{command_of, commands_in};
 ghost use Rattle.sort_check.specs.Sorts.{sort_fault};
-ghost use Rattle.script_reading.specs.Reader.{AreLowest, IsInWalkOrder};
+ghost use Rattle.script_reading.specs.Built.{AreLowest, IsInWalkOrder};
 ghost use Rattle.problem_build.specs.BuildAnswers.{IsBuildAnswer, IsLean};
 ghost use Rattle.poly_graph.specs.ProblemViews.{Parts};
 ghost use Rattle.problem_session.specs.Changes.{no_parts};

@@ -10,7 +10,7 @@ ghost use Rattle.declared_box.specs.Axes.{constant_of};
 ghost use Rattle.declared_box.specs.Table.{AreBefore};
 ghost use Rattle.problem_build.specs.Goal.{places_seen};
 ghost use Rattle.problem_build.specs.Progress.{AreAxesOf, Concludes, IsState, MakesRoot};
-ghost use Rattle.script_reading.specs.Reader.{AreLowest, IsInWalkOrder};
+ghost use Rattle.script_reading.specs.Built.{AreLowest, IsInWalkOrder};
 ghost use Rattle.problem_build.specs.BuildAnswers.{IsBuildAnswer, IsLean};
 
 use crate::assembly::root_form;

@@ -20,7 +20,7 @@ use Rattle.script_forms.specs.Walk.{after_assertions, after_root, building_fault
 use Rattle.script_forms.proofs.Box.{problem_sorts}
 use Rattle.script_forms.proofs.Numbered.{already_end, already_later}
 use Rattle.script_forms.proofs.Walks.{faultless_walked, firsts_both}
-use Rattle.script_reading.specs.Reader.{IsBuiltOf, trees_made}
+use Rattle.script_reading.specs.Built.{IsBuiltOf, trees_made}
 use Rattle.script_reading.specs.Session.{BeginsNext}
 use Rattle.term_build.specs.Settled.{AtomsIn}
 use Rattle.term_build.proofs.Lists.{index_before}

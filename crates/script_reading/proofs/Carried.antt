@@ -1,5 +1,5 @@
 -- What was in force and was not taken away begins what is in force.
-use Rattle.std.proofs.Common.{◌≡◌, ◌∙◌, ℕ, zero, suc, ◌≤◌, length-take-le, List, [], ◌∷◌, ◌++◌, Bool, true, false, ◌&&◌, length, nat_le, refl, ap, sym, take, drop, arith, take-append-drop, take-take}
+use Rattle.std.proofs.Common.{◌≡◌, ◌∙◌, ℕ, zero, suc, ◌≤◌, length-take-le, List, [], ◌∷◌, ◌++◌, Bool, true, false, ◌&&◌, length, nat_le, Option, Some, None, map, refl, ap, sym, take, drop, arith, take-append-drop, take-take}
 use Rattle.std.proofs.Math.Seq.{take-length}
 use Rattle.std.proofs.lemmas.Bool.{leb-true}
 use Rattle.std.proofs.lemmas.List.{take-append-le}
@@ -7,7 +7,9 @@ use Rattle.script_model.specs.Script.{Command, declare, define, claim, minimize,
 use Rattle.smt_script.specs.Levels.{Asked, Levels, Step, command, opens, closes, resets, asks_values, after_step, asked_from, checks_of, closed_to, no_levels, opened}
 use Rattle.sort_check.specs.Single.{AreLengths}
 use Rattle.sort_check.proofs.Lengths.{lengths_longer}
-use Rattle.script_reading.specs.Session.{AreCarried, BeginsNext, IfSaid, carried_from, carried_of, stay_in_force}
+use Rattle.script_fault.specs.declared.fault.ScriptFault.{ScriptFault}
+use Rattle.script_reading.specs.Faults.{plain_session_fault}
+use Rattle.script_reading.specs.Session.{AreCarried, BeginsNext, IfSaid, asked_by, asked_in, carried_by, carried_from, carried_in, not_carried, rewritten_at, steps_of_text, stay_in_force}
 
 -- ---- the levels that are open
 
@@ -155,5 +157,16 @@ first_left x l (closes at n ∷ left) st = first_left x _ left (stacked_step l (
 first_left x l (resets at ∷ left) st = first_left x _ left (stacked_step l (resets at) st)
 first_left x l (asks_values at es ∷ left) st = first_left x l left st
 
-pub carried_begins : (steps : List Step) → AreCarried (checks_of steps) (carried_of steps)
-carried_begins steps = first_left false no_levels steps ([], tt)
+-- ---- of a script that is read with roots nothing is said
+
+none-said : (bound : Option ℕ) (asked : List Asked) → AreCarried (map (rewritten_at bound) asked) (map not_carried asked)
+none-said bound [] = tt
+none-said bound (a ∷ []) = tt
+none-said bound (a ∷ b ∷ later) = (tt, none-said bound (b ∷ later))
+
+carried-by : (bound : Option ℕ) (steps : List Step) (fault : Option ScriptFault) → AreCarried (asked_by bound steps fault) (carried_by steps fault)
+carried-by bound steps None = first_left false no_levels steps ([], tt)
+carried-by bound steps (Some x) = none-said bound (checks_of steps)
+
+pub carried_begins : (bound : Option ℕ) (text : List ℕ) → AreCarried (asked_in bound text) (carried_in bound text)
+carried_begins bound text = carried-by bound (steps_of_text text) (plain_session_fault bound text)

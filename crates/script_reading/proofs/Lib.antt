@@ -6,6 +6,7 @@ mod Commands
 pub mod Long
 pub mod Pairs
 pub mod Parts
+pub mod Phases
 mod Rows
 pub mod Shapes
 mod Walks

@@ -1,67 +1,63 @@
 -- The problems of a script's checks are a session.
-use Rattle.std.proofs.Common.{◌≡◌, ℕ, List, [], ◌∷◌, Bool, true, false, Option, Some, None, cond, length, nat_le, refl, ap, sym, ◌∙◌, subst}
+use Rattle.std.proofs.Common.{◌≡◌, ℕ, List, [], ◌∷◌, Bool, true, false, Option, Some, None, refl, ap, ap₂, sym, ◌∙◌, subst}
+use Rattle.std.specs.Prelude.{map}
 use Rattle.poly_graph.specs.Problem.{Problem}
 use Rattle.cover_model.specs.Carried.{GoesOnFrom}
 use Rattle.cert_model.specs.SessionLaws.{GoOn, IsSession}
 use Rattle.script_fault.specs.declared.fault.ScriptFault.{ScriptFault}
-use Rattle.script_model.specs.Sexp.{Place}
-use Rattle.smt_sexp.specs.Lexicon.{TextRead, whole, faulty, read}
-use Rattle.smt_script.specs.Commands.{CommandsRead, steps, command_fault, accepted, course_of, of_read, steps_of}
-use Rattle.smt_script.specs.Levels.{Asked, Step, checks_of}
-use Rattle.sort_check.specs.Sorts.{Finding}
-use Rattle.sort_check.specs.Levels.{course_fault}
-use Rattle.script_forms.specs.Walk.{BuildingFault, building_fault}
-use Rattle.script_reading.specs.Faults.{by_commands, by_sorts, by_text, first_of, in_building, in_each_check, most_bytes, session_fault}
-use Rattle.script_reading.specs.Reader.{IsBuiltOf}
-use Rattle.script_reading.specs.Session.{AreBuilt, AreCarried, BeginsNext, HasSession, IfSaid, carried_of, or_no_steps, steps_of_text}
+use Rattle.smt_script.specs.Levels.{Asked, checks_of}
+use Rattle.sort_check.specs.Levels.{course_fault, course_fault_with_roots}
+use Rattle.script_forms.specs.Walk.{building_fault}
+use Rattle.script_reading.specs.Faults.{first_of, in_building, in_each_check, in_each_rewritten, in_rewriting, plain_session_fault, rooted_session_fault, session_fault, unless_plain}
+use Rattle.script_reading.specs.Built.{IsBuiltOf}
+use Rattle.script_reading.specs.Session.{AreBuilt, AreCarried, BeginsNext, HasSession, IfSaid, asked_by, asked_in, carried_in, rewritten_at, steps_of_text}
+use Rattle.script_reading.proofs.Accepted.{both_none, built_none, replaced}
 use Rattle.script_reading.proofs.Carried.{carried_begins}
 use Rattle.script_reading.proofs.Begun.{begun_goes_on}
 use Rattle.script_reading.proofs.Checked.{has_asked}
+use Rattle.script_reading.proofs.Phases.{reads, steps_read}
 
 -- ---- a script without a fault has a check, and the building of each has no fault
-
-built-none : (x : Option (Place × BuildingFault)) → in_building x ≡ None → x ≡ None
-built-none None e = refl
-built-none (Some x) e = cc
-
-both-none : (x y : Option ScriptFault) → first_of x y ≡ None → (x ≡ None) × (y ≡ None)
-both-none None y e = (refl, e)
-both-none (Some x) y e = cc
 
 record IsClean (bound : Option ℕ) (bytes : List ℕ) : Type 0 where
   pub first : Asked
   pub later : List Asked
-  pub checks : checks_of (steps_of_text bytes) ≡ first ∷ later
-  pub built : in_each_check bound (checks_of (steps_of_text bytes)) ≡ None
+  pub checks : asked_in bound bytes ≡ first ∷ later
+  pub built : in_each_check bound (asked_in bound bytes) ≡ None
 
-sorted-none : (bound : Option ℕ) (ss : List Step) (x : Finding) → by_sorts (in_each_check bound) ss x ≡ None → in_each_check bound (checks_of ss) ≡ None
-sorted-none bound ss None e = e
-sorted-none bound ss (Some x) e = cc
+each-replaced : (bound : Option ℕ) (asked : List Asked) → in_each_rewritten bound asked ≡ None → in_each_check bound (map (rewritten_at bound) asked) ≡ None
+each-replaced bound [] e = refl
+each-replaced bound (a ∷ later) e =
+    let both = both_none (in_rewriting bound a.script) (in_each_rewritten bound later) e in
+    ap₂ first_of (ap in_building (replaced bound a.script both.0).built) (each-replaced bound later both.1)
 
-clean-commands : (bound : Option ℕ) (bytes : List ℕ) (ss : List Step) → (a : Asked) × (later : List Asked) × (checks_of ss ≡ a ∷ later) → in_each_check bound (checks_of ss) ≡ None →
-    course_of bytes ≡ Some ss → IsClean bound bytes
-clean-commands bound bytes ss asked e h =
-    let same : steps_of_text bytes ≡ ss = ap or_no_steps h in record {
-      first = asked.0;
-      later = asked.1;
-      checks = ap checks_of same ∙ asked.2;
-      built = ap (λ ts. in_each_check bound (checks_of ts)) same ∙ e;
-    }
+module _ (bound : Option ℕ) (bytes : List ℕ) where
+  plain-clean : plain_session_fault bound bytes ≡ None → IsClean bound bytes
+  plain-clean e =
+      let r = reads course_fault bytes (in_each_check bound) e in
+      let some = has_asked r.1.expressions r.0 r.1.commands in
+      let are : asked_in bound bytes ≡ checks_of r.0 = ap (asked_by bound (steps_of_text bytes)) e ∙ ap checks_of (steps_read course_fault bytes r.0 r.1) in
+      record { first = some.0; later = some.1; checks = are ∙ some.2; built = ap (in_each_check bound) are ∙ r.2 }
 
-text-none : (bound : Option ℕ) (bytes : List ℕ) (r : TextRead) → by_text (in_each_check bound) r ≡ None → course_of bytes ≡ of_read r → IsClean bound bytes
-text-none bound bytes (faulty at x) e h = cc
-text-none bound bytes (whole es) e h = go (steps_of es) refl e h
-  where
-    go : (r : CommandsRead) → steps_of es ≡ r → by_commands (in_each_check bound) r ≡ None → course_of bytes ≡ accepted r → IsClean bound bytes
-    go (command_fault at x) s e h = cc
-    go (steps ss) s e h = clean-commands bound bytes ss (has_asked es ss s) (sorted-none bound ss (course_fault ss) e) h
+  rooted-clean : (x : ScriptFault) → plain_session_fault bound bytes ≡ Some x → rooted_session_fault bound bytes ≡ None → IsClean bound bytes
+  rooted-clean x h e =
+      let r = reads course_fault_with_roots bytes (in_each_rewritten bound) e in
+      let some = has_asked r.1.expressions r.0 r.1.commands in
+      let are : asked_in bound bytes ≡ map (rewritten_at bound) (checks_of r.0) =
+      ap (asked_by bound (steps_of_text bytes)) h ∙ ap (λ ss. map (rewritten_at bound) (checks_of ss)) (steps_read course_fault_with_roots bytes r.0 r.1) in
+      record {
+        first = rewritten_at bound some.0;
+        later = map (rewritten_at bound) some.1;
+        checks = are ∙ ap (map (rewritten_at bound)) some.2;
+        built = ap (in_each_check bound) are ∙ each-replaced bound (checks_of r.0) r.2;
+      }
 
-within-none : (b : Bool) (x y : Option ScriptFault) → cond b x y ≡ None → (f : ScriptFault) → y ≡ Some f → x ≡ None
-within-none true x y e f h = e
-within-none false x y e f h = cc
-
-is-clean : (bound : Option ℕ) (bytes : List ℕ) → session_fault bound bytes ≡ None → IsClean bound bytes
-is-clean bound bytes e = text-none bound bytes (read bytes) (within-none (nat_le (length bytes) most_bytes) (by_text (in_each_check bound) (read bytes)) (Some _) e _ refl) refl
+  is-clean : session_fault bound bytes ≡ None → IsClean bound bytes
+  is-clean e = go (plain_session_fault bound bytes) refl e
+    where
+      go : (o : Option ScriptFault) → plain_session_fault bound bytes ≡ o → unless_plain o (rooted_session_fault bound bytes) ≡ None → IsClean bound bytes
+      go None h k = plain-clean h
+      go (Some x) h k = rooted-clean x h k
 
 -- ---- pair by pair
 
@@ -73,23 +69,23 @@ go-on : (bound : Option ℕ) (a : Asked) (asked : List Asked) (x : Bool) (said :
     IsBuiltOf bound a.script p → AreBuilt bound asked said later → AreCarried (a ∷ asked) (x ∷ said) → GoOn p later
 go-on bound a [] x [] p [] e b c h = b.whole
 go-on bound a (next ∷ asked) x (y ∷ said) p ((q, z) ∷ later) e b c h =
-    let clean = both-none (in_building (building_fault bound next.script)) (in_each_check bound asked) e in (
+    let clean = both_none (in_building (building_fault bound next.script)) (in_each_check bound asked) e in (
       b.whole,
-      λ t. goes-on bound a next y p q h.0 (sym c.1 ∙ t) (built-none (building_fault bound next.script) clean.0) b c.0,
+      λ t. goes-on bound a next y p q h.0 (sym c.1 ∙ t) (built_none (building_fault bound next.script) clean.0) b c.0,
       go-on bound next asked y said q later clean.1 c.0 c.2 h.1,
     )
 go-on bound a _ x _ p _ e b c h = absurd c
 
 first-on : (bound : Option ℕ) (a : Asked) (asked : List Asked) (said : List Bool) (problems : List (Problem × Bool)) → in_each_check bound (a ∷ asked) ≡ None →
     AreBuilt bound (a ∷ asked) said problems → AreCarried (a ∷ asked) said → IsSession problems
-first-on bound a asked (x ∷ said) ((p, z) ∷ later) e c h = go-on bound a asked x said p later (both-none (in_building (building_fault bound a.script)) (in_each_check bound asked) e).1 c.0 c.2 h
+first-on bound a asked (x ∷ said) ((p, z) ∷ later) e c h = go-on bound a asked x said p later (both_none (in_building (building_fault bound a.script)) (in_each_check bound asked) e).1 c.0 c.2 h
 first-on bound a asked _ _ e c h = absurd c
 
 pub session_goes_on : (bound : Option ℕ) (bytes : List ℕ) (problems : List (Problem × Bool)) → HasSession bound problems bytes → IsSession problems
 session_goes_on bound bytes problems s =
     let c = is-clean bound bytes s.clean in
-    let ss : List Step = steps_of_text bytes in
-    first-on bound c.first c.later (carried_of ss) problems
+    let said : List Bool = carried_in bound bytes in
+    first-on bound c.first c.later said problems
     (subst (λ (asked : List Asked). in_each_check bound asked ≡ None) c.checks c.built)
-    (subst (λ (asked : List Asked). AreBuilt bound asked (carried_of ss) problems) c.checks s.built)
-    (subst (λ (asked : List Asked). AreCarried asked (carried_of ss)) c.checks (carried_begins ss))
+    (subst (λ (asked : List Asked). AreBuilt bound asked said problems) c.checks s.built)
+    (subst (λ (asked : List Asked). AreCarried asked said) c.checks (carried_begins bound bytes))

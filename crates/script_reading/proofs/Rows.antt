@@ -81,3 +81,13 @@ comparison_of_wide = refl
 never_asked : script_fault None (codes "(assert (distinct 1000000000000000000000000000000000000 (- 1)))\n(check-sat)\n") ≡ None
 unfolding Rattle.dyadic.specs.Fraction.negated Rattle.dyadic.specs.Fraction.sum_of Rattle.dyadic.specs.Fraction.product_of Rattle.dyadic.specs.Fraction.at_most
 never_asked = refl
+
+-- ---- with roots
+
+root_of_choice : script_fault None (one_real ++ codes "(assert (< (sqrt (ite true 1 2)) 2))\n(check-sat)\n") ≡ Some (fault_at (at 2 12) LeftOut)
+unfolding Rattle.dyadic.specs.Fraction.negated Rattle.dyadic.specs.Fraction.sum_of Rattle.dyadic.specs.Fraction.product_of Rattle.dyadic.specs.Fraction.at_most
+root_of_choice = refl
+
+-- a name of the script stands before the root
+own_root : script_fault None (codes "(define-fun sqrt ((x Bool)) Bool x)\n(assert (sqrt true))\n(check-sat)\n") ≡ None
+own_root = refl

@@ -7,7 +7,7 @@ use Rattle.script_model.specs.Sexp.{Place}
 use Rattle.script_forms.specs.Atoms.{number_in, atoms_in_place}
 use Rattle.script_forms.specs.Work.{Work, assertion_events}
 use Rattle.script_forms.specs.Walk.{Stand, Walked, stands, stops, after_events, after_assertions, after_root, claim_places, goes_on, last_place, nowhere, if_room, with_form, BuildingFault}
-use Rattle.script_reading.specs.Reader.{trees_made}
+use Rattle.script_reading.specs.Built.{trees_made}
 use Rattle.term_build.specs.Settled.{Extends}
 use Rattle.term_build.proofs.Settled.{Reaches, extends_self, extends_on, reaches_events}
 

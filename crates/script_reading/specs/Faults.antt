@@ -1,9 +1,11 @@
 -- The first fault of a script's bytes, over all that is done with them: its size, its text, its commands, its names
--- and sorts, its checks, and the building of what is in force at them.
+-- and sorts, its checks, and the building of what is in force at them. A script is read as it is written; where that has
+-- a fault it is read with roots: constants stand for its roots and quotients.
 use Rattle.std.specs.Prelude.{ℕ, List, [], ◌∷◌, length, Option, Some, None, cond, nat_le}
 use Rattle.script_model.specs.Sexp.{Place}
+use Rattle.script_model.specs.Script.{Command}
 use Rattle.script_fault.specs.declared.fault.FaultKind.{FaultKind}
-use Rattle.script_fault.specs.declared.fault.FaultKind.TheVariants.{NumberTooWide, SortMismatch, DivisorNotConstant, ZeroDivisor, NoBound, BoundTooWide, TooMany}
+use Rattle.script_fault.specs.declared.fault.FaultKind.TheVariants.{NumberTooWide, SortMismatch, DivisorNotConstant, ZeroDivisor, NoBound, BoundTooWide, LeftOut, TooMany}
 use Rattle.script_fault.specs.declared.fault.ScriptFault.{ScriptFault}
 use Rattle.script_fault.specs.declared.limit.Limit.TheVariants.{Size, Nodes, Atoms, Forms}
 use Rattle.smt_sexp.specs.Lexicon.{TextRead, whole, faulty, read}
@@ -12,14 +14,16 @@ pub use Rattle.smt_sexp.specs.TextAnswers.{most_bytes}
 use Rattle.smt_script.specs.Commands.{CommandsRead, steps, command_fault, steps_of}
 use Rattle.smt_script.specs.Levels.{Asked, Step, checks_of}
 use Rattle.smt_script.specs.CommandAnswers.{command_kind}
-use Rattle.sort_check.specs.Sorts.{Finding}
-use Rattle.sort_check.specs.Levels.{course_fault}
+use Rattle.sort_check.specs.Sorts.{Finding, sort_fault}
+use Rattle.sort_check.specs.Levels.{course_fault, course_fault_with_roots}
 use Rattle.sort_check.specs.Single.{asked_fault}
-use Rattle.sort_check.specs.SortAnswers.{sort_kind}
+use Rattle.sort_check.specs.SortAnswers.{finding_fault, sort_kind}
 use Rattle.script_forms.specs.Terms as terms
 use Rattle.script_forms.specs.Terms.{Fault}
 use Rattle.script_forms.specs.Walk as walk
 use Rattle.script_forms.specs.Walk.{BuildingFault, building_fault}
+use Rattle.script_roots.specs.Refused.{Refusal, too_large, left_out_form, refusal}
+use Rattle.script_roots.specs.Rewritten.{rewritten}
 
 -- ---- the kinds of a building's faults; those of the other parts stand with these
 
@@ -50,18 +54,23 @@ abbrev pub by_sorts : (List Asked → Option ScriptFault) → List Step → Find
 by_sorts last ss (Some (at, x)) = Some (fault_at at (sort_kind x))
 by_sorts last ss None = last (checks_of ss)
 
-abbrev pub by_commands : (List Asked → Option ScriptFault) → CommandsRead → Option ScriptFault
-by_commands last (command_fault at x) = Some (fault_at at (command_kind x))
-by_commands last (steps ss) = by_sorts last ss (course_fault ss)
+-- where this finds the fault of names and sorts
+abbrev pub by_commands : (List Step → Finding) → (List Asked → Option ScriptFault) → CommandsRead → Option ScriptFault
+by_commands sorts last (command_fault at x) = Some (fault_at at (command_kind x))
+by_commands sorts last (steps ss) = by_sorts last ss (sorts ss)
 
-abbrev pub by_text : (List Asked → Option ScriptFault) → TextRead → Option ScriptFault
-by_text last (faulty at x) = Some (fault_at at (text_kind x))
-by_text last (whole es) = by_commands last (steps_of es)
+abbrev pub by_text : (List Step → Finding) → (List Asked → Option ScriptFault) → TextRead → Option ScriptFault
+by_text sorts last (faulty at x) = Some (fault_at at (text_kind x))
+by_text sorts last (whole es) = by_commands sorts last (steps_of es)
 
-abbrev pub by_bytes : (List Asked → Option ScriptFault) → List ℕ → Option ScriptFault
-by_bytes last text = cond (nat_le (length text) most_bytes) (by_text last (read text)) (Some too_many_bytes)
+abbrev pub by_bytes : (List Step → Finding) → (List Asked → Option ScriptFault) → List ℕ → Option ScriptFault
+by_bytes sorts last text = cond (nat_le (length text) most_bytes) (by_text sorts last (read text)) (Some too_many_bytes)
 
--- ---- of a script with one check
+abbrev pub first_of : Option ScriptFault → Option ScriptFault → Option ScriptFault
+first_of (Some x) later = Some x
+first_of None later = later
+
+-- ---- as it is written, with one check
 
 -- the building of what is in force at the only check
 abbrev pub in_checks : Option ℕ → List Asked → Option ScriptFault
@@ -72,26 +81,68 @@ abbrev pub in_sorts : Option ℕ → List Step → Finding → Option ScriptFaul
 in_sorts bound ss x = by_sorts (in_checks bound) ss x
 
 abbrev pub in_commands : Option ℕ → CommandsRead → Option ScriptFault
-in_commands bound r = by_commands (in_checks bound) r
+in_commands bound r = by_commands course_fault (in_checks bound) r
 
 abbrev pub in_text : Option ℕ → TextRead → Option ScriptFault
-in_text bound r = by_text (in_checks bound) r
+in_text bound r = by_text course_fault (in_checks bound) r
 
--- the first fault of a script with one check, where the words give this bound; a second check is one
-abbrev pub script_fault : Option ℕ → List ℕ → Option ScriptFault
-script_fault bound text = by_bytes (in_checks bound) text
+-- where the words give this bound; a second check is a fault
+abbrev pub plain_script_fault : Option ℕ → List ℕ → Option ScriptFault
+plain_script_fault bound text = by_bytes course_fault (in_checks bound) text
 
--- ---- of a script with any number of checks
-
-abbrev pub first_of : Option ScriptFault → Option ScriptFault → Option ScriptFault
-first_of (Some x) later = Some x
-first_of None later = later
+-- ---- as it is written, with any number of checks
 
 -- the building of what is in force at each check, one after the other
 abbrev pub in_each_check : Option ℕ → List Asked → Option ScriptFault
 in_each_check bound [] = None
 in_each_check bound (a ∷ later) = first_of (in_building (building_fault bound a.script)) (in_each_check bound later)
 
--- the first fault of such a script, where the words give this bound
+abbrev pub plain_session_fault : Option ℕ → List ℕ → Option ScriptFault
+plain_session_fault bound text = by_bytes course_fault (in_each_check bound) text
+
+-- ---- with roots
+
+abbrev pub refusal_kind : Refusal → FaultKind
+refusal_kind too_large = TooMany Size
+refusal_kind left_out_form = LeftOut
+
+abbrev pub in_refusal : Option (Place × Refusal) → Option ScriptFault
+in_refusal None = None
+in_refusal (Some (at, x)) = Some (fault_at at (refusal_kind x))
+
+-- of commands whose roots and quotients are replaced: that they cannot be, the names and sorts of the commands with constants
+-- in their place, and the building of these
+abbrev pub in_rewriting : Option ℕ → List Command → Option ScriptFault
+in_rewriting bound script = first_of (in_refusal (refusal bound script))
+    (first_of (finding_fault (sort_fault (rewritten bound script))) (in_building (building_fault bound (rewritten bound script))))
+
+-- at the only check
+abbrev pub in_rewritten : Option ℕ → List Asked → Option ScriptFault
+in_rewritten bound (a ∷ []) = in_rewriting bound a.script
+in_rewritten bound asked = asked_fault asked
+
+-- at each check, one after the other
+abbrev pub in_each_rewritten : Option ℕ → List Asked → Option ScriptFault
+in_each_rewritten bound [] = None
+in_each_rewritten bound (a ∷ later) = first_of (in_rewriting bound a.script) (in_each_rewritten bound later)
+
+abbrev pub rooted_script_fault : Option ℕ → List ℕ → Option ScriptFault
+rooted_script_fault bound text = by_bytes course_fault_with_roots (in_rewritten bound) text
+
+abbrev pub rooted_session_fault : Option ℕ → List ℕ → Option ScriptFault
+rooted_session_fault bound text = by_bytes course_fault_with_roots (in_each_rewritten bound) text
+
+-- ---- the first fault
+
+-- there is none where there is none as the script is written
+abbrev pub unless_plain : Option ScriptFault → Option ScriptFault → Option ScriptFault
+unless_plain None rooted = None
+unless_plain (Some x) rooted = rooted
+
+-- the first fault of a script with one check, where the words give this bound; a second check is one
+abbrev pub script_fault : Option ℕ → List ℕ → Option ScriptFault
+script_fault bound text = unless_plain (plain_script_fault bound text) (rooted_script_fault bound text)
+
+-- the first fault of a script with any number of checks, where the words give this bound
 abbrev pub session_fault : Option ℕ → List ℕ → Option ScriptFault
-session_fault bound text = by_bytes (in_each_check bound) text
+session_fault bound text = unless_plain (plain_session_fault bound text) (rooted_session_fault bound text)

@@ -5,7 +5,7 @@ use Rattle.cover_model.specs.Carried.{GoesOnFrom}
 use Rattle.cert_model.specs.SessionLaws.{IsSession}
 use Rattle.smt_script.specs.Levels.{Asked}
 use Rattle.script_forms.specs.Walk.{building_fault}
-use Rattle.script_reading.specs.Reader.{IsBuiltOf}
+use Rattle.script_reading.specs.Built.{IsBuiltOf}
 use Rattle.script_reading.specs.Session.{BeginsNext, HasSession}
 
 -- The problem of a check goes on from that of the check before, where all commands of the one before are in force at it.

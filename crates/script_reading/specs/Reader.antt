@@ -1,54 +1,24 @@
 -- What is read of a script's bytes.
-use Rattle.std.specs.Prelude.{◌≡◌, ℕ, ◌≤◌, length, List, [], All, Option, Some, None, nat_abs}
-use Rattle.std.specs.Int.{IsGcd}
-use Rattle.poly_graph.specs.AtomTable.{most_atoms}
-use Rattle.poly_graph.specs.Problem.{Axis, Declared, real_between, any_bool, Problem, IsProblem}
-use Rattle.poly_graph.specs.Shared.{IsGraph}
-use Rattle.poly_graph.specs.Term.{Term, Node, graph_terms}
+use Rattle.std.specs.Prelude.{◌≡◌, ℕ, List, [], Option, Some, None}
+use Rattle.poly_graph.specs.Problem.{Problem}
 use Rattle.script_model.specs.Script.{Command}
 pub use Rattle.smt_sexp.specs.TextAnswers.{too_many_bytes}
-use Rattle.smt_script.specs.Commands.{script_of}
-use Rattle.script_forms.specs.ProblemOf.{IsProblemOf}
-use Rattle.script_forms.specs.Walk.{Walked, stands, stops, walked}
+use Rattle.smt_script.specs.Levels.{only_script}
+use Rattle.script_reading.specs.Built.{IsBuiltOf}
 use Rattle.script_reading.specs.Faults.{script_fault}
+use Rattle.script_reading.specs.Session.{asked_in}
 
 abbrev pub or_none : Option (List Command) → List Command
 or_none (Some script) = script
 or_none None = []
 
--- the commands of a script without fault
-abbrev pub commands_of : List ℕ → List Command
-commands_of text = or_none (script_of text)
-
--- the trees that a walk makes, each once, in the order in which it makes them
-abbrev pub trees_made : Walked → List Term
-trees_made (stands s) = s.trees
-trees_made (stops at x) = []
-
--- these nodes are the trees that the builder's walk over the script makes, in its order
-abbrev pub IsInWalkOrder : List Command → List Node → Type 0
-IsInWalkOrder script nodes = graph_terms nodes ≡ trees_made (walked script)
-
--- the ends are in lowest terms
-abbrev pub AreLowest : Declared → Type 0
-AreLowest (real_between l h) = IsGcd (nat_abs l.num) l.den 1 × IsGcd (nat_abs h.num) h.den 1
-AreLowest any_bool = Unit {0}
-
--- p is the problem of these commands, which have no fault, where the words give this bound; there is no other
-pub record IsBuiltOf (bound : Option ℕ) (script : List Command) (p : Problem) : Type 0 where
-  pub whole : IsProblem p
-  pub problem : IsProblemOf bound script p
-  pub ends : All (λ (a : Axis). AreLowest a.declared) p.axes
-  -- each node of its terms stands once
-  pub nodes : IsGraph p.nodes
-  pub order : IsInWalkOrder script p.nodes
-  -- it is within the reader's limits
-  pub axes : length p.axes ≤ 1024
-  pub atoms : length p.atoms ≤ most_atoms
+-- the commands of a script without fault, which has one check, where the words give this bound: constants stand for its roots and quotients
+abbrev pub commands_of : Option ℕ → List ℕ → List Command
+commands_of bound text = or_none (only_script (asked_in bound text))
 
 -- p is the problem of a script without fault
 abbrev pub IsBuilt : Option ℕ → List ℕ → Problem → Type 0
-IsBuilt bound text p = IsBuiltOf bound (commands_of text) p
+IsBuilt bound text p = IsBuiltOf bound (commands_of bound text) p
 
 -- the script has no fault, and this is its problem
 pub record HasProblem (bound : Option ℕ) (p : Problem) (script : List ℕ) : Type 0 where

@@ -25,7 +25,6 @@ pub fn sorted_unfolds()
 {}
 
 /// Where all commands of a check are said to be in force at the next one, they begin those of the next one.
-#[tactic(auto, using(crate::proofs::Carried::carried_begins))]
 pub fn carried_begins()
     ensures { CarriedBegins }
 {}

@@ -47,7 +47,7 @@ pub trait ScriptReader {
         ensures session { MatchResult result
             (λ read. HasSession bound (problems_of read.session) bytes.now)
             (λ e. IsFaultOrMemory e (session_fault bound bytes.now)) }
-        ensures goal { IfOk result (λ read. read.goal ≡ goal_in bytes.now) };
+        ensures goal { IfOk result (λ read. read.goal ≡ goal_in bound bytes.now) };
 
     /// The problem of a script that may have one check, and the atom whose term is its goal: none without a goal, and where
     /// the goal holds a Real `ite`.
@@ -58,6 +58,6 @@ pub trait ScriptReader {
         bound: Option<u32>,
     ) -> Result<(Problem, Option<u32>), ReadError>
         ensures { MatchResult result
-            (λ r. HasProblem bound (problem_of r.0) bytes.now × (r.1 ≡ goal_atom (commands_of bytes.now)))
+            (λ r. HasProblem bound (problem_of r.0) bytes.now × (r.1 ≡ goal_atom (commands_of bound bytes.now)))
             (λ e. IsFaultOrMemory e (script_fault bound bytes.now)) };
 }

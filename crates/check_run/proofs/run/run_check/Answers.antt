@@ -17,14 +17,14 @@ returns-in-Ok-clause-course g c script cert_in parts tells =
     let session = problems_of c.in-Ok.read.session in
     let R : Option ℕ → List ℕ → Type 0 = λ goal cert. RunEnds (CanCheck goal session c.args.asked.bound name cert) ((CertIn, name) ∷ [])
     (g.D.Desk.sight c.fetch_with_goal.new.desk) (g.D.Desk.sight c.check_read.new.desk) c.check_read.result in
-    let is = told (λ (text : List ℕ). c.in-Ok.read.goal ≡ goal_in text) _ script tells.0 c.in-Ok.ensures.goal in
+    let is = told (λ (text : List ℕ). c.in-Ok.read.goal ≡ goal_in c.args.asked.bound text) _ script tells.0 c.in-Ok.ensures.goal in
     let ends = told (R c.in-Ok.read.goal) _ cert_in (c.in-Ok.ensures.other ∙ tells.1) c.check_read.ensures.ends in
-    run_session c.args.asked.bound c.args.asked.script.now script (λ ps. CanCheck (goal_in script) ps c.args.asked.bound name cert_in) ((CertIn, name) ∷ []) _ _ _ _
+    run_session c.args.asked.bound c.args.asked.script.now script (λ ps. CanCheck (goal_in c.args.asked.bound script) ps c.args.asked.bound name cert_in) ((CertIn, name) ∷ []) _ _ _ _
     session c.in-Ok.ensures.script tells.0 (subst (λ (goal : Option ℕ). R goal cert_in) is ends)
 
 pub returns-in-Err-clause-course : goal.returns-in-Err-clause-course
 returns-in-Err-clause-course g c script cert_in parts tells =
-    run_halted (session_fault c.args.asked.bound) c.args.asked.script.now script (OfSession c.args.asked.bound script (λ ps. CanCheck (goal_in script) ps c.args.asked.bound c.args.asked.cert.now cert_in))
+    run_halted (session_fault c.args.asked.bound) c.args.asked.script.now script (OfSession c.args.asked.bound script (λ ps. CanCheck (goal_in c.args.asked.bound script) ps c.args.asked.bound c.args.asked.cert.now cert_in))
     ((CertIn, c.args.asked.cert.now) ∷ []) _ _ _ _
     c.in-Err.stop c.in-Err.ensures.script tells.0 c.end_halted.ensures.ends
 

@@ -17,5 +17,5 @@ returns-in-Ok-clause-course g c script cert_in parts tells =
 pub returns-in-Err-clause-course : goal.returns-in-Err-clause-course
 returns-in-Err-clause-course g c script cert_in parts tells =
     run_halted (script_fault c.args.asked.options.bound) c.args.asked.script.now script
-    (OfProblem c.args.asked.options.bound script (λ p. CanMinimize (goal_atom (commands_of script)) p (seen_minimize c.args.asked))) [] _ _ _ _
+    (OfProblem c.args.asked.options.bound script (λ p. CanMinimize (goal_atom (commands_of c.args.asked.options.bound script)) p (seen_minimize c.args.asked))) [] _ _ _ _
     c.in-Err.stop c.in-Err.ensures.script tells c.end_halted.ensures.ends

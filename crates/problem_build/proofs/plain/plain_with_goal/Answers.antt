@@ -8,8 +8,8 @@ use Rattle.script_reading.specs.Goals.{goal_of_checks}
 use Rattle.problem_build.specs.GoalStep.{has_goal}
 use Rattle.problem_build.proofs.NoGoals.{no_goal}
 use Rattle.problem_build.proofs.Reading.{session_answer, steps_are}
-use Rattle.problem_build.proofs.with_goal.read_with_goal.Goals as goal
-use Rattle.problem_build.proofs.with_goal.read_with_goal.Goals.{then-minimizes+in_ok-goal, else-minimizes}
+use Rattle.problem_build.proofs.plain.plain_with_goal.Goals as goal
+use Rattle.problem_build.proofs.plain.plain_with_goal.Goals.{then-minimizes+in_ok-goal, else-minimizes}
 
 pub returns-in_err-session-clause-session : goal.returns-in_err-session-clause-session
 returns-in_err-session-clause-session c =

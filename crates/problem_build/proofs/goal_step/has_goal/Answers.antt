@@ -5,7 +5,7 @@ use Rattle.sort_check.proofs.Lists.{split_first}
 use Rattle.problem_build.specs.GoalStep.{has_goal}
 use Rattle.problem_build.proofs.NoGoals.{first_counts}
 use Rattle.problem_build.proofs.Standing.{none_left}
-use Rattle.problem_build.proofs.with_goal.has_goal.Goals as goal
+use Rattle.problem_build.proofs.goal_step.has_goal.Goals as goal
 
 pub returns-then-is_goal : goal.returns-then-is_goal
 returns-then-is_goal c = λ s.

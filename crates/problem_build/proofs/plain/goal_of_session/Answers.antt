@@ -2,7 +2,7 @@ use Rattle.std.proofs.Common.{◌≡◌, ap, sym, ◌∙◌, arith, length, List
 use Rattle.smt_script.specs.Levels.{Step}
 use Rattle.smt_script.specs.Views.{commands_in, steps_in}
 use Rattle.problem_build.proofs.NoGoals.{only_built, only_goal, same_steps}
-use Rattle.problem_build.proofs.with_goal.goal_of_session.Goals as goal
+use Rattle.problem_build.proofs.plain.goal_of_session.Goals as goal
 
 pub goal_of-requires : goal.goal_of-requires
 goal_of-requires c =
