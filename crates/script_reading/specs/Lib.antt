@@ -4,5 +4,6 @@ pub mod Goals
 pub mod Laws
 pub mod Problems
 pub mod Reader
+pub mod Roots
 pub mod Session
 pub mod WellSorted

@@ -6,6 +6,7 @@
 
 ghost use Rattle.script_reading.specs.Laws.{CarriedBegins, FaultlessIsAccepted};
 ghost use Rattle.script_reading.specs.Problems.{BegunGoesOn, SessionGoesOn};
+ghost use Rattle.script_reading.specs.Roots.{RootedIsRewritable};
 ghost use Rattle.script_reading.specs.WellSorted.{SortedUnfolds};
 
 mod reader;
@@ -22,6 +23,12 @@ pub fn faultless_is_accepted()
 #[tactic(auto, using(crate::proofs::WellSorted::sorted_unfolds))]
 pub fn sorted_unfolds()
     ensures { SortedUnfolds }
+{}
+
+/// Where a script without fault is read with roots, the laws on the rewritten script hold of each of its checks.
+#[tactic(auto, using(crate::proofs::Rewritable::rooted_is_rewritable))]
+pub fn rooted_is_rewritable()
+    ensures { RootedIsRewritable }
 {}
 
 /// Where all commands of a check are said to be in force at the next one, they begin those of the next one.
