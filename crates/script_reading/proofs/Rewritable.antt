@@ -21,7 +21,7 @@ use Rattle.script_reading.specs.Faults.{in_each_rewritten, in_rewriting, plain_s
 use Rattle.script_reading.specs.Roots.{RootedIsRewritable}
 use Rattle.script_reading.specs.Session.{steps_of_text}
 use Rattle.script_reading.proofs.Accepted.{IsReplaced, both_none, replaced}
-use Rattle.script_reading.proofs.Reads.{reads, steps_read}
+use Rattle.script_reading.proofs.Phases.{reads, steps_read}
 
 -- ---- names that are declared are distinct
 
