@@ -7,7 +7,7 @@ pub mod Long
 pub mod Pairs
 pub mod Parts
 pub mod Phases
-mod Rewritable
+pub mod Rewritable
 mod Rows
 pub mod Shapes
 mod Walks

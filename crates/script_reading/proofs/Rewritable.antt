@@ -1,7 +1,7 @@
 -- The commands of a script that is read with roots are rewritable.
 use Rattle.std.proofs.Common.{◌≡◌, ◌∙◌, ℕ, suc, List, [], ◌∷◌, Bool, true, false, cond, Option, Some, None, refl, ap, ap₂, sym, subst}
 use Rattle.std.specs.List.{AllByRecursion}
-use Rattle.std.specs.Prelude.{◌||◌, ◌&&◌, not, IsTrue}
+use Rattle.std.specs.Prelude.{◌||◌, ◌&&◌, not}
 use Rattle.std.specs.Str.{bytes_eq}
 use Rattle.script_fault.specs.declared.fault.ScriptFault.{ScriptFault}
 use Rattle.script_model.specs.Reading.{Names, value}
@@ -33,7 +33,7 @@ or-false : (a b : Bool) → (a || b) ≡ false → (a ≡ false) × (b ≡ false
 or-false false b e = (refl, e)
 or-false true b e = cc
 
-not-known : (at : Place) (x : List ℕ) (b : Bool) → cond b (Some (at, redeclared x)) None ≡ None → b ≡ false
+not-known : (at : Place) (x : List ℕ) (b : Bool) → cond {A = Finding} b (Some (at, redeclared x)) None ≡ None → b ≡ false
 not-known at x true e = cc
 not-known at x false e = refl
 
@@ -91,7 +91,7 @@ rewritable bound script r =
     let many = taken too_large (too_many script) _ r.taken in
     let left = taken left_out_form (left_out script) _ many.1 in record {
       nothing_left_out = left.0;
-      distinct = subst IsTrue (sym (distinct-from 0 [] (rewritten bound script) r.sorted)) tt;
+      distinct = distinct-from 0 [] (rewritten bound script) r.sorted;
       bounded = (faultless_unfolds bound (rewritten bound script) r.built).1;
     }
 
