@@ -7,7 +7,7 @@ pub mod Long
 pub mod Pairs
 pub mod Parts
 pub mod Phases
-pub mod Rewritable
+mod Rewritable
 mod Rows
 pub mod Shapes
 mod Walks

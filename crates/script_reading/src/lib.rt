@@ -26,7 +26,6 @@ pub fn sorted_unfolds()
 {}
 
 /// Where a script without fault is read with roots, the laws on the rewritten script hold of each of its checks.
-#[tactic(auto, using(crate::proofs::Rewritable::rooted_is_rewritable))]
 pub fn rooted_is_rewritable()
     ensures { RootedIsRewritable }
 {}
