@@ -1,3 +1,4 @@
+pub mod Aims
 pub mod First
 pub mod Near
 pub mod Rows

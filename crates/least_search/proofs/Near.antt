@@ -28,6 +28,20 @@ at_most_otherwise above_all below_all h = refl
 at_most_otherwise above_all (finite c) h = refl
 at_most_otherwise above_all above_all h = absurd (true≢false h)
 
+pub at_most_through : (e f g : Ext) → ext_at_most e f ≡ true → ext_at_most f g ≡ true → ext_at_most e g ≡ true
+at_most_through below_all f g h k = refl
+at_most_through (finite d) f above_all h k = refl
+at_most_through above_all f above_all h k = refl
+at_most_through (finite d) (finite c) (finite b) h k = through (exact d) (exact c) (exact b) (pow_pos 120) h k
+at_most_through (finite d) below_all g h k = absurd (true≢false (sym h))
+at_most_through (finite d) (finite c) below_all h k = absurd (true≢false (sym k))
+at_most_through (finite d) above_all below_all h k = absurd (true≢false (sym k))
+at_most_through (finite d) above_all (finite b) h k = absurd (true≢false (sym k))
+at_most_through above_all below_all g h k = absurd (true≢false (sym h))
+at_most_through above_all (finite c) g h k = absurd (true≢false (sym h))
+at_most_through above_all above_all below_all h k = absurd (true≢false (sym k))
+at_most_through above_all above_all (finite b) h k = absurd (true≢false (sym k))
+
 -- values are not below their lower end
 pub not_below_low : (d : Dyadic) (h : Ext) → within (between (finite d) h) (not_below (Some d)) ≡ true
 not_below_low d h = ap₂ (λ a b. a && b) (exact_self d) (below-infinity h)

@@ -7,7 +7,7 @@ use Rattle.cover_data.specs.declared.margins.Options.{Options}
 use Rattle.cover_data.specs.Margins.{margins_of}
 use Rattle.cover_book.specs.Model.{BookModel}
 use Rattle.least_search.specs.declared.limits.Limited.{Limited}
-use Rattle.least_search.specs.declared.search.Bounds.{Bounds}
+use Rattle.least_search.specs.declared.bounds.Bounds.{Bounds}
 use Rattle.least_search.specs.Limits.{IsLimited}
 use Rattle.least_search.specs.Found.{IsBookOf, IsBounds, IsLater, IsLimitSearch, Leaves}
 

@@ -29,7 +29,7 @@ use Rattle.least_search.specs.declared.found.Least.TheVariants as least
 use Rattle.least_search.specs.declared.limits.Limited.{Limited}
 use Rattle.least_search.specs.declared.limits.Phase.{Phase}
 use Rattle.least_search.specs.declared.limits.Phase.TheVariants as phase
-use Rattle.least_search.specs.declared.search.Bounds.{Bounds}
+use Rattle.least_search.specs.declared.bounds.Bounds.{Bounds}
 use Rattle.least_search.specs.declared.aim.Aim.{Aim}
 
 -- ---- books

@@ -6,6 +6,8 @@
 #![tactic(auto)]
 
 mod aim;
+mod bounds;
+mod descent;
 mod found;
 mod limits;
 mod search;

@@ -1,10 +1,9 @@
 // The search for a least value.
-ghost use Rattle.std.specs.Prelude.{◌≡◌, ◌≢◌, ◌<◌, ◌≤◌, true, false, IfOk, None, Some, length, option_map};
-ghost use Rattle.dyadic.specs.Rounding.{ext_at_most, finite};
-ghost use Rattle.dyadic.specs.Views.{dyadic_of, ext_of};
+ghost use Rattle.std.specs.Prelude.{◌≡◌, ◌<◌, ◌≤◌, true, false, IfOk, None, Some, length};
+ghost use Rattle.dyadic.specs.Rounding.{finite};
+ghost use Rattle.dyadic.specs.Views.{dyadic_of};
 ghost use Rattle.poly_graph.specs.ProblemViews.{problem_of};
 ghost use Rattle.cert_model.specs.Due.{is_crossed_box};
-ghost use Rattle.cert_model.specs.Least.{IsSettled};
 ghost use Rattle.cover_book.specs.Limits.{IsWithinLimits};
 ghost use Rattle.least_search.specs.Aims.{IsReady, IsSameAim};
 ghost use Rattle.least_search.specs.Found.{AreBoundsOf, IsBookOf, IsEndingAt, IsFound, IsLeast, IsSearchOf, IsShownFor, LeavesOf, bound_of, span_of, weight};
@@ -12,26 +11,15 @@ ghost use Rattle.least_search.specs.Limits.{IsLimited, is_between};
 ghost use Rattle.least_search.specs.declared.limits.Phase.TheVariants as phase;
 
 use crate::aim::Aim;
+use crate::bounds::{Bounds, is_settled};
+use crate::descent::{go_down, take_valley};
 use crate::found::{Ending, Found, Least, Lower};
 use crate::limits::{Between, Limited, Phase, next_limit};
 use cover_book::{Book, BookVerdict};
 use cover_data::{Options, Point};
-use dyadic::{Dy, Ext, add_down, at_most, two_to_minus};
+use dyadic::{Dy, Ext, at_most};
 use poly_graph::Problem;
 use std::alloc::{AllocError, Global};
-
-// The bounds so far, what is left of the budget, what the next search is for, the last limit, if there is one, at which a
-// probe decided nothing since the lower bound or a closing search changed something, and the least budget of a probe.
-#[derive(Drop)]
-struct Bounds {
-    lower: Lower,
-    point: Point,
-    upper: Ext,
-    budget: u32,
-    phase: Phase,
-    tried: Option<Dy>,
-    patience: u32,
-}
 
 impl Lower {
     /// The bound; none for minus infinity.
@@ -42,20 +30,6 @@ impl Lower {
             Lower::Root(bound) => *bound,
             Lower::Limit(_, _, bound) => Some(*bound),
         }
-    }
-}
-
-// Whether the bounds are as near as was asked.
-fn is_settled(lower: Option<Dy>, upper: Ext, gap_bits: u32) -> bool
-    requires { gap_bits ≤ 30 }
-    ensures { result ≡ true → IsSettled gap_bits (option_map dyadic_of lower) (ext_of upper) }
-{
-    match lower {
-        Some(lower) => {
-            let gap = Ext::Fin(two_to_minus(gap_bits));
-            at_most(upper, add_down(Ext::Fin(lower), gap))
-        }
-        None => false,
     }
 }
 
@@ -146,31 +120,6 @@ fn search_limited<F: Fn(Global, &Problem, &Options) -> Result<Book, AllocError>>
     Ok(book)
 }
 
-// The point of a book, where it is better.
-#[tactic(auto, using(crate::proofs::Near::at_most_itself, crate::proofs::Near::at_most_otherwise))]
-fn take_point(
-    alloc: Global,
-    aim: &mut Aim<'_>,
-    bounds: &mut Bounds,
-    point: &Point,
-) -> Result<(), AllocError>
-    requires ready { IsReady aim.old }
-    requires bounds { AreBoundsOf aim.old bounds.old }
-    requires shown { IsShownFor aim.old point.now }
-    ensures ready { IsReady aim.new }
-    ensures same { IsSameAim aim.old aim.new }
-    ensures bounds { AreBoundsOf aim.old bounds.new }
-    ensures better { ext_at_most (ext_of bounds.new.upper) (ext_of bounds.old.upper) ≡ true }
-    ensures budget { bounds.new.budget ≡ bounds.old.budget }
-{
-    let upper = aim.upper(point.space());
-    if !at_most(bounds.upper, upper) {
-        bounds.point = point.try_clone(alloc)?;
-        bounds.upper = upper;
-    }
-    Ok(())
-}
-
 // What comes of the book of a problem with a limit.
 fn take_book(
     alloc: Global,
@@ -205,7 +154,7 @@ fn take_book(
         }
         BookVerdict::DeltaSat => {
             if let Some(point) = book.point() {
-                take_point(alloc, aim, bounds, point)?;
+                take_valley(alloc, aim, bounds, point)?;
             }
             Ok(None)
         }
@@ -372,6 +321,7 @@ fn find<F: Fn(Global, &Problem, &Options) -> Result<Book, AllocError>>(
         IfOk result (IsFound a.problem.now a.goal a.gap_bits a.options.now) }
 {
     let mut bounds = bounds_of(alloc, aim, point, budget)?;
+    go_down(alloc, aim, &mut bounds)?;
     let ending = improve(searcher, alloc, aim, &mut bounds)?;
     Ok(Found {
         lower: bounds.lower,

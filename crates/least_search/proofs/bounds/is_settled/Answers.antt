@@ -2,7 +2,7 @@ use Rattle.std.proofs.Common.{sym, ◌∙◌, subst, option_map}
 use Rattle.dyadic.specs.Views.{dyadic_of, ext_of}
 use Rattle.cert_model.specs.Least.{IsSettled}
 use Rattle.least_search.proofs.Near.{settled}
-use Rattle.least_search.proofs.search.is_settled.Goals as goal
+use Rattle.least_search.proofs.bounds.is_settled.Goals as goal
 
 pub returns-in-Some : goal.returns-in-Some
 returns-in-Some c h =
