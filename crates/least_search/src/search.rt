@@ -57,7 +57,8 @@ fn is_decided(verdict: BookVerdict) -> bool {
 }
 
 // What the search behind one of this verdict is for, where `near` says that its limit was below the best value by two gaps at
-// most. Probes come nearer to the best value from both sides until one that is near decides nothing.
+// most, and no descent leads far down. Probes come nearer to the best value from both sides until one that is near decides
+// nothing.
 fn next_phase(phase: Phase, verdict: BookVerdict, near: bool) -> Phase {
     match phase {
         Phase::Halving => Phase::Halving,

@@ -65,6 +65,31 @@ fn slide_down<'a>(
     slide.go(alloc, x)
 }
 
+// The best of the points so far: the value of the goal there, and its space once there is a better one than the first.
+#[derive(Drop)]
+struct Best {
+    value: f64,
+    space: Option<Space>,
+}
+
+impl Best {
+    // Takes a point where the form may be sure, if the goal's value is lower there.
+    fn take(
+        &mut self,
+        alloc: Global,
+        bounds: &Bounds,
+        goal: usize,
+        there: &Stand,
+    ) -> Result<(), AllocError> {
+        let value = bounds.term_value(&there.values, goal);
+        if there.is_met(bounds) && value < self.value {
+            self.value = value;
+            self.space = Some(space_at(alloc, bounds, there)?);
+        }
+        Ok(())
+    }
+}
+
 // The best of the points to which rounds of going down lead; none where none of them is better.
 fn go_down(
     alloc: Global,
@@ -74,25 +99,23 @@ fn go_down(
     first: Stand,
 ) -> Result<Option<Space>, AllocError> {
     let point_work = point_work(bounds, &lagrangian);
-    let mut least = bounds.term_value(&first.values, goal);
-    let mut best = None;
+    let mut best = Best {
+        value: bounds.term_value(&first.values, goal),
+        space: None,
+    };
     let mut x = first.x;
     let mut slack = 1e300;
     let mut work = 0;
     for round in 0..MOST_ROUNDS {
-        let descent = slide_down(alloc, bounds, &lagrangian, x)?;
+        let descent = slide_down(alloc, &*bounds, &lagrangian, x)?;
         work = point_work
             .saturating_mul(u64::from(descent.points))
             .saturating_add(work);
         let there = Stand::at(alloc, bounds, descent.x)?;
-        let value = bounds.term_value(&there.values, goal);
-        if there.is_met(bounds) && value < least {
-            least = value;
-            best = Some(space_at(alloc, bounds, &there)?);
-        }
+        best.take(alloc, bounds, goal, &there)?;
         let left = lagrangian.slack(bounds, &there.values);
         if work > MOST_WORK || round > 0 && !(left.plain >= ENOUGH * bounds.delta) {
-            return Ok(best);
+            return Ok(best.space);
         }
         lagrangian.learn(bounds, &there.values);
         if left.scaled > 0.5 * slack {
@@ -101,7 +124,7 @@ fn go_down(
         slack = left.scaled;
         x = there.x;
     }
-    Ok(best)
+    Ok(best.space)
 }
 
 /// Goes down along the goal from a point of the box at which the form holds: a point of the box with a lower value at which
