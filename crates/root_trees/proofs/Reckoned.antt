@@ -22,7 +22,7 @@ use Rattle.root_trees.specs.Ahead.{Counts, GoesOn, Opens, ahead, reached_here, k
 use Rattle.root_trees.specs.LetParts.{begins, as_let, let_parts_reached}
 use Rattle.root_trees.specs.Locals.{local_node}
 use Rattle.root_trees.specs.Names.{bound_locals, IsHead, top_known}
-use Rattle.root_trees.specs.Reached.{Bodies, no_body, total, theory_bodies, named_reached, symbol_reached, leaf_reached, call_reached, application_reached, let_reached, binding_bodies, reached_in, group_reached, all_reached, bindings_reached, parameter_bodies}
+use Rattle.script_roots.specs.Reached.{Bodies, no_body, total, theory_bodies, named_reached, symbol_reached, leaf_reached, call_reached, application_reached, let_reached, binding_bodies, reached_in, group_reached, all_reached, bindings_reached, parameter_bodies}
 use Rattle.root_trees.specs.Walking.{IsReached, IsScope, returned}
 use Rattle.root_trees.specs.declared.locals.Local.{Local}
 use Rattle.root_trees.specs.declared.names.Head.{Head}

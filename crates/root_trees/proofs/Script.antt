@@ -13,7 +13,7 @@ use Rattle.root_trees.specs.Ahead.{known_body, top_bodies}
 use Rattle.root_trees.specs.Asserted.{AreAsserted, ClaimCounts, IsAsserted, IsAt, IsAtFirst}
 use Rattle.root_trees.specs.Names.{entry_by, known_of, names_by, top_names}
 use Rattle.root_trees.specs.Nodes.{trees_in}
-use Rattle.root_trees.specs.Reached.{first_beyond, reached_from, theory_bodies, too_many}
+use Rattle.script_roots.specs.Reached.{first_beyond, reached_from, theory_bodies, too_many}
 use Rattle.script_fault.specs.declared.place.Place as code
 use Rattle.script_fault.specs.declared.fault.ReadError.{ReadError}
 use Rattle.script_fault.specs.declared.fault.ReadError.TheVariants.{Fault, Memory}
@@ -60,14 +60,14 @@ module _ (s : arena.Sexps) (script left : List Command) (top : List Top) (done :
 
 -- how many are reached, with a name more
 pub counted_named : (s : arena.Sexps) (left : List Command) (top : List Top) (t : Top) (before : ℕ) (o : Option Place) →
-    o ≡ first_beyond before (reached_from ((t.name.now, known_body s (top_bodies s top (length top)) t.known) ∷ top_bodies s top (length top)) left) →
-    o ≡ first_beyond before (reached_from (top_bodies s (top ++ (t ∷ [])) (length (top ++ (t ∷ [])))) left)
-counted_named s left top t before o h = h ∙ ap (λ bs. first_beyond before (reached_from bs left)) (sym (names_more (known_body s) theory_bodies top t))
+    o ≡ first_beyond most_size before (reached_from ((t.name.now, known_body s (top_bodies s top (length top)) t.known) ∷ top_bodies s top (length top)) left) →
+    o ≡ first_beyond most_size before (reached_from (top_bodies s (top ++ (t ∷ [])) (length (top ++ (t ∷ [])))) left)
+counted_named s left top t before o h = h ∙ ap (λ bs. first_beyond most_size before (reached_from bs left)) (sym (names_more (known_body s) theory_bodies top t))
 
 -- behind an assertion or a goal, with which there are not too many
-beyond-goes : (at : Place) (before n after : ℕ) (rest : List (Place × ℕ)) → after ≡ before + n → after ≤ most_size → first_beyond before ((at, n) ∷ rest) ≡ first_beyond after rest
+beyond-goes : (at : Place) (before n after : ℕ) (rest : List (Place × ℕ)) → after ≡ before + n → after ≤ most_size → first_beyond most_size before ((at, n) ∷ rest) ≡ first_beyond most_size after rest
 beyond-goes at before n after rest more within =
-    ap (λ b. cond b (Some at) (first_beyond (before + n) rest)) (le-ltb most_size (before + n) (omega (arith, more, within))) ∙ ap (λ k. first_beyond k rest) (sym more)
+    ap (λ b. cond b (Some at) (first_beyond most_size (before + n) rest)) (le-ltb most_size (before + n) (omega (arith, more, within))) ∙ ap (λ k. first_beyond most_size k rest) (sym more)
 
 module _ (s : arena.Sexps) (script left : List Command) (old new : Progress) (place : code.Place) (n : ℕ) (r : Result (Unit {0}) ReadError) where
   abbrev rest : List (Place × ℕ)
@@ -75,7 +75,7 @@ module _ (s : arena.Sexps) (script left : List Command) (old new : Progress) (pl
 
   -- an assertion more
   pub at_asserted : (done : List Asserted) (a : Asserted) → asserted script ≡ done ++ (a ∷ asserted_from (top_names s old.top (length old.top)) left) → new.top ≡ old.top → old.unfolded.reached ≤ most_size →
-      too_many script ≡ first_beyond old.unfolded.reached ((place_of place, n) ∷ rest) → ClaimCounts place old.unfolded.reached new.unfolded.reached n r →
+      too_many script ≡ first_beyond most_size old.unfolded.reached ((place_of place, n) ∷ rest) → ClaimCounts place old.unfolded.reached new.unfolded.reached n r →
       OnOk r (AreAsserted (trees_in new.unfolded.trees) new.assertions.items (done ++ (a ∷ []))) → OnOk r (IsAt s script left new)
   at_asserted done a split same within counted counts are = go r counts are
     where
@@ -86,17 +86,17 @@ module _ (s : arena.Sexps) (script left : List Command) (old new : Progress) (pl
         are = d;
         split = subst (λ (top : List Top). asserted script ≡ (done ++ (a ∷ [])) ++ asserted_from (top_names s top (length top)) left) (sym same) (at_claimed s script left old.top done a split);
         within = c.1 within;
-        counted = subst (λ (top : List Top). too_many script ≡ first_beyond new.unfolded.reached (reached_from (top_bodies s top (length top)) left)) (sym same)
+        counted = subst (λ (top : List Top). too_many script ≡ first_beyond most_size new.unfolded.reached (reached_from (top_bodies s top (length top)) left)) (sym same)
             (counted ∙ beyond-goes (place_of place) old.unfolded.reached n new.unfolded.reached rest c.0 (c.1 within));
       }
       go (Err e) c d = tt
 
   -- or there are too many with it
-  pub first_asserted : too_many script ≡ first_beyond old.unfolded.reached ((place_of place, n) ∷ rest) → ClaimCounts place old.unfolded.reached new.unfolded.reached n r → IfErr r (λ e. IsAtFirst (too_many script) e)
+  pub first_asserted : too_many script ≡ first_beyond most_size old.unfolded.reached ((place_of place, n) ∷ rest) → ClaimCounts place old.unfolded.reached new.unfolded.reached n r → IfErr r (λ e. IsAtFirst (too_many script) e)
   first_asserted counted counts = go r counts
     where
       go : (q : Result (Unit {0}) ReadError) → ClaimCounts place old.unfolded.reached new.unfolded.reached n q → IfErr q (λ e. IsAtFirst (too_many script) e)
       go (Ok u) c = tt
       go (Err (Fault f)) c =
-          counted ∙ ap (λ b. cond b (Some (place_of place)) (first_beyond (old.unfolded.reached + n) rest)) (lt-ltb most_size (old.unfolded.reached + n) c.1) ∙ ap (λ (p : code.Place). Some (place_of p)) (sym c.0)
+          counted ∙ ap (λ b. cond b (Some (place_of place)) (first_beyond most_size (old.unfolded.reached + n) rest)) (lt-ltb most_size (old.unfolded.reached + n) c.1) ∙ ap (λ (p : code.Place). Some (place_of p)) (sym c.0)
       go (Err Memory) c = tt

@@ -5,7 +5,7 @@ use Rattle.smt_sexp.specs.Arena.{expression_at, rest_of}
 use Rattle.smt_sexp.specs.declared.sexps.Sexps as arena
 use Rattle.smt_script.specs.Views.{parameter_of}
 use Rattle.root_trees.specs.Names.{names_by}
-use Rattle.root_trees.specs.Reached.{Bodies, no_body, total, theory_bodies, reached_in, all_reached, bindings_reached, binding_bodies, definition_body}
+use Rattle.script_roots.specs.Reached.{Bodies, no_body, total, theory_bodies, reached_in, all_reached, bindings_reached, binding_bodies, definition_body}
 use Rattle.root_trees.specs.declared.top.Known.{Known}
 use Rattle.root_trees.specs.declared.top.Known.TheVariants as known
 use Rattle.root_trees.specs.declared.top.Top.{Top}

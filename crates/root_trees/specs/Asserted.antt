@@ -16,7 +16,7 @@ use Rattle.smt_sexp.specs.declared.sexps.Sexps as arena
 use Rattle.root_trees.specs.Ahead.{top_bodies}
 use Rattle.root_trees.specs.Names.{top_names}
 use Rattle.root_trees.specs.Nodes.{trees_in}
-use Rattle.root_trees.specs.Reached.{too_many, first_beyond, reached_from}
+use Rattle.script_roots.specs.Reached.{too_many, first_beyond, reached_from}
 use Rattle.root_trees.specs.declared.assertions.Assertion as code
 use Rattle.root_trees.specs.declared.assertions.Progress.{Progress}
 
@@ -37,7 +37,7 @@ pub record IsAt (s : arena.Sexps) (script left : List Command) (p : Progress) : 
   pub are : AreAsserted (trees_in p.unfolded.trees) p.assertions.items done
   pub split : asserted script ≡ done ++ asserted_from (top_names s p.top (length p.top)) left
   pub within : p.unfolded.reached ≤ most_size
-  pub counted : too_many script ≡ first_beyond p.unfolded.reached (reached_from (top_bodies s p.top (length p.top)) left)
+  pub counted : too_many script ≡ first_beyond most_size p.unfolded.reached (reached_from (top_bodies s p.top (length p.top)) left)
 
 -- out of memory, or more expressions than may be reached
 abbrev pub IsRefusal : ReadError → Type 0

@@ -4,7 +4,7 @@ use Rattle.script_model.specs.Sexp.{Place, Sexp, group, Sexps, none, more}
 use Rattle.script_model.specs.Reading.{Label, bound_names}
 use Rattle.script_roots.specs.Tree.{Tree, formless, Names, tree_of, binding_trees}
 use Rattle.smt_sexp.specs.Arena.{rest_of, expression_at}
-use Rattle.root_trees.specs.Reached.{Bodies, reached_in, binding_bodies, bindings_reached}
+use Rattle.script_roots.specs.Reached.{Bodies, reached_in, binding_bodies, bindings_reached}
 use Rattle.smt_sexp.specs.declared.sexps.Sexps as arena
 
 -- bindings that are formed and not none

@@ -4,5 +4,4 @@ pub mod LetParts
 pub mod Locals
 pub mod Names
 pub mod Nodes
-pub mod Reached
 pub mod Walking

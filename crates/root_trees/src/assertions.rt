@@ -9,7 +9,7 @@ ghost use Rattle.root_trees.specs.Ahead.{reached_here};
 ghost use Rattle.root_trees.specs.Asserted.{AreAsserted, ClaimCounts, IsAt, IsAtFirst, IsRefusal};
 ghost use Rattle.root_trees.specs.Names.{tree_here};
 ghost use Rattle.root_trees.specs.Nodes.{trees_in};
-ghost use Rattle.root_trees.specs.Reached.{too_many};
+ghost use Rattle.script_roots.specs.Reached.{too_many};
 
 use crate::frames::Source;
 use crate::stop::Stop;

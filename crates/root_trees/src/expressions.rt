@@ -7,7 +7,7 @@ ghost use Rattle.smt_sexp.specs.Views.{leaf_of, place_of, reserved_of};
 ghost use Rattle.root_trees.specs.Ahead.{Opens};
 ghost use Rattle.root_trees.specs.LetParts.{as_let, let_of, let_parts_reached};
 ghost use Rattle.root_trees.specs.Nodes.{trees_in};
-ghost use Rattle.root_trees.specs.Reached.{all_reached, application_reached, group_reached, leaf_reached, reached_in, symbol_reached};
+ghost use Rattle.script_roots.specs.Reached.{all_reached, application_reached, group_reached, leaf_reached, reached_in, symbol_reached};
 ghost use Rattle.root_trees.specs.Walking.{TurnsIn};
 
 use crate::frames::{Call, Let, Next, Scope, Source, back, call_on, formless, let_on};

@@ -4,7 +4,7 @@ ghost use Rattle.smt_sexp.specs.Arena.{expression_at};
 ghost use Rattle.root_trees.specs.Ahead.{Counts, Opens, reached_here};
 ghost use Rattle.root_trees.specs.Names.{tree_here};
 ghost use Rattle.root_trees.specs.Nodes.{trees_in};
-ghost use Rattle.root_trees.specs.Reached.{reached_in};
+ghost use Rattle.script_roots.specs.Reached.{reached_in};
 ghost use Rattle.root_trees.specs.Walking.{IsReached, Makes, Reaches};
 
 use crate::expressions::enter;

@@ -4,3 +4,5 @@ pub mod Fresh
 pub mod TreeBounds
 pub mod Rewritten
 pub mod Laws
+pub mod Reached
+pub mod Refused

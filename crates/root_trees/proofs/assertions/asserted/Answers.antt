@@ -1,6 +1,7 @@
 use Rattle.std.proofs.Common.{◌≡◌, ◌-◌, arith, List, ◌∷◌, ◌++◌, length, map, take, drop, ap, sym, ◌∙◌, subst, append-nil}
 use Rattle.std.proofs.lemmas.Result.{err_from_is_err_and}
 use Rattle.sort_check.proofs.Lists.{split_first}
+use Rattle.script_forms.specs.Walk.{most_size}
 use Rattle.script_roots.specs.Fresh.{Asserted, asserted_from}
 use Rattle.smt_script.specs.Views.{command_of, commands_in}
 use Rattle.smt_script.specs.declared.command.Command.{Command}
@@ -8,7 +9,7 @@ use Rattle.root_trees.specs.Ahead.{top_bodies}
 use Rattle.root_trees.specs.Asserted.{AreAsserted, IsAt}
 use Rattle.root_trees.specs.Names.{top_names}
 use Rattle.root_trees.specs.Nodes.{trees_in}
-use Rattle.root_trees.specs.Reached.{first_beyond, reached_from}
+use Rattle.script_roots.specs.Reached.{first_beyond, reached_from}
 use Rattle.root_trees.proofs.Lists.{none_left}
 use Rattle.root_trees.proofs.assertions.asserted.Goals as goal
 
@@ -40,7 +41,7 @@ returns-clause-within c =
     let s = c.args.script.now.sexps.now in
     let p = c.loop-rest.progress in
     let none = none_left c.loop-rest.rest.now c.in_default.len_below in
-    c.loop-rest.invariant.counted ∙ ap (λ cs. first_beyond p.unfolded.reached (reached_from (top_bodies s p.top (length p.top)) (map (command_of s) cs))) none
+    c.loop-rest.invariant.counted ∙ ap (λ cs. first_beyond most_size p.unfolded.reached (reached_from (top_bodies s p.top (length p.top)) (map (command_of s) cs))) none
 
 pub returns-in_err-add-clause-place : goal.returns-in_err-add-clause-place
 returns-in_err-add-clause-place c =

@@ -9,7 +9,7 @@ use Rattle.root_trees.proofs.Growth as growth
 use Rattle.root_trees.proofs.Lookups as lookups
 use Rattle.root_trees.proofs.Reckoned as reckoned
 use Rattle.script_model.specs.Reading.{found, operators}
-use Rattle.root_trees.specs.Reached.{symbol_reached}
+use Rattle.script_roots.specs.Reached.{symbol_reached}
 use Rattle.root_trees.specs.declared.names.Head.TheVariants as head
 use Rattle.root_trees.proofs.expressions.alone.Goals as goal
 

@@ -13,7 +13,7 @@ use Rattle.root_trees.proofs.Lookups as lookups
 use Rattle.root_trees.proofs.Waiting as waiting
 use Rattle.root_trees.proofs.Reckoned as reckoned
 use Rattle.root_trees.specs.Ahead.{GoesOn, head_body, scope_bodies}
-use Rattle.root_trees.specs.Reached.{all_reached, application_reached, total}
+use Rattle.script_roots.specs.Reached.{all_reached, application_reached, total}
 use Rattle.root_trees.proofs.expressions.applied.Goals as goal
 
 pub call_on-requires : goal.call_on-requires

@@ -6,7 +6,7 @@ use Rattle.root_trees.proofs.Growth as growth
 use Rattle.root_trees.proofs.Reckoned as reckoned
 use Rattle.root_trees.specs.Ahead.{scope_bodies}
 use Rattle.smt_sexp.specs.Views.{leaf_of}
-use Rattle.root_trees.specs.Reached.{group_reached, leaf_reached, reached_in}
+use Rattle.script_roots.specs.Reached.{group_reached, leaf_reached, reached_in}
 use Rattle.root_trees.proofs.expressions.enter.Goals as goal
 
 pub returns-in-End-clause-walks : goal.returns-in-End-clause-walks

@@ -7,7 +7,7 @@ use Rattle.root_trees.proofs.Reckoned as reckoned
 use Rattle.root_trees.specs.Ahead.{scope_bodies}
 use Rattle.script_model.specs.Sexp.{more, leaf}
 use Rattle.smt_sexp.specs.Arena.{rest_of}
-use Rattle.root_trees.specs.Reached.{group_reached}
+use Rattle.script_roots.specs.Reached.{group_reached}
 use Rattle.root_trees.proofs.expressions.enter_group.Goals as goal
 
 pub returns-in-End-clause-walks : goal.returns-in-End-clause-walks

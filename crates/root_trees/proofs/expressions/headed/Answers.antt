@@ -8,7 +8,7 @@ use Rattle.root_trees.proofs.Growth as growth
 use Rattle.root_trees.proofs.Reckoned as reckoned
 use Rattle.root_trees.specs.Ahead.{scope_bodies}
 use Rattle.script_model.specs.Reading.{found, operators}
-use Rattle.root_trees.specs.Reached.{all_reached, application_reached, group_reached}
+use Rattle.script_roots.specs.Reached.{all_reached, application_reached, group_reached}
 use Rattle.root_trees.proofs.expressions.headed.Goals as goal
 
 pub returns-in-Symbol-clause-walks : goal.returns-in-Symbol-clause-walks

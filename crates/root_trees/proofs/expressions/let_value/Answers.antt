@@ -8,7 +8,7 @@ use Rattle.root_trees.specs.declared.locals.Local.{Local}
 use Rattle.root_trees.proofs.Growth as growth
 use Rattle.root_trees.proofs.Reckoned as reckoned
 use Rattle.root_trees.specs.Ahead.{GoesOn, local_bodies, scope_bodies}
-use Rattle.root_trees.specs.Reached.{binding_bodies, bindings_reached, reached_in}
+use Rattle.script_roots.specs.Reached.{binding_bodies, bindings_reached, reached_in}
 use Rattle.root_trees.proofs.expressions.let_value.Goals as goal
 
 pub returns-clause-walks : goal.returns-clause-walks

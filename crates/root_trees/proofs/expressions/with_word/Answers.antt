@@ -9,7 +9,7 @@ use Rattle.root_trees.proofs.Growth as growth
 use Rattle.root_trees.proofs.Reckoned as reckoned
 use Rattle.root_trees.specs.Ahead.{scope_bodies}
 use Rattle.root_trees.specs.LetParts.{as_let, let_parts_reached}
-use Rattle.root_trees.specs.Reached.{group_reached}
+use Rattle.script_roots.specs.Reached.{group_reached}
 use Rattle.root_trees.proofs.expressions.with_word.Goals as goal
 
 pub returns-in-Let-clause-walks : goal.returns-in-Let-clause-walks

@@ -1,4 +1,5 @@
 use Rattle.std.proofs.Common.{◌≡◌, List, ◌∷◌, ◌++◌, length, map, sym, subst, true, false}
+use Rattle.script_forms.specs.Walk.{most_size}
 use Rattle.script_roots.specs.Tree.{definition}
 use Rattle.script_roots.specs.Fresh.{Asserted, asserted, asserted_from}
 use Rattle.smt_sexp.specs.Arena.{expression_at}
@@ -9,7 +10,7 @@ use Rattle.smt_script.specs.declared.command.Parameter.{Parameter}
 use Rattle.root_trees.specs.Ahead.{reached_here, top_bodies}
 use Rattle.root_trees.specs.Asserted.{IsAt}
 use Rattle.root_trees.specs.Names.{top_names, tree_here}
-use Rattle.root_trees.specs.Reached.{definition_body, first_beyond, reached_from, too_many}
+use Rattle.script_roots.specs.Reached.{definition_body, first_beyond, reached_from, too_many}
 use Rattle.root_trees.specs.declared.top.Known.TheVariants as known
 use Rattle.root_trees.specs.declared.top.Top.{Top}
 use Rattle.root_trees.proofs.Script as steps
@@ -27,7 +28,7 @@ returns-in_ok-push-in-Declare-clause-goes c = λ script left at.
       are = here.are;
       split = subst (λ (ts : List Top). asserted script ≡ here.done ++ asserted_from (top_names s ts (length ts)) left) (sym c.in_ok-push-in-Declare.ensures.added) (steps.at_named s script left p.top here.done t here.split);
       within = here.within;
-      counted = subst (λ (ts : List Top). too_many script ≡ first_beyond p.unfolded.reached (reached_from (top_bodies s ts (length ts)) left)) (sym c.in_ok-push-in-Declare.ensures.added)
+      counted = subst (λ (ts : List Top). too_many script ≡ first_beyond most_size p.unfolded.reached (reached_from (top_bodies s ts (length ts)) left)) (sym c.in_ok-push-in-Declare.ensures.added)
           (steps.counted_named s left p.top t p.unfolded.reached (too_many script) here.counted);
     }
 
@@ -41,14 +42,14 @@ returns-in_ok-push-in-Define-clause-goes c = λ script left at.
     let names = top_names s p.top (length p.top) in
     let split = subst (λ (ps : List Parameter). asserted script ≡ here.done ++ asserted_from ((d.name.now, definition names (map parameter_of ps) (expression_at s d.body)) ∷ names) left) (sym c.as_slice.ensures.value) here.split in
     let bodies = top_bodies s p.top (length p.top) in
-    let counted = subst (λ (ps : List Parameter). too_many script ≡ first_beyond p.unfolded.reached (reached_from ((d.name.now, definition_body bodies (map parameter_of ps) (expression_at s d.body)) ∷ bodies) left)) (sym c.as_slice.ensures.value)
+    let counted = subst (λ (ps : List Parameter). too_many script ≡ first_beyond most_size p.unfolded.reached (reached_from ((d.name.now, definition_body bodies (map parameter_of ps) (expression_at s d.body)) ∷ bodies) left)) (sym c.as_slice.ensures.value)
     here.counted in
     record {
       done = here.done;
       are = here.are;
       split = subst (λ (ts : List Top). asserted script ≡ here.done ++ asserted_from (top_names s ts (length ts)) left) (sym c.in_ok-push-in-Define.ensures.added) (steps.at_named s script left p.top here.done t split);
       within = here.within;
-      counted = subst (λ (ts : List Top). too_many script ≡ first_beyond p.unfolded.reached (reached_from (top_bodies s ts (length ts)) left)) (sym c.in_ok-push-in-Define.ensures.added)
+      counted = subst (λ (ts : List Top). too_many script ≡ first_beyond most_size p.unfolded.reached (reached_from (top_bodies s ts (length ts)) left)) (sym c.in_ok-push-in-Define.ensures.added)
           (steps.counted_named s left p.top t p.unfolded.reached (too_many script) counted);
     }
 

@@ -103,11 +103,11 @@ reached_from names (minimize at t ∷ rest) = (at, reached_in names t) ∷ reach
 reached_from names (check at ∷ rest) = reached_from names rest
 reached_from names (ineffective at ∷ rest) = reached_from names rest
 
--- the first with which there are more than may be, after so many
-abbrev pub first_beyond : ℕ → List (Place × ℕ) → Option Place
-first_beyond before [] = None
-first_beyond before ((at, n) ∷ rest) = cond (nat_lt most_size (before + n)) (Some at) (first_beyond (before + n) rest)
+-- the first with which there are more than so many, after so many
+abbrev pub first_beyond : ℕ → ℕ → List (Place × ℕ) → Option Place
+first_beyond most before [] = None
+first_beyond most before ((at, n) ∷ rest) = cond (nat_lt most (before + n)) (Some at) (first_beyond most (before + n) rest)
 
 -- the first assertion or goal of a script with which there are more than may be
 abbrev pub too_many : List Command → Option Place
-too_many script = first_beyond 0 (reached_from theory_bodies script)
+too_many script = first_beyond most_size 0 (reached_from theory_bodies script)
