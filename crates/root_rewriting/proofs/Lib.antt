@@ -1,7 +1,10 @@
 pub mod Alike
 pub mod Listing
+pub mod Numbered
 pub mod Once
 pub mod Same
 pub mod Sites
+pub mod Spelled
 pub mod Steps
 pub mod Tables
+pub mod Written

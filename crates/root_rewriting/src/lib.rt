@@ -8,6 +8,7 @@ mod classes;
 mod constants;
 mod found;
 mod places;
+mod spelling;
 mod walk;
 
 pub use constants::{Fresh, Kind, table};
