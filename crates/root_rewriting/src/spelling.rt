@@ -1,7 +1,6 @@
 // Trees that are written as expressions, in which constants stand for those of a table.
 ghost use Rattle.std.specs.Prelude.{◌≡◌, ◌<◌, ◌≤◌, ◌+◌, ◌++◌, ◌∷◌, [], List, ℕ, IfErr, IfOk, MatchOption, None, OnOk, Some, length, map};
 ghost use Rattle.script_model.specs.Sexp as sexp;
-ghost use Rattle.script_roots.specs.Fresh as model;
 ghost use Rattle.script_roots.specs.Fresh.{Table, name_for};
 ghost use Rattle.script_roots.specs.Refused.{most_tokens, tokens_of};
 ghost use Rattle.script_roots.specs.Rewritten.{constant_in_place, spelled};
