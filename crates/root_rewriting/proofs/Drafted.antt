@@ -1,8 +1,8 @@
 -- Assertions that are to be written, of constants and of trees.
-use Rattle.std.proofs.Common.{◌≡◌, ◌<◌, ◌+◌, ℕ, suc, List, [], ◌∷◌, ◌++◌, length, get_or, take, map, Bool, true, false, cond, Option, refl, ap, ap₂, sym, ◌∙◌, subst, arith, append_assoc, append-nil, add-one}
+use Rattle.std.proofs.Common.{◌≡◌, ◌<◌, ◌≤◌, ◌+◌, ℕ, zero, suc, List, [], ◌∷◌, ◌++◌, length, get_or, take, map, Bool, true, false, cond, Option, refl, ap, ap₂, sym, ◌∙◌, subst, arith, append_assoc, append-nil, add-one}
 use Rattle.std.specs.Prelude.{OnOk, Result, Ok, Err, is_ok, if◌then◌else◌}
 use Rattle.std.proofs.Math.Seq.{take-suc}
-use Rattle.std.proofs.lemmas.List.{get_or-map, map-append}
+use Rattle.std.proofs.lemmas.List.{get_or-map, map-append, take_all}
 use Rattle.interval_model.specs.Interval.{Interval}
 use Rattle.ival.specs.Views.{interval_of}
 use Rattle.ival.specs.declared.ends.Ival.{Ival}
@@ -16,18 +16,19 @@ use Rattle.script_roots.specs.Fresh as model
 use Rattle.script_roots.specs.Fresh.{Table}
 use Rattle.script_roots.specs.Rewritten.{assertion, between_ends, claims_of, claims_of_all, is_product, spelled}
 use Rattle.smt_sexp.specs.Views.{place_of}
+use Rattle.script_roots.proofs.Table.{all_join}
 use Rattle.root_trees.specs.Asserted.{AreAsserted}
-use Rattle.root_trees.specs.Nodes.{node_tree, tree_at}
+use Rattle.root_trees.specs.Nodes.{node_tree, tree_at, trees_in}
 use Rattle.root_trees.specs.declared.assertions.Assertion.{Assertion}
 use Rattle.root_trees.specs.declared.trees.Node.{Node}
 use Rattle.root_trees.specs.declared.trees.Node.TheVariants as nodes
-use Rattle.root_rewriting.specs.Drafts.{claim_draft, constant_at, draft_command, draft_of, drafts_of_range, drafts_of_root}
+use Rattle.root_rewriting.specs.Drafts.{AreDraftsBelow, IsContentBelow, claim_draft, constant_at, draft_command, draft_of, drafts_of_range, drafts_of_root}
 use Rattle.root_rewriting.specs.Spelling.{fresh_name}
-use Rattle.root_rewriting.specs.Table.{entry_of}
+use Rattle.root_rewriting.specs.Table.{AreEnclosed, AreEntriesBelow, entry_of}
 use Rattle.root_rewriting.specs.declared.constants.Fresh.{Fresh}
 use Rattle.root_rewriting.specs.declared.drafts.Content.TheVariants.{Product}
 use Rattle.root_rewriting.specs.declared.drafts.Draft.{Draft}
-use Rattle.root_rewriting.proofs.Tables.{tree_there}
+use Rattle.root_rewriting.proofs.Tables.{tree_there, tree_within}
 
 pub on_ok_then : {T E A : Type 0} (r : Result T E) (new a b : A) → new ≡ (if is_ok r then a else b) → OnOk r (new ≡ a)
 on_ok_then (Ok x) new a b h = h
@@ -36,9 +37,6 @@ on_ok_then (Err e) new a b h = tt
 module _ (names : List (List ℕ)) (table : Table) (ts : List Tree) where
   abbrev C : Draft → Command
   C = draft_command names table ts
-
-  name : ℕ → List ℕ
-  name i = get_or names i []
 
   -- ---- of one constant
 
@@ -100,3 +98,45 @@ module _ (names : List (List ℕ)) (table : Table) (ts : List Tree) where
       one =
           ap (λ g. cond g (minimize (place_of c.place) (spelled table (tree_at ts c.tree))) (claim (place_of c.place) (spelled table (tree_at ts c.tree)))) h.0.goal ∙
           ap₂ (λ p t. cond a.is_goal (minimize p (spelled table t)) (claim p (spelled table t))) h.0.at (tree_there ts c a h.0)
+
+-- ---- as far as they came
+
+pub record ClaimsSoFar (ns : List Node) (ranges : List Ival) (fs : List Fresh) (n : ℕ) (drafts : List Draft) : Type 0 where
+  pub below : AreDraftsBelow (length ns) (length fs) drafts
+  pub claims : (ranged : Ranges) (names : Table) → AreEnclosed ranged (trees_in ns) ranges →
+      map (draft_command (map fresh_name fs) names (trees_in ns)) drafts ≡ claims_of_all ranged names (map (entry_of (trees_in ns)) (take n fs))
+
+pub record DraftsSoFar (trees names : ℕ) (cs : List Assertion) (n : ℕ) (first drafts : List Draft) : Type 0 where
+  pub below : AreDraftsBelow trees names drafts
+  pub are : drafts ≡ first ++ map draft_of (take n cs)
+
+pub below_more : (trees names : ℕ) (old new added : List Draft) → new ≡ old ++ added → AreDraftsBelow trees names old → AreDraftsBelow trees names added → AreDraftsBelow trees names new
+below_more trees names old new added is h k = subst (λ ds. AreDraftsBelow trees names ds) (sym is) (all_join (λ (d : Draft). IsContentBelow trees names d.content) old added h k)
+
+-- the trees of assertions are there
+pub claim_within : (ts : List Tree) (cs : List Assertion) (claims : List model.Asserted) (i : ℕ) (d : Assertion) → AreAsserted ts cs claims → i < length cs → (get_or cs i d).tree < length ts
+claim_within ts [] claims i d h lt = absurd (omega arith)
+claim_within ts (c ∷ cs) [] i d h lt = absurd h
+claim_within ts (c ∷ cs) (a ∷ claims) zero d h lt = tree_within ts c a h.0
+claim_within ts (c ∷ cs) (a ∷ claims) (suc i) d h lt = claim_within ts cs claims i d h.1 (omega arith)
+
+pub entry_within : (n : ℕ) (fs : List Fresh) (i : ℕ) (d : Fresh) → AreEntriesBelow n fs → i < length fs → (get_or fs i d).tree < n
+entry_within n [] i d h lt = absurd (omega arith)
+entry_within n (f ∷ fs) zero d h lt = h.0
+entry_within n (f ∷ fs) (suc i) d h lt = entry_within n fs i d h.1 (omega arith)
+
+-- with the next assertion
+pub next_draft : (cs : List Assertion) (i : ℕ) (d : Assertion) (first old new : List Draft) (x : Draft) → i < length cs → new ≡ old ++ (x ∷ []) → x ≡ draft_of (get_or cs i d) →
+    old ≡ first ++ map draft_of (take i cs) → new ≡ first ++ map draft_of (take (i + 1) cs)
+next_draft cs i d first old new x lt is e h =
+    let a = get_or cs i d in
+    let taken : take (i + 1) cs ≡ take i cs ++ (a ∷ []) = ap (λ n. take n cs) (add-one i) ∙ take-suc cs i d lt in
+    is ∙ ap₂ (λ us y. us ++ (y ∷ [])) h e ∙ append_assoc first (map draft_of (take i cs)) (draft_of a ∷ []) ∙
+    ap (λ us. first ++ us) (sym (map-append draft_of (take i cs) (a ∷ []))) ∙ ap (λ us. first ++ map draft_of us) (sym taken)
+
+-- with all
+pub all_drafts : (names : List (List ℕ)) (table : Table) (ts : List Tree) (cs : List Assertion) (n : ℕ) (first drafts : List Draft) (claims : List model.Asserted) (made : List Command) → length cs ≤ n →
+    drafts ≡ first ++ map draft_of (take n cs) → map (draft_command names table ts) first ≡ made → AreAsserted ts cs claims → map (draft_command names table ts) drafts ≡ made ++ map (assertion table) claims
+all_drafts names table ts cs n first drafts claims made le is h are =
+    ap (map (draft_command names table ts)) (is ∙ ap (λ us. first ++ map draft_of us) (take_all n cs le)) ∙ map-append (draft_command names table ts) first (map draft_of cs) ∙
+    ap₂ (λ xs ys. xs ++ ys) h (assertion_claims names table ts cs claims are)

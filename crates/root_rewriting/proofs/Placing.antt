@@ -12,7 +12,14 @@ use Rattle.smt_sexp.specs.Lexicon.{Unclosed}
 use Rattle.smt_sexp.specs.Views.{place_of}
 use Rattle.smt_sexp.specs.Writing.{Writes, Written, tokens_in}
 use Rattle.smt_sexp.specs.declared.writing.Writer.{Writer}
+use Rattle.script_roots.specs.Fresh.{Table}
+use Rattle.root_trees.specs.Nodes.{trees_in}
+use Rattle.root_rewriting.specs.Drafts.{AreDraftsBelow, draft_command}
+use Rattle.root_rewriting.specs.Opened.{CanWrite}
 use Rattle.root_rewriting.specs.Placing.{InWriting, placed_command}
+use Rattle.root_rewriting.specs.Spelling.{AreNamed}
+use Rattle.root_rewriting.specs.declared.drafts.Draft.{Draft}
+use Rattle.root_rewriting.specs.declared.spelling.Spelling.{Spelling}
 use Rattle.root_rewriting.specs.declared.placed.Placed.{Placed}
 use Rattle.root_rewriting.proofs.Spelled.{flat_tokens}
 
@@ -68,3 +75,14 @@ module _ (w : Writer) (ps : List Placed) (all left : List Command) (command : Co
       within = few;
       counted = from-here ∙ goes-on;
     }
+
+-- ---- as far as it came
+
+pub record WritingSoFar (s : Spelling) (drafts rest : List Draft) (w : Writer) (ps : List Placed) : Type 0 where
+  pub below : AreDraftsBelow (length s.trees.now) (length s.names.now) rest
+  pub writes : (table : Table) → AreNamed table s →
+      InWriting w ps (map (draft_command s.names.now table (trees_in s.trees.now)) drafts) (map (draft_command s.names.now table (trees_in s.trees.now)) rest)
+
+-- there is room for more
+pub can_go_on : (w : Writer) (ps : List Placed) (all left : List Command) → InWriting w ps all left → CanWrite w 0
+can_go_on w ps all left i = record { us = []; tops = i.tops; written = i.stands; room = omega (arith, i.within) }

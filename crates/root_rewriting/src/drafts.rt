@@ -153,8 +153,8 @@ fn claims(
         claims_of_all ranged names (map (entry_of (trees_in trees.now)) table.now)) }
 {
     let mut drafts = Vec::new(alloc);
-    for (constant, fresh) in table.iter().enumerate() {
-        push_claims(&mut drafts, trees, ranges, constant, fresh.tree)?;
+    for constant in 0..table.len() {
+        push_claims(&mut drafts, trees, ranges, constant, table[constant].tree)?;
     }
     Ok(drafts)
 }
