@@ -1,6 +1,7 @@
 -- The script that is made, and what refuses it.
-use Rattle.std.proofs.Common.{◌≡◌, ◌≢◌, ℕ, List, [], ◌∷◌, ◌++◌, map, Option, Some, None, refl, ap, ap₂, sym, ◌∙◌, subst, append_assoc, append-nil}
-use Rattle.std.specs.Prelude.{IfOk}
+use Rattle.std.proofs.Common.{◌≡◌, ◌≢◌, ◌<◌, ◌≤◌, ◌+◌, ℕ, List, [], ◌∷◌, ◌++◌, map, take, length, get_or, add-one, Option, Some, None, refl, ap, ap₂, sym, ◌∙◌, subst, append_assoc, append-nil}
+use Rattle.std.proofs.Math.Seq.{take-suc}
+use Rattle.std.proofs.lemmas.List.{length-map, map-append, take_all}
 use Rattle.script_fault.specs.Answers.{IsFaultOrMemory}
 use Rattle.script_fault.specs.declared.fault.FaultKind.{FaultKind}
 use Rattle.script_fault.specs.declared.fault.FaultKind.TheVariants.{TooMany, LeftOut}
@@ -8,18 +9,27 @@ use Rattle.script_fault.specs.declared.fault.ReadError.{ReadError}
 use Rattle.script_fault.specs.declared.fault.ReadError.TheVariants.{Fault, Memory}
 use Rattle.script_fault.specs.declared.fault.ScriptFault.{ScriptFault}
 use Rattle.script_fault.specs.declared.limit.Limit.TheVariants.{Size}
-use Rattle.script_model.specs.Sexp.{Place}
+use Rattle.script_model.specs.Sexp.{Place, Sexp}
 use Rattle.script_model.specs.Script.{Command, declare, define, claim, minimize, check, ineffective}
 use Rattle.script_roots.specs.Fresh.{Table, asserted, fresh_of, left_out, left_out_of, named_from, once}
-use Rattle.script_roots.specs.Ranges.{Ranges}
+use Rattle.script_roots.specs.Ranges.{Ranges, enclosed}
+use Rattle.script_roots.specs.Tree.{Tree}
+use Rattle.ival.specs.Views.{interval_of}
+use Rattle.ival.specs.declared.ends.Ival.{Ival}
+use Rattle.smt_sexp.specs.Writing.{Keeps, Written}
+use Rattle.smt_sexp.specs.declared.sexps.Sexps as arena
+use Rattle.smt_sexp.specs.declared.writing.Writer.{Writer}
 use Rattle.script_roots.specs.Reached.{first_beyond, too_many}
 use Rattle.script_roots.specs.Refused.{beyond_unless_empty, left_out_form, most_tokens, refusal, refused_at, too_large, too_long, tokens_from, command_tokens}
 use Rattle.script_roots.specs.Rewritten.{assertion, claims_of_all, declaration, declarations, rewritten, rewritten_by, script_table, unless_empty}
 use Rattle.script_roots.specs.TreeBounds.{declared_ranges}
 use Rattle.smt_sexp.specs.Views.{place_of}
 use Rattle.root_trees.specs.Asserted.{IsAtFirst, IsRefusal}
-use Rattle.root_rewriting.specs.Placing.{IsTooLarge}
+use Rattle.root_rewriting.specs.Placing.{InWriting, IsTooLarge, placed_command}
 use Rattle.root_rewriting.specs.Rewriting.{refusal_fault, refused_later}
+use Rattle.root_rewriting.specs.Table.{AreEnclosed, entry_of}
+use Rattle.root_rewriting.specs.declared.constants.Fresh.{Fresh}
+use Rattle.root_rewriting.specs.declared.placed.Placed.{Placed}
 use Rattle.root_rewriting.proofs.Rootless.{ArePlainClaims}
 
 -- ---- the tokens of its assertions
@@ -109,3 +119,37 @@ accepted bound script m l = ap₂ (λ o r. refused_at too_large o r) m l
 
 pub plain_table : (bound : Option ℕ) (script : List Command) → ArePlainClaims (asserted script) → script_table bound script ≡ []
 plain_table bound script p = ap (λ us. named_from 0 0 (once [] us)) (p.fresh (declared_ranges bound script))
+
+-- ---- lists that grow
+
+pub next_mapped : {A B C : Type 0} (f : A → C) (g : B → C) (first : List C) (old new : List A) (x : A) (xs : List B) (i : ℕ) (y : B) → i < length xs → y ≡ get_or xs i y → new ≡ old ++ (x ∷ []) → f x ≡ g y →
+    map f old ≡ first ++ map g (take i xs) → map f new ≡ first ++ map g (take (i + 1) xs)
+next_mapped f g first old new x xs i y lt is added same h =
+    let taken : take (i + 1) xs ≡ take i xs ++ (y ∷ []) = ap (λ n. take n xs) (add-one i) ∙ take-suc xs i y lt ∙ ap (λ z. take i xs ++ (z ∷ [])) (sym is) in
+    ap (map f) added ∙ map-append f old (x ∷ []) ∙ ap₂ (λ us z. us ++ (z ∷ [])) h same ∙ append_assoc first (map g (take i xs)) (g y ∷ []) ∙
+    ap (λ us. first ++ us) (sym (map-append g (take i xs) (y ∷ []))) ∙ ap (λ us. first ++ map g us) (sym taken)
+
+pub all_mapped : {A B C : Type 0} (f : A → C) (g : B → C) (first : List C) (old : List A) (xs : List B) (i : ℕ) → length xs ≤ i → map f old ≡ first ++ map g (take i xs) → map f old ≡ first ++ map g xs
+all_mapped f g first old xs i le h = h ∙ ap (λ us. first ++ map g us) (take_all i xs le)
+
+-- ---- what was written
+
+pub kept_all : (w : Writer) (s : arena.Sexps) (ps : List Placed) (all : List Command) → InWriting w ps all [] → Keeps w s → map (placed_command s) ps ≡ all
+kept_all w s ps all i keeps =
+    i.kept s (λ later before e is. keeps later before e (subst (λ (us : List Sexp). Written w [] us) is i.stands)) ∙ sym (i.split ∙ append-nil i.done)
+
+pub too_large_same : (e : ReadError) (o p : Option Place) → o ≡ p → IsTooLarge e p → IsTooLarge e o
+too_large_same (Fault f) o p same h = (h.0, same ∙ h.1)
+too_large_same Memory o p same h = tt
+
+-- ---- a table
+
+pub some_entries : (ts : List Tree) (fs : List Fresh) (table : Table) → (length fs ≡ 0 → ⊥) → map (entry_of ts) fs ≡ table → table ≢ []
+some_entries ts [] table some is = absurd (some refl)
+some_entries ts (f ∷ fs) table some is = λ none. go (is ∙ none)
+  where
+    go : entry_of ts f ∷ map (entry_of ts) fs ≡ [] → ⊥
+    go e = cc
+
+pub enclosed_length : (names : Ranges) (ts : List Tree) (ranges : List Ival) → AreEnclosed names ts ranges → length ranges ≡ length ts
+enclosed_length names ts ranges e = sym (length-map ranges interval_of) ∙ ap length e ∙ length-map ts (enclosed names)

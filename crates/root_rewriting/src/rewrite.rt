@@ -208,14 +208,16 @@ fn with_constants<'a>(
     if let Some(place) = left_out(alloc, asserted)? {
         return Err(ReadError::at(place, FaultKind::LeftOut));
     }
-    let ranges = enclosures(alloc, script, asserted, bound)?;
-    let classes = classes(alloc, &asserted.trees)?;
-    let table = table(alloc, asserted, classes.as_slice(), ranges.as_slice())?;
+    let enclosures = enclosures(alloc, script, asserted, bound)?;
+    let ranges = enclosures.as_slice();
+    let numbers = classes(alloc, &asserted.trees)?;
+    let classes = numbers.as_slice();
+    let constants = table(alloc, asserted, classes, ranges)?;
+    let table = constants.as_slice();
     if table.is_empty() {
         return Ok(None);
     }
-    let (ranges, classes) = (ranges.as_slice(), classes.as_slice());
-    let rewriting = rewritten(alloc, script, asserted, ranges, classes, table.as_slice())?;
+    let rewriting = rewritten(alloc, script, asserted, ranges, classes, table)?;
     Ok(Some(rewriting))
 }
 
@@ -238,8 +240,9 @@ pub fn rewriting<'a>(
         IsFaultOrMemory e (refusal_fault (refusal bound (commands_in script.now)))) }
 {
     let asserted = asserted(alloc, script)?;
-    if !holds_fresh(&asserted.trees) {
-        return Ok(None);
+    if holds_fresh(&asserted.trees) {
+        with_constants(alloc, script, &asserted, bound)
+    } else {
+        Ok(None)
     }
-    with_constants(alloc, script, &asserted, bound)
 }
