@@ -24,7 +24,8 @@ use Rattle.root_trees.specs.declared.trees.Node.{Node}
 use Rattle.root_trees.specs.declared.trees.Node.TheVariants as nodes
 use Rattle.root_rewriting.specs.Drafts.{AreDraftsBelow, IsContentBelow, claim_draft, constant_at, draft_command, draft_of, drafts_of_range, drafts_of_root}
 use Rattle.root_rewriting.specs.Spelling.{fresh_name}
-use Rattle.root_rewriting.specs.Table.{AreEnclosed, AreEntriesBelow, entry_of}
+use Rattle.root_ranges.specs.Enclosures.{AreEnclosures}
+use Rattle.root_rewriting.specs.Table.{AreEntriesBelow, entry_of}
 use Rattle.root_rewriting.specs.declared.constants.Fresh.{Fresh}
 use Rattle.root_rewriting.specs.declared.drafts.Content.TheVariants.{Product}
 use Rattle.root_rewriting.specs.declared.drafts.Draft.{Draft}
@@ -103,7 +104,7 @@ module _ (names : List (List ℕ)) (table : Table) (ts : List Tree) where
 
 pub record ClaimsSoFar (ns : List Node) (ranges : List Ival) (fs : List Fresh) (n : ℕ) (drafts : List Draft) : Type 0 where
   pub below : AreDraftsBelow (length ns) (length fs) drafts
-  pub claims : (ranged : Ranges) (names : Table) → AreEnclosed ranged (trees_in ns) ranges →
+  pub claims : (ranged : Ranges) (names : Table) → AreEnclosures ranged (trees_in ns) ranges →
       map (draft_command (map fresh_name fs) names (trees_in ns)) drafts ≡ claims_of_all ranged names (map (entry_of (trees_in ns)) (take n fs))
 
 pub record DraftsSoFar (trees names : ℕ) (cs : List Assertion) (n : ℕ) (first drafts : List Draft) : Type 0 where

@@ -27,7 +27,8 @@ use Rattle.smt_sexp.specs.Views.{place_of}
 use Rattle.root_trees.specs.Asserted.{IsAtFirst, IsRefusal}
 use Rattle.root_rewriting.specs.Placing.{InWriting, IsTooLarge, placed_command}
 use Rattle.root_rewriting.specs.Rewriting.{refusal_fault, refused_later}
-use Rattle.root_rewriting.specs.Table.{AreEnclosed, entry_of}
+use Rattle.root_ranges.specs.Enclosures.{AreEnclosures}
+use Rattle.root_rewriting.specs.Table.{entry_of}
 use Rattle.root_rewriting.specs.declared.constants.Fresh.{Fresh}
 use Rattle.root_rewriting.specs.declared.placed.Placed.{Placed}
 use Rattle.root_rewriting.proofs.Rootless.{ArePlainClaims}
@@ -151,5 +152,5 @@ some_entries ts (f ∷ fs) table some is = λ none. go (is ∙ none)
     go : entry_of ts f ∷ map (entry_of ts) fs ≡ [] → ⊥
     go e = cc
 
-pub enclosed_length : (names : Ranges) (ts : List Tree) (ranges : List Ival) → AreEnclosed names ts ranges → length ranges ≡ length ts
+pub enclosed_length : (names : Ranges) (ts : List Tree) (ranges : List Ival) → AreEnclosures names ts ranges → length ranges ≡ length ts
 enclosed_length names ts ranges e = sym (length-map ranges interval_of) ∙ ap length e ∙ length-map ts (enclosed names)

@@ -10,8 +10,8 @@ use Rattle.smt_sexp.specs.Lexicon.{Unclosed, backwards}
 use Rattle.smt_sexp.specs.Writing.{HasOpen, Shuts, Writes, Written, tokens_in}
 use Rattle.smt_sexp.specs.declared.writing.Writer.{Writer}
 use Rattle.script_roots.specs.Refused.{tokens_of}
-use Rattle.root_rewriting.specs.Opened.{CanWrite, IsOpened}
-use Rattle.root_rewriting.specs.Spelling.{IsWriting, Stops}
+use Rattle.root_rewriting.specs.Opened.{CanWrite, IsOpened, symbol_at}
+use Rattle.root_rewriting.specs.Spelling.{Heads, IsWriting, Stops}
 use Rattle.root_rewriting.specs.declared.spelling.Stop.{Stop}
 use Rattle.root_rewriting.specs.declared.spelling.Stop.TheVariants.{TooLong, Memory}
 
@@ -19,9 +19,9 @@ pub on_ok_both : {T E P Q R : Type 0} (r : Result T E) → OnOk r P → OnOk r Q
 on_ok_both (Ok x) p q f = f p q
 on_ok_both (Err e) p q f = tt
 
--- its opening is written
-pub begins : (old new : Writer) (at : Place) → ((us : List Unclosed) (tops : List Sexp) → Written old us tops → Written new (record { opened = at; before = [] } ∷ us) tops) → tokens_in new ≡ tokens_in old + 1 → IsOpened old new at []
-begins old new at stands count = record { stands = stands; count = omega (arith, count) }
+-- its head is written
+pub headed : (old new : Writer) (at : Place) (name : List ℕ) → Heads old new at name → IsOpened old new at (symbol_at at name ∷ [])
+headed old new at name h = record { stands = h.stands; count = omega (arith, h.count) }
 
 -- an expression more in it
 pub more_in : (old mid new : Writer) (at : Place) (before : List Sexp) (e : Sexp) → IsOpened old mid at before → Writes mid new e → IsOpened old new at (e ∷ before)

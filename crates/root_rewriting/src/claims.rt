@@ -10,6 +10,7 @@ ghost use Rattle.root_rewriting.specs.Whole.{number_of};
 
 use crate::digits::digits;
 use crate::parts::{Parts, parts_above, parts_below};
+use crate::spelling::{head, symbol};
 use crate::whole::Whole;
 use dyadic::Ext;
 use script_fault::{Name, Place};
@@ -43,19 +44,6 @@ fn whole(number: u64) -> Whole
     }
 }
 
-// Writes a name.
-pub(crate) fn write_symbol(
-    alloc: Global,
-    writer: &mut Writer,
-    at: Place,
-    name: &[u8],
-) -> Result<(), AllocError>
-    ensures { OnOk result (Writes writer.old writer.new (symbol_at (place_of at) name.now)) }
-{
-    let name = Name::from_slice(alloc, name)?;
-    writer.leaf(at, Leaf::Symbol(name))
-}
-
 // Writes a number.
 fn write_number(alloc: Global, writer: &mut Writer, at: Place, number: Whole) -> Result<(), AllocError>
     ensures { OnOk result
@@ -65,27 +53,13 @@ fn write_number(alloc: Global, writer: &mut Writer, at: Place, number: Whole) ->
     writer.leaf(at, Leaf::Numeral(Name::new(digits)))
 }
 
-// Begins an application.
-pub(crate) fn begin(
-    alloc: Global,
-    writer: &mut Writer,
-    at: Place,
-    name: &[u8],
-) -> Result<(), AllocError>
-    ensures { OnOk result (IsOpened writer.old writer.new (place_of at)
-        (symbol_at (place_of at) name.now ∷ [])) }
-{
-    writer.open(at)?;
-    write_symbol(alloc, writer, at, name)
-}
-
 // Writes so many 2^20ths.
 fn write_parts(alloc: Global, writer: &mut Writer, at: Place, count: Whole) -> Result<(), AllocError>
     requires { CanWrite writer.old 16 }
     ensures { OnOk result
         (Writes writer.old writer.new (parts_at (place_of at) (number_of count))) }
 {
-    begin(alloc, writer, at, b"/")?;
+    head(alloc, writer, at, b"/")?;
     write_number(alloc, writer, at, count)?;
     write_number(alloc, writer, at, whole(PARTS))?;
     writer.close()
@@ -102,7 +76,7 @@ fn write_negative_parts(
     ensures { OnOk result
         (Writes writer.old writer.new (negative_parts_at (place_of at) (number_of count))) }
 {
-    begin(alloc, writer, at, b"-")?;
+    head(alloc, writer, at, b"-")?;
     write_parts(alloc, writer, at, count)?;
     writer.close()
 }
@@ -131,7 +105,7 @@ fn write_negative(alloc: Global, writer: &mut Writer, at: Place, size: u64) -> R
     ensures { OnOk result (Writes writer.old writer.new
         (negative_at (place_of at) (number_at (place_of at) size))) }
 {
-    begin(alloc, writer, at, b"-")?;
+    head(alloc, writer, at, b"-")?;
     write_number(alloc, writer, at, whole(size))?;
     writer.close()
 }
@@ -163,8 +137,8 @@ pub(crate) fn write_bound(
     ensures { OnOk result (Writes writer.old writer.new (two_of (place_of at) relation.now
         (symbol_at (place_of at) name.now) (limit_at (place_of at) end))) }
 {
-    begin(alloc, writer, at, relation)?;
-    write_symbol(alloc, writer, at, name)?;
+    head(alloc, writer, at, relation)?;
+    symbol(alloc, writer, at, name)?;
     write_limit(alloc, writer, at, end)?;
     writer.close()
 }

@@ -2,7 +2,8 @@
 ghost use Rattle.std.specs.Prelude.{◌≡◌, ◌<◌, ◌+◌, ◌^◌, ◌&&◌, ◌∷◌, [], List, IfOk, length, map, not};
 ghost use Rattle.root_rewriting.specs.Classes.{AreClasses};
 ghost use Rattle.root_rewriting.specs.Found.{AreOwn, IsSource, is_own};
-ghost use Rattle.root_rewriting.specs.Table.{AreEnclosed, AreEntriesBelow, entry_of};
+ghost use Rattle.root_ranges.specs.Enclosures.{AreEnclosures};
+ghost use Rattle.root_rewriting.specs.Table.{AreEntriesBelow, entry_of};
 ghost use Rattle.root_trees.specs.Asserted.{AreAsserted};
 ghost use Rattle.root_trees.specs.Nodes.{AreBelow, parts_at, tree_at, trees_in};
 ghost use Rattle.script_roots.specs.Fresh.{Asserted, fresh_of, named_from, once, stands_alone, table_of};
@@ -51,7 +52,7 @@ fn stands_alone(trees: &Trees<'_>, ranges: &[Ival], dividend: usize, divisor: us
     requires all { length ranges.now ≡ length trees.now }
     requires dividend { dividend < length trees.now }
     requires divisor { divisor < length trees.now }
-    ensures { (names : Ranges) → AreEnclosed names (trees_in trees.now) ranges.now →
+    ensures { (names : Ranges) → AreEnclosures names (trees_in trees.now) ranges.now →
         result ≡ stands_alone names (tree_at (trees_in trees.now) dividend)
         (tree_at (trees_in trees.now) divisor) }
 {
@@ -64,7 +65,7 @@ fn stands_alone(trees: &Trees<'_>, ranges: &[Ival], dividend: usize, divisor: us
 fn is_own(trees: &Trees<'_>, ranges: &[Ival], at: usize) -> bool
     requires all { length ranges.now ≡ length trees.now }
     requires at { at < length trees.now }
-    ensures { (names : Ranges) → AreEnclosed names (trees_in trees.now) ranges.now →
+    ensures { (names : Ranges) → AreEnclosures names (trees_in trees.now) ranges.now →
         result ≡ is_own names (tree_at (trees_in trees.now) at) }
 {
     match trees.look(at) {
@@ -78,7 +79,7 @@ fn is_own(trees: &Trees<'_>, ranges: &[Ival], at: usize) -> bool
 fn own(alloc: Global, trees: &Trees<'_>, ranges: &[Ival]) -> Result<Vec<bool>, AllocError>
     requires { length ranges.now ≡ length trees.now }
     ensures all { IfOk result (λ own. length own.items ≡ length trees.now) }
-    ensures own { (names : Ranges) → AreEnclosed names (trees_in trees.now) ranges.now →
+    ensures own { (names : Ranges) → AreEnclosures names (trees_in trees.now) ranges.now →
         IfOk result (λ own. AreOwn names (trees_in trees.now) own.items) }
 {
     let mut own = Vec::new(alloc);
@@ -185,7 +186,7 @@ pub(crate) fn table(
     ensures below { IfOk result (λ table.
         AreEntriesBelow (length asserted.now.trees) table.items) }
     ensures table { (names : Ranges) (claims : List Asserted) →
-        AreEnclosed names (trees_in asserted.now.trees) ranges.now →
+        AreEnclosures names (trees_in asserted.now.trees) ranges.now →
         AreAsserted (trees_in asserted.now.trees) asserted.now.assertions.items claims →
         IfOk result (λ table. map (entry_of (trees_in asserted.now.trees)) table.items ≡
         table_of names claims) }

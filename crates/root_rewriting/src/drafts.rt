@@ -3,7 +3,8 @@ ghost use Rattle.std.specs.Prelude.{◌≡◌, ◌++◌, ◌<◌, [], List, ℕ,
 ghost use Rattle.ival.specs.Views.{interval_of};
 ghost use Rattle.root_rewriting.specs.Drafts.{AreDraftsBelow, draft_command, draft_of, drafts_of_ends, drafts_of_range, drafts_of_root};
 ghost use Rattle.root_rewriting.specs.Spelling.{fresh_name};
-ghost use Rattle.root_rewriting.specs.Table.{AreEnclosed, AreEntriesBelow, entry_of};
+ghost use Rattle.root_ranges.specs.Enclosures.{AreEnclosures};
+ghost use Rattle.root_rewriting.specs.Table.{AreEntriesBelow, entry_of};
 ghost use Rattle.root_trees.specs.Asserted.{AreAsserted};
 ghost use Rattle.root_trees.specs.Nodes.{tree_at, trees_in};
 ghost use Rattle.script_roots.specs.Fresh.{Asserted, Table};
@@ -111,7 +112,7 @@ fn push_claims(
     ensures below { (n : ℕ) → constant < n → AreDraftsBelow (length trees.now) n drafts.old.items →
         OnOk result (AreDraftsBelow (length trees.now) n drafts.new.items) }
     ensures claims { (ranged : Ranges) (names : List (List ℕ)) (table : Table) →
-        AreEnclosed ranged (trees_in trees.now) ranges.now → OnOk result
+        AreEnclosures ranged (trees_in trees.now) ranges.now → OnOk result
         (map (draft_command names table (trees_in trees.now)) drafts.new.items ≡
         map (draft_command names table (trees_in trees.now)) drafts.old.items ++
         claims_of ranged table (slice_index_or names constant [])
@@ -148,7 +149,7 @@ fn claims(
     ensures below { IfOk result (λ drafts.
         AreDraftsBelow (length trees.now) (length table.now) drafts.items) }
     ensures claims { (ranged : Ranges) (names : Table) →
-        AreEnclosed ranged (trees_in trees.now) ranges.now → IfOk result (λ drafts.
+        AreEnclosures ranged (trees_in trees.now) ranges.now → IfOk result (λ drafts.
         map (draft_command (map fresh_name table.now) names (trees_in trees.now)) drafts.items ≡
         claims_of_all ranged names (map (entry_of (trees_in trees.now)) table.now)) }
 {
@@ -184,7 +185,7 @@ pub(crate) fn drafts(
     ensures below { IfOk result (λ drafts.
         AreDraftsBelow (length asserted.now.trees) (length table.now) drafts.items) }
     ensures drafts { (ranged : Ranges) (names : Table) (claims : List Asserted) →
-        AreEnclosed ranged (trees_in asserted.now.trees) ranges.now →
+        AreEnclosures ranged (trees_in asserted.now.trees) ranges.now →
         AreAsserted (trees_in asserted.now.trees) asserted.now.assertions.items claims →
         IfOk result (λ drafts.
         map (draft_command (map fresh_name table.now) names (trees_in asserted.now.trees))

@@ -11,9 +11,9 @@ ghost use Rattle.script_roots.specs.Rewritten.{spelled, two_of};
 ghost use Rattle.smt_sexp.specs.Views.{place_of};
 ghost use Rattle.smt_sexp.specs.Writing.{Writes, tokens_in};
 
-use crate::claims::{Limit, begin, write_bound, write_symbol};
+use crate::claims::{Limit, write_bound};
 use crate::drafts::Content;
-use crate::spelling::{Spelling, Stop, spell};
+use crate::spelling::{Spelling, Stop, head, spell, symbol};
 use script_fault::Place;
 use smt_sexp::Writer;
 use std::alloc::{AllocError, Global};
@@ -37,9 +37,9 @@ fn write_square(
     ensures { OnOk result (Writes writer.old writer.new (two_of (place_of at) (codes "*")
         (symbol_at (place_of at) name.now) (symbol_at (place_of at) name.now))) }
 {
-    begin(alloc, writer, at, b"*")?;
-    write_symbol(alloc, writer, at, name)?;
-    write_symbol(alloc, writer, at, name)?;
+    head(alloc, writer, at, b"*")?;
+    symbol(alloc, writer, at, name)?;
+    symbol(alloc, writer, at, name)?;
     writer.close()
 }
 
@@ -66,7 +66,7 @@ fn square_is(
         tokens_of (expression_of spelling.now.names.now table (trees_in spelling.now.trees.now)
         (place_of at) (Content.Square constant tree)))) }
 {
-    begin(alloc, writer, at, b"=")?;
+    head(alloc, writer, at, b"=")?;
     write_square(alloc, writer, at, constant_name(spelling, constant))?;
     spell(alloc, spelling, writer, tree)?;
     writer.close()?;
@@ -98,8 +98,8 @@ fn write_product(
         (constant_at spelling.now.names.now (place_of at) constant)
         (spelled table (tree_at (trees_in spelling.now.trees.now) tree))))) }
 {
-    begin(alloc, writer, at, b"*")?;
-    write_symbol(alloc, writer, at, constant_name(spelling, constant))?;
+    head(alloc, writer, at, b"*")?;
+    symbol(alloc, writer, at, constant_name(spelling, constant))?;
     spell(alloc, spelling, writer, tree)?;
     writer.close()?;
     Ok(())
@@ -129,7 +129,7 @@ fn product_is(
         tokens_of (expression_of spelling.now.names.now table (trees_in spelling.now.trees.now)
         (place_of at) (Content.Product constant trees.0 trees.1)))) }
 {
-    begin(alloc, writer, at, b"=")?;
+    head(alloc, writer, at, b"=")?;
     write_product(alloc, spelling, writer, at, constant, trees.0)?;
     spell(alloc, spelling, writer, trees.1)?;
     writer.close()?;

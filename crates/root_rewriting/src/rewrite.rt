@@ -3,7 +3,8 @@ ghost use Rattle.std.specs.Prelude.{◌≡◌, ◌∷◌, ◌++◌, ◌<◌, [],
 ghost use Rattle.root_rewriting.specs.Classes.{AreClasses};
 ghost use Rattle.root_rewriting.specs.Placing.{InWriting, IsTooLarge};
 ghost use Rattle.root_rewriting.specs.Rewriting.{IsAnswer, commands_of, declared_command, introduced_command, refusal_fault, refused_later};
-ghost use Rattle.root_rewriting.specs.Table.{AreEnclosed, AreEntriesBelow, entry_of};
+ghost use Rattle.root_ranges.specs.Enclosures.{AreEnclosures};
+ghost use Rattle.root_rewriting.specs.Table.{AreEntriesBelow, entry_of};
 ghost use Rattle.root_trees.specs.Asserted.{AreAsserted};
 ghost use Rattle.root_trees.specs.Nodes.{node_tree, trees_in};
 ghost use Rattle.script_fault.specs.Answers.{IsFaultOrMemory};
@@ -126,13 +127,13 @@ fn written(
     requires assertions { (claims : List fresh.Asserted) ×
         AreAsserted (trees_in asserted.now.trees) asserted.now.assertions.items claims }
     ensures writes { (ranged : Ranges) (claims : List fresh.Asserted) →
-        AreEnclosed ranged (trees_in asserted.now.trees) ranges.now →
+        AreEnclosures ranged (trees_in asserted.now.trees) ranges.now →
         AreAsserted (trees_in asserted.now.trees) asserted.now.assertions.items claims →
         let names = map (entry_of (trees_in asserted.now.trees)) table.now in
         IfOk result (λ writing. InWriting writing.writer writing.placed.items
         (claims_of_all ranged names names ++ map (assertion names) claims) []) }
     ensures refuses { (ranged : Ranges) (claims : List fresh.Asserted) →
-        AreEnclosed ranged (trees_in asserted.now.trees) ranges.now →
+        AreEnclosures ranged (trees_in asserted.now.trees) ranges.now →
         AreAsserted (trees_in asserted.now.trees) asserted.now.assertions.items claims →
         let names = map (entry_of (trees_in asserted.now.trees)) table.now in
         IfErr result (λ e. IsTooLarge e (first_beyond most_tokens 0 (tokens_from
@@ -166,16 +167,16 @@ fn rewritten<'a>(
     requires assertions { AreAsserted (trees_in asserted.now.trees)
         asserted.now.assertions.items (fresh.asserted (commands_in script.now)) }
     ensures writes { (ranged : Ranges) →
-        AreEnclosed ranged (trees_in asserted.now.trees) ranges.now →
+        AreEnclosures ranged (trees_in asserted.now.trees) ranges.now →
         IfOk result (λ r. commands_of r ≡ rewritten_by ranged
         (map (entry_of (trees_in asserted.now.trees)) table.now) (commands_in script.now)) }
     ensures within { (ranged : Ranges) →
-        AreEnclosed ranged (trees_in asserted.now.trees) ranges.now →
+        AreEnclosures ranged (trees_in asserted.now.trees) ranges.now →
         IfOk result (λ r. first_beyond most_tokens 0 (tokens_from (rewritten_by ranged
         (map (entry_of (trees_in asserted.now.trees)) table.now) (commands_in script.now))) ≡
         None) }
     ensures refuses { (ranged : Ranges) →
-        AreEnclosed ranged (trees_in asserted.now.trees) ranges.now →
+        AreEnclosures ranged (trees_in asserted.now.trees) ranges.now →
         IfErr result (λ e. IsTooLarge e (first_beyond most_tokens 0 (tokens_from
         (rewritten_by ranged (map (entry_of (trees_in asserted.now.trees)) table.now)
         (commands_in script.now))))) }

@@ -97,8 +97,8 @@ fn constant_for<'t>(spelling: &Spelling<'t, '_>, at: usize) -> Option<&'t Name>
     }
 }
 
-// Writes a name.
-fn symbol(alloc: Global, writer: &mut Writer, place: Place, name: &[u8]) -> Result<(), AllocError>
+/// Writes a name.
+pub(crate) fn symbol(alloc: Global, writer: &mut Writer, place: Place, name: &[u8]) -> Result<(), AllocError>
     ensures { OnOk result (Writes writer.old writer.new
         (sexp.leaf (place_of place) (sexp.symbol name.now))) }
 {
@@ -141,8 +141,8 @@ fn atomic(
     }
 }
 
-// Begins the group of a name, whose arguments follow.
-fn head(alloc: Global, writer: &mut Writer, place: Place, name: &[u8]) -> Result<(), AllocError>
+/// Begins the group of a name, whose arguments follow.
+pub(crate) fn head(alloc: Global, writer: &mut Writer, place: Place, name: &[u8]) -> Result<(), AllocError>
     ensures { OnOk result (Heads writer.old writer.new (place_of place) name.now) }
 {
     writer.open(place)?;
