@@ -28,4 +28,4 @@ five_more h l some few small =
     let two : decimal b ≡ decimal a ++ (d2 ∷ []) = one-more b a (l / 1000 % 10) (omega arith) (omega arith) (omega arith) (omega (arith, small)) in
     let one : decimal a ≡ decimal h ++ (d1 ∷ []) = one-more a h (l / 10000) (omega arith) (omega (arith, few)) some (omega (arith, small)) in
     five ∙ ap (λ xs. xs ++ (d5 ∷ [])) (four ∙ ap (λ xs. xs ++ (d4 ∷ [])) (three ∙ ap (λ xs. xs ++ (d3 ∷ [])) (two ∙ ap (λ xs. xs ++ (d2 ∷ [])) one ∙ append_assoc (decimal h) (d1 ∷ []) (d2 ∷ []))
-        ∙ append_assoc (decimal h) (d1 ∷ d2 ∷ []) (d3 ∷ [])) ∙ append_assoc (decimal h) (d1 ∷ d2 ∷ d3 ∷ []) (d4 ∷ [])) ∙ append_assoc (decimal h) (d1 ∷ d2 ∷ d3 ∷ d4 ∷ []) (d5 ∷ [])
+    ∙ append_assoc (decimal h) (d1 ∷ d2 ∷ []) (d3 ∷ [])) ∙ append_assoc (decimal h) (d1 ∷ d2 ∷ d3 ∷ []) (d4 ∷ [])) ∙ append_assoc (decimal h) (d1 ∷ d2 ∷ d3 ∷ d4 ∷ []) (d5 ∷ [])

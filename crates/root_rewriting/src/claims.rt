@@ -45,7 +45,12 @@ fn whole(number: u64) -> Whole
 }
 
 // Writes a number.
-fn write_number(alloc: Global, writer: &mut Writer, at: Place, number: Whole) -> Result<(), AllocError>
+fn write_number(
+    alloc: Global,
+    writer: &mut Writer,
+    at: Place,
+    number: Whole,
+) -> Result<(), AllocError>
     ensures { OnOk result
         (Writes writer.old writer.new (number_at (place_of at) (number_of number))) }
 {
@@ -54,7 +59,12 @@ fn write_number(alloc: Global, writer: &mut Writer, at: Place, number: Whole) ->
 }
 
 // Writes so many 2^20ths.
-fn write_parts(alloc: Global, writer: &mut Writer, at: Place, count: Whole) -> Result<(), AllocError>
+fn write_parts(
+    alloc: Global,
+    writer: &mut Writer,
+    at: Place,
+    count: Whole,
+) -> Result<(), AllocError>
     requires { CanWrite writer.old 16 }
     ensures { OnOk result
         (Writes writer.old writer.new (parts_at (place_of at) (number_of count))) }
@@ -100,7 +110,12 @@ fn write_signed_parts(
 }
 
 // Writes minus a number.
-fn write_negative(alloc: Global, writer: &mut Writer, at: Place, size: u64) -> Result<(), AllocError>
+fn write_negative(
+    alloc: Global,
+    writer: &mut Writer,
+    at: Place,
+    size: u64,
+) -> Result<(), AllocError>
     requires { CanWrite writer.old 8 }
     ensures { OnOk result (Writes writer.old writer.new
         (negative_at (place_of at) (number_at (place_of at) size))) }
@@ -111,7 +126,12 @@ fn write_negative(alloc: Global, writer: &mut Writer, at: Place, size: u64) -> R
 }
 
 // Writes what bounds a constant.
-fn write_limit(alloc: Global, writer: &mut Writer, at: Place, limit: Limit) -> Result<(), AllocError>
+fn write_limit(
+    alloc: Global,
+    writer: &mut Writer,
+    at: Place,
+    limit: Limit,
+) -> Result<(), AllocError>
     requires { CanWrite writer.old 8 }
     ensures { OnOk result (Writes writer.old writer.new (limit_at (place_of at) limit)) }
 {

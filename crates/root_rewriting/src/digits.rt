@@ -53,7 +53,10 @@ fn divided(factor: u64, power: u32) -> (u128, u32)
     let front = u128::from(factor) << 64;
     let shift = power - 64;
     let rest = front % 100_000 << shift;
-    ((front / 100_000 << shift) + rest / 100_000, (rest % 100_000) as u32)
+    (
+        (front / 100_000 << shift) + rest / 100_000,
+        (rest % 100_000) as u32,
+    )
 }
 
 /// The digits of a whole number.

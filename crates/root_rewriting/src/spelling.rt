@@ -98,7 +98,12 @@ fn constant_for<'t>(spelling: &Spelling<'t, '_>, at: usize) -> Option<&'t Name>
 }
 
 /// Writes a name.
-pub(crate) fn symbol(alloc: Global, writer: &mut Writer, place: Place, name: &[u8]) -> Result<(), AllocError>
+pub(crate) fn symbol(
+    alloc: Global,
+    writer: &mut Writer,
+    place: Place,
+    name: &[u8],
+) -> Result<(), AllocError>
     ensures { OnOk result (Writes writer.old writer.new
         (sexp.leaf (place_of place) (sexp.symbol name.now))) }
 {
@@ -142,7 +147,12 @@ fn atomic(
 }
 
 /// Begins the group of a name, whose arguments follow.
-pub(crate) fn head(alloc: Global, writer: &mut Writer, place: Place, name: &[u8]) -> Result<(), AllocError>
+pub(crate) fn head(
+    alloc: Global,
+    writer: &mut Writer,
+    place: Place,
+    name: &[u8],
+) -> Result<(), AllocError>
     ensures { OnOk result (Heads writer.old writer.new (place_of place) name.now) }
 {
     writer.open(place)?;

@@ -72,7 +72,13 @@ impl Writing {
             IfErr result (λ e. IsTooLarge e (first_beyond most_tokens 0 (tokens_from all))) }
     {
         let at = self.writer.len();
-        match write_content(alloc, spelling, &mut self.writer, draft.place, draft.content) {
+        match write_content(
+            alloc,
+            spelling,
+            &mut self.writer,
+            draft.place,
+            draft.content,
+        ) {
             Ok(()) => {}
             Err(Stop::TooLong) => return Err(too_long(draft.place)),
             Err(Stop::Memory) => return Err(ReadError::Memory),

@@ -15,9 +15,11 @@ use Rattle.root_rewriting.proofs.rewrite.written.Goals as goal
 pub write_all-requires-clause-named : goal.write_all-requires-clause-named
 write_all-requires-clause-named c =
     let ts = trees_in c.args.asserted.now.trees in
-    let T : Table = map (entry_of ts) c.args.table.now in
-    (T, subst (λ (ns : List (List ℕ)). NameTrees T ts c.args.classes.now c.as_slice.result.now ns) (sym (c.as_slice-2.ensures.value ∙ c.in_ok-names.ensures))
-    (subst (λ (ks : List (Option ℕ)). NameTrees T ts c.args.classes.now ks (map fresh_name c.args.table.now)) (sym c.as_slice.ensures.value) (c.in_ok-numbers.ensures.named ts c.requires.classes)))
+    let T : Table = map (entry_of ts) c.args.table.now in (
+      T,
+      subst (λ (ns : List (List ℕ)). NameTrees T ts c.args.classes.now c.as_slice.result.now ns) (sym (c.as_slice-2.ensures.value ∙ c.in_ok-names.ensures))
+          (subst (λ (ks : List (Option ℕ)). NameTrees T ts c.args.classes.now ks (map fresh_name c.args.table.now)) (sym c.as_slice.ensures.value) (c.in_ok-numbers.ensures.named ts c.requires.classes)),
+    )
 
 pub returns-clause-writes : goal.returns-clause-writes
 returns-clause-writes c = λ ranged claims e are.
