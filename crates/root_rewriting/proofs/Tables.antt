@@ -22,7 +22,8 @@ use Rattle.script_model.specs.Sexp.{Place}
 use Rattle.ival.specs.declared.ends.Ival.{Ival}
 use Rattle.root_trees.proofs.Arena.{nodes_length, tree_got}
 use Rattle.root_rewriting.specs.Found.{AreOwn, IsFound, IsSized, is_own}
-use Rattle.root_rewriting.specs.Table.{AreEnclosed, AreEntriesBelow, entry_of}
+use Rattle.root_ranges.specs.Enclosures.{AreEnclosures}
+use Rattle.root_rewriting.specs.Table.{AreEntriesBelow, entry_of}
 use Rattle.root_rewriting.specs.declared.found.Found.{Found}
 use Rattle.root_rewriting.specs.declared.found.Source.{Source}
 use Rattle.root_rewriting.specs.declared.constants.Fresh.{Fresh}
@@ -115,10 +116,10 @@ pub record NamedSoFar (ts : List Tree) (order : List ℕ) (n r q : ℕ) (table :
 
 pub record OwnSoFar (ns : List Node) (ranges : List Ival) (own : List Bool) : Type 0 where
   pub within : length own ≤ length ns
-  pub are : (names : Ranges) → AreEnclosed names (trees_in ns) ranges → own ≡ map (is_own names) (take (length own) (trees_in ns))
+  pub are : (names : Ranges) → AreEnclosures names (trees_in ns) ranges → own ≡ map (is_own names) (take (length own) (trees_in ns))
 
 pub own_more : (ns : List Node) (ranges : List Ival) (own new : List Bool) (b : Bool) → OwnSoFar ns ranges own → length own < length ns → new ≡ own ++ (b ∷ []) →
-    ((names : Ranges) → AreEnclosed names (trees_in ns) ranges → b ≡ is_own names (tree_at (trees_in ns) (length own))) → OwnSoFar ns ranges new
+    ((names : Ranges) → AreEnclosures names (trees_in ns) ranges → b ≡ is_own names (tree_at (trees_in ns) (length own))) → OwnSoFar ns ranges new
 own_more ns ranges own new b o lt is here = record {
   within = omega (arith, ap length is, length_push own b);
   are = λ names e.
@@ -130,7 +131,7 @@ own_more ns ranges own new b o lt is here = record {
       ap (map (is_own names)) (sym (take-suc ts (length own) d long)) ∙ ap (λ n. map (is_own names) (take n ts)) (sym count);
 }
 
-pub own_all : (ns : List Node) (ranges : List Ival) (own : List Bool) → OwnSoFar ns ranges own → length ns ≤ length own → (names : Ranges) → AreEnclosed names (trees_in ns) ranges → AreOwn names (trees_in ns) own
+pub own_all : (ns : List Node) (ranges : List Ival) (own : List Bool) → OwnSoFar ns ranges own → length ns ≤ length own → (names : Ranges) → AreEnclosures names (trees_in ns) ranges → AreOwn names (trees_in ns) own
 own_all ns ranges own o le names e =
     let ts = trees_in ns in
     let within = o.within in
@@ -142,7 +143,7 @@ own_none ns ranges own e = subst (λ (bs : List Bool). OwnSoFar ns ranges bs) (s
 
 -- ---- the enclosure of a tree
 
-pub enclosed_there : (names : Ranges) (ts : List Tree) (ranges : List Ival) (k : ℕ) (i : Ival) → AreEnclosed names ts ranges → k < length ranges → k < length ts → i ≡ get_or ranges k i →
+pub enclosed_there : (names : Ranges) (ts : List Tree) (ranges : List Ival) (k : ℕ) (i : Ival) → AreEnclosures names ts ranges → k < length ranges → k < length ts → i ≡ get_or ranges k i →
     interval_of i ≡ enclosed names (tree_at ts k)
 enclosed_there names ts ranges k i e lt within h =
     ap interval_of h ∙ sym (get_or-map interval_of ranges k i everything lt) ∙ ap (λ is. get_or is k everything) e ∙

@@ -1,5 +1,17 @@
 pub mod Classes
+pub mod Digits
+pub mod Drafts
 pub mod Found
+pub mod Limits
+pub mod Names
+pub mod Opened
+pub mod Parts
 pub mod Places
+pub mod Placing
+pub mod Plain
+pub mod Rewriting
+pub mod Short
+pub mod Spelling
 pub mod Table
 pub mod Walk
+pub mod Whole

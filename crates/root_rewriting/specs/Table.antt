@@ -1,19 +1,12 @@
 -- The constants that stand for roots and quotients, as the definitions see them.
 use Rattle.std.specs.Prelude.{◌≡◌, ◌<◌, ℕ, List, map}
 use Rattle.std.specs.List.{AllByRecursion}
-use Rattle.ival.specs.Views.{interval_of}
-use Rattle.ival.specs.declared.ends.Ival.{Ival}
 use Rattle.script_roots.specs.Tree.{Tree}
-use Rattle.script_roots.specs.Ranges.{Ranges, enclosed}
 use Rattle.script_roots.specs.Fresh.{quotient_name, root_name}
 use Rattle.root_trees.specs.Nodes.{tree_at}
 use Rattle.root_rewriting.specs.declared.constants.Kind.{Kind}
 use Rattle.root_rewriting.specs.declared.constants.Kind.TheVariants.{Root, Quotient}
 use Rattle.root_rewriting.specs.declared.constants.Fresh.{Fresh}
-
--- these are the enclosures of the trees, one for each
-abbrev pub AreEnclosed : Ranges → List Tree → List Ival → Type 0
-AreEnclosed names ts ranges = map interval_of ranges ≡ map (enclosed names) ts
 
 abbrev pub name_of : Kind → ℕ → List ℕ
 name_of Root k = root_name k

@@ -1,36 +1,35 @@
 // The constants that stand for roots and quotients.
 ghost use Rattle.std.specs.Prelude.{◌≡◌, ◌<◌, ◌+◌, ◌^◌, ◌&&◌, ◌∷◌, [], List, IfOk, length, map, not};
-ghost use Rattle.ival.specs.Views.{interval_of};
-ghost use Rattle.interval_model.specs.Interval.{misses_nought};
+ghost use Rattle.root_rewriting.specs.Classes.{AreClasses};
 ghost use Rattle.root_rewriting.specs.Found.{AreOwn, IsSource, is_own};
-ghost use Rattle.root_rewriting.specs.Table.{AreEnclosed, AreEntriesBelow, entry_of};
+ghost use Rattle.root_ranges.specs.Enclosures.{AreEnclosures};
+ghost use Rattle.root_rewriting.specs.Table.{AreEntriesBelow, entry_of};
 ghost use Rattle.root_trees.specs.Asserted.{AreAsserted};
 ghost use Rattle.root_trees.specs.Nodes.{AreBelow, parts_at, tree_at, trees_in};
 ghost use Rattle.script_roots.specs.Fresh.{Asserted, fresh_of, named_from, once, stands_alone, table_of};
 ghost use Rattle.script_roots.specs.Ranges.{Ranges};
 ghost use Rattle.script_roots.specs.Tree.{Tree};
 
-use crate::classes::classes;
 use crate::found::{Found, Source};
 use crate::walk::walk;
-use dyadic::{Sign, sign_of};
 use ival::Ival;
+use root_ranges::misses_nought;
 use root_trees::{AssertedTrees, Assertion, Facts, Node, Trees};
 use std::alloc::{AllocError, Global};
 
 /// For what a constant stands.
 #[derive(Clone, Copy, Debug, PartialEq, Eq)]
-pub enum Kind {
+pub(crate) enum Kind {
     Root,
     Quotient,
 }
 
 /// A constant that stands for a tree: the tree's place in the arena, and its number among those of its kind.
 #[derive(Clone, Copy, Debug)]
-pub struct Fresh {
-    pub tree: usize,
-    pub kind: Kind,
-    pub number: usize,
+pub(crate) struct Fresh {
+    pub(crate) tree: usize,
+    pub(crate) kind: Kind,
+    pub(crate) number: usize,
 }
 
 // How many constants stand for roots, and how many for quotients.
@@ -38,18 +37,6 @@ pub struct Fresh {
 struct Counts {
     roots: usize,
     quotients: usize,
-}
-
-// Whether 0 lies outside an interval.
-fn misses_nought(interval: Ival) -> bool
-    ensures { result ≡ misses_nought (interval_of interval) }
-{
-    match interval {
-        Ival::Empty => false,
-        Ival::Between(ends) => {
-            sign_of(ends.high) == Sign::Below || sign_of(ends.low) == Sign::Above
-        }
-    }
 }
 
 // Whether dividend and divisor allow that a constant stands for their quotient, but for the divisor's values.
@@ -65,7 +52,7 @@ fn stands_alone(trees: &Trees<'_>, ranges: &[Ival], dividend: usize, divisor: us
     requires all { length ranges.now ≡ length trees.now }
     requires dividend { dividend < length trees.now }
     requires divisor { divisor < length trees.now }
-    ensures { (names : Ranges) → AreEnclosed names (trees_in trees.now) ranges.now →
+    ensures { (names : Ranges) → AreEnclosures names (trees_in trees.now) ranges.now →
         result ≡ stands_alone names (tree_at (trees_in trees.now) dividend)
         (tree_at (trees_in trees.now) divisor) }
 {
@@ -78,7 +65,7 @@ fn stands_alone(trees: &Trees<'_>, ranges: &[Ival], dividend: usize, divisor: us
 fn is_own(trees: &Trees<'_>, ranges: &[Ival], at: usize) -> bool
     requires all { length ranges.now ≡ length trees.now }
     requires at { at < length trees.now }
-    ensures { (names : Ranges) → AreEnclosed names (trees_in trees.now) ranges.now →
+    ensures { (names : Ranges) → AreEnclosures names (trees_in trees.now) ranges.now →
         result ≡ is_own names (tree_at (trees_in trees.now) at) }
 {
     match trees.look(at) {
@@ -92,7 +79,7 @@ fn is_own(trees: &Trees<'_>, ranges: &[Ival], at: usize) -> bool
 fn own(alloc: Global, trees: &Trees<'_>, ranges: &[Ival]) -> Result<Vec<bool>, AllocError>
     requires { length ranges.now ≡ length trees.now }
     ensures all { IfOk result (λ own. length own.items ≡ length trees.now) }
-    ensures own { (names : Ranges) → AreEnclosed names (trees_in trees.now) ranges.now →
+    ensures own { (names : Ranges) → AreEnclosures names (trees_in trees.now) ranges.now →
         IfOk result (λ own. AreOwn names (trees_in trees.now) own.items) }
 {
     let mut own = Vec::new(alloc);
@@ -185,28 +172,30 @@ fn named(alloc: Global, trees: &Trees<'_>, order: &[usize]) -> Result<Vec<Fresh>
 
 /// The constants that stand for the roots and quotients of assertions, each once up to the places in it, in the order in
 /// which they stand, inner ones first; `ranges` are the enclosures of the trees. It fails for want of memory alone.
-pub fn table(
+pub(crate) fn table(
     alloc: Global,
     asserted: &AssertedTrees<'_>,
+    classes: &[usize],
     ranges: &[Ival],
 ) -> Result<Vec<Fresh>, AllocError>
+    requires classes { AreClasses (trees_in asserted.now.trees) classes.now }
+    requires whole { length classes.now ≡ length asserted.now.trees }
     requires all { length ranges.now ≡ length asserted.now.trees }
     requires assertions { (claims : List Asserted) ×
         AreAsserted (trees_in asserted.now.trees) asserted.now.assertions.items claims }
     ensures below { IfOk result (λ table.
         AreEntriesBelow (length asserted.now.trees) table.items) }
     ensures table { (names : Ranges) (claims : List Asserted) →
-        AreEnclosed names (trees_in asserted.now.trees) ranges.now →
+        AreEnclosures names (trees_in asserted.now.trees) ranges.now →
         AreAsserted (trees_in asserted.now.trees) asserted.now.assertions.items claims →
         IfOk result (λ table. map (entry_of (trees_in asserted.now.trees)) table.items ≡
         table_of names claims) }
 {
     let trees = &asserted.trees;
-    let classes = classes(alloc, trees)?;
     let own = own(alloc, trees, ranges)?;
     let source = Source {
         trees,
-        classes: classes.as_slice(),
+        classes,
         own: own.as_slice(),
     };
     let order = order(alloc, &source, asserted.assertions.as_slice())?;

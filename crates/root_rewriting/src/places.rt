@@ -136,7 +136,10 @@ fn first_left_out(
 }
 
 /// Where a script has a root of an `ite`, or a goal with a root or a quotient: the place of the first.
-pub fn left_out(alloc: Global, asserted: &AssertedTrees<'_>) -> Result<Option<Place>, AllocError>
+pub(crate) fn left_out(
+    alloc: Global,
+    asserted: &AssertedTrees<'_>,
+) -> Result<Option<Place>, AllocError>
     requires { (claims : List Asserted) ×
         AreAsserted (trees_in asserted.now.trees) asserted.now.assertions.items claims }
     ensures { (claims : List Asserted) →

@@ -30,8 +30,8 @@ fn push_all(stack: &mut Vec<Work>, parts: &[usize]) -> Result<(), AllocError>
     Ok(())
 }
 
-// Puts a node's parts on the stack, the first on top.
-fn push_parts(stack: &mut Vec<Work>, node: &Node<'_>) -> Result<(), AllocError>
+/// Puts a node's parts on the stack, the first on top.
+pub(crate) fn push_parts(stack: &mut Vec<Work>, node: &Node<'_>) -> Result<(), AllocError>
     ensures { OnOk result (stack.new.items ≡ stack.old.items ++ enters (node_parts node.now)) }
 {
     match node {
