@@ -1,4 +1,4 @@
-use root_trees::*;
+use root_rewriting::*;
 use script_fault::{Place, ReadError};
 use smt_script::{Command, Script, Step, commands};
 use smt_sexp::{Sexps, read};

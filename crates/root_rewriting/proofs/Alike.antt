@@ -6,10 +6,10 @@ use Rattle.std.proofs.lemmas.Cmp.{nat_eq_equiv}
 use Rattle.std.proofs.lemmas.List.{get_or_append_left, get_or_push, length_push}
 use Rattle.script_roots.specs.Tree.{Tree, trees_of}
 use Rattle.script_roots.specs.Fresh.{same_tree, same_trees}
-use Rattle.root_trees.specs.Nodes.{AreBelow, IsBelow, ShowsNode, node_tree, parts_at, tree_at}
-use Rattle.root_trees.specs.declared.trees.Node.{Node}
-use Rattle.root_trees.specs.declared.trees.Node.TheVariants as nodes
-use Rattle.root_trees.proofs.Arena.{tree_got}
+use Rattle.root_rewriting.specs.Nodes.{AreBelow, IsBelow, ShowsNode, node_tree, parts_at, tree_at}
+use Rattle.root_rewriting.specs.declared.unfold.trees.Node.{Node}
+use Rattle.root_rewriting.specs.declared.unfold.trees.Node.TheVariants as nodes
+use Rattle.root_rewriting.proofs.Arena.{tree_got}
 use Rattle.root_rewriting.specs.Classes.{AreClasses}
 use Rattle.root_rewriting.proofs.Same.{same_back, same_itself, same_right}
 

@@ -17,14 +17,14 @@ use Rattle.script_roots.specs.Fresh.{Table}
 use Rattle.script_roots.specs.Rewritten.{assertion, between_ends, claims_of, claims_of_all, is_product, spelled}
 use Rattle.smt_sexp.specs.Views.{place_of}
 use Rattle.script_roots.proofs.Table.{all_join}
-use Rattle.root_trees.specs.Asserted.{AreAsserted}
-use Rattle.root_trees.specs.Nodes.{node_tree, tree_at, trees_in}
-use Rattle.root_trees.specs.declared.assertions.Assertion.{Assertion}
-use Rattle.root_trees.specs.declared.trees.Node.{Node}
-use Rattle.root_trees.specs.declared.trees.Node.TheVariants as nodes
+use Rattle.root_rewriting.specs.Asserted.{AreAsserted}
+use Rattle.root_rewriting.specs.Nodes.{node_tree, tree_at, trees_in}
+use Rattle.root_rewriting.specs.declared.unfold.assertions.Assertion.{Assertion}
+use Rattle.root_rewriting.specs.declared.unfold.trees.Node.{Node}
+use Rattle.root_rewriting.specs.declared.unfold.trees.Node.TheVariants as nodes
 use Rattle.root_rewriting.specs.Drafts.{AreDraftsBelow, IsContentBelow, claim_draft, constant_at, draft_command, draft_of, drafts_of_range, drafts_of_root}
 use Rattle.root_rewriting.specs.Spelling.{fresh_name}
-use Rattle.root_ranges.specs.Enclosures.{AreEnclosures}
+use Rattle.root_rewriting.specs.Enclosures.{AreEnclosures}
 use Rattle.root_rewriting.specs.Table.{AreEntriesBelow, entry_of}
 use Rattle.root_rewriting.specs.declared.constants.Fresh.{Fresh}
 use Rattle.root_rewriting.specs.declared.drafts.Content.TheVariants.{Product}

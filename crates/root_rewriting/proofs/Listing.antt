@@ -8,8 +8,8 @@ use Rattle.script_roots.specs.Tree.{Tree, formless}
 use Rattle.script_roots.specs.Ranges.{Ranges}
 use Rattle.script_roots.specs.Fresh.{fresh_in, has_tree, once, same_tree}
 use Rattle.script_roots.proofs.Table.{all_join}
-use Rattle.root_trees.specs.Nodes.{AreBelow, parts_at, tree_at, trees_in}
-use Rattle.root_trees.proofs.Arena.{nodes_length}
+use Rattle.root_rewriting.specs.Nodes.{AreBelow, parts_at, tree_at, trees_in}
+use Rattle.root_rewriting.proofs.Arena.{nodes_length}
 use Rattle.root_rewriting.specs.Found.{AllHave, AreOwn, IsFound, IsSized, IsSource, is_own, own_in}
 use Rattle.root_rewriting.specs.declared.found.Found.{Found}
 use Rattle.root_rewriting.specs.declared.found.Source.{Source}

@@ -24,10 +24,10 @@ use Rattle.script_roots.specs.Refused.{beyond_unless_empty, left_out_form, most_
 use Rattle.script_roots.specs.Rewritten.{assertion, claims_of_all, declaration, declarations, rewritten, rewritten_by, script_table, unless_empty}
 use Rattle.script_roots.specs.TreeBounds.{declared_ranges}
 use Rattle.smt_sexp.specs.Views.{place_of}
-use Rattle.root_trees.specs.Asserted.{IsAtFirst, IsRefusal}
+use Rattle.root_rewriting.specs.Asserted.{IsAtFirst, IsRefusal}
 use Rattle.root_rewriting.specs.Placing.{InWriting, IsTooLarge, placed_command}
 use Rattle.root_rewriting.specs.Rewriting.{refusal_fault, refused_later}
-use Rattle.root_ranges.specs.Enclosures.{AreEnclosures}
+use Rattle.root_rewriting.specs.Enclosures.{AreEnclosures}
 use Rattle.root_rewriting.specs.Table.{entry_of}
 use Rattle.root_rewriting.specs.declared.constants.Fresh.{Fresh}
 use Rattle.root_rewriting.specs.declared.placed.Placed.{Placed}

@@ -6,7 +6,7 @@ use Rattle.std.proofs.lemmas.Bool.{cases_eq, eq-eqb}
 use Rattle.std.proofs.lemmas.List.{get_or-map, get_or-set_other, get_or-set_same}
 use Rattle.script_roots.specs.Tree.{Tree}
 use Rattle.script_roots.specs.Fresh.{name_for, same_tree}
-use Rattle.root_trees.specs.Nodes.{tree_at}
+use Rattle.root_rewriting.specs.Nodes.{tree_at}
 use Rattle.root_rewriting.specs.Classes.{AreClasses}
 use Rattle.root_rewriting.specs.Spelling.{AreNumbers, NameTrees, fresh_name, name_at}
 use Rattle.root_rewriting.specs.Table.{AreEntriesBelow, entry_of}

@@ -13,7 +13,7 @@ use Rattle.smt_sexp.specs.Views.{place_of}
 use Rattle.smt_sexp.specs.Writing.{Writes, Written, tokens_in}
 use Rattle.smt_sexp.specs.declared.writing.Writer.{Writer}
 use Rattle.script_roots.specs.Fresh.{Table}
-use Rattle.root_trees.specs.Nodes.{trees_in}
+use Rattle.root_rewriting.specs.Nodes.{trees_in}
 use Rattle.root_rewriting.specs.Drafts.{AreDraftsBelow, draft_command}
 use Rattle.root_rewriting.specs.Opened.{CanWrite}
 use Rattle.root_rewriting.specs.Placing.{InWriting, placed_command}

@@ -5,11 +5,11 @@ use Rattle.script_roots.specs.Ranges.{Ranges}
 use Rattle.script_roots.specs.Fresh as model
 use Rattle.script_roots.specs.Fresh.{all_fresh, choice_in_root, choice_in_roots, first_fresh, first_place, fresh_in, fresh_of, fresh_place, left_out_in, left_out_of}
 use Rattle.script_model.specs.Sexp.{Place}
-use Rattle.root_trees.specs.Asserted.{AreAsserted}
-use Rattle.root_trees.specs.Nodes.{AreBelow, IsBelow, node_tree, parts_at, tree_at}
-use Rattle.root_trees.specs.declared.assertions.Assertion.{Assertion}
-use Rattle.root_trees.specs.declared.trees.Node.{Node}
-use Rattle.root_trees.specs.declared.trees.Node.TheVariants as nodes
+use Rattle.root_rewriting.specs.Asserted.{AreAsserted}
+use Rattle.root_rewriting.specs.Nodes.{AreBelow, IsBelow, node_tree, parts_at, tree_at}
+use Rattle.root_rewriting.specs.declared.unfold.assertions.Assertion.{Assertion}
+use Rattle.root_rewriting.specs.declared.unfold.trees.Node.{Node}
+use Rattle.root_rewriting.specs.declared.unfold.trees.Node.TheVariants as nodes
 use Rattle.root_rewriting.specs.Plain.{IsPlain, is_fresh}
 use Rattle.root_rewriting.proofs.Tables.{tree_there, tree_within}
 

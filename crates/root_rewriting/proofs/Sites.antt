@@ -7,14 +7,14 @@ use Rattle.script_model.specs.Sexp.{Place}
 use Rattle.script_roots.specs.Tree.{Tree, trees_of}
 use Rattle.script_roots.specs.Fresh as model
 use Rattle.script_roots.specs.Fresh.{choice_in_root, choice_in_roots, first_fresh, first_place, fresh_place, left_out_in, left_out_of}
-use Rattle.root_trees.specs.Asserted.{AreAsserted, IsAsserted}
-use Rattle.root_trees.specs.Nodes.{AreBelow, node_tree, parts_at, tree_at}
+use Rattle.root_rewriting.specs.Asserted.{AreAsserted, IsAsserted}
+use Rattle.root_rewriting.specs.Nodes.{AreBelow, node_tree, parts_at, tree_at}
 use Rattle.std.specs.Prelude.{Vec}
 use Rattle.std.specs.Borrow.{Bor}
 use Rattle.std.specs.Global.{Global}
-use Rattle.root_trees.specs.declared.trees.Node.{Node}
-use Rattle.root_trees.specs.declared.trees.Node.TheVariants as nodes
-use Rattle.root_trees.specs.declared.assertions.Assertion.{Assertion}
+use Rattle.root_rewriting.specs.declared.unfold.trees.Node.{Node}
+use Rattle.root_rewriting.specs.declared.unfold.trees.Node.TheVariants as nodes
+use Rattle.root_rewriting.specs.declared.unfold.assertions.Assertion.{Assertion}
 use Rattle.root_rewriting.specs.Places.{ArePlaces, first_in, place_at, seen_place}
 use Rattle.root_rewriting.proofs.Tables.{Begins, begins, none_begins, tree_there, tree_within}
 

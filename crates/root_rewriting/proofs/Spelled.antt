@@ -11,9 +11,9 @@ use Rattle.smt_sexp.specs.Building.{flat, flats, group_of}
 use Rattle.smt_sexp.specs.Lexicon.{Unclosed, backwards, put}
 use Rattle.smt_sexp.specs.Writing.{HasOpen, Shuts, Written, Writes, tokens_in}
 use Rattle.smt_sexp.specs.declared.writing.Writer.{Writer}
-use Rattle.root_trees.specs.Nodes.{node_tree, parts_at, tree_at, trees_in}
-use Rattle.root_trees.specs.declared.trees.Node.{Node}
-use Rattle.root_trees.specs.declared.trees.Node.TheVariants as nodes
+use Rattle.root_rewriting.specs.Nodes.{node_tree, parts_at, tree_at, trees_in}
+use Rattle.root_rewriting.specs.declared.unfold.trees.Node.{Node}
+use Rattle.root_rewriting.specs.declared.unfold.trees.Node.TheVariants as nodes
 use Rattle.root_rewriting.specs.Spelling.{AreNamed, BeginsGroup, CanSpell, IsWriting, Spells, closings, parts_of, tokens_left, written_after, written_by}
 use Rattle.root_rewriting.specs.Walk.{AreWorks, enters, node_parts}
 use Rattle.root_rewriting.specs.declared.spelling.Spelling.{Spelling}

@@ -7,9 +7,9 @@ use Rattle.script_roots.specs.Tree.{Tree, atomic, applied, root, quotient, forml
 use Rattle.script_roots.proofs.Table.{all_join, all_split, all_weaken}
 use Rattle.script_roots.specs.Ranges.{Ranges}
 use Rattle.script_roots.specs.Fresh.{fresh_in, all_fresh, once}
-use Rattle.root_trees.specs.Nodes.{AreBelow, IsBelow, node_tree, parts_at, tree_at, trees_in}
-use Rattle.root_trees.specs.declared.trees.Node.{Node}
-use Rattle.root_trees.specs.declared.trees.Node.TheVariants as nodes
+use Rattle.root_rewriting.specs.Nodes.{AreBelow, IsBelow, node_tree, parts_at, tree_at, trees_in}
+use Rattle.root_rewriting.specs.declared.unfold.trees.Node.{Node}
+use Rattle.root_rewriting.specs.declared.unfold.trees.Node.TheVariants as nodes
 use Rattle.root_rewriting.specs.Found.{AllHave, AreOwn, IsFound, IsSized, inner_in, own_in}
 use Rattle.root_rewriting.specs.Walk.{AllCanBeDone, AreWorks, CanBeDone, Walks, enters, found_after, found_by, node_parts, place_in, steps_in, steps_in_all, weight, work_weight}
 use Rattle.root_rewriting.specs.declared.walk.Work.{Work}

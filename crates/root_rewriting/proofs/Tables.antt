@@ -9,20 +9,20 @@ use Rattle.script_roots.specs.Ranges.{Ranges, enclosed}
 use Rattle.script_roots.specs.Fresh as model
 use Rattle.script_roots.specs.Fresh.{fresh_in, fresh_of, named_from, once, quotient_name, root_name, stands_alone}
 use Rattle.script_roots.proofs.Table.{all_join}
-use Rattle.root_trees.specs.Asserted.{AreAsserted, IsAsserted}
-use Rattle.root_trees.specs.Nodes.{AreFacts, node_tree, parts_at, tree_at, trees_in}
-use Rattle.root_trees.specs.declared.assertions.Assertion as code
-use Rattle.root_trees.specs.declared.trees.Facts.{Facts}
-use Rattle.root_trees.specs.declared.trees.Node.{Node}
-use Rattle.root_trees.specs.declared.trees.Node.TheVariants as nodes
+use Rattle.root_rewriting.specs.Asserted.{AreAsserted, IsAsserted}
+use Rattle.root_rewriting.specs.Nodes.{AreFacts, node_tree, parts_at, tree_at, trees_in}
+use Rattle.root_rewriting.specs.declared.unfold.assertions.Assertion as code
+use Rattle.root_rewriting.specs.declared.unfold.trees.Facts.{Facts}
+use Rattle.root_rewriting.specs.declared.unfold.trees.Node.{Node}
+use Rattle.root_rewriting.specs.declared.unfold.trees.Node.TheVariants as nodes
 use Rattle.interval_model.specs.Interval.{everything, misses_nought}
 use Rattle.ival.specs.Views.{interval_of}
 use Rattle.script_fault.specs.declared.place.Place as code_place
 use Rattle.script_model.specs.Sexp.{Place}
 use Rattle.ival.specs.declared.ends.Ival.{Ival}
-use Rattle.root_trees.proofs.Arena.{nodes_length, tree_got}
+use Rattle.root_rewriting.proofs.Arena.{nodes_length, tree_got}
 use Rattle.root_rewriting.specs.Found.{AreOwn, IsFound, IsSized, is_own}
-use Rattle.root_ranges.specs.Enclosures.{AreEnclosures}
+use Rattle.root_rewriting.specs.Enclosures.{AreEnclosures}
 use Rattle.root_rewriting.specs.Table.{AreEntriesBelow, entry_of}
 use Rattle.root_rewriting.specs.declared.found.Found.{Found}
 use Rattle.root_rewriting.specs.declared.found.Source.{Source}

@@ -2,7 +2,7 @@
 use Rattle.std.specs.Prelude.{◌≡◌, ◌<◌, ◌≤◌, ℕ, List, length, nat_eq, slice_index}
 use Rattle.script_roots.specs.Tree.{Tree}
 use Rattle.script_roots.specs.Fresh.{same_tree}
-use Rattle.root_trees.specs.Nodes.{tree_at}
+use Rattle.root_rewriting.specs.Nodes.{tree_at}
 
 -- of the first trees
 pub record AreClasses (ts : List Tree) (cs : List ℕ) : Type 0 where

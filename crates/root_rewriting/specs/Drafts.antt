@@ -7,12 +7,12 @@ use Rattle.script_roots.specs.Fresh.{Table}
 use Rattle.script_roots.specs.Rewritten.{spelled, two_of}
 use Rattle.script_roots.specs.Tree.{Tree}
 use Rattle.smt_sexp.specs.Views.{place_of}
-use Rattle.root_trees.specs.Nodes.{tree_at}
+use Rattle.root_rewriting.specs.Nodes.{tree_at}
 use Rattle.ival.specs.declared.ends.Ends.{Ends}
 use Rattle.ival.specs.declared.ends.Ival.{Ival}
 use Rattle.ival.specs.declared.ends.Ival.TheVariants.{Empty, Between}
 use Rattle.script_fault.specs.declared.place.Place as code
-use Rattle.root_trees.specs.declared.assertions.Assertion.{Assertion}
+use Rattle.root_rewriting.specs.declared.unfold.assertions.Assertion.{Assertion}
 use Rattle.root_rewriting.specs.Limits.{limit_at}
 use Rattle.root_rewriting.specs.Opened.{symbol_at}
 use Rattle.root_rewriting.specs.declared.claims.Limit.TheVariants.{Whole, Low, High}

@@ -4,7 +4,7 @@ use Rattle.std.specs.List.{AllByRecursion}
 use Rattle.script_roots.specs.Tree.{Tree, atomic, applied, root, quotient, formless}
 use Rattle.script_roots.specs.Ranges.{Ranges}
 use Rattle.script_roots.specs.Fresh.{stands_alone, fresh_in, all_fresh, has_tree}
-use Rattle.root_trees.specs.Nodes.{AreBelow, parts_at, tree_at, trees_in}
+use Rattle.root_rewriting.specs.Nodes.{AreBelow, parts_at, tree_at, trees_in}
 use Rattle.root_rewriting.specs.Classes.{AreClasses}
 use Rattle.root_rewriting.specs.declared.found.Found.{Found}
 use Rattle.root_rewriting.specs.declared.found.Source.{Source}

@@ -5,7 +5,7 @@ use Rattle.script_model.specs.Sexp.{Place}
 use Rattle.script_roots.specs.Tree.{Tree}
 use Rattle.script_roots.specs.Fresh.{first_place}
 use Rattle.smt_sexp.specs.Views.{place_of}
-use Rattle.root_trees.specs.Nodes.{tree_at}
+use Rattle.root_rewriting.specs.Nodes.{tree_at}
 
 abbrev pub seen_place : Option code.Place → Option Place
 seen_place p = option_map place_of p

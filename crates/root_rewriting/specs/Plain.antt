@@ -3,8 +3,8 @@ use Rattle.std.specs.Prelude.{◌≡◌, List, [], Bool, true, false, Option, No
 use Rattle.script_roots.specs.Fresh.{choice_in_root, fresh_in, fresh_place}
 use Rattle.script_roots.specs.Ranges.{Ranges}
 use Rattle.script_roots.specs.Tree.{Tree}
-use Rattle.root_trees.specs.declared.trees.Node.{Node}
-use Rattle.root_trees.specs.declared.trees.Node.TheVariants as nodes
+use Rattle.root_rewriting.specs.declared.unfold.trees.Node.{Node}
+use Rattle.root_rewriting.specs.declared.unfold.trees.Node.TheVariants as nodes
 
 abbrev pub is_fresh : Node → Bool
 is_fresh (nodes.Root at k) = true

@@ -9,7 +9,7 @@ use Rattle.smt_sexp.specs.Building.{group_of}
 use Rattle.smt_sexp.specs.Lexicon.{Unclosed, put}
 use Rattle.smt_sexp.specs.Writing.{Written, Writes, tokens_in}
 use Rattle.smt_sexp.specs.declared.writing.Writer.{Writer}
-use Rattle.root_trees.specs.Nodes.{tree_at, trees_in}
+use Rattle.root_rewriting.specs.Nodes.{tree_at, trees_in}
 use Rattle.root_rewriting.specs.Classes.{AreClasses}
 use Rattle.root_rewriting.specs.Table.{name_of}
 use Rattle.root_rewriting.specs.declared.constants.Fresh as code

@@ -3,7 +3,7 @@ use Rattle.std.specs.Prelude.{◌≡◌, ◌<◌, ℕ, List, map}
 use Rattle.std.specs.List.{AllByRecursion}
 use Rattle.script_roots.specs.Tree.{Tree}
 use Rattle.script_roots.specs.Fresh.{quotient_name, root_name}
-use Rattle.root_trees.specs.Nodes.{tree_at}
+use Rattle.root_rewriting.specs.Nodes.{tree_at}
 use Rattle.root_rewriting.specs.declared.constants.Kind.{Kind}
 use Rattle.root_rewriting.specs.declared.constants.Kind.TheVariants.{Root, Quotient}
 use Rattle.root_rewriting.specs.declared.constants.Fresh.{Fresh}

@@ -4,9 +4,9 @@ use Rattle.std.specs.List.{AllByRecursion}
 use Rattle.script_roots.specs.Tree.{Tree, atomic, applied, root, quotient, formless, Trees, no_trees, more_trees}
 use Rattle.script_roots.specs.Ranges.{Ranges}
 use Rattle.script_roots.specs.Fresh.{fresh_in, once}
-use Rattle.root_trees.specs.Nodes.{tree_at, trees_in}
-use Rattle.root_trees.specs.declared.trees.Node.{Node}
-use Rattle.root_trees.specs.declared.trees.Node.TheVariants as nodes
+use Rattle.root_rewriting.specs.Nodes.{tree_at, trees_in}
+use Rattle.root_rewriting.specs.declared.unfold.trees.Node.{Node}
+use Rattle.root_rewriting.specs.declared.unfold.trees.Node.TheVariants as nodes
 use Rattle.root_rewriting.specs.Found.{AllHave, IsFound, inner_in, own_in}
 use Rattle.root_rewriting.specs.declared.found.Found.{Found}
 use Rattle.root_rewriting.specs.declared.found.Source.{Source}

@@ -1,11 +1,11 @@
 // Which trees of an arena are the same.
 ghost use Rattle.std.specs.Prelude.{◌≡◌, ◌<◌, ◌≤◌, ℕ, IfOk, MatchOption, false, length, nat_eq, slice_index, true};
 ghost use Rattle.root_rewriting.specs.Classes.{AreClasses};
-ghost use Rattle.root_trees.specs.Nodes.{AreBelow, IsBelow, atom_of, node_tree, parts_at, tree_at, trees_in};
+ghost use Rattle.root_rewriting.specs.Nodes.{AreBelow, IsBelow, atom_of, node_tree, parts_at, tree_at, trees_in};
 ghost use Rattle.script_roots.specs.Fresh.{same_leaf, same_tree, same_trees};
 ghost use Rattle.script_roots.specs.Tree.{trees_of};
 
-use root_trees::{Atom, Node, Trees};
+use crate::unfold::{Atom, Node, Trees};
 use std::alloc::{AllocError, Global};
 
 // Whether two trees without parts are the same.

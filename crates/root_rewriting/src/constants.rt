@@ -2,10 +2,10 @@
 ghost use Rattle.std.specs.Prelude.{◌≡◌, ◌<◌, ◌+◌, ◌^◌, ◌&&◌, ◌∷◌, [], List, IfOk, length, map, not};
 ghost use Rattle.root_rewriting.specs.Classes.{AreClasses};
 ghost use Rattle.root_rewriting.specs.Found.{AreOwn, IsSource, is_own};
-ghost use Rattle.root_ranges.specs.Enclosures.{AreEnclosures};
+ghost use Rattle.root_rewriting.specs.Enclosures.{AreEnclosures};
 ghost use Rattle.root_rewriting.specs.Table.{AreEntriesBelow, entry_of};
-ghost use Rattle.root_trees.specs.Asserted.{AreAsserted};
-ghost use Rattle.root_trees.specs.Nodes.{AreBelow, parts_at, tree_at, trees_in};
+ghost use Rattle.root_rewriting.specs.Asserted.{AreAsserted};
+ghost use Rattle.root_rewriting.specs.Nodes.{AreBelow, parts_at, tree_at, trees_in};
 ghost use Rattle.script_roots.specs.Fresh.{Asserted, fresh_of, named_from, once, stands_alone, table_of};
 ghost use Rattle.script_roots.specs.Ranges.{Ranges};
 ghost use Rattle.script_roots.specs.Tree.{Tree};
@@ -13,8 +13,8 @@ ghost use Rattle.script_roots.specs.Tree.{Tree};
 use crate::found::{Found, Source};
 use crate::walk::walk;
 use ival::Ival;
-use root_ranges::misses_nought;
-use root_trees::{AssertedTrees, Assertion, Facts, Node, Trees};
+use crate::range::misses_nought;
+use crate::unfold::{AssertedTrees, Assertion, Facts, Node, Trees};
 use std::alloc::{AllocError, Global};
 
 /// For what a constant stands.

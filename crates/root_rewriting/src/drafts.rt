@@ -3,10 +3,10 @@ ghost use Rattle.std.specs.Prelude.{◌≡◌, ◌++◌, ◌<◌, [], List, ℕ,
 ghost use Rattle.ival.specs.Views.{interval_of};
 ghost use Rattle.root_rewriting.specs.Drafts.{AreDraftsBelow, draft_command, draft_of, drafts_of_ends, drafts_of_range, drafts_of_root};
 ghost use Rattle.root_rewriting.specs.Spelling.{fresh_name};
-ghost use Rattle.root_ranges.specs.Enclosures.{AreEnclosures};
+ghost use Rattle.root_rewriting.specs.Enclosures.{AreEnclosures};
 ghost use Rattle.root_rewriting.specs.Table.{AreEntriesBelow, entry_of};
-ghost use Rattle.root_trees.specs.Asserted.{AreAsserted};
-ghost use Rattle.root_trees.specs.Nodes.{tree_at, trees_in};
+ghost use Rattle.root_rewriting.specs.Asserted.{AreAsserted};
+ghost use Rattle.root_rewriting.specs.Nodes.{tree_at, trees_in};
 ghost use Rattle.script_roots.specs.Fresh.{Asserted, Table};
 ghost use Rattle.script_roots.specs.Ranges.{Ranges, root_bound};
 ghost use Rattle.script_roots.specs.Rewritten.{assertion, claims_of, claims_of_all};
@@ -14,8 +14,8 @@ ghost use Rattle.script_roots.specs.Rewritten.{assertion, claims_of, claims_of_a
 use crate::claims::Limit;
 use crate::constants::Fresh;
 use ival::{Ends, Ival};
-use root_ranges::{quotient_range, root_bound};
-use root_trees::{AssertedTrees, Assertion, Node, Trees};
+use crate::range::{quotient_range, root_bound};
+use crate::unfold::{AssertedTrees, Assertion, Node, Trees};
 use script_fault::Place;
 use std::alloc::{AllocError, Global};
 

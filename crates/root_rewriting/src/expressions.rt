@@ -4,7 +4,7 @@ ghost use Rattle.root_rewriting.specs.Drafts.{IsContentBelow, constant_at, expre
 ghost use Rattle.root_rewriting.specs.Limits.{limit_at};
 ghost use Rattle.root_rewriting.specs.Opened.{CanWrite, symbol_at};
 ghost use Rattle.root_rewriting.specs.Spelling.{AreNamed, IsSpelling, Stops};
-ghost use Rattle.root_trees.specs.Nodes.{tree_at, trees_in};
+ghost use Rattle.root_rewriting.specs.Nodes.{tree_at, trees_in};
 ghost use Rattle.script_roots.specs.Fresh.{Table};
 ghost use Rattle.script_roots.specs.Refused.{most_tokens, tokens_of};
 ghost use Rattle.script_roots.specs.Rewritten.{spelled, two_of};

@@ -1,12 +1,12 @@
 // Roots and quotients that become constants, each once.
 ghost use Rattle.std.specs.Prelude.{◌<◌, List, [], IfOk, OnOk, length};
 ghost use Rattle.root_rewriting.specs.Found.{AllHave, AreOwn, IsFound, IsSized, IsSource, inner_in, own_in};
-ghost use Rattle.root_trees.specs.Nodes.{tree_at, trees_in};
+ghost use Rattle.root_rewriting.specs.Nodes.{tree_at, trees_in};
 ghost use Rattle.script_roots.specs.Fresh.{once};
 ghost use Rattle.script_roots.specs.Ranges.{Ranges};
 ghost use Rattle.script_roots.specs.Tree.{Tree};
 
-use root_trees::Trees;
+use crate::unfold::Trees;
 use std::alloc::{AllocError, Global};
 
 /// Trees, with the class of each, and whether a constant is to stand for it.

@@ -4,6 +4,8 @@
 //! of an `ite`, or a root or a quotient in a goal. Scripts without roots and quotients are left as they are.
 #![tactic(auto)]
 
+mod range;
+mod unfold;
 mod claims;
 mod classes;
 mod constants;

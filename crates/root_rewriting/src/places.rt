@@ -1,11 +1,11 @@
 // Where a script has what is left out: a root over an `ite`, or a root or a quotient in a goal.
 ghost use Rattle.std.specs.Prelude.{◌≡◌, ◌<◌, List, IfOk, cond, length, map, slice_index_or};
 ghost use Rattle.root_rewriting.specs.Places.{ArePlaces, first_in, place_at, seen_place};
-ghost use Rattle.root_trees.specs.Asserted.{AreAsserted};
-ghost use Rattle.root_trees.specs.Nodes.{AreBelow, tree_at, trees_in};
+ghost use Rattle.root_rewriting.specs.Asserted.{AreAsserted};
+ghost use Rattle.root_rewriting.specs.Nodes.{AreBelow, tree_at, trees_in};
 ghost use Rattle.script_roots.specs.Fresh.{Asserted, choice_in_root, fresh_place, left_out_of};
 
-use root_trees::{AssertedTrees, Assertion, Node, Trees};
+use crate::unfold::{AssertedTrees, Assertion, Node, Trees};
 use script_fault::Place;
 use std::alloc::{AllocError, Global};
 

@@ -1,9 +1,9 @@
 // Whether a script has a root or a quotient at all.
 ghost use Rattle.std.specs.Prelude.{◌≡◌, ◌<◌, ℕ, false, length};
 ghost use Rattle.root_rewriting.specs.Plain.{IsPlain, is_fresh};
-ghost use Rattle.root_trees.specs.Nodes.{tree_at, trees_in};
+ghost use Rattle.root_rewriting.specs.Nodes.{tree_at, trees_in};
 
-use root_trees::{Node, Trees};
+use crate::unfold::{Node, Trees};
 
 // Whether a node is a root or a quotient.
 fn is_fresh(node: &Node<'_>) -> bool

@@ -8,7 +8,7 @@ ghost use Rattle.script_roots.specs.Tree.{Tree};
 ghost use Rattle.smt_sexp.specs.Lexicon.{Unclosed};
 ghost use Rattle.smt_sexp.specs.Views.{place_of};
 ghost use Rattle.smt_sexp.specs.Writing.{Writes, tokens_in};
-ghost use Rattle.root_trees.specs.Nodes.{atom_of, tree_at, trees_in};
+ghost use Rattle.root_rewriting.specs.Nodes.{atom_of, tree_at, trees_in};
 ghost use Rattle.root_rewriting.specs.Classes.{AreClasses};
 ghost use Rattle.root_rewriting.specs.Spelling.{AreNamed, AreNumbers, Begins, CanSpell, Heads, IsSpelling, IsWriting, NameTrees, Spells, Stops, fresh_name};
 ghost use Rattle.root_rewriting.specs.Table.{AreEntriesBelow, entry_of};
@@ -17,7 +17,7 @@ ghost use Rattle.root_rewriting.specs.declared.spelling.Stop.TheVariants.{Memory
 
 use crate::constants::Fresh;
 use crate::walk::{Work, push_parts};
-use root_trees::{Atom, Node, Trees};
+use crate::unfold::{Atom, Node, Trees};
 use script_fault::{Name, Place};
 use smt_sexp::{Leaf, Writer};
 use std::alloc::{AllocError, AllocFailed, Global};

@@ -2,13 +2,13 @@
 ghost use Rattle.std.specs.Prelude.{◌≡◌, ◌<◌, ◌++◌, ◌∷◌, [], List, OnOk, length};
 ghost use Rattle.root_rewriting.specs.Found.{AreOwn, IsFound, IsSized, IsSource};
 ghost use Rattle.root_rewriting.specs.Walk.{AreWorks, Walks, enters, node_parts, weight};
-ghost use Rattle.root_trees.specs.Nodes.{tree_at, trees_in};
+ghost use Rattle.root_rewriting.specs.Nodes.{tree_at, trees_in};
 ghost use Rattle.script_roots.specs.Fresh.{fresh_in, once};
 ghost use Rattle.script_roots.specs.Ranges.{Ranges};
 ghost use Rattle.script_roots.specs.Tree.{Tree};
 
 use crate::found::{Found, Source};
-use root_trees::Node;
+use crate::unfold::Node;
 use std::alloc::{AllocError, Global};
 
 /// What is to be done with a tree: to go through it, or to go on behind it.

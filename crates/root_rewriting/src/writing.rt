@@ -4,7 +4,7 @@ ghost use Rattle.root_rewriting.specs.Drafts.{AreDraftsBelow, IsContentBelow, dr
 ghost use Rattle.root_rewriting.specs.Opened.{CanWrite};
 ghost use Rattle.root_rewriting.specs.Placing.{InWriting, IsTooLarge};
 ghost use Rattle.root_rewriting.specs.Spelling.{AreNamed, IsSpelling};
-ghost use Rattle.root_trees.specs.Nodes.{trees_in};
+ghost use Rattle.root_rewriting.specs.Nodes.{trees_in};
 ghost use Rattle.script_model.specs.Script as script;
 ghost use Rattle.script_roots.specs.Fresh.{Table};
 ghost use Rattle.script_roots.specs.Refused.{most_tokens, tokens_from};

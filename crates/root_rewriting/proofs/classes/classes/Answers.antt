@@ -1,6 +1,6 @@
 use Rattle.std.proofs.Common.{List, ℕ, length, sym, ap, subst, arith}
-use Rattle.root_trees.specs.Nodes.{trees_in}
-use Rattle.root_trees.proofs.Arena.{nodes_length}
+use Rattle.root_rewriting.specs.Nodes.{trees_in}
+use Rattle.root_rewriting.proofs.Arena.{nodes_length}
 use Rattle.root_rewriting.specs.Classes.{AreClasses}
 use Rattle.root_rewriting.proofs.Alike.{classes_none, classes_pushed}
 use Rattle.root_rewriting.proofs.classes.classes.Goals as goal

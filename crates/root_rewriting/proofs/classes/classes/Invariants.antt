@@ -1,5 +1,5 @@
 use Rattle.std.proofs.Common.{◌-◌, length}
-use Rattle.root_trees.specs.Nodes.{trees_in}
+use Rattle.root_rewriting.specs.Nodes.{trees_in}
 use Rattle.root_rewriting.specs.Classes.{AreClasses}
 use Rattle.root_rewriting.proofs.classes.classes.Given as goal
 

@@ -1,6 +1,6 @@
 use Rattle.std.proofs.Common.{◌∙◌, length, sym, ap, arith, below_more}
 use Rattle.script_roots.specs.Fresh.{same_tree}
-use Rattle.root_trees.specs.Nodes.{node_tree, trees_in}
+use Rattle.root_rewriting.specs.Nodes.{node_tree, trees_in}
 use Rattle.root_rewriting.proofs.Alike.{node_more, shown}
 use Rattle.root_rewriting.proofs.classes.earlier.Goals as goal
 

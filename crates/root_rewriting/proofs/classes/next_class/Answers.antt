@@ -1,6 +1,6 @@
 use Rattle.std.proofs.Common.{◌<◌, ◌∙◌, length, ap, arith}
 use Rattle.script_roots.specs.Fresh.{same_tree}
-use Rattle.root_trees.specs.Nodes.{tree_at, trees_in}
+use Rattle.root_rewriting.specs.Nodes.{tree_at, trees_in}
 use Rattle.root_rewriting.proofs.Alike.{class_found, class_new, shown}
 use Rattle.root_rewriting.proofs.classes.next_class.Goals as goal
 

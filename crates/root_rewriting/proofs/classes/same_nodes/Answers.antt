@@ -1,8 +1,8 @@
 use Rattle.std.proofs.Common.{◌≡◌, ◌<◌, ◌∙◌, List, ℕ, true, ◌&&◌, bytes_eq, length, get_or, sym, ap, ap₂, subst}
 use Rattle.script_roots.specs.Tree.{trees_of}
 use Rattle.script_roots.specs.Fresh.{same_tree, same_trees}
-use Rattle.root_trees.specs.Nodes.{AreBelow, IsBelow, node_tree, parts_at, tree_at, trees_in}
-use Rattle.root_trees.specs.declared.trees.Node.{Node}
+use Rattle.root_rewriting.specs.Nodes.{AreBelow, IsBelow, node_tree, parts_at, tree_at, trees_in}
+use Rattle.root_rewriting.specs.declared.unfold.trees.Node.{Node}
 use Rattle.root_rewriting.proofs.Alike.{class_differs, class_same, unequal}
 use Rattle.root_rewriting.proofs.classes.same_nodes.Goals as goal
 

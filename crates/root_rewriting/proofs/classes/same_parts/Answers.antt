@@ -1,5 +1,5 @@
 use Rattle.std.proofs.Common.{length, sym, arith, below_more}
-use Rattle.root_trees.specs.Nodes.{trees_in}
+use Rattle.root_rewriting.specs.Nodes.{trees_in}
 use Rattle.root_rewriting.proofs.Alike.{all_equal, lengths_differ, one_differs, part_within}
 use Rattle.root_rewriting.proofs.classes.same_parts.Goals as goal
 

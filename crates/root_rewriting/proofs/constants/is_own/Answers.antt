@@ -1,6 +1,6 @@
 use Rattle.std.proofs.Common.{◌<◌, ◌∙◌, ap, subst, sym, arith}
-use Rattle.root_trees.specs.Nodes.{IsBelow, node_tree, trees_in}
-use Rattle.root_trees.specs.declared.trees.Node.{Node}
+use Rattle.root_rewriting.specs.Nodes.{IsBelow, node_tree, trees_in}
+use Rattle.root_rewriting.specs.declared.unfold.trees.Node.{Node}
 use Rattle.root_rewriting.specs.Found.{is_own}
 use Rattle.root_rewriting.proofs.Alike.{shown}
 use Rattle.root_rewriting.proofs.Tables.{not_own}

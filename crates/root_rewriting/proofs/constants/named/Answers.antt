@@ -1,7 +1,7 @@
 use Rattle.std.proofs.Common.{List, length, subst, sym, refl, arith}
 use Rattle.script_roots.specs.Fresh.{named_from}
-use Rattle.root_trees.specs.Nodes.{parts_at, trees_in}
-use Rattle.root_trees.proofs.Arena.{nodes_length}
+use Rattle.root_rewriting.specs.Nodes.{parts_at, trees_in}
+use Rattle.root_rewriting.proofs.Arena.{nodes_length}
 use Rattle.root_rewriting.specs.Table.{AreEntriesBelow}
 use Rattle.root_rewriting.specs.declared.constants.Fresh.{Fresh}
 use Rattle.root_rewriting.proofs.Alike.{part_within}

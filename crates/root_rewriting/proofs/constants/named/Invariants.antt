@@ -1,4 +1,4 @@
-use Rattle.root_trees.specs.Nodes.{trees_in}
+use Rattle.root_rewriting.specs.Nodes.{trees_in}
 use Rattle.root_rewriting.proofs.Tables.{NamedSoFar}
 use Rattle.root_rewriting.proofs.constants.named.Given as goal
 

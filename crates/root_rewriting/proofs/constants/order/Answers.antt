@@ -1,9 +1,9 @@
 use Rattle.std.proofs.Common.{◌≡◌, ◌-◌, ◌∷◌, [], List, false, length, get_or, take, drop, refl, subst, arith}
-use Rattle.root_trees.specs.Asserted.{AreAsserted}
-use Rattle.root_trees.specs.Nodes.{trees_in}
-use Rattle.root_trees.specs.declared.assertions.Assertion.{Assertion}
-use Rattle.root_trees.proofs.Arena.{nodes_length}
-use Rattle.root_trees.proofs.Lists.{none_left}
+use Rattle.root_rewriting.specs.Asserted.{AreAsserted}
+use Rattle.root_rewriting.specs.Nodes.{trees_in}
+use Rattle.root_rewriting.specs.declared.unfold.assertions.Assertion.{Assertion}
+use Rattle.root_rewriting.proofs.Arena.{nodes_length}
+use Rattle.root_rewriting.proofs.TreeLists.{none_left}
 use Rattle.root_rewriting.proofs.Listing.{first_there}
 use Rattle.root_rewriting.proofs.Tables.{begins, orders_end, orders_next, tree_within}
 use Rattle.root_rewriting.proofs.constants.order.Goals as goal

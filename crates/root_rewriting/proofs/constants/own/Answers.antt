@@ -1,5 +1,5 @@
 use Rattle.std.proofs.Common.{◌≡◌, ◌∙◌, length, ap, arith}
-use Rattle.root_trees.specs.Nodes.{tree_at, trees_in}
+use Rattle.root_rewriting.specs.Nodes.{tree_at, trees_in}
 use Rattle.root_rewriting.specs.Found.{is_own}
 use Rattle.root_rewriting.proofs.Tables.{own_all, own_more, own_none}
 use Rattle.root_rewriting.proofs.constants.own.Goals as goal

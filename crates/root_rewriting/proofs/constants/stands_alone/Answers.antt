@@ -2,8 +2,8 @@ use Rattle.std.proofs.Common.{◌≡◌, ◌∙◌, ◌&&◌, refl, sym, ap, ari
 use Rattle.interval_model.specs.Interval.{misses_nought}
 use Rattle.ival.specs.Views.{interval_of}
 use Rattle.script_roots.specs.Ranges.{enclosed}
-use Rattle.root_trees.specs.Nodes.{tree_at, trees_in}
-use Rattle.root_trees.proofs.Arena.{nodes_length}
+use Rattle.root_rewriting.specs.Nodes.{tree_at, trees_in}
+use Rattle.root_rewriting.proofs.Arena.{nodes_length}
 use Rattle.root_rewriting.proofs.Tables.{alone_is, enclosed_there}
 use Rattle.root_rewriting.proofs.constants.stands_alone.Goals as goal
 

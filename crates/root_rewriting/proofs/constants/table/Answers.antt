@@ -1,8 +1,8 @@
 use Rattle.std.proofs.Common.{◌≡◌, ◌∙◌, List, ℕ, [], map, length, ap, subst, sym}
 use Rattle.script_roots.specs.Fresh.{fresh_of, named_from, once}
-use Rattle.root_trees.specs.Nodes.{AreBelow, parts_at, trees_in}
-use Rattle.root_trees.specs.Asserted.{AreAsserted}
-use Rattle.root_trees.specs.declared.assertions.Assertion.{Assertion}
+use Rattle.root_rewriting.specs.Nodes.{AreBelow, parts_at, trees_in}
+use Rattle.root_rewriting.specs.Asserted.{AreAsserted}
+use Rattle.root_rewriting.specs.declared.unfold.assertions.Assertion.{Assertion}
 use Rattle.root_rewriting.specs.Found.{AreOwn}
 use Rattle.root_rewriting.specs.Table.{entry_of}
 use Rattle.std.specs.Prelude.{IfOk}

@@ -1,5 +1,5 @@
 use Rattle.std.proofs.Common.{length, get_or, map, refl, arith}
-use Rattle.root_trees.specs.Nodes.{trees_in}
+use Rattle.root_rewriting.specs.Nodes.{trees_in}
 use Rattle.root_rewriting.specs.Spelling.{fresh_name}
 use Rattle.root_rewriting.specs.declared.constants.Fresh.{Fresh}
 use Rattle.root_rewriting.specs.declared.constants.Kind.TheVariants.{Root}

@@ -1,8 +1,8 @@
 use Rattle.std.proofs.Common.{◌≡◌, ◌<◌, List, [], ◌∷◌, length, get_or, map, false, ap, sym, subst, arith}
-use Rattle.root_trees.specs.Asserted.{AreAsserted}
-use Rattle.root_trees.specs.Nodes.{trees_in}
-use Rattle.root_trees.specs.declared.assertions.Assertion.{Assertion}
-use Rattle.root_trees.proofs.Arena.{nodes_length}
+use Rattle.root_rewriting.specs.Asserted.{AreAsserted}
+use Rattle.root_rewriting.specs.Nodes.{trees_in}
+use Rattle.root_rewriting.specs.declared.unfold.assertions.Assertion.{Assertion}
+use Rattle.root_rewriting.proofs.Arena.{nodes_length}
 use Rattle.root_rewriting.specs.Drafts.{IsContentBelow, draft_of}
 use Rattle.root_rewriting.specs.Spelling.{fresh_name}
 use Rattle.root_rewriting.specs.declared.drafts.Draft.{Draft}

@@ -4,9 +4,9 @@ use Rattle.ival.specs.Views.{interval_of}
 use Rattle.script_model.specs.Script.{Command}
 use Rattle.script_roots.specs.Ranges.{enclosed, quotient_range}
 use Rattle.script_roots.specs.Rewritten.{claims_of}
-use Rattle.root_trees.specs.Nodes.{IsBelow, node_tree, tree_at, trees_in}
-use Rattle.root_trees.specs.declared.trees.Node.{Node}
-use Rattle.root_trees.proofs.Arena.{nodes_length}
+use Rattle.root_rewriting.specs.Nodes.{IsBelow, node_tree, tree_at, trees_in}
+use Rattle.root_rewriting.specs.declared.unfold.trees.Node.{Node}
+use Rattle.root_rewriting.proofs.Arena.{nodes_length}
 use Rattle.root_rewriting.specs.Drafts.{claim_draft, draft_command, drafts_of_range}
 use Rattle.root_rewriting.specs.declared.drafts.Content.TheVariants.{Product}
 use Rattle.root_rewriting.specs.declared.drafts.Draft.{Draft}

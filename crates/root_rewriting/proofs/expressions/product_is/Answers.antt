@@ -5,7 +5,7 @@ use Rattle.script_roots.specs.Refused.{tokens_of}
 use Rattle.script_roots.specs.Rewritten.{spelled, two_of}
 use Rattle.smt_sexp.specs.Building.{flat, flat_back}
 use Rattle.smt_sexp.specs.Views.{place_of}
-use Rattle.root_trees.specs.Nodes.{tree_at, trees_in}
+use Rattle.root_rewriting.specs.Nodes.{tree_at, trees_in}
 use Rattle.root_rewriting.specs.Drafts.{constant_at}
 use Rattle.root_rewriting.specs.Opened.{symbol_at}
 use Rattle.root_rewriting.proofs.Opened.{closed, headed, more_in, opened, opened_writing, stops_inside}

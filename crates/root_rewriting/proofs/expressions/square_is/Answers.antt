@@ -3,7 +3,7 @@ use Rattle.script_model.specs.Sexp.{Sexp}
 use Rattle.script_roots.specs.Rewritten.{spelled, two_of}
 use Rattle.smt_sexp.specs.Views.{place_of}
 use Rattle.smt_sexp.specs.Writing.{Writes}
-use Rattle.root_trees.specs.Nodes.{tree_at, trees_in}
+use Rattle.root_rewriting.specs.Nodes.{tree_at, trees_in}
 use Rattle.root_rewriting.specs.Drafts.{constant_at}
 use Rattle.root_rewriting.specs.Opened.{symbol_at}
 use Rattle.root_rewriting.proofs.Opened.{closed, headed, more_in, opened, opened_writing}

@@ -2,8 +2,8 @@ use Rattle.std.proofs.Common.{◌≡◌, ◌<◌, ◌∙◌, List, ℕ, Some, No
 use Rattle.script_roots.specs.Fresh.{choice_in_root, first_place}
 use Rattle.script_roots.specs.Tree.{holds_choice}
 use Rattle.smt_sexp.specs.Views.{place_of}
-use Rattle.root_trees.specs.Nodes.{AreBelow, IsBelow, node_tree, parts_at, tree_at, trees_in}
-use Rattle.root_trees.specs.declared.trees.Node.{Node}
+use Rattle.root_rewriting.specs.Nodes.{AreBelow, IsBelow, node_tree, parts_at, tree_at, trees_in}
+use Rattle.root_rewriting.specs.declared.unfold.trees.Node.{Node}
 use Rattle.root_rewriting.specs.Places.{first_in, place_at, seen_place}
 use Rattle.root_rewriting.proofs.Alike.{shown}
 use Rattle.root_rewriting.proofs.Sites.{choices_in, first_or_none, no_choice_place, parts_places}

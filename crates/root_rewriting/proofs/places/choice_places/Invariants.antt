@@ -1,6 +1,6 @@
 use Rattle.std.proofs.Common.{◌-◌, length}
 use Rattle.script_roots.specs.Fresh.{choice_in_root}
-use Rattle.root_trees.specs.Nodes.{trees_in}
+use Rattle.root_rewriting.specs.Nodes.{trees_in}
 use Rattle.root_rewriting.specs.Places.{ArePlaces}
 use Rattle.root_rewriting.proofs.places.choice_places.Given as goal
 

@@ -1,9 +1,9 @@
 use Rattle.std.proofs.Common.{◌≡◌, ◌-◌, ◌∙◌, ◌∷◌, List, false, length, get_or, take, drop, refl, subst, sym, arith}
-use Rattle.root_trees.specs.Asserted.{AreAsserted}
-use Rattle.root_trees.specs.Nodes.{trees_in}
-use Rattle.root_trees.specs.declared.assertions.Assertion.{Assertion}
-use Rattle.root_trees.proofs.Arena.{nodes_length}
-use Rattle.root_trees.proofs.Lists.{none_left}
+use Rattle.root_rewriting.specs.Asserted.{AreAsserted}
+use Rattle.root_rewriting.specs.Nodes.{trees_in}
+use Rattle.root_rewriting.specs.declared.unfold.assertions.Assertion.{Assertion}
+use Rattle.root_rewriting.proofs.Arena.{nodes_length}
+use Rattle.root_rewriting.proofs.TreeLists.{none_left}
 use Rattle.root_rewriting.proofs.Listing.{first_there}
 use Rattle.root_rewriting.proofs.Sites.{InLeftOut, leaves_end, leaves_found, leaves_next, within_either}
 use Rattle.root_rewriting.proofs.Tables.{begins}

@@ -1,5 +1,5 @@
 use Rattle.std.proofs.Common.{length}
-use Rattle.root_trees.specs.Nodes.{trees_in}
+use Rattle.root_rewriting.specs.Nodes.{trees_in}
 use Rattle.root_rewriting.proofs.Sites.{InLeftOut}
 use Rattle.root_rewriting.proofs.places.first_left_out.Given as goal
 

@@ -1,5 +1,5 @@
 use Rattle.std.proofs.Common.{◌-◌, ◌∙◌, length, get_or, take, drop, map, refl, ap, sym, arith}
-use Rattle.root_trees.proofs.Lists.{first_of_some, none_left}
+use Rattle.root_rewriting.proofs.TreeLists.{first_of_some, none_left}
 use Rattle.root_rewriting.specs.Places.{first_in, place_at}
 use Rattle.root_rewriting.proofs.Sites.{first_found, first_later, part_within}
 use Rattle.root_rewriting.proofs.places.first_of.Goals as goal

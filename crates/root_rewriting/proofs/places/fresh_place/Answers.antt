@@ -1,7 +1,7 @@
 use Rattle.std.proofs.Common.{◌∙◌, List, ℕ, length, map, ap, subst, sym}
 use Rattle.script_roots.specs.Fresh.{fresh_place}
-use Rattle.root_trees.specs.Nodes.{AreBelow, IsBelow, node_tree, parts_at, trees_in}
-use Rattle.root_trees.specs.declared.trees.Node.{Node}
+use Rattle.root_rewriting.specs.Nodes.{AreBelow, IsBelow, node_tree, parts_at, trees_in}
+use Rattle.root_rewriting.specs.declared.unfold.trees.Node.{Node}
 use Rattle.root_rewriting.specs.Places.{first_in, place_at}
 use Rattle.root_rewriting.proofs.Alike.{shown}
 use Rattle.root_rewriting.proofs.Sites.{fresh_in_all, no_fresh_place, parts_places}

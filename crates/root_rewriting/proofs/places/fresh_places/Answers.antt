@@ -1,8 +1,8 @@
 use Rattle.std.proofs.Common.{◌≡◌, ◌∙◌, List, Option, length, ap, subst, sym, arith}
 use Rattle.script_fault.specs.declared.place.Place.{Place}
 use Rattle.script_roots.specs.Fresh.{fresh_place}
-use Rattle.root_trees.specs.Nodes.{tree_at, trees_in}
-use Rattle.root_trees.proofs.Arena.{nodes_length}
+use Rattle.root_rewriting.specs.Nodes.{tree_at, trees_in}
+use Rattle.root_rewriting.proofs.Arena.{nodes_length}
 use Rattle.root_rewriting.specs.Places.{ArePlaces}
 use Rattle.root_rewriting.proofs.Sites.{places_more, places_none}
 use Rattle.root_rewriting.proofs.places.fresh_places.Goals as goal

@@ -1,6 +1,6 @@
 use Rattle.std.proofs.Common.{◌-◌, length}
 use Rattle.script_roots.specs.Fresh.{fresh_place}
-use Rattle.root_trees.specs.Nodes.{trees_in}
+use Rattle.root_rewriting.specs.Nodes.{trees_in}
 use Rattle.root_rewriting.specs.Places.{ArePlaces}
 use Rattle.root_rewriting.proofs.places.fresh_places.Given as goal
 

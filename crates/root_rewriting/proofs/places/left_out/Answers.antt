@@ -1,7 +1,7 @@
 use Rattle.std.proofs.Common.{◌∙◌, List, Option, length, ap, subst, sym}
 use Rattle.script_fault.specs.declared.place.Place.{Place}
 use Rattle.script_roots.specs.Fresh.{choice_in_root, fresh_place}
-use Rattle.root_trees.specs.Nodes.{trees_in}
+use Rattle.root_rewriting.specs.Nodes.{trees_in}
 use Rattle.root_rewriting.specs.Places.{ArePlaces}
 use Rattle.root_rewriting.proofs.places.left_out.Goals as goal
 

@@ -1,5 +1,5 @@
 use Rattle.std.proofs.Common.{◌∙◌, below_more, subst, sym}
-use Rattle.root_trees.specs.Nodes.{trees_in}
+use Rattle.root_rewriting.specs.Nodes.{trees_in}
 use Rattle.root_rewriting.specs.Plain.{IsPlain}
 use Rattle.root_rewriting.proofs.Alike.{shown}
 use Rattle.root_rewriting.proofs.Rootless.{plain_node}

@@ -1,5 +1,5 @@
 use Rattle.std.proofs.Common.{ℕ, ◌<◌}
-use Rattle.root_trees.specs.Nodes.{tree_at, trees_in}
+use Rattle.root_rewriting.specs.Nodes.{tree_at, trees_in}
 use Rattle.root_rewriting.specs.Plain.{IsPlain}
 use Rattle.root_rewriting.proofs.plain.holds_fresh.Given as goal
 

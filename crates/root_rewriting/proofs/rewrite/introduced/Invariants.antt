@@ -1,5 +1,5 @@
 use Rattle.std.proofs.Common.{◌≡◌, map, take}
-use Rattle.root_trees.specs.Nodes.{trees_in}
+use Rattle.root_rewriting.specs.Nodes.{trees_in}
 use Rattle.script_roots.specs.Rewritten.{declaration}
 use Rattle.root_rewriting.specs.Rewriting.{introduced_command}
 use Rattle.root_rewriting.specs.Table.{entry_of}

@@ -1,8 +1,8 @@
 use Rattle.std.proofs.Common.{◌<◌, length, arith}
 use Rattle.script_roots.specs.Fresh.{asserted}
 use Rattle.smt_script.specs.Views.{commands_in}
-use Rattle.root_trees.specs.Nodes.{trees_in}
-use Rattle.root_trees.proofs.Arena.{nodes_length}
+use Rattle.root_rewriting.specs.Nodes.{trees_in}
+use Rattle.root_rewriting.proofs.Arena.{nodes_length}
 use Rattle.root_rewriting.proofs.Made.{accepted, accepted_later, plain_table, too_long_none}
 use Rattle.root_rewriting.proofs.Rootless.{plain_claims}
 use Rattle.root_rewriting.proofs.rewrite.rewriting.Goals as goal

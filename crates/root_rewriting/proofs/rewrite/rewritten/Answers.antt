@@ -4,7 +4,7 @@ use Rattle.script_roots.specs.Fresh.{Table, asserted}
 use Rattle.script_roots.specs.Reached.{first_beyond}
 use Rattle.script_roots.specs.Refused.{most_tokens}
 use Rattle.smt_script.specs.Views.{commands_in}
-use Rattle.root_trees.specs.Nodes.{trees_in}
+use Rattle.root_rewriting.specs.Nodes.{trees_in}
 use Rattle.root_rewriting.specs.Placing.{placed_command}
 use Rattle.root_rewriting.specs.Rewriting.{declared_command, introduced_command}
 use Rattle.root_rewriting.specs.Table.{entry_of}

@@ -5,9 +5,9 @@ use Rattle.script_roots.specs.Fresh.{asserted}
 use Rattle.script_roots.specs.Rewritten.{rewritten_by, script_table}
 use Rattle.script_roots.specs.TreeBounds.{declared_ranges}
 use Rattle.smt_script.specs.Views.{commands_in}
-use Rattle.root_trees.specs.Nodes.{trees_in}
-use Rattle.root_trees.proofs.Arena.{nodes_length}
-use Rattle.root_ranges.specs.Enclosures.{AreEnclosures}
+use Rattle.root_rewriting.specs.Nodes.{trees_in}
+use Rattle.root_rewriting.proofs.Arena.{nodes_length}
+use Rattle.root_rewriting.specs.Enclosures.{AreEnclosures}
 use Rattle.root_rewriting.specs.Table.{entry_of}
 use Rattle.root_rewriting.proofs.Made.{enclosed_length, rewritten_is, some_entries}
 use Rattle.root_rewriting.proofs.rewrite.with_constants.Goals as goal

@@ -5,7 +5,7 @@ use Rattle.script_roots.specs.Fresh.{Table}
 use Rattle.script_roots.specs.Reached.{first_beyond}
 use Rattle.script_roots.specs.Refused.{most_tokens, tokens_from}
 use Rattle.script_roots.specs.Rewritten.{assertion, claims_of_all}
-use Rattle.root_trees.specs.Nodes.{trees_in}
+use Rattle.root_rewriting.specs.Nodes.{trees_in}
 use Rattle.root_rewriting.specs.Drafts.{draft_command}
 use Rattle.root_rewriting.specs.Placing.{InWriting, IsTooLarge}
 use Rattle.root_rewriting.specs.Spelling.{NameTrees, fresh_name}

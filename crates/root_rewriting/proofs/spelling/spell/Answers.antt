@@ -1,5 +1,5 @@
 use Rattle.std.proofs.Common.{◌<◌, List, subst, arith}
-use Rattle.root_trees.proofs.Lists.{none_left}
+use Rattle.root_rewriting.proofs.TreeLists.{none_left}
 use Rattle.script_roots.specs.Refused.{most_tokens}
 use Rattle.smt_sexp.specs.Writing.{tokens_in}
 use Rattle.root_rewriting.specs.Spelling.{CanSpell}

@@ -1,4 +1,4 @@
-use Rattle.root_trees.specs.Nodes.{trees_in}
+use Rattle.root_rewriting.specs.Nodes.{trees_in}
 use Rattle.root_rewriting.specs.Walk.{weight}
 use Rattle.root_rewriting.proofs.Spelled.{InSpelling}
 use Rattle.root_rewriting.proofs.spelling.spell.Given as goal

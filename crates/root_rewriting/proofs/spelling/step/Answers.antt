@@ -1,6 +1,6 @@
 use Rattle.std.proofs.Common.{◌<◌, ◌++◌, ◌∷◌, [], ◌∙◌, length, sym, ap, subst}
 use Rattle.std.proofs.lemmas.Result.{on_ok_weaker}
-use Rattle.root_trees.specs.Nodes.{tree_at, trees_in}
+use Rattle.root_rewriting.specs.Nodes.{tree_at, trees_in}
 use Rattle.root_rewriting.specs.Spelling.{Begins, CanSpell, Spells}
 use Rattle.root_rewriting.specs.Walk.{AreWorks, enters, node_parts, place_in, weight}
 use Rattle.root_rewriting.proofs.Alike.{shown}

@@ -1,7 +1,7 @@
 use Rattle.std.proofs.Common.{◌≡◌, ◌<◌, ◌++◌, ◌∷◌, [], ◌∙◌, true, false, length, get_or, sym, ap, subst, arith}
 use Rattle.std.proofs.lemmas.Result.{on_ok_weaker}
 use Rattle.script_roots.specs.Fresh.{once}
-use Rattle.root_trees.specs.Nodes.{tree_at, trees_in}
+use Rattle.root_rewriting.specs.Nodes.{tree_at, trees_in}
 use Rattle.root_rewriting.specs.Found.{own_in}
 use Rattle.root_rewriting.specs.Walk.{AreWorks, Walks, enters, node_parts, place_in, weight}
 use Rattle.root_rewriting.proofs.Alike.{shown}

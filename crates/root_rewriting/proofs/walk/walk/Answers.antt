@@ -1,7 +1,7 @@
 use Rattle.std.proofs.Common.{◌++◌, ◌∷◌, [], ◌∙◌, List, length, ap, subst, arith}
 use Rattle.script_roots.specs.Fresh.{fresh_in, once}
-use Rattle.root_trees.specs.Nodes.{tree_at, trees_in}
-use Rattle.root_trees.proofs.Lists.{none_left}
+use Rattle.root_rewriting.specs.Nodes.{tree_at, trees_in}
+use Rattle.root_rewriting.proofs.TreeLists.{none_left}
 use Rattle.root_rewriting.specs.Walk.{AreWorks, Walks}
 use Rattle.root_rewriting.specs.declared.walk.Work.{Work}
 use Rattle.root_rewriting.specs.declared.walk.Work.TheVariants.{Enter}

@@ -1,6 +1,6 @@
 use Rattle.std.proofs.Common.{◌≡◌, ◌∙◌, ◌-◌, ◌∷◌, List, length, take, drop, map, ap, sym, subst, arith}
 use Rattle.script_model.specs.Script.{Command}
-use Rattle.root_trees.specs.Nodes.{trees_in}
+use Rattle.root_rewriting.specs.Nodes.{trees_in}
 use Rattle.root_rewriting.specs.Drafts.{AreDraftsBelow, draft_command}
 use Rattle.root_rewriting.specs.Placing.{InWriting}
 use Rattle.root_rewriting.specs.declared.drafts.Draft.{Draft}

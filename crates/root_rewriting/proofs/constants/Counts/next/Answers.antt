@@ -1,5 +1,5 @@
 use Rattle.std.proofs.Common.{◌∙◌, ap, refl, arith}
-use Rattle.root_trees.specs.Nodes.{node_tree, trees_in}
+use Rattle.root_rewriting.specs.Nodes.{node_tree, trees_in}
 use Rattle.root_rewriting.proofs.Alike.{shown}
 use Rattle.root_rewriting.proofs.Tables.{next_quotient, next_root}
 use Rattle.root_rewriting.proofs.constants.Counts.next.Goals as goal

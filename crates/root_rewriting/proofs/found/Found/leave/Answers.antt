@@ -1,7 +1,7 @@
 use Rattle.std.proofs.Common.{◌∙◌, refl, arith}
 use Rattle.std.proofs.lemmas.List.{length-set}
 use Rattle.script_roots.specs.Fresh.{once}
-use Rattle.root_trees.specs.Nodes.{tree_at, trees_in}
+use Rattle.root_rewriting.specs.Nodes.{tree_at, trees_in}
 use Rattle.root_rewriting.specs.Found.{own_in}
 use Rattle.root_rewriting.proofs.Listing.{found_marked}
 use Rattle.root_rewriting.proofs.Once.{all_known}

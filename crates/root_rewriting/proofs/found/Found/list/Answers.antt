@@ -1,6 +1,6 @@
 use Rattle.std.proofs.Common.{◌≡◌, ◌∙◌, List, ℕ, true, false, length, get_or, sym, subst, refl, arith}
 use Rattle.std.proofs.lemmas.List.{length-set}
-use Rattle.root_trees.specs.Nodes.{AreBelow}
+use Rattle.root_rewriting.specs.Nodes.{AreBelow}
 use Rattle.root_rewriting.proofs.Listing.{below_end, class_within, found_more, found_same, none_own, own_listed, read_there}
 use Rattle.root_rewriting.proofs.found.Found.list.Goals.{else-source-at-via-then-source-at+else-not-index, else-source-at-via-else-source-at}
 use Rattle.root_rewriting.proofs.found.Found.list.Goals as goal

@@ -1,5 +1,5 @@
 use Rattle.std.proofs.Common.{List, ℕ, length, subst, sym, arith}
-use Rattle.root_trees.specs.Nodes.{AreBelow}
+use Rattle.root_rewriting.specs.Nodes.{AreBelow}
 use Rattle.root_rewriting.proofs.Listing.{found_none}
 use Rattle.root_rewriting.proofs.found.Found.new.Goals as goal
 

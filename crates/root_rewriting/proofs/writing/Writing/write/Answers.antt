@@ -5,7 +5,7 @@ use Rattle.script_roots.specs.Refused.{most_tokens, tokens_from, tokens_of}
 use Rattle.script_fault.specs.declared.fault.ReadError.{ReadError}
 use Rattle.smt_sexp.specs.Views.{place_of}
 use Rattle.smt_sexp.specs.Writing.{tokens_in}
-use Rattle.root_trees.specs.Nodes.{trees_in}
+use Rattle.root_rewriting.specs.Nodes.{trees_in}
 use Rattle.root_rewriting.specs.Drafts.{draft_command, expression_of}
 use Rattle.root_rewriting.specs.Placing.{IsTooLarge}
 use Rattle.root_rewriting.specs.declared.placed.Placed.{Placed}

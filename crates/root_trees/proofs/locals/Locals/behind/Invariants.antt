@@ -1,6 +1,0 @@
-use Rattle.std.proofs.Common.{◌≡◌, ◌++◌, drop, map, rc_value}
-use Rattle.root_trees.specs.Locals.{all_levels}
-use Rattle.root_trees.proofs.locals.Locals.behind.Given as goal
-
-abbrev pub invariant-loop-i : goal.invariant-loop-i
-invariant-loop-i l = l.fn.nearest ++ all_levels (map rc_value l.self-inside.levels.items) ≡ all_levels (map rc_value l.levels.items) ++ all_levels (map rc_value (drop l.i l.self-inside.levels.items))
