@@ -6,7 +6,6 @@ mod of_declared_box;
 #[cfg(test)]
 mod of_problem_build;
 #[cfg(test)]
-mod of_root_trees;
 #[cfg(test)]
 mod of_session;
 #[cfg(test)]
