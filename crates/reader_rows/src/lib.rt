@@ -6,7 +6,6 @@ mod of_declared_box;
 #[cfg(test)]
 mod of_problem_build;
 #[cfg(test)]
-#[cfg(test)]
 mod of_session;
 #[cfg(test)]
 mod of_smt_script;
