@@ -32,8 +32,8 @@ impl Writer {
     /// How many tokens were written: leaves and parentheses.
     pub fn len(&self) -> usize
         ensures count { result ≡ tokens_in self.now }
-        ensures spelled { (us : List Unclosed) → (tops : List sexp.Sexp) →
-            Written self.now us tops → result ≡ length (spelled us tops) }
+        ensures spelled { (us : List Unclosed) → (tops : List sexp.Sexp) → Written self.now us tops →
+            result ≡ length (spelled us tops) }
     {
         self.building.nodes.len()
     }
