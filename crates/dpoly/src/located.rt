@@ -133,10 +133,12 @@ fn last_before(
 // Whether constants stand for roots and quotients of the script: its atoms do not stand in its order then.
 fn is_rewritten(session: &Session, alloc: Global) -> Result<bool, ReadError> {
     let problem = last_problem(alloc, session)?;
-    Ok(problem.axes().iter().any(|axis| {
-        let name = axis.name.as_slice();
-        name.starts_with(b"sqrt(") || name.starts_with(b"quotient(")
-    }))
+    Ok(
+        problem.axes().iter().any(|axis| {
+            let name = axis.name.as_slice();
+            name.starts_with(b"sqrt(") || name.starts_with(b"quotient(")
+        }),
+    )
 }
 
 /// The assertion in which the atom of this number first stands, among those in force at the check of this number, from 0

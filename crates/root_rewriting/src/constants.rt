@@ -11,10 +11,10 @@ ghost use Rattle.script_roots.specs.Ranges.{Ranges};
 ghost use Rattle.script_roots.specs.Tree.{Tree};
 
 use crate::found::{Found, Source};
-use crate::walk::walk;
-use ival::Ival;
 use crate::range::misses_nought;
 use crate::unfold::{AssertedTrees, Assertion, Facts, Node, Trees};
+use crate::walk::walk;
+use ival::Ival;
 use std::alloc::{AllocError, Global};
 
 /// For what a constant stands.

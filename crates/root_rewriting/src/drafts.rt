@@ -13,9 +13,9 @@ ghost use Rattle.script_roots.specs.Rewritten.{assertion, claims_of, claims_of_a
 
 use crate::claims::Limit;
 use crate::constants::Fresh;
-use ival::{Ends, Ival};
 use crate::range::{quotient_range, root_bound};
 use crate::unfold::{AssertedTrees, Assertion, Node, Trees};
+use ival::{Ends, Ival};
 use script_fault::Place;
 use std::alloc::{AllocError, Global};
 

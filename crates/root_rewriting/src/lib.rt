@@ -4,8 +4,6 @@
 //! of an `ite`, or a root or a quotient in a goal. Scripts without roots and quotients are left as they are.
 #![tactic(auto)]
 
-mod range;
-mod unfold;
 mod claims;
 mod classes;
 mod constants;
@@ -18,9 +16,11 @@ mod parts;
 mod placed;
 mod places;
 mod plain;
+mod range;
 mod rewrite;
 mod script;
 mod spelling;
+mod unfold;
 mod walk;
 mod whole;
 mod writing;

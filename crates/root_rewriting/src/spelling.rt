@@ -16,8 +16,8 @@ ghost use Rattle.root_rewriting.specs.Walk.{AreWorks, weight};
 ghost use Rattle.root_rewriting.specs.declared.spelling.Stop.TheVariants.{Memory};
 
 use crate::constants::Fresh;
-use crate::walk::{Work, push_parts};
 use crate::unfold::{Atom, Node, Trees};
+use crate::walk::{Work, push_parts};
 use script_fault::{Name, Place};
 use smt_sexp::{Leaf, Writer};
 use std::alloc::{AllocError, AllocFailed, Global};

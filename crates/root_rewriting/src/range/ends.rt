@@ -14,9 +14,9 @@ ghost use Rattle.root_rewriting.specs.Shapes.{shape_at, shape_of};
 use crate::range::end_bound::EndBound;
 use crate::range::shapes::Shape;
 use crate::range::side::Side;
+use crate::unfold::Node;
 use dyadic::Ext;
 use ival::Ival;
-use crate::unfold::Node;
 use sort_check::{Operator, operator_named};
 use std::alloc::AllocError;
 

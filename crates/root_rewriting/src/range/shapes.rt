@@ -12,8 +12,8 @@ ghost use Rattle.root_rewriting.specs.Shapes.{AreShapes, KnowsAxes, intervals_of
 
 use crate::range::literal::literal_range;
 use crate::range::operators::operator_range;
-use ival::Ival;
 use crate::unfold::{Atom, Node, Trees};
+use ival::Ival;
 use script_fault::Name;
 use smt_script::Sort;
 use sort_check::{Operator, operator_named};
