@@ -34,7 +34,7 @@ pub mod Rooted
 pub mod Rootless
 pub mod Roundings
 pub mod Same
-pub mod Script
+pub mod Asserting
 pub mod Shaped
 pub mod Sites
 pub mod Sizes

@@ -13,7 +13,7 @@ use Rattle.root_rewriting.specs.TreeNames.{top_names, tree_here}
 use Rattle.script_roots.specs.Reached.{definition_body, first_beyond, reached_from, too_many}
 use Rattle.root_rewriting.specs.declared.unfold.top.Known.TheVariants as known
 use Rattle.root_rewriting.specs.declared.unfold.top.Top.{Top}
-use Rattle.root_rewriting.proofs.Script as steps
+use Rattle.root_rewriting.proofs.Asserting as steps
 use Rattle.root_rewriting.proofs.unfold.assertions.Progress.add.Goals as goal
 
 pub returns-in_ok-push-in-Declare-clause-goes : goal.returns-in_ok-push-in-Declare-clause-goes

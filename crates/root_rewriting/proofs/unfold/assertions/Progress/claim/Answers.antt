@@ -5,7 +5,7 @@ use Rattle.root_rewriting.specs.Asserted.{AreAsserted}
 use Rattle.root_rewriting.specs.TreeNames.{tree_here}
 use Rattle.root_rewriting.specs.Nodes.{trees_in}
 use Rattle.root_rewriting.specs.declared.unfold.assertions.Assertion.{Assertion}
-use Rattle.root_rewriting.proofs.Script as script
+use Rattle.root_rewriting.proofs.Asserting as script
 use Rattle.root_rewriting.proofs.unfold.assertions.Progress.claim.Goals as goal
 
 pub returns-in_ok-push-in-Ok-clause-asserts : goal.returns-in_ok-push-in-Ok-clause-asserts
