@@ -14,7 +14,7 @@ use Rattle.script_reading.specs.Session.{AreBuilt, not_carried, rewritten_at}
 use Rattle.script_roots.specs.Rewritten.{rewritten}
 use Rattle.smt_sexp.specs.Views.{place_of}
 use Rattle.smt_sexp.specs.declared.sexps.Sexps.{Sexps}
-use Rattle.smt_script.specs.Levels.{Asked, Levels, Step, command, after_step, asked_from, checks_of, no_levels}
+use Rattle.smt_script.specs.Levels.{Asked, Step, command, after_step, asked_from, checks_of, no_levels}
 use Rattle.smt_script.specs.Views.{command_of, step_of}
 use Rattle.smt_script.specs.declared.command.Step as code_step
 use Rattle.sort_check.specs.Single.{AreLengths, IsNothing, Stacks, check_place}
@@ -22,12 +22,11 @@ use Rattle.sort_check.specs.declared.force.Force.{Force}
 use Rattle.sort_check.proofs.Lengths.{check_is, nothing_held}
 use Rattle.problem_session.specs.Changes.{AreChanges, changed, no_parts, problems_from}
 use Rattle.problem_session.specs.Session.{checked_of, problems_of}
-use Rattle.problem_session.specs.declared.change.Change.{Change}
 use Rattle.problem_session.specs.declared.change.Checked.{Checked}
 use Rattle.problem_build.specs.Changes.{last_parts}
 use Rattle.problem_build.specs.Session.{Stays, script_at}
 use Rattle.problem_build.specs.WithRoots.{GoesWithRoots, Makes, rewritten_checks}
-use Rattle.problem_build.proofs.Changed.{changes_more, last_more, problems_more}
+use Rattle.problem_build.proofs.Changed.{changes_more, problems_more}
 use Rattle.problem_build.proofs.Going.{asked_behind, next_left, one_more}
 use Rattle.problem_build.proofs.Reading.{lifted}
 
@@ -66,7 +65,7 @@ module _ (bound : Option ℕ) (steps left : List Step) (old : Force) (checks : L
 
   pub rooted_check : (new : Force) (c : Checked) (more : List Checked) → c.extends ≡ false → in_rewriting bound (script_at old at) ≡ None → Makes bound (rewritten bound (script_at old at)) c.change →
       Stays old new → more ≡ checks ++ c ∷ [] → GoesWithRoots bound steps new more left
-  rooted_check new c more no clean makes stays is-more =
+  rooted_check new c more apart clean makes stays is-more =
       let l = here.open_levels in
       let a : Asked = record { at = place_of at; script = l.inner ++ check (place_of at) ∷ [] } in
       let p = changed (last_parts no_parts checks) c.change in
@@ -83,7 +82,7 @@ module _ (bound : Option ℕ) (steps left : List Step) (old : Force) (checks : L
             (sym (map-append (rewritten_at bound) here.done (a ∷ []))) (sym (map-append not_carried here.done (a ∷ [])))
             (sym (ap (λ cs. problems_of (problems_from no_parts cs)) is-more ∙ ap problems_of (problems_more no_parts checks c) ∙ map-append checked_of (problems_from no_parts checks) ((p, c.extends) ∷ [])))
             (one_more bound (rewritten_checks bound here.done) (map not_carried here.done) (problems_of (problems_from no_parts checks)) (rewritten_at bound a) false (problem_of p, c.extends) here.built
-            (subst (λ (cs : List Command). IsBuiltOf bound (rewritten bound cs) (problem_of p)) script-is made.1) no);
+            (subst (λ (cs : List Command). IsBuiltOf bound (rewritten bound cs) (problem_of p)) script-is made.1) apart);
         clean = here.clean ∙ ap (λ o. first_of o (in_each_rewritten bound (asked_from l left))) (ap (in_rewriting bound) (sym script-is) ∙ clean);
         changes = subst (λ (cs : List Checked). AreChanges no_parts cs) (sym is-more) (changes_more no_parts checks c here.changes made.0);
       }

@@ -15,7 +15,6 @@ pub mod Parts
 pub mod Past
 pub mod Reached
 pub mod Reading
-pub mod Readings
 pub mod Rooted
 pub mod Sizes
 pub mod Sound

@@ -1,5 +1,5 @@
 -- A script without a goal among its steps has none at its check; the goal of a session.
-use Rattle.std.proofs.Common.{◌≡◌, ℕ, zero, suc, List, [], ◌∷◌, ◌++◌, Bool, true, false, cond, Option, Some, None, Result, Ok, Err, refl, ap, sym, ◌∙◌, subst, map, length, arith}
+use Rattle.std.proofs.Common.{◌≡◌, ℕ, zero, suc, List, [], ◌∷◌, ◌++◌, Bool, true, false, cond, Option, Some, None, refl, ap, sym, ◌∙◌, subst, map, length}
 use Rattle.std.specs.List.{AllByRecursion}
 use Rattle.std.specs.Prelude.{slice_get}
 use Rattle.std.proofs.Math.Nat.{suc_inj, suc-ne-zero}
@@ -23,9 +23,8 @@ use Rattle.script_fault.specs.declared.fault.ReadError.TheVariants.{Fault, Memor
 use Rattle.script_fault.specs.declared.fault.ScriptFault.{ScriptFault}
 use Rattle.smt_script.specs.Commands.{CommandsRead, steps}
 use Rattle.smt_script.specs.CommandAnswers.{commands_fault}
-use Rattle.smt_script.specs.Levels.{Asked, Levels, Step, command, opens, closes, resets, asks_values, after_step, asked_from, asked_here, checks_of, closed, closed_to, no_levels, only_script, opened, with_command}
+use Rattle.smt_script.specs.Levels.{Asked, Levels, Step, command, opens, closes, resets, asks_values, after_step, asked_from, asked_here, checks_of, closed_to, no_levels, only_script, opened}
 use Rattle.sort_check.specs.Single.{asked_fault}
-use Rattle.poly_graph.specs.Problem.{Problem}
 use Rattle.poly_graph.specs.ProblemViews.{Parts, problem_of}
 use Rattle.problem_session.specs.Session.{problems_of}
 use Rattle.script_reading.specs.Goals.{goal_of_checks}
@@ -152,10 +151,10 @@ plain-declared (entry ∷ rest) = (refl, plain-declared rest)
 
 plain-ends : (at : Place) (c : Sexp) (i : Interval) → ArePlain (between_ends at c i)
 plain-ends at c nothing = tt
-plain-ends at c (between l h) = (refl, refl, tt)
+plain-ends at c (between l h) = (refl, (refl, tt))
 
 plain-claims : (ranges : Ranges) (table : Table) (name : List ℕ) (t : Tree) → ArePlain (claims_of ranges table name t)
-plain-claims ranges table name (root at t) = (refl, refl, refl, tt)
+plain-claims ranges table name (root at t) = (refl, (refl, (refl, tt)))
 plain-claims ranges table name (quotient at t d) =
     plain-both (between_ends at (leaf at (symbol name)) (quotient_range (enclosed ranges t) (enclosed ranges d))) _
     (plain-ends at (leaf at (symbol name)) (quotient_range (enclosed ranges t) (enclosed ranges d))) (refl, tt)
@@ -170,8 +169,8 @@ plain-all-claims ranges table (entry ∷ rest) =
 
 plain-asserted : (table : Table) (names : tree.Names) (script : List Command) → ArePlain script → ArePlain (map (assertion table) (asserted_from names script))
 plain-asserted table names [] h = tt
-plain-asserted table names (declare at x sort ∷ rest) h = plain-asserted table _ rest h.1
-plain-asserted table names (define at f params sort body ∷ rest) h = plain-asserted table _ rest h.1
+plain-asserted table names (declare at x sort ∷ rest) h = plain-asserted table ((x, tree.tree (atomic at (symbol x))) ∷ names) rest h.1
+plain-asserted table names (define at f params sort body ∷ rest) h = plain-asserted table ((f, tree.definition names params body) ∷ names) rest h.1
 plain-asserted table names (claim at e ∷ rest) h = (refl, plain-asserted table names rest h.1)
 plain-asserted table names (minimize at t ∷ rest) h = let no = h.0 in cc
 plain-asserted table names (check at ∷ rest) h = plain-asserted table names rest h.1
@@ -179,9 +178,9 @@ plain-asserted table names (ineffective at ∷ rest) h = plain-asserted table na
 
 plain-by : (ranges : Ranges) (table : Table) (script : List Command) → ArePlain script → ArePlain (rewritten_by ranges table script)
 plain-by ranges table script h =
-    plain-both (declarations script) _ (plain-declarations script)
-    (plain-both (map declaration table) _ (plain-declared table)
-    (plain-both (claims_of_all ranges table table) _ (plain-all-claims ranges table table) (plain-asserted table theory_names script h)))
+    plain-both (declarations script ++ map declaration table ++ claims_of_all ranges table table) _
+    (plain-both (declarations script ++ map declaration table) _ (plain-both (declarations script) _ (plain-declarations script) (plain-declared table)) (plain-all-claims ranges table table))
+    (plain-asserted table theory_names script h)
 
 plain-unless : (table : Table) (script other : List Command) → ArePlain script → ArePlain other → ArePlain (unless_empty table script other)
 plain-unless [] script other h k = h

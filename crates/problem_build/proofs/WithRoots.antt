@@ -1,7 +1,6 @@
 -- The problem of commands in which constants stand for roots and quotients, and of the text of a script that is read with roots.
 use Rattle.std.proofs.Common.{◌≡◌, ◌≤◌, ℕ, List, [], ◌∷◌, ◌++◌, Bool, Option, Some, None, length, map, refl, ap, sym, ◌∙◌, subst}
 use Rattle.std.specs.Prelude.{MatchResult, Result, Ok, Err}
-use Rattle.std.proofs.Math.Nat.{suc_inj, suc-ne-zero}
 use Rattle.script_model.specs.Sexp.{Sexp}
 use Rattle.script_model.specs.Script.{Command}
 use Rattle.script_fault.specs.Answers.{IsFaultOrMemory}
@@ -10,57 +9,45 @@ use Rattle.script_fault.specs.declared.fault.ReadError.TheVariants.{Memory}
 use Rattle.script_fault.specs.declared.fault.ScriptFault.{ScriptFault}
 use Rattle.script_forms.specs.Atoms.{goal_atom}
 use Rattle.script_forms.specs.Walk.{building_fault}
-use Rattle.script_roots.specs.Fresh.{Table}
-use Rattle.script_roots.specs.Refused.{refusal}
-use Rattle.script_roots.specs.Rewritten.{rewritten, rewritten_by, script_table, unless_empty}
-use Rattle.script_roots.specs.TreeBounds.{declared_ranges}
+use Rattle.script_roots.specs.Rewritten.{rewritten}
 use Rattle.smt_sexp.specs.Lexicon.{whole, read}
 use Rattle.smt_script.specs.Commands.{steps, steps_of}
 use Rattle.smt_script.specs.Levels.{Asked, Step, checks_of, only_script}
 use Rattle.smt_script.specs.Views.{steps_in}
 use Rattle.smt_script.specs.declared.command.Course.{Course}
 use Rattle.sort_check.specs.Levels.{course_fault_with_roots}
-use Rattle.sort_check.specs.Single.{asked_fault}
 use Rattle.sort_check.specs.SortAnswers.{finding_fault}
 use Rattle.sort_check.specs.Sorts.{sort_fault}
-use Rattle.poly_graph.specs.Problem.{Problem}
 use Rattle.poly_graph.specs.ProblemViews.{Parts, problem_of}
 use Rattle.problem_session.specs.Changes.{no_parts}
 use Rattle.problem_session.specs.Session.{problems_of}
 use Rattle.problem_session.specs.declared.change.Change.{Change}
 use Rattle.script_reading.specs.Built.{IsBuiltOf}
-use Rattle.script_reading.specs.Faults.{first_of, in_building, in_each_rewritten, in_refusal, in_rewriting, in_rewritten, most_bytes, rooted_script_fault, rooted_session_fault}
-use Rattle.script_reading.specs.Goals.{goal_of_checks}
+use Rattle.script_reading.specs.Faults.{first_of, in_building, in_each_rewritten, in_rewriting, in_rewritten, most_bytes, rooted_script_fault, rooted_session_fault}
 use Rattle.script_reading.specs.Reader.{or_none}
-use Rattle.script_reading.specs.Session.{AreBuilt, not_carried, rewritten_at, steps_of_text}
-use Rattle.script_reading.proofs.Accepted.{both_none}
-use Rattle.script_reading.proofs.Parts.{rewritten_first}
-use Rattle.script_reading.proofs.Phases.{last_fault, reads, steps_read}
+use Rattle.script_reading.specs.Session.{AreBuilt, not_carried}
 use Rattle.term_build.specs.Built.{BuilderModel}
 use Rattle.problem_build.specs.BuildAnswers.{IsBuildingError}
 use Rattle.problem_build.specs.Changes.{IsChangeAnswer, Starts}
-use Rattle.problem_build.specs.WithRoots.{HasRootedProblem, HasRootedSession, IsRewrittenChange, IsRewrittenProblem, IsRootedAnswer, IsSortedChange, in_sorted, IsSortedProblem, Makes, rewritten_checks, rooted_commands, rooted_goal_in}
-use Rattle.problem_build.proofs.Reading.{asked_refused, in_asked, lifted, steps_are}
+use Rattle.problem_build.specs.WithRoots.{HasRootedProblem, HasRootedSession, IsRewrittenProblem, IsRootedAnswer, IsSortedChange, in_sorted, rewritten_checks, rooted_commands}
+use Rattle.problem_build.proofs.Reading.{asked_refused, in_asked, steps_are}
 
 -- ---- names and sorts, and then the building
 
 module _ (bound : Option ℕ) (script : List Command) where
-  pub sort_refused : (e : ReadError) → IsFaultOrMemory e (finding_fault (sort_fault script)) → IsFaultOrMemory e (in_sorted bound script)
-  sort_refused e h = lifted e (finding_fault (sort_fault script)) (in_sorted bound script) (λ x t. ap (λ o. first_of o (in_building (building_fault bound script))) t) h
-
   module _ (sorted : sort_fault script ≡ None) where
     in-building : in_sorted bound script ≡ in_building (building_fault bound script)
     in-building = ap (λ x. first_of (finding_fault x) (in_building (building_fault bound script))) sorted
 
-    pub build_refused : (e : ReadError) → IsBuildingError e (building_fault bound script) → IsFaultOrMemory e (in_sorted bound script)
-    build_refused e h = subst (λ (o : Option ScriptFault). IsFaultOrMemory e o) (sym in-building) h
+    build-refused : (e : ReadError) → IsBuildingError e (building_fault bound script) → IsFaultOrMemory e (in_sorted bound script)
+    build-refused e h = subst (λ (o : Option ScriptFault). IsFaultOrMemory e o) (sym in-building) h
 
     pub clean_sorted : building_fault bound script ≡ None → in_sorted bound script ≡ None
     clean_sorted e = in-building ∙ ap in_building e
 
     pub change_sorted : (m : BuilderModel) (r : Result Change ReadError) → ((p : Parts) → IsChangeAnswer bound script p m r) → IsSortedChange bound script r
     change_sorted m (Ok c) h = (clean_sorted (h no_parts).clean, λ p. ((h p).change, (h p).built))
-    change_sorted m (Err e) h = build_refused e (h no_parts)
+    change_sorted m (Err e) h = build-refused e (h no_parts)
 
 -- ---- what begins no problem begins each
 
@@ -74,27 +61,6 @@ starts_any m s p = record {
   atoms = (p.atoms, sym (ap (λ xs. xs ++ p.atoms) (nothing-first m.atoms s.atoms.0 s.atoms.1)));
   forms = (p.forms, sym (ap (λ xs. xs ++ p.forms) (nothing-first m.forms s.forms.0 s.forms.1)));
 }
-
--- ---- the commands that stand for others
-
-pub unchanged : (bound : Option ℕ) (script : List Command) → script_table bound script ≡ [] → rewritten bound script ≡ script
-unchanged bound script e = ap (λ (t : Table). unless_empty t script (rewritten_by (declared_ranges bound script) (script_table bound script) script)) e
-
-pub rewriting_refused : (bound : Option ℕ) (script : List Command) (e : ReadError) → IsFaultOrMemory e (in_refusal (refusal bound script)) → IsFaultOrMemory e (in_rewriting bound script)
-rewriting_refused bound script e h =
-    lifted e (in_refusal (refusal bound script)) (in_rewriting bound script) (λ x t. ap (λ o. first_of o (in_sorted bound (rewritten bound script))) t) h
-
-module _ (bound : Option ℕ) (script other : List Command) (taken : refusal bound script ≡ None) (same : other ≡ rewritten bound script) where
-  in-other : in_sorted bound other ≡ in_rewriting bound script
-  in-other = ap (in_sorted bound) same ∙ sym (ap (λ o. first_of (in_refusal o) (in_sorted bound (rewritten bound script))) taken)
-
-  pub problem_rewritten : (r : Result (Parts × Option ℕ) ReadError) → IsSortedProblem bound other r → IsRewrittenProblem bound script r
-  problem_rewritten (Ok r) h = (sym in-other ∙ h.0, subst (λ (cs : List Command). IsBuiltOf bound cs (problem_of r.0)) same h.1, h.2 ∙ ap goal_atom same)
-  problem_rewritten (Err e) h = subst (λ (o : Option ScriptFault). IsFaultOrMemory e o) in-other h
-
-  pub change_rewritten : (r : Result Change ReadError) → IsSortedChange bound other r → IsRewrittenChange bound script r
-  change_rewritten (Ok c) h = (sym in-other ∙ h.0, subst (λ (cs : List Command). Makes bound cs c) same h.1)
-  change_rewritten (Err e) h = subst (λ (o : Option ScriptFault). IsFaultOrMemory e o) in-other h
 
 -- ---- the only check
 
@@ -112,10 +78,6 @@ only-rewritten bound (a ∷ b ∷ later) cs e = cc
 
 module _ (bound : Option ℕ) (text : List ℕ) (es : List Sexp) (course : Course) (few : length text ≤ most_bytes) (whole_is : read text ≡ whole es)
     (commands_are : steps_of es ≡ steps (steps_in course)) (sorted : course_fault_with_roots (steps_in course) ≡ None) where
-  pub only_refused : (e : ReadError) → IsFaultOrMemory e (asked_fault (checks_of (steps_in course))) → IsFaultOrMemory e (rooted_script_fault bound text)
-  only_refused e h = asked_refused course_fault_with_roots (in_rewritten bound) text e few es whole_is course commands_are sorted
-      (lifted e (asked_fault (checks_of (steps_in course))) (in_rewritten bound (checks_of (steps_in course))) (λ x t. rewritten_first bound (checks_of (steps_in course)) x t) h)
-
   module _ (only : List Command) (only_is : only_script (checks_of (steps_in course)) ≡ Some only) where
     fault-is : rooted_script_fault bound text ≡ in_rewriting bound only
     fault-is = in_asked course_fault_with_roots (in_rewritten bound) text Memory few es whole_is course commands_are sorted ∙ in-only bound (checks_of (steps_in course)) only only_is
@@ -140,48 +102,3 @@ module _ (bound : Option ℕ) (text : List ℕ) (es : List Sexp) (course : Cours
         (sym (steps_are text es (steps_in course) whole_is commands_are)) h.1;
   }
   rooted_session_answer (Err e) h = asked_refused course_fault_with_roots (in_each_rewritten bound) text e few es whole_is course commands_are sorted h
-
--- ---- the goal of a session
-
-one-asked : (bound : Option ℕ) (asked : List Asked) (said : List Bool) (session : List (Parts × Bool)) → AreBuilt bound (rewritten_checks bound asked) said (problems_of session) → length session ≡ 1 →
-    (a : Asked) × (asked ≡ a ∷ [])
-one-asked bound (a ∷ []) said session h one = (a, refl)
-one-asked bound [] (x ∷ said) session h one = absurd h
-one-asked bound [] [] (p ∷ session) h one = absurd h
-one-asked bound [] [] [] h one = cc
-one-asked bound (a ∷ b ∷ asked) (x ∷ y ∷ said) (p ∷ q ∷ session) h one = absurd (suc-ne-zero (length session) (suc_inj one))
-one-asked bound (a ∷ b ∷ asked) (x ∷ y ∷ said) (p ∷ []) h one = absurd h.2
-one-asked bound (a ∷ b ∷ asked) (x ∷ []) (p ∷ session) h one = absurd h.2
-one-asked bound (a ∷ b ∷ asked) (x ∷ said) [] h one = absurd h
-one-asked bound (a ∷ b ∷ asked) [] session h one = absurd h
-
-module _ (bound : Option ℕ) (text : List ℕ) (session : List (Parts × Bool)) (has : HasRootedSession bound (problems_of session) text) where
-  -- not one check
-  pub no_single_goal : (length session ≡ 1 → ⊥) → rooted_goal_in bound text ≡ None
-  no_single_goal many = go (checks_of (steps_of_text text)) has.built
-    where
-      go : (asked : List Asked) → AreBuilt bound (rewritten_checks bound asked) (map not_carried asked) (problems_of session) → goal_of_checks (rewritten_checks bound asked) ≡ None
-      go [] h = refl
-      go (a ∷ []) h = absurd (many (one-problem session h))
-        where
-          one-problem : (ps : List (Parts × Bool)) → AreBuilt bound (rewritten_at bound a ∷ []) (not_carried a ∷ []) (problems_of ps) → length ps ≡ 1
-          one-problem (p ∷ []) h = refl
-          one-problem [] h = absurd h
-          one-problem (p ∷ q ∷ ps) h = absurd h.2
-      go (a ∷ b ∷ later) h = refl
-
-  module _ (one : length session ≡ 1) where
-    the-check : (a : Asked) × (checks_of (steps_of_text text) ≡ a ∷ [])
-    the-check = one-asked bound (checks_of (steps_of_text text)) (map not_carried (checks_of (steps_of_text text))) session has.built one
-
-    pub single_clean : rooted_script_fault bound text ≡ None
-    single_clean =
-        let r = reads course_fault_with_roots text (in_each_rewritten bound) has.clean in
-        let alone : checks_of r.0 ≡ the-check.0 ∷ [] = ap checks_of (sym (steps_read course_fault_with_roots text r.0 r.1)) ∙ the-check.1 in
-        last_fault course_fault_with_roots text (in_rewritten bound) r.0 r.1 ∙ ap (in_rewritten bound) alone
-        ∙ (both_none (in_rewriting bound the-check.0.script) None (sym (ap (in_each_rewritten bound) alone) ∙ r.2)).0
-
-    pub single_goal : goal_atom (rooted_commands bound text) ≡ rooted_goal_in bound text
-    single_goal =
-        ap (λ (asked : List Asked). goal_atom (or_none (only_script (rewritten_checks bound asked)))) the-check.1 ∙
-        sym (ap (λ (asked : List Asked). goal_of_checks (rewritten_checks bound asked)) the-check.1)

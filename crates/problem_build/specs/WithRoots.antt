@@ -1,5 +1,5 @@
 -- What a script without fault is where constants stand for its roots and quotients.
-use Rattle.std.specs.Prelude.{◌≡◌, ℕ, List, [], ◌∷◌, ◌++◌, map, Bool, Option, None, Result, Ok, Err}
+use Rattle.std.specs.Prelude.{◌≡◌, ℕ, List, ◌++◌, map, Bool, Option, None, Result, Ok, Err}
 use Rattle.poly_graph.specs.Problem.{Problem}
 use Rattle.poly_graph.specs.ProblemViews.{Parts, problem_of}
 use Rattle.problem_session.specs.Changes.{AreChanges, IsChange, changed, no_parts, problems_from}

@@ -25,11 +25,11 @@ mod plain;
 mod progress;
 mod reader;
 mod rewritten;
-mod rooted;
 mod script;
 mod session;
 mod top;
 mod walk;
+mod with_roots;
 
 pub use goal_atom::goal_of;
 pub use reader::{Reader, read_goal, read_problem, read_session, read_with_goal};
@@ -48,13 +48,11 @@ pub fn parts_are_problem()
 {}
 
 /// A script has one problem, so what is said of a problem of the script is said of the one that is built.
-#[tactic(auto, using(crate::proofs::One::built_one))]
 pub fn built_is_one()
     ensures { BuiltIsOne }
 {}
 
 /// Each check of a script has one problem.
-#[tactic(auto, using(crate::proofs::One::session_one))]
 pub fn session_is_one()
     ensures { SessionIsOne }
 {}

@@ -31,7 +31,7 @@ pub(crate) fn plain_goal(
 ) -> Result<(Problem, Option<u32>), ReadError>
     ensures { MatchResult result
         (λ r. HasPlainProblem bound (problem_of r.0) bytes.now ×
-            (r.1 ≡ goal_atom (plain_commands bytes.now)))
+        (r.1 ≡ goal_atom (plain_commands bytes.now)))
         (λ e. IsFaultOrMemory e (plain_script_fault bound bytes.now)) }
 {
     let sexps = read(alloc, bytes)?;

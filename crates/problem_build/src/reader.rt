@@ -10,7 +10,7 @@ ghost use Rattle.script_reading.specs.Reader.{HasProblem, commands_of};
 ghost use Rattle.script_reading.specs.Session.{HasSession};
 
 use crate::plain::{plain_goal, plain_session, plain_with_goal};
-use crate::rooted::{rooted_goal, rooted_session, rooted_with_goal};
+use crate::with_roots::{rooted_goal, rooted_session, rooted_with_goal};
 use poly_graph::Problem;
 use problem_session::Session;
 use script_fault::ReadError;
@@ -46,7 +46,7 @@ pub fn read_goal(
 ) -> Result<(Problem, Option<u32>), ReadError>
     ensures { MatchResult result
         (λ r. HasProblem bound (problem_of r.0) bytes.now ×
-            (r.1 ≡ goal_atom (commands_of bound bytes.now)))
+        (r.1 ≡ goal_atom (commands_of bound bytes.now)))
         (λ e. IsFaultOrMemory e (script_fault bound bytes.now)) }
 {
     match plain_goal(alloc, bytes, bound) {

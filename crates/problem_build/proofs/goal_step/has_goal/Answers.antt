@@ -1,5 +1,4 @@
-use Rattle.std.proofs.Common.{◌≡◌, Bool, true, cond, List, ap, sym, ◌∙◌, arith, ◌∷◌, map, length, ◌-◌, take, drop}
-use Rattle.smt_script.specs.Levels as levels
+use Rattle.std.proofs.Common.{◌≡◌, Bool, true, cond, ap, sym, ◌∙◌, arith, ◌∷◌, map, length, ◌-◌, take, drop}
 use Rattle.smt_script.specs.Views.{step_of}
 use Rattle.sort_check.proofs.Lists.{split_first}
 use Rattle.problem_build.specs.GoalStep.{has_goal}

@@ -1,4 +1,4 @@
-use Rattle.std.proofs.Common.{◌≡◌, Bool, false, List, ap, sym, ◌∙◌, map, Err}
+use Rattle.std.proofs.Common.{◌≡◌, false, List, ap, sym, ◌∙◌, map, Err}
 use Rattle.std.proofs.lemmas.Result.{err_from_is_err_and}
 use Rattle.smt_sexp.specs.Arena.{rest_of, listed}
 use Rattle.smt_script.specs.Levels.{Step, checks_of}

@@ -29,7 +29,7 @@ pub(crate) fn rooted_goal(
 ) -> Result<(Problem, Option<u32>), ReadError>
     ensures { MatchResult result
         (λ r. HasRootedProblem bound (problem_of r.0) bytes.now ×
-            (r.1 ≡ goal_atom (rooted_commands bound bytes.now)))
+        (r.1 ≡ goal_atom (rooted_commands bound bytes.now)))
         (λ e. IsFaultOrMemory e (rooted_script_fault bound bytes.now)) }
 {
     let sexps = read(alloc, bytes)?;
