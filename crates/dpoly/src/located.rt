@@ -130,22 +130,33 @@ fn last_before(
     Ok(rest.first().copied())
 }
 
+// Whether a name is one of a constant that stands for a root or a quotient.
+fn stands_for_tree(name: &[u8]) -> bool {
+    match name {
+        [b's', b'q', b'r', b't', b'(', ..] => true,
+        [b'q', b'u', b'o', b't', b'i', b'e', b'n', b't', b'(', ..] => true,
+        _ => false,
+    }
+}
+
 // Whether constants stand for roots and quotients of the script: its atoms do not stand in its order then.
-fn is_rewritten(session: &Session, alloc: Global) -> Result<bool, ReadError> {
+fn is_rewritten(alloc: Global, session: &Session) -> Result<bool, ReadError>
+    requires { 0 < length session.now }
+{
     let problem = last_problem(alloc, session)?;
-    Ok(
-        problem.axes().iter().any(|axis| {
-            let name = axis.name.as_slice();
-            name.starts_with(b"sqrt(") || name.starts_with(b"quotient(")
-        }),
-    )
+    for axis in problem.axes() {
+        if stands_for_tree(axis.name.as_slice()) {
+            return Ok(true);
+        }
+    }
+    Ok(false)
 }
 
 /// The assertion in which the atom of this number first stands, among those in force at the check of this number, from 0
 /// on; none where the script cannot be read once more, or is read with roots.
 pub fn assertion_with(alloc: Global, script: &[u8], check: usize, atom: usize) -> Option<Place> {
     let session = read_session(alloc, script, Some(1)).ok()?;
-    if session.len() == 0 || is_rewritten(&session, alloc).ok()? {
+    if session.len() == 0 || is_rewritten(alloc, &session).ok()? {
         return None;
     }
     let places = assertions(alloc, script, check).ok()?;
