@@ -19,9 +19,9 @@ from copy import copy
 from fractions import Fraction
 from math import inf
 
-from dpoly_intervals import UNIT, down, factor, less, meet, minus, plus, root, root_within, rounded, square, times, up, within
+from dpoly_intervals import UNIT, down, factor, less, meet, minus, plus, root, root_within, rounded, square, times, within
 from dpoly_roots import rewritten
-from dpoly_script import SCRIPT_FAULTS, WIDEST, Names, Problem, ScriptFault, read_expressions, steps_of
+from dpoly_script import SCRIPT_FAULTS, WIDEST, Names, Problem, ScriptFault, Terms, read_expressions, steps_of
 
 CERTIFICATE_FAULTS = 'BadHeader BadNumber RuleFails Missing Extra WrongBound NotShown BadLine LineTooLong'.split()
 
