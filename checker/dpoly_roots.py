@@ -5,7 +5,7 @@ from fractions import Fraction
 from math import inf
 
 from dpoly_intervals import UNIT, down, less, minus, plus, quotient, root, rounded, times, up
-from dpoly_script import MOST, THEORIES, Axis, Check, Claim, Expression, Named, ScriptFault, digits_at, goal_claim, name_text, run
+from dpoly_script import MOST, THEORIES, Axis, Check, Claim, Expression, Named, Names, ScriptFault, digits_at, goal_claim, name_text, run
 
 MOST_SIZE, MOST_TOKENS = 1048576, 4194304
 TOO_WIDE = 2**62 + 1  # stands for an end that is not there
@@ -325,6 +325,7 @@ def rewritten(check, script, bound):
         raise ScriptFault('LeftOut', at)
     rewriting = Rewriting(trees, bound)
     if not rewriting.table:
+        Names(check.commands)  # a root that nothing uses is a name that is not known
         return check._replace(extends=False)
     claims, tokens = [], 0
     for claim, count in rewriting.claims():
@@ -340,4 +341,4 @@ def rewritten(check, script, bound):
             raise ScriptFault('TooMany', tree.at, 'Axes')
         named[name] = Named('Real', len(axes), {}, None)
         axes.append(Axis(name, 'Real', tree.at))
-    return Check(named, axes, claims, False)
+    return Check(named, axes, claims, [], False)

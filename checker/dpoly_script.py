@@ -195,11 +195,10 @@ def result_sort(name, sorts):
 
 # An assertion, or a goal as the assertion for which it stands, with its command's place.
 Claim = namedtuple('Claim', 'at expression is_goal')
-# What is in force somewhere in a script: the top-level names with what they stand for, the axes, the assertions, and how many
-# commands these are.
-Force = namedtuple('Force', 'named axes assertions count')
+# What is in force somewhere in a script: the top-level names with what they stand for, the axes, the assertions, and the commands.
+Force = namedtuple('Force', 'named axes assertions commands')
 # What is in force at a check, and whether all commands in force at the check before are so up to this one.
-Check = namedtuple('Check', 'named axes assertions extends')
+Check = namedtuple('Check', 'named axes assertions commands extends')
 
 
 def goal_claim(term, at):
@@ -215,31 +214,32 @@ class Names:
     before the first command."""
     def __init__(self, steps, roots=False):
         self.theory = {'sqrt': Named('Real', None, {'': 'Real'}, None)} if roots else {}
-        self.named, self.axes, self.assertions, self.count = dict(self.theory), [], [], 0
+        self.named, self.axes, self.assertions, self.commands = dict(self.theory), [], [], []
         self.checks, levels, before, extends = [], [], 0, False  # what was in force before each open level
         for step in steps:
             if step.word == 'push':
                 levels += [self.in_force()] * step.arguments
             elif step.word == 'pop' and step.arguments:
-                self.named, self.axes, self.assertions, self.count = levels[-step.arguments]
-                self.named, self.axes, self.assertions, _ = self.in_force()  # what is in force at several levels is shared by them
+                self.named, self.axes, self.assertions, self.commands = levels[-step.arguments]
+                self.named, self.axes, self.assertions, self.commands = self.in_force()  # several levels share what is in force at them
                 del levels[-step.arguments :]
             elif step.word in ('reset', 'reset-assertions'):
-                self.named, self.axes, self.assertions, self.count, levels = dict(self.theory), [], [], 0, []
+                self.named, self.axes, self.assertions, self.commands, levels = dict(self.theory), [], [], [], []
             elif step.word == 'check-sat':
-                self.checks.append(Check(*self.in_force()[:3], extends))
-                before, extends = self.count, True
+                self.checks.append(Check(*self.in_force(), extends))
+                before, extends = len(self.commands), True
             else:
                 self.take(*step)
-            extends = extends and self.count >= before
+            extends = extends and len(self.commands) >= before
 
     def in_force(self):
         """What is in force, as it is now."""
-        return Force(dict(self.named), list(self.axes), list(self.assertions), self.count)
+        return Force(dict(self.named), list(self.axes), list(self.assertions), list(self.commands))
 
     def take(self, word, at, arguments):
         """Takes a command that is checked for names and sorts."""
-        self.count += word in ('declare-const', 'declare-fun', 'define-fun', 'assert', 'minimize')
+        if word in ('declare-const', 'declare-fun', 'define-fun', 'assert', 'minimize'):
+            self.commands.append(Step(word, at, arguments))
         if word in ('declare-const', 'declare-fun'):
             name, sort = arguments[0].value, arguments[-1].value
             self.check_new(name, self.named, at)
