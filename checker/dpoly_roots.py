@@ -260,7 +260,7 @@ class Rewriting:
             yield of(at, '=', of(at, '*', c, c), parts[0][0]), 8 + parts[0][1]
             return
         interval = quotient_of(*ranges)
-        for name, at_end in ('>=', 0), ('<=', 1) if interval else ():
+        for comparison, at_end in (('>=', 0), ('<=', 1)) if interval else ():
             end = interval[at_end]
             if abs(end) == inf:
                 limit, count = numeral(TOO_WIDE, at), 1
@@ -269,7 +269,7 @@ class Rewriting:
                 units = end // 2**100 if at_end == 0 else -(-end // 2**100)
                 limit, count = parts_of(units, at), 8 if end < 0 else 5
                 limit = of(at, '-', limit) if end < 0 and not units else limit
-            yield of(at, name, c, limit), 4 + count
+            yield of(at, comparison, c, limit), 4 + count
         yield of(at, '=', of(at, '*', c, parts[1][0]), parts[0][0]), 7 + parts[1][1] + parts[0][1]
 
     def claims(self):
