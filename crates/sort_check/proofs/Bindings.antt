@@ -2,13 +2,12 @@
 use Rattle.std.proofs.Common.{◌≡◌, ℕ, List, [], ◌∷◌, ◌++◌, map, Bool, true, false, cond, Option, Some, None, refl, ap, sym, ◌∙◌, true≢false}
 use Rattle.std.specs.Prelude.{is_some}
 use Rattle.script_model.specs.Sexp.{Place, numeral, decimal, symbol, reserved, string, keyword, Sexp, leaf, group, Sexps, none, more, bang, let_word}
-use Rattle.script_model.specs.Reading.{Names, Named, value, Label, meaning, group_meaning, bound_names, one_name, binding_meanings, values_bound, let_meaning}
+use Rattle.script_model.specs.Reading.{Names, value, Label, meaning, group_meaning, bound_names, one_name, binding_meanings, values_bound, let_meaning}
 use Rattle.smt_sexp.specs.Arena.{first_of}
 use Rattle.smt_script.specs.Forms.{as_any, is_end}
-use Rattle.dyadic.specs.Point.{Sort}
 use Rattle.smt_script.specs.Views.{sort_of, parameter_of}
 use Rattle.smt_script.specs.declared.command.Parameter as code_parameter
-use Rattle.sort_check.specs.Sorts.{Sorted, SortFault, of_sort, ill, sort_mismatch, redeclared, sorting, binding_sort, first_of_two, of_name, is_taken, parameter_names}
+use Rattle.sort_check.specs.Sorts.{Sorted, of_sort, ill, sort_mismatch, redeclared, sorting, binding_sort, first_of_two, of_name, is_taken, parameter_names}
 use Rattle.sort_check.specs.Forms.{as_binding, let_at, bound_from, labels_of}
 use Rattle.sort_check.specs.Views.{around, names_back}
 
@@ -127,16 +126,6 @@ pub group_bang_at : (env : Names Sorted) (at p : Place) (items rest : Sexps) →
     group_meaning sorting env at items ≡ meaning sorting env (first_of rest)
 group_bang_at env at p items none h g = absurd (true≢false g)
 group_bang_at env at p items (more e rest) h g = ap (group_meaning sorting env at) h
-
--- a binding's expression has a fault
-pub fails_first : (s : Sorted) (at : Place) (f : SortFault) (rest : Sorted) → s ≡ ill at f → first_of_two s rest ≡ ill at f
-fails_first s at f rest h = ap (λ x. first_of_two x rest) h
-
-pub passes_first : (s : Sorted) (t : Sort) (rest : Sorted) → s ≡ of_sort t → first_of_two s rest ≡ rest
-passes_first s t rest h = ap (λ x. first_of_two x rest) h
-
-abbrev pub valued : Sorted → Named Sorted
-valued v = value v
 
 pub back_after : (bound : List code_parameter.Parameter) (p : code_parameter.Parameter) → names_back (map parameter_of (bound ++ p ∷ [])) [] ≡ p.name.now ∷ names_back (map parameter_of bound) []
 back_after bound p = from [] bound

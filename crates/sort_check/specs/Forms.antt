@@ -1,5 +1,5 @@
 -- The bindings of a `let`.
-use Rattle.std.specs.Prelude.{◌≡◌, ℕ, ◌<◌, List, [], ◌++◌, true, Option, Some, None, is_some, Result, Ok, Err, map, Vec}
+use Rattle.std.specs.Prelude.{◌≡◌, ℕ, ◌<◌, List, [], ◌++◌, true, Option, Some, None, is_some, Result, Ok, Err, Vec}
 use Rattle.std.specs.Borrow.{Bor}
 use Rattle.script_model.specs.Sexp.{Place, symbol, Sexp, leaf, group, Sexps, none, more}
 use Rattle.script_model.specs.Reading.{Names, Label, meaning, bound_names, binding_meanings, values_bound, let_meaning}
@@ -9,10 +9,8 @@ use Rattle.script_fault.specs.declared.place.Place as code
 use Rattle.script_fault.specs.declared.name.Name as names
 use Rattle.smt_sexp.specs.declared.sexps.Sexps as arena
 use Rattle.smt_script.specs.Forms.{Behind}
-use Rattle.smt_script.specs.Views.{parameter_of}
-use Rattle.smt_script.specs.declared.command.Parameter as code_parameter
 use Rattle.smt_script.specs.declared.command.Sort as code_sort
-use Rattle.sort_check.specs.Sorts.{Sorted, ill, sort_mismatch, sorting, binding_sort, first_ill, parameter_names}
+use Rattle.sort_check.specs.Sorts.{Sorted, ill, sort_mismatch, sorting, binding_sort, first_ill}
 use Rattle.sort_check.specs.Views.{fault_of, sorts_seen}
 use Rattle.sort_check.specs.declared.stop.Stop.{Stop}
 use Rattle.sort_check.specs.declared.stop.Stop.TheVariants as stops
@@ -59,10 +57,3 @@ abbrev pub Lists : {A : Type 0} → Result (Vec code_sort.Sort A) Stop → List 
 Lists (Ok ss) said = said ≡ sorts_seen ss.items
 Lists (Err (stops.Fault at f)) said = first_ill said ≡ Some (ill (place_of at) (fault_of f))
 Lists (Err stops.Memory) said = Unit {0}
-
--- the bindings of a `let`, or the first fault
-abbrev pub Binds : Result (List code_parameter.Parameter) Stop → Names Sorted → Sexps → Type 0
-Binds (Ok bound) env items =
-    ((body : Sorted) → bound_from [] env items body ≡ body) × (binding_meanings sorting env items ≡ parameter_names (map parameter_of bound))
-Binds (Err (stops.Fault at f)) env items = (body : Sorted) → bound_from [] env items body ≡ ill (place_of at) (fault_of f)
-Binds (Err stops.Memory) env items = Unit {0}
