@@ -8,6 +8,7 @@
 mod draft;
 mod files;
 mod messages;
+mod outputs;
 mod parts;
 mod reading;
 mod ticker;
@@ -15,5 +16,6 @@ mod words;
 
 pub use files::{FileDesk, Trouble};
 pub use messages::{Messages, printable};
+pub use outputs::{is_same_file, try_to_write};
 pub use ticker::Ticker;
 pub use words::words_of;
