@@ -7,6 +7,7 @@
 
 mod draft;
 mod files;
+mod hints;
 mod messages;
 mod outputs;
 mod parts;

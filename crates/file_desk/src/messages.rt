@@ -2,6 +2,7 @@
 ghost use Rattle.std.specs.Prelude.{◌<◌};
 
 use crate::files::FileDesk;
+use crate::hints::hint_for;
 use desk::Port;
 use std::alloc::{AllocError, Global};
 use std::fs;
@@ -31,6 +32,14 @@ fn line_at(script: &[u8], number: usize) -> Option<&[u8]>
     requires { 0 < number }
 {
     script.split(|byte| *byte == b'\n').nth(number - 1)
+}
+
+// What stands in the script from the place to the end of its line.
+fn text_at(script: &[u8], at: Spot) -> &[u8] {
+    match line_at(script, at.line.max(1)) {
+        Some(line) => line.get(at.column.saturating_sub(1)..).unwrap_or(&[]),
+        None => &[],
+    }
 }
 
 // What stands for a byte of a script, so that each takes one column.
@@ -161,15 +170,31 @@ impl<'a> Messages<'a> {
         }
     }
 
-    /// Says which script is refused, for what, and shows its line.
+    // Shows the place of a fault in the script, and answers what stands there.
+    fn place_shown<'s>(&self, rt: &HostRuntime, script: &'s [u8], at: Spot) -> &'s [u8] {
+        self.show_place(rt, script, at.line, at.column);
+        text_at(script, at)
+    }
+
+    // Says what would help with the script that is refused by this answer, with this at the answer's place in it.
+    fn help(&self, rt: &HostRuntime, answer: &str, behind: &[u8]) {
+        if let Some(help) = hint_for(answer, behind) {
+            let program = self.program;
+            let _ = eprintln!(rt; "{program}: {help}");
+        }
+    }
+
+    /// Says which script is refused, for what, shows its line, and says what would help.
     pub fn script_refused(&self, rt: &HostRuntime, desk: &FileDesk) {
         let text = desk.answer();
         self.say(rt, source(self.script), text);
         let Some(at) = spot_in(text) else {
+            self.help(rt, text, &[]);
             return;
         };
         if let Some(script) = self.script_text(rt, desk) {
-            self.show_place(rt, &script, at.line, at.column);
+            let behind = self.place_shown(rt, &script, at);
+            self.help(rt, text, behind);
         }
     }
 
