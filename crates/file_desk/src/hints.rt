@@ -30,12 +30,12 @@ const HINTS: [Hint; 11] = [
     },
     Hint {
         answer: "script fault 6 UnknownSymbol ^ ",
-        at: b"^",
+        at: b"(^",
         help: "a power is written as a product: (^ x 2) as (* x x)",
     },
     Hint {
         answer: "script fault 6 UnknownSymbol pow ",
-        at: b"pow",
+        at: b"(pow",
         help: "a power is written as a product: (pow x 2) as (* x x)",
     },
     Hint {
