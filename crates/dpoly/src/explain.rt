@@ -234,11 +234,14 @@ fn script_hint(rt: &HostRuntime, desk: &FileDesk) {
 
 /// Says on standard error why the run of these words gave no answer: which word is wrong, or the help; which file could
 /// not be read or written; where the script, or the certificate, is refused. Behind an answer that leaves a question open
-/// it says what would help.
+/// it says what would help, and behind each the numbers of its point, box or bounds as decimals.
 pub fn explain(rt: &HostRuntime, words: &[String], desk: &FileDesk, status: Status) {
     let messages = messages_of(rt.alloc(), words, desk.answer());
     match status {
-        Status::Answered => hint(rt, &messages, desk, asks_least(rt.alloc(), words)),
+        Status::Answered => {
+            hint(rt, &messages, desk, asks_least(rt.alloc(), words));
+            messages.decimals(rt, desk);
+        }
         Status::Usage => {
             if let Ok(text) = usage_text(rt.alloc(), words) {
                 let _ = rt.eprint(text);

@@ -5,6 +5,7 @@
 //! what standard error shows.
 #![tactic(auto)]
 
+mod decimals;
 mod draft;
 mod files;
 mod hints;

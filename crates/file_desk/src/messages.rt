@@ -1,14 +1,18 @@
 // What standard error says of a run that gave no answer: for people to read, and promised by no clause.
 ghost use Rattle.std.specs.Prelude.{◌<◌};
 
+use crate::decimals::decimals_of;
 use crate::files::FileDesk;
 use crate::hints::hint_for;
 use desk::Port;
 use std::alloc::{AllocError, Global};
-use std::fs;
+use std::{fs, io};
 
 /// At most so many bytes of a script's line are shown.
 const WINDOW: usize = 100;
+
+/// At most so many lines of an answer are said again as decimals.
+const MOST_LINES: usize = 32;
 
 /// Where a script is refused: the line and the column, in bytes, both from 1.
 #[derive(Clone, Copy, Debug, PartialEq, Eq)]
@@ -195,6 +199,43 @@ impl<'a> Messages<'a> {
         if let Some(script) = self.script_text(rt, desk) {
             let behind = self.place_shown(rt, &script, at);
             self.help(rt, text, behind);
+        }
+    }
+
+    // Says the numbers of a line of an answer as decimals: of an axis of a point, or of a box, or a bound of a least value.
+    fn line_as_decimals(&self, rt: &HostRuntime, line: &str) -> Result<(), AllocError> {
+        let Some((rest, last)) = line.rsplit_once(' ') else {
+            return Ok(());
+        };
+        let Some(upper) = decimals_of(rt.alloc(), last)? else {
+            return Ok(());
+        };
+        let program = self.program;
+        let _ = match rest.rsplit_once(' ') {
+            Some((name, first)) => match decimals_of(rt.alloc(), first)? {
+                Some(lower) => {
+                    let name = printable(rt.alloc(), name)?;
+                    eprintln!(rt; "{program}: {name} from {lower} to {upper}")
+                }
+                None => self.say_decimal(rt, rest, &upper),
+            },
+            None => self.say_decimal(rt, rest, &upper),
+        };
+        Ok(())
+    }
+
+    fn say_decimal(&self, rt: &HostRuntime, name: &str, value: &str) -> io::Result<()> {
+        let program = self.program;
+        let name = printable(rt.alloc(), name)?;
+        eprintln!(rt; "{program}: {name} = {value}")
+    }
+
+    /// Says the numbers of an answer as decimals, those of its first lines, behind which margins and deltas are left out.
+    pub fn decimals(&self, rt: &HostRuntime, desk: &FileDesk) {
+        for line in desk.answer().lines().take(MOST_LINES) {
+            if !line.starts_with("margin ") && !line.starts_with("delta ") {
+                let _ = self.line_as_decimals(rt, line);
+            }
         }
     }
 
