@@ -128,16 +128,6 @@ pub group_bang_at : (env : Names Sorted) (at p : Place) (items rest : Sexps) →
 group_bang_at env at p items none h g = absurd (true≢false g)
 group_bang_at env at p items (more e rest) h g = ap (group_meaning sorting env at) h
 
--- a binding's expression has a fault
-pub fails_first : (s : Sorted) (at : Place) (f : SortFault) (rest : Sorted) → s ≡ ill at f → first_of_two s rest ≡ ill at f
-fails_first s at f rest h = ap (λ x. first_of_two x rest) h
-
-pub passes_first : (s : Sorted) (t : Sort) (rest : Sorted) → s ≡ of_sort t → first_of_two s rest ≡ rest
-passes_first s t rest h = ap (λ x. first_of_two x rest) h
-
-abbrev pub valued : Sorted → Named Sorted
-valued v = value v
-
 pub back_after : (bound : List code_parameter.Parameter) (p : code_parameter.Parameter) → names_back (map parameter_of (bound ++ p ∷ [])) [] ≡ p.name.now ∷ names_back (map parameter_of bound) []
 back_after bound p = from [] bound
   where

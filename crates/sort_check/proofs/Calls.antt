@@ -10,9 +10,9 @@ use Rattle.smt_script.specs.declared.command.Sort as code_sort
 use Rattle.sort_check.specs.declared.names.Known.TheVariants as known
 use Rattle.sort_check.specs.declared.names.Head.{Head}
 use Rattle.sort_check.specs.declared.names.Head.TheVariants as head
-use Rattle.sort_check.specs.Sorts.{Sorted, of_sort, ill, mismatched, sort_mismatch, sorting, first_ill, or_first, operator_sort, placed_call, fit, if_takes, because, one_real}
-use Rattle.sort_check.specs.Views.{Heads, bare_sort, head_sort, sort_seen, sorts_seen, operator_of}
-use Rattle.sort_check.proofs.Lists.{first_ill-seen, first_ill-none}
+use Rattle.sort_check.specs.Sorts.{Sorted, of_sort, ill, mismatched, sort_mismatch, sorting, first_ill, or_first, placed_call, fit, if_takes, because, one_real}
+use Rattle.sort_check.specs.Views.{Heads, bare_sort, sort_seen, sorts_seen}
+use Rattle.sort_check.specs.Walking.{call_sort}
 
 -- ---- arguments
 
@@ -28,64 +28,27 @@ pub seen_last : (ss : List code_sort.Sort) (s : code_sort.Sort) (rest : List Sor
 seen_last [] s rest = refl
 seen_last (t ∷ ss) s rest = ap (λ r. sort_seen t ∷ r) (seen_last ss s rest)
 
--- an argument has a fault, and those before it none
-pub first_fails : (ss : List code_sort.Sort) (e x : Sorted) (rest said : List Sorted) → said ≡ sorts_seen ss ++ (e ∷ rest) → first_ill (e ∷ []) ≡ Some x → first_ill (e ∷ rest) ≡ Some x → first_ill said ≡ Some x
-first_fails ss e x rest said said_is h g = ap first_ill said_is ∙ first_ill-seen ss (e ∷ rest) ∙ g
-
 -- ---- calls
 
 placed : (at : Place) (b : Bool) (s : Sort) → placed_call at (cond b (of_sort s) mismatched) ≡ if_takes at b s
 placed at true s = refl
 placed at false s = refl
 
-app : (env : Names Sorted) (at : Place) (x : List ℕ) (h : Head) (s : code_sort.Sort) (ss : List code_sort.Sort) → Heads (Some h) x env →
-    application sorting env at x (found x operators) (sorts_seen (s ∷ ss)) ≡ head_sort at h (sorts_seen (s ∷ ss))
-app env at x (head.Operator o) s ss e =
-    ap (λ f. application sorting env at x f (sorts_seen (s ∷ ss))) e ∙ ap (λ i. or_first i (operator_sort at (operator_of o) (sorts_seen (s ∷ ss)))) (first_ill-none (s ∷ ss))
-app env at x (head.Known (known.Value v)) s ss (e, f) =
-    ap (λ o. application sorting env at x o (sorts_seen (s ∷ ss))) e ∙ ap (λ n. call_named sorting at x n (sorts_seen (s ∷ ss))) f ∙
-    ap (λ i. or_first i (ill at sort_mismatch)) (first_ill-none (s ∷ ss))
-app env at x (head.Known (known.Function ps r)) s ss (e, f) =
-    ap (λ o. application sorting env at x o (sorts_seen (s ∷ ss))) e ∙ ap (λ n. call_named sorting at x n (sorts_seen (s ∷ ss))) f ∙
-    ap (λ i. or_first i (placed_call at (cond (fit (map parameter_of ps.now) (sorts_seen (s ∷ ss))) (of_sort (sort_of r)) mismatched))) (first_ill-none (s ∷ ss)) ∙
-    placed at (fit (map parameter_of ps.now) (sorts_seen (s ∷ ss))) (sort_of r)
-app env at x (head.Known known.Root) s ss (e, f) =
-    ap (λ o. application sorting env at x o (sorts_seen (s ∷ ss))) e ∙ ap (λ n. call_named sorting at x n (sorts_seen (s ∷ ss))) f ∙
-    ap (λ i. or_first i (placed_call at (cond (one_real (sorts_seen (s ∷ ss))) (of_sort real_sort) mismatched))) (first_ill-none (s ∷ ss)) ∙
-    placed at (one_real (sorts_seen (s ∷ ss))) real_sort
+app : (env : Names Sorted) (at : Place) (x : List ℕ) (h : Head) (m : Sorted) (ms : List Sorted) → Heads (Some h) x env →
+    application sorting env at x (found x operators) (m ∷ ms) ≡ call_sort at h (m ∷ ms)
+app env at x (head.Operator o) m ms e = ap (λ f. application sorting env at x f (m ∷ ms)) e
+app env at x (head.Known (known.Value v)) m ms (e, f) = ap (λ o. application sorting env at x o (m ∷ ms)) e ∙ ap (λ n. call_named sorting at x n (m ∷ ms)) f
+app env at x (head.Known (known.Function ps r)) m ms (e, f) =
+    ap (λ o. application sorting env at x o (m ∷ ms)) e ∙ ap (λ n. call_named sorting at x n (m ∷ ms)) f ∙
+    ap (or_first (first_ill (m ∷ ms))) (placed at (fit (map parameter_of ps.now) (m ∷ ms)) (sort_of r))
+app env at x (head.Known known.Root) m ms (e, f) =
+    ap (λ o. application sorting env at x o (m ∷ ms)) e ∙ ap (λ n. call_named sorting at x n (m ∷ ms)) f ∙ ap (or_first (first_ill (m ∷ ms))) (placed at (one_real (m ∷ ms)) real_sort)
 
-abbrev begins : List Sorted → Bool
-begins [] = false
-begins (s ∷ ss) = true
-
-begun : (env : Names Sorted) (items : Sexps) → is_end items ≡ false → begins (meanings sorting env items) ≡ true
-begun env none h = absurd (true≢false h)
-begun env (more e rest) h = refl
-
-by_sorts : (env : Names Sorted) (at : Place) (x : List ℕ) (h : Head) (ss : List code_sort.Sort) → Heads (Some h) x env → begins (sorts_seen ss) ≡ true →
-    application sorting env at x (found x operators) (sorts_seen ss) ≡ head_sort at h (sorts_seen ss)
-by_sorts env at x h [] heads b = absurd (true≢false (sym b))
-by_sorts env at x h (s ∷ ss) heads b = app env at x h s ss heads
-
-pub applied_is : (env : Names Sorted) (at : Place) (x : List ℕ) (h : Head) (ss : List code_sort.Sort) (items : Sexps) → Heads (Some h) x env → is_end items ≡ false →
-    meanings sorting env items ≡ sorts_seen ss → application sorting env at x (found x operators) (meanings sorting env items) ≡ head_sort at h (sorts_seen ss)
-applied_is env at x h ss items heads not_end said =
-    ap (application sorting env at x (found x operators)) said ∙ by_sorts env at x h ss heads (sym (ap begins said) ∙ begun env items not_end)
-
--- a fault of the arguments is one of the call, where its head is known
-pub applied_fails : (env : Names Sorted) (at : Place) (x : List ℕ) (h : Head) (ms : List Sorted) (y : Sorted) → Heads (Some h) x env → first_ill ms ≡ Some y →
-    application sorting env at x (found x operators) ms ≡ y
-applied_fails env at x h [] y heads e = absurd (true≢false (sym (ap is_some e)))
-applied_fails env at x (head.Operator o) (m ∷ ms) y heads e =
-    ap (λ f. application sorting env at x f (m ∷ ms)) heads ∙ ap (λ i. or_first i (operator_sort at (operator_of o) (m ∷ ms))) e
-applied_fails env at x (head.Known (known.Value v)) (m ∷ ms) y (g, f) e =
-    ap (λ o. application sorting env at x o (m ∷ ms)) g ∙ ap (λ n. call_named sorting at x n (m ∷ ms)) f ∙ ap (λ i. or_first i (ill at sort_mismatch)) e
-applied_fails env at x (head.Known (known.Function ps r)) (m ∷ ms) y (g, f) e =
-    ap (λ o. application sorting env at x o (m ∷ ms)) g ∙ ap (λ n. call_named sorting at x n (m ∷ ms)) f ∙
-    ap (λ i. or_first i (placed_call at (cond (fit (map parameter_of ps.now) (m ∷ ms)) (of_sort (sort_of r)) mismatched))) e
-applied_fails env at x (head.Known known.Root) (m ∷ ms) y (g, f) e =
-    ap (λ o. application sorting env at x o (m ∷ ms)) g ∙ ap (λ n. call_named sorting at x n (m ∷ ms)) f ∙
-    ap (λ i. or_first i (placed_call at (cond (one_real (m ∷ ms)) (of_sort real_sort) mismatched))) e
+-- a call that is entered
+pub call_begins : (env : Names Sorted) (at : Place) (x : List ℕ) (h : Head) (items : Sexps) → Heads (Some h) x env → is_end items ≡ false →
+    application sorting env at x (found x operators) (meanings sorting env items) ≡ call_sort at h (meanings sorting env items)
+call_begins env at x h none heads e = absurd (true≢false e)
+call_begins env at x h (more a rest) heads e = app env at x h (meaning sorting env a) (meanings sorting env rest) heads
 
 -- ---- a name alone
 

@@ -2,6 +2,7 @@ pub mod Bindings
 pub mod Calls
 pub mod Checks
 pub mod Failures
+pub mod Falling
 pub mod Following
 pub mod Held
 pub mod Known
@@ -11,3 +12,5 @@ pub mod Marks
 pub mod Nearest
 pub mod Only
 pub mod Scopes
+pub mod Stacked
+pub mod Waiting

@@ -16,7 +16,7 @@ use Rattle.smt_sexp.specs.declared.sexps.Sexps.{Sexps}
 use Rattle.smt_script.specs.Views.{sort_of}
 use Rattle.smt_script.specs.declared.command.Parameter.{Parameter}
 use Rattle.smt_script.specs.declared.command.Sort.{Sort}
-use Rattle.sort_check.specs.Forms.{Binds, Lists, let_at}
+use Rattle.sort_check.specs.Forms.{Lists, let_at}
 use Rattle.sort_check.specs.Levels.{terms_fault}
 use Rattle.sort_check.specs.Sorts.{Finding, Sorted, operator_sort, sorting, wants}
 use Rattle.sort_check.specs.Steps.{FindsFault, Steps}
@@ -74,10 +74,6 @@ SaysSort top locals f r = (names : Names Sorted) → Knows top names → IsSortA
 
 abbrev pub ListsSorts : {S A : Type 0} → Top S → List Parameter → (Names Sorted → List Sorted) → Result (Vec Sort A) Stop → Type 0
 ListsSorts top locals f r = (names : Names Sorted) → Knows top names → Lists r (f (around locals names))
-
--- the bindings of a `let`
-abbrev pub BindsNames : {S : Type 0} → Top S → List Parameter → Sexps → ℕ → Result (List Parameter) Stop → Type 0
-BindsNames top locals sexps start r = (names : Names Sorted) → Knows top names → Binds r (around locals names) (rest_of sexps start)
 
 -- ---- faults
 

@@ -59,10 +59,3 @@ abbrev pub Lists : {A : Type 0} → Result (Vec code_sort.Sort A) Stop → List 
 Lists (Ok ss) said = said ≡ sorts_seen ss.items
 Lists (Err (stops.Fault at f)) said = first_ill said ≡ Some (ill (place_of at) (fault_of f))
 Lists (Err stops.Memory) said = Unit {0}
-
--- the bindings of a `let`, or the first fault
-abbrev pub Binds : Result (List code_parameter.Parameter) Stop → Names Sorted → Sexps → Type 0
-Binds (Ok bound) env items =
-    ((body : Sorted) → bound_from [] env items body ≡ body) × (binding_meanings sorting env items ≡ parameter_names (map parameter_of bound))
-Binds (Err (stops.Fault at f)) env items = (body : Sorted) → bound_from [] env items body ≡ ill (place_of at) (fault_of f)
-Binds (Err stops.Memory) env items = Unit {0}

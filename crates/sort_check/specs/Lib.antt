@@ -2,9 +2,11 @@ pub mod Calls
 pub mod Forms
 pub mod Levels
 pub mod Locals
+pub mod Room
 pub mod Sorts
 pub mod Scopes
 pub mod Steps
 pub mod Single
 pub mod SortAnswers
 pub mod Views
+pub mod Walking

@@ -12,7 +12,7 @@ ghost use Rattle.sort_check.specs.Sorts.{Sorted, known, new_name, sort_fault, ta
 ghost use Rattle.sort_check.specs.Views.{Knows, theory_names};
 ghost use Rattle.sort_check.specs.Steps.{FindsFault};
 
-use crate::expressions::{arguments, expression};
+use crate::expressions::{expression, terms};
 use crate::locals::{Level, Locals};
 use crate::names::{Known, is_operator, is_same, is_taken};
 use crate::scope::{Scope, Theory, stays, theory_top};
@@ -106,12 +106,11 @@ fn asked<'p, 'a>(
     alloc: Global,
     sexps: &'a Sexps,
     top: &HashMap<&'a [u8], Known<'p, 'a>>,
-    terms: usize,
+    start: usize,
 ) -> Result<(), Stop<'a>>
-    ensures { FindsAmong top.now (faults_asked sexps.now terms) result }
+    ensures { FindsAmong top.now (faults_asked sexps.now start) result }
 {
-    let locals = Locals::new(alloc);
-    arguments(alloc, sexps, top, &locals, terms)?;
+    terms(alloc, sexps, top, start)?;
     Ok(())
 }
 
@@ -140,7 +139,7 @@ fn step<'p, 'a>(
             let mut bound = Level::new(alloc);
             are_new(parameters.as_slice(), &mut bound)?;
             let locals = Locals::new(alloc).behind(alloc, bound)?;
-            wanted(alloc, sexps, top, &locals, *body, *sort)?;
+            wanted(alloc, sexps, top, locals, *body, *sort)?;
             top.insert(
                 name.as_slice(),
                 Known::Function(parameters.as_slice(), *sort),
@@ -212,7 +211,7 @@ fn wanted_at_top<'p, 'a>(
     ensures { FindsAmong top.now (wanted_sort sexps.now at sort) result }
 {
     let locals = Locals::new(alloc);
-    wanted(alloc, sexps, top, &locals, at, sort)
+    wanted(alloc, sexps, top, locals, at, sort)
 }
 
 // The fault of an expression that is to have a sort.
@@ -220,11 +219,11 @@ fn wanted<'p, 'a>(
     alloc: Global,
     sexps: &'a Sexps,
     top: &HashMap<&'a [u8], Known<'p, 'a>>,
-    locals: &Locals<'a>,
+    locals: Locals<'a>,
     at: usize,
     sort: Sort,
 ) -> Result<(), Stop<'a>>
-    ensures { FindsWithin top.now locals.now (wanted_sort sexps.now at sort) result }
+    ensures { FindsWithin top.now locals.entry (wanted_sort sexps.now at sort) result }
 {
     let found = expression(alloc, sexps, top, locals, at)?;
     if is_same(sort, found) {

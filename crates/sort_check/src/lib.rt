@@ -13,6 +13,7 @@ mod expressions;
 mod fault;
 mod force;
 mod forms;
+mod frames;
 mod locals;
 mod names;
 mod one_check;
