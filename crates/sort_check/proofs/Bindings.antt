@@ -2,13 +2,12 @@
 use Rattle.std.proofs.Common.{◌≡◌, ℕ, List, [], ◌∷◌, ◌++◌, map, Bool, true, false, cond, Option, Some, None, refl, ap, sym, ◌∙◌, true≢false}
 use Rattle.std.specs.Prelude.{is_some}
 use Rattle.script_model.specs.Sexp.{Place, numeral, decimal, symbol, reserved, string, keyword, Sexp, leaf, group, Sexps, none, more, bang, let_word}
-use Rattle.script_model.specs.Reading.{Names, Named, value, Label, meaning, group_meaning, bound_names, one_name, binding_meanings, values_bound, let_meaning}
+use Rattle.script_model.specs.Reading.{Names, value, Label, meaning, group_meaning, bound_names, one_name, binding_meanings, values_bound, let_meaning}
 use Rattle.smt_sexp.specs.Arena.{first_of}
 use Rattle.smt_script.specs.Forms.{as_any, is_end}
-use Rattle.dyadic.specs.Point.{Sort}
 use Rattle.smt_script.specs.Views.{sort_of, parameter_of}
 use Rattle.smt_script.specs.declared.command.Parameter as code_parameter
-use Rattle.sort_check.specs.Sorts.{Sorted, SortFault, of_sort, ill, sort_mismatch, redeclared, sorting, binding_sort, first_of_two, of_name, is_taken, parameter_names}
+use Rattle.sort_check.specs.Sorts.{Sorted, of_sort, ill, sort_mismatch, redeclared, sorting, binding_sort, first_of_two, of_name, is_taken, parameter_names}
 use Rattle.sort_check.specs.Forms.{as_binding, let_at, bound_from, labels_of}
 use Rattle.sort_check.specs.Views.{around, names_back}
 

@@ -1,6 +1,5 @@
 -- The sorts of calls, of their arguments and of bindings.
-use Rattle.std.proofs.Common.{◌≡◌, ℕ, List, [], ◌∷◌, ◌++◌, map, Bool, true, false, cond, Option, Some, None, refl, ap, sym, ◌∙◌, true≢false}
-use Rattle.std.specs.Prelude.{is_some}
+use Rattle.std.proofs.Common.{◌≡◌, ℕ, List, [], ◌∷◌, ◌++◌, map, Bool, true, false, cond, Option, Some, None, refl, ap, ◌∙◌, true≢false}
 use Rattle.dyadic.specs.Point.{Sort, real_sort}
 use Rattle.script_model.specs.Sexp.{Place, Sexp, Sexps, none, more}
 use Rattle.script_model.specs.Reading.{Names, found, operators, meaning, meanings, application, call_named, name_meaning, value_named, unknown}
@@ -10,7 +9,7 @@ use Rattle.smt_script.specs.declared.command.Sort as code_sort
 use Rattle.sort_check.specs.declared.names.Known.TheVariants as known
 use Rattle.sort_check.specs.declared.names.Head.{Head}
 use Rattle.sort_check.specs.declared.names.Head.TheVariants as head
-use Rattle.sort_check.specs.Sorts.{Sorted, of_sort, ill, mismatched, sort_mismatch, sorting, first_ill, or_first, placed_call, fit, if_takes, because, one_real}
+use Rattle.sort_check.specs.Sorts.{Sorted, of_sort, mismatched, sorting, first_ill, or_first, placed_call, fit, if_takes, because, one_real}
 use Rattle.sort_check.specs.Views.{Heads, bare_sort, sort_seen, sorts_seen}
 use Rattle.sort_check.specs.Walking.{call_sort}
 

@@ -1,5 +1,5 @@
 -- What is left to be done falls from turn to turn.
-use Rattle.std.proofs.Common.{◌≡◌, ℕ, zero, suc, ◌+◌, ◌*◌, ◌-◌, ◌<◌, ◌≤◌, List, [], ◌∷◌, ◌++◌, arith, refl, ap, ◌∙◌}
+use Rattle.std.proofs.Common.{◌≡◌, ℕ, zero, suc, ◌+◌, ◌*◌, ◌-◌, ◌<◌, ◌≤◌, List, [], ◌∷◌, ◌++◌, arith, ap}
 use Rattle.std.specs.Prelude.{Result, Ok, Err}
 use Rattle.smt_sexp.specs.Arena.{places_of}
 use Rattle.smt_sexp.specs.declared.sexps.Sexps as arena

@@ -16,7 +16,6 @@ use Rattle.sort_check.specs.declared.stop.Stop.{Stop}
 use Rattle.sort_check.specs.declared.stop.Stop.TheVariants as stops
 use Rattle.sort_check.specs.declared.frames.Frame.{Frame}
 use Rattle.sort_check.specs.declared.frames.Next.{Next}
-use Rattle.sort_check.specs.declared.frames.Next.TheVariants as next
 use Rattle.sort_check.proofs.Waiting.{waits_fail}
 
 module _ (s : arena.Sexps) (ns : Names Sorted) where

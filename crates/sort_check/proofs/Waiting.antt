@@ -1,10 +1,9 @@
 -- Arguments and bindings, one after the other.
-use Rattle.std.proofs.Common.{◌≡◌, ℕ, List, [], ◌∷◌, ◌++◌, map, true, false, Some, None, refl, ap, sym, subst, ◌∙◌, append-nil}
-use Rattle.std.specs.Prelude.{Result, Ok, Err, is_some}
+use Rattle.std.proofs.Common.{◌≡◌, ℕ, List, [], ◌∷◌, ◌++◌, map, true, false, Some, None, ap, sym, subst, ◌∙◌, append-nil}
+use Rattle.std.specs.Prelude.{Result, Ok, Err}
 use Rattle.std.specs.Borrow.{Bor}
-use Rattle.script_model.specs.Sexp.{Place, none}
-use Rattle.script_model.specs.Reading.{Names, Label, value, meaning, meanings, bound_names, binding_meanings}
-use Rattle.script_fault.specs.declared.place.Place as places
+use Rattle.script_model.specs.Sexp.{Place}
+use Rattle.script_model.specs.Reading.{Names, Label, value, meaning, binding_meanings}
 use Rattle.script_fault.specs.declared.name.Name as names
 use Rattle.smt_sexp.specs.Arena.{expression_at, rest_of}
 use Rattle.smt_sexp.specs.Views.{place_of}
@@ -14,9 +13,9 @@ use Rattle.smt_script.specs.Views.{parameter_of, sort_of}
 use Rattle.smt_script.specs.declared.command.Parameter.{Parameter}
 use Rattle.smt_script.specs.declared.command.Sort as code_sort
 use Rattle.sort_check.specs.Forms.{as_binding, bound_from}
-use Rattle.sort_check.specs.Sorts.{Sorted, SortFault, of_sort, ill, redeclared, sorting, first_ill, or_first, first_of_two, is_taken}
-use Rattle.sort_check.specs.Views.{IsSortAnswer, around, head_sort, names_back, sort_seen, sorts_seen}
-use Rattle.sort_check.specs.Walking.{call_sort, arguments_left, Calls, CallWaits, bindings_left, body_sort, names_bound, bound_before, Lets, LetWaits, Waits, Leaves, Turns, returned}
+use Rattle.sort_check.specs.Sorts.{Sorted, SortFault, of_sort, ill, redeclared, sorting, or_first, first_of_two, is_taken}
+use Rattle.sort_check.specs.Views.{IsSortAnswer, around, head_sort, names_back, sorts_seen}
+use Rattle.sort_check.specs.Walking.{call_sort, arguments_left, Calls, CallWaits, bindings_left, body_sort, names_bound, bound_before, Lets, LetWaits, Waits, Turns, returned}
 use Rattle.sort_check.specs.declared.stop.Stop.{Stop}
 use Rattle.sort_check.specs.declared.stop.Stop.TheVariants as stops
 use Rattle.sort_check.specs.declared.frames.Call.{Call}
@@ -24,7 +23,6 @@ use Rattle.sort_check.specs.declared.frames.Let.{Let}
 use Rattle.sort_check.specs.declared.frames.Frame.{Frame}
 use Rattle.sort_check.specs.declared.frames.Frame.TheVariants as frame
 use Rattle.sort_check.specs.declared.frames.Next.{Next}
-use Rattle.sort_check.specs.declared.frames.Next.TheVariants as next
 use Rattle.sort_check.proofs.Bindings as bindings
 use Rattle.sort_check.proofs.Calls.{meanings_are, any_meanings, seen_last}
 use Rattle.sort_check.proofs.Lists.{first_ill-seen, first_ill-none}

@@ -1,5 +1,5 @@
 -- The bindings of a `let`.
-use Rattle.std.specs.Prelude.{◌≡◌, ℕ, ◌<◌, List, [], ◌++◌, true, Option, Some, None, is_some, Result, Ok, Err, map, Vec}
+use Rattle.std.specs.Prelude.{◌≡◌, ℕ, ◌<◌, List, [], ◌++◌, true, Option, Some, None, is_some, Result, Ok, Err, Vec}
 use Rattle.std.specs.Borrow.{Bor}
 use Rattle.script_model.specs.Sexp.{Place, symbol, Sexp, leaf, group, Sexps, none, more}
 use Rattle.script_model.specs.Reading.{Names, Label, meaning, bound_names, binding_meanings, values_bound, let_meaning}
@@ -9,10 +9,8 @@ use Rattle.script_fault.specs.declared.place.Place as code
 use Rattle.script_fault.specs.declared.name.Name as names
 use Rattle.smt_sexp.specs.declared.sexps.Sexps as arena
 use Rattle.smt_script.specs.Forms.{Behind}
-use Rattle.smt_script.specs.Views.{parameter_of}
-use Rattle.smt_script.specs.declared.command.Parameter as code_parameter
 use Rattle.smt_script.specs.declared.command.Sort as code_sort
-use Rattle.sort_check.specs.Sorts.{Sorted, ill, sort_mismatch, sorting, binding_sort, first_ill, parameter_names}
+use Rattle.sort_check.specs.Sorts.{Sorted, ill, sort_mismatch, sorting, binding_sort, first_ill}
 use Rattle.sort_check.specs.Views.{fault_of, sorts_seen}
 use Rattle.sort_check.specs.declared.stop.Stop.{Stop}
 use Rattle.sort_check.specs.declared.stop.Stop.TheVariants as stops

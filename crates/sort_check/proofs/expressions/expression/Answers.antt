@@ -1,11 +1,9 @@
-use Rattle.std.proofs.Common.{◌≡◌, ◌<◌, List, [], ◌∷◌, ◌++◌, sym, ap, ◌∙◌, subst, arith}
+use Rattle.std.proofs.Common.{◌≡◌, ◌<◌, List, [], ◌∷◌, ◌++◌, sym, subst, arith}
 use Rattle.std.proofs.lemmas.Result.{err_from_is_err_and}
-use Rattle.script_model.specs.Reading.{meaning}
 use Rattle.smt_script.specs.Views.{sort_of}
-use Rattle.smt_sexp.specs.Arena.{expression_at}
 use Rattle.sort_check.specs.Calls.{sort_of_expression}
 use Rattle.sort_check.specs.Room.{frame_room, next_room, room_from}
-use Rattle.sort_check.specs.Sorts.{Sorted, of_sort, sorting}
+use Rattle.sort_check.specs.Sorts.{of_sort}
 use Rattle.sort_check.specs.Views.{around}
 use Rattle.sort_check.specs.Walking.{Leaves, Waits}
 use Rattle.sort_check.specs.declared.frames.Frame.{Frame}
