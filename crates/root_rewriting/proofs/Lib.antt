@@ -11,6 +11,7 @@ pub mod Dividing
 pub mod Drafted
 pub mod Enclosed
 pub mod Growth
+pub mod Keyed
 pub mod Listing
 pub mod Lookups
 pub mod Made

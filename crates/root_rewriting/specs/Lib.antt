@@ -9,6 +9,7 @@ pub mod Enclosures
 pub mod Ends
 pub mod Found
 pub mod LetParts
+pub mod Keys
 pub mod Limits
 pub mod Locals
 pub mod Names

@@ -1,99 +1,97 @@
 // Which trees of an arena are the same.
-ghost use Rattle.std.specs.Prelude.{◌≡◌, ◌<◌, ◌≤◌, ℕ, IfOk, MatchOption, false, length, nat_eq, slice_index, true};
+ghost use Rattle.std.specs.Prelude.{◌≡◌, ◌<◌, IfOk, length};
 ghost use Rattle.root_rewriting.specs.Classes.{AreClasses};
-ghost use Rattle.root_rewriting.specs.Nodes.{AreBelow, IsBelow, atom_of, node_tree, parts_at, tree_at, trees_in};
-ghost use Rattle.script_roots.specs.Fresh.{same_leaf, same_tree, same_trees};
-ghost use Rattle.script_roots.specs.Tree.{trees_of};
+ghost use Rattle.root_rewriting.specs.Keys.{AreKeyed, Classed, IsNextClass, atom_key, classes_at, key_view, node_key};
+ghost use Rattle.root_rewriting.specs.Nodes.{AreBelow, IsBelow, trees_in};
 
 use crate::unfold::{Atom, Node, Trees};
 use std::alloc::{AllocError, Global};
+use std::collections::HashMap;
 
-// Whether two trees without parts are the same.
-fn same_atoms(one: Atom<'_>, other: Atom<'_>) -> bool
-    ensures { result ≡ same_leaf (atom_of one.entry) (atom_of other.entry) }
+/// What trees that are the same have in common: their own digits or name, and the classes of their parts.
+#[derive(PartialEq, Eq, Hash, Drop)]
+pub(crate) enum Key<'t> {
+    Numeral(&'t [u8]),
+    Decimal(&'t [u8], &'t [u8]),
+    Symbol(&'t [u8]),
+    Applied(&'t [u8], Vec<usize>),
+    Root(usize),
+    Quotient(usize, usize),
+    Formless,
+}
+
+// The classes of parts.
+fn part_classes(alloc: Global, classes: &[usize], parts: &[usize]) -> Result<Vec<usize>, AllocError>
+    requires { AreBelow (length classes.now) parts.now }
+    ensures { IfOk result (λ cs. cs.items ≡ classes_at classes.now parts.now) }
 {
-    match (one, other) {
-        (Atom::Numeral(a), Atom::Numeral(b)) => a == b,
-        (Atom::Decimal(a, b), Atom::Decimal(c, d)) => a == c && b == d,
-        (Atom::Symbol(a), Atom::Symbol(b)) => a == b,
-        _ => false,
+    let mut found = Vec::with_capacity(alloc, parts.len())?;
+    for part in parts {
+        found.push(classes[*part])?;
+    }
+    Ok(found)
+}
+
+// The key of a tree without parts.
+fn atom_key<'a>(atom: Atom<'a>) -> Key<'a>
+    ensures { key_view result ≡ atom_key atom.entry }
+{
+    match atom {
+        Atom::Numeral(digits) => Key::Numeral(digits.as_slice()),
+        Atom::Decimal(digits, decimals) => Key::Decimal(digits.as_slice(), decimals.as_slice()),
+        Atom::Symbol(name) => Key::Symbol(name.as_slice()),
     }
 }
 
-// Whether trees are the same one by one.
-fn same_parts(trees: &Trees<'_>, classes: &[usize], ones: &[usize], others: &[usize]) -> bool
-    requires classes { AreClasses (trees_in trees.now) classes.now }
-    requires ones { AreBelow (length classes.now) ones.now }
-    requires others { AreBelow (length classes.now) others.now }
-    ensures { result ≡ same_trees (trees_of (parts_at (trees_in trees.now) ones.now))
-        (trees_of (parts_at (trees_in trees.now) others.now)) }
+// The key of a tree, by the classes of its parts.
+fn key_of<'a>(alloc: Global, classes: &[usize], node: &Node<'a>) -> Result<Key<'a>, AllocError>
+    requires { IsBelow (length classes.now) node.now }
+    ensures { IfOk result (λ key. key_view key ≡ node_key classes.now node.now) }
 {
-    if ones.len() != others.len() {
-        return false;
-    }
-    for k in 0..ones.len() {
-        if classes[ones[k]] != classes[others[k]] {
-            return false;
+    match node {
+        Node::Atomic(_, atom) => Ok(atom_key(*atom)),
+        Node::Applied(_, name, parts) => {
+            let parts = part_classes(alloc, classes, parts.as_slice())?;
+            Ok(Key::Applied(name.as_slice(), parts))
         }
-    }
-    true
-}
-
-// Whether the trees of two nodes are the same.
-fn same_nodes(trees: &Trees<'_>, classes: &[usize], one: &Node<'_>, other: &Node<'_>) -> bool
-    requires classes { AreClasses (trees_in trees.now) classes.now }
-    requires one { IsBelow (length classes.now) one.now }
-    requires other { IsBelow (length classes.now) other.now }
-    ensures { result ≡
-        same_tree (node_tree (trees_in trees.now) one.now) (node_tree (trees_in trees.now) other.now) }
-{
-    match (one, other) {
-        (Node::Atomic(_, a), Node::Atomic(_, b)) => same_atoms(*a, *b),
-        (Node::Applied(_, a, ones), Node::Applied(_, b, others)) => {
-            **a == **b && same_parts(trees, classes, ones, others)
+        Node::Root(_, part) => Ok(Key::Root(classes[*part])),
+        Node::Quotient(_, dividend, divisor) => {
+            Ok(Key::Quotient(classes[*dividend], classes[*divisor]))
         }
-        (Node::Root(_, a), Node::Root(_, b)) => classes[*a] == classes[*b],
-        (Node::Quotient(_, a, b), Node::Quotient(_, c, d)) => {
-            classes[*a] == classes[*c] && classes[*b] == classes[*d]
-        }
-        (Node::Formless(_), Node::Formless(_)) => true,
-        _ => false,
+        Node::Formless(_) => Ok(Key::Formless),
     }
 }
 
-// The place of an earlier tree that is the same as a node's.
-fn earlier(trees: &Trees<'_>, classes: &[usize], node: &Node<'_>) -> Option<usize>
-    requires classes { AreClasses (trees_in trees.now) classes.now }
-    requires node { IsBelow (length classes.now) node.now }
-    requires all { length classes.now ≤ length trees.now }
-    ensures { MatchOption result
-        ((k : ℕ) → k < length classes.now → same_tree (tree_at (trees_in trees.now) k)
-        (node_tree (trees_in trees.now) node.now) ≡ false)
-        (λ k. (k < length classes.now) × (same_tree (tree_at (trees_in trees.now) k)
-        (node_tree (trees_in trees.now) node.now) ≡ true)) }
+// The class of a key, which is this new one where it has none.
+fn class_of<'a>(
+    classes: &mut HashMap<Key<'a>, usize>,
+    key: Key<'a>,
+    new: usize,
+) -> Result<usize, AllocError>
+    ensures { IfOk result (Classed classes.old classes.new key.entry new) }
 {
-    for k in 0..classes.len() {
-        if same_nodes(trees, classes, trees.look(k), node) {
-            return Some(k);
-        }
+    if let Some(class) = classes.get(&key) {
+        return Ok(*class);
     }
-    None
+    classes.insert(key, new)?;
+    Ok(new)
 }
 
 // The class of the next tree.
-fn next_class(trees: &Trees<'_>, classes: &[usize]) -> usize
+fn next_class<'a>(
+    alloc: Global,
+    trees: &Trees<'a>,
+    classes: &[usize],
+    of_keys: &mut HashMap<Key<'a>, usize>,
+) -> Result<usize, AllocError>
     requires classes { AreClasses (trees_in trees.now) classes.now }
+    requires keyed { AreKeyed (trees_in trees.now) classes.now of_keys.old }
     requires some { length classes.now < length trees.now }
-    ensures below { result ≤ length classes.now }
-    ensures same { (k : ℕ) → k < length classes.now → nat_eq (slice_index classes.now k) result ≡
-        same_tree (tree_at (trees_in trees.now) k)
-        (tree_at (trees_in trees.now) (length classes.now)) }
+    ensures { IfOk result (IsNextClass (trees_in trees.now) classes.now of_keys.new) }
 {
     let at = classes.len();
-    match earlier(trees, classes, trees.look(at)) {
-        Some(k) => classes[k],
-        None => at,
-    }
+    let key = key_of(alloc, classes, trees.look(at))?;
+    class_of(of_keys, key, at)
 }
 
 /// For each tree the number of its class: equal for trees that are the same.
@@ -101,9 +99,10 @@ pub(crate) fn classes(alloc: Global, trees: &Trees<'_>) -> Result<Vec<usize>, Al
     ensures classes { IfOk result (λ cs. AreClasses (trees_in trees.now) cs.items) }
     ensures all { IfOk result (λ cs. length cs.items ≡ length trees.now) }
 {
-    let mut classes = Vec::new(alloc);
+    let mut classes = Vec::with_capacity(alloc, trees.len())?;
+    let mut of_keys = HashMap::new(alloc);
     while classes.len() < trees.len() {
-        let class = next_class(trees, classes.as_slice());
+        let class = next_class(alloc, trees, classes.as_slice(), &mut of_keys)?;
         classes.push(class)?;
     }
     Ok(classes)
