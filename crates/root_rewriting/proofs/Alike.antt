@@ -1,21 +1,17 @@
 -- Classes of trees.
-use Rattle.std.proofs.Common.{◌≡◌, ◌<◌, ◌≤◌, ◌+◌, ℕ, zero, suc, List, [], ◌∷◌, ◌++◌, Bool, true, false, ◌&&◌, length, get_or, refl, ap, ap₂, sym, ◌∙◌, subst, arith, ◌⊎◌, inl, inr}
+use Rattle.std.proofs.Common.{◌≡◌, ◌<◌, ◌≤◌, ◌+◌, ℕ, zero, suc, List, [], ◌∷◌, ◌++◌, Bool, true, false, length, get_or, refl, ap, ap₂, sym, ◌∙◌, subst, arith, ◌⊎◌, inl, inr}
 use Rattle.std.specs.Prelude.{nat_eq}
 use Rattle.std.proofs.lemmas.Bool.{eq-eqb, eqb-true}
 use Rattle.std.proofs.lemmas.Cmp.{nat_eq_equiv}
 use Rattle.std.proofs.lemmas.List.{get_or_append_left, get_or_push, length_push}
-use Rattle.script_roots.specs.Tree.{Tree, trees_of}
-use Rattle.script_roots.specs.Fresh.{same_tree, same_trees}
-use Rattle.root_rewriting.specs.Nodes.{AreBelow, IsBelow, ShowsNode, node_tree, parts_at, tree_at}
+use Rattle.script_roots.specs.Tree.{Tree}
+use Rattle.script_roots.specs.Fresh.{same_tree}
+use Rattle.root_rewriting.specs.Nodes.{AreBelow, IsBelow, ShowsNode, node_tree, tree_at}
 use Rattle.root_rewriting.specs.declared.unfold.trees.Node.{Node}
 use Rattle.root_rewriting.specs.declared.unfold.trees.Node.TheVariants as nodes
 use Rattle.root_rewriting.proofs.Arena.{tree_got}
 use Rattle.root_rewriting.specs.Classes.{AreClasses}
 use Rattle.root_rewriting.proofs.Same.{same_back, same_itself, same_right}
-
-and_false : (a : Bool) → a && false ≡ false
-and_false true = refl
-and_false false = refl
 
 pub unequal : (a b : ℕ) → (a ≡ b → ⊥) → nat_eq a b ≡ false
 unequal a b ne = go (nat_eq a b) refl
@@ -26,13 +22,13 @@ unequal a b ne = go (nat_eq a b) refl
 
 -- ---- nodes
 
-pub parts_more : (m n : ℕ) (ks : List ℕ) → m ≤ n → AreBelow m ks → AreBelow n ks
-parts_more m n [] le h = tt
-parts_more m n (k ∷ ks) le h = let lt : k < m = h.0 in (omega arith, parts_more m n ks le h.1)
+parts-more : (m n : ℕ) (ks : List ℕ) → m ≤ n → AreBelow m ks → AreBelow n ks
+parts-more m n [] le h = tt
+parts-more m n (k ∷ ks) le h = let lt : k < m = h.0 in (omega arith, parts-more m n ks le h.1)
 
 pub node_more : (m n : ℕ) (node : Node) → m ≤ n → IsBelow m node → IsBelow n node
 node_more m n (nodes.Atomic at a) le h = tt
-node_more m n (nodes.Applied at name ks) le h = parts_more m n ks.items le h
+node_more m n (nodes.Applied at name ks) le h = parts-more m n ks.items le h
 node_more m n (nodes.Root at k) le h = omega arith
 node_more m n (nodes.Quotient at k d) le h = let a : k < m = h.0 in let b : d < m = h.1 in (omega arith, omega arith)
 node_more m n (nodes.Formless at) le h = tt
@@ -51,41 +47,8 @@ module _ (ts : List Tree) (cs : List ℕ) (c : AreClasses ts cs) where
   abbrev class : ℕ → ℕ
   class k = get_or cs k 0
 
-  abbrev pub AllSame : List ℕ → List ℕ → Bool
-  AllSame xs ys = same_trees (trees_of (parts_at ts xs)) (trees_of (parts_at ts ys))
-
   pub class_same : (x y : ℕ) → x < length cs → y < length cs → class x ≡ class y → same_tree (tree_at ts x) (tree_at ts y) ≡ true
   class_same x y hx hy e = sym (c.same x y hx hy) ∙ eq-eqb (class x) (class y) e
-
-  pub class_differs : (x y : ℕ) → x < length cs → y < length cs → (class x ≡ class y → ⊥) → same_tree (tree_at ts x) (tree_at ts y) ≡ false
-  class_differs x y hx hy ne = sym (c.same x y hx hy) ∙ unequal (class x) (class y) ne
-
-  pub lengths_differ : (xs ys : List ℕ) → (length xs ≡ length ys → ⊥) → AllSame xs ys ≡ false
-  lengths_differ [] [] ne = absurd (ne refl)
-  lengths_differ [] (y ∷ ys) ne = refl
-  lengths_differ (x ∷ xs) [] ne = refl
-  lengths_differ (x ∷ xs) (y ∷ ys) ne =
-      ap (λ b. same_tree (tree_at ts x) (tree_at ts y) && b) (lengths_differ xs ys (λ e. ne (ap suc e))) ∙ and_false (same_tree (tree_at ts x) (tree_at ts y))
-
-  pub one_differs : (xs ys : List ℕ) (k : ℕ) → AreBelow (length cs) xs → AreBelow (length cs) ys → length xs ≡ length ys → k < length xs →
-      (class (get_or xs k 0) ≡ class (get_or ys k 0) → ⊥) → AllSame xs ys ≡ false
-  one_differs [] ys k hx hy l lt ne = absurd (omega arith)
-  one_differs (x ∷ xs) [] k hx hy l lt ne = absurd (omega (arith, l))
-  one_differs (x ∷ xs) (y ∷ ys) zero hx hy l lt ne = ap (λ b. b && AllSame xs ys) (class_differs x y hx.0 hy.0 ne)
-  one_differs (x ∷ xs) (y ∷ ys) (suc k) hx hy l lt ne =
-      let less : k < length xs = omega arith in
-      let same : length xs ≡ length ys = omega (arith, l) in
-      ap (λ b. same_tree (tree_at ts x) (tree_at ts y) && b) (one_differs xs ys k hx.1 hy.1 same less ne) ∙ and_false (same_tree (tree_at ts x) (tree_at ts y))
-
-  pub all_equal : (xs ys : List ℕ) → AreBelow (length cs) xs → AreBelow (length cs) ys → length xs ≡ length ys →
-      ((k : ℕ) → k < length xs → class (get_or xs k 0) ≡ class (get_or ys k 0)) → AllSame xs ys ≡ true
-  all_equal [] [] hx hy l h = refl
-  all_equal [] (y ∷ ys) hx hy l h = absurd (omega (arith, l))
-  all_equal (x ∷ xs) [] hx hy l h = absurd (omega (arith, l))
-  all_equal (x ∷ xs) (y ∷ ys) hx hy l h =
-      let same : length xs ≡ length ys = omega (arith, l) in
-      let first : class x ≡ class y = h 0 (omega arith) in
-      ap₂ (λ a b. a && b) (class_same x y hx.0 hy.0 first) (all_equal xs ys hx.1 hy.1 same (λ k lt. h (suc k) (omega arith)))
 
 -- ---- one class more
 

@@ -1,5 +1,5 @@
 -- Trees by their keys.
-use Rattle.std.proofs.Common.{◌≡◌, ◌<◌, ◌≤◌, ◌+◌, ℕ, zero, suc, List, [], ◌∷◌, ◌++◌, Bool, true, false, cond, ◌&&◌, map, length, get_or, bytes_eq, nat_eq, eqb→eq, Some, None, refl, ap, ap₂, sym, ◌∙◌, subst, arith, true≢false, ◌⊎◌, inl, inr}
+use Rattle.std.proofs.Common.{◌≡◌, ◌<◌, ◌≤◌, ◌+◌, ℕ, zero, suc, List, [], ◌∷◌, ◌++◌, Bool, true, false, cond, length, get_or, bytes_eq, nat_eq, eqb→eq, Some, None, refl, ap, ap₂, sym, ◌∙◌, subst, arith, true≢false, ◌⊎◌, inl, inr}
 use Rattle.std.specs.Prelude.{Option, MatchOption, Result, Ok, Err, IfOk}
 use Rattle.std.specs.Map.{lookup}
 use Rattle.std.specs.Bool.{passes, Decides}
@@ -14,7 +14,7 @@ use Rattle.script_roots.specs.Fresh.{same_tree, same_trees, same_leaf}
 use Rattle.script_roots.proofs.Plain.{same_name}
 use Rattle.dyadic.proofs.Equal.{both_true, both_pass}
 use Rattle.root_rewriting.specs.Classes.{AreClasses}
-use Rattle.root_rewriting.specs.Keys.{Look, numeral, symbol, decimal, applied, root, quotient, formless, key_view, atom_key, class_at, classes_at, node_key, same_key, Classed, AreKeyed, IsNextClass}
+use Rattle.root_rewriting.specs.Keys.{Look, numeral, symbol, decimal, applied, root, quotient, key_view, atom_key, class_at, classes_at, node_key, same_key, Classed, AreKeyed, IsNextClass}
 use Rattle.root_rewriting.specs.Nodes.{AreBelow, IsBelow, ShowsNode, atom_of, node_tree, parts_at, tree_at}
 use Rattle.root_rewriting.specs.declared.classes.Key.{Key}
 use Rattle.root_rewriting.specs.declared.classes.Key.TheVariants as keys

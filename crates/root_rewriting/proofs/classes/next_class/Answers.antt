@@ -1,5 +1,3 @@
-use Rattle.std.proofs.Common.{length, subst, sym, arith}
-use Rattle.root_rewriting.specs.Keys.{Classed}
 use Rattle.root_rewriting.specs.Nodes.{trees_in}
 use Rattle.root_rewriting.proofs.Keyed.{next_ok}
 use Rattle.root_rewriting.proofs.classes.next_class.Goals as goal
