@@ -5,7 +5,7 @@ from fractions import Fraction
 from math import inf
 
 from dpoly_intervals import UNIT, down, less, minus, plus, quotient, root, rounded, times, up
-from dpoly_script import MOST, THEORIES, Axis, Check, Claim, Expression, Named, Names, ScriptFault, digits_at, goal_claim, name_text, run
+from dpoly_script import MOST, THEORIES, Axis, Check, Claim, Expression, Named, Names, ScriptFault, digits_at, goal_claim, run
 
 MOST_SIZE, MOST_TOKENS = 1048576, 4194304
 TOO_WIDE = 2**62 + 1  # stands for an end that is not there
@@ -237,7 +237,7 @@ class Rewriting:
             memo[tree.number] = enclosure_of(tree, [memo[it.number] for it in tree.parts], ranges)
             if tree.of_class not in self.table and (tree.kind == 'root' or tree.kind == 'quotient' and stands_alone(tree, memo)):
                 name = {'root': 'sqrt', 'quotient': 'quotient'}[tree.kind]
-                self.table[tree.of_class] = f'{name}({counts[tree.kind]})', tree, [memo[it.number] for it in tree.parts]
+                self.table[tree.of_class] = f'|{name}({counts[tree.kind]})', tree, [memo[it.number] for it in tree.parts]
                 counts[tree.kind] += 1
 
     def spell(self, tree):
@@ -335,8 +335,6 @@ def rewritten(check, script, bound):
         claims.append(claim)
     named, axes = {it.name: check.named[it.name] for it in check.axes}, list(check.axes)
     for name, tree, _ in rewriting.table.values():
-        if name in named:
-            raise ScriptFault('Redeclared', tree.at, name_text(name))
         if len(axes) == MOST:
             raise ScriptFault('TooMany', tree.at, 'Axes')
         named[name] = Named('Real', len(axes), {}, None)

@@ -41,14 +41,14 @@ abbrev root_is : List Command
 root_is = bounded (claim here (two_of (codes "=") (one_of (codes "sqrt") x) one_and_half) ∷ [])
 
 abbrev root_0 : Sexp
-root_0 = name (codes "sqrt(0)")
+root_0 = name (codes "|sqrt(0)")
 
 abbrev times_1 : Sexp → Sexp
 times_1 c = two_of (codes "*") c (number (codes "1"))
 
 abbrev without_root : List Command
 without_root =
-    declare here (codes "x") real_sort ∷ declare here (codes "sqrt(0)") real_sort ∷
+    declare here (codes "x") real_sort ∷ declare here (codes "|sqrt(0)") real_sort ∷
     claim here (two_of (codes ">=") root_0 (number (codes "0"))) ∷ claim here (two_of (codes "<=") root_0 (number (codes "2"))) ∷
     claim here (two_of (codes "=") (two_of (codes "*") root_0 root_0) x) ∷
     claim here (two_of (codes ">=") x (number (codes "0"))) ∷ claim here (two_of (codes "<=") x (number (codes "4"))) ∷
@@ -65,7 +65,7 @@ called_twice = bounded
     (define here (codes "half") (record { at = here; name = codes "t"; sort = real_sort } ∷ []) real_sort (two_of (codes "/") (one_of (codes "sqrt") (name (codes "t"))) (number (codes "2"))) ∷
     claim here (two_of (codes "<") (one_of (codes "half") x) (two_of (codes "+") x (one_of (codes "half") x))) ∷ [])
 
-pub one_constant : script_table None called_twice ≡ (codes "sqrt(0)", root here (atomic here (symbol (codes "x")))) ∷ []
+pub one_constant : script_table None called_twice ≡ (codes "|sqrt(0)", root here (atomic here (symbol (codes "x")))) ∷ []
 unfolding Rattle.std.specs.Fmt.digits Rattle.dyadic.specs.Fraction.at_most
 one_constant = refl
 

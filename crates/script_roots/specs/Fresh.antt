@@ -89,11 +89,12 @@ once seen (t ∷ rest) = once (cond (has_tree t seen) seen (seen ++ t ∷ [])) r
 
 -- ---- their names
 
+-- A bar comes first, which stands in no name of a script; it is not printed.
 abbrev pub root_name : ℕ → List ℕ
-root_name k = codes "sqrt(" ++ digits_of k ++ codes ")"
+root_name k = codes "|sqrt(" ++ digits_of k ++ codes ")"
 
 abbrev pub quotient_name : ℕ → List ℕ
-quotient_name k = codes "quotient(" ++ digits_of k ++ codes ")"
+quotient_name k = codes "|quotient(" ++ digits_of k ++ codes ")"
 
 -- the trees for which constants stand, each with the constant's name
 abbrev pub Table : Type 0
