@@ -20,7 +20,9 @@ pub(crate) enum Head<'a> {
 }
 
 const CONDITIONS: [&[u8]; 5] = [b"or", b"=>", b"not", b"xor", b"ite"];
+
 const EQUALITIES: [&[u8]; 2] = [b"=", b"distinct"];
+
 const OTHER_BOOLS: [&[u8]; 5] = [b"and", b"<=", b"<", b">=", b">"];
 
 fn is_among(name: &[u8], names: &[&[u8]]) -> bool {

@@ -17,6 +17,8 @@ pub fn say_conditional_roots(rt: &HostRuntime, program: &str, script: &[u8]) {
         return;
     };
     for at in &places {
-        let _ = eprintln!(rt; "{program}: note: {at}: the argument of this root has to be at least 0 wherever the script holds, also where the condition does not");
+        let _ = eprintln!(rt;
+            "{program}: note: {at}: the argument of this root has to be at least 0 wherever the script holds, also where the condition does not"
+        );
     }
 }
