@@ -1,6 +1,5 @@
 // What an expression stands in.
 use smt_sexp::{Leaf, Seen, Sexps};
-use std::cmp::PartialEq;
 
 /// What holds of the parts of a group.
 #[derive(Clone, Copy, Debug)]
@@ -19,15 +18,15 @@ pub(crate) enum Head<'a> {
     Other,
 }
 
-const CONDITIONS: [&[u8]; 5] = [b"or", b"=>", b"not", b"xor", b"ite"];
+const CONDITIONS: [&str; 5] = ["or", "=>", "not", "xor", "ite"];
 
-const EQUALITIES: [&[u8]; 2] = [b"=", b"distinct"];
+const EQUALITIES: [&str; 2] = ["=", "distinct"];
 
-const OTHER_BOOLS: [&[u8]; 5] = [b"and", b"<=", b"<", b">=", b">"];
+const OTHER_BOOLS: [&str; 5] = ["and", "<=", "<", ">=", ">"];
 
-fn is_among(name: &[u8], names: &[&[u8]]) -> bool {
+fn is_among(name: &[u8], names: &[&str]) -> bool {
     for it in names {
-        if name == *it {
+        if name == it.as_bytes() {
             return true;
         }
     }
