@@ -1,5 +1,5 @@
 // The ranges of declared constants.
-ghost use Rattle.std.specs.Prelude.{◌≡◌, ◌∷◌, ◌++◌, ℕ, [], List, Bool, IsTrue, cond, length, map, IfOk};
+ghost use Rattle.std.specs.Prelude.{◌≡◌, ◌∷◌, ◌++◌, ℕ, [], List, Bool, IsTrue, cond, ◌||◌, length, map, IfOk};
 ghost use Rattle.dyadic.specs.End.{greater_ext, lesser_ext};
 ghost use Rattle.dyadic.specs.Views.{ext_of};
 ghost use Rattle.interval_model.specs.Interval.{is_nothing, nothing};
@@ -144,6 +144,12 @@ fn is_nothing(range: Ival) -> bool
     matches!(range, Ival::Empty)
 }
 
+fn either(one: bool, other: bool) -> bool
+    ensures { result ≡ (one || other) }
+{
+    one || other
+}
+
 // Whether the range of one of these constants is empty.
 fn is_empty(bound: Option<u32>, constants: &[Constant<'_>], bounds: &[Bounds]) -> bool
     requires { length bounds.now ≡ length constants.now }
@@ -153,7 +159,7 @@ fn is_empty(bound: Option<u32>, constants: &[Constant<'_>], bounds: &[Bounds]) -
     let mut empty = false;
     for (axis, constant) in constants.iter().enumerate() {
         let here = is_nothing(range(bound, bounds[axis], constant.sort));
-        empty = empty || here;
+        empty = either(empty, here);
     }
     empty
 }
