@@ -524,8 +524,21 @@ def read_problems(script, bound):
     steps = steps_of(read_expressions(script))
     try:
         return [Problem(it, bound) for it in Names(steps).checks]
-    except ScriptFault:
+    except ScriptFault as fault:
+        written = fault
+    try:
         return [Problem(rewritten(it, script, bound), bound) for it in Names(steps, roots=True).checks]
+    except ScriptFault as rooted:
+        raise (written if is_told(written, rooted) else rooted)
+
+
+def is_told(written, rooted):
+    """Whether the fault of a script as it is written is told, where there is one with roots too: where roots mend nothing of it, or
+    it is a divisor before the place from which on the script is too large for them."""
+    (name, at, *limit), (other, place, *other_limit) = written.args, rooted.args
+    if name == 'DivisorNotConstant':
+        return (other, other_limit) == ('TooMany', ['Size']) and at < place
+    return name in ('NumberTooWide', 'ZeroDivisor', 'NoBound', 'BoundTooWide') or limit in (['Size'], ['Nodes'], ['Atoms'], ['Forms'])
 
 
 def check(script, certificate, bound=None):

@@ -82,8 +82,10 @@ def digits_at(script, at):
 
 
 def name_text(name):
-    """A name as it is printed."""
+    """A name as it is printed. That of a root or a quotient has a bar at its head, which no name of a script has."""
     name = name.encode('latin-1').decode('utf-8', 'surrogateescape')
+    if name.startswith('|'):
+        return name[1:]
     return name if re.fullmatch(SIMPLE, name) and name not in RESERVED else f'|{name}|'
 
 
