@@ -303,7 +303,8 @@ fn bounds_of(
     })
 }
 
-// Better and better bounds, from a point of the first search and the rest of the budget on.
+// Better and better bounds, from a point of the first search and the rest of the budget on; where nothing is left of that, the
+// point stays as it was found.
 fn find<F: Fn(Global, &Problem, &Options) -> Result<Book, AllocError>>(
     searcher: &F,
     alloc: Global,
@@ -322,7 +323,9 @@ fn find<F: Fn(Global, &Problem, &Options) -> Result<Book, AllocError>>(
         IfOk result (IsFound a.problem.now a.goal a.gap_bits a.options.now) }
 {
     let mut bounds = bounds_of(alloc, aim, point, budget)?;
-    go_down(alloc, aim, &mut bounds)?;
+    if budget > 0 {
+        go_down(alloc, aim, &mut bounds)?;
+    }
     let ending = improve(searcher, alloc, aim, &mut bounds)?;
     Ok(Found {
         lower: bounds.lower,
