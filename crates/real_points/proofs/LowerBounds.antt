@@ -1,5 +1,5 @@
 -- Lower bounds of a goal at real points.
-use Rattle.std.proofs.Common.{◌≡◌, ℕ, suc, ◌+◌, ◌*◌, ◌≤◌, List, Bool, Option, Some, None, IsTrue, refl, arith, pos, ◌*ℤ◌, ◌≤ℤ◌, slice_index_or}
+use Rattle.std.proofs.Common.{◌≡◌, ℕ, suc, ◌+◌, ◌*◌, ◌≤◌, List, Bool, Option, Some, None, IsTrue, refl, arith, slice_index_or}
 use Rattle.dyadic.specs.Fraction.{Fraction, IsFraction, sum_of, at_most}
 use Rattle.dyadic.specs.Point.{Coordinate}
 use Rattle.dyadic.specs.Rounding.{Dyadic, exact, at, end_of, end_at_most}
@@ -22,9 +22,9 @@ use Rattle.headline.proofs.Least.{lower_means}
 use Rattle.real_points.specs.Laws.{HasRealLowerBound, IsBelow}
 use Rattle.real_points.specs.Real.{part}
 use Rattle.real_points.specs.RealPoint.{nth_point}
-use Rattle.real_points.proofs.Sizes.{IsClose, ratio, close_above, close_turned, step_halves}
+use Rattle.real_points.proofs.Sizes.{IsClose, ratio, close_above, step_halves}
 use Rattle.real_points.proofs.Terms.{rate_of, rate_of_all, values}
-use Rattle.real_points.proofs.Moves.{atom_is_term, own, points_left, ratio_is, script_moves}
+use Rattle.real_points.proofs.Moves.{atom_is_term, points_left, ratio_is, script_moves}
 use Rattle.real_points.proofs.Points.{bound_of_point, held_close, held_point}
 use Rattle.real_points.proofs.Truth.{exact_is, part_is, room}
 
