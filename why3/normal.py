@@ -7,6 +7,9 @@ constant. So what is refuted of the result is refuted of what was given.
 from smt import shown
 from terms import run
 
+# So many summands of a comparison are looked at.
+MOST_SUMMANDS = 200
+
 
 class Normal:
     def __init__(self, terms):
@@ -70,20 +73,41 @@ class Normal:
         return (yield self.formula(terms.put(body, witnesses), is_true))
 
     def comparison(self, node):
-        """Of absolute values, least and greatest ones, comparisons of what they are made of."""
+        """Where an absolute value, a least or a greatest one is a summand and stands nowhere else, comparisons with what it is made
+        of: all of them, or any."""
         terms = self.terms
-        if terms.op[node] not in ('<=', '<'):
-            return (yield self.formula(node, True))
-        compare = terms.le if terms.op[node] == '<=' else terms.lt
+        found = self.summand(node) if terms.op[node] in ('<=', '<') else None
+        if found is None:
+            return self.plain(node)
+        it, is_rising = found
+        parts = terms.args[it] if terms.op[it] != 'abs' else (terms.args[it][0], terms.neg(terms.args[it][0]))
+        made = [terms.put(node, {it: part}) for part in parts]
+        is_any = is_rising == (terms.op[it] != 'min')
+        return (yield self.formula(terms.any_of(made) if is_any else terms.all_of(made), True))
+
+    def summand(self, node):
+        """One that stands once on the sides of a comparison, and whether the comparison holds the more the larger it is."""
+        terms = self.terms
         a, b = terms.args[node]
-        for side, kinds in ((a, ('abs', 'max')), (b, ('min',)), (a, ('min',)), (b, ('abs', 'max'))):
-            if terms.op[side] not in kinds:
-                continue
-            parts = terms.args[side] if terms.op[side] != 'abs' else (terms.args[side][0], terms.neg(terms.args[side][0]))
-            made = [compare(it, b) if side == a else compare(a, it) for it in parts]
-            is_all = (side == a) != (kinds == ('min',))
-            return (yield self.formula(terms.all_of(made) if is_all else terms.any_of(made), True))
-        return self.plain(node)
+        stack, found, others = [(a, False), (b, True)], {}, []
+        for _ in range(MOST_SUMMANDS):
+            if not stack:
+                break
+            it, is_rising = stack.pop()
+            op, args = terms.op[it], terms.args[it]
+            if op in ('abs', 'min', 'max'):
+                found[it] = None if it in found else is_rising
+                others += args
+            elif op in '+-':
+                stack += [(args[0], is_rising), (args[1], is_rising == (op == '+'))]
+            elif op == '*' and terms.value(args[0]) is not None:
+                stack.append((args[1], is_rising == (terms.value(args[0]) > 0)))
+            elif op == '*' and terms.value(args[1]) is not None:
+                stack.append((args[0], is_rising == (terms.value(args[1]) > 0)))
+            else:
+                others.append(it)
+        inner = set() if stack else set(terms.below(others))
+        return None if stack else next(((it, way) for it, way in found.items() if way is not None and it not in inner), None)
 
     # ---- terms
 
