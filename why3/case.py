@@ -3,7 +3,7 @@ from dataclasses import dataclass, field
 from fractions import Fraction
 from math import inf
 
-from ranges import Ranges, holds_zero
+from ranges import WHOLE, Ranges, holds_zero, meet
 
 # Of equations that give a constant its value, so many are put in, where the value has so many operations at most.
 MOST_VALUES, MOST_SIZE = 400, 300
@@ -56,6 +56,7 @@ class Maker:
         self.ranges = self.learned([it for it in parts if it not in conclusion])
         if any(inf in map(abs, self.bounds(it)) for part in parts for it in self.ranges.consts(part) if terms.is_number(it)):
             self.ranges = self.learned(parts, self.ranges.facts)
+        self.said = self.stated(parts)
         parts = [self.settle(it) for it in parts]
         parts = [part for it in [*parts, *self.extra] for part in (terms.args[it] if terms.op[it] == 'and' else (it,))]
         if self.extra:
@@ -65,7 +66,9 @@ class Maker:
             parts = self.without(parts, free)
         parts = list(dict.fromkeys(it for it in parts if it != terms.true))
         names = [it for it in terms.below(parts) if terms.op[it] == 'const']
-        return Case(parts, self.missing(parts, names), names, self.doubts(free))
+        stated = self.stated(parts)
+        bounds = {it: self.missing(it, stated) for it in names if terms.is_number(it)}
+        return Case(parts, bounds, names, self.doubts(free))
 
     def learned(self, parts, facts=None):
         ranges = Ranges(self.terms, facts)
@@ -88,12 +91,12 @@ class Maker:
     def values(self, parts):
         """Constants without bounds of their own that an equation gives a value."""
         terms, values = self.terms, {}
-        low, high = self.sides(parts)
+        stated = self.stated(parts)
         for part in parts:
             if terms.op[part] != '=' or len(values) >= MOST_VALUES:
                 continue
             for name, value in (terms.args[part], terms.args[part][::-1]):
-                if terms.op[name] != 'const' or name in values or name in low & high:
+                if terms.op[name] != 'const' or name in values or inf not in map(abs, stated.get(name, WHOLE)):
                     continue
                 resolved = self.resolved(value, values)
                 if name not in terms.consts(resolved) and self.size(resolved) <= MOST_SIZE:
@@ -101,25 +104,16 @@ class Maker:
                     break
         return values
 
-    def sides(self, parts):
-        """The terms that have a number as a lower bound, and as an upper bound."""
-        terms, low, high = self.terms, set(), set()
+    def stated(self, parts):
+        """The bounds that comparisons of a constant with a number say."""
+        terms, found = self.terms, {}
         for part in parts:
-            a, b = terms.args[part] if terms.op[part] in ('<=', '<', '=') else (part, part)
-            if terms.op[b] == 'num' or terms.op[a] == 'num' and terms.op[part] == '=':
-                high.add(a if terms.op[b] == 'num' else b)
-            if terms.op[a] == 'num' or terms.op[b] == 'num' and terms.op[part] == '=':
-                low.add(b if terms.op[a] == 'num' else a)
-        return low, high
-
-    def missing(self, parts, names):
-        """The bounds that the parts do not have as comparisons."""
-        low, high = self.sides(parts)
-        found = {}
-        for it in names:
-            if self.terms.is_number(it):
-                ends = self.bounds(it)
-                found[it] = -inf if it in low else ends[0], inf if it in high else ends[1]
+            if terms.op[part] in ('<=', '<', '='):
+                a, b = terms.args[part]
+                for name, other, ends in ((a, b, (-inf, terms.value(b))), (b, a, (terms.value(a), inf))):
+                    if terms.op[name] == 'const' and terms.op[other] == 'num':
+                        ends = ends if terms.op[part] != '=' else (terms.value(other),) * 2
+                        found[name] = meet(found.get(name, WHOLE), ends)
         return found
 
     def resolved(self, node, values):
@@ -201,6 +195,18 @@ class Maker:
         low, high = self.ranges.of(name)
         return (-inf if low < -MOST else Fraction(low * GRAIN // 1, GRAIN)), (inf if high > MOST else -Fraction(-high * GRAIN // 1, GRAIN))
 
+    def missing(self, name, stated):
+        """The bounds of a constant on sides of which none is stated."""
+        low, high = self.bounds(name)
+        said_low, said_high = stated.get(name, WHOLE)
+        return low if said_low == -inf else -inf, high if said_high == inf else inf
+
+    def read(self, name):
+        """The range of a constant that the program reads: what is stated, and what is missing there."""
+        low, high = self.bounds(name)
+        said_low, said_high = self.said.get(name, WHOLE)
+        return low if said_low == -inf else said_low, high if said_high == inf else said_high
+
     def settle(self, root):
         """The part with names for what stands where the program wants a polynomial, and with constants of which nothing is known
         for roots and quotients that need not be what they are called."""
@@ -235,7 +241,7 @@ class Maker:
         if holds_zero(range_b):
             return self.doubt(node, 'the divisor %s may be 0' % terms.text(b))
         made_b = self.polynomial(made_b, b, ('ite', 'sqrt', '/'))
-        plain = Ranges(terms, {it: self.ranges.of(it) for it in terms.consts(made_b)})
+        plain = Ranges(terms, {it: self.read(it) for it in terms.consts(made_b)})
         if holds_zero(plain.of(made_b)):
             made_b = self.named(made_b, range_b)
         return terms.div(self.polynomial(made_a, a, ('ite',)), made_b)

@@ -21,7 +21,7 @@ COARSE = ('--budget', BUDGET)
 FINE = ('--budget', BUDGET, '--margin-bits', '40', '--delta-bits', '24', '--least-bits', '40')
 MOST_SHOWN = 300
 USAGE = 'usage: dpoly-why3 [-t SECONDS] [-m MEGABYTES] [--workers K] [--bound N] FILE'
-OPTIONS = {'-t': (0, 10**6), '-m': (0, 10**6), '--workers': (1, 64), '--bound': (1, 2**60)}
+OPTIONS = {'-t': (0, 10**6), '-m': (0, 10**6), '--workers': (1, 64), '--bound': (1, 2**32 - 1)}
 
 
 def asked_for(words):

