@@ -69,8 +69,10 @@ class Normal:
         variables, body = terms.args[node]
         if (terms.op[node] == 'forall') == is_true:
             return terms.true
-        witnesses = {it: terms.const(terms.args[it][0], terms.sort[it]) for it in variables}
-        return (yield self.formula(terms.put(body, witnesses), is_true))
+        # A variable stands in one quantifier alone, and so can be the constant itself.
+        for it in variables:
+            terms.op[it] = 'const'
+        return (yield self.formula(body, is_true))
 
     def comparison(self, node):
         """Where an absolute value, a least or a greatest one is a summand and stands nowhere else, comparisons with what it is made
