@@ -215,12 +215,12 @@ module _ (m : Fraction) (point : List Coordinate) where
   gathered n q t h (more {q = r} {t = u} {qs = qs} {us = us} k rest) =
       gathered-cond (repeats t u) _ (powers_from t (once_more n) us) (term (power n t) ∷ powers_from u once us)
       (λ e. let f = power-fraction n q h.one in let i = product-is qs (are-fractions rest) in let j = power-fraction (once_more n) q h.one in
-          let s = same-value q r t u (repeats_is t u e) h k in
-          regathered (product_of (to-power (once_more n) q) (product qs)) (product_of (to-power n q) (product_of r (product qs))) (powers_from t (once_more n) us)
-          (product-fraction _ _ j i)
-          (≈_trans (product-fraction _ _ (product-fraction _ _ h.one f) i) (product_same (more-power n q h.one) (≈_refl (product qs)))
-          (≈_trans (product-fraction _ _ f (product-fraction _ _ h.one i)) (passed q (to-power n q) (product qs)) (product_same (≈_refl (to-power n q)) (product_same s (≈_refl (product qs))))))
-          (gathered (once_more n) q t h rest))
+      let s = same-value q r t u (repeats_is t u e) h k in
+      regathered (product_of (to-power (once_more n) q) (product qs)) (product_of (to-power n q) (product_of r (product qs))) (powers_from t (once_more n) us)
+      (product-fraction _ _ j i)
+      (≈_trans (product-fraction _ _ (product-fraction _ _ h.one f) i) (product_same (more-power n q h.one) (≈_refl (product qs)))
+      (≈_trans (product-fraction _ _ f (product-fraction _ _ h.one i)) (passed q (to-power n q) (product qs)) (product_same (≈_refl (to-power n q)) (product_same s (≈_refl (product qs))))))
+      (gathered (once_more n) q t h rest))
       (λ e. apart n q (product_of r (product qs)) t (powers_from u once us) h (gathered once r u k rest))
 
   -- ---- products
