@@ -306,7 +306,7 @@ quotient-held false x u n = n
 
 operation-held : (s : Step) (at : Place) (u : Unfolded) (us : List Unfolded) → hold_either (u ∷ us) ≡ true → IsNoTerm (unfolded_operation at (operator_of_step s) (u ∷ us))
 operation-held Add at u us h = all-held (tree_of_step Add at) u us h
-operation-held Multiply at u us h = all-held (tree_of_step Multiply at) u us h
+operation-held Multiply at u us h = subst (λ b. IsNoTerm (all_steps (multiply_tree at) (cond b (u ∷ us) (powers (u ∷ us))))) (sym h) (all-held (multiply_tree at) u us h)
 operation-held Subtract at u [] h = one-held (λ t. term (negate_tree t)) u h
 operation-held Subtract at u (v ∷ us) h = all-held (tree_of_step Subtract at) u (v ∷ us) h
 operation-held Divide at u us h = quotient-held (hold_either us) _ (steps (divide_tree at) u us) (all-held (divide_tree at) u us h)
