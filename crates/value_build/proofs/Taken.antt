@@ -9,7 +9,7 @@ use Rattle.script_model.specs.Sexp.{Place}
 use Rattle.script_model.specs.Declared.{Bound, Bounding}
 use Rattle.script_model.specs.Reading.{Operator, truth, falsehood, negation, conjunction, disjunction, implication, exclusive, equality, distinctness, choice, minus, plus, times, divide, at_most_op, below_op, at_least_op, above_op}
 use Rattle.poly_graph.specs.Term.{Term, constant, Kind, le, ge, eq}
-use Rattle.script_forms.specs.Terms.{Unfolded, term, formula, refused, either, hold_either, arms, lift_tree, step, steps, negate_tree, divide_tree}
+use Rattle.script_forms.specs.Terms.{Unfolded, term, formula, refused, either, hold_either, arms, lift_tree, step, steps, all_steps, negate_tree, multiply_tree, divide_tree, powers}
 use Rattle.script_forms.specs.Unfolded.{are_formulas, lift_form, unfolded_operation}
 use Rattle.sort_check.specs.Views.{operator_of}
 use Rattle.sort_check.specs.declared.operators.Operator as code_operator
