@@ -4,7 +4,7 @@ use Rattle.std.specs.Prelude.{Result, Ok, Err}
 use Rattle.poly_graph.specs.Term.{Term}
 use Rattle.script_model.specs.Sexp.{Place}
 use Rattle.script_model.specs.Reading.{times}
-use Rattle.script_forms.specs.Terms.{Unfolded, term, multiply_tree, all_steps, steps, Times, once, once_more, power, repeats, powers_from, powers}
+use Rattle.script_forms.specs.Terms.{Unfolded, term, formula, refused, either, multiply_tree, all_steps, steps, Times, once, once_more, power, repeats, powers_from, powers}
 use Rattle.script_forms.specs.Unfolded.{unfolded_operation}
 use Rattle.script_forms.specs.Work.{Event, multiply_events, all_events, steps_events, power_events, powers_events_from, powers_events, operation_events}
 use Rattle.script_forms.specs.Walk.{after_events, goes_on}
@@ -32,7 +32,7 @@ powering_begun m nodes k rest e h = let b = subst (λ (ks : List ℕ). AreNodes 
   here = b.0;
   below = b.1;
   often = once;
-  counted = ap suc refl ∙ sym (ap (λ (ks : List ℕ). length ks) e);
+  counted = omega (arith, ap (λ (ks : List ℕ). length ks) e);
   there = tt;
   walk = λ claim. ap (λ ks. after_events claim (stand_of m) (powers_events (trees_at (stand_of m).trees ks))) e;
   same = ap (λ ks. powers (trees_at (stand_of m).trees ks)) e;
@@ -114,7 +114,7 @@ powering_step m now next nodes k j n i from later made h e l p s =
       here = h.below.0;
       below = h.below.1;
       often = once;
-      counted = refl;
+      counted = omega arith;
       there = nodes-end next made i (nodes-stay now next made (more_nodes now next x.trees) h.there) (tree_below next (power h.often t) i q.1);
       walk = λ claim. h.walk claim
           ∙ ap (λ b. after_events claim (stand_of now) (cond b (powers_events_from t (once_more h.often) (trees_at ts later)) (power_events h.often t ++ powers_events_from u once (trees_at ts later)))) other
@@ -169,14 +169,16 @@ powering_done m now next nodes k n i from made h l p =
 
 -- ---- a product
 
+some-of : (b : Bool) (us vs : List Unfolded) → (us ≡ [] → ⊥) → (vs ≡ [] → ⊥) → cond b us vs ≡ [] → ⊥
+some-of true us vs h k = h
+some-of false us vs h k = k
+
 powers-some : (t : Term) (n : Times) (us : List Unfolded) → powers_from t n us ≡ [] → ⊥
 powers-some t n [] e = cc
-powers-some t n (term u ∷ us) e = go (repeats t u) e
-  where
-    go : (b : Bool) → cond b (powers_from t (once_more n) us) (term (power n t) ∷ powers_from u once us) ≡ [] → ⊥
-    go true e = powers-some t (once_more n) us e
-    go false e = cc
-powers-some t n (u ∷ us) e = cc
+powers-some t n (term u ∷ us) e = some-of (repeats t u) (powers_from t (once_more n) us) (term (power n t) ∷ powers_from u once us) (powers-some t (once_more n) us) (λ d. cc) e
+powers-some t n (formula f g ∷ us) e = cc
+powers-some t n (refused x ∷ us) e = cc
+powers-some t n (either c d x y ∷ us) e = cc
 
 pub some_powers : (m m1 : BuilderModel) (nodes ks : List ℕ) → 0 < length nodes → trees_at (stand_of m1).trees ks ≡ powers (trees_at (stand_of m).trees nodes) → ks ≡ [] → ⊥
 some_powers m m1 [] ks l e n = absurd (omega (arith, l))

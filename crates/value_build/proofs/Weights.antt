@@ -433,19 +433,20 @@ constant-first ts t c k ks e = ap (λ b. cond b (powers_from t (once_more once) 
 
 unknown-powers : (f : Term → Term → Unfolded) → IsStep f → (ts : List Term) (p : Fraction) (k : ℕ) (ks : List ℕ) (bs : List Bounding) (r : Term) → WeighsEach ts (k ∷ ks) bs → all_known bs ≡ None →
     steps f (term (constant p)) (powers_from (term_at ts k) once (trees_at ts ks)) ≡ term r → Weighs r other
-unknown-powers f i ts p k ks [] r h a e = elim h [ ]
-unknown-powers f i ts p k ks (b ∷ bs) r h a e = elim (known_or (term_at ts k) b h.0) [
-  | inl w ↦ next ks bs h.1 (first-none w.number (all_known bs) (ap (λ x. all_known (x ∷ bs)) (sym w.bounding) ∙ a)) w.written w.tree e
-  | inr w ↦ constant-powers f i ts p (term_at ts k) once ks r w.0 e
+unknown-powers f i ts p k [] (b ∷ []) r h a e = elim (known_or (term_at ts k) b h.0) [
+  | inl w ↦ let n = first-none w.number (all_known []) (ap (λ x. all_known (x ∷ [])) (sym w.bounding) ∙ a) in cc
+  | inr w ↦ constant-powers f i ts p (term_at ts k) once [] r w.0 e
 ]
-  where
-    next : (ks : List ℕ) (bs : List Bounding) → WeighsEach ts ks bs → all_known bs ≡ None → (c : Fraction) → term_at ts k ≡ constant c → steps f (term (constant p)) (powers_from (term_at ts k) once (trees_at ts ks)) ≡ term r → Weighs r other
-    next [] [] h a c d e = cc
-    next [] (b ∷ bs) h a c d e = elim h [ ]
-    next (j ∷ js) bs h a c d e =
-        let m = next-tree f i (constant p) (term_at ts k) (powers_from (term_at ts j) once (trees_at ts js)) r (ap (λ us. steps f (term (constant p)) us) (sym (constant-first ts (term_at ts k) c j js d)) ∙ e) in
-        let q = i.folds p c m.0 (ap (λ x. f (constant p) x) (sym d) ∙ m.1) in
-        unknown-powers f i ts q.0 j js bs r h a (ap (λ x. steps f (term x) (powers_from (term_at ts j) once (trees_at ts js))) (sym q.1) ∙ m.2)
+unknown-powers f i ts p k (j ∷ ks) (b ∷ bs) r h a e = elim (known_or (term_at ts k) b h.0) [
+  | inl w ↦ let m = next-tree f i (constant p) (term_at ts k) (powers_from (term_at ts j) once (trees_at ts ks)) r
+        (ap (λ us. steps f (term (constant p)) us) (sym (constant-first ts (term_at ts k) w.written j ks w.tree)) ∙ e) in
+      let q = i.folds p w.written m.0 (ap (λ x. f (constant p) x) (sym w.tree) ∙ m.1) in
+      unknown-powers f i ts q.0 j ks bs r h.1 (first-none w.number (all_known bs) (ap (λ x. all_known (x ∷ bs)) (sym w.bounding) ∙ a))
+      (ap (λ x. steps f (term x) (powers_from (term_at ts j) once (trees_at ts ks))) (sym q.1) ∙ m.2)
+  | inr w ↦ constant-powers f i ts p (term_at ts k) once (j ∷ ks) r w.0 e
+]
+unknown-powers f i ts p k ks [] r h a e = elim h [ ]
+unknown-powers f i ts p k [] (b ∷ c ∷ bs) r h a e = elim h.1 [ ]
 
 -- of two trees and more, not all known
 other-product : (f : Term → Term → Unfolded) → IsStep f → (ts : List Term) (k j : ℕ) (ks : List ℕ) (bs : List Bounding) (r : Term) → WeighsEach ts (k ∷ j ∷ ks) bs → all_known bs ≡ None →
