@@ -15,7 +15,8 @@ use Rattle.value_build.proofs.Products.{powering_begun, powering_repeats, poweri
 use Rattle.value_build.proofs.arithmetic.powers.Goals as goal
 
 pub loop-next-init : goal.loop-next-init
-loop-next-init c = powering_begun c.args.builder.now c.args.nodes.now c.in-Some.first.now c.in-Some.rest.now c.in-Some.ensures.cases.0 c.requires.nodes
+loop-next-init c = subst (λ (ks : List ℕ). IsPowering c.args.builder.now c.args.builder.now c.args.nodes.now c.in-Some.first.now c.args.nodes.now c.in-Some.rest.now ks) (sym c.new-made.ensures.items)
+    (powering_begun c.args.builder.now c.args.nodes.now c.in-Some.first.now c.in-Some.rest.now c.in-Some.ensures.cases.0 c.requires.nodes)
 
 pub repeats-requires-clause-first : goal.repeats-requires-clause-first
 repeats-requires-clause-first c = (powering_some c.args.builder.now c.loop-next.builder c.args.nodes.now c.loop-next.factor c.loop-next.from.now c.loop-next.left.now c.loop-next.made.items c.loop-next.invariant).2
