@@ -135,8 +135,8 @@ powering_stopped P m now next nodes k j n z from later made h e l p = λ claim.
     let es = powers_events_from u once (trees_at ts later) in
     stops_so claim _ (goes_on (λ s'. after_events claim s' es) (after_events claim (stand_of now) (power_events h.often t))) z
     (h.walk claim
-        ∙ ap (λ b. after_events claim (stand_of now) (cond b (powers_events_from t (once_more h.often) (trees_at ts later)) (power_events h.often t ++ es))) other
-        ∙ events_both claim (stand_of now) (power_events h.often t) es)
+    ∙ ap (λ b. after_events claim (stand_of now) (cond b (powers_events_from t (once_more h.often) (trees_at ts later)) (power_events h.often t ++ es))) other
+    ∙ events_both claim (stand_of now) (power_events h.often t) es)
     (stopped_on claim (after_events claim (stand_of now) (power_events h.often t)) (λ s'. after_events claim s' es) z (q claim))
 
 -- the last power
@@ -154,8 +154,7 @@ pub powering_done : (m now next : BuilderModel) (nodes : List ℕ) (k n i : ℕ)
 powering_done m now next nodes k n i from made h l p =
     let t = term_at (stand_of m).trees k in
     let q = powered m now next nodes k n from [] made (Ok i) h l p in
-    let x = emits_grows (IsTree next (power h.often t)) now next (power_events h.often t) i q in
-    (
+    let x = emits_grows (IsTree next (power h.often t)) now next (power_events h.often t) i q in (
       (λ claim. h.walk claim ∙ q.0 claim),
       (
         sym (h.same ∙ made-trees m now next made i (power h.often t) [] x h.there q.1 ∙ no-more (trees_at (stand_of next).trees (made ++ (i ∷ [])))),

@@ -405,7 +405,7 @@ apart-powers f i ts t u n (k ∷ ks) r h e =
     by-repeats (λ (us : List Unfolded). steps f (term t) us ≡ term r → Weighs r other) (repeats u (term_at ts k)) (powers_from u (once_more n) (trees_at ts ks)) (term (power n u) ∷ powers_from (term_at ts k) once (trees_at ts ks))
     (λ d. apart-powers f i ts t u (once_more n) ks r h d)
     (λ d. let m = next-tree f i t (power n u) (powers_from (term_at ts k) once (trees_at ts ks)) r d in
-        apart-powers f i ts m.0 (term_at ts k) once ks r (other-apart m.0 (i.joins t (power n u) m.0 (apart-left t (power n u) h) m.1)) m.2)
+    apart-powers f i ts m.0 (term_at ts k) once ks r (other-apart m.0 (i.joins t (power n u) m.0 (apart-left t (power n u) h) m.1)) m.2)
     e
 
 -- from a power on
@@ -424,7 +424,7 @@ constant-powers f i ts p u n (k ∷ ks) r h e =
     by-repeats (λ (us : List Unfolded). steps f (term (constant p)) us ≡ term r → Weighs r other) (repeats u (term_at ts k)) (powers_from u (once_more n) (trees_at ts ks)) (term (power n u) ∷ powers_from (term_at ts k) once (trees_at ts ks))
     (λ d. constant-powers f i ts p u (once_more n) ks r h d)
     (λ d. let m = next-tree f i (constant p) (power n u) (powers_from (term_at ts k) once (trees_at ts ks)) r d in
-        apart-powers f i ts m.0 (term_at ts k) once ks r (other-apart m.0 (i.joins (constant p) (power n u) m.0 (apart-right p (power n u) (power-apart n u h)) m.1)) m.2)
+    apart-powers f i ts m.0 (term_at ts k) once ks r (other-apart m.0 (i.joins (constant p) (power n u) m.0 (apart-right p (power n u) (power-apart n u h)) m.1)) m.2)
     e
 
 -- a constant is a power for itself
@@ -439,7 +439,7 @@ unknown-powers f i ts p k [] (b ∷ []) r h a e = elim (known_or (term_at ts k) 
 ]
 unknown-powers f i ts p k (j ∷ ks) (b ∷ bs) r h a e = elim (known_or (term_at ts k) b h.0) [
   | inl w ↦ let m = next-tree f i (constant p) (term_at ts k) (powers_from (term_at ts j) once (trees_at ts ks)) r
-        (ap (λ us. steps f (term (constant p)) us) (sym (constant-first ts (term_at ts k) w.written j ks w.tree)) ∙ e) in
+      (ap (λ us. steps f (term (constant p)) us) (sym (constant-first ts (term_at ts k) w.written j ks w.tree)) ∙ e) in
       let q = i.folds p w.written m.0 (ap (λ x. f (constant p) x) (sym w.tree) ∙ m.1) in
       unknown-powers f i ts q.0 j ks bs r h.1 (first-none w.number (all_known bs) (ap (λ x. all_known (x ∷ bs)) (sym w.bounding) ∙ a))
       (ap (λ x. steps f (term x) (powers_from (term_at ts j) once (trees_at ts ks))) (sym q.1) ∙ m.2)

@@ -69,7 +69,7 @@ returns-in_err-power-2-clause-does c =
 pub returns-clause-does : goal.returns-clause-does
 returns-clause-does c =
     subst (λ (ks : List ℕ). ((claim : Place) → after_events claim (stand_of c.args.builder.now) (powers_events (trees_at (stand_of c.args.builder.now).trees c.args.nodes.now)) ≡ after_events claim (stand_of c.power-2.new.self) []) ×
-        ((trees_at (stand_of c.power-2.new.self).trees ks ≡ powers (trees_at (stand_of c.args.builder.now).trees c.args.nodes.now)) × AreNodes c.power-2.new.self ks)) (sym c.in_ok-push-2.ensures.items)
+    ((trees_at (stand_of c.power-2.new.self).trees ks ≡ powers (trees_at (stand_of c.args.builder.now).trees c.args.nodes.now)) × AreNodes c.power-2.new.self ks)) (sym c.in_ok-push-2.ensures.items)
     (powering_done c.args.builder.now c.loop-next.builder c.power-2.new.self c.args.nodes.now c.loop-next.factor _ c.in_ok-power-2.power c.loop-next.from.now c.loop-next.made.items
     (subst (λ (ks : List ℕ). IsPowering c.args.builder.now c.loop-next.builder c.args.nodes.now c.loop-next.factor c.loop-next.from.now ks c.loop-next.made.items) (nil_of c.loop-next.left.now c.in_default-split_first.ensures.cases) c.loop-next.invariant)
     (ap (λ n. length c.loop-next.from.now - n) c.in_default-split_first.ensures.cases) c.in_ok-power-2.ensures.does)
