@@ -1,16 +1,15 @@
 -- A product of powers is the product of their factors.
-use Rattle.std.proofs.Common.{◌≡◌, ℕ, suc, ◌*◌, ◌<◌, List, [], ◌∷◌, map, Bool, true, false, ◌&&◌, ◌||◌, cond, refl, ap, ap₂, sym, ◌∙◌, subst, arith, ℤ, pos, ◌*ℤ◌}
-use borrow.Author.Differences.{up, down}
+use Rattle.std.proofs.Common.{◌≡◌, ◌*◌, List, [], ◌∷◌, map, Bool, true, false, ◌||◌, cond, refl, ap, sym, subst, arith, pos}
 use Rattle.dyadic.specs.Fraction.{Fraction, IsFraction, zero_fraction, whole, product_of}
 use Rattle.dyadic.specs.Point.{Coordinate}
 use Rattle.script_model.specs.Sexp.{Place}
 use Rattle.script_model.specs.Meaning.{Value, real, bool, either as either_value, from_left, first_and_rest, step_values}
-use Rattle.poly_graph.specs.Term.{Term, constant, variable, negate, add, multiply, square, term_value}
-use Rattle.script_forms.specs.Terms.{Unfolded, term, formula, refused, either, multiply_tree, steps, all_steps, same_term, is_either, hold_either, Times, once, twice, twice_and_once, once_more, power, repeats, powers_from, powers, factors, product_tree}
+use Rattle.poly_graph.specs.Term.{Term, constant, variable, negate, add, multiply, square}
+use Rattle.script_forms.specs.Terms.{Unfolded, term, formula, refused, either, multiply_tree, all_steps, is_either, hold_either, Times, once, twice, twice_and_once, once_more, power, repeats, powers_from, powers, factors, product_tree}
 use Rattle.script_forms.specs.Unfolded.{is_real_tree, are_terms}
 use Rattle.dyadic.proofs.Equal.{◌≈◌, ≈_trans, ≈_refl, ≈_sym, product_same}
 use Rattle.dyadic.proofs.Ring.{atom, natural, times, same}
-use Rattle.script_forms.proofs.Means.{Means, Num, Reals, no_reals, more_reals, same_term_is, product_fraction, product_num, square_num, product_means, multiply_real, steps_means, all_steps_means, both_true}
+use Rattle.script_forms.proofs.Means.{Means, Num, Reals, no_reals, more_reals, same_term_is, product_num, square_num, product_means, multiply_real, steps_means, all_steps_means}
 use Rattle.script_forms.proofs.Quotient.{along}
 
 -- ---- products of fractions

@@ -1,8 +1,8 @@
 -- Powers: how often a factor stands, and what is made then.
-use Rattle.std.proofs.Common.{◌≡◌, ℕ, zero, suc, ◌+◌, ◌*◌, ◌/◌, ◌%◌, ◌<◌, ◌≤◌, List, [], ◌∷◌, ◌++◌, length, Bool, true, false, ◌&&◌, IsTrue, T, nat_lt, lt→ltb, Some, None, refl, ap, sym, ◌∙◌, subst, arith}
+use Rattle.std.proofs.Common.{◌≡◌, ℕ, zero, suc, ◌/◌, ◌%◌, ◌<◌, ◌≤◌, [], ◌∷◌, length, Bool, true, false, ◌&&◌, IsTrue, T, nat_lt, lt→ltb, Some, None, refl, ap, sym, ◌∙◌, subst, arith}
 use Rattle.std.specs.Prelude.{Result, Ok, Err}
 use Rattle.dyadic.specs.Fraction.{zero_fraction}
-use Rattle.poly_graph.specs.Term.{Term, constant, variable, negate, add, multiply, square, node_term, square_node, multiply_node, graph_terms}
+use Rattle.poly_graph.specs.Term.{Term, constant, variable, negate, add, multiply, square}
 use Rattle.poly_graph.proofs.Graphs.{length_terms}
 use Rattle.script_forms.specs.Terms.{same_term, Times, once, twice, twice_and_once, once_more, power, repeats}
 use Rattle.script_forms.specs.Work.{made, power_events}
@@ -11,7 +11,7 @@ use Rattle.term_build.specs.Built.{BuilderModel, stand_of}
 use Rattle.term_build.specs.Does.{Does, IsTree}
 use Rattle.term_build.specs.Steps.{Emits, as_constant, count, tree_of}
 use Rattle.term_build.specs.declared.stop.Stop.{Stop}
-use Rattle.term_build.proofs.Emits.{emits_made, emits_then, emits_stop, emits_more, grown, same_tree, tree_is, tree_below, more_nodes}
+use Rattle.term_build.proofs.Emits.{emits_made, emits_then, emits_stop, grown, same_tree, tree_is, tree_below, more_nodes}
 use Rattle.term_build.proofs.Lists.{index_get}
 
 -- ---- how often

@@ -1,6 +1,5 @@
-use Rattle.std.proofs.Common.{◌≡◌, ℕ, ◌<◌, arith, subst, sym, lt→ltb}
+use Rattle.std.proofs.Common.{ℕ, arith, subst, sym}
 use Rattle.std.specs.Prelude.{Result}
-use Rattle.std.specs.Bool.{IsTrue}
 use Rattle.term_build.specs.Steps.{tree_of}
 use Rattle.term_build.specs.declared.stop.Stop.{Stop}
 use Rattle.term_build.proofs.Emits.{err_is}
