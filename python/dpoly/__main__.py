@@ -4,6 +4,7 @@ from __future__ import annotations
 import argparse
 import sys
 
+from . import coq
 from .convert import ConversionError, convert
 
 
@@ -12,7 +13,10 @@ def main() -> int:
     commands = parser.add_subparsers(dest="command", required=True)
     reads = commands.add_parser("convert", help="writes a script of z3 or dReal in the language of dpoly")
     reads.add_argument("file", metavar="FILE", help="the script; - is standard input")
+    coq.add_command(commands)
     words = parser.parse_args()
+    if words.command == "coq":
+        return words.run(words)
     try:
         if words.file == "-":
             text = sys.stdin.read()
