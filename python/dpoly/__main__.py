@@ -1,10 +1,10 @@
-"""`python3 -m dpoly convert FILE`: a script that was written for z3 or dReal, in the program's language."""
+"""`python3 -m dpoly COMMAND`: `convert` scripts of z3 or dReal, write a theorem of Coq (`coq`), `trim` a certificate."""
 from __future__ import annotations
 
 import argparse
 import sys
 
-from . import coq
+from . import plain
 from .convert import ConversionError, convert
 
 
@@ -13,10 +13,10 @@ def main() -> int:
     commands = parser.add_subparsers(dest="command", required=True)
     reads = commands.add_parser("convert", help="writes a script of z3 or dReal in the language of dpoly")
     reads.add_argument("file", metavar="FILE", help="the script; - is standard input")
-    coq.add_command(commands)
+    plain.add_commands(commands)
     words = parser.parse_args()
-    if words.command == "coq":
-        return words.run(words)
+    if hasattr(words, "of_plain"):
+        return plain.run(words)
     try:
         if words.file == "-":
             text = sys.stdin.read()

@@ -7,7 +7,6 @@ or a `unit` is about, so that Coq looks at that one alone.
 """
 from __future__ import annotations
 
-import argparse
 import os
 import re
 import sys
@@ -15,23 +14,11 @@ from copy import copy
 from fractions import Fraction
 from typing import Any, Dict, Iterator, List, NamedTuple, Optional, Sequence, Tuple
 
-
-def find_checker() -> str:
-    """The folder of the checker in plain Python: `DPOLY_CHECKER`, or `checker/` of the repository that this package is in."""
-    here = os.path.dirname(os.path.abspath(__file__))
-    folder = os.environ.get("DPOLY_CHECKER") or os.path.join(os.path.dirname(os.path.dirname(here)), "checker")
-    if not os.path.exists(os.path.join(folder, "dpoly_checker.py")):
-        raise ImportError("the checker in Python was not found: set DPOLY_CHECKER to the repository's folder checker/")
-    return folder
-
-
-sys.path.insert(0, find_checker())
-import dpoly_checker as checker  # noqa: E402
+from .plain import checker  # isort: skip
 from dpoly_intervals import UNIT  # noqa: E402
 from dpoly_roots import Trees, rewritten  # noqa: E402
 from dpoly_script import Claim, Expression, Names, Problem, ScriptFault, read_expressions, steps_of  # noqa: E402
 
-ARITHMETICS = ("Std", "Big", "Prim")
 PIECE = 200  # lines in one definition
 WIDEST_BOUND = 2**32 - 1
 
@@ -702,15 +689,3 @@ def run(words: Any) -> int:
     except OSError as error:
         print(f"dpoly coq: {error}", file=sys.stderr)
     return 1
-
-
-def add_command(commands: "argparse._SubParsersAction[argparse.ArgumentParser]") -> None:
-    """Adds the command to the parser of `python3 -m dpoly`."""
-    reads = commands.add_parser("coq", help="writes a theorem of Coq that a certificate proves")
-    reads.add_argument("script", metavar="SCRIPT")
-    reads.add_argument("certificate", metavar="CERT")
-    reads.add_argument("--arithmetic", choices=ARITHMETICS, default="Big", help="how Coq computes (Big)")
-    reads.add_argument("--name", help="the theorem's name; that of the script where it is left out")
-    reads.add_argument("--conclusion", type=int, metavar="K", help="the conclusion is that assertion K, from 1, does not hold")
-    reads.add_argument("--data", action="store_true", help="writes the certificate alone, for a theorem of your own: NAME_certificate")
-    reads.set_defaults(run=run)
