@@ -15,8 +15,8 @@ def main() -> int:
     reads.add_argument("file", metavar="FILE", help="the script; - is standard input")
     plain.add_commands(commands)
     words = parser.parse_args()
-    if hasattr(words, "of_plain"):
-        return plain.run(words)
+    if hasattr(words, "run"):
+        return words.run(words)
     try:
         if words.file == "-":
             text = sys.stdin.read()

@@ -212,6 +212,84 @@ class Printer:
         return self.denied(self.formula(tree))
 
 
+class Loosened:
+    """Trees of a script as propositions in which each comparison is loosened by a number, as docs/FORMATS.md has it ("What a script
+    means"): negations stand at comparisons alone, and that of an equation always holds."""
+
+    def __init__(self, printer: Printer, delta: Fraction):
+        self.printer, self.delta = printer, number_text(delta).text
+
+    def comparison(self, name: str, a: Any, b: Any, truth: bool) -> Text:
+        if name == "=" and not truth:
+            return Text("True", 0)
+        if any(it.has_choice for it in (a, b)):
+            raise Refused("the point's theorem leaves out choices between reals")
+        left, right = self.printer.real(a).within(50), self.printer.real(b).within(50)
+        low, high = f"{right} - {self.delta}", f"{right} + {self.delta}"
+        if name == "=":
+            return Text(f"{low} <= {left} <= {high}", 70)
+        return Text(f"{left} <= {high}" if (name[0] == "<") == truth else f"{left} >= {low}", 70)
+
+    def joined(self, is_all: bool, texts: List[Text]) -> Text:
+        return Printer.joined("/\\", 80, texts) if is_all else Printer.joined("\\/", 85, texts)
+
+    def ways(self, *ways: Tuple[Text, Text]) -> Text:
+        return self.joined(False, [self.joined(True, list(it)) for it in ways])
+
+    def formula(self, tree: Any, truth: bool = True) -> Text:
+        if tree.kind == "leaf":
+            value, names = tree.value.value, self.printer.names
+            if value in names:
+                return Text(f"{names[value]} = {'true' if truth else 'false'}", 70)
+            return Text("True" if (value == "true") == truth else "False", 0)
+        name, parts = tree.value, list(tree.parts)
+        if name == "not":
+            return self.formula(parts[0], not truth)
+        if name in RELATIONS and self.printer.is_real(parts[0]):
+            return self.joined(truth, [self.comparison(name, a, b, truth) for a, b in zip(parts, parts[1:])])
+        if name == "distinct":
+            pairs = [(a, b) for at, a in enumerate(parts) for b in parts[at + 1 :]]
+            if self.printer.is_real(parts[0]):
+                return self.joined(truth, [self.comparison("=", a, b, not truth) for a, b in pairs])
+            return self.joined(truth, [self.xor(a, b, truth) for a, b in pairs])
+        if name in ("and", "or"):
+            return self.joined((name == "and") == truth, [self.formula(it, truth) for it in parts])
+        if name == "=>":
+            return self.joined(not truth, [*(self.formula(it, not truth) for it in parts[:-1]), self.formula(parts[-1], truth)])
+        if name == "=":
+            return self.joined(truth, [self.xor(a, b, not truth) for a, b in zip(parts, parts[1:])])
+        if name == "xor" and len(parts) == 2:
+            return self.xor(*parts, truth)
+        if name == "ite":
+            condition, a, b = parts
+            return self.ways((self.formula(condition), self.formula(a, truth)), (self.formula(condition, False), self.formula(b, truth)))
+        raise Refused(f"the point's theorem leaves out an operation: {name} of {len(parts)}")
+
+    def xor(self, a: Any, b: Any, truth: bool) -> Text:
+        return self.ways((self.formula(a), self.formula(b, not truth)), (self.formula(a, False), self.formula(b, truth)))
+
+
+def point_theorem(written: Any, check: Any, script: bytes, lines: Any, header: "Header", name: str) -> List[str]:
+    """The theorem that the lines of a point show: there is a point that satisfies what is asserted, loosened by delta."""
+    if len(written.axes) != len(check.axes):
+        raise Refused("the point's theorem leaves out roots and quotients")
+    problem = Problem(check, header.bound)
+    space = checker.Cover(problem, 2, *header.ends).read_point(lines)
+    trees, names = Trees(written, script), coq_names(written.axes)
+    delta = Fraction(1, 2**header.delta)
+    loosened = Loosened(Printer(trees, names), delta)
+    texts = [loosened.formula(it.tree).within(79) for it in trees.asserted if not it.is_goal]
+    for of, is_upper in missing_bounds(check, header.bound) if header.bound is not None else []:
+        end = f"{header.bound} + {loosened.delta}" if is_upper else f"- {header.bound} - {loosened.delta}"
+        texts.append(f"{names[of]} {'<=' if is_upper else '>='} {end}")
+    axes = [(names[it.name], it.sort, value) for it, value in zip(written.axes, space)]
+    binders = " ".join(f"({it} : {'R' if sort == 'Real' else 'bool'})" for it, sort, _ in axes)
+    values = [f"({number_text(Fraction(it[0], UNIT)).text})" if sort == "Real" else str(it[0]).lower() for _, sort, it in axes]
+    body = " /\\ ".join(texts or ["True"]) + "."
+    return [f"Theorem {name} :", wrapped(f"exists {binders}," if axes else ""), wrapped(body, "    "),
+            "Proof. " + (wrapped(f"exists {', '.join(values)}; ", "").strip() + " " if axes else "") + "dpoly_point. Qed.", ""]
+
+
 def coq_names(axes: Sequence[Any]) -> Dict[str, str]:
     """A name of Coq for each constant of a script."""
     found: Dict[str, str] = {}
@@ -617,7 +695,10 @@ def single(written: Any, check: Any, script: bytes, lines: Any, header: Header, 
         lower = Fraction(end, UNIT)
     word, values = lines.header("cover", "goal" if header.version == 4 else "point")
     if word == "point":
-        raise Refused("the certificate is a point, and no cover")
+        found = point_theorem(written, check, script, lines, header, options.name)
+        if lines.take():
+            raise Refused(f"line {lines.number}: a line too many")
+        return found
     if word == "goal":
         limit = values[0]
         problem = checker.limited(problem, limit, end)
@@ -643,8 +724,7 @@ def session(checks: List[Tuple[Any, Any]], script: bytes, lines: Any, header: He
         problem = Problem(check, header.bound)
         word, values = lines.take() or (None, [])
         if word == "point":
-            checker.Cover(problem, 3, *header.ends).read_point(lines)
-            found.append(f"(* Check {at + 1} has a point. *)\n")
+            found += point_theorem(written, check, script, lines, header, f"{options.name}_{at + 1}")
             cover, places = None, []
         elif word == "cover":
             count = checker.number_of_lemmas(values)

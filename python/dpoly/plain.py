@@ -31,24 +31,24 @@ def __getattr__(name: str) -> Any:
 
 
 def run_coq(words: Any) -> int:
-    from . import coq
-
+    try:
+        from . import coq
+    except ImportError as error:
+        return told("coq", error)
     return coq.run(words)
 
 
 def run_trim(words: Any) -> int:
-    from . import trim
-
+    try:
+        from . import trim
+    except ImportError as error:
+        return told("trim", error)
     return trim.run(words)
 
 
-def run(words: Any) -> int:
-    """Runs a command of this module; 1 where the checker is not there."""
-    try:
-        return words.of_plain(words)
-    except ImportError as error:
-        print(f"dpoly {words.command}: {error}", file=sys.stderr)
-        return 1
+def told(command: str, error: ImportError) -> int:
+    print(f"dpoly {command}: {error}", file=sys.stderr)
+    return 1
 
 
 def add_commands(commands: "argparse._SubParsersAction[argparse.ArgumentParser]") -> None:
@@ -60,9 +60,9 @@ def add_commands(commands: "argparse._SubParsersAction[argparse.ArgumentParser]"
     writes.add_argument("--name", help="the theorem's name; that of the script where it is left out")
     writes.add_argument("--conclusion", type=int, metavar="K", help="the conclusion is that assertion K, from 1, does not hold")
     writes.add_argument("--data", action="store_true", help="writes the certificate alone, for a theorem of your own: NAME_certificate")
-    writes.set_defaults(of_plain=run_coq)
+    writes.set_defaults(run=run_coq)
     trims = commands.add_parser("trim", help="leaves out lines of a certificate that nothing needs")
     trims.add_argument("script", metavar="SCRIPT")
     trims.add_argument("certificate", metavar="CERT")
     trims.add_argument("out", metavar="OUT")
-    trims.set_defaults(of_plain=run_trim)
+    trims.set_defaults(run=run_trim)

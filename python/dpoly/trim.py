@@ -113,6 +113,8 @@ class Follower:
                 return Line(text, 0, (), frozenset(why)), []
             given = frozenset({("mark", first)})
             return Line(text, 1, (given,), frozenset(why) - given), [state.marked(first, True)]
+        if word in ("open", "stuck"):
+            raise Untrimmed("it leaves a box open, and is left as it is")
         left = self.cover.after(word, numbers, state, main)
         if left is None:
             raise Untrimmed(f"the condition of {word} fails")
