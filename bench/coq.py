@@ -50,7 +50,7 @@ def coqc(library, text, seconds=None):
             file.write(text)
         limit = (lambda: resource.setrlimit(resource.RLIMIT_CPU, (seconds, seconds))) if seconds else None
         before = user_seconds()
-        done = subprocess.run(['coqc', '-Q', library, 'Dpoly', path], stdout=subprocess.PIPE, stderr=subprocess.PIPE, text=True, preexec_fn=limit)
+        done = subprocess.run(['coqc', '-Q', os.path.abspath(library), 'Dpoly', path], cwd=folder, stdout=subprocess.PIPE, stderr=subprocess.PIPE, text=True, preexec_fn=limit)
         return done.returncode == 0, done.stdout, user_seconds() - before
 
 
