@@ -415,11 +415,12 @@ class Follower:
         """A line for Coq, and the states that it leaves; None where its condition fails."""
         if main and self.cover.problem.empty:
             return "LEmpty", [] if word == "empty" else None
+        if word == "unit" and state.marks.get(numbers[0]) is not None:
+            return None, None
         if word in ("false", "unit"):
-            candidates = self.target.conjuncts.of_atom.get(self.atom(numbers[0]) - 1, []) if word == "unit" else range(len(self.target.conjuncts.list))
-            if word == "unit" and state.marks.get(numbers[0]) is not None:
-                return None, None
-            conjunct = self.failing(state.marked(numbers[0], False) if word == "unit" else state, candidates)
+            asked = state.marked(numbers[0], False) if word == "unit" else state
+            near = self.target.conjuncts.of_atom.get(self.atom(numbers[0]) - 1, []) if word == "unit" else []
+            conjunct = self.failing(asked, near) or self.failing(asked, range(len(self.target.conjuncts.list)))
             if conjunct is None:
                 return None, None
             return (f"LFalse {conjunct}", []) if word == "false" else (f"LUnit {self.atom(numbers[0])} {conjunct}", [state.marked(numbers[0], True)])
@@ -753,7 +754,7 @@ def run(words: Any) -> int:
             with open(path, "rb") as file:
                 texts.append(file.read())
         name = words.name or re.sub("[^A-Za-z0-9_]", "_", os.path.splitext(os.path.basename(words.script))[0])
-        if not re.fullmatch("[A-Za-z][A-Za-z0-9_']*", name):
+        if not re.fullmatch("[A-Za-z][A-Za-z0-9_']*", name) or name in WORDS:
             raise Refused(f"{name} is no name for a theorem: give one with --name")
         options = Options(words.arithmetic, name, words.conclusion, words.data)
         sys.stdout.write(theorem(*texts, options, (os.path.basename(words.script), os.path.basename(words.certificate))))
