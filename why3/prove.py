@@ -64,7 +64,7 @@ class Prover:
     def __init__(self, asked, path):
         self.bound, self.name = asked['--bound'], re.sub(r'^why_[0-9a-f]+_|\.smt2$', '', os.path.basename(path))
         self.solver, self.checker = runs.program('dpoly'), runs.program('dpoly-check')
-        self.runner = runs.Runner(asked['-m'])
+        self.runner = runs.Runner(asked['-m'], asked['-t'], asked['--workers'] or 1)
         self.options = ['--workers', str(asked['--workers'])] if asked['--workers'] else []
         self.keep = os.environ.get('DPOLY_WHY3_KEEP')
 

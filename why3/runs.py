@@ -8,7 +8,10 @@ import signal
 import subprocess
 import sys
 from fractions import Fraction
+from math import ceil
 
+# A limit of time is of the processor's, since several provers run at a time; so many times as much of the clock ends the run too.
+CLOCK = 5
 PR_SET_PDEATHSIG = 1
 STATUSES = {4: 'cannot read a file', 5: 'cannot write a file'}
 
@@ -46,28 +49,43 @@ def out_of_time(*_):
 
 
 def guard(seconds):
-    """Ends this run after so many seconds, and when it is asked to."""
+    """Ends this run when it is asked to, after so many seconds of the processor, and after some times as many of the clock."""
     for it in (signal.SIGTERM, signal.SIGINT, signal.SIGHUP):
         signal.signal(it, stop)
     for it in (signal.SIGALRM, signal.SIGXCPU):
         signal.signal(it, out_of_time)
     if seconds:
-        signal.setitimer(signal.ITIMER_REAL, seconds)
+        signal.setitimer(signal.ITIMER_REAL, CLOCK * seconds)
+        lower(resource.RLIMIT_CPU, seconds)
+
+
+def lower(limit, wanted):
+    """Sets the soft limit, which may not be above the hard one."""
+    _, hard = resource.getrlimit(limit)
+    if hard == resource.RLIM_INFINITY or wanted <= hard:
+        resource.setrlimit(limit, (wanted, hard))
 
 
 class Runner:
-    def __init__(self, megabytes):
-        self.megabytes = megabytes
+    """Calls programs, with so many megabytes each, and with what is left of so many seconds for each worker."""
+
+    def __init__(self, megabytes, seconds, workers):
+        self.megabytes, self.seconds, self.workers = megabytes, seconds, workers
         self.libc = ctypes.CDLL(None)
 
+    def left(self):
+        """Seconds of the processor for one call, one at least."""
+        used = sum(resource.getrusage(who).ru_utime + resource.getrusage(who).ru_stime for who in (resource.RUSAGE_SELF, resource.RUSAGE_CHILDREN))
+        return max(1, ceil(self.seconds * self.workers - used))
+
     def limit(self):
-        """In the new process: it ends with this one, however that ends, and has so much memory."""
+        """In the new process: it ends with this one, however that ends, and has so much memory and time."""
         self.libc.prctl(PR_SET_PDEATHSIG, signal.SIGKILL)
+        signal.signal(signal.SIGXCPU, signal.SIG_DFL)
         if self.megabytes:
-            _, hard = resource.getrlimit(resource.RLIMIT_AS)
-            wanted = self.megabytes << 20
-            if hard == resource.RLIM_INFINITY or wanted <= hard:
-                resource.setrlimit(resource.RLIMIT_AS, (wanted, hard))
+            lower(resource.RLIMIT_AS, self.megabytes << 20)
+        if self.seconds:
+            lower(resource.RLIMIT_CPU, self.left())
 
     def call(self, *words):
         """Exit status and standard output."""
