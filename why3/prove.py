@@ -5,6 +5,7 @@ import os
 import re
 import shutil
 import tempfile
+from math import ceil
 
 import runs
 from case import Maker, cases_of
@@ -32,9 +33,9 @@ def asked_for(words):
         if word in OPTIONS:
             low, high = OPTIONS[word]
             number = words.pop(0) if words else ''
-            if not re.fullmatch('[0-9]{1,19}', number) or not low <= int(number) <= high:
+            if not re.fullmatch(r'[0-9]{1,19}(\.[0-9]{1,9})?' if word == '-t' else '[0-9]{1,19}', number) or not low <= ceil(float(number)) <= high:
                 raise Ended('Failure: %s takes a number from %d to %d' % (word, low, high), 3)
-            found[word] = int(number)
+            found[word] = ceil(float(number))
         else:
             files.append(word)
     if len(files) != 1 or files[0].startswith('-'):

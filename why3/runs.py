@@ -59,6 +59,12 @@ def guard(seconds):
         lower(resource.RLIMIT_CPU, seconds)
 
 
+def unguard():
+    """What is left to do is done, whatever signals come."""
+    for it in (signal.SIGTERM, signal.SIGINT, signal.SIGHUP, signal.SIGALRM, signal.SIGXCPU):
+        signal.signal(it, signal.SIG_IGN)
+
+
 def lower(limit, wanted):
     """Sets the soft limit, which may not be above the hard one."""
     _, hard = resource.getrlimit(limit)
