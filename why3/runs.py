@@ -13,6 +13,7 @@ from math import ceil
 # A limit of time is of the processor's, since several provers run at a time; so many times as much of the clock ends the run too.
 CLOCK = 5
 PR_SET_PDEATHSIG = 1
+CAUGHT = (signal.SIGTERM, signal.SIGINT, signal.SIGHUP, signal.SIGALRM, signal.SIGXCPU)
 STATUSES = {4: 'cannot read a file', 5: 'cannot write a file'}
 
 
@@ -50,10 +51,8 @@ def out_of_time(*_):
 
 def guard(seconds):
     """Ends this run when it is asked to, after so many seconds of the processor, and after some times as many of the clock."""
-    for it in (signal.SIGTERM, signal.SIGINT, signal.SIGHUP):
-        signal.signal(it, stop)
-    for it in (signal.SIGALRM, signal.SIGXCPU):
-        signal.signal(it, out_of_time)
+    for it in CAUGHT:
+        signal.signal(it, out_of_time if it in (signal.SIGALRM, signal.SIGXCPU) else stop)
     if seconds:
         signal.setitimer(signal.ITIMER_REAL, CLOCK * seconds)
         lower(resource.RLIMIT_CPU, seconds)
@@ -61,7 +60,7 @@ def guard(seconds):
 
 def unguard():
     """What is left to do is done, whatever signals come."""
-    for it in (signal.SIGTERM, signal.SIGINT, signal.SIGHUP, signal.SIGALRM, signal.SIGXCPU):
+    for it in CAUGHT:
         signal.signal(it, signal.SIG_IGN)
 
 
@@ -88,16 +87,19 @@ class Runner:
         """In the new process: it ends with this one, however that ends, and has so much memory and time."""
         self.libc.prctl(PR_SET_PDEATHSIG, signal.SIGKILL)
         signal.signal(signal.SIGXCPU, signal.SIG_DFL)
+        signal.pthread_sigmask(signal.SIG_UNBLOCK, CAUGHT)
         if self.megabytes:
             lower(resource.RLIMIT_AS, self.megabytes << 20)
         if self.seconds:
             lower(resource.RLIMIT_CPU, self.left())
 
     def call(self, *words):
-        """Exit status and standard output."""
+        """Exit status and standard output. A signal that comes while the process begins waits until it can be ended."""
         process = None
+        signal.pthread_sigmask(signal.SIG_BLOCK, CAUGHT)
         try:
             process = subprocess.Popen(words, stdin=subprocess.DEVNULL, stdout=subprocess.PIPE, stderr=subprocess.DEVNULL, start_new_session=True, preexec_fn=self.limit)
+            signal.pthread_sigmask(signal.SIG_UNBLOCK, CAUGHT)
             said, _ = process.communicate()
         except OSError as error:
             raise failure('%s does not start: %s' % (words[0], error.strerror)) from None
@@ -105,6 +107,7 @@ class Runner:
             if process and process.returncode is None:
                 os.killpg(process.pid, signal.SIGKILL)
                 process.wait()
+            signal.pthread_sigmask(signal.SIG_UNBLOCK, CAUGHT)
         status, name = process.returncode, os.path.basename(words[0])
         if status == 6:
             raise Ended('OutOfMemory')
