@@ -32,11 +32,14 @@ def main():
         call('why3', 'config', 'detect')
         with open(env['WHY3CONFIG'], 'a') as file:
             file.write(CVC5)
+        listed = call('why3', 'config', 'list-provers')
         if 'dpoly' in asked:
             print(call(os.path.join(TOP, 'why3', 'dpoly-why3'), 'install').strip(), file=sys.stderr)
         for name in sorted(it for it in os.listdir(EXAMPLES) if it.endswith('.mlw')):
             for prover in asked:
-                said = call('why3', 'prove', '-t', seconds, '-P', PROVERS[prover], os.path.join(EXAMPLES, name))
+                version = re.search(r'^%s (\S+)$' % PROVERS[prover], listed, re.M)
+                word = '%s,%s,' % (PROVERS[prover], version[1]) if version else PROVERS[prover]
+                said = call('why3', 'prove', '-t', seconds, '-P', word, os.path.join(EXAMPLES, name))
                 for goal, result, time in re.findall(r'Goal (\S+)\.\nProver result is: (\w+)[^G]*?\((\d+\.\d+)s', said):
                     table.setdefault((name, goal), {})[prover] = '%s s' % time if result == 'Valid' else '-'
     print('| goal | %s |\n|---%s|' % (' | '.join(asked), '|---' * len(asked)))

@@ -5,6 +5,7 @@ import os
 import re
 import shutil
 import tempfile
+from math import ceil
 
 import runs
 from case import Maker, cases_of
@@ -32,9 +33,9 @@ def asked_for(words):
         if word in OPTIONS:
             low, high = OPTIONS[word]
             number = words.pop(0) if words else ''
-            if not re.fullmatch('[0-9]{1,19}', number) or not low <= int(number) <= high:
+            if not re.fullmatch(r'[0-9]{1,19}(\.[0-9]{1,9})?' if word == '-t' else '[0-9]{1,19}', number) or not low <= ceil(float(number)) <= high:
                 raise Ended('Failure: %s takes a number from %d to %d' % (word, low, high), 3)
-            found[word] = int(number)
+            found[word] = ceil(float(number))
         else:
             files.append(word)
     if len(files) != 1 or files[0].startswith('-'):
@@ -64,7 +65,7 @@ class Prover:
     def __init__(self, asked, path):
         self.bound, self.name = asked['--bound'], re.sub(r'^why_[0-9a-f]+_|\.smt2$', '', os.path.basename(path))
         self.solver, self.checker = runs.program('dpoly'), runs.program('dpoly-check')
-        self.runner = runs.Runner(asked['-m'])
+        self.runner = runs.Runner(asked['-m'], asked['-t'], asked['--workers'] or 1)
         self.options = ['--workers', str(asked['--workers'])] if asked['--workers'] else []
         self.keep = os.environ.get('DPOLY_WHY3_KEEP')
 

@@ -8,8 +8,12 @@ import signal
 import subprocess
 import sys
 from fractions import Fraction
+from math import ceil
 
+# A limit of time is of the processor's, since several provers run at a time; so many times as much of the clock ends the run too.
+CLOCK = 5
 PR_SET_PDEATHSIG = 1
+CAUGHT = (signal.SIGTERM, signal.SIGINT, signal.SIGHUP, signal.SIGALRM, signal.SIGXCPU)
 STATUSES = {4: 'cannot read a file', 5: 'cannot write a file'}
 
 
@@ -46,34 +50,56 @@ def out_of_time(*_):
 
 
 def guard(seconds):
-    """Ends this run after so many seconds, and when it is asked to."""
-    for it in (signal.SIGTERM, signal.SIGINT, signal.SIGHUP):
-        signal.signal(it, stop)
-    for it in (signal.SIGALRM, signal.SIGXCPU):
-        signal.signal(it, out_of_time)
+    """Ends this run when it is asked to, after so many seconds of the processor, and after some times as many of the clock."""
+    for it in CAUGHT:
+        signal.signal(it, out_of_time if it in (signal.SIGALRM, signal.SIGXCPU) else stop)
     if seconds:
-        signal.setitimer(signal.ITIMER_REAL, seconds)
+        signal.setitimer(signal.ITIMER_REAL, CLOCK * seconds)
+        lower(resource.RLIMIT_CPU, seconds)
+
+
+def unguard():
+    """What is left to do is done, whatever signals come."""
+    for it in CAUGHT:
+        signal.signal(it, signal.SIG_IGN)
+
+
+def lower(limit, wanted):
+    """Sets the soft limit, which may not be above the hard one."""
+    _, hard = resource.getrlimit(limit)
+    if hard == resource.RLIM_INFINITY or wanted <= hard:
+        resource.setrlimit(limit, (wanted, hard))
 
 
 class Runner:
-    def __init__(self, megabytes):
-        self.megabytes = megabytes
+    """Calls programs, with so many megabytes each, and with what is left of so many seconds for each worker."""
+
+    def __init__(self, megabytes, seconds, workers):
+        self.megabytes, self.seconds, self.workers = megabytes, seconds, workers
         self.libc = ctypes.CDLL(None)
 
+    def left(self):
+        """Seconds of the processor for one call, one at least."""
+        used = sum(resource.getrusage(who).ru_utime + resource.getrusage(who).ru_stime for who in (resource.RUSAGE_SELF, resource.RUSAGE_CHILDREN))
+        return max(1, ceil(self.seconds * self.workers - used))
+
     def limit(self):
-        """In the new process: it ends with this one, however that ends, and has so much memory."""
+        """In the new process: it ends with this one, however that ends, and has so much memory and time."""
         self.libc.prctl(PR_SET_PDEATHSIG, signal.SIGKILL)
+        signal.signal(signal.SIGXCPU, signal.SIG_DFL)
+        signal.pthread_sigmask(signal.SIG_UNBLOCK, CAUGHT)
         if self.megabytes:
-            _, hard = resource.getrlimit(resource.RLIMIT_AS)
-            wanted = self.megabytes << 20
-            if hard == resource.RLIM_INFINITY or wanted <= hard:
-                resource.setrlimit(resource.RLIMIT_AS, (wanted, hard))
+            lower(resource.RLIMIT_AS, self.megabytes << 20)
+        if self.seconds:
+            lower(resource.RLIMIT_CPU, self.left())
 
     def call(self, *words):
-        """Exit status and standard output."""
+        """Exit status and standard output. A signal that comes while the process begins waits until it can be ended."""
         process = None
+        signal.pthread_sigmask(signal.SIG_BLOCK, CAUGHT)
         try:
             process = subprocess.Popen(words, stdin=subprocess.DEVNULL, stdout=subprocess.PIPE, stderr=subprocess.DEVNULL, start_new_session=True, preexec_fn=self.limit)
+            signal.pthread_sigmask(signal.SIG_UNBLOCK, CAUGHT)
             said, _ = process.communicate()
         except OSError as error:
             raise failure('%s does not start: %s' % (words[0], error.strerror)) from None
@@ -81,6 +107,7 @@ class Runner:
             if process and process.returncode is None:
                 os.killpg(process.pid, signal.SIGKILL)
                 process.wait()
+            signal.pthread_sigmask(signal.SIG_UNBLOCK, CAUGHT)
         status, name = process.returncode, os.path.basename(words[0])
         if status == 6:
             raise Ended('OutOfMemory')
