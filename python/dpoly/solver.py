@@ -6,7 +6,7 @@ import re
 import shutil
 import subprocess
 import tempfile
-from dataclasses import dataclass
+from dataclasses import dataclass, field
 from fractions import Fraction
 from typing import Dict, List, Optional, Tuple, Union
 
@@ -53,13 +53,17 @@ class ProgramError(DpolyError):
         super().__init__(text)
 
 
+class OutOfTime(ProgramError):
+    """A program took longer than `seconds`."""
+
+
 @dataclass(frozen=True)
 class Unsat:
     """No point within the bounds satisfies the question, even with each comparison loosened by `margin`. `is_confirmed`:
     whether the checker confirmed the certificate."""
 
     margin: Fraction
-    certificate: bytes
+    certificate: bytes = field(repr=False)
     is_confirmed: bool
 
 
@@ -70,7 +74,7 @@ class DeltaSat:
 
     delta: Fraction
     point: Dict[str, Value]
-    certificate: bytes
+    certificate: bytes = field(repr=False)
     is_confirmed: bool
 
 
@@ -80,7 +84,7 @@ class Unknown:
     decided, for the comparison number `atom`. `open_boxes` counts the boxes that are left, where the checker counted them."""
 
     cause: str
-    certificate: bytes
+    certificate: bytes = field(repr=False)
     is_confirmed: bool
     budget: Optional[int] = None
     atom: Optional[int] = None
@@ -122,7 +126,7 @@ def solve(
     least_bits: Optional[int] = None,
     budget: Optional[int] = None,
     bound: Optional[int] = None,
-    workers: Optional[int] = None,
+    workers: Union[int, str, None] = None,
     check: bool = True,
     seconds: Optional[float] = None,
     programs: Optional[Programs] = None,
@@ -142,7 +146,7 @@ def solve_script(
     least_bits: Optional[int] = None,
     budget: Optional[int] = None,
     bound: Optional[int] = None,
-    workers: Optional[int] = None,
+    workers: Union[int, str, None] = None,
     check: bool = True,
     seconds: Optional[float] = None,
     programs: Optional[Programs] = None,
@@ -153,11 +157,11 @@ def solve_script(
     return run(text, options, bound, check, seconds, programs or find_programs())
 
 
-def options_of(*values: Optional[int]) -> List[str]:
+def options_of(*values: Union[int, str, None]) -> List[str]:
     words = []
     for name, value in zip(("margin-bits", "delta-bits", "least-bits", "budget", "bound", "workers"), values):
         if value is not None:
-            if isinstance(value, bool) or not isinstance(value, int):
+            if isinstance(value, bool) or not isinstance(value, int) and (name, value) != ("workers", "auto"):
                 raise TypeError(f"{name.replace('-', '_')} has to be a whole number, and not {value!r}")
             words += [f"--{name}", str(value)]
     return words
@@ -186,7 +190,7 @@ def call(words: List[str], script: bytes, seconds: Optional[float]) -> bytes:
     try:
         done = subprocess.run(words, stdin=subprocess.DEVNULL, stdout=subprocess.PIPE, stderr=subprocess.PIPE, timeout=seconds)
     except subprocess.TimeoutExpired:
-        raise ProgramError(f"{os.path.basename(words[0])} took more than {seconds} seconds") from None
+        raise OutOfTime(f"{os.path.basename(words[0])} took more than {seconds} seconds") from None
     except OSError as error:
         raise ProgramError(f"{words[0]} does not start: {error.strerror}") from None
     said, status = done.stdout, done.returncode

@@ -39,6 +39,11 @@ def symbol_of(name: str) -> str:
         raise ValueError(f"{name!r} cannot be spelled in SMT-LIB: a name is not empty and holds no bar and no backslash")
     if name in THEORY:
         raise ValueError(f"{name!r} is a symbol of SMT-LIB's theories, and no name of a constant")
+    return spelled(name)
+
+
+def spelled(name: str) -> str:
+    """The name, between bars where SMT-LIB asks for them."""
     return name if SIMPLE_SYMBOL.fullmatch(name) and name not in RESERVED else f"|{name}|"
 
 
