@@ -1,13 +1,17 @@
 """Scripts that were written for z3 (`Solver.to_smt2()`) or dReal, in the language of `dpoly`."""
 from __future__ import annotations
 
+import re
 from dataclasses import dataclass
 from fractions import Fraction
 from typing import Callable, Dict, List, Optional, Sequence, Tuple
 
-from .ranges import bound_texts, implied_bounds
-from .smtlib import SORTS, Code, ConversionError, Declared, Defined, Group, Scope, Token, Tree, Writer, fault, is_word, label_of, number_of, plain, trees
-from .terms import Constant, spelled
+from .approx import ERROR, FUNCTIONS, choice_of_pieces, enclosed
+from .approx import FINEST as FINEST_ERROR
+from .ranges import WHOLE, Empty, Interval, bound_texts, forward, implied_bounds, propagated
+from .script import text_of
+from .smtlib import SORTS, Code, ConversionError, Declared, Defined, Functions, Group, Scope, Token, Tree, Writer, fault, is_word, label_of, number_of, plain, trees
+from .terms import Operation, spelled
 from .values import Graph, TooDear
 
 __all__ = ["Conversion", "ConversionError", "convert"]
@@ -18,11 +22,13 @@ FINEST = Fraction(1, 2**30)
 @dataclass(frozen=True)
 class Conversion:
     """`text` is the script in the program's language. Where the script asks for a precision, `delta_bits` (and `margin_bits`,
-    where its default is not above that) are options that give at least this precision."""
+    where its default is not above that) are options that give at least this precision. `enclosed` names the functions that stand
+    there as polynomials with a remainder: an unsat holds of the script itself, a point is one of the enclosure."""
 
     text: str
     delta_bits: Optional[int] = None
     margin_bits: Optional[int] = None
+    enclosed: Tuple[str, ...] = ()
 
     @property
     def options(self) -> List[str]:
@@ -32,10 +38,11 @@ class Conversion:
 
 
 def convert(text: str) -> Conversion:
-    """The script in the program's language: bounds of declarations, and those that follow from the assertions, as assertions, whole powers as products of named squares,
-    `abs`, `min` and `max` as choices, decimals with an exponent as fractions, the precision as the delta to ask for. What the
-    program reads stays as it is. A name that the script declares, defines or binds is that, whatever it is elsewhere. Raises
-    `ConversionError`, with the place, for what has no counterpart."""
+    """The script in the program's language: bounds of declarations, and those that follow from the assertions, as assertions,
+    whole powers as products of named squares, `abs`, `min` and `max` as choices, `sin`, `exp` and others as polynomials with a
+    remainder, decimals with an exponent as fractions, the precision as the delta to ask for. What the program reads stays as it is.
+    A name that the script declares, defines or binds is that, whatever it is elsewhere. Raises `ConversionError`, with the place,
+    for what has no counterpart."""
     return Converter(text).whole()
 
 
@@ -68,12 +75,69 @@ def labels_in_use(commands: Sequence[Tree]) -> Dict[str, Tree]:
     return {name: tree for name, tree in labels.items() if name in uses}
 
 
+class Enclosures(Functions):
+    """Functions as polynomials of arguments whose bounds are known (`approx.py`). `error` bounds each remainder, a constant that
+    `declared` has the lines for; `bounds` has the bounds of the constants, None while these are looked for."""
+
+    names = frozenset(FUNCTIONS)
+
+    def __init__(self, text: str, bounds: Optional[Dict[str, Interval]]) -> None:
+        self.source, self.bounds, self.error = text, bounds, ERROR
+        self.declared: List[str] = []
+        self.used: Dict[str, int] = {}
+
+    def text(self, name: str, bound: str, code: Code, tree: Tree) -> str:
+        if self.bounds is None:
+            return bound
+        graph = Graph(code)
+        interval = forward(graph, {it: self.bounds.get(it, WHOLE) for it in graph.constants()})[graph.root]
+        if interval is None or None in interval:
+            raise fault(f"{name} has no counterpart where its argument has no bounds: state bounds of the constants in it", tree)
+        try:
+            pieces = enclosed(name, *interval, self.error)  # type: ignore[arg-type]
+        except ValueError as error:
+            raise fault(str(error), tree) from None
+        most = max(it.error for it in pieces)
+        remainder = self.remainder(name)
+        self.declared += [f"(declare-const {remainder} Real)", *bound_texts(remainder, (-most, most))]
+        argument = Operation(bound)
+        found = choice_of_pieces(argument, pieces)
+        return text_of(found + Operation(remainder), {bound, remainder})
+
+    def remainder(self, name: str) -> str:
+        while True:
+            number = self.used.get(name, 0)
+            self.used[name] = number + 1
+            if f"|{name}({number})|" not in self.source:
+                return f"|{name}({number})|"
+
+    def taken(self) -> List[str]:
+        """The lines that declare the remainders since the last call."""
+        found, self.declared = self.declared, []
+        return found
+
+
+def bounds_of_whole(text: str) -> Dict[str, Interval]:
+    """The bounds of the constants in a script with one check and no levels, wherever it states them; none of another script."""
+    scout = Converter(text, is_scout=True)
+    words = [it.head for it in scout.commands if isinstance(it, Group)]
+    if sum(word in ("check-sat", "check-sat-assuming") for word in words) != 1 or {"push", "pop", "reset", "reset-assertions"} & set(words):
+        return {}
+    scout.whole()
+    try:
+        return propagated([it for it in scout.asserted if it is not None], scout.reals())
+    except (Empty, TooDear):
+        return {}
+
+
 class Converter:
-    def __init__(self, text: str) -> None:
+    def __init__(self, text: str, is_scout: bool = False) -> None:
         self.commands = commands_of(text)
         self.scope = Scope()
         self.labels = labels_in_use(self.commands)
-        self.writer = Writer(self.scope, self.labels)
+        is_asked = not is_scout and FUNCTIONS.keys() & set(re.findall(r"[a-z]+", text))
+        self.enclosures = Enclosures(text, None if is_scout else bounds_of_whole(text) if is_asked else {})
+        self.writer = Writer(self.scope, self.labels, self.enclosures)
         self.has_logic = self.has_goal = False
         # the assertions in force, None for one that is too large, and how many there were at each `push`
         self.asserted: List[Optional[Graph]] = []
@@ -81,11 +145,14 @@ class Converter:
         self.precision: Optional[Tuple[int, Optional[int]]] = None
 
     def whole(self) -> Conversion:
-        lines = [line for tree in self.commands for line in self.command(tree)]
+        lines = [line for tree in self.commands for made in [self.command(tree)] for line in [*self.enclosures.taken(), *made]]
         delta = margin = None
         if self.precision is not None:
             delta, margin = self.precision
-        return Conversion("\n".join([*lines, ""]), delta, margin)
+        return Conversion("\n".join([*lines, ""]), delta, margin, tuple(self.enclosures.used))
+
+    def reals(self) -> List[str]:
+        return [it.name for it in self.scope.names.values() if isinstance(it, Declared) and it.sort == "Real"]
 
     def command(self, tree: Tree) -> List[str]:
         name = tree.head if isinstance(tree, Group) else None
@@ -112,7 +179,9 @@ class Converter:
     def option(self, tree: Group) -> List[str]:
         if not is_word(tree.items[1:2], ":precision"):
             return self.as_it_is(tree)
-        self.precision = precision_bits(number_of(tree.items[2] if len(tree.items) == 3 else tree), tree)
+        precision = number_of(tree.items[2] if len(tree.items) == 3 else tree)
+        self.precision = precision_bits(precision, tree)
+        self.enclosures.error = max(min(ERROR, precision / 8), FINEST_ERROR)
         return []
 
     def declaration(self, tree: Group) -> List[str]:
@@ -130,11 +199,15 @@ class Converter:
             raise fault("a Bool constant has no bounds", tree)
         self.scope.add(Declared(name, sort), tree)
         made = [f"(declare-const {items[0].text} {sort})"]
-        sides = [it for it in (ends[0], items[0].text, ends[1]) if it] if ends else []
-        return made + ([f"(assert (<= {' '.join(sides)}))"] if len(sides) > 1 else [])
+        if ends is None or ends == WHOLE:
+            return made
+        low, high = ends
+        sides: List[Tuple[object, ...]] = [*([("number", low)] if low is not None else []), ("constant", name), *([("number", high)] if high is not None else [])]
+        self.asserted.append(graph_of(Code([*sides, ("apply", "<=", len(sides))])))
+        return made + bound_texts(items[0].text, ends)
 
-    def ends(self, items: List[Tree], tree: Group) -> Optional[Tuple[str, str]]:
-        """The bounds behind a declaration, `[a, b]` or `a b`; an infinite one is empty."""
+    def ends(self, items: List[Tree], tree: Group) -> Optional[Interval]:
+        """The bounds behind a declaration, `[a, b]` or `a b`; None for an infinite one."""
         if not items:
             return None
         inner = [it for it in items if not (isinstance(it, Token) and it.kind == "bracket")]
@@ -144,17 +217,18 @@ class Converter:
             raise fault("bounds are written [a, b]", tree)
         return found[0], found[1]
 
-    def sides(self, items: List[Tree]) -> List[str]:
+    def sides(self, items: List[Tree]) -> List[Optional[Fraction]]:
         """The numbers in the items; a sign may stand before one, and `inf` stands for none."""
-        found, sign = [], 1
+        found: List[Optional[Fraction]] = []
+        sign = 1
         for it in items:
             if is_word([it], "-") or is_word([it], "+"):
                 sign = -1 if is_word([it], "-") else 1
                 continue
             if isinstance(it, Token) and it.text.lstrip("+-") in ("inf", "infinity", "oo"):
-                found.append("")
+                found.append(None)
             else:
-                found.append(Constant(sign * number_of(it)).symbol)
+                found.append(sign * number_of(it))
             sign = 1
         return found
 
@@ -202,8 +276,7 @@ class Converter:
         """Bounds that follow from the assertions, for constants for which they state none."""
         known = [it for it in self.asserted if it is not None]
         used = {name for it in known for name in it.constants()}
-        reals = [it.name for it in self.scope.names.values() if isinstance(it, Declared) and it.sort == "Real" and it.name in used]
-        found = implied_bounds(known, reals)
+        found = implied_bounds(known, [it for it in self.reals() if it in used])
         return [line for name, bounds in found.items() for line in bound_texts(spelled(name), bounds)]
 
     def assumed(self, tree: Group) -> List[str]:

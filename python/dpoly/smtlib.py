@@ -346,6 +346,16 @@ class Written:
     code: Code
 
 
+class Functions:
+    """What writes functions that the program has not. `names` are theirs; `text` writes one of an argument that is bound to a name
+    and is the last operand of the code."""
+
+    names: frozenset = frozenset()
+
+    def text(self, name: str, bound: str, code: Code, tree: Tree) -> str:
+        raise NotImplementedError
+
+
 Task = Generator["Task", Optional[str], str]
 
 
@@ -367,16 +377,16 @@ class Writer:
     other literals as fractions. A name is what the innermost `let` or parameter, else the script's own declaration or definition
     says; only a name that none of them has is an operator of the other language."""
 
-    def __init__(self, scope: Scope, labels: Optional[Dict[str, Tree]] = None) -> None:
-        self.scope, self.labels = scope, labels
+    def __init__(self, scope: Scope, labels: Optional[Dict[str, Tree]] = None, functions: Optional["Functions"] = None) -> None:
+        self.scope, self.labels, self.functions = scope, labels, functions
         self.local: Dict[str, List[Local]] = {}
         self.pieces: List[str] = []
         self.code = Code()
-        self.fresh_names = 0
+        self.fresh_names = self.parameters = 0
 
     def write(self, root: Tree, sort: Optional[str], parameters: Sequence[Tuple[Token, str]] = ()) -> Written:
         """The expression. Raises `ConversionError` where it has no counterpart, or has not the sort that is wanted."""
-        self.pieces, self.code, self.local = [], Code(), {}
+        self.pieces, self.code, self.local, self.parameters = [], Code(), {}, len(parameters)
         self.bind([(name, of_sort) for name, of_sort in parameters])
         found = run(self.expression(root))
         if sort is not None and found != sort:
@@ -422,6 +432,8 @@ class Writer:
             return (yield self.power(tree))
         if name in CHOICES:
             return (yield self.choice(name, tree))
+        if self.functions is not None and name in self.functions.names:
+            return (yield self.enclosed(tree, name))
         if name not in THEORIES and name != "sqrt":
             raise self.unknown(name, head)
         return (yield self.operation(name, tree, head))
@@ -585,6 +597,21 @@ class Writer:
             raise fault("a power has a base of the sort Real", tree)
         self.pieces.append(")")
         self.put("apply", "sqrt", 1)
+        return "Real"
+
+    def enclosed(self, tree: Group, name: str) -> Task:
+        """A function as a polynomial of its argument, by `functions`."""
+        if len(tree.items) != 2:
+            raise fault(f"{name} takes one argument", tree)
+        bound = self.fresh()
+        self.pieces.append(f"(let (({bound} ")
+        sort = yield self.expression(tree.items[1])
+        if sort != "Real":
+            raise fault(f"{name} takes an argument of the sort Real", tree)
+        if self.parameters:
+            raise fault(f"{name} stands in a function with parameters: write what the function stands for instead", tree)
+        self.pieces.append(f")) {self.functions.text(name, bound, self.code, tree)})")  # type: ignore[union-attr]
+        self.put("apply", name, 1)
         return "Real"
 
     def choice(self, name: str, tree: Group) -> Task:

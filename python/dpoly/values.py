@@ -20,14 +20,14 @@ class TooDear(Exception):
 
 
 class Graph:
-    """An expression with each `let` and each call replaced by what it stands for; equal parts stand once. The nodes are
+    """An expression (or the last operand of one that is not whole) with each `let` and each call replaced by what it stands for; equal parts stand once. The nodes are
     `("number", f)`, `("truth", b)`, `("constant", name)`, `("power", k, i)` and `(operator, i, ..)` with numbers of nodes before
     them; the last one is the whole. Raises `TooDear` where that takes more than 2,000,000 steps."""
 
-    def __init__(self, code: Code) -> None:
+    def __init__(self, code: Optional[Code] = None) -> None:
         self.nodes: List[Tuple] = []
         self.numbers: Dict[Tuple, int] = {}
-        self.root = self.unfolded(code)
+        self.root = 0 if code is None else self.unfolded(code)
 
     def make(self, *node: object) -> int:
         if node not in self.numbers:
@@ -44,7 +44,7 @@ class Graph:
             if word == "end":
                 frames.pop()
                 if not frames:
-                    return operands[0]
+                    return operands[-1]
             elif word == "slot":
                 operands.append(slots[rest[0]])
             elif word == "store":

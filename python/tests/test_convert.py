@@ -73,8 +73,11 @@ ROWS = [
 
 # what has no counterpart, its place (behind DECLARED, which ends with line 4), and a word that the error names
 FAULTS = [
-    ("(assert\n (<= (sin x) 0))", 6, 7, "sin"),
-    ("(assert (<= (exp x) 0))", 5, 14, "exp"),
+    ("(assert\n (<= (sin x) 0))", 6, 6, "bounds"),
+    ("(assert (<= (tan x) 0))", 5, 14, "tan"),
+    ("(assert (<= 0 x 1))(assert (<= (log x) 0))", 5, 32, "log"),
+    ("(assert (<= 0 x 1))(assert (<= (sin x x) 0))", 5, 32, "one argument"),
+    ("(define-fun f ((a Real)) Real (sin a))", 5, 31, "parameters"),
     ("(declare-fun n () Int)", 5, 19, "Int"),
     ("(declare-fun f (Real) Real)", 5, 16, "arguments"),
     ("(assert (<= (^ x y) 1))", 5, 18, "exponent"),

@@ -195,7 +195,7 @@ class Sessions(unittest.TestCase):
         client.send("(declare-const x Real)(assert (<= 0 x 1))")
         self.talk(
             client,
-            ("(assert (<= x z))", '(error "line 1 column 55: z is not declared")'),
+            ("(assert (<= x z))", '(error "line 1 column 56: z is not declared")'),
             # an assertion is missing: what is left has a point, which says nothing of the whole
             ("(check-sat)", "unknown"),
             ("(get-info :reason-unknown)", '(:reason-unknown "incomplete: a command was refused, and the point is of what is left")'),

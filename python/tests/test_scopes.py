@@ -19,7 +19,7 @@ class Dice:
     as Python functions of a point. Each name is bound when it is made, so no name is looked up by its text."""
 
     def __init__(self, seed):
-        self.dice, self.count = random.Random(seed), 0
+        self.dice, self.count, self.choices = random.Random(seed), 0, 0
         self.lines, self.plain, self.checks = [], [], []
         # a name of the script to (arity, name in the plain text, function)
         self.scope = {}
@@ -46,7 +46,9 @@ class Dice:
         inner, fresh = dict(self.scope), [self.fresh() for _ in names]
         for parameter, unique in zip(names, fresh):
             self.put(inner, parameter, (0, unique, lambda point, local, unique=unique: local[unique]))
+        self.choices = 3
         text, plain, body = self.term(inner, 3)
+        self.choices = 0
         unique = self.fresh()
         listed = " ".join(f"({it} Real)" for it in names), " ".join(f"({it} Real)" for it in fresh)
         self.lines.append(f"(define-fun {name} ({listed[0]}) Real {text})")
@@ -63,6 +65,7 @@ class Dice:
         scope[name] = entry
 
     def assertion(self):
+        self.choices = 0
         text, plain, value = self.term(self.scope, 4)
         point = {it: Fraction(self.dice.randrange(8, 17), 8) for it in ("x", "y")}
         limit = value(point, {}) + Fraction(self.dice.randrange(-3, 9), 4)
@@ -115,7 +118,9 @@ class Dice:
     def elsewhere(self, scope, depth):
         """An operator of another language, where no name of the script hides it."""
         name = self.dice.choice(["abs", "min", "max", "pow", "^"])
-        if name in {it.strip("|") for it in scope}:
+        self.choices += name in ("abs", "min", "max")
+        # (each choice doubles what stands above it; so there are none in definitions, and few elsewhere)
+        if name in {it.strip("|") for it in scope} or name in ("abs", "min", "max") and self.choices > 2:
             return self.term(scope, depth - 1)
         a, left = self.term(scope, depth - 1), self.fresh()
         if name in ("pow", "^"):
@@ -159,7 +164,7 @@ class Scopes(unittest.TestCase):
                 for text in (convert("\n".join(made.lines)).text, "\n".join(made.plain)):
                     path = Path(folder, "script.smt2")
                     path.write_text(text)
-                    done = subprocess.run([program, "solve", "--budget", "100", path, "/dev/null"], stdout=subprocess.PIPE, stderr=subprocess.PIPE)
+                    done = subprocess.run([program, "solve", "--budget", "10", path, "/dev/null"], stdout=subprocess.PIPE, stderr=subprocess.PIPE)
                     said.append((done.returncode, done.stdout))
                 self.assertEqual(said[0], said[1], "\n".join(made.lines))
                 kinds.add(said[0][1].split(b"\n")[0].split(b" ")[0])
