@@ -15,7 +15,7 @@ from math import factorial
 from typing import Callable, Dict, List, Optional, Sequence, Tuple
 
 from .guards import numbers_and_ranges
-from .ranges import Interval, meet, minus, over, plus, root_below, shortened, times
+from .ranges import RANGES, WHOLE, Interval, meet, minus, over, plus, root_below, shortened, times
 from .script import bounds_of, constants_of, text_of
 from .terms import Operand, Real, Term, choice_of, term_of
 
@@ -177,6 +177,32 @@ FUNCTIONS: Dict[str, Callable[[Fraction, Fraction], Series]] = {
 }
 
 
+def rising(value_at: Callable[[Fraction], Interval], least: Optional[int], most: Optional[int], limit: int) -> Callable[[Interval], Interval]:
+    """The range of a function that rises, and that lies between `least` and `most`; ends beyond `limit` are taken for infinite."""
+    def range_of(a: Interval) -> Interval:
+        low = None if a[0] is None or abs(a[0]) > limit else value_at(a[0])[0]
+        high = None if a[1] is None or abs(a[1]) > limit else value_at(a[1])[1]
+        return meet((low, high), (None if least is None else Fraction(least), None if most is None else Fraction(most)))
+
+    return range_of
+
+
+def log_range(a: Interval) -> Interval:
+    return rising(log_at, None, None, 10**6)(a) if a[0] is not None and a[0] > 0 else WHOLE
+
+
+RANGES.update(
+    {
+        "sin": lambda a: (Fraction(-1), Fraction(1)),
+        "cos": lambda a: (Fraction(-1), Fraction(1)),
+        "exp": rising(exp_at, 0, None, 40),
+        "log": log_range,
+        "atan": rising(atan_at, -2, 2, 10**6),
+        "tanh": rising(tanh_at, -1, 1, 20),
+        "sigmoid": rising(sigmoid_at, 0, 1, 20),
+    }
+)
+
 # ---------------------------------------------------------------- Polynomials
 @dataclass(frozen=True)
 class Piece:
@@ -318,7 +344,7 @@ def bounds_in(term: Term) -> List[str]:
 
 def range_of_term(term: Term) -> Tuple[Fraction, Fraction]:
     """The range of a term by the bounds of its constants. Raises `ValueError` where it has none."""
-    numbers, known = numbers_and_ranges([term == 0])
+    numbers, known = numbers_and_ranges([], [term])
     interval = known[numbers[id(term)]]
     if interval is None or None in interval:
         raise ValueError("a function is asked of a term without bounds: give each Real in it its bounds, as Real('x', 0, 1)")

@@ -1,15 +1,16 @@
 """Square roots under a condition, written with their guard.
 
 The program has no point where a root is asked of a negative number, wherever the root stands: `If(x >= 0, Sqrt(x), 0)` would
-exclude each negative x. So a root that stands under conditions alone, and whose argument the bounds do not keep from being
-negative, is written as a constant of its own, r, with 0 <= r <= u and `Implies(t >= 0, r * r == t)`."""
+exclude each negative x. So a root that stands under conditions alone, and whose argument t the bounds do not keep from being
+negative, is written as a constant of its own, r, with 0 <= r <= u and `r * r == If(t >= 0, t, 0)`: the root where there is one,
+and 0 where t is negative."""
 from __future__ import annotations
 
 from fractions import Fraction
 from typing import Dict, List, Optional, Sequence, Set, Tuple
 
 from .ranges import WHOLE, Empty, Interval, asserted_bounds, forward, is_at_least, meet, root_range
-from .terms import Bool, Constant, Expression, Formula, Operation, Real, Term, nodes_below, upward
+from .terms import Bool, Constant, Expression, Formula, Operation, Real, Term, choice_of, nodes_below, upward
 from .values import Graph
 
 
@@ -68,15 +69,16 @@ def constant_for(argument: Term, interval: Interval, name: str, guards: List[For
     if high is None:
         raise ValueError("a square root under a condition has no upper bound: give the constants in it bounds")
     found = Real(name, 0, Fraction(-(-high.numerator // high.denominator)))
-    guards.append(Formula("=>", [argument >= 0, found * found == argument]))
+    guards.append(found * found == choice_of(argument >= 0, argument, 0))
     return found
 
 
-def numbers_and_ranges(asserted: Sequence[Formula]) -> Tuple[Dict[int, int], List[Optional[Interval]]]:
-    """A number for each node, by its identity, the same for equal ones, and their ranges by the bounds of the constants."""
+def numbers_and_ranges(asserted: Sequence[Formula], besides: Sequence[Term] = ()) -> Tuple[Dict[int, int], List[Optional[Interval]]]:
+    """A number for each node of the assertions and of some terms, by its identity, the same for equal ones, and their ranges by the
+    bounds of the constants, their own and those that are asserted."""
     graph, numbers = Graph(), {}
     bounds: Dict[str, Interval] = {}
-    for node in (it for root in asserted for it in upward(root)):
+    for node in (it for root in (*asserted, *besides) for it in upward(root)):
         parts = [numbers[id(it)] for it in node.arguments]
         numbers[id(node)] = graph.make(node.symbol, *parts) if parts else graph.make(*leaf_of(node))
         if isinstance(node, Real):
@@ -92,7 +94,7 @@ def numbers_and_ranges(asserted: Sequence[Formula]) -> Tuple[Dict[int, int], Lis
 
 def whole_range(term: Term, asserted: Sequence[Formula]) -> Tuple[int, int]:
     """Whole numbers between which a term lies, by the bounds of its constants. Raises `ValueError` where there are none."""
-    numbers, known = numbers_and_ranges([*asserted, term == 0])
+    numbers, known = numbers_and_ranges(asserted, [term])
     low, high = known[numbers[id(term)]] or WHOLE
     if low is None or high is None:
         raise ValueError("this goal has no bounds by those of its constants: give these nearer ones")

@@ -335,8 +335,8 @@ def nearest(symbol: str, terms: Tuple[Operand, ...]) -> Term:
 
 
 def Sqrt(term: Operand) -> Term:
-    """The square root that is not negative. No point has it of a negative number, unless it stands under a condition alone: there
-    it is any number where the term is negative."""
+    """The square root that is not negative. Of a negative number there is none: no point has it, unless it stands under a condition
+    (in an `If`, an `Or`): there it counts as 0."""
     return Operation("sqrt", [term_of(term)])
 
 

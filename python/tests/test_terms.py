@@ -68,7 +68,7 @@ class Terms(unittest.TestCase):
     def test_a_root_under_a_condition_has_its_guard(self):
         text = script_of(Or(P, Sqrt(X + 5 * Y) <= 1))
         self.assertIn("(assert (<= 0 |root(0.0)| 4))\n", text)
-        self.assertIn("(assert (let ((t0 (+ x (* 5 y)))) (=> (>= t0 0) (= (* |root(0.0)| |root(0.0)|) t0))))\n", text)
+        self.assertIn("(assert (let ((t0 (+ x (* 5 y)))) (= (* |root(0.0)| |root(0.0)|) (ite (>= t0 0) t0 0))))\n", text)
         with self.assertRaises(ValueError):
             script_of(Or(P, Sqrt(Real("free")) <= 1))
 
