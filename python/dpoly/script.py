@@ -40,17 +40,32 @@ def session_script_of(formulas: Tuple[Formula, ...], questions: Sequence[Tuple[F
     return "\n".join([*lines, ""])
 
 
+def steps_script_of(steps: Sequence[Tuple[Sequence[Formula], Sequence[Formula]]]) -> str:
+    """A session of checks, each of which has formulas that hold from then on and formulas that are asked of at this one alone. A
+    constant is declared at the first step that has it."""
+    lines, declared, besides = ["(set-logic QF_NRA)"], set(), []
+    for number, (first, second) in enumerate(steps):
+        kept = guarded(list(conjuncts(tuple(first))), besides, 2 * number)
+        besides = [*besides, *kept]
+        asked = guarded(list(conjuncts(tuple(second))), besides, 2 * number + 1)
+        new = [it for it in constants_of([*besides, *asked]) if it.symbol not in declared]
+        declared |= {it.symbol for it in new}
+        lines += declarations_of(new)
+        lines += [f"(assert {text_of(it, declared)})" for it in kept]
+        lines += ["(push 1)", *(f"(assert {text_of(it, declared)})" for it in asked), "(check-sat)", "(pop 1)"]
+    return "\n".join([*lines, ""])
+
+
 def lines_of(roots: Sequence[Expression], asserted: Sequence[Formula]) -> List[str]:
     """The declarations of all constants of the roots, with their bounds, and the assertions."""
-    constants = constants_of(roots)
-    lines = ["(set-logic QF_NRA)"]
-    for constant in constants:
-        lines.append(f"(declare-const {constant.symbol} {'Real' if isinstance(constant, Real) else 'Bool'})")
-    for constant in constants:
-        if isinstance(constant, Real):
-            lines += [f"(assert {it})" for it in bounds_of(constant)]
     taken = symbols_of(roots)
+    lines = ["(set-logic QF_NRA)", *declarations_of(constants_of(roots))]
     return [*lines, *(f"(assert {text_of(it, taken)})" for it in asserted)]
+
+
+def declarations_of(constants: Sequence[Union[Real, Bool]]) -> List[str]:
+    lines = [f"(declare-const {it.symbol} {'Real' if isinstance(it, Real) else 'Bool'})" for it in constants]
+    return lines + [f"(assert {bound})" for it in constants if isinstance(it, Real) for bound in bounds_of(it)]
 
 
 def names_of(*formulas: object) -> Set[str]:

@@ -4,7 +4,7 @@ from __future__ import annotations
 import re
 from decimal import Decimal
 from fractions import Fraction
-from typing import Iterable, Iterator, List, Optional, Sequence, Set, Tuple, Union
+from typing import Dict, Iterable, Iterator, List, Mapping, Optional, Sequence, Set, Tuple, Union
 
 Number = Union[int, float, Decimal, Fraction]
 """What stands for a number: each is taken at its exact value, a float too."""
@@ -345,6 +345,19 @@ def If(condition: Proposition, then: object, otherwise: object) -> Expression:
     if isinstance(then, (Formula, bool)) or isinstance(otherwise, (Formula, bool)):
         return Formula("ite", [formula_of(condition), formula_of(then), formula_of(otherwise)])  # type: ignore[arg-type]
     return choice_of(condition, then, otherwise)  # type: ignore[arg-type]
+
+
+def replaced(root: Expression, values: Mapping[str, Expression]) -> Expression:
+    """The expression with others in the place of constants, by their names."""
+    made: Dict[int, Expression] = {}
+    for node in upward(root):
+        if isinstance(node, (Real, Bool)):
+            made[id(node)] = values.get(node.name, node)
+            continue
+        arguments = [made[id(it)] for it in node.arguments]
+        is_same = all(a is b for a, b in zip(arguments, node.arguments))
+        made[id(node)] = node if is_same else (Formula if isinstance(node, Formula) else Operation)(node.symbol, arguments)
+    return made[id(root)]
 
 
 def nodes_below(roots: Sequence[Expression]) -> Iterator[Expression]:
