@@ -209,7 +209,7 @@ class Sessions(unittest.TestCase):
             (")(get-info :error-behavior)", '(error "line 11 column 1: a parenthesis closes nothing")'),
         )
         self.assertEqual(client.line(), "(:error-behavior continued-execution)")
-        deep = "(assert " + "(not " * 50_000 + "x" + ")" * 50_000 + ")"
+        deep = "(assert " + "(not " * 10_000 + "x" + ")" * 10_000 + ")"
         self.assertRegex(client.ask(deep), "error")
         self.assertEqual(client.end(), 1)
 
