@@ -288,7 +288,9 @@ def first_answer(text: str, certificate: bytes, confirmed: Optional[bytes], ques
         bits, _, values = rest.partition("\n")
         expect(confirmed, f"confirmed delta-sat\n{bits}\n".encode())
         lines, rest = named_lines(values)
-        point = {name: value_of(it) for name, it in lines}
+        point: Dict[str, Value] = {}
+        for name, it in lines:  # (those of the script come first; a root may have the name of one of them)
+            point.setdefault(name, value_of(it))
         return DeltaSat(dyadic(bits.partition(" ")[2]), point, certificate, is_confirmed, question), rest
     left = open_count(confirmed)
     if first.startswith("unknown budget "):

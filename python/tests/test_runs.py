@@ -76,7 +76,7 @@ class Checks(unittest.TestCase):
 
     def test_what_a_proof_needs(self):
         wanted = [X >= 1, Y <= 2.9, Y >= 2.5, X * Y <= 2]
-        self.assertEqual(needed_of(wanted, X <= 1.5), [0, 2, 3])
+        self.assertEqual(needed_of(wanted, X <= 1.5, seconds=600), [0, 2, 3])
         self.assertIsNone(needed_of([X >= 1]))
 
     def test_plans(self):
