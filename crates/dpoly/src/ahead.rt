@@ -5,6 +5,7 @@ use file_desk::{is_same_file, printable, try_to_write};
 use std::io::ErrorKind;
 
 // The names of the script and of the file that is written.
+#[derive(Clone, Copy)]
 struct Outcome<'a> {
     script: &'a str,
     out: &'a str,
