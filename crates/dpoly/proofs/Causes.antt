@@ -14,7 +14,8 @@ use Rattle.cover_data.specs.Margins.{margins_of, loosenings_of as of_margins}
 use Rattle.cert_model.specs.AnswerText.{has_open}
 use Rattle.cert_model.specs.Due.{Standing, is_crossed_box, is_some_axis}
 use Rattle.cert_model.specs.Laws.{IsLawfulCover}
-use Rattle.cert_model.specs.Limited.{has_room, limited}
+use Rattle.cert_model.specs.Limited.{limited}
+use Rattle.goal_limit.specs.Limits.{has_room}
 use Rattle.cert_model.specs.Written.{lemma_states, left_standing, tree_branches, tree_standing}
 use Rattle.cover_book.specs.Keeps.{IsBook}
 use Rattle.cover_book.specs.Model.{BookModel, IsOfRoot, loosenings_in, problem_in}
@@ -80,7 +81,7 @@ cover_as b w none rooted p is o asked clear =
 module _ (q : Parts) (g : ℕ) (o : Options) (clear : first_crossed (problem_of q) ≡ None) where
   -- a search with a limit, by its cover
   record LimitCover (b : BookModel) (k : ℕ) (d : Dyadic) : Type 0 where
-    limit_search : LimitSearch (problem_of q) g (has_room q) o
+    limit_search : LimitSearch (problem_of q) g (has_room (problem_of q)) o
     is_limit : limit_search.limit ≡ d
     cost : tree_branches limit_search.cover.tree ≡ b.branches
     opens : has_open (left_by (limited (problem_of q) g limit_search.bits limit_search.limit) (loosenings_of o) o.least_bits limit_search.cover) ≡ has_live b
@@ -99,8 +100,8 @@ module _ (q : Parts) (g : ℕ) (o : Options) (clear : first_crossed (problem_of 
 
   -- the later ones
   record LaterCovers (books : List BookModel) : Type 0 where
-    searches : List (LimitSearch (problem_of q) g (has_room q) o)
-    cost : sum_by (λ (y : LimitSearch (problem_of q) g (has_room q) o). suc (tree_branches y.cover.tree)) searches ≡ found.cost_of books
+    searches : List (LimitSearch (problem_of q) g (has_room (problem_of q)) o)
+    cost : sum_by (λ (y : LimitSearch (problem_of q) g (has_room (problem_of q)) o). suc (tree_branches y.cover.tree)) searches ≡ found.cost_of books
 
   later_covers : (books : List BookModel) → All (found.IsLater q g (search_options o)) books → LaterCovers books
   later_covers [] h = record { searches = []; cost = refl }
@@ -110,13 +111,13 @@ module _ (q : Parts) (g : ℕ) (o : Options) (clear : first_crossed (problem_of 
       let rest = later_covers books (All-tail (found.IsLater q g (search_options o)) b books h) in
       record {
         searches = here.limit_search ∷ rest.searches;
-        cost = sum_by-cons (λ (y : LimitSearch (problem_of q) g (has_room q) o). suc (tree_branches y.cover.tree)) here.limit_search rest.searches ∙ omega (arith, here.cost, rest.cost);
+        cost = sum_by-cons (λ (y : LimitSearch (problem_of q) g (has_room (problem_of q)) o). suc (tree_branches y.cover.tree)) here.limit_search rest.searches ∙ omega (arith, here.cost, rest.cost);
       }
 
   -- all searches, which leave so much of the budget
   pub record AllCovers (left : ℕ) : Type 0 where
-    pub searches : Searches (problem_of q) g (has_room q) o
-    pub cost : cost_of (problem_of q) g (has_room q) o searches + left ≡ o.budget
+    pub searches : Searches (problem_of q) g (has_room (problem_of q)) o
+    pub cost : cost_of (problem_of q) g (has_room (problem_of q)) o searches + left ≡ o.budget
 
   pub all_covers : (left : ℕ) → found.Leaves q g (search_options o) left → AllCovers left
   all_covers left h =
@@ -129,7 +130,7 @@ module _ (q : Parts) (g : ℕ) (o : Options) (clear : first_crossed (problem_of 
         cost = omega (arith, x.branches, rest.cost, h.sum);
       }
 
-  narrow_cover : (s : Span) → found.IsNarrow q g (search_options o) s → IsNarrow (problem_of q) g (has_room q) o s
+  narrow_cover : (s : Span) → found.IsNarrow q g (search_options o) s → IsNarrow (problem_of q) g (has_room (problem_of q)) o s
   narrow_cover s h =
       let x = limit_cover h.book h.bits h.limit h.searched in
       let stuck = stuck_in_width h.book h.narrow in
@@ -141,7 +142,7 @@ module _ (q : Parts) (g : ℕ) (o : Options) (clear : first_crossed (problem_of 
       }
 
   -- each ending is told as what it is
-  pub ending_told : (s : Span) (left : ℕ) (e : Ending) → found.EndsFor q g (search_options o) left s e → (x : AllCovers left) → IsCauseFor (problem_of q) g (has_room q) o s x.searches (cause_of (told_cause e))
+  pub ending_told : (s : Span) (left : ℕ) (e : Ending) → found.EndsFor q g (search_options o) left s e → (x : AllCovers left) → IsCauseFor (problem_of q) g (has_room (problem_of q)) o s x.searches (cause_of (told_cause e))
   ending_told s left Minimum h x = h
   ending_told s left Budget h x = omega (arith, x.cost, h)
   ending_told s left Width h x = narrow_cover s h

@@ -16,7 +16,7 @@ use Rattle.cover_data.specs.declared.margins.Options as cover
 use Rattle.cover_data.specs.Margins.{AreMargins, margins_of, loosenings_of as of_margins}
 use Rattle.cert_model.specs.Due.{left_open}
 use Rattle.cert_model.specs.Least.{Least, least, IsGoalAccepted}
-use Rattle.cert_model.specs.Limited.{has_room}
+use Rattle.goal_limit.specs.Limits.{has_room}
 use Rattle.cert_model.specs.AnswerText.{solve_text}
 use Rattle.cover_model.specs.State.{root_state}
 use Rattle.cover_book.specs.Keeps.{IsBook}
@@ -73,16 +73,16 @@ margins o h = record {
 module _ (q : Parts) (g gap : ℕ) (o : cover.Options) (f : Found) (found : IsFound q g gap o f) where
   -- what is accepted by what shows the bound
   accepted-as : (l : Lower) → f.lower ≡ l → (cert : List ℕ) →
-      IsGoalAccepted (problem_of q) g (has_room q) o.bound cert (of_margins (margins_of o)) (least (record { lower = option_map dyadic_of (bound_of l); over = overs_of (problem_of q) l; point = Some f.point })) →
+      IsGoalAccepted (problem_of q) g (has_room (problem_of q)) o.bound cert (of_margins (margins_of o)) (least (record { lower = option_map dyadic_of (bound_of l); over = overs_of (problem_of q) l; point = Some f.point })) →
       IsAcceptedFor q g o f cert
   accepted-as l e cert h =
-      subst (λ (x : Lower). IsGoalAccepted (problem_of q) g (has_room q) o.bound cert (of_margins (margins_of o)) (least (record { lower = option_map dyadic_of (bound_of x); over = overs_of (problem_of q) x; point = Some f.point }))) (sym e) h
+      subst (λ (x : Lower). IsGoalAccepted (problem_of q) g (has_room (problem_of q)) o.bound cert (of_margins (margins_of o)) (least (record { lower = option_map dyadic_of (bound_of x); over = overs_of (problem_of q) x; point = Some f.point }))) (sym e) h
 
   pub root_accepted : (low : Option Dy) → f.lower ≡ shown.Root low → AreMargins (margins_of o) → (x : Space) → x ≡ f.point → (cert : List ℕ) → IsOverCertificate o (option_map dyadic_of low) x cert → IsAcceptedFor q g o f cert
   root_accepted low e m x at cert is =
       let over = subst (IsLower q g o) e found.lower in
       let here : IsOverCertificate o (option_map dyadic_of low) f.point cert = subst (λ (y : Space). IsOverCertificate o (option_map dyadic_of low) y cert) at is in
-      accepted-as (shown.Root low) e cert (here (problem_of q) g (has_room q) m found.crossed (over found.crossed) found.shown)
+      accepted-as (shown.Root low) e cert (here (problem_of q) g (has_room (problem_of q)) m found.crossed (over found.crossed) found.shown)
 
   pub closed_by : (b : BookModel) (k : ℕ) (d : Dy) → f.lower ≡ shown.Limit b k d → IsClosed q g o b k (dyadic_of d)
   closed_by b k d e = subst (IsLower q g o) e found.lower
@@ -93,10 +93,10 @@ module _ (q : Parts) (g gap : ℕ) (o : cover.Options) (f : Found) (found : IsFo
       let point : Space = f.point in
       let here : IsLimitedCertificate b k (dyadic_of d) point cert = subst (λ (y : Space). IsLimitedCertificate b k (dyadic_of d) y cert) at is in
       let sure = subst (λ (m : Margins). IsShownAt (problem_of q) (of_margins m) point) (sym closed.margins) found.shown in
-      let by_book = here (problem_of q) g (has_room q) closed.takes closed.problem sure in
+      let by_book = here (problem_of q) g (has_room (problem_of q)) closed.takes closed.problem sure in
       let value : Least = record { lower = Some (dyadic_of d); over = []; point = Some point } in
-      let by_bound = subst (λ (n : Option ℕ). IsGoalAccepted (problem_of q) g (has_room q) n cert (of_margins (margins_of b.options)) (least value)) closed.bound by_book in
-      accepted-as (shown.Limit b k d) e cert (subst (λ (m : Margins). IsGoalAccepted (problem_of q) g (has_room q) o.bound cert (of_margins m) (least value)) closed.margins by_bound)
+      let by_bound = subst (λ (n : Option ℕ). IsGoalAccepted (problem_of q) g (has_room (problem_of q)) n cert (of_margins (margins_of b.options)) (least value)) closed.bound by_book in
+      accepted-as (shown.Limit b k d) e cert (subst (λ (m : Margins). IsGoalAccepted (problem_of q) g (has_room (problem_of q)) o.bound cert (of_margins m) (least value)) closed.margins by_bound)
 
 -- ---- answers
 
@@ -130,7 +130,7 @@ found_answer q g words f told found accepted c is text =
         has_point = refl;
         searches = covers.searches;
         within = omega (arith, covers.cost);
-        is_cause = subst (λ (k : tells.Cause). IsCauseFor p g (has_room q) words.options bounds covers.searches (cause_of k)) (sym is) (ending_told q g words.options clear bounds found.left f.ending found.ending covers);
+        is_cause = subst (λ (k : tells.Cause). IsCauseFor p g (has_room (problem_of q)) words.options bounds covers.searches (cause_of k)) (sym is) (ending_told q g words.options clear bounds found.left f.ending found.ending covers);
       };
       text = text g (value_of p f) refl refl found.upper;
     }

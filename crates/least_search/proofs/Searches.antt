@@ -1,27 +1,86 @@
 -- The searches so far, what they leave of the budget, and what comes of one.
-use Rattle.std.proofs.Common.{◌≡◌, ◌≤◌, ℕ, ◌+◌, [], ◌∷◌, ap, subst, ◌∙◌, arith}
+use Rattle.std.proofs.Common.{◌≡◌, ◌≤◌, ℕ, ◌+◌, [], ◌∷◌, Bool, true, false, cond, true≢false, Option, Some, None, refl, ap, sym, subst, ◌∙◌, arith}
+use Rattle.std.specs.Prelude.{IfSome, is_some, option_map}
 use Rattle.std.proofs.lemmas.List.Elements.{All-cons, All-nil}
-use Rattle.dyadic.specs.Views.{dyadic_of}
+use Rattle.dyadic.specs.Rounding.{Ext, ext_at_most, finite}
+use Rattle.dyadic.specs.Views.{dyadic_of, ext_of}
+use Rattle.dyadic.specs.declared.dy.Dy.{Dy}
+use Rattle.dyadic.specs.declared.dy.Ext as code
+use Rattle.interval_model.specs.Space.{Space}
 use Rattle.poly_graph.specs.ProblemViews.{Parts, problem_of}
 use Rattle.cover_data.specs.declared.margins.Options.{Options}
 use Rattle.cover_data.specs.Margins.{margins_of}
+use Rattle.cert_model.specs.Due.{is_crossed_box}
+use Rattle.cert_model.specs.Least.{lower_end, upper_at}
+use Rattle.goal_limit.specs.Lows.{root_low}
 use Rattle.cover_book.specs.Model.{BookModel}
-use Rattle.least_search.specs.declared.limits.Limited.{Limited}
+use Rattle.cover_book.specs.Verdict.{has_live, has_stuck, may_branch, verdict_of}
+use Rattle.cover_book.specs.declared.verdict.BookVerdict.TheVariants as verdict
+use Rattle.least_search.specs.Aims.{IsRootBound}
+use Rattle.least_search.specs.declared.aim.Aim.{Aim}
 use Rattle.least_search.specs.declared.bounds.Bounds.{Bounds}
-use Rattle.least_search.specs.Limits.{IsLimited}
-use Rattle.least_search.specs.Found.{IsBookOf, IsBounds, IsLater, IsLimitSearch, Leaves}
+use Rattle.least_search.specs.declared.found.Lower.TheVariants as shown
+use Rattle.least_search.specs.declared.limits.Limited.{Limited}
+use Rattle.least_search.specs.Limits.{IsLimited, IsNotBelow}
+use Rattle.least_search.specs.Found.{AreBoundsOf, Begins, BeginsFor, IsBookOf, IsLater, IsLimitSearch, IsLower, IsNextSearch, IsShownFor, Leaves, low_end, span_of, span_to}
+use Rattle.least_search.proofs.Near.{at_most_itself, at_most_through, between_above, between_wider}
 
--- the first search
-pub first_leaves : (q : Parts) (g : ℕ) (o : Options) (b : BookModel) (left : ℕ) → IsBookOf q o b → b.branches + left ≡ o.budget → Leaves q g o left
-first_leaves q g o b left h e = record { first = b; is_first = h; later = []; are_later = All-nil (IsLater q g o); sum = omega (arith, e) }
+-- ---- with better bounds
 
--- one more
-pub more_leaves : (q : Parts) (g : ℕ) (o : Options) (b : BookModel) (left rest : ℕ) → Leaves q g o left → IsLater q g o b → rest + (1 + b.branches) ≡ left → Leaves q g o rest
-more_leaves q g o b left rest h l e = record {
+module _ (q : Parts) (g : ℕ) (o : Options) (low low' high high' : Ext) (rises : ext_at_most low low' ≡ true) (falls : ext_at_most high' high ≡ true) where
+  kept-through : (x : Option Space) → IfSome x (λ y. ext_at_most high (upper_at (problem_of q) g y) ≡ true) → IfSome x (λ y. ext_at_most high' (upper_at (problem_of q) g y) ≡ true)
+  kept-through None h = tt
+  kept-through (Some y) h = at_most_through high' high (upper_at (problem_of q) g y) falls h
+
+  later-stays : (b : BookModel) → IsLater q g o low high b → IsLater q g o low' high' b
+  later-stays b h = record {
+    bits = h.bits;
+    limit = h.limit;
+    searched = h.searched;
+    best = h.best;
+    shown = h.shown;
+    between = h.between;
+    closed = λ e. at_most_through (finite h.limit) low low' (h.closed e) rises;
+    found = kept-through b.point h.found;
+  }
+
+  pub leaves_better : (left : ℕ) → Leaves q g o low high left → Leaves q g o low' high' left
+  leaves_better left h = record {
+    first = h.first;
+    is_first = h.is_first;
+    start = h.start;
+    kept = h.kept;
+    best = at_most_through high' high (upper_at (problem_of q) g h.start) falls h.best;
+    later = h.later;
+    are_later = λ k d i. later-stays _ (h.are_later k d i);
+    sum = h.sum;
+  }
+
+-- ---- more searches
+
+-- the first one
+pub first_leaves : (q : Parts) (g : ℕ) (o : Options) (low : Ext) (start : Space) (left : ℕ) → Begins q o start left → Leaves q g o low (upper_at (problem_of q) g start) left
+first_leaves q g o low start left h = record {
   first = h.first;
   is_first = h.is_first;
+  start = start;
+  kept = h.kept;
+  best = at_most_itself (upper_at (problem_of q) g start);
+  later = [];
+  are_later = All-nil (IsLater q g o low (upper_at (problem_of q) g start));
+  sum = omega (arith, h.sum);
+}
+
+-- one more
+pub more_leaves : (q : Parts) (g : ℕ) (o : Options) (low high : Ext) (b : BookModel) (left rest : ℕ) → Leaves q g o low high left → IsLater q g o low high b → rest + (1 + b.branches) ≡ left → Leaves q g o low high rest
+more_leaves q g o low high b left rest h l e = record {
+  first = h.first;
+  is_first = h.is_first;
+  start = h.start;
+  kept = h.kept;
+  best = h.best;
   later = b ∷ h.later;
-  are_later = All-cons (IsLater q g o) b h.later l h.are_later;
+  are_later = All-cons (IsLater q g o low high) b h.later l h.are_later;
   sum = omega (arith, h.sum, e);
 }
 
@@ -44,6 +103,102 @@ limit_search q g o n l b h m e s = record {
 pub few_branches : (p : Parts) (n : Options) (b : BookModel) → IsBookOf p n b → b.branches ≤ n.budget
 few_branches p n b s = subst (λ (x : Options). b.branches ≤ x.budget) s.options s.book.budget
 
--- bounds after one more search
-pub bounds_after : (q : Parts) (g : ℕ) (o : Options) (b : Bounds) (rest : ℕ) (k : BookModel) → IsBounds q g o b → IsLater q g o k → rest + (1 + k.branches) ≡ b.budget → IsBounds q g o (record b { budget = rest })
-bounds_after q g o b rest k h l e = record { lower = h.lower; shown = h.shown; upper = h.upper; searches = more_leaves q g o k b.budget rest h.searches l e }
+-- ---- bounds
+
+-- those of the declared box and of the first point
+pub first_bounds : (a : Aim) (b : Bounds) (low : Option Dy) → b.lower ≡ shown.Root low → IsRootBound (problem_of a.problem.now) a.goal (option_map dyadic_of low) → is_crossed_box (problem_of a.problem.now) ≡ false →
+    IsShownFor a b.point → ext_of b.upper ≡ upper_at (problem_of a.problem.now) a.goal b.point → b.tried ≡ None → BeginsFor a b.point b.budget → AreBoundsOf a b
+first_bounds a b low is bound clear sure upper none begins =
+    let q : Parts = a.problem.now in
+    let ends : low_end b.lower ≡ lower_end (root_low (problem_of q) a.goal) = ap low_end is ∙ ap lower_end (bound clear) in
+    record {
+      lower = subst (IsLower q a.goal a.options.now) (sym is) bound;
+      root = subst (λ (e : Ext). ext_at_most (lower_end (root_low (problem_of q) a.goal)) e ≡ true) (sym ends) (at_most_itself (lower_end (root_low (problem_of q) a.goal)));
+      shown = sure;
+      upper = upper;
+      tried = subst (IsNotBelow (low_end b.lower)) (sym none) tt;
+      searches = subst (λ (e : Ext). Leaves q a.goal a.options.now (low_end b.lower) e b.budget) (sym upper) (first_leaves q a.goal a.options.now (low_end b.lower) b.point b.budget begins);
+    }
+
+-- with a better point
+pub better_bounds : (a : Aim) (b : Bounds) (x : Space) (e : code.Ext) → AreBoundsOf a b → IsShownFor a x → ext_of e ≡ upper_at (problem_of a.problem.now) a.goal x → ext_at_most (ext_of e) (ext_of b.upper) ≡ true →
+    AreBoundsOf a (record b { point = x; upper = e })
+better_bounds a b x e h sure is falls = record {
+  lower = h.lower;
+  root = h.root;
+  shown = sure;
+  upper = is;
+  tried = h.tried;
+  searches = leaves_better a.problem.now a.goal a.options.now (low_end b.lower) (low_end b.lower) (ext_of b.upper) (ext_of e) (at_most_itself (low_end b.lower)) falls b.budget h.searches;
+}
+
+module _ (a : Aim) (b : Bounds) (l : Limited) (book : BookModel) (h : AreBoundsOf a b) (s : IsNextSearch a b l book) where
+  abbrev q : Parts
+  q = a.problem.now
+
+  abbrev limit : Ext
+  limit = finite (dyadic_of l.limit)
+
+  -- the search, where these are the bounds behind it
+  later-by : (low high : Ext) → (verdict_of book ≡ verdict.Unsat → ext_at_most limit low ≡ true) → IfSome book.point (λ x. ext_at_most high (upper_at (problem_of q) a.goal x) ≡ true) →
+      IsLater q a.goal a.options.now low high book
+  later-by low high closed found = record {
+    bits = l.bits;
+    limit = dyadic_of l.limit;
+    searched = s.searched;
+    best = b.point;
+    shown = h.shown;
+    between =
+      between_wider (span_of a.gap_bits b) (span_to (problem_of q) a.goal b.point) limit h.root
+      (subst (λ (e : Ext). ext_at_most (ext_of b.upper) e ≡ true) h.upper (at_most_itself (ext_of b.upper))) s.between;
+    closed = closed;
+    found = found;
+  }
+
+  no-point : verdict_of book ≡ verdict.Unsat → book.point ≡ None
+  no-point e = none-in book.point (unsat-has-none (is_some book.point) (has_live book) (may_branch book) (has_stuck book) e)
+    where
+      unsat-has-none : (p l m s : Bool) → cond p verdict.DeltaSat (cond l (cond m verdict.NotYet verdict.UnknownBudget) (cond s verdict.UnknownWidth verdict.Unsat)) ≡ verdict.Unsat → p ≡ false
+      unsat-has-none true l m s e = cc
+      unsat-has-none false l m s e = refl
+      none-in : (x : Option Space) → is_some x ≡ false → x ≡ None
+      none-in None e = refl
+      none-in (Some y) e = absurd (true≢false e)
+
+  -- where it left nothing, its limit is the lower bound
+  pub closed_bounds : (rest : ℕ) → verdict_of book ≡ verdict.Unsat → b.tried ≡ None → rest + (1 + book.branches) ≡ b.budget → AreBoundsOf a (record b { lower = shown.Limit book l.bits l.limit; budget = rest })
+  closed_bounds rest e none sum =
+      let rises : ext_at_most (low_end b.lower) limit ≡ true = between_above (span_of a.gap_bits b) limit s.between in
+      let before = leaves_better q a.goal a.options.now (low_end b.lower) limit (ext_of b.upper) (ext_of b.upper) rises (at_most_itself (ext_of b.upper)) b.budget h.searches in
+      let this = later-by limit (ext_of b.upper) (λ f. at_most_itself limit)
+      (subst (λ (x : Option Space). IfSome x (λ y. ext_at_most (ext_of b.upper) (upper_at (problem_of q) a.goal y) ≡ true)) (sym (no-point e)) tt) in
+      record {
+        lower = record {
+          takes = s.searched.takes;
+          problem = s.searched.problem;
+          margins = s.searched.margins;
+          bound = s.searched.bound;
+          alone = s.searched.alone;
+          root = s.searched.root;
+          closed = e;
+        };
+        root = at_most_through (lower_end (root_low (problem_of q) a.goal)) (low_end b.lower) limit h.root rises;
+        shown = h.shown;
+        upper = h.upper;
+        tried = subst (IsNotBelow limit) (sym none) tt;
+        searches = more_leaves q a.goal a.options.now limit (ext_of b.upper) book b.budget rest before this sum;
+      }
+
+  -- else the bounds are these, which differ from those before by a point at most
+  pub bounds_behind : (v : Bounds) (rest : ℕ) → AreBoundsOf a v → v.lower ≡ b.lower → v.budget ≡ b.budget → (verdict_of book ≡ verdict.Unsat → ⊥) →
+      IfSome book.point (λ x. ext_at_most (ext_of v.upper) (upper_at (problem_of q) a.goal x) ≡ true) → rest + (1 + book.branches) ≡ b.budget → AreBoundsOf a (record v { budget = rest })
+  bounds_behind v rest k same left open found sum = record {
+    lower = k.lower;
+    root = k.root;
+    shown = k.shown;
+    upper = k.upper;
+    tried = k.tried;
+    searches =
+      more_leaves q a.goal a.options.now (low_end v.lower) (ext_of v.upper) book v.budget rest k.searches
+      (later-by (low_end v.lower) (ext_of v.upper) (λ e. absurd (open e)) found) (sum ∙ sym left);
+  }

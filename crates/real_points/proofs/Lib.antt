@@ -3,6 +3,7 @@ mod Terms
 mod Moves
 mod Points
 mod Truth
+mod LowerBounds
 mod RootOfTwo
 mod AtPoints
 mod OverReals

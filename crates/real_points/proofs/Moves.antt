@@ -52,10 +52,10 @@ module _ (k n : ℕ) (m m' : Fraction) (f : IsFraction m) (step : IsTrue (at_mos
 
 -- ---- the atoms of a script
 
-atom-is-term : (sorts : List Sort) (atoms : List Atom) (j : ℕ) → AllByRecursion (λ (a : Atom). IsTerm sorts a.0) atoms → IsTerm sorts (slice_index_or atoms j no_atom).0
-atom-is-term sorts [] j h = lit< tt
-atom-is-term sorts (a ∷ atoms) zero h = h.0
-atom-is-term sorts (a ∷ atoms) (suc j) h = atom-is-term sorts atoms j h.1
+pub atom_is_term : (sorts : List Sort) (atoms : List Atom) (j : ℕ) → AllByRecursion (λ (a : Atom). IsTerm sorts a.0) atoms → IsTerm sorts (slice_index_or atoms j no_atom).0
+atom_is_term sorts [] j h = lit< tt
+atom_is_term sorts (a ∷ atoms) zero h = h.0
+atom_is_term sorts (a ∷ atoms) (suc j) h = atom_is_term sorts atoms j h.1
 
 rate-below : (b c : ℕ) (atoms : List Atom) (j : ℕ) → rate_of b c (slice_index_or atoms j no_atom).0 ≤ rate_of_all b c atoms
 rate-below b c [] j = omega arith
@@ -81,7 +81,7 @@ module _ (script : List Command) (e : unfolding_fault script ≡ None) (b c n : 
   atom-moves : (j : ℕ) → IsTrue (atom_holds m ps (slice_index_or (script_atoms script) j no_atom)) → IsTrue (atom_holds m' qs (slice_index_or (script_atoms script) j no_atom))
   atom-moves j h =
       let a = slice_index_or (script_atoms script) j no_atom in
-      let v = values b c n (sorts_of script) ps qs near a.0 (atom-is-term (sorts_of script) (script_atoms script) j (script_good script)) in
+      let v = values b c n (sorts_of script) ps qs near a.0 (atom_is_term (sorts_of script) (script_atoms script) j (script_good script)) in
       range-moves (rate_of_all b c (script_atoms script)) n m m' f step a.1 (term_value ps a.0) (term_value qs a.0) v.is
       (close_more (rate_of b c a.0) (rate_of_all b c (script_atoms script)) n (term_value ps a.0) (term_value qs a.0) (rate-below b c (script_atoms script) j) v.close) h
 

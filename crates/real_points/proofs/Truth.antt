@@ -25,8 +25,8 @@ use Rattle.real_points.proofs.Terms.{rate_of_all}
 use Rattle.real_points.proofs.Moves.{script_moves, ratio_is}
 use Rattle.real_points.proofs.Points.{bound_of_point, same_close, held_close, held_point}
 
-part-is : (k : ℕ) → IsFraction (part k)
-part-is k = ratio_is 1 k
+pub part_is : (k : ℕ) → IsFraction (part k)
+part_is k = ratio_is 1 k
 
 -- so far on, the rate is small enough
 far : (r k n N : ℕ) → N + 2 * r * suc k ≤ n → 2 * r * suc k ≤ suc n
@@ -38,7 +38,7 @@ truth_is_of_the_point script e m f x y i j s h k =
     let b = bound_of_point x + bound_of_point y in let r = rate_of_all b 2 (script_atoms script) in let t = h (2 * k + 1) in (
       t.0 + 2 * r * suc k,
       λ n l. script_moves script e b 2 n (nth_point n x) (nth_point n y) (same_close b n (sorts_of script) x y i j s (omega arith))
-          (sum_of m (part (2 * k + 1))) (sum_of m (part k)) (sum_is m (part (2 * k + 1)) f (part-is (2 * k + 1))) (step_halves m r k n (far r k n t.0 l))
+          (sum_of m (part (2 * k + 1))) (sum_of m (part k)) (sum_is m (part (2 * k + 1)) f (part_is (2 * k + 1))) (step_halves m r k n (far r k n t.0 l))
           (t.1 n (omega (arith, l))),
     )
 
@@ -56,7 +56,7 @@ is-false false h = refl
 is-false true h = sym h
 
 -- below a margin there is room for 1 over a number and more
-room : (m margin : Fraction) → IsBelow m margin → IsTrue (at_most (sum_of m (part (m.den * margin.den))) margin)
+pub room : (m margin : Fraction) → IsBelow m margin → IsTrue (at_most (sum_of m (part (m.den * margin.den))) margin)
 unfolding at_most sum_of
 room m margin h = le_holds _ _ (room-at m.num margin.num m.den margin.den (strict (m.num *ℤ pos margin.den) (margin.num *ℤ pos m.den) (is-false _ h)))
 
@@ -68,14 +68,14 @@ rational_points_suffice bound script e margin m g f below-it none x i h =
     let c = held_close b n (declared_interval bound script) (λ axis. ends_are_fractions bound script axis) 0 (sorts_of script) x i (omega arith) in
     let q = held_point (declared_interval bound script) 0 (nth_point n x) in
     let low = sum_of m (part (2 * k + 1)) in
-    none q c.0 (script_moves script e b 1 n (nth_point n x) q c.1 low margin (sum_is m (part (2 * k + 1)) f (part-is (2 * k + 1)))
-    (through (sum_of low (ratio r n)) (sum_of m (part k)) margin (sum_is m (part k) f (part-is k)) (step_halves m r k n (omega arith)) (room m margin below-it))
+    none q c.0 (script_moves script e b 1 n (nth_point n x) q c.1 low margin (sum_is m (part (2 * k + 1)) f (part_is (2 * k + 1)))
+    (through (sum_of low (ratio r n)) (sum_of m (part k)) margin (sum_is m (part k) f (part_is k)) (step_halves m r k n (omega arith)) (room m margin below-it))
     (t.1 n (omega arith)))
 
-exact-is : (d : Dyadic) → IsFraction (exact d)
-exact-is d = lit< tt
+pub exact_is : (d : Dyadic) → IsFraction (exact d)
+exact_is d = lit< tt
 
 pub unsat_is_of_reals : (bound : Option ℕ) (script : List Command) (p : Problem) → IsProblem p → IsProblemOf bound script p → (bytes : List ℕ) (s : Loosenings) →
     IsAccepted p bound bytes s (left_open []) → (m : Fraction) → IsFraction m → IsBelow m (exact (margin_of s)) → HasNoRealPoint bound script m
 unsat_is_of_reals bound script p g t bytes s e m f h =
-    rational_points_suffice bound script t.unfolds (exact (margin_of s)) m (exact-is (margin_of s)) f h (unsat_is bound script p g t bytes s e)
+    rational_points_suffice bound script t.unfolds (exact (margin_of s)) m (exact_is (margin_of s)) f h (unsat_is bound script p g t bytes s e)

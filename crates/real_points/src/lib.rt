@@ -10,6 +10,8 @@ ghost use Rattle.real_points.specs.Laws.{
   RationalBoxIsReal,
   RationalPointsSuffice,
   UnsatIsOfReals,
+  RationalBoundsSuffice,
+  LowerIsOfReals,
   OverRealsIsLoosened,
   LooselyIsLoosened,
   UnsatIsExactOverReals,
@@ -40,6 +42,18 @@ pub fn rational_points_suffice()
 /// A cover that leaves nothing: no real point of the declared box satisfies the script below the margin.
 pub fn unsat_is_of_reals()
     ensures { UnsatIsOfReals }
+{}
+
+/// A lower bound of the goal at the rational points of the declared box that satisfy the script at a margin is one at its
+/// real points that satisfy it below the margin.
+pub fn rational_bounds_suffice()
+    ensures { RationalBoundsSuffice }
+{}
+
+/// A certificate of a least value: its lower bound is one at the real points of the declared box that satisfy the script
+/// below the margin.
+pub fn lower_is_of_reals()
+    ensures { LowerIsOfReals }
 {}
 
 /// What is true at a real point as SMT-LIB has it is true there loosened by 0 (SMT-LIB 2.6, theories Core and Reals).
