@@ -146,13 +146,13 @@ module _ (p : Parts) (g : ℕ) (bound : Option ℕ) (name : List ℕ) where
       run_behind (IsGoalCourseOf (problem_of p) g (goal_verdict (problem_of p) g (has_room (problem_of p)) bound cert)) (CanCheckGoal (problem_of p) g (has_room (problem_of p)) bound name cert) (CertIn, name) [] old mid new status (after_cert_in name old first mid started some)
       (λ tail can. ap (λ (c : Course). behind ((CertIn, name) ∷ []) c) can) (ends (aim_at p g bound) (goal_verdict (problem_of p) g (has_room (problem_of p)) bound cert) h))
 
--- by its shared form there is room for a limit or not
-room-told : (q : Parts) (e : Bool) (g : ℕ) (bound : Option ℕ) (name : List ℕ) (old new : Sight) (status : Status) → EndsOnGoal q g bound name old new status → EndsOnCheck (Some g) ((q, e) ∷ []) bound name old new status
-room-told q e g bound name old new status ends =
+-- a script with one check
+only-told : (q : Parts) (e : Bool) (g : ℕ) (bound : Option ℕ) (name : List ℕ) (old new : Sight) (status : Status) → EndsOnGoal q g bound name old new status → EndsOnCheck (Some g) ((q, e) ∷ []) bound name old new status
+only-told q e g bound name old new status ends =
     let some : List ℕ → Course → Type 0 = λ cert. CanCheckGoal (problem_of q) g (has_room (problem_of q)) bound name cert in
     let cant : List ℕ → Course → Type 0 = λ cert. CanCheck (Some g) ((problem_of q, e) ∷ []) bound name cert in
     over (λ (cert : List ℕ). RunEnds (some cert) ((CertIn, name) ∷ []) old new status) (λ (cert : List ℕ). RunEnds (cant cert) ((CertIn, name) ∷ []) old new status) old.cert_in ends
-    (λ cert h. widen (some cert) (cant cert) ((CertIn, name) ∷ []) old new status (λ course can. (has_room q, (q, refl, refl), can)) h)
+    (λ cert h. widen (some cert) (cant cert) ((CertIn, name) ∷ []) old new status (λ course can. can) h)
 
 -- the problem of the only check is the first
 pub goal_ends : (session : List (Parts × Bool)) (goal : Option ℕ) (g : ℕ) (p : Parts) → goal ≡ Some g → IsGoalOf goal session → slice_get (map (λ (q : Parts × Bool). q.0) session) 0 ≡ Some p
@@ -161,5 +161,5 @@ goal_ends session goal g p some is at bound name old new status ends =
     subst (λ (o : Option ℕ). EndsOnCheck o session bound name old new status) (sym some) (of-session session (subst (λ (o : Option ℕ). IsGoalOf o session) some is) at) where
       of-session : (session : List (Parts × Bool)) → IsGoalOf (Some g) session → slice_get (map (λ (q : Parts × Bool). q.0) session) 0 ≡ Some p → EndsOnCheck (Some g) session bound name old new status
       of-session [] h at = absurd h
-      of-session ((q, e) ∷ []) h at = room-told q e g bound name old new status (subst (λ (r : Parts). EndsOnGoal r g bound name old new status) (sym (same_Some q p at)) ends)
+      of-session ((q, e) ∷ []) h at = only-told q e g bound name old new status (subst (λ (r : Parts). EndsOnGoal r g bound name old new status) (sym (same_Some q p at)) ends)
       of-session (q ∷ r ∷ rest) h at = absurd h

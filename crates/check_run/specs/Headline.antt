@@ -16,7 +16,7 @@ use Rattle.cert_model.specs.Due.{CertFault, Standing, Value, at_point, left_open
 use Rattle.cert_model.specs.Accepted.{IsAccepted, refused, verdict}
 use Rattle.cert_model.specs.AnswerText.{text_line, unsat_text, delta_sat_text, check_text, least_text, solve_text, verdict_text}
 use Rattle.cert_model.specs.Least.{Least, least, upper_at, IsGoalAccepted, goal_verdict}
-use Rattle.cert_model.specs.Limited.{IsRoomOf}
+use Rattle.goal_limit.specs.Limits.{has_room}
 use Rattle.cert_model.specs.Session.{AreAccepted, session_verdict}
 use Rattle.cert_upgrade.specs.Upgraded.{in_newest, upgraded}
 use Rattle.headline.specs.Laws.{HasNoPoint}
@@ -90,9 +90,7 @@ pub record IsConfirmedLeast (bound : Option ℕ) (script cert_in : List ℕ) (ol
   pub is_goal : goal_in bound script ≡ Some goal
   pub loosenings : Loosenings
   pub value : Least
-  pub room : Bool
-  pub is_room : IsRoomOf problem room
-  pub accepted : IsGoalAccepted problem goal room bound cert_in loosenings (least value)
+  pub accepted : IsGoalAccepted problem goal (has_room problem) bound cert_in loosenings (least value)
   pub answer : new.answer ≡ appended old.answer (least_text problem goal value)
   pub lower : HasLowerBound bound (commands_of bound script) (exact (margin_of loosenings)) value.lower
   pub upper : (space : Space) → value.point ≡ Some space →
@@ -289,9 +287,7 @@ pub record IsRefusedForGoal (bound : Option ℕ) (script cert_in : List ℕ) (ol
   pub is_goal : goal_in bound script ≡ Some goal
   pub fault : CertFault
   pub line : ℕ
-  pub room : Bool
-  pub is_room : IsRoomOf problem room
-  pub refuses : goal_verdict problem goal room bound cert_in ≡ refused fault line
+  pub refuses : goal_verdict problem goal (has_room problem) bound cert_in ≡ refused fault line
   pub written : new.answer ≡ appended old.answer (verdict_text (refused fault line))
 
 -- The same by the problem of its only check, where the certificate names the bound.
