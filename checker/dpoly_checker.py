@@ -455,7 +455,7 @@ def limited(problem, bits, bound):
     new, and which the form asks for."""
     whole, rest = divmod(bound << bits, UNIT) if bits < 120 and isinstance(bound, int) else (0, 1)
     constants = [('constant', Fraction(2**bits)), ('constant', Fraction(-whole))] if not rest else []
-    room = len(problem.terms.parts) <= 1048572 and len(problem.atoms) < 65536 and len(problem.forms) + problem.places <= 1048572
+    room = len(problem.terms.parts) <= 1048572 and len(problem.atoms) < 65536
     if len(set(constants) - set(problem.terms.numbers)) < 2 or abs(whole) > WIDEST or not room:
         raise CertificateFault('BadHeader')
     found, found.terms = copy(problem), Terms()

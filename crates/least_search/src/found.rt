@@ -21,7 +21,7 @@ pub enum Ending {
     Budget,
     /// A box of the least width is left, at which the limit or an atom is not decided.
     Width,
-    /// No limit between the bounds can be told, or the problem has no room for one.
+    /// No limit between the bounds can be told, or the problem has no room for one among its nodes and atoms.
     Limit,
 }
 
