@@ -65,7 +65,7 @@ least_low p g (x ∷ left) = lesser_ext (lower_end (low_at p g x.state.space)) (
 -- is none only where the goal over the declared box has no number as its lower end.
 pub record IsLowerBound (p : Problem) (g : ℕ) (x : Least) : Type 0 where
   pub root : ext_at_most (lower_end (root_low p g)) (lower_end x.lower) ≡ true
-  pub least : x.over ≢ [] → lower_end x.lower ≡ least_low p g x.over
+  pub over : x.over ≢ [] → lower_end x.lower ≡ least_low p g x.over
 
 -- A certificate with a lower bound of the goal and a point, with the words' bound, margin and delta. The searches that found them cost at most the
 -- budget, all that they found is in the bounds, and the cause is told by what they did: bounds that are near are told as near.

@@ -141,7 +141,7 @@ found_answer q g words f told found accepted c is text =
       value = value_of p f;
       answer = record {
         accepted = accepted;
-        lower = record { root = found.root; least = least-over q g words.gap_bits (search_options words.options) f found f.lower refl };
+        lower = record { root = found.root; over = least-over q g words.gap_bits (search_options words.options) f found f.lower refl };
         point = f.point;
         has_point = refl;
         searches = covers.searches;

@@ -77,9 +77,9 @@ module _ (old : List FormNode) (n : FormNode) (new : List FormNode) (k : ℕ) (h
   old_stays i l = elim h.interned.1 [
     | inl e ↦ ap (λ (ns : List FormNode). form_at (graph_forms ns) i) e
     | inr e ↦
-      ap (λ (ns : List FormNode). form_at (graph_forms ns) i) e.0
-      ∙ ap (λ fs. form_at fs i) (after-end old [] n)
-      ∙ get_or_append_left (graph_forms old) (node_form (graph_forms old) n ∷ []) no_form i (omega (arith, l, length-forms old))
+        ap (λ (ns : List FormNode). form_at (graph_forms ns) i) e.0
+        ∙ ap (λ fs. form_at fs i) (after-end old [] n)
+        ∙ get_or_append_left (graph_forms old) (node_form (graph_forms old) n ∷ []) no_form i (omega (arith, l, length-forms old))
   ]
 
 -- ---- the two nodes
@@ -103,8 +103,8 @@ module _ (ns mid : List FormNode) (root j n : ℕ) (within : root < length ns) (
       record {
         there = node_place mid two new k last;
         form =
-          node_is mid two new k last
-          ∙ ap₂ (λ (f g : Form ℕ). all_form (more_forms f (more_forms g no_forms)))
-          (old_stays mid two new k last root (omega (arith, within, more)) ∙ old_stays ns (atom_node j) mid n first root within)
-          (old_stays mid two new k last n there ∙ node_is ns (atom_node j) mid n first);
+            node_is mid two new k last
+            ∙ ap₂ (λ (f g : Form ℕ). all_form (more_forms f (more_forms g no_forms)))
+            (old_stays mid two new k last root (omega (arith, within, more)) ∙ old_stays ns (atom_node j) mid n first root within)
+            (old_stays mid two new k last n there ∙ node_is ns (atom_node j) mid n first);
       }

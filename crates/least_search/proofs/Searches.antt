@@ -149,8 +149,8 @@ module _ (a : Aim) (b : Bounds) (l : Limited) (book : BookModel) (h : AreBoundsO
     best = b.point;
     shown = h.shown;
     between =
-      between_wider (span_of a.gap_bits b) (span_to (problem_of q) a.goal b.point) limit h.root
-      (subst (λ (e : Ext). ext_at_most (ext_of b.upper) e ≡ true) h.upper (at_most_itself (ext_of b.upper))) s.between;
+        between_wider (span_of a.gap_bits b) (span_to (problem_of q) a.goal b.point) limit h.root
+        (subst (λ (e : Ext). ext_at_most (ext_of b.upper) e ≡ true) h.upper (at_most_itself (ext_of b.upper))) s.between;
     closed = closed;
     found = found;
   }
@@ -161,6 +161,7 @@ module _ (a : Aim) (b : Bounds) (l : Limited) (book : BookModel) (h : AreBoundsO
       unsat-has-none : (p l m s : Bool) → cond p verdict.DeltaSat (cond l (cond m verdict.NotYet verdict.UnknownBudget) (cond s verdict.UnknownWidth verdict.Unsat)) ≡ verdict.Unsat → p ≡ false
       unsat-has-none true l m s e = cc
       unsat-has-none false l m s e = refl
+
       none-in : (x : Option Space) → is_some x ≡ false → x ≡ None
       none-in None e = refl
       none-in (Some y) e = absurd (true≢false e)
@@ -192,13 +193,13 @@ module _ (a : Aim) (b : Bounds) (l : Limited) (book : BookModel) (h : AreBoundsO
   -- else the bounds are these, which differ from those before by a point at most
   pub bounds_behind : (v : Bounds) (rest : ℕ) → AreBoundsOf a v → v.lower ≡ b.lower → v.budget ≡ b.budget → (verdict_of book ≡ verdict.Unsat → ⊥) →
       IfSome book.point (λ x. ext_at_most (ext_of v.upper) (upper_at (problem_of q) a.goal x) ≡ true) → rest + (1 + book.branches) ≡ b.budget → AreBoundsOf a (record v { budget = rest })
-  bounds_behind v rest k same left open found sum = record {
+  bounds_behind v rest k same left undecided found sum = record {
     lower = k.lower;
     root = k.root;
     shown = k.shown;
     upper = k.upper;
     tried = k.tried;
     searches =
-      more_leaves q a.goal a.options.now (low_end v.lower) (ext_of v.upper) book v.budget rest k.searches
-      (later-by (low_end v.lower) (ext_of v.upper) (λ e. absurd (open e)) found) (sum ∙ sym left);
+        more_leaves q a.goal a.options.now (low_end v.lower) (ext_of v.upper) book v.budget rest k.searches
+        (later-by (low_end v.lower) (ext_of v.upper) (λ e. absurd (undecided e)) found) (sum ∙ sym left);
   }

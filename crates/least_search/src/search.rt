@@ -163,7 +163,7 @@ fn take_found(
 fn take_undecided(aim: &Aim<'_>, bounds: &mut Bounds, limited: &Limited, book: &Book)
     requires bounds { AreBoundsOf aim.now bounds.old }
     requires search { IsNextSearch aim.now bounds.old limited.now book.now }
-    requires open { verdict_of book.now ≢ verdict.Unsat }
+    requires undecided { verdict_of book.now ≢ verdict.Unsat }
     requires no_point { book.now.point ≡ None }
     ensures bounds { AreBoundsOf aim.now bounds.new }
     ensures same { bounds.new ≡ record bounds.old { budget = bounds.new.budget } }

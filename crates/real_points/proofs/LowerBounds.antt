@@ -53,23 +53,23 @@ rational_bounds_suffice bound script e g is margin m good f below-it lower has x
     let goal = goal_is_atom script g is in (
       t.0 + 2 * r * suc j + rate * suc k,
       λ n far.
-        let here : List Coordinate = nth_point n x in
-        let c = held_close b n (declared_interval bound script) (λ axis. ends_are_fractions bound script axis) 0 (sorts_of script) x i (omega arith) in
-        let q : List Coordinate = held_point (declared_interval bound script) 0 here in
-        let low = sum_of m (part (2 * j + 1)) in
-        let holds = script_moves script e b 1 n here q c.1 low margin (sum_is m (part (2 * j + 1)) f (part_is (2 * j + 1)))
-        (through (sum_of low (ratio r n)) (sum_of m (part j)) margin (sum_is m (part j) f (part_is j)) (step_halves m r j n (omega (arith, far))) (room m margin below-it))
-        (t.1 n (omega (arith, far))) in
-        let sorted = points_left b 1 n (sorts_of script) here q c.1 in
-        let at-q = goal.1 q sorted.1 in
-        let at-here = goal.1 here sorted.0 in
-        let v = values b 1 n (sorts_of script) here q c.1 term (atom_is_term (sorts_of script) (script_atoms script) g (script_good script)) in
-        let bound-at-q = above lower at-q.0 (term_value q term) at-q.2 (has q c.0 holds at-q.0 at-q.1) at-q.4 in (
-          at-here.0,
-          at-here.1,
-          above lower (term_value q term) (sum_of at-here.0 (part k)) v.also bound-at-q
-          (beside rate k n (term_value here term) (term_value q term) at-here.0 v.is at-here.2 (omega (arith, far)) v.close at-here.5),
-        ),
+          let here : List Coordinate = nth_point n x in
+          let c = held_close b n (declared_interval bound script) (λ axis. ends_are_fractions bound script axis) 0 (sorts_of script) x i (omega arith) in
+          let q : List Coordinate = held_point (declared_interval bound script) 0 here in
+          let low = sum_of m (part (2 * j + 1)) in
+          let holds = script_moves script e b 1 n here q c.1 low margin (sum_is m (part (2 * j + 1)) f (part_is (2 * j + 1)))
+          (through (sum_of low (ratio r n)) (sum_of m (part j)) margin (sum_is m (part j) f (part_is j)) (step_halves m r j n (omega (arith, far))) (room m margin below-it))
+          (t.1 n (omega (arith, far))) in
+          let sorted = points_left b 1 n (sorts_of script) here q c.1 in
+          let at-q = goal.1 q sorted.1 in
+          let at-here = goal.1 here sorted.0 in
+          let v = values b 1 n (sorts_of script) here q c.1 term (atom_is_term (sorts_of script) (script_atoms script) g (script_good script)) in
+          let bound-at-q = above lower at-q.0 (term_value q term) at-q.2 (has q c.0 holds at-q.0 at-q.1) at-q.4 in (
+            at-here.0,
+            at-here.1,
+            above lower (term_value q term) (sum_of at-here.0 (part k)) v.also bound-at-q
+                (beside rate k n (term_value here term) (term_value q term) at-here.0 v.is at-here.2 (omega (arith, far)) v.close at-here.5),
+          ),
     )
 
 pub lower_is_of_reals : (bound : Option ℕ) (script : List Command) (p : Problem) → IsProblem p → IsProblemOf bound script p → (g : ℕ) → goal_atom script ≡ Some g → (room : Bool) (bytes : List ℕ)

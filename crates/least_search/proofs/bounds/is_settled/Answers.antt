@@ -16,4 +16,4 @@ returns-in-Some-clause-far c h =
     let upper = ext_of c.args.upper in let gap = c.args.gap_bits in
     c.at_most.ensures
     ∙ settled_down gap (dyadic_of c.in-Some.lower) (dyadic_of c.two_to_minus.result) (ext_of c.add_down.result) upper (ext_on_grid c.args.upper) c.two_to_minus.ensures c.add_down.ensures
-      (subst (λ o. IsSettled gap (option_map dyadic_of o) upper) c.in-Some.is h)
+    (subst (λ o. IsSettled gap (option_map dyadic_of o) upper) c.in-Some.is h)
