@@ -98,7 +98,7 @@ pub record IsConfirmedLeast (bound : Option ℕ) (script cert_in : List ℕ) (ol
 
 -- What was written as certificate is accepted for the problem of the script's only check with a lower bound of its goal, and the answer is its
 -- text. The bound is one at each point of the declared box that satisfies the script, each atom loosened by the margin; the point satisfies it
--- at delta, lies within delta of the declared box, and the goal's value there is at most the upper bound. `minimum` is said only where the
+-- at delta, lies within delta of the declared box, and the goal's value there is at most the upper bound. `minimum` is said exactly where the
 -- bounds are within the gap of the words.
 pub record IsLeast (words : Minimize) (script : List ℕ) (old new : Sight) : Type 0 where
   pub problem : Problem
