@@ -17,7 +17,7 @@ use Rattle.cert_model.specs.Due.{Standing}
 use Rattle.cert_model.specs.Laws.{IsLawfulCover}
 use Rattle.cert_model.specs.Least.{can_limit, lower_end, upper_at}
 use Rattle.cert_model.specs.Limited.{limited}
-use Rattle.cert_model.specs.Written.{LemmaTree, lemma_states, left_standing, tree_branches, tree_standing}
+use Rattle.cert_model.specs.Written.{IsHonestTree, LemmaTree, lemma_states, left_standing, tree_branches, tree_standing}
 use Rattle.goal_limit.specs.Limits.{has_room}
 use Rattle.goal_limit.specs.Lows.{root_low}
 use Rattle.goal_limit.specs.Tries.{Span, is_between}
@@ -46,7 +46,7 @@ CoverFor p options = HonestCover p (loosenings_of options) options.least_bits
 
 -- open lines are honest too
 abbrev pub IsHonestThroughout : (p : Problem) (s : Loosenings) (w : ℕ) → HonestCover p s w → Type 0
-IsHonestThroughout p s w c = All (λ (x : Standing). IsTrue (is_honest p w s x.state x.does)) (tree_standing p s (lemma_states c.lemmas) (root_state p) c.tree)
+IsHonestThroughout p s w c = IsHonestTree p w s (lemma_states c.lemmas) (root_state p) c.tree
 
 -- a point at which the problem is sure, with the delta of the words
 abbrev pub IsSureAt : Problem → Options → Space → Type 0
