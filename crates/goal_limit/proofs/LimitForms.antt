@@ -1,6 +1,7 @@
 -- The shared form of a problem with a limit.
-use Rattle.std.proofs.Common.{◌≡◌, inl, inr, ℕ, suc, zero, ◌+◌, ◌<◌, ◌≤◌, List, [], ◌∷◌, ◌++◌, length, true, IsTrue, Some, refl, ap, ap₂, sym, ◌∙◌, subst, arith, nat_lt, length-append}
+use Rattle.std.proofs.Common.{◌≡◌, inl, inr, ℕ, suc, zero, ◌+◌, ◌-◌, ◌<◌, ◌≤◌, List, [], ◌∷◌, ◌++◌, length, true, IsTrue, Some, refl, ap, ap₂, sym, ◌∙◌, subst, arith, nat_lt, take, length-append}
 use Rattle.std.proofs.lemmas.List.{get_or_append_left}
+use Rattle.std.proofs.Math.Seq.{take-length}
 use Rattle.std.specs.Prelude.{slice_get}
 use Rattle.std.specs.List.{list_all}
 use Rattle.dyadic.proofs.Equal.{both_true, both_pass}
@@ -55,6 +56,14 @@ at-last (m ∷ ns) n = at-last ns n
 
 pub node_end : (ns : List FormNode) (n : FormNode) → IsFormGraph ns → forms_size ns + node_size n ≤ most_forms → IsTrue (form_comes_after (length ns) n) → IsNewForm ns n → HasNode ns n (ns ++ (n ∷ [])) (length ns)
 node_end ns n g few after new = record { graph = graph-end ns n g few after new; interned = (at-last ns n, inr (refl, refl, new)) }
+
+-- the same as the code adds it
+pub node_added : (ns : List FormNode) (n : FormNode) (size all k : ℕ) → IsFormGraph ns → IsTrue (form_comes_after (length ns) n) → IsNewForm ns n → size ≡ node_size n → all ≡ forms_size ns → all ≤ most_forms → size ≤ most_forms - all → k ≡ length ns →
+    HasNode ns n (take k ns ++ (n ∷ [])) k
+node_added ns n size all k g after new size_is all_is few fits place =
+    let room : forms_size ns + node_size n ≤ most_forms = omega (arith, size_is, all_is, few, fits) in
+    subst (λ (j : ℕ). HasNode ns n (take j ns ++ (n ∷ [])) j) (sym place)
+    (subst (λ (ms : List FormNode). HasNode ns n (ms ++ (n ∷ [])) (length ns)) (sym (take-length ns)) (node_end ns n g room after new))
 
 -- a node has a number below that of all
 pub below_all_nodes : (ns : List FormNode) (i : ℕ) (n : FormNode) → IsFormGraph ns → slice_get ns i ≡ Some n → i < length ns

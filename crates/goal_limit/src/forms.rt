@@ -58,7 +58,8 @@ fn with_node(
         return Err(AllocError);
     }
     let n = forms.len();
-    Ok((FormGraph::joined(alloc, forms, n, &[node])?, n as u32))
+    let longer = FormGraph::joined(alloc, forms, n, &[node])?;
+    Ok((longer, n as u32))
 }
 
 /// The form with the atom, and with that beside the root, whose number is answered.
