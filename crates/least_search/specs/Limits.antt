@@ -1,8 +1,9 @@
 -- The limit of the next search.
 use Rattle.std.specs.Prelude.{◌≡◌, ◌<◌, ◌≤◌, ℕ, true, Option, Some, None, length, option_map}
 pub use Rattle.dyadic.specs.End.{lesser_ext}
-use Rattle.dyadic.specs.Rounding.{Ext, finite}
+use Rattle.dyadic.specs.Rounding.{Ext, finite, ext_at_most}
 use Rattle.dyadic.specs.Views.{dyadic_of, ext_of}
+use Rattle.dyadic.specs.declared.dy.Dy.{Dy}
 use Rattle.poly_graph.specs.ProblemViews.{Parts, problem_of}
 use Rattle.cert_model.specs.Limited.{has_room, limited}
 use Rattle.goal_limit.specs.Limits.{takes_limit}
@@ -64,3 +65,14 @@ IsNextLimit q g p s (Some l) = IsNext q g p s l
 
 abbrev pub span_in : Between → Span
 span_in b = record { low = option_map dyadic_of b.lower; high = ext_of b.upper; gap = b.gap_bits }
+
+-- ---- limits at which a probe decided nothing
+
+-- there is none, or it is not below this
+abbrev pub IsNotBelow : Ext → Option Dy → Type 0
+IsNotBelow low None = Unit {0}
+IsNotBelow low (Some d) = ext_at_most low (finite (dyadic_of d)) ≡ true
+
+-- what is not below one of these is not below the other
+abbrev pub StaysAbove : Option Dy → Dy → Option Dy → Type 0
+StaysAbove old d new = (low : Ext) → IsNotBelow low old → ext_at_most low (finite (dyadic_of d)) ≡ true → IsNotBelow low new

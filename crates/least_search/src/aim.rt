@@ -1,16 +1,15 @@
 // A goal, and its enclosures.
-ghost use Rattle.std.specs.Prelude.{◌≡◌, ◌<◌, ◌≤◌, true, IfOk, length, option_map};
+ghost use Rattle.std.specs.Prelude.{◌≡◌, ◌<◌, ◌≤◌, IfOk, length, option_map};
 ghost use Rattle.dyadic.specs.Views.{dyadic_of, ext_of};
-ghost use Rattle.interval_model.specs.Interval.{within};
 ghost use Rattle.poly_graph.specs.Problem.{atom_at};
 ghost use Rattle.poly_graph.specs.ProblemViews.{problem_of};
 ghost use Rattle.cover_model.specs.State.{atom_enclosure};
-ghost use Rattle.cert_model.specs.Least.{not_below, upper_at, upper_end};
+ghost use Rattle.cert_model.specs.Least.{upper_at, upper_end};
 ghost use Rattle.cover_book.specs.Limits.{IsWithinLimits};
 ghost use Rattle.ival.specs.Views.{interval_of};
 ghost use Rattle.ival.specs.RowViews.{rows_of};
 ghost use Rattle.ival.specs.SpaceViews.{space_of};
-ghost use Rattle.least_search.specs.Aims.{IsReady, IsRootBound, IsSameAim};
+ghost use Rattle.least_search.specs.Aims.{IsReady, IsRootLow, IsSameAim, low_of};
 
 use cover_data::Options;
 use dyadic::{Dy, Ext};
@@ -63,9 +62,9 @@ fn upper_end(values: Ival) -> Ext
     }
 }
 
-// A bound below which none of the values lies; none for minus infinity.
+// The lower end of some values; none where it is no number.
 fn lower_bound(values: Ival) -> Option<Dy>
-    ensures { within (interval_of values) (not_below (option_map dyadic_of result)) ≡ true }
+    ensures { option_map dyadic_of result ≡ low_of (interval_of values) }
 {
     match values {
         Ival::Empty => None,
@@ -117,7 +116,7 @@ impl<'a> Aim<'a> {
     /// The lower end of the goal's enclosure over the declared box; none for minus infinity, and where the box is empty.
     pub(crate) fn root_bound(&mut self, alloc: Global) -> Result<Option<Dy>, AllocError>
         requires { IsReady self.old }
-        ensures bound { IfOk result (λ low. IsRootBound
+        ensures bound { IfOk result (λ low. IsRootLow
             (problem_of self.old.problem.now) self.old.goal (option_map dyadic_of low)) }
         ensures ready { IsReady self.new }
         ensures same { IsSameAim self.old self.new }
